@@ -1,0 +1,51 @@
+-- What a contract sees of a storage, what a call does to it, and the contents that it has in between.
+use Rattle.std.specs.Prelude.{◌≡◌, ◌⊎◌, ℕ, ◌+◌, ◌-◌, ◌^◌, ◌≤◌, min, List, Result, Ok, Err, IsErrOf}
+use Rattle.image_access.specs.declared.error.StorageError.{StorageError}
+use Rattle.image_access.specs.declared.error.StorageError.TheVariants.{Fault, Memory}
+
+-- A storage as contracts see it.
+pub record StorageView : Type 1 where
+  -- the bytes; past their end all are zero
+  pub contents : List ℕ
+  -- how often it has failed, up to the greatest u64
+  pub faults : ℕ
+  -- It returns what was written, and nobody else writes. What is said of bytes is said of such a storage.
+  pub is_honest : Type 0
+  -- the moment, as a number that doesn't fall
+  pub moment : ℕ
+  -- the contents that it had at some moment from that one on
+  pub had_since : ℕ → List ℕ → Type 0
+
+-- a change is there at Ok; at a want of memory nothing changed; at a fault the whole change is there or nothing of it
+abbrev pub Becomes : {T : Type 0} → Result T StorageError → List ℕ → List ℕ → List ℕ → Type 0
+Becomes (Ok _) old changed new = new ≡ changed
+Becomes (Err Memory) old changed new = new ≡ old
+Becomes (Err Fault) old changed new = (new ≡ old) ⊎ (new ≡ changed)
+
+-- the number of faults rose, or stood at the greatest u64
+abbrev pub Rose : ℕ → ℕ → Type 0
+Rose before now = min (before + 1) (2 ^ 64 - 1) ≤ now
+
+-- a fault is told only where the storage failed
+pub record HasCause {T : Type 0} (before now : ℕ) (result : Result T StorageError) : Type 0 where
+  pub no_fewer : before ≤ now
+  pub fault : IsErrOf result Fault → Rose before now
+
+-- time goes on: each content since an earlier moment was there before already, or has P
+pub record Passing (old new : StorageView) (P : List ℕ → Type 0) : Type 0 where
+  pub later : old.moment ≤ new.moment
+  pub each : (t : ℕ) (c : List ℕ) → t ≤ old.moment → new.had_since t c → old.had_since t c ⊎ P c
+
+-- What every call of a storage says: it stays honest, each moment since is one of before or has the contents at the return, and a fault is counted.
+pub record Calls {T : Type 0} (old new : StorageView) (result : Result T StorageError) : Type 0 where
+  pub honest : old.is_honest → new.is_honest
+  pub time : Passing old new (λ c. c ≡ new.contents)
+  pub cause : HasCause old.faults new.faults result
+
+-- the same contents
+abbrev pub Keeps : StorageView → StorageView → Type 0
+Keeps old new = old.is_honest → new.contents ≡ old.contents
+
+-- the contents become these, or at a refusal may stay
+abbrev pub Changes : {T : Type 0} → StorageView → StorageView → Result T StorageError → List ℕ → Type 0
+Changes old new result changed = old.is_honest → Becomes result old.contents changed new.contents

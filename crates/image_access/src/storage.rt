@@ -1,0 +1,98 @@
+ghost use Rattle.std.specs.Prelude.{◌≡◌, ◌<◌, ◌≤◌, List, ℕ, length, IfOk, OnOk};
+ghost use Rattle.image_access.specs.Contents.{bytes_at, resized, overwritten, zeroed};
+ghost use Rattle.image_access.specs.Moments.{StorageView, Keeps, Changes, Calls};
+
+use crate::StorageError;
+
+/// Bytes that can be read, written and resized. Each write, zeroing and resize is one moment: it is there whole or not at all.
+pub trait Storage: Drop {
+    /// What a contract sees of it.
+    ghost view: { Self → StorageView };
+
+    /// This moment is one of those since an earlier one.
+    ghost counts_now: { (s : Self) (t : ℕ) → (view s).is_honest → t ≤ (view s).moment → (view s).had_since t (view s).contents };
+
+    /// Since this moment there is no other.
+    ghost only_now: { (s : Self) (c : List ℕ) → (view s).had_since (view s).moment c → c ≡ (view s).contents };
+
+    /// A short name of the kind of storage.
+    fn name(&self) -> &str;
+
+    /// The number of bytes.
+    fn size(&mut self) -> Result<u64, StorageError>
+        ensures size { (view self.old).is_honest → IfOk result (λ size. size ≡ length (view self.old).contents) }
+        ensures same { Keeps (view self.old) (view self.new) }
+        ensures calls { Calls (view self.old) (view self.new) result };
+
+    /// Fills the buffer with the bytes from an offset on, zeros past the end.
+    fn read(&mut self, at: u64, buf: &mut [u8]) -> Result<(), StorageError>
+        ensures read { (view self.old).is_honest → OnOk result (buf.new ≡ bytes_at (view self.old).contents at (length buf.old)) }
+        ensures same { Keeps (view self.old) (view self.new) }
+        ensures calls { Calls (view self.old) (view self.new) result };
+
+    /// Writes bytes at an offset. Past the end it extends the contents, with zeros between.
+    fn write(&mut self, at: u64, bytes: &[u8]) -> Result<(), StorageError>
+        ensures written { Changes (view self.old) (view self.new) result (overwritten (view self.old).contents at bytes.now) }
+        ensures calls { Calls (view self.old) (view self.new) result };
+
+    /// Writes so many zeros at an offset.
+    fn write_zeroes(&mut self, at: u64, length: u64) -> Result<(), StorageError>
+        ensures zeroed { Changes (view self.old) (view self.new) result (zeroed (view self.old).contents at length) }
+        ensures calls { Calls (view self.old) (view self.new) result };
+
+    /// The same, and the place stays taken on the device where it can.
+    fn write_allocated_zeroes(&mut self, at: u64, length: u64) -> Result<(), StorageError>
+        ensures zeroed { Changes (view self.old) (view self.new) result (zeroed (view self.old).contents at length) }
+        ensures calls { Calls (view self.old) (view self.new) result };
+
+    /// Cuts the contents to a size, or grows them to it by zeros.
+    fn resize(&mut self, size: u64, preallocate: StoragePreallocate) -> Result<(), StorageError>
+        ensures resized { Changes (view self.old) (view self.new) result (resized (view self.old).contents size) }
+        ensures calls { Calls (view self.old) (view self.new) result };
+
+    /// Hands what was written on to the device.
+    fn flush(&mut self) -> Result<(), StorageError>
+        ensures same { Keeps (view self.old) (view self.new) }
+        ensures calls { Calls (view self.old) (view self.new) result };
+
+    /// Returns once what was written would outlive a loss of power.
+    fn sync(&mut self) -> Result<(), StorageError>
+        ensures same { Keeps (view self.old) (view self.new) }
+        ensures calls { Calls (view self.old) (view self.new) result };
+
+    /// Forgets what was read.
+    fn invalidate_cache(&mut self) -> Result<(), StorageError>
+        ensures same { Keeps (view self.old) (view self.new) }
+        ensures calls { Calls (view self.old) (view self.new) result };
+
+    /// The alignment of offsets and lengths, in bytes.
+    fn req_align(&self) -> usize
+        ensures { 0 < result };
+
+    /// The alignment of buffers, in bytes.
+    fn mem_align(&self) -> usize
+        ensures { 0 < result };
+}
+
+#[derive(Clone, Copy, Debug, PartialEq, Eq)]
+pub enum StoragePreallocate {
+    None,
+    Zero,
+    Allocate,
+    WriteData,
+}
+
+#[derive(Clone, Copy, Debug, PartialEq, Eq)]
+pub enum PreallocateMode {
+    None,
+    Zero,
+    FormatAllocate,
+    FullAllocate,
+    WriteData,
+}
+
+#[derive(Clone, Copy, Debug, PartialEq, Eq)]
+pub enum Format {
+    Qcow2,
+    Raw,
+}
