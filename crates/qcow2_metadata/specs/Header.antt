@@ -1,0 +1,102 @@
+-- The header's numbers at their places, its extensions and names, and when a header reads.
+use Rattle.std.specs.Prelude.{ℕ, ◌+◌, ◌-◌, ◌*◌, ◌/◌, ◌^◌, ◌≡◌, ◌≢◌, ◌≤◌, ◌⊎◌, Bool, ◌==◌, List, [], ◌∷◌, length, Option, Some, None, All, if◌then◌else◌}
+use Rattle.std.specs.Str.{IsUtf8}
+pub use Rattle.qcow2_metadata.specs.declared.header.HeaderFields.{HeaderFields}
+use Rattle.qcow2_metadata.specs.Bytes.{Bytes, bytes_from, number_at, has_bit}
+
+-- version 2 has no bits, counts of 16 bits, and 72 bytes
+unfoldable pub header : Bytes → HeaderFields
+header b =
+    let is_old = number_at b 4 4 == 2 in
+    record {
+      magic = number_at b 0 4;
+      version = number_at b 4 4;
+      backing_offset = number_at b 8 8;
+      backing_length = number_at b 16 4;
+      cluster_bits = number_at b 20 4;
+      size = number_at b 24 8;
+      crypt_method = number_at b 32 4;
+      l1_entries = number_at b 36 4;
+      l1_offset = number_at b 40 8;
+      reftable_offset = number_at b 48 8;
+      reftable_clusters = number_at b 56 4;
+      snapshots = number_at b 60 4;
+      snapshots_offset = number_at b 64 8;
+      incompatible = if is_old then 0 else number_at b 72 8;
+      compatible = if is_old then 0 else number_at b 80 8;
+      autoclear = if is_old then 0 else number_at b 88 8;
+      refcount_order = if is_old then 4 else number_at b 96 4;
+      header_length = if is_old then 72 else number_at b 100 4;
+    }
+
+-- ---- sizes that follow from it
+
+abbrev pub cluster_size : HeaderFields → ℕ
+cluster_size h = 2 ^ h.cluster_bits
+
+-- entries in a cluster of an L1 table, an L2 table or the reftable
+abbrev pub entries_per_cluster : HeaderFields → ℕ
+entries_per_cluster h = cluster_size h / 8
+
+abbrev pub reftable_entries : HeaderFields → ℕ
+reftable_entries h = h.reftable_clusters * entries_per_cluster h
+
+-- bits of a count
+abbrev pub count_width : HeaderFields → ℕ
+count_width h = 2 ^ h.refcount_order
+
+abbrev pub counts_per_block : HeaderFields → ℕ
+counts_per_block h = cluster_size h * 8 / count_width h
+
+abbrev pub has_data_file : HeaderFields → Bool
+has_data_file h = has_bit h.incompatible 2
+
+abbrev pub rounded_down : ℕ → ℕ → ℕ
+rounded_down step n = n / step * step
+
+abbrev pub rounded_up : ℕ → ℕ → ℕ
+rounded_up step n = (n + step - 1) / step * step
+
+-- ---- extensions and names
+
+-- From a place on stand these extensions, each a kind and its data, and then the end. None passes the limit.
+abbrev pub AreExtensions : Bytes → ℕ → ℕ → List (ℕ × List ℕ) → Type 0
+AreExtensions b limit place [] = (place + 8 ≤ limit) × (number_at b place 4 ≡ 0)
+AreExtensions b limit place (e ∷ rest) =
+    (e.0 ≢ 0) × (number_at b place 4 ≡ e.0) × (number_at b (place + 4) 4 ≡ length e.1)
+    × (bytes_from b (place + 8) (length e.1) ≡ e.1) × (place + 8 + length e.1 ≤ limit)
+    × AreExtensions b limit (place + 8 + rounded_up 8 (length e.1)) rest
+
+-- the data of the first extension of a kind
+abbrev pub first_of_kind : ℕ → List (ℕ × List ℕ) → Option (List ℕ)
+first_of_kind kind [] = None
+first_of_kind kind (e ∷ rest) = if e.0 == kind then Some e.1 else first_of_kind kind rest
+
+abbrev pub backing_format_kind : ℕ
+backing_format_kind = 0xe2792aca
+
+abbrev pub data_file_kind : ℕ
+data_file_kind = 0x44415441
+
+-- the name of the backing file, if there is one
+unfoldable pub backing_name : HeaderFields → Bytes → Option (List ℕ)
+backing_name h b = if h.backing_offset == 0 then None else Some (bytes_from b h.backing_offset h.backing_length)
+
+-- ---- when a header reads
+
+pub record HeaderReads (h : HeaderFields) (b : Bytes) : Type 0 where
+  pub magic : h.magic ≡ 0x514649fb
+  pub version : (h.version ≡ 2) ⊎ (h.version ≡ 3)
+  pub cluster_bits : (9 ≤ h.cluster_bits) × (h.cluster_bits ≤ 21)
+  pub refcount_order : h.refcount_order ≤ 6
+  pub not_encrypted : h.crypt_method ≡ 0
+  -- no bit but that of the external data file
+  pub incompatible : (h.incompatible ≡ 0) ⊎ (h.incompatible ≡ 4)
+  pub header_length : (h.version ≡ 3 → 104 ≤ h.header_length) × (h.header_length ≤ cluster_size h)
+  pub extensions : List (ℕ × List ℕ)
+  pub are_extensions : AreExtensions b (cluster_size h) h.header_length extensions
+  pub backing_inside : h.backing_offset ≢ 0 → h.backing_offset + h.backing_length ≤ cluster_size h
+  pub backing_text : h.backing_offset ≢ 0 → IsUtf8 (bytes_from b h.backing_offset h.backing_length)
+  pub names_text : All (λ e. (e.0 ≡ backing_format_kind) ⊎ (e.0 ≡ data_file_kind) → IsUtf8 e.1) extensions
+  pub few_l1_entries : h.l1_entries ≤ 4194304
+  pub few_reftable_entries : reftable_entries h ≤ 1048576

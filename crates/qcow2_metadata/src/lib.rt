@@ -1,0 +1,12 @@
+//! The qcow2 format: what stands in an image's bytes, and the tables that are loaded from them.
+#![tactic(auto)]
+
+mod error;
+mod header;
+mod l2_mapping;
+mod numbers;
+
+pub use error::MetadataError;
+pub use header::HeaderFields;
+pub use l2_mapping::L2Mapping;
+pub use numbers::{ClusterCount, GuestCluster, GuestOffset, HostCluster, HostOffset};
