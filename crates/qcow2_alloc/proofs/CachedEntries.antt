@@ -1,0 +1,6 @@
+-- Facts about the entries of a cache.
+pub mod Flushing
+pub mod Lists
+pub mod Putting
+pub mod Room
+pub mod Turns

@@ -1,0 +1,32 @@
+use Rattle.std.proofs.Common.{◌≡◌, None, sym, ap, ◌∙◌, arith}
+use Rattle.std.specs.Map.{lookup}
+use Rattle.lru.specs.LruCache.{LruCache}
+use Rattle.qcow2_alloc.specs.declared.async_lru_cache.slot.Slot.{Slot}
+use Rattle.qcow2_alloc.proofs.CachedEntries.Lists.{length-promoted, none_of, promoted_none}
+use Rattle.qcow2_alloc.proofs.async_lru_cache.AsyncLruCache.get_or_insert.Goals as goal
+
+pub invariant_of-self : goal.invariant_of-self
+invariant_of-self g c =
+    let l = length-promoted (g.B.Key.PartialEq.eq c.args.key) c.self.inside.entries.entries in
+    rw c.promote.ensures.entries (omega (arith, l, c.self.invariant.0), c.self.invariant.1)
+
+pub load_new-requires-clause-fits : goal.load_new-requires-clause-fits
+load_new-requires-clause-fits g c =
+    let l = length-promoted (g.B.Key.PartialEq.eq c.args.key) c.self.inside.entries.entries in
+    rw c.promote.ensures.entries (omega (arith, l, c.self.invariant.0))
+
+pub load_new-requires-clause-missing : goal.load_new-requires-clause-missing
+load_new-requires-clause-missing g c =
+    let test = g.B.Key.PartialEq.eq c.args.key in
+    let es = c.self.inside.entries.entries in
+    let m : lookup test es ≡ None = none_of (sym (c.if-promote.false) ∙ c.promote.ensures.value) in
+    rw c.promote.ensures.entries (ap (lookup test) (promoted_none test es m) ∙ m)
+
+pub returns-clause-miss : goal.returns-clause-miss
+returns-clause-miss g c =
+    let test = g.B.Key.PartialEq.eq c.args.key in
+    let es = c.self.inside.entries.entries in
+    let m : lookup test es ≡ None = none_of (sym (c.if-promote.false) ∙ c.promote.ensures.value) in
+    let same : c.promote.new.self.entries ≡ es = ap (λ (x : LruCache g.row.B-Key.Denot (Slot g.row.B-Value.Denot)). x.entries) c.promote.ensures.entries ∙ promoted_none test es m in
+    let h = rw same at c.load_new.ensures.loads in
+    rw (← c.self.view_is) (λ _. h)

@@ -1,0 +1,8 @@
+use Rattle.std.proofs.Common.{◌≡◌, ◌++◌}
+use Rattle.std.specs.Map.{keys_of}
+use Rattle.qcow2_alloc.specs.AsyncLruCache.{pinned}
+use Rattle.qcow2_alloc.proofs.async_lru_cache.entries.pinned_keys.Given as goal
+
+abbrev pub invariant-loop-key : goal.invariant-loop-key
+invariant-loop-key g l =
+    keys_of (pinned l.entries.entries) ≡ l.keys.items ++ keys_of (pinned l.key-iterator)

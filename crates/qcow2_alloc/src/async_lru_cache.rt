@@ -1,0 +1,243 @@
+//! A cache of bounded size over a store that is lent to each call.
+ghost use Rattle.std.specs.Prelude.{◌≡◌, ◌≤◌, cond, [], length, option_copied, option_map, IsSome, IsNone, IfOk, IfSome, Ok, true, false};
+ghost use Rattle.std.specs.List.{IsDistinct};
+ghost use Rattle.std.specs.Map.{keys_of, lookup, lookup_entry, remove_entry};
+ghost use Rattle.lru.specs.LruCache.{promoted};
+ghost use Rattle.qcow2_alloc.specs.AsyncLruCache.{cache_of, with_entries, value_at, can_pin, pin_at, can_unpin, unpin_at, can_remove, Invalidates, Flushes, FlushesKey, GetsNew, oldest_free, InsertsNew, Replaces};
+
+mod backend;
+mod entries;
+mod error;
+mod slot;
+#[cfg(test)]
+mod tests;
+
+pub use backend::AsyncLruCacheBackend;
+use entries::{
+    evict_entry, evict_free, flush_all, flush_entry, insert_new, load_new, oldest_free,
+    pinned_keys, replace_entry,
+};
+pub use error::CacheError;
+use lru::LruCache;
+#[doc(hidden)]
+pub use slot::Slot;
+use std::alloc::{AllocError, Global};
+use std::marker::Model;
+
+/// A cache of at most `size` values.
+#[derive(Drop)]
+pub struct AsyncLruCache<B: AsyncLruCacheBackend> {
+    backend: B,
+    size: usize,
+    entries: LruCache<B::Key, Slot<B::Value>>,
+}
+
+impl<B: AsyncLruCacheBackend> Model for AsyncLruCache<B> {
+    ghost use Rattle.std.specs.Prelude.{◌≡◌, ◌≤◌, ◌^◌, ◌-◌, length};
+    ghost use Rattle.qcow2_alloc.specs.AsyncLruCache.{Cache, cache_of};
+
+    ghost Value = { Cache B B.Key B.Value };
+
+    ghost view = { λ a. cache_of a.backend a.size a.entries.entries };
+
+    ghost invariant = { λ a. (length a.entries.entries ≤ a.size) × (a.entries.cap ≡ 2 ^ 64 - 1) };
+}
+
+impl<B: AsyncLruCacheBackend> AsyncLruCache<B> {
+    pub fn new(alloc: Global, backend: B, size: usize) -> Result<Self, AllocError>
+    where
+        B: Drop,
+        ensures { IfOk result (λ c. c ≡ cache_of backend size []) }
+    {
+        let entries = LruCache::unbounded(alloc)?;
+        Ok(AsyncLruCache {
+            backend,
+            size,
+            entries,
+        })
+    }
+
+    pub fn len(&self) -> usize
+        ensures len { result ≡ length self.now.entries }
+        ensures fits { length self.now.entries ≤ self.now.size }
+        ensures distinct { IsDistinct B.Key.eq (keys_of self.now.entries) }
+    {
+        self.entries.len()
+    }
+
+    pub fn get_or_insert(
+        &mut self,
+        store: &mut B::Store,
+        key: B::Key,
+        may_flush: bool,
+    ) -> Result<bool, CacheError<B::Key, B::Error>>
+        ensures hit { IsSome (lookup (B.Key.eq key) self.old.entries)
+            → (result ≡ Ok true) × (self.new.entries ≡ promoted (B.Key.eq key) self.old.entries) × (store.new ≡ store.old) }
+        ensures miss { IsNone (lookup (B.Key.eq key) self.old.entries)
+            → GetsNew (B.flushed self.old.backend) (B.flush_failed self.old.backend) (B.loaded self.old.backend) (B.load_failed self.old.backend) B.Key.eq self.old.size key store.old self.old.entries may_flush result store.new self.new.entries }
+        ensures others { self.new ≡ with_entries self.old self.new.entries }
+    {
+        if self.entries.promote(&key) {
+            return Ok(true);
+        }
+        load_new(
+            &self.backend,
+            store,
+            &mut self.entries,
+            self.size,
+            key,
+            may_flush,
+        )
+    }
+
+    pub fn insert(
+        &mut self,
+        store: &mut B::Store,
+        key: B::Key,
+        value: &mut Option<B::Value>,
+        may_flush: bool,
+    ) -> Result<bool, CacheError<B::Key, B::Error>>
+        requires { IsSome value.old }
+        ensures there { IfSome (lookup_entry (B.Key.eq key) self.old.entries) (λ e. IfSome value.old (λ v.
+            Replaces (B.flushed self.old.backend) (B.flush_failed self.old.backend) store.old self.old.entries key e (remove_entry (B.Key.eq key) self.old.entries) v may_flush result store.new self.new.entries value.new)) }
+        ensures missing { IsNone (lookup (B.Key.eq key) self.old.entries) → IfSome value.old (λ v.
+            InsertsNew (B.flushed self.old.backend) (B.flush_failed self.old.backend) B.Key.eq self.old.size key store.old self.old.entries v may_flush result store.new self.new.entries value.new) }
+        ensures others { self.new ≡ with_entries self.old self.new.entries }
+    {
+        if self.entries.contains(&key) {
+            return replace_entry(
+                &self.backend,
+                store,
+                &mut self.entries,
+                key,
+                value,
+                may_flush,
+            );
+        }
+        insert_new(
+            &self.backend,
+            store,
+            &mut self.entries,
+            self.size,
+            key,
+            value,
+            may_flush,
+        )
+    }
+
+    pub fn peek(&self, key: B::Key) -> Option<&B::Value>
+        ensures { option_copied result ≡ value_at (B.Key.eq key) self.now.entries }
+    {
+        let slot = self.entries.peek(&key)?;
+        Some(&slot.value)
+    }
+
+    pub fn pin(&mut self, key: B::Key) -> bool
+        ensures value { result ≡ can_pin (B.Key.eq key) self.old.entries }
+        ensures entries { self.new ≡ with_entries self.old (pin_at (B.Key.eq key) self.old.entries) }
+    {
+        let Some(slot) = self.entries.peek_mut(&key) else {
+            return false;
+        };
+        if slot.pins == usize::MAX {
+            return false;
+        }
+        slot.pins += 1;
+        true
+    }
+
+    pub fn unpin(&mut self, key: B::Key) -> bool
+        ensures value { result ≡ can_unpin (B.Key.eq key) self.old.entries }
+        ensures entries { self.new ≡ with_entries self.old (unpin_at (B.Key.eq key) self.old.entries) }
+    {
+        let Some(slot) = self.entries.peek_mut(&key) else {
+            return false;
+        };
+        if slot.pins == 0 {
+            return false;
+        }
+        slot.pins -= 1;
+        true
+    }
+
+    pub fn flush(&mut self, store: &mut B::Store) -> Result<(), CacheError<B::Key, B::Error>>
+        ensures flushed { Flushes (B.flushed self.old.backend) (B.flush_failed self.old.backend) store.old self.old.entries result self.new.entries store.new }
+        ensures others { self.new ≡ with_entries self.old self.new.entries }
+    {
+        match flush_all(&self.backend, store, &mut self.entries) {
+            None => Ok(()),
+            Some(e) => Err(CacheError::Backend(e)),
+        }
+    }
+
+    pub fn flush_key(
+        &mut self,
+        store: &mut B::Store,
+        key: B::Key,
+    ) -> Result<bool, CacheError<B::Key, B::Error>>
+        ensures missing { IsNone (lookup (B.Key.eq key) self.old.entries)
+            → (result ≡ Ok false) × (self.new ≡ self.old) × (store.new ≡ store.old) }
+        ensures there { IfSome (lookup (B.Key.eq key) self.old.entries) (λ s.
+            FlushesKey (B.flushed self.old.backend) (B.flush_failed self.old.backend) (B.Key.eq key) key s store.old self.old.entries result self.new.entries store.new) }
+        ensures others { self.new ≡ with_entries self.old self.new.entries }
+    {
+        if !self.entries.contains(&key) {
+            return Ok(false);
+        }
+        match flush_entry(&self.backend, store, &mut self.entries, key) {
+            Ok(()) => Ok(true),
+            Err(e) => Err(CacheError::Backend(e)),
+        }
+    }
+
+    pub fn next_out(&self) -> Option<B::Key>
+        ensures { result ≡ option_map (λ e. e.0) (oldest_free self.now.entries) }
+    {
+        oldest_free(&self.entries)
+    }
+
+    pub fn invalidate(&mut self) -> Result<(), CacheError<B::Key, B::Error>>
+        ensures answer { Invalidates self.old.entries result self.new.entries }
+        ensures others { self.new ≡ with_entries self.old self.new.entries }
+    {
+        let alloc = *self.entries.allocator();
+        let Ok(keys) = pinned_keys(alloc, &self.entries) else {
+            return Err(CacheError::Memory);
+        };
+        evict_free(&self.backend, &mut self.entries);
+        if keys.is_empty() {
+            Ok(())
+        } else {
+            Err(CacheError::StillInUse(keys))
+        }
+    }
+
+    pub fn remove(&mut self, key: B::Key) -> bool
+        ensures value { result ≡ can_remove (B.Key.eq key) self.old.entries }
+        ensures entries { self.new ≡ with_entries self.old (cond result (remove_entry (B.Key.eq key) self.old.entries) self.old.entries) }
+    {
+        let Some(slot) = self.entries.peek(&key) else {
+            return false;
+        };
+        if slot.pins > 0 {
+            return false;
+        }
+        evict_entry(&self.backend, &mut self.entries, key);
+        true
+    }
+}
+
+impl<B: AsyncLruCacheBackend> AsyncLruCache<B> {
+    ghost use Rattle.std.specs.Borrow.{LendsIf, sem};
+    ghost use Rattle.std.specs.Option.{option_copied_mut};
+    ghost use Rattle.qcow2_alloc.specs.AsyncLruCache.{set_at};
+    ghost use Rattle.qcow2_alloc.specs.contracts.async_lru_cache.AsyncLruCache.{the_row};
+
+    pub fn peek_mut(&mut self, key: B::Key) -> Option<&mut B::Value>
+        ensures* writes_back { sem 𝓛 (LendsIf (the_row B.row B.Key.row B.Value.row B.Error.row B.Store.row B.AsyncLruCacheBackend (record {}) (record { eq = B.Key.eq }) (record { hash_input = B.Key.hash_input })) B.Value.row self.entry result (λ w. with_entries self.entry.now (set_at (B.Key.eq key) self.entry.now.entries w)) self.entry.now) }
+        ensures value { option_copied_mut result ≡ value_at (B.Key.eq key) self.old.entries }
+    {
+        let slot = self.entries.peek_mut(&key)?;
+        Some(&mut slot.value)
+    }
+}

@@ -1,0 +1,247 @@
+//! Work on the entries of a cache.
+ghost use Rattle.std.specs.Prelude.{◌≡◌, ◌+◌, ◌-◌, ◌<◌, ◌≤◌, ◌==◌, ◌^◌, [], length, is_some, option_map, option_copied, IsSome, IfOk, IfErr, OnOk, OnErr, IfSome, IfNone, MatchOption, Ok, None, true, false};
+ghost use Rattle.std.specs.Map.{keys_of, lookup, lookup_entry, remove_entry, set_value};
+ghost use Rattle.std.specs.Option.{option_map_or};
+ghost use Rattle.lru.specs.LruCache.{lru_cache};
+ghost use Rattle.qcow2_alloc.specs.AsyncLruCache.{oldest_free, pinned, slot_of, FlushesAll, MakesRoom, GetsNew, InsertsNew, Replaces};
+
+use super::backend::AsyncLruCacheBackend;
+use super::error::CacheError;
+use super::slot::Slot;
+use lru::LruCache;
+use std::alloc::{AllocError, AllocFailed, Global};
+use std::hash::Hash;
+
+// The key of the least recently used entry with no pin.
+pub(crate) fn oldest_free<K: Copy + Eq + Hash, V>(entries: &LruCache<K, Slot<V>>) -> Option<K>
+    ensures { result ≡ option_map (λ e. e.0) (oldest_free entries.now.entries) }
+{
+    let mut left = entries.iter();
+    while let Some((key, slot)) = left.next_back() {
+        if slot.pins == 0 {
+            return Some(*key);
+        }
+    }
+    None
+}
+
+// Flushes one entry, whose key is there.
+pub(crate) fn flush_entry<B: AsyncLruCacheBackend>(
+    backend: &B,
+    store: &mut B::Store,
+    entries: &mut LruCache<B::Key, Slot<B::Value>>,
+    key: B::Key,
+) -> Result<(), B::Error>
+    requires { IsSome (lookup (B.Key.eq key) entries.old.entries) }
+    ensures ok { OnOk result (IfSome (lookup (B.Key.eq key) entries.old.entries)
+        (λ d. (v : B.Value) × B.flushed backend.now store.old key d.value v store.new
+        × (entries.new ≡ lru_cache (set_value (B.Key.eq key) entries.old.entries (slot_of v d.pins)) entries.old.cap))) }
+    ensures err { IfErr result (λ x. IfSome (lookup (B.Key.eq key) entries.old.entries)
+        (λ d. B.flush_failed backend.now store.old key d.value x store.new)) }
+    ensures kept { IfErr result (λ _. entries.new ≡ entries.old) }
+    ensures fits { length entries.new.entries ≡ length entries.old.entries }
+    ensures cap { entries.new.cap ≡ entries.old.cap }
+{
+    match entries.peek_mut(&key) {
+        Some(slot) => backend.flush(store, key, &mut slot.value),
+        None => Ok(()),
+    }
+}
+
+// Makes room for one more entry.
+pub(crate) fn make_room<B: AsyncLruCacheBackend>(
+    backend: &B,
+    store: &mut B::Store,
+    entries: &mut LruCache<B::Key, Slot<B::Value>>,
+    size: usize,
+    may_flush: bool,
+) -> Result<bool, CacheError<B::Key, B::Error>>
+    requires { length entries.old.entries ≤ size }
+    ensures room { MakesRoom (B.flushed backend.now) (B.flush_failed backend.now) B.Key.eq size store.old entries.old.entries may_flush result store.new entries.new.entries }
+    ensures space { result ≡ Ok true → length entries.new.entries < size }
+    ensures fits { length entries.new.entries ≤ size }
+    ensures cap { entries.new.cap ≡ entries.old.cap }
+{
+    if entries.len() < size {
+        return Ok(true);
+    }
+    if !may_flush {
+        return Ok(false);
+    }
+    let Some(key) = oldest_free(entries) else {
+        return Err(CacheError::InUse);
+    };
+    if let Err(failure) = flush_entry(backend, store, entries, key) {
+        return Err(CacheError::Backend(failure));
+    }
+    entries.pop(&key);
+    Ok(true)
+}
+
+// Loads a value whose key is not there.
+pub(crate) fn load_new<B: AsyncLruCacheBackend>(
+    backend: &B,
+    store: &mut B::Store,
+    entries: &mut LruCache<B::Key, Slot<B::Value>>,
+    size: usize,
+    key: B::Key,
+    may_flush: bool,
+) -> Result<bool, CacheError<B::Key, B::Error>>
+    requires fits { length entries.old.entries ≤ size }
+    requires unbounded { entries.old.cap ≡ 2 ^ 64 - 1 }
+    requires missing { lookup (B.Key.eq key) entries.old.entries ≡ None }
+    ensures loads { GetsNew (B.flushed backend.now) (B.flush_failed backend.now) (B.loaded backend.now) (B.load_failed backend.now) B.Key.eq size key store.old entries.old.entries may_flush result store.new entries.new.entries }
+    ensures fits { length entries.new.entries ≤ size }
+    ensures cap { entries.new.cap ≡ entries.old.cap }
+{
+    match make_room(backend, store, entries, size, may_flush) {
+        Ok(true) => {}
+        refused => return refused,
+    }
+    let alloc = *entries.allocator();
+    let value = match backend.load(alloc, store, key) {
+        Ok(value) => value,
+        Err(e) => return Err(CacheError::Backend(e)),
+    };
+    match entries.put(key, Slot { value, pins: 0 }) {
+        Ok(_) => Ok(true),
+        Err(_) => Err(CacheError::Memory),
+    }
+}
+
+// Puts in a value whose key is not there.
+pub(crate) fn insert_new<B: AsyncLruCacheBackend>(
+    backend: &B,
+    store: &mut B::Store,
+    entries: &mut LruCache<B::Key, Slot<B::Value>>,
+    size: usize,
+    key: B::Key,
+    value: &mut Option<B::Value>,
+    may_flush: bool,
+) -> Result<bool, CacheError<B::Key, B::Error>>
+    requires fits { length entries.old.entries ≤ size }
+    requires unbounded { entries.old.cap ≡ 2 ^ 64 - 1 }
+    requires missing { lookup (B.Key.eq key) entries.old.entries ≡ None }
+    requires there { IsSome value.old }
+    ensures inserts { IfSome value.old (λ v. InsertsNew (B.flushed backend.now) (B.flush_failed backend.now) B.Key.eq size key store.old entries.old.entries v may_flush result store.new entries.new.entries value.new) }
+    ensures fits { length entries.new.entries ≤ size }
+    ensures cap { entries.new.cap ≡ entries.old.cap }
+{
+    match make_room(backend, store, entries, size, may_flush) {
+        Ok(true) => {}
+        refused => return refused,
+    }
+    let taken = value.take().unwrap();
+    let slot = Slot {
+        value: taken,
+        pins: 0,
+    };
+    match entries.put(key, slot) {
+        Ok(_) => Ok(true),
+        Err(AllocFailed { value: (_, slot) }) => {
+            let Slot {
+                value: taken,
+                pins: _,
+            } = slot;
+            *value = Some(taken);
+            Err(CacheError::Memory)
+        }
+    }
+}
+
+// Puts a value in the place of one that is there.
+pub(crate) fn replace_entry<B: AsyncLruCacheBackend>(
+    backend: &B,
+    store: &mut B::Store,
+    entries: &mut LruCache<B::Key, Slot<B::Value>>,
+    key: B::Key,
+    value: &mut Option<B::Value>,
+    may_flush: bool,
+) -> Result<bool, CacheError<B::Key, B::Error>>
+    requires found { IsSome (lookup (B.Key.eq key) entries.old.entries) }
+    requires there { IsSome value.old }
+    ensures replaces { IfSome (lookup_entry (B.Key.eq key) entries.old.entries) (λ e. IfSome value.old (λ v.
+        Replaces (B.flushed backend.now) (B.flush_failed backend.now) store.old entries.old.entries key e (remove_entry (B.Key.eq key) entries.old.entries) v may_flush result store.new entries.new.entries value.new)) }
+    ensures fits { length entries.new.entries ≡ length entries.old.entries }
+    ensures cap { entries.new.cap ≡ entries.old.cap }
+{
+    if !may_flush {
+        return Ok(false);
+    }
+    entries.promote(&key);
+    if let Err(e) = flush_entry(backend, store, entries, key) {
+        return Err(CacheError::Backend(e));
+    }
+    let taken = value.take().unwrap();
+    let slot = entries.peek_mut(&key).unwrap();
+    slot.value = taken;
+    Ok(true)
+}
+
+// Flushes each entry, the most recently used first, and returns the first failure.
+pub(crate) fn flush_all<B: AsyncLruCacheBackend>(
+    backend: &B,
+    store: &mut B::Store,
+    entries: &mut LruCache<B::Key, Slot<B::Value>>,
+) -> Option<B::Error>
+    ensures flushed { FlushesAll (B.flushed backend.now) (B.flush_failed backend.now) store.old entries.old.entries result entries.new.entries store.new }
+    ensures cap { entries.new.cap ≡ entries.old.cap }
+{
+    let mut first = None;
+    for _turn in 0..entries.len() {
+        let (key, _) = entries.peek_mru().unwrap();
+        let key = *key;
+        let failure = flush_entry(backend, store, entries, key).err();
+        first = first.or(failure);
+        entries.demote(&key);
+    }
+    first
+}
+
+// The keys of the entries with a pin, the most recently used first.
+pub(crate) fn pinned_keys<K: Copy + Eq + Hash, V>(
+    alloc: Global,
+    entries: &LruCache<K, Slot<V>>,
+) -> Result<Vec<K>, AllocError>
+    ensures ok { IfOk result (λ keys. keys.items ≡ keys_of (pinned entries.now.entries)) }
+    ensures err { OnErr result (0 < length (pinned entries.now.entries)) }
+{
+    let mut keys = Vec::new(alloc);
+    for (key, slot) in entries {
+        if slot.pins > 0 {
+            keys.push(*key)?;
+        }
+    }
+    Ok(keys)
+}
+
+// Gives each entry with no pin to the backend.
+pub(crate) fn evict_free<B: AsyncLruCacheBackend>(
+    backend: &B,
+    entries: &mut LruCache<B::Key, Slot<B::Value>>,
+)
+    ensures { entries.new ≡ lru_cache (pinned entries.old.entries) entries.old.cap }
+{
+    for _turn in 0..entries.len() {
+        let (key, slot) = entries.peek_mru().unwrap();
+        let key = *key;
+        if slot.pins > 0 {
+            entries.demote(&key);
+        } else {
+            evict_entry(backend, entries, key);
+        }
+    }
+}
+
+// Gives one entry to the backend.
+pub(crate) fn evict_entry<B: AsyncLruCacheBackend>(
+    backend: &B,
+    entries: &mut LruCache<B::Key, Slot<B::Value>>,
+    key: B::Key,
+)
+    ensures { entries.new ≡ lru_cache (remove_entry (B.Key.eq key) entries.old.entries) entries.old.cap }
+{
+    if let Some(Slot { value, pins: _ }) = entries.pop(&key) {
+        backend.evict(key, value);
+    }
+}

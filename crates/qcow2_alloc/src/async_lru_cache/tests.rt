@@ -1,0 +1,285 @@
+ghost use Rattle.std.specs.Prelude.{◌≡◌, ⊤, true, false, [], ◌∷◌, IsSome};
+ghost use Rattle.std.proofs.Common.{ap, refl};
+
+use super::{AsyncLruCache, AsyncLruCacheBackend, CacheError};
+use std::alloc::Global;
+use std::test::*;
+
+#[derive(Drop)]
+struct Page {
+    number: u32,
+    modified: bool,
+}
+
+// Records each flush that was tried.
+#[derive(Drop)]
+struct Disk {
+    flushed: Vec<(u32, u32)>,
+    tried: u32,
+    fails: Vec<u32>,
+    load_fails: Vec<u32>,
+}
+
+#[derive(Drop)]
+struct Pages;
+
+impl AsyncLruCacheBackend for Pages {
+    type Key = u32;
+
+    type Value = Page;
+
+    type Error = u32;
+
+    type Store = Disk;
+
+    ghost is_modified = { λ v. v.modified };
+
+    ghost bytes = { λ v. v.number ∷ [] };
+
+    ghost stored = { λ _ _ _. [] };
+
+    ghost is_honest = { λ _. ⊥ };
+
+    ghost loaded = { λ _ _ _ _ _. ⊤ };
+
+    ghost load_failed = { λ _ _ _ _ _. ⊤ };
+
+    ghost flushed = { λ _ s _ v w t. (w.modified ≡ false) × (w.number ≡ v.number) };
+
+    ghost flush_failed = { λ _ _ _ _ _ _. ⊤ };
+
+    fn load(&self, _alloc: Global, store: &mut Disk, key: u32) -> Result<Page, u32> {
+        if store.load_fails.contains(&key) {
+            return Err(key);
+        }
+        Ok(Page {
+            number: key,
+            modified: false,
+        })
+    }
+
+    fn flush(&self, store: &mut Disk, key: u32, value: &mut Page) -> Result<(), u32> {
+        store.tried = store.tried.wrapping_add(1);
+        if store.fails.contains(&key) || store.flushed.push((key, value.number)).is_err() {
+            return Err(key);
+        }
+        value.modified = false;
+        Ok(())
+    }
+
+    fn evict(&self, _key: u32, value: Page) {
+        drop(value);
+    }
+
+    ghost flush_cleans = { λ b s t k v w h. (h.0, ap (λ n. n ∷ []) h.1) };
+
+    ghost flush_writes = { λ b s t k v w h honest m. absurd honest };
+
+    ghost flush_skips = { λ b s t k v w h honest m. absurd honest };
+
+    ghost flush_apart = { λ b s t k v w h honest. absurd honest };
+
+    ghost failed_flush_apart = { λ b s t k v x h honest. absurd honest };
+
+    ghost load_reads = { λ b s t k v h honest. absurd honest };
+
+    ghost failed_load_keeps = { λ b s t k x h honest. absurd honest };
+
+    ghost failed_flush_skips = { λ b s t k v x h honest. absurd honest };
+
+    ghost stored_alike = { λ b s k j h. refl };
+
+    ghost flush_honest = { λ b s t k v w h honest. honest };
+
+    ghost failed_flush_honest = { λ b s t k v x h honest. honest };
+
+    ghost load_honest = { λ b s t k v h honest. honest };
+
+    ghost failed_load_honest = { λ b s t k x h honest. honest };
+}
+
+type Answer = Result<bool, CacheError<u32, u32>>;
+
+fn make_disk(alloc: Global) -> Disk {
+    Disk {
+        flushed: Vec::new(alloc),
+        tried: 0,
+        fails: Vec::new(alloc),
+        load_fails: Vec::new(alloc),
+    }
+}
+
+fn number_at(cache: &AsyncLruCache<Pages>, key: u32) -> Option<u32> {
+    let page = cache.peek(key)?;
+    Some(page.number)
+}
+
+fn make_page(number: u32) -> Option<Page>
+    ensures { IsSome result }
+{
+    Some(Page {
+        number,
+        modified: true,
+    })
+}
+
+fn is(answer: Answer, want: bool) -> bool {
+    match answer {
+        Ok(got) => got == want,
+        Err(_) => false,
+    }
+}
+
+fn failed_at(answer: Answer) -> Option<u32> {
+    match answer {
+        Err(CacheError::Backend(key)) => Some(key),
+        _ => None,
+    }
+}
+
+fn is_in_use(answer: Answer) -> bool {
+    matches!(answer, Err(CacheError::InUse))
+}
+
+#[test]
+fn the_least_recently_used_goes(rt: HostRuntime) -> Result<(), Fail> {
+    let mut disk = make_disk(rt.alloc());
+    let mut cache = AsyncLruCache::new(rt.alloc(), Pages, 3)?;
+    for key in [0, 1, 2, 0] {
+        assert!(rt; is(cache.get_or_insert(&mut disk, key, false), true));
+    }
+    assert!(rt; is(cache.get_or_insert(&mut disk, 3, false), false));
+    assert!(rt; is(cache.get_or_insert(&mut disk, 3, true), true));
+    assert_eq!(rt; disk.flushed.as_slice(), [(1, 1)].as_slice());
+    Ok(())
+}
+
+#[test]
+fn a_pinned_entry_stays(rt: HostRuntime) -> Result<(), Fail> {
+    let mut disk = make_disk(rt.alloc());
+    let mut cache = AsyncLruCache::new(rt.alloc(), Pages, 2)?;
+    assert!(rt; is(cache.get_or_insert(&mut disk, 0, false), true));
+    assert!(rt; cache.pin(0));
+    assert!(rt; is(cache.get_or_insert(&mut disk, 1, false), true));
+    assert!(rt; is(cache.get_or_insert(&mut disk, 2, false), false));
+    assert!(rt; is(cache.get_or_insert(&mut disk, 2, true), true));
+    assert_eq!(rt; disk.flushed.as_slice(), [(1, 1)].as_slice());
+    assert_eq!(rt; number_at(&cache, 0), Some(0));
+    assert!(rt; cache.unpin(0));
+    assert!(rt; !cache.unpin(0));
+    assert!(rt; !cache.pin(9));
+    Ok(())
+}
+
+#[test]
+fn everything_is_in_use(rt: HostRuntime) -> Result<(), Fail> {
+    let mut disk = make_disk(rt.alloc());
+    let mut cache = AsyncLruCache::new(rt.alloc(), Pages, 23)?;
+    for key in 0..23 {
+        assert!(rt; is(cache.get_or_insert(&mut disk, key, false), true));
+        assert!(rt; cache.pin(key));
+    }
+    assert!(rt; is(cache.get_or_insert(&mut disk, 23, false), false));
+    assert!(rt; is_in_use(cache.get_or_insert(&mut disk, 23, true)));
+    Ok(())
+}
+
+#[test]
+fn a_flush_goes_on_past_failures(rt: HostRuntime) -> Result<(), Fail> {
+    let mut disk = make_disk(rt.alloc());
+    let mut cache = AsyncLruCache::new(rt.alloc(), Pages, 42)?;
+    for key in 0..42 {
+        assert!(rt; is(cache.get_or_insert(&mut disk, key, false), true));
+        if key % 2 == 1 {
+            disk.fails.push(key)?;
+        }
+    }
+    assert!(rt; matches!(cache.flush(&mut disk), Err(CacheError::Backend(41))));
+    assert_eq!(rt; disk.tried, 42);
+    assert_eq!(rt; disk.flushed.len(), 21);
+    assert_eq!(rt; disk.flushed[0], (40, 40));
+    Ok(())
+}
+
+#[test]
+fn an_invalidation_keeps_what_is_pinned(rt: HostRuntime) -> Result<(), Fail> {
+    let mut disk = make_disk(rt.alloc());
+    let mut cache = AsyncLruCache::new(rt.alloc(), Pages, 16)?;
+    assert!(rt; is(cache.get_or_insert(&mut disk, 0, false), true));
+    assert!(rt; cache.pin(0));
+    assert!(rt; is(cache.get_or_insert(&mut disk, 1, false), true));
+    assert!(rt; is(cache.get_or_insert(&mut disk, 2, false), true));
+    match cache.invalidate() {
+        Err(CacheError::StillInUse(keys)) => assert_eq!(rt; keys.as_slice(), [0].as_slice()),
+        _ => panic!(rt; "not in use"),
+    }
+    assert_eq!(rt; cache.len(), 1);
+    assert!(rt; !cache.remove(0));
+    assert!(rt; cache.unpin(0));
+    assert!(rt; cache.remove(0));
+    assert_eq!(rt; cache.len(), 0);
+    assert!(rt; cache.invalidate().is_ok());
+    assert_eq!(rt; disk.tried, 0);
+    Ok(())
+}
+
+#[test]
+fn a_failed_flush_keeps_the_entries(rt: HostRuntime) -> Result<(), Fail> {
+    let mut disk = make_disk(rt.alloc());
+    for key in 0..3 {
+        disk.fails.push(key)?;
+    }
+    let mut cache = AsyncLruCache::new(rt.alloc(), Pages, 2)?;
+    for key in [0, 1] {
+        assert!(rt; is(cache.get_or_insert(&mut disk, key, false), true));
+    }
+    assert_eq!(rt; failed_at(cache.get_or_insert(&mut disk, 2, true)), Some(0));
+    assert_eq!(rt; cache.len(), 2);
+    assert_eq!(rt; number_at(&cache, 0), Some(0));
+    assert_eq!(rt; number_at(&cache, 1), Some(1));
+    Ok(())
+}
+
+#[test]
+fn an_insert_flushes_what_it_replaces(rt: HostRuntime) -> Result<(), Fail> {
+    let mut disk = make_disk(rt.alloc());
+    let mut cache = AsyncLruCache::new(rt.alloc(), Pages, 16)?;
+    assert!(rt; is(cache.get_or_insert(&mut disk, 5, false), true));
+    let mut value = make_page(55);
+    assert!(rt; is(cache.insert(&mut disk, 5, &mut value, false), false));
+    assert!(rt; value.is_some());
+    assert!(rt; value.is_some() && is(cache.insert(&mut disk, 5, &mut value, true), true));
+    assert!(rt; value.is_none());
+    assert_eq!(rt; disk.flushed.as_slice(), [(5, 5)].as_slice());
+    assert_eq!(rt; number_at(&cache, 5), Some(55));
+    assert_eq!(rt; cache.len(), 1);
+    if let Some(page) = cache.peek_mut(5) {
+        page.number = 56;
+    }
+    assert_eq!(rt; number_at(&cache, 5), Some(56));
+    Ok(())
+}
+
+#[test]
+fn a_cache_of_size_0_holds_nothing(rt: HostRuntime) -> Result<(), Fail> {
+    let mut disk = make_disk(rt.alloc());
+    let mut cache = AsyncLruCache::new(rt.alloc(), Pages, 0)?;
+    assert!(rt; is(cache.get_or_insert(&mut disk, 0, false), false));
+    assert!(rt; is_in_use(cache.get_or_insert(&mut disk, 0, true)));
+    Ok(())
+}
+
+#[test]
+fn a_failed_load_leaves_room(rt: HostRuntime) -> Result<(), Fail> {
+    let mut disk = make_disk(rt.alloc());
+    disk.load_fails.push(2)?;
+    let mut cache = AsyncLruCache::new(rt.alloc(), Pages, 2)?;
+    for key in [0, 1] {
+        assert!(rt; is(cache.get_or_insert(&mut disk, key, false), true));
+    }
+    assert_eq!(rt; failed_at(cache.get_or_insert(&mut disk, 2, true)), Some(2));
+    assert_eq!(rt; cache.len(), 1);
+    assert_eq!(rt; disk.flushed.as_slice(), [(0, 0)].as_slice());
+    assert_eq!(rt; number_at(&cache, 0), None);
+    Ok(())
+}
