@@ -2,3 +2,12 @@
 #![tactic(auto)]
 
 pub mod async_lru_cache;
+mod clusters_to_free;
+mod error;
+mod image_storage;
+
+pub use clusters_to_free::{
+    ClusterKind, ClustersToFreeEntry, ClustersToFreeList, PendingClusters, TakenClusters,
+};
+pub use error::ImageError;
+pub use image_storage::{ImageStorage, WriteKind};

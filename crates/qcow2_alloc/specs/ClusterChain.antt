@@ -1,0 +1,12 @@
+use Rattle.std.specs.Prelude.{List, [], ◌∷◌}
+use Rattle.qcow2_alloc.specs.declared.clusters_to_free.ClustersToFreeEntry.{ClustersToFreeEntry}
+use Rattle.qcow2_alloc.specs.declared.clusters_to_free.Node.{Node, Node', Held-Node-next, None', Some'}
+
+-- the entries of a chain of nodes, newest first
+abbrev mutual
+  pub entries_of : Node → List ClustersToFreeEntry
+  entries_of (Node' entry next) = entry ∷ entries_behind next
+
+  pub entries_behind : Held-Node-next → List ClustersToFreeEntry
+  entries_behind None' = []
+  entries_behind (Some' p n) = entries_of n

@@ -1,0 +1,77 @@
+-- The refusals: their numbers, their kinds, and which refusal a lower layer's error becomes.
+use Rattle.std.specs.Prelude.{ℕ}
+use Rattle.std.specs.declared.io.ErrorKind.{ErrorKind}
+use Rattle.std.specs.declared.io.ErrorKind.TheVariants as Kind
+use Rattle.image_access.specs.declared.error.StorageError.{StorageError}
+use Rattle.image_access.specs.declared.error.StorageError.TheVariants as S
+use Rattle.qcow2_metadata.specs.declared.error.MetadataError.{MetadataError}
+use Rattle.qcow2_metadata.specs.declared.error.MetadataError.TheVariants as M
+use Rattle.qcow2_alloc.specs.declared.async_lru_cache.error.CacheError.{CacheError}
+use Rattle.qcow2_alloc.specs.declared.async_lru_cache.error.CacheError.TheVariants as C
+use Rattle.qcow2_alloc.specs.declared.error.ImageError.{ImageError}
+use Rattle.qcow2_alloc.specs.declared.error.ImageError.TheVariants as I
+
+abbrev pub number_of : ImageError → ℕ
+number_of I.ReadOnly = 1
+number_of I.BeyondSize = 2
+number_of I.Version = 3
+number_of I.UnalignedTable = 4
+number_of I.InvalidOption = 5
+number_of I.Preallocation = 6
+number_of I.Compressed = 7
+number_of I.InUse = 8
+number_of I.TablePrepared = 9
+number_of I.OutdatedMapping = 10
+number_of I.ForeignState = 11
+number_of I.Dependency = 12
+number_of I.Limit = 13
+number_of I.Memory = 14
+number_of I.Storage = 15
+number_of I.Failed = 16
+number_of I.MappingPrepared = 17
+number_of (I.NotCompressed offset) = 18
+number_of I.Metadata = 19
+number_of I.Overflow = 20
+number_of (I.StillInUse tables) = 21
+
+abbrev pub kind_of : ImageError → ErrorKind
+kind_of I.ReadOnly = Kind.Other
+kind_of I.BeyondSize = Kind.UnexpectedEof
+kind_of I.Version = Kind.Unsupported
+kind_of I.UnalignedTable = Kind.InvalidData
+kind_of I.InvalidOption = Kind.InvalidInput
+kind_of I.Preallocation = Kind.Unsupported
+kind_of I.Compressed = Kind.Unsupported
+kind_of I.InUse = Kind.Other
+kind_of I.TablePrepared = Kind.Other
+kind_of I.OutdatedMapping = Kind.Other
+kind_of I.ForeignState = Kind.InvalidInput
+kind_of I.Dependency = Kind.Other
+kind_of I.Limit = Kind.Other
+kind_of I.Memory = Kind.OutOfMemory
+kind_of I.Storage = Kind.Other
+kind_of I.Failed = Kind.Other
+kind_of I.MappingPrepared = Kind.Other
+kind_of (I.NotCompressed offset) = Kind.Other
+kind_of I.Metadata = Kind.InvalidData
+kind_of I.Overflow = Kind.InvalidInput
+kind_of (I.StillInUse tables) = Kind.Other
+
+abbrev pub of_storage : StorageError → ImageError
+of_storage S.Fault = I.Storage
+of_storage S.Memory = I.Memory
+
+abbrev pub of_metadata : MetadataError → ImageError
+of_metadata (M.Storage e) = of_storage e
+of_metadata M.Memory = I.Memory
+of_metadata M.Version = I.Version
+of_metadata M.Unaligned = I.UnalignedTable
+of_metadata M.Limit = I.Limit
+of_metadata M.Format = I.Metadata
+
+-- the tables of a cache are named by their clusters
+abbrev pub of_cache : CacheError ℕ MetadataError → ImageError
+of_cache C.InUse = I.InUse
+of_cache (C.StillInUse tables) = I.StillInUse tables
+of_cache C.Memory = I.Memory
+of_cache (C.Backend e) = of_metadata e

@@ -1,0 +1,229 @@
+ghost use Rattle.std.specs.Iterator.{YieldsFirst, item_count};
+ghost use Rattle.std.specs.Prelude.{length, ◌==◌, ◌≡◌, ◌++◌, ◌∷◌, [], List, reverse, IfOk, OnOk, OnErr, IsTrue, ◌↔◌};
+
+use qcow2_metadata::{ClusterCount, HostCluster};
+use std::alloc::{AllocError, Global};
+use std::marker::Model;
+
+/// What clusters were taken for.
+#[derive(Clone, Copy, Debug, PartialEq, Eq)]
+pub enum ClusterKind {
+    Data,
+    Metadata,
+}
+
+/// A run of clusters of one kind.
+#[derive(Clone, Copy, Debug, PartialEq, Eq)]
+pub struct ClustersToFreeEntry {
+    pub first_cluster: HostCluster,
+    pub count: ClusterCount,
+    pub kind: ClusterKind,
+}
+
+impl ClustersToFreeEntry {
+    ghost use Rattle.qcow2_alloc.specs.ClustersToFree.{data_entry, metadata_entry};
+
+    /// A run of data clusters.
+    pub fn data(first_cluster: HostCluster, count: ClusterCount) -> ClustersToFreeEntry
+        ensures { result ≡ data_entry first_cluster count }
+    {
+        ClustersToFreeEntry {
+            first_cluster,
+            count,
+            kind: ClusterKind::Data,
+        }
+    }
+
+    /// A run of metadata clusters.
+    pub fn metadata(first_cluster: HostCluster, count: ClusterCount) -> ClustersToFreeEntry
+        ensures { result ≡ metadata_entry first_cluster count }
+    {
+        ClustersToFreeEntry {
+            first_cluster,
+            count,
+            kind: ClusterKind::Metadata,
+        }
+    }
+}
+
+// It has no length, so that putting one more in front never fails, and is not `Drop`, so that a long chain is let go by a loop.
+struct Node {
+    entry: ClustersToFreeEntry,
+    next: Option<Box<Node>>,
+}
+
+/// The clusters that are to be freed.
+pub struct ClustersToFreeList {
+    newest: Option<Box<Node>>,
+}
+
+impl Drop for ClustersToFreeList {
+    fn drop(self) {
+        let ClustersToFreeList { newest } = self;
+        let_go(newest);
+    }
+}
+
+fn let_go(newest: Option<Box<Node>>) {
+    let mut rest = newest;
+    while let Some(node) = rest {
+        let Node { entry: _, next } = Box::into_inner(node);
+        rest = next;
+    }
+}
+
+impl Model for ClustersToFreeList {
+    ghost use Rattle.std.specs.Prelude.{List};
+    ghost use Rattle.qcow2_alloc.specs.declared.clusters_to_free.ClustersToFreeEntry.{ClustersToFreeEntry};
+
+    ghost Value = { List ClustersToFreeEntry };
+
+    ghost use Rattle.std.specs.Prelude.{reverse};
+    ghost use Rattle.qcow2_alloc.specs.ClustersToFree.{entries_at};
+
+    ghost view = { λ l. reverse (entries_at l.newest) };
+}
+
+/// Clusters that are taken and not named yet. It must be spent.
+pub struct PendingClusters {
+    node: Box<Node>,
+}
+
+impl Model for PendingClusters {
+    ghost use Rattle.qcow2_alloc.specs.declared.clusters_to_free.ClustersToFreeEntry.{ClustersToFreeEntry};
+
+    ghost Value = { ClustersToFreeEntry };
+
+    ghost use Rattle.qcow2_alloc.specs.declared.clusters_to_free.Node.{out-Node};
+
+    ghost view = { λ p. (out-Node p.node.value).entry };
+}
+
+impl ClustersToFreeList {
+    pub fn new() -> ClustersToFreeList
+        ensures { result ≡ [] }
+    {
+        ClustersToFreeList { newest: None }
+    }
+
+    pub fn is_empty(&self) -> bool
+        ensures { result ≡ (length self.now == 0) }
+    {
+        match self.newest {
+            None => true,
+            Some(_) => false,
+        }
+    }
+
+    /// Takes all entries, in the order in which they came, and no memory.
+    pub fn take(&mut self) -> TakenClusters
+        ensures taken { result ≡ self.old }
+        ensures emptied { self.new ≡ [] }
+    {
+        TakenClusters {
+            oldest: reversed(std::mem::replace(&mut self.newest, None)),
+        }
+    }
+
+    /// Room for a run of clusters that may come back to any list.
+    pub fn pending_guard(alloc: Global, entry: ClustersToFreeEntry) -> Result<PendingClusters, AllocError>
+        ensures { IfOk result (λ p. p ≡ entry) }
+    {
+        match Box::new(alloc, Node { entry, next: None }) {
+            Ok(node) => Ok(PendingClusters { node }),
+            Err(refused) => {
+                let Node { entry: _, next } = refused.value;
+                let_go(next);
+                Err(AllocError)
+            }
+        }
+    }
+
+    pub fn push(&mut self, alloc: Global, entry: ClustersToFreeEntry) -> Result<(), AllocError>
+        ensures ok { OnOk result (self.new ≡ self.old ++ entry ∷ []) }
+        ensures err { OnErr result (self.new ≡ self.old) }
+    {
+        let pending = ClustersToFreeList::pending_guard(alloc, entry)?;
+        pending.hand_back(self);
+        Ok(())
+    }
+}
+
+ghost use Rattle.qcow2_alloc.specs.ClustersToFree.{entries_at};
+
+// The chain the other way round.
+fn reversed(newest: Option<Box<Node>>) -> Option<Box<Node>>
+    ensures { entries_at result ≡ reverse (entries_at newest) }
+{
+    let mut rest = newest;
+    let mut oldest = None;
+    while let Some(mut node) = rest {
+        rest = std::mem::replace(&mut node.next, oldest);
+        oldest = Some(node);
+    }
+    oldest
+}
+
+/// Entries that were taken off a list, the oldest first.
+pub struct TakenClusters {
+    oldest: Option<Box<Node>>,
+}
+
+impl Drop for TakenClusters {
+    fn drop(self) {
+        let TakenClusters { oldest } = self;
+        let_go(oldest);
+    }
+}
+
+impl Model for TakenClusters {
+    ghost use Rattle.std.specs.Prelude.{List};
+    ghost use Rattle.qcow2_alloc.specs.declared.clusters_to_free.ClustersToFreeEntry.{ClustersToFreeEntry};
+
+    ghost Value = { List ClustersToFreeEntry };
+
+    ghost use Rattle.qcow2_alloc.specs.ClustersToFree.{entries_at};
+
+    ghost view = { λ l. entries_at l.oldest };
+}
+
+impl Iterator for TakenClusters {
+    type Item = ClustersToFreeEntry;
+
+    ghost next_gives = { YieldsFirst (λ s. s) };
+
+    ghost remaining = { item_count (λ s. s) };
+
+    fn next(&mut self) -> Option<ClustersToFreeEntry> {
+        match std::mem::replace(&mut self.oldest, None) {
+            None => None,
+            Some(node) => {
+                let Node { entry, next } = Box::into_inner(node);
+                let_go(std::mem::replace(&mut self.oldest, next));
+                Some(entry)
+            }
+        }
+    }
+}
+
+impl PendingClusters {
+    pub fn cluster(&self) -> HostCluster
+        ensures { result ≡ self.now.first_cluster }
+    {
+        self.node.entry.first_cluster
+    }
+
+    pub fn make_persistent(self) {
+        let PendingClusters { node } = self;
+        let_go(Some(node));
+    }
+
+    pub fn hand_back(self, list: &mut ClustersToFreeList)
+        ensures { list.new ≡ list.old ++ self ∷ [] }
+    {
+        let PendingClusters { mut node } = self;
+        let later = std::mem::replace(&mut node.next, list.newest.take());
+        let_go(later);
+        let_go(std::mem::replace(&mut list.newest, Some(node)));
+    }
+}

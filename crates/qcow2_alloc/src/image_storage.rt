@@ -1,0 +1,164 @@
+ghost use Rattle.std.specs.Prelude.{◌≡◌};
+
+use image_access::{Storage, StorageError, StoragePreallocate};
+
+/// What a write to the image's storage is for.
+#[derive(Clone, Copy, Debug, PartialEq, Eq)]
+pub enum WriteKind {
+    /// A guest's bytes, copied or zeroed ones too.
+    Data,
+    /// A refblock of the cache.
+    RefBlock,
+    /// An L2 table of the cache.
+    L2Table,
+    /// A header's number, an entry of the L1 table or the reftable, a new table's bytes.
+    Other,
+}
+
+/// The image's storage. Every write to it goes through here, and is told its kind beforehand.
+#[derive(Drop)]
+pub struct ImageStorage<S: Storage> {
+    storage: S,
+    kind: WriteKind,
+    is_changed: bool,
+}
+
+impl<S: Storage> ImageStorage<S> {
+    ghost use Rattle.qcow2_alloc.specs.ImageStorage.{storage_of, kind_of, is_changed_of};
+    ghost use Rattle.std.specs.Prelude.{true, false};
+
+    /// Nothing is written yet.
+    pub fn new(storage: S) -> Self
+        ensures storage { storage_of result ≡ storage }
+        ensures unchanged { is_changed_of result ≡ false }
+    {
+        ImageStorage {
+            storage,
+            kind: WriteKind::Other,
+            is_changed: false,
+        }
+    }
+
+    /// The storage itself.
+    pub fn into_inner(self) -> S
+        ensures { result ≡ storage_of self }
+    {
+        let ImageStorage {
+            storage,
+            kind: _,
+            is_changed: _,
+        } = self;
+        storage
+    }
+
+    /// The storage itself, to look at.
+    pub fn inner(&self) -> &S
+        ensures { result.now ≡ storage_of self.now }
+    {
+        &self.storage
+    }
+
+    /// The writes from here on are of this kind.
+    pub fn will_write(&mut self, kind: WriteKind)
+        ensures kind { kind_of self.new ≡ kind }
+        ensures storage { storage_of self.new ≡ storage_of self.old }
+        ensures changed { is_changed_of self.new ≡ is_changed_of self.old }
+    {
+        self.kind = kind;
+    }
+
+    /// From here on it is noted anew whether anything changes.
+    pub fn begin(&mut self)
+        ensures unchanged { is_changed_of self.new ≡ false }
+        ensures storage { storage_of self.new ≡ storage_of self.old }
+    {
+        self.is_changed = false;
+    }
+
+    /// Whether its bytes were changed since the last `begin`, or a change was noted.
+    pub fn is_changed(&self) -> bool
+        ensures { result ≡ is_changed_of self.now }
+    {
+        self.is_changed
+    }
+
+    /// Notes a change that isn't on the storage yet, as of a cached table.
+    pub fn note_change(&mut self)
+        ensures changed { is_changed_of self.new ≡ true }
+        ensures storage { storage_of self.new ≡ storage_of self.old }
+    {
+        self.is_changed = true;
+    }
+
+    // A change that was made, or may have been.
+    fn noted(&mut self, done: Result<(), StorageError>) -> Result<(), StorageError>
+        ensures answer { result ≡ done }
+        ensures storage { storage_of self.new ≡ storage_of self.old }
+    {
+        match done {
+            Err(StorageError::Memory) => {}
+            Ok(()) | Err(StorageError::Fault) => self.is_changed = true,
+        }
+        done
+    }
+}
+
+impl<S: Storage> Storage for ImageStorage<S> {
+    ghost view = { λ s. S.view s.storage };
+
+    ghost counts_now = { λ s t h le. S.counts_now s.storage t h le };
+
+    ghost only_now = { λ s c had. S.only_now s.storage c had };
+
+    fn name(&self) -> &str {
+        self.storage.name()
+    }
+
+    fn size(&mut self) -> Result<u64, StorageError> {
+        self.storage.size()
+    }
+
+    fn read(&mut self, at: u64, buf: &mut [u8]) -> Result<(), StorageError> {
+        self.storage.read(at, buf)
+    }
+
+    fn write(&mut self, at: u64, bytes: &[u8]) -> Result<(), StorageError> {
+        let done = self.storage.write(at, bytes);
+        self.noted(done)
+    }
+
+    fn write_zeroes(&mut self, at: u64, length: u64) -> Result<(), StorageError> {
+        let done = self.storage.write_zeroes(at, length);
+        self.noted(done)
+    }
+
+    fn write_allocated_zeroes(&mut self, at: u64, length: u64) -> Result<(), StorageError> {
+        let done = self.storage.write_allocated_zeroes(at, length);
+        self.noted(done)
+    }
+
+    fn resize(&mut self, size: u64, preallocate: StoragePreallocate) -> Result<(), StorageError> {
+        let done = self.storage.resize(size, preallocate);
+        self.noted(done)
+    }
+
+    fn flush(&mut self) -> Result<(), StorageError> {
+        self.storage.flush()
+    }
+
+    fn sync(&mut self) -> Result<(), StorageError> {
+        self.storage.sync()
+    }
+
+    fn invalidate_cache(&mut self) -> Result<(), StorageError> {
+        self.storage.invalidate_cache()
+    }
+
+    fn req_align(&self) -> usize {
+        self.storage.req_align()
+    }
+
+    fn mem_align(&self) -> usize {
+        self.storage.mem_align()
+    }
+}
