@@ -15,6 +15,11 @@ pub record StorageView : Type 1 where
   pub moment : ℕ
   -- the contents that it had at some moment from that one on
   pub had_since : ℕ → List ℕ → Type 0
+  -- the bytes of its name
+  pub name : List ℕ
+  -- what offsets and lengths are to be multiples of, and what buffers are to lie at, in bytes
+  pub req_align : ℕ
+  pub mem_align : ℕ
 
 -- a change is there at Ok; at a want of memory nothing changed; at a fault the whole change is there or nothing of it
 abbrev pub Becomes : {T : Type 0} → Result T StorageError → List ℕ → List ℕ → List ℕ → Type 0

@@ -1,4 +1,4 @@
-ghost use Rattle.std.specs.Prelude.{◌≡◌, ◌+◌, ◌≤◌, List, ℕ, length, max, refl, OnOk, OnErr, codes};
+ghost use Rattle.std.specs.Prelude.{◌≡◌, ◌+◌, ◌≤◌, List, ℕ, length, max, refl, OnOk, OnErr};
 ghost use Rattle.image_access.specs.Contents.{bytes_at, resized, overwritten, zeroed};
 
 use crate::{Storage, StorageError, StoragePreallocate};
@@ -117,9 +117,7 @@ impl Storage for MemStorage {
 
     ghost only_now = { λ m c had. had };
 
-    fn name(&self) -> &str
-        ensures { result.now ≡ codes "mem" }
-    {
+    fn name(&self) -> &str {
         "mem"
     }
 

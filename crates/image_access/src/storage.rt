@@ -16,7 +16,8 @@ pub trait Storage: Drop {
     ghost only_now: { (s : Self) (c : List ℕ) → (view s).had_since (view s).moment c → c ≡ (view s).contents };
 
     /// A short name of the kind of storage.
-    fn name(&self) -> &str;
+    fn name(&self) -> &str
+        ensures { result.now ≡ (view self.now).name };
 
     /// The number of bytes.
     fn size(&mut self) -> Result<u64, StorageError>
@@ -67,11 +68,13 @@ pub trait Storage: Drop {
 
     /// The alignment of offsets and lengths, in bytes.
     fn req_align(&self) -> usize
-        ensures { 0 < result };
+        ensures equals { result ≡ (view self.now).req_align }
+        ensures positive { 0 < result };
 
     /// The alignment of buffers, in bytes.
     fn mem_align(&self) -> usize
-        ensures { 0 < result };
+        ensures equals { result ≡ (view self.now).mem_align }
+        ensures positive { 0 < result };
 }
 
 #[derive(Clone, Copy, Debug, PartialEq, Eq)]
