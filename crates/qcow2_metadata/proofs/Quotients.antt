@@ -1,0 +1,46 @@
+-- Quotients by a size of clusters or tables.
+use Rattle.std.proofs.Common.{◌≡◌, ℕ, zero, suc, ◌+◌, ◌-◌, ◌*◌, ◌/◌, ◌%◌, ◌^◌, ◌<◌, ◌≤◌, ◌≢◌, min, ap, ◌∙◌, arith, inl, inr}
+use Rattle.std.proofs.lemmas.Bool.{cases_eq, cases_lt}
+use Rattle.std.proofs.lemmas.Nat.{pow-add, pow_pos, shl-shr, div-mul-add, mod-mul-add, div-add-mod'}
+
+-- the entries of a cluster are a power of two
+pub eighth_is : (k : ℕ) → 3 ≤ k → 2 ^ k / 8 ≡ 2 ^ (k - 3)
+eighth_is k low =
+    let split : k ≡ k - 3 + 3 = omega arith in
+    ap (λ n. 2 ^ n / 8) split ∙ ap (λ n. n / 8) (pow-add 2 (k - 3) 3) ∙ shl-shr (2 ^ (k - 3)) 3
+
+pub eighth_pos : (k : ℕ) → 3 ≤ k → 0 < 2 ^ k / 8
+eighth_pos k low = omega (arith, eighth_is k low, pow_pos (k - 3))
+
+-- the number before a multiple is the last of its row
+before_multiple : (n w m : ℕ) → 0 < w → n + 1 ≡ m * w → n % w + 1 ≡ w
+before_multiple n w zero pos is = absurd (omega arith)
+before_multiple n w (suc m) pos is =
+    let e : n ≡ m * w + (w - 1) = omega arith in
+    omega (arith, ap (λ x. x % w) e, mod-mul-add m w (w - 1) (omega arith))
+
+-- a number that isn't the last of its row has a next one
+pub next_fits : (n k : ℕ) → 3 ≤ k → k < 64 → n < 2 ^ 64 → n % (2 ^ k / 8) + 1 ≢ 2 ^ k / 8 → n + 1 < 2 ^ 64
+next_fits n k low high fits more =
+    elim (cases_lt (n + 1) (2 ^ 64)) [
+      | inl lt ↦ lt
+      | inr last ↦
+          let split : 64 ≡ 67 - k + (k - 3) = omega arith in
+          let rows : 2 ^ 64 ≡ 2 ^ (67 - k) * 2 ^ (k - 3) = ap (λ x. 2 ^ x) split ∙ pow-add 2 (67 - k) (k - 3) in
+          let is : n + 1 ≡ 2 ^ (67 - k) * 2 ^ (k - 3) = omega (arith, rows) in
+          let of_power = before_multiple n (2 ^ (k - 3)) (2 ^ (67 - k)) (pow_pos (k - 3)) is in
+          absurd (more (rw eighth_is of_power))
+    ]
+
+-- a quotient that is rounded up
+pub div_ceil_is : (n k : ℕ) → n / 2 ^ k + min 1 (n % 2 ^ k) ≡ (n + 2 ^ k - 1) / 2 ^ k
+div_ceil_is n k =
+    let split = div-add-mod' n (2 ^ k) in
+    elim (cases_eq (n % 2 ^ k) 0) [
+      | inl whole ↦
+          let is : n + 2 ^ k - 1 ≡ n / 2 ^ k * 2 ^ k + (2 ^ k - 1) = omega (arith, split, whole, pow_pos k) in
+          omega (arith, whole, ap (λ x. x / 2 ^ k) is, div-mul-add (n / 2 ^ k) (2 ^ k) (2 ^ k - 1) (omega (arith, pow_pos k)))
+      | inr part ↦
+          let is : n + 2 ^ k - 1 ≡ (n / 2 ^ k + 1) * 2 ^ k + (n % 2 ^ k - 1) = omega (arith, split, part, pow_pos k) in
+          omega (arith, part, ap (λ x. x / 2 ^ k) is, div-mul-add (n / 2 ^ k + 1) (2 ^ k) (n % 2 ^ k - 1) (omega (arith, pow_pos k)))
+    ]
