@@ -51,6 +51,10 @@ counts_per_block h = cluster_size h * 8 / count_width h
 abbrev pub has_data_file : HeaderFields → Bool
 has_data_file h = has_bit h.incompatible 2
 
+-- log2 of it
+abbrev pub counts_bits : HeaderFields → ℕ
+counts_bits h = h.cluster_bits + 3 - h.refcount_order
+
 abbrev pub rounded_down : ℕ → ℕ → ℕ
 rounded_down step n = n / step * step
 
@@ -84,7 +88,8 @@ backing_name h b = if h.backing_offset == 0 then None else Some (bytes_from b h.
 
 -- ---- when a header reads
 
-pub record HeaderReads (h : HeaderFields) (b : Bytes) : Type 0 where
+-- the numbers are such as the format and this driver know
+pub record IsInRange (h : HeaderFields) : Type 0 where
   pub magic : h.magic ≡ 0x514649fb
   pub version : (h.version ≡ 2) ⊎ (h.version ≡ 3)
   pub cluster_bits : (9 ≤ h.cluster_bits) × (h.cluster_bits ≤ 21)
@@ -93,10 +98,47 @@ pub record HeaderReads (h : HeaderFields) (b : Bytes) : Type 0 where
   -- no bit but that of the external data file
   pub incompatible : (h.incompatible ≡ 0) ⊎ (h.incompatible ≡ 4)
   pub header_length : (h.version ≡ 3 → 104 ≤ h.header_length) × (h.header_length ≤ cluster_size h)
+
+-- what stands in cluster 0 behind the numbers: extensions, and the name of the backing file
+pub record NamesRead (h : HeaderFields) (b : Bytes) : Type 0 where
   pub extensions : List (ℕ × List ℕ)
   pub are_extensions : AreExtensions b (cluster_size h) h.header_length extensions
+  pub names_text : All (λ e. (e.0 ≡ backing_format_kind) ⊎ (e.0 ≡ data_file_kind) → IsUtf8 e.1) extensions
   pub backing_inside : h.backing_offset ≢ 0 → h.backing_offset + h.backing_length ≤ cluster_size h
   pub backing_text : h.backing_offset ≢ 0 → IsUtf8 (bytes_from b h.backing_offset h.backing_length)
-  pub names_text : All (λ e. (e.0 ≡ backing_format_kind) ⊎ (e.0 ≡ data_file_kind) → IsUtf8 e.1) extensions
+
+pub record IsWithinLimits (h : HeaderFields) : Type 0 where
   pub few_l1_entries : h.l1_entries ≤ 4194304
   pub few_reftable_entries : reftable_entries h ≤ 1048576
+
+pub record HeaderReads (h : HeaderFields) (b : Bytes) : Type 0 where
+  pub in_range : IsInRange h
+  pub names : NamesRead h b
+  pub within_limits : IsWithinLimits h
+
+-- ---- what a contract sees of a header in memory: its numbers and its names
+pub record HeaderView : Type 0 where
+  pub fields : HeaderFields
+  pub backing_name : Option (List ℕ)
+  pub backing_format : Option (List ℕ)
+  pub data_file_name : Option (List ℕ)
+
+-- the names stay, the numbers are these
+abbrev pub with_fields : HeaderView → HeaderFields → HeaderView
+with_fields h fields = record h { fields = fields }
+
+abbrev pub with_size : HeaderFields → ℕ → HeaderFields
+with_size h size = record h { size = size }
+
+abbrev pub with_l1_table : HeaderFields → ℕ → ℕ → HeaderFields
+with_l1_table h offset entries = record h { l1_offset = offset; l1_entries = entries }
+
+abbrev pub with_reftable : HeaderFields → ℕ → ℕ → HeaderFields
+with_reftable h offset clusters = record h { reftable_offset = offset; reftable_clusters = clusters }
+
+abbrev pub without_autoclear : HeaderFields → HeaderFields
+without_autoclear h = record h { autoclear = 0 }
+
+-- with the places and lengths of the other's L1 table and reftable
+abbrev pub with_tables_of : HeaderFields → HeaderFields → HeaderFields
+with_tables_of h other = with_l1_table (with_reftable h other.reftable_offset other.reftable_clusters) other.l1_offset other.l1_entries

@@ -6,3 +6,4 @@ pub mod Guest
 pub mod Named
 pub mod Consistent
 pub mod Tables
+pub mod MetadataError

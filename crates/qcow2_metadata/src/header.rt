@@ -1,3 +1,10 @@
+ghost use Rattle.std.specs.Prelude.{◌≡◌, ◌+◌, ◌-◌, ◌*◌, ◌/◌, ◌^◌, ◌<◌, ◌≤◌, option_map, IfErr, OnOk, OnErr};
+ghost use Rattle.std.specs.String.{string_bytes};
+ghost use Rattle.qcow2_metadata.specs.Header.{IsInRange, IsWithinLimits, cluster_size as cluster_size_of, entries_per_cluster, reftable_entries as reftable_entries_of, counts_per_block, counts_bits, has_data_file as has_data_file_of, with_fields, with_size, with_l1_table, with_reftable, with_tables_of};
+
+use crate::{HostOffset, MetadataError};
+use std::marker::Model;
+
 /// The numbers of a header, at the places that the format gives them.
 #[derive(Clone, Copy, Debug, PartialEq, Eq)]
 pub struct HeaderFields {
@@ -19,4 +26,289 @@ pub struct HeaderFields {
     pub autoclear: u64,
     pub refcount_order: u32,
     pub header_length: u32,
+}
+
+/// The header of an image, with the names that stand behind its numbers.
+#[derive(Debug, Drop)]
+pub struct Header {
+    fields: HeaderFields,
+    backing_name: Option<String>,
+    backing_format: Option<String>,
+    data_file_name: Option<String>,
+}
+
+impl Model for Header {
+    ghost use Rattle.std.specs.Prelude.{option_map};
+    ghost use Rattle.std.specs.String.{string_bytes};
+    ghost use Rattle.qcow2_metadata.specs.Header.{HeaderView, IsInRange, IsWithinLimits};
+
+    ghost Value = { HeaderView };
+
+    ghost view = { λ h. record {
+      fields = h.fields;
+      backing_name = option_map string_bytes h.backing_name;
+      backing_format = option_map string_bytes h.backing_format;
+      data_file_name = option_map string_bytes h.data_file_name;
+    } };
+
+    ghost invariant = { λ h. IsInRange h.fields × IsWithinLimits h.fields };
+}
+
+/// The incompatible bit of an external data file.
+const DATA_FILE_BIT: u64 = 1 << 2;
+
+const MAX_L1_ENTRIES: u32 = 4_194_304;
+
+const MAX_REFTABLE_ENTRIES: u64 = 1_048_576;
+
+impl Header {
+    pub fn fields(&self) -> HeaderFields
+        ensures value { result ≡ self.now.fields }
+        ensures in_range { IsInRange result }
+        ensures within_limits { IsWithinLimits result }
+    {
+        self.fields
+    }
+
+    pub fn magic(&self) -> u32
+        ensures { result ≡ self.now.fields.magic }
+    {
+        self.fields.magic
+    }
+
+    pub fn version(&self) -> u32
+        ensures value { result ≡ self.now.fields.version }
+        ensures low { 2 ≤ result }
+        ensures high { result ≤ 3 }
+    {
+        self.fields.version
+    }
+
+    /// Where the name of the backing file stands, 0 where there is none.
+    pub fn backing_offset(&self) -> u64
+        ensures { result ≡ self.now.fields.backing_offset }
+    {
+        self.fields.backing_offset
+    }
+
+    pub fn backing_length(&self) -> u32
+        ensures { result ≡ self.now.fields.backing_length }
+    {
+        self.fields.backing_length
+    }
+
+    pub fn cluster_bits(&self) -> u32
+        ensures value { result ≡ self.now.fields.cluster_bits }
+        ensures low { 9 ≤ result }
+        ensures high { result ≤ 21 }
+    {
+        self.fields.cluster_bits
+    }
+
+    /// The size of the guest's disk.
+    pub fn size(&self) -> u64
+        ensures { result ≡ self.now.fields.size }
+    {
+        self.fields.size
+    }
+
+    pub fn crypt_method(&self) -> u32
+        ensures { result ≡ self.now.fields.crypt_method }
+    {
+        self.fields.crypt_method
+    }
+
+    pub fn l1_table_entries(&self) -> u32
+        ensures value { result ≡ self.now.fields.l1_entries }
+        ensures limit { result ≤ 4194304 }
+    {
+        self.fields.l1_entries
+    }
+
+    pub fn l1_table_offset(&self) -> HostOffset
+        ensures { result ≡ self.now.fields.l1_offset }
+    {
+        HostOffset::new(self.fields.l1_offset)
+    }
+
+    pub fn reftable_offset(&self) -> HostOffset
+        ensures { result ≡ self.now.fields.reftable_offset }
+    {
+        HostOffset::new(self.fields.reftable_offset)
+    }
+
+    pub fn reftable_clusters(&self) -> u32
+        ensures { result ≡ self.now.fields.reftable_clusters }
+    {
+        self.fields.reftable_clusters
+    }
+
+    /// How many internal snapshots there are.
+    pub fn snapshots(&self) -> u32
+        ensures { result ≡ self.now.fields.snapshots }
+    {
+        self.fields.snapshots
+    }
+
+    pub fn snapshots_offset(&self) -> u64
+        ensures { result ≡ self.now.fields.snapshots_offset }
+    {
+        self.fields.snapshots_offset
+    }
+
+    pub fn incompatible(&self) -> u64
+        ensures { result ≡ self.now.fields.incompatible }
+    {
+        self.fields.incompatible
+    }
+
+    pub fn compatible(&self) -> u64
+        ensures { result ≡ self.now.fields.compatible }
+    {
+        self.fields.compatible
+    }
+
+    pub fn autoclear(&self) -> u64
+        ensures { result ≡ self.now.fields.autoclear }
+    {
+        self.fields.autoclear
+    }
+
+    pub fn refcount_order(&self) -> u32
+        ensures value { result ≡ self.now.fields.refcount_order }
+        ensures high { result ≤ 6 }
+    {
+        self.fields.refcount_order
+    }
+
+    pub fn header_length(&self) -> u32
+        ensures { result ≡ self.now.fields.header_length }
+    {
+        self.fields.header_length
+    }
+
+    pub fn backing_name(&self) -> Option<&String>
+        ensures { option_map (λ s. string_bytes s.now) result ≡ self.now.backing_name }
+    {
+        self.backing_name.as_ref()
+    }
+
+    pub fn backing_format(&self) -> Option<&String>
+        ensures { option_map (λ s. string_bytes s.now) result ≡ self.now.backing_format }
+    {
+        self.backing_format.as_ref()
+    }
+
+    pub fn data_file_name(&self) -> Option<&String>
+        ensures { option_map (λ s. string_bytes s.now) result ≡ self.now.data_file_name }
+    {
+        self.data_file_name.as_ref()
+    }
+
+    /// Whether the data stand in an external file.
+    pub fn has_data_file(&self) -> bool
+        ensures { result ≡ has_data_file_of self.now.fields }
+    {
+        self.fields.incompatible & DATA_FILE_BIT != 0
+    }
+
+    /// The bytes of a cluster.
+    pub fn cluster_size(&self) -> u64
+        ensures value { result ≡ cluster_size_of self.now.fields }
+        ensures low { 512 ≤ result }
+        ensures high { result ≤ 2097152 }
+    {
+        1 << self.cluster_bits()
+    }
+
+    /// The entries of an L2 table.
+    pub fn l2_entries(&self) -> usize
+        ensures value { result ≡ entries_per_cluster self.now.fields }
+        ensures low { 64 ≤ result }
+        ensures high { result ≤ 262144 }
+    {
+        self.cluster_size() as usize / 8
+    }
+
+    /// The entries of the reftable.
+    pub fn reftable_entries(&self) -> u64
+        ensures value { result ≡ reftable_entries_of self.now.fields }
+        ensures limit { result ≤ 1048576 }
+    {
+        u64::from(self.fields.reftable_clusters) * (self.cluster_size() / 8)
+    }
+
+    /// The counts of a refblock are two to this.
+    pub fn rb_bits(&self) -> u32
+        ensures value { result ≡ counts_bits self.now.fields }
+        ensures counts { counts_per_block self.now.fields ≡ 2 ^ result }
+        ensures low { 6 ≤ result }
+        ensures high { result ≤ 24 }
+    {
+        self.cluster_bits() + 3 - self.refcount_order()
+    }
+
+    /// The counts of a refblock.
+    pub fn rb_entries(&self) -> usize
+        ensures value { result ≡ counts_per_block self.now.fields }
+        ensures low { 64 ≤ result }
+        ensures high { result ≤ 16777216 }
+    {
+        1 << self.rb_bits()
+    }
+
+    /// Refuses an image of an older version.
+    pub fn require_version(&self, minimum: u32) -> Result<(), MetadataError>
+        ensures ok { OnOk result (minimum ≤ self.now.fields.version) }
+        ensures err { IfErr result (λ e. (e ≡ MetadataError.Version) × (self.now.fields.version < minimum)) }
+    {
+        if self.fields.version < minimum {
+            return Err(MetadataError::Version);
+        }
+        Ok(())
+    }
+
+    pub fn set_size(&mut self, size: u64)
+        ensures { self.new ≡ with_fields self.old (with_size self.old.fields size) }
+    {
+        self.fields.size = size;
+    }
+
+    /// Sets the place and the length of the L1 table.
+    pub fn set_l1_table(&mut self, offset: HostOffset, entries: u32) -> Result<(), MetadataError>
+        ensures ok { OnOk result (self.new ≡ with_fields self.old (with_l1_table self.old.fields offset entries)) }
+        ensures err { IfErr result (λ e. (e ≡ MetadataError.Limit) × (4194304 < entries)) }
+        ensures same { OnErr result (self.new ≡ self.old) }
+    {
+        if entries > MAX_L1_ENTRIES {
+            return Err(MetadataError::Limit);
+        }
+        self.fields.l1_offset = offset.value();
+        self.fields.l1_entries = entries;
+        Ok(())
+    }
+
+    /// Sets the place and the length of the reftable.
+    pub fn set_reftable(&mut self, offset: HostOffset, clusters: u32) -> Result<(), MetadataError>
+        ensures ok { OnOk result (self.new ≡ with_fields self.old (with_reftable self.old.fields offset clusters)) }
+        ensures err { IfErr result (λ e. (e ≡ MetadataError.Limit) × (1048576 < clusters * entries_per_cluster self.old.fields)) }
+        ensures same { OnErr result (self.new ≡ self.old) }
+    {
+        if u64::from(clusters) * (self.cluster_size() / 8) > MAX_REFTABLE_ENTRIES {
+            return Err(MetadataError::Limit);
+        }
+        self.fields.reftable_offset = offset.value();
+        self.fields.reftable_clusters = clusters;
+        Ok(())
+    }
+
+    /// Takes over where the L1 table and the reftable of another header lie, and how long they are.
+    pub fn update(&mut self, other: &Header) -> Result<(), MetadataError>
+        ensures ok { OnOk result (self.new ≡ with_fields self.old (with_tables_of self.old.fields other.now.fields)) }
+        ensures err { IfErr result (λ e. (e ≡ MetadataError.Limit) × (1048576 < other.now.fields.reftable_clusters * entries_per_cluster self.old.fields)) }
+        ensures same { OnErr result (self.new ≡ self.old) }
+    {
+        self.set_reftable(other.reftable_offset(), other.reftable_clusters())?;
+        self.set_l1_table(other.l1_table_offset(), other.l1_table_entries())
+    }
 }

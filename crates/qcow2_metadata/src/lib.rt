@@ -7,6 +7,6 @@ mod l2_mapping;
 mod numbers;
 
 pub use error::MetadataError;
-pub use header::HeaderFields;
+pub use header::{Header, HeaderFields};
 pub use l2_mapping::L2Mapping;
 pub use numbers::{ClusterCount, GuestCluster, GuestOffset, HostCluster, HostOffset};
