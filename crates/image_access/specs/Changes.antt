@@ -1,5 +1,6 @@
 -- Changes of a storage's contents, one after another.
-use Rattle.std.specs.Prelude.{◌≡◌, ℕ, ◌-◌, ◌≤◌, List, [], ◌∷◌, length, take, nat_eq, if◌then◌else◌}
+use Rattle.std.specs.Prelude.{◌≡◌, ℕ, ◌-◌, ◌≤◌, List, [], ◌∷◌, length, take, nat_eq, if◌then◌else◌, Option, Some, None, is_some}
+use Rattle.std.specs.List.{filter_map}
 use Rattle.std.proofs.Common.{◌∙◌, sym, ap, arith}
 use Rattle.std.proofs.lemmas.List.{take_all}
 use Rattle.image_access.specs.Contents.{overwritten, resized, zeroed}
@@ -35,20 +36,17 @@ counts_all start changes t le = record {
 pub only_all : (start : List ℕ) (changes : List Change) (contents : List ℕ) → HadSince start changes (length changes) contents → contents ≡ replayed start changes
 only_all start changes contents had = had.is ∙ ap (replayed start) (take_all had.count changes had.from)
 
--- how many writes and zeroings are left of so many after this change
-abbrev pub left_after : ℕ → Change → ℕ
-left_after n (Write at bytes) = n - 1
-left_after n (Zeroes at count) = n - 1
-left_after n (Resize size) = n
+-- where a change writes; none for a resize
+abbrev pub write_offset : Change → Option ℕ
+write_offset (Write at bytes) = Some at
+write_offset (Zeroes at count) = Some at
+write_offset (Resize size) = None
+
+-- the offsets of the writes and zeroings, in their order
+abbrev pub write_offsets : List Change → List ℕ
+write_offsets changes = filter_map write_offset changes
 
 -- the changes up to and with the n-th write or zeroing; all of them where there are fewer
 abbrev pub up_to_write : ℕ → List Change → List Change
 up_to_write n [] = []
-up_to_write n (change ∷ changes) = if nat_eq n 0 then [] else change ∷ up_to_write (left_after n change) changes
-
--- the offsets of the writes and zeroings, in their order
-abbrev pub write_offsets : List Change → List ℕ
-write_offsets [] = []
-write_offsets (Write at bytes ∷ changes) = at ∷ write_offsets changes
-write_offsets (Zeroes at count ∷ changes) = at ∷ write_offsets changes
-write_offsets (Resize size ∷ changes) = write_offsets changes
+up_to_write n (change ∷ changes) = if nat_eq n 0 then [] else change ∷ up_to_write (if is_some (write_offset change) then n - 1 else n) changes

@@ -41,3 +41,18 @@ pub enum Change {
     /// Cut to a size in bytes, or grown to it by zeros.
     Resize { size: u64 },
 }
+
+impl Change {
+    ghost use Rattle.std.specs.Prelude.{◌≡◌};
+    ghost use Rattle.image_access.specs.Changes.{write_offset};
+
+    /// Where it writes, in bytes; none for a resize.
+    pub fn write_offset(&self) -> Option<u64>
+        ensures { result ≡ write_offset self.now }
+    {
+        match self {
+            Change::Write { at, .. } | Change::Zeroes { at, .. } => Some(*at),
+            Change::Resize { .. } => None,
+        }
+    }
+}

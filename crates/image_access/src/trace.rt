@@ -46,7 +46,8 @@ fn apply(bytes: &mut Vec<u8>, change: &Change) -> Result<(), AllocError>
 impl TraceStorage {
     ghost use Rattle.std.specs.Prelude.{◌≡◌, [], IfOk};
     ghost use Rattle.image_access.specs.CallCount.{uncounted};
-    ghost use Rattle.image_access.specs.TraceStorage.{Traced, with_change};
+    ghost use Rattle.image_access.specs.Changes.{replayed, up_to_write, write_offsets};
+    ghost use Rattle.image_access.specs.TraceStorage.{contents_of, with_change};
 
     /// A storage with these bytes and no change yet.
     pub fn new(alloc: Global, bytes: Vec<u8>) -> Result<Self, AllocError>
@@ -63,6 +64,86 @@ impl TraceStorage {
         })
     }
 
+    /// The contents.
+    pub fn as_slice(&self) -> &[u8]
+        ensures { result.now ≡ contents_of self.now }
+    {
+        &self.bytes
+    }
+
+    /// The changes, the oldest first. A call that was refused isn't among them; one of no bytes is.
+    pub fn changes(&self) -> &[Change]
+        ensures { result.now ≡ self.now.changes }
+    {
+        &self.changes
+    }
+
+    /// The offsets of the writes and zeroings in their order, in bytes. Resizes aren't among them.
+    pub fn writes(&self, alloc: Global) -> Result<Vec<u64>, AllocError>
+        ensures { IfOk result (λ offsets. offsets.items ≡ write_offsets self.now.changes) }
+    {
+        self.changes
+            .iter()
+            .filter_map(|change| change.write_offset())
+            .collect(alloc)
+    }
+
+    /// The contents right after the first so many writes and zeroings, with the resizes before the last of them; after all
+    /// changes where there were fewer.
+    pub fn after(&self, alloc: Global, writes: usize) -> Result<Vec<u8>, AllocError>
+        ensures { IfOk result (λ bytes. bytes.items ≡ replayed self.now.start (up_to_write writes self.now.changes)) }
+    {
+        let mut bytes = self.start.to_vec(alloc)?;
+        let mut left = writes;
+        for change in &self.changes {
+            if left == 0 {
+                break;
+            }
+            apply(&mut bytes, change)?;
+            if change.write_offset().is_some() {
+                left -= 1;
+            }
+        }
+        Ok(bytes)
+    }
+
+    /// How many reads were answered, up to the greatest `u64`.
+    pub fn reads(&self) -> u64
+        ensures { result ≡ self.now.reads }
+    {
+        self.reads
+    }
+
+    /// How many calls of the storage were made, up to the greatest `u64`: all but those for its name and alignments.
+    pub fn calls(&self) -> u64
+        ensures { result ≡ self.now.calls.made }
+    {
+        self.calls.made
+    }
+
+    /// How many calls failed, up to the greatest `u64`.
+    pub fn faults(&self) -> u64
+        ensures { result ≡ self.now.calls.faults }
+    {
+        self.calls.faults
+    }
+
+    /// Lets the n-th call from now on fail, and leave nothing of itself; 0 lets none. It takes the place of what was asked before.
+    pub fn fail_at(&mut self, n: u64)
+        ensures { self.new ≡ record self.old { calls = record self.old.calls { fails_in = n } } }
+    {
+        self.calls.fails_in = n;
+    }
+
+    /// Lets the n-th call from now on answer that memory is missing, and leave nothing of itself; 0 lets none.
+    /// It takes the place of what was asked before. Where that call is to fail too, it fails.
+    pub fn refuse_memory_at(&mut self, n: u64)
+        ensures { self.new ≡ record self.old { calls = record self.old.calls { refuses_in = n } } }
+    {
+        self.calls.refuses_in = n;
+    }
+
+    // Makes a change and keeps it.
     #[tactic(auto, using(crate::proofs::Replays::replayed_push))]
     fn keep(&mut self, change: Change) -> Result<(), AllocError>
         ensures ok { OnOk result (self.new ≡ with_change self.old change) }
@@ -76,7 +157,7 @@ impl TraceStorage {
 }
 
 impl Storage for TraceStorage {
-    ghost use Rattle.std.specs.Prelude.{◌≡◌, length, IfOk, OnOk};
+    ghost use Rattle.std.specs.Prelude.{◌≡◌, length, IfOk, OnOk, IsErrOf};
     ghost use Rattle.image_access.specs.Changes.{counts_all, only_all};
     ghost use Rattle.image_access.specs.Contents.{bytes_at, resized, overwritten, zeroed};
     ghost use Rattle.image_access.specs.Moments.{Keeps, Changes, Calls};
@@ -97,6 +178,7 @@ impl Storage for TraceStorage {
         ensures same { Keeps (view_of_trace self.old) (view_of_trace self.new) }
         ensures calls { Calls (view_of_trace self.old) (view_of_trace self.new) result }
         ensures traced { Traced self.old self.new result self.old }
+        ensures asked { IsErrOf result StorageError.Memory → self.old.calls.refuses_in ≡ 1 }
     {
         self.calls.begin()?;
         Ok(self.bytes.len() as u64)
@@ -107,6 +189,7 @@ impl Storage for TraceStorage {
         ensures same { Keeps (view_of_trace self.old) (view_of_trace self.new) }
         ensures calls { Calls (view_of_trace self.old) (view_of_trace self.new) result }
         ensures traced { Traced self.old self.new result (with_read self.old) }
+        ensures asked { IsErrOf result StorageError.Memory → self.old.calls.refuses_in ≡ 1 }
     {
         self.calls.begin()?;
         self.reads = self.reads.saturating_add(1);
@@ -160,6 +243,7 @@ impl Storage for TraceStorage {
         ensures same { Keeps (view_of_trace self.old) (view_of_trace self.new) }
         ensures calls { Calls (view_of_trace self.old) (view_of_trace self.new) result }
         ensures traced { Traced self.old self.new result self.old }
+        ensures asked { IsErrOf result StorageError.Memory → self.old.calls.refuses_in ≡ 1 }
     {
         self.calls.begin()
     }
@@ -168,6 +252,7 @@ impl Storage for TraceStorage {
         ensures same { Keeps (view_of_trace self.old) (view_of_trace self.new) }
         ensures calls { Calls (view_of_trace self.old) (view_of_trace self.new) result }
         ensures traced { Traced self.old self.new result self.old }
+        ensures asked { IsErrOf result StorageError.Memory → self.old.calls.refuses_in ≡ 1 }
     {
         self.calls.begin()
     }
@@ -176,6 +261,7 @@ impl Storage for TraceStorage {
         ensures same { Keeps (view_of_trace self.old) (view_of_trace self.new) }
         ensures calls { Calls (view_of_trace self.old) (view_of_trace self.new) result }
         ensures traced { Traced self.old self.new result self.old }
+        ensures asked { IsErrOf result StorageError.Memory → self.old.calls.refuses_in ≡ 1 }
     {
         self.calls.begin()
     }
