@@ -1,6 +1,7 @@
 //! The qcow2 format: what stands in an image's bytes, and the tables that are loaded from them.
 #![tactic(auto)]
 
+mod big_endian;
 mod error;
 mod header;
 mod l2_mapping;

@@ -1,0 +1,50 @@
+-- A storage that keeps its changes, as contracts see it.
+use Rattle.std.specs.Prelude.{◌≡◌, ◌≢◌, ℕ, List, [], ◌∷◌, ◌++◌, length, Result, Ok, Err, codes}
+use Rattle.image_access.specs.CallCount.{one_more, counted, faulted}
+use Rattle.image_access.specs.Changes.{replayed, HadSince}
+use Rattle.image_access.specs.Moments.{StorageView}
+use Rattle.image_access.specs.declared.call_count.CallCount.{CallCount}
+use Rattle.image_access.specs.declared.change.Change.{Change}
+use Rattle.image_access.specs.declared.error.StorageError.{StorageError}
+use Rattle.image_access.specs.declared.error.StorageError.TheVariants.{Fault, Memory}
+
+pub record Trace : Type 0 where
+  -- the contents that it began with
+  pub start : List ℕ
+  -- its changes since, the oldest first
+  pub changes : List Change
+  -- how many reads it answered, up to the greatest u64
+  pub reads : ℕ
+  -- its calls, and those to be refused
+  pub calls : CallCount
+
+-- the start with the changes replayed
+abbrev pub contents_of : Trace → List ℕ
+contents_of t = replayed t.start t.changes
+
+-- As a storage it is honest, and its moments are the contents after each change.
+abbrev pub view_of_trace : Trace → StorageView
+view_of_trace t = record {
+  contents = contents_of t;
+  faults = t.calls.faults;
+  is_honest = Unit {0};
+  moment = length t.changes;
+  had_since = HadSince t.start t.changes;
+  name = codes "trace";
+  req_align = 1;
+  mem_align = 1;
+}
+
+-- with one change more
+abbrev pub with_change : Trace → Change → Trace
+with_change t change = record t { changes = t.changes ++ change ∷ [] }
+
+-- with one read more
+abbrev pub with_read : Trace → Trace
+with_read t = record t { reads = one_more t.reads }
+
+-- A call is counted, and refused where that was asked. At Ok it leaves the trace as `done`, at a refusal as it was.
+abbrev pub Traced : {T : Type 0} → Trace → Trace → Result T StorageError → Trace → Type 0
+Traced old new (Ok _) done = (old.calls.fails_in ≢ 1) × (old.calls.refuses_in ≢ 1) × (new ≡ record done { calls = counted old.calls })
+Traced old new (Err Fault) done = (old.calls.fails_in ≡ 1) × (new ≡ record old { calls = faulted old.calls })
+Traced old new (Err Memory) done = (old.calls.fails_in ≢ 1) × (new ≡ record old { calls = counted old.calls })

@@ -1,0 +1,276 @@
+ghost use Rattle.std.specs.Prelude.{◌≡◌, OnOk, OnErr, IfOk};
+ghost use Rattle.image_access.specs.Changes.{applied};
+
+use crate::call_count::CallCount;
+use crate::change::{Change, WrittenBytes};
+use crate::memory::{copy_from, overwrite, overwrite_zeroes, set_size};
+use crate::{Storage, StorageError, StoragePreallocate};
+use std::alloc::{AllocError, Global};
+use std::marker::Model;
+
+/// A storage in memory that keeps its changes. It can be told to refuse a call.
+#[derive(Drop)]
+pub struct TraceStorage {
+    alloc: Global,
+    start: Vec<u8>,
+    bytes: Vec<u8>,
+    changes: Vec<Change>,
+    reads: u64,
+    calls: CallCount,
+}
+
+impl Model for TraceStorage {
+    ghost use Rattle.std.specs.Prelude.{◌≡◌};
+    ghost use Rattle.image_access.specs.TraceStorage.{Trace};
+    ghost use Rattle.image_access.specs.Changes.{replayed};
+
+    ghost Value = { Trace };
+
+    ghost view = { λ t. record { start = t.start.items; changes = t.changes.items; reads = t.reads; calls = t.calls } };
+
+    ghost invariant = { λ t. t.bytes.items ≡ replayed t.start.items t.changes.items };
+}
+
+// Makes a change.
+fn apply(bytes: &mut Vec<u8>, change: &Change) -> Result<(), AllocError>
+    ensures ok { OnOk result (bytes.new.items ≡ applied bytes.old.items change.now) }
+    ensures err { OnErr result (bytes.new.items ≡ bytes.old.items) }
+{
+    match change {
+        Change::Write { at, bytes: written } => overwrite(bytes, *at, written.as_slice()),
+        Change::Zeroes { at, length } => overwrite_zeroes(bytes, *at, *length),
+        Change::Resize { size } => set_size(bytes, *size),
+    }
+}
+
+impl TraceStorage {
+    ghost use Rattle.std.specs.Prelude.{◌≡◌, [], IfOk};
+    ghost use Rattle.image_access.specs.CallCount.{uncounted};
+    ghost use Rattle.image_access.specs.Changes.{replayed, up_to_write, write_offsets};
+    ghost use Rattle.image_access.specs.TraceStorage.{contents_of, with_change};
+
+    /// A storage with these bytes and no change yet.
+    pub fn new(alloc: Global, bytes: Vec<u8>) -> Result<Self, AllocError>
+        ensures { IfOk result (λ t. t ≡ record { start = bytes.items; changes = []; reads = 0; calls = uncounted }) }
+    {
+        let start = bytes.to_vec(alloc)?;
+        Ok(TraceStorage {
+            alloc,
+            start,
+            bytes,
+            changes: Vec::new(alloc),
+            reads: 0,
+            calls: CallCount::new(),
+        })
+    }
+
+    /// The contents.
+    pub fn as_slice(&self) -> &[u8]
+        ensures { result.now ≡ contents_of self.now }
+    {
+        &self.bytes
+    }
+
+    /// The changes, the oldest first. A call that was refused isn't among them; one of no bytes is.
+    pub fn changes(&self) -> &[Change]
+        ensures { result.now ≡ self.now.changes }
+    {
+        &self.changes
+    }
+
+    /// The offsets of the writes and zeroings in their order, in bytes. Resizes aren't among them.
+    pub fn writes(&self, alloc: Global) -> Result<Vec<u64>, AllocError>
+        ensures { IfOk result (λ offsets. offsets.items ≡ write_offsets self.now.changes) }
+    {
+        self.changes
+            .iter()
+            .filter_map(|change| change.write_offset())
+            .collect(alloc)
+    }
+
+    /// The contents right after the first so many writes and zeroings, with the resizes before the last of them; after all
+    /// changes where there were fewer.
+    pub fn after(&self, alloc: Global, writes: usize) -> Result<Vec<u8>, AllocError>
+        ensures { IfOk result (λ bytes. bytes.items ≡ replayed self.now.start (up_to_write writes self.now.changes)) }
+    {
+        let mut bytes = self.start.to_vec(alloc)?;
+        let mut left = writes;
+        for change in &self.changes {
+            if left == 0 {
+                break;
+            }
+            apply(&mut bytes, change)?;
+            if change.write_offset().is_some() {
+                left -= 1;
+            }
+        }
+        Ok(bytes)
+    }
+
+    /// How many reads were answered, up to the greatest `u64`.
+    pub fn reads(&self) -> u64
+        ensures { result ≡ self.now.reads }
+    {
+        self.reads
+    }
+
+    /// How many calls of the storage were made, up to the greatest `u64`: all but those for its name and alignments.
+    pub fn calls(&self) -> u64
+        ensures { result ≡ self.now.calls.made }
+    {
+        self.calls.made
+    }
+
+    /// How many calls failed, up to the greatest `u64`.
+    pub fn faults(&self) -> u64
+        ensures { result ≡ self.now.calls.faults }
+    {
+        self.calls.faults
+    }
+
+    /// Lets the n-th call from now on fail, and leave nothing of itself; 0 lets none. It takes the place of what was asked before.
+    pub fn fail_at(&mut self, n: u64)
+        ensures { self.new ≡ record self.old { calls = record self.old.calls { fails_in = n } } }
+    {
+        self.calls.fails_in = n;
+    }
+
+    /// Lets the n-th call from now on answer that memory is missing, and leave nothing of itself; 0 lets none.
+    /// It takes the place of what was asked before. Where that call is to fail too, it fails.
+    pub fn refuse_memory_at(&mut self, n: u64)
+        ensures { self.new ≡ record self.old { calls = record self.old.calls { refuses_in = n } } }
+    {
+        self.calls.refuses_in = n;
+    }
+
+    // Makes a change and keeps it.
+    #[tactic(auto, using(crate::proofs::Replays::replayed_push))]
+    fn keep(&mut self, change: Change) -> Result<(), AllocError>
+        ensures ok { OnOk result (self.new ≡ with_change self.old change) }
+        ensures err { OnErr result (self.new ≡ self.old) }
+    {
+        self.changes.reserve(1)?;
+        apply(&mut self.bytes, &change)?;
+        self.changes.push_reserved(change);
+        Ok(())
+    }
+}
+
+impl Storage for TraceStorage {
+    ghost use Rattle.std.specs.Prelude.{◌≡◌, length, IfOk, OnOk, IsErrOf};
+    ghost use Rattle.image_access.specs.Changes.{counts_all, only_all};
+    ghost use Rattle.image_access.specs.Contents.{bytes_at, resized, overwritten, zeroed};
+    ghost use Rattle.image_access.specs.Moments.{Keeps, Changes, Calls};
+    ghost use Rattle.image_access.specs.TraceStorage.{Trace, contents_of, view_of_trace, Traced, with_change, with_read};
+
+    ghost view = { view_of_trace };
+
+    ghost counts_now = { λ m t h le. counts_all m.start m.changes t le };
+
+    ghost only_now = { λ m c had. only_all m.start m.changes c had };
+
+    fn name(&self) -> &str {
+        "trace"
+    }
+
+    fn size(&mut self) -> Result<u64, StorageError>
+        ensures size { IfOk result (λ size. size ≡ length (contents_of self.old)) }
+        ensures same { Keeps (view_of_trace self.old) (view_of_trace self.new) }
+        ensures calls { Calls (view_of_trace self.old) (view_of_trace self.new) result }
+        ensures traced { Traced self.old self.new result self.old }
+        ensures asked { IsErrOf result StorageError.Memory → self.old.calls.refuses_in ≡ 1 }
+    {
+        self.calls.begin()?;
+        Ok(self.bytes.len() as u64)
+    }
+
+    fn read(&mut self, at: u64, buf: &mut [u8]) -> Result<(), StorageError>
+        ensures read { OnOk result (buf.new ≡ bytes_at (contents_of self.old) at (length buf.old)) }
+        ensures same { Keeps (view_of_trace self.old) (view_of_trace self.new) }
+        ensures calls { Calls (view_of_trace self.old) (view_of_trace self.new) result }
+        ensures traced { Traced self.old self.new result (with_read self.old) }
+        ensures asked { IsErrOf result StorageError.Memory → self.old.calls.refuses_in ≡ 1 }
+    {
+        self.calls.begin()?;
+        self.reads = self.reads.saturating_add(1);
+        copy_from(&self.bytes, at, buf);
+        Ok(())
+    }
+
+    #[tactic(auto, using(crate::proofs::Replays::replayed_push))]
+    fn write(&mut self, at: u64, bytes: &[u8]) -> Result<(), StorageError>
+        ensures written { Changes (view_of_trace self.old) (view_of_trace self.new) result (overwritten (contents_of self.old) at bytes.now) }
+        ensures calls { Calls (view_of_trace self.old) (view_of_trace self.new) result }
+        ensures traced { Traced self.old self.new result (with_change self.old (Change.Write at bytes.now)) }
+    {
+        self.calls.begin()?;
+        let bytes = WrittenBytes::new(bytes.to_vec(self.alloc)?);
+        self.keep(Change::Write { at, bytes })?;
+        Ok(())
+    }
+
+    #[tactic(auto, using(crate::proofs::Replays::replayed_push))]
+    fn write_zeroes(&mut self, at: u64, length: u64) -> Result<(), StorageError>
+        ensures zeroed { Changes (view_of_trace self.old) (view_of_trace self.new) result (zeroed (contents_of self.old) at length) }
+        ensures calls { Calls (view_of_trace self.old) (view_of_trace self.new) result }
+        ensures traced { Traced self.old self.new result (with_change self.old (Change.Zeroes at length)) }
+    {
+        self.calls.begin()?;
+        self.keep(Change::Zeroes { at, length })?;
+        Ok(())
+    }
+
+    fn write_allocated_zeroes(&mut self, at: u64, length: u64) -> Result<(), StorageError>
+        ensures zeroed { Changes (view_of_trace self.old) (view_of_trace self.new) result (zeroed (contents_of self.old) at length) }
+        ensures calls { Calls (view_of_trace self.old) (view_of_trace self.new) result }
+        ensures traced { Traced self.old self.new result (with_change self.old (Change.Zeroes at length)) }
+    {
+        self.write_zeroes(at, length)
+    }
+
+    #[tactic(auto, using(crate::proofs::Replays::replayed_push))]
+    fn resize(&mut self, size: u64, _preallocate: StoragePreallocate) -> Result<(), StorageError>
+        ensures resized { Changes (view_of_trace self.old) (view_of_trace self.new) result (resized (contents_of self.old) size) }
+        ensures calls { Calls (view_of_trace self.old) (view_of_trace self.new) result }
+        ensures traced { Traced self.old self.new result (with_change self.old (Change.Resize size)) }
+    {
+        self.calls.begin()?;
+        self.keep(Change::Resize { size })?;
+        Ok(())
+    }
+
+    fn flush(&mut self) -> Result<(), StorageError>
+        ensures same { Keeps (view_of_trace self.old) (view_of_trace self.new) }
+        ensures calls { Calls (view_of_trace self.old) (view_of_trace self.new) result }
+        ensures traced { Traced self.old self.new result self.old }
+        ensures asked { IsErrOf result StorageError.Memory → self.old.calls.refuses_in ≡ 1 }
+    {
+        self.calls.begin()
+    }
+
+    fn sync(&mut self) -> Result<(), StorageError>
+        ensures same { Keeps (view_of_trace self.old) (view_of_trace self.new) }
+        ensures calls { Calls (view_of_trace self.old) (view_of_trace self.new) result }
+        ensures traced { Traced self.old self.new result self.old }
+        ensures asked { IsErrOf result StorageError.Memory → self.old.calls.refuses_in ≡ 1 }
+    {
+        self.calls.begin()
+    }
+
+    fn invalidate_cache(&mut self) -> Result<(), StorageError>
+        ensures same { Keeps (view_of_trace self.old) (view_of_trace self.new) }
+        ensures calls { Calls (view_of_trace self.old) (view_of_trace self.new) result }
+        ensures traced { Traced self.old self.new result self.old }
+        ensures asked { IsErrOf result StorageError.Memory → self.old.calls.refuses_in ≡ 1 }
+    {
+        self.calls.begin()
+    }
+
+    fn req_align(&self) -> usize {
+        1
+    }
+
+    fn mem_align(&self) -> usize {
+        1
+    }
+}
