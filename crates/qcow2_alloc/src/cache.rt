@@ -1,0 +1,278 @@
+//! The caches of L2 tables and of refblocks, and which of them has to be written first.
+ghost use Rattle.std.specs.Prelude.{◌≡◌};
+
+use crate::async_lru_cache::{AsyncLruCache, AsyncLruCacheBackend};
+use crate::{ImageError, ImageStorage, WriteKind};
+use image_access::Storage;
+use qcow2_metadata::{ClusterCount, Header, HostCluster, L2Table, MetadataError, RefBlock};
+use std::alloc::{AllocError, Global};
+use std::marker::PhantomData;
+
+/// Which cache has to be written before the other one may be.
+#[derive(Clone, Copy, Debug, PartialEq, Eq)]
+pub enum Direction {
+    None,
+    L2DependsOnRb,
+    RbDependsOnL2,
+}
+
+/// Loads and flushes L2 tables.
+#[derive(Drop)]
+pub struct L2CacheBackend<S> {
+    header: Header,
+    storage: PhantomData<S>,
+}
+
+/// Loads and flushes refblocks.
+#[derive(Drop)]
+pub struct RefBlockCacheBackend<S> {
+    header: Header,
+    storage: PhantomData<S>,
+}
+
+impl<S: Storage> AsyncLruCacheBackend for L2CacheBackend<S> {
+    type Key = HostCluster;
+
+    type Value = L2Table;
+
+    type Error = MetadataError;
+
+    type Store = ImageStorage<S>;
+
+    fn load(
+        &self,
+        alloc: Global,
+        store: &mut ImageStorage<S>,
+        key: HostCluster,
+    ) -> Result<L2Table, MetadataError> {
+        L2Table::load(alloc, store, &self.header, key)
+    }
+
+    fn flush(
+        &self,
+        store: &mut ImageStorage<S>,
+        key: HostCluster,
+        value: &mut L2Table,
+    ) -> Result<(), MetadataError> {
+        store.will_write(WriteKind::L2Table);
+        value.write_if_modified(store, key)?;
+        Ok(())
+    }
+
+    fn evict(&self, _key: HostCluster, _value: L2Table) {}
+}
+
+impl<S: Storage> AsyncLruCacheBackend for RefBlockCacheBackend<S> {
+    type Key = HostCluster;
+
+    type Value = RefBlock;
+
+    type Error = MetadataError;
+
+    type Store = ImageStorage<S>;
+
+    fn load(
+        &self,
+        alloc: Global,
+        store: &mut ImageStorage<S>,
+        key: HostCluster,
+    ) -> Result<RefBlock, MetadataError> {
+        RefBlock::load(alloc, store, &self.header, key)
+    }
+
+    fn flush(
+        &self,
+        store: &mut ImageStorage<S>,
+        key: HostCluster,
+        value: &mut RefBlock,
+    ) -> Result<(), MetadataError> {
+        store.will_write(WriteKind::RefBlock);
+        value.write_if_modified(store, key)?;
+        Ok(())
+    }
+
+    fn evict(&self, _key: HostCluster, _value: RefBlock) {}
+}
+
+/// The L2 tables and refblocks that are loaded. Those that are modified are written at a flush, or as others need their place.
+#[derive(Drop)]
+pub struct MetadataCaches<S: Storage> {
+    l2: AsyncLruCache<L2CacheBackend<S>>,
+    rb: AsyncLruCache<RefBlockCacheBackend<S>>,
+    direction: Direction,
+}
+
+impl<S: Storage> MetadataCaches<S> {
+    /// Empty caches for so many tables and refblocks at most.
+    pub fn new(
+        alloc: Global,
+        header: &Header,
+        l2_entries: usize,
+        rb_entries: usize,
+    ) -> Result<Self, AllocError> {
+        let l2 = AsyncLruCache::new(
+            alloc,
+            L2CacheBackend {
+                header: header.without_names(),
+                storage: PhantomData,
+            },
+            l2_entries,
+        )?;
+        let rb = AsyncLruCache::new(
+            alloc,
+            RefBlockCacheBackend {
+                header: header.without_names(),
+                storage: PhantomData,
+            },
+            rb_entries,
+        )?;
+        Ok(MetadataCaches {
+            l2,
+            rb,
+            direction: Direction::None,
+        })
+    }
+
+    /// From here on refblocks are written before L2 tables.
+    pub fn l2_depends_on_rb(&mut self, storage: &mut ImageStorage<S>) -> Result<(), ImageError> {
+        if let Direction::RbDependsOnL2 = self.direction {
+            self.l2.flush(storage)?;
+        }
+        self.direction = Direction::L2DependsOnRb;
+        Ok(())
+    }
+
+    /// From here on L2 tables are written before refblocks.
+    pub fn rb_depends_on_l2(&mut self, storage: &mut ImageStorage<S>) -> Result<(), ImageError> {
+        if let Direction::L2DependsOnRb = self.direction {
+            self.rb.flush(storage)?;
+        }
+        self.direction = Direction::RbDependsOnL2;
+        Ok(())
+    }
+
+    /// Writes both caches, in the order that the direction asks for.
+    pub fn flush_all(&mut self, storage: &mut ImageStorage<S>) -> Result<(), ImageError> {
+        match self.direction {
+            Direction::L2DependsOnRb => {
+                self.rb.flush(storage)?;
+                self.l2.flush(storage)?;
+            }
+            Direction::None | Direction::RbDependsOnL2 => {
+                self.l2.flush(storage)?;
+                self.rb.flush(storage)?;
+            }
+        }
+        Ok(())
+    }
+
+    /// Writes the refblocks, and the L2 tables before them where the direction asks for it.
+    pub fn flush_rb(&mut self, storage: &mut ImageStorage<S>) -> Result<(), ImageError> {
+        if let Direction::RbDependsOnL2 = self.direction {
+            self.l2.flush(storage)?;
+        }
+        self.rb.flush(storage)?;
+        Ok(())
+    }
+
+    // What has to be written before an L2 table goes.
+    fn before_l2(&mut self, storage: &mut ImageStorage<S>) -> Result<(), ImageError> {
+        if let Direction::L2DependsOnRb = self.direction {
+            self.rb.flush(storage)?;
+        }
+        Ok(())
+    }
+
+    // What has to be written before a refblock goes.
+    fn before_rb(&mut self, storage: &mut ImageStorage<S>) -> Result<(), ImageError> {
+        if let Direction::RbDependsOnL2 = self.direction {
+            self.l2.flush(storage)?;
+        }
+        Ok(())
+    }
+
+    /// Brings the L2 table of a cluster to the front, loading it where it isn't there.
+    pub fn l2_get_or_insert(
+        &mut self,
+        storage: &mut ImageStorage<S>,
+        cluster: HostCluster,
+    ) -> Result<(), ImageError> {
+        if self.l2.get_or_insert(storage, cluster, false)? {
+            return Ok(());
+        }
+        self.before_l2(storage)?;
+        self.l2.get_or_insert(storage, cluster, true)?;
+        Ok(())
+    }
+
+    /// Brings the refblock of a cluster to the front, loading it where it isn't there.
+    pub fn rb_get_or_insert(
+        &mut self,
+        storage: &mut ImageStorage<S>,
+        cluster: HostCluster,
+    ) -> Result<(), ImageError> {
+        if self.rb.get_or_insert(storage, cluster, false)? {
+            return Ok(());
+        }
+        self.before_rb(storage)?;
+        self.rb.get_or_insert(storage, cluster, true)?;
+        Ok(())
+    }
+
+    /// Puts an L2 table to the front, in the place of one that is there for its cluster.
+    pub fn l2_insert(
+        &mut self,
+        storage: &mut ImageStorage<S>,
+        cluster: HostCluster,
+        table: L2Table,
+    ) -> Result<(), ImageError> {
+        let mut table = Some(table);
+        if self.l2.insert(storage, cluster, &mut table, false)? {
+            return Ok(());
+        }
+        self.before_l2(storage)?;
+        self.l2.insert(storage, cluster, &mut table, true)?;
+        Ok(())
+    }
+
+    /// Puts a refblock to the front, in the place of one that is there for its cluster.
+    pub fn rb_insert(
+        &mut self,
+        storage: &mut ImageStorage<S>,
+        cluster: HostCluster,
+        block: RefBlock,
+    ) -> Result<(), ImageError> {
+        let mut block = Some(block);
+        if self.rb.insert(storage, cluster, &mut block, false)? {
+            return Ok(());
+        }
+        self.before_rb(storage)?;
+        self.rb.insert(storage, cluster, &mut block, true)?;
+        Ok(())
+    }
+
+    /// The L2 table of a cluster, where it is held.
+    pub fn l2_peek(&self, cluster: HostCluster) -> Option<&L2Table> {
+        self.l2.peek(cluster)
+    }
+
+    /// The refblock of a cluster, where it is held.
+    pub fn rb_peek(&self, cluster: HostCluster) -> Option<&RefBlock> {
+        self.rb.peek(cluster)
+    }
+
+    /// Keeps an L2 table in the cache: false where it isn't there, or at the greatest count of pins.
+    pub fn l2_pin(&mut self, cluster: HostCluster) -> bool {
+        self.l2.pin(cluster)
+    }
+
+    /// Takes a pin off: false where there is none.
+    pub fn l2_unpin(&mut self, cluster: HostCluster) -> bool {
+        self.l2.unpin(cluster)
+    }
+
+    /// Drops a refblock unwritten: false where it isn't there or is pinned.
+    pub fn rb_remove(&mut self, cluster: HostCluster) -> bool {
+        self.rb.remove(cluster)
+    }
+}
