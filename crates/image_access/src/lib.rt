@@ -3,6 +3,7 @@
 
 mod call_count;
 mod change;
+mod dynamic;
 mod error;
 mod memory;
 mod storage;
