@@ -1,0 +1,51 @@
+ghost use Rattle.std.specs.Prelude.{◌≡◌, List, [], length, map, IfOk, OnOk};
+ghost use Rattle.image_access.specs.Backing.{BackingView, Stays};
+ghost use Rattle.image_access.specs.Contents.{bytes_at};
+
+use crate::StorageError;
+use std::alloc::{AllocError, Global};
+
+/// A disk below an image, which is only read. Past its size it is zero.
+pub trait BackingDisk: Drop {
+    /// What a contract sees of it.
+    ghost backing: { Self → BackingView };
+
+    /// The number of bytes.
+    fn size(&self) -> u64
+        ensures { (backing self.now).is_honest → result ≡ length (backing self.now).bytes };
+
+    /// Fills the buffer with the bytes from an offset on, zeros past the size. After a refusal it may hold any bytes.
+    fn read(&mut self, at: u64, buf: &mut [u8]) -> Result<(), StorageError>
+        ensures read { (backing self.old).is_honest → OnOk result (buf.new ≡ bytes_at (backing self.old).bytes at (length buf.old)) }
+        ensures stays { Stays (backing self.old) (backing self.new) result };
+}
+
+/// A backing disk that may stand on storages of a type.
+pub trait WrappedFormat<S>: BackingDisk {
+    /// The storages that it stands on.
+    ghost dependencies: { Self → List S };
+
+    /// Those storages, in an order of its own.
+    fn storage_dependencies(&self, alloc: Global) -> Result<Vec<&S>, AllocError>
+        ensures { IfOk result (λ storages. map (λ s. s.now) storages.items ≡ dependencies self.now) };
+}
+
+impl BackingDisk for Box<dyn BackingDisk> {
+    ghost backing = { λ b. (BackingDisk-box b).backing b.value };
+
+    fn size(&self) -> u64 {
+        (**self).size()
+    }
+
+    fn read(&mut self, at: u64, buf: &mut [u8]) -> Result<(), StorageError> {
+        (**self).read(at, buf)
+    }
+}
+
+impl<S> WrappedFormat<S> for Box<dyn BackingDisk> {
+    ghost dependencies = { λ _. [] };
+
+    fn storage_dependencies(&self, alloc: Global) -> Result<Vec<&S>, AllocError> {
+        Ok(Vec::new(alloc))
+    }
+}

@@ -1,0 +1,91 @@
+ghost use Rattle.std.specs.Prelude.{◌≡◌, []};
+
+use crate::call_count::CallCount;
+use crate::memory::copy_from;
+use crate::{BackingDisk, StorageError, WrappedFormat};
+use std::alloc::{AllocError, Global};
+use std::marker::Model;
+
+/// A backing disk in memory, which stands on no storage. It can be told to refuse a read.
+#[derive(Drop)]
+pub struct MemBacking {
+    bytes: Vec<u8>,
+    calls: CallCount,
+}
+
+impl Model for MemBacking {
+    ghost use Rattle.image_access.specs.MemBacking.{CountedBytes};
+
+    ghost Value = { CountedBytes };
+
+    ghost view = { λ m. record { bytes = m.bytes.items; calls = m.calls } };
+}
+
+impl MemBacking {
+    ghost use Rattle.std.specs.Prelude.{◌≡◌};
+    ghost use Rattle.image_access.specs.CallCount.{uncounted};
+
+    /// A disk of these bytes.
+    pub fn new(bytes: Vec<u8>) -> Self
+        ensures { result ≡ record { bytes = bytes.items; calls = uncounted } }
+    {
+        MemBacking {
+            bytes,
+            calls: CallCount::new(),
+        }
+    }
+
+    /// How many reads were made, up to the greatest `u64`.
+    pub fn reads(&self) -> u64
+        ensures { result ≡ self.now.calls.made }
+    {
+        self.calls.made
+    }
+
+    /// Lets the n-th read from now on fail; 0 lets none. It takes the place of what was asked before.
+    pub fn fail_at(&mut self, n: u64)
+        ensures { self.new ≡ record self.old { calls = record self.old.calls { fails_in = n } } }
+    {
+        self.calls.fails_in = n;
+    }
+
+    /// Lets the n-th read from now on answer that memory is missing; 0 lets none. It takes the place of what was asked before.
+    /// Where that read is to fail too, it fails.
+    pub fn refuse_memory_at(&mut self, n: u64)
+        ensures { self.new ≡ record self.old { calls = record self.old.calls { refuses_in = n } } }
+    {
+        self.calls.refuses_in = n;
+    }
+}
+
+impl BackingDisk for MemBacking {
+    ghost use Rattle.std.specs.Prelude.{◌≡◌, length, OnOk};
+    ghost use Rattle.image_access.specs.Backing.{Stays};
+    ghost use Rattle.image_access.specs.CallCount.{Begins};
+    ghost use Rattle.image_access.specs.Contents.{bytes_at};
+    ghost use Rattle.image_access.specs.MemBacking.{view_of_bytes};
+
+    ghost backing = { view_of_bytes };
+
+    fn size(&self) -> u64 {
+        self.bytes.len() as u64
+    }
+
+    fn read(&mut self, at: u64, buf: &mut [u8]) -> Result<(), StorageError>
+        ensures read { OnOk result (buf.new ≡ bytes_at self.old.bytes at (length buf.old)) }
+        ensures stays { Stays (view_of_bytes self.old) (view_of_bytes self.new) result }
+        ensures counted { Begins self.old.calls self.new.calls result }
+    {
+        self.calls.begin()?;
+        copy_from(&self.bytes, at, buf);
+        Ok(())
+    }
+}
+
+impl<S> WrappedFormat<S> for MemBacking {
+    ghost dependencies = { λ _. [] };
+
+    fn storage_dependencies(&self, alloc: Global) -> Result<Vec<&S>, AllocError> {
+        Ok(Vec::new(alloc))
+    }
+}
