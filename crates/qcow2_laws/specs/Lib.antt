@@ -1,0 +1,9 @@
+pub mod Disk
+pub mod Stops
+pub mod Rules
+pub mod Mappings
+pub mod Views
+pub mod Calls
+pub mod Runs
+pub mod ForUsers
+pub mod Samples
