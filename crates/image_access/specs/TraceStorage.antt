@@ -1,9 +1,8 @@
 -- A storage that keeps its changes, as contracts see it.
 use Rattle.std.specs.Prelude.{◌≡◌, ◌≢◌, ℕ, List, [], ◌∷◌, ◌++◌, length, Result, Ok, Err, codes}
-use Rattle.image_access.specs.CallCount.{one_more, counted, faulted}
+use Rattle.image_access.specs.CallCount.{Counted, one_more, counted, faulted}
 use Rattle.image_access.specs.Changes.{replayed, HadSince}
 use Rattle.image_access.specs.Moments.{StorageView}
-use Rattle.image_access.specs.declared.call_count.CallCount.{CallCount}
 use Rattle.image_access.specs.declared.change.Change.{Change}
 use Rattle.image_access.specs.declared.error.StorageError.{StorageError}
 use Rattle.image_access.specs.declared.error.StorageError.TheVariants.{Fault, Memory}
@@ -16,7 +15,7 @@ pub record Trace : Type 0 where
   -- how many reads it answered, up to the greatest u64
   pub reads : ℕ
   -- its calls, and those to be refused
-  pub calls : CallCount
+  pub calls : Counted
 
 -- the start with the changes replayed
 abbrev pub contents_of : Trace → List ℕ

@@ -45,7 +45,7 @@ fn apply(bytes: &mut Vec<u8>, change: &Change) -> Result<(), AllocError>
 
 impl TraceStorage {
     ghost use Rattle.std.specs.Prelude.{◌≡◌, [], IfOk};
-    ghost use Rattle.image_access.specs.CallCount.{uncounted};
+    ghost use Rattle.image_access.specs.CallCount.{uncounted, failing, refusing};
     ghost use Rattle.image_access.specs.Changes.{replayed, up_to_write, write_offsets};
     ghost use Rattle.image_access.specs.TraceStorage.{contents_of, with_change};
 
@@ -118,29 +118,29 @@ impl TraceStorage {
     pub fn calls(&self) -> u64
         ensures { result ≡ self.now.calls.made }
     {
-        self.calls.made
+        self.calls.made()
     }
 
     /// How many calls failed, up to the greatest `u64`.
     pub fn faults(&self) -> u64
         ensures { result ≡ self.now.calls.faults }
     {
-        self.calls.faults
+        self.calls.faults()
     }
 
     /// Lets the n-th call from now on fail, and leave nothing of itself; 0 lets none. It takes the place of what was asked before.
     pub fn fail_at(&mut self, n: u64)
-        ensures { self.new ≡ record self.old { calls = record self.old.calls { fails_in = n } } }
+        ensures { self.new ≡ record self.old { calls = failing self.old.calls n } }
     {
-        self.calls.fails_in = n;
+        self.calls.fail_at(n);
     }
 
     /// Lets the n-th call from now on answer that memory is missing, and leave nothing of itself; 0 lets none.
     /// It takes the place of what was asked before. Where that call is to fail too, it fails.
     pub fn refuse_memory_at(&mut self, n: u64)
-        ensures { self.new ≡ record self.old { calls = record self.old.calls { refuses_in = n } } }
+        ensures { self.new ≡ record self.old { calls = refusing self.old.calls n } }
     {
-        self.calls.refuses_in = n;
+        self.calls.refuse_memory_at(n);
     }
 
     // Makes a change and keeps it.
