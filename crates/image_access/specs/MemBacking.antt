@@ -1,11 +1,11 @@
 -- A backing disk in memory, as contracts see it: honest, and it counts its reads.
 use Rattle.std.specs.Prelude.{ℕ, List}
 use Rattle.image_access.specs.Backing.{BackingView}
-use Rattle.image_access.specs.declared.call_count.CallCount.{CallCount}
+use Rattle.image_access.specs.CallCount.{Counted}
 
 pub record CountedBytes : Type 0 where
   pub bytes : List ℕ
-  pub calls : CallCount
+  pub calls : Counted
 
 abbrev pub view_of_bytes : CountedBytes → BackingView
 view_of_bytes m = record { bytes = m.bytes; faults = m.calls.faults; is_honest = Unit {0} }

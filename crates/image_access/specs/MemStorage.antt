@@ -1,6 +1,8 @@
 -- A storage in memory: honest, without a fault, and its present contents are its only moment.
-use Rattle.std.specs.Prelude.{◌≡◌, ℕ, List, codes}
+use Rattle.std.specs.Prelude.{◌≡◌, ◌<◌, ℕ, List, length, Result, Ok, Err, codes}
 use Rattle.image_access.specs.Moments.{StorageView}
+use Rattle.image_access.specs.declared.error.StorageError.{StorageError}
+use Rattle.image_access.specs.declared.error.StorageError.TheVariants.{Memory}
 
 abbrev pub view_of_memory : List ℕ → StorageView
 view_of_memory bytes = record {
@@ -13,3 +15,8 @@ view_of_memory bytes = record {
   req_align = 1;
   mem_align = 1;
 }
+
+-- The contents become these. Only where they grow memory may be missing, and then they stay.
+abbrev pub Grows : List ℕ → List ℕ → Result (Unit {0}) StorageError → List ℕ → Type 0
+Grows old new (Ok _) changed = new ≡ changed
+Grows old new (Err e) changed = (e ≡ Memory) × (length old < length changed) × (new ≡ old)

@@ -1,9 +1,8 @@
 -- A storage that keeps its changes, as contracts see it.
 use Rattle.std.specs.Prelude.{◌≡◌, ◌≢◌, ℕ, List, [], ◌∷◌, ◌++◌, length, Result, Ok, Err, codes}
-use Rattle.image_access.specs.CallCount.{one_more, counted, faulted}
+use Rattle.image_access.specs.CallCount.{Counted, one_more, counted, faulted}
 use Rattle.image_access.specs.Changes.{replayed, HadSince}
 use Rattle.image_access.specs.Moments.{StorageView}
-use Rattle.image_access.specs.declared.call_count.CallCount.{CallCount}
 use Rattle.image_access.specs.declared.change.Change.{Change}
 use Rattle.image_access.specs.declared.error.StorageError.{StorageError}
 use Rattle.image_access.specs.declared.error.StorageError.TheVariants.{Fault, Memory}
@@ -16,7 +15,7 @@ pub record Trace : Type 0 where
   -- how many reads it answered, up to the greatest u64
   pub reads : ℕ
   -- its calls, and those to be refused
-  pub calls : CallCount
+  pub calls : Counted
 
 -- the start with the changes replayed
 abbrev pub contents_of : Trace → List ℕ
@@ -43,8 +42,14 @@ with_change t change = record t { changes = t.changes ++ change ∷ [] }
 abbrev pub with_read : Trace → Trace
 with_read t = record t { reads = one_more t.reads }
 
--- A call is counted, and refused where that was asked. At Ok it leaves the trace as `done`, at a refusal as it was.
-abbrev pub Traced : {T : Type 0} → Trace → Trace → Result T StorageError → Trace → Type 0
-Traced old new (Ok _) done = (old.calls.fails_in ≢ 1) × (old.calls.refuses_in ≢ 1) × (new ≡ record done { calls = counted old.calls })
-Traced old new (Err Fault) done = (old.calls.fails_in ≡ 1) × (new ≡ record old { calls = faulted old.calls })
-Traced old new (Err Memory) done = (old.calls.fails_in ≢ 1) × (new ≡ record old { calls = counted old.calls })
+-- What a call that changes no contents does: it is counted, and refused where that was asked. At Ok it leaves the trace as `done`.
+abbrev pub Answers : {T : Type 0} → Trace → Trace → Result T StorageError → Trace → Type 0
+Answers old new (Ok _) done = (old.calls.fails_in ≢ 1) × (old.calls.refuses_in ≢ 1) × (new ≡ record done { calls = counted old.calls })
+Answers old new (Err Fault) done = (old.calls.fails_in ≡ 1) × (new ≡ record old { calls = faulted old.calls })
+Answers old new (Err Memory) done = (old.calls.fails_in ≢ 1) × (old.calls.refuses_in ≡ 1) × (new ≡ record old { calls = counted old.calls })
+
+-- What a call that makes a change does: the same, but memory to keep it may be missing at any time.
+abbrev pub Adds : Trace → Trace → Result (Unit {0}) StorageError → Change → Type 0
+Adds old new (Ok _) change = (old.calls.fails_in ≢ 1) × (old.calls.refuses_in ≢ 1) × (new ≡ record (with_change old change) { calls = counted old.calls })
+Adds old new (Err Fault) change = (old.calls.fails_in ≡ 1) × (new ≡ record old { calls = faulted old.calls })
+Adds old new (Err Memory) change = (old.calls.fails_in ≢ 1) × (new ≡ record old { calls = counted old.calls })

@@ -1,17 +1,28 @@
+ghost use Rattle.std.specs.Prelude.{◌≡◌};
+
 use crate::StorageError;
+use std::marker::Model;
 
 // Counts the calls of a storage or a disk that is made for tests, and refuses those that it was told to.
 #[derive(Drop)]
 pub(crate) struct CallCount {
-    pub(crate) made: u64,
-    pub(crate) faults: u64,
-    pub(crate) fails_in: u64,
-    pub(crate) refuses_in: u64,
+    made: u64,
+    faults: u64,
+    fails_in: u64,
+    refuses_in: u64,
+}
+
+impl Model for CallCount {
+    ghost use Rattle.image_access.specs.CallCount.{Counted};
+
+    ghost Value = { Counted };
+
+    ghost view = { λ c. record { made = c.made; faults = c.faults; fails_in = c.fails_in; refuses_in = c.refuses_in } };
 }
 
 impl CallCount {
     ghost use Rattle.std.specs.Prelude.{◌≡◌};
-    ghost use Rattle.image_access.specs.CallCount.{uncounted, Begins};
+    ghost use Rattle.image_access.specs.CallCount.{uncounted, failing, refusing, Begins};
 
     pub(crate) fn new() -> Self
         ensures { result ≡ uncounted }
@@ -22,6 +33,32 @@ impl CallCount {
             fails_in: 0,
             refuses_in: 0,
         }
+    }
+
+    pub(crate) fn made(&self) -> u64
+        ensures { result ≡ self.now.made }
+    {
+        self.made
+    }
+
+    pub(crate) fn faults(&self) -> u64
+        ensures { result ≡ self.now.faults }
+    {
+        self.faults
+    }
+
+    // Lets the n-th call from now on fail; 0 lets none.
+    pub(crate) fn fail_at(&mut self, n: u64)
+        ensures { self.new ≡ failing self.old n }
+    {
+        self.fails_in = n;
+    }
+
+    // Lets the n-th call from now on be refused memory; 0 lets none.
+    pub(crate) fn refuse_memory_at(&mut self, n: u64)
+        ensures { self.new ≡ refusing self.old n }
+    {
+        self.refuses_in = n;
     }
 
     // Begins a call.

@@ -6,6 +6,7 @@ mod call_count;
 mod change;
 mod dynamic;
 mod error;
+mod laws;
 mod mem_backing;
 mod memory;
 mod storage;
@@ -15,7 +16,13 @@ pub use backing::{BackingDisk, WrappedFormat};
 pub use change::{Change, WrittenBytes};
 pub use dynamic::DynStorage;
 pub use error::StorageError;
+pub use laws::{
+    first_writes_are_moments, reads_give_bytes, resizes_are_read, writes_are_read, zeroes_are_read,
+};
 pub use mem_backing::MemBacking;
 pub use memory::MemStorage;
 pub use storage::{Format, PreallocateMode, Storage, StoragePreallocate};
 pub use trace::TraceStorage;
+
+#[cfg(test)]
+mod tests;

@@ -23,7 +23,7 @@ impl Model for MemBacking {
 
 impl MemBacking {
     ghost use Rattle.std.specs.Prelude.{◌≡◌};
-    ghost use Rattle.image_access.specs.CallCount.{uncounted};
+    ghost use Rattle.image_access.specs.CallCount.{uncounted, failing, refusing};
 
     /// A disk of these bytes.
     pub fn new(bytes: Vec<u8>) -> Self
@@ -39,22 +39,22 @@ impl MemBacking {
     pub fn reads(&self) -> u64
         ensures { result ≡ self.now.calls.made }
     {
-        self.calls.made
+        self.calls.made()
     }
 
     /// Lets the n-th read from now on fail; 0 lets none. It takes the place of what was asked before.
     pub fn fail_at(&mut self, n: u64)
-        ensures { self.new ≡ record self.old { calls = record self.old.calls { fails_in = n } } }
+        ensures { self.new ≡ record self.old { calls = failing self.old.calls n } }
     {
-        self.calls.fails_in = n;
+        self.calls.fail_at(n);
     }
 
     /// Lets the n-th read from now on answer that memory is missing; 0 lets none. It takes the place of what was asked before.
     /// Where that read is to fail too, it fails.
     pub fn refuse_memory_at(&mut self, n: u64)
-        ensures { self.new ≡ record self.old { calls = record self.old.calls { refuses_in = n } } }
+        ensures { self.new ≡ record self.old { calls = refusing self.old.calls n } }
     {
-        self.calls.refuses_in = n;
+        self.calls.refuse_memory_at(n);
     }
 }
 

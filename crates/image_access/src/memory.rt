@@ -1,4 +1,4 @@
-ghost use Rattle.std.specs.Prelude.{◌≡◌, ◌+◌, ◌≤◌, List, ℕ, length, max, refl, OnOk, OnErr};
+ghost use Rattle.std.specs.Prelude.{◌≡◌, ◌+◌, ◌<◌, ◌≤◌, List, ℕ, length, max, refl, IsOk, OnOk, OnErr};
 ghost use Rattle.image_access.specs.Contents.{bytes_at, resized, overwritten, zeroed};
 
 use crate::{Storage, StorageError, StoragePreallocate};
@@ -66,6 +66,7 @@ fn put_zeroes(within: &mut [u8], at: usize, count: usize)
 fn grow(bytes: &mut Vec<u8>, at: usize, count: usize) -> Result<(), AllocError>
     ensures ok { OnOk result (bytes.new.items ≡ resized bytes.old.items (max (length bytes.old.items) (at + count))) }
     ensures err { OnErr result (bytes.new.items ≡ bytes.old.items) }
+    ensures grows { OnErr result (length bytes.old.items < at + count) }
 {
     let Some(end) = at.checked_add(count) else {
         return Err(AllocError);
@@ -74,9 +75,11 @@ fn grow(bytes: &mut Vec<u8>, at: usize, count: usize) -> Result<(), AllocError>
     bytes.resize(end, 0)
 }
 
+#[tactic(auto, using(crate::proofs::Bytes::lengths))]
 pub(crate) fn overwrite(bytes: &mut Vec<u8>, at: u64, new_bytes: &[u8]) -> Result<(), AllocError>
     ensures ok { OnOk result (bytes.new.items ≡ overwritten bytes.old.items at new_bytes.now) }
     ensures err { OnErr result (bytes.new.items ≡ bytes.old.items) }
+    ensures grows { OnErr result (length bytes.old.items < length (overwritten bytes.old.items at new_bytes.now)) }
 {
     if new_bytes.is_empty() {
         return Ok(());
@@ -87,9 +90,11 @@ pub(crate) fn overwrite(bytes: &mut Vec<u8>, at: u64, new_bytes: &[u8]) -> Resul
     Ok(())
 }
 
+#[tactic(auto, using(crate::proofs::Bytes::lengths))]
 pub(crate) fn overwrite_zeroes(bytes: &mut Vec<u8>, at: u64, count: u64) -> Result<(), AllocError>
     ensures ok { OnOk result (bytes.new.items ≡ zeroed bytes.old.items at count) }
     ensures err { OnErr result (bytes.new.items ≡ bytes.old.items) }
+    ensures grows { OnErr result (length bytes.old.items < length (zeroed bytes.old.items at count)) }
 {
     if count == 0 {
         return Ok(());
@@ -101,15 +106,17 @@ pub(crate) fn overwrite_zeroes(bytes: &mut Vec<u8>, at: u64, count: u64) -> Resu
     Ok(())
 }
 
+#[tactic(auto, using(crate::proofs::Bytes::lengths))]
 pub(crate) fn set_size(bytes: &mut Vec<u8>, size: u64) -> Result<(), AllocError>
     ensures ok { OnOk result (bytes.new.items ≡ resized bytes.old.items size) }
     ensures err { OnErr result (bytes.new.items ≡ bytes.old.items) }
+    ensures grows { OnErr result (length bytes.old.items < length (resized bytes.old.items size)) }
 {
     bytes.resize(size as usize, 0)
 }
 
 impl Storage for MemStorage {
-    ghost use Rattle.image_access.specs.MemStorage.{view_of_memory};
+    ghost use Rattle.image_access.specs.MemStorage.{view_of_memory, Grows};
 
     ghost view = { view_of_memory };
 
@@ -121,44 +128,67 @@ impl Storage for MemStorage {
         "mem"
     }
 
-    fn size(&mut self) -> Result<u64, StorageError> {
+    fn size(&mut self) -> Result<u64, StorageError>
+        ensures size { result ≡ Ok (length self.old) }
+        ensures same { self.new ≡ self.old }
+    {
         Ok(self.bytes.len() as u64)
     }
 
-    fn read(&mut self, at: u64, buf: &mut [u8]) -> Result<(), StorageError> {
+    fn read(&mut self, at: u64, buf: &mut [u8]) -> Result<(), StorageError>
+        ensures read { IsOk result × (buf.new ≡ bytes_at self.old at (length buf.old)) }
+        ensures same { self.new ≡ self.old }
+    {
         copy_from(&self.bytes, at, buf);
         Ok(())
     }
 
-    fn write(&mut self, at: u64, bytes: &[u8]) -> Result<(), StorageError> {
+    fn write(&mut self, at: u64, bytes: &[u8]) -> Result<(), StorageError>
+        ensures written { Grows self.old self.new result (overwritten self.old at bytes.now) }
+    {
         overwrite(&mut self.bytes, at, bytes)?;
         Ok(())
     }
 
-    fn write_zeroes(&mut self, at: u64, length: u64) -> Result<(), StorageError> {
+    fn write_zeroes(&mut self, at: u64, length: u64) -> Result<(), StorageError>
+        ensures zeroed { Grows self.old self.new result (zeroed self.old at length) }
+    {
         overwrite_zeroes(&mut self.bytes, at, length)?;
         Ok(())
     }
 
-    fn write_allocated_zeroes(&mut self, at: u64, length: u64) -> Result<(), StorageError> {
+    fn write_allocated_zeroes(&mut self, at: u64, length: u64) -> Result<(), StorageError>
+        ensures zeroed { Grows self.old self.new result (zeroed self.old at length) }
+    {
         overwrite_zeroes(&mut self.bytes, at, length)?;
         Ok(())
     }
 
-    fn resize(&mut self, size: u64, _how: StoragePreallocate) -> Result<(), StorageError> {
+    fn resize(&mut self, size: u64, _how: StoragePreallocate) -> Result<(), StorageError>
+        ensures resized { Grows self.old self.new result (resized self.old size) }
+    {
         set_size(&mut self.bytes, size)?;
         Ok(())
     }
 
-    fn flush(&mut self) -> Result<(), StorageError> {
+    fn flush(&mut self) -> Result<(), StorageError>
+        ensures ok { IsOk result }
+        ensures same { self.new ≡ self.old }
+    {
         Ok(())
     }
 
-    fn sync(&mut self) -> Result<(), StorageError> {
+    fn sync(&mut self) -> Result<(), StorageError>
+        ensures ok { IsOk result }
+        ensures same { self.new ≡ self.old }
+    {
         Ok(())
     }
 
-    fn invalidate_cache(&mut self) -> Result<(), StorageError> {
+    fn invalidate_cache(&mut self) -> Result<(), StorageError>
+        ensures ok { IsOk result }
+        ensures same { self.new ≡ self.old }
+    {
         Ok(())
     }
 

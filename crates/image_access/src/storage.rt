@@ -4,7 +4,10 @@ ghost use Rattle.image_access.specs.Moments.{StorageView, Keeps, Changes, Calls}
 
 use crate::StorageError;
 
-/// Bytes that can be read, written and resized. Each write, zeroing and resize is one moment: it is there whole or not at all.
+/// Bytes that can be read, written and resized; offsets, lengths and sizes are numbers of bytes. Each write, zeroing and resize
+/// is one moment: it is there whole or not at all. A call is refused by `StorageError::Fault` only where the storage failed,
+/// which it counts, and by `StorageError::Memory` where memory is missing, and then has changed nothing. One of no bytes changes
+/// nothing at any offset.
 pub trait Storage: Drop {
     /// What a contract sees of it.
     ghost view: { Self → StorageView };
@@ -25,7 +28,7 @@ pub trait Storage: Drop {
         ensures same { Keeps (view self.old) (view self.new) }
         ensures calls { Calls (view self.old) (view self.new) result };
 
-    /// Fills the buffer with the bytes from an offset on, zeros past the end.
+    /// Fills the buffer with the bytes from an offset on, zeros past the end. After a refusal it may hold any bytes.
     fn read(&mut self, at: u64, buf: &mut [u8]) -> Result<(), StorageError>
         ensures read { (view self.old).is_honest → OnOk result (buf.new ≡ bytes_at (view self.old).contents at (length buf.old)) }
         ensures same { Keeps (view self.old) (view self.new) }
@@ -36,7 +39,7 @@ pub trait Storage: Drop {
         ensures written { Changes (view self.old) (view self.new) result (overwritten (view self.old).contents at bytes.now) }
         ensures calls { Calls (view self.old) (view self.new) result };
 
-    /// Writes so many zeros at an offset.
+    /// Writes so many zeros at an offset, as `write` does. The device may give the place back.
     fn write_zeroes(&mut self, at: u64, length: u64) -> Result<(), StorageError>
         ensures zeroed { Changes (view self.old) (view self.new) result (zeroed (view self.old).contents at length) }
         ensures calls { Calls (view self.old) (view self.new) result };
@@ -61,41 +64,55 @@ pub trait Storage: Drop {
         ensures same { Keeps (view self.old) (view self.new) }
         ensures calls { Calls (view self.old) (view self.new) result };
 
-    /// Forgets what was read.
+    /// Forgets what it keeps of earlier reads, so that the next reads ask the device.
     fn invalidate_cache(&mut self) -> Result<(), StorageError>
         ensures same { Keeps (view self.old) (view self.new) }
         ensures calls { Calls (view self.old) (view self.new) result };
 
-    /// The alignment of offsets and lengths, in bytes.
+    /// The alignment of offsets and lengths with which it works best, in bytes. Others are taken too.
     fn req_align(&self) -> usize
         ensures equals { result ≡ (view self.now).req_align }
         ensures positive { 0 < result };
 
-    /// The alignment of buffers, in bytes.
+    /// The alignment of buffers with which it works best, in bytes. Others are taken too.
     fn mem_align(&self) -> usize
         ensures equals { result ≡ (view self.now).mem_align }
         ensures positive { 0 < result };
 }
 
+/// How a storage takes the place that a resize adds. The bytes are zero in each mode.
 #[derive(Clone, Copy, Debug, PartialEq, Eq)]
 pub enum StoragePreallocate {
+    /// No place is taken.
     None,
+    /// The added bytes are zero, by the quickest way.
     Zero,
+    /// The place is taken on the device, without writing to it.
     Allocate,
+    /// Zeros are written to all of it.
     WriteData,
 }
 
+/// How an image takes the place that creating or growing it adds.
 #[derive(Clone, Copy, Debug, PartialEq, Eq)]
 pub enum PreallocateMode {
+    /// No place is taken, and nothing is said of the added bytes.
     None,
+    /// The added bytes are zero.
     Zero,
+    /// They are zero, and the image has clusters for them.
     FormatAllocate,
+    /// The same, and the storage has taken the place of these clusters.
     FullAllocate,
+    /// The same, and zeros are written to all of them.
     WriteData,
 }
 
+/// The format of an image.
 #[derive(Clone, Copy, Debug, PartialEq, Eq)]
 pub enum Format {
+    /// The format of this library.
     Qcow2,
+    /// The bytes of the disk themselves.
     Raw,
 }

@@ -45,7 +45,7 @@ fn apply(bytes: &mut Vec<u8>, change: &Change) -> Result<(), AllocError>
 
 impl TraceStorage {
     ghost use Rattle.std.specs.Prelude.{◌≡◌, [], IfOk};
-    ghost use Rattle.image_access.specs.CallCount.{uncounted};
+    ghost use Rattle.image_access.specs.CallCount.{uncounted, failing, refusing};
     ghost use Rattle.image_access.specs.Changes.{replayed, up_to_write, write_offsets};
     ghost use Rattle.image_access.specs.TraceStorage.{contents_of, with_change};
 
@@ -118,29 +118,29 @@ impl TraceStorage {
     pub fn calls(&self) -> u64
         ensures { result ≡ self.now.calls.made }
     {
-        self.calls.made
+        self.calls.made()
     }
 
     /// How many calls failed, up to the greatest `u64`.
     pub fn faults(&self) -> u64
         ensures { result ≡ self.now.calls.faults }
     {
-        self.calls.faults
+        self.calls.faults()
     }
 
     /// Lets the n-th call from now on fail, and leave nothing of itself; 0 lets none. It takes the place of what was asked before.
     pub fn fail_at(&mut self, n: u64)
-        ensures { self.new ≡ record self.old { calls = record self.old.calls { fails_in = n } } }
+        ensures { self.new ≡ record self.old { calls = failing self.old.calls n } }
     {
-        self.calls.fails_in = n;
+        self.calls.fail_at(n);
     }
 
     /// Lets the n-th call from now on answer that memory is missing, and leave nothing of itself; 0 lets none.
     /// It takes the place of what was asked before. Where that call is to fail too, it fails.
     pub fn refuse_memory_at(&mut self, n: u64)
-        ensures { self.new ≡ record self.old { calls = record self.old.calls { refuses_in = n } } }
+        ensures { self.new ≡ record self.old { calls = refusing self.old.calls n } }
     {
-        self.calls.refuses_in = n;
+        self.calls.refuse_memory_at(n);
     }
 
     // Makes a change and keeps it.
@@ -157,11 +157,11 @@ impl TraceStorage {
 }
 
 impl Storage for TraceStorage {
-    ghost use Rattle.std.specs.Prelude.{◌≡◌, length, IfOk, OnOk, IsErrOf};
+    ghost use Rattle.std.specs.Prelude.{◌≡◌, length, IfOk, OnOk};
     ghost use Rattle.image_access.specs.Changes.{counts_all, only_all};
     ghost use Rattle.image_access.specs.Contents.{bytes_at, resized, overwritten, zeroed};
     ghost use Rattle.image_access.specs.Moments.{Keeps, Changes, Calls};
-    ghost use Rattle.image_access.specs.TraceStorage.{Trace, contents_of, view_of_trace, Traced, with_change, with_read};
+    ghost use Rattle.image_access.specs.TraceStorage.{contents_of, view_of_trace, with_read, Answers, Adds};
 
     ghost view = { view_of_trace };
 
@@ -177,8 +177,7 @@ impl Storage for TraceStorage {
         ensures size { IfOk result (λ size. size ≡ length (contents_of self.old)) }
         ensures same { Keeps (view_of_trace self.old) (view_of_trace self.new) }
         ensures calls { Calls (view_of_trace self.old) (view_of_trace self.new) result }
-        ensures traced { Traced self.old self.new result self.old }
-        ensures asked { IsErrOf result StorageError.Memory → self.old.calls.refuses_in ≡ 1 }
+        ensures answers { Answers self.old self.new result self.old }
     {
         self.calls.begin()?;
         Ok(self.bytes.len() as u64)
@@ -188,8 +187,7 @@ impl Storage for TraceStorage {
         ensures read { OnOk result (buf.new ≡ bytes_at (contents_of self.old) at (length buf.old)) }
         ensures same { Keeps (view_of_trace self.old) (view_of_trace self.new) }
         ensures calls { Calls (view_of_trace self.old) (view_of_trace self.new) result }
-        ensures traced { Traced self.old self.new result (with_read self.old) }
-        ensures asked { IsErrOf result StorageError.Memory → self.old.calls.refuses_in ≡ 1 }
+        ensures answers { Answers self.old self.new result (with_read self.old) }
     {
         self.calls.begin()?;
         self.reads = self.reads.saturating_add(1);
@@ -201,7 +199,7 @@ impl Storage for TraceStorage {
     fn write(&mut self, at: u64, bytes: &[u8]) -> Result<(), StorageError>
         ensures written { Changes (view_of_trace self.old) (view_of_trace self.new) result (overwritten (contents_of self.old) at bytes.now) }
         ensures calls { Calls (view_of_trace self.old) (view_of_trace self.new) result }
-        ensures traced { Traced self.old self.new result (with_change self.old (Change.Write at bytes.now)) }
+        ensures adds { Adds self.old self.new result (Change.Write at bytes.now) }
     {
         self.calls.begin()?;
         let bytes = WrittenBytes::new(bytes.to_vec(self.alloc)?);
@@ -213,7 +211,7 @@ impl Storage for TraceStorage {
     fn write_zeroes(&mut self, at: u64, length: u64) -> Result<(), StorageError>
         ensures zeroed { Changes (view_of_trace self.old) (view_of_trace self.new) result (zeroed (contents_of self.old) at length) }
         ensures calls { Calls (view_of_trace self.old) (view_of_trace self.new) result }
-        ensures traced { Traced self.old self.new result (with_change self.old (Change.Zeroes at length)) }
+        ensures adds { Adds self.old self.new result (Change.Zeroes at length) }
     {
         self.calls.begin()?;
         self.keep(Change::Zeroes { at, length })?;
@@ -223,7 +221,7 @@ impl Storage for TraceStorage {
     fn write_allocated_zeroes(&mut self, at: u64, length: u64) -> Result<(), StorageError>
         ensures zeroed { Changes (view_of_trace self.old) (view_of_trace self.new) result (zeroed (contents_of self.old) at length) }
         ensures calls { Calls (view_of_trace self.old) (view_of_trace self.new) result }
-        ensures traced { Traced self.old self.new result (with_change self.old (Change.Zeroes at length)) }
+        ensures adds { Adds self.old self.new result (Change.Zeroes at length) }
     {
         self.write_zeroes(at, length)
     }
@@ -232,7 +230,7 @@ impl Storage for TraceStorage {
     fn resize(&mut self, size: u64, _preallocate: StoragePreallocate) -> Result<(), StorageError>
         ensures resized { Changes (view_of_trace self.old) (view_of_trace self.new) result (resized (contents_of self.old) size) }
         ensures calls { Calls (view_of_trace self.old) (view_of_trace self.new) result }
-        ensures traced { Traced self.old self.new result (with_change self.old (Change.Resize size)) }
+        ensures adds { Adds self.old self.new result (Change.Resize size) }
     {
         self.calls.begin()?;
         self.keep(Change::Resize { size })?;
@@ -242,8 +240,7 @@ impl Storage for TraceStorage {
     fn flush(&mut self) -> Result<(), StorageError>
         ensures same { Keeps (view_of_trace self.old) (view_of_trace self.new) }
         ensures calls { Calls (view_of_trace self.old) (view_of_trace self.new) result }
-        ensures traced { Traced self.old self.new result self.old }
-        ensures asked { IsErrOf result StorageError.Memory → self.old.calls.refuses_in ≡ 1 }
+        ensures answers { Answers self.old self.new result self.old }
     {
         self.calls.begin()
     }
@@ -251,8 +248,7 @@ impl Storage for TraceStorage {
     fn sync(&mut self) -> Result<(), StorageError>
         ensures same { Keeps (view_of_trace self.old) (view_of_trace self.new) }
         ensures calls { Calls (view_of_trace self.old) (view_of_trace self.new) result }
-        ensures traced { Traced self.old self.new result self.old }
-        ensures asked { IsErrOf result StorageError.Memory → self.old.calls.refuses_in ≡ 1 }
+        ensures answers { Answers self.old self.new result self.old }
     {
         self.calls.begin()
     }
@@ -260,8 +256,7 @@ impl Storage for TraceStorage {
     fn invalidate_cache(&mut self) -> Result<(), StorageError>
         ensures same { Keeps (view_of_trace self.old) (view_of_trace self.new) }
         ensures calls { Calls (view_of_trace self.old) (view_of_trace self.new) result }
-        ensures traced { Traced self.old self.new result self.old }
-        ensures asked { IsErrOf result StorageError.Memory → self.old.calls.refuses_in ≡ 1 }
+        ensures answers { Answers self.old self.new result self.old }
     {
         self.calls.begin()
     }
