@@ -1,5 +1,5 @@
 -- When an image is consistent.
-use Rattle.std.specs.Prelude.{ℕ, ◌+◌, ◌*◌, ◌/◌, ◌%◌, ◌≡◌, ◌≢◌, ◌<◌, ◌≤◌, Bool, IsTrue, Option, Some, None, ⊤}
+use Rattle.std.specs.Prelude.{ℕ, ◌+◌, ◌*◌, ◌/◌, ◌≡◌, ◌≢◌, ◌<◌, ◌≤◌, Bool, IsTrue, Option, Some, None, ⊤}
 use Rattle.qcow2_metadata.specs.Bytes.{Bytes}
 use Rattle.qcow2_metadata.specs.Header.{HeaderFields, header, HeaderReads, cluster_size, entries_per_cluster, reftable_entries}
 pub use Rattle.qcow2_metadata.specs.Header.{IsAligned}
