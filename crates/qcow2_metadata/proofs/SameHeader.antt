@@ -74,6 +74,7 @@ module _ (h : HeaderFields) (b c : Bytes) (same : SameBelow (cluster_size h) b c
   backing_name_reads-same : BackingNameReads h b → BackingNameReads h c
   backing_name_reads-same reads = record {
     inside = reads.inside;
+    behind_header = reads.behind_header;
     text = λ some. subst IsUtf8 (bytes-same (cluster_size h) b c same h.backing_offset h.backing_length (reads.inside some)) (reads.text some);
   }
 

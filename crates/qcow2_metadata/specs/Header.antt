@@ -122,9 +122,10 @@ pub record ExtensionsRead (b : Bytes) (limit place : ℕ) : Type 0 where
   pub list : List (ℕ × List ℕ)
   pub stand : AreExtensions b limit place list
 
--- the name of the backing file lies in cluster 0 and is text, if there is one
+-- The name of the backing file lies in cluster 0, not over the header itself, and is text, if there is one.
 pub record BackingNameReads (h : HeaderFields) (b : Bytes) : Type 0 where
   pub inside : h.backing_offset ≢ 0 → h.backing_offset + h.backing_length ≤ cluster_size h
+  pub behind_header : h.backing_offset ≢ 0 → h.backing_length ≢ 0 → h.header_length ≤ h.backing_offset
   pub text : h.backing_offset ≢ 0 → IsUtf8 (bytes_from b h.backing_offset h.backing_length)
 
 -- it reads, but for the limits

@@ -115,6 +115,9 @@ fn read_backing_name<'a>(
     if offset > end || length > end - offset {
         return Err(MetadataError::Format);
     }
+    if length > 0 && offset < u64::from(fields.header_length) {
+        return Err(MetadataError::Format);
+    }
     let name = text(&cluster[offset as usize..(offset + length) as usize])?;
     Ok(Some(name))
 }
