@@ -1,15 +1,13 @@
 -- When an image is consistent.
-use Rattle.std.specs.Prelude.{ℕ, ◌+◌, ◌*◌, ◌/◌, ◌%◌, ◌≡◌, ◌≢◌, ◌<◌, ◌≤◌, Bool, IsTrue, Option, Some, None, ⊤}
+use Rattle.std.specs.Prelude.{ℕ, ◌+◌, ◌*◌, ◌/◌, ◌≡◌, ◌≢◌, ◌<◌, ◌≤◌, Bool, IsTrue, Option, Some, None, ⊤}
 use Rattle.qcow2_metadata.specs.Bytes.{Bytes}
 use Rattle.qcow2_metadata.specs.Header.{HeaderFields, header, HeaderReads, cluster_size, entries_per_cluster, reftable_entries}
+pub use Rattle.qcow2_metadata.specs.Header.{IsAligned}
 use Rattle.qcow2_metadata.specs.Entries.{l1_entry, l2_entry, reftable_entry, count, host_offset, block_offset, is_copied, L1EntryReads, ReftableEntryReads}
 use Rattle.qcow2_metadata.specs.Cover.{entry_cover}
 use Rattle.qcow2_metadata.specs.Named.{named, named_for_tables}
 use Rattle.qcow2_metadata.specs.declared.l2_mapping.L2Mapping.{L2Mapping}
 use Rattle.qcow2_metadata.specs.declared.l2_mapping.L2Mapping.TheVariants.{Data, Zero, Compressed, Uncovered}
-
-abbrev pub IsAligned : HeaderFields → ℕ → Type 0
-IsAligned h place = place % cluster_size h ≡ 0
 
 -- named once and counted once
 abbrev pub IsOwn : HeaderFields → Bytes → ℕ → Type 0

@@ -1,5 +1,5 @@
 -- The header's numbers at their places, its extensions and names, and when a header reads.
-use Rattle.std.specs.Prelude.{ℕ, ◌+◌, ◌-◌, ◌*◌, ◌/◌, ◌^◌, ◌≡◌, ◌≢◌, ◌≤◌, ◌⊎◌, Bool, ◌==◌, List, [], ◌∷◌, length, Option, Some, None, All, if◌then◌else◌}
+use Rattle.std.specs.Prelude.{ℕ, ◌+◌, ◌-◌, ◌*◌, ◌/◌, ◌%◌, ◌^◌, ◌≡◌, ◌≢◌, ◌≤◌, ◌⊎◌, Bool, ◌==◌, List, [], ◌∷◌, length, Option, Some, None, if◌then◌else◌}
 use Rattle.std.specs.Str.{IsUtf8}
 pub use Rattle.qcow2_metadata.specs.declared.header.HeaderFields.{HeaderFields}
 use Rattle.qcow2_metadata.specs.Bytes.{Bytes, bytes_from, number_at, has_bit}
@@ -55,6 +55,10 @@ has_data_file h = has_bit h.incompatible 2
 abbrev pub counts_bits : HeaderFields → ℕ
 counts_bits h = h.cluster_bits + 3 - h.refcount_order
 
+-- the place is a cluster's first byte
+abbrev pub IsAligned : HeaderFields → ℕ → Type 0
+IsAligned h place = place % cluster_size h ≡ 0
+
 abbrev pub rounded_down : ℕ → ℕ → ℕ
 rounded_down step n = n / step * step
 
@@ -63,24 +67,38 @@ rounded_up step n = (n + step - 1) / step * step
 
 -- ---- extensions and names
 
--- From a place on stand these extensions, each a kind and its data, and then the end. None passes the limit.
-abbrev pub AreExtensions : Bytes → ℕ → ℕ → List (ℕ × List ℕ) → Type 0
-AreExtensions b limit place [] = (place + 8 ≤ limit) × (number_at b place 4 ≡ 0)
-AreExtensions b limit place (e ∷ rest) =
-    (e.0 ≢ 0) × (number_at b place 4 ≡ e.0) × (number_at b (place + 4) 4 ≡ length e.1)
-    × (bytes_from b (place + 8) (length e.1) ≡ e.1) × (place + 8 + length e.1 ≤ limit)
-    × AreExtensions b limit (place + 8 + rounded_up 8 (length e.1)) rest
-
--- the data of the first extension of a kind
-abbrev pub first_of_kind : ℕ → List (ℕ × List ℕ) → Option (List ℕ)
-first_of_kind kind [] = None
-first_of_kind kind (e ∷ rest) = if e.0 == kind then Some e.1 else first_of_kind kind rest
-
 abbrev pub backing_format_kind : ℕ
 backing_format_kind = 0xe2792aca
 
 abbrev pub data_file_kind : ℕ
 data_file_kind = 0x44415441
+
+-- the data are a name
+abbrev pub IsNameKind : ℕ → Type 0
+IsNameKind kind = (kind ≡ backing_format_kind) ⊎ (kind ≡ data_file_kind)
+
+-- at a place stands an extension, a kind and its data, that doesn't pass the limit
+pub record IsExtension (b : Bytes) (limit place : ℕ) (e : ℕ × List ℕ) : Type 0 where
+  pub not_the_end : e.0 ≢ 0
+  pub kind : number_at b place 4 ≡ e.0
+  pub size : number_at b (place + 4) 4 ≡ length e.1
+  pub bytes : bytes_from b (place + 8) (length e.1) ≡ e.1
+  pub inside : place + 8 + length e.1 ≤ limit
+
+-- the place behind an extension with so many bytes of data, which are padded to a multiple of 8
+abbrev pub behind_extension : ℕ → ℕ → ℕ
+behind_extension place size = place + 8 + rounded_up 8 size
+
+-- from a place on stand these extensions, whose names are text, and then the end
+abbrev pub AreExtensions : Bytes → ℕ → ℕ → List (ℕ × List ℕ) → Type 0
+AreExtensions b limit place [] = (place + 8 ≤ limit) × (number_at b place 4 ≡ 0)
+AreExtensions b limit place (e ∷ rest) =
+    IsExtension b limit place e × (IsNameKind e.0 → IsUtf8 e.1) × AreExtensions b limit (behind_extension place (length e.1)) rest
+
+-- the data of the first extension of a kind
+abbrev pub first_of_kind : ℕ → List (ℕ × List ℕ) → Option (List ℕ)
+first_of_kind kind [] = None
+first_of_kind kind (e ∷ rest) = if e.0 == kind then Some e.1 else first_of_kind kind rest
 
 -- the name of the backing file, if there is one
 unfoldable pub backing_name : HeaderFields → Bytes → Option (List ℕ)
@@ -99,21 +117,29 @@ pub record IsInRange (h : HeaderFields) : Type 0 where
   pub incompatible : (h.incompatible ≡ 0) ⊎ (h.incompatible ≡ 4)
   pub header_length : (h.version ≡ 3 → 104 ≤ h.header_length) × (h.header_length ≤ cluster_size h)
 
--- what stands in cluster 0 behind the numbers: extensions, and the name of the backing file
-pub record NamesRead (h : HeaderFields) (b : Bytes) : Type 0 where
-  pub extensions : List (ℕ × List ℕ)
-  pub are_extensions : AreExtensions b (cluster_size h) h.header_length extensions
-  pub names_text : All (λ e. (e.0 ≡ backing_format_kind) ⊎ (e.0 ≡ data_file_kind) → IsUtf8 e.1) extensions
-  pub backing_inside : h.backing_offset ≢ 0 → h.backing_offset + h.backing_length ≤ cluster_size h
-  pub backing_text : h.backing_offset ≢ 0 → IsUtf8 (bytes_from b h.backing_offset h.backing_length)
+-- from a place on stand extensions and their end
+pub record ExtensionsRead (b : Bytes) (limit place : ℕ) : Type 0 where
+  pub list : List (ℕ × List ℕ)
+  pub stand : AreExtensions b limit place list
+
+-- The name of the backing file lies in cluster 0, not over the header itself, and is text, if there is one.
+pub record BackingNameReads (h : HeaderFields) (b : Bytes) : Type 0 where
+  pub inside : h.backing_offset ≢ 0 → h.backing_offset + h.backing_length ≤ cluster_size h
+  pub behind_header : h.backing_offset ≢ 0 → h.backing_length ≢ 0 → h.header_length ≤ h.backing_offset
+  pub text : h.backing_offset ≢ 0 → IsUtf8 (bytes_from b h.backing_offset h.backing_length)
+
+-- it reads, but for the limits
+pub record IsWellFormed (h : HeaderFields) (b : Bytes) : Type 0 where
+  pub in_range : IsInRange h
+  pub extensions : ExtensionsRead b (cluster_size h) h.header_length
+  pub backing_name : BackingNameReads h b
 
 pub record IsWithinLimits (h : HeaderFields) : Type 0 where
   pub few_l1_entries : h.l1_entries ≤ 4194304
   pub few_reftable_entries : reftable_entries h ≤ 1048576
 
 pub record HeaderReads (h : HeaderFields) (b : Bytes) : Type 0 where
-  pub in_range : IsInRange h
-  pub names : NamesRead h b
+  pub well_formed : IsWellFormed h b
   pub within_limits : IsWithinLimits h
 
 -- ---- what a contract sees of a header in memory: its numbers and its names

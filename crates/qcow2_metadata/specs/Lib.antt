@@ -1,5 +1,6 @@
 pub mod Bytes
 pub mod Header
+pub mod HeaderLoad
 pub mod Entries
 pub mod Cover
 pub mod Guest

@@ -2,6 +2,9 @@ ghost use Rattle.std.specs.Prelude.{◌≡◌, ◌+◌, ◌-◌, ◌*◌, ◌/�
 ghost use Rattle.std.specs.String.{string_bytes};
 ghost use Rattle.qcow2_metadata.specs.Header.{IsInRange, IsWithinLimits, cluster_size as cluster_size_of, entries_per_cluster, reftable_entries as reftable_entries_of, counts_per_block, counts_bits, has_data_file as has_data_file_of, with_fields, with_size, with_l1_table, with_reftable, with_tables_of};
 
+mod extensions;
+mod load;
+
 use crate::{HostOffset, MetadataError};
 use std::marker::Model;
 

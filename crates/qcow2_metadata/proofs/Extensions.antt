@@ -1,0 +1,118 @@
+-- A walk over the extensions of a header.
+use Rattle.std.proofs.Common.{◌≡◌, ◌≢◌, ℕ, ◌+◌, ◌<◌, ◌≤◌, ◌==◌, Bool, true, false, List, [], ◌∷◌, length, get_or, take, drop, Option, Some, None, refl, sym, ap, ◌∙◌, subst, ⊎_elim, if◌then◌else◌, arith}
+use Rattle.std.proofs.lemmas.List.{length-take, length-drop, get_or-take, get_or-drop, ext_get_or}
+use Rattle.std.proofs.lemmas.List.FromFn.{length-map-range_with_len, get_or-map-range_with_len}
+use Rattle.qcow2_metadata.specs.Bytes.{Bytes, byte_at, bytes_from, number_at}
+use Rattle.std.specs.Prelude.{IsUtf8}
+use Rattle.qcow2_metadata.specs.Header.{IsExtension, AreExtensions, ExtensionsRead, IsNameKind, behind_extension, first_of_kind, backing_format_kind, data_file_kind}
+use Rattle.qcow2_metadata.specs.HeaderLoad.{first_so_far, AreNamed}
+
+-- no extension and no end begins where less than eight bytes are left
+pub stand_no_room : (b : Bytes) (limit place : ℕ) → limit < place + 8 → (list : List (ℕ × List ℕ)) → AreExtensions b limit place list → ⊥
+stand_no_room b limit place past [] stand = omega (arith, stand.0)
+stand_no_room b limit place past (e ∷ rest) stand = omega (arith, stand.0.inside)
+
+-- nor one whose data pass the limit
+pub stand_past : (b : Bytes) (limit place : ℕ) → number_at b place 4 ≢ 0 → limit < place + 8 + number_at b (place + 4) 4 → (list : List (ℕ × List ℕ)) → AreExtensions b limit place list → ⊥
+stand_past b limit place some past [] stand = some stand.1
+stand_past b limit place some past (e ∷ rest) stand = omega (arith, stand.0.size, stand.0.inside)
+
+-- a part that is cut out of the bytes
+pub bytes_from-part : (bytes part : List ℕ) (place n : ℕ) → part ≡ take n (drop place bytes) → place + n ≤ length bytes → bytes_from (byte_at bytes) place (length part) ≡ part
+bytes_from-part bytes part place n is fits =
+    let len : length part ≡ n = ap length is ∙ omega (arith, length-take n (drop place bytes), length-drop place bytes) in
+    let all : length (bytes_from (byte_at bytes) place (length part)) ≡ length part = length-map-range_with_len (byte_at bytes) place (length part) in
+    ext_get_or 0 _ _ all (λ i lt.
+    get_or-map-range_with_len (byte_at bytes) place (length part) i (place + i) 0 (omega (arith, all)) refl
+    ∙ sym (ap (λ (l : List ℕ). get_or l i 0) is ∙ get_or-take n (drop place bytes) i 0 (omega (arith, all, len)) ∙ get_or-drop place bytes i 0))
+
+-- what a step of the walk found is an extension
+pub found : (bytes : List ℕ) (place kind n m : ℕ) → kind ≢ 0 → kind ≡ number_at (byte_at bytes) place 4 → n ≡ number_at (byte_at bytes) (place + 4) 4 → m ≡ n → place + 8 + n ≤ length bytes
+    → IsExtension (byte_at bytes) (length bytes) place (kind, take m (drop (place + 8) bytes))
+found bytes place kind n m some is_kind is_size same fits =
+    let part : List ℕ = take m (drop (place + 8) bytes) in
+    let len : length part ≡ n = omega (arith, length-take m (drop (place + 8) bytes), length-drop (place + 8) bytes) in
+    record {
+      not_the_end = some;
+      kind = sym is_kind;
+      size = sym is_size ∙ sym len;
+      bytes = bytes_from-part bytes part (place + 8) m refl (omega arith);
+      inside = omega arith;
+    }
+
+-- what was read from the start up to a place: extensions from there on complete it, and none else do
+pub record IsReadSoFar (b : Bytes) (limit start place : ℕ) (format data_file : Option (List ℕ)) : Type 0 where
+  pub on : (rest : List (ℕ × List ℕ)) → AreExtensions b limit place rest
+      → (list : List (ℕ × List ℕ)) × AreExtensions b limit start list
+      × (first_of_kind backing_format_kind list ≡ first_so_far backing_format_kind format rest)
+      × (first_of_kind data_file_kind list ≡ first_so_far data_file_kind data_file rest)
+  pub back : ExtensionsRead b limit start → ExtensionsRead b limit place
+
+pub read_at_start : (b : Bytes) (limit start : ℕ) → IsReadSoFar b limit start start None None
+read_at_start b limit start = record { on = λ rest stand. (rest, stand, refl, refl); back = λ reads. reads }
+
+more_so_far : (kind : ℕ) (so_far name : Option (List ℕ)) (e : ℕ × List ℕ) (rest : List (ℕ × List ℕ))
+    → name ≡ first_so_far kind so_far (e ∷ []) → first_so_far kind so_far (e ∷ rest) ≡ first_so_far kind name rest
+more_so_far kind (Some x) name e rest is = sym (ap (λ n. first_so_far kind n rest) is)
+more_so_far kind None name e rest is = of_test (e.0 == kind) is where
+  of_test : (is_kind : Bool) → name ≡ (if is_kind then Some e.1 else None) → (if is_kind then Some e.1 else first_of_kind kind rest) ≡ first_so_far kind name rest
+  of_test true same = sym (ap (λ n. first_so_far kind n rest) same)
+  of_test false same = sym (ap (λ n. first_so_far kind n rest) same)
+
+-- The extensions that stand at a place begin with the one that was found there.
+rest_of : (b : Bytes) (limit place : ℕ) (e : ℕ × List ℕ) → IsExtension b limit place e → ExtensionsRead b limit place
+    → (IsNameKind e.0 → IsUtf8 e.1) × ExtensionsRead b limit (behind_extension place (length e.1))
+rest_of b limit place e here reads = of_list reads.list reads.stand where
+  of_list : (list : List (ℕ × List ℕ)) → AreExtensions b limit place list → (IsNameKind e.0 → IsUtf8 e.1) × ExtensionsRead b limit (behind_extension place (length e.1))
+  of_list [] stand = absurd (here.not_the_end (sym here.kind ∙ stand.1))
+  of_list (f ∷ rest) stand =
+      let len : length f.1 ≡ length e.1 = sym stand.0.size ∙ here.size in
+      let kind : f.0 ≡ e.0 = sym stand.0.kind ∙ here.kind in
+      let bytes : f.1 ≡ e.1 = sym stand.0.bytes ∙ ap (bytes_from b (place + 8)) len ∙ here.bytes in (
+        λ (name : IsNameKind e.0). subst IsUtf8 bytes (stand.1 (subst IsNameKind (sym kind) name)),
+        record { list = rest; stand = subst (λ n. AreExtensions b limit (behind_extension place n) rest) len stand.2 },
+      )
+
+-- the text of an extension of the kind of a name, where the extensions read
+pub text_of : (b : Bytes) (limit start place : ℕ) (format data_file : Option (List ℕ)) (e : ℕ × List ℕ) → IsReadSoFar b limit start place format data_file → IsExtension b limit place e
+    → ExtensionsRead b limit start → IsNameKind e.0 → IsUtf8 e.1
+text_of b limit start place format data_file e so_far here reads = (rest_of b limit place e here (so_far.back reads)).0
+
+pub read_more : (b : Bytes) (limit start place next : ℕ) (format data_file format' data_file' : Option (List ℕ)) (e : ℕ × List ℕ)
+    → IsReadSoFar b limit start place format data_file → IsExtension b limit place e → next ≡ behind_extension place (length e.1)
+    → (e.0 ≡ backing_format_kind → IsUtf8 e.1) → (e.0 ≡ data_file_kind → IsUtf8 e.1)
+    → format' ≡ first_so_far backing_format_kind format (e ∷ []) → data_file' ≡ first_so_far data_file_kind data_file (e ∷ [])
+    → IsReadSoFar b limit start next format' data_file'
+read_more b limit start place next format data_file format' data_file' e so_far here is_next format_text data_file_text format_is data_file_is = record {
+  on = λ rest stand.
+      let all = so_far.on (e ∷ rest) (here, ⊎_elim format_text data_file_text, subst (λ n. AreExtensions b limit n rest) is_next stand) in
+      (all.0, all.1, all.2 ∙ more_so_far backing_format_kind format format' e rest format_is, all.3 ∙ more_so_far data_file_kind data_file data_file' e rest data_file_is);
+  back = λ reads. subst (ExtensionsRead b limit) (sym is_next) (rest_of b limit place e here (so_far.back reads)).1;
+}
+
+-- the walk met the end
+pub read_to_end : (b : Bytes) (limit start place : ℕ) (format data_file : Option (List ℕ)) → IsReadSoFar b limit start place format data_file → AreExtensions b limit place []
+    → AreNamed b limit start format data_file
+read_to_end b limit start place format data_file so_far stand =
+    let all = so_far.on [] stand in
+    record {
+      reads = record { list = all.0; stand = all.1 };
+      backing_format = sym (all.2 ∙ at_end backing_format_kind format);
+      data_file_name = sym (all.3 ∙ at_end data_file_kind data_file);
+    }
+  where
+    at_end : (kind : ℕ) (name : Option (List ℕ)) → first_so_far kind name [] ≡ name
+    at_end kind None = refl
+    at_end kind (Some x) = refl
+
+-- it met what is no extension
+pub read_to_fault : (b : Bytes) (limit start place : ℕ) (format data_file : Option (List ℕ)) → IsReadSoFar b limit start place format data_file
+    → ((list : List (ℕ × List ℕ)) → AreExtensions b limit place list → ⊥) → ExtensionsRead b limit start → ⊥
+read_to_fault b limit start place format data_file so_far none reads = let left = so_far.back reads in none left.list left.stand
+
+-- a name that is cut out of the bytes
+pub name_part : (bytes : List ℕ) (place n m : ℕ) → m ≡ n → place + n ≤ length bytes → bytes_from (byte_at bytes) place n ≡ take m (drop place bytes)
+name_part bytes place n m same fits =
+    let part : List ℕ = take m (drop place bytes) in
+    let len : length part ≡ n = omega (arith, length-take m (drop place bytes), length-drop place bytes) in
+    ap (bytes_from (byte_at bytes) place) (sym len) ∙ bytes_from-part bytes part place m refl (omega arith)

@@ -1,0 +1,136 @@
+-- What a header is depends on the bytes of cluster 0 alone.
+use Rattle.std.proofs.Common.{◌≡◌, ℕ, ◌+◌, ◌<◌, ◌≤◌, ◌==◌, Bool, List, [], ◌∷◌, length, Some, None, refl, sym, ap, ◌∙◌, subst, inl, inr, if◌then◌else◌, arith}
+use Rattle.std.specs.Prelude.{IsUtf8}
+use Rattle.std.proofs.lemmas.List.{ext_get_or}
+use Rattle.std.proofs.lemmas.List.FromFn.{length-map-range_with_len, get_or-map-range_with_len}
+use Rattle.std.proofs.lemmas.Bool.{cases_eq, eq-eqb}
+use Rattle.qcow2_metadata.specs.Bytes.{Bytes, byte_at, bytes_from, number_at}
+use Rattle.qcow2_metadata.specs.Header.{HeaderFields, HeaderView, header, cluster_size, backing_name, IsInRange, IsExtension, AreExtensions, BackingNameReads, IsWellFormed, HeaderReads, behind_extension}
+use Rattle.qcow2_metadata.specs.HeaderLoad.{IsHeaderOf, IsReasonToRefuse}
+use Rattle.qcow2_metadata.specs.declared.error.MetadataError.{MetadataError}
+use Rattle.qcow2_metadata.specs.declared.error.MetadataError.TheVariants.{Storage, Memory, Version, Unaligned, Limit, Format}
+use Rattle.image_access.specs.Contents.{bytes_at}
+use Rattle.image_access.proofs.Bytes.{byte_at-bytes_at}
+use Rattle.qcow2_metadata.proofs.BigEndian.{number_at-same}
+
+-- the bytes before a place are the same
+abbrev pub SameBelow : ℕ → Bytes → Bytes → Type 0
+SameBelow n b c = (i : ℕ) → i < n → b i ≡ c i
+
+pub other_way : (n : ℕ) (b c : Bytes) → SameBelow n b c → SameBelow n c b
+other_way n b c same i lt = sym (same i lt)
+
+number-same : (n : ℕ) (b c : Bytes) → SameBelow n b c → (place k : ℕ) → place + k ≤ n → number_at b place k ≡ number_at c place k
+number-same n b c same place k fits = number_at-same b c place k (λ i lt. same (place + i) (omega arith))
+
+bytes-same : (n : ℕ) (b c : Bytes) → SameBelow n b c → (place k : ℕ) → place + k ≤ n → bytes_from b place k ≡ bytes_from c place k
+bytes-same n b c same place k fits =
+    let len = length-map-range_with_len b place k in
+    ext_get_or 0 _ _ (len ∙ sym (length-map-range_with_len c place k)) (λ i lt.
+    let within : i < k = omega (arith, len) in
+    get_or-map-range_with_len b place k i (place + i) 0 within refl
+    ∙ same (place + i) (omega arith)
+    ∙ sym (get_or-map-range_with_len c place k i (place + i) 0 within refl))
+
+pub header-same : (b c : Bytes) → SameBelow 104 b c → header b ≡ header c
+unfolding header
+header-same b c same =
+    let n = number-same 104 b c same in
+    let magic = n 0 4 (omega arith) in
+    let version = n 4 4 (omega arith) in
+    let backing_offset = n 8 8 (omega arith) in
+    let backing_length = n 16 4 (omega arith) in
+    let cluster_bits = n 20 4 (omega arith) in
+    let size = n 24 8 (omega arith) in
+    let crypt_method = n 32 4 (omega arith) in
+    let l1_entries = n 36 4 (omega arith) in
+    let l1_offset = n 40 8 (omega arith) in
+    let reftable_offset = n 48 8 (omega arith) in
+    let reftable_clusters = n 56 4 (omega arith) in
+    let snapshots = n 60 4 (omega arith) in
+    let snapshots_offset = n 64 8 (omega arith) in
+    let incompatible = n 72 8 (omega arith) in
+    let compatible = n 80 8 (omega arith) in
+    let autoclear = n 88 8 (omega arith) in
+    let refcount_order = n 96 4 (omega arith) in
+    let header_length = n 100 4 (omega arith) in
+    cc
+
+module _ (limit : ℕ) (b c : Bytes) (same : SameBelow limit b c) where
+  extension-same : (place : ℕ) (e : ℕ × List ℕ) → IsExtension b limit place e → IsExtension c limit place e
+  extension-same place e there = record {
+    not_the_end = there.not_the_end;
+    kind = sym (number-same limit b c same place 4 (omega (arith, there.inside))) ∙ there.kind;
+    size = sym (number-same limit b c same (place + 4) 4 (omega (arith, there.inside))) ∙ there.size;
+    bytes = sym (bytes-same limit b c same (place + 8) (length e.1) (omega (arith, there.inside))) ∙ there.bytes;
+    inside = there.inside;
+  }
+
+  extensions-same : (list : List (ℕ × List ℕ)) (place : ℕ) → AreExtensions b limit place list → AreExtensions c limit place list
+  extensions-same [] place stand = (stand.0, sym (number-same limit b c same place 4 (omega (arith, stand.0))) ∙ stand.1)
+  extensions-same (e ∷ rest) place stand = (extension-same place e stand.0, stand.1, extensions-same rest (behind_extension place (length e.1)) stand.2)
+
+module _ (h : HeaderFields) (b c : Bytes) (same : SameBelow (cluster_size h) b c) where
+  backing_name_reads-same : BackingNameReads h b → BackingNameReads h c
+  backing_name_reads-same reads = record {
+    inside = reads.inside;
+    behind_header = reads.behind_header;
+    text = λ some. subst IsUtf8 (bytes-same (cluster_size h) b c same h.backing_offset h.backing_length (reads.inside some)) (reads.text some);
+  }
+
+  pub well_formed-same : IsWellFormed h b → IsWellFormed h c
+  well_formed-same formed = record {
+    in_range = formed.in_range;
+    extensions = record { list = formed.extensions.list; stand = extensions-same (cluster_size h) b c same formed.extensions.list h.header_length formed.extensions.stand };
+    backing_name = backing_name_reads-same formed.backing_name;
+  }
+
+  reads-same : HeaderReads h b → HeaderReads h c
+  reads-same reads = record { well_formed = well_formed-same reads.well_formed; within_limits = reads.within_limits }
+
+  backing_name-same : BackingNameReads h b → backing_name h b ≡ backing_name h c
+  unfolding backing_name
+  backing_name-same reads = elim (cases_eq h.backing_offset 0) [
+    | inl none ↦ ap (λ (test : Bool). if test then None else Some (bytes_from b h.backing_offset h.backing_length)) (eq-eqb _ _ none)
+        ∙ sym (ap (λ (test : Bool). if test then None else Some (bytes_from c h.backing_offset h.backing_length)) (eq-eqb _ _ none))
+    | inr some ↦ ap (λ l. if h.backing_offset == 0 then None else Some l) (bytes-same (cluster_size h) b c same h.backing_offset h.backing_length (reads.inside some))
+  ]
+
+  pub is_header_of-same : (loaded : HeaderView) → IsHeaderOf loaded h b → IsHeaderOf loaded h c
+  unfolding reads-same well_formed-same
+  is_header_of-same loaded is = record {
+    fields = is.fields;
+    reads = reads-same is.reads;
+    backing_name = is.backing_name ∙ backing_name-same is.reads.well_formed.backing_name;
+    backing_format = is.backing_format;
+    data_file_name = is.data_file_name;
+  }
+
+pub reason-same : (h : HeaderFields) (b c : Bytes) → SameBelow (cluster_size h) b c → (writable : Bool) (e : MetadataError) → IsReasonToRefuse h b writable e → IsReasonToRefuse h c writable e
+reason-same h b c same writable Format is = λ formed. is (well_formed-same h c b (other_way _ b c same) formed)
+reason-same h b c same writable Limit is = (well_formed-same h b c same is.0, is.1)
+reason-same h b c same writable Unaligned is = (reads-same h b c same is.0, is.1)
+reason-same h b c same writable Version is = is
+reason-same h b c same writable Memory is = is
+reason-same h b c same writable (Storage e) is = is
+
+-- a read of the first bytes
+pub same_read : (contents buf : List ℕ) (n : ℕ) → buf ≡ bytes_at contents 0 n → SameBelow n (byte_at buf) (byte_at contents)
+same_read contents buf n is i lt =
+    let from_start : 0 + i ≡ i = omega arith in
+    ap (λ (l : List ℕ). byte_at l i) is ∙ byte_at-bytes_at contents 0 n i lt ∙ ap (byte_at contents) from_start
+
+pub header_read : (contents buf : List ℕ) → buf ≡ bytes_at contents 0 104 → header (byte_at buf) ≡ header (byte_at contents)
+header_read contents buf is = header-same _ _ (same_read contents buf 104 is)
+
+-- numbers out of range
+pub not_formed : (h k : HeaderFields) (b : Bytes) → (IsInRange h → ⊥) → h ≡ k → IsWellFormed k b → ⊥
+not_formed h k b out same formed = out (subst IsInRange (sym same) formed.in_range)
+
+-- what was found in the first cluster, of the whole contents
+module _ (contents buf : List ℕ) (h : HeaderFields) (is : buf ≡ bytes_at contents 0 (cluster_size h)) (fields : h ≡ header (byte_at contents)) where
+  pub loaded : (v : HeaderView) → IsHeaderOf v h (byte_at buf) → IsHeaderOf v (header (byte_at contents)) (byte_at contents)
+  loaded v there = subst (λ k. IsHeaderOf v k (byte_at contents)) fields (is_header_of-same h _ _ (same_read contents buf _ is) v there)
+
+  pub refused : (writable : Bool) (e : MetadataError) → IsReasonToRefuse h (byte_at buf) writable e → IsReasonToRefuse (header (byte_at contents)) (byte_at contents) writable e
+  refused writable e there = subst (λ k. IsReasonToRefuse k (byte_at contents) writable e) fields (reason-same h _ _ (same_read contents buf _ is) writable e there)

@@ -1,0 +1,12 @@
+use Rattle.std.proofs.Common.{◌∙◌, rules, tests}
+use Rattle.qcow2_metadata.specs.Header.{IsInRange}
+use Rattle.qcow2_metadata.proofs.SameHeader.{header_read, not_formed}
+use Rattle.qcow2_metadata.proofs.header.load.read_first_cluster.Goals as goal
+
+pub returns-then-not-is_in_range-clause-refused : goal.returns-then-not-is_in_range-clause-refused
+returns-then-not-is_in_range-clause-refused g c honest writable =
+    let out : IsInRange c.read_fields-fields.result → ⊥ = search (rules, tests) in
+    not_formed _ _ _ out (c.read_fields-fields.ensures ∙ header_read _ _ (c.in_ok-read.ensures.read honest))
+
+pub returns-clause-fields : goal.returns-clause-fields
+returns-clause-fields g c honest = c.read_fields-fields.ensures ∙ header_read _ _ (c.in_ok-read.ensures.read honest)

@@ -1,0 +1,39 @@
+-- What a loaded header is of the image's bytes, and why a header isn't loaded.
+use Rattle.std.specs.Prelude.{◌≡◌, ℕ, Bool, IsTrue, List, Option, Some, None, ⊤}
+use Rattle.qcow2_metadata.specs.Bytes.{Bytes}
+use Rattle.qcow2_metadata.specs.Header.{HeaderFields, HeaderView, HeaderReads, IsWellFormed, IsWithinLimits, IsAligned, ExtensionsRead, backing_name, first_of_kind, backing_format_kind, data_file_kind}
+use Rattle.qcow2_metadata.specs.declared.error.MetadataError.{MetadataError}
+use Rattle.qcow2_metadata.specs.declared.error.MetadataError.TheVariants.{Storage, Memory, Version, Unaligned, Limit, Format}
+
+-- the name so far, or else the first of a kind in further extensions
+abbrev pub first_so_far : ℕ → Option (List ℕ) → List (ℕ × List ℕ) → Option (List ℕ)
+first_so_far kind None list = first_of_kind kind list
+first_so_far kind (Some name) list = Some name
+
+-- the extensions from a place on give these names
+pub record AreNamed (b : Bytes) (limit place : ℕ) (format data_file : Option (List ℕ)) : Type 0 where
+  pub reads : ExtensionsRead b limit place
+  pub backing_format : format ≡ first_of_kind backing_format_kind reads.list
+  pub data_file_name : data_file ≡ first_of_kind data_file_kind reads.list
+
+-- it has these numbers, which read, and the names that the bytes hold
+pub record IsHeaderOf (header : HeaderView) (h : HeaderFields) (b : Bytes) : Type 0 where
+  pub fields : header.fields ≡ h
+  pub reads : HeaderReads h b
+  pub backing_name : header.backing_name ≡ backing_name h b
+  pub backing_format : header.backing_format ≡ first_of_kind backing_format_kind reads.well_formed.extensions.list
+  pub data_file_name : header.data_file_name ≡ first_of_kind data_file_kind reads.well_formed.extensions.list
+
+-- The L1 table begins on a cluster, and so does the reftable where it is to be written.
+pub record HasAlignedTables (h : HeaderFields) (writable : Bool) : Type 0 where
+  pub l1_table : IsAligned h h.l1_offset
+  pub reftable : IsTrue writable → IsAligned h h.reftable_offset
+
+-- Why the bytes are refused: what doesn't read goes before a limit, and a limit before an offset.
+abbrev pub IsReasonToRefuse : HeaderFields → Bytes → Bool → MetadataError → Type 0
+IsReasonToRefuse h b writable Format = ¬ IsWellFormed h b
+IsReasonToRefuse h b writable Limit = IsWellFormed h b × ¬ IsWithinLimits h
+IsReasonToRefuse h b writable Unaligned = HeaderReads h b × ¬ HasAlignedTables h writable
+IsReasonToRefuse h b writable Version = ⊥
+IsReasonToRefuse h b writable Memory = ⊤
+IsReasonToRefuse h b writable (Storage e) = ⊤
