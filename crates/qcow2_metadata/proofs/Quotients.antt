@@ -1,6 +1,8 @@
 -- Quotients by a size of clusters or tables.
 use Rattle.std.proofs.Common.{◌≡◌, ℕ, zero, suc, ◌+◌, ◌-◌, ◌*◌, ◌/◌, ◌%◌, ◌^◌, ◌<◌, ◌≤◌, ◌≢◌, min, ap, ◌∙◌, arith, inl, inr}
 use Rattle.std.proofs.lemmas.Bool.{cases_eq, cases_lt}
+use Rattle.std.proofs.Math.Pow.{pow_mono}
+use Rattle.std.proofs.lemmas.Nat.Bits.{ones_shr}
 use Rattle.std.proofs.lemmas.Nat.{pow-add, pow_pos, shl-shr, div-mul-add, mod-mul-add, div-add-mod'}
 
 -- the entries of a cluster are a power of two
@@ -8,6 +10,12 @@ pub eighth_is : (k : ℕ) → 3 ≤ k → 2 ^ k / 8 ≡ 2 ^ (k - 3)
 eighth_is k low =
     let split : k ≡ k - 3 + 3 = omega arith in
     ap (λ n. 2 ^ n / 8) split ∙ ap (λ n. n / 8) (pow-add 2 (k - 3) 3) ∙ shl-shr (2 ^ (k - 3)) 3
+
+pub multiple_of_8 : (k : ℕ) → 3 ≤ k → 2 ^ k % 8 ≡ 0
+multiple_of_8 k low =
+    let split : k ≡ k - 3 + 3 = omega arith in
+    let is : 2 ^ k ≡ 2 ^ (k - 3) * 8 = ap (λ n. 2 ^ n) split ∙ pow-add 2 (k - 3) 3 in
+    omega (arith, is)
 
 pub eighth_pos : (k : ℕ) → 3 ≤ k → 0 < 2 ^ k / 8
 eighth_pos k low = omega (arith, eighth_is k low, pow_pos (k - 3))
@@ -44,3 +52,12 @@ div_ceil_is n k =
           let is : n + 2 ^ k - 1 ≡ (n / 2 ^ k + 1) * 2 ^ k + (n % 2 ^ k - 1) = omega (arith, split, part, pow_pos k) in
           omega (arith, part, ap (λ x. x / 2 ^ k) is, div-mul-add (n / 2 ^ k + 1) (2 ^ k) (n % 2 ^ k - 1) (omega (arith, pow_pos k)))
     ]
+
+-- `u64::MAX >> (64 - width)` is the greatest number of a width
+pub pow_within : (order : ℕ) → order ≤ 6 → 2 ^ order ≤ 64
+pow_within order le = let top : 2 ^ order ≤ 2 ^ 6 = pow_mono le in top
+
+pub greatest_of : (w : ℕ) → w ≤ 64 → (2 ^ 64 - 1) / 2 ^ (64 - w) + 1 ≡ 2 ^ w
+greatest_of w le =
+    let back : 64 - (64 - w) ≡ w = omega arith in
+    omega (arith, ones_shr 64 (64 - w) (omega arith), ap (λ k. 2 ^ k) back, pow_pos w)

@@ -8,3 +8,5 @@ pub mod Named
 pub mod Consistent
 pub mod Tables
 pub mod MetadataError
+pub mod TableBytes
+pub mod RefBlock

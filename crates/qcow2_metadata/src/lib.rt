@@ -6,8 +6,11 @@ mod error;
 mod header;
 mod l2_mapping;
 mod numbers;
+mod ref_block;
+mod table_bytes;
 
 pub use error::MetadataError;
 pub use header::{Header, HeaderFields};
 pub use l2_mapping::L2Mapping;
 pub use numbers::{ClusterCount, GuestCluster, GuestOffset, HostCluster, HostOffset};
+pub use ref_block::RefBlock;
