@@ -1,9 +1,10 @@
 //! A cache of bounded size over a store that is lent to each call.
-ghost use Rattle.std.specs.Prelude.{◌≡◌, ◌≤◌, cond, [], length, option_copied, option_map, IsSome, IsNone, IfOk, IfSome, Ok, true, false};
+ghost use Rattle.std.specs.Prelude.{◌≡◌, ◌≢◌, ◌≤◌, cond, [], length, option_copied, option_map, All, IsSome, IsNone, IfOk, IfSome, Ok, Err, None, true, false};
 ghost use Rattle.std.specs.List.{IsDistinct};
 ghost use Rattle.std.specs.Map.{keys_of, lookup, lookup_entry, remove_entry};
 ghost use Rattle.lru.specs.LruCache.{promoted};
-ghost use Rattle.qcow2_alloc.specs.AsyncLruCache.{cache_of, with_entries, value_at, can_pin, pin_at, can_unpin, unpin_at, can_remove, Invalidates, Flushes, FlushesKey, GetsNew, oldest_free, InsertsNew, Replaces};
+ghost use Rattle.qcow2_alloc.specs.AsyncLruCache.{cache_of, with_entries, value_at, is_pinned, can_pin, pin_at, can_unpin, unpin_at, can_remove, oldest_free};
+ghost use Rattle.qcow2_alloc.specs.CacheAnswers.{Invalidates, Flushes, FlushesKey, GetsNew, InsertsNew, Replaces};
 
 mod backend;
 mod entries;
@@ -74,7 +75,7 @@ impl<B: AsyncLruCacheBackend> AsyncLruCache<B> {
         ensures hit { IsSome (lookup (B.Key.eq key) self.old.entries)
             → (result ≡ Ok true) × (self.new.entries ≡ promoted (B.Key.eq key) self.old.entries) × (store.new ≡ store.old) }
         ensures miss { IsNone (lookup (B.Key.eq key) self.old.entries)
-            → GetsNew (B.flushed self.old.backend) (B.flush_failed self.old.backend) (B.loaded self.old.backend) (B.load_failed self.old.backend) B.Key.eq self.old.size key store.old self.old.entries may_flush result store.new self.new.entries }
+            → GetsNew (B.steps self.old.backend) B.Key.eq self.old.size may_flush key store.old self.old.entries result store.new self.new.entries }
         ensures others { self.new ≡ with_entries self.old self.new.entries }
     {
         if self.entries.promote(&key) {
@@ -97,13 +98,16 @@ impl<B: AsyncLruCacheBackend> AsyncLruCache<B> {
         value: &mut Option<B::Value>,
         may_flush: bool,
     ) -> Result<bool, CacheError<B::Key, B::Error>>
-        requires { IsSome value.old }
+        ensures nothing { IsNone value.old → (result ≡ Ok false) × (self.new ≡ self.old) × (store.new ≡ store.old) × (value.new ≡ None) }
         ensures there { IfSome (lookup_entry (B.Key.eq key) self.old.entries) (λ e. IfSome value.old (λ v.
-            Replaces (B.flushed self.old.backend) (B.flush_failed self.old.backend) store.old self.old.entries key e (remove_entry (B.Key.eq key) self.old.entries) v may_flush result store.new self.new.entries value.new)) }
+            Replaces (B.steps self.old.backend) key e (remove_entry (B.Key.eq key) self.old.entries) v may_flush store.old self.old.entries result store.new self.new.entries value.new)) }
         ensures missing { IsNone (lookup (B.Key.eq key) self.old.entries) → IfSome value.old (λ v.
-            InsertsNew (B.flushed self.old.backend) (B.flush_failed self.old.backend) B.Key.eq self.old.size key store.old self.old.entries v may_flush result store.new self.new.entries value.new) }
+            InsertsNew (B.steps self.old.backend) B.Key.eq self.old.size may_flush key v store.old self.old.entries result store.new self.new.entries value.new) }
         ensures others { self.new ≡ with_entries self.old self.new.entries }
     {
+        if value.is_none() {
+            return Ok(false);
+        }
         if self.entries.contains(&key) {
             return replace_entry(
                 &self.backend,
@@ -161,7 +165,7 @@ impl<B: AsyncLruCacheBackend> AsyncLruCache<B> {
     }
 
     pub fn flush(&mut self, store: &mut B::Store) -> Result<(), CacheError<B::Key, B::Error>>
-        ensures flushed { Flushes (B.flushed self.old.backend) (B.flush_failed self.old.backend) store.old self.old.entries result self.new.entries store.new }
+        ensures flushed { Flushes (B.steps self.old.backend) store.old self.old.entries result store.new self.new.entries }
         ensures others { self.new ≡ with_entries self.old self.new.entries }
     {
         match flush_all(&self.backend, store, &mut self.entries) {
@@ -178,16 +182,16 @@ impl<B: AsyncLruCacheBackend> AsyncLruCache<B> {
         ensures missing { IsNone (lookup (B.Key.eq key) self.old.entries)
             → (result ≡ Ok false) × (self.new ≡ self.old) × (store.new ≡ store.old) }
         ensures there { IfSome (lookup (B.Key.eq key) self.old.entries) (λ s.
-            FlushesKey (B.flushed self.old.backend) (B.flush_failed self.old.backend) (B.Key.eq key) key s store.old self.old.entries result self.new.entries store.new) }
+            FlushesKey (B.steps self.old.backend) (B.Key.eq key) key s store.old self.old.entries result store.new self.new.entries) }
         ensures others { self.new ≡ with_entries self.old self.new.entries }
     {
         if !self.entries.contains(&key) {
             return Ok(false);
         }
-        match flush_entry(&self.backend, store, &mut self.entries, key) {
-            Ok(()) => Ok(true),
-            Err(e) => Err(CacheError::Backend(e)),
+        if let Err(e) = flush_entry(&self.backend, store, &mut self.entries, key) {
+            return Err(CacheError::Backend(e));
         }
+        Ok(true)
     }
 
     pub fn next_out(&self) -> Option<B::Key>
@@ -198,6 +202,7 @@ impl<B: AsyncLruCacheBackend> AsyncLruCache<B> {
 
     pub fn invalidate(&mut self) -> Result<(), CacheError<B::Key, B::Error>>
         ensures answer { Invalidates self.old.entries result self.new.entries }
+        ensures evicted { result ≢ Err CacheError.Memory → All (λ e. is_pinned e.1 ≡ false → B.evicted self.old.backend e.0 e.1.value) self.old.entries }
         ensures others { self.new ≡ with_entries self.old self.new.entries }
     {
         let alloc = *self.entries.allocator();
@@ -214,6 +219,7 @@ impl<B: AsyncLruCacheBackend> AsyncLruCache<B> {
 
     pub fn remove(&mut self, key: B::Key) -> bool
         ensures value { result ≡ can_remove (B.Key.eq key) self.old.entries }
+        ensures evicted { IfSome (lookup (B.Key.eq key) self.old.entries) (λ s. result ≡ true → B.evicted self.old.backend key s.value) }
         ensures entries { self.new ≡ with_entries self.old (cond result (remove_entry (B.Key.eq key) self.old.entries) self.old.entries) }
     {
         let Some(slot) = self.entries.peek(&key) else {

@@ -1,10 +1,10 @@
 -- Lists of entries.
 use Rattle.std.proofs.lemmas.Map.Steps.{set_value_same}
-use Rattle.std.proofs.Common.{◌≡◌, ◌+◌, ◌-◌, ◌^◌, ◌<◌, ◌≤◌, Bool, true, false, cond, List, [], ◌∷◌, ◌++◌, length, Option, Some, None, refl, sym, ap, ◌∙◌, subst, arith, nat_lt}
+use Rattle.std.proofs.Common.{◌≡◌, ◌+◌, ◌-◌, ◌^◌, ◌≤◌, Bool, true, false, cond, List, [], ◌∷◌, ◌++◌, length, Option, Some, None, refl, sym, ap, ◌∙◌, subst, arith, nat_lt}
 use Rattle.std.specs.Cmp.{IsEquivalence}
-use Rattle.std.specs.List.{AllByRecursion, IsDistinct, slice_get}
-use Rattle.std.proofs.lemmas.Option.{same_Some, none-some}
-use Rattle.std.specs.Option.{option_map_or, option_or, option_map, is_some, IsSome}
+use Rattle.std.specs.List.{AllByRecursion, IsDistinct}
+use Rattle.std.proofs.lemmas.Option.{none-some}
+use Rattle.std.specs.Option.{option_map_or, option_or, option_map, is_some}
 use Rattle.std.specs.Map.{keys_of, lookup, lookup_entry, remove_entry, set_value}
 use Rattle.std.proofs.lemmas.Bool.Decides.{nat_tests}
 use Rattle.lru.specs.LruCache.{promoted, demoted}
@@ -137,29 +137,6 @@ module _ {K V : Type 0} where
   -- it has one
   pub oldest_free-before : (es left t : List (K × Slot V)) (e : K × Slot V) → oldest_free es ≡ oldest_free left → left ≡ t ++ e ∷ [] → is_pinned e.1 ≡ true → oldest_free es ≡ oldest_free t
   oldest_free-before es left t e h last z = rw (h, last, oldest_free-push t e, z) refl
-
-  key_found : (eq : K → K → Bool) (es : List (K × Slot V)) (k : K) (o : Option (K × Slot V)) → Some k ≡ option_map (λ (x : K × Slot V). x.0) o → (e : K × Slot V) × (o ≡ Some e) × (e.0 ≡ k)
-  key_found eq es k None h = cc
-  key_found eq es k (Some e) h = (e, refl, cc)
-
-  -- the entry under the key that `oldest_free` returns
-  pub oldest_free-found : {eq : K → K → Bool} (laws : IsEquivalence eq) (es : List (K × Slot V)) (k : K) → IsDistinct eq (keys_of es) → Some k ≡ option_map (λ (x : K × Slot V). x.0) (oldest_free es) → (e : K × Slot V) × (oldest_free es ≡ Some e) × (e.0 ≡ k) × (lookup (eq k) es ≡ Some e.1)
-  oldest_free-found {eq} laws es k d h =
-      let f = key_found eq es k (oldest_free es) h in
-      (f.0, f.1, f.2, subst (λ x. lookup (eq x) es ≡ Some f.0.1) f.2 (oldest_free-lookup laws es f.0 d f.1))
-
-  -- the first of what is left
-  pub front_of : (es todo done : List (K × Slot V)) (k : K) (s : Slot V) → es ≡ todo ++ done → 0 < length todo → slice_get es 0 ≡ Some (k, s) → (rest : List (K × Slot V)) × (todo ≡ (k, s) ∷ rest) × (es ≡ (k, s) ∷ (rest ++ done)) × (length todo ≡ length rest + 1)
-  front_of es [] done k s e l h = absurd (omega arith)
-  front_of es (x ∷ rest) done k s e l h =
-      let g : Some x ≡ Some (k, s) = rw e at h in
-      let p = same_Some x (k, s) g in
-      (rest, ap (λ y. y ∷ rest) p, e ∙ ap (λ y. y ∷ (rest ++ done)) p, omega arith)
-
-  pub front_some : {A : Type 0} (f : A → K × Slot V) (o : Option A) (es todo done : List (K × Slot V)) → option_map f o ≡ slice_get es 0 → es ≡ todo ++ done → 0 < length todo → IsSome o
-  front_some f o es [] done h e l = absurd (omega arith)
-  front_some f None es (x ∷ rest) done h e l = let g : None ≡ Some x = rw e at h in absurd (none-some x g)
-  front_some f (Some y) es (x ∷ rest) done h e l = refl
 
   pub pinned_kept : (e : K × Slot V) (es : List (K × Slot V)) → is_pinned e.1 ≡ true → pinned (e ∷ es) ≡ e ∷ pinned es
   pinned_kept e es h = rw h refl

@@ -1,81 +1,157 @@
 -- One turn of the loops that go once around the list.
-use Rattle.std.proofs.Common.{◌≡◌, ℕ, ◌+◌, ◌<◌, ◌≤◌, Bool, true, false, List, [], ◌∷◌, ◌++◌, length, Option, Some, refl, sym, ap, ◌∙◌, subst, arith, append_assoc}
+use Rattle.std.proofs.Common.{◌≡◌, ℕ, ◌+◌, ◌<◌, ◌≤◌, Bool, true, false, List, [], ◌∷◌, ◌++◌, length, All, Option, Some, None, refl, sym, ap, ◌∙◌, subst, arith, append_assoc, append-nil}
 use Rattle.std.specs.Cmp.{IsEquivalence}
 use Rattle.std.specs.List.{slice_get}
-use Rattle.std.specs.Option.{option_or}
+use Rattle.std.specs.Option.{option_map, option_or, IsSome, IfSome}
 use Rattle.std.specs.Map.{lookup, remove_entry, set_value}
-use Rattle.std.proofs.lemmas.Option.{same_Some}
-use Rattle.lru.specs.LruCache.{demoted}
+use Rattle.std.proofs.lemmas.Option.{same_Some, none-some}
+use Rattle.std.proofs.lemmas.List.Elements.{All-nil, All-cons}
+use Rattle.lru.specs.LruCache.{LruCache, lru_cache, demoted}
 use Rattle.qcow2_alloc.specs.declared.async_lru_cache.slot.Slot.{Slot}
-use Rattle.qcow2_alloc.specs.AsyncLruCache.{pinned, is_pinned, FlushesEntry, FlushesAll}
-use Rattle.qcow2_alloc.proofs.CachedEntries.Lists.{pinned_kept, pinned_gone, front_of, demoted_front, removed_front, set_front, lookup_front}
+use Rattle.qcow2_alloc.specs.AsyncLruCache.{pinned, is_pinned}
+use Rattle.qcow2_alloc.specs.AsyncLruCacheBackend.{Steps}
+use Rattle.qcow2_alloc.specs.CacheAnswers.{FlushesAll}
+use Rattle.qcow2_alloc.specs.CachedEntries.{FlushesFound}
+use Rattle.qcow2_alloc.proofs.CachedEntries.Lists.{pinned_kept, pinned_gone, demoted_front, removed_front, set_front, lookup_front}
 use Rattle.qcow2_alloc.proofs.CachedEntries.Flushing.{Flushing, flushing_more, flushing_all}
 
-module _ {K V : Type 0} {eq : K → K → Bool} (laws : IsEquivalence eq) (all : List (K × Slot V)) where
-  -- the list is what is left and then what was kept
-  abbrev pub IsAround : List (K × Slot V) → ℕ → Type 0
-  IsAround es turn = (todo : List (K × Slot V)) × (done : List (K × Slot V)) × (es ≡ todo ++ done) × (turn + length todo ≡ length all) × (pinned all ≡ done ++ pinned todo)
+module _ {X : Type 0} (all : List X) (P : List X → List X → Type 0) where
+  -- after so many turns the list is what is left and then what was kept, and P holds of these
+  pub record IsAround (es : List X) (turn : ℕ) : Type 0 where
+    pub todo : List X
+    pub done : List X
+    pub split : es ≡ todo ++ done
+    pub left : turn + length todo ≡ length all
+    pub holds : P todo done
 
-  module _ (es : List (K × Slot V)) (turn : ℕ) (inv : IsAround es turn) (lt : turn < length all) (k : K) (s : Slot V) (peek : slice_get es 0 ≡ Some (k, s)) where
-    pub kept_turn : is_pinned s ≡ true → IsAround (demoted (eq k) es) (turn + 1)
-    kept_turn pin =
-        let left : turn + length inv.0 ≡ length all = inv.3 in
-        let some : 0 < length inv.0 = omega arith in
-        let f = front_of es inv.0 inv.1 k s inv.2 some peek in
-        let len : length inv.0 ≡ length f.0 + 1 = f.3 in
-        let keeps : pinned inv.0 ≡ (k, s) ∷ pinned f.0 = ap pinned f.1 ∙ pinned_kept (k, s) f.0 pin in (
-          f.0,
-          inv.1 ++ (k, s) ∷ [],
-          ap (demoted (eq k)) f.2 ∙ demoted_front (eq k) (k, s) (f.0 ++ inv.1) (laws.refl k) ∙ append_assoc f.0 inv.1 ((k, s) ∷ []),
-          omega arith,
-          inv.4 ∙ ap (λ l. inv.1 ++ l) keeps ∙ sym (append_assoc inv.1 ((k, s) ∷ []) (pinned f.0)),
-        )
+  -- the first that is left
+  pub record IsNext (x : X) (es : List X) (turn : ℕ) (todo done : List X) : Type 0 where
+    pub rest : List X
+    pub todo_is : todo ≡ x ∷ rest
+    pub es_is : es ≡ x ∷ (rest ++ done)
+    pub left : (turn + 1) + length rest ≡ length all
 
-    pub gone_turn : is_pinned s ≡ false → IsAround (remove_entry (eq k) es) (turn + 1)
-    gone_turn pin =
-        let left : turn + length inv.0 ≡ length all = inv.3 in
-        let some : 0 < length inv.0 = omega arith in
-        let f = front_of es inv.0 inv.1 k s inv.2 some peek in
-        let len : length inv.0 ≡ length f.0 + 1 = f.3 in
-        let keeps : pinned inv.0 ≡ pinned f.0 = ap pinned f.1 ∙ pinned_gone (k, s) f.0 pin in (
-          f.0,
-          inv.1,
-          ap (remove_entry (eq k)) f.2 ∙ removed_front (eq k) (k, s) (f.0 ++ inv.1) (laws.refl k),
-          omega arith,
-          inv.4 ∙ ap (λ l. inv.1 ++ l) keeps,
-        )
+  next_of : (x : X) (es : List X) (turn : ℕ) (todo done : List X) → es ≡ todo ++ done → turn + length todo ≡ length all → turn < length all → slice_get es 0 ≡ Some x → IsNext x es turn todo done
+  next_of x es turn [] done split left lt peek = absurd (omega arith)
+  next_of x es turn (y ∷ rest) done split left lt peek =
+      let same : y ≡ x = let h : Some y ≡ Some x = rw split at peek in same_Some y x h in record {
+        rest = rest;
+        todo_is = ap (λ z. z ∷ rest) same;
+        es_is = split ∙ ap (λ z. z ∷ (rest ++ done)) same;
+        left = omega arith;
+      }
 
-module _ {S K V E : Type 0} (flushed : S → K → V → V → S → Type 0) (failed : S → K → V → E → S → Type 0) {eq : K → K → Bool} (laws : IsEquivalence eq) (s₀ : S) (all : List (K × Slot V)) where
-  abbrev pub IsFlushing : Option E → List (K × Slot V) → ℕ → S → Type 0
-  IsFlushing first es turn s = (todo : List (K × Slot V)) × (done : List (K × Slot V)) × (es ≡ todo ++ done) × (turn + length todo ≡ length all) × Flushing flushed failed s₀ all first todo done s
+  pub next : (x : X) (es : List X) (turn : ℕ) (a : IsAround es turn) → turn < length all → slice_get es 0 ≡ Some x → IsNext x es turn a.todo a.done
+  next x es turn a = next_of x es turn a.todo a.done a.split a.left
 
-  module _ (first : Option E) (es : List (K × Slot V)) (turn : ℕ) (s : S) (inv : IsFlushing first es turn s) (lt : turn < length all) (k : K) (e : Slot V) (peek : slice_get es 0 ≡ Some (k, e)) where
-    pub flush_turn : (x : Option E) (d : Slot V) (t : S) → FlushesEntry flushed failed s (k, e) x d t → (first' : Option E) (es' : List (K × Slot V)) → first' ≡ option_or first x → es' ≡ demoted (eq k) (set_value (eq k) es d) → IsFlushing first' es' (turn + 1) t
-    flush_turn x d t h first' es' is_first is_es =
-        let left : turn + length inv.0 ≡ length all = inv.3 in
-        let some : 0 < length inv.0 = omega arith in
-        let f = front_of es inv.0 inv.1 k e inv.2 some peek in
-        let len : length inv.0 ≡ length f.0 + 1 = f.3 in
-        let set : set_value (eq k) es d ≡ (k, d) ∷ (f.0 ++ inv.1) = ap (λ l. set_value (eq k) l d) f.2 ∙ set_front (eq k) (k, e) (f.0 ++ inv.1) d (laws.refl k) in (
-          f.0,
-          inv.1 ++ (k, d) ∷ [],
-          is_es ∙ ap (demoted (eq k)) set ∙ demoted_front (eq k) (k, d) (f.0 ++ inv.1) (laws.refl k) ∙ append_assoc f.0 inv.1 ((k, d) ∷ []),
-          omega arith,
-          subst (λ o. Flushing flushed failed s₀ all o f.0 (inv.1 ++ (k, d) ∷ []) t) (sym is_first)
-              (flushing_more flushed failed s₀ all first (k, e) f.0 inv.1 s x d t (subst (λ l. Flushing flushed failed s₀ all first l inv.1 s) f.1 inv.4) h),
-        )
+  first_of : {Y : Type 0} (f : Y → X) (o : Option Y) (es : List X) (turn : ℕ) (todo done : List X) → es ≡ todo ++ done → turn + length todo ≡ length all → turn < length all → option_map f o ≡ slice_get es 0 → IsSome o
+  first_of f o es turn [] done split left lt peek = absurd (omega arith)
+  first_of f None es turn (y ∷ rest) done split left lt peek = let h : None ≡ Some y = rw split at peek in absurd (none-some y h)
+  first_of f (Some z) es turn (y ∷ rest) done split left lt peek = refl
 
-pub peeked_lookup : {K V : Type 0} {eq : K → K → Bool} (laws : IsEquivalence eq) (es : List (K × Slot V)) (k : K) (s : Slot V) → slice_get es 0 ≡ Some (k, s) → lookup (eq k) es ≡ Some s
-peeked_lookup laws [] k s h = cc
-peeked_lookup {eq} laws (e ∷ es) k s h = let p = same_Some e (k, s) h in subst (λ x. lookup (eq k) (x ∷ es) ≡ Some s) (sym p) (lookup_front (eq k) (k, s) es (laws.refl k))
+  -- before the end there is a first
+  pub has_first : {Y : Type 0} (f : Y → X) (o : Option Y) (es : List X) (turn : ℕ) → IsAround es turn → turn < length all → option_map f o ≡ slice_get es 0 → IsSome o
+  has_first f o es turn a = first_of f o es turn a.todo a.done a.split a.left
 
-module _ {S K V E : Type 0} (flushed : S → K → V → V → S → Type 0) (failed : S → K → V → E → S → Type 0) (s₀ : S) (all : List (K × Slot V)) where
-  nothing_left : (n : ℕ) (todo : List (K × Slot V)) → n + length todo ≡ length all → length all ≤ n → todo ≡ []
-  nothing_left n [] h l = refl
-  nothing_left n (x ∷ xs) h l = absurd (omega arith)
+  ended : (es : List X) (turn : ℕ) (todo done : List X) → es ≡ todo ++ done → turn + length todo ≡ length all → P todo done → length all ≤ turn → P [] es
+  ended es turn [] done split left h le = subst (P []) (sym split) h
+  ended es turn (x ∷ xs) done split left h le = absurd (omega arith)
 
-  pub flush_turns : {eq : K → K → Bool} (laws : IsEquivalence eq) (first : Option E) (es : List (K × Slot V)) (turn : ℕ) (s : S) → IsFlushing flushed failed laws s₀ all first es turn s → length all ≤ turn → FlushesAll flushed failed s₀ all first es s
-  flush_turns laws first es turn s inv l =
-      let none = nothing_left turn inv.0 inv.3 l in
-      subst (λ y. FlushesAll flushed failed s₀ all first y s) (sym (inv.2 ∙ ap (λ y. y ++ inv.1) none))
-      (flushing_all flushed failed s₀ all first inv.1 s (subst (λ y. Flushing flushed failed s₀ all first y inv.1 s) none inv.4))
+  -- once around
+  pub around : (es : List X) (turn : ℕ) → IsAround es turn → length all ≤ turn → P [] es
+  around es turn a = ended es turn a.todo a.done a.split a.left a.holds
+
+module _ {K V : Type 0} (all : List (K × Slot V)) (Q : K × Slot V → Type 0) where
+  -- the entries with a pin are kept, and Q holds of each that was passed
+  pub record IsEvicting (todo done : List (K × Slot V)) : Type 0 where
+    pub kept : pinned all ≡ done ++ pinned todo
+    pub passed : All Q todo → All Q all
+
+  pub evicting_begins : IsAround all IsEvicting all 0
+  evicting_begins = record { todo = all; done = []; split = sym (append-nil all); left = omega arith; holds = record { kept = refl; passed = λ h. h } }
+
+  -- once around
+  pub evicted_around : (es : List (K × Slot V)) (turn : ℕ) → IsAround all IsEvicting es turn → length all ≤ turn → (es ≡ pinned all) × All Q all
+  evicted_around es turn a le = let h = around all IsEvicting es turn a le in (sym (h.kept ∙ append-nil es), h.passed (All-nil Q))
+
+  -- one turn further
+  pub record HasTurned (c n : LruCache K (Slot V)) (turn : ℕ) : Type 0 where
+    pub around : IsAround all IsEvicting n.entries (turn + 1)
+    pub cap : n.cap ≡ c.cap
+
+  module _ {eq : K → K → Bool} (laws : IsEquivalence eq) (c n : LruCache K (Slot V)) (turn : ℕ) (a : IsAround all IsEvicting c.entries turn) (lt : turn < length all) (k : K) (s : Slot V) (peek : slice_get c.entries 0 ≡ Some (k, s)) where
+    passes : Q (k, s) → (rest : List (K × Slot V)) → a.todo ≡ (k, s) ∷ rest → All Q rest → All Q all
+    passes holds rest is h = a.holds.passed (subst (All Q) (sym is) (All-cons Q (k, s) rest holds h))
+
+    pub kept_turn : Q (k, s) → is_pinned s ≡ true → n ≡ lru_cache (demoted (eq k) c.entries) c.cap → HasTurned c n turn
+    kept_turn holds pin is =
+        let f = next all IsEvicting (k, s) c.entries turn a lt peek in
+        let keeps : pinned a.todo ≡ (k, s) ∷ pinned f.rest = ap pinned f.todo_is ∙ pinned_kept (k, s) f.rest pin in record {
+          around = record {
+            todo = f.rest;
+            done = a.done ++ (k, s) ∷ [];
+            split = ap (λ m. m.entries) is ∙ ap (demoted (eq k)) f.es_is ∙ demoted_front (eq k) (k, s) (f.rest ++ a.done) (laws.refl k) ∙ append_assoc f.rest a.done ((k, s) ∷ []);
+            left = f.left;
+            holds = record {
+              kept = a.holds.kept ∙ ap (λ l. a.done ++ l) keeps ∙ sym (append_assoc a.done ((k, s) ∷ []) (pinned f.rest));
+              passed = passes holds f.rest f.todo_is;
+            };
+          };
+          cap = ap (λ m. m.cap) is;
+        }
+
+    pub gone_turn : Q (k, s) → is_pinned s ≡ false → n ≡ lru_cache (remove_entry (eq k) c.entries) c.cap → HasTurned c n turn
+    gone_turn holds pin is =
+        let f = next all IsEvicting (k, s) c.entries turn a lt peek in
+        let keeps : pinned a.todo ≡ pinned f.rest = ap pinned f.todo_is ∙ pinned_gone (k, s) f.rest pin in record {
+          around = record {
+            todo = f.rest;
+            done = a.done;
+            split = ap (λ m. m.entries) is ∙ ap (remove_entry (eq k)) f.es_is ∙ removed_front (eq k) (k, s) (f.rest ++ a.done) (laws.refl k);
+            left = f.left;
+            holds = record {
+              kept = a.holds.kept ∙ ap (λ l. a.done ++ l) keeps;
+              passed = passes holds f.rest f.todo_is;
+            };
+          };
+          cap = ap (λ m. m.cap) is;
+        }
+
+-- the first entry is found under its key
+pub lookup-first : {K X : Type 0} {eq : K → K → Bool} (laws : IsEquivalence eq) (es : List (K × X)) (k : K) (x : X) → slice_get es 0 ≡ Some (k, x) → lookup (eq k) es ≡ Some x
+lookup-first laws [] k x h = cc
+lookup-first {eq} laws (e ∷ es) k x h = let p = same_Some e (k, x) h in subst (λ y. lookup (eq k) (y ∷ es) ≡ Some x) (sym p) (lookup_front (eq k) (k, x) es (laws.refl k))
+
+module _ {S K V E : Type 0} (steps : Steps S K V E) (s₀ : S) (all : List (K × Slot V)) where
+  -- as far as a flush of all has come
+  abbrev pub IsFlushing : Option E → S → List (K × Slot V) → ℕ → Type 0
+  IsFlushing first s = IsAround all (Flushing steps s₀ all first s)
+
+  -- one turn further
+  pub record HasFlushed (first : Option E) (s : S) (c n : LruCache K (Slot V)) (turn : ℕ) : Type 0 where
+    pub flushing : IsFlushing first s n.entries (turn + 1)
+    pub cap : n.cap ≡ c.cap
+
+  pub flush_turn : {eq : K → K → Bool} (laws : IsEquivalence eq) (first : Option E) (s : S) (c m n : LruCache K (Slot V)) (turn : ℕ) → IsFlushing first s c.entries turn → turn < length all
+      → (k : K) (e : Slot V) → slice_get c.entries 0 ≡ Some (k, e) → (x : Option E) (t : S) → IfSome (lookup (eq k) c.entries) (λ slot. FlushesFound steps (eq k) k slot s c x t m)
+      → n ≡ lru_cache (demoted (eq k) m.entries) m.cap → (y : Option E) → y ≡ option_or first x → HasFlushed y t c n turn
+  flush_turn {eq} laws first s c m n turn a lt k e peek x t flush is y sum =
+      let h = rw (lookup-first laws c.entries k e peek) at flush in
+      let f = next all (Flushing steps s₀ all first s) (k, e) c.entries turn a lt peek in
+      let set : m.entries ≡ (k, h.slot) ∷ (f.rest ++ a.done) = ap (λ l. l.entries) h.entries ∙ ap (λ l. set_value (eq k) l h.slot) f.es_is ∙ set_front (eq k) (k, e) (f.rest ++ a.done) h.slot (laws.refl k) in record {
+        flushing = record {
+          todo = f.rest;
+          done = a.done ++ (k, h.slot) ∷ [];
+          split = ap (λ l. l.entries) is ∙ ap (demoted (eq k)) set ∙ demoted_front (eq k) (k, h.slot) (f.rest ++ a.done) (laws.refl k) ∙ append_assoc f.rest a.done ((k, h.slot) ∷ []);
+          left = f.left;
+          holds = subst (λ o. Flushing steps s₀ all o t f.rest (a.done ++ (k, h.slot) ∷ [])) (sym sum)
+              (flushing_more steps s₀ all first s (k, e) f.rest a.done x t h.slot (subst (λ l. Flushing steps s₀ all first s l a.done) f.todo_is a.holds) h.step);
+        };
+        cap = ap (λ l. l.cap) is ∙ ap (λ l. l.cap) h.entries;
+      }
+
+  pub flush_begins : IsFlushing None s₀ all 0
+  flush_begins = record { todo = all; done = []; split = sym (append-nil all); left = omega arith; holds = record { goes_on = λ y t rest h. h } }
+
+  pub flushed_around : (first : Option E) (s : S) (es : List (K × Slot V)) (turn : ℕ) → IsFlushing first s es turn → length all ≤ turn → FlushesAll steps s₀ all first s es
+  flushed_around first s es turn a le = flushing_all steps s₀ all first s es (around all (Flushing steps s₀ all first s) es turn a le)

@@ -1,9 +1,11 @@
 //! Work on the entries of a cache.
-ghost use Rattle.std.specs.Prelude.{◌≡◌, ◌+◌, ◌-◌, ◌<◌, ◌≤◌, ◌==◌, ◌^◌, [], length, is_some, option_map, option_copied, IsSome, IfOk, IfErr, OnOk, OnErr, IfSome, IfNone, MatchOption, Ok, None, true, false};
-ghost use Rattle.std.specs.Map.{keys_of, lookup, lookup_entry, remove_entry, set_value};
-ghost use Rattle.std.specs.Option.{option_map_or};
+ghost use Rattle.std.specs.Prelude.{◌≡◌, ◌-◌, ◌<◌, ◌≤◌, ◌^◌, length, option_map, All, IsSome, IfOk, OnErr, IfSome, Ok, None, true, false};
+ghost use Rattle.std.specs.Map.{keys_of, lookup, lookup_entry, remove_entry};
+ghost use Rattle.std.specs.Result.{result_err};
 ghost use Rattle.lru.specs.LruCache.{lru_cache};
-ghost use Rattle.qcow2_alloc.specs.AsyncLruCache.{oldest_free, pinned, slot_of, FlushesAll, MakesRoom, GetsNew, InsertsNew, Replaces};
+ghost use Rattle.qcow2_alloc.specs.AsyncLruCache.{is_pinned, oldest_free, pinned};
+ghost use Rattle.qcow2_alloc.specs.CacheAnswers.{FlushesAll, MakesRoom, GetsNew, InsertsNew, Replaces};
+ghost use Rattle.qcow2_alloc.specs.CachedEntries.{FlushesFound};
 
 use super::backend::AsyncLruCacheBackend;
 use super::error::CacheError;
@@ -33,14 +35,8 @@ pub(crate) fn flush_entry<B: AsyncLruCacheBackend>(
     key: B::Key,
 ) -> Result<(), B::Error>
     requires { IsSome (lookup (B.Key.eq key) entries.old.entries) }
-    ensures ok { OnOk result (IfSome (lookup (B.Key.eq key) entries.old.entries)
-        (λ d. (v : B.Value) × B.flushed backend.now store.old key d.value v store.new
-        × (entries.new ≡ lru_cache (set_value (B.Key.eq key) entries.old.entries (slot_of v d.pins)) entries.old.cap))) }
-    ensures err { IfErr result (λ x. IfSome (lookup (B.Key.eq key) entries.old.entries)
-        (λ d. B.flush_failed backend.now store.old key d.value x store.new)) }
-    ensures kept { IfErr result (λ _. entries.new ≡ entries.old) }
-    ensures fits { length entries.new.entries ≡ length entries.old.entries }
-    ensures cap { entries.new.cap ≡ entries.old.cap }
+    ensures { IfSome (lookup (B.Key.eq key) entries.old.entries) (λ slot.
+        FlushesFound (B.steps backend.now) (B.Key.eq key) key slot store.old entries.old (result_err result) store.new entries.new) }
 {
     match entries.peek_mut(&key) {
         Some(slot) => backend.flush(store, key, &mut slot.value),
@@ -57,7 +53,7 @@ pub(crate) fn make_room<B: AsyncLruCacheBackend>(
     may_flush: bool,
 ) -> Result<bool, CacheError<B::Key, B::Error>>
     requires { length entries.old.entries ≤ size }
-    ensures room { MakesRoom (B.flushed backend.now) (B.flush_failed backend.now) B.Key.eq size store.old entries.old.entries may_flush result store.new entries.new.entries }
+    ensures room { MakesRoom (B.steps backend.now) B.Key.eq size may_flush store.old entries.old.entries result store.new entries.new.entries }
     ensures space { result ≡ Ok true → length entries.new.entries < size }
     ensures fits { length entries.new.entries ≤ size }
     ensures cap { entries.new.cap ≡ entries.old.cap }
@@ -90,7 +86,7 @@ pub(crate) fn load_new<B: AsyncLruCacheBackend>(
     requires fits { length entries.old.entries ≤ size }
     requires unbounded { entries.old.cap ≡ 2 ^ 64 - 1 }
     requires missing { lookup (B.Key.eq key) entries.old.entries ≡ None }
-    ensures loads { GetsNew (B.flushed backend.now) (B.flush_failed backend.now) (B.loaded backend.now) (B.load_failed backend.now) B.Key.eq size key store.old entries.old.entries may_flush result store.new entries.new.entries }
+    ensures loads { GetsNew (B.steps backend.now) B.Key.eq size may_flush key store.old entries.old.entries result store.new entries.new.entries }
     ensures fits { length entries.new.entries ≤ size }
     ensures cap { entries.new.cap ≡ entries.old.cap }
 {
@@ -123,7 +119,8 @@ pub(crate) fn insert_new<B: AsyncLruCacheBackend>(
     requires unbounded { entries.old.cap ≡ 2 ^ 64 - 1 }
     requires missing { lookup (B.Key.eq key) entries.old.entries ≡ None }
     requires there { IsSome value.old }
-    ensures inserts { IfSome value.old (λ v. InsertsNew (B.flushed backend.now) (B.flush_failed backend.now) B.Key.eq size key store.old entries.old.entries v may_flush result store.new entries.new.entries value.new) }
+    ensures inserts { IfSome value.old (λ v.
+        InsertsNew (B.steps backend.now) B.Key.eq size may_flush key v store.old entries.old.entries result store.new entries.new.entries value.new) }
     ensures fits { length entries.new.entries ≤ size }
     ensures cap { entries.new.cap ≡ entries.old.cap }
 {
@@ -161,7 +158,7 @@ pub(crate) fn replace_entry<B: AsyncLruCacheBackend>(
     requires found { IsSome (lookup (B.Key.eq key) entries.old.entries) }
     requires there { IsSome value.old }
     ensures replaces { IfSome (lookup_entry (B.Key.eq key) entries.old.entries) (λ e. IfSome value.old (λ v.
-        Replaces (B.flushed backend.now) (B.flush_failed backend.now) store.old entries.old.entries key e (remove_entry (B.Key.eq key) entries.old.entries) v may_flush result store.new entries.new.entries value.new)) }
+        Replaces (B.steps backend.now) key e (remove_entry (B.Key.eq key) entries.old.entries) v may_flush store.old entries.old.entries result store.new entries.new.entries value.new)) }
     ensures fits { length entries.new.entries ≡ length entries.old.entries }
     ensures cap { entries.new.cap ≡ entries.old.cap }
 {
@@ -184,7 +181,7 @@ pub(crate) fn flush_all<B: AsyncLruCacheBackend>(
     store: &mut B::Store,
     entries: &mut LruCache<B::Key, Slot<B::Value>>,
 ) -> Option<B::Error>
-    ensures flushed { FlushesAll (B.flushed backend.now) (B.flush_failed backend.now) store.old entries.old.entries result entries.new.entries store.new }
+    ensures flushed { FlushesAll (B.steps backend.now) store.old entries.old.entries result store.new entries.new.entries }
     ensures cap { entries.new.cap ≡ entries.old.cap }
 {
     let mut first = None;
@@ -220,7 +217,8 @@ pub(crate) fn evict_free<B: AsyncLruCacheBackend>(
     backend: &B,
     entries: &mut LruCache<B::Key, Slot<B::Value>>,
 )
-    ensures { entries.new ≡ lru_cache (pinned entries.old.entries) entries.old.cap }
+    ensures evicted { All (λ e. is_pinned e.1 ≡ false → B.evicted backend.now e.0 e.1.value) entries.old.entries }
+    ensures entries { entries.new ≡ lru_cache (pinned entries.old.entries) entries.old.cap }
 {
     for _turn in 0..entries.len() {
         let (key, slot) = entries.peek_mru().unwrap();
@@ -239,7 +237,8 @@ pub(crate) fn evict_entry<B: AsyncLruCacheBackend>(
     entries: &mut LruCache<B::Key, Slot<B::Value>>,
     key: B::Key,
 )
-    ensures { entries.new ≡ lru_cache (remove_entry (B.Key.eq key) entries.old.entries) entries.old.cap }
+    ensures evicted { IfSome (lookup (B.Key.eq key) entries.old.entries) (λ slot. B.evicted backend.now key slot.value) }
+    ensures entries { entries.new ≡ lru_cache (remove_entry (B.Key.eq key) entries.old.entries) entries.old.cap }
 {
     if let Some(Slot { value, pins: _ }) = entries.pop(&key) {
         backend.evict(key, value);

@@ -1,5 +1,5 @@
-ghost use Rattle.std.specs.Prelude.{◌≡◌, ⊤, true, false, [], ◌∷◌, IsSome};
-ghost use Rattle.std.proofs.Common.{ap, refl};
+ghost use Rattle.std.specs.Prelude.{◌≡◌, ⊤, false, [], ◌∷◌, IsSome};
+ghost use Rattle.std.proofs.Common.{ap};
 
 use super::{AsyncLruCache, AsyncLruCacheBackend, CacheError};
 use std::alloc::Global;
@@ -32,21 +32,22 @@ impl AsyncLruCacheBackend for Pages {
 
     type Store = Disk;
 
-    ghost is_modified = { λ v. v.modified };
+    ghost steps = { λ _. record {
+      loaded = λ _ _ v _. v.modified ≡ false;
+      load_failed = λ _ _ _ _. ⊤;
+      flushed = λ _ _ v w _. (w.modified ≡ false) × (w.number ≡ v.number);
+      flush_failed = λ _ _ _ _ _. ⊤;
+    } };
 
-    ghost bytes = { λ v. v.number ∷ [] };
-
-    ghost stored = { λ _ _ _. [] };
+    ghost evicted = { λ _ _ _. ⊤ };
 
     ghost is_honest = { λ _. ⊥ };
 
-    ghost loaded = { λ _ _ _ _ _. ⊤ };
+    ghost stored = { λ _ _ _. [] };
 
-    ghost load_failed = { λ _ _ _ _ _. ⊤ };
+    ghost bytes = { λ v. v.number ∷ [] };
 
-    ghost flushed = { λ _ s _ v w t. (w.modified ≡ false) × (w.number ≡ v.number) };
-
-    ghost flush_failed = { λ _ _ _ _ _ _. ⊤ };
+    ghost is_modified = { λ v. v.modified };
 
     fn load(&self, _alloc: Global, store: &mut Disk, key: u32) -> Result<Page, u32> {
         if store.load_fails.contains(&key) {
@@ -71,31 +72,17 @@ impl AsyncLruCacheBackend for Pages {
         drop(value);
     }
 
-    ghost flush_cleans = { λ b s t k v w h. (h.0, ap (λ n. n ∷ []) h.1) };
-
-    ghost flush_writes = { λ b s t k v w h honest m. absurd honest };
-
-    ghost flush_skips = { λ b s t k v w h honest m. absurd honest };
-
-    ghost flush_apart = { λ b s t k v w h honest. absurd honest };
-
-    ghost failed_flush_apart = { λ b s t k v x h honest. absurd honest };
+    ghost load_gives = { λ b s t k v h. h };
 
     ghost load_reads = { λ b s t k v h honest. absurd honest };
 
-    ghost failed_load_keeps = { λ b s t k x h honest. absurd honest };
+    ghost failed_load_keeps = { λ b s t k e h honest. absurd honest };
 
-    ghost failed_flush_skips = { λ b s t k v x h honest. absurd honest };
+    ghost flush_cleans = { λ b s t k v w h. (h.0, ap (λ n. n ∷ []) h.1) };
 
-    ghost stored_alike = { λ b s k j h. refl };
+    ghost flush_writes = { λ b s t k v w h honest. absurd honest };
 
-    ghost flush_honest = { λ b s t k v w h honest. honest };
-
-    ghost failed_flush_honest = { λ b s t k v x h honest. honest };
-
-    ghost load_honest = { λ b s t k v h honest. honest };
-
-    ghost failed_load_honest = { λ b s t k x h honest. honest };
+    ghost failed_flush_keeps = { λ b s t k v e h honest. absurd honest };
 }
 
 type Answer = Result<bool, CacheError<u32, u32>>;

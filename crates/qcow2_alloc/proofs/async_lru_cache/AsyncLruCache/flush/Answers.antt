@@ -4,6 +4,5 @@ use Rattle.qcow2_alloc.proofs.async_lru_cache.AsyncLruCache.flush.Goals as goal
 
 pub invariant_of-self : goal.invariant_of-self
 invariant_of-self g c =
-    let b = c.self.inside.backend in
-    let l = length_flushed (g.B.AsyncLruCacheBackend.flushed b) (g.B.AsyncLruCacheBackend.flush_failed b) c.args.store.now c.self.inside.entries.entries c.flush_all.result c.flush_all.new.entries.entries c.flush_all.new.store c.flush_all.ensures.flushed in
+    let l = length_flushed (g.B.AsyncLruCacheBackend.steps c.self.inside.backend) c.args.store.now c.self.inside.entries.entries c.flush_all.result c.flush_all.new.store c.flush_all.new.entries.entries c.flush_all.ensures.flushed in
     (omega (arith, l, c.self.invariant.0), c.flush_all.ensures.cap ∙ c.self.invariant.1)

@@ -5,4 +5,4 @@ use Rattle.qcow2_alloc.proofs.async_lru_cache.AsyncLruCache.invalidate.Goals as 
 pub invariant_of-self : goal.invariant_of-self
 invariant_of-self g c =
     let l = length-pinned c.self.inside.entries.entries in
-    rw c.evict_free.ensures (omega (arith, l, c.self.invariant.0), c.self.invariant.1)
+    rw c.evict_free.ensures.entries (omega (arith, l, c.self.invariant.0), c.self.invariant.1)

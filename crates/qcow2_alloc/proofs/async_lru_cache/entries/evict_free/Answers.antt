@@ -1,20 +1,23 @@
-use Rattle.std.proofs.Common.{sym, ap, ◌∙◌, arith}
+use Rattle.std.proofs.Common.{sym, ◌∙◌, arith}
 use Rattle.qcow2_alloc.proofs.CachedEntries.Lists.{is_pinned-true, is_pinned-false}
-use Rattle.qcow2_alloc.proofs.CachedEntries.Turns.{kept_turn, gone_turn}
+use Rattle.qcow2_alloc.proofs.CachedEntries.Turns.{lookup-first, kept_turn, gone_turn}
 use Rattle.qcow2_alloc.proofs.async_lru_cache.entries.evict_free.Goals as goal
 use Rattle.qcow2_alloc.proofs.async_lru_cache.entries.evict_free.Goals.{then-slot-gt0, else-slot-gt0}
 
 pub loop-turn-preserved : goal.loop-turn-preserved
 loop-turn-preserved g c =
     let laws = g.met.B.Key.Eq.laws in
-    let all = c.args.entries.now.entries in
-    let u = c.unwrap.result in
-    let peek = sym (rw c.unwrap.ensures at c.peek_mru.ensures) in
+    let l = c.loop-turn in
+    let k = c.unwrap.result.0.now in
+    let s = c.unwrap.result.1.now in
+    let first = sym (rw c.unwrap.ensures at c.peek_mru.ensures) in
     elim c.if-slot-gt0.branch [
       | then-slot-gt0 w ↦
-          let to = w.entries-is ∙ w.demote.ensures.entries in
-          (rw (ap (λ l. l.entries) to) (kept_turn laws all c.loop-turn.entries.entries c.loop-turn._turn c.loop-turn.invariant.0 (omega arith) u.0.now u.1.now peek (is_pinned-true u.1.now (λ z. omega (arith, w.if-slot-gt0.true)))), ap (λ l. l.cap) to ∙ c.loop-turn.invariant.1)
+          let pin = is_pinned-true s (λ z. omega (arith, w.if-slot-gt0.true)) in
+          let t = kept_turn _ _ laws l.entries c.if-slot-gt0.entries l._turn l.invariant.around (omega (arith, c.loop-turn-test.true, c.len-turn-end.ensures.len)) k s first (λ free. let no = rw pin at free in cc) pin (w.entries-is ∙ w.demote.ensures.entries) in
+          record { around = t.around; cap = t.cap ∙ l.invariant.cap }
       | else-slot-gt0 w ↦
-          let to = w.entries-is ∙ w.evict_entry.ensures in
-          (rw (ap (λ l. l.entries) to) (gone_turn laws all c.loop-turn.entries.entries c.loop-turn._turn c.loop-turn.invariant.0 (omega arith) u.0.now u.1.now peek (is_pinned-false u.1.now (omega (arith, w.if-slot-gt0.false)))), ap (λ l. l.cap) to ∙ c.loop-turn.invariant.1)
+          let free = is_pinned-false s (omega (arith, w.if-slot-gt0.false)) in
+          let t = gone_turn _ _ laws l.entries c.if-slot-gt0.entries l._turn l.invariant.around (omega (arith, c.loop-turn-test.true, c.len-turn-end.ensures.len)) k s first (λ _. rw (lookup-first laws l.entries.entries k s first) at w.evict_entry.ensures.evicted) free (w.entries-is ∙ w.evict_entry.ensures.entries) in
+          record { around = t.around; cap = t.cap ∙ l.invariant.cap }
     ]

@@ -1,61 +1,49 @@
-use Rattle.std.proofs.Common.{◌≡◌, Some, length, refl, sym, ap, ◌∙◌}
-use Rattle.lru.specs.LruCache.{LruCache}
-use Rattle.qcow2_alloc.specs.declared.async_lru_cache.slot.Slot.{Slot}
-use Rattle.qcow2_alloc.proofs.CachedEntries.Putting.{some_of, is_some_mapped, entry_of, promoted_front, promoted_lookup, promoted_length, flushed_lookup, flushed_cap, flushed_value, written, written_length}
+use Rattle.std.proofs.Common.{◌≡◌, ◌∷◌, Some, None, refl, sym, ap, ◌∙◌}
+use Rattle.std.specs.Map.{remove_entry}
+use Rattle.std.proofs.lemmas.Map.{length-set_value}
+use Rattle.std.proofs.lemmas.Option.{same_Some}
+use Rattle.qcow2_alloc.specs.AsyncLruCache.{slot_of}
+use Rattle.qcow2_alloc.proofs.CachedEntries.Putting.{is_promoted, flushed_in_front, some_of, is_some_mapped}
 use Rattle.qcow2_alloc.proofs.async_lru_cache.entries.replace_entry.Goals as goal
 
 pub flush_entry-requires : goal.flush_entry-requires
 flush_entry-requires g c =
-    let b = c.args.backend.now in
-    let test = g.B.Key.PartialEq.eq c.args.key in
-    let e = entry_of test c.args.entries.now.entries c.requires.found in
-    rw (promoted_lookup (g.B.AsyncLruCacheBackend.flushed b) (g.B.AsyncLruCacheBackend.flush_failed b) test c.args.store.now c.args.entries.now c.promote.new.self c.promote.new.self c.args.key e.0 e.1 c.promote.ensures.entries c.args.store.now) refl
+    let b = is_promoted (g.B.Key.PartialEq.eq c.args.key) c.args.entries.now c.promote.new.self c.requires.found c.promote.ensures.entries in
+    rw b.found refl
 
-pub returns-in-Err-clause-replaces : goal.returns-in-Err-clause-replaces
-returns-in-Err-clause-replaces g c =
-    let b = c.args.backend.now in
+pub returns-in-Err : goal.returns-in-Err
+returns-in-Err g c =
     let test = g.B.Key.PartialEq.eq c.args.key in
-    let e = entry_of test c.args.entries.now.entries c.requires.found in
-    let v = some_of c.args.value.now c.requires.there in
-    let found = promoted_lookup (g.B.AsyncLruCacheBackend.flushed b) (g.B.AsyncLruCacheBackend.flush_failed b) test c.args.store.now c.args.entries.now c.promote.new.self c.promote.new.self c.args.key e.0 e.1 c.promote.ensures.entries c.args.store.now in
-    let front = promoted_front (g.B.AsyncLruCacheBackend.flushed b) (g.B.AsyncLruCacheBackend.flush_failed b) test c.args.store.now c.args.entries.now c.promote.new.self c.promote.new.self c.args.key e.0 e.1 c.promote.ensures.entries c.args.store.now in
-    let failed = rw found at c.in-Err.ensures.err in
-    rw (e.1, v.1) (c.if-not-may_flush.false, failed, ap (λ (x : LruCache g.row.B-Key.Denot (Slot g.row.B-Value.Denot)). x.entries) c.in-Err.ensures.kept ∙ front, refl)
-
-pub returns-in-Err-clause-fits : goal.returns-in-Err-clause-fits
-returns-in-Err-clause-fits g c =
-    let b = c.args.backend.now in
-    let test = g.B.Key.PartialEq.eq c.args.key in
-    let e = entry_of test c.args.entries.now.entries c.requires.found in
-    ap (λ (x : LruCache g.row.B-Key.Denot (Slot g.row.B-Value.Denot)). length x.entries) c.in-Err.ensures.kept ∙ promoted_length (g.B.AsyncLruCacheBackend.flushed b) (g.B.AsyncLruCacheBackend.flush_failed b) test c.args.store.now c.args.entries.now c.promote.new.self c.promote.new.self c.args.key e.0 e.1 c.promote.ensures.entries c.args.store.now
+    let b = is_promoted test c.args.entries.now c.promote.new.self c.requires.found c.promote.ensures.entries in
+    let f = flushed_in_front (g.B.AsyncLruCacheBackend.steps c.args.backend.now) test c.args.store.now c.args.entries.now c.promote.new.self c.args.key b c.flush_entry.new.store c.flush_entry.new.entries (Some c.in-Err.e) c.in-Err.ensures in
+    let v = some_of c.args.value.now c.requires.there in record {
+      replaces = rw (b.was, v.1) (c.if-not-may_flush.false, f.step.0, f.front ∙ ap (λ d. (b.entry.0, d) ∷ remove_entry test c.args.entries.now.entries) f.step.1, refl);
+      fits = f.fits;
+      cap = f.cap;
+    }
 
 pub unwrap-slot-requires : goal.unwrap-slot-requires
 unwrap-slot-requires g c =
-    let b = c.args.backend.now in
     let test = g.B.Key.PartialEq.eq c.args.key in
-    let e = entry_of test c.args.entries.now.entries c.requires.found in
-    is_some_mapped _ c.peek_mut.result _ (c.peek_mut.ensures.value ∙ flushed_lookup (g.B.AsyncLruCacheBackend.flushed b) (g.B.AsyncLruCacheBackend.flush_failed b) test c.args.store.now c.args.entries.now c.promote.new.self c.flush_entry.new.entries c.args.key e.0 e.1 c.promote.ensures.entries c.flush_entry.new.store c.in_default.ensures.ok)
+    let b = is_promoted test c.args.entries.now c.promote.new.self c.requires.found c.promote.ensures.entries in
+    let f = flushed_in_front (g.B.AsyncLruCacheBackend.steps c.args.backend.now) test c.args.store.now c.args.entries.now c.promote.new.self c.args.key b c.flush_entry.new.store c.flush_entry.new.entries None c.in_default.ensures in
+    is_some_mapped _ c.peek_mut.result _ (c.peek_mut.ensures.value ∙ f.found)
 
-pub returns-clause-replaces : goal.returns-clause-replaces
-returns-clause-replaces g c =
-    let b = c.args.backend.now in
+pub returns : goal.returns
+returns g c =
     let test = g.B.Key.PartialEq.eq c.args.key in
-    let e = entry_of test c.args.entries.now.entries c.requires.found in
-    let v : c.args.value.now ≡ Some c.unwrap-taken.result = sym c.take.ensures.value ∙ c.unwrap-taken.ensures in
-    let peek = rw c.unwrap-slot.ensures at c.peek_mut.ensures.value in
-    rw (e.1, v) (c.if-not-may_flush.false, flushed_value (g.B.AsyncLruCacheBackend.flushed b) (g.B.AsyncLruCacheBackend.flush_failed b) test c.args.store.now c.args.entries.now c.promote.new.self c.flush_entry.new.entries c.args.key e.0 e.1 c.promote.ensures.entries c.flush_entry.new.store c.in_default.ensures.ok, written (g.B.AsyncLruCacheBackend.flushed b) (g.B.AsyncLruCacheBackend.flush_failed b) test c.args.store.now c.args.entries.now c.promote.new.self c.flush_entry.new.entries c.args.key e.0 e.1 c.promote.ensures.entries c.flush_entry.new.store c.in_default.ensures.ok c.unwrap-slot.result.now peek c.unwrap-taken.result, c.take.ensures.after)
-
-pub returns-clause-fits : goal.returns-clause-fits
-returns-clause-fits g c =
-    let b = c.args.backend.now in
-    let test = g.B.Key.PartialEq.eq c.args.key in
-    let e = entry_of test c.args.entries.now.entries c.requires.found in
-    let peek = rw c.unwrap-slot.ensures at c.peek_mut.ensures.value in
-    written_length (g.B.AsyncLruCacheBackend.flushed b) (g.B.AsyncLruCacheBackend.flush_failed b) test c.args.store.now c.args.entries.now c.promote.new.self c.flush_entry.new.entries c.args.key e.0 e.1 c.promote.ensures.entries c.flush_entry.new.store c.in_default.ensures.ok c.unwrap-slot.result.now peek c.unwrap-taken.result
-
-pub returns-clause-cap : goal.returns-clause-cap
-returns-clause-cap g c =
-    let b = c.args.backend.now in
-    let test = g.B.Key.PartialEq.eq c.args.key in
-    let e = entry_of test c.args.entries.now.entries c.requires.found in
-    flushed_cap (g.B.AsyncLruCacheBackend.flushed b) (g.B.AsyncLruCacheBackend.flush_failed b) test c.args.store.now c.args.entries.now c.promote.new.self c.flush_entry.new.entries c.args.key e.0 e.1 c.promote.ensures.entries c.flush_entry.new.store c.in_default.ensures.ok
+    let b = is_promoted test c.args.entries.now c.promote.new.self c.requires.found c.promote.ensures.entries in
+    let f = flushed_in_front (g.B.AsyncLruCacheBackend.steps c.args.backend.now) test c.args.store.now c.args.entries.now c.promote.new.self c.args.key b c.flush_entry.new.store c.flush_entry.new.entries None c.in_default.ensures in
+    let same : c.unwrap-slot.result.now ≡ f.slot = same_Some _ f.slot (rw c.unwrap-slot.ensures at c.peek_mut.ensures.value ∙ f.found) in
+    let pins : c.unwrap-slot.result.now.pins ≡ b.entry.1.pins = ap (λ d. d.pins) same ∙ f.step.1 in
+    let new = slot_of c.unwrap-taken.result c.unwrap-slot.result.now.pins in
+    let len = length-set_value test c.flush_entry.new.entries.entries new in record {
+      replaces = rw (b.was, sym c.take.ensures.value ∙ c.unwrap-taken.ensures) (
+        c.if-not-may_flush.false,
+        (f.slot.value, f.step.0),
+        f.replaced new ∙ ap (λ n. (b.entry.0, slot_of c.unwrap-taken.result n) ∷ remove_entry test c.args.entries.now.entries) pins,
+        c.take.ensures.after,
+      );
+      fits = len ∙ f.fits;
+      cap = f.cap;
+    }

@@ -1,0 +1,23 @@
+use Rattle.std.proofs.Common.{sym, ◌∙◌, arith}
+use Rattle.qcow2_alloc.proofs.CachedEntries.Flushing.{flushed_at, failed_at}
+use Rattle.qcow2_alloc.proofs.async_lru_cache.AsyncLruCache.flush_key.Goals as goal
+
+pub invariant_of-self : goal.invariant_of-self
+invariant_of-self g c =
+    let f = failed_at (g.B.AsyncLruCacheBackend.steps c.self.inside.backend) (g.B.Key.PartialEq.eq c.args.key) c.args.key c.args.store.now c.self.inside.entries c.flush_entry.new.entries c.flush_entry.new.store c.in-Err.e c.in-Err.ensures (sym c.contains.ensures ∙ c.if-not-contains.false) in
+    (omega (arith, f.fits, c.self.invariant.0), f.cap ∙ c.self.invariant.1)
+
+pub returns-in-Err-clause-there : goal.returns-in-Err-clause-there
+returns-in-Err-clause-there g c =
+    let f = failed_at (g.B.AsyncLruCacheBackend.steps c.self.inside.backend) (g.B.Key.PartialEq.eq c.args.key) c.args.key c.args.store.now c.self.inside.entries c.flush_entry.new.entries c.flush_entry.new.store c.in-Err.e c.in-Err.ensures (sym c.contains.ensures ∙ c.if-not-contains.false) in
+    rw (← c.self.view_is) f.answer
+
+pub invariant_of-self-2 : goal.invariant_of-self-2
+invariant_of-self-2 g c =
+    let f = flushed_at (g.B.AsyncLruCacheBackend.steps c.self.inside.backend) (g.B.Key.PartialEq.eq c.args.key) c.args.key c.args.store.now c.self.inside.entries c.flush_entry.new.entries c.flush_entry.new.store c.in_default.ensures (sym c.contains.ensures ∙ c.if-not-contains.false) in
+    (omega (arith, f.fits, c.self.invariant.0), f.cap ∙ c.self.invariant.1)
+
+pub returns-clause-there : goal.returns-clause-there
+returns-clause-there g c =
+    let f = flushed_at (g.B.AsyncLruCacheBackend.steps c.self.inside.backend) (g.B.Key.PartialEq.eq c.args.key) c.args.key c.args.store.now c.self.inside.entries c.flush_entry.new.entries c.flush_entry.new.store c.in_default.ensures (sym c.contains.ensures ∙ c.if-not-contains.false) in
+    rw (← c.self.view_is) f.answer

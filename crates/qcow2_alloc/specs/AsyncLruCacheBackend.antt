@@ -1,0 +1,35 @@
+-- What a backend does to its store, and what a store and the cache over it mean together.
+use Rattle.std.specs.Prelude.{◌≡◌, ℕ, Bool, cond, List}
+use Rattle.std.specs.Option.{option_map_or}
+use Rattle.std.specs.Map.{lookup}
+use Rattle.qcow2_alloc.specs.declared.async_lru_cache.slot.Slot.{Slot}
+
+-- What a load and a flush may do. Each relation has the store before and the key first, and the store after last.
+pub record Steps (S K V E : Type 0) : Type 1 where
+  -- a load that gives the value
+  pub loaded : S → K → V → S → Type 0
+  -- a load that fails by the error
+  pub load_failed : S → K → E → S → Type 0
+  -- a flush that succeeds, of the value before it, with the value after it
+  pub flushed : S → K → V → V → S → Type 0
+  -- a flush that fails by the error and leaves the value as it was
+  pub flush_failed : S → K → V → E → S → Type 0
+
+-- under each key stand the bytes that stood there
+abbrev pub KeepsBytes : {S K : Type 0} → (S → K → List ℕ) → S → S → Type 0
+KeepsBytes stored s t = (j : _) → stored t j ≡ stored s j
+
+-- the bytes of a modified value; for another value those that lie under it
+abbrev pub laid_over : {V : Type 0} → (V → Bool) → (V → List ℕ) → V → List ℕ → List ℕ
+laid_over is_modified bytes v under = cond (is_modified v) (bytes v) under
+
+module _ {S K V : Type 0} (eq : K → K → Bool) (is_modified : V → Bool) (bytes : V → List ℕ) (stored : S → K → List ℕ) where
+  -- the bytes under a key: those of the store with the cached value laid over
+  abbrev pub known : S → List (K × Slot V) → K → List ℕ
+  known s es j = option_map_or (λ slot. laid_over is_modified bytes slot.value (stored s j)) (lookup (eq j) es) (stored s j)
+
+  module _ (is_honest : S → Type 0) where
+    -- on an honest store all known bytes stay
+    pub record KeepsKnown (s : S) (es : List (K × Slot V)) (t : S) (fs : List (K × Slot V)) : Type 0 where
+      pub honest : is_honest s → is_honest t
+      pub stays : is_honest s → (j : K) → known t fs j ≡ known s es j
