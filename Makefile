@@ -1,0 +1,24 @@
+# qimg    proves and builds the program, and leaves it as build/qimg
+# demo    makes an image in a new folder, writes a cluster and reads it back
+# test    every proof, every edit that must fail, every test, and the scripts under tests/
+# bench   qimg beside qemu-io on the same work
+
+.PHONY: qimg demo test bench
+
+qimg:
+	@mkdir -p build
+	@folder=$$(mktemp -d) && trap 'rm -r "$$folder"' EXIT && \
+	cd crates/qimg && rt run -- create "$$folder/disk.qcow2" 65536 512 16 none >&2
+	@cp crates/qimg/out/qimg build/qimg
+
+demo: qimg
+	@folder=$$(mktemp -d) && trap 'rm -r "$$folder"' EXIT && \
+	build/qimg create "$$folder/disk.qcow2" 65536 512 16 none && \
+	printf 'fill 0 512 11\nflush\nread 0 4\n' | build/qimg run "$$folder/disk.qcow2"
+
+test:
+	@tests/all.py
+
+bench: qimg
+	@tests/install.sh
+	@bench/compare.py

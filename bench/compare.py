@@ -1,0 +1,118 @@
+#!/usr/bin/env python3
+"""qimg and qemu-io side by side on the same work: time and peak memory of each, and their ratios.
+
+qemu-io runs with the cache mode `unsafe`: a flush hands the tables to the operating system, as qimg's does,
+and doesn't wait for the device. Each figure is the median of three runs, each on a new image."""
+
+import os
+import random
+import shutil
+import statistics
+import subprocess
+import sys
+import tempfile
+import time
+
+ROOT = os.path.dirname(os.path.dirname(os.path.abspath(__file__)))
+QIMG = os.environ.get("QIMG", os.path.join(ROOT, "build", "qimg"))
+MIB = 1048576
+SIZE = 64 * MIB
+RUNS = 3
+
+
+def sequential():
+    """64 MiB in writes of 1 MiB."""
+    return [("write", at, MIB, at // MIB + 1) for at in range(0, SIZE, MIB)] + [("flush",)]
+
+
+def scattered(count, flush_each):
+    """Writes of 4 KiB at random places."""
+    chosen = random.Random(count)
+    steps = []
+    for number in range(count):
+        steps.append(("write", chosen.randrange(SIZE // 4096) * 4096, 4096, number % 255 + 1))
+        if flush_each:
+            steps.append(("flush",))
+    return steps if flush_each else steps + [("flush",)]
+
+
+WORK = [
+    ("64 MiB in order, clusters of 65536", 65536, sequential()),
+    ("64 MiB in order, clusters of 4096", 4096, sequential()),
+    ("2,000 random writes of 4 KiB, one flush, clusters of 65536", 65536, scattered(2000, False)),
+    ("200 random writes of 4 KiB, a flush after each, clusters of 65536", 65536, scattered(200, True)),
+]
+
+
+def qimg_line(step):
+    return "flush" if step[0] == "flush" else f"fill {step[1]} {step[2]} {step[3]:02x}"
+
+
+def qemu_line(step):
+    return "flush" if step[0] == "flush" else f"write -q -P {step[3]} {step[1]} {step[2]}"
+
+
+def measured(words, lines, wanted):
+    """Seconds and peak memory in KiB of a program that is given lines, or None where it didn't do the work."""
+    with open("lines", "w") as it:
+        it.write("".join(f"{line}\n" for line in lines))
+    with open("lines") as given, open("printed", "w+") as printed:
+        start = time.monotonic()
+        done = subprocess.run(["/usr/bin/time", "-f", "%M", "-o", "memory", *words], stdin=given, stdout=printed, stderr=subprocess.STDOUT)
+        seconds = time.monotonic() - start
+        printed.seek(0)
+        text = printed.read()
+    refused = [line for line in text.splitlines() if line.startswith(("refused", "bad line"))]
+    if done.returncode or refused or not wanted(text):
+        print(f"  {os.path.basename(words[0])} ended with status {done.returncode}: {(refused or [text[-200:]])[0]}")
+        return None
+    with open("memory") as it:
+        return seconds, int(it.read())
+
+
+def by_qimg(cluster, steps):
+    subprocess.run([QIMG, "create", "disk", str(SIZE), str(cluster), "16", "none"], check=True, stdout=subprocess.DEVNULL)
+    return measured([QIMG, "run", "disk"], [qimg_line(step) for step in steps], lambda text: text == "ok\n" * len(steps))
+
+
+def by_qemu(cluster, steps):
+    words = ["qemu-img", "create", "-q", "-f", "qcow2", "-o", f"cluster_size={cluster}", "disk", str(SIZE)]
+    subprocess.run(words, check=True)
+    words = ["qemu-io", "-f", "qcow2", "-t", "unsafe", "disk"]
+    return measured(words, [qemu_line(step) for step in steps], lambda text: "failed" not in text)
+
+
+def median_of(runner, cluster, steps):
+    """The medians of some runs, each in a new folder, or None where one didn't do the work."""
+    results = []
+    here = os.getcwd()
+    for _ in range(RUNS):
+        room = tempfile.mkdtemp(prefix="qimg-bench-")
+        os.chdir(room)
+        try:
+            results.append(runner(cluster, steps))
+        finally:
+            os.chdir(here)
+            shutil.rmtree(room)
+        if results[-1] is None:
+            return None
+    return [statistics.median(column) for column in zip(*results)]
+
+
+def main():
+    if not os.access("/usr/bin/time", os.X_OK):
+        print("/usr/bin/time is missing: install the package time")
+        return 1
+    failed = False
+    for name, cluster, steps in WORK:
+        print(name)
+        own, other = median_of(by_qimg, cluster, steps), median_of(by_qemu, cluster, steps)
+        if own is None or other is None:
+            failed = True
+            continue
+        for what, index, unit, scale in (("time", 0, "ms", 1000), ("memory", 1, "MiB", 1 / 1024)):
+            print(f"  {what:7}qimg {own[index] * scale:8.1f} {unit}   qemu-io {other[index] * scale:8.1f} {unit}   ratio {own[index] / other[index]:.2f}")
+    return 1 if failed else 0
+
+
+sys.exit(main())
