@@ -259,6 +259,14 @@ impl RefBlock {
         u64::MAX >> (64 - width)
     }
 
+    /// The binary logarithm of its size in bytes.
+    pub fn cluster_bits(&self) -> u32
+        ensures value { result ≡ self.now.cluster_bits }
+        ensures whole { IsRefBlock self.now }
+    {
+        self.cluster_bits
+    }
+
     pub fn is_modified(&self) -> bool
         ensures value { result ≡ self.now.is_modified }
         ensures whole { IsRefBlock self.now }
