@@ -1,1 +1,3 @@
 pub mod CachedEntries
+pub mod CacheFaults
+pub mod TableFlush

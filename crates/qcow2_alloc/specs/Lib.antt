@@ -6,3 +6,6 @@ pub mod ClustersToFree
 pub mod AsyncLruCacheBackend
 pub mod CacheAnswers
 pub mod CachedEntries
+pub mod TableSteps
+pub mod TableLaws
+pub mod TableCaches

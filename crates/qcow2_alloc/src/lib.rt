@@ -2,10 +2,12 @@
 #![tactic(auto)]
 
 pub mod async_lru_cache;
+mod cache;
 mod clusters_to_free;
 mod error;
 mod image_storage;
 
+pub use cache::RefBlockCacheBackend;
 pub use clusters_to_free::{
     ClusterKind, ClustersToFreeEntry, ClustersToFreeList, PendingClusters, TakenClusters,
 };

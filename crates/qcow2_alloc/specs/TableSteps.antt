@@ -1,0 +1,63 @@
+-- What loading and flushing a cached table do to the storage.
+use Rattle.std.specs.Prelude.{◌≡◌, ◌⊎◌, ℕ, ◌*◌, ◌^◌, Bool, true, false, List, length, Result, Ok, Err, IsErrOf}
+use Rattle.image_access.specs.Contents.{bytes_at, overwritten}
+use Rattle.image_access.specs.Moments.{StorageView, Keeps, Calls}
+use Rattle.image_access.specs.declared.error.StorageError.{StorageError}
+use Rattle.image_access.specs.declared.error.StorageError.TheVariants.{Fault}
+use Rattle.qcow2_metadata.specs.declared.error.MetadataError.{MetadataError}
+use Rattle.qcow2_metadata.specs.MetadataError.{storage_result}
+use Rattle.qcow2_alloc.specs.AsyncLruCacheBackend.{Steps}
+
+-- the storage's answer in a step that is done, or refused
+abbrev pub done : Result (Unit {0}) StorageError
+done = Ok tt
+
+abbrev pub refused : MetadataError → Result (Unit {0}) StorageError
+refused e = storage_result {T = Unit {0}} (Err e)
+
+-- the storage failed
+abbrev pub IsFault : MetadataError → Type 0
+IsFault e = IsErrOf (refused e) Fault
+
+module _ {S V : Type 0} (view : S → StorageView) (cluster_bits : ℕ) (bytes : V → List ℕ) (is_modified : V → Bool) (cleared : V → V) where
+  -- where a cluster begins
+  abbrev pub place_of : ℕ → ℕ
+  place_of k = k * 2 ^ cluster_bits
+
+  -- an unmodified table with the bytes of its cluster
+  pub record LoadsTable (s : S) (k : ℕ) (v : V) (t : S) : Type 0 where
+    pub unmodified : is_modified v ≡ false
+    pub read : (view s).is_honest → bytes v ≡ bytes_at (view s).contents (place_of k) (2 ^ cluster_bits)
+    pub calls : Calls (view s) (view t) done
+    pub keeps : Keeps (view s) (view t)
+
+  pub record FailsToLoad (s : S) (k : ℕ) (e : MetadataError) (t : S) : Type 0 where
+    pub calls : Calls (view s) (view t) (refused e)
+    pub keeps : Keeps (view s) (view t)
+
+  -- the table's bytes stand in its cluster
+  pub record IsWritten (s : S) (k : ℕ) (v : V) (t : S) : Type 0 where
+    pub fits : length (bytes v) ≡ 2 ^ cluster_bits
+    pub written : (view s).is_honest → (view t).contents ≡ overwritten (view s).contents (place_of k) (bytes v)
+
+  -- one that is modified is written, another one isn't; then it isn't modified
+  pub record FlushesTable (s : S) (k : ℕ) (v w : V) (t : S) : Type 0 where
+    pub clean : w ≡ cleared v
+    pub skips : is_modified v ≡ false → Keeps (view s) (view t)
+    pub writes : is_modified v ≡ true → IsWritten s k v t
+    pub calls : Calls (view s) (view t) done
+
+  -- only a modified one fails; it was written whole or not at all
+  pub record FailsToFlush (s : S) (k : ℕ) (v : V) (e : MetadataError) (t : S) : Type 0 where
+    pub modified : is_modified v ≡ true
+    pub stopped : (view s).is_honest → ((view t).contents ≡ (view s).contents)
+        ⊎ ((length (bytes v) ≡ 2 ^ cluster_bits) × ((view t).contents ≡ overwritten (view s).contents (place_of k) (bytes v)))
+    pub calls : Calls (view s) (view t) (refused e)
+
+  abbrev pub table_steps : Steps S ℕ V MetadataError
+  table_steps = record {
+    loaded = LoadsTable;
+    load_failed = FailsToLoad;
+    flushed = FlushesTable;
+    flush_failed = FailsToFlush;
+  }
