@@ -1,5 +1,7 @@
 -- Facts about the entries of a cache.
 pub mod Flushing
+pub mod Going
+pub mod Knowing
 pub mod Lists
 pub mod Putting
 pub mod Room

@@ -3,7 +3,8 @@ ghost use Rattle.std.specs.Prelude.{◌≡◌, ◌≢◌, ◌≤◌, cond, [], l
 ghost use Rattle.std.specs.List.{IsDistinct};
 ghost use Rattle.std.specs.Map.{keys_of, lookup, lookup_entry, remove_entry};
 ghost use Rattle.lru.specs.LruCache.{promoted};
-ghost use Rattle.qcow2_alloc.specs.AsyncLruCache.{cache_of, with_entries, value_at, is_pinned, can_pin, pin_at, can_unpin, unpin_at, can_remove, oldest_free};
+ghost use Rattle.qcow2_alloc.specs.AsyncLruCache.{cache_of, with_entries, value_at, is_pinned, can_pin, pin_at, can_unpin, unpin_at, can_remove, oldest_free, IsInFront, OnlyOldestGoes};
+ghost use Rattle.qcow2_alloc.specs.AsyncLruCacheBackend.{KeepsKnown, LaysOver};
 ghost use Rattle.qcow2_alloc.specs.CacheAnswers.{Invalidates, Flushes, FlushesKey, GetsNew, InsertsNew, Replaces};
 
 mod backend;
@@ -77,6 +78,13 @@ impl<B: AsyncLruCacheBackend> AsyncLruCache<B> {
         ensures miss { IsNone (lookup (B.Key.eq key) self.old.entries)
             → GetsNew (B.steps self.old.backend) B.Key.eq self.old.size may_flush key store.old self.old.entries result store.new self.new.entries }
         ensures others { self.new ≡ with_entries self.old self.new.entries }
+
+        // Whatever is got comes to the front, and an entry is gone only where it was the least recently used one with no pin, after its flush succeeded.
+        ensures front { result ≡ Ok true → IsInFront (B.Key.eq key) self.new.entries }
+        ensures goes { OnlyOldestGoes B.Key.eq (λ e. (w : B.Value) × (t : B.Store) × (B.steps self.old.backend).flushed store.old e.0 e.1.value w t) self.old.entries self.new.entries }
+
+        // The bytes of the store with the modified values laid over stay.
+        ensures known { KeepsKnown B.Key.eq B.is_modified B.bytes (B.stored self.old.backend) B.is_honest store.old self.old.entries store.new self.new.entries }
     {
         if self.entries.promote(&key) {
             return Ok(true);
@@ -104,6 +112,12 @@ impl<B: AsyncLruCacheBackend> AsyncLruCache<B> {
         ensures missing { IsNone (lookup (B.Key.eq key) self.old.entries) → IfSome value.old (λ v.
             InsertsNew (B.steps self.old.backend) B.Key.eq self.old.size may_flush key v store.old self.old.entries result store.new self.new.entries value.new) }
         ensures others { self.new ≡ with_entries self.old self.new.entries }
+
+        // The value is laid over the known bytes where it is taken, and else they stay.
+        ensures laid { IfSome value.old (λ v. result ≡ Ok true
+            → LaysOver B.Key.eq B.is_modified B.bytes (B.stored self.old.backend) B.is_honest key v store.old self.old.entries store.new self.new.entries) }
+        ensures known { result ≢ Ok true
+            → KeepsKnown B.Key.eq B.is_modified B.bytes (B.stored self.old.backend) B.is_honest store.old self.old.entries store.new self.new.entries }
     {
         if value.is_none() {
             return Ok(false);
@@ -167,6 +181,7 @@ impl<B: AsyncLruCacheBackend> AsyncLruCache<B> {
     pub fn flush(&mut self, store: &mut B::Store) -> Result<(), CacheError<B::Key, B::Error>>
         ensures flushed { Flushes (B.steps self.old.backend) store.old self.old.entries result store.new self.new.entries }
         ensures others { self.new ≡ with_entries self.old self.new.entries }
+        ensures known { KeepsKnown B.Key.eq B.is_modified B.bytes (B.stored self.old.backend) B.is_honest store.old self.old.entries store.new self.new.entries }
     {
         match flush_all(&self.backend, store, &mut self.entries) {
             None => Ok(()),
@@ -184,6 +199,7 @@ impl<B: AsyncLruCacheBackend> AsyncLruCache<B> {
         ensures there { IfSome (lookup (B.Key.eq key) self.old.entries) (λ s.
             FlushesKey (B.steps self.old.backend) (B.Key.eq key) key s store.old self.old.entries result store.new self.new.entries) }
         ensures others { self.new ≡ with_entries self.old self.new.entries }
+        ensures known { KeepsKnown B.Key.eq B.is_modified B.bytes (B.stored self.old.backend) B.is_honest store.old self.old.entries store.new self.new.entries }
     {
         if !self.entries.contains(&key) {
             return Ok(false);

@@ -10,3 +10,5 @@ pub mod Tables
 pub mod MetadataError
 pub mod TableBytes
 pub mod RefBlock
+pub mod L2Mapping
+pub mod L2Table

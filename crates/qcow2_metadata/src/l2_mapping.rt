@@ -1,4 +1,10 @@
-use crate::HostOffset;
+ghost use Rattle.std.specs.Prelude.{◌≡◌, ◌≢◌, ◌+◌, ◌-◌, ◌*◌, ◌/◌, ◌%◌, ◌^◌, ◌<◌, ◌≤◌, ◌↔◌, IsTrue};
+ghost use Rattle.qcow2_metadata.specs.Bytes.{bits_of, has_bit};
+ghost use Rattle.qcow2_metadata.specs.Entries.{host_offset as host_offset_of};
+ghost use Rattle.qcow2_metadata.specs.Cover.{cover_of, sectors_bit};
+ghost use Rattle.qcow2_metadata.specs.L2Mapping.{greatest_offset, IsInReach, HasAlignedHost, named_run, dropped_run};
+
+use crate::{ClusterCount, HostCluster, HostOffset};
 
 /// What an L2 table says of a guest cluster. Host offsets are those of bytes in the file.
 #[derive(Clone, Copy, Debug, PartialEq, Eq)]
@@ -11,4 +17,155 @@ pub enum L2Mapping {
     Compressed { host: HostOffset, sectors: u64 },
     /// The image says nothing of it: the backing disk shows, or zeros.
     Uncovered,
+}
+
+pub(crate) const COMPRESSED: u64 = 1 << 62;
+
+pub(crate) const COPIED: u64 = 1 << 63;
+
+pub(crate) const ZERO: u64 = 1;
+
+const HOST_OFFSET: u64 = 0x00ff_ffff_ffff_fe00;
+
+/// The bits of an entry that are a host offset.
+pub(crate) fn host_offset(entry: u64) -> u64
+    ensures value { result ≡ host_offset_of entry }
+    ensures reach { result ≤ greatest_offset }
+{
+    entry & HOST_OFFSET
+}
+
+pub(crate) fn is_copied(entry: u64) -> bool
+    ensures { result ≡ has_bit entry 63 }
+{
+    entry & COPIED != 0
+}
+
+fn is_compressed(entry: u64) -> bool
+    ensures { result ≡ has_bit entry 62 }
+{
+    entry & COMPRESSED != 0
+}
+
+fn is_zero(entry: u64) -> bool
+    ensures { result ≡ has_bit entry 0 }
+{
+    entry & ZERO != 0
+}
+
+/// Where compressed data begin, and the number of their sectors.
+fn compressed_range(entry: u64, cluster_bits: u32) -> (u64, u64)
+    requires low { 9 ≤ cluster_bits }
+    requires high { cluster_bits ≤ 21 }
+    ensures place { result.0 ≡ bits_of 0 (sectors_bit cluster_bits - 1) entry }
+    ensures sectors { result.1 ≡ bits_of (sectors_bit cluster_bits) 61 entry + 1 }
+    ensures near { (result.0 < 2 ^ 61) × (0 < result.1) × (result.1 ≤ 2 ^ 14) }
+{
+    let sectors_bit = 62 - (cluster_bits - 8);
+    let place = entry & ((1 << sectors_bit) - 1);
+    let further = (entry & (COMPRESSED - 1)) >> sectors_bit;
+    (place, further + 1)
+}
+
+/// The clusters from one byte's to another's.
+fn run_of_bytes(first: u64, last: u64, cluster_bits: u32) -> (HostCluster, ClusterCount)
+    requires bits { cluster_bits < 64 }
+    requires order { first ≤ last }
+    requires near { last < 2 ^ 63 }
+    ensures first { result.0 ≡ first / 2 ^ cluster_bits }
+    ensures count { result.1 ≡ last / 2 ^ cluster_bits - first / 2 ^ cluster_bits + 1 }
+{
+    let first = HostOffset::new(first).cluster(cluster_bits);
+    let last = HostOffset::new(last).cluster(cluster_bits);
+    (first, last - first + ClusterCount::new(1))
+}
+
+impl L2Mapping {
+    /// What an L2 entry says.
+    #[tactic(auto, unfolding(crate::specs::Cover::cover_of))]
+    pub(crate) fn of_entry(
+        entry: u64,
+        cluster_bits: u32,
+        has_zero_bit: bool,
+        data_is_external: bool,
+    ) -> L2Mapping
+        requires low { 9 ≤ cluster_bits }
+        requires high { cluster_bits ≤ 21 }
+        ensures value { result ≡ cover_of cluster_bits has_zero_bit data_is_external entry }
+        ensures reach { IsInReach result }
+    {
+        if is_compressed(entry) {
+            let (place, sectors) = compressed_range(entry, cluster_bits);
+            let host = HostOffset::new(place);
+            return L2Mapping::Compressed { host, sectors };
+        }
+        let host = HostOffset::new(host_offset(entry));
+        let copied = is_copied(entry);
+        let has_host = host.value() != 0 || (data_is_external && copied);
+        if has_zero_bit && is_zero(entry) {
+            let kept = if has_host { Some((host, copied)) } else { None };
+            L2Mapping::Zero { kept }
+        } else if has_host {
+            L2Mapping::Data { host, copied }
+        } else {
+            L2Mapping::Uncovered
+        }
+    }
+
+    /// The host clusters that it names: the first, and how many.
+    pub fn host_clusters(self, cluster_bits: u32) -> Option<(HostCluster, ClusterCount)>
+        requires bits { cluster_bits < 64 }
+        requires reach { IsInReach self }
+        ensures { result ≡ named_run cluster_bits self }
+    {
+        match self {
+            L2Mapping::Data { host, .. } => Some((
+                host.cluster(cluster_bits),
+                ClusterCount::new(1),
+            )),
+            L2Mapping::Zero { kept } => {
+                let (host, _) = kept?;
+                Some((host.cluster(cluster_bits), ClusterCount::new(1)))
+            }
+            L2Mapping::Compressed { host, sectors } => {
+                let first = host.value();
+                let last = (first / 512 + sectors) * 512 - 1;
+                Some(run_of_bytes(first, last, cluster_bits))
+            }
+            L2Mapping::Uncovered => None,
+        }
+    }
+
+    /// The host clusters that are named no longer where another stands for it.
+    pub(crate) fn dropped_for(
+        self,
+        new: L2Mapping,
+        cluster_bits: u32,
+    ) -> Option<(HostCluster, ClusterCount)>
+        requires bits { cluster_bits < 64 }
+        requires reach { IsInReach self }
+        requires new_reach { IsInReach new }
+        ensures { result ≡ dropped_run cluster_bits self new }
+    {
+        let (first, count) = self.host_clusters(cluster_bits)?;
+        match new.host_clusters(cluster_bits) {
+            Some((new_first, new_count)) if new_first == first && new_count == count => None,
+            _ => Some((first, count)),
+        }
+    }
+
+    /// Whether the host offset of its data, or one that it keeps, is on a cluster.
+    pub(crate) fn has_aligned_host(&self, cluster_bits: u32) -> bool
+        requires { cluster_bits < 64 }
+        ensures { IsTrue result ↔ HasAlignedHost cluster_bits self.now }
+    {
+        match *self {
+            L2Mapping::Data { host, .. } => host.in_cluster_offset(cluster_bits) == 0,
+            L2Mapping::Zero { kept } => match kept {
+                Some((host, _)) => host.in_cluster_offset(cluster_bits) == 0,
+                None => true,
+            },
+            L2Mapping::Compressed { .. } | L2Mapping::Uncovered => true,
+        }
+    }
 }

@@ -121,7 +121,8 @@ impl HostCluster {
     /// Which count of its refblock is its own.
     pub fn rb_index(self, rb_bits: u32) -> usize
         requires { rb_bits < 64 }
-        ensures { result ≡ self % 2 ^ rb_bits }
+        ensures value { result ≡ self % 2 ^ rb_bits }
+        ensures within { result < 2 ^ rb_bits }
     {
         (self.index % (1 << rb_bits)) as usize
     }
@@ -268,7 +269,8 @@ impl GuestOffset {
     pub fn l2_index(self, cluster_bits: u32) -> usize
         requires low { 3 ≤ cluster_bits }
         requires high { cluster_bits < 64 }
-        ensures { result ≡ self / 2 ^ cluster_bits % (2 ^ cluster_bits / 8) }
+        ensures value { result ≡ self / 2 ^ cluster_bits % (2 ^ cluster_bits / 8) }
+        ensures within { result < 2 ^ cluster_bits / 8 }
     {
         self.cluster(cluster_bits).l2_index(cluster_bits)
     }
@@ -325,7 +327,8 @@ impl GuestCluster {
     pub fn l2_index(self, cluster_bits: u32) -> usize
         requires low { 3 ≤ cluster_bits }
         requires high { cluster_bits < 64 }
-        ensures { result ≡ self % (2 ^ cluster_bits / 8) }
+        ensures value { result ≡ self % (2 ^ cluster_bits / 8) }
+        ensures within { result < 2 ^ cluster_bits / 8 }
     {
         (self.index % entries_per_cluster(cluster_bits)) as usize
     }

@@ -4,7 +4,7 @@ use Rattle.std.proofs.Common.{◌≡◌, ◌+◌, ◌-◌, ◌^◌, ◌≤◌, B
 use Rattle.std.specs.Cmp.{IsEquivalence}
 use Rattle.std.specs.List.{AllByRecursion, IsDistinct}
 use Rattle.std.proofs.lemmas.Option.{none-some}
-use Rattle.std.specs.Option.{option_map_or, option_or, option_map, is_some}
+use Rattle.std.specs.Option.{option_map_or, option_or, option_map, is_some, IsSome}
 use Rattle.std.specs.Map.{keys_of, lookup, lookup_entry, remove_entry, set_value}
 use Rattle.std.proofs.lemmas.Bool.Decides.{nat_tests}
 use Rattle.lru.specs.LruCache.{promoted, demoted}
@@ -28,6 +28,9 @@ is_pinned-false s h = rw h refl
 pub none_of : {X : Type 0} {o : Option X} → false ≡ is_some o → o ≡ None
 none_of {o = None} h = refl
 none_of {o = Some x} h = cc
+
+pub none_is_none : {X : Type 0} {o : Option X} → o ≡ None → IsSome o → ⊥
+none_is_none h g = let i = rw h at g in cc
 
 none_back : {X Y : Type 0} (f : X → Y) (o : Option X) → option_map f o ≡ None → o ≡ None
 none_back f None h = refl

@@ -10,7 +10,7 @@ use Rattle.qcow2_alloc.specs.declared.async_lru_cache.slot.Slot.{Slot}
 use Rattle.qcow2_alloc.specs.AsyncLruCacheBackend.{Steps}
 use Rattle.qcow2_alloc.specs.CacheAnswers.{FlushesEntry}
 use Rattle.qcow2_alloc.specs.CachedEntries.{FlushesFound}
-use Rattle.qcow2_alloc.proofs.CachedEntries.Lists.{entry_none, lookup-from_entry, lookup_front, set_front, length-remove_found}
+use Rattle.qcow2_alloc.proofs.CachedEntries.Lists.{none_is_none, entry_none, lookup-from_entry, lookup_front, set_front, length-remove_found}
 
 pub some_of : {X : Type 0} (o : Option X) → IsSome o → (x : X) × (o ≡ Some x)
 some_of None h = cc
@@ -19,9 +19,6 @@ some_of (Some x) h = (x, refl)
 pub is_some_mapped : {X Y : Type 0} (f : X → Y) (o : Option X) (y : Y) → option_map f o ≡ Some y → IsSome o
 is_some_mapped f None y h = absurd (none-some y h)
 is_some_mapped f (Some x) y h = refl
-
-none_is_none : {X : Type 0} {o : Option X} → o ≡ None → IsSome o → ⊥
-none_is_none h g = let i = rw h at g in cc
 
 take_all : {X : Type 0} (n : ℕ) (xs : List X) → length xs ≤ n → take n xs ≡ xs
 take_all n xs h = grind (arith, common_steps)

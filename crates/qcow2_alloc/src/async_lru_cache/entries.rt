@@ -1,5 +1,6 @@
 //! Work on the entries of a cache.
 ghost use Rattle.std.specs.Prelude.{◌≡◌, ◌-◌, ◌<◌, ◌≤◌, ◌^◌, length, option_map, All, IsSome, IfOk, OnErr, IfSome, Ok, None, true, false};
+ghost use Rattle.std.specs.List.{IsDistinct};
 ghost use Rattle.std.specs.Map.{keys_of, lookup, lookup_entry, remove_entry};
 ghost use Rattle.std.specs.Result.{result_err};
 ghost use Rattle.lru.specs.LruCache.{lru_cache};
@@ -53,6 +54,7 @@ pub(crate) fn make_room<B: AsyncLruCacheBackend>(
     may_flush: bool,
 ) -> Result<bool, CacheError<B::Key, B::Error>>
     requires { length entries.old.entries ≤ size }
+    ensures distinct { IsDistinct B.Key.eq (keys_of entries.old.entries) }
     ensures room { MakesRoom (B.steps backend.now) B.Key.eq size may_flush store.old entries.old.entries result store.new entries.new.entries }
     ensures space { result ≡ Ok true → length entries.new.entries < size }
     ensures fits { length entries.new.entries ≤ size }
@@ -86,6 +88,7 @@ pub(crate) fn load_new<B: AsyncLruCacheBackend>(
     requires fits { length entries.old.entries ≤ size }
     requires unbounded { entries.old.cap ≡ 2 ^ 64 - 1 }
     requires missing { lookup (B.Key.eq key) entries.old.entries ≡ None }
+    ensures distinct { IsDistinct B.Key.eq (keys_of entries.old.entries) }
     ensures loads { GetsNew (B.steps backend.now) B.Key.eq size may_flush key store.old entries.old.entries result store.new entries.new.entries }
     ensures fits { length entries.new.entries ≤ size }
     ensures cap { entries.new.cap ≡ entries.old.cap }
@@ -119,6 +122,7 @@ pub(crate) fn insert_new<B: AsyncLruCacheBackend>(
     requires unbounded { entries.old.cap ≡ 2 ^ 64 - 1 }
     requires missing { lookup (B.Key.eq key) entries.old.entries ≡ None }
     requires there { IsSome value.old }
+    ensures distinct { IsDistinct B.Key.eq (keys_of entries.old.entries) }
     ensures inserts { IfSome value.old (λ v.
         InsertsNew (B.steps backend.now) B.Key.eq size may_flush key v store.old entries.old.entries result store.new entries.new.entries value.new) }
     ensures fits { length entries.new.entries ≤ size }
@@ -181,6 +185,7 @@ pub(crate) fn flush_all<B: AsyncLruCacheBackend>(
     store: &mut B::Store,
     entries: &mut LruCache<B::Key, Slot<B::Value>>,
 ) -> Option<B::Error>
+    ensures distinct { IsDistinct B.Key.eq (keys_of entries.old.entries) }
     ensures flushed { FlushesAll (B.steps backend.now) store.old entries.old.entries result store.new entries.new.entries }
     ensures cap { entries.new.cap ≡ entries.old.cap }
 {

@@ -72,17 +72,14 @@ impl AsyncLruCacheBackend for Pages {
         drop(value);
     }
 
-    ghost load_gives = { λ b s t k v h. h };
-
-    ghost load_reads = { λ b s t k v h honest. absurd honest };
-
-    ghost failed_load_keeps = { λ b s t k e h honest. absurd honest };
-
-    ghost flush_cleans = { λ b s t k v w h. (h.0, ap (λ n. n ∷ []) h.1) };
-
-    ghost flush_writes = { λ b s t k v w h honest. absurd honest };
-
-    ghost failed_flush_keeps = { λ b s t k v e h honest. absurd honest };
+    ghost lawful = { λ b. record {
+        load_gives = λ s t k v h. h;
+        load_reads = λ s t k v h honest. absurd honest;
+        failed_load_keeps = λ s t k e h honest. absurd honest;
+        flush_cleans = λ s t k v w h. (h.0, ap (λ n. n ∷ []) h.1);
+        flush_writes = λ s t k v w h honest. absurd honest;
+        failed_flush_keeps = λ s t k v e h honest. absurd honest;
+    } };
 }
 
 type Answer = Result<bool, CacheError<u32, u32>>;

@@ -1,5 +1,6 @@
-use Rattle.std.proofs.Common.{◌≡◌, None, sym, ◌∙◌}
+use Rattle.std.proofs.Common.{◌≡◌, None, not, sym, ap, ◌∙◌}
 use Rattle.std.specs.Map.{lookup}
+use Rattle.qcow2_alloc.proofs.CachedEntries.Knowing.{inserted, replaced}
 use Rattle.qcow2_alloc.proofs.CachedEntries.Lists.{none_of, entry_none}
 use Rattle.qcow2_alloc.proofs.async_lru_cache.AsyncLruCache.insert.Goals as goal
 
@@ -9,3 +10,25 @@ returns-clause-there g c =
     let es = c.self.inside.entries.entries in
     let m : lookup test es ≡ None = none_of (sym (c.if-contains.false) ∙ c.contains.ensures) in
     rw (← c.self.view_is) (rw (entry_none test es m) tt)
+
+pub returns-then-contains-clause-laid : goal.returns-then-contains-clause-laid
+returns-then-contains-clause-laid g c =
+    let h = replaced g.met.B.Key.Eq.laws (g.met.B.AsyncLruCacheBackend.lawful c.self.inside.backend) c.args.may_flush c.args.key c.args.value.now c.args.store.now c.replace_entry.new.store c.self.inside.entries.entries c.replace_entry.new.entries.entries c.replace_entry.new.value c.replace_entry.result (sym c.contains.ensures ∙ c.if-contains.true) (c.is_none.ensures ∙ ap not c.if-is_none.false) c.replace_entry.ensures.replaces in
+    rw (← c.self.view_is) h.laid
+
+pub returns-then-contains-clause-known : goal.returns-then-contains-clause-known
+returns-then-contains-clause-known g c =
+    let h = replaced g.met.B.Key.Eq.laws (g.met.B.AsyncLruCacheBackend.lawful c.self.inside.backend) c.args.may_flush c.args.key c.args.value.now c.args.store.now c.replace_entry.new.store c.self.inside.entries.entries c.replace_entry.new.entries.entries c.replace_entry.new.value c.replace_entry.result (sym c.contains.ensures ∙ c.if-contains.true) (c.is_none.ensures ∙ ap not c.if-is_none.false) c.replace_entry.ensures.replaces in
+    rw (← c.self.view_is) h.known
+
+pub returns-clause-laid : goal.returns-clause-laid
+returns-clause-laid g c =
+    let m = none_of (sym (c.if-contains.false) ∙ c.contains.ensures) in
+    let h = inserted g.met.B.Key.Eq.laws (g.met.B.AsyncLruCacheBackend.lawful c.self.inside.backend) c.self.inside.size c.args.may_flush c.args.key c.args.value.now c.args.store.now c.insert_new.new.store c.self.inside.entries.entries c.insert_new.new.entries.entries c.insert_new.new.value c.insert_new.result c.insert_new.ensures.distinct m (c.is_none.ensures ∙ ap not c.if-is_none.false) c.insert_new.ensures.inserts in
+    rw (← c.self.view_is) h.laid
+
+pub returns-clause-known : goal.returns-clause-known
+returns-clause-known g c =
+    let m = none_of (sym (c.if-contains.false) ∙ c.contains.ensures) in
+    let h = inserted g.met.B.Key.Eq.laws (g.met.B.AsyncLruCacheBackend.lawful c.self.inside.backend) c.self.inside.size c.args.may_flush c.args.key c.args.value.now c.args.store.now c.insert_new.new.store c.self.inside.entries.entries c.insert_new.new.entries.entries c.insert_new.new.value c.insert_new.result c.insert_new.ensures.distinct m (c.is_none.ensures ∙ ap not c.if-is_none.false) c.insert_new.ensures.inserts in
+    rw (← c.self.view_is) h.known

@@ -13,6 +13,7 @@ returns-in-Ok-put g c =
     let room = room_at steps eq c.args.size c.args.may_flush c.args.store.now es c.make_room.result c.in-Ok-true.field-0 c.make_room.new.store m.entries c.make_room.ensures.room c.in-Ok-true.is c.in-Ok-true.field-0-test in
     let gone = room_missing steps eq c.args.size c.args.may_flush c.args.key c.args.store.now es c.make_room.new.store m.entries room c.requires.missing in
     let p = put_new eq c.args.size m c.args.key (slot_of c.in-Ok.value 0) gone (c.make_room.ensures.space (c.in-Ok-true.is ∙ ap (λ y. Ok y) c.in-Ok-true.field-0-test)) c.ranges.size.fits (c.make_room.ensures.cap ∙ c.requires.unbounded) c.put.new.self c.in-Ok-put.ensures.entries in record {
+      distinct = c.make_room.ensures.distinct;
       loads = (c.make_room.new.store, m.entries, c.in-Ok.value, room, c.in-Ok.ensures.ok, p.entries);
       fits = p.fits;
       cap = ap (λ x. x.cap) c.in-Ok-put.ensures.entries ∙ c.make_room.ensures.cap;

@@ -13,6 +13,7 @@ returns-in-Err g c =
     let r = room_refused (g.B.AsyncLruCacheBackend.steps c.args.backend.now) g.B.Key.PartialEq.eq c.args.size c.args.may_flush c.args.store.now c.args.entries.now
     (record { full = omega (arith, c.len.ensures.len, c.if-len-size.false); may = c.if-not-may_flush.false })
     c.in-Some.key o c.flush_entry.new.store c.flush_entry.new.entries c.in-Err.failure c.in-Err.ensures in record {
+      distinct = c.len.ensures.valid.0;
       room = r.room;
       space = λ h. cc;
       fits = let len = ap (λ m. length m.entries) r.same in omega (arith, len, c.requires);
@@ -25,6 +26,7 @@ returns g c =
     let r = room_made (g.B.AsyncLruCacheBackend.steps c.args.backend.now) g.B.Key.PartialEq.eq c.args.size c.args.may_flush c.args.store.now c.args.entries.now
     (record { full = omega (arith, c.len.ensures.len, c.if-len-size.false); may = c.if-not-may_flush.false })
     c.in-Some.key o c.flush_entry.new.store c.flush_entry.new.entries c.requires c.in_default-flush_entry.ensures c.pop.new.self c.pop.ensures.entries in record {
+      distinct = c.len.ensures.valid.0;
       room = r.room;
       space = λ _. r.space;
       fits = omega (arith, r.space);

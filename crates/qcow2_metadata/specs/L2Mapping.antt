@@ -1,0 +1,60 @@
+-- What an L2 entry says: the bounds of its numbers, and the host clusters that it names.
+use Rattle.std.specs.Prelude.{ℕ, ◌+◌, ◌-◌, ◌*◌, ◌/◌, ◌%◌, ◌^◌, ◌≡◌, ◌<◌, ◌≤◌, ⊤, Bool, true, false, ◌==◌, ◌&&◌, Option, Some, None, if◌then◌else◌}
+use Rattle.qcow2_metadata.specs.declared.l2_mapping.L2Mapping.{L2Mapping}
+use Rattle.qcow2_metadata.specs.declared.l2_mapping.L2Mapping.TheVariants.{Data, Zero, Compressed, Uncovered}
+
+-- the greatest offset of a host cluster
+abbrev pub greatest_offset : ℕ
+greatest_offset = 0x00fffffffffffe00
+
+-- an L2 entry or an L1 entry can hold the place where the cluster begins
+abbrev pub IsHostCluster : ℕ → ℕ → Type 0
+IsHostCluster cluster_bits cluster = cluster * 2 ^ cluster_bits ≤ greatest_offset
+
+abbrev pub KeptIsInReach : Option (ℕ × Bool) → Type 0
+KeptIsInReach None = ⊤
+KeptIsInReach (Some k) = k.0 ≤ greatest_offset
+
+-- its numbers are such as an entry holds
+abbrev pub IsInReach : L2Mapping → Type 0
+IsInReach (Data host copied) = host ≤ greatest_offset
+IsInReach (Zero kept) = KeptIsInReach kept
+IsInReach (Compressed place sectors) = (place < 2 ^ 61) × (0 < sectors) × (sectors ≤ 2 ^ 14)
+IsInReach Uncovered = ⊤
+
+abbrev pub KeptIsAligned : ℕ → Option (ℕ × Bool) → Type 0
+KeptIsAligned cluster_bits None = ⊤
+KeptIsAligned cluster_bits (Some k) = k.0 % 2 ^ cluster_bits ≡ 0
+
+-- the host offset of data, or one that is kept, is on a cluster
+abbrev pub HasAlignedHost : ℕ → L2Mapping → Type 0
+HasAlignedHost cluster_bits (Data host copied) = host % 2 ^ cluster_bits ≡ 0
+HasAlignedHost cluster_bits (Zero kept) = KeptIsAligned cluster_bits kept
+HasAlignedHost cluster_bits (Compressed place sectors) = ⊤
+HasAlignedHost cluster_bits Uncovered = ⊤
+
+-- the clusters from the first byte's to the last one's: the first, and how many
+abbrev pub run_of_bytes : ℕ → ℕ → ℕ → Option (ℕ × ℕ)
+run_of_bytes cluster_bits first last = Some (first / 2 ^ cluster_bits, last / 2 ^ cluster_bits - first / 2 ^ cluster_bits + 1)
+
+abbrev pub kept_run : ℕ → Option (ℕ × Bool) → Option (ℕ × ℕ)
+kept_run cluster_bits None = None
+kept_run cluster_bits (Some k) = Some (k.0 / 2 ^ cluster_bits, 1)
+
+-- the host clusters that it names: the first, and how many. What is compressed names each cluster that its sectors touch.
+abbrev pub named_run : ℕ → L2Mapping → Option (ℕ × ℕ)
+named_run cluster_bits (Data host copied) = Some (host / 2 ^ cluster_bits, 1)
+named_run cluster_bits (Zero kept) = kept_run cluster_bits kept
+named_run cluster_bits (Compressed place sectors) = run_of_bytes cluster_bits place ((place / 512 + sectors) * 512 - 1)
+named_run cluster_bits Uncovered = None
+
+abbrev pub is_same_run : Option (ℕ × ℕ) → Option (ℕ × ℕ) → Bool
+is_same_run None None = true
+is_same_run None (Some new) = false
+is_same_run (Some old) None = false
+is_same_run (Some old) (Some new) = old.0 == new.0 && old.1 == new.1
+
+-- the host clusters that are named no longer where new stands for old
+abbrev pub dropped_run : ℕ → L2Mapping → L2Mapping → Option (ℕ × ℕ)
+dropped_run cluster_bits old new =
+    if is_same_run (named_run cluster_bits old) (named_run cluster_bits new) then None else named_run cluster_bits old
