@@ -279,6 +279,14 @@ impl L2Table {
         self.replace(index, 0)
     }
 
+    /// The binary logarithm of its size in bytes.
+    pub fn cluster_bits(&self) -> u32
+        ensures value { result ≡ self.now.cluster_bits }
+        ensures whole { IsL2Table self.now }
+    {
+        self.cluster_bits
+    }
+
     pub fn is_modified(&self) -> bool
         ensures value { result ≡ self.now.is_modified }
         ensures whole { IsL2Table self.now }
