@@ -1,95 +1,261 @@
 //! The caches of L2 tables and of refblocks, and which of them has to be written first.
-ghost use Rattle.std.specs.Prelude.{◌≡◌};
+ghost use Rattle.std.specs.Prelude.{◌≡◌, IsSome};
 
-use crate::async_lru_cache::AsyncLruCacheBackend;
-use crate::{ImageStorage, WriteKind};
+mod backends;
+
+use crate::async_lru_cache::AsyncLruCache;
+use crate::{ImageError, ImageStorage};
+pub use backends::{L2CacheBackend, RefBlockCacheBackend};
 use image_access::Storage;
-use qcow2_metadata::{Header, HostCluster, MetadataError, RefBlock};
-use std::alloc::Global;
-use std::marker::PhantomData;
+use qcow2_metadata::{ClusterCount, Header, HostCluster, L2Table, RefBlock};
+use std::alloc::{AllocError, Global};
 
-/// Loads and flushes refblocks.
-#[derive(Drop)]
-pub struct RefBlockCacheBackend<S> {
-    header: Header,
-    storage: PhantomData<S>,
+/// Which cache has to be written before the other one may be.
+#[derive(Clone, Copy, Debug, PartialEq, Eq)]
+pub enum Direction {
+    None,
+    L2DependsOnRb,
+    RbDependsOnL2,
 }
 
-impl<S: Storage> AsyncLruCacheBackend for RefBlockCacheBackend<S> {
-    ghost use Rattle.std.specs.Prelude.{◌≡◌, ◌*◌, ◌^◌, ⊤};
-    ghost use Rattle.std.proofs.Common.{ap, refl};
-    ghost use Rattle.image_access.specs.Contents.{bytes_at};
-    ghost use Rattle.qcow2_metadata.specs.RefBlock.{RefBlockView};
-    ghost use Rattle.qcow2_alloc.specs.ImageStorage.{storage_of};
-    ghost use Rattle.qcow2_alloc.specs.TableCaches.{rb_steps, cleared_rb};
-    ghost use Rattle.qcow2_alloc.specs.TableLaws.{loaded_reads, failed_load_keeps as failed_load, flush_writes as flush_lays, failed_flush_keeps as failed_flush};
+/// The L2 tables and refblocks that are loaded. Those that are modified are written at a flush, or as others need their place.
+#[derive(Drop)]
+pub struct MetadataCaches<S: Storage> {
+    l2: AsyncLruCache<L2CacheBackend<S>>,
+    rb: AsyncLruCache<RefBlockCacheBackend<S>>,
+    direction: Direction,
+    is_changed: bool,
+}
 
-    type Key = HostCluster;
-
-    type Value = RefBlock;
-
-    type Error = MetadataError;
-
-    type Store = ImageStorage<S>;
-
-    ghost steps = { λ b. rb_steps (λ s. S.view (storage_of s)) b.header.fields.cluster_bits };
-
-    ghost evicted = { λ _ _ _. ⊤ };
-
-    ghost is_honest = { λ s. (S.view (storage_of s)).is_honest };
-
-    ghost stored = { λ b s k. bytes_at (S.view (storage_of s)).contents (k * 2 ^ b.header.fields.cluster_bits) (2 ^ b.header.fields.cluster_bits) };
-
-    ghost bytes = { λ v. v.bytes };
-
-    ghost is_modified = { λ v. v.is_modified };
-
-    fn load(
-        &self,
+impl<S: Storage> MetadataCaches<S> {
+    /// Empty caches for so many tables and refblocks at most.
+    pub fn new(
         alloc: Global,
-        store: &mut ImageStorage<S>,
-        key: HostCluster,
-    ) -> Result<RefBlock, MetadataError> {
-        if key.checked_offset(self.header.cluster_bits()).is_none() {
-            return Err(MetadataError::Limit);
-        }
-        RefBlock::load(alloc, store, &self.header, key)
+        header: &Header,
+        l2_entries: usize,
+        rb_entries: usize,
+    ) -> Result<Self, AllocError> {
+        let l2 = AsyncLruCache::new(alloc, L2CacheBackend::new(header), l2_entries)?;
+        let rb = AsyncLruCache::new(alloc, RefBlockCacheBackend::new(header), rb_entries)?;
+        Ok(MetadataCaches {
+            l2,
+            rb,
+            direction: Direction::None,
+            is_changed: false,
+        })
     }
 
-    fn flush(
-        &self,
-        store: &mut ImageStorage<S>,
-        key: HostCluster,
-        value: &mut RefBlock,
-    ) -> Result<(), MetadataError> {
-        if !value.is_modified() {
-            value.clear_modified();
+    /// From here on refblocks are written before L2 tables.
+    pub fn l2_depends_on_rb(&mut self, storage: &mut ImageStorage<S>) -> Result<(), ImageError> {
+        if let Direction::RbDependsOnL2 = self.direction {
+            self.l2.flush(storage)?;
+        }
+        self.direction = Direction::L2DependsOnRb;
+        Ok(())
+    }
+
+    /// From here on L2 tables are written before refblocks.
+    pub fn rb_depends_on_l2(&mut self, storage: &mut ImageStorage<S>) -> Result<(), ImageError> {
+        if let Direction::L2DependsOnRb = self.direction {
+            self.rb.flush(storage)?;
+        }
+        self.direction = Direction::RbDependsOnL2;
+        Ok(())
+    }
+
+    /// Writes both caches, in the order that the direction asks for.
+    pub fn flush_all(&mut self, storage: &mut ImageStorage<S>) -> Result<(), ImageError> {
+        match self.direction {
+            Direction::L2DependsOnRb => {
+                self.rb.flush(storage)?;
+                self.l2.flush(storage)?;
+            }
+            Direction::None | Direction::RbDependsOnL2 => {
+                self.l2.flush(storage)?;
+                self.rb.flush(storage)?;
+            }
+        }
+        Ok(())
+    }
+
+    /// Writes the refblocks, and the L2 tables before them where the direction asks for it.
+    pub fn flush_rb(&mut self, storage: &mut ImageStorage<S>) -> Result<(), ImageError> {
+        if let Direction::RbDependsOnL2 = self.direction {
+            self.l2.flush(storage)?;
+        }
+        self.rb.flush(storage)?;
+        Ok(())
+    }
+
+    // What has to be written before an L2 table goes.
+    fn before_l2(&mut self, storage: &mut ImageStorage<S>) -> Result<(), ImageError> {
+        if let Direction::L2DependsOnRb = self.direction {
+            self.rb.flush(storage)?;
+        }
+        Ok(())
+    }
+
+    // What has to be written before a refblock goes.
+    fn before_rb(&mut self, storage: &mut ImageStorage<S>) -> Result<(), ImageError> {
+        if let Direction::RbDependsOnL2 = self.direction {
+            self.l2.flush(storage)?;
+        }
+        Ok(())
+    }
+
+    /// Brings the L2 table of a cluster to the front, loading it where it isn't there.
+    pub fn l2_get_or_insert(
+        &mut self,
+        storage: &mut ImageStorage<S>,
+        cluster: HostCluster,
+    ) -> Result<(), ImageError> {
+        if self.l2.get_or_insert(storage, cluster, false)? {
             return Ok(());
         }
-        if value.cluster_bits() != self.header.cluster_bits() {
-            return Err(MetadataError::Format);
+        self.before_l2(storage)?;
+        self.l2.get_or_insert(storage, cluster, true)?;
+        Ok(())
+    }
+
+    /// Brings the refblock of a cluster to the front, loading it where it isn't there.
+    pub fn rb_get_or_insert(
+        &mut self,
+        storage: &mut ImageStorage<S>,
+        cluster: HostCluster,
+    ) -> Result<(), ImageError> {
+        if self.rb.get_or_insert(storage, cluster, false)? {
+            return Ok(());
         }
-        if key.checked_offset(value.cluster_bits()).is_none() {
-            return Err(MetadataError::Limit);
+        self.before_rb(storage)?;
+        self.rb.get_or_insert(storage, cluster, true)?;
+        Ok(())
+    }
+
+    /// Puts an L2 table to the front, in the place of one that is there for its cluster.
+    pub fn l2_insert(
+        &mut self,
+        storage: &mut ImageStorage<S>,
+        table: L2Table,
+    ) -> Result<(), ImageError>
+        requires { IsSome table.cluster }
+    {
+        let Some(cluster) = table.get_cluster() else {
+            unreachable!();
+        };
+        let mut table = Some(table);
+        if self.l2.insert(storage, cluster, &mut table, false)? {
+            return Ok(());
         }
-        store.will_write(WriteKind::RefBlock);
-        match value.write_if_modified(store, key) {
-            Ok(()) => Ok(()),
-            Err(e) => Err(MetadataError::Storage(e)),
+        self.before_l2(storage)?;
+        self.l2.insert(storage, cluster, &mut table, true)?;
+        Ok(())
+    }
+
+    /// Puts a refblock to the front, in the place of one that is there for its cluster.
+    pub fn rb_insert(
+        &mut self,
+        storage: &mut ImageStorage<S>,
+        block: RefBlock,
+    ) -> Result<(), ImageError>
+        requires { IsSome block.cluster }
+    {
+        let Some(cluster) = block.get_cluster() else {
+            unreachable!();
+        };
+        let mut block = Some(block);
+        if self.rb.insert(storage, cluster, &mut block, false)? {
+            return Ok(());
+        }
+        self.before_rb(storage)?;
+        self.rb.insert(storage, cluster, &mut block, true)?;
+        Ok(())
+    }
+
+    /// The L2 table of a cluster, where it is held.
+    pub fn l2_peek(&self, cluster: HostCluster) -> Option<&L2Table> {
+        self.l2.peek(cluster)
+    }
+
+    /// The refblock of a cluster, where it is held.
+    pub fn rb_peek(&self, cluster: HostCluster) -> Option<&RefBlock> {
+        self.rb.peek(cluster)
+    }
+
+    /// Keeps an L2 table in the cache: false where it isn't there, or at the greatest count of pins.
+    pub fn l2_pin(&mut self, cluster: HostCluster) -> bool {
+        self.l2.pin(cluster)
+    }
+
+    /// Takes a pin off: false where there is none.
+    pub fn l2_unpin(&mut self, cluster: HostCluster) -> bool {
+        self.l2.unpin(cluster)
+    }
+
+    /// Drops a refblock unwritten: false where it isn't there or is pinned.
+    pub fn rb_remove(&mut self, cluster: HostCluster) -> bool {
+        self.rb.remove(cluster)
+    }
+
+    /// Whether an L2 table is held and has a pin.
+    pub fn l2_is_pinned(&mut self, cluster: HostCluster) -> bool {
+        self.l2.unpin(cluster) && self.l2.pin(cluster)
+    }
+
+    /// From here on it is noted anew whether a table is changed.
+    pub fn begin(&mut self) {
+        self.is_changed = false;
+    }
+
+    /// Whether a table was changed since the last `begin`.
+    pub fn is_changed(&self) -> bool {
+        self.is_changed
+    }
+
+    /// Makes an entry of a held L2 table copied data at a host cluster. Answers the host clusters that it names no longer.
+    pub fn l2_map_cluster(
+        &mut self,
+        cluster: HostCluster,
+        index: usize,
+        host: HostCluster,
+    ) -> Option<(HostCluster, ClusterCount)> {
+        let table = self.l2.peek_mut(cluster)?;
+        let bits = table.cluster_bits();
+        if index >= table.entries() || !host.is_nameable(bits) {
+            return None;
+        }
+        self.is_changed = true;
+        table.map_cluster(index, host)
+    }
+
+    /// Whether a count of a held refblock is 0.
+    pub fn rb_is_zero(&self, cluster: HostCluster, index: usize) -> bool {
+        match self.rb.peek(cluster) {
+            Some(block) => index < block.counts() && block.is_zero(index),
+            None => false,
         }
     }
 
-    fn evict(&self, _key: HostCluster, _value: RefBlock) {}
+    /// Counts a cluster of a held refblock once more. False at the greatest count.
+    pub fn rb_increment(&mut self, cluster: HostCluster, index: usize) -> bool {
+        let Some(block) = self.rb.peek_mut(cluster) else {
+            return false;
+        };
+        if index >= block.counts() || !block.increment(index) {
+            return false;
+        }
+        self.is_changed = true;
+        true
+    }
 
-    ghost load_gives = { λ b s t k v h. h.unmodified };
-
-    ghost load_reads = { λ b s t k v h. loaded_reads (λ s. S.view (storage_of s)) b.header.fields.cluster_bits (λ (v : RefBlockView). v.bytes) (λ v. v.is_modified) cleared_rb s t k v h };
-
-    ghost failed_load_keeps = { λ b s t k e h. failed_load (λ s. S.view (storage_of s)) b.header.fields.cluster_bits (λ (v : RefBlockView). v.bytes) (λ v. v.is_modified) cleared_rb s t k e h };
-
-    ghost flush_cleans = { λ b s t k v w h. (ap (λ (v : RefBlockView). v.is_modified) h.clean, ap (λ (v : RefBlockView). v.bytes) h.clean) };
-
-    ghost flush_writes = { λ b s t k v w h. flush_lays (λ s. S.view (storage_of s)) b.header.fields.cluster_bits (λ (v : RefBlockView). v.bytes) (λ v. v.is_modified) cleared_rb s t k v w h };
-
-    ghost failed_flush_keeps = { λ b s t k v e h. failed_flush (λ s. S.view (storage_of s)) b.header.fields.cluster_bits (λ (v : RefBlockView). v.bytes) (λ v. v.is_modified) cleared_rb s t k v e h };
+    /// Counts a cluster of a held refblock once less. False at 0.
+    pub fn rb_decrement(&mut self, cluster: HostCluster, index: usize) -> bool {
+        let Some(block) = self.rb.peek_mut(cluster) else {
+            return false;
+        };
+        if index >= block.counts() || !block.decrement(index) {
+            return false;
+        }
+        self.is_changed = true;
+        true
+    }
 }

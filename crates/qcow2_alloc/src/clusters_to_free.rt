@@ -213,6 +213,16 @@ impl PendingClusters {
         self.node.entry.first_cluster
     }
 
+    /// The same run from another cluster on.
+    pub fn placed_at(self, first_cluster: HostCluster) -> PendingClusters
+        ensures { result ≡ record self { first_cluster = first_cluster } }
+    {
+        let PendingClusters { mut node } = self;
+        node.entry.first_cluster = first_cluster;
+        PendingClusters { node }
+    }
+
+    /// The clusters are named now, and stay.
     pub fn make_persistent(self) {
         let PendingClusters { node } = self;
         let_go(Some(node));

@@ -2,14 +2,18 @@
 #![tactic(auto)]
 
 pub mod async_lru_cache;
+mod allocation;
 mod cache;
 mod clusters_to_free;
 mod error;
+mod image_file;
 mod image_storage;
 
-pub use cache::RefBlockCacheBackend;
+pub use allocation::{Allocator, MAX_HOST_OFFSET};
+pub use cache::{Direction, L2CacheBackend, MetadataCaches, RefBlockCacheBackend};
 pub use clusters_to_free::{
     ClusterKind, ClustersToFreeEntry, ClustersToFreeList, PendingClusters, TakenClusters,
 };
 pub use error::ImageError;
+pub use image_file::ImageFile;
 pub use image_storage::{ImageStorage, WriteKind};

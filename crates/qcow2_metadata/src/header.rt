@@ -1,4 +1,4 @@
-ghost use Rattle.std.specs.Prelude.{◌≡◌, ◌+◌, ◌-◌, ◌*◌, ◌/◌, ◌^◌, ◌<◌, ◌≤◌, option_map, IfErr, OnOk, OnErr};
+ghost use Rattle.std.specs.Prelude.{◌≡◌, ◌+◌, ◌-◌, ◌*◌, ◌/◌, ◌^◌, ◌<◌, ◌≤◌, option_map, IfErr, OnOk, OnErr, None};
 ghost use Rattle.std.specs.String.{string_bytes};
 ghost use Rattle.qcow2_metadata.specs.Header.{IsInRange, IsWithinLimits, cluster_size as cluster_size_of, entries_per_cluster, reftable_entries as reftable_entries_of, counts_per_block, counts_bits, has_data_file as has_data_file_of, with_fields, with_size, with_l1_table, with_reftable, with_tables_of};
 
@@ -313,5 +313,17 @@ impl Header {
     {
         self.set_reftable(other.reftable_offset(), other.reftable_clusters())?;
         self.set_l1_table(other.l1_table_offset(), other.l1_table_entries())
+    }
+
+    /// The same numbers, for a header that has no use for names.
+    pub fn without_names(&self) -> Header
+        ensures { result ≡ record { fields = self.now.fields; backing_name = None; backing_format = None; data_file_name = None } }
+    {
+        Header {
+            fields: self.fields,
+            backing_name: None,
+            backing_format: None,
+            data_file_name: None,
+        }
     }
 }

@@ -287,6 +287,14 @@ impl L2Table {
         self.cluster_bits
     }
 
+    /// How many entries it has.
+    pub fn entries(&self) -> usize
+        ensures value { result ≡ entries_of self.now }
+        ensures whole { IsL2Table self.now }
+    {
+        (1usize << self.cluster_bits) / 8
+    }
+
     pub fn is_modified(&self) -> bool
         ensures value { result ≡ self.now.is_modified }
         ensures whole { IsL2Table self.now }

@@ -267,6 +267,14 @@ impl RefBlock {
         self.cluster_bits
     }
 
+    /// How many counts it has.
+    pub fn counts(&self) -> usize
+        ensures value { result ≡ counts_of self.now }
+        ensures whole { IsRefBlock self.now }
+    {
+        ((1usize << self.cluster_bits) * 8) >> self.refcount_order
+    }
+
     pub fn is_modified(&self) -> bool
         ensures value { result ≡ self.now.is_modified }
         ensures whole { IsRefBlock self.now }

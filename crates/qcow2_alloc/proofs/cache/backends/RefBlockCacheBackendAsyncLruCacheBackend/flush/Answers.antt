@@ -3,7 +3,7 @@ use Rattle.qcow2_metadata.specs.RefBlock.{RefBlockView}
 use Rattle.qcow2_alloc.specs.ImageStorage.{storage_of}
 use Rattle.qcow2_alloc.specs.TableCaches.{cleared_rb}
 use Rattle.qcow2_alloc.proofs.TableFlush.{write_fails}
-use Rattle.qcow2_alloc.proofs.cache.RefBlockCacheBackendAsyncLruCacheBackend.flush.Goals as goal
+use Rattle.qcow2_alloc.proofs.cache.backends.RefBlockCacheBackendAsyncLruCacheBackend.flush.Goals as goal
 
 pub returns-in-Err-clause-err : goal.returns-in-Err-clause-err
 returns-in-Err-clause-err g c =

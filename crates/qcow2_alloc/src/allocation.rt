@@ -1,0 +1,371 @@
+//! Taking clusters of the image's file.
+ghost use Rattle.std.specs.Prelude.{◌≡◌, ◌+◌, ◌*◌, ◌^◌, ◌<◌, ◌≤◌, IfOk, IsSome, IsTrue};
+ghost use Rattle.qcow2_metadata.specs.L2Mapping.{IsHostCluster};
+ghost use Rattle.qcow2_metadata.specs.EntryTable.{entry_count};
+
+use crate::{
+    ClusterKind, ClustersToFreeEntry, ClustersToFreeList, ImageError, ImageFile, PendingClusters,
+    WriteKind,
+};
+use image_access::Storage;
+use qcow2_metadata::{ClusterCount, HostCluster, RefBlock, RefTable};
+
+/// The greatest offset of a host cluster.
+pub const MAX_HOST_OFFSET: u64 = 0x00ff_ffff_ffff_fe00;
+
+/// Takes clusters. No cluster below the first free one has count 0.
+#[derive(Drop)]
+pub struct Allocator {
+    reftable: RefTable,
+    first_free_cluster: u64,
+    leaked_clusters: u64,
+}
+
+// What stops an allocation: a failure, or want of memory. After any other refusal the search may go on.
+fn ends_call(refusal: &ImageError) -> bool {
+    match refusal {
+        ImageError::Memory | ImageError::Storage => true,
+        _ => false,
+    }
+}
+
+impl Allocator {
+    /// Loads the reftable.
+    pub fn new<S: Storage>(file: &mut ImageFile<S>) -> Result<Allocator, ImageError> {
+        let bits = file.header.cluster_bits();
+        let Some(cluster) = file.header.reftable_offset().checked_cluster(bits) else {
+            return Err(ImageError::UnalignedTable);
+        };
+        let entries = file.header.reftable_entries() as usize;
+        let reftable = RefTable::load(
+            file.alloc,
+            &mut file.storage,
+            &file.header,
+            cluster,
+            entries,
+        )?;
+        Ok(Allocator {
+            reftable,
+            first_free_cluster: 0,
+            leaked_clusters: 0,
+        })
+    }
+
+    /// How many clusters couldn't be freed, up to the greatest `u64`.
+    pub fn leaked_clusters(&self) -> u64 {
+        self.leaked_clusters
+    }
+
+    /// No cluster below this one has count 0.
+    pub fn first_free_cluster(&self) -> HostCluster {
+        HostCluster::new(self.first_free_cluster)
+    }
+
+    /// Takes the lowest run of so many free clusters for metadata.
+    pub fn allocate_meta<S: Storage>(
+        &mut self,
+        file: &mut ImageFile<S>,
+        count: ClusterCount,
+    ) -> Result<PendingClusters, ImageError>
+        ensures header { file.new.header ≡ file.old.header }
+        ensures nameable { IfOk result (λ p. IsHostCluster file.old.header.fields.cluster_bits p.first_cluster) }
+    {
+        self.allocate(file, count, ClusterKind::Metadata)
+    }
+
+    /// Takes the lowest run of so many free clusters for data. From here on refblocks are written before L2 tables.
+    pub fn allocate_data<S: Storage>(
+        &mut self,
+        file: &mut ImageFile<S>,
+        count: ClusterCount,
+    ) -> Result<PendingClusters, ImageError>
+        ensures header { file.new.header ≡ file.old.header }
+        ensures nameable { IfOk result (λ p. IsHostCluster file.old.header.fields.cluster_bits p.first_cluster) }
+    {
+        file.caches.l2_depends_on_rb(&mut file.storage)?;
+        self.allocate(file, count, ClusterKind::Data)
+    }
+
+    // The place in a list is made before anything changes.
+    fn allocate<S: Storage>(
+        &mut self,
+        file: &mut ImageFile<S>,
+        count: ClusterCount,
+        kind: ClusterKind,
+    ) -> Result<PendingClusters, ImageError>
+        ensures header { file.new.header ≡ file.old.header }
+        ensures nameable { IfOk result (λ p. IsHostCluster file.old.header.fields.cluster_bits p.first_cluster) }
+    {
+        let entry = ClustersToFreeEntry {
+            first_cluster: HostCluster::new(0),
+            count,
+            kind,
+        };
+        let Ok(pending) = ClustersToFreeList::pending_guard(file.alloc, entry) else {
+            return Err(ImageError::Memory);
+        };
+        match self.lowest_run(file, count.value()) {
+            Ok(first) => Ok(pending.placed_at(HostCluster::new(first))),
+            Err(refusal) => {
+                pending.make_persistent();
+                Err(refusal)
+            }
+        }
+    }
+
+    // Takes the lowest run of n clusters that fits below the greatest offset.
+    fn lowest_run<S: Storage>(
+        &mut self,
+        file: &mut ImageFile<S>,
+        n: u64,
+    ) -> Result<u64, ImageError>
+        ensures header { file.new.header ≡ file.old.header }
+        ensures nameable { IfOk result (λ first. IsHostCluster file.old.header.fields.cluster_bits first) }
+    {
+        let limit = (MAX_HOST_OFFSET >> file.header.cluster_bits()) + 1;
+        let mut first = self.first_free_cluster;
+        'search: while 0 < n && n <= limit && first <= limit - n {
+            let taken = self.take_run(file, first, n)?;
+            if taken == n {
+                return Ok(first);
+            }
+            first += taken + 1;
+        }
+        Err(ImageError::Limit)
+    }
+
+    // Takes n clusters from first on: n, or how many lay before one that is in use; those are given back.
+    fn take_run<S: Storage>(
+        &mut self,
+        file: &mut ImageFile<S>,
+        first: u64,
+        n: u64,
+    ) -> Result<u64, ImageError>
+        requires { first + n < 2 ^ 63 }
+        ensures header { file.new.header ≡ file.old.header }
+        ensures within { IfOk result (λ taken. taken ≤ n) }
+    {
+        'taking: for taken in 0..n {
+            match self.take(file, first + taken) {
+                Ok(true) => {}
+                Ok(false) => {
+                    self.give_back(file, first, taken)?;
+                    return Ok(taken);
+                }
+                Err(refusal) => {
+                    if !ends_call(&refusal) {
+                        self.give_back(file, first, taken)?;
+                    }
+                    return Err(refusal);
+                }
+            }
+        }
+        Ok(n)
+    }
+
+    // Takes a cluster where its count is 0, making the refblock that it needs.
+    fn take<S: Storage>(
+        &mut self,
+        file: &mut ImageFile<S>,
+        cluster: u64,
+    ) -> Result<bool, ImageError>
+        requires { cluster < 2 ^ 63 }
+        ensures header { file.new.header ≡ file.old.header }
+    {
+        self.ensure_block(file, cluster)?;
+        let taken = self.raise(file, cluster)?;
+        if cluster == self.first_free_cluster {
+            self.first_free_cluster = cluster + 1;
+        }
+        Ok(taken)
+    }
+
+    // Lowers the counts of a run. What can't be lowered is counted as leaked.
+    fn give_back<S: Storage>(
+        &mut self,
+        file: &mut ImageFile<S>,
+        first: u64,
+        n: u64,
+    ) -> Result<(), ImageError>
+        requires { first + n < 2 ^ 63 }
+        ensures header { file.new.header ≡ file.old.header }
+    {
+        if n == 0 {
+            return Ok(());
+        }
+        self.first_free_cluster = self.first_free_cluster.min(first);
+        'lowering: for cluster in first..first + n {
+            self.lower(file, cluster)?;
+        }
+        Ok(())
+    }
+
+    // Lowers the count of a cluster. One that can't be lowered is counted as leaked.
+    fn lower<S: Storage>(
+        &mut self,
+        file: &mut ImageFile<S>,
+        cluster: u64,
+    ) -> Result<(), ImageError>
+        ensures header { file.new.header ≡ file.old.header }
+    {
+        match self.try_lower(file, cluster) {
+            Ok(true) => return Ok(()),
+            Ok(false) => {}
+            Err(refusal) => {
+                if ends_call(&refusal) {
+                    return Err(refusal);
+                }
+            }
+        }
+        self.leaked_clusters = self.leaked_clusters.saturating_add(1);
+        Ok(())
+    }
+
+    // The refblock of a range, brought into its cache, or None where there is none.
+    fn load_block<S: Storage>(
+        &self,
+        file: &mut ImageFile<S>,
+        range: u64,
+    ) -> Result<Option<HostCluster>, ImageError>
+        ensures header { file.new.header ≡ file.old.header }
+    {
+        let Some(offset) = self.reftable.get(range as usize) else {
+            return Ok(None);
+        };
+        let Some(cluster) = offset.checked_cluster(file.header.cluster_bits()) else {
+            return Err(ImageError::UnalignedTable);
+        };
+        file.caches.rb_get_or_insert(&mut file.storage, cluster)?;
+        Ok(Some(cluster))
+    }
+
+    // Counts a cluster whose count is 0: false where it isn't.
+    fn raise<S: Storage>(
+        &mut self,
+        file: &mut ImageFile<S>,
+        cluster: u64,
+    ) -> Result<bool, ImageError>
+        ensures header { file.new.header ≡ file.old.header }
+    {
+        let bits = file.header.rb_bits();
+        let Some(block) = self.load_block(file, cluster >> bits)? else {
+            return Ok(false);
+        };
+        let index = HostCluster::new(cluster).rb_index(bits);
+        Ok(file.caches.rb_is_zero(block, index) && file.caches.rb_increment(block, index))
+    }
+
+    // Counts a cluster once less: false where its count is 0 or it has no refblock.
+    fn try_lower<S: Storage>(
+        &mut self,
+        file: &mut ImageFile<S>,
+        cluster: u64,
+    ) -> Result<bool, ImageError>
+        ensures header { file.new.header ≡ file.old.header }
+    {
+        let bits = file.header.rb_bits();
+        let Some(block) = self.load_block(file, cluster >> bits)? else {
+            return Ok(false);
+        };
+        let index = HostCluster::new(cluster).rb_index(bits);
+        Ok(file.caches.rb_decrement(block, index))
+    }
+
+    // Sees to it that the range of a cluster has a refblock.
+    fn ensure_block<S: Storage>(
+        &mut self,
+        file: &mut ImageFile<S>,
+        cluster: u64,
+    ) -> Result<(), ImageError>
+        requires { cluster < 2 ^ 63 }
+        ensures header { file.new.header ≡ file.old.header }
+    {
+        let bits = file.header.rb_bits();
+        let range = cluster >> bits;
+        if self.load_block(file, range)?.is_some() {
+            return Ok(());
+        }
+        if !self.reftable.in_bounds(range as usize) {
+            return Err(ImageError::Limit);
+        }
+        match self.take_lowest_below(file, range << bits) {
+            Ok(Some(at)) => self.place_block(file, range, at, false),
+            Ok(None) => self.place_block(file, range, range << bits, true),
+            Err(refusal) => {
+                if ends_call(&refusal) {
+                    return Err(refusal);
+                }
+                self.place_block(file, range, range << bits, true)
+            }
+        }
+    }
+
+    // Takes the lowest free cluster below an end, on the way making refblocks that count themselves.
+    fn take_lowest_below<S: Storage>(
+        &mut self,
+        file: &mut ImageFile<S>,
+        end: u64,
+    ) -> Result<Option<u64>, ImageError>
+        requires { end < 2 ^ 63 }
+        ensures header { file.new.header ≡ file.old.header }
+    {
+        let bits = file.header.rb_bits();
+        'search: while self.first_free_cluster < end {
+            let cluster = self.first_free_cluster;
+            let range = cluster >> bits;
+            if self.load_block(file, range)?.is_none() {
+                self.place_block(file, range, range << bits, true)?;
+            }
+            let taken = self.raise(file, cluster)?;
+            self.first_free_cluster = cluster + 1;
+            if taken {
+                return Ok(Some(cluster));
+            }
+        }
+        Ok(None)
+    }
+
+    // Makes the refblock of a range in a cluster: one that was taken for it, or the range's first one, where it counts itself.
+    // Counts are written first, then the block's bytes, then the entry that names it.
+    fn place_block<S: Storage>(
+        &mut self,
+        file: &mut ImageFile<S>,
+        range: u64,
+        at: u64,
+        counts_itself: bool,
+    ) -> Result<(), ImageError>
+        ensures header { file.new.header ≡ file.old.header }
+    {
+        let cluster = HostCluster::new(at);
+        let index = range as usize;
+        if !self.can_name(file.header.cluster_bits(), index, cluster) {
+            return Err(ImageError::Limit);
+        }
+        let mut block = RefBlock::new_cleared(file.alloc, &file.header)?;
+        block.set_cluster(cluster);
+        if counts_itself {
+            block.increment(0);
+        }
+        file.caches.flush_rb(&mut file.storage)?;
+        file.storage.will_write(WriteKind::Other);
+        block.write(&mut file.storage)?;
+        block.clear_modified();
+        self.reftable.enter_refblock(index, cluster);
+        self.reftable.write_entry(&mut file.storage, index)?;
+        file.caches.rb_insert(&mut file.storage, block)
+    }
+
+    // Whether the reftable has a place for the refblock of a range, and that may lie in a cluster.
+    fn can_name(&self, cluster_bits: u32, index: usize, cluster: HostCluster) -> bool
+        requires { cluster_bits < 64 }
+        ensures within { IsTrue result → index < entry_count self.now.reftable }
+        ensures placed { IsTrue result → IsSome self.now.reftable.cluster }
+        ensures nameable { IsTrue result → IsHostCluster self.now.reftable.cluster_bits cluster }
+        ensures nameable_here { IsTrue result → IsHostCluster cluster_bits cluster }
+    {
+        self.reftable.in_bounds(index)
+            && self.reftable.get_cluster().is_some()
+            && cluster.is_nameable(self.reftable.cluster_bits())
+            && cluster.is_nameable(cluster_bits)
+    }
+}

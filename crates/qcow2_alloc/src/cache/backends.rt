@@ -1,0 +1,199 @@
+//! What loads and flushes the cached tables.
+use crate::async_lru_cache::AsyncLruCacheBackend;
+use crate::{ImageStorage, WriteKind};
+use image_access::Storage;
+use qcow2_metadata::{Header, HostCluster, L2Table, MetadataError, RefBlock};
+use std::alloc::Global;
+use std::marker::PhantomData;
+
+/// Loads and flushes L2 tables.
+#[derive(Drop)]
+pub struct L2CacheBackend<S> {
+    header: Header,
+    storage: PhantomData<S>,
+}
+
+impl<S: Storage> AsyncLruCacheBackend for L2CacheBackend<S> {
+    ghost use Rattle.std.specs.Prelude.{◌≡◌, ◌*◌, ◌^◌, ⊤};
+    ghost use Rattle.std.proofs.Common.{ap, refl};
+    ghost use Rattle.image_access.specs.Contents.{bytes_at};
+    ghost use Rattle.qcow2_metadata.specs.L2Table.{L2TableView};
+    ghost use Rattle.qcow2_alloc.specs.ImageStorage.{storage_of};
+    ghost use Rattle.qcow2_alloc.specs.TableCaches.{l2_steps, cleared_l2};
+    ghost use Rattle.qcow2_alloc.specs.TableLaws.{loaded_reads, failed_load_keeps as failed_load, flush_writes as flush_lays, failed_flush_keeps as failed_flush};
+
+    type Key = HostCluster;
+
+    type Value = L2Table;
+
+    type Error = MetadataError;
+
+    type Store = ImageStorage<S>;
+
+    ghost steps = { λ b. l2_steps (λ s. S.view (storage_of s)) b.header.fields.cluster_bits };
+
+    ghost evicted = { λ _ _ _. ⊤ };
+
+    ghost is_honest = { λ s. (S.view (storage_of s)).is_honest };
+
+    ghost stored = { λ b s k. bytes_at (S.view (storage_of s)).contents (k * 2 ^ b.header.fields.cluster_bits) (2 ^ b.header.fields.cluster_bits) };
+
+    ghost bytes = { λ v. v.bytes };
+
+    ghost is_modified = { λ v. v.is_modified };
+
+    fn load(
+        &self,
+        alloc: Global,
+        store: &mut ImageStorage<S>,
+        key: HostCluster,
+    ) -> Result<L2Table, MetadataError> {
+        if key.checked_offset(self.header.cluster_bits()).is_none() {
+            return Err(MetadataError::Limit);
+        }
+        L2Table::load(alloc, store, &self.header, key)
+    }
+
+    fn flush(
+        &self,
+        store: &mut ImageStorage<S>,
+        key: HostCluster,
+        value: &mut L2Table,
+    ) -> Result<(), MetadataError> {
+        if !value.is_modified() {
+            value.clear_modified();
+            return Ok(());
+        }
+        if value.cluster_bits() != self.header.cluster_bits() {
+            return Err(MetadataError::Format);
+        }
+        if key.checked_offset(value.cluster_bits()).is_none() {
+            return Err(MetadataError::Limit);
+        }
+        store.will_write(WriteKind::L2Table);
+        match value.write_if_modified(store, key) {
+            Ok(()) => Ok(()),
+            Err(e) => Err(MetadataError::Storage(e)),
+        }
+    }
+
+    fn evict(&self, _key: HostCluster, _value: L2Table) {}
+
+    ghost load_gives = { λ b s t k v h. h.unmodified };
+
+    ghost load_reads = { λ b s t k v h. loaded_reads (λ s. S.view (storage_of s)) b.header.fields.cluster_bits (λ (v : L2TableView). v.bytes) (λ v. v.is_modified) cleared_l2 s t k v h };
+
+    ghost failed_load_keeps = { λ b s t k e h. failed_load (λ s. S.view (storage_of s)) b.header.fields.cluster_bits (λ (v : L2TableView). v.bytes) (λ v. v.is_modified) cleared_l2 s t k e h };
+
+    ghost flush_cleans = { λ b s t k v w h. (ap (λ (v : L2TableView). v.is_modified) h.clean, ap (λ (v : L2TableView). v.bytes) h.clean) };
+
+    ghost flush_writes = { λ b s t k v w h. flush_lays (λ s. S.view (storage_of s)) b.header.fields.cluster_bits (λ (v : L2TableView). v.bytes) (λ v. v.is_modified) cleared_l2 s t k v w h };
+
+    ghost failed_flush_keeps = { λ b s t k v e h. failed_flush (λ s. S.view (storage_of s)) b.header.fields.cluster_bits (λ (v : L2TableView). v.bytes) (λ v. v.is_modified) cleared_l2 s t k v e h };
+}
+
+impl<S> L2CacheBackend<S> {
+    /// For the tables of an image with this header.
+    pub(crate) fn new(header: &Header) -> L2CacheBackend<S> {
+        L2CacheBackend {
+            header: header.without_names(),
+            storage: PhantomData,
+        }
+    }
+}
+
+/// Loads and flushes refblocks.
+#[derive(Drop)]
+pub struct RefBlockCacheBackend<S> {
+    header: Header,
+    storage: PhantomData<S>,
+}
+
+impl<S: Storage> AsyncLruCacheBackend for RefBlockCacheBackend<S> {
+    ghost use Rattle.std.specs.Prelude.{◌≡◌, ◌*◌, ◌^◌, ⊤};
+    ghost use Rattle.std.proofs.Common.{ap, refl};
+    ghost use Rattle.image_access.specs.Contents.{bytes_at};
+    ghost use Rattle.qcow2_metadata.specs.RefBlock.{RefBlockView};
+    ghost use Rattle.qcow2_alloc.specs.ImageStorage.{storage_of};
+    ghost use Rattle.qcow2_alloc.specs.TableCaches.{rb_steps, cleared_rb};
+    ghost use Rattle.qcow2_alloc.specs.TableLaws.{loaded_reads, failed_load_keeps as failed_load, flush_writes as flush_lays, failed_flush_keeps as failed_flush};
+
+    type Key = HostCluster;
+
+    type Value = RefBlock;
+
+    type Error = MetadataError;
+
+    type Store = ImageStorage<S>;
+
+    ghost steps = { λ b. rb_steps (λ s. S.view (storage_of s)) b.header.fields.cluster_bits };
+
+    ghost evicted = { λ _ _ _. ⊤ };
+
+    ghost is_honest = { λ s. (S.view (storage_of s)).is_honest };
+
+    ghost stored = { λ b s k. bytes_at (S.view (storage_of s)).contents (k * 2 ^ b.header.fields.cluster_bits) (2 ^ b.header.fields.cluster_bits) };
+
+    ghost bytes = { λ v. v.bytes };
+
+    ghost is_modified = { λ v. v.is_modified };
+
+    fn load(
+        &self,
+        alloc: Global,
+        store: &mut ImageStorage<S>,
+        key: HostCluster,
+    ) -> Result<RefBlock, MetadataError> {
+        if key.checked_offset(self.header.cluster_bits()).is_none() {
+            return Err(MetadataError::Limit);
+        }
+        RefBlock::load(alloc, store, &self.header, key)
+    }
+
+    fn flush(
+        &self,
+        store: &mut ImageStorage<S>,
+        key: HostCluster,
+        value: &mut RefBlock,
+    ) -> Result<(), MetadataError> {
+        if !value.is_modified() {
+            value.clear_modified();
+            return Ok(());
+        }
+        if value.cluster_bits() != self.header.cluster_bits() {
+            return Err(MetadataError::Format);
+        }
+        if key.checked_offset(value.cluster_bits()).is_none() {
+            return Err(MetadataError::Limit);
+        }
+        store.will_write(WriteKind::RefBlock);
+        match value.write_if_modified(store, key) {
+            Ok(()) => Ok(()),
+            Err(e) => Err(MetadataError::Storage(e)),
+        }
+    }
+
+    fn evict(&self, _key: HostCluster, _value: RefBlock) {}
+
+    ghost load_gives = { λ b s t k v h. h.unmodified };
+
+    ghost load_reads = { λ b s t k v h. loaded_reads (λ s. S.view (storage_of s)) b.header.fields.cluster_bits (λ (v : RefBlockView). v.bytes) (λ v. v.is_modified) cleared_rb s t k v h };
+
+    ghost failed_load_keeps = { λ b s t k e h. failed_load (λ s. S.view (storage_of s)) b.header.fields.cluster_bits (λ (v : RefBlockView). v.bytes) (λ v. v.is_modified) cleared_rb s t k e h };
+
+    ghost flush_cleans = { λ b s t k v w h. (ap (λ (v : RefBlockView). v.is_modified) h.clean, ap (λ (v : RefBlockView). v.bytes) h.clean) };
+
+    ghost flush_writes = { λ b s t k v w h. flush_lays (λ s. S.view (storage_of s)) b.header.fields.cluster_bits (λ (v : RefBlockView). v.bytes) (λ v. v.is_modified) cleared_rb s t k v w h };
+
+    ghost failed_flush_keeps = { λ b s t k v e h. failed_flush (λ s. S.view (storage_of s)) b.header.fields.cluster_bits (λ (v : RefBlockView). v.bytes) (λ v. v.is_modified) cleared_rb s t k v e h };
+}
+
+impl<S> RefBlockCacheBackend<S> {
+    /// For the tables of an image with this header.
+    pub(crate) fn new(header: &Header) -> RefBlockCacheBackend<S> {
+        RefBlockCacheBackend {
+            header: header.without_names(),
+            storage: PhantomData,
+        }
+    }
+}

@@ -1,0 +1,47 @@
+use crate::{ClustersToFreeList, ImageStorage, MetadataCaches};
+use image_access::Storage;
+use qcow2_metadata::Header;
+use std::alloc::Global;
+
+/// What the driver holds of an image's file: the storage, the header, the cached tables, and the clusters to be freed.
+#[derive(Drop)]
+pub struct ImageFile<S: Storage> {
+    pub alloc: Global,
+    pub storage: ImageStorage<S>,
+    pub header: Header,
+    pub caches: MetadataCaches<S>,
+    pub free_list: ClustersToFreeList,
+}
+
+impl<S: Storage> ImageFile<S> {
+    ghost use Rattle.std.specs.Prelude.{◌≡◌};
+    ghost use Rattle.qcow2_alloc.specs.ImageStorage.{storage_of};
+
+    /// From here on it is noted anew whether anything changes.
+    pub fn begin(&mut self)
+        ensures header { self.new.header ≡ self.old.header }
+        ensures storage { storage_of self.new.storage ≡ storage_of self.old.storage }
+    {
+        self.storage.begin();
+        self.caches.begin();
+    }
+
+    /// Whether the storage or a table was changed since the last `begin`.
+    pub fn is_changed(&self) -> bool {
+        self.storage.is_changed() || self.caches.is_changed()
+    }
+
+    /// The storage itself. What isn't written yet is forgotten.
+    pub fn into_storage(self) -> S
+        ensures { result ≡ storage_of self.storage }
+    {
+        let ImageFile {
+            alloc: _,
+            storage,
+            header: _,
+            caches: _,
+            free_list: _,
+        } = self;
+        storage.into_inner()
+    }
+}
