@@ -12,3 +12,4 @@ pub mod TableBytes
 pub mod RefBlock
 pub mod L2Mapping
 pub mod L2Table
+pub mod EntryTable

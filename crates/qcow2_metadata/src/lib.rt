@@ -2,17 +2,22 @@
 #![tactic(auto)]
 
 mod big_endian;
+mod entry_table;
 mod error;
 mod header;
+mod l1_table;
 mod l2_mapping;
 mod l2_table;
 mod numbers;
 mod ref_block;
+mod ref_table;
 mod table_bytes;
 
 pub use error::MetadataError;
 pub use header::{Header, HeaderFields};
+pub use l1_table::{L1Entry, L1Table};
 pub use l2_mapping::L2Mapping;
 pub use l2_table::L2Table;
 pub use numbers::{ClusterCount, GuestCluster, GuestOffset, HostCluster, HostOffset};
 pub use ref_block::RefBlock;
+pub use ref_table::RefTable;

@@ -1,0 +1,123 @@
+-- Tables of entries of 64 bits.
+use Rattle.std.proofs.Common.{◌≡◌, ℕ, ◌+◌, ◌-◌, ◌*◌, ◌/◌, ◌%◌, ◌^◌, ◌≤◌, inl, inr, subst, lit<, List, [], ◌++◌, nat_lt, if◌then◌else◌, length, replicate, refl, sym, ap, ◌∙◌, arith}
+use Rattle.std.specs.Prelude.{bit_and}
+use Rattle.std.proofs.lemmas.List.{drop-replicate, get_or_append_left, get_or-append_right, length-replicate, nil_from_length}
+use Rattle.std.proofs.lemmas.Bool.{cases_eq, cases_lt, cond-false, cond-true, le-ltb, lt-ltb}
+use Rattle.std.proofs.lemmas.Nat.{and_block, and_le_l, and_mask, mod_below, pow-add, shr_split}
+use Rattle.image_access.specs.Contents.{bytes_at, overwritten}
+use Rattle.image_access.proofs.Bytes.{byte_at_past, length-bytes_at, put_mid-overwritten}
+use Rattle.qcow2_metadata.specs.Bytes.{byte_at, number_at}
+use Rattle.qcow2_metadata.specs.Header.{HeaderFields, cluster_size}
+use Rattle.qcow2_metadata.specs.Entries.{l1_entry, l2_entry, reftable_entry, L1EntryReads, ReftableEntryReads}
+use Rattle.qcow2_metadata.specs.TableBytes.{entry_at, ChangesEntry}
+use Rattle.qcow2_metadata.specs.EntryTable.{EntryTableView, EachReads, IsClear, IsL1TableOf, IsReasonNotToLoad, IsRefTableOf, NamesL1Table, NamesRefTable, SomeUnread}
+use Rattle.qcow2_metadata.specs.declared.error.MetadataError.{MetadataError}
+use Rattle.qcow2_metadata.specs.declared.error.MetadataError.TheVariants.{Storage, Memory, Version, Unaligned, Limit, Format}
+use Rattle.qcow2_metadata.proofs.TableEntries.{byte_at-zeros, entry_at-loaded, entry_at-zeros, number_at-moved, number_at-zeros}
+
+-- past its end a table has no entry
+pub entry_at_past : (bytes : List ℕ) (i : ℕ) → length bytes ≤ 8 * i → entry_at bytes i ≡ 0
+unfolding l2_entry
+entry_at_past bytes i past =
+    number_at-moved (byte_at bytes) (byte_at []) (0 + 8 * i) 0 8 (λ k lt. byte_at_past bytes (0 + 8 * i + k) (omega arith))
+    ∙ number_at-zeros (byte_at []) 0 8 (λ k. refl)
+
+-- no entry has no reserved bit
+pub none_is_clear : (entry reserved : ℕ) → entry ≡ 0 → IsClear reserved entry
+none_is_clear entry reserved none = omega (arith, and_le_l entry reserved)
+
+pub no_bytes_at : (contents : List ℕ) (at n : ℕ) → n ≡ 0 → bytes_at contents at n ≡ []
+no_bytes_at contents at n none = nil_from_length (bytes_at contents at n) (length-bytes_at contents at n ∙ none)
+
+-- a table laid over a longer one of zeros
+pub overwritten-zeros : (bytes : List ℕ) (n : ℕ) → length bytes ≤ n → overwritten (replicate n 0) 0 bytes ≡ bytes ++ replicate (n - length bytes) 0
+overwritten-zeros bytes n fits =
+    sym (put_mid-overwritten (replicate n 0) 0 bytes (omega (arith, length-replicate {A = ℕ} n 0)))
+    ∙ ap (λ (l : List ℕ). bytes ++ l) (drop-replicate (length bytes) n 0)
+
+-- ---- reserved bits
+
+pub l1_mask : (entry : ℕ) → bit_and entry 0x7f000000000001ff ≡ entry / 2 ^ 56 % 2 ^ 7 * 2 ^ 56 + entry % 2 ^ 9
+l1_mask entry =
+    let low : entry % 2 ^ 56 % 2 ^ 9 ≡ entry % 2 ^ 9 = omega arith in
+    let parts : entry ≡ entry / 2 ^ 56 * 2 ^ 56 + entry % 2 ^ 56 = sym (shr_split entry 56) in
+    ap (λ n. bit_and n 0x7f000000000001ff) parts
+    ∙ and_block 56 (entry / 2 ^ 56) 127 (entry % 2 ^ 56) 511 (mod_below entry (2 ^ 56) (lit< tt)) (lit< tt)
+    ∙ ap (λ n. n * 2 ^ 56 + bit_and (entry % 2 ^ 56) 511) (and_mask (entry / 2 ^ 56) 7)
+    ∙ ap (λ n. entry / 2 ^ 56 % 2 ^ 7 * 2 ^ 56 + n) (and_mask (entry % 2 ^ 56) 9 ∙ low)
+
+pub clear_l1_reads : (entry : ℕ) → IsClear 0x7f000000000001ff entry → L1EntryReads entry
+clear_l1_reads entry clear = (omega (arith, l1_mask entry, clear), omega (arith, l1_mask entry, clear))
+
+pub l1_reads_clear : (entry : ℕ) → L1EntryReads entry → IsClear 0x7f000000000001ff entry
+l1_reads_clear entry reads = omega (arith, l1_mask entry, reads.0, reads.1)
+
+pub clear_reftable_reads : (entry : ℕ) → IsClear 0x1ff entry → ReftableEntryReads entry
+clear_reftable_reads entry clear = omega (arith, and_mask entry 9, clear)
+
+pub reftable_reads_clear : (entry : ℕ) → ReftableEntryReads entry → IsClear 0x1ff entry
+reftable_reads_clear entry reads = omega (arith, and_mask entry 9, reads)
+
+-- ---- what each entry keeps
+
+pub EachReads-zeros : (Reads : ℕ → Type 0) → Reads 0 → (n : ℕ) → EachReads Reads (replicate n 0)
+EachReads-zeros Reads none n = λ i. subst Reads (sym (entry_at-zeros n i)) none
+
+pub entry_at-grown : (bytes : List ℕ) (n i : ℕ) → entry_at (bytes ++ replicate n 0) i ≡ entry_at bytes i
+unfolding l2_entry
+entry_at-grown bytes n i =
+    number_at-moved _ _ (0 + 8 * i) (0 + 8 * i) 8 (λ k lt. elim (cases_lt (0 + 8 * i + k) (length bytes)) [
+      | inl within ↦ get_or_append_left bytes (replicate n 0) 0 (0 + 8 * i + k) within
+      | inr past ↦
+          get_or-append_right bytes (replicate n 0) (length bytes) (0 + 8 * i + k) 0 refl past
+          ∙ byte_at-zeros n (0 + 8 * i + k - length bytes)
+          ∙ sym (byte_at_past bytes (0 + 8 * i + k) past)
+    ])
+
+pub EachReads-grown : (Reads : ℕ → Type 0) (bytes : List ℕ) (n : ℕ) → EachReads Reads bytes → EachReads Reads (bytes ++ replicate n 0)
+EachReads-grown Reads bytes n reads = λ i. subst Reads (sym (entry_at-grown bytes n i)) (reads i)
+
+pub EachReads-set : (Reads : ℕ → Type 0) (old new : List ℕ) (i entry : ℕ) → ChangesEntry old new i entry → Reads entry → EachReads Reads old → EachReads Reads new
+EachReads-set Reads old new i entry changes here reads = λ j. elim (cases_eq j i) [
+  | inl same ↦ subst Reads (sym (ap (entry_at new) same ∙ changes.entry_is)) here
+  | inr apart ↦ subst Reads (sym (changes.others j apart)) (reads j)
+]
+
+-- ---- why a table isn't loaded
+
+-- an entry with a reserved bit is one that doesn't read
+pub IsReasonNotToLoad-reads : (Reads Clear : ℕ → Type 0) (bytes : List ℕ) (passes honest : Type 0) (e : MetadataError) → ((entry : ℕ) → Reads entry → Clear entry)
+    → IsReasonNotToLoad passes (honest → SomeUnread Clear bytes) e → IsReasonNotToLoad passes (honest → SomeUnread Reads bytes) e
+IsReasonNotToLoad-reads Reads Clear bytes passes honest (Storage _) clear why = why
+IsReasonNotToLoad-reads Reads Clear bytes passes honest Memory clear why = why
+IsReasonNotToLoad-reads Reads Clear bytes passes honest Limit clear why = why
+IsReasonNotToLoad-reads Reads Clear bytes passes honest Format clear why = λ h. let some = why h in (some.0, some.1, λ reads. some.2 (clear _ reads))
+IsReasonNotToLoad-reads Reads Clear bytes passes honest Version clear why = why
+IsReasonNotToLoad-reads Reads Clear bytes passes honest Unaligned clear why = why
+
+-- ---- entries of a loaded table
+
+-- each entry is that at its place in the file, and past the end there is none
+loaded : (contents : List ℕ) (at n : ℕ) (bytes : List ℕ) → bytes ≡ bytes_at contents at (8 * n) → (i : ℕ) → entry_at bytes i ≡ (if nat_lt i n then number_at (byte_at contents) (at + 8 * i) 8 else 0)
+unfolding l2_entry
+loaded contents at n bytes is i = ap (λ (l : List ℕ). entry_at l i) is ∙ elim (cases_lt i n) [
+  | inl within ↦ entry_at-loaded contents at (8 * n) i (omega arith) ∙ sym (cond-true _ _ _ (lt-ltb i n within))
+  | inr past ↦ entry_at_past _ i (omega (arith, length-bytes_at contents at (8 * n))) ∙ sym (cond-false _ _ _ (le-ltb i n past))
+]
+
+pub IsL1TableOf-loaded : (h : HeaderFields) (contents : List ℕ) (cluster entries : ℕ) (t : EntryTableView) → NamesL1Table h cluster entries → t.bytes ≡ bytes_at contents (cluster * cluster_size h) (8 * entries) → IsL1TableOf h (byte_at contents) t
+unfolding l1_entry
+IsL1TableOf-loaded h contents cluster entries t names is = λ i. rw (names.0, names.1) (loaded contents (cluster * cluster_size h) entries t.bytes is i)
+
+pub IsRefTableOf-loaded : (h : HeaderFields) (contents : List ℕ) (cluster entries : ℕ) (t : EntryTableView) → NamesRefTable h cluster entries → t.bytes ≡ bytes_at contents (cluster * cluster_size h) (8 * entries) → IsRefTableOf h (byte_at contents) t
+unfolding reftable_entry
+IsRefTableOf-loaded h contents cluster entries t names is = λ i. rw (names.0, names.1) (loaded contents (cluster * cluster_size h) entries t.bytes is i)
+
+-- ---- entries that are entered
+
+-- what begins with a cluster begins on a multiple of 512
+pub on_sector : (cluster cluster_bits : ℕ) → 9 ≤ cluster_bits → cluster * 2 ^ cluster_bits % 512 ≡ 0
+on_sector cluster cluster_bits low =
+    let split : cluster_bits ≡ (cluster_bits - 9) + 9 = omega arith in
+    let whole : cluster * 2 ^ cluster_bits ≡ cluster * 2 ^ (cluster_bits - 9) * 512 = ap (λ k. cluster * 2 ^ k) split ∙ ap (λ n. cluster * n) (pow-add 2 (cluster_bits - 9) 9) ∙ omega arith in
+    omega (arith, whole)

@@ -1,0 +1,7 @@
+use Rattle.std.proofs.Common.{refl}
+use Rattle.qcow2_metadata.specs.Entries.{L1EntryReads}
+use Rattle.qcow2_metadata.proofs.EntryTables.{EachReads-zeros}
+use Rattle.qcow2_metadata.proofs.l1_table.L1Table.new_cleared.Goals as goal
+
+pub invariant_of-result : goal.invariant_of-result
+invariant_of-result c = rw c.in_ok-table.ensures.table (EachReads-zeros L1EntryReads (refl, refl) _)

@@ -1,0 +1,7 @@
+use Rattle.std.proofs.Common.{refl}
+use Rattle.qcow2_metadata.specs.Entries.{ReftableEntryReads}
+use Rattle.qcow2_metadata.proofs.EntryTables.{EachReads-zeros}
+use Rattle.qcow2_metadata.proofs.ref_table.RefTable.new_cleared.Goals as goal
+
+pub invariant_of-result : goal.invariant_of-result
+invariant_of-result c = (c.in_ok-table.ensures.few.few, rw c.in_ok-table.ensures.table (EachReads-zeros ReftableEntryReads refl _))

@@ -1,0 +1,95 @@
+-- The L1 table and the reftable in memory: their entries as their bytes hold them, and the cluster from which on they lie.
+use Rattle.std.specs.Prelude.{◌≡◌, ℕ, ◌+◌, ◌*◌, ◌/◌, ◌%◌, ◌^◌, ◌<◌, ◌≤◌, ◌⊎◌, List, length, Option, Some, None, bit_and}
+use Rattle.qcow2_metadata.specs.Header.{HeaderFields, cluster_size, reftable_entries}
+use Rattle.qcow2_metadata.specs.Bytes.{Bytes}
+use Rattle.qcow2_metadata.specs.Entries.{l1_entry, reftable_entry, L1EntryReads, ReftableEntryReads}
+use Rattle.qcow2_metadata.specs.TableBytes.{entry_at, IsClusterBits}
+use Rattle.qcow2_metadata.specs.declared.error.MetadataError.{MetadataError}
+use Rattle.qcow2_metadata.specs.declared.error.MetadataError.TheVariants.{Storage, Memory, Version, Unaligned, Limit, Format}
+
+pub record EntryTableView : Type 0 where
+  -- where it begins, if it has a place
+  pub cluster : Option ℕ
+  pub bytes : List ℕ
+  pub cluster_bits : ℕ
+
+-- a table of an image
+abbrev pub entry_table : HeaderFields → Option ℕ → List ℕ → EntryTableView
+entry_table h cluster bytes = record { cluster = cluster; bytes = bytes; cluster_bits = h.cluster_bits }
+
+abbrev pub entry_count : EntryTableView → ℕ
+entry_count t = length t.bytes / 8
+
+-- 64 bits hold the end of so many bytes that lie from the begin of a cluster on
+abbrev pub HasRoom : ℕ → ℕ → ℕ → Type 0
+HasRoom cluster_bits n cluster = cluster * 2 ^ cluster_bits + n < 2 ^ 64
+
+-- so for the cluster that a table has, if it has one
+abbrev pub HasRoomIfPlaced : ℕ → ℕ → Option ℕ → Type 0
+HasRoomIfPlaced cluster_bits n None = Unit {0}
+HasRoomIfPlaced cluster_bits n (Some cluster) = HasRoom cluster_bits n cluster
+
+-- it has whole entries, at most so many
+pub record IsEntryTable (greatest : ℕ) (t : EntryTableView) : Type 0 where
+  pub bits : IsClusterBits t.cluster_bits
+  pub whole : length t.bytes % 8 ≡ 0
+  pub few : entry_count t ≤ greatest
+  pub placed : HasRoomIfPlaced t.cluster_bits (length t.bytes) t.cluster
+
+-- each entry of these bytes reads
+abbrev pub EachReads : (ℕ → Type 0) → List ℕ → Type 0
+EachReads Reads bytes = (i : ℕ) → Reads (entry_at bytes i)
+
+-- some entry of these bytes doesn't
+abbrev pub SomeUnread : (ℕ → Type 0) → List ℕ → Type 0
+SomeUnread Reads bytes = (i : ℕ) × (i < length bytes / 8) × ¬ Reads (entry_at bytes i)
+
+-- none of these bits is set in an entry
+abbrev pub IsClear : ℕ → ℕ → Type 0
+IsClear reserved entry = bit_and entry reserved ≡ 0
+
+pub record IsL1Table (t : EntryTableView) : Type 0 where
+  pub table : IsEntryTable 4194304 t
+  pub reads : EachReads L1EntryReads t.bytes
+
+pub record IsRefTable (t : EntryTableView) : Type 0 where
+  pub table : IsEntryTable 1048576 t
+  pub reads : EachReads ReftableEntryReads t.bytes
+
+-- the header names so many entries from this cluster on as the L1 table
+abbrev pub NamesL1Table : HeaderFields → ℕ → ℕ → Type 0
+NamesL1Table h cluster entries = (h.l1_offset ≡ cluster * cluster_size h) × (h.l1_entries ≡ entries)
+
+-- the header names so many entries from this cluster on as the reftable
+abbrev pub NamesRefTable : HeaderFields → ℕ → ℕ → Type 0
+NamesRefTable h cluster entries = (h.reftable_offset ≡ cluster * cluster_size h) × (reftable_entries h ≡ entries)
+
+-- its entries are those of the image's L1 table
+abbrev pub IsL1TableOf : HeaderFields → Bytes → EntryTableView → Type 0
+IsL1TableOf h b t = (i : ℕ) → entry_at t.bytes i ≡ l1_entry h b i
+
+-- its entries are those of the image's reftable
+abbrev pub IsRefTableOf : HeaderFields → Bytes → EntryTableView → Type 0
+IsRefTableOf h b t = (i : ℕ) → entry_at t.bytes i ≡ reftable_entry h b i
+
+-- so many entries are more than the greatest number, or 64 bits don't hold the end of the table
+abbrev pub PassesLimit : ℕ → ℕ → ℕ → ℕ → Type 0
+PassesLimit greatest cluster_bits cluster entries = (greatest < entries) ⊎ (2 ^ 64 ≤ cluster * 2 ^ cluster_bits + 8 * entries)
+
+-- a table was refused for its length, or memory was
+abbrev pub IsOfLengthOrMemory : Type 0 → MetadataError → Type 0
+IsOfLengthOrMemory passes_limit Memory = Unit {0}
+IsOfLengthOrMemory passes_limit Limit = passes_limit
+IsOfLengthOrMemory passes_limit (Storage _) = ⊥
+IsOfLengthOrMemory passes_limit Version = ⊥
+IsOfLengthOrMemory passes_limit Unaligned = ⊥
+IsOfLengthOrMemory passes_limit Format = ⊥
+
+-- the storage refused, or memory, or the table was for its length and place or for an entry
+abbrev pub IsReasonNotToLoad : Type 0 → Type 0 → MetadataError → Type 0
+IsReasonNotToLoad passes_limit unread (Storage _) = Unit {0}
+IsReasonNotToLoad passes_limit unread Memory = Unit {0}
+IsReasonNotToLoad passes_limit unread Limit = passes_limit
+IsReasonNotToLoad passes_limit unread Format = unread
+IsReasonNotToLoad passes_limit unread Version = ⊥
+IsReasonNotToLoad passes_limit unread Unaligned = ⊥

@@ -1,0 +1,241 @@
+//! The table that names the L2 tables.
+
+ghost use Rattle.std.specs.Prelude.{◌≡◌, ℕ, ◌+◌, ◌-◌, ◌*◌, ◌/◌, ◌%◌, ◌^◌, ◌<◌, ◌≤◌, ◌↔◌, ◌++◌, Some, None, true, length, replicate, IsTrue, IsSome, IfOk, IfErr, IfSome, IfNone};
+ghost use Rattle.std.specs.Int.{w64, to_be_bytes};
+ghost use Rattle.image_access.specs.Contents.{bytes_at, overwritten};
+ghost use Rattle.image_access.specs.Moments.{Keeps, Changes, Calls};
+ghost use Rattle.qcow2_metadata.specs.Bytes.{byte_at};
+ghost use Rattle.qcow2_metadata.specs.Header.{cluster_size};
+ghost use Rattle.qcow2_metadata.specs.Entries.{host_offset as host_offset_of, is_copied as is_copied_of, L1EntryReads};
+ghost use Rattle.qcow2_metadata.specs.MetadataError.{storage_result};
+ghost use Rattle.qcow2_metadata.specs.L2Mapping.{greatest_offset, IsHostCluster};
+ghost use Rattle.qcow2_metadata.specs.L2Table.{copied_entry as copied_entry_of};
+ghost use Rattle.qcow2_metadata.specs.TableBytes.{entry_at, ChangesEntry};
+ghost use Rattle.qcow2_metadata.specs.EntryTable.{entry_table, entry_count, IsL1Table, IsL1TableOf, NamesL1Table, SomeUnread, PassesLimit, IsOfLengthOrMemory, IsReasonNotToLoad};
+
+use crate::entry_table::EntryTable;
+use crate::l2_mapping::{COPIED, host_offset, is_copied};
+use crate::{ClusterCount, Header, HostCluster, HostOffset, MetadataError};
+use image_access::{Storage, StorageError};
+use std::alloc::Global;
+use std::marker::Model;
+
+const MAX_ENTRIES: usize = 4_194_304;
+
+/// Bits 0 to 8 and 56 to 62, which have no meaning.
+const RESERVED: u64 = 0x7f00_0000_0000_01ff;
+
+/// What an entry of the L1 table names.
+#[derive(Clone, Copy, Debug, PartialEq, Eq)]
+pub struct L1Entry {
+    /// Where the L2 table lies.
+    pub offset: HostOffset,
+    /// Whether its cluster is counted for this entry alone.
+    pub copied: bool,
+}
+
+/// The table that names the L2 tables.
+#[derive(Drop)]
+pub struct L1Table {
+    table: EntryTable,
+}
+
+impl Model for L1Table {
+    ghost use Rattle.qcow2_metadata.specs.Entries.{L1EntryReads};
+    ghost use Rattle.qcow2_metadata.specs.EntryTable.{EntryTableView, EachReads};
+
+    ghost Value = { EntryTableView };
+
+    ghost view = { λ t. t.table };
+
+    ghost invariant = { λ t. EachReads L1EntryReads t.table.bytes };
+}
+
+/// The entry of an L2 table that is counted for this entry alone.
+fn copied_entry(offset: HostOffset) -> u64
+    requires reach { offset ≤ greatest_offset }
+    requires aligned { offset % 512 ≡ 0 }
+    ensures value { result ≡ copied_entry_of offset }
+    ensures offset { host_offset_of result ≡ offset }
+    ensures copied { is_copied_of result ≡ true }
+    ensures reads { L1EntryReads result }
+{
+    COPIED | offset.value()
+}
+
+impl L1Table {
+    /// A table of so many entries that name nothing. It has no place yet.
+    pub fn new_cleared(
+        alloc: Global,
+        header: &Header,
+        entries: usize,
+    ) -> Result<L1Table, MetadataError>
+        ensures table { IfOk result (λ t. t ≡ entry_table header.now.fields None (replicate (8 * entries) 0)) }
+        ensures limit { 4194304 < entries → result ≡ Err MetadataError.Limit }
+        ensures err { IfErr result (IsOfLengthOrMemory (4194304 < entries)) }
+    {
+        let table = EntryTable::new_cleared(alloc, header.cluster_bits(), entries, MAX_ENTRIES)?;
+        Ok(L1Table { table })
+    }
+
+    /// Loads a table of so many entries that lies from a cluster on. With no entries the storage isn't read.
+    pub fn load<S: Storage>(
+        alloc: Global,
+        storage: &mut S,
+        header: &Header,
+        cluster: HostCluster,
+        entries: usize,
+    ) -> Result<L1Table, MetadataError>
+        ensures table { IfOk result (λ t. t ≡ entry_table header.now.fields (Some cluster) t.bytes) }
+        ensures length { IfOk result (λ t. length t.bytes ≡ 8 * entries) }
+        ensures is_table { IfOk result IsL1Table }
+        ensures bytes { (S.view storage.old).is_honest → IfOk result (λ t. t.bytes
+            ≡ bytes_at (S.view storage.old).contents (cluster * cluster_size header.now.fields) (8 * entries)) }
+        ensures of_image { (S.view storage.old).is_honest → NamesL1Table header.now.fields cluster entries
+            → IfOk result (IsL1TableOf header.now.fields (byte_at (S.view storage.old).contents)) }
+        ensures limit { PassesLimit 4194304 header.now.fields.cluster_bits cluster entries → result ≡ Err MetadataError.Limit }
+        ensures err { IfErr result (IsReasonNotToLoad (PassesLimit 4194304 header.now.fields.cluster_bits cluster entries)
+            ((S.view storage.old).is_honest → SomeUnread L1EntryReads (bytes_at (S.view storage.old).contents (cluster * cluster_size header.now.fields) (8 * entries)))) }
+        ensures same { Keeps (S.view storage.old) (S.view storage.new) }
+        ensures calls { Calls (S.view storage.old) (S.view storage.new) (storage_result result) }
+        ensures none { entries ≡ 0 → storage.new ≡ storage.old }
+    {
+        let bits = header.cluster_bits();
+        let table = EntryTable::load(
+            alloc,
+            storage,
+            bits,
+            cluster,
+            entries,
+            MAX_ENTRIES,
+            RESERVED,
+        )?;
+        Ok(L1Table { table })
+    }
+
+    pub fn cluster_bits(&self) -> u32
+        ensures value { result ≡ self.now.cluster_bits }
+        ensures is_table { IsL1Table self.now }
+    {
+        self.table.cluster_bits()
+    }
+
+    /// The number of entries.
+    pub fn len(&self) -> usize
+        ensures value { result ≡ entry_count self.now }
+        ensures limit { result ≤ 4194304 }
+        ensures is_table { IsL1Table self.now }
+    {
+        self.table.len()
+    }
+
+    pub fn in_bounds(&self, index: usize) -> bool
+        ensures { IsTrue result ↔ (index < entry_count self.now) }
+    {
+        index < self.table.len()
+    }
+
+    /// What entry `index` names, if there is one and it names something.
+    pub fn get(&self, index: usize) -> Option<L1Entry>
+        ensures none { IfNone result (host_offset_of (entry_at self.now.bytes index) ≡ 0) }
+        ensures offset { IfSome result (λ e. e.offset ≡ host_offset_of (entry_at self.now.bytes index)) }
+        ensures copied { IfSome result (λ e. e.copied ≡ is_copied_of (entry_at self.now.bytes index)) }
+        ensures some { IfSome result (λ e. 0 < e.offset) }
+        ensures within { IfSome result (λ e. index < entry_count self.now) }
+        ensures range { IfSome result (λ e. (e.offset % 512 ≡ 0) × (e.offset ≤ greatest_offset)) }
+    {
+        let entry = self.table.get(index);
+        let offset = host_offset(entry);
+        if offset == 0 {
+            return None;
+        }
+        Some(L1Entry {
+            offset: HostOffset::new(offset),
+            copied: is_copied(entry),
+        })
+    }
+
+    /// Enters an L2 table that is counted for this entry alone.
+    #[tactic(auto, using(crate::proofs::EntryTables::on_sector))]
+    pub fn enter_l2_table(&mut self, index: usize, cluster: HostCluster)
+        requires within { index < entry_count self.old }
+        requires cluster { IsHostCluster self.old.cluster_bits cluster }
+        ensures entry { ChangesEntry self.old.bytes self.new.bytes index (copied_entry_of (cluster * 2 ^ self.old.cluster_bits)) }
+        ensures offset { host_offset_of (entry_at self.new.bytes index) ≡ cluster * 2 ^ self.old.cluster_bits }
+        ensures copied { is_copied_of (entry_at self.new.bytes index) ≡ true }
+        ensures rest { self.new ≡ record self.old { bytes = self.new.bytes } }
+    {
+        let offset = cluster.offset(self.table.cluster_bits());
+        self.table.set(index, copied_entry(offset));
+    }
+
+    /// Writes all entries to where the table lies.
+    pub fn write<S: Storage>(&self, storage: &mut S) -> Result<(), StorageError>
+        requires { IsSome self.now.cluster }
+        ensures written { IfSome self.now.cluster (λ cluster. Changes (S.view storage.old) (S.view storage.new) result
+            (overwritten (S.view storage.old).contents (cluster * 2 ^ self.now.cluster_bits) self.now.bytes)) }
+        ensures calls { Calls (S.view storage.old) (S.view storage.new) result }
+    {
+        self.table.write(storage)
+    }
+
+    /// Writes one entry to where it lies.
+    pub fn write_entry<S: Storage>(&self, storage: &mut S, index: usize) -> Result<(), StorageError>
+        requires placed { IsSome self.now.cluster }
+        requires within { index < entry_count self.now }
+        ensures written { IfSome self.now.cluster (λ cluster. Changes (S.view storage.old) (S.view storage.new) result
+            (overwritten (S.view storage.old).contents (cluster * 2 ^ self.now.cluster_bits + 8 * index) (to_be_bytes w64 (entry_at self.now.bytes index)))) }
+        ensures calls { Calls (S.view storage.old) (S.view storage.new) result }
+    {
+        self.table.write_entry(storage, index)
+    }
+
+    /// A table of so many entries that begins with the same ones. The others name nothing, and it has no place yet.
+    pub fn clone_and_grow(&self, alloc: Global, entries: usize) -> Result<L1Table, MetadataError>
+        requires { entry_count self.now ≤ entries }
+        ensures table { IfOk result (λ t. t ≡ record self.now { cluster = None; bytes = self.now.bytes ++ replicate (8 * entries - length self.now.bytes) 0 }) }
+        ensures entries { IfOk result (λ t. (i : ℕ) → entry_at t.bytes i ≡ entry_at self.now.bytes i) }
+        ensures length { IfOk result (λ t. length t.bytes ≡ 8 * entries) }
+        ensures limit { 4194304 < entries → result ≡ Err MetadataError.Limit }
+        ensures err { IfErr result (IsOfLengthOrMemory (4194304 < entries)) }
+    {
+        let table = self.table.clone_and_grow(alloc, entries, MAX_ENTRIES)?;
+        Ok(L1Table { table })
+    }
+
+    /// The clusters that its entries need.
+    pub fn cluster_count(&self) -> ClusterCount
+        ensures { result ≡ (length self.now.bytes + 2 ^ self.now.cluster_bits - 1) / 2 ^ self.now.cluster_bits }
+    {
+        self.table.cluster_count()
+    }
+
+    pub fn byte_size(&self) -> u64
+        ensures value { result ≡ length self.now.bytes }
+        ensures entries { result ≡ 8 * entry_count self.now }
+        ensures limit { result ≤ 33554432 }
+    {
+        self.table.byte_size()
+    }
+
+    /// The cluster that it begins with, if it has a place.
+    pub fn get_cluster(&self) -> Option<HostCluster>
+        ensures value { result ≡ self.now.cluster }
+        ensures is_table { IsL1Table self.now }
+    {
+        self.table.get_cluster()
+    }
+
+    pub fn set_cluster(&mut self, cluster: HostCluster)
+        requires { IsHostCluster self.old.cluster_bits cluster }
+        ensures { self.new ≡ record self.old { cluster = Some cluster } }
+    {
+        self.table.set_cluster(cluster);
+    }
+
+    pub fn unset_cluster(&mut self)
+        ensures { self.new ≡ record self.old { cluster = None } }
+    {
+        self.table.unset_cluster();
+    }
+}

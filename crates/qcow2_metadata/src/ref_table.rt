@@ -1,0 +1,220 @@
+//! The table that names the refblocks.
+
+ghost use Rattle.std.specs.Prelude.{◌≡◌, ℕ, ◌+◌, ◌-◌, ◌*◌, ◌/◌, ◌%◌, ◌^◌, ◌<◌, ◌≤◌, ◌↔◌, ◌++◌, Some, None, true, length, replicate, IsTrue, IsSome, IfOk, IfErr, IfSome, IfNone};
+ghost use Rattle.std.specs.Int.{w64, to_be_bytes};
+ghost use Rattle.image_access.specs.Contents.{bytes_at, overwritten};
+ghost use Rattle.image_access.specs.Moments.{Keeps, Changes, Calls};
+ghost use Rattle.qcow2_metadata.specs.Bytes.{byte_at};
+ghost use Rattle.qcow2_metadata.specs.Header.{cluster_size};
+ghost use Rattle.qcow2_metadata.specs.Entries.{block_offset as block_offset_of, ReftableEntryReads};
+ghost use Rattle.qcow2_metadata.specs.MetadataError.{storage_result};
+ghost use Rattle.qcow2_metadata.specs.L2Mapping.{IsHostCluster};
+ghost use Rattle.qcow2_metadata.specs.TableBytes.{entry_at, ChangesEntry};
+ghost use Rattle.qcow2_metadata.specs.EntryTable.{entry_table, entry_count, IsRefTable, IsRefTableOf, NamesRefTable, SomeUnread, PassesLimit, IsOfLengthOrMemory, IsReasonNotToLoad};
+
+use crate::entry_table::EntryTable;
+use crate::{ClusterCount, Header, HostCluster, HostOffset, MetadataError};
+use image_access::{Storage, StorageError};
+use std::alloc::Global;
+use std::marker::Model;
+
+const MAX_ENTRIES: usize = 1_048_576;
+
+/// Bits 0 to 8, which have no meaning.
+const RESERVED: u64 = 0x1ff;
+
+/// The table that names the refblocks.
+#[derive(Drop)]
+pub struct RefTable {
+    table: EntryTable,
+}
+
+impl Model for RefTable {
+    ghost use Rattle.qcow2_metadata.specs.Entries.{ReftableEntryReads};
+    ghost use Rattle.std.specs.Prelude.{◌≤◌};
+    ghost use Rattle.qcow2_metadata.specs.EntryTable.{EntryTableView, entry_count, EachReads};
+
+    ghost Value = { EntryTableView };
+
+    ghost view = { λ t. t.table };
+
+    ghost invariant = { λ t. (entry_count t.table ≤ 1048576) × EachReads ReftableEntryReads t.table.bytes };
+}
+
+/// The bits of an entry that are the offset of a refblock, 0 for none.
+fn block_offset(entry: u64) -> u64
+    ensures { result ≡ block_offset_of entry }
+{
+    entry & 0xffff_ffff_ffff_fe00
+}
+
+impl RefTable {
+    /// A table of so many entries that name nothing. It has no place yet.
+    pub fn new_cleared(
+        alloc: Global,
+        header: &Header,
+        entries: usize,
+    ) -> Result<RefTable, MetadataError>
+        ensures table { IfOk result (λ t. t ≡ entry_table header.now.fields None (replicate (8 * entries) 0)) }
+        ensures limit { 1048576 < entries → result ≡ Err MetadataError.Limit }
+        ensures err { IfErr result (IsOfLengthOrMemory (1048576 < entries)) }
+    {
+        let table = EntryTable::new_cleared(alloc, header.cluster_bits(), entries, MAX_ENTRIES)?;
+        Ok(RefTable { table })
+    }
+
+    /// Loads a table of so many entries that lies from a cluster on. With no entries the storage isn't read.
+    pub fn load<S: Storage>(
+        alloc: Global,
+        storage: &mut S,
+        header: &Header,
+        cluster: HostCluster,
+        entries: usize,
+    ) -> Result<RefTable, MetadataError>
+        ensures table { IfOk result (λ t. t ≡ entry_table header.now.fields (Some cluster) t.bytes) }
+        ensures length { IfOk result (λ t. length t.bytes ≡ 8 * entries) }
+        ensures is_table { IfOk result IsRefTable }
+        ensures bytes { (S.view storage.old).is_honest → IfOk result (λ t. t.bytes
+            ≡ bytes_at (S.view storage.old).contents (cluster * cluster_size header.now.fields) (8 * entries)) }
+        ensures of_image { (S.view storage.old).is_honest → NamesRefTable header.now.fields cluster entries
+            → IfOk result (IsRefTableOf header.now.fields (byte_at (S.view storage.old).contents)) }
+        ensures limit { PassesLimit 1048576 header.now.fields.cluster_bits cluster entries → result ≡ Err MetadataError.Limit }
+        ensures err { IfErr result (IsReasonNotToLoad (PassesLimit 1048576 header.now.fields.cluster_bits cluster entries)
+            ((S.view storage.old).is_honest → SomeUnread ReftableEntryReads (bytes_at (S.view storage.old).contents (cluster * cluster_size header.now.fields) (8 * entries)))) }
+        ensures same { Keeps (S.view storage.old) (S.view storage.new) }
+        ensures calls { Calls (S.view storage.old) (S.view storage.new) (storage_result result) }
+        ensures none { entries ≡ 0 → storage.new ≡ storage.old }
+    {
+        let bits = header.cluster_bits();
+        let table = EntryTable::load(
+            alloc,
+            storage,
+            bits,
+            cluster,
+            entries,
+            MAX_ENTRIES,
+            RESERVED,
+        )?;
+        Ok(RefTable { table })
+    }
+
+    pub fn cluster_bits(&self) -> u32
+        ensures value { result ≡ self.now.cluster_bits }
+        ensures is_table { IsRefTable self.now }
+    {
+        self.table.cluster_bits()
+    }
+
+    /// The number of entries.
+    pub fn len(&self) -> usize
+        ensures value { result ≡ entry_count self.now }
+        ensures limit { result ≤ 1048576 }
+        ensures is_table { IsRefTable self.now }
+    {
+        self.table.len()
+    }
+
+    pub fn in_bounds(&self, index: usize) -> bool
+        ensures { IsTrue result ↔ (index < entry_count self.now) }
+    {
+        index < self.table.len()
+    }
+
+    /// Where the refblock lies that entry `index` names, if there is one and it names something.
+    pub fn get(&self, index: usize) -> Option<HostOffset>
+        ensures none { IfNone result (block_offset_of (entry_at self.now.bytes index) ≡ 0) }
+        ensures offset { IfSome result (λ offset. offset ≡ block_offset_of (entry_at self.now.bytes index)) }
+        ensures some { IfSome result (λ offset. 0 < offset) }
+        ensures within { IfSome result (λ offset. index < entry_count self.now) }
+        ensures aligned { IfSome result (λ offset. offset % 512 ≡ 0) }
+    {
+        let offset = block_offset(self.table.get(index));
+        if offset == 0 {
+            return None;
+        }
+        Some(HostOffset::new(offset))
+    }
+
+    /// Enters a refblock.
+    #[tactic(auto, using(crate::proofs::EntryTables::on_sector))]
+    pub fn enter_refblock(&mut self, index: usize, cluster: HostCluster)
+        requires within { index < entry_count self.old }
+        requires cluster { IsHostCluster self.old.cluster_bits cluster }
+        ensures entry { ChangesEntry self.old.bytes self.new.bytes index (cluster * 2 ^ self.old.cluster_bits) }
+        ensures offset { block_offset_of (entry_at self.new.bytes index) ≡ cluster * 2 ^ self.old.cluster_bits }
+        ensures rest { self.new ≡ record self.old { bytes = self.new.bytes } }
+    {
+        let offset = cluster.offset(self.table.cluster_bits()).value();
+        self.table.set(index, offset);
+    }
+
+    /// Writes all entries to where the table lies.
+    pub fn write<S: Storage>(&self, storage: &mut S) -> Result<(), StorageError>
+        requires { IsSome self.now.cluster }
+        ensures written { IfSome self.now.cluster (λ cluster. Changes (S.view storage.old) (S.view storage.new) result
+            (overwritten (S.view storage.old).contents (cluster * 2 ^ self.now.cluster_bits) self.now.bytes)) }
+        ensures calls { Calls (S.view storage.old) (S.view storage.new) result }
+    {
+        self.table.write(storage)
+    }
+
+    /// Writes one entry to where it lies.
+    pub fn write_entry<S: Storage>(&self, storage: &mut S, index: usize) -> Result<(), StorageError>
+        requires placed { IsSome self.now.cluster }
+        requires within { index < entry_count self.now }
+        ensures written { IfSome self.now.cluster (λ cluster. Changes (S.view storage.old) (S.view storage.new) result
+            (overwritten (S.view storage.old).contents (cluster * 2 ^ self.now.cluster_bits + 8 * index) (to_be_bytes w64 (entry_at self.now.bytes index)))) }
+        ensures calls { Calls (S.view storage.old) (S.view storage.new) result }
+    {
+        self.table.write_entry(storage, index)
+    }
+
+    /// A table of so many entries that begins with the same ones. The others name nothing, and it has no place yet.
+    pub fn clone_and_grow(&self, alloc: Global, entries: usize) -> Result<RefTable, MetadataError>
+        requires { entry_count self.now ≤ entries }
+        ensures table { IfOk result (λ t. t ≡ record self.now { cluster = None; bytes = self.now.bytes ++ replicate (8 * entries - length self.now.bytes) 0 }) }
+        ensures entries { IfOk result (λ t. (i : ℕ) → entry_at t.bytes i ≡ entry_at self.now.bytes i) }
+        ensures length { IfOk result (λ t. length t.bytes ≡ 8 * entries) }
+        ensures limit { 1048576 < entries → result ≡ Err MetadataError.Limit }
+        ensures err { IfErr result (IsOfLengthOrMemory (1048576 < entries)) }
+    {
+        let table = self.table.clone_and_grow(alloc, entries, MAX_ENTRIES)?;
+        Ok(RefTable { table })
+    }
+
+    /// The clusters that its entries need.
+    pub fn cluster_count(&self) -> ClusterCount
+        ensures { result ≡ (length self.now.bytes + 2 ^ self.now.cluster_bits - 1) / 2 ^ self.now.cluster_bits }
+    {
+        self.table.cluster_count()
+    }
+
+    pub fn byte_size(&self) -> u64
+        ensures value { result ≡ length self.now.bytes }
+        ensures entries { result ≡ 8 * entry_count self.now }
+        ensures limit { result ≤ 8388608 }
+    {
+        self.table.byte_size()
+    }
+
+    /// The cluster that it begins with, if it has a place.
+    pub fn get_cluster(&self) -> Option<HostCluster>
+        ensures value { result ≡ self.now.cluster }
+        ensures is_table { IsRefTable self.now }
+    {
+        self.table.get_cluster()
+    }
+
+    pub fn set_cluster(&mut self, cluster: HostCluster)
+        requires { IsHostCluster self.old.cluster_bits cluster }
+        ensures { self.new ≡ record self.old { cluster = Some cluster } }
+    {
+        self.table.set_cluster(cluster);
+    }
+
+    pub fn unset_cluster(&mut self)
+        ensures { self.new ≡ record self.old { cluster = None } }
+    {
+        self.table.unset_cluster();
+    }
+}
