@@ -7,8 +7,8 @@ use Rattle.image_access.specs.Contents.{bytes_at, overwritten}
 use Rattle.image_access.specs.Moments.{StorageView}
 use Rattle.image_access.proofs.Bytes.{bytes_at-overwritten, bytes_at-overwritten_apart}
 use Rattle.qcow2_metadata.specs.declared.error.MetadataError.{MetadataError}
-use Rattle.qcow2_alloc.specs.AsyncLruCacheBackend.{laid_over}
-use Rattle.qcow2_alloc.specs.TableSteps.{LoadsTable, FailsToLoad, IsWritten, FlushesTable, FailsToFlush}
+use Rattle.qcow2_alloc.specs.AsyncLruCacheBackend.{laid_over, IsLawful}
+use Rattle.qcow2_alloc.specs.TableSteps.{LoadsTable, FailsToLoad, FlushesTable, FailsToFlush, table_steps}
 
 same_number : (k j : ℕ) → eqb k j ≡ true → k ≡ j
 same_number k j h = grind (arith, nat_tests)
@@ -52,23 +52,25 @@ module _ {S V : Type 0} (view : S → StorageView) (cluster_bits : ℕ) (bytes :
     at_any j true h = here j h
     at_any j false h = there j h
 
-  pub loaded_reads : (s t : S) (k : ℕ) (v : V) → LoadsTable view cluster_bits bytes is_modified cleared s k v t → (view s).is_honest
+  loaded_reads : (s t : S) (k : ℕ) (v : V) → LoadsTable view cluster_bits bytes is_modified cleared s k v t → (view s).is_honest
       → (view t).is_honest × (bytes v ≡ at s k) × ((j : ℕ) → at t j ≡ at s j)
   loaded_reads s t k v h honest = (h.calls.honest honest, h.read honest, λ j. same_at s t j (h.keeps honest))
 
-  pub failed_load_keeps : (s t : S) (k : ℕ) (e : MetadataError) → FailsToLoad view cluster_bits bytes is_modified cleared s k e t → (view s).is_honest
+  failed_load_keeps : (s t : S) (k : ℕ) (e : MetadataError) → FailsToLoad view cluster_bits bytes is_modified cleared s k e t → (view s).is_honest
       → (view t).is_honest × ((j : ℕ) → at t j ≡ at s j)
   failed_load_keeps s t k e h honest = (h.calls.honest honest, λ j. same_at s t j (h.keeps honest))
 
-  pub flush_writes : (s t : S) (k : ℕ) (v w : V) → FlushesTable view cluster_bits bytes is_modified cleared s k v w t → (view s).is_honest
+  flush_writes : (s t : S) (k : ℕ) (v w : V) → FlushesTable view cluster_bits bytes is_modified cleared s k v w t → (view s).is_honest
       → (view t).is_honest × ((j : ℕ) → at t j ≡ cond (eqb k j) (laid_over is_modified bytes v (at s j)) (at s j))
-  flush_writes s t k v w h honest = (h.calls.honest honest,
-      (elim (is_modified v) as (λ m. is_modified v ≡ m → (j : ℕ) → at t j ≡ cond (eqb k j) (cond m (bytes v) (at s j)) (at s j)) [
-    | true ↦ λ m. let g = h.writes m in λ j. at_any s t k v g.fits (g.written honest) j (eqb k j) refl
-    | false ↦ λ m. λ j. same_at s t j (h.skips m honest) ∙ (elim (eqb k j) as (λ b. at s j ≡ cond b (at s j) (at s j)) [ true ↦ refl | false ↦ refl ])
-  ]) refl)
+  flush_writes s t k v w h honest = (
+    h.calls.honest honest,
+    (elim (is_modified v) as (λ m. is_modified v ≡ m → (j : ℕ) → at t j ≡ cond (eqb k j) (cond m (bytes v) (at s j)) (at s j)) [
+      | true ↦ λ m. let g = h.writes m in λ j. at_any s t k v g.fits (g.written honest) j (eqb k j) refl
+      | false ↦ λ m. λ j. same_at s t j (h.skips m honest) ∙ (elim (eqb k j) as (λ b. at s j ≡ cond b (at s j) (at s j)) [ true ↦ refl | false ↦ refl ])
+    ]) refl,
+  )
 
-  pub failed_flush_keeps : (s t : S) (k : ℕ) (v : V) (e : MetadataError) → FailsToFlush view cluster_bits bytes is_modified cleared s k v e t → (view s).is_honest
+  failed_flush_keeps : (s t : S) (k : ℕ) (v : V) (e : MetadataError) → FailsToFlush view cluster_bits bytes is_modified cleared s k v e t → (view s).is_honest
       → (view t).is_honest × (is_modified v ≡ false → (j : ℕ) → at t j ≡ at s j) × ((j : ℕ) → eqb k j ≡ false → at t j ≡ at s j)
   failed_flush_keeps s t k v e h honest = (
     h.calls.honest honest,
@@ -78,3 +80,15 @@ module _ {S V : Type 0} (view : S → StorageView) (cluster_bits : ℕ) (bytes :
       | inr done ↦ there s t k v done.0 done.1 j ne
     ],
   )
+
+  -- a backend of tables keeps the laws
+  pub table_laws : ((v : V) → is_modified (cleared v) ≡ false) → ((v : V) → bytes (cleared v) ≡ bytes v)
+      → IsLawful (table_steps view cluster_bits bytes is_modified cleared) eqb is_modified bytes at (λ s. (view s).is_honest)
+  table_laws unmodified same = record {
+    load_gives = λ s t k v h. h.unmodified;
+    load_reads = loaded_reads;
+    failed_load_keeps = failed_load_keeps;
+    flush_cleans = λ s t k v w h. (ap is_modified h.clean ∙ unmodified v, ap bytes h.clean ∙ same v);
+    flush_writes = flush_writes;
+    failed_flush_keeps = failed_flush_keeps;
+  }

@@ -114,11 +114,7 @@ impl Allocator {
     }
 
     // Takes the lowest run of n clusters that fits below the greatest offset.
-    fn lowest_run<S: Storage>(
-        &mut self,
-        file: &mut ImageFile<S>,
-        n: u64,
-    ) -> Result<u64, ImageError>
+    fn lowest_run<S: Storage>(&mut self, file: &mut ImageFile<S>, n: u64) -> Result<u64, ImageError>
         ensures header { file.new.header ≡ file.old.header }
         ensures nameable { IfOk result (λ first. IsHostCluster file.old.header.fields.cluster_bits first) }
     {
@@ -201,11 +197,7 @@ impl Allocator {
     }
 
     // Lowers the count of a cluster. One that can't be lowered is counted as leaked.
-    fn lower<S: Storage>(
-        &mut self,
-        file: &mut ImageFile<S>,
-        cluster: u64,
-    ) -> Result<(), ImageError>
+    fn lower<S: Storage>(&mut self, file: &mut ImageFile<S>, cluster: u64) -> Result<(), ImageError>
         ensures header { file.new.header ≡ file.old.header }
     {
         match self.try_lower(file, cluster) {
@@ -343,7 +335,7 @@ impl Allocator {
         }
         let mut block = RefBlock::new_cleared(file.alloc, &file.header)?;
         block.set_cluster(cluster);
-        if counts_itself {
+        if counts_itself && block.counts() > 0 {
             block.increment(0);
         }
         file.caches.flush_rb(&mut file.storage)?;

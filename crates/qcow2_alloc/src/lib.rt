@@ -1,8 +1,8 @@
 //! Cached metadata of a qcow2 image, and the allocation of its clusters.
 #![tactic(auto)]
 
-pub mod async_lru_cache;
 mod allocation;
+pub mod async_lru_cache;
 mod cache;
 mod clusters_to_free;
 mod error;

@@ -15,12 +15,12 @@ pub struct L2CacheBackend<S> {
 
 impl<S: Storage> AsyncLruCacheBackend for L2CacheBackend<S> {
     ghost use Rattle.std.specs.Prelude.{◌≡◌, ◌*◌, ◌^◌, ⊤};
-    ghost use Rattle.std.proofs.Common.{ap, refl};
+    ghost use Rattle.std.proofs.Common.{refl};
     ghost use Rattle.image_access.specs.Contents.{bytes_at};
     ghost use Rattle.qcow2_metadata.specs.L2Table.{L2TableView};
     ghost use Rattle.qcow2_alloc.specs.ImageStorage.{storage_of};
     ghost use Rattle.qcow2_alloc.specs.TableCaches.{l2_steps, cleared_l2};
-    ghost use Rattle.qcow2_alloc.specs.TableLaws.{loaded_reads, failed_load_keeps as failed_load, flush_writes as flush_lays, failed_flush_keeps as failed_flush};
+    ghost use Rattle.qcow2_alloc.specs.TableLaws.{table_laws};
 
     type Key = HostCluster;
 
@@ -79,17 +79,7 @@ impl<S: Storage> AsyncLruCacheBackend for L2CacheBackend<S> {
 
     fn evict(&self, _key: HostCluster, _value: L2Table) {}
 
-    ghost load_gives = { λ b s t k v h. h.unmodified };
-
-    ghost load_reads = { λ b s t k v h. loaded_reads (λ s. S.view (storage_of s)) b.header.fields.cluster_bits (λ (v : L2TableView). v.bytes) (λ v. v.is_modified) cleared_l2 s t k v h };
-
-    ghost failed_load_keeps = { λ b s t k e h. failed_load (λ s. S.view (storage_of s)) b.header.fields.cluster_bits (λ (v : L2TableView). v.bytes) (λ v. v.is_modified) cleared_l2 s t k e h };
-
-    ghost flush_cleans = { λ b s t k v w h. (ap (λ (v : L2TableView). v.is_modified) h.clean, ap (λ (v : L2TableView). v.bytes) h.clean) };
-
-    ghost flush_writes = { λ b s t k v w h. flush_lays (λ s. S.view (storage_of s)) b.header.fields.cluster_bits (λ (v : L2TableView). v.bytes) (λ v. v.is_modified) cleared_l2 s t k v w h };
-
-    ghost failed_flush_keeps = { λ b s t k v e h. failed_flush (λ s. S.view (storage_of s)) b.header.fields.cluster_bits (λ (v : L2TableView). v.bytes) (λ v. v.is_modified) cleared_l2 s t k v e h };
+    ghost lawful = { λ b. table_laws (λ s. S.view (storage_of s)) b.header.fields.cluster_bits (λ (v : L2TableView). v.bytes) (λ v. v.is_modified) cleared_l2 (λ _. refl) (λ _. refl) };
 }
 
 impl<S> L2CacheBackend<S> {
@@ -111,12 +101,12 @@ pub struct RefBlockCacheBackend<S> {
 
 impl<S: Storage> AsyncLruCacheBackend for RefBlockCacheBackend<S> {
     ghost use Rattle.std.specs.Prelude.{◌≡◌, ◌*◌, ◌^◌, ⊤};
-    ghost use Rattle.std.proofs.Common.{ap, refl};
+    ghost use Rattle.std.proofs.Common.{refl};
     ghost use Rattle.image_access.specs.Contents.{bytes_at};
     ghost use Rattle.qcow2_metadata.specs.RefBlock.{RefBlockView};
     ghost use Rattle.qcow2_alloc.specs.ImageStorage.{storage_of};
     ghost use Rattle.qcow2_alloc.specs.TableCaches.{rb_steps, cleared_rb};
-    ghost use Rattle.qcow2_alloc.specs.TableLaws.{loaded_reads, failed_load_keeps as failed_load, flush_writes as flush_lays, failed_flush_keeps as failed_flush};
+    ghost use Rattle.qcow2_alloc.specs.TableLaws.{table_laws};
 
     type Key = HostCluster;
 
@@ -175,17 +165,7 @@ impl<S: Storage> AsyncLruCacheBackend for RefBlockCacheBackend<S> {
 
     fn evict(&self, _key: HostCluster, _value: RefBlock) {}
 
-    ghost load_gives = { λ b s t k v h. h.unmodified };
-
-    ghost load_reads = { λ b s t k v h. loaded_reads (λ s. S.view (storage_of s)) b.header.fields.cluster_bits (λ (v : RefBlockView). v.bytes) (λ v. v.is_modified) cleared_rb s t k v h };
-
-    ghost failed_load_keeps = { λ b s t k e h. failed_load (λ s. S.view (storage_of s)) b.header.fields.cluster_bits (λ (v : RefBlockView). v.bytes) (λ v. v.is_modified) cleared_rb s t k e h };
-
-    ghost flush_cleans = { λ b s t k v w h. (ap (λ (v : RefBlockView). v.is_modified) h.clean, ap (λ (v : RefBlockView). v.bytes) h.clean) };
-
-    ghost flush_writes = { λ b s t k v w h. flush_lays (λ s. S.view (storage_of s)) b.header.fields.cluster_bits (λ (v : RefBlockView). v.bytes) (λ v. v.is_modified) cleared_rb s t k v w h };
-
-    ghost failed_flush_keeps = { λ b s t k v e h. failed_flush (λ s. S.view (storage_of s)) b.header.fields.cluster_bits (λ (v : RefBlockView). v.bytes) (λ v. v.is_modified) cleared_rb s t k v e h };
+    ghost lawful = { λ b. table_laws (λ s. S.view (storage_of s)) b.header.fields.cluster_bits (λ (v : RefBlockView). v.bytes) (λ v. v.is_modified) cleared_rb (λ _. refl) (λ _. refl) };
 }
 
 impl<S> RefBlockCacheBackend<S> {
