@@ -1,5 +1,5 @@
 -- What a header is depends on the bytes of cluster 0 alone.
-use Rattle.std.proofs.Common.{◌≡◌, ℕ, ◌+◌, ◌<◌, ◌≤◌, ◌==◌, Bool, List, [], ◌∷◌, length, Some, None, refl, sym, ap, ◌∙◌, subst, inl, inr, if◌then◌else◌, arith}
+use Rattle.std.proofs.Common.{◌≡◌, ◌≢◌, ℕ, ◌+◌, ◌<◌, ◌≤◌, ◌==◌, Bool, List, [], ◌∷◌, length, Some, None, refl, sym, ap, ◌∙◌, subst, inl, inr, if◌then◌else◌, arith}
 use Rattle.std.specs.Prelude.{IsUtf8}
 use Rattle.std.proofs.lemmas.List.{ext_get_or}
 use Rattle.std.proofs.lemmas.List.FromFn.{length-map-range_with_len, get_or-map-range_with_len}
@@ -13,29 +13,33 @@ use Rattle.image_access.specs.Contents.{bytes_at}
 use Rattle.image_access.proofs.Bytes.{byte_at-bytes_at}
 use Rattle.qcow2_metadata.proofs.BigEndian.{number_at-same}
 
--- the bytes before a place are the same
+-- the bytes from one place to another are the same
+abbrev pub SameBetween : ℕ → ℕ → Bytes → Bytes → Type 0
+SameBetween low high b c = (i : ℕ) → low ≤ i → i < high → b i ≡ c i
+
 abbrev pub SameBelow : ℕ → Bytes → Bytes → Type 0
-SameBelow n b c = (i : ℕ) → i < n → b i ≡ c i
+SameBelow high b c = (i : ℕ) → i < high → b i ≡ c i
 
-pub other_way : (n : ℕ) (b c : Bytes) → SameBelow n b c → SameBelow n c b
-other_way n b c same i lt = sym (same i lt)
+other_way : (low high : ℕ) (b c : Bytes) → SameBetween low high b c → SameBetween low high c b
+other_way low high b c same i le lt = sym (same i le lt)
 
-number-same : (n : ℕ) (b c : Bytes) → SameBelow n b c → (place k : ℕ) → place + k ≤ n → number_at b place k ≡ number_at c place k
-number-same n b c same place k fits = number_at-same b c place k (λ i lt. same (place + i) (omega arith))
+number-same : (low high : ℕ) (b c : Bytes) → SameBetween low high b c → (place k : ℕ) → low ≤ place → place + k ≤ high → number_at b place k ≡ number_at c place k
+number-same low high b c same place k le fits = number_at-same b c place k (λ i lt. same (place + i) (omega arith) (omega arith))
 
-bytes-same : (n : ℕ) (b c : Bytes) → SameBelow n b c → (place k : ℕ) → place + k ≤ n → bytes_from b place k ≡ bytes_from c place k
-bytes-same n b c same place k fits =
+bytes-same : (low high : ℕ) (b c : Bytes) → SameBetween low high b c → (place k : ℕ) → (k ≢ 0 → low ≤ place) → place + k ≤ high → bytes_from b place k ≡ bytes_from c place k
+bytes-same low high b c same place k le fits =
     let len = length-map-range_with_len b place k in
     ext_get_or 0 _ _ (len ∙ sym (length-map-range_with_len c place k)) (λ i lt.
     let within : i < k = omega (arith, len) in
+    let from : low ≤ place = le (omega arith) in
     get_or-map-range_with_len b place k i (place + i) 0 within refl
-    ∙ same (place + i) (omega arith)
+    ∙ same (place + i) (omega arith) (omega arith)
     ∙ sym (get_or-map-range_with_len c place k i (place + i) 0 within refl))
 
 pub header-same : (b c : Bytes) → SameBelow 104 b c → header b ≡ header c
 unfolding header
 header-same b c same =
-    let n = number-same 104 b c same in
+    let n : (place k : ℕ) → place + k ≤ 104 → number_at b place k ≡ number_at c place k = λ place k. number-same 0 104 b c (λ i le. same i) place k (omega arith) in
     let magic = n 0 4 (omega arith) in
     let version = n 4 4 (omega arith) in
     let backing_offset = n 8 8 (omega arith) in
@@ -56,45 +60,46 @@ header-same b c same =
     let header_length = n 100 4 (omega arith) in
     cc
 
-module _ (limit : ℕ) (b c : Bytes) (same : SameBelow limit b c) where
-  extension-same : (place : ℕ) (e : ℕ × List ℕ) → IsExtension b limit place e → IsExtension c limit place e
-  extension-same place e there = record {
+module _ (low limit : ℕ) (b c : Bytes) (same : SameBetween low limit b c) where
+  extension-same : (place : ℕ) (e : ℕ × List ℕ) → low ≤ place → IsExtension b limit place e → IsExtension c limit place e
+  extension-same place e from there = record {
     not_the_end = there.not_the_end;
-    kind = sym (number-same limit b c same place 4 (omega (arith, there.inside))) ∙ there.kind;
-    size = sym (number-same limit b c same (place + 4) 4 (omega (arith, there.inside))) ∙ there.size;
-    bytes = sym (bytes-same limit b c same (place + 8) (length e.1) (omega (arith, there.inside))) ∙ there.bytes;
+    kind = sym (number-same low limit b c same place 4 from (omega (arith, there.inside))) ∙ there.kind;
+    size = sym (number-same low limit b c same (place + 4) 4 (omega (arith, from)) (omega (arith, there.inside))) ∙ there.size;
+    bytes = sym (bytes-same low limit b c same (place + 8) (length e.1) (λ _. omega (arith, from)) (omega (arith, there.inside))) ∙ there.bytes;
     inside = there.inside;
   }
 
-  extensions-same : (list : List (ℕ × List ℕ)) (place : ℕ) → AreExtensions b limit place list → AreExtensions c limit place list
-  extensions-same [] place stand = (stand.0, sym (number-same limit b c same place 4 (omega (arith, stand.0))) ∙ stand.1)
-  extensions-same (e ∷ rest) place stand = (extension-same place e stand.0, stand.1, extensions-same rest (behind_extension place (length e.1)) stand.2)
+  pub extensions-same : (list : List (ℕ × List ℕ)) (place : ℕ) → low ≤ place → AreExtensions b limit place list → AreExtensions c limit place list
+  extensions-same [] place from stand = (stand.0, sym (number-same low limit b c same place 4 from (omega (arith, stand.0))) ∙ stand.1)
+  extensions-same (e ∷ rest) place from stand = (extension-same place e from stand.0, stand.1, extensions-same rest (behind_extension place (length e.1)) (omega arith) stand.2)
 
-module _ (h : HeaderFields) (b c : Bytes) (same : SameBelow (cluster_size h) b c) where
-  backing_name_reads-same : BackingNameReads h b → BackingNameReads h c
-  backing_name_reads-same reads = record {
-    inside = reads.inside;
-    behind_header = reads.behind_header;
-    text = λ some. subst IsUtf8 (bytes-same (cluster_size h) b c same h.backing_offset h.backing_length (reads.inside some)) (reads.text some);
-  }
+-- what stands behind the header in cluster 0 is the same
+module _ (h : HeaderFields) (b c : Bytes) (same : SameBetween h.header_length (cluster_size h) b c) where
+  name-same : BackingNameReads h b → h.backing_offset ≢ 0 → bytes_from b h.backing_offset h.backing_length ≡ bytes_from c h.backing_offset h.backing_length
+  name-same reads some = bytes-same _ _ b c same h.backing_offset h.backing_length (reads.behind_header some) (reads.inside some)
 
   pub well_formed-same : IsWellFormed h b → IsWellFormed h c
   well_formed-same formed = record {
     in_range = formed.in_range;
-    extensions = record { list = formed.extensions.list; stand = extensions-same (cluster_size h) b c same formed.extensions.list h.header_length formed.extensions.stand };
-    backing_name = backing_name_reads-same formed.backing_name;
+    extensions = record { list = formed.extensions.list; stand = extensions-same _ _ b c same formed.extensions.list h.header_length (omega arith) formed.extensions.stand };
+    backing_name = record {
+      inside = formed.backing_name.inside;
+      behind_header = formed.backing_name.behind_header;
+      text = λ some. subst IsUtf8 (name-same formed.backing_name some) (formed.backing_name.text some);
+    };
   }
 
-  reads-same : HeaderReads h b → HeaderReads h c
-  reads-same reads = record { well_formed = well_formed-same reads.well_formed; within_limits = reads.within_limits }
-
-  backing_name-same : BackingNameReads h b → backing_name h b ≡ backing_name h c
+  pub backing_name-same : BackingNameReads h b → backing_name h b ≡ backing_name h c
   unfolding backing_name
   backing_name-same reads = elim (cases_eq h.backing_offset 0) [
     | inl none ↦ ap (λ (test : Bool). if test then None else Some (bytes_from b h.backing_offset h.backing_length)) (eq-eqb _ _ none)
         ∙ sym (ap (λ (test : Bool). if test then None else Some (bytes_from c h.backing_offset h.backing_length)) (eq-eqb _ _ none))
-    | inr some ↦ ap (λ l. if h.backing_offset == 0 then None else Some l) (bytes-same (cluster_size h) b c same h.backing_offset h.backing_length (reads.inside some))
+    | inr some ↦ ap (λ l. if h.backing_offset == 0 then None else Some l) (name-same reads some)
   ]
+
+  reads-same : HeaderReads h b → HeaderReads h c
+  reads-same reads = record { well_formed = well_formed-same reads.well_formed; within_limits = reads.within_limits }
 
   pub is_header_of-same : (loaded : HeaderView) → IsHeaderOf loaded h b → IsHeaderOf loaded h c
   unfolding reads-same well_formed-same
@@ -106,8 +111,8 @@ module _ (h : HeaderFields) (b c : Bytes) (same : SameBelow (cluster_size h) b c
     data_file_name = is.data_file_name;
   }
 
-pub reason-same : (h : HeaderFields) (b c : Bytes) → SameBelow (cluster_size h) b c → (writable : Bool) (e : MetadataError) → IsReasonToRefuse h b writable e → IsReasonToRefuse h c writable e
-reason-same h b c same writable Format is = λ formed. is (well_formed-same h c b (other_way _ b c same) formed)
+pub reason-same : (h : HeaderFields) (b c : Bytes) → SameBetween h.header_length (cluster_size h) b c → (writable : Bool) (e : MetadataError) → IsReasonToRefuse h b writable e → IsReasonToRefuse h c writable e
+reason-same h b c same writable Format is = λ formed. is (well_formed-same h c b (other_way _ _ b c same) formed)
 reason-same h b c same writable Limit is = (well_formed-same h b c same is.0, is.1)
 reason-same h b c same writable Unaligned is = (reads-same h b c same is.0, is.1)
 reason-same h b c same writable Version is = is
@@ -130,7 +135,7 @@ not_formed h k b out same formed = out (subst IsInRange (sym same) formed.in_ran
 -- what was found in the first cluster, of the whole contents
 module _ (contents buf : List ℕ) (h : HeaderFields) (is : buf ≡ bytes_at contents 0 (cluster_size h)) (fields : h ≡ header (byte_at contents)) where
   pub loaded : (v : HeaderView) → IsHeaderOf v h (byte_at buf) → IsHeaderOf v (header (byte_at contents)) (byte_at contents)
-  loaded v there = subst (λ k. IsHeaderOf v k (byte_at contents)) fields (is_header_of-same h _ _ (same_read contents buf _ is) v there)
+  loaded v there = subst (λ k. IsHeaderOf v k (byte_at contents)) fields (is_header_of-same h _ _ (λ i le. same_read contents buf _ is i) v there)
 
   pub refused : (writable : Bool) (e : MetadataError) → IsReasonToRefuse h (byte_at buf) writable e → IsReasonToRefuse (header (byte_at contents)) (byte_at contents) writable e
-  refused writable e there = subst (λ k. IsReasonToRefuse k (byte_at contents) writable e) fields (reason-same h _ _ (same_read contents buf _ is) writable e there)
+  refused writable e there = subst (λ k. IsReasonToRefuse k (byte_at contents) writable e) fields (reason-same h _ _ (λ i le. same_read contents buf _ is i) writable e there)

@@ -1,5 +1,5 @@
 -- The header's numbers at their places, its extensions and names, and when a header reads.
-use Rattle.std.specs.Prelude.{ℕ, ◌+◌, ◌-◌, ◌*◌, ◌/◌, ◌%◌, ◌^◌, ◌≡◌, ◌≢◌, ◌≤◌, ◌⊎◌, Bool, ◌==◌, List, [], ◌∷◌, length, Option, Some, None, if◌then◌else◌}
+use Rattle.std.specs.Prelude.{ℕ, ◌+◌, ◌-◌, ◌*◌, ◌/◌, ◌%◌, ◌^◌, ◌≡◌, ◌≢◌, ◌≤◌, ◌⊎◌, Bool, ◌==◌, List, [], ◌∷◌, length, Option, Some, None, ⊤, if◌then◌else◌}
 use Rattle.std.specs.Str.{IsUtf8}
 pub use Rattle.qcow2_metadata.specs.declared.header.HeaderFields.{HeaderFields}
 use Rattle.qcow2_metadata.specs.Bytes.{Bytes, bytes_from, number_at, has_bit}
@@ -148,6 +148,19 @@ pub record HeaderView : Type 0 where
   pub backing_name : Option (List ℕ)
   pub backing_format : Option (List ℕ)
   pub data_file_name : Option (List ℕ)
+
+-- a name is no longer than the largest cluster
+abbrev pub IsShort : Option (List ℕ) → Type 0
+IsShort None = ⊤
+IsShort (Some name) = length name ≤ 2097152
+
+-- what the numbers and names of every header in memory keep
+pub record IsKept (h : HeaderFields) (backing format data_file : Option (List ℕ)) : Type 0 where
+  pub in_range : IsInRange h
+  pub within_limits : IsWithinLimits h
+  pub backing_name : IsShort backing
+  pub backing_format : IsShort format
+  pub data_file_name : IsShort data_file
 
 -- the names stay, the numbers are these
 abbrev pub with_fields : HeaderView → HeaderFields → HeaderView

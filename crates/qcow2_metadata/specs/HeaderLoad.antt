@@ -1,7 +1,7 @@
 -- What a loaded header is of the image's bytes, and why a header isn't loaded.
 use Rattle.std.specs.Prelude.{◌≡◌, ℕ, Bool, IsTrue, List, Option, Some, None, ⊤}
-use Rattle.qcow2_metadata.specs.Bytes.{Bytes}
-use Rattle.qcow2_metadata.specs.Header.{HeaderFields, HeaderView, HeaderReads, IsWellFormed, IsWithinLimits, IsAligned, ExtensionsRead, backing_name, first_of_kind, backing_format_kind, data_file_kind}
+use Rattle.qcow2_metadata.specs.Bytes.{Bytes, byte_at}
+use Rattle.qcow2_metadata.specs.Header.{HeaderFields, HeaderView, header, HeaderReads, IsWellFormed, IsWithinLimits, IsAligned, ExtensionsRead, backing_name, first_of_kind, backing_format_kind, data_file_kind}
 use Rattle.qcow2_metadata.specs.declared.error.MetadataError.{MetadataError}
 use Rattle.qcow2_metadata.specs.declared.error.MetadataError.TheVariants.{Storage, Memory, Version, Unaligned, Limit, Format}
 
@@ -17,12 +17,16 @@ pub record AreNamed (b : Bytes) (limit place : ℕ) (format data_file : Option (
   pub data_file_name : data_file ≡ first_of_kind data_file_kind reads.list
 
 -- it has these numbers, which read, and the names that the bytes hold
-pub record IsHeaderOf (header : HeaderView) (h : HeaderFields) (b : Bytes) : Type 0 where
-  pub fields : header.fields ≡ h
+pub record IsHeaderOf (v : HeaderView) (h : HeaderFields) (b : Bytes) : Type 0 where
+  pub fields : v.fields ≡ h
   pub reads : HeaderReads h b
-  pub backing_name : header.backing_name ≡ backing_name h b
-  pub backing_format : header.backing_format ≡ first_of_kind backing_format_kind reads.well_formed.extensions.list
-  pub data_file_name : header.data_file_name ≡ first_of_kind data_file_kind reads.well_formed.extensions.list
+  pub backing_name : v.backing_name ≡ backing_name h b
+  pub backing_format : v.backing_format ≡ first_of_kind backing_format_kind reads.well_formed.extensions.list
+  pub data_file_name : v.data_file_name ≡ first_of_kind data_file_kind reads.well_formed.extensions.list
+
+-- it is the header that stands in these contents
+abbrev pub IsHeaderIn : HeaderView → List ℕ → Type 0
+IsHeaderIn v contents = IsHeaderOf v (header (byte_at contents)) (byte_at contents)
 
 -- The L1 table begins on a cluster, and so does the reftable where it is to be written.
 pub record HasAlignedTables (h : HeaderFields) (writable : Bool) : Type 0 where

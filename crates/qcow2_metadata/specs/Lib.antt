@@ -1,6 +1,7 @@
 pub mod Bytes
 pub mod Header
 pub mod HeaderLoad
+pub mod HeaderWrite
 pub mod Entries
 pub mod Cover
 pub mod Guest

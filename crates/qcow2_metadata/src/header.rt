@@ -2,8 +2,10 @@ ghost use Rattle.std.specs.Prelude.{◌≡◌, ◌+◌, ◌-◌, ◌*◌, ◌/�
 ghost use Rattle.std.specs.String.{string_bytes};
 ghost use Rattle.qcow2_metadata.specs.Header.{IsInRange, IsWithinLimits, cluster_size as cluster_size_of, entries_per_cluster, reftable_entries as reftable_entries_of, counts_per_block, counts_bits, has_data_file as has_data_file_of, with_fields, with_size, with_l1_table, with_reftable, with_tables_of};
 
+mod create;
 mod extensions;
 mod load;
+mod write;
 
 use crate::{HostOffset, MetadataError};
 use std::marker::Model;
@@ -43,7 +45,7 @@ pub struct Header {
 impl Model for Header {
     ghost use Rattle.std.specs.Prelude.{option_map};
     ghost use Rattle.std.specs.String.{string_bytes};
-    ghost use Rattle.qcow2_metadata.specs.Header.{HeaderView, IsInRange, IsWithinLimits};
+    ghost use Rattle.qcow2_metadata.specs.Header.{HeaderView, IsKept};
 
     ghost Value = { HeaderView };
 
@@ -54,7 +56,7 @@ impl Model for Header {
       data_file_name = option_map string_bytes h.data_file_name;
     } };
 
-    ghost invariant = { λ h. IsInRange h.fields × IsWithinLimits h.fields };
+    ghost invariant = { λ h. IsKept h.fields (option_map string_bytes h.backing_name) (option_map string_bytes h.backing_format) (option_map string_bytes h.data_file_name) };
 }
 
 /// The incompatible bit of an external data file.

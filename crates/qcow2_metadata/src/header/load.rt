@@ -4,7 +4,7 @@ ghost use Rattle.std.specs.Prelude.{◌≡◌, ◌≢◌, ◌+◌, ◌*◌, ◌^
 ghost use Rattle.std.specs.String.{string_bytes};
 ghost use Rattle.qcow2_metadata.specs.Bytes.{byte_at};
 ghost use Rattle.qcow2_metadata.specs.Header.{header, cluster_size, backing_name, IsInRange, IsWithinLimits, BackingNameReads};
-ghost use Rattle.qcow2_metadata.specs.HeaderLoad.{HasAlignedTables, IsHeaderOf, IsReasonToRefuse};
+ghost use Rattle.qcow2_metadata.specs.HeaderLoad.{HasAlignedTables, IsHeaderOf, IsHeaderIn, IsReasonToRefuse};
 ghost use Rattle.qcow2_metadata.specs.MetadataError.{OnlyReads};
 ghost use Rattle.image_access.specs.Contents.{bytes_at};
 ghost use Rattle.image_access.specs.declared.error.StorageError.{StorageError};
@@ -16,13 +16,13 @@ use crate::{HeaderFields, MetadataError};
 use image_access::{Storage, StorageError};
 use std::alloc::{AllocError, Global};
 
-const MAGIC: u32 = 0x5146_49fb;
+pub(super) const MAGIC: u32 = 0x5146_49fb;
 
 /// The bytes of the header of version 2.
 const OLD_HEADER_LENGTH: u32 = 72;
 
 /// The bytes of the header of version 3, without further fields.
-const HEADER_LENGTH: u32 = 104;
+pub(super) const HEADER_LENGTH: u32 = 104;
 
 /// The numbers at their places.
 #[tactic(auto, unfolding(crate::specs::Header::header))]
@@ -59,9 +59,10 @@ fn read_fields(bytes: &[u8]) -> HeaderFields
 }
 
 /// The bytes of a cluster.
-fn cluster_bytes(cluster_bits: u32) -> u64
+pub(super) fn cluster_bytes(cluster_bits: u32) -> u64
     requires { cluster_bits ≤ 21 }
-    ensures { result ≡ 2 ^ cluster_bits }
+    ensures value { result ≡ 2 ^ cluster_bits }
+    ensures small { result ≤ 2097152 }
 {
     1 << cluster_bits
 }
@@ -211,8 +212,7 @@ impl Header {
         storage: &mut S,
         writable: bool,
     ) -> Result<Header, MetadataError>
-        ensures ok { (S.view storage.old).is_honest
-            → IfOk result (λ h. IsHeaderOf h (header (byte_at (S.view storage.old).contents)) (byte_at (S.view storage.old).contents)) }
+        ensures ok { (S.view storage.old).is_honest → IfOk result (λ h. IsHeaderIn h (S.view storage.old).contents) }
         ensures aligned { IfOk result (λ h. HasAlignedTables h.fields writable) }
         ensures refused { (S.view storage.old).is_honest
             → IfErr result (IsReasonToRefuse (header (byte_at (S.view storage.old).contents)) (byte_at (S.view storage.old).contents) writable) }

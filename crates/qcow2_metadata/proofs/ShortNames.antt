@@ -1,0 +1,44 @@
+-- Names that lie in cluster 0 are short.
+use Rattle.std.proofs.Common.{◌≡◌, ℕ, ◌+◌, ◌^◌, ◌≤◌, ◌==◌, Bool, true, false, List, [], ◌∷◌, length, Option, Some, None, sym, ap, subst, inl, inr, if◌then◌else◌, arith}
+use Rattle.std.proofs.lemmas.Bool.{cases_eq, eq-eqb, ne_eqb}
+use Rattle.std.proofs.lemmas.List.FromFn.{length-map-range_with_len}
+use Rattle.std.proofs.Math.Pow.{pow_mono}
+use Rattle.qcow2_metadata.specs.Bytes.{Bytes, bytes_from}
+use Rattle.qcow2_metadata.specs.Header.{HeaderFields, IsInRange, IsWithinLimits, IsShort, IsKept, AreExtensions, BackingNameReads, backing_name, behind_extension, first_of_kind, cluster_size}
+use Rattle.qcow2_metadata.specs.HeaderLoad.{AreNamed}
+
+one_short : (is_kind : Bool) (name : List ℕ) (others : Option (List ℕ)) → length name ≤ 2097152 → IsShort others → IsShort (if is_kind then Some name else others)
+one_short true name others short rest = short
+one_short false name others short rest = rest
+
+first_short : (b : Bytes) (limit kind : ℕ) → limit ≤ 2097152 → (list : List (ℕ × List ℕ)) (place : ℕ) → AreExtensions b limit place list → IsShort (first_of_kind kind list)
+first_short b limit kind small [] place stand = tt
+first_short b limit kind small (e ∷ rest) place stand =
+    one_short (e.0 == kind) e.1 (first_of_kind kind rest) (omega (arith, stand.0.inside)) (first_short b limit kind small rest (behind_extension place (length e.1)) stand.2)
+
+backing_short : (h : HeaderFields) (b : Bytes) → cluster_size h ≤ 2097152 → BackingNameReads h b → IsShort (backing_name h b)
+unfolding backing_name
+backing_short h b small reads = elim (cases_eq h.backing_offset 0) [
+  | inl none ↦ subst (λ test. IsShort (if test then None else Some (bytes_from b h.backing_offset h.backing_length))) (sym (eq-eqb _ _ none)) tt
+  | inr some ↦
+      let short : length (bytes_from b h.backing_offset h.backing_length) ≤ 2097152 =
+      omega (arith, length-map-range_with_len b h.backing_offset h.backing_length, reads.inside some) in
+      subst (λ test. IsShort (if test then None else Some (bytes_from b h.backing_offset h.backing_length))) (sym (ne_eqb _ _ some)) short
+]
+
+pub cluster_small : (h : HeaderFields) → IsInRange h → cluster_size h ≤ 2097152
+cluster_small h in_range = let high : 2 ^ h.cluster_bits ≤ 2 ^ 21 = pow_mono in_range.cluster_bits.1 in omega arith
+
+-- what was read is kept
+pub kept : (h : HeaderFields) (b : Bytes) (backing format data_file : Option (List ℕ)) → IsInRange h → IsWithinLimits h
+    → BackingNameReads h b → backing ≡ backing_name h b → AreNamed b (cluster_size h) h.header_length format data_file
+    → IsKept h backing format data_file
+kept h b backing format data_file in_range limits reads is named =
+    let small = cluster_small h in_range in
+    record {
+      in_range = in_range;
+      within_limits = limits;
+      backing_name = subst IsShort (sym is) (backing_short h b small reads);
+      backing_format = subst IsShort (sym named.backing_format) (first_short b _ _ small named.reads.list _ named.reads.stand);
+      data_file_name = subst IsShort (sym named.data_file_name) (first_short b _ _ small named.reads.list _ named.reads.stand);
+    }
