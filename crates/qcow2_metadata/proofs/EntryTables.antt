@@ -7,7 +7,7 @@ use Rattle.std.proofs.lemmas.Nat.{and_block, and_le_l, and_mask, mod_below, pow-
 use Rattle.image_access.specs.Contents.{bytes_at, overwritten}
 use Rattle.image_access.proofs.Bytes.{byte_at_past, length-bytes_at, put_mid-overwritten}
 use Rattle.qcow2_metadata.specs.Bytes.{byte_at, number_at}
-use Rattle.qcow2_metadata.specs.Header.{HeaderFields, cluster_size}
+use Rattle.qcow2_metadata.specs.Header.{HeaderFields}
 use Rattle.qcow2_metadata.specs.Entries.{l1_entry, l2_entry, reftable_entry, L1EntryReads, ReftableEntryReads}
 use Rattle.qcow2_metadata.specs.TableBytes.{entry_at, ChangesEntry}
 use Rattle.qcow2_metadata.specs.EntryTable.{EntryTableView, EachReads, IsClear, IsL1TableOf, IsReasonNotToLoad, IsRefTableOf, NamesL1Table, NamesRefTable, SomeUnread}
@@ -105,13 +105,13 @@ loaded contents at n bytes is i = ap (λ (l : List ℕ). entry_at l i) is ∙ el
   | inr past ↦ entry_at_past _ i (omega (arith, length-bytes_at contents at (8 * n))) ∙ sym (cond-false _ _ _ (le-ltb i n past))
 ]
 
-pub IsL1TableOf-loaded : (h : HeaderFields) (contents : List ℕ) (cluster entries : ℕ) (t : EntryTableView) → NamesL1Table h cluster entries → t.bytes ≡ bytes_at contents (cluster * cluster_size h) (8 * entries) → IsL1TableOf h (byte_at contents) t
+pub IsL1TableOf-loaded : (h : HeaderFields) (contents : List ℕ) (place entries : ℕ) (t : EntryTableView) → NamesL1Table h place entries → t.bytes ≡ bytes_at contents place (8 * entries) → IsL1TableOf h (byte_at contents) t
 unfolding l1_entry
-IsL1TableOf-loaded h contents cluster entries t names is = λ i. rw (names.0, names.1) (loaded contents (cluster * cluster_size h) entries t.bytes is i)
+IsL1TableOf-loaded h contents place entries t names is = λ i. rw (names.0, names.1) (loaded contents place entries t.bytes is i)
 
-pub IsRefTableOf-loaded : (h : HeaderFields) (contents : List ℕ) (cluster entries : ℕ) (t : EntryTableView) → NamesRefTable h cluster entries → t.bytes ≡ bytes_at contents (cluster * cluster_size h) (8 * entries) → IsRefTableOf h (byte_at contents) t
+pub IsRefTableOf-loaded : (h : HeaderFields) (contents : List ℕ) (place entries : ℕ) (t : EntryTableView) → NamesRefTable h place entries → t.bytes ≡ bytes_at contents place (8 * entries) → IsRefTableOf h (byte_at contents) t
 unfolding reftable_entry
-IsRefTableOf-loaded h contents cluster entries t names is = λ i. rw (names.0, names.1) (loaded contents (cluster * cluster_size h) entries t.bytes is i)
+IsRefTableOf-loaded h contents place entries t names is = λ i. rw (names.0, names.1) (loaded contents place entries t.bytes is i)
 
 -- ---- entries that are entered
 

@@ -1,6 +1,6 @@
 -- The L1 table and the reftable in memory: their entries as their bytes hold them, and the cluster from which on they lie.
-use Rattle.std.specs.Prelude.{◌≡◌, ℕ, ◌+◌, ◌*◌, ◌/◌, ◌%◌, ◌^◌, ◌<◌, ◌≤◌, ◌⊎◌, List, length, Option, Some, None, bit_and}
-use Rattle.qcow2_metadata.specs.Header.{HeaderFields, cluster_size, reftable_entries}
+use Rattle.std.specs.Prelude.{◌≡◌, ◌≢◌, ℕ, ◌+◌, ◌*◌, ◌/◌, ◌%◌, ◌^◌, ◌<◌, ◌≤◌, ◌⊎◌, List, length, Option, Some, None, bit_and}
+use Rattle.qcow2_metadata.specs.Header.{HeaderFields, reftable_entries}
 use Rattle.qcow2_metadata.specs.Bytes.{Bytes}
 use Rattle.qcow2_metadata.specs.Entries.{l1_entry, reftable_entry, L1EntryReads, ReftableEntryReads}
 use Rattle.qcow2_metadata.specs.TableBytes.{entry_at, IsClusterBits}
@@ -56,21 +56,29 @@ pub record IsRefTable (t : EntryTableView) : Type 0 where
   pub table : IsEntryTable 1048576 t
   pub reads : EachReads ReftableEntryReads t.bytes
 
--- the header names so many entries from this cluster on as the L1 table
+-- the header names so many entries from this place on as the L1 table
 abbrev pub NamesL1Table : HeaderFields → ℕ → ℕ → Type 0
-NamesL1Table h cluster entries = (h.l1_offset ≡ cluster * cluster_size h) × (h.l1_entries ≡ entries)
+NamesL1Table h place entries = (h.l1_offset ≡ place) × (h.l1_entries ≡ entries)
 
--- the header names so many entries from this cluster on as the reftable
+-- the header names so many entries from this place on as the reftable
 abbrev pub NamesRefTable : HeaderFields → ℕ → ℕ → Type 0
-NamesRefTable h cluster entries = (h.reftable_offset ≡ cluster * cluster_size h) × (reftable_entries h ≡ entries)
+NamesRefTable h place entries = (h.reftable_offset ≡ place) × (reftable_entries h ≡ entries)
 
 -- its entries are those of the image's L1 table
 abbrev pub IsL1TableOf : HeaderFields → Bytes → EntryTableView → Type 0
 IsL1TableOf h b t = (i : ℕ) → entry_at t.bytes i ≡ l1_entry h b i
 
+-- so are all but perhaps one
+abbrev pub IsL1TableBut : ℕ → HeaderFields → Bytes → EntryTableView → Type 0
+IsL1TableBut index h b t = (i : ℕ) → i ≢ index → entry_at t.bytes i ≡ l1_entry h b i
+
 -- its entries are those of the image's reftable
 abbrev pub IsRefTableOf : HeaderFields → Bytes → EntryTableView → Type 0
 IsRefTableOf h b t = (i : ℕ) → entry_at t.bytes i ≡ reftable_entry h b i
+
+-- so are all but perhaps one
+abbrev pub IsRefTableBut : ℕ → HeaderFields → Bytes → EntryTableView → Type 0
+IsRefTableBut index h b t = (i : ℕ) → i ≢ index → entry_at t.bytes i ≡ reftable_entry h b i
 
 -- so many entries are more than the greatest number, or 64 bits don't hold the end of the table
 abbrev pub PassesLimit : ℕ → ℕ → ℕ → ℕ → Type 0

@@ -221,6 +221,7 @@ impl EntryTable {
         requires { IsSome self.now.cluster }
         ensures written { IfSome self.now.cluster (λ cluster. Changes (S.view storage.old) (S.view storage.new) result
             (overwritten (S.view storage.old).contents (cluster * 2 ^ self.now.cluster_bits) self.now.bytes)) }
+        ensures table { IsEntryTable 4194304 self.now }
         ensures calls { Calls (S.view storage.old) (S.view storage.new) result }
     {
         let at = self.cluster.unwrap().offset(self.cluster_bits).value();
@@ -237,6 +238,8 @@ impl EntryTable {
         requires within { index < entry_count self.now }
         ensures written { IfSome self.now.cluster (λ cluster. Changes (S.view storage.old) (S.view storage.new) result
             (overwritten (S.view storage.old).contents (cluster * 2 ^ self.now.cluster_bits + 8 * index) (to_be_bytes w64 (entry_of self.now.bytes index)))) }
+        ensures fits { entry_of self.now.bytes index < 2 ^ 64 }
+        ensures table { IsEntryTable 4194304 self.now }
         ensures calls { Calls (S.view storage.old) (S.view storage.new) result }
     {
         let at = self.cluster.unwrap().offset(self.cluster_bits).value() + 8 * index as u64;

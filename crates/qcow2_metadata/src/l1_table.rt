@@ -1,17 +1,17 @@
 //! The table that names the L2 tables.
 
-ghost use Rattle.std.specs.Prelude.{◌≡◌, ℕ, ◌+◌, ◌-◌, ◌*◌, ◌/◌, ◌%◌, ◌^◌, ◌<◌, ◌≤◌, ◌↔◌, ◌++◌, Some, None, true, length, replicate, IsTrue, IsSome, IfOk, IfErr, IfSome, IfNone};
+ghost use Rattle.std.specs.Prelude.{◌≡◌, ℕ, ◌+◌, ◌-◌, ◌*◌, ◌/◌, ◌%◌, ◌^◌, ◌<◌, ◌≤◌, ◌↔◌, ◌++◌, Some, None, true, length, replicate, IsTrue, IsSome, IfOk, IfErr, IfSome, IfNone, OnOk};
 ghost use Rattle.std.specs.Int.{w64, to_be_bytes};
 ghost use Rattle.image_access.specs.Contents.{bytes_at, overwritten};
 ghost use Rattle.image_access.specs.Moments.{Keeps, Changes, Calls};
 ghost use Rattle.qcow2_metadata.specs.Bytes.{byte_at};
-ghost use Rattle.qcow2_metadata.specs.Header.{cluster_size};
+ghost use Rattle.qcow2_metadata.specs.Header.{HeaderFields, cluster_size};
 ghost use Rattle.qcow2_metadata.specs.Entries.{host_offset as host_offset_of, is_copied as is_copied_of, L1EntryReads};
 ghost use Rattle.qcow2_metadata.specs.MetadataError.{storage_result};
 ghost use Rattle.qcow2_metadata.specs.L2Mapping.{greatest_offset, IsHostCluster};
 ghost use Rattle.qcow2_metadata.specs.L2Table.{copied_entry as copied_entry_of};
 ghost use Rattle.qcow2_metadata.specs.TableBytes.{entry_at, ChangesEntry};
-ghost use Rattle.qcow2_metadata.specs.EntryTable.{entry_table, entry_count, IsL1Table, IsL1TableOf, NamesL1Table, SomeUnread, PassesLimit, IsOfLengthOrMemory, IsReasonNotToLoad};
+ghost use Rattle.qcow2_metadata.specs.EntryTable.{entry_table, entry_count, IsL1Table, IsL1TableOf, IsL1TableBut, NamesL1Table, SomeUnread, PassesLimit, IsOfLengthOrMemory, IsReasonNotToLoad};
 
 use crate::entry_table::EntryTable;
 use crate::l2_mapping::{COPIED, host_offset, is_copied};
@@ -71,6 +71,7 @@ impl L1Table {
         entries: usize,
     ) -> Result<L1Table, MetadataError>
         ensures table { IfOk result (λ t. t ≡ entry_table header.now.fields None (replicate (8 * entries) 0)) }
+        ensures zeros { IfOk result (λ t. (i : ℕ) → entry_at t.bytes i ≡ 0) }
         ensures limit { 4194304 < entries → result ≡ Err MetadataError.Limit }
         ensures err { IfErr result (IsOfLengthOrMemory (4194304 < entries)) }
     {
@@ -91,7 +92,7 @@ impl L1Table {
         ensures is_table { IfOk result IsL1Table }
         ensures bytes { (S.view storage.old).is_honest → IfOk result (λ t. t.bytes
             ≡ bytes_at (S.view storage.old).contents (cluster * cluster_size header.now.fields) (8 * entries)) }
-        ensures of_image { (S.view storage.old).is_honest → NamesL1Table header.now.fields cluster entries
+        ensures of_image { (S.view storage.old).is_honest → NamesL1Table header.now.fields (cluster * cluster_size header.now.fields) entries
             → IfOk result (IsL1TableOf header.now.fields (byte_at (S.view storage.old).contents)) }
         ensures limit { PassesLimit 4194304 header.now.fields.cluster_bits cluster entries → result ≡ Err MetadataError.Limit }
         ensures err { IfErr result (IsReasonNotToLoad (PassesLimit 4194304 header.now.fields.cluster_bits cluster entries)
@@ -174,6 +175,8 @@ impl L1Table {
         requires { IsSome self.now.cluster }
         ensures written { IfSome self.now.cluster (λ cluster. Changes (S.view storage.old) (S.view storage.new) result
             (overwritten (S.view storage.old).contents (cluster * 2 ^ self.now.cluster_bits) self.now.bytes)) }
+        ensures of_image { (S.view storage.old).is_honest → (h : HeaderFields) → IfSome self.now.cluster (λ cluster.
+            NamesL1Table h (cluster * 2 ^ self.now.cluster_bits) (entry_count self.now) → OnOk result (IsL1TableOf h (byte_at (S.view storage.new).contents) self.now)) }
         ensures calls { Calls (S.view storage.old) (S.view storage.new) result }
     {
         self.table.write(storage)
@@ -185,6 +188,10 @@ impl L1Table {
         requires within { index < entry_count self.now }
         ensures written { IfSome self.now.cluster (λ cluster. Changes (S.view storage.old) (S.view storage.new) result
             (overwritten (S.view storage.old).contents (cluster * 2 ^ self.now.cluster_bits + 8 * index) (to_be_bytes w64 (entry_at self.now.bytes index)))) }
+        ensures fits { entry_at self.now.bytes index < 2 ^ 64 }
+        ensures of_image { (S.view storage.old).is_honest → (h : HeaderFields) → IfSome self.now.cluster (λ cluster.
+            NamesL1Table h (cluster * 2 ^ self.now.cluster_bits) (entry_count self.now) × IsL1TableBut index h (byte_at (S.view storage.old).contents) self.now
+            → OnOk result (IsL1TableOf h (byte_at (S.view storage.new).contents) self.now)) }
         ensures calls { Calls (S.view storage.old) (S.view storage.new) result }
     {
         self.table.write_entry(storage, index)

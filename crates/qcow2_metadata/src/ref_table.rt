@@ -1,16 +1,16 @@
 //! The table that names the refblocks.
 
-ghost use Rattle.std.specs.Prelude.{◌≡◌, ℕ, ◌+◌, ◌-◌, ◌*◌, ◌/◌, ◌%◌, ◌^◌, ◌<◌, ◌≤◌, ◌↔◌, ◌++◌, Some, None, true, length, replicate, IsTrue, IsSome, IfOk, IfErr, IfSome, IfNone};
+ghost use Rattle.std.specs.Prelude.{◌≡◌, ℕ, ◌+◌, ◌-◌, ◌*◌, ◌/◌, ◌%◌, ◌^◌, ◌<◌, ◌≤◌, ◌↔◌, ◌++◌, Some, None, true, length, replicate, IsTrue, IsSome, IfOk, IfErr, IfSome, IfNone, OnOk};
 ghost use Rattle.std.specs.Int.{w64, to_be_bytes};
 ghost use Rattle.image_access.specs.Contents.{bytes_at, overwritten};
 ghost use Rattle.image_access.specs.Moments.{Keeps, Changes, Calls};
 ghost use Rattle.qcow2_metadata.specs.Bytes.{byte_at};
-ghost use Rattle.qcow2_metadata.specs.Header.{cluster_size};
+ghost use Rattle.qcow2_metadata.specs.Header.{HeaderFields, cluster_size};
 ghost use Rattle.qcow2_metadata.specs.Entries.{block_offset as block_offset_of, ReftableEntryReads};
 ghost use Rattle.qcow2_metadata.specs.MetadataError.{storage_result};
 ghost use Rattle.qcow2_metadata.specs.L2Mapping.{IsHostCluster};
 ghost use Rattle.qcow2_metadata.specs.TableBytes.{entry_at, ChangesEntry};
-ghost use Rattle.qcow2_metadata.specs.EntryTable.{entry_table, entry_count, IsRefTable, IsRefTableOf, NamesRefTable, SomeUnread, PassesLimit, IsOfLengthOrMemory, IsReasonNotToLoad};
+ghost use Rattle.qcow2_metadata.specs.EntryTable.{entry_table, entry_count, IsRefTable, IsRefTableOf, IsRefTableBut, NamesRefTable, SomeUnread, PassesLimit, IsOfLengthOrMemory, IsReasonNotToLoad};
 
 use crate::entry_table::EntryTable;
 use crate::{ClusterCount, Header, HostCluster, HostOffset, MetadataError};
@@ -56,6 +56,7 @@ impl RefTable {
         entries: usize,
     ) -> Result<RefTable, MetadataError>
         ensures table { IfOk result (λ t. t ≡ entry_table header.now.fields None (replicate (8 * entries) 0)) }
+        ensures zeros { IfOk result (λ t. (i : ℕ) → entry_at t.bytes i ≡ 0) }
         ensures limit { 1048576 < entries → result ≡ Err MetadataError.Limit }
         ensures err { IfErr result (IsOfLengthOrMemory (1048576 < entries)) }
     {
@@ -76,7 +77,7 @@ impl RefTable {
         ensures is_table { IfOk result IsRefTable }
         ensures bytes { (S.view storage.old).is_honest → IfOk result (λ t. t.bytes
             ≡ bytes_at (S.view storage.old).contents (cluster * cluster_size header.now.fields) (8 * entries)) }
-        ensures of_image { (S.view storage.old).is_honest → NamesRefTable header.now.fields cluster entries
+        ensures of_image { (S.view storage.old).is_honest → NamesRefTable header.now.fields (cluster * cluster_size header.now.fields) entries
             → IfOk result (IsRefTableOf header.now.fields (byte_at (S.view storage.old).contents)) }
         ensures limit { PassesLimit 1048576 header.now.fields.cluster_bits cluster entries → result ≡ Err MetadataError.Limit }
         ensures err { IfErr result (IsReasonNotToLoad (PassesLimit 1048576 header.now.fields.cluster_bits cluster entries)
@@ -153,6 +154,8 @@ impl RefTable {
         requires { IsSome self.now.cluster }
         ensures written { IfSome self.now.cluster (λ cluster. Changes (S.view storage.old) (S.view storage.new) result
             (overwritten (S.view storage.old).contents (cluster * 2 ^ self.now.cluster_bits) self.now.bytes)) }
+        ensures of_image { (S.view storage.old).is_honest → (h : HeaderFields) → IfSome self.now.cluster (λ cluster.
+            NamesRefTable h (cluster * 2 ^ self.now.cluster_bits) (entry_count self.now) → OnOk result (IsRefTableOf h (byte_at (S.view storage.new).contents) self.now)) }
         ensures calls { Calls (S.view storage.old) (S.view storage.new) result }
     {
         self.table.write(storage)
@@ -164,6 +167,10 @@ impl RefTable {
         requires within { index < entry_count self.now }
         ensures written { IfSome self.now.cluster (λ cluster. Changes (S.view storage.old) (S.view storage.new) result
             (overwritten (S.view storage.old).contents (cluster * 2 ^ self.now.cluster_bits + 8 * index) (to_be_bytes w64 (entry_at self.now.bytes index)))) }
+        ensures fits { entry_at self.now.bytes index < 2 ^ 64 }
+        ensures of_image { (S.view storage.old).is_honest → (h : HeaderFields) → IfSome self.now.cluster (λ cluster.
+            NamesRefTable h (cluster * 2 ^ self.now.cluster_bits) (entry_count self.now) × IsRefTableBut index h (byte_at (S.view storage.old).contents) self.now
+            → OnOk result (IsRefTableOf h (byte_at (S.view storage.new).contents) self.now)) }
         ensures calls { Calls (S.view storage.old) (S.view storage.new) result }
     {
         self.table.write_entry(storage, index)

@@ -25,5 +25,5 @@ returns-clause-is_table g c = record {
 
 pub returns-clause-of_image : goal.returns-clause-of_image
 returns-clause-of_image g c = λ honest names.
-    IsL1TableOf-loaded c.args.header.now.fields (g.S.Storage.view c.args.storage.now).contents c.args.cluster c.args.entries c.in_ok-table.table names
+    IsL1TableOf-loaded c.args.header.now.fields (g.S.Storage.view c.args.storage.now).contents _ c.args.entries c.in_ok-table.table names
     (rw (← c.cluster_bits-bits.ensures.value) (c.in_ok-table.ensures.bytes honest))

@@ -1,0 +1,96 @@
+-- What the file holds of a table that was written.
+use Rattle.std.proofs.Common.{◌≡◌, ◌≢◌, ℕ, ◌+◌, ◌*◌, ◌%◌, ◌^◌, ◌<◌, ◌≤◌, inl, inr, List, Option, Some, None, Result, Ok, Err, nat_lt, if◌then◌else◌, length, sym, ap, ◌∙◌, subst, arith, IfSome, OnOk}
+use Rattle.std.specs.Int.{w64, to_be_bytes}
+use Rattle.std.proofs.lemmas.Bool.{cases_eq, cases_lt, cond-false, cond-true, le-ltb, lt-ltb}
+use Rattle.std.proofs.lemmas.Nat.{from_be_bytes-to_be_bytes_8}
+use Rattle.image_access.specs.Contents.{overwritten}
+use Rattle.image_access.specs.Moments.{StorageView, Becomes, Changes}
+use Rattle.image_access.specs.declared.error.StorageError.{StorageError}
+use Rattle.image_access.proofs.Bytes.{byte_at-overwritten, byte_at-overwritten_outside}
+use Rattle.qcow2_metadata.specs.Bytes.{byte_at, number_at}
+use Rattle.qcow2_metadata.specs.Header.{HeaderFields, reftable_entries}
+use Rattle.qcow2_metadata.specs.Entries.{l1_entry, l2_entry, reftable_entry}
+use Rattle.qcow2_metadata.specs.TableBytes.{entry_at}
+use Rattle.qcow2_metadata.specs.EntryTable.{EntryTableView, entry_count, IsL1TableOf, IsL1TableBut, IsRefTableOf, IsRefTableBut, NamesL1Table, NamesRefTable}
+use Rattle.qcow2_metadata.proofs.BigEndian.{number_at-same, from_be_bytes-8}
+use Rattle.qcow2_metadata.proofs.TableEntries.{number_at-moved}
+use Rattle.qcow2_metadata.proofs.EntryTables.{entry_at_past}
+
+-- what holds of the contents that are written holds after the write
+after_becomes : {T : Type 0} (result : Result T StorageError) (old changed new : List ℕ) (P : List ℕ → Type 0) → P changed → Becomes result old changed new → OnOk result (P new)
+after_becomes (Ok _) old changed new P holds is = subst P (sym is) holds
+after_becomes (Err _) old changed new P holds is = tt
+
+pub after_write : {T : Type 0} (cluster : Option ℕ) (result : Result T StorageError) (old new : StorageView) (changed : ℕ → List ℕ) (Named : ℕ → Type 0) (P : List ℕ → Type 0)
+    → ((c : ℕ) → Named c → P (changed c)) → old.is_honest → IfSome cluster (λ c. Changes old new result (changed c)) → IfSome cluster (λ c. Named c → OnOk result (P new.contents))
+after_write None result old new changed Named P holds honest changes = tt
+after_write (Some c) result old new changed Named P holds honest changes = λ named. after_becomes result old.contents (changed c) new.contents P (holds c named) (changes honest)
+
+-- ---- a whole table
+
+number_at-written : (contents : List ℕ) (at : ℕ) (bytes : List ℕ) (i : ℕ) → 8 * i + 8 ≤ length bytes → number_at (byte_at (overwritten contents at bytes)) (at + 8 * i) 8 ≡ entry_at bytes i
+unfolding l2_entry
+number_at-written contents at bytes i within =
+    number_at-moved _ _ (at + 8 * i) (0 + 8 * i) 8 (λ k lt.
+    let place : at + 8 * i + k ≡ at + (8 * i + k) = omega arith in
+    let inside : 8 * i + k ≡ 0 + 8 * i + k = omega arith in
+    ap (byte_at (overwritten contents at bytes)) place ∙ byte_at-overwritten contents at bytes (8 * i + k) (omega arith) ∙ ap (byte_at bytes) inside)
+
+written : (contents : List ℕ) (at n : ℕ) (bytes : List ℕ) → length bytes ≡ 8 * n → (i : ℕ) → entry_at bytes i ≡ (if nat_lt i n then number_at (byte_at (overwritten contents at bytes)) (at + 8 * i) 8 else 0)
+written contents at n bytes whole i = elim (cases_lt i n) [
+  | inl within ↦ sym (number_at-written contents at bytes i (omega arith)) ∙ sym (cond-true _ _ _ (lt-ltb i n within))
+  | inr past ↦ entry_at_past bytes i (omega arith) ∙ sym (cond-false _ _ _ (le-ltb i n past))
+]
+
+pub IsL1TableOf-written : (h : HeaderFields) (contents : List ℕ) (place : ℕ) (t : EntryTableView) → length t.bytes % 8 ≡ 0 → NamesL1Table h place (entry_count t)
+    → IsL1TableOf h (byte_at (overwritten contents place t.bytes)) t
+unfolding l1_entry
+IsL1TableOf-written h contents place t whole names = λ i. rw (names.0, names.1) (written contents place (entry_count t) t.bytes (omega arith) i)
+
+pub IsRefTableOf-written : (h : HeaderFields) (contents : List ℕ) (place : ℕ) (t : EntryTableView) → length t.bytes % 8 ≡ 0 → NamesRefTable h place (entry_count t)
+    → IsRefTableOf h (byte_at (overwritten contents place t.bytes)) t
+unfolding reftable_entry
+IsRefTableOf-written h contents place t whole names = λ i. rw (names.0, names.1) (written contents place (entry_count t) t.bytes (omega arith) i)
+
+-- ---- one entry
+
+module _ (contents : List ℕ) (at i entry : ℕ) where
+  here : entry < 2 ^ 64 → number_at (byte_at (overwritten contents (at + 8 * i) (to_be_bytes w64 entry))) (at + 8 * i) 8 ≡ entry
+  here fits =
+      let bytes : List ℕ = to_be_bytes w64 entry in
+      sym (from_be_bytes-8 bytes (byte_at (overwritten contents (at + 8 * i) bytes)) (at + 8 * i) (λ k lt. sym (byte_at-overwritten contents (at + 8 * i) bytes k lt)))
+      ∙ from_be_bytes-to_be_bytes_8 entry fits
+
+  elsewhere : (j : ℕ) → j ≢ i → number_at (byte_at (overwritten contents (at + 8 * i) (to_be_bytes w64 entry))) (at + 8 * j) 8 ≡ number_at (byte_at contents) (at + 8 * j) 8
+  elsewhere j apart =
+      number_at-same _ _ (at + 8 * j) 8 (λ k lt.
+      byte_at-overwritten_outside contents (at + 8 * i) (to_be_bytes w64 entry) (at + 8 * j + k)
+      (elim (cases_lt j i) [ inl below ↦ inl (omega arith) | inr above ↦ inr (omega arith) ]))
+
+-- the others stood there before
+written_entry : (contents : List ℕ) (at n : ℕ) (bytes : List ℕ) (i : ℕ) → i < n → entry_at bytes i < 2 ^ 64
+    → ((j : ℕ) → j ≢ i → entry_at bytes j ≡ (if nat_lt j n then number_at (byte_at contents) (at + 8 * j) 8 else 0))
+    → (j : ℕ) → entry_at bytes j ≡ (if nat_lt j n then number_at (byte_at (overwritten contents (at + 8 * i) (to_be_bytes w64 (entry_at bytes i)))) (at + 8 * j) 8 else 0)
+written_entry contents at n bytes i within fits before j = elim (cases_eq j i) [
+  | inl same ↦
+      let entry : ℕ = entry_at bytes i in
+      ap (entry_at bytes) same ∙ sym (here contents at i entry fits) ∙ sym (cond-true _ _ _ (lt-ltb i n within))
+      ∙ ap (λ k. if nat_lt k n then number_at (byte_at (overwritten contents (at + 8 * i) (to_be_bytes w64 entry))) (at + 8 * k) 8 else 0) (sym same)
+  | inr apart ↦ before j apart ∙ ap (λ v. if nat_lt j n then v else 0) (sym (elsewhere contents at i (entry_at bytes i) j apart))
+]
+
+pub IsL1TableOf-written_entry : (h : HeaderFields) (contents : List ℕ) (place : ℕ) (t : EntryTableView) (i : ℕ) → i < entry_count t → entry_at t.bytes i < 2 ^ 64
+    → NamesL1Table h place (entry_count t) × IsL1TableBut i h (byte_at contents) t → IsL1TableOf h (byte_at (overwritten contents (place + 8 * i) (to_be_bytes w64 (entry_at t.bytes i)))) t
+unfolding l1_entry
+IsL1TableOf-written_entry h contents place t i within fits named =
+    let few : i < h.l1_entries = omega (arith, named.0.1) in
+    let all = written_entry contents h.l1_offset h.l1_entries t.bytes i few fits named.1 in
+    λ j. rw (← named.0.0) (all j)
+
+pub IsRefTableOf-written_entry : (h : HeaderFields) (contents : List ℕ) (place : ℕ) (t : EntryTableView) (i : ℕ) → i < entry_count t → entry_at t.bytes i < 2 ^ 64
+    → NamesRefTable h place (entry_count t) × IsRefTableBut i h (byte_at contents) t → IsRefTableOf h (byte_at (overwritten contents (place + 8 * i) (to_be_bytes w64 (entry_at t.bytes i)))) t
+unfolding reftable_entry
+IsRefTableOf-written_entry h contents place t i within fits named =
+    let few : i < reftable_entries h = omega (arith, named.0.1) in
+    let all = written_entry contents h.reftable_offset (reftable_entries h) t.bytes i few fits named.1 in
+    λ j. rw (← named.0.0) (all j)
