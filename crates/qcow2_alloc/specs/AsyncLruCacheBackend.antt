@@ -27,20 +27,15 @@ laid_over is_modified bytes v under = cond (is_modified v) (bytes v) under
 pub record IsLawful {S K V E : Type 0} (steps : Steps S K V E) (eq : K → K → Bool) (is_modified : V → Bool) (bytes : V → List ℕ) (stored : S → K → List ℕ) (is_honest : S → Type 0) : Type 0 where
   -- a load gives an unmodified value
   pub load_gives : (s t : S) (k : K) (v : V) → steps.loaded s k v t → is_modified v ≡ false
-
   -- on an honest store it has the bytes under the key, and no bytes change
   pub load_reads : (s t : S) (k : K) (v : V) → steps.loaded s k v t → is_honest s → is_honest t × (bytes v ≡ stored s k) × KeepsBytes stored s t
-
   -- nor do they where it fails
   pub failed_load_keeps : (s t : S) (k : K) (e : E) → steps.load_failed s k e t → is_honest s → is_honest t × KeepsBytes stored s t
-
   -- a flush that succeeds leaves the value unmodified, with its bytes
   pub flush_cleans : (s t : S) (k : K) (v w : V) → steps.flushed s k v w t → (is_modified w ≡ false) × (bytes w ≡ bytes v)
-
   -- on an honest store a modified value's bytes are then under the key, and no others changed
   pub flush_writes : (s t : S) (k : K) (v w : V) → steps.flushed s k v w t → is_honest s
       → is_honest t × ((j : K) → stored t j ≡ cond (eq k j) (laid_over is_modified bytes v (stored s j)) (stored s j))
-
   -- one that fails changes at most the bytes under the key of a modified value
   pub failed_flush_keeps : (s t : S) (k : K) (v : V) (e : E) → steps.flush_failed s k v e t → is_honest s
       → is_honest t × (is_modified v ≡ false → KeepsBytes stored s t) × ((j : K) → eq k j ≡ false → stored t j ≡ stored s j)

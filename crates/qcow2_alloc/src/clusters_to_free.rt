@@ -126,7 +126,10 @@ impl ClustersToFreeList {
     }
 
     /// Room for a run of clusters that may come back to any list.
-    pub fn pending_guard(alloc: Global, entry: ClustersToFreeEntry) -> Result<PendingClusters, AllocError>
+    pub fn pending_guard(
+        alloc: Global,
+        entry: ClustersToFreeEntry,
+    ) -> Result<PendingClusters, AllocError>
         ensures { IfOk result (λ p. p ≡ entry) }
     {
         match Box::new(alloc, Node { entry, next: None }) {

@@ -73,12 +73,12 @@ impl AsyncLruCacheBackend for Pages {
     }
 
     ghost lawful = { λ b. record {
-        load_gives = λ s t k v h. h;
-        load_reads = λ s t k v h honest. absurd honest;
-        failed_load_keeps = λ s t k e h honest. absurd honest;
-        flush_cleans = λ s t k v w h. (h.0, ap (λ n. n ∷ []) h.1);
-        flush_writes = λ s t k v w h honest. absurd honest;
-        failed_flush_keeps = λ s t k v e h honest. absurd honest;
+      load_gives = λ s t k v h. h;
+      load_reads = λ s t k v h honest. absurd honest;
+      failed_load_keeps = λ s t k e h honest. absurd honest;
+      flush_cleans = λ s t k v w h. (h.0, ap (λ n. n ∷ []) h.1);
+      flush_writes = λ s t k v w h honest. absurd honest;
+      failed_flush_keeps = λ s t k v e h honest. absurd honest;
     } };
 }
 
