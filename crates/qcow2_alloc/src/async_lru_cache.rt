@@ -26,7 +26,7 @@ pub use slot::Slot;
 use std::alloc::{AllocError, Global};
 use std::marker::Model;
 
-/// A cache of at most `size` values.
+/// A cache of at most `size` values, in the order of their use. A pinned value stays, and is found in its place.
 #[derive(Drop)]
 pub struct AsyncLruCache<B: AsyncLruCacheBackend> {
     backend: B,
@@ -46,6 +46,7 @@ impl<B: AsyncLruCacheBackend> Model for AsyncLruCache<B> {
 }
 
 impl<B: AsyncLruCacheBackend> AsyncLruCache<B> {
+    /// An empty cache.
     pub fn new(alloc: Global, backend: B, size: usize) -> Result<Self, AllocError>
     where
         B: Drop,
@@ -59,6 +60,7 @@ impl<B: AsyncLruCacheBackend> AsyncLruCache<B> {
         })
     }
 
+    /// How many entries it holds.
     pub fn len(&self) -> usize
         ensures len { result ≡ length self.now.entries }
         ensures fits { length self.now.entries ≤ self.now.size }
@@ -67,6 +69,8 @@ impl<B: AsyncLruCacheBackend> AsyncLruCache<B> {
         self.entries.len()
     }
 
+    /// Brings the value under a key to the front; where it isn't there, it is loaded first: true. False where the cache is full and nothing may be
+    /// flushed. Where it may, the least recently used entry with no pin is flushed and then removed.
     pub fn get_or_insert(
         &mut self,
         store: &mut B::Store,
@@ -79,11 +83,12 @@ impl<B: AsyncLruCacheBackend> AsyncLruCache<B> {
             → GetsNew (B.steps self.old.backend) B.Key.eq self.old.size may_flush key store.old self.old.entries result store.new self.new.entries }
         ensures others { self.new ≡ with_entries self.old self.new.entries }
 
-        // Whatever is got comes to the front, and an entry is gone only where it was the least recently used one with no pin, after its flush succeeded.
+        // What is got is in front. Only the least recently used entry with no pin goes, after its flush succeeded.
         ensures front { result ≡ Ok true → IsInFront (B.Key.eq key) self.new.entries }
-        ensures goes { OnlyOldestGoes B.Key.eq (λ e. (w : B.Value) × (t : B.Store) × (B.steps self.old.backend).flushed store.old e.0 e.1.value w t) self.old.entries self.new.entries }
+        ensures goes { OnlyOldestGoes B.Key.eq (λ e. (w : B.Value) × (t : B.Store) × (B.steps self.old.backend).flushed store.old e.0 e.1.value w t)
+            self.old.entries self.new.entries }
 
-        // The bytes of the store with the modified values laid over stay.
+        // The bytes of the store, with the modified values laid over, stay.
         ensures known { KeepsKnown B.Key.eq B.is_modified B.bytes (B.stored self.old.backend) B.is_honest store.old self.old.entries store.new self.new.entries }
     {
         if self.entries.promote(&key) {
@@ -99,6 +104,8 @@ impl<B: AsyncLruCacheBackend> AsyncLruCache<B> {
         )
     }
 
+    /// Puts a value in front, under a key that isn't there as if it were loaded, or in the place of the one that is there, which is flushed first:
+    /// true. It is taken only then. False where nothing may be flushed and it had to be, and where there is no value.
     pub fn insert(
         &mut self,
         store: &mut B::Store,
@@ -143,6 +150,7 @@ impl<B: AsyncLruCacheBackend> AsyncLruCache<B> {
         )
     }
 
+    /// The value under a key. The order stays.
     pub fn peek(&self, key: B::Key) -> Option<&B::Value>
         ensures { option_copied result ≡ value_at (B.Key.eq key) self.now.entries }
     {
@@ -150,6 +158,7 @@ impl<B: AsyncLruCacheBackend> AsyncLruCache<B> {
         Some(&slot.value)
     }
 
+    /// Pins the entry under a key once more. False where there is none, or no count for it.
     pub fn pin(&mut self, key: B::Key) -> bool
         ensures value { result ≡ can_pin (B.Key.eq key) self.old.entries }
         ensures entries { self.new ≡ with_entries self.old (pin_at (B.Key.eq key) self.old.entries) }
@@ -164,6 +173,7 @@ impl<B: AsyncLruCacheBackend> AsyncLruCache<B> {
         true
     }
 
+    /// Takes a pin from the entry under a key. False where there is none.
     pub fn unpin(&mut self, key: B::Key) -> bool
         ensures value { result ≡ can_unpin (B.Key.eq key) self.old.entries }
         ensures entries { self.new ≡ with_entries self.old (unpin_at (B.Key.eq key) self.old.entries) }
@@ -178,6 +188,7 @@ impl<B: AsyncLruCacheBackend> AsyncLruCache<B> {
         true
     }
 
+    /// Flushes each entry, the most recently used first, also past a failure. The first failure is answered.
     pub fn flush(&mut self, store: &mut B::Store) -> Result<(), CacheError<B::Key, B::Error>>
         ensures flushed { Flushes (B.steps self.old.backend) store.old self.old.entries result store.new self.new.entries }
         ensures others { self.new ≡ with_entries self.old self.new.entries }
@@ -189,6 +200,7 @@ impl<B: AsyncLruCacheBackend> AsyncLruCache<B> {
         }
     }
 
+    /// Flushes the entry under a key. False where there is none. The order stays.
     pub fn flush_key(
         &mut self,
         store: &mut B::Store,
@@ -210,15 +222,18 @@ impl<B: AsyncLruCacheBackend> AsyncLruCache<B> {
         Ok(true)
     }
 
+    /// The key of the least recently used entry with no pin, which is the next to go.
     pub fn next_out(&self) -> Option<B::Key>
         ensures { result ≡ option_map (λ e. e.0) (oldest_free self.now.entries) }
     {
         oldest_free(&self.entries)
     }
 
+    /// Gives each entry with no pin to the backend, unflushed. The keys of those that are still in use are answered.
     pub fn invalidate(&mut self) -> Result<(), CacheError<B::Key, B::Error>>
         ensures answer { Invalidates self.old.entries result self.new.entries }
-        ensures evicted { result ≢ Err CacheError.Memory → All (λ e. is_pinned e.1 ≡ false → B.evicted self.old.backend e.0 e.1.value) self.old.entries }
+        ensures evicted { result ≢ Err CacheError.Memory
+            → All (λ e. is_pinned e.1 ≡ false → B.evicted self.old.backend e.0 e.1.value) self.old.entries }
         ensures others { self.new ≡ with_entries self.old self.new.entries }
     {
         let alloc = *self.entries.allocator();
@@ -233,6 +248,7 @@ impl<B: AsyncLruCacheBackend> AsyncLruCache<B> {
         }
     }
 
+    /// Gives the entry under a key to the backend, unflushed. False where there is none, or it is pinned.
     pub fn remove(&mut self, key: B::Key) -> bool
         ensures value { result ≡ can_remove (B.Key.eq key) self.old.entries }
         ensures evicted { IfSome (lookup (B.Key.eq key) self.old.entries) (λ s. result ≡ true → B.evicted self.old.backend key s.value) }
@@ -255,8 +271,12 @@ impl<B: AsyncLruCacheBackend> AsyncLruCache<B> {
     ghost use Rattle.qcow2_alloc.specs.AsyncLruCache.{set_at};
     ghost use Rattle.qcow2_alloc.specs.contracts.async_lru_cache.AsyncLruCache.{the_row};
 
+    /// The value under a key, to be changed in its place. The order stays.
     pub fn peek_mut(&mut self, key: B::Key) -> Option<&mut B::Value>
-        ensures* writes_back { sem 𝓛 (LendsIf (the_row B.row B.Key.row B.Value.row B.Error.row B.Store.row B.AsyncLruCacheBackend (record {}) (record { eq = B.Key.eq }) (record { hash_input = B.Key.hash_input })) B.Value.row self.entry result (λ w. with_entries self.entry.now (set_at (B.Key.eq key) self.entry.now.entries w)) self.entry.now) }
+        // The cache ends with the last value behind the result set under the key.
+        ensures* writes_back { sem 𝓛 (LendsIf
+            (the_row B.row B.Key.row B.Value.row B.Error.row B.Store.row B.AsyncLruCacheBackend (record {}) (record { eq = B.Key.eq }) (record { hash_input = B.Key.hash_input }))
+            B.Value.row self.entry result (λ w. with_entries self.entry.now (set_at (B.Key.eq key) self.entry.now.entries w)) self.entry.now) }
         ensures value { option_copied_mut result ≡ value_at (B.Key.eq key) self.old.entries }
     {
         let slot = self.entries.peek_mut(&key)?;
