@@ -1,0 +1,18 @@
+-- Which part of a new cluster gets the bytes that were there before.
+use Rattle.std.specs.Prelude.{ℕ, ◌+◌, ◌-◌, ◌*◌, ◌/◌, ◌==◌, nat_lt, min, Option, Some, None, if◌then◌else◌}
+use Rattle.qcow2_image.specs.declared.copy_range.CopyRange.{CopyRange}
+
+-- The whole cluster; but where the part that is announced as overwritten begins at its start, what follows it, and where it ends at its end, what stands before it.
+abbrev pub uncut_copy_range : ℕ → Option CopyRange → CopyRange
+uncut_copy_range cs None = record { start = 0; end = cs }
+uncut_copy_range cs (Some announced) =
+    if announced.start == 0 then record { start = announced.end; end = cs }
+    else if announced.end == cs then record { start = 0; end = announced.start }
+    else record { start = 0; end = cs }
+
+-- nothing, or a range of whole steps of the alignment within the cluster
+abbrev pub copy_range_of : ℕ → ℕ → Option CopyRange → Option CopyRange
+copy_range_of cs alignment announced =
+    let r = uncut_copy_range cs announced in
+    let step = min alignment cs in
+    if nat_lt r.start r.end then Some (record { start = r.start / step * step; end = min ((r.end + step - 1) / step * step) cs }) else None

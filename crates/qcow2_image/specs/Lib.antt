@@ -1,0 +1,2 @@
+pub mod CopyRange
+pub mod FirstCluster

@@ -1,0 +1,244 @@
+use image_access::{BackingDisk, Format, Storage, WrappedFormat};
+use qcow2_alloc::{
+    Allocator, ClustersToFreeList, ImageError, ImageFile, ImageStorage, MetadataCaches, WriteKind,
+};
+use qcow2_metadata::{Header, HostCluster, L1Table};
+use std::alloc::Global;
+
+/// The first four bytes of every image.
+const MAGIC: u32 = 0x5146_49fb;
+
+/// How many L2 tables are cached.
+const L2_TABLES: usize = 128;
+
+/// How many refblocks are cached.
+const REFBLOCKS: usize = 32;
+
+/// An open image. Its storage is `S`, the disk below it `F`.
+#[derive(Drop)]
+pub struct Qcow2<S: Storage, F: WrappedFormat<S> = Box<dyn BackingDisk>> {
+    pub(crate) number: u64,
+    pub(crate) is_failed: bool,
+    pub(crate) file: ImageFile<S>,
+    pub(crate) l1_table: L1Table,
+    // There where the image is writable.
+    pub(crate) allocator: Option<Allocator>,
+    pub(crate) backing: Option<F>,
+}
+
+// What is loaded beside the header.
+#[derive(Drop)]
+struct Tables {
+    l1_table: L1Table,
+    allocator: Option<Allocator>,
+}
+
+// A table without entries lies nowhere.
+fn load_l1_table<S: Storage>(
+    file: &mut ImageFile<S>,
+    cluster: HostCluster,
+) -> Result<L1Table, ImageError> {
+    let entries = file.header.l1_table_entries() as usize;
+    let table = if entries == 0 {
+        L1Table::new_cleared(file.alloc, &file.header, 0)?
+    } else {
+        L1Table::load(
+            file.alloc,
+            &mut file.storage,
+            &file.header,
+            cluster,
+            entries,
+        )?
+    };
+    Ok(table)
+}
+
+// Loads the L1 table and, for writing, the reftable; for writing the autoclear bits are cleared last.
+fn load_tables<S: Storage>(
+    file: &mut ImageFile<S>,
+    writable: bool,
+) -> Result<Tables, ImageError> {
+    let bits = file.header.cluster_bits();
+    let Some(cluster) = file.header.l1_table_offset().checked_cluster(bits) else {
+        return Err(ImageError::UnalignedTable);
+    };
+    let l1_table = load_l1_table(file, cluster)?;
+    let allocator = if writable {
+        let allocator = Allocator::new(file)?;
+        file.storage.will_write(WriteKind::Other);
+        file.header.clear_autoclear(&mut file.storage)?;
+        Some(allocator)
+    } else {
+        None
+    };
+    Ok(Tables {
+        l1_table,
+        allocator,
+    })
+}
+
+impl<S: Storage, F: WrappedFormat<S>> Qcow2<S, F> {
+    /// Whether the first bytes of a storage are those of an image of version 2 or 3.
+    pub fn probe(storage: &mut S) -> Result<bool, ImageError> {
+        let mut first = [0u8; 8];
+        storage.read(0, &mut first)?;
+        let magic = u32::from_be_bytes([first[0], first[1], first[2], first[3]]);
+        let version = u32::from_be_bytes([first[4], first[5], first[6], first[7]]);
+        Ok(magic == MAGIC && (version == 2 || version == 3))
+    }
+
+    /// Opens an image. A refusal hands the storage back. Images that are open together have different numbers.
+    pub fn open_image(
+        alloc: Global,
+        metadata: S,
+        writable: bool,
+        number: u64,
+    ) -> Result<Qcow2<S, F>, (S, ImageError)> {
+        let mut storage = ImageStorage::new(metadata);
+        let header = match Header::load(alloc, &mut storage, writable) {
+            Ok(header) => header,
+            Err(e) => return Err((storage.into_inner(), ImageError::from(e))),
+        };
+        let caches = match MetadataCaches::new(alloc, &header, L2_TABLES, REFBLOCKS) {
+            Ok(caches) => caches,
+            Err(e) => return Err((storage.into_inner(), ImageError::from(e))),
+        };
+        let mut file = ImageFile {
+            alloc,
+            storage,
+            header,
+            caches,
+            free_list: ClustersToFreeList::new(),
+        };
+        match load_tables(&mut file, writable) {
+            Ok(Tables {
+                l1_table,
+                allocator,
+            }) => Ok(Qcow2 {
+                number,
+                is_failed: false,
+                file,
+                l1_table,
+                allocator,
+                backing: None,
+            }),
+            Err(e) => Err((file.into_storage(), e)),
+        }
+    }
+
+    /// The storage itself. What isn't flushed is forgotten.
+    pub(crate) fn into_storage(self) -> S {
+        let Qcow2 {
+            number: _,
+            is_failed: _,
+            file,
+            l1_table: _,
+            allocator: _,
+            backing: _,
+        } = self;
+        file.into_storage()
+    }
+
+    /// The number that it was opened with.
+    pub fn number(&self) -> u64 {
+        self.number
+    }
+
+    pub fn format(&self) -> Format {
+        Format::Qcow2
+    }
+
+    /// The size of the guest's disk, in bytes.
+    pub fn size(&self) -> u64 {
+        self.file.header.size()
+    }
+
+    /// Whether it was opened for writing.
+    pub fn writable(&self) -> bool {
+        self.allocator.is_some()
+    }
+
+    /// How many bytes are zeroed at least: a cluster, from version 3 on.
+    pub fn zero_granularity(&self) -> Option<u64> {
+        if self.file.header.version() >= 3 {
+            Some(self.file.header.cluster_size())
+        } else {
+            None
+        }
+    }
+
+    /// Whether its header says that the data stand in another file.
+    pub fn requires_external_data_file(&self) -> bool {
+        self.file.header.has_data_file()
+    }
+
+    /// The name of that file, where the header gives one.
+    pub fn implicit_external_data_file(&self) -> Option<&String> {
+        self.file.header.data_file_name()
+    }
+
+    /// The name of the backing file, where the header gives one.
+    pub fn implicit_backing_file(&self) -> Option<&String> {
+        self.file.header.backing_name()
+    }
+
+    /// The format of the backing file, where the header gives one.
+    pub fn implicit_backing_format(&self) -> Option<&String> {
+        self.file.header.backing_format()
+    }
+
+    /// How many clusters couldn't be freed, up to the greatest `u64`.
+    pub fn leaked_clusters(&self) -> u64 {
+        match &self.allocator {
+            Some(allocator) => allocator.leaked_clusters(),
+            None => 0,
+        }
+    }
+
+    /// Writes what is cached, and hands all on to the device.
+    pub fn flush(&mut self) -> Result<(), ImageError> {
+        if self.is_failed {
+            return Err(ImageError::Failed);
+        }
+        self.file.begin();
+        let done = self.write_back();
+        self.settled(done)
+    }
+
+    fn write_back(&mut self) -> Result<(), ImageError> {
+        self.file.caches.flush_all(&mut self.file.storage)?;
+        self.file.storage.flush()?;
+        Ok(())
+    }
+
+    // What makes every call that looks at guest data refused: an earlier failure, or that the data's file is missing.
+    pub(crate) fn check_usable(&self) -> Result<(), ImageError> {
+        if self.is_failed {
+            return Err(ImageError::Failed);
+        }
+        if self.file.header.has_data_file() {
+            return Err(ImageError::Dependency);
+        }
+        Ok(())
+    }
+
+    // A failure marks the image, and so does want of memory after the call's first change.
+    pub(crate) fn note(&mut self, refusal: &ImageError) {
+        match refusal {
+            ImageError::Storage => self.is_failed = true,
+            ImageError::Memory => {
+                if self.file.is_changed() {
+                    self.is_failed = true;
+                }
+            }
+            _ => {}
+        }
+    }
+
+    pub(crate) fn settled<T>(&mut self, done: Result<T, ImageError>) -> Result<T, ImageError> {
+        if let Err(refusal) = &done {
+            self.note(refusal);
+        }
+        done
+    }
+}

@@ -1,0 +1,123 @@
+//! Reading and writing what is mapped.
+ghost use Rattle.std.specs.Prelude.{◌+◌, ◌≤◌, length};
+
+use crate::{Mapping, MappingKind, Place, Prepared, Qcow2};
+use image_access::{BackingDisk, Storage, WrappedFormat};
+use qcow2_alloc::{ImageError, WriteKind};
+
+impl<S: Storage, F: WrappedFormat<S>> Qcow2<S, F> {
+    /// Reads the bytes of a mapping, from `at` within it on. It is refused where the range is no longer mapped so.
+    pub fn read_mapped(
+        &mut self,
+        mapping: &Mapping,
+        at: u64,
+        bytes: &mut [u8],
+    ) -> Result<(), ImageError>
+        requires { at + length bytes.old ≤ mapping.now.length }
+    {
+        self.check_usable()?;
+        if mapping.image != self.number {
+            return Err(ImageError::ForeignState);
+        }
+        if bytes.is_empty() {
+            return Ok(());
+        }
+        self.file.begin();
+        let done = self.read_current(mapping, at, bytes);
+        self.settled(done)
+    }
+
+    fn read_current(
+        &mut self,
+        mapping: &Mapping,
+        at: u64,
+        bytes: &mut [u8],
+    ) -> Result<(), ImageError> {
+        let length = bytes.len() as u64;
+        let Some(offset) = mapping.offset.checked_add(at) else {
+            return Err(ImageError::OutdatedMapping);
+        };
+        let (kind, found) = self.look_up(offset, length)?;
+        if found < length || kind != mapping.kind.further(at) {
+            return Err(ImageError::OutdatedMapping);
+        }
+        match kind {
+            MappingKind::Raw {
+                place: _,
+                offset,
+                writable: _,
+            } => self.file.storage.read(offset, bytes)?,
+            MappingKind::Indirect { offset } => self.read_backing(offset, bytes)?,
+            MappingKind::Zero { explicit: _ } => bytes.fill(0),
+            MappingKind::Special { offset: _ } => return Err(ImageError::Compressed),
+            MappingKind::Eof => return Err(ImageError::OutdatedMapping),
+        }
+        Ok(())
+    }
+
+    fn read_backing(&mut self, offset: u64, bytes: &mut [u8]) -> Result<(), ImageError> {
+        match &mut self.backing {
+            Some(backing) => backing.read(offset, bytes)?,
+            None => bytes.fill(0),
+        }
+        Ok(())
+    }
+
+    /// Writes bytes into a prepared mapping, from `at` within it on. An existing mapping that is no longer copied data
+    /// at its place is refused.
+    pub fn write_mapped(
+        &mut self,
+        prepared: &Prepared,
+        at: u64,
+        bytes: &[u8],
+    ) -> Result<(), ImageError>
+        requires { at + length bytes.now ≤ prepared.now.length }
+    {
+        self.check_usable()?;
+        if prepared.image != self.number {
+            return Err(ImageError::ForeignState);
+        }
+        if bytes.is_empty() {
+            return Ok(());
+        }
+        if !self.writable() {
+            return Err(ImageError::ReadOnly);
+        }
+        self.file.begin();
+        let done = self.write_current(prepared, at, bytes);
+        self.settled(done)
+    }
+
+    fn write_current(
+        &mut self,
+        prepared: &Prepared,
+        at: u64,
+        bytes: &[u8],
+    ) -> Result<(), ImageError> {
+        let (Some(guest), Some(host)) =
+            (prepared.guest.checked_add(at), prepared.offset.checked_add(at))
+        else {
+            return Err(ImageError::OutdatedMapping);
+        };
+        if prepared.table.is_none() {
+            self.check_in_place(guest, host, bytes.len() as u64)?;
+        }
+        self.file.storage.will_write(WriteKind::Data);
+        self.file.storage.write(host, bytes)?;
+        Ok(())
+    }
+
+    // Whether a part of an existing mapping is still copied data at its place.
+    fn check_in_place(&mut self, guest: u64, host: u64, length: u64) -> Result<(), ImageError> {
+        let (kind, found) = self.look_up(guest, length)?;
+        let wanted = MappingKind::Raw {
+            place: Place::Image,
+            offset: host,
+            writable: true,
+        };
+        if found < length || kind != wanted {
+            return Err(ImageError::OutdatedMapping);
+        }
+        Ok(())
+    }
+}

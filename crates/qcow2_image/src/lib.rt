@@ -1,0 +1,23 @@
+//! A qcow2 image: what it maps, reading and writing through mappings, creating and opening.
+#![tactic(auto)]
+
+mod builder;
+mod copy_range;
+mod cow;
+mod image;
+mod io_func;
+mod mapping;
+mod mappings;
+mod prepared;
+mod resize;
+
+pub use builder::Qcow2CreateBuilder;
+pub use image::Qcow2;
+pub use mapping::{Mapping, MappingKind, Place};
+pub use prepared::{CommitRefused, Prepared};
+pub use qcow2_alloc::async_lru_cache::{AsyncLruCache, AsyncLruCacheBackend, CacheError};
+pub use qcow2_alloc::{
+    Allocator, ClusterKind, ClustersToFreeEntry, ClustersToFreeList, Direction, ImageError,
+    ImageFile, ImageStorage, L2CacheBackend, MAX_HOST_OFFSET, MetadataCaches, PendingClusters,
+    RefBlockCacheBackend, TakenClusters, WriteKind,
+};

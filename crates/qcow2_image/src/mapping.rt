@@ -1,0 +1,64 @@
+/// Where mapped bytes stand.
+#[derive(Clone, Copy, Debug, PartialEq, Eq)]
+pub enum Place {
+    /// In the image's own file.
+    Image,
+    /// In the external data file.
+    DataFile,
+}
+
+/// What stands for a range of the guest's disk.
+#[derive(Clone, Copy, Debug, PartialEq, Eq)]
+pub enum MappingKind {
+    /// Bytes of a file, from an offset on. Writable means that they may be written in place.
+    Raw {
+        place: Place,
+        offset: u64,
+        writable: bool,
+    },
+    /// Bytes of the backing disk, from an offset on.
+    Indirect { offset: u64 },
+    /// Zeros. Explicit where the image says so, and not where nothing is mapped.
+    Zero { explicit: bool },
+    /// The range begins at or past the disk's end.
+    Eof,
+    /// Data that can't be read plainly, from this guest offset on.
+    Special { offset: u64 },
+}
+
+/// What an image said of a range of its disk.
+#[derive(Clone, Copy, Debug, PartialEq, Eq)]
+pub struct Mapping {
+    /// The number of the image that said it.
+    pub image: u64,
+    /// Where the range begins on the guest's disk, in bytes.
+    pub offset: u64,
+    /// How long it is, in bytes.
+    pub length: u64,
+    pub kind: MappingKind,
+}
+
+impl MappingKind {
+    /// The same, so many bytes further on.
+    pub(crate) fn further(self, bytes: u64) -> MappingKind {
+        match self {
+            MappingKind::Raw {
+                place,
+                offset,
+                writable,
+            } => MappingKind::Raw {
+                place,
+                offset: offset.wrapping_add(bytes),
+                writable,
+            },
+            MappingKind::Indirect { offset } => MappingKind::Indirect {
+                offset: offset.wrapping_add(bytes),
+            },
+            MappingKind::Special { offset } => MappingKind::Special {
+                offset: offset.wrapping_add(bytes),
+            },
+            MappingKind::Zero { explicit } => MappingKind::Zero { explicit },
+            MappingKind::Eof => MappingKind::Eof,
+        }
+    }
+}

@@ -1,0 +1,482 @@
+//! What a guest range is mapped to, and making it writable.
+ghost use Rattle.std.specs.Prelude.{◌≡◌, ◌+◌, ◌*◌, ◌^◌, ◌<◌, ◌≤◌, IfOk, OnOk, IsSome, IsTrue};
+ghost use Rattle.qcow2_metadata.specs.L2Mapping.{IsHostCluster, IsInReach};
+ghost use Rattle.qcow2_metadata.specs.EntryTable.{entry_count};
+ghost use Rattle.qcow2_image.specs.FirstCluster.{IsNear};
+
+use crate::prepared::NewCluster;
+use crate::{CommitRefused, Mapping, MappingKind, Place, Prepared, Qcow2};
+use image_access::{Storage, WrappedFormat};
+use qcow2_alloc::{
+    ClustersToFreeEntry, ClustersToFreeList, ImageError, PendingClusters, WriteKind,
+};
+use qcow2_metadata::{ClusterCount, GuestCluster, GuestOffset, HostCluster, L2Mapping, L2Table};
+
+// Whether a guest cluster is mapped like an earlier one that lies so many bytes before it.
+fn is_alike(first: &L2Mapping, mapping: &L2Mapping, distance: u64) -> bool {
+    match mapping {
+        L2Mapping::Data { host, copied } => match first {
+            L2Mapping::Data {
+                host: first_host,
+                copied: first_copied,
+            } => {
+                host.value().wrapping_sub(first_host.value()) == distance
+                    && *copied == *first_copied
+            }
+            _ => false,
+        },
+        L2Mapping::Zero { .. } => matches!(first, L2Mapping::Zero { .. }),
+        L2Mapping::Compressed { .. } => matches!(first, L2Mapping::Compressed { .. }),
+        L2Mapping::Uncovered => matches!(first, L2Mapping::Uncovered),
+    }
+}
+
+// What the first cluster of a range that is to be written has.
+enum FirstCluster {
+    // Copied data, at this host offset.
+    InPlace(u64),
+    Missing,
+}
+
+impl<S: Storage, F: WrappedFormat<S>> Qcow2<S, F> {
+    /// What stands at a guest offset, and for how many bytes, up to `max`, all is mapped alike: within one L2 table,
+    /// and below the disk's size.
+    pub fn get_mapping(&mut self, offset: u64, max: u64) -> Result<(Mapping, u64), ImageError> {
+        self.check_usable()?;
+        self.file.begin();
+        let found = self.look_up(offset, max);
+        let (kind, length) = self.settled(found)?;
+        let mapping = Mapping {
+            image: self.number,
+            offset,
+            length,
+            kind,
+        };
+        Ok((mapping, length))
+    }
+
+    pub(crate) fn look_up(
+        &mut self,
+        offset: u64,
+        max: u64,
+    ) -> Result<(MappingKind, u64), ImageError> {
+        let size = self.file.header.size();
+        if offset >= size {
+            return Ok((MappingKind::Eof, 0));
+        }
+        let max = max.min(size - offset).min(self.rest_of_table(offset));
+        match self.l2_cluster(offset)? {
+            None => Ok((self.uncovered(offset), max)),
+            Some(table) => {
+                self.file
+                    .caches
+                    .l2_get_or_insert(&mut self.file.storage, table)?;
+                self.run_in_table(table, offset, max)
+            }
+        }
+    }
+
+    // How many bytes there are from an offset on to the end of what its L2 table covers.
+    fn rest_of_table(&self, offset: u64) -> u64
+        ensures some { 0 < result }
+        ensures bounded { result ≤ 2 ^ 40 }
+    {
+        let covered = self.file.header.cluster_size() * self.file.header.l2_entries() as u64;
+        covered - offset % covered
+    }
+
+    // Where the L2 table of an offset lies, or None where there is none.
+    fn l2_cluster(&self, offset: u64) -> Result<Option<HostCluster>, ImageError> {
+        let bits = self.file.header.cluster_bits();
+        let Some(entry) = self.l1_table.get(GuestOffset::new(offset).l1_index(bits)) else {
+            return Ok(None);
+        };
+        match entry.offset.checked_cluster(bits) {
+            Some(cluster) => Ok(Some(cluster)),
+            None => Err(ImageError::UnalignedTable),
+        }
+    }
+
+    fn uncovered(&self, offset: u64) -> MappingKind {
+        match &self.backing {
+            Some(_) => MappingKind::Indirect { offset },
+            None => MappingKind::Zero { explicit: false },
+        }
+    }
+
+    // The run of alike clusters from an offset on, in the cached table that covers it.
+    fn run_in_table(
+        &self,
+        table: HostCluster,
+        offset: u64,
+        max: u64,
+    ) -> Result<(MappingKind, u64), ImageError>
+        requires { max ≤ 2 ^ 40 }
+    {
+        let bits = self.file.header.cluster_bits();
+        let Some(table) = self.file.caches.l2_peek(table) else {
+            return Err(ImageError::InUse);
+        };
+        let guest = GuestOffset::new(offset);
+        let first = table.get_mapping(guest.cluster(bits))?;
+        let rest = guest.remaining_in_cluster(bits);
+        let behind = self.alike_behind(table, guest.cluster(bits), max.saturating_sub(rest))?;
+        Ok((self.kind_of(first, offset), (rest + behind).min(max)))
+    }
+
+    // How many bytes, at least up to `max`, lie in clusters behind one that are mapped like it.
+    fn alike_behind(
+        &self,
+        table: &L2Table,
+        cluster: GuestCluster,
+        max: u64,
+    ) -> Result<u64, ImageError>
+        requires { max ≤ 2 ^ 40 }
+        ensures { IfOk result (λ n. n ≤ 2 ^ 41) }
+    {
+        let size = self.file.header.cluster_size();
+        let first = table.get_mapping(cluster)?;
+        let mut length = 0;
+        let mut next = cluster.value();
+        while length < max {
+            next = next.wrapping_add(1);
+            let mapping = table.get_mapping(GuestCluster::new(next))?;
+            if !is_alike(&first, &mapping, length + size) {
+                break;
+            }
+            length += size;
+        }
+        Ok(length)
+    }
+
+    fn kind_of(&self, mapping: L2Mapping, offset: u64) -> MappingKind
+        requires { IsInReach mapping }
+    {
+        let within = GuestOffset::new(offset).in_cluster_offset(self.file.header.cluster_bits());
+        match mapping {
+            L2Mapping::Data { host, copied } => MappingKind::Raw {
+                place: Place::Image,
+                offset: host.value() + within,
+                writable: copied,
+            },
+            L2Mapping::Zero { .. } => MappingKind::Zero { explicit: true },
+            L2Mapping::Compressed { .. } => MappingKind::Special { offset },
+            L2Mapping::Uncovered => self.uncovered(offset),
+        }
+    }
+
+    /// Makes a range ready to be written at one place. Of what is announced as overwritten nothing is copied.
+    /// The mapping may be shorter than the range, and has to be committed or discarded.
+    pub fn prepare_data_mapping(
+        &mut self,
+        offset: u64,
+        length: u64,
+        overwrite: bool,
+    ) -> Result<Prepared, ImageError> {
+        self.check_usable()?;
+        if length == 0 {
+            return Ok(self.existing_at(offset, 0, 0));
+        }
+        if !self.is_within(offset, length) {
+            return Err(ImageError::BeyondSize);
+        }
+        if !self.writable() {
+            return Err(ImageError::ReadOnly);
+        }
+        self.file.begin();
+        let prepared = self.prepare(offset, length, overwrite);
+        self.settled(prepared)
+    }
+
+    // Whether a range ends at or below the disk's size.
+    pub(crate) fn is_within(&self, offset: u64, length: u64) -> bool {
+        let size = self.file.header.size();
+        length == 0 || (offset <= size && length <= size - offset)
+    }
+
+    fn existing_at(&self, guest: u64, offset: u64, length: u64) -> Prepared {
+        Prepared {
+            image: self.number,
+            guest,
+            place: Place::Image,
+            offset,
+            length,
+            table: None,
+            new_cluster: None,
+        }
+    }
+
+    fn prepare(
+        &mut self,
+        offset: u64,
+        length: u64,
+        overwrite: bool,
+    ) -> Result<Prepared, ImageError> {
+        let table = self.ensure_l2(offset)?;
+        let (kind, found) = self.run_in_table(table, offset, length.min(self.rest_of_table(offset)))?;
+        if let MappingKind::Raw {
+            place: _,
+            offset: host,
+            writable: true,
+        } = kind
+        {
+            if found >= length {
+                return Ok(self.existing_at(offset, host, length));
+            }
+        }
+        if self.file.caches.l2_is_pinned(table) {
+            return Err(ImageError::TablePrepared);
+        }
+        self.prepare_first(table, offset, length, overwrite)
+    }
+
+    // Makes the first cluster of a range ready: where it is copied data it stays in place, else it gets a new cluster.
+    fn prepare_first(
+        &mut self,
+        table: HostCluster,
+        offset: u64,
+        length: u64,
+        overwrite: bool,
+    ) -> Result<Prepared, ImageError> {
+        let bits = self.file.header.cluster_bits();
+        let guest = GuestOffset::new(offset);
+        let rest = guest.remaining_in_cluster(bits);
+        let (host, new_cluster) = match self.first_cluster(table, guest.cluster(bits))? {
+            FirstCluster::InPlace(host) => (host, None),
+            FirstCluster::Missing => {
+                let pending = self.new_cluster(offset, length, overwrite)?;
+                let host = pending.cluster().offset(bits).value();
+                let index = guest.l2_index(bits);
+                (host, Some(NewCluster { index, pending }))
+            }
+        };
+        self.file.caches.l2_pin(table);
+        Ok(Prepared {
+            image: self.number,
+            guest: offset,
+            place: Place::Image,
+            offset: host + guest.in_cluster_offset(bits),
+            length: rest,
+            table: Some(table),
+            new_cluster,
+        })
+    }
+
+    // What a cluster of a held table has that is to be written.
+    fn first_cluster(
+        &self,
+        table: HostCluster,
+        cluster: GuestCluster,
+    ) -> Result<FirstCluster, ImageError>
+        ensures { IfOk result IsNear }
+    {
+        let Some(held) = self.file.caches.l2_peek(table) else {
+            return Err(ImageError::InUse);
+        };
+        match held.get_mapping(cluster)? {
+            L2Mapping::Data { host, copied } => {
+                if copied {
+                    Ok(FirstCluster::InPlace(host.value()))
+                } else {
+                    Err(ImageError::Limit)
+                }
+            }
+            L2Mapping::Uncovered => Ok(FirstCluster::Missing),
+            L2Mapping::Zero { .. } | L2Mapping::Compressed { .. } => Err(ImageError::Limit),
+        }
+    }
+
+    // Takes a cluster for the one at an offset, and fills it with the old bytes where they aren't announced as overwritten.
+    fn new_cluster(
+        &mut self,
+        offset: u64,
+        length: u64,
+        overwrite: bool,
+    ) -> Result<PendingClusters, ImageError>
+        ensures nameable { IfOk result (λ p. IsHostCluster self.old.file.header.fields.cluster_bits p.first_cluster) }
+        ensures header { self.new.file.header ≡ self.old.file.header }
+    {
+        let Some(allocator) = &mut self.allocator else {
+            return Err(ImageError::ReadOnly);
+        };
+        let pending = allocator.allocate_data(&mut self.file, ClusterCount::new(1))?;
+        match self.fill_cluster(pending.cluster(), offset, length, overwrite) {
+            Ok(()) => Ok(pending),
+            Err(refusal) => {
+                pending.hand_back(&mut self.file.free_list);
+                Err(refusal)
+            }
+        }
+    }
+
+    // The L2 table that covers an offset, held in its cache and marked copied. Where there is none, or it isn't, one is made.
+    fn ensure_l2(&mut self, offset: u64) -> Result<HostCluster, ImageError> {
+        let bits = self.file.header.cluster_bits();
+        let index = GuestOffset::new(offset).l1_index(bits);
+        if !self.l1_table.in_bounds(index) {
+            return Err(ImageError::Limit);
+        }
+        let Some(entry) = self.l1_table.get(index) else {
+            let table = L2Table::new_cleared(self.file.alloc, &self.file.header)?;
+            return self.enter_l2(index, table);
+        };
+        let Some(cluster) = entry.offset.checked_cluster(bits) else {
+            return Err(ImageError::UnalignedTable);
+        };
+        self.file
+            .caches
+            .l2_get_or_insert(&mut self.file.storage, cluster)?;
+        if entry.copied {
+            return Ok(cluster);
+        }
+        self.replace_l2(index, cluster)
+    }
+
+    // Puts a copy in the place of a table that others may name too.
+    fn replace_l2(&mut self, index: usize, old: HostCluster) -> Result<HostCluster, ImageError> {
+        let Some(held) = self.file.caches.l2_peek(old) else {
+            return Err(ImageError::InUse);
+        };
+        let table = held.clone()?;
+        let entry = ClustersToFreeEntry::metadata(old, ClusterCount::new(1));
+        let dropped = ClustersToFreeList::pending_guard(self.file.alloc, entry)?;
+        match self.enter_l2(index, table) {
+            Ok(cluster) => {
+                dropped.hand_back(&mut self.file.free_list);
+                Ok(cluster)
+            }
+            Err(refusal) => {
+                dropped.make_persistent();
+                Err(refusal)
+            }
+        }
+    }
+
+    // Gives a table a cluster, writes it there, and then the L1 entry that names it.
+    fn enter_l2(&mut self, index: usize, mut table: L2Table) -> Result<HostCluster, ImageError> {
+        let Some(allocator) = &mut self.allocator else {
+            return Err(ImageError::ReadOnly);
+        };
+        let pending = allocator.allocate_meta(&mut self.file, ClusterCount::new(1))?;
+        let cluster = pending.cluster();
+        match self.write_l2(index, cluster, &mut table) {
+            Ok(()) => pending.make_persistent(),
+            Err(refusal) => {
+                pending.hand_back(&mut self.file.free_list);
+                return Err(refusal);
+            }
+        }
+        self.file.caches.l2_insert(&mut self.file.storage, table)?;
+        Ok(cluster)
+    }
+
+    // Counts are written first, then the table's bytes, then the entry that names it.
+    fn write_l2(
+        &mut self,
+        index: usize,
+        cluster: HostCluster,
+        table: &mut L2Table,
+    ) -> Result<(), ImageError>
+        ensures placed { OnOk result (IsSome table.new.cluster) }
+    {
+        if !self.can_enter(index, cluster) || !cluster.is_nameable(table.cluster_bits()) {
+            return Err(ImageError::Limit);
+        }
+        table.set_cluster(cluster);
+        self.file.caches.flush_rb(&mut self.file.storage)?;
+        self.file.storage.will_write(WriteKind::Other);
+        table.write(&mut self.file.storage)?;
+        table.clear_modified();
+        self.l1_table.enter_l2_table(index, cluster);
+        self.l1_table.write_entry(&mut self.file.storage, index)?;
+        Ok(())
+    }
+
+    // Whether the L1 table has a place for an L2 table in a cluster.
+    fn can_enter(&self, index: usize, cluster: HostCluster) -> bool
+        ensures within { IsTrue result → index < entry_count self.now.l1_table }
+        ensures placed { IsTrue result → IsSome self.now.l1_table.cluster }
+        ensures nameable { IsTrue result → IsHostCluster self.now.l1_table.cluster_bits cluster }
+    {
+        self.l1_table.in_bounds(index)
+            && self.l1_table.get_cluster().is_some()
+            && cluster.is_nameable(self.l1_table.cluster_bits())
+    }
+
+    /// Makes a prepared mapping visible. A refusal that leaves the mapping as it is hands it back.
+    pub fn commit_data_mapping(&mut self, prepared: Prepared) -> Result<(), CommitRefused> {
+        if prepared.image != self.number {
+            return Err(CommitRefused::Kept(ImageError::ForeignState, prepared));
+        }
+        if self.is_failed {
+            return Err(CommitRefused::Kept(ImageError::Failed, prepared));
+        }
+        if let Some(table) = prepared.table {
+            if let Err(refusal) = self.hold_l2(table) {
+                self.note(&refusal);
+                return Err(CommitRefused::Kept(refusal, prepared));
+            }
+        }
+        self.enter_prepared(prepared);
+        Ok(())
+    }
+
+    // Brings a table into its cache where it isn't there.
+    fn hold_l2(&mut self, table: HostCluster) -> Result<(), ImageError> {
+        if self.file.caches.l2_peek(table).is_some() {
+            return Ok(());
+        }
+        self.file.begin();
+        self.file
+            .caches
+            .l2_get_or_insert(&mut self.file.storage, table)
+    }
+
+    // Enters the new cluster of a mapping whose table is held, and lets the table go.
+    fn enter_prepared(&mut self, prepared: Prepared) {
+        let Prepared {
+            image: _,
+            guest: _,
+            place: _,
+            offset: _,
+            length: _,
+            table,
+            new_cluster,
+        } = prepared;
+        if let Some(NewCluster { index, pending }) = new_cluster {
+            if let Some(table) = table {
+                let _nothing = self
+                    .file
+                    .caches
+                    .l2_map_cluster(table, index, pending.cluster());
+            }
+            pending.make_persistent();
+        }
+        if let Some(table) = table {
+            self.file.caches.l2_unpin(table);
+        }
+    }
+
+    /// Drops a prepared mapping: its new cluster is to be freed. A mapping of another image is handed back.
+    pub fn discard_data_mapping(&mut self, prepared: Prepared) -> Result<(), (ImageError, Prepared)> {
+        if prepared.image != self.number {
+            return Err((ImageError::ForeignState, prepared));
+        }
+        let Prepared {
+            image: _,
+            guest: _,
+            place: _,
+            offset: _,
+            length: _,
+            table,
+            new_cluster,
+        } = prepared;
+        if let Some(NewCluster { index: _, pending }) = new_cluster {
+            pending.hand_back(&mut self.file.free_list);
+        }
+        if let Some(table) = table {
+            self.file.caches.l2_unpin(table);
+        }
+        Ok(())
+    }
+}

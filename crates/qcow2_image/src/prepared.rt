@@ -1,0 +1,49 @@
+use crate::{ImageError, PendingClusters, Place, Qcow2};
+use image_access::{Storage, WrappedFormat};
+use qcow2_metadata::HostCluster;
+
+// A cluster that stands ready for a guest cluster, by its index in the L2 table, and isn't entered yet.
+pub(crate) struct NewCluster {
+    pub(crate) index: usize,
+    pub(crate) pending: PendingClusters,
+}
+
+/// A range of the guest's disk that may be written at one place. It must be spent by a commit or a discard.
+pub struct Prepared {
+    pub(crate) image: u64,
+    pub(crate) guest: u64,
+    pub(crate) place: Place,
+    pub(crate) offset: u64,
+    pub(crate) length: u64,
+    // The L2 table that is kept as it is until then. An existing mapping has none.
+    pub(crate) table: Option<HostCluster>,
+    pub(crate) new_cluster: Option<NewCluster>,
+}
+
+/// Why a commit is refused, with the mapping where it isn't spent.
+pub enum CommitRefused {
+    Kept(ImageError, Prepared),
+    Spent(ImageError),
+}
+
+impl Prepared {
+    /// The offset in the file that is to be written, in bytes.
+    pub fn offset(&self) -> u64 {
+        self.offset
+    }
+
+    /// How many bytes may be written there.
+    pub fn length(&self) -> u64 {
+        self.length
+    }
+
+    /// Whether it is of this image.
+    pub fn belongs_to<S: Storage, F: WrappedFormat<S>>(&self, image: &Qcow2<S, F>) -> bool {
+        self.image == image.number
+    }
+
+    /// An existing mapping: nothing is to be committed.
+    pub fn is_nonblocking(&self) -> bool {
+        self.table.is_none()
+    }
+}
