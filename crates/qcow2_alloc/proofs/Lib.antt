@@ -1,3 +1,4 @@
 pub mod CachedEntries
 pub mod CacheFaults
 pub mod TableFlush
+pub mod TableErrors

@@ -75,3 +75,27 @@ of_cache C.InUse = I.InUse
 of_cache (C.StillInUse tables) = I.StillInUse tables
 of_cache C.Memory = I.Memory
 of_cache (C.Backend e) = of_metadata e
+
+-- what stands in the way of loading, changing and writing tables, and of taking clusters
+abbrev pub IsOfTables : ImageError → Type 0
+IsOfTables I.ReadOnly = ⊥
+IsOfTables I.BeyondSize = ⊥
+IsOfTables I.Version = Unit {0}
+IsOfTables I.UnalignedTable = Unit {0}
+IsOfTables I.InvalidOption = ⊥
+IsOfTables I.Preallocation = ⊥
+IsOfTables I.Compressed = ⊥
+IsOfTables I.InUse = Unit {0}
+IsOfTables I.TablePrepared = ⊥
+IsOfTables I.OutdatedMapping = ⊥
+IsOfTables I.ForeignState = ⊥
+IsOfTables I.Dependency = ⊥
+IsOfTables I.Limit = Unit {0}
+IsOfTables I.Memory = Unit {0}
+IsOfTables I.Storage = Unit {0}
+IsOfTables I.Failed = ⊥
+IsOfTables I.MappingPrepared = ⊥
+IsOfTables (I.NotCompressed offset) = ⊥
+IsOfTables I.Metadata = Unit {0}
+IsOfTables I.Overflow = ⊥
+IsOfTables (I.StillInUse tables) = Unit {0}

@@ -1,5 +1,6 @@
 //! Taking clusters of the image's file.
-ghost use Rattle.std.specs.Prelude.{◌≡◌, ◌+◌, ◌*◌, ◌^◌, ◌<◌, ◌≤◌, IfOk, IsSome, IsTrue};
+ghost use Rattle.std.specs.Prelude.{◌≡◌, ◌+◌, ◌*◌, ◌^◌, ◌<◌, ◌≤◌, IfOk, IfErr, IsSome, IsTrue};
+ghost use Rattle.qcow2_alloc.specs.ImageError.{IsOfTables};
 ghost use Rattle.qcow2_metadata.specs.L2Mapping.{IsHostCluster};
 ghost use Rattle.qcow2_metadata.specs.EntryTable.{entry_count};
 
@@ -29,9 +30,12 @@ fn ends_call(refusal: &ImageError) -> bool {
     }
 }
 
+#[tactic(auto, using(crate::proofs::TableErrors::storage_of_tables, crate::proofs::TableErrors::metadata_of_tables, crate::proofs::TableErrors::cache_of_tables))]
 impl Allocator {
     /// Loads the reftable.
-    pub fn new<S: Storage>(file: &mut ImageFile<S>) -> Result<Allocator, ImageError> {
+    pub fn new<S: Storage>(file: &mut ImageFile<S>) -> Result<Allocator, ImageError>
+        ensures cause { IfErr result IsOfTables }
+    {
         let bits = file.header.cluster_bits();
         let Some(cluster) = file.header.reftable_offset().checked_cluster(bits) else {
             return Err(ImageError::UnalignedTable);
@@ -69,6 +73,7 @@ impl Allocator {
     ) -> Result<PendingClusters, ImageError>
         ensures header { file.new.header ≡ file.old.header }
         ensures nameable { IfOk result (λ p. IsHostCluster file.old.header.fields.cluster_bits p.first_cluster) }
+        ensures cause { IfErr result IsOfTables }
     {
         self.allocate(file, count, ClusterKind::Metadata)
     }
@@ -81,6 +86,7 @@ impl Allocator {
     ) -> Result<PendingClusters, ImageError>
         ensures header { file.new.header ≡ file.old.header }
         ensures nameable { IfOk result (λ p. IsHostCluster file.old.header.fields.cluster_bits p.first_cluster) }
+        ensures cause { IfErr result IsOfTables }
     {
         file.caches.l2_depends_on_rb(&mut file.storage)?;
         self.allocate(file, count, ClusterKind::Data)
@@ -95,6 +101,7 @@ impl Allocator {
     ) -> Result<PendingClusters, ImageError>
         ensures header { file.new.header ≡ file.old.header }
         ensures nameable { IfOk result (λ p. IsHostCluster file.old.header.fields.cluster_bits p.first_cluster) }
+        ensures cause { IfErr result IsOfTables }
     {
         let entry = ClustersToFreeEntry {
             first_cluster: HostCluster::new(0),
@@ -117,6 +124,7 @@ impl Allocator {
     fn lowest_run<S: Storage>(&mut self, file: &mut ImageFile<S>, n: u64) -> Result<u64, ImageError>
         ensures header { file.new.header ≡ file.old.header }
         ensures nameable { IfOk result (λ first. IsHostCluster file.old.header.fields.cluster_bits first) }
+        ensures cause { IfErr result IsOfTables }
     {
         let limit = (MAX_HOST_OFFSET >> file.header.cluster_bits()) + 1;
         let mut first = self.first_free_cluster;
@@ -140,6 +148,7 @@ impl Allocator {
         requires { first + n < 2 ^ 63 }
         ensures header { file.new.header ≡ file.old.header }
         ensures within { IfOk result (λ taken. taken ≤ n) }
+        ensures cause { IfErr result IsOfTables }
     {
         'taking: for taken in 0..n {
             match self.take(file, first + taken) {
@@ -167,6 +176,7 @@ impl Allocator {
     ) -> Result<bool, ImageError>
         requires { cluster < 2 ^ 63 }
         ensures header { file.new.header ≡ file.old.header }
+        ensures cause { IfErr result IsOfTables }
     {
         self.ensure_block(file, cluster)?;
         let taken = self.raise(file, cluster)?;
@@ -185,6 +195,7 @@ impl Allocator {
     ) -> Result<(), ImageError>
         requires { first + n < 2 ^ 63 }
         ensures header { file.new.header ≡ file.old.header }
+        ensures cause { IfErr result IsOfTables }
     {
         if n == 0 {
             return Ok(());
@@ -199,6 +210,7 @@ impl Allocator {
     // Lowers the count of a cluster. One that can't be lowered is counted as leaked.
     fn lower<S: Storage>(&mut self, file: &mut ImageFile<S>, cluster: u64) -> Result<(), ImageError>
         ensures header { file.new.header ≡ file.old.header }
+        ensures cause { IfErr result IsOfTables }
     {
         match self.try_lower(file, cluster) {
             Ok(true) => return Ok(()),
@@ -220,6 +232,7 @@ impl Allocator {
         range: u64,
     ) -> Result<Option<HostCluster>, ImageError>
         ensures header { file.new.header ≡ file.old.header }
+        ensures cause { IfErr result IsOfTables }
     {
         let Some(offset) = self.reftable.get(range as usize) else {
             return Ok(None);
@@ -238,6 +251,7 @@ impl Allocator {
         cluster: u64,
     ) -> Result<bool, ImageError>
         ensures header { file.new.header ≡ file.old.header }
+        ensures cause { IfErr result IsOfTables }
     {
         let bits = file.header.rb_bits();
         let Some(block) = self.load_block(file, cluster >> bits)? else {
@@ -254,6 +268,7 @@ impl Allocator {
         cluster: u64,
     ) -> Result<bool, ImageError>
         ensures header { file.new.header ≡ file.old.header }
+        ensures cause { IfErr result IsOfTables }
     {
         let bits = file.header.rb_bits();
         let Some(block) = self.load_block(file, cluster >> bits)? else {
@@ -271,6 +286,7 @@ impl Allocator {
     ) -> Result<(), ImageError>
         requires { cluster < 2 ^ 63 }
         ensures header { file.new.header ≡ file.old.header }
+        ensures cause { IfErr result IsOfTables }
     {
         let bits = file.header.rb_bits();
         let range = cluster >> bits;
@@ -300,6 +316,7 @@ impl Allocator {
     ) -> Result<Option<u64>, ImageError>
         requires { end < 2 ^ 63 }
         ensures header { file.new.header ≡ file.old.header }
+        ensures cause { IfErr result IsOfTables }
     {
         let bits = file.header.rb_bits();
         'search: while self.first_free_cluster < end {
@@ -327,6 +344,7 @@ impl Allocator {
         counts_itself: bool,
     ) -> Result<(), ImageError>
         ensures header { file.new.header ≡ file.old.header }
+        ensures cause { IfErr result IsOfTables }
     {
         let cluster = HostCluster::new(at);
         let index = range as usize;

@@ -1,5 +1,6 @@
 //! The caches of L2 tables and of refblocks, and which of them has to be written first.
-ghost use Rattle.std.specs.Prelude.{◌≡◌, IsSome};
+ghost use Rattle.std.specs.Prelude.{◌≡◌, IsSome, IfErr};
+ghost use Rattle.qcow2_alloc.specs.ImageError.{IsOfTables};
 
 mod backends;
 
@@ -27,6 +28,7 @@ pub struct MetadataCaches<S: Storage> {
     is_changed: bool,
 }
 
+#[tactic(auto, using(crate::proofs::TableErrors::storage_of_tables, crate::proofs::TableErrors::metadata_of_tables, crate::proofs::TableErrors::cache_of_tables))]
 impl<S: Storage> MetadataCaches<S> {
     /// Empty caches for so many tables and refblocks at most.
     pub fn new(
@@ -46,7 +48,9 @@ impl<S: Storage> MetadataCaches<S> {
     }
 
     /// From here on refblocks are written before L2 tables.
-    pub fn l2_depends_on_rb(&mut self, storage: &mut ImageStorage<S>) -> Result<(), ImageError> {
+    pub fn l2_depends_on_rb(&mut self, storage: &mut ImageStorage<S>) -> Result<(), ImageError>
+        ensures cause { IfErr result IsOfTables }
+    {
         if let Direction::RbDependsOnL2 = self.direction {
             self.l2.flush(storage)?;
         }
@@ -55,7 +59,9 @@ impl<S: Storage> MetadataCaches<S> {
     }
 
     /// From here on L2 tables are written before refblocks.
-    pub fn rb_depends_on_l2(&mut self, storage: &mut ImageStorage<S>) -> Result<(), ImageError> {
+    pub fn rb_depends_on_l2(&mut self, storage: &mut ImageStorage<S>) -> Result<(), ImageError>
+        ensures cause { IfErr result IsOfTables }
+    {
         if let Direction::L2DependsOnRb = self.direction {
             self.rb.flush(storage)?;
         }
@@ -64,7 +70,9 @@ impl<S: Storage> MetadataCaches<S> {
     }
 
     /// Writes both caches, in the order that the direction asks for.
-    pub fn flush_all(&mut self, storage: &mut ImageStorage<S>) -> Result<(), ImageError> {
+    pub fn flush_all(&mut self, storage: &mut ImageStorage<S>) -> Result<(), ImageError>
+        ensures cause { IfErr result IsOfTables }
+    {
         match self.direction {
             Direction::L2DependsOnRb => {
                 self.rb.flush(storage)?;
@@ -79,7 +87,9 @@ impl<S: Storage> MetadataCaches<S> {
     }
 
     /// Writes the refblocks, and the L2 tables before them where the direction asks for it.
-    pub fn flush_rb(&mut self, storage: &mut ImageStorage<S>) -> Result<(), ImageError> {
+    pub fn flush_rb(&mut self, storage: &mut ImageStorage<S>) -> Result<(), ImageError>
+        ensures cause { IfErr result IsOfTables }
+    {
         if let Direction::RbDependsOnL2 = self.direction {
             self.l2.flush(storage)?;
         }
@@ -88,7 +98,9 @@ impl<S: Storage> MetadataCaches<S> {
     }
 
     // What has to be written before an L2 table goes.
-    fn before_l2(&mut self, storage: &mut ImageStorage<S>) -> Result<(), ImageError> {
+    fn before_l2(&mut self, storage: &mut ImageStorage<S>) -> Result<(), ImageError>
+        ensures cause { IfErr result IsOfTables }
+    {
         if let Direction::L2DependsOnRb = self.direction {
             self.rb.flush(storage)?;
         }
@@ -96,7 +108,9 @@ impl<S: Storage> MetadataCaches<S> {
     }
 
     // What has to be written before a refblock goes.
-    fn before_rb(&mut self, storage: &mut ImageStorage<S>) -> Result<(), ImageError> {
+    fn before_rb(&mut self, storage: &mut ImageStorage<S>) -> Result<(), ImageError>
+        ensures cause { IfErr result IsOfTables }
+    {
         if let Direction::RbDependsOnL2 = self.direction {
             self.l2.flush(storage)?;
         }
@@ -108,7 +122,9 @@ impl<S: Storage> MetadataCaches<S> {
         &mut self,
         storage: &mut ImageStorage<S>,
         cluster: HostCluster,
-    ) -> Result<(), ImageError> {
+    ) -> Result<(), ImageError>
+        ensures cause { IfErr result IsOfTables }
+    {
         if self.l2.get_or_insert(storage, cluster, false)? {
             return Ok(());
         }
@@ -122,7 +138,9 @@ impl<S: Storage> MetadataCaches<S> {
         &mut self,
         storage: &mut ImageStorage<S>,
         cluster: HostCluster,
-    ) -> Result<(), ImageError> {
+    ) -> Result<(), ImageError>
+        ensures cause { IfErr result IsOfTables }
+    {
         if self.rb.get_or_insert(storage, cluster, false)? {
             return Ok(());
         }
@@ -138,6 +156,7 @@ impl<S: Storage> MetadataCaches<S> {
         table: L2Table,
     ) -> Result<(), ImageError>
         requires { IsSome table.cluster }
+        ensures cause { IfErr result IsOfTables }
     {
         let Some(cluster) = table.get_cluster() else {
             unreachable!();
@@ -158,6 +177,7 @@ impl<S: Storage> MetadataCaches<S> {
         block: RefBlock,
     ) -> Result<(), ImageError>
         requires { IsSome block.cluster }
+        ensures cause { IfErr result IsOfTables }
     {
         let Some(cluster) = block.get_cluster() else {
             unreachable!();

@@ -1,2 +1,4 @@
 pub mod CopyRange
 pub mod FirstCluster
+pub mod Image
+pub mod Refusals

@@ -18,7 +18,9 @@ impl<S: Storage, F: WrappedFormat<S>> Qcow2<S, F> {
         overwrite: bool,
     ) -> Result<(), ImageError>
         requires { IsHostCluster self.old.file.header.fields.cluster_bits cluster }
-        ensures { self.new.file.header ≡ self.old.file.header }
+        ensures value { self.new.file.header ≡ self.old.file.header }
+        ensures stays { Stays self.old self.new }
+        ensures cause { IfErr result IsMet }
     {
         let bits = self.file.header.cluster_bits();
         let size = self.file.header.cluster_size();
@@ -43,7 +45,9 @@ impl<S: Storage, F: WrappedFormat<S>> Qcow2<S, F> {
 
     // Writes what the backing disk has from a guest offset on, or zeros without one.
     fn copy_backing(&mut self, at: u64, guest: u64, length: u64) -> Result<(), ImageError>
-        ensures { self.new.file.header ≡ self.old.file.header }
+        ensures value { self.new.file.header ≡ self.old.file.header }
+        ensures stays { Stays self.old self.new }
+        ensures cause { IfErr result IsMet }
     {
         let Some(backing) = &mut self.backing else {
             self.file.storage.write_zeroes(at, length)?;

@@ -93,7 +93,9 @@ impl<S: Storage, F: WrappedFormat<S>> Qcow2<S, F> {
         metadata: S,
         writable: bool,
         number: u64,
-    ) -> Result<Qcow2<S, F>, (S, ImageError)> {
+    ) -> Result<Qcow2<S, F>, (S, ImageError)>
+        ensures ok { IfOk result (λ image. (number_of image ≡ number) × (is_failed image ≡ false) × (is_writable image ≡ writable)) }
+    {
         let mut storage = ImageStorage::new(metadata);
         let header = match Header::load(alloc, &mut storage, writable) {
             Ok(header) => header,
@@ -140,26 +142,36 @@ impl<S: Storage, F: WrappedFormat<S>> Qcow2<S, F> {
     }
 
     /// The number that it was opened with.
-    pub fn number(&self) -> u64 {
+    pub fn number(&self) -> u64
+        ensures { result ≡ number_of self.now }
+    {
         self.number
     }
 
-    pub fn format(&self) -> Format {
+    pub fn format(&self) -> Format
+        ensures { result ≡ Format.Qcow2 }
+    {
         Format::Qcow2
     }
 
     /// The size of the guest's disk, in bytes.
-    pub fn size(&self) -> u64 {
+    pub fn size(&self) -> u64
+        ensures { result ≡ size_of self.now }
+    {
         self.file.header.size()
     }
 
     /// Whether it was opened for writing.
-    pub fn writable(&self) -> bool {
+    pub fn writable(&self) -> bool
+        ensures { result ≡ is_writable self.now }
+    {
         self.allocator.is_some()
     }
 
     /// How many bytes are zeroed at least: a cluster, from version 3 on.
-    pub fn zero_granularity(&self) -> Option<u64> {
+    pub fn zero_granularity(&self) -> Option<u64>
+        ensures { result ≡ (if nat_le 3 self.now.file.header.fields.version then Some (cluster_size self.now.file.header.fields) else None) }
+    {
         if self.file.header.version() >= 3 {
             Some(self.file.header.cluster_size())
         } else {
@@ -168,22 +180,30 @@ impl<S: Storage, F: WrappedFormat<S>> Qcow2<S, F> {
     }
 
     /// Whether its header says that the data stand in another file.
-    pub fn requires_external_data_file(&self) -> bool {
+    pub fn requires_external_data_file(&self) -> bool
+        ensures { result ≡ is_external self.now }
+    {
         self.file.header.has_data_file()
     }
 
     /// The name of that file, where the header gives one.
-    pub fn implicit_external_data_file(&self) -> Option<&String> {
+    pub fn implicit_external_data_file(&self) -> Option<&String>
+        ensures { option_map (λ s. string_bytes s.now) result ≡ self.now.file.header.data_file_name }
+    {
         self.file.header.data_file_name()
     }
 
     /// The name of the backing file, where the header gives one.
-    pub fn implicit_backing_file(&self) -> Option<&String> {
+    pub fn implicit_backing_file(&self) -> Option<&String>
+        ensures { option_map (λ s. string_bytes s.now) result ≡ self.now.file.header.backing_name }
+    {
         self.file.header.backing_name()
     }
 
     /// The format of the backing file, where the header gives one.
-    pub fn implicit_backing_format(&self) -> Option<&String> {
+    pub fn implicit_backing_format(&self) -> Option<&String>
+        ensures { option_map (λ s. string_bytes s.now) result ≡ self.now.file.header.backing_format }
+    {
         self.file.header.backing_format()
     }
 
@@ -196,7 +216,12 @@ impl<S: Storage, F: WrappedFormat<S>> Qcow2<S, F> {
     }
 
     /// Writes what is cached, and hands all on to the device.
-    pub fn flush(&mut self) -> Result<(), ImageError> {
+    pub fn flush(&mut self) -> Result<(), ImageError>
+        ensures early { IsTrue (is_failed self.old) → (result ≡ Err Failed) × (self.new ≡ self.old) }
+        ensures late { is_failed self.old ≡ false → IfErr result IsMet }
+        ensures marks { Marks result (is_failed self.old) (is_failed self.new) }
+        ensures image { IsSameImage self.old self.new }
+    {
         if self.is_failed {
             return Err(ImageError::Failed);
         }
@@ -205,14 +230,19 @@ impl<S: Storage, F: WrappedFormat<S>> Qcow2<S, F> {
         self.settled(done)
     }
 
-    fn write_back(&mut self) -> Result<(), ImageError> {
+    fn write_back(&mut self) -> Result<(), ImageError>
+        ensures stays { Stays self.old self.new }
+        ensures cause { IfErr result IsMet }
+    {
         self.file.caches.flush_all(&mut self.file.storage)?;
         self.file.storage.flush()?;
         Ok(())
     }
 
     // What makes every call that looks at guest data refused: an earlier failure, or that the data's file is missing.
-    pub(crate) fn check_usable(&self) -> Result<(), ImageError> {
+    pub(crate) fn check_usable(&self) -> Result<(), ImageError>
+        ensures { MatchOption (unusable self.now) (result ≡ Ok tt) (λ e. result ≡ Err e) }
+    {
         if self.is_failed {
             return Err(ImageError::Failed);
         }
@@ -223,7 +253,10 @@ impl<S: Storage, F: WrappedFormat<S>> Qcow2<S, F> {
     }
 
     // A failure marks the image, and so does want of memory after the call's first change.
-    pub(crate) fn note(&mut self, refusal: &ImageError) {
+    pub(crate) fn note(&mut self, refusal: &ImageError)
+        ensures image { IsSameImage self.old self.new }
+        ensures marks { failed_after refusal.now (is_failed self.old) (is_failed self.new) }
+    {
         match refusal {
             ImageError::Storage => self.is_failed = true,
             ImageError::Memory => {
@@ -235,7 +268,11 @@ impl<S: Storage, F: WrappedFormat<S>> Qcow2<S, F> {
         }
     }
 
-    pub(crate) fn settled<T>(&mut self, done: Result<T, ImageError>) -> Result<T, ImageError> {
+    pub(crate) fn settled<T>(&mut self, done: Result<T, ImageError>) -> Result<T, ImageError>
+        ensures answer { result ≡ done }
+        ensures image { IsSameImage self.old self.new }
+        ensures marks { Marks done (is_failed self.old) (is_failed self.new) }
+    {
         if let Err(refusal) = &done {
             self.note(refusal);
         }

@@ -14,6 +14,10 @@ impl<S: Storage, F: WrappedFormat<S>> Qcow2<S, F> {
         bytes: &mut [u8],
     ) -> Result<(), ImageError>
         requires { at + length bytes.old ≤ mapping.now.length }
+        ensures early { IfSome (refuses_mapping self.old mapping.now.image) (λ e. (result ≡ Err e) × (self.new ≡ self.old)) }
+        ensures late { refuses_mapping self.old mapping.now.image ≡ None → IfErr result IsMet }
+        ensures marks { Marks result (is_failed self.old) (is_failed self.new) }
+        ensures image { IsSameImage self.old self.new }
     {
         self.check_usable()?;
         if mapping.image != self.number {
@@ -32,7 +36,10 @@ impl<S: Storage, F: WrappedFormat<S>> Qcow2<S, F> {
         mapping: &Mapping,
         at: u64,
         bytes: &mut [u8],
-    ) -> Result<(), ImageError> {
+    ) -> Result<(), ImageError>
+        ensures stays { Stays self.old self.new }
+        ensures cause { IfErr result IsMet }
+    {
         let length = bytes.len() as u64;
         let Some(offset) = mapping.offset.checked_add(at) else {
             return Err(ImageError::OutdatedMapping);
@@ -55,7 +62,10 @@ impl<S: Storage, F: WrappedFormat<S>> Qcow2<S, F> {
         Ok(())
     }
 
-    fn read_backing(&mut self, offset: u64, bytes: &mut [u8]) -> Result<(), ImageError> {
+    fn read_backing(&mut self, offset: u64, bytes: &mut [u8]) -> Result<(), ImageError>
+        ensures stays { Stays self.old self.new }
+        ensures cause { IfErr result IsMet }
+    {
         match &mut self.backing {
             Some(backing) => backing.read(offset, bytes)?,
             None => bytes.fill(0),
@@ -72,6 +82,11 @@ impl<S: Storage, F: WrappedFormat<S>> Qcow2<S, F> {
         bytes: &[u8],
     ) -> Result<(), ImageError>
         requires { at + length bytes.now ≤ prepared.now.length }
+        ensures early { IfSome (refuses_mapping self.old (image_of prepared.now)) (λ e. (result ≡ Err e) × (self.new ≡ self.old)) }
+        ensures read_only { 0 < length bytes.now → refuses_mapping self.old (image_of prepared.now) ≡ None → is_writable self.old ≡ false → (result ≡ Err ReadOnly) × (self.new ≡ self.old) }
+        ensures late { refuses_mapping self.old (image_of prepared.now) ≡ None → IsTrue (is_writable self.old) → IfErr result IsMet }
+        ensures marks { Marks result (is_failed self.old) (is_failed self.new) }
+        ensures image { IsSameImage self.old self.new }
     {
         self.check_usable()?;
         if prepared.image != self.number {
@@ -93,7 +108,10 @@ impl<S: Storage, F: WrappedFormat<S>> Qcow2<S, F> {
         prepared: &Prepared,
         at: u64,
         bytes: &[u8],
-    ) -> Result<(), ImageError> {
+    ) -> Result<(), ImageError>
+        ensures stays { Stays self.old self.new }
+        ensures cause { IfErr result IsMet }
+    {
         let (Some(guest), Some(host)) =
             (prepared.guest.checked_add(at), prepared.offset.checked_add(at))
         else {
@@ -108,7 +126,10 @@ impl<S: Storage, F: WrappedFormat<S>> Qcow2<S, F> {
     }
 
     // Whether a part of an existing mapping is still copied data at its place.
-    fn check_in_place(&mut self, guest: u64, host: u64, length: u64) -> Result<(), ImageError> {
+    fn check_in_place(&mut self, guest: u64, host: u64, length: u64) -> Result<(), ImageError>
+        ensures stays { Stays self.old self.new }
+        ensures cause { IfErr result IsMet }
+    {
         let (kind, found) = self.look_up(guest, length)?;
         let wanted = MappingKind::Raw {
             place: Place::Image,

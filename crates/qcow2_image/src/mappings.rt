@@ -41,7 +41,13 @@ enum FirstCluster {
 impl<S: Storage, F: WrappedFormat<S>> Qcow2<S, F> {
     /// What stands at a guest offset, and for how many bytes, up to `max`, all is mapped alike: within one L2 table,
     /// and below the disk's size.
-    pub fn get_mapping(&mut self, offset: u64, max: u64) -> Result<(Mapping, u64), ImageError> {
+    pub fn get_mapping(&mut self, offset: u64, max: u64) -> Result<(Mapping, u64), ImageError>
+        ensures early { IfSome (unusable self.old) (λ e. (result ≡ Err e) × (self.new ≡ self.old)) }
+        ensures late { unusable self.old ≡ None → IfErr result IsMet }
+        ensures marks { Marks result (is_failed self.old) (is_failed self.new) }
+        ensures image { IsSameImage self.old self.new }
+        ensures own { IfOk result (λ (mapping, n). (mapping.image ≡ number_of self.old) × (mapping.offset ≡ offset) × (mapping.length ≡ n)) }
+    {
         self.check_usable()?;
         self.file.begin();
         let found = self.look_up(offset, max);
@@ -59,7 +65,10 @@ impl<S: Storage, F: WrappedFormat<S>> Qcow2<S, F> {
         &mut self,
         offset: u64,
         max: u64,
-    ) -> Result<(MappingKind, u64), ImageError> {
+    ) -> Result<(MappingKind, u64), ImageError>
+        ensures stays { Stays self.old self.new }
+        ensures cause { IfErr result IsMet }
+    {
         let size = self.file.header.size();
         if offset >= size {
             return Ok((MappingKind::Eof, 0));
@@ -86,7 +95,9 @@ impl<S: Storage, F: WrappedFormat<S>> Qcow2<S, F> {
     }
 
     // Where the L2 table of an offset lies, or None where there is none.
-    fn l2_cluster(&self, offset: u64) -> Result<Option<HostCluster>, ImageError> {
+    fn l2_cluster(&self, offset: u64) -> Result<Option<HostCluster>, ImageError>
+        ensures cause { IfErr result IsMet }
+    {
         let bits = self.file.header.cluster_bits();
         let Some(entry) = self.l1_table.get(GuestOffset::new(offset).l1_index(bits)) else {
             return Ok(None);
@@ -112,6 +123,7 @@ impl<S: Storage, F: WrappedFormat<S>> Qcow2<S, F> {
         max: u64,
     ) -> Result<(MappingKind, u64), ImageError>
         requires { max ≤ 2 ^ 40 }
+        ensures cause { IfErr result IsMet }
     {
         let bits = self.file.header.cluster_bits();
         let Some(table) = self.file.caches.l2_peek(table) else {
@@ -132,7 +144,8 @@ impl<S: Storage, F: WrappedFormat<S>> Qcow2<S, F> {
         max: u64,
     ) -> Result<u64, ImageError>
         requires { max ≤ 2 ^ 40 }
-        ensures { IfOk result (λ n. n ≤ 2 ^ 41) }
+        ensures value { IfOk result (λ n. n ≤ 2 ^ 41) }
+        ensures cause { IfErr result IsMet }
     {
         let size = self.file.header.cluster_size();
         let first = table.get_mapping(cluster)?;
@@ -172,7 +185,14 @@ impl<S: Storage, F: WrappedFormat<S>> Qcow2<S, F> {
         offset: u64,
         length: u64,
         overwrite: bool,
-    ) -> Result<Prepared, ImageError> {
+    ) -> Result<Prepared, ImageError>
+        ensures early { IfSome (refuses_to_prepare self.old offset length) (λ e. (result ≡ Err e) × (self.new ≡ self.old)) }
+        ensures late { refuses_to_prepare self.old offset length ≡ None → IfErr result IsMet }
+        ensures nothing { refuses_to_prepare self.old offset 0 ≡ None → length ≡ 0 → IsOk result × (self.new ≡ self.old) }
+        ensures marks { Marks result (is_failed self.old) (is_failed self.new) }
+        ensures image { IsSameImage self.old self.new }
+        ensures own { IfOk result (λ p. image_of p ≡ number_of self.old) }
+    {
         self.check_usable()?;
         if length == 0 {
             return Ok(self.existing_at(offset, 0, 0));
@@ -194,7 +214,9 @@ impl<S: Storage, F: WrappedFormat<S>> Qcow2<S, F> {
         length == 0 || (offset <= size && length <= size - offset)
     }
 
-    fn existing_at(&self, guest: u64, offset: u64, length: u64) -> Prepared {
+    fn existing_at(&self, guest: u64, offset: u64, length: u64) -> Prepared
+        ensures own { image_of result ≡ number_of self.now }
+    {
         Prepared {
             image: self.number,
             guest,
@@ -211,7 +233,12 @@ impl<S: Storage, F: WrappedFormat<S>> Qcow2<S, F> {
         offset: u64,
         length: u64,
         overwrite: bool,
-    ) -> Result<Prepared, ImageError> {
+    ) -> Result<Prepared, ImageError>
+        requires writable { IsTrue (is_writable self.old) }
+        ensures stays { Stays self.old self.new }
+        ensures cause { IfErr result IsMet }
+        ensures own { IfOk result (λ p. image_of p ≡ number_of self.old) }
+    {
         let table = self.ensure_l2(offset)?;
         let (kind, found) = self.run_in_table(table, offset, length.min(self.rest_of_table(offset)))?;
         if let MappingKind::Raw {
@@ -237,7 +264,12 @@ impl<S: Storage, F: WrappedFormat<S>> Qcow2<S, F> {
         offset: u64,
         length: u64,
         overwrite: bool,
-    ) -> Result<Prepared, ImageError> {
+    ) -> Result<Prepared, ImageError>
+        requires writable { IsTrue (is_writable self.old) }
+        ensures stays { Stays self.old self.new }
+        ensures cause { IfErr result IsMet }
+        ensures own { IfOk result (λ p. image_of p ≡ number_of self.old) }
+    {
         let bits = self.file.header.cluster_bits();
         let guest = GuestOffset::new(offset);
         let rest = guest.remaining_in_cluster(bits);
@@ -268,7 +300,8 @@ impl<S: Storage, F: WrappedFormat<S>> Qcow2<S, F> {
         table: HostCluster,
         cluster: GuestCluster,
     ) -> Result<FirstCluster, ImageError>
-        ensures { IfOk result IsNear }
+        ensures value { IfOk result IsNear }
+        ensures cause { IfErr result IsMet }
     {
         let Some(held) = self.file.caches.l2_peek(table) else {
             return Err(ImageError::InUse);
@@ -293,8 +326,11 @@ impl<S: Storage, F: WrappedFormat<S>> Qcow2<S, F> {
         length: u64,
         overwrite: bool,
     ) -> Result<PendingClusters, ImageError>
+        requires writable { IsTrue (is_writable self.old) }
         ensures nameable { IfOk result (λ p. IsHostCluster self.old.file.header.fields.cluster_bits p.first_cluster) }
         ensures header { self.new.file.header ≡ self.old.file.header }
+        ensures stays { Stays self.old self.new }
+        ensures cause { IfErr result IsMet }
     {
         let Some(allocator) = &mut self.allocator else {
             return Err(ImageError::ReadOnly);
@@ -310,7 +346,11 @@ impl<S: Storage, F: WrappedFormat<S>> Qcow2<S, F> {
     }
 
     // The L2 table that covers an offset, held in its cache and marked copied. Where there is none, or it isn't, one is made.
-    fn ensure_l2(&mut self, offset: u64) -> Result<HostCluster, ImageError> {
+    fn ensure_l2(&mut self, offset: u64) -> Result<HostCluster, ImageError>
+        requires writable { IsTrue (is_writable self.old) }
+        ensures stays { Stays self.old self.new }
+        ensures cause { IfErr result IsMet }
+    {
         let bits = self.file.header.cluster_bits();
         let index = GuestOffset::new(offset).l1_index(bits);
         if !self.l1_table.in_bounds(index) {
@@ -333,7 +373,11 @@ impl<S: Storage, F: WrappedFormat<S>> Qcow2<S, F> {
     }
 
     // Puts a copy in the place of a table that others may name too.
-    fn replace_l2(&mut self, index: usize, old: HostCluster) -> Result<HostCluster, ImageError> {
+    fn replace_l2(&mut self, index: usize, old: HostCluster) -> Result<HostCluster, ImageError>
+        requires writable { IsTrue (is_writable self.old) }
+        ensures stays { Stays self.old self.new }
+        ensures cause { IfErr result IsMet }
+    {
         let Some(held) = self.file.caches.l2_peek(old) else {
             return Err(ImageError::InUse);
         };
@@ -353,7 +397,11 @@ impl<S: Storage, F: WrappedFormat<S>> Qcow2<S, F> {
     }
 
     // Gives a table a cluster, writes it there, and then the L1 entry that names it.
-    fn enter_l2(&mut self, index: usize, mut table: L2Table) -> Result<HostCluster, ImageError> {
+    fn enter_l2(&mut self, index: usize, mut table: L2Table) -> Result<HostCluster, ImageError>
+        requires writable { IsTrue (is_writable self.old) }
+        ensures stays { Stays self.old self.new }
+        ensures cause { IfErr result IsMet }
+    {
         let Some(allocator) = &mut self.allocator else {
             return Err(ImageError::ReadOnly);
         };
@@ -378,6 +426,8 @@ impl<S: Storage, F: WrappedFormat<S>> Qcow2<S, F> {
         table: &mut L2Table,
     ) -> Result<(), ImageError>
         ensures placed { OnOk result (IsSome table.new.cluster) }
+        ensures stays { Stays self.old self.new }
+        ensures cause { IfErr result IsMet }
     {
         if !self.can_enter(index, cluster) || !cluster.is_nameable(table.cluster_bits()) {
             return Err(ImageError::Limit);
@@ -404,7 +454,13 @@ impl<S: Storage, F: WrappedFormat<S>> Qcow2<S, F> {
     }
 
     /// Makes a prepared mapping visible. A refusal that leaves the mapping as it is hands it back.
-    pub fn commit_data_mapping(&mut self, prepared: Prepared) -> Result<(), CommitRefused> {
+    pub fn commit_data_mapping(&mut self, prepared: Prepared) -> Result<(), CommitRefused>
+        ensures foreign { image_of prepared ≢ number_of self.old → (result ≡ Err (Kept ForeignState prepared)) × (self.new ≡ self.old) }
+        ensures failed { image_of prepared ≡ number_of self.old → IsTrue (is_failed self.old) → (result ≡ Err (Kept Failed prepared)) × (self.new ≡ self.old) }
+        ensures kept { IfErr result (IsKept prepared) }
+        ensures existing { image_of prepared ≡ number_of self.old → is_failed self.old ≡ false → IsNone (table_of prepared) → result ≡ Ok tt }
+        ensures image { IsSameImage self.old self.new }
+    {
         if prepared.image != self.number {
             return Err(CommitRefused::Kept(ImageError::ForeignState, prepared));
         }
@@ -422,7 +478,10 @@ impl<S: Storage, F: WrappedFormat<S>> Qcow2<S, F> {
     }
 
     // Brings a table into its cache where it isn't there.
-    fn hold_l2(&mut self, table: HostCluster) -> Result<(), ImageError> {
+    fn hold_l2(&mut self, table: HostCluster) -> Result<(), ImageError>
+        ensures stays { Stays self.old self.new }
+        ensures cause { IfErr result IsMet }
+    {
         if self.file.caches.l2_peek(table).is_some() {
             return Ok(());
         }
@@ -433,7 +492,9 @@ impl<S: Storage, F: WrappedFormat<S>> Qcow2<S, F> {
     }
 
     // Enters the new cluster of a mapping whose table is held, and lets the table go.
-    fn enter_prepared(&mut self, prepared: Prepared) {
+    fn enter_prepared(&mut self, prepared: Prepared)
+        ensures stays { Stays self.old self.new }
+    {
         let Prepared {
             image: _,
             guest: _,
@@ -458,7 +519,11 @@ impl<S: Storage, F: WrappedFormat<S>> Qcow2<S, F> {
     }
 
     /// Drops a prepared mapping: its new cluster is to be freed. A mapping of another image is handed back.
-    pub fn discard_data_mapping(&mut self, prepared: Prepared) -> Result<(), (ImageError, Prepared)> {
+    pub fn discard_data_mapping(&mut self, prepared: Prepared) -> Result<(), (ImageError, Prepared)>
+        ensures own { image_of prepared ≡ number_of self.old → IsOk result }
+        ensures foreign { IfErr result (λ (e, p). (image_of prepared ≢ number_of self.old) × (e ≡ ForeignState) × (p ≡ prepared) × (self.new ≡ self.old)) }
+        ensures stays { Stays self.old self.new }
+    {
         if prepared.image != self.number {
             return Err((ImageError::ForeignState, prepared));
         }

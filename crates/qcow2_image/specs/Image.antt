@@ -1,0 +1,37 @@
+-- What a contract sees of an open image.
+use Rattle.std.specs.Prelude.{◌≡◌, ℕ, Bool, is_some}
+use Rattle.qcow2_metadata.specs.Header.{has_data_file}
+use Rattle.qcow2_image.specs.declared.image.Qcow2.{Qcow2}
+
+module _ {S F : Type 0} where
+  -- the number that it was opened with
+  abbrev pub number_of : Qcow2 S F → ℕ
+  number_of image = image.number
+
+  -- an earlier call marked it as failed
+  abbrev pub is_failed : Qcow2 S F → Bool
+  is_failed image = image.is_failed
+
+  -- the size of the guest's disk
+  abbrev pub size_of : Qcow2 S F → ℕ
+  size_of image = image.file.header.fields.size
+
+  -- it was opened for writing
+  abbrev pub is_writable : Qcow2 S F → Bool
+  is_writable image = is_some image.allocator
+
+  -- its data stand in another file
+  abbrev pub is_external : Qcow2 S F → Bool
+  is_external image = has_data_file image.file.header.fields
+
+  -- it is the same image, with a disk of the same size
+  pub record IsSameImage (old new : Qcow2 S F) : Type 0 where
+    pub number : number_of new ≡ number_of old
+    pub size : size_of new ≡ size_of old
+    pub writable : is_writable new ≡ is_writable old
+    pub external : is_external new ≡ is_external old
+
+  -- and is marked as failed where it was before
+  pub record Stays (old new : Qcow2 S F) : Type 0 where
+    pub image : IsSameImage old new
+    pub failed : is_failed new ≡ is_failed old

@@ -1,0 +1,63 @@
+-- When the calls on an image are refused, and what a refusal leaves.
+use Rattle.std.specs.Prelude.{◌≡◌, ◌⊎◌, ℕ, ◌+◌, ◌==◌, ◌&&◌, Bool, true, false, not, nat_lt, Option, Some, None, Result, Ok, Err, if◌then◌else◌}
+use Rattle.std.specs.Option.{option_or}
+use Rattle.qcow2_alloc.specs.declared.error.ImageError.{ImageError}
+use Rattle.qcow2_alloc.specs.declared.error.ImageError.TheVariants as I
+use Rattle.qcow2_image.specs.declared.image.Qcow2.{Qcow2}
+use Rattle.qcow2_image.specs.Image.{is_failed, is_external, is_writable, size_of, number_of}
+
+-- a refusal, where a test says so
+abbrev pub refuse_if : Bool → ImageError → Option ImageError
+refuse_if test e = if test then Some e else None
+
+-- the range isn't empty and passes the size
+abbrev pub passes : ℕ → ℕ → ℕ → Bool
+passes size offset n = nat_lt 0 n && nat_lt size (offset + n)
+
+module _ {S F : Type 0} (image : Qcow2 S F) where
+  -- of every call that looks at guest data: an earlier failure, or that the data's file is missing
+  abbrev pub unusable : Option ImageError
+  unusable = option_or (refuse_if (is_failed image) I.Failed) (refuse_if (is_external image) I.Dependency)
+
+  -- of preparing a range, in this order: what makes the image unusable, a range beyond the size, and that it isn't to be written
+  abbrev pub refuses_to_prepare : ℕ → ℕ → Option ImageError
+  refuses_to_prepare offset n =
+      option_or unusable (option_or (refuse_if (passes (size_of image) offset n) I.BeyondSize) (refuse_if (nat_lt 0 n && not (is_writable image)) I.ReadOnly))
+
+  -- of reading and writing in a mapping of some image
+  abbrev pub refuses_mapping : ℕ → Option ImageError
+  refuses_mapping number = option_or unusable (refuse_if (not (number == number_of image)) I.ForeignState)
+
+-- what comes where the work meets it, behind all that is asked before
+abbrev pub IsMet : ImageError → Type 0
+IsMet I.ReadOnly = ⊥
+IsMet I.BeyondSize = ⊥
+IsMet I.Version = Unit {0}
+IsMet I.UnalignedTable = Unit {0}
+IsMet I.InvalidOption = ⊥
+IsMet I.Preallocation = ⊥
+IsMet I.Compressed = Unit {0}
+IsMet I.InUse = Unit {0}
+IsMet I.TablePrepared = Unit {0}
+IsMet I.OutdatedMapping = Unit {0}
+IsMet I.ForeignState = ⊥
+IsMet I.Dependency = ⊥
+IsMet I.Limit = Unit {0}
+IsMet I.Memory = Unit {0}
+IsMet I.Storage = Unit {0}
+IsMet I.Failed = ⊥
+IsMet I.MappingPrepared = ⊥
+IsMet (I.NotCompressed offset) = ⊥
+IsMet I.Metadata = Unit {0}
+IsMet I.Overflow = Unit {0}
+IsMet (I.StillInUse tables) = Unit {0}
+
+-- a failing storage marks the image as failed, want of memory may, and nothing else does
+abbrev pub failed_after : ImageError → Bool → Bool → Type 0
+failed_after I.Storage before now = now ≡ true
+failed_after I.Memory before now = (now ≡ before) ⊎ (now ≡ true)
+failed_after e before now = now ≡ before
+
+abbrev pub Marks : {A : Type 0} → Result A ImageError → Bool → Bool → Type 0
+Marks (Ok _) before now = now ≡ before
+Marks (Err e) before now = failed_after e before now

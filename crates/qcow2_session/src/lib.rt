@@ -1,0 +1,6 @@
+//! Commands on a qcow2 image, and what they are answered.
+#![tactic(auto)]
+
+pub mod session;
+
+pub use session::{Command, Reply, read, run, write};
