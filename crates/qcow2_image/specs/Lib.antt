@@ -1,4 +1,5 @@
 pub mod CopyRange
 pub mod FirstCluster
 pub mod Image
+pub mod Prepared
 pub mod Refusals

@@ -24,6 +24,10 @@ module _ {S F : Type 0} (image : Qcow2 S F) where
   refuses_to_prepare offset n =
       option_or unusable (option_or (refuse_if (passes (size_of image) offset n) I.BeyondSize) (refuse_if (nat_lt 0 n && not (is_writable image)) I.ReadOnly))
 
+  -- of reading a range of the disk
+  abbrev pub refuses_to_read : ℕ → ℕ → Option ImageError
+  refuses_to_read offset n = option_or unusable (refuse_if (passes (size_of image) offset n) I.BeyondSize)
+
   -- of reading and writing in a mapping of some image
   abbrev pub refuses_mapping : ℕ → Option ImageError
   refuses_mapping number = option_or unusable (refuse_if (not (number == number_of image)) I.ForeignState)

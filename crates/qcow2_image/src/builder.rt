@@ -137,11 +137,7 @@ fn write_new_image<S: Storage>(
     Ok(())
 }
 
-fn grow_new_image<S: Storage>(
-    alloc: Global,
-    storage: S,
-    size: u64,
-) -> (S, Result<(), ImageError>) {
+fn grow_new_image<S: Storage>(alloc: Global, storage: S, size: u64) -> (S, Result<(), ImageError>) {
     match Qcow2::<S, NoBacking>::open_image(alloc, storage, true, 0) {
         Err((storage, refusal)) => (storage, Err(refusal)),
         Ok(mut image) => {

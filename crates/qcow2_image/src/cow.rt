@@ -1,13 +1,16 @@
 //! Filling a new cluster with the bytes that the guest saw there before.
-ghost use Rattle.std.specs.Prelude.{◌≡◌};
+ghost use Rattle.std.specs.Prelude.{◌≡◌, IfErr};
+ghost use Rattle.qcow2_image.specs.Image.{Stays};
+ghost use Rattle.qcow2_image.specs.Refusals.{IsMet};
 ghost use Rattle.qcow2_metadata.specs.L2Mapping.{IsHostCluster};
 
-use crate::copy_range::{CopyRange, copy_range};
 use crate::Qcow2;
+use crate::copy_range::{CopyRange, copy_range};
 use image_access::{BackingDisk, Storage, WrappedFormat};
 use qcow2_alloc::{ImageError, WriteKind};
 use qcow2_metadata::{GuestOffset, HostCluster};
 
+#[tactic(auto, using(crate::proofs::MetErrors::tables_met, crate::proofs::MetErrors::storage_met, crate::proofs::MetErrors::metadata_met))]
 impl<S: Storage, F: WrappedFormat<S>> Qcow2<S, F> {
     // Fills the new cluster for an offset that the image doesn't cover.
     pub(crate) fn fill_cluster(

@@ -1,3 +1,5 @@
+ghost use Rattle.std.specs.Prelude.{◌≡◌, IfOk, is_some};
+
 use image_access::{BackingDisk, Format, Storage, WrappedFormat};
 use qcow2_alloc::{
     Allocator, ClustersToFreeList, ImageError, ImageFile, ImageStorage, MetadataCaches, WriteKind,
@@ -54,10 +56,9 @@ fn load_l1_table<S: Storage>(
 }
 
 // Loads the L1 table and, for writing, the reftable; for writing the autoclear bits are cleared last.
-fn load_tables<S: Storage>(
-    file: &mut ImageFile<S>,
-    writable: bool,
-) -> Result<Tables, ImageError> {
+fn load_tables<S: Storage>(file: &mut ImageFile<S>, writable: bool) -> Result<Tables, ImageError>
+    ensures { IfOk result (λ tables. is_some tables.allocator ≡ writable) }
+{
     let bits = file.header.cluster_bits();
     let Some(cluster) = file.header.l1_table_offset().checked_cluster(bits) else {
         return Err(ImageError::UnalignedTable);
@@ -77,7 +78,15 @@ fn load_tables<S: Storage>(
     })
 }
 
+#[tactic(auto, using(crate::proofs::MetErrors::tables_met, crate::proofs::MetErrors::storage_met, crate::proofs::MetErrors::metadata_met))]
 impl<S: Storage, F: WrappedFormat<S>> Qcow2<S, F> {
+    ghost use Rattle.std.specs.Prelude.{◌≡◌, IfOk, IfErr, IsTrue, MatchOption, Ok, Err, Some, None, false, nat_le, option_map, if◌then◌else◌};
+    ghost use Rattle.std.specs.String.{string_bytes};
+    ghost use Rattle.qcow2_metadata.specs.Header.{cluster_size};
+    ghost use Rattle.qcow2_alloc.specs.declared.error.ImageError.TheVariants.{Failed};
+    ghost use Rattle.qcow2_image.specs.Image.{Stays, IsSameImage, is_failed, is_writable, is_external, number_of, size_of};
+    ghost use Rattle.qcow2_image.specs.Refusals.{unusable, IsMet, Marks, failed_after};
+
     /// Whether the first bytes of a storage are those of an image of version 2 or 3.
     pub fn probe(storage: &mut S) -> Result<bool, ImageError> {
         let mut first = [0u8; 8];
@@ -113,10 +122,12 @@ impl<S: Storage, F: WrappedFormat<S>> Qcow2<S, F> {
             free_list: ClustersToFreeList::new(),
         };
         match load_tables(&mut file, writable) {
-            Ok(Tables {
-                l1_table,
-                allocator,
-            }) => Ok(Qcow2 {
+            Ok(
+                Tables {
+                    l1_table,
+                    allocator,
+                },
+            ) => Ok(Qcow2 {
                 number,
                 is_failed: false,
                 file,

@@ -1,11 +1,28 @@
 //! Reading and writing what is mapped.
-ghost use Rattle.std.specs.Prelude.{◌+◌, ◌≤◌, length};
+ghost use Rattle.std.specs.Prelude.{◌≡◌, ◌+◌, ◌<◌, ◌≤◌, length, IfErr, IfSome, IsTrue, MatchOption, Ok, Err, None, false};
+ghost use Rattle.qcow2_image.specs.Image.{Stays, IsSameImage, is_failed, is_writable};
+ghost use Rattle.qcow2_image.specs.Prepared.{image_of};
+ghost use Rattle.qcow2_image.specs.Refusals.{refuses_mapping, refuses_to_read, IsMet, Marks};
+ghost use Rattle.qcow2_alloc.specs.declared.error.ImageError.TheVariants.{ReadOnly};
 
+use crate::mappings::passes;
 use crate::{Mapping, MappingKind, Place, Prepared, Qcow2};
 use image_access::{BackingDisk, Storage, WrappedFormat};
 use qcow2_alloc::{ImageError, WriteKind};
 
+#[tactic(auto, using(crate::proofs::MetErrors::tables_met, crate::proofs::MetErrors::storage_met, crate::proofs::MetErrors::metadata_met))]
 impl<S: Storage, F: WrappedFormat<S>> Qcow2<S, F> {
+    /// Refuses a range that can't be read.
+    pub fn check_read(&self, offset: u64, length: u64) -> Result<(), ImageError>
+        ensures { MatchOption (refuses_to_read self.now offset length) (result ≡ Ok tt) (λ e. result ≡ Err e) }
+    {
+        self.check_usable()?;
+        if passes(self.size(), offset, length) {
+            return Err(ImageError::BeyondSize);
+        }
+        Ok(())
+    }
+
     /// Reads the bytes of a mapping, from `at` within it on. It is refused where the range is no longer mapped so.
     pub fn read_mapped(
         &mut self,
@@ -112,9 +129,10 @@ impl<S: Storage, F: WrappedFormat<S>> Qcow2<S, F> {
         ensures stays { Stays self.old self.new }
         ensures cause { IfErr result IsMet }
     {
-        let (Some(guest), Some(host)) =
-            (prepared.guest.checked_add(at), prepared.offset.checked_add(at))
-        else {
+        let (Some(guest), Some(host)) = (
+            prepared.guest.checked_add(at),
+            prepared.offset.checked_add(at),
+        ) else {
             return Err(ImageError::OutdatedMapping);
         };
         if prepared.table.is_none() {

@@ -17,13 +17,19 @@ pub enum MappingKind {
         writable: bool,
     },
     /// Bytes of the backing disk, from an offset on.
-    Indirect { offset: u64 },
+    Indirect {
+        offset: u64,
+    },
     /// Zeros. Explicit where the image says so, and not where nothing is mapped.
-    Zero { explicit: bool },
+    Zero {
+        explicit: bool,
+    },
     /// The range begins at or past the disk's end.
     Eof,
     /// Data that can't be read plainly, from this guest offset on.
-    Special { offset: u64 },
+    Special {
+        offset: u64,
+    },
 }
 
 /// What an image said of a range of its disk.

@@ -1,8 +1,13 @@
 //! What a guest range is mapped to, and making it writable.
-ghost use Rattle.std.specs.Prelude.{◌≡◌, ◌+◌, ◌*◌, ◌^◌, ◌<◌, ◌≤◌, IfOk, OnOk, IsSome, IsTrue};
+ghost use Rattle.std.specs.Prelude.{◌≡◌, ◌≢◌, ◌+◌, ◌*◌, ◌^◌, ◌<◌, ◌≤◌, IfOk, IfErr, IfSome, OnOk, IsOk, IsNone, IsSome, IsTrue, MatchOption, Ok, Err, None, false};
 ghost use Rattle.qcow2_metadata.specs.L2Mapping.{IsHostCluster, IsInReach};
 ghost use Rattle.qcow2_metadata.specs.EntryTable.{entry_count};
 ghost use Rattle.qcow2_image.specs.FirstCluster.{IsNear};
+ghost use Rattle.qcow2_image.specs.Image.{Stays, IsSameImage, is_failed, is_writable, number_of};
+ghost use Rattle.qcow2_image.specs.Prepared.{image_of, length_of, table_of, IsKept};
+ghost use Rattle.qcow2_image.specs.Refusals.{unusable, refuses_to_prepare, passes as passes_size, IsMet, Marks};
+ghost use Rattle.qcow2_image.specs.declared.prepared.CommitRefused.TheVariants.{Kept};
+ghost use Rattle.qcow2_alloc.specs.declared.error.ImageError.TheVariants.{Failed, ForeignState};
 
 use crate::prepared::NewCluster;
 use crate::{CommitRefused, Mapping, MappingKind, Place, Prepared, Qcow2};
@@ -31,6 +36,13 @@ fn is_alike(first: &L2Mapping, mapping: &L2Mapping, distance: u64) -> bool {
     }
 }
 
+// Whether a range isn't empty and passes a size.
+pub(crate) fn passes(size: u64, offset: u64, length: u64) -> bool
+    ensures { result ≡ passes_size size offset length }
+{
+    length > 0 && (offset > size || length > size - offset)
+}
+
 // What the first cluster of a range that is to be written has.
 enum FirstCluster {
     // Copied data, at this host offset.
@@ -38,6 +50,7 @@ enum FirstCluster {
     Missing,
 }
 
+#[tactic(auto, using(crate::proofs::MetErrors::tables_met, crate::proofs::MetErrors::storage_met, crate::proofs::MetErrors::metadata_met))]
 impl<S: Storage, F: WrappedFormat<S>> Qcow2<S, F> {
     /// What stands at a guest offset, and for how many bytes, up to `max`, all is mapped alike: within one L2 table,
     /// and below the disk's size.
@@ -192,30 +205,35 @@ impl<S: Storage, F: WrappedFormat<S>> Qcow2<S, F> {
         ensures marks { Marks result (is_failed self.old) (is_failed self.new) }
         ensures image { IsSameImage self.old self.new }
         ensures own { IfOk result (λ p. image_of p ≡ number_of self.old) }
+        ensures some { IfOk result (λ p. 0 < length → 0 < length_of p) }
     {
-        self.check_usable()?;
+        self.check_prepare(offset, length)?;
         if length == 0 {
             return Ok(self.existing_at(offset, 0, 0));
-        }
-        if !self.is_within(offset, length) {
-            return Err(ImageError::BeyondSize);
-        }
-        if !self.writable() {
-            return Err(ImageError::ReadOnly);
         }
         self.file.begin();
         let prepared = self.prepare(offset, length, overwrite);
         self.settled(prepared)
     }
 
-    // Whether a range ends at or below the disk's size.
-    pub(crate) fn is_within(&self, offset: u64, length: u64) -> bool {
-        let size = self.file.header.size();
-        length == 0 || (offset <= size && length <= size - offset)
+    // Refuses a range that can't be prepared.
+    fn check_prepare(&self, offset: u64, length: u64) -> Result<(), ImageError>
+        ensures refusal { MatchOption (refuses_to_prepare self.now offset length) (result ≡ Ok tt) (λ e. result ≡ Err e) }
+        ensures writable { result ≡ Ok tt → 0 < length → IsTrue (is_writable self.now) }
+    {
+        self.check_usable()?;
+        if passes(self.file.header.size(), offset, length) {
+            return Err(ImageError::BeyondSize);
+        }
+        if length > 0 && !self.writable() {
+            return Err(ImageError::ReadOnly);
+        }
+        Ok(())
     }
 
     fn existing_at(&self, guest: u64, offset: u64, length: u64) -> Prepared
         ensures own { image_of result ≡ number_of self.now }
+        ensures length { length_of result ≡ length }
     {
         Prepared {
             image: self.number,
@@ -228,19 +246,19 @@ impl<S: Storage, F: WrappedFormat<S>> Qcow2<S, F> {
         }
     }
 
-    fn prepare(
-        &mut self,
-        offset: u64,
-        length: u64,
-        overwrite: bool,
-    ) -> Result<Prepared, ImageError>
+    fn prepare(&mut self, offset: u64, length: u64, overwrite: bool) -> Result<Prepared, ImageError>
         requires writable { IsTrue (is_writable self.old) }
         ensures stays { Stays self.old self.new }
         ensures cause { IfErr result IsMet }
         ensures own { IfOk result (λ p. image_of p ≡ number_of self.old) }
+        ensures some { IfOk result (λ p. 0 < length → 0 < length_of p) }
     {
         let table = self.ensure_l2(offset)?;
-        let (kind, found) = self.run_in_table(table, offset, length.min(self.rest_of_table(offset)))?;
+        let (kind, found) = self.run_in_table(
+            table,
+            offset,
+            length.min(self.rest_of_table(offset)),
+        )?;
         if let MappingKind::Raw {
             place: _,
             offset: host,
@@ -269,6 +287,7 @@ impl<S: Storage, F: WrappedFormat<S>> Qcow2<S, F> {
         ensures stays { Stays self.old self.new }
         ensures cause { IfErr result IsMet }
         ensures own { IfOk result (λ p. image_of p ≡ number_of self.old) }
+        ensures some { IfOk result (λ p. 0 < length → 0 < length_of p) }
     {
         let bits = self.file.header.cluster_bits();
         let guest = GuestOffset::new(offset);
@@ -333,7 +352,7 @@ impl<S: Storage, F: WrappedFormat<S>> Qcow2<S, F> {
         ensures cause { IfErr result IsMet }
     {
         let Some(allocator) = &mut self.allocator else {
-            return Err(ImageError::ReadOnly);
+            unreachable!();
         };
         let pending = allocator.allocate_data(&mut self.file, ClusterCount::new(1))?;
         match self.fill_cluster(pending.cluster(), offset, length, overwrite) {
@@ -403,7 +422,7 @@ impl<S: Storage, F: WrappedFormat<S>> Qcow2<S, F> {
         ensures cause { IfErr result IsMet }
     {
         let Some(allocator) = &mut self.allocator else {
-            return Err(ImageError::ReadOnly);
+            unreachable!();
         };
         let pending = allocator.allocate_meta(&mut self.file, ClusterCount::new(1))?;
         let cluster = pending.cluster();

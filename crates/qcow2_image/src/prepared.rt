@@ -27,23 +27,35 @@ pub enum CommitRefused {
 }
 
 impl Prepared {
+    ghost use Rattle.std.specs.Prelude.{◌≡◌, ◌↔◌, IsTrue, is_none};
+    ghost use Rattle.qcow2_image.specs.Prepared.{image_of, table_of, length_of, offset_of};
+    ghost use Rattle.qcow2_image.specs.Image.{number_of};
+
     /// The offset in the file that is to be written, in bytes.
-    pub fn offset(&self) -> u64 {
+    pub fn offset(&self) -> u64
+        ensures { result ≡ offset_of self.now }
+    {
         self.offset
     }
 
     /// How many bytes may be written there.
-    pub fn length(&self) -> u64 {
+    pub fn length(&self) -> u64
+        ensures { result ≡ length_of self.now }
+    {
         self.length
     }
 
     /// Whether it is of this image.
-    pub fn belongs_to<S: Storage, F: WrappedFormat<S>>(&self, image: &Qcow2<S, F>) -> bool {
+    pub fn belongs_to<S: Storage, F: WrappedFormat<S>>(&self, image: &Qcow2<S, F>) -> bool
+        ensures { IsTrue result ↔ (image_of self.now ≡ number_of image.now) }
+    {
         self.image == image.number
     }
 
     /// An existing mapping: nothing is to be committed.
-    pub fn is_nonblocking(&self) -> bool {
+    pub fn is_nonblocking(&self) -> bool
+        ensures { result ≡ is_none (table_of self.now) }
+    {
         self.table.is_none()
     }
 }

@@ -4,7 +4,9 @@ ghost use Rattle.qcow2_metadata.specs.L2Mapping.{IsHostCluster};
 
 use crate::Qcow2;
 use image_access::{Storage, WrappedFormat};
-use qcow2_alloc::{ClustersToFreeEntry, ClustersToFreeList, ImageError, PendingClusters, WriteKind};
+use qcow2_alloc::{
+    ClustersToFreeEntry, ClustersToFreeList, ImageError, PendingClusters, WriteKind,
+};
 use qcow2_metadata::{GuestOffset, HostCluster, L1Table};
 
 /// The longest L1 table.
@@ -96,7 +98,9 @@ impl<S: Storage, F: WrappedFormat<S>> Qcow2<S, F> {
         table.write(&mut self.file.storage)?;
         let offset = cluster.offset(self.file.header.cluster_bits());
         self.file.header.set_l1_table(offset, table.len() as u32)?;
-        self.file.header.write_l1_table_pointer(&mut self.file.storage)?;
+        self.file
+            .header
+            .write_l1_table_pointer(&mut self.file.storage)?;
         Ok(())
     }
 }
