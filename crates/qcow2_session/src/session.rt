@@ -1,5 +1,8 @@
 //! Commands, one after the other, on one image.
-ghost use Rattle.std.specs.Prelude.{◌≡◌, ◌+◌, ◌≤◌, ◌⊎◌, ◌<◌, ℕ, [], length, vec_len, IfSome, Option, Some, slice_get};
+ghost use Rattle.std.specs.Prelude.{◌≡◌, ◌+◌, ◌≤◌, ◌⊎◌, ◌<◌, ℕ, [], length, vec_len, IfSome, IfErr, IfOk, Option, Some, Err, slice_get};
+ghost use Rattle.qcow2_image.specs.Image.{number_of};
+ghost use Rattle.qcow2_image.specs.Prepared.{image_of};
+ghost use Rattle.qcow2_image.specs.declared.prepared.Prepared.{Prepared};
 
 use image_access::{Storage, WrappedFormat};
 use qcow2_image::{CommitRefused, ImageError, Mapping, Prepared, Qcow2};
@@ -9,14 +12,41 @@ use std::mem;
 /// A call on an image. Prepared mappings stand in slots, and so do mappings.
 #[derive(Debug, PartialEq, Drop)]
 pub enum Command {
-    Read { offset: u64, length: u64 },
-    Write { offset: u64, bytes: Vec<u8> },
-    GetMapping { slot: u8, offset: u64, max: u64 },
-    ReadMapped { slot: u8, at: u64, length: u64 },
-    PrepareDataMapping { slot: u8, offset: u64, length: u64, overwrite: bool },
-    WriteMapped { slot: u8, at: u64, bytes: Vec<u8> },
-    CommitDataMapping { slot: u8 },
-    DiscardDataMapping { slot: u8 },
+    Read {
+        offset: u64,
+        length: u64,
+    },
+    Write {
+        offset: u64,
+        bytes: Vec<u8>,
+    },
+    GetMapping {
+        slot: u8,
+        offset: u64,
+        max: u64,
+    },
+    ReadMapped {
+        slot: u8,
+        at: u64,
+        length: u64,
+    },
+    PrepareDataMapping {
+        slot: u8,
+        offset: u64,
+        length: u64,
+        overwrite: bool,
+    },
+    WriteMapped {
+        slot: u8,
+        at: u64,
+        bytes: Vec<u8>,
+    },
+    CommitDataMapping {
+        slot: u8,
+    },
+    DiscardDataMapping {
+        slot: u8,
+    },
     Flush,
     Size,
 }
@@ -30,7 +60,11 @@ pub enum Reply {
     Bytes(Vec<u8>),
     Mapping(Mapping),
     /// Where a prepared mapping is to be written in the file, and for how many bytes.
-    Prepared { offset: u64, length: u64, existing: bool },
+    Prepared {
+        offset: u64,
+        length: u64,
+        existing: bool,
+    },
     Size(u64),
     Refused(ImageError),
     /// A write was refused after so many leading bytes were written.
@@ -45,7 +79,9 @@ pub fn read<S: Storage, F: WrappedFormat<S>>(
     image: &mut Qcow2<S, F>,
     offset: u64,
     length: u64,
-) -> Result<Vec<u8>, ImageError> {
+) -> Result<Vec<u8>, ImageError>
+    ensures number { number_of image.new ≡ number_of image.old }
+{
     image.check_read(offset, length)?;
     let Ok(count) = usize::try_from(length) else {
         return Err(ImageError::Memory);
@@ -53,12 +89,28 @@ pub fn read<S: Storage, F: WrappedFormat<S>>(
     let mut bytes = vec![in alloc; 0; count]?;
     let mut done = 0;
     while done < count {
-        let (mapping, found) = image.get_mapping(offset + done as u64, (count - done) as u64)?;
-        let end = done + found as usize;
-        image.read_mapped(&mapping, 0, &mut bytes[done..end])?;
-        done = end;
+        done += read_some(image, offset.wrapping_add(done as u64), &mut bytes[done..])?;
     }
     Ok(bytes)
+}
+
+// Reads the first bytes at least, and answers how many.
+fn read_some<S: Storage, F: WrappedFormat<S>>(
+    image: &mut Qcow2<S, F>,
+    offset: u64,
+    bytes: &mut [u8],
+) -> Result<usize, ImageError>
+    ensures number { number_of image.new ≡ number_of image.old }
+    ensures some { IfOk result (λ n. 0 < n) }
+    ensures within { IfOk result (λ n. n ≤ length bytes.old) }
+{
+    let (mapping, found) = image.get_mapping(offset, bytes.len() as u64)?;
+    let count = bytes.len().min(found as usize);
+    if count == 0 {
+        return Err(ImageError::BeyondSize);
+    }
+    image.read_mapped(&mapping, 0, &mut bytes[..count])?;
+    Ok(count)
 }
 
 /// Writes bytes to the guest's disk. A refusal says how many leading bytes were written.
@@ -66,17 +118,21 @@ pub fn write<S: Storage, F: WrappedFormat<S>>(
     image: &mut Qcow2<S, F>,
     offset: u64,
     bytes: &[u8],
-) -> Result<(), (ImageError, u64)> {
-    let mut done = 0;
-    loop {
-        match write_some(image, offset + done as u64, &bytes[done..]) {
+) -> Result<(), (ImageError, u64)>
+    ensures number { number_of image.new ≡ number_of image.old }
+    ensures within { IfErr result (λ (e, n). n ≤ length bytes.now) }
+{
+    let mut done = match write_some(image, offset, bytes) {
+        Ok(count) => count,
+        Err(refusal) => return Err((refusal, 0)),
+    };
+    while done < bytes.len() {
+        match write_some(image, offset.wrapping_add(done as u64), &bytes[done..]) {
             Ok(count) => done += count,
             Err(refusal) => return Err((refusal, done as u64)),
         }
-        if done >= bytes.len() {
-            return Ok(());
-        }
     }
+    Ok(())
 }
 
 // Writes the first bytes at least, and answers how many. Of no bytes it answers whether they could be written.
@@ -84,7 +140,11 @@ fn write_some<S: Storage, F: WrappedFormat<S>>(
     image: &mut Qcow2<S, F>,
     offset: u64,
     bytes: &[u8],
-) -> Result<usize, ImageError> {
+) -> Result<usize, ImageError>
+    ensures number { number_of image.new ≡ number_of image.old }
+    ensures some { IfOk result (λ n. 0 < length bytes.now → 0 < n) }
+    ensures within { IfOk result (λ n. n ≤ length bytes.now) }
+{
     let prepared = image.prepare_data_mapping(offset, bytes.len() as u64, true)?;
     let count = bytes.len().min(prepared.length() as usize);
     if let Err(refusal) = image.write_mapped(&prepared, 0, &bytes[..count]) {
@@ -102,7 +162,10 @@ fn write_some<S: Storage, F: WrappedFormat<S>>(
 }
 
 // Discards a mapping of the image.
-fn let_go<S: Storage, F: WrappedFormat<S>>(image: &mut Qcow2<S, F>, prepared: Prepared) {
+fn let_go<S: Storage, F: WrappedFormat<S>>(image: &mut Qcow2<S, F>, prepared: Prepared)
+    requires { image_of prepared ≡ number_of image.old }
+    ensures { number_of image.new ≡ number_of image.old }
+{
     match image.discard_data_mapping(prepared) {
         Ok(()) => {}
         Err((_, _kept)) => unreachable!(),
