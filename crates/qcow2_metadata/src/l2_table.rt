@@ -177,7 +177,7 @@ impl L2Table {
     {
         if self.is_modified {
             storage.write(cluster.offset(self.cluster_bits).value(), &self.bytes)?;
-            self.is_modified = false;
+            self.clear_modified();
         }
         Ok(())
     }

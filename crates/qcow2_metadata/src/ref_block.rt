@@ -192,7 +192,7 @@ impl RefBlock {
     {
         if self.is_modified {
             storage.write(cluster.offset(self.cluster_bits).value(), &self.bytes)?;
-            self.is_modified = false;
+            self.clear_modified();
         }
         Ok(())
     }
