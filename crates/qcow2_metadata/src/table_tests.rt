@@ -6,6 +6,7 @@ use crate::{
 };
 use image_access::{MemStorage, StorageError, TraceStorage};
 use std::alloc::{AllocError, Global};
+use std::process::Abort;
 use std::test::Fail;
 
 /// The header of an empty image of version 3, and the end of its extensions.
@@ -157,108 +158,69 @@ fn a_new_refblock_counts_nothing(rt: HostRuntime) -> Result<(), Fail> {
     Ok(())
 }
 
-#[test]
-fn entries_of_each_kind(rt: HostRuntime) -> Result<(), Fail> {
-    let host = HostOffset::new(2560);
-    let rows = [
-        (
-            0x8000_0000_0000_0a00,
-            L2Mapping::Data { host, copied: true },
-        ),
-        (
-            0x0000_0000_0000_0a00,
-            L2Mapping::Data {
-                host,
-                copied: false,
-            },
-        ),
-        (
-            0xbf00_0000_0000_0bfe,
-            L2Mapping::Data { host, copied: true },
-        ),
-        (0x0000_0000_0000_0001, L2Mapping::Zero { kept: None }),
-        (
-            0x8000_0000_0000_0a01,
-            L2Mapping::Zero {
-                kept: Some((host, true)),
-            },
-        ),
-        (
-            0x0000_0000_0000_0a01,
-            L2Mapping::Zero {
-                kept: Some((host, false)),
-            },
-        ),
-        (
-            0x4000_0000_0000_0a80,
-            L2Mapping::Compressed {
-                host: HostOffset::new(2688),
-                sectors: 1,
-            },
-        ),
-        (
-            0xe000_0000_0000_0a80,
-            L2Mapping::Compressed {
-                host: HostOffset::new(2688),
-                sectors: 2,
-            },
-        ),
-        (0x8000_0000_0000_0000, L2Mapping::Uncovered),
-        (0x0000_0000_0000_0000, L2Mapping::Uncovered),
-    ];
-    let mut table = Vec::new(rt.alloc());
+fn data(host: u64, copied: bool) -> L2Mapping {
+    let host = HostOffset::new(host);
+    L2Mapping::Data { host, copied }
+}
+
+fn kept(host: u64, copied: bool) -> L2Mapping {
+    let kept = Some((HostOffset::new(host), copied));
+    L2Mapping::Zero { kept }
+}
+
+fn compressed(host: u64, sectors: u64) -> L2Mapping {
+    let host = HostOffset::new(host);
+    L2Mapping::Compressed { host, sectors }
+}
+
+/// A table of these entries says this of the guest clusters under the second L1 entry.
+fn assert_mappings(
+    rt: &impl Abort,
+    alloc: Global,
+    data_file: bool,
+    rows: &[(u64, L2Mapping)],
+) -> Result<(), Fail> {
+    let mut table = Vec::new(alloc);
     for (entry, _) in rows {
-        table.push(entry)?;
+        table.extend_from_slice(&entry.to_be_bytes())?;
     }
-    let table = entries(rt.alloc(), &table)?;
-    let mut storage = MemStorage::new(image(rt.alloc(), 9, 4, false, &table)?);
-    let header = Header::load(rt.alloc(), &mut storage, false)?;
+    let mut storage = MemStorage::new(image(alloc, 9, 4, data_file, &table)?);
+    let header = Header::load(alloc, &mut storage, false)?;
     assert_eq!(rt; header.cluster_bits(), 9);
-    let table = L2Table::load(rt.alloc(), &mut storage, &header, HostCluster::new(2))?;
-    for (i, (_, want)) in rows.iter().enumerate() {
-        assert_eq!(rt;
-            table.get_mapping(GuestCluster::new(64 + i as u64))?,
-            *want,
-            "entry {i}"
-        );
+    let table = L2Table::load(alloc, &mut storage, &header, HostCluster::new(2))?;
+    for (i, (entry, want)) in rows.iter().enumerate() {
+        let guest = GuestCluster::new(64 + i as u64);
+        assert_eq!(rt; table.get_mapping(guest)?, *want, "{entry:x}");
     }
     Ok(())
 }
 
 #[test]
-fn entries_of_an_external_data_file(rt: HostRuntime) -> Result<(), Fail> {
-    let host = HostOffset::new(0);
+fn entries_of_each_kind(rt: HostRuntime) -> Result<(), Fail> {
     let rows = [
-        (
-            0x8000_0000_0000_0000,
-            L2Mapping::Data { host, copied: true },
-        ),
-        (
-            0x8000_0000_0000_0001,
-            L2Mapping::Zero {
-                kept: Some((host, true)),
-            },
-        ),
+        (0x8000_0000_0000_0a00, data(2560, true)),
+        (0x0000_0000_0000_0a00, data(2560, false)),
+        (0xbf00_0000_0000_0bfe, data(2560, true)),
+        (0x0000_0000_0000_0001, L2Mapping::Zero { kept: None }),
+        (0x8000_0000_0000_0a01, kept(2560, true)),
+        (0x0000_0000_0000_0a01, kept(2560, false)),
+        (0x4000_0000_0000_0a80, compressed(2688, 1)),
+        (0xe000_0000_0000_0a80, compressed(2688, 2)),
+        (0x8000_0000_0000_0000, L2Mapping::Uncovered),
+        (0x0000_0000_0000_0000, L2Mapping::Uncovered),
+    ];
+    assert_mappings(&rt, rt.alloc(), false, &rows)
+}
+
+#[test]
+fn entries_of_an_external_data_file(rt: HostRuntime) -> Result<(), Fail> {
+    let rows = [
+        (0x8000_0000_0000_0000, data(0, true)),
+        (0x8000_0000_0000_0001, kept(0, true)),
         (0x0000_0000_0000_0001, L2Mapping::Zero { kept: None }),
         (0x0000_0000_0000_0000, L2Mapping::Uncovered),
     ];
-    let mut table = Vec::new(rt.alloc());
-    for (entry, _) in rows {
-        table.push(entry)?;
-    }
-    let table = entries(rt.alloc(), &table)?;
-    let mut storage = MemStorage::new(image(rt.alloc(), 9, 4, true, &table)?);
-    let header = Header::load(rt.alloc(), &mut storage, false)?;
-    assert_eq!(rt; header.cluster_bits(), 9);
-    let table = L2Table::load(rt.alloc(), &mut storage, &header, HostCluster::new(2))?;
-    for (i, (_, want)) in rows.iter().enumerate() {
-        assert_eq!(rt;
-            table.get_mapping(GuestCluster::new(i as u64))?,
-            *want,
-            "entry {i}"
-        );
-    }
-    Ok(())
+    assert_mappings(&rt, rt.alloc(), true, &rows)
 }
 
 #[test]
