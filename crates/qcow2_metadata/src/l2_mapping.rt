@@ -1,4 +1,4 @@
-ghost use Rattle.std.specs.Prelude.{◌≡◌, ℕ, ◌≢◌, ◌+◌, ◌-◌, ◌*◌, ◌/◌, ◌%◌, ◌^◌, ◌<◌, ◌≤◌, ◌↔◌, IsTrue};
+ghost use Rattle.std.specs.Prelude.{◌≡◌, ℕ, ◌+◌, ◌-◌, ◌*◌, ◌/◌, ◌^◌, ◌<◌, ◌≤◌, ◌↔◌, IsTrue};
 ghost use Rattle.qcow2_metadata.specs.Bytes.{bits_of, has_bit};
 ghost use Rattle.qcow2_metadata.specs.Entries.{host_offset as host_offset_of};
 ghost use Rattle.qcow2_metadata.specs.Cover.{cover_of, sectors_bit};

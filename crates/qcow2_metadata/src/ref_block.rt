@@ -1,4 +1,4 @@
-ghost use Rattle.std.specs.Prelude.{◌≡◌, ◌≢◌, ℕ, ◌+◌, ◌-◌, ◌*◌, ◌/◌, ◌%◌, ◌^◌, ◌<◌, ◌≤◌, ◌↔◌, Some, None, true, false, length, replicate, IsTrue, IsFalse, IsSome, IsOk, OnOk, OnErr, IfOk, IfErr, IfSome};
+ghost use Rattle.std.specs.Prelude.{◌≡◌, ℕ, ◌+◌, ◌-◌, ◌*◌, ◌/◌, ◌%◌, ◌^◌, ◌<◌, ◌≤◌, ◌↔◌, Some, None, true, false, length, replicate, IsTrue, IsFalse, IsSome, IsOk, OnOk, OnErr, IfOk, IfErr, IfSome};
 ghost use Rattle.image_access.specs.Contents.{bytes_at, overwritten};
 ghost use Rattle.image_access.specs.Moments.{Keeps, Changes, Calls};
 ghost use Rattle.qcow2_metadata.specs.Bytes.{byte_at};
