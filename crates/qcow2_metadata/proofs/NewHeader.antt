@@ -1,7 +1,7 @@
 -- What a new header's numbers and names keep.
-use Rattle.std.proofs.Common.{◌≡◌, ◌⊎◌, inl, inr, ℕ, ◌+◌, ◌-◌, ◌*◌, ◌/◌, ◌^◌, ◌<◌, ◌≤◌, List, [], length, Option, Some, None, is_some, unwrap_or, if◌then◌else◌, refl, ap, arith}
+use Rattle.std.proofs.Common.{◌≡◌, ◌⊎◌, inl, inr, ℕ, ◌^◌, ◌≤◌, List, [], length, Option, Some, None, is_some, unwrap_or, if◌then◌else◌, refl, arith}
 use Rattle.std.proofs.Math.Pow.{pow_mono}
-use Rattle.qcow2_metadata.specs.Header.{IsKept, IsShort, rounded_up}
+use Rattle.qcow2_metadata.specs.Header.{IsKept, IsShort}
 use Rattle.qcow2_metadata.specs.HeaderWrite.{CanBeNew, extension_size, new_fields}
 
 pub short_name : (name : Option (List ℕ)) → length (unwrap_or name []) ≤ 2097152 → IsShort name

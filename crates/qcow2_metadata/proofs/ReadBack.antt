@@ -1,16 +1,15 @@
 -- A header that was written with its names in their new places reads back.
-use Rattle.std.proofs.Common.{◌≡◌, ◌≢◌, ◌⊎◌, inl, inr, ℕ, ◌+◌, ◌-◌, ◌*◌, ◌/◌, ◌^◌, ◌<◌, ◌≤◌, ◌==◌, Bool, true, false, List, [], ◌∷◌, ◌++◌, length, replicate, Option, Some, None, is_some, unwrap_or, if◌then◌else◌, refl, sym, ap, ◌∙◌, subst, zero-add, arith, lit<}
+use Rattle.std.proofs.Common.{◌≡◌, ◌≢◌, ℕ, ◌+◌, ◌-◌, ◌^◌, ◌<◌, ◌≤◌, ◌==◌, Bool, false, List, [], ◌∷◌, ◌++◌, length, replicate, Option, Some, None, is_some, unwrap_or, if◌then◌else◌, refl, sym, ap, ◌∙◌, subst, zero-add, arith, lit<}
 use Rattle.std.specs.Prelude.{IsUtf8}
 use Rattle.std.specs.Int.{w32, w64, to_be_bytes}
 use Rattle.std.proofs.lemmas.Bool.{eq-eqb, ne_eqb}
-use Rattle.std.proofs.lemmas.List.{length-append, length-replicate, append_assoc}
-use Rattle.image_access.specs.Contents.{overwritten}
+use Rattle.std.proofs.lemmas.List.{length-append, length-replicate}
 use Rattle.qcow2_metadata.specs.declared.header.write.Number.{Number}
 use Rattle.qcow2_metadata.specs.declared.header.write.Number.TheVariants.{Four, Eight}
 use Rattle.qcow2_metadata.specs.Bytes.{Bytes, byte_at, bytes_from, number_at}
-use Rattle.qcow2_metadata.specs.Header.{HeaderFields, HeaderView, header, cluster_size, backing_name, backing_format_kind, data_file_kind, first_of_kind, behind_extension, rounded_up, IsInRange, IsWithinLimits, IsExtension, AreExtensions, ExtensionsRead, BackingNameReads}
+use Rattle.qcow2_metadata.specs.Header.{HeaderFields, HeaderView, header, cluster_size, backing_name, backing_format_kind, data_file_kind, first_of_kind, behind_extension, rounded_up, IsInRange, IsWithinLimits, IsExtension, AreExtensions, BackingNameReads}
 use Rattle.qcow2_metadata.specs.HeaderLoad.{IsHeaderOf, IsHeaderIn}
-use Rattle.qcow2_metadata.specs.HeaderWrite.{numbers_of, bytes_of_number, bytes_of_numbers, AllFit, extension_bytes, name_extension, header_bytes, header_written, extension_size, name_place, HasNewNames, IsText}
+use Rattle.qcow2_metadata.specs.HeaderWrite.{numbers_of, bytes_of_numbers, AllFit, extension_bytes, name_extension, header_bytes, header_written, extension_size, name_place, HasNewNames, IsText}
 use Rattle.qcow2_metadata.proofs.ShortNames.{cluster_small}
 use Rattle.qcow2_metadata.proofs.HeldBytes.{Holds, holds_written, holds_left, holds_right, held_4, held_8, held_bytes}
 

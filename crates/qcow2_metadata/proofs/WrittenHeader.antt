@@ -1,8 +1,8 @@
 -- The numbers of a header after some of them were written.
-use Rattle.std.proofs.Common.{◌≡◌, inl, inr, ℕ, ◌+◌, ◌-◌, ◌*◌, ◌^◌, ◌<◌, ◌≤◌, ◌==◌, Bool, true, false, List, [], ◌∷◌, ◌++◌, length, replicate, if◌then◌else◌, refl, sym, ap, ◌∙◌, arith, lit<}
+use Rattle.std.proofs.Common.{◌≡◌, inl, inr, ℕ, ◌+◌, ◌^◌, ◌<◌, ◌≤◌, ◌==◌, Bool, true, false, List, [], ◌∷◌, ◌++◌, length, replicate, if◌then◌else◌, refl, sym, arith, lit<}
 use Rattle.std.proofs.lemmas.Bool.{cases_lt}
 use Rattle.image_access.specs.Contents.{overwritten}
-use Rattle.image_access.proofs.Bytes.{byte_at-overwritten, byte_at-overwritten_below, byte_at-overwritten_behind}
+use Rattle.image_access.proofs.Bytes.{byte_at-overwritten_below, byte_at-overwritten_behind}
 use Rattle.qcow2_metadata.specs.Bytes.{Bytes, byte_at, number_at}
 use Rattle.qcow2_metadata.specs.declared.header.write.Number.TheVariants.{Four, Eight}
 use Rattle.qcow2_metadata.specs.HeaderWrite.{bytes_of_numbers}

@@ -1,5 +1,6 @@
 -- What an L2 entry says: the bounds of its numbers, and the host clusters that it names.
-use Rattle.std.specs.Prelude.{ℕ, ◌+◌, ◌-◌, ◌*◌, ◌/◌, ◌%◌, ◌^◌, ◌≡◌, ◌<◌, ◌≤◌, ⊤, Bool, true, false, ◌==◌, ◌&&◌, Option, Some, None, if◌then◌else◌}
+use Rattle.std.specs.Prelude.{ℕ, ◌+◌, ◌-◌, ◌*◌, ◌/◌, ◌%◌, ◌^◌, ◌≡◌, ◌<◌, ◌≤◌, ⊤, Bool, true, false, ◌==◌, ◌&&◌, nat_le, nat_lt, Option, Some, None, if◌then◌else◌}
+use Rattle.qcow2_metadata.specs.Bytes.{one_if}
 use Rattle.qcow2_metadata.specs.declared.l2_mapping.L2Mapping.{L2Mapping}
 use Rattle.qcow2_metadata.specs.declared.l2_mapping.L2Mapping.TheVariants.{Data, Zero, Compressed, Uncovered}
 
@@ -47,6 +48,11 @@ named_run cluster_bits (Data host copied) = Some (host / 2 ^ cluster_bits, 1)
 named_run cluster_bits (Zero kept) = kept_run cluster_bits kept
 named_run cluster_bits (Compressed place sectors) = run_of_bytes cluster_bits place ((place / 512 + sectors) * 512 - 1)
 named_run cluster_bits Uncovered = None
+
+-- 1 where the cluster is one of the run
+abbrev pub run_has : Option (ℕ × ℕ) → ℕ → ℕ
+run_has None cluster = 0
+run_has (Some run) cluster = one_if (nat_le run.0 cluster && nat_lt cluster (run.0 + run.1))
 
 abbrev pub is_same_run : Option (ℕ × ℕ) → Option (ℕ × ℕ) → Bool
 is_same_run None None = true

@@ -1,6 +1,8 @@
 -- An L2 table in memory: its entries as its bytes hold them, its cluster, and its mark.
-use Rattle.std.specs.Prelude.{◌≡◌, ℕ, ◌+◌, ◌/◌, ◌%◌, ◌^◌, ◌≤◌, ◌==◌, IsTrue, Bool, true, List, length, Option, Some, None, if◌then◌else◌}
+use Rattle.std.specs.Prelude.{◌≡◌, ℕ, ◌+◌, ◌/◌, ◌%◌, ◌^◌, ◌<◌, ◌≤◌, ◌==◌, IsTrue, Bool, true, List, length, Option, Some, None, if◌then◌else◌}
 use Rattle.qcow2_metadata.specs.Header.{HeaderFields, has_data_file}
+use Rattle.qcow2_metadata.specs.Bytes.{Bytes}
+use Rattle.qcow2_metadata.specs.Entries.{l2_entry}
 use Rattle.qcow2_metadata.specs.Cover.{cover_of}
 use Rattle.qcow2_metadata.specs.L2Mapping.{greatest_offset}
 use Rattle.qcow2_metadata.specs.TableBytes.{entry_at, IsClusterBits, IsPlaced}
@@ -43,6 +45,10 @@ pub record IsL2Table (table : L2TableView) : Type 0 where
   pub whole : length table.bytes ≡ 2 ^ table.cluster_bits
   pub bits : IsClusterBits table.cluster_bits
   pub placed : IsPlaced table.cluster_bits table.cluster
+
+-- its entries are those that stand at a place of a file
+abbrev pub IsL2TableAt : Bytes → ℕ → L2TableView → Type 0
+IsL2TableAt b place table = (i : ℕ) → i < entries_of table → entry_at table.bytes i ≡ l2_entry b place i
 
 -- a host offset that an entry can hold, and say that it is there
 pub record IsEntryHost (external : Bool) (host : ℕ) : Type 0 where

@@ -1,6 +1,6 @@
 -- A refblock in memory: its counts as its bytes hold them, its cluster, and its mark.
-use Rattle.std.specs.Prelude.{◌≡◌, ◌≢◌, ℕ, ◌*◌, ◌/◌, ◌^◌, ◌≤◌, Bool, List, length, Option}
-use Rattle.qcow2_metadata.specs.Bytes.{byte_at}
+use Rattle.std.specs.Prelude.{◌≡◌, ◌≢◌, ℕ, ◌*◌, ◌/◌, ◌^◌, ◌<◌, ◌≤◌, Bool, List, length, Option}
+use Rattle.qcow2_metadata.specs.Bytes.{Bytes, byte_at}
 use Rattle.qcow2_metadata.specs.Header.{HeaderFields}
 use Rattle.qcow2_metadata.specs.Entries.{block_count}
 use Rattle.qcow2_metadata.specs.TableBytes.{IsClusterBits, IsPlaced}
@@ -45,6 +45,10 @@ pub record IsRefBlock (block : RefBlockView) : Type 0 where
   pub bits : IsClusterBits block.cluster_bits
   pub order : block.refcount_order ≤ 6
   pub placed : IsPlaced block.cluster_bits block.cluster
+
+-- its counts are those that stand at a place of a file
+abbrev pub IsRefBlockAt : Bytes → ℕ → RefBlockView → Type 0
+IsRefBlockAt b place block = (i : ℕ) → i < counts_of block → count_at block i ≡ block_count b (2 ^ block.refcount_order) place i
 
 -- the new bytes have this count at i, and the old ones elsewhere
 pub record ChangesCount (order : ℕ) (old new : List ℕ) (i count : ℕ) : Type 0 where

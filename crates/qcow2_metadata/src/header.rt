@@ -329,3 +329,6 @@ impl Header {
         }
     }
 }
+
+#[cfg(test)]
+mod tests;

@@ -1,8 +1,10 @@
-ghost use Rattle.std.specs.Prelude.{◌≡◌, ◌≢◌, ◌+◌, ◌-◌, ◌*◌, ◌/◌, ◌%◌, ◌^◌, ◌<◌, ◌≤◌, ◌↔◌, IsTrue};
+ghost use Rattle.std.specs.Prelude.{◌≡◌, ℕ, ◌+◌, ◌-◌, ◌*◌, ◌/◌, ◌^◌, ◌<◌, ◌≤◌, ◌↔◌, IsTrue};
 ghost use Rattle.qcow2_metadata.specs.Bytes.{bits_of, has_bit};
 ghost use Rattle.qcow2_metadata.specs.Entries.{host_offset as host_offset_of};
 ghost use Rattle.qcow2_metadata.specs.Cover.{cover_of, sectors_bit};
-ghost use Rattle.qcow2_metadata.specs.L2Mapping.{greatest_offset, IsInReach, HasAlignedHost, named_run, dropped_run};
+ghost use Rattle.qcow2_metadata.specs.Header.{HeaderFields};
+ghost use Rattle.qcow2_metadata.specs.Named.{named_by_cover};
+ghost use Rattle.qcow2_metadata.specs.L2Mapping.{greatest_offset, IsInReach, HasAlignedHost, named_run, run_has, dropped_run};
 
 use crate::{ClusterCount, HostCluster, HostOffset};
 
@@ -116,7 +118,8 @@ impl L2Mapping {
     pub fn host_clusters(self, cluster_bits: u32) -> Option<(HostCluster, ClusterCount)>
         requires bits { cluster_bits < 64 }
         requires reach { IsInReach self }
-        ensures { result ≡ named_run cluster_bits self }
+        ensures value { result ≡ named_run cluster_bits self }
+        ensures named { (h : HeaderFields) (cluster : ℕ) → h.cluster_bits ≡ cluster_bits → named_by_cover h cluster self ≡ run_has result cluster }
     {
         match self {
             L2Mapping::Data { host, .. } => Some((

@@ -1,11 +1,12 @@
-ghost use Rattle.std.specs.Prelude.{◌≡◌, ◌≢◌, ℕ, ◌+◌, ◌*◌, ◌/◌, ◌%◌, ◌^◌, ◌<◌, ◌≤◌, Some, None, true, false, length, replicate, if◌then◌else◌, IsTrue, IsFalse, IsSome, IsOk, OnOk, OnErr, IfOk, IfErr, IfSome};
+ghost use Rattle.std.specs.Prelude.{◌≡◌, ℕ, ◌*◌, ◌/◌, ◌%◌, ◌^◌, ◌<◌, ◌≤◌, Some, None, true, false, replicate, if◌then◌else◌, IsTrue, IsFalse, IsSome, IsOk, OnOk, OnErr, IfOk, IfErr, IfSome};
 ghost use Rattle.image_access.specs.Contents.{bytes_at, overwritten};
 ghost use Rattle.image_access.specs.Moments.{Keeps, Changes, Calls};
+ghost use Rattle.qcow2_metadata.specs.Bytes.{byte_at};
 ghost use Rattle.qcow2_metadata.specs.Header.{cluster_size};
 ghost use Rattle.qcow2_metadata.specs.MetadataError.{storage_result};
 ghost use Rattle.qcow2_metadata.specs.TableBytes.{entry_at as entry_of, ChangesEntry, HasPlace, IsOfStorageOrMemory};
 ghost use Rattle.qcow2_metadata.specs.L2Mapping.{greatest_offset, IsHostCluster, IsInReach, HasAlignedHost, dropped_run};
-ghost use Rattle.qcow2_metadata.specs.L2Table.{cover_at, entries_of, l2_table, IsL2Table, IsEntryHost, copied_entry as copied_entry_of, copied_host as copied_host_of, zero_entry as zero_entry_of, zero_cover};
+ghost use Rattle.qcow2_metadata.specs.L2Table.{cover_at, entries_of, l2_table, IsL2Table, IsL2TableAt, IsEntryHost, copied_entry as copied_entry_of, copied_host as copied_host_of, zero_entry as zero_entry_of, zero_cover};
 
 use crate::l2_mapping::{COPIED, ZERO};
 use crate::table_bytes::{entry_at, load, set_entry, zeros};
@@ -113,6 +114,8 @@ impl L2Table {
         ensures table { IfOk result (λ table. table ≡ l2_table header.now.fields (Some cluster) table.bytes false) }
         ensures bytes { (S.view storage.old).is_honest → IfOk result (λ table. table.bytes
             ≡ bytes_at (S.view storage.old).contents (cluster * cluster_size header.now.fields) (cluster_size header.now.fields)) }
+        ensures of_image { (S.view storage.old).is_honest
+            → IfOk result (IsL2TableAt (byte_at (S.view storage.old).contents) (cluster * cluster_size header.now.fields)) }
         ensures whole { IfOk result IsL2Table }
         ensures err { IfErr result IsOfStorageOrMemory }
         ensures same { Keeps (S.view storage.old) (S.view storage.new) }
@@ -151,14 +154,15 @@ impl L2Table {
         requires { IsSome self.now.cluster }
         ensures written { IfSome self.now.cluster (λ cluster. Changes (S.view storage.old) (S.view storage.new) result
             (overwritten (S.view storage.old).contents (cluster * 2 ^ self.now.cluster_bits) self.now.bytes)) }
+        ensures of_image { (S.view storage.old).is_honest → IfSome self.now.cluster (λ cluster.
+            OnOk result (IsL2TableAt (byte_at (S.view storage.new).contents) (cluster * 2 ^ self.now.cluster_bits) self.now)) }
         ensures calls { Calls (S.view storage.old) (S.view storage.new) result }
     {
-        match self.cluster {
-            Some(cluster) => {
-                storage.write(cluster.offset(self.cluster_bits).value(), &self.bytes)
-            }
-            None => unreachable!(),
-        }
+        let Some(cluster) = self.cluster else {
+            unreachable!();
+        };
+        let at = cluster.offset(self.cluster_bits).value();
+        storage.write(at, &self.bytes)
     }
 
     /// Writes it to a cluster if it is new or changed, and then it is neither.
@@ -170,6 +174,8 @@ impl L2Table {
         requires { HasPlace self.old.cluster_bits cluster }
         ensures written { IsTrue self.old.is_modified → Changes (S.view storage.old) (S.view storage.new) result
             (overwritten (S.view storage.old).contents (cluster * 2 ^ self.old.cluster_bits) self.old.bytes) }
+        ensures of_image { (S.view storage.old).is_honest → IsTrue self.old.is_modified
+            → OnOk result (IsL2TableAt (byte_at (S.view storage.new).contents) (cluster * 2 ^ self.old.cluster_bits) self.old) }
         ensures idle { IsFalse self.old.is_modified → IsOk result × (storage.new ≡ storage.old) }
         ensures calls { Calls (S.view storage.old) (S.view storage.new) result }
         ensures ok { OnOk result (self.new ≡ record self.old { is_modified = false }) }
@@ -177,7 +183,7 @@ impl L2Table {
     {
         if self.is_modified {
             storage.write(cluster.offset(self.cluster_bits).value(), &self.bytes)?;
-            self.is_modified = false;
+            self.clear_modified();
         }
         Ok(())
     }

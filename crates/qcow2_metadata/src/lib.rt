@@ -12,6 +12,8 @@ mod numbers;
 mod ref_block;
 mod ref_table;
 mod table_bytes;
+#[cfg(test)]
+mod table_tests;
 
 pub use error::MetadataError;
 pub use header::{Header, HeaderFields};

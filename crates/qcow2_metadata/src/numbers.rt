@@ -13,6 +13,27 @@ fn entries_per_cluster(cluster_bits: u32) -> u64
     (1 << cluster_bits) / 8
 }
 
+/// How far behind the begin of its cluster a byte lies.
+fn in_cluster(bytes: u64, cluster_bits: u32) -> u64
+    requires { cluster_bits < 64 }
+    ensures { result ≡ bytes % 2 ^ cluster_bits }
+{
+    bytes % (1 << cluster_bits)
+}
+
+/// The cluster that begins at a byte.
+fn checked_index(bytes: u64, cluster_bits: u32) -> Option<u64>
+    requires { cluster_bits < 64 }
+    ensures none { IfNone result (bytes % 2 ^ cluster_bits ≢ 0) }
+    ensures index { IfSome result (λ index. index * 2 ^ cluster_bits ≡ bytes) }
+{
+    if in_cluster(bytes, cluster_bits) == 0 {
+        Some(bytes >> cluster_bits)
+    } else {
+        None
+    }
+}
+
 /// An offset in the image's file, in bytes.
 #[derive(Clone, Copy, Debug, PartialEq, Eq, PartialOrd, Ord, Hash)]
 pub struct HostOffset {
@@ -56,11 +77,8 @@ impl HostOffset {
         ensures none { IfNone result (self % 2 ^ cluster_bits ≢ 0) }
         ensures cluster { IfSome result (λ cluster. cluster * 2 ^ cluster_bits ≡ self) }
     {
-        if self.in_cluster_offset(cluster_bits) == 0 {
-            Some(self.cluster(cluster_bits))
-        } else {
-            None
-        }
+        let index = checked_index(self.bytes, cluster_bits)?;
+        Some(HostCluster::new(index))
     }
 
     /// How far behind the begin of its cluster it lies.
@@ -68,7 +86,7 @@ impl HostOffset {
         requires { cluster_bits < 64 }
         ensures { result ≡ self % 2 ^ cluster_bits }
     {
-        self.bytes % (1 << cluster_bits)
+        in_cluster(self.bytes, cluster_bits)
     }
 }
 
@@ -233,11 +251,8 @@ impl GuestOffset {
         ensures none { IfNone result (self % 2 ^ cluster_bits ≢ 0) }
         ensures cluster { IfSome result (λ cluster. cluster * 2 ^ cluster_bits ≡ self) }
     {
-        if self.in_cluster_offset(cluster_bits) == 0 {
-            Some(self.cluster(cluster_bits))
-        } else {
-            None
-        }
+        let index = checked_index(self.bytes, cluster_bits)?;
+        Some(GuestCluster::new(index))
     }
 
     /// How far behind the begin of its cluster it lies.
@@ -245,7 +260,7 @@ impl GuestOffset {
         requires { cluster_bits < 64 }
         ensures { result ≡ self % 2 ^ cluster_bits }
     {
-        self.bytes % (1 << cluster_bits)
+        in_cluster(self.bytes, cluster_bits)
     }
 
     /// How many bytes there are from it on to the end of its cluster.
@@ -417,11 +432,8 @@ impl ClusterCount {
         ensures none { IfNone result (bytes % 2 ^ cluster_bits ≢ 0) }
         ensures count { IfSome result (λ count. count * 2 ^ cluster_bits ≡ bytes) }
     {
-        if bytes % (1 << cluster_bits) == 0 {
-            Some(ClusterCount::new(bytes >> cluster_bits))
-        } else {
-            None
-        }
+        let clusters = checked_index(bytes, cluster_bits)?;
+        Some(ClusterCount::new(clusters))
     }
 
     /// How many bytes they have.

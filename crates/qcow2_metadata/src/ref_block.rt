@@ -1,10 +1,11 @@
-ghost use Rattle.std.specs.Prelude.{◌≡◌, ◌≢◌, ℕ, ◌+◌, ◌-◌, ◌*◌, ◌/◌, ◌%◌, ◌^◌, ◌<◌, ◌≤◌, ◌↔◌, Some, None, true, false, length, replicate, IsTrue, IsFalse, IsSome, IsOk, OnOk, OnErr, IfOk, IfErr, IfSome};
+ghost use Rattle.std.specs.Prelude.{◌≡◌, ℕ, ◌+◌, ◌-◌, ◌*◌, ◌/◌, ◌%◌, ◌^◌, ◌<◌, ◌≤◌, ◌↔◌, Some, None, true, false, length, replicate, IsTrue, IsFalse, IsSome, IsOk, OnOk, OnErr, IfOk, IfErr, IfSome};
 ghost use Rattle.image_access.specs.Contents.{bytes_at, overwritten};
 ghost use Rattle.image_access.specs.Moments.{Keeps, Changes, Calls};
+ghost use Rattle.qcow2_metadata.specs.Bytes.{byte_at};
 ghost use Rattle.qcow2_metadata.specs.Header.{cluster_size};
 ghost use Rattle.qcow2_metadata.specs.MetadataError.{storage_result};
 ghost use Rattle.qcow2_metadata.specs.TableBytes.{HasPlace, IsOfStorageOrMemory};
-ghost use Rattle.qcow2_metadata.specs.RefBlock.{count_in, count_at, counts_of, count_limit, ref_block, IsRefBlock, ChangesCount};
+ghost use Rattle.qcow2_metadata.specs.RefBlock.{count_in, count_at, counts_of, count_limit, ref_block, IsRefBlock, IsRefBlockAt, ChangesCount};
 
 use crate::big_endian::{read_u32, read_u64};
 use crate::table_bytes::{load, put, zeros};
@@ -144,6 +145,8 @@ impl RefBlock {
         ensures block { IfOk result (λ block. block ≡ ref_block header.now.fields (Some cluster) block.bytes false) }
         ensures bytes { (S.view storage.old).is_honest → IfOk result (λ block. block.bytes
             ≡ bytes_at (S.view storage.old).contents (cluster * cluster_size header.now.fields) (cluster_size header.now.fields)) }
+        ensures of_image { (S.view storage.old).is_honest
+            → IfOk result (IsRefBlockAt (byte_at (S.view storage.old).contents) (cluster * cluster_size header.now.fields)) }
         ensures whole { IfOk result IsRefBlock }
         ensures err { IfErr result IsOfStorageOrMemory }
         ensures same { Keeps (S.view storage.old) (S.view storage.new) }
@@ -166,14 +169,15 @@ impl RefBlock {
         requires { IsSome self.now.cluster }
         ensures written { IfSome self.now.cluster (λ cluster. Changes (S.view storage.old) (S.view storage.new) result
             (overwritten (S.view storage.old).contents (cluster * 2 ^ self.now.cluster_bits) self.now.bytes)) }
+        ensures of_image { (S.view storage.old).is_honest → IfSome self.now.cluster (λ cluster.
+            OnOk result (IsRefBlockAt (byte_at (S.view storage.new).contents) (cluster * 2 ^ self.now.cluster_bits) self.now)) }
         ensures calls { Calls (S.view storage.old) (S.view storage.new) result }
     {
-        match self.cluster {
-            Some(cluster) => {
-                storage.write(cluster.offset(self.cluster_bits).value(), &self.bytes)
-            }
-            None => unreachable!(),
-        }
+        let Some(cluster) = self.cluster else {
+            unreachable!();
+        };
+        let at = cluster.offset(self.cluster_bits).value();
+        storage.write(at, &self.bytes)
     }
 
     /// Writes it to a cluster if it is new or changed, and then it is neither.
@@ -185,6 +189,8 @@ impl RefBlock {
         requires { HasPlace self.old.cluster_bits cluster }
         ensures written { IsTrue self.old.is_modified → Changes (S.view storage.old) (S.view storage.new) result
             (overwritten (S.view storage.old).contents (cluster * 2 ^ self.old.cluster_bits) self.old.bytes) }
+        ensures of_image { (S.view storage.old).is_honest → IsTrue self.old.is_modified
+            → OnOk result (IsRefBlockAt (byte_at (S.view storage.new).contents) (cluster * 2 ^ self.old.cluster_bits) self.old) }
         ensures idle { IsFalse self.old.is_modified → IsOk result × (storage.new ≡ storage.old) }
         ensures calls { Calls (S.view storage.old) (S.view storage.new) result }
         ensures ok { OnOk result (self.new ≡ record self.old { is_modified = false }) }
@@ -192,7 +198,7 @@ impl RefBlock {
     {
         if self.is_modified {
             storage.write(cluster.offset(self.cluster_bits).value(), &self.bytes)?;
-            self.is_modified = false;
+            self.clear_modified();
         }
         Ok(())
     }

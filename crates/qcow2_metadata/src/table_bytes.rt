@@ -1,7 +1,6 @@
 //! The bytes of tables: where they come from, and their entries of 64 bits.
 
-ghost use Rattle.std.specs.Prelude.{◌≡◌, ◌+◌, ◌*◌, ◌≤◌, ◌<◌, length, replicate, IfOk, IfErr};
-ghost use Rattle.std.specs.Int.{w64, to_be_bytes};
+ghost use Rattle.std.specs.Prelude.{◌≡◌, ◌+◌, ◌*◌, ◌≤◌, length, replicate, IfOk, IfErr};
 ghost use Rattle.image_access.specs.Contents.{bytes_at, overwritten};
 ghost use Rattle.image_access.specs.Moments.{Keeps, Calls};
 ghost use Rattle.qcow2_metadata.specs.MetadataError.{storage_result};

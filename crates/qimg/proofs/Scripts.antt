@@ -1,0 +1,47 @@
+-- Lines that are read one after the other, where the bytes are known.
+use Rattle.std.proofs.Common.{◌≡◌, ℕ, true, false, List, [], ◌∷◌, ◌++◌, map, Option, Some, None, IfSome, refl, sym, ap, ◌∙◌, subst}
+use Rattle.std.proofs.lemmas.List.{map-append}
+use Rattle.std.specs.Io.BufRead.{take_through, drop_through, strip_last}
+use Rattle.std.specs.Io.KnownBytes.{IsAtEnd}
+use Rattle.std.specs.Option.{MatchOption}
+use Rattle.qcow2_session.specs.declared.session.Command.{Command}
+use Rattle.qimg.specs.Lines.{Order, order, order_of_line}
+use Rattle.qimg.specs.Reading.{BeginsWith, Asks, nothing, and_then, IsScriptOf}
+
+-- what a call that read a line leaves known
+abbrev pub ReadsOn : Option (List ℕ) → Order → Option (List ℕ) → Type 0
+ReadsOn known asked left = IfSome known (λ text. (rest : List ℕ) × (left ≡ Some rest) × BeginsWith text asked rest)
+
+pub reads_on : (known left : Option (List ℕ)) (start bytes : List ℕ) (asked : Order) → start ≡ [] → IfSome known (λ text. bytes ≡ start ++ take_through 10 text) → order_of_line (strip_last 10 bytes) ≡ Some asked → IfSome known (λ text. left ≡ Some (drop_through 10 text)) → ReadsOn known asked left
+reads_on None left start bytes asked empty is asks rest = tt
+reads_on (Some text) left start bytes asked empty is asks rest =
+    let whole : bytes ≡ take_through 10 text = is ∙ ap (λ it. it ++ take_through 10 text) empty in
+    (drop_through 10 text, rest, record { line = rw (sym whole) asks; rest = refl })
+
+pub reads_next : (known left : Option (List ℕ)) (next : Option Command) (command : Command) → next ≡ Some command → IfSome known (λ text. MatchOption next (text ≡ []) (λ it. (rest : List ℕ) × (left ≡ Some rest) × BeginsWith text (order it) rest)) → ReadsOn known (order command) left
+reads_next None left next command e read = tt
+reads_next (Some text) left next command e read =
+    let P : Option Command → Type 0 = λ n. MatchOption n (text ≡ []) (λ it. (rest : List ℕ) × (left ≡ Some rest) × BeginsWith text (order it) rest) in
+    subst P e read
+
+-- the first lines of a text ask for these commands, and that is known to be left
+pub record HasAsked (text : List ℕ) (commands : List Command) (left : Option (List ℕ)) : Type 0 where
+  pub rest : List ℕ
+  pub left_is : left ≡ Some rest
+  pub asks : Asks text (map order commands) rest
+
+pub asked_none : (known : Option (List ℕ)) (commands : List Command) → commands ≡ [] → IfSome known (λ text. HasAsked text commands known)
+asked_none None commands e = tt
+asked_none (Some text) commands e = record { rest = text; left_is = refl; asks = rw e nothing }
+
+pub asked_more : (known mid left : Option (List ℕ)) (commands all : List Command) (command : Command) → all ≡ commands ++ command ∷ [] → IfSome known (λ text. HasAsked text commands mid) → ReadsOn mid (order command) left → IfSome known (λ text. HasAsked text all left)
+asked_more None mid left commands all command e before now = tt
+asked_more (Some text) None left commands all command e before now = let never : None ≡ Some before.rest = before.left_is in cc
+asked_more (Some text) (Some between) left commands all command e before (rest, left_is, begins) = record {
+  rest = rest;
+  left_is = left_is;
+  asks =
+    let same : between ≡ before.rest = cc in
+    let asks : Asks text (map order commands) between = rw same before.asks in
+    rw e (rw (map-append order commands (command ∷ [])) (and_then (map order commands) between (order command) rest asks begins));
+}

@@ -1,0 +1,6 @@
+pub mod FileStorage
+pub mod Lines
+pub mod Numbers
+pub mod Printing
+pub mod Reading
+pub mod Words

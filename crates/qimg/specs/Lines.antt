@@ -1,0 +1,104 @@
+-- What a line of input asks for.
+use Rattle.std.specs.Prelude.{ℕ, Bool, ◌&&◌, ◌||◌, ◌==◌, nat_lt, nat_le, codes, List, [], ◌∷◌, length, replicate, Option, Some, None, if◌then◌else◌}
+use Rattle.std.specs.List.{list_all, slice_split}
+use Rattle.std.specs.Result.{result_ok}
+use Rattle.std.specs.Str.{bytes_eq}
+use Rattle.hex.specs.Hex.{decode_of, decode_sized}
+use Rattle.qcow2_session.specs.declared.session.Command.{Command}
+use Rattle.qcow2_session.specs.declared.session.Command.TheVariants as C
+use Rattle.qimg.specs.Numbers.{number_of}
+
+-- what a command does to the image
+pub data Order : Type 0 where
+  reads : (offset length : ℕ) → Order
+  writes : (offset : ℕ) (bytes : List ℕ) → Order
+  maps : (slot offset length : ℕ) → Order
+  flushes : Order
+  sizes : Order
+  -- what no line asks for
+  other : Order
+
+abbrev pub order : Command → Order
+order (C.Read offset length) = reads offset length
+order (C.Write offset bytes) = writes offset bytes.items
+order (C.GetMapping slot offset max) = maps slot offset max
+order C.Flush = flushes
+order C.Size = sizes
+order _ = other
+
+-- the length of a `read` or a `fill`, at most 1 MiB
+abbrev pub length_within : Option ℕ → Option ℕ
+length_within (Some n) = if nat_le n 1048576 then Some n else None
+length_within None = None
+
+abbrev pub is_lower_hex_digit : ℕ → Bool
+is_lower_hex_digit c = (nat_le 48 c && nat_le c 57) || (nat_le 97 c && nat_le c 102)
+
+-- the bytes of one or more pairs of hexadecimal digits in lower case
+abbrev pub bytes_of : List ℕ → Option (List ℕ)
+bytes_of word = if nat_lt 0 (length word) && list_all is_lower_hex_digit word then result_ok (decode_of word) else None
+
+abbrev pub first_byte : Option (List ℕ) → Option ℕ
+first_byte (Some (byte ∷ _)) = Some byte
+first_byte _ = None
+
+-- the byte of one pair
+abbrev pub byte_of : List ℕ → Option ℕ
+byte_of word = if list_all is_lower_hex_digit word then first_byte (result_ok (decode_sized word 1)) else None
+
+abbrev pub reads_with : Option ℕ → Option ℕ → Option Order
+reads_with (Some offset) (Some length) = Some (reads offset length)
+reads_with _ _ = None
+
+abbrev pub maps_with : Option ℕ → Option ℕ → Option Order
+maps_with (Some offset) (Some length) = Some (maps 0 offset length)
+maps_with _ _ = None
+
+abbrev pub writes_with : Option ℕ → Option (List ℕ) → Option Order
+writes_with (Some offset) (Some bytes) = Some (writes offset bytes)
+writes_with _ _ = None
+
+abbrev pub fills_with : Option ℕ → Option ℕ → Option ℕ → Option Order
+fills_with (Some offset) (Some length) (Some byte) = Some (writes offset (replicate length byte))
+fills_with _ _ _ = None
+
+-- OFFSET LENGTH of a `read`
+abbrev pub read_of : List (List ℕ) → Option Order
+read_of (offset ∷ length ∷ []) = reads_with (number_of offset) (length_within (number_of length))
+read_of _ = None
+
+-- OFFSET LENGTH of a `map`, which uses slot 0
+abbrev pub map_of : List (List ℕ) → Option Order
+map_of (offset ∷ length ∷ []) = maps_with (number_of offset) (number_of length)
+map_of _ = None
+
+-- OFFSET HEX of a `write`
+abbrev pub write_of : List (List ℕ) → Option Order
+write_of (offset ∷ pairs ∷ []) = writes_with (number_of offset) (bytes_of pairs)
+write_of _ = None
+
+-- OFFSET LENGTH BB of a `fill`
+abbrev pub fill_of : List (List ℕ) → Option Order
+fill_of (offset ∷ length ∷ pair ∷ []) = fills_with (number_of offset) (length_within (number_of length)) (byte_of pair)
+fill_of _ = None
+
+-- a line of one word
+abbrev pub order_alone : Order → List (List ℕ) → Option Order
+order_alone asked [] = Some asked
+order_alone asked _ = None
+
+-- what a line of these words asks for
+abbrev pub order_of_words : List (List ℕ) → Option Order
+order_of_words [] = None
+order_of_words (name ∷ operands) =
+    if bytes_eq name (codes "read") then read_of operands
+    else if bytes_eq name (codes "write") then write_of operands
+    else if bytes_eq name (codes "fill") then fill_of operands
+    else if bytes_eq name (codes "map") then map_of operands
+    else if bytes_eq name (codes "flush") then order_alone flushes operands
+    else if bytes_eq name (codes "size") then order_alone sizes operands
+    else None
+
+-- a line without its end: words separated by one space
+abbrev pub order_of_line : List ℕ → Option Order
+order_of_line line = order_of_words (slice_split (λ byte. byte == 32) line)

@@ -1,0 +1,50 @@
+-- The line that is printed for a reply, without its end.
+use Rattle.std.specs.Prelude.{ℕ, Bool, codes, List, [], ◌∷◌, ◌++◌, length, ◌==◌, Option, Some, None, if◌then◌else◌}
+use Rattle.std.specs.Fmt.{decimal}
+use Rattle.hex.specs.Hex.{encode_lower}
+use Rattle.qcow2_image.specs.declared.image.Mapping.{Mapping}
+use Rattle.qcow2_image.specs.declared.image.MappingKind.{MappingKind}
+use Rattle.qcow2_image.specs.declared.image.MappingKind.TheVariants as K
+use Rattle.qcow2_image.specs.declared.image.Place.{Place}
+use Rattle.qcow2_image.specs.declared.image.Place.TheVariants as P
+use Rattle.qcow2_session.specs.declared.session.Reply.{Reply}
+use Rattle.qcow2_session.specs.declared.session.Reply.TheVariants as R
+
+-- words with one space between them
+infixr 5 ◌␣◌
+abbrev pub ◌␣◌ : List ℕ → List ℕ → List ℕ
+left ␣ right = left ++ (codes " " ++ right)
+
+abbrev pub place_word : Place → List ℕ
+place_word P.Image = codes "image"
+place_word P.DataFile = codes "data"
+
+abbrev pub access_word : Bool → List ℕ
+access_word writable = if writable then codes "rw" else codes "ro"
+
+abbrev pub zero_word : Bool → List ℕ
+zero_word explicit = if explicit then codes "explicit" else codes "implicit"
+
+abbrev pub mapping_line : MappingKind → ℕ → List ℕ
+mapping_line (K.Raw place offset writable) length = codes "raw" ␣ place_word place ␣ decimal offset ␣ decimal length ␣ access_word writable
+mapping_line (K.Indirect offset) length = codes "backing" ␣ decimal offset ␣ decimal length
+mapping_line (K.Zero explicit) length = codes "zero" ␣ decimal length ␣ zero_word explicit
+mapping_line K.Eof length = codes "eof"
+mapping_line (K.Special offset) length = codes "special" ␣ decimal offset ␣ decimal length
+
+abbrev pub bytes_line : List ℕ → List ℕ
+bytes_line bytes = codes "data" ␣ (if length bytes == 0 then codes "-" else encode_lower bytes)
+
+abbrev pub prepared_line : Bool → ℕ → ℕ → List ℕ
+prepared_line existing offset length = (if existing then codes "existing" else codes "prepared") ␣ decimal offset ␣ decimal length
+
+-- The words of a refusal's name stand with the refusals; of its line nothing is said here.
+abbrev pub line_of : Reply → Option (List ℕ)
+line_of R.Done = Some (codes "ok")
+line_of (R.Bytes bytes) = Some (bytes_line bytes.items)
+line_of (R.Mapping mapping) = Some (mapping_line mapping.kind mapping.length)
+line_of (R.Prepared offset length existing) = Some (prepared_line existing offset length)
+line_of (R.Size size) = Some (codes "size" ␣ decimal size)
+line_of (R.Refused _) = None
+line_of (R.WriteRefused _ _) = None
+line_of R.Misuse = Some (codes "misuse")

@@ -1,0 +1,174 @@
+ghost use Rattle.std.specs.Prelude.{◌≡◌, ◌==◌, List, ℕ, map, IfOk, IsErrOf, None, Some};
+ghost use Rattle.std.specs.List.{list_all, slice_split};
+ghost use Rattle.qimg.specs.Lines.{length_within, is_lower_hex_digit, bytes_of, byte_of, order, order_alone, read_of, map_of, write_of, fill_of, order_of_words, order_of_line};
+ghost use Rattle.qimg.specs.Numbers.{number_of};
+ghost use Rattle.qimg.specs.declared.lines.LineError.TheVariants.{Unreadable, Memory};
+
+use crate::numbers::number;
+use hex::FromHexError;
+use qcow2_session::Command;
+use std::alloc::{AllocError, Global};
+
+/// The longest length of a `read` or a `fill`.
+const LONGEST: u64 = 1_048_576;
+
+/// Why a line gives no command.
+#[derive(Clone, Copy, Debug, PartialEq, Eq)]
+pub enum LineError {
+    /// It isn't the line of a command.
+    Unreadable,
+    /// There was no room for its command.
+    Memory,
+}
+
+impl From<AllocError> for LineError {
+    ghost from_gives = { λ _ e. e ≡ Memory };
+
+    fn from(_: AllocError) -> LineError {
+        LineError::Memory
+    }
+}
+
+/// The command of a line, which is given without its end.
+pub fn parse_line(alloc: Global, line: &str) -> Result<Command, LineError>
+    ensures ok { IfOk result (λ command. order_of_line line.now ≡ Some (order command)) }
+    ensures unreadable { IsErrOf result Unreadable → order_of_line line.now ≡ None }
+{
+    let words = split_words(alloc, line)?;
+    parse_words(alloc, &words)
+}
+
+fn split_words(alloc: Global, line: &str) -> Result<Vec<&str>, AllocError>
+    ensures { IfOk result (λ words. map (λ word. word.now) words.items ≡ slice_split (λ byte. byte == 32) line.now) }
+{
+    line.split(' ').collect(alloc)
+}
+
+fn parse_words(alloc: Global, words: &[&str]) -> Result<Command, LineError>
+    ensures ok { IfOk result (λ command. order_of_words (map (λ word. word.now) words.now) ≡ Some (order command)) }
+    ensures unreadable { IsErrOf result Unreadable → order_of_words (map (λ word. word.now) words.now) ≡ None }
+{
+    let Some((name, operands)) = words.split_first() else {
+        return Err(LineError::Unreadable);
+    };
+    match *name {
+        "read" => read_command(operands),
+        "write" => write_command(alloc, operands),
+        "fill" => fill_command(alloc, operands),
+        "map" => map_command(operands),
+        "flush" => alone(Command::Flush, operands),
+        "size" => alone(Command::Size, operands),
+        _ => Err(LineError::Unreadable),
+    }
+}
+
+// A command without operands.
+fn alone(command: Command, operands: &[&str]) -> Result<Command, LineError>
+    ensures ok { IfOk result (λ it. order_alone (order command) (map (λ word. word.now) operands.now) ≡ Some (order it)) }
+    ensures unreadable { IsErrOf result Unreadable → order_alone (order command) (map (λ word. word.now) operands.now) ≡ None }
+{
+    if !operands.is_empty() {
+        return Err(LineError::Unreadable);
+    }
+    Ok(command)
+}
+
+fn read_command(operands: &[&str]) -> Result<Command, LineError>
+    ensures ok { IfOk result (λ command. read_of (map (λ word. word.now) operands.now) ≡ Some (order command)) }
+    ensures unreadable { IsErrOf result Unreadable → read_of (map (λ word. word.now) operands.now) ≡ None }
+{
+    let [offset, length] = operands else {
+        return Err(LineError::Unreadable);
+    };
+    let (Some(offset), Some(length)) = (number(offset), short_length(length)) else {
+        return Err(LineError::Unreadable);
+    };
+    Ok(Command::Read { offset, length })
+}
+
+fn map_command(operands: &[&str]) -> Result<Command, LineError>
+    ensures ok { IfOk result (λ command. map_of (map (λ word. word.now) operands.now) ≡ Some (order command)) }
+    ensures unreadable { IsErrOf result Unreadable → map_of (map (λ word. word.now) operands.now) ≡ None }
+{
+    let [offset, length] = operands else {
+        return Err(LineError::Unreadable);
+    };
+    let (Some(offset), Some(max)) = (number(offset), number(length)) else {
+        return Err(LineError::Unreadable);
+    };
+    Ok(Command::GetMapping {
+        slot: 0,
+        offset,
+        max,
+    })
+}
+
+fn write_command(alloc: Global, operands: &[&str]) -> Result<Command, LineError>
+    ensures ok { IfOk result (λ command. write_of (map (λ word. word.now) operands.now) ≡ Some (order command)) }
+    ensures unreadable { IsErrOf result Unreadable → write_of (map (λ word. word.now) operands.now) ≡ None }
+{
+    let [offset, pairs] = operands else {
+        return Err(LineError::Unreadable);
+    };
+    let Some(offset) = number(offset) else {
+        return Err(LineError::Unreadable);
+    };
+    let bytes = pairs_of(alloc, pairs)?;
+    Ok(Command::Write { offset, bytes })
+}
+
+fn fill_command(alloc: Global, operands: &[&str]) -> Result<Command, LineError>
+    ensures ok { IfOk result (λ command. fill_of (map (λ word. word.now) operands.now) ≡ Some (order command)) }
+    ensures unreadable { IsErrOf result Unreadable → fill_of (map (λ word. word.now) operands.now) ≡ None }
+{
+    let [offset, length, pair] = operands else {
+        return Err(LineError::Unreadable);
+    };
+    let (Some(offset), Some(length), Some(byte)) =
+        (number(offset), short_length(length), byte_of_pair(pair))
+    else {
+        return Err(LineError::Unreadable);
+    };
+    let bytes = vec![in alloc; byte; length as usize]?;
+    Ok(Command::Write { offset, bytes })
+}
+
+fn short_length(word: &str) -> Option<u64>
+    ensures { result ≡ length_within (number_of word.now) }
+{
+    let length = number(word)?;
+    if length <= LONGEST { Some(length) } else { None }
+}
+
+fn is_lower_hex(word: &str) -> bool
+    ensures { result ≡ list_all is_lower_hex_digit word.now }
+{
+    word.bytes()
+        .all(|byte| matches!(byte, b'0'..=b'9' | b'a'..=b'f'))
+}
+
+// The bytes of one or more pairs of hexadecimal digits in lower case.
+fn pairs_of(alloc: Global, word: &str) -> Result<Vec<u8>, LineError>
+    ensures ok { IfOk result (λ bytes. bytes_of word.now ≡ Some bytes.items) }
+    ensures unreadable { IsErrOf result Unreadable → bytes_of word.now ≡ None }
+{
+    if word.is_empty() || !is_lower_hex(word) {
+        return Err(LineError::Unreadable);
+    }
+    match hex::decode(alloc, word) {
+        Ok(bytes) => Ok(bytes),
+        Err(FromHexError::OutOfMemory) => Err(LineError::Memory),
+        Err(_) => Err(LineError::Unreadable),
+    }
+}
+
+fn byte_of_pair(word: &str) -> Option<u8>
+    ensures { result ≡ byte_of word.now }
+{
+    if !is_lower_hex(word) {
+        return None;
+    }
+    let mut byte = [0];
+    hex::decode_to_slice(word, &mut byte).ok()?;
+    Some(byte[0])
+}

@@ -1,0 +1,42 @@
+ghost use Rattle.std.specs.Prelude.{◌≡◌, map, string_bytes};
+ghost use Rattle.std.specs.Option.{option_map};
+ghost use Rattle.qimg.specs.Words.{asked, asked_by};
+
+use crate::numbers::number;
+
+pub const USAGE: &str = "usage: qimg create FILE SIZE CLUSTER WIDTH MODE | run FILE | check FILE";
+
+/// What the words of the command line ask for.
+#[derive(Clone, Copy, Debug, PartialEq, Eq)]
+pub enum Invocation<'a> {
+    /// Make an image.
+    Create {
+        file: &'a str,
+        size: u64,
+        cluster: u64,
+        width: u64,
+    },
+    /// Run the commands of the standard input on an image.
+    Run { file: &'a str },
+}
+
+/// Reads the words after the program's name; None where they can't be read.
+pub fn words(words: &[String]) -> Option<Invocation<'_>>
+    ensures { option_map asked result ≡ asked_by (map string_bytes words.now) }
+{
+    match words {
+        [name, file] if name.as_str() == "run" => Some(Invocation::Run {
+            file: file.as_str(),
+        }),
+        [name, file, size, cluster, width, mode]
+            if name.as_str() == "create" && mode.as_str() == "none" => {
+            Some(Invocation::Create {
+                file: file.as_str(),
+                size: number(size.as_str())?,
+                cluster: number(cluster.as_str())?,
+                width: number(width.as_str())?,
+            })
+        }
+        _ => None,
+    }
+}
