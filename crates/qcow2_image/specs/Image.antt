@@ -1,12 +1,17 @@
 -- What a contract sees of an open image.
 use Rattle.std.specs.Prelude.{◌≡◌, ℕ, Bool, is_some}
 use Rattle.qcow2_metadata.specs.Header.{has_data_file}
+use Rattle.qcow2_alloc.specs.ImageStorage.{storage_of}
 use Rattle.qcow2_image.specs.declared.image.Qcow2.{Qcow2}
 
 module _ {S F : Type 0} where
   -- the number that it was opened with
   abbrev pub number_of : Qcow2 S F → ℕ
   number_of image = image.number
+
+  -- the storage that it stands in
+  abbrev pub storage_of_image : Qcow2 S F → S
+  storage_of_image image = storage_of image.file.storage
 
   -- an earlier call marked it as failed
   abbrev pub is_failed : Qcow2 S F → Bool

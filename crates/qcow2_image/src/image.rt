@@ -84,7 +84,7 @@ impl<S: Storage, F: WrappedFormat<S>> Qcow2<S, F> {
     ghost use Rattle.std.specs.String.{string_bytes};
     ghost use Rattle.qcow2_metadata.specs.Header.{cluster_size};
     ghost use Rattle.qcow2_alloc.specs.declared.error.ImageError.TheVariants.{Failed};
-    ghost use Rattle.qcow2_image.specs.Image.{Stays, IsSameImage, is_failed, is_writable, is_external, number_of, size_of};
+    ghost use Rattle.qcow2_image.specs.Image.{storage_of_image, Stays, IsSameImage, is_failed, is_writable, is_external, number_of, size_of};
     ghost use Rattle.qcow2_image.specs.Refusals.{unusable, IsMet, Marks, failed_after};
 
     /// Whether the first bytes of a storage are those of an image of version 2 or 3.
@@ -139,8 +139,10 @@ impl<S: Storage, F: WrappedFormat<S>> Qcow2<S, F> {
         }
     }
 
-    /// The storage itself. What isn't flushed is forgotten.
-    pub(crate) fn into_storage(self) -> S {
+    /// Closes the image and hands its storage back. What isn't flushed is forgotten.
+    pub fn into_storage(self) -> S
+        ensures { result ≡ storage_of_image self }
+    {
         let Qcow2 {
             number: _,
             is_failed: _,
