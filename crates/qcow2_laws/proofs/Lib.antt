@@ -1,1 +1,11 @@
 pub mod ForUsers
+pub mod Clusters
+pub mod Sums
+pub mod Places
+pub mod Guests
+pub mod Tops
+pub mod Mixes
+pub mod Consistency
+pub mod Opened
+pub mod Stops
+pub mod Values

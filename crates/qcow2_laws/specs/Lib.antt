@@ -6,4 +6,8 @@ pub mod Views
 pub mod Calls
 pub mod Runs
 pub mod ForUsers
+pub mod Clusters
+pub mod Guests
+pub mod Guard
+pub mod Opened
 pub mod Samples
