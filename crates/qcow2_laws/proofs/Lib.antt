@@ -9,3 +9,7 @@ pub mod Consistency
 pub mod Opened
 pub mod Stops
 pub mod Values
+pub mod Changes
+pub mod Shares
+pub mod Writes
+pub mod Renaming

@@ -92,10 +92,10 @@ two_of : (f : L2Mapping → ℕ) (e base known : L2Mapping) → (e ≡ base) ⊎
 two_of f e base known either = let h = one_of f e base known either in omega arith
 
 -- covers that are as on the storage, or as known
-as_base : (h : HeaderFields) (base b : Bytes) → SameCovers h base b → (f : L2Mapping → ℕ) → over_guests h (λ g. f (cover h b g)) ≡ over_guests h (λ g. f (cover h base g))
+pub as_base : (h : HeaderFields) (base b : Bytes) → SameCovers h base b → (f : L2Mapping → ℕ) → over_guests h (λ g. f (cover h b g)) ≡ over_guests h (λ g. f (cover h base g))
 as_base h base b same f = over_guests-same h _ _ (λ g. ap f (sym (same g)))
 
-as_known : (h : HeaderFields) (known b : Bytes) → SameCovers h known b → (f : L2Mapping → ℕ)
+pub as_known : (h : HeaderFields) (known b : Bytes) → SameCovers h known b → (f : L2Mapping → ℕ)
     → over_guests h (λ g. max (f (cover h b g)) (f (cover h known g))) ≡ over_guests h (λ g. f (cover h known g))
 as_known h known b same f = over_guests-same h _ _ (λ g. let e : f (cover h known g) ≡ f (cover h b g) = ap f (same g) in omega arith)
 

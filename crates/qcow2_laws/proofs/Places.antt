@@ -43,6 +43,9 @@ Sizes-from h b reads =
 
 -- ---- places in a cluster
 
+pub div_mono : (x y n : ℕ) → 0 < n → x ≤ y → x / n ≤ y / n
+div_mono x y n some le = le-div (x / n) y n some (let is = div-add-mod' x n in omega arith)
+
 pub in_one : (size start k : ℕ) → start % size ≡ 0 → k < size → (start + k) / size ≡ start / size
 in_one size start k aligned lt =
     let is : start / size * size + start % size ≡ start = div-add-mod' start size in

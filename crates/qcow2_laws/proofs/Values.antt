@@ -16,15 +16,12 @@ use Rattle.qcow2_laws.specs.Stops.{Gift, IsGiven, IsAsked, Mark, more, IsKeptAt}
 use Rattle.qcow2_laws.specs.Clusters.{Direction}
 use Rattle.qcow2_laws.specs.Guests.{over_guests, names, named_in_either}
 use Rattle.qcow2_laws.specs.Guard.{Pending, IsGuarded, SameTop, IsMixed}
-use Rattle.qcow2_laws.proofs.Places.{Sizes, Sizes-from, in_one}
+use Rattle.qcow2_laws.proofs.Places.{Sizes, Sizes-from, in_one, div_mono}
 use Rattle.qcow2_laws.proofs.Tops.{bytes_from-same, IsTop-top}
 use Rattle.qcow2_laws.proofs.Guests.{guest_le, names_within}
 use Rattle.qcow2_laws.proofs.Consistency.{in_own, guarded_consistent}
 use Rattle.qcow2_laws.proofs.Mixes.{mixed_guarded, top_kept, either_cover}
 use Rattle.qcow2_laws.proofs.Stops.{kept_on, kept_either}
-
-div_mono : (x y n : ℕ) → 0 < n → x ≤ y → x / n ≤ y / n
-div_mono x y n some le = le-div (x / n) y n some (let is = div-add-mod' x n in omega arith)
 
 -- the value that a cover shows is as in another image where the bytes are so in each cluster that the cover names
 pub shown : (h : HeaderFields) (b c backing : Bytes) (o : ℕ) (v : L2Mapping) → CoverIsAligned h v → ((place : ℕ) → 0 < named_by_cover h (place / cluster_size h) v → b place ≡ c place)

@@ -10,4 +10,7 @@ pub mod Clusters
 pub mod Guests
 pub mod Guard
 pub mod Opened
+pub mod Changes
+pub mod Writes
+pub mod Tops
 pub mod Samples
