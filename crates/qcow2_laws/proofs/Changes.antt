@@ -63,13 +63,13 @@ module _ (h : HeaderFields) (d : Direction) (p p' : Pending) (base known known' 
       }
 
 -- the guest sees what it saw
-module _ (h : HeaderFields) (d : Direction) (p p' : Pending) (base known known' : Bytes) (guarded : IsGuarded h d p base known) (guarded' : IsGuarded h d p' base known')
+module _ (h : HeaderFields) (d d' : Direction) (p p' : Pending) (base known known' : Bytes) (guarded : IsGuarded h d p base known) (guarded' : IsGuarded h d' p' base known')
     (covers : SameCovers h known known')
     (bytes : (o : ℕ) → 0 < named_in_either h base known (o / cluster_size h) → known o ≡ known' o) where
   pub covers_kept : (backing : Bytes) (m : Mark) → IsKeptAt backing m known → IsKeptAt backing m known'
   covers_kept backing m kept =
       kept_shown h backing m [] known known' (IsTop-top h base known guarded.same_top guarded.top).header_is (IsTop-top h base known' guarded'.same_top guarded'.top).header_is
-      (known_consistent h d p' base known' guarded')
+      (known_consistent h d' p' base known' guarded')
       (λ o. inl (sym (guest_value-same h known known' backing o (covers (o / cluster_size h)) (guarded.known_aligned (o / cluster_size h)) (λ place some.
       bytes place (
       let within = names_within h known (place / cluster_size h) (o / cluster_size h) (Sizes-from h base guarded.top.header_reads) some in

@@ -13,3 +13,4 @@ pub mod Changes
 pub mod Shares
 pub mod Writes
 pub mod Renaming
+pub mod Blocks
