@@ -169,3 +169,11 @@ pub unused_unnamed : (d : Direction) (k : Cluster) (x : ℕ) → Tied k → k.kn
 unused_unnamed Neither k x tied known base good = grind arith
 unused_unnamed L2DependsOnRb k x tied known base good = grind arith
 unused_unnamed RbDependsOnL2 k x tied known base good = grind arith
+
+-- Tables are named anew: i are fresh and counted on the storage, s are counted with it, u are no longer named. Of the first j are marked copied.
+pub rename : (d : Direction) (k : Cluster) (x fixed sole i j s u : ℕ) → Tied k → i + s ≤ 1 → j ≤ i → fixed + u ≡ k.fixed + i + s → sole ≤ fixed → sole ≤ k.sole + j
+    → (0 < i → 0 < k.fresh) → (0 < i → k.base_count ≡ k.known_count) → (0 < i → Written d k) → (0 < s → k.known_count ≡ 0) → (0 < s → k.base_count ≡ 0) → Good d k x
+    → Good d (record k { fixed = fixed; sole = sole; base_count = k.base_count + s; known_count = k.known_count + s; fresh = k.fresh - i; spent = k.spent + u }) x
+rename Neither k x fixed sole i j s u tied one marked is few fewer some same written empty empty_base good = grind arith
+rename L2DependsOnRb k x fixed sole i j s u tied one marked is few fewer some same written empty empty_base good = grind arith
+rename RbDependsOnL2 k x fixed sole i j s u tied one marked is few fewer some same written empty empty_base good = grind arith

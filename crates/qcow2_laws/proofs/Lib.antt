@@ -14,3 +14,4 @@ pub mod Shares
 pub mod Writes
 pub mod Renaming
 pub mod Blocks
+pub mod NewTables

@@ -179,3 +179,68 @@ module _ (h : HeaderFields) (b b' : Bytes) (top : IsTop h b) where
         let two = two_blocks h b (block_offset (reftable_entry h b k0) / cluster_size h) (c / counts_per_block h) k0 other real_c real e refl in
         let s = shares h b (block_offset (reftable_entry h b k0) / cluster_size h) in
         absurd (omega arith)))
+
+  -- one cluster, in which a part of the L1 table stands, may change
+  module _ (c0 : ℕ) (part : 1 ≤ in_l1 h c0) (once : named_for_tables h b c0 ≤ 1) (same : (c : ℕ) → c ≢ c0 → SameIn (cluster_size h) c b b') where
+    alone_l1 : (c : ℕ) → 0 < in_cluster h c 0 + in_reftable h c + named_by_reftable h b c + named_by_l1_table h b c → c ≢ c0
+    alone_l1 c some e =
+        let here : 0 < in_cluster h c0 0 + in_reftable h c0 + named_by_reftable h b c0 + named_by_l1_table h b c0 =
+        subst (λ n. 0 < in_cluster h n 0 + in_reftable h n + named_by_reftable h b n + named_by_l1_table h b n) e some in
+        let s = shares h b c0 in
+        absurd (omega arith)
+
+    pub l1_first : SameFrom 0 (cluster_size h) b b'
+    l1_first = first_stays (λ c some. same c (alone_l1 c (omega arith)))
+
+    pub l1_reftable : (k : ℕ) → reftable_entry h b k ≡ reftable_entry h b' k
+    l1_reftable = reftable_stays (λ c some. same c (alone_l1 c (omega arith)))
+
+    pub l1_covers : (g : ℕ) → l1_entry h b (g / entries_per_cluster h) ≡ l1_entry h b' (g / entries_per_cluster h) → cover h b g ≡ cover h b' g
+    l1_covers g entry = cover_stays g entry (λ real. same _ (alone_l1 _ (let one = table_has h b _ real in omega arith)))
+
+    pub l1_counts : SameCounts h b b'
+    l1_counts c = count_stays c (l1_reftable _) (λ real. same _ (alone_l1 _ (let one = block_has h b _ real in omega arith)))
+
+  -- one cluster, in which a part of the reftable stands, may change
+  module _ (c0 : ℕ) (part : 1 ≤ in_reftable h c0) (once : named_for_tables h b c0 ≤ 1) (same : (c : ℕ) → c ≢ c0 → SameIn (cluster_size h) c b b') where
+    alone_reftable : (c : ℕ) → 0 < in_cluster h c 0 + in_l1 h c + named_by_reftable h b c + named_by_l1_table h b c → c ≢ c0
+    alone_reftable c some e =
+        let here : 0 < in_cluster h c0 0 + in_l1 h c0 + named_by_reftable h b c0 + named_by_l1_table h b c0 =
+        subst (λ n. 0 < in_cluster h n 0 + in_l1 h n + named_by_reftable h b n + named_by_l1_table h b n) e some in
+        let s = shares h b c0 in
+        absurd (omega arith)
+
+    pub reftable_first : SameFrom 0 (cluster_size h) b b'
+    reftable_first = first_stays (λ c some. same c (alone_reftable c (omega arith)))
+
+    pub reftable_l1 : (i : ℕ) → l1_entry h b i ≡ l1_entry h b' i
+    reftable_l1 = l1_stays (λ c some. same c (alone_reftable c (omega arith)))
+
+    pub reftable_covers : SameCovers h b b'
+    reftable_covers g = cover_stays g (reftable_l1 _) (λ real. same _ (alone_reftable _ (let one = table_has h b _ real in omega arith)))
+
+    pub reftable_counts : (c : ℕ) → reftable_entry h b (c / counts_per_block h) ≡ reftable_entry h b' (c / counts_per_block h) → count h b c ≡ count h b' c
+    reftable_counts c entry = count_stays c entry (λ real. same _ (alone_reftable _ (let one = block_has h b _ real in omega arith)))
+
+  -- the first cluster may change
+  module _ (once : named_for_tables h b 0 ≤ 1) (same : (c : ℕ) → c ≢ 0 → SameIn (cluster_size h) c b b') where
+    alone_first : (c : ℕ) → 0 < in_l1 h c + in_reftable h c + named_by_reftable h b c + named_by_l1_table h b c → c ≢ 0
+    alone_first c some e =
+        let here : 0 < in_l1 h 0 + in_reftable h 0 + named_by_reftable h b 0 + named_by_l1_table h b 0 =
+        subst (λ n. 0 < in_l1 h n + in_reftable h n + named_by_reftable h b n + named_by_l1_table h b n) e some in
+        let s = shares h b 0 in
+        let zero : 0 / cluster_size h ≡ 0 = let some_size = sizes.some in omega arith in
+        let one : in_cluster h 0 0 ≡ 1 = ap (λ n. in_cluster h n 0) (sym zero) ∙ in_own h 0 in
+        absurd (omega arith)
+
+    pub first_l1 : (i : ℕ) → l1_entry h b i ≡ l1_entry h b' i
+    first_l1 = l1_stays (λ c some. same c (alone_first c (omega arith)))
+
+    pub first_reftable : (k : ℕ) → reftable_entry h b k ≡ reftable_entry h b' k
+    first_reftable = reftable_stays (λ c some. same c (alone_first c (omega arith)))
+
+    pub first_covers : SameCovers h b b'
+    first_covers g = cover_stays g (first_l1 _) (λ real. same _ (alone_first _ (let one = table_has h b _ real in omega arith)))
+
+    pub first_counts : SameCounts h b b'
+    first_counts c = count_stays c (first_reftable _) (λ real. same _ (alone_first _ (let one = block_has h b _ real in omega arith)))

@@ -69,17 +69,21 @@ module _ (h : HeaderFields) (d : Direction) (p : Pending) (base known : Bytes) (
       let none = held_unnamed d (cluster h p base known c) (p.surplus c) (tied h p base known c) some (good h d p base known guarded c) in
       record { no_table = none.1; no_entry = none.0 }
 
-  -- a fresh cluster may still be named by an entry on the storage, unless L2 tables are written
-  pub fresh_is_unnamed : 0 < p.fresh c → (d ≡ RbDependsOnL2 → SameCovers h base known) → IsUnnamed h base known c
-  fresh_is_unnamed some covers =
-      let none = fresh_unnamed d (cluster h p base known c) (p.surplus c) (tied h p base known c) some (written d covers) (good h d p base known guarded c) in
-      record { no_table = none.1; no_entry = none.0 }
+  -- where what is known of entries is on the storage, no mix has more
+  pub written_covers : (d ≡ RbDependsOnL2 → SameCovers h base known) → Written d (cluster h p base known c)
+  written_covers = written d
     where
       written : (e : Direction) → (e ≡ RbDependsOnL2 → SameCovers h base known) → Written e (cluster h p base known c)
       written Neither covers = tt
       written L2DependsOnRb covers = tt
       written RbDependsOnL2 covers =
           (as_known h known base (λ k. sym (covers refl k)) (named_by_cover h c), as_known h known base (λ k. sym (covers refl k)) (marked_by_cover h c))
+
+  -- a fresh cluster may still be named by an entry on the storage, unless L2 tables are written
+  pub fresh_is_unnamed : 0 < p.fresh c → (d ≡ RbDependsOnL2 → SameCovers h base known) → IsUnnamed h base known c
+  fresh_is_unnamed some covers =
+      let none = fresh_unnamed d (cluster h p base known c) (p.surplus c) (tied h p base known c) some (written_covers covers) (good h d p base known guarded c) in
+      record { no_table = none.1; no_entry = none.0 }
 
   pub unused_is_unnamed : count h known c ≡ 0 → count h base c ≡ 0 → IsUnnamed h base known c
   unused_is_unnamed known_none base_none =

@@ -1,8 +1,13 @@
 -- Images whose header, L1 table or reftable change, while all guest clusters keep their covers.
-use Rattle.std.specs.Prelude.{ℕ, ◌/◌, ◌≡◌, ◌≢◌}
+use Rattle.std.specs.Prelude.{ℕ, ◌+◌, ◌*◌, ◌/◌, ◌%◌, ◌<◌, ◌≤◌, ◌≡◌, ◌≢◌, ◌⊎◌}
 use Rattle.qcow2_metadata.specs.Bytes.{Bytes}
 use Rattle.qcow2_metadata.specs.declared.header.HeaderFields.{HeaderFields}
-use Rattle.qcow2_metadata.specs.Cover.{cover}
+use Rattle.qcow2_metadata.specs.Header.{cluster_size, entries_per_cluster}
+use Rattle.qcow2_metadata.specs.Entries.{l1_entry, l2_entry, count, host_offset, L1EntryReads}
+use Rattle.qcow2_metadata.specs.Cover.{cover, entry_cover}
+use Rattle.qcow2_metadata.specs.Consistent.{IsAligned}
+use Rattle.qcow2_laws.specs.Clusters.{Direction, RbDependsOnL2}
+use Rattle.qcow2_laws.specs.Guard.{Pending, SameCovers}
 
 -- the numbers of a header that are written again after it was created
 pub record Places : Type 0 where
@@ -41,3 +46,27 @@ KeepsCovers h a b b' = (g : ℕ) → cover h b g ≡ cover (with_places h a) b' 
 -- the same bytes outside of one cluster
 abbrev pub IsSameOutside : ℕ → ℕ → Bytes → Bytes → Type 0
 IsSameOutside size c b b' = (o : ℕ) → o / size ≢ c → b o ≡ b' o
+
+-- the same bytes but for n from a place on
+abbrev pub IsSameBut : ℕ → ℕ → Bytes → Bytes → Type 0
+IsSameBut place n b b' = (o : ℕ) → (o < place) ⊎ (place + n ≤ o) → b o ≡ b' o
+
+-- one entry of the L1 table is written, to the storage and to what is known
+pub record WritesL1Entry (h : HeaderFields) (base known base' known' : Bytes) (i entry : ℕ) : Type 0 where
+  pub within : i < h.l1_entries
+  pub others : IsSameBut (h.l1_offset + 8 * i) 8 base base'
+  pub known_others : IsSameBut (h.l1_offset + 8 * i) 8 known known'
+  pub is : l1_entry h base' i ≡ entry
+  pub known_is : l1_entry h known' i ≡ entry
+
+-- the table that an L1 entry is to name: its cluster is fresh and counted on the storage, and it says what was said before
+pub record IsNewTable (h : HeaderFields) (d : Direction) (p : Pending) (base known : Bytes) (i entry : ℕ) : Type 0 where
+  pub reads : L1EntryReads entry
+  pub real : host_offset entry ≢ 0
+  pub aligned : IsAligned h (host_offset entry)
+  pub fresh : 0 < p.fresh (host_offset entry / cluster_size h)
+  pub counted : count h base (host_offset entry / cluster_size h) ≡ count h known (host_offset entry / cluster_size h)
+  -- then the L2 tables are written
+  pub written : d ≡ RbDependsOnL2 → SameCovers h base known
+  pub covers : (g : ℕ) → g / entries_per_cluster h ≡ i → cover h base g ≡ entry_cover h (l2_entry base (host_offset entry) (g % entries_per_cluster h))
+  pub known_covers : (g : ℕ) → g / entries_per_cluster h ≡ i → cover h known g ≡ entry_cover h (l2_entry known (host_offset entry) (g % entries_per_cluster h))
