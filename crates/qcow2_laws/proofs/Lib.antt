@@ -15,3 +15,4 @@ pub mod Writes
 pub mod Renaming
 pub mod Blocks
 pub mod NewTables
+pub mod NewBlocks

@@ -25,7 +25,7 @@ use Rattle.qcow2_laws.proofs.Writes.{fresh_is_unnamed, written_covers}
 use Rattle.qcow2_laws.proofs.Blocks.{table_apart, table_once}
 use Rattle.std.proofs.lemmas.Nat.{mod_below}
 use Rattle.qcow2_laws.proofs.Shares.{shares, in_l1, l1_has, l1_first, l1_reftable, l1_covers, l1_counts}
-use Rattle.qcow2_laws.proofs.Renaming.{top_changed, moved_kept, moved_known_kept}
+use Rattle.qcow2_laws.proofs.Renaming.{tables_renamed, moved_kept, moved_known_kept}
 
 -- eight bytes of a table lie in one cluster
 pub outside_eight : (size start i : ℕ) (b b' : Bytes) → size % 8 ≡ 0 → 0 < size → start % size ≡ 0 → IsSameBut (start + 8 * i) 8 b b' → IsSameOutside size ((start + 8 * i) / size) b b'
@@ -216,9 +216,6 @@ module _ (h : HeaderFields) (d : Direction) (p : Pending) (base known base' know
   new_at : (c : ℕ) → 0 < table_in h c (host_offset entry) → host_offset entry / cluster_size h ≡ c
   new_at c some = table_in-at h c (host_offset entry) some
 
-  p' : Pending
-  p' = renamed p (λ c. table_in h c (host_offset entry)) (λ c. table_in h c (table_at h base i0))
-
   unlaid : (o : ℕ) → 0 < named_in_either h base known (o / cluster_size h) + p.held (o / cluster_size h) → base' o ≡ known' o
   unlaid o some = sym (outside o (elsewhere o some)) ∙ guarded.unlaid o some ∙ known_outside o (elsewhere o some)
     where
@@ -230,27 +227,13 @@ module _ (h : HeaderFields) (d : Direction) (p : Pending) (base known base' know
 
   pub l1_named : IsGuarded h d (renamed p (λ c. table_in h c (host_offset entry)) (λ c. table_in h c (table_at h base i0))) base' known'
   l1_named =
-      top_changed h (places_of h) d p (renamed p (λ c. table_in h c (host_offset entry)) (λ c. table_in h c (table_at h base i0))) base known base' known' guarded
-      top_now same_top_now (omega arith) covers known_covers unlaid (λ c.
-      let one = table_in-le h c (host_offset entry) in
-      let changed = fixed_changed c in
-      let fewer = sole_changed c in
-      let l1_le = l1_marks-le h base' c in
-      let s = shares h base' c in
-      let next = rename d (cluster h p base known c) (p.surplus c) (named_for_tables h base' c) (marked_by_l1_table h base' c) (table_in h c (host_offset entry)) (table_in h c (host_offset entry)) 0 (table_in h c (table_at h base i0))
-      (tied h p base known c) (omega arith) (omega arith) (omega arith) (omega arith) (omega arith)
-      (λ some. subst (λ n. 0 < p.fresh n) (new_at c some) new.fresh) (λ some. subst (λ n. count h base n ≡ count h known n) (new_at c some) new.counted)
-      (λ some. written_covers h d p base known guarded c new.written) (λ some. absurd (omega arith)) (λ some. absurd (omega arith)) (good h d p base known guarded c) in
-      let base_count : count h base c + 0 ≡ count h base' c = let e = counts c in omega arith in
-      let known_count : count h known c + 0 ≡ count h known' c = let e = known_counts c in omega arith in
-      subst (λ k. Good d k (p.surplus c)) (λ j. record (cluster h p base known c) {
-        fixed = named_for_tables h base' c;
-        sole = marked_by_l1_table h base' c;
-        base_count = base_count j;
-        known_count = known_count j;
-        fresh = p.fresh c - table_in h c (host_offset entry);
-        spent = p.spent c + table_in h c (table_at h base i0);
-      }) next)
+      tables_renamed h (places_of h) d p (renamed p (λ c. table_in h c (host_offset entry)) (λ c. table_in h c (table_at h base i0))) base known base' known' guarded
+      top_now same_top_now (omega arith) covers known_covers unlaid
+      (λ c. table_in h c (host_offset entry)) (λ c. 0) (λ c. table_in h c (table_at h base i0)) (λ c. (refl, refl, refl, refl, refl))
+      (λ c. let one = table_in-le h c (host_offset entry) in omega arith) (λ c. let changed = fixed_changed c in omega arith) sole_changed
+      (λ c. let e = counts c in omega arith) (λ c. let e = known_counts c in omega arith)
+      (λ c some. (subst (λ n. 0 < p.fresh n) (new_at c some) new.fresh, subst (λ n. count h base n ≡ count h known n) (new_at c some) new.counted))
+      new.written (λ c some. absurd (omega arith))
 
   elsewhere_named : (o : ℕ) → 0 < named_in_either h base known (o / cluster_size h) → o / cluster_size h ≢ (h.l1_offset + 8 * i0) / cluster_size h
   elsewhere_named o some e =

@@ -13,14 +13,17 @@ use Rattle.qcow2_metadata.specs.declared.l2_mapping.L2Mapping.{L2Mapping}
 use Rattle.qcow2_metadata.specs.declared.l2_mapping.L2Mapping.TheVariants.{Uncovered}
 use Rattle.qcow2_laws.specs.Disk.{disk}
 use Rattle.qcow2_laws.specs.Stops.{IsAsked, Mark, more, IsKeptAt}
-use Rattle.qcow2_laws.specs.Clusters.{Direction}
+use Rattle.qcow2_laws.specs.Clusters.{Direction, RbDependsOnL2}
 use Rattle.qcow2_laws.specs.Guests.{guests, over_guests, names, marks, named_in_either, marked_by_cover, marked_by_l1_table}
-use Rattle.qcow2_laws.specs.Guard.{IsTop, SameTop, Pending, cluster, IsGuarded}
+use Rattle.qcow2_laws.specs.Guard.{IsTop, SameTop, Pending, cluster, IsGuarded, SameCovers}
 use Rattle.qcow2_laws.specs.Tops.{Places, with_places, KeepsCovers}
-use Rattle.qcow2_laws.proofs.Clusters.{Good}
+use Rattle.qcow2_laws.proofs.Clusters.{Good, rename}
 use Rattle.qcow2_laws.proofs.Sums.{sum_below-same, sum_below-longer}
 use Rattle.qcow2_laws.proofs.Places.{Sizes, Sizes-from}
-use Rattle.qcow2_laws.proofs.Guests.{past_guests, guest_le, names_within}
+use Rattle.qcow2_laws.proofs.Guests.{past_guests, guest_le, names_within, l1_marks-le}
+use Rattle.qcow2_laws.proofs.Mixes.{tied, good}
+use Rattle.qcow2_laws.proofs.Shares.{shares}
+use Rattle.qcow2_laws.proofs.Writes.{written_covers}
 use Rattle.qcow2_laws.proofs.Tops.{IsTop-top}
 use Rattle.qcow2_laws.proofs.Consistency.{guarded_consistent, known_consistent}
 use Rattle.qcow2_laws.proofs.Values.{shown, value_is, size_is}
@@ -92,6 +95,51 @@ module _ (h : HeaderFields) (a : Places) (d : Direction) (p p' : Pending) (base 
         own = λ g c some. subst (λ v. named_by_cover h c v ≤ marked_by_cover h c v) (covers g) (guarded.own g c (subst (λ v. 0 < marked_by_cover h c v) (sym (known_covers g)) some));
         unlaid = λ o some. unlaid o (let e = either_sum (named_by_cover h (o / cluster_size h)) refl in omega arith);
       }
+
+  -- the same, by how often tables are named anew: i are fresh and counted on the storage, s are counted with it, u are no longer named
+  pub tables_renamed : (i s u : ℕ → ℕ) → ((c : ℕ) → (p'.held c ≡ p.held c) × (p'.fresh c ≡ p.fresh c - i c) × (p'.spent c ≡ p.spent c + u c) × (p'.dropped c ≡ p.dropped c) × (p'.surplus c ≡ p.surplus c))
+      → ((c : ℕ) → i c + s c ≤ 1)
+      → ((c : ℕ) → named_for_tables (with_places h a) base' c + u c ≡ named_for_tables h base c + i c + s c)
+      → ((c : ℕ) → marked_by_l1_table (with_places h a) base' c ≤ marked_by_l1_table h base c + i c)
+      → ((c : ℕ) → count (with_places h a) base' c ≡ count h base c + s c) → ((c : ℕ) → count (with_places h a) known' c ≡ count h known c + s c)
+      → ((c : ℕ) → 0 < i c → (0 < p.fresh c) × (count h base c ≡ count h known c)) → (d ≡ RbDependsOnL2 → SameCovers h base known)
+      → ((c : ℕ) → 0 < s c → (count h known c ≡ 0) × (count h base c ≡ 0))
+      → IsGuarded (with_places h a) d p' base' known'
+  tables_renamed i s u pending one fixed sole counts known_counts fresh written empty = top_changed (λ c.
+      let l1_le = l1_marks-le (with_places h a) base' c in
+      let in_fixed = shares (with_places h a) base' c in
+      let is = fixed c in
+      let few = one c in
+      let fewer = sole c in
+      let next = rename d (cluster h p base known c) (p.surplus c) (named_for_tables (with_places h a) base' c) (marked_by_l1_table (with_places h a) base' c) (i c) (i c) (s c) (u c)
+      (tied h p base known c) (omega arith) (omega arith) (omega arith) (omega arith) (omega arith)
+      (λ some. (fresh c some).0) (λ some. (fresh c some).1) (λ some. written_covers h d p base known guarded c written) (λ some. (empty c some).0) (λ some. (empty c some).1) (good h d p base known guarded c) in
+      let held_is = sym (pending c).0 in
+      let fresh_is = sym (pending c).1 in
+      let spent_is = sym (pending c).2 in
+      let dropped_is = sym (pending c).3 in
+      let base_is = sym (counts c) in
+      let known_is = sym (known_counts c) in
+      subst (λ n. Good d (record (cluster h p base known c) {
+        fixed = named_for_tables (with_places h a) base' c;
+        sole = marked_by_l1_table (with_places h a) base' c;
+        base_count = count (with_places h a) base' c;
+        known_count = count (with_places h a) known' c;
+        held = p'.held c;
+        fresh = p'.fresh c;
+        spent = p'.spent c;
+        dropped = p'.dropped c;
+      }) n) (sym (pending c).4)
+      (subst (λ k. Good d k (p.surplus c)) (λ t. record (cluster h p base known c) {
+        fixed = named_for_tables (with_places h a) base' c;
+        sole = marked_by_l1_table (with_places h a) base' c;
+        base_count = base_is t;
+        known_count = known_is t;
+        held = held_is t;
+        fresh = fresh_is t;
+        spent = spent_is t;
+        dropped = dropped_is t;
+      }) next))
 
   -- ---- what guests see
   same_value : (b b' backing : Bytes) → KeepsCovers h a b b' → ((g : ℕ) → CoverIsAligned h (cover h b g)) → ((g o : ℕ) → 0 < names h b (o / cluster_size h) g → b o ≡ b' o)

@@ -38,6 +38,10 @@ fresh_to_spent p n = record p { fresh = λ k. p.fresh k - n k; spent = λ k. p.s
 abbrev pub remapped : Pending → (ℕ → ℕ) → (ℕ → ℕ) → Pending
 remapped p old new = record p { held = λ k. p.held k - (new k - old k); dropped = λ k. p.dropped k + (old k - new k) }
 
+-- tables are named that were fresh
+abbrev pub named_now : Pending → (ℕ → ℕ) → Pending
+named_now p n = record p { fresh = λ k. p.fresh k - n k }
+
 -- tables are named that were fresh, and others no longer
 abbrev pub renamed : Pending → (ℕ → ℕ) → (ℕ → ℕ) → Pending
 renamed p new old = record p { fresh = λ k. p.fresh k - new k; spent = λ k. p.spent k + old k }

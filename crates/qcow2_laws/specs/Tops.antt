@@ -2,8 +2,8 @@
 use Rattle.std.specs.Prelude.{ℕ, ◌+◌, ◌*◌, ◌/◌, ◌%◌, ◌<◌, ◌≤◌, ◌≡◌, ◌≢◌, ◌⊎◌}
 use Rattle.qcow2_metadata.specs.Bytes.{Bytes}
 use Rattle.qcow2_metadata.specs.declared.header.HeaderFields.{HeaderFields}
-use Rattle.qcow2_metadata.specs.Header.{cluster_size, entries_per_cluster}
-use Rattle.qcow2_metadata.specs.Entries.{l1_entry, l2_entry, count, host_offset, L1EntryReads}
+use Rattle.qcow2_metadata.specs.Header.{cluster_size, entries_per_cluster, reftable_entries, count_width, counts_per_block}
+use Rattle.qcow2_metadata.specs.Entries.{l1_entry, l2_entry, reftable_entry, count, block_count, host_offset, block_offset, L1EntryReads, ReftableEntryReads}
 use Rattle.qcow2_metadata.specs.Cover.{cover, entry_cover}
 use Rattle.qcow2_metadata.specs.Consistent.{IsAligned}
 use Rattle.qcow2_laws.specs.Clusters.{Direction, RbDependsOnL2}
@@ -70,3 +70,20 @@ pub record IsNewTable (h : HeaderFields) (d : Direction) (p : Pending) (base kno
   pub written : d ≡ RbDependsOnL2 → SameCovers h base known
   pub covers : (g : ℕ) → g / entries_per_cluster h ≡ i → cover h base g ≡ entry_cover h (l2_entry base (host_offset entry) (g % entries_per_cluster h))
   pub known_covers : (g : ℕ) → g / entries_per_cluster h ≡ i → cover h known g ≡ entry_cover h (l2_entry known (host_offset entry) (g % entries_per_cluster h))
+
+-- one entry of the reftable is written, to the storage and to what is known
+pub record WritesReftableEntry (h : HeaderFields) (base known base' known' : Bytes) (k entry : ℕ) : Type 0 where
+  pub within : k < reftable_entries h
+  pub others : IsSameBut (h.reftable_offset + 8 * k) 8 base base'
+  pub known_others : IsSameBut (h.reftable_offset + 8 * k) 8 known known'
+  pub is : reftable_entry h base' k ≡ entry
+  pub known_is : reftable_entry h known' k ≡ entry
+
+-- the refblock that a reftable entry is to name where there is none, with these counts of its clusters
+pub record IsNewBlock (h : HeaderFields) (base known : Bytes) (k entry : ℕ) (counts : ℕ → ℕ) : Type 0 where
+  pub none : block_offset (reftable_entry h base k) ≡ 0
+  pub reads : ReftableEntryReads entry
+  pub real : block_offset entry ≢ 0
+  pub aligned : IsAligned h (block_offset entry)
+  pub says : (c : ℕ) → c / counts_per_block h ≡ k → block_count base (count_width h) (block_offset entry) (c % counts_per_block h) ≡ counts c
+  pub known_says : (c : ℕ) → c / counts_per_block h ≡ k → block_count known (count_width h) (block_offset entry) (c % counts_per_block h) ≡ counts c
