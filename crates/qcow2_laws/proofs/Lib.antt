@@ -16,3 +16,4 @@ pub mod Renaming
 pub mod Blocks
 pub mod NewTables
 pub mod NewBlocks
+pub mod Headers

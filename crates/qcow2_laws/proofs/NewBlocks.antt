@@ -18,7 +18,7 @@ use Rattle.qcow2_laws.specs.Changes.{one_at, named_now}
 use Rattle.qcow2_laws.specs.Tops.{places_of, IsSameBut, IsSameOutside, WritesReftableEntry, IsNewBlock}
 use Rattle.qcow2_laws.proofs.Sums.{sum_below-same, sum_below-change}
 use Rattle.qcow2_laws.proofs.Places.{Sizes, Sizes-from, SameFrom-in, cond-same, block_count-moved, count_in, count_none}
-use Rattle.qcow2_laws.proofs.Tops.{header-same, HeaderReads-same, IsTop-top, for_tables-top}
+use Rattle.qcow2_laws.proofs.Tops.{header-same, HeaderReads-same, IsTop-top, for_tables-top, l1_names-same, l1_marks-same}
 use Rattle.qcow2_laws.proofs.Changes.{one_at-le}
 use Rattle.qcow2_laws.proofs.Consistency.{table_in_own}
 use Rattle.qcow2_laws.proofs.Writes.{fresh_is_unnamed, unused_is_unnamed}
@@ -38,7 +38,7 @@ module _ (h : HeaderFields) (d : Direction) (p p' : Pending) (base known base' k
     (pending : (c : ℕ) → (p'.held c ≡ p.held c) × (p'.fresh c ≡ p.fresh c - (table_in h c (block_offset entry) - s c)) × (p'.spent c ≡ p.spent c + 0) × (p'.dropped c ≡ p.dropped c) × (p'.surplus c ≡ p.surplus c))
     (writes : WritesReftableEntry h base known base' known' k0 entry) (new : IsNewBlock h base known k0 entry s) (no_table : named_for_tables h base (block_offset entry / cluster_size h) ≡ 0)
     (in_range : (c : ℕ) → c / counts_per_block h ≢ k0 → s c ≡ 0) (few : (c : ℕ) → s c ≤ table_in h c (block_offset entry))
-    (fresh : (c : ℕ) → 0 < table_in h c (block_offset entry) - s c → (0 < p.fresh c) × (count h base c ≡ count h known c)) (written : d ≡ RbDependsOnL2 → SameCovers h base known) where
+    (fresh : (c : ℕ) → 0 < table_in h c (block_offset entry) - s c → (0 < p.fresh c) × (count h base c ≡ count h known c) × (d ≡ RbDependsOnL2 → SameCovers h base known)) where
   sizes : Sizes h
   sizes = Sizes-from h base guarded.top.header_reads
 
@@ -178,22 +178,14 @@ module _ (h : HeaderFields) (d : Direction) (p p' : Pending) (base known base' k
       let before : table_in h c (block_offset (reftable_entry h base k0)) ≡ 0 = ap (table_in h c) new.none in
       omega arith
 
-  tables_stay : (c : ℕ) → named_by_l1_table h base' c ≡ named_by_l1_table h base c
-  unfolding named_by_l1_table
-  tables_stay c = sum_below-same h.l1_entries _ _ (λ i lt. ap (λ e. table_in h c (host_offset e)) (sym (l1 i)))
-
   fixed_changed : (c : ℕ) → named_for_tables h base' c + 0 ≡ named_for_tables h base c + (table_in h c (block_offset entry) - s c) + s c
   fixed_changed c =
       let before = shares h base c in
       let after = shares h base' c in
       let blocks = blocks_changed c in
-      let tables = tables_stay c in
+      let tables = l1_names-same h base base' c l1 in
       let le = few c in
       omega arith
-
-  sole_stays : (c : ℕ) → marked_by_l1_table h base' c ≡ marked_by_l1_table h base c
-  unfolding marked_by_l1_table
-  sole_stays c = sum_below-same h.l1_entries _ _ (λ i lt. ap (λ e. cond (is_copied e) (table_in h c (host_offset e)) 0) (sym (l1 i)))
 
   elsewhere : (o : ℕ) → 0 < named_in_either h base known (o / cluster_size h) + p.held (o / cluster_size h) → o / cluster_size h ≢ (h.reftable_offset + 8 * k0) / cluster_size h
   elsewhere o some e =
@@ -211,8 +203,8 @@ module _ (h : HeaderFields) (d : Direction) (p p' : Pending) (base known base' k
       tables_renamed h (places_of h) d p p' base known base' known' guarded
       top_now same_top_now (omega arith) covers known_covers unlaid
       (λ c. table_in h c (block_offset entry) - s c) s (λ c. 0) pending
-      (λ c. let one = table_in-le h c (block_offset entry) in let le = few c in omega arith) fixed_changed (λ c. let e = sole_stays c in omega arith)
-      counts known_counts fresh written empty
+      (λ c. let one = table_in-le h c (block_offset entry) in let le = few c in omega arith) fixed_changed (λ c. let e = l1_marks-same h base base' c l1 in omega arith)
+      counts known_counts fresh empty
 
   pub reftable_named_kept : (backing : Bytes) (m : Mark) → IsKeptAt backing m base → IsKeptAt backing m base'
   reftable_named_kept backing m kept =
@@ -234,27 +226,27 @@ module _ (h : HeaderFields) (d : Direction) (p : Pending) (base known base' know
   no_table_there : named_for_tables h base (block_offset entry / cluster_size h) ≡ 0
   no_table_there = (fresh_is_unnamed h d p base known guarded (block_offset entry / cluster_size h) fresh written).no_table
 
-  fresh_there : (c : ℕ) → 0 < table_in h c (block_offset entry) - 0 → (0 < p.fresh c) × (count h base c ≡ count h known c)
+  fresh_there : (c : ℕ) → 0 < table_in h c (block_offset entry) - 0 → (0 < p.fresh c) × (count h base c ≡ count h known c) × (d ≡ RbDependsOnL2 → SameCovers h base known)
   fresh_there c some =
       let here = table_in-at h c (block_offset entry) (omega arith) in
-      (subst (λ n. 0 < p.fresh n) here fresh, subst (λ n. count h base n ≡ count h known n) here counted)
+      (subst (λ n. 0 < p.fresh n) here fresh, subst (λ n. count h base n ≡ count h known n) here counted, written)
 
   pending_named : (c : ℕ) → (p.held c ≡ p.held c) × (p.fresh c - table_in h c (block_offset entry) ≡ p.fresh c - (table_in h c (block_offset entry) - 0)) × (p.spent c ≡ p.spent c + 0) × (p.dropped c ≡ p.dropped c) × (p.surplus c ≡ p.surplus c)
   pending_named c = (refl, omega arith, omega arith, refl, refl)
 
   pub block_named : IsGuarded h d (named_now p (λ c. table_in h c (block_offset entry))) base' known'
-  block_named = reftable_named h d p (named_now p (λ c. table_in h c (block_offset entry))) base known base' known' guarded k0 entry (λ c. 0) pending_named writes new no_table_there (λ c _. refl) (λ c. omega arith) fresh_there written
+  block_named = reftable_named h d p (named_now p (λ c. table_in h c (block_offset entry))) base known base' known' guarded k0 entry (λ c. 0) pending_named writes new no_table_there (λ c _. refl) (λ c. omega arith) fresh_there
 
   pub block_named_kept : (backing : Bytes) (m : Mark) → IsKeptAt backing m base → IsKeptAt backing m base'
-  block_named_kept = reftable_named_kept h d p (named_now p (λ c. table_in h c (block_offset entry))) base known base' known' guarded k0 entry (λ c. 0) pending_named writes new no_table_there (λ c _. refl) (λ c. omega arith) fresh_there written
+  block_named_kept = reftable_named_kept h d p (named_now p (λ c. table_in h c (block_offset entry))) base known base' known' guarded k0 entry (λ c. 0) pending_named writes new no_table_there (λ c _. refl) (λ c. omega arith) fresh_there
 
   pub block_named_known_kept : (backing : Bytes) (m : Mark) → IsKeptAt backing m known → IsKeptAt backing m known'
-  block_named_known_kept = reftable_named_known_kept h d p (named_now p (λ c. table_in h c (block_offset entry))) base known base' known' guarded k0 entry (λ c. 0) pending_named writes new no_table_there (λ c _. refl) (λ c. omega arith) fresh_there written
+  block_named_known_kept = reftable_named_known_kept h d p (named_now p (λ c. table_in h c (block_offset entry))) base known base' known' guarded k0 entry (λ c. 0) pending_named writes new no_table_there (λ c _. refl) (λ c. omega arith) fresh_there
 
 -- ---- a refblock that counts itself, and nothing else
 module _ (h : HeaderFields) (d : Direction) (p : Pending) (base known base' known' : Bytes) (guarded : IsGuarded h d p base known) (k0 entry : ℕ)
     (writes : WritesReftableEntry h base known base' known' k0 entry) (new : IsNewBlock h base known k0 entry (λ c. table_in h c (block_offset entry)))
-    (range : block_offset entry / cluster_size h / counts_per_block h ≡ k0) (written : d ≡ RbDependsOnL2 → SameCovers h base known) where
+    (range : block_offset entry / cluster_size h / counts_per_block h ≡ k0) where
   itself_unnamed : named_for_tables h base (block_offset entry / cluster_size h) ≡ 0
   itself_unnamed =
       (unused_is_unnamed h d p base known guarded (block_offset entry / cluster_size h)
@@ -267,17 +259,17 @@ module _ (h : HeaderFields) (d : Direction) (p : Pending) (base known base' know
     | inr none ↦ omega arith
   ]
 
-  nothing_fresh : (c : ℕ) → 0 < table_in h c (block_offset entry) - table_in h c (block_offset entry) → (0 < p.fresh c) × (count h base c ≡ count h known c)
+  nothing_fresh : (c : ℕ) → 0 < table_in h c (block_offset entry) - table_in h c (block_offset entry) → (0 < p.fresh c) × (count h base c ≡ count h known c) × (d ≡ RbDependsOnL2 → SameCovers h base known)
   nothing_fresh c some = absurd (omega arith)
 
   pending_still : (c : ℕ) → (p.held c ≡ p.held c) × (p.fresh c ≡ p.fresh c - (table_in h c (block_offset entry) - table_in h c (block_offset entry))) × (p.spent c ≡ p.spent c + 0) × (p.dropped c ≡ p.dropped c) × (p.surplus c ≡ p.surplus c)
   pending_still c = (refl, omega arith, omega arith, refl, refl)
 
   pub block_counts_itself : IsGuarded h d p base' known'
-  block_counts_itself = reftable_named h d p p base known base' known' guarded k0 entry (λ c. table_in h c (block_offset entry)) pending_still writes new itself_unnamed only_itself (λ c. omega arith) nothing_fresh written
+  block_counts_itself = reftable_named h d p p base known base' known' guarded k0 entry (λ c. table_in h c (block_offset entry)) pending_still writes new itself_unnamed only_itself (λ c. omega arith) nothing_fresh
 
   pub block_counts_itself_kept : (backing : Bytes) (m : Mark) → IsKeptAt backing m base → IsKeptAt backing m base'
-  block_counts_itself_kept = reftable_named_kept h d p p base known base' known' guarded k0 entry (λ c. table_in h c (block_offset entry)) pending_still writes new itself_unnamed only_itself (λ c. omega arith) nothing_fresh written
+  block_counts_itself_kept = reftable_named_kept h d p p base known base' known' guarded k0 entry (λ c. table_in h c (block_offset entry)) pending_still writes new itself_unnamed only_itself (λ c. omega arith) nothing_fresh
 
   pub block_counts_itself_known_kept : (backing : Bytes) (m : Mark) → IsKeptAt backing m known → IsKeptAt backing m known'
-  block_counts_itself_known_kept = reftable_named_known_kept h d p p base known base' known' guarded k0 entry (λ c. table_in h c (block_offset entry)) pending_still writes new itself_unnamed only_itself (λ c. omega arith) nothing_fresh written
+  block_counts_itself_known_kept = reftable_named_known_kept h d p p base known base' known' guarded k0 entry (λ c. table_in h c (block_offset entry)) pending_still writes new itself_unnamed only_itself (λ c. omega arith) nothing_fresh

@@ -17,7 +17,7 @@ use Rattle.qcow2_laws.specs.Changes.{renamed}
 use Rattle.qcow2_laws.specs.Tops.{places_of, IsSameBut, IsSameOutside, WritesL1Entry, IsNewTable}
 use Rattle.qcow2_laws.proofs.Sums.{sum_below-same, sum_below-change}
 use Rattle.qcow2_laws.proofs.Places.{Sizes, Sizes-from, eight_in, SameFrom-in, l1-same, l1_entry-past, l2_entry-same, cover_in, cond-same}
-use Rattle.qcow2_laws.proofs.Tops.{header-same, HeaderReads-same, IsTop-top, for_tables-top}
+use Rattle.qcow2_laws.proofs.Tops.{header-same, HeaderReads-same, IsTop-top, for_tables-top, reftable_names-same}
 use Rattle.qcow2_laws.proofs.Clusters.{Good, Written, rename}
 use Rattle.qcow2_laws.proofs.Guests.{l1_marks-le}
 use Rattle.qcow2_laws.proofs.Mixes.{tied, good, as_known}
@@ -192,16 +192,12 @@ module _ (h : HeaderFields) (d : Direction) (p : Pending) (base known base' know
       let here : table_in h c (host_offset (l1_entry h base' i0)) ≡ table_in h c (host_offset entry) = ap (λ e. table_in h c (host_offset e)) writes.is in
       omega arith
 
-  blocks_stay : (c : ℕ) → named_by_reftable h base' c ≡ named_by_reftable h base c
-  unfolding named_by_reftable
-  blocks_stay c = sum_below-same (reftable_entries h) _ _ (λ k lt. ap (λ e. table_in h c (block_offset e)) (sym (reftable k)))
-
   fixed_changed : (c : ℕ) → named_for_tables h base' c + table_in h c (table_at h base i0) ≡ named_for_tables h base c + table_in h c (host_offset entry)
   fixed_changed c =
       let before = shares h base c in
       let after = shares h base' c in
       let tables = tables_changed c in
-      let blocks = blocks_stay c in
+      let blocks = reftable_names-same h base base' c reftable in
       omega arith
 
   sole_changed : (c : ℕ) → marked_by_l1_table h base' c ≤ marked_by_l1_table h base c + table_in h c (host_offset entry)
@@ -232,8 +228,8 @@ module _ (h : HeaderFields) (d : Direction) (p : Pending) (base known base' know
       (λ c. table_in h c (host_offset entry)) (λ c. 0) (λ c. table_in h c (table_at h base i0)) (λ c. (refl, refl, refl, refl, refl))
       (λ c. let one = table_in-le h c (host_offset entry) in omega arith) (λ c. let changed = fixed_changed c in omega arith) sole_changed
       (λ c. let e = counts c in omega arith) (λ c. let e = known_counts c in omega arith)
-      (λ c some. (subst (λ n. 0 < p.fresh n) (new_at c some) new.fresh, subst (λ n. count h base n ≡ count h known n) (new_at c some) new.counted))
-      new.written (λ c some. absurd (omega arith))
+      (λ c some. (subst (λ n. 0 < p.fresh n) (new_at c some) new.fresh, subst (λ n. count h base n ≡ count h known n) (new_at c some) new.counted, new.written))
+      (λ c some. absurd (omega arith))
 
   elsewhere_named : (o : ℕ) → 0 < named_in_either h base known (o / cluster_size h) → o / cluster_size h ≢ (h.l1_offset + 8 * i0) / cluster_size h
   elsewhere_named o some e =

@@ -102,10 +102,10 @@ module _ (h : HeaderFields) (a : Places) (d : Direction) (p p' : Pending) (base 
       → ((c : ℕ) → named_for_tables (with_places h a) base' c + u c ≡ named_for_tables h base c + i c + s c)
       → ((c : ℕ) → marked_by_l1_table (with_places h a) base' c ≤ marked_by_l1_table h base c + i c)
       → ((c : ℕ) → count (with_places h a) base' c ≡ count h base c + s c) → ((c : ℕ) → count (with_places h a) known' c ≡ count h known c + s c)
-      → ((c : ℕ) → 0 < i c → (0 < p.fresh c) × (count h base c ≡ count h known c)) → (d ≡ RbDependsOnL2 → SameCovers h base known)
+      → ((c : ℕ) → 0 < i c → (0 < p.fresh c) × (count h base c ≡ count h known c) × (d ≡ RbDependsOnL2 → SameCovers h base known))
       → ((c : ℕ) → 0 < s c → (count h known c ≡ 0) × (count h base c ≡ 0))
       → IsGuarded (with_places h a) d p' base' known'
-  tables_renamed i s u pending one fixed sole counts known_counts fresh written empty = top_changed (λ c.
+  tables_renamed i s u pending one fixed sole counts known_counts fresh empty = top_changed (λ c.
       let l1_le = l1_marks-le (with_places h a) base' c in
       let in_fixed = shares (with_places h a) base' c in
       let is = fixed c in
@@ -113,7 +113,7 @@ module _ (h : HeaderFields) (a : Places) (d : Direction) (p p' : Pending) (base 
       let fewer = sole c in
       let next = rename d (cluster h p base known c) (p.surplus c) (named_for_tables (with_places h a) base' c) (marked_by_l1_table (with_places h a) base' c) (i c) (i c) (s c) (u c)
       (tied h p base known c) (omega arith) (omega arith) (omega arith) (omega arith) (omega arith)
-      (λ some. (fresh c some).0) (λ some. (fresh c some).1) (λ some. written_covers h d p base known guarded c written) (λ some. (empty c some).0) (λ some. (empty c some).1) (good h d p base known guarded c) in
+      (λ some. (fresh c some).0) (λ some. (fresh c some).1) (λ some. written_covers h d p base known guarded c (fresh c some).2) (λ some. (empty c some).0) (λ some. (empty c some).1) (good h d p base known guarded c) in
       let held_is = sym (pending c).0 in
       let fresh_is = sym (pending c).1 in
       let spent_is = sym (pending c).2 in

@@ -107,18 +107,27 @@ SameTop-trans h a b c first second = record {
   reftable = λ k. first.reftable k ∙ second.reftable k;
 }
 
+pub l1_names-same : (h : HeaderFields) (b c : Bytes) (cluster : ℕ) → ((i : ℕ) → l1_entry h b i ≡ l1_entry h c i) → named_by_l1_table h b cluster ≡ named_by_l1_table h c cluster
+unfolding named_by_l1_table
+l1_names-same h b c cluster same = sum_below-same h.l1_entries _ _ (λ i _. ap (λ e. table_in h cluster (host_offset e)) (same i))
+
+pub reftable_names-same : (h : HeaderFields) (b c : Bytes) (cluster : ℕ) → ((k : ℕ) → reftable_entry h b k ≡ reftable_entry h c k) → named_by_reftable h b cluster ≡ named_by_reftable h c cluster
+unfolding named_by_reftable
+reftable_names-same h b c cluster same = sum_below-same (reftable_entries h) _ _ (λ k _. ap (λ e. table_in h cluster (block_offset e)) (same k))
+
+pub l1_marks-same : (h : HeaderFields) (b c : Bytes) (cluster : ℕ) → ((i : ℕ) → l1_entry h b i ≡ l1_entry h c i) → marked_by_l1_table h b cluster ≡ marked_by_l1_table h c cluster
+unfolding marked_by_l1_table
+l1_marks-same h b c cluster same = sum_below-same h.l1_entries _ _ (λ i _. ap (λ e. cond (is_copied e) (table_in h cluster (host_offset e)) 0) (same i))
+
 pub for_tables-top : (h : HeaderFields) (b c : Bytes) (cluster : ℕ) → SameTop h b c → named_for_tables h b cluster ≡ named_for_tables h c cluster
-unfolding named_for_tables named_by_reftable named_by_l1_table
+unfolding named_for_tables
 for_tables-top h b c cluster same =
-    let by_reftable : sum_below (reftable_entries h) (λ k. table_in h cluster (block_offset (reftable_entry h b k))) ≡ sum_below (reftable_entries h) (λ k. table_in h cluster (block_offset (reftable_entry h c k))) =
-    sum_below-same (reftable_entries h) _ _ (λ k _. ap (λ e. table_in h cluster (block_offset e)) (same.reftable k)) in
-    let by_l1 : sum_below h.l1_entries (λ i. table_in h cluster (host_offset (l1_entry h b i))) ≡ sum_below h.l1_entries (λ i. table_in h cluster (host_offset (l1_entry h c i))) =
-    sum_below-same h.l1_entries _ _ (λ i _. ap (λ e. table_in h cluster (host_offset e)) (same.l1 i)) in
+    let by_reftable = reftable_names-same h b c cluster same.reftable in
+    let by_l1 = l1_names-same h b c cluster same.l1 in
     omega arith
 
 pub sole-top : (h : HeaderFields) (b c : Bytes) (cluster : ℕ) → SameTop h b c → marked_by_l1_table h b cluster ≡ marked_by_l1_table h c cluster
-unfolding marked_by_l1_table
-sole-top h b c cluster same = sum_below-same h.l1_entries _ _ (λ i _. ap (λ e. cond (is_copied e) (table_in h cluster (host_offset e)) 0) (same.l1 i))
+sole-top h b c cluster same = l1_marks-same h b c cluster same.l1
 
 pub IsTop-top : (h : HeaderFields) (b c : Bytes) → SameTop h b c → IsTop h b → IsTop h c
 IsTop-top h b c same top =

@@ -1,10 +1,11 @@
 -- Images whose header, L1 table or reftable change, while all guest clusters keep their covers.
 use Rattle.std.specs.Prelude.{ℕ, ◌+◌, ◌*◌, ◌/◌, ◌%◌, ◌<◌, ◌≤◌, ◌≡◌, ◌≢◌, ◌⊎◌}
-use Rattle.qcow2_metadata.specs.Bytes.{Bytes}
+use Rattle.qcow2_metadata.specs.Bytes.{Bytes, SameFrom}
 use Rattle.qcow2_metadata.specs.declared.header.HeaderFields.{HeaderFields}
-use Rattle.qcow2_metadata.specs.Header.{cluster_size, entries_per_cluster, reftable_entries, count_width, counts_per_block}
+use Rattle.qcow2_metadata.specs.Header.{header, HeaderReads, cluster_size, entries_per_cluster, reftable_entries, count_width, counts_per_block}
 use Rattle.qcow2_metadata.specs.Entries.{l1_entry, l2_entry, reftable_entry, count, block_count, host_offset, block_offset, L1EntryReads, ReftableEntryReads}
 use Rattle.qcow2_metadata.specs.Cover.{cover, entry_cover}
+use Rattle.qcow2_metadata.specs.Named.{in_run}
 use Rattle.qcow2_metadata.specs.Consistent.{IsAligned}
 use Rattle.qcow2_laws.specs.Clusters.{Direction, RbDependsOnL2}
 use Rattle.qcow2_laws.specs.Guard.{Pending, SameCovers}
@@ -87,3 +88,31 @@ pub record IsNewBlock (h : HeaderFields) (base known : Bytes) (k entry : ℕ) (c
   pub aligned : IsAligned h (block_offset entry)
   pub says : (c : ℕ) → c / counts_per_block h ≡ k → block_count base (count_width h) (block_offset entry) (c % counts_per_block h) ≡ counts c
   pub known_says : (c : ℕ) → c / counts_per_block h ≡ k → block_count known (count_width h) (block_offset entry) (c % counts_per_block h) ≡ counts c
+
+-- ---- the header's own numbers are written
+
+-- numbers of the header become these, on the storage and as known
+pub record WritesHeader (h : HeaderFields) (a : Places) (base known base' known' : Bytes) : Type 0 where
+  pub others : IsSameOutside (cluster_size h) 0 base base'
+  pub known_others : IsSameOutside (cluster_size h) 0 known known'
+  pub same_first : SameFrom 0 (cluster_size h) base' known'
+  pub is : header base' ≡ with_places h a
+  pub reads : HeaderReads (with_places h a) base'
+
+abbrev pub resized : HeaderFields → ℕ → ℕ → Places
+resized h size autoclear = record (places_of h) { size = size; autoclear = autoclear }
+
+abbrev pub with_l1_at : HeaderFields → ℕ → ℕ → Places
+with_l1_at h offset entries = record (places_of h) { l1_offset = offset; l1_entries = entries }
+
+abbrev pub with_reftable_at : HeaderFields → ℕ → ℕ → Places
+with_reftable_at h offset clusters = record (places_of h) { reftable_offset = offset; reftable_clusters = clusters }
+
+-- an L1 table that stands in fresh clusters, counted on the storage, and has the entries of the old one, and then none
+pub record IsNewL1 (h : HeaderFields) (d : Direction) (p : Pending) (base known : Bytes) (offset entries : ℕ) : Type 0 where
+  pub longer : h.l1_entries ≤ entries
+  pub aligned : IsAligned h offset
+  pub same : (i : ℕ) → l1_entry (with_places h (with_l1_at h offset entries)) base i ≡ l1_entry h base i
+  pub known_same : (i : ℕ) → l1_entry (with_places h (with_l1_at h offset entries)) known i ≡ l1_entry h known i
+  pub fresh : (c : ℕ) → 0 < in_run h c offset (8 * entries) → (0 < p.fresh c) × (count h base c ≡ count h known c)
+  pub written : d ≡ RbDependsOnL2 → SameCovers h base known
