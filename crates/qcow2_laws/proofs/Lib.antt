@@ -17,3 +17,4 @@ pub mod Blocks
 pub mod NewTables
 pub mod NewBlocks
 pub mod Headers
+pub mod L1Moves

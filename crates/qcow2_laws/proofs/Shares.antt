@@ -1,5 +1,5 @@
 -- What stands in a cluster: the header, a part of the L1 table or of the reftable, a refblock or an L2 table. Bytes that change elsewhere change nothing of it.
-use Rattle.std.proofs.Common.{◌≡◌, ℕ, ◌+◌, ◌-◌, ◌*◌, ◌/◌, ◌%◌, ◌<◌, ◌≤◌, ◌≢◌, ltb, leb, eqb, refl, sym, ap, ◌∙◌, arith, inl, inr, subst}
+use Rattle.std.proofs.Common.{◌≡◌, ℕ, ◌+◌, ◌-◌, ◌*◌, ◌/◌, ◌%◌, ◌<◌, ◌≤◌, ◌≢◌, Bool, true, false, ltb, leb, eqb, refl, sym, ap, ◌∙◌, arith, inl, inr, subst}
 use Rattle.std.specs.Prelude.{◌&&◌}
 use Rattle.std.proofs.lemmas.Bool.{cases_eq, cases_lt, eq-eqb, ne_eqb, cond-true, cond-false, le-leb, lt-ltb, and_from}
 use Rattle.std.proofs.lemmas.Nat.{div-add-mod', div-mul-add, mod_below, le-div, pow_pos}
@@ -24,6 +24,13 @@ in_reftable h c = in_run h c h.reftable_offset (h.reftable_clusters * cluster_si
 pub shares : (h : HeaderFields) (b : Bytes) (c : ℕ) → named_for_tables h b c ≡ in_cluster h c 0 + in_l1 h c + in_reftable h c + named_by_reftable h b c + named_by_l1_table h b c
 unfolding named_for_tables named_by_header
 shares h b c = omega arith
+
+one_or_none : (t : Bool) → one_if t ≤ 1
+one_or_none true = omega arith
+one_or_none false = omega arith
+
+pub in_run-le : (h : HeaderFields) (c place n : ℕ) → in_run h c place n ≤ 1
+in_run-le h c place n = one_or_none (leb (place / cluster_size h) c && ltb c (place / cluster_size h + (n + cluster_size h - 1) / cluster_size h))
 
 -- ---- each has a share in its own cluster
 
