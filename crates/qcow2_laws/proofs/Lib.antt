@@ -18,3 +18,4 @@ pub mod NewTables
 pub mod NewBlocks
 pub mod Headers
 pub mod L1Moves
+pub mod ReftableMoves

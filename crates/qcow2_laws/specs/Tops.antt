@@ -5,7 +5,7 @@ use Rattle.qcow2_metadata.specs.declared.header.HeaderFields.{HeaderFields}
 use Rattle.qcow2_metadata.specs.Header.{header, HeaderReads, cluster_size, entries_per_cluster, reftable_entries, count_width, counts_per_block}
 use Rattle.qcow2_metadata.specs.Entries.{l1_entry, l2_entry, reftable_entry, count, block_count, host_offset, block_offset, L1EntryReads, ReftableEntryReads}
 use Rattle.qcow2_metadata.specs.Cover.{cover, entry_cover}
-use Rattle.qcow2_metadata.specs.Named.{in_run}
+use Rattle.qcow2_metadata.specs.Named.{in_run, named_by_reftable}
 use Rattle.qcow2_metadata.specs.Consistent.{IsAligned}
 use Rattle.qcow2_laws.specs.Clusters.{Direction, RbDependsOnL2}
 use Rattle.qcow2_laws.specs.Guard.{Pending, SameCovers}
@@ -115,4 +115,23 @@ pub record IsNewL1 (h : HeaderFields) (d : Direction) (p : Pending) (base known 
   pub same : (i : ℕ) → l1_entry (with_places h (with_l1_at h offset entries)) base i ≡ l1_entry h base i
   pub known_same : (i : ℕ) → l1_entry (with_places h (with_l1_at h offset entries)) known i ≡ l1_entry h known i
   pub fresh : (c : ℕ) → 0 < in_run h c offset (8 * entries) → (0 < p.fresh c) × (count h base c ≡ count h known c)
+  pub written : d ≡ RbDependsOnL2 → SameCovers h base known
+
+-- A reftable that stands in other clusters and has the entries of the old one, and more. Of each cluster it is said how often new refblocks stand in it, and
+-- how often new refblocks count it, which no old one does. Each cluster of the table and of new refblocks is fresh, counted on the storage, or counted by new refblocks.
+pub record IsNewReftable (h : HeaderFields) (d : Direction) (p : Pending) (base known : Bytes) (offset clusters : ℕ) (blocks counted : ℕ → ℕ) : Type 0 where
+  pub aligned : IsAligned h offset
+  pub same : (k : ℕ) → block_offset (reftable_entry h base k) ≢ 0 → reftable_entry (with_places h (with_reftable_at h offset clusters)) base k ≡ reftable_entry h base k
+  pub known_same : (k : ℕ) → reftable_entry (with_places h (with_reftable_at h offset clusters)) known k ≡ reftable_entry (with_places h (with_reftable_at h offset clusters)) base k
+  pub reads : (k : ℕ) → ReftableEntryReads (reftable_entry (with_places h (with_reftable_at h offset clusters)) base k)
+  pub blocks_aligned : (k : ℕ) → IsAligned h (block_offset (reftable_entry (with_places h (with_reftable_at h offset clusters)) base k))
+  pub blocks_are : (c : ℕ) → named_by_reftable (with_places h (with_reftable_at h offset clusters)) base c ≡ named_by_reftable h base c + blocks c
+  pub says : (c : ℕ) → block_offset (reftable_entry h base (c / counts_per_block h)) ≡ 0 → block_offset (reftable_entry (with_places h (with_reftable_at h offset clusters)) base (c / counts_per_block h)) ≢ 0
+      → (block_count base (count_width h) (block_offset (reftable_entry (with_places h (with_reftable_at h offset clusters)) base (c / counts_per_block h))) (c % counts_per_block h) ≡ counted c)
+      × (block_count known (count_width h) (block_offset (reftable_entry (with_places h (with_reftable_at h offset clusters)) base (c / counts_per_block h))) (c % counts_per_block h) ≡ counted c)
+  pub counted_anew : (c : ℕ) → 0 < counted c
+      → (block_offset (reftable_entry h base (c / counts_per_block h)) ≡ 0) × (block_offset (reftable_entry (with_places h (with_reftable_at h offset clusters)) base (c / counts_per_block h)) ≢ 0)
+  pub once : (c : ℕ) → in_run h c offset (clusters * cluster_size h) + blocks c ≤ 1
+  pub counted_there : (c : ℕ) → counted c ≤ in_run h c offset (clusters * cluster_size h) + blocks c
+  pub fresh : (c : ℕ) → counted c < in_run h c offset (clusters * cluster_size h) + blocks c → (0 < p.fresh c) × (count h base c ≡ count h known c)
   pub written : d ≡ RbDependsOnL2 → SameCovers h base known
