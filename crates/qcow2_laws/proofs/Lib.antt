@@ -19,3 +19,4 @@ pub mod NewBlocks
 pub mod Headers
 pub mod L1Moves
 pub mod ReftableMoves
+pub mod HeaderBytes
