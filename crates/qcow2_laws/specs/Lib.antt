@@ -6,4 +6,11 @@ pub mod Views
 pub mod Calls
 pub mod Runs
 pub mod ForUsers
+pub mod Clusters
+pub mod Guests
+pub mod Guard
+pub mod Opened
+pub mod Changes
+pub mod Writes
+pub mod Tops
 pub mod Samples
