@@ -160,8 +160,7 @@ impl Storage for MemStorage {
     fn write_allocated_zeroes(&mut self, at: u64, length: u64) -> Result<(), StorageError>
         ensures zeroed { Grows self.old self.new result (zeroed self.old at length) }
     {
-        overwrite_zeroes(&mut self.bytes, at, length)?;
-        Ok(())
+        self.write_zeroes(at, length)
     }
 
     fn resize(&mut self, size: u64, _how: StoragePreallocate) -> Result<(), StorageError>

@@ -7,7 +7,7 @@ use std::process::Abort;
 use std::test::Fail;
 
 // Writes at 2, zeros at 3, cuts to 5, and writes no bytes.
-fn change<S: Storage>(storage: &mut S) -> Result<(), StorageError> {
+fn alter<S: Storage>(storage: &mut S) -> Result<(), StorageError> {
     storage.write(2, &[7, 8])?;
     storage.write_zeroes(3, 3)?;
     storage.resize(5, StoragePreallocate::None)?;
@@ -18,7 +18,7 @@ fn change<S: Storage>(storage: &mut S) -> Result<(), StorageError> {
     storage.invalidate_cache()
 }
 
-fn check_bytes<S: Storage>(
+fn check_start<S: Storage>(
     rt: &impl Abort,
     storage: &mut S,
     want: &[u8; 6],
@@ -30,10 +30,10 @@ fn check_bytes<S: Storage>(
 }
 
 #[test]
-fn a_trace_gives_its_past(rt: HostRuntime) -> Result<(), Fail> {
+fn a_trace_gives_the_past(rt: HostRuntime) -> Result<(), Fail> {
     let alloc = rt.alloc();
     let mut storage = TraceStorage::new(alloc, [9].to_vec(alloc)?)?;
-    change(&mut storage)?;
+    alter(&mut storage)?;
     assert_eq!(rt; storage.as_slice(), [9, 0, 0, 0, 0].as_slice());
     assert_eq!(rt;
         storage.writes(alloc)?.as_slice(),
@@ -58,21 +58,21 @@ fn a_trace_gives_its_past(rt: HostRuntime) -> Result<(), Fail> {
         storage.after(alloc, 3)?.as_slice(),
         [9, 0, 0, 0, 0].as_slice()
     );
-    check_bytes(&rt, &mut storage, &[9, 0, 0, 0, 0, 0])?;
+    check_start(&rt, &mut storage, &[9, 0, 0, 0, 0, 0])?;
     assert_eq!(rt; storage.reads(), 1);
     assert_eq!(rt; storage.calls(), 9);
     Ok(())
 }
 
 #[test]
-fn a_trace_fails_where_it_is_told_to(rt: HostRuntime) -> Result<(), Fail> {
+fn a_trace_fails_when_told(rt: HostRuntime) -> Result<(), Fail> {
     let alloc = rt.alloc();
     let mut storage = TraceStorage::new(alloc, Vec::new(alloc))?;
     storage.fail_at(2);
-    assert_eq!(rt; change(&mut storage), Err(StorageError::Fault));
+    assert_eq!(rt; alter(&mut storage), Err(StorageError::Fault));
     assert_eq!(rt; storage.faults(), 1);
     storage.refuse_memory_at(3);
-    assert_eq!(rt; change(&mut storage), Err(StorageError::Memory));
+    assert_eq!(rt; alter(&mut storage), Err(StorageError::Memory));
     assert_eq!(rt; storage.faults(), 1);
     assert_eq!(rt; storage.writes(alloc)?.as_slice(), [2, 2, 3].as_slice());
     assert_eq!(rt; storage.as_slice(), [0, 0, 7, 0, 0, 0].as_slice());
@@ -81,14 +81,14 @@ fn a_trace_fails_where_it_is_told_to(rt: HostRuntime) -> Result<(), Fail> {
 }
 
 #[test]
-fn boxes_mix_storages(rt: HostRuntime) -> Result<(), Fail> {
+fn boxes_mix(rt: HostRuntime) -> Result<(), Fail> {
     let alloc = rt.alloc();
     let memory: Box<dyn DynStorage> = Box::new(alloc, MemStorage::new(Vec::new(alloc)))?;
     let trace: Box<dyn DynStorage> = Box::new(alloc, TraceStorage::new(alloc, Vec::new(alloc))?)?;
     let mut storages = [memory, trace];
     for (storage, name) in storages.iter_mut().zip(["mem", "trace"]) {
-        change(storage)?;
-        check_bytes(&rt, storage, &[0, 0, 0, 0, 0, 0])?;
+        alter(storage)?;
+        check_start(&rt, storage, &[0, 0, 0, 0, 0, 0])?;
         assert_eq!(rt; storage.size(), Ok(5));
         assert_eq!(rt; storage.name(), name);
         assert_eq!(rt; storage.req_align(), 1);
@@ -98,7 +98,7 @@ fn boxes_mix_storages(rt: HostRuntime) -> Result<(), Fail> {
 }
 
 // Growth that is refused leaves the storage as it was, and offsets near the greatest one are read as zeros.
-fn check_limits<S: Storage>(rt: &impl Abort, storage: &mut S) -> Result<(), StorageError> {
+fn check_bounds<S: Storage>(rt: &impl Abort, storage: &mut S) -> Result<(), StorageError> {
     storage.write(0, &[5])?;
     assert_eq!(rt; storage.write(1 << 60, &[1]), Err(StorageError::Memory));
     assert_eq!(rt; storage.write(u64::MAX, &[1, 2]), Err(StorageError::Memory));
@@ -123,22 +123,22 @@ fn check_limits<S: Storage>(rt: &impl Abort, storage: &mut S) -> Result<(), Stor
     let mut buf = [1; 2];
     storage.read(u64::MAX, &mut buf)?;
     assert_eq!(rt; buf.as_slice(), [0, 0].as_slice());
-    check_bytes(rt, storage, &[5, 0, 0, 0, 0, 0])
+    check_start(rt, storage, &[5, 0, 0, 0, 0, 0])
 }
 
 #[test]
-fn growth_is_refused(rt: HostRuntime) -> Result<(), Fail> {
+fn growth_may_be_refused(rt: HostRuntime) -> Result<(), Fail> {
     let alloc = rt.alloc();
     let mut memory = MemStorage::new(Vec::new(alloc));
-    check_limits(&rt, &mut memory)?;
+    check_bounds(&rt, &mut memory)?;
     assert_eq!(rt; memory.as_slice(), [5].as_slice());
     let mut trace = TraceStorage::new(alloc, Vec::new(alloc))?;
-    check_limits(&rt, &mut trace)?;
+    check_bounds(&rt, &mut trace)?;
     assert_eq!(rt; trace.as_slice(), [5].as_slice());
     Ok(())
 }
 
-fn check_backing<F: WrappedFormat<MemStorage>>(
+fn check_disk<F: WrappedFormat<MemStorage>>(
     rt: &impl Abort,
     alloc: Global,
     backing: &mut F,
@@ -152,28 +152,28 @@ fn check_backing<F: WrappedFormat<MemStorage>>(
 }
 
 #[test]
-fn a_backing_is_read(rt: HostRuntime) -> Result<(), Fail> {
+fn a_backing_disk_is_read(rt: HostRuntime) -> Result<(), Fail> {
     let alloc = rt.alloc();
     let mut backing = MemBacking::new([5, 6, 7].to_vec(alloc)?);
     backing.fail_at(2);
     backing.refuse_memory_at(3);
-    check_backing(&rt, alloc, &mut backing)?;
+    check_disk(&rt, alloc, &mut backing)?;
     assert_eq!(rt;
-        check_backing(&rt, alloc, &mut backing),
+        check_disk(&rt, alloc, &mut backing),
         Err(StorageError::Fault)
     );
     assert_eq!(rt;
-        check_backing(&rt, alloc, &mut backing),
+        check_disk(&rt, alloc, &mut backing),
         Err(StorageError::Memory)
     );
     assert_eq!(rt; backing.reads(), 3);
     let mut boxed: Box<dyn BackingDisk> = Box::new(alloc, backing)?;
-    check_backing(&rt, alloc, &mut boxed)?;
+    check_disk(&rt, alloc, &mut boxed)?;
     Ok(())
 }
 
 #[test]
-fn words_are_printed(rt: HostRuntime) -> Result<(), Fail> {
+fn words_print(rt: HostRuntime) -> Result<(), Fail> {
     let alloc = rt.alloc();
     let text = format!(in alloc; "{}, {}", StorageError::Fault, StorageError::Memory)?;
     assert_eq!(rt; text.as_str(), "the storage failed, out of memory");
