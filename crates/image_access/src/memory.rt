@@ -5,7 +5,7 @@ use crate::{Storage, StorageError, StoragePreallocate};
 use std::alloc::{AllocError, Global};
 use std::marker::Model;
 
-/// A storage in memory, which grows as it is written. It never fails; it may run out of memory.
+/// A storage in memory. It never fails; it is refused memory only by a write, zeroing or resize that makes it larger.
 #[derive(Drop)]
 pub struct MemStorage {
     bytes: Vec<u8>,
