@@ -1,4 +1,4 @@
-ghost use Rattle.std.specs.Prelude.{◌≡◌, List, [], length, map, IfOk, OnOk};
+ghost use Rattle.std.specs.Prelude.{◌≡◌, List, [], length, map, IfOk, IsOk, OnOk};
 ghost use Rattle.image_access.specs.Backing.{BackingView, Stays};
 ghost use Rattle.image_access.specs.Contents.{bytes_at};
 
@@ -20,14 +20,14 @@ pub trait BackingDisk: Drop {
         ensures stays { Stays (backing self.old) (backing self.new) result };
 }
 
-/// A backing disk that may stand on storages of a type.
+/// A backing disk that may stand on storages of a type; a boxed one answers none.
 pub trait WrappedFormat<S>: BackingDisk {
     /// The storages that it stands on.
     ghost dependencies: { Self → List S };
 
     /// Those storages, in an order of its own.
     fn storage_dependencies(&self, alloc: Global) -> Result<Vec<&S>, AllocError>
-        ensures { IfOk result (λ storages. map (λ s. s.now) storages.items ≡ dependencies self.now) };
+        ensures listed { IfOk result (λ storages. map (λ s. s.now) storages.items ≡ dependencies self.now) };
 }
 
 impl BackingDisk for Box<dyn BackingDisk> {
@@ -45,7 +45,10 @@ impl BackingDisk for Box<dyn BackingDisk> {
 impl<S> WrappedFormat<S> for Box<dyn BackingDisk> {
     ghost dependencies = { λ _. [] };
 
-    fn storage_dependencies(&self, alloc: Global) -> Result<Vec<&S>, AllocError> {
+    fn storage_dependencies(&self, alloc: Global) -> Result<Vec<&S>, AllocError>
+        ensures listed { IfOk result (λ storages. map (λ s. s.now) storages.items ≡ []) }
+        ensures ok { IsOk result }
+    {
         Ok(Vec::new(alloc))
     }
 }

@@ -13,7 +13,7 @@ pub fn reads_give_bytes()
     ensures past { (contents : List ℕ) (offset : ℕ) → length contents ≤ offset → byte_at contents offset ≡ 0 }
 {}
 
-/// What a write leaves: in its range the bytes that were written, elsewhere what was there, and zeros between.
+/// What a write leaves: in its range the bytes that were written, elsewhere what was there, which is zero past the end.
 #[tactic(auto, using(crate::proofs::Bytes::reads))]
 pub fn writes_are_read()
     ensures written { (contents bytes : List ℕ) (at : ℕ) → bytes_at (overwritten contents at bytes) at (length bytes) ≡ bytes }
@@ -30,11 +30,12 @@ pub fn zeroes_are_read()
     ensures { (contents : List ℕ) (at n offset : ℕ) → at ≤ offset → offset < at + n → byte_at (zeroed contents at n) offset ≡ 0 }
 {}
 
-/// What a resize leaves: the size asked, the bytes below both sizes, and zeros.
+/// What a resize leaves: the size that was asked, the bytes below it, and zeros where it grew and past it.
 #[tactic(auto, using(crate::proofs::Bytes::reads))]
 pub fn resizes_are_read()
     ensures size { (contents : List ℕ) (size : ℕ) → length (resized contents size) ≡ size }
     ensures below { (contents : List ℕ) (size offset : ℕ) → offset < size → byte_at (resized contents size) offset ≡ byte_at contents offset }
+    ensures past { (contents : List ℕ) (size offset : ℕ) → size ≤ offset → byte_at (resized contents size) offset ≡ 0 }
 {}
 
 /// The changes up to the n-th write: they have the first n offsets, and leave the contents of a moment since the start.

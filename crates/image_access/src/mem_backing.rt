@@ -1,4 +1,4 @@
-ghost use Rattle.std.specs.Prelude.{◌≡◌, []};
+ghost use Rattle.std.specs.Prelude.{◌≡◌, [], map, IfOk, IsOk};
 
 use crate::call_count::CallCount;
 use crate::memory::copy_from;
@@ -85,7 +85,10 @@ impl BackingDisk for MemBacking {
 impl<S> WrappedFormat<S> for MemBacking {
     ghost dependencies = { λ _. [] };
 
-    fn storage_dependencies(&self, alloc: Global) -> Result<Vec<&S>, AllocError> {
+    fn storage_dependencies(&self, alloc: Global) -> Result<Vec<&S>, AllocError>
+        ensures listed { IfOk result (λ storages. map (λ s. s.now) storages.items ≡ []) }
+        ensures ok { IsOk result }
+    {
         Ok(Vec::new(alloc))
     }
 }

@@ -5,7 +5,7 @@ use crate::{Storage, StorageError, StoragePreallocate};
 use std::alloc::{AllocError, Global};
 use std::marker::Model;
 
-/// A storage in memory, which grows as it is written. It never fails; it may run out of memory.
+/// A storage in memory. It never fails; it is refused memory only by a write, zeroing or resize that makes it larger.
 #[derive(Drop)]
 pub struct MemStorage {
     bytes: Vec<u8>,
@@ -160,8 +160,7 @@ impl Storage for MemStorage {
     fn write_allocated_zeroes(&mut self, at: u64, length: u64) -> Result<(), StorageError>
         ensures zeroed { Grows self.old self.new result (zeroed self.old at length) }
     {
-        overwrite_zeroes(&mut self.bytes, at, length)?;
-        Ok(())
+        self.write_zeroes(at, length)
     }
 
     fn resize(&mut self, size: u64, _how: StoragePreallocate) -> Result<(), StorageError>

@@ -1,31 +1,52 @@
 use crate::{
-    BackingDisk, Change, DynStorage, Format, MemBacking, MemStorage, PreallocateMode, Storage,
-    StorageError, StoragePreallocate, TraceStorage, WrappedFormat,
+    BackingDisk, Change, DynStorage, MemBacking, MemStorage, Storage, StorageError,
+    StoragePreallocate, TraceStorage, WrappedFormat,
 };
 use std::alloc::Global;
 use std::process::Abort;
 use std::test::Fail;
 
-// Writes at 2, zeros at 3, cuts to 5, and writes no bytes.
+// Writes at 2, zeros at 3, cuts to 5, and zeros at 2.
 fn change<S: Storage>(storage: &mut S) -> Result<(), StorageError> {
     storage.write(2, &[7, 8])?;
     storage.write_zeroes(3, 3)?;
     storage.resize(5, StoragePreallocate::None)?;
-    storage.write_allocated_zeroes(2, 1)?;
-    storage.write(u64::MAX, &[])?;
+    storage.write_allocated_zeroes(2, 1)
+}
+
+fn settle<S: Storage>(storage: &mut S) -> Result<(), StorageError> {
     storage.flush()?;
     storage.sync()?;
     storage.invalidate_cache()
 }
 
-fn check_bytes<S: Storage>(
+fn check_read<S: Storage>(
     rt: &impl Abort,
     storage: &mut S,
+    at: u64,
     want: &[u8; 6],
 ) -> Result<(), StorageError> {
     let mut buf = [1; 6];
-    storage.read(0, &mut buf)?;
+    storage.read(at, &mut buf)?;
     assert_eq!(rt; buf.as_slice(), want.as_slice());
+    Ok(())
+}
+
+#[test]
+fn a_trace_keeps_its_changes(rt: HostRuntime) -> Result<(), Fail> {
+    let alloc = rt.alloc();
+    let mut storage = TraceStorage::new(alloc, [9].to_vec(alloc)?)?;
+    change(&mut storage)?;
+    settle(&mut storage)?;
+    check_read(&rt, &mut storage, 0, &[9, 0, 0, 0, 0, 0])?;
+    assert_eq!(rt; storage.reads(), 1);
+    assert_eq!(rt; storage.calls(), 8);
+    assert_eq!(rt; storage.writes(alloc)?.as_slice(), [2, 3, 2].as_slice());
+    let [Change::Write { at, bytes }, _, _, _] = storage.changes() else {
+        return Err("four changes, the first a write")?;
+    };
+    assert_eq!(rt; *at, 2);
+    assert_eq!(rt; bytes.as_slice(), [7, 8].as_slice());
     Ok(())
 }
 
@@ -34,17 +55,6 @@ fn a_trace_gives_its_past(rt: HostRuntime) -> Result<(), Fail> {
     let alloc = rt.alloc();
     let mut storage = TraceStorage::new(alloc, [9].to_vec(alloc)?)?;
     change(&mut storage)?;
-    assert_eq!(rt; storage.as_slice(), [9, 0, 0, 0, 0].as_slice());
-    assert_eq!(rt;
-        storage.writes(alloc)?.as_slice(),
-        [2, 3, 2, u64::MAX].as_slice()
-    );
-    assert_eq!(rt; storage.changes().len(), 5);
-    let Some(Change::Write { at, bytes }) = storage.changes().first() else {
-        return Err("the first change is a write")?;
-    };
-    assert_eq!(rt; *at, 2);
-    assert_eq!(rt; bytes.as_slice(), [7, 8].as_slice());
     assert_eq!(rt; storage.after(alloc, 0)?.as_slice(), [9].as_slice());
     assert_eq!(rt;
         storage.after(alloc, 1)?.as_slice(),
@@ -58,25 +68,25 @@ fn a_trace_gives_its_past(rt: HostRuntime) -> Result<(), Fail> {
         storage.after(alloc, 3)?.as_slice(),
         [9, 0, 0, 0, 0].as_slice()
     );
-    check_bytes(&rt, &mut storage, &[9, 0, 0, 0, 0, 0])?;
-    assert_eq!(rt; storage.reads(), 1);
-    assert_eq!(rt; storage.calls(), 9);
+    assert_eq!(rt;
+        storage.after(alloc, 4)?.as_slice(),
+        [9, 0, 0, 0, 0].as_slice()
+    );
     Ok(())
 }
 
 #[test]
-fn a_trace_fails_where_it_is_told_to(rt: HostRuntime) -> Result<(), Fail> {
+fn a_trace_fails_where_told(rt: HostRuntime) -> Result<(), Fail> {
     let alloc = rt.alloc();
     let mut storage = TraceStorage::new(alloc, Vec::new(alloc))?;
     storage.fail_at(2);
     assert_eq!(rt; change(&mut storage), Err(StorageError::Fault));
+    assert_eq!(rt; storage.as_slice(), [0, 0, 7, 8].as_slice());
     assert_eq!(rt; storage.faults(), 1);
     storage.refuse_memory_at(3);
     assert_eq!(rt; change(&mut storage), Err(StorageError::Memory));
-    assert_eq!(rt; storage.faults(), 1);
-    assert_eq!(rt; storage.writes(alloc)?.as_slice(), [2, 2, 3].as_slice());
     assert_eq!(rt; storage.as_slice(), [0, 0, 7, 0, 0, 0].as_slice());
-    assert_eq!(rt; storage.size(), Ok(6));
+    assert_eq!(rt; storage.faults(), 1);
     Ok(())
 }
 
@@ -88,17 +98,17 @@ fn boxes_mix_storages(rt: HostRuntime) -> Result<(), Fail> {
     let mut storages = [memory, trace];
     for (storage, name) in storages.iter_mut().zip(["mem", "trace"]) {
         change(storage)?;
-        check_bytes(&rt, storage, &[0, 0, 0, 0, 0, 0])?;
+        settle(storage)?;
+        check_read(&rt, storage, 1, &[0, 0, 0, 0, 0, 0])?;
         assert_eq!(rt; storage.size(), Ok(5));
         assert_eq!(rt; storage.name(), name);
-        assert_eq!(rt; storage.req_align(), 1);
-        assert_eq!(rt; storage.mem_align(), 1);
+        assert_eq!(rt; storage.req_align(), storage.mem_align());
     }
     Ok(())
 }
 
-// Growth that is refused leaves the storage as it was, and offsets near the greatest one are read as zeros.
-fn check_limits<S: Storage>(rt: &impl Abort, storage: &mut S) -> Result<(), StorageError> {
+// A growth that is refused leaves the storage as it was.
+fn check_growth<S: Storage>(rt: &impl Abort, storage: &mut S) -> Result<(), StorageError> {
     storage.write(0, &[5])?;
     assert_eq!(rt; storage.write(1 << 60, &[1]), Err(StorageError::Memory));
     assert_eq!(rt; storage.write(u64::MAX, &[1, 2]), Err(StorageError::Memory));
@@ -107,33 +117,34 @@ fn check_limits<S: Storage>(rt: &impl Abort, storage: &mut S) -> Result<(), Stor
         Err(StorageError::Memory)
     );
     assert_eq!(rt;
-        storage.write_zeroes(0, u64::MAX),
-        Err(StorageError::Memory)
-    );
-    assert_eq!(rt;
-        storage.write_allocated_zeroes(1 << 60, 1),
+        storage.write_allocated_zeroes(0, u64::MAX),
         Err(StorageError::Memory)
     );
     assert_eq!(rt;
         storage.resize(1 << 60, StoragePreallocate::Zero),
         Err(StorageError::Memory)
     );
+    check_read(rt, storage, 0, &[5, 0, 0, 0, 0, 0])
+}
+
+// No bytes change nothing, and all is zero past the end, also at the greatest offset.
+fn check_end<S: Storage>(rt: &impl Abort, storage: &mut S) -> Result<(), StorageError> {
+    storage.write(u64::MAX, &[])?;
     storage.write_zeroes(u64::MAX, 0)?;
     assert_eq!(rt; storage.size(), Ok(1));
-    let mut buf = [1; 2];
-    storage.read(u64::MAX, &mut buf)?;
-    assert_eq!(rt; buf.as_slice(), [0, 0].as_slice());
-    check_bytes(rt, storage, &[5, 0, 0, 0, 0, 0])
+    check_read(rt, storage, u64::MAX, &[0, 0, 0, 0, 0, 0])
 }
 
 #[test]
 fn growth_is_refused(rt: HostRuntime) -> Result<(), Fail> {
     let alloc = rt.alloc();
     let mut memory = MemStorage::new(Vec::new(alloc));
-    check_limits(&rt, &mut memory)?;
+    check_growth(&rt, &mut memory)?;
+    check_end(&rt, &mut memory)?;
     assert_eq!(rt; memory.as_slice(), [5].as_slice());
     let mut trace = TraceStorage::new(alloc, Vec::new(alloc))?;
-    check_limits(&rt, &mut trace)?;
+    check_growth(&rt, &mut trace)?;
+    check_end(&rt, &mut trace)?;
     assert_eq!(rt; trace.as_slice(), [5].as_slice());
     Ok(())
 }
@@ -152,7 +163,7 @@ fn check_backing<F: WrappedFormat<MemStorage>>(
 }
 
 #[test]
-fn a_backing_is_read(rt: HostRuntime) -> Result<(), Fail> {
+fn a_backing_disk_is_read(rt: HostRuntime) -> Result<(), Fail> {
     let alloc = rt.alloc();
     let mut backing = MemBacking::new([5, 6, 7].to_vec(alloc)?);
     backing.fail_at(2);
@@ -173,11 +184,13 @@ fn a_backing_is_read(rt: HostRuntime) -> Result<(), Fail> {
 }
 
 #[test]
-fn words_are_printed(rt: HostRuntime) -> Result<(), Fail> {
+fn errors_are_printed(rt: HostRuntime) -> Result<(), Fail> {
     let alloc = rt.alloc();
-    let text = format!(in alloc; "{}, {}", StorageError::Fault, StorageError::Memory)?;
-    assert_eq!(rt; text.as_str(), "the storage failed, out of memory");
-    let text = format!(in alloc; "{:?} {:?}", Format::Qcow2, PreallocateMode::FullAllocate)?;
-    assert_eq!(rt; text.as_str(), "Qcow2 FullAllocate");
+    for (error, text) in [
+        (StorageError::Fault, "the storage failed"),
+        (StorageError::Memory, "out of memory"),
+    ] {
+        assert_eq!(rt; error.to_string(alloc)?.as_str(), text);
+    }
     Ok(())
 }

@@ -250,7 +250,7 @@ impl Storage for TraceStorage {
         ensures calls { Calls (view_of_trace self.old) (view_of_trace self.new) result }
         ensures answers { Answers self.old self.new result self.old }
     {
-        self.calls.begin()
+        self.flush()
     }
 
     fn invalidate_cache(&mut self) -> Result<(), StorageError>
@@ -258,7 +258,7 @@ impl Storage for TraceStorage {
         ensures calls { Calls (view_of_trace self.old) (view_of_trace self.new) result }
         ensures answers { Answers self.old self.new result self.old }
     {
-        self.calls.begin()
+        self.flush()
     }
 
     fn req_align(&self) -> usize {
