@@ -1,7 +1,8 @@
 -- Hexadecimal text that is written in pieces.
-use Rattle.std.proofs.Common.{◌≡◌, ℕ, List, [], ◌∷◌, ◌++◌, take, drop, Option, Some, None, refl, sym, ◌∙◌, append_assoc, ap}
+use Rattle.std.proofs.Common.{◌≡◌, ℕ, List, [], ◌∷◌, ◌++◌, take, drop, Option, refl, sym, ◌∙◌, append_assoc, ap}
 use Rattle.std.proofs.lemmas.List.{append-nil, take-append-drop}
 use Rattle.std.specs.Io.KnownBytes.{Appends}
+use Rattle.qimg.proofs.Known.{appends_nothing, appends_both}
 use Rattle.hex.specs.Hex.{encode_with, encode_lower, lower_digits}
 
 encode_with-append : (digits xs ys : List ℕ) → encode_with digits (xs ++ ys) ≡ encode_with digits xs ++ encode_with digits ys
@@ -12,16 +13,6 @@ encode_with-append digits (x ∷ xs) ys = rw (encode_with-append digits xs ys) r
 encode_lower-nil : encode_lower [] ≡ []
 unfolding encode_with
 encode_lower-nil = refl
-
-appends_nothing : (known : Option (List ℕ)) → Appends known known []
-appends_nothing None = tt
-appends_nothing (Some xs) = sym (append-nil xs)
-
-appends_both : (old mid new : Option (List ℕ)) (first second : List ℕ) → Appends old mid first → Appends mid new second → Appends old new (first ++ second)
-appends_both None mid new first second a b = tt
-appends_both (Some xs) None new first second a b = absurd a
-appends_both (Some xs) (Some ys) None first second a b = absurd b
-appends_both (Some xs) (Some ys) (Some zs) first second a b = b ∙ ap (λ it. it ++ second) a ∙ append_assoc xs first second
 
 -- the text of the bytes before the rest was written
 pub record Printed (old new : Option (List ℕ)) (bytes rest : List ℕ) : Type 0 where

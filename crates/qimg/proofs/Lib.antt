@@ -1,3 +1,5 @@
 pub mod Digits
+pub mod Known
 pub mod Hex
+pub mod Replies
 pub mod Scripts

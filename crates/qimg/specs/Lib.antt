@@ -2,5 +2,6 @@ pub mod FileStorage
 pub mod Lines
 pub mod Numbers
 pub mod Printing
+pub mod Program
 pub mod Reading
 pub mod Words

@@ -1,6 +1,6 @@
 -- The line that is printed for a reply, without its end.
-use Rattle.std.specs.Prelude.{ℕ, Bool, codes, List, [], ◌∷◌, ◌++◌, length, ◌==◌, Option, Some, None, if◌then◌else◌}
-use Rattle.std.specs.Fmt.{decimal}
+use Rattle.std.specs.Prelude.{ℕ, Bool, true, false, codes, List, [], ◌∷◌, ◌++◌, length, ◌==◌, Option, Some, None, if◌then◌else◌}
+use Rattle.std.specs.Fmt.{decimal, option_append, with_newline}
 use Rattle.hex.specs.Hex.{encode_lower}
 use Rattle.qcow2_image.specs.declared.image.Mapping.{Mapping}
 use Rattle.qcow2_image.specs.declared.image.MappingKind.{MappingKind}
@@ -48,3 +48,15 @@ line_of (R.Size size) = Some (codes "size" ␣ decimal size)
 line_of (R.Refused _) = None
 line_of (R.WriteRefused _ _) = None
 line_of R.Misuse = Some (codes "misuse")
+
+-- refused or misused, wholly or in part
+abbrev pub is_refusal : Reply → Bool
+is_refusal (R.Refused _) = true
+is_refusal (R.WriteRefused _ _) = true
+is_refusal R.Misuse = true
+is_refusal _ = false
+
+-- the lines of some replies, each with its end
+abbrev pub text_of : List Reply → Option (List ℕ)
+text_of [] = Some []
+text_of (reply ∷ replies) = option_append (with_newline (line_of reply)) (text_of replies)

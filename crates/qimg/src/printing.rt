@@ -1,7 +1,8 @@
 ghost use Rattle.std.specs.Prelude.{◌≡◌, ◌≤◌, ◌∷◌, ◌++◌, [], length, OnOk, IfSome};
+ghost use Rattle.std.specs.List.{list_any};
 ghost use Rattle.std.specs.Io.KnownBytes.{Appends};
 ghost use Rattle.hex.specs.Hex.{encode_lower};
-ghost use Rattle.qimg.specs.Printing.{line_of, bytes_line, mapping_line};
+ghost use Rattle.qimg.specs.Printing.{bytes_line, line_of, mapping_line, text_of, is_refusal};
 
 use qcow2_image::{ImageError, Mapping, MappingKind, Place};
 use qcow2_session::Reply;
@@ -32,6 +33,28 @@ pub fn print_reply<W: Write>(output: &mut W, reply: &Reply) -> io::Result<()>
         }
         Reply::Misuse => writeln!(output, "misuse"),
     }
+}
+
+/// Whether some reply is a refusal, in whole or in part, or a misuse.
+pub fn any_refused(replies: &[Reply]) -> bool
+    ensures { result ≡ list_any is_refusal replies.now }
+{
+    replies.iter().any(|reply| {
+        matches!(
+            reply,
+            Reply::Refused(_) | Reply::WriteRefused(_, _) | Reply::Misuse
+        )
+    })
+}
+
+/// Prints the lines of replies.
+pub fn print_replies<W: Write>(output: &mut W, replies: &[Reply]) -> io::Result<()>
+    ensures { OnOk result (IfSome (text_of replies.now) (Appends (W.contents output.old) (W.contents output.new))) }
+{
+    for reply in replies {
+        print_reply(output, reply)?;
+    }
+    Ok(())
 }
 
 /// Prints the line of a refusal.

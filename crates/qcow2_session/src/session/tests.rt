@@ -3,7 +3,7 @@ ghost use Rattle.qcow2_image.specs.Image.{number_of};
 ghost use Rattle.qcow2_image.specs.Prepared.{image_of};
 
 use super::*;
-use image_access::{Format, MemStorage, Storage, TraceStorage};
+use image_access::{Format, Storage, TraceStorage};
 use qcow2_image::{MappingKind, Place, Qcow2CreateBuilder};
 use std::test::Fail;
 
@@ -263,10 +263,10 @@ fn a_disk_of_no_bytes(rt: HostRuntime) -> Result<(), Fail> {
 #[test]
 fn a_storage_of_three_bytes_is_no_image(rt: HostRuntime) -> Result<(), Fail> {
     let alloc = rt.alloc();
-    let mut storage = MemStorage::new(vec![in alloc; 1, 2, 3]?);
-    assert!(rt; !Qcow2::<MemStorage>::probe(&mut storage)?);
-    match Qcow2::<MemStorage>::open_image(alloc, storage, true, 1) {
-        Ok(_) => assert!(rt; false, "it opens"),
+    let mut storage = TraceStorage::new(alloc, vec![in alloc; 1, 2, 3]?)?;
+    assert!(rt; !Image::probe(&mut storage)?);
+    match Image::open_image(alloc, storage, true, 1) {
+        Ok(_image) => assert!(rt; false, "it opens"),
         Err((storage, refusal)) => {
             assert_eq!(rt; refusal.number(), 19);
             assert_eq!(rt; storage.as_slice(), [1, 2, 3].as_slice());

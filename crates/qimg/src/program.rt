@@ -1,0 +1,180 @@
+ghost use Rattle.std.specs.Prelude.{◌≡◌, ◌≤◌, ◌∷◌, ◌++◌, [], true, false, codes, length, vec_len, IfSome, IsOk};
+ghost use Rattle.std.specs.Io.KnownBytes.{Appends, Keeps};
+ghost use Rattle.qimg.specs.Program.{IsAnswered, IsAnsweredOnce};
+
+use crate::printing::{any_refused, print_refusal, print_replies};
+use crate::reading::{Script, read_script};
+use crate::words::{Invocation, USAGE};
+use image_access::Storage;
+use qcow2_image::{ImageError, Qcow2, Qcow2CreateBuilder};
+use qcow2_session::{Command, Reply, run};
+use std::alloc::Global;
+use std::io;
+use std::io::{BufRead, Write};
+
+/// The exit status of a run in which nothing was refused.
+pub const DONE: u8 = 0;
+
+/// The exit status where a printed line is a refusal, or a line couldn't be written.
+pub const REFUSED: u8 = 1;
+
+/// The exit status where the words, or a line of the input, couldn't be read.
+pub const UNREADABLE: u8 = 2;
+
+/// Makes an image in the storage, as the words ask for, and answers the exit status.
+pub fn create<S: Storage, W: Write>(
+    alloc: Global,
+    storage: S,
+    invocation: &Invocation<'_>,
+    output: &mut W,
+) -> u8
+    ensures bound { result ≤ 2 }
+    ensures created { result ≡ 0 → Appends (W.contents output.old) (W.contents output.new) (codes "created" ++ 10 ∷ []) }
+{
+    let Invocation::Create {
+        file: _,
+        size,
+        cluster,
+        width,
+    } = *invocation
+    else {
+        return print_usage(output);
+    };
+    let (_storage, made) = Qcow2CreateBuilder::new(storage)
+        .size(size)
+        .cluster_size(cluster)
+        .refcount_width(width)
+        .create(alloc);
+    match made {
+        Ok(()) => end(writeln!(output, "created"), output),
+        Err(e) => refuse(output, &e),
+    }
+}
+
+/// Reads commands from the input, runs them on the image in the storage, prints their answers, and answers the exit status.
+pub fn script<S: Storage, R: BufRead, W: Write>(
+    alloc: Global,
+    storage: S,
+    input: &mut R,
+    output: &mut W,
+) -> u8
+    ensures bound { result ≤ 2 }
+    ensures done { result ≡ 0 → IfSome (R.remaining input.old) (λ text. IsAnswered text (W.contents output.old) (W.contents output.new)) }
+{
+    let Ok(script) = read_script(alloc, input) else {
+        return refuse(output, &ImageError::Memory);
+    };
+    let printed = run_script(alloc, storage, &script, output);
+    let flushed = output.flush();
+    match (script.is_cut, printed, flushed) {
+        (true, _, _) => UNREADABLE,
+        (false, Ok(true), Ok(())) => DONE,
+        (false, _, _) => REFUSED,
+    }
+}
+
+/// Prints the usage line, and answers the exit status.
+pub fn print_usage<W: Write>(output: &mut W) -> u8
+    ensures { result ≡ 2 }
+{
+    let _ = writeln!(output, "{USAGE}");
+    let _ = output.flush();
+    UNREADABLE
+}
+
+/// Prints the line of a refusal, and answers the exit status.
+pub fn refuse<W: Write>(output: &mut W, e: &ImageError) -> u8
+    ensures { result ≡ 1 }
+{
+    let _ = print_refusal(output, e);
+    let _ = output.flush();
+    REFUSED
+}
+
+// Ends the output, where its last line was printed, and answers the exit status.
+fn end<W: Write>(printed: io::Result<()>, output: &mut W) -> u8
+    ensures bound { result ≤ 1 }
+    ensures printed { result ≡ 0 → IsOk printed }
+    ensures same { Keeps (W.contents output.old) (W.contents output.new) }
+{
+    let flushed = output.flush();
+    if printed.is_ok() && flushed.is_ok() {
+        DONE
+    } else {
+        REFUSED
+    }
+}
+
+// Prints what comes of a script. Whether nothing was refused; an error where a line couldn't be written.
+fn run_script<S: Storage, W: Write>(
+    alloc: Global,
+    storage: S,
+    script: &Script,
+    output: &mut W,
+) -> io::Result<bool>
+    ensures { result ≡ Ok true → (script.now.is_cut ≡ false) × IsAnsweredOnce (vec_len script.now.commands) (W.contents output.old) (W.contents output.new) }
+{
+    let is_accepted = match Qcow2::<S>::open_image(alloc, storage, true, 1) {
+        Ok(image) => run_on(alloc, image, &script.commands, output)?,
+        Err((_storage, e)) => {
+            print_refusal(output, &e)?;
+            false
+        }
+    };
+    if script.is_cut {
+        let number = script.commands.len() + 1;
+        writeln!(output, "bad line {number}")?;
+        return Ok(false);
+    }
+    Ok(is_accepted)
+}
+
+// The same of an image, which is flushed whatever could be printed.
+fn run_on<S: Storage, W: Write>(
+    alloc: Global,
+    mut image: Qcow2<S>,
+    commands: &[Command],
+    output: &mut W,
+) -> io::Result<bool>
+    ensures { result ≡ Ok true → IsAnsweredOnce (length commands.now) (W.contents output.old) (W.contents output.new) }
+{
+    if needs_a_file(&image) {
+        print_refusal(output, &ImageError::Dependency)?;
+        return Ok(false);
+    }
+    let replies = run(alloc, &mut image, commands);
+    let printed = print_answers(output, commands, &replies);
+    let flushed = image.flush();
+    let is_accepted = printed?;
+    if let Err(e) = flushed {
+        print_refusal(output, &e)?;
+        return Ok(false);
+    }
+    Ok(is_accepted)
+}
+
+fn needs_a_file<S: Storage>(image: &Qcow2<S>) -> bool {
+    image.requires_external_data_file()
+        || image.implicit_external_data_file().is_some()
+        || image.implicit_backing_file().is_some()
+}
+
+#[tactic(auto, using(crate::proofs::Replies::answered))]
+// There is one reply to each command, or none at all where there was no room for them.
+fn print_answers<W: Write>(
+    output: &mut W,
+    commands: &[Command],
+    replies: &[Reply],
+) -> io::Result<bool>
+    ensures { result ≡ Ok true → IsAnsweredOnce (length commands.now) (W.contents output.old) (W.contents output.new) }
+{
+    if replies.len() != commands.len() {
+        print_refusal(output, &ImageError::Memory)?;
+        return Ok(false);
+    }
+    print_replies(output, replies)?;
+    Ok(!any_refused(replies))
+}
+
+#[cfg(test)]
+mod tests;
