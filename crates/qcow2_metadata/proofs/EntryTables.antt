@@ -1,5 +1,5 @@
 -- Tables of entries of 64 bits.
-use Rattle.std.proofs.Common.{◌≡◌, ℕ, ◌+◌, ◌-◌, ◌*◌, ◌/◌, ◌%◌, ◌^◌, ◌≤◌, inl, inr, subst, lit<, List, [], ◌++◌, nat_lt, if◌then◌else◌, length, replicate, refl, sym, ap, ◌∙◌, arith}
+use Rattle.std.proofs.Common.{◌≡◌, ℕ, ◌+◌, ◌-◌, ◌*◌, ◌/◌, ◌%◌, ◌^◌, ◌≤◌, inl, inr, subst, lit<, List, [], ◌++◌, Option, nat_lt, if◌then◌else◌, length, replicate, refl, sym, ap, ◌∙◌, arith}
 use Rattle.std.specs.Prelude.{bit_and}
 use Rattle.std.proofs.lemmas.List.{drop-replicate, get_or_append_left, get_or-append_right, length-replicate, nil_from_length}
 use Rattle.std.proofs.lemmas.Bool.{cases_eq, cases_lt, cond-false, cond-true, le-ltb, lt-ltb}
@@ -28,6 +28,11 @@ none_is_clear entry reserved none = omega (arith, and_le_l entry reserved)
 
 pub no_bytes_at : (contents : List ℕ) (at n : ℕ) → n ≡ 0 → bytes_at contents at n ≡ []
 no_bytes_at contents at n none = nil_from_length (bytes_at contents at n) (length-bytes_at contents at n ∙ none)
+
+-- a table is its three parts
+pub same_table : (cluster cluster' : Option ℕ) (bytes bytes' : List ℕ) (bits bits' : ℕ) → cluster ≡ cluster' → bytes ≡ bytes' → bits ≡ bits'
+    → record { cluster = cluster; bytes = bytes; cluster_bits = bits } ≡ (let t : EntryTableView = record { cluster = cluster'; bytes = bytes'; cluster_bits = bits' } in t)
+same_table cluster cluster' bytes bytes' bits bits' p q r = rw (p, q, r)
 
 -- a table laid over a longer one of zeros
 pub overwritten-zeros : (bytes : List ℕ) (n : ℕ) → length bytes ≤ n → overwritten (replicate n 0) 0 bytes ≡ bytes ++ replicate (n - length bytes) 0

@@ -13,7 +13,7 @@ ghost use Rattle.qcow2_metadata.specs.EntryTable.{entry_count, HasRoom, IsEntryT
 use crate::table_bytes::{entry_at, load, put, set_entry, zeros};
 use crate::{ClusterCount, HostCluster, MetadataError};
 use image_access::{Storage, StorageError};
-use std::alloc::{AllocError, Global};
+use std::alloc::Global;
 use std::marker::Model;
 
 /// The greatest offset of a cluster that an entry names.
@@ -88,16 +88,6 @@ fn load_bytes<S: Storage>(
         return Ok(Vec::new(alloc));
     }
     load(alloc, storage, at, count)
-}
-
-/// These bytes, and zeros behind them, so many in all.
-fn grown(alloc: Global, bytes: &[u8], count: usize) -> Result<Vec<u8>, AllocError>
-    requires { length bytes.now ≤ count }
-    ensures { IfOk result (λ grown. grown.items ≡ bytes.now ++ replicate (count - length bytes.now) 0) }
-{
-    let mut grown = zeros(alloc, count)?;
-    put(&mut grown, 0, bytes);
-    Ok(grown)
 }
 
 /// Whether none of these bits is set in any entry.
@@ -201,7 +191,7 @@ impl EntryTable {
         ensures entry { result ≡ entry_of self.now.bytes index }
         ensures within { 0 < result → index < entry_count self.now }
     {
-        if index < self.bytes.len() / 8 {
+        if index < self.len() {
             entry_at(&self.bytes, index)
         } else {
             0
@@ -243,7 +233,7 @@ impl EntryTable {
         ensures calls { Calls (S.view storage.old) (S.view storage.new) result }
     {
         let at = self.cluster.unwrap().offset(self.cluster_bits).value() + 8 * index as u64;
-        storage.write(at, &entry_at(&self.bytes, index).to_be_bytes())
+        storage.write(at, &self.get(index).to_be_bytes())
     }
 
     /// The same entries, entries of 0 behind them, and no place.
@@ -260,14 +250,9 @@ impl EntryTable {
         ensures few { IfOk result (IsEntryTable greatest) }
         ensures err { IfErr result (IsOfLengthOrMemory (greatest < entries)) }
     {
-        if entries > greatest {
-            return Err(MetadataError::Limit);
-        }
-        Ok(EntryTable {
-            cluster: None,
-            bytes: grown(alloc, &self.bytes, 8 * entries)?,
-            cluster_bits: self.cluster_bits,
-        })
+        let mut table = EntryTable::new_cleared(alloc, self.cluster_bits, entries, greatest)?;
+        put(&mut table.bytes, 0, &self.bytes);
+        Ok(table)
     }
 
     pub(crate) fn byte_size(&self) -> u64

@@ -133,7 +133,7 @@ impl L1Table {
     pub fn in_bounds(&self, index: usize) -> bool
         ensures { IsTrue result ↔ (index < entry_count self.now) }
     {
-        index < self.table.len()
+        index < self.len()
     }
 
     /// What entry `index` names, if there is one and it names something.
@@ -166,7 +166,7 @@ impl L1Table {
         ensures copied { is_copied_of (entry_at self.new.bytes index) ≡ true }
         ensures rest { self.new ≡ record self.old { bytes = self.new.bytes } }
     {
-        let offset = cluster.offset(self.table.cluster_bits());
+        let offset = cluster.offset(self.cluster_bits());
         self.table.set(index, copied_entry(offset));
     }
 

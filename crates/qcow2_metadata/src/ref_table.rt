@@ -118,7 +118,7 @@ impl RefTable {
     pub fn in_bounds(&self, index: usize) -> bool
         ensures { IsTrue result ↔ (index < entry_count self.now) }
     {
-        index < self.table.len()
+        index < self.len()
     }
 
     /// Where the refblock lies that entry `index` names, if there is one and it names something.
@@ -145,7 +145,7 @@ impl RefTable {
         ensures offset { block_offset_of (entry_at self.new.bytes index) ≡ cluster * 2 ^ self.old.cluster_bits }
         ensures rest { self.new ≡ record self.old { bytes = self.new.bytes } }
     {
-        let offset = cluster.offset(self.table.cluster_bits()).value();
+        let offset = cluster.offset(self.cluster_bits()).value();
         self.table.set(index, offset);
     }
 
