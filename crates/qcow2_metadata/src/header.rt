@@ -267,7 +267,7 @@ impl Header {
         ensures ok { OnOk result (minimum ≤ self.now.fields.version) }
         ensures err { IfErr result (λ e. (e ≡ MetadataError.Version) × (self.now.fields.version < minimum)) }
     {
-        if self.fields.version < minimum {
+        if self.version() < minimum {
             return Err(MetadataError::Version);
         }
         Ok(())
@@ -276,7 +276,10 @@ impl Header {
     pub fn set_size(&mut self, size: u64)
         ensures { self.new ≡ with_fields self.old (with_size self.old.fields size) }
     {
-        self.fields.size = size;
+        self.fields = HeaderFields {
+            size,
+            ..self.fields
+        };
     }
 
     /// Sets the place and the length of the L1 table.
@@ -288,8 +291,11 @@ impl Header {
         if entries > MAX_L1_ENTRIES {
             return Err(MetadataError::Limit);
         }
-        self.fields.l1_offset = offset.value();
-        self.fields.l1_entries = entries;
+        self.fields = HeaderFields {
+            l1_offset: offset.value(),
+            l1_entries: entries,
+            ..self.fields
+        };
         Ok(())
     }
 
@@ -302,8 +308,11 @@ impl Header {
         if u64::from(clusters) * (self.cluster_size() / 8) > MAX_REFTABLE_ENTRIES {
             return Err(MetadataError::Limit);
         }
-        self.fields.reftable_offset = offset.value();
-        self.fields.reftable_clusters = clusters;
+        self.fields = HeaderFields {
+            reftable_offset: offset.value(),
+            reftable_clusters: clusters,
+            ..self.fields
+        };
         Ok(())
     }
 

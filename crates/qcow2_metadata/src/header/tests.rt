@@ -1,4 +1,4 @@
-use crate::{Header, HostOffset, MetadataError};
+use crate::{Header, HeaderFields, HostOffset, MetadataError};
 use image_access::{MemStorage, Storage, StorageError, TraceStorage};
 use std::alloc::{AllocError, Global};
 use std::test::Fail;
@@ -64,66 +64,67 @@ fn text(name: Option<&String>) -> &str {
     }
 }
 
+// What QEMU wrote into the first of these images.
+fn fields_with_backing() -> HeaderFields {
+    HeaderFields {
+        magic: 0x5146_49fb,
+        version: 3,
+        backing_offset: 0x88,
+        backing_length: 8,
+        cluster_bits: 9,
+        size: 1_048_576,
+        crypt_method: 0,
+        l1_entries: 32,
+        l1_offset: 1536,
+        reftable_offset: 512,
+        reftable_clusters: 1,
+        snapshots: 0,
+        snapshots_offset: 0,
+        incompatible: 0,
+        compatible: 0,
+        autoclear: 0,
+        refcount_order: 4,
+        header_length: 112,
+    }
+}
+
 #[test]
 fn reads_what_qemu_wrote(rt: HostRuntime) -> Result<(), Fail> {
     let header = loaded(rt.alloc(), &WITH_BACKING, true)?;
-    assert_eq!(rt; header.version(), 3);
-    assert_eq!(rt; header.size(), 1_048_576);
-    assert_eq!(rt; header.cluster_size(), 512);
-    assert_eq!(rt; header.l2_entries(), 64);
-    assert_eq!(rt; (header.rb_bits(), header.rb_entries()), (8, 256));
-    assert_eq!(rt;
-        (header.l1_table_offset().value(), header.l1_table_entries()),
-        (1536, 32)
-    );
-    assert_eq!(rt;
-        (header.reftable_offset().value(), header.reftable_clusters()),
-        (512, 1)
-    );
-    assert_eq!(rt; header.reftable_entries(), 64);
-    assert_eq!(rt;
-        (header.backing_offset(), header.backing_length()),
-        (0x88, 8)
-    );
-    assert_eq!(rt; (header.refcount_order(), header.header_length()), (4, 112));
-    assert_eq!(rt; (header.magic(), header.crypt_method()), (0x5146_49fb, 0));
-    assert_eq!(rt; (header.snapshots(), header.snapshots_offset()), (0, 0));
-    assert_eq!(rt;
-        (
-            header.incompatible(),
-            header.compatible(),
-            header.autoclear()
-        ),
-        (0, 0, 0)
-    );
-    assert_eq!(rt;
-        (text(header.backing_name()), text(header.backing_format())),
-        ("back.raw", "raw")
-    );
-    assert!(rt; header.data_file_name().is_none() && !header.has_data_file());
+    assert_eq!(rt; header.fields(), fields_with_backing());
+    assert_eq!(rt; text(header.backing_name()), "back.raw");
+    assert_eq!(rt; text(header.backing_format()), "raw");
+    assert_eq!(rt; text(header.data_file_name()), "none");
     Ok(())
 }
 
 #[test]
-fn reads_version_2_and_data_files(rt: HostRuntime) -> Result<(), Fail> {
-    let old = loaded(rt.alloc(), &OLD, true)?;
-    assert_eq!(rt;
-        (old.version(), old.cluster_bits(), old.refcount_order()),
-        (2, 12, 4)
-    );
-    assert_eq!(rt;
-        (old.header_length(), old.incompatible(), old.autoclear()),
-        (72, 0, 0)
-    );
-    assert_eq!(rt;
-        (text(old.backing_name()), text(old.backing_format())),
-        ("back.raw", "raw")
-    );
-    assert_eq!(rt; old.require_version(3), Err(MetadataError::Version));
-    let external = loaded(rt.alloc(), &WITH_DATA_FILE, true)?;
-    assert!(rt; external.has_data_file() && external.backing_name().is_none());
-    assert_eq!(rt; text(external.data_file_name()), "d.raw");
-    assert_eq!(rt; external.require_version(3), Ok(()));
+fn reads_version_2(rt: HostRuntime) -> Result<(), Fail> {
+    let header = loaded(rt.alloc(), &OLD, true)?;
+    let expected = HeaderFields {
+        version: 2,
+        backing_offset: 0x60,
+        cluster_bits: 12,
+        l1_entries: 1,
+        l1_offset: 0x3000,
+        reftable_offset: 0x1000,
+        header_length: 72,
+        ..fields_with_backing()
+    };
+    assert_eq!(rt; header.fields(), expected);
+    assert_eq!(rt; text(header.backing_name()), "back.raw");
+    assert_eq!(rt; text(header.backing_format()), "raw");
+    assert_eq!(rt; header.require_version(3), Err(MetadataError::Version));
+    Ok(())
+}
+
+#[test]
+fn reads_the_name_of_a_data_file(rt: HostRuntime) -> Result<(), Fail> {
+    let header = loaded(rt.alloc(), &WITH_DATA_FILE, true)?;
+    assert!(rt; header.has_data_file());
+    assert_eq!(rt; text(header.data_file_name()), "d.raw");
+    assert_eq!(rt; text(header.backing_name()), "none");
+    assert_eq!(rt; header.require_version(3), Ok(()));
     Ok(())
 }
 
@@ -294,33 +295,46 @@ fn names_fit_into_the_first_cluster(rt: HostRuntime) -> Result<(), Fail> {
 
 #[test]
 fn writes_its_parts(rt: HostRuntime) -> Result<(), Fail> {
-    let mut storage = TraceStorage::new(rt.alloc(), Vec::from_slice(rt.alloc(), &WITH_BACKING)?)?;
-    storage.write(88, &[0xff; 8])?;
-    let mut header = Header::load(rt.alloc(), &mut storage, true)?;
+    let mut header = loaded(rt.alloc(), &WITH_BACKING, true)?;
     header.set_size(0x0102_0304_0506_0708);
     header.set_l1_table(HostOffset::new(0x1122_3344_5566_7600), 0x21_2223)?;
     header.set_reftable(HostOffset::new(0x3132_3334_3536_3800), 0x3132)?;
+    let mut storage = MemStorage::new(Vec::new(rt.alloc()));
     header.write_size(&mut storage)?;
     header.write_l1_table_pointer(&mut storage)?;
     header.write_reftable_pointer(&mut storage)?;
-    header.clear_autoclear(&mut storage)?;
-    header.clear_autoclear(&mut storage)?;
-    assert_eq!(rt;
-        storage.writes(rt.alloc())?.as_slice(),
-        [88, 24, 36, 48, 88].as_slice()
-    );
-    let mut bytes = [0; 72];
+    let mut bytes = [0; 36];
     storage.read(24, &mut bytes)?;
     let expected = [
         1, 2, 3, 4, 5, 6, 7, 8, 0, 0, 0, 0, 0, 0x21, 0x22, 0x23, //
         0x11, 0x22, 0x33, 0x44, 0x55, 0x66, 0x76, 0, //
-        0x31, 0x32, 0x33, 0x34, 0x35, 0x36, 0x38, 0, 0, 0, 0x31, 0x32, 0, 0, 0, 0, //
-        0, 0, 0, 0, 0, 0, 0, 0, 0, 0, 0, 0, 0, 0, 0, 0, //
-        0, 0, 0, 0, 0, 0, 0, 0, 0, 0, 0, 0, 0, 0, 0, 0,
+        0x31, 0x32, 0x33, 0x34, 0x35, 0x36, 0x38, 0, 0, 0, 0x31, 0x32,
     ];
     assert_eq!(rt; bytes.as_slice(), expected.as_slice());
-    let again = Header::load(rt.alloc(), &mut storage, true)?;
-    assert_eq!(rt; again.fields(), header.fields());
+    Ok(())
+}
+
+#[test]
+fn clears_the_autoclear_bits_once(rt: HostRuntime) -> Result<(), Fail> {
+    let mut header = changed(rt.alloc(), &[(88, &[0xff; 8])], true)?;
+    let mut storage = TraceStorage::new(rt.alloc(), Vec::new(rt.alloc()))?;
+    header.clear_autoclear(&mut storage)?;
+    header.clear_autoclear(&mut storage)?;
+    assert_eq!(rt; storage.writes(rt.alloc())?.as_slice(), [88].as_slice());
+    assert_eq!(rt; header.fields(), fields_with_backing());
+    Ok(())
+}
+
+#[test]
+fn keeps_the_autoclear_bits_at_a_fault(rt: HostRuntime) -> Result<(), Fail> {
+    let mut header = changed(rt.alloc(), &[(88, &[0xff; 8])], true)?;
+    let mut storage = TraceStorage::new(rt.alloc(), Vec::new(rt.alloc()))?;
+    storage.fail_at(1);
+    assert_eq!(rt;
+        header.clear_autoclear(&mut storage),
+        Err(StorageError::Fault)
+    );
+    assert_eq!(rt; header.autoclear(), u64::MAX);
     Ok(())
 }
 
@@ -372,14 +386,5 @@ fn hands_on_what_a_storage_refuses(rt: HostRuntime) -> Result<(), Fail> {
             Some(MetadataError::Storage(StorageError::Memory))
         );
     }
-    let mut storage = TraceStorage::new(rt.alloc(), Vec::from_slice(rt.alloc(), &WITH_BACKING)?)?;
-    storage.write(88, &[1])?;
-    let mut header = Header::load(rt.alloc(), &mut storage, true)?;
-    storage.fail_at(1);
-    assert_eq!(rt;
-        header.clear_autoclear(&mut storage),
-        Err(StorageError::Fault)
-    );
-    assert_eq!(rt; header.autoclear(), 1 << 56);
     Ok(())
 }
