@@ -20,3 +20,4 @@ pub mod Headers
 pub mod L1Moves
 pub mod ReftableMoves
 pub mod HeaderBytes
+pub mod Lists

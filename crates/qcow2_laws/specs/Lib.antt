@@ -13,4 +13,5 @@ pub mod Opened
 pub mod Changes
 pub mod Writes
 pub mod Tops
+pub mod Caches
 pub mod Samples
