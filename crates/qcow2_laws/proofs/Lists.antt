@@ -1,14 +1,14 @@
 -- Lists of cached tables, of which one is written.
-use Rattle.std.proofs.Common.{◌≡◌, ℕ, ◌+◌, ◌-◌, ◌*◌, ◌/◌, ◌%◌, ◌<◌, ◌≤◌, ◌≢◌, ◌⊎◌, inl, inr, Bool, true, false, cond, leb, ltb, List, [], ◌∷◌, ◌++◌, refl, sym, ap, subst, ◌∙◌, arith}
+use Rattle.std.proofs.Common.{◌≡◌, ℕ, ◌+◌, ◌-◌, ◌*◌, ◌/◌, ◌%◌, ◌<◌, ◌≤◌, ◌⊎◌, inl, inr, Bool, true, false, cond, leb, ltb, List, [], ◌∷◌, ◌++◌, refl, sym, ap, subst, ◌∙◌, arith}
 use Rattle.std.specs.Prelude.{◌&&◌}
 use mathlib.Core.Path.{fun_ext}
 use Rattle.std.proofs.lemmas.Bool.{cases_lt, cases_eq, cases_Bool, cond-true, cond-false, le-leb, lt-ltb, and_from, and_left, and_right, lt-leb, le-ltb}
 use Rattle.std.proofs.lemmas.Nat.{div-add-mod', mod_below}
 use Rattle.qcow2_metadata.specs.Bytes.{Bytes, is_within}
 use Rattle.qcow2_metadata.specs.Tables.{CachedTable, known, overlays}
-use Rattle.qcow2_laws.specs.Guard.{SameIn, IsPartly}
+use Rattle.qcow2_laws.specs.Guard.{IsPartly}
 use Rattle.qcow2_laws.specs.Tops.{IsSameOutside}
-use Rattle.qcow2_laws.specs.Caches.{IsFreeAt, IsFreeOf, AreApart, AreClean, IsWrittenSo}
+use Rattle.qcow2_laws.specs.Caches.{IsFreeAt, AreApart, AreClean, IsWrittenSo}
 use Rattle.qcow2_laws.proofs.Places.{in_one}
 
 -- ---- places in a cluster
@@ -40,7 +40,7 @@ cluster_within place size o some aligned same =
     let d = mod_below o size some in
     and_from (leb place o) (ltb o (place + size)) (le-leb place o (omega arith)) (lt-ltb o (place + size) (omega arith))
 
-differs : (b : Bool) → b ≡ true → b ≡ false → ⊥
+pub differs : (b : Bool) → b ≡ true → b ≡ false → ⊥
 differs b is isnt = cc
 
 pub overlays_modified : (size : ℕ) (t : CachedTable) (o : ℕ) → overlays size t o ≡ true → t.is_modified ≡ true

@@ -74,3 +74,7 @@ pub record Keeps (h : HeaderFields) (d : Direction) (p : Pending) (l2s rbs : Lis
   pub kept : IsKept h d p l2s' rbs' base'
   pub known : known_bytes (cluster_size h) l2s' rbs' base' ≡ known_bytes (cluster_size h) l2s rbs base
   pub safe : IsSafeBetween base (known_bytes (cluster_size h) l2s rbs base) base'
+
+-- no refblock is modified that nothing names yet
+abbrev pub AreSettled : HeaderFields → List CachedTable → Bytes → Type 0
+AreSettled h rbs base = (c : ℕ) → IsFreeOf (cluster_size h) rbs c ⊎ HasBlock h base c
