@@ -1,18 +1,18 @@
 -- Counts of one refblock, and entries of one L2 table, change as known.
-use Rattle.std.proofs.Common.{◌≡◌, ℕ, ◌+◌, ◌-◌, ◌*◌, ◌/◌, ◌%◌, ◌<◌, ◌≤◌, ◌≢◌, ◌⊎◌, List, [], refl, sym, ap, ◌∙◌, arith, inl, inr, subst, max}
+use Rattle.std.proofs.Common.{◌≡◌, ℕ, ◌+◌, ◌-◌, ◌*◌, ◌/◌, ◌%◌, ◌<◌, ◌≤◌, ◌≢◌, ◌⊎◌, List, [], refl, sym, ap, ◌∙◌, arith, inl, inr, subst}
 use Rattle.std.proofs.lemmas.Bool.{cases_eq, cases_lt, eq-eqb, ne_eqb, cond-true, cond-false}
-use Rattle.std.proofs.lemmas.Nat.{div-add-mod', div-mul-add, mod-mul-add, mod_below, mul-le}
+use Rattle.std.proofs.lemmas.Nat.{div-add-mod', mod_below, mul-le}
 use Rattle.qcow2_metadata.specs.Bytes.{Bytes}
 use Rattle.qcow2_metadata.specs.declared.header.HeaderFields.{HeaderFields}
 use Rattle.qcow2_metadata.specs.Header.{cluster_size, entries_per_cluster, count_width, counts_per_block}
 use Rattle.qcow2_metadata.specs.Entries.{l2_entry, reftable_entry, count, block_count, host_offset, block_offset}
 use Rattle.qcow2_metadata.specs.Cover.{cover, entry_cover}
 use Rattle.qcow2_metadata.specs.Guest.{guest_value}
-use Rattle.qcow2_metadata.specs.Named.{named_by_cover, named_for_tables}
+use Rattle.qcow2_metadata.specs.Named.{named_for_tables}
 use Rattle.qcow2_metadata.specs.Consistent.{CoverIsAligned}
 use Rattle.qcow2_laws.specs.Stops.{Gift, IsGiven, Mark, more, IsKeptAt}
 use Rattle.qcow2_laws.specs.Clusters.{Direction, L2DependsOnRb, RbDependsOnL2}
-use Rattle.qcow2_laws.specs.Guests.{guests, names, marks, named_in_either, table_at, marked_by_cover}
+use Rattle.qcow2_laws.specs.Guests.{guests, names, marks, named_in_either, table_at}
 use Rattle.qcow2_laws.specs.Guard.{Pending, cluster, IsGuarded, IsTop, SameTop, SameCovers, SameCounts, SameIn}
 use Rattle.qcow2_laws.specs.Changes.{one_at, with_held, with_fresh, without_spent, without_dropped, remapped}
 use Rattle.qcow2_laws.specs.Tops.{IsSameOutside}

@@ -3,7 +3,7 @@ use Rattle.std.proofs.Common.{◌≡◌, ℕ, ◌+◌, ◌-◌, ◌/◌, ◌<◌
 use Rattle.std.proofs.lemmas.Bool.{cases_eq, cases_lt, ne_eqb, cond-false}
 use Rattle.qcow2_metadata.specs.Bytes.{Bytes}
 use Rattle.qcow2_metadata.specs.declared.header.HeaderFields.{HeaderFields}
-use Rattle.qcow2_metadata.specs.Header.{header, cluster_size}
+use Rattle.qcow2_metadata.specs.Header.{cluster_size}
 use Rattle.qcow2_metadata.specs.Entries.{count}
 use Rattle.qcow2_metadata.specs.Cover.{cover}
 use Rattle.qcow2_metadata.specs.Guest.{guest_value}
@@ -16,7 +16,7 @@ use Rattle.qcow2_laws.specs.Guests.{guests, over_guests, names, marks, named_in_
 use Rattle.qcow2_laws.specs.Guard.{SameTop, Pending, cluster, IsGuarded, SameCovers, SameCounts}
 use Rattle.qcow2_laws.specs.Changes.{one_at, with_held, with_fresh, without_spent, without_dropped, held_to_dropped, held_to_spent, fresh_to_spent, remapped}
 use Rattle.qcow2_laws.proofs.Clusters.{Good, allocate_data, allocate_table, free_table, free_data, drop_held, undo, abandon, remap, held_unnamed}
-use Rattle.qcow2_laws.proofs.Places.{Sizes, Sizes-from}
+use Rattle.qcow2_laws.proofs.Places.{Sizes-from}
 use Rattle.qcow2_laws.proofs.Guests.{over_guests-same, over_guests-change, guest_le, names_within}
 use Rattle.qcow2_laws.proofs.Tops.{SameTop-trans, IsTop-top, SameTop-refl}
 use Rattle.qcow2_laws.proofs.Mixes.{tied, good}

@@ -1,22 +1,21 @@
 -- A guarded image is consistent, and a consistent image is guarded.
-use Rattle.std.proofs.Common.{◌≡◌, ℕ, ◌+◌, ◌-◌, ◌*◌, ◌/◌, ◌%◌, ◌<◌, ◌≤◌, ◌≢◌, Bool, true, false, cond, refl, sym, ap, ◌∙◌, arith, subst, inl, inr, max}
+use Rattle.std.proofs.Common.{◌≡◌, ℕ, ◌+◌, ◌*◌, ◌/◌, ◌<◌, ◌≢◌, Bool, cond, refl, sym, ◌∙◌, arith, subst}
 use Rattle.std.specs.Prelude.{IsTrue, Option, Some, None}
-use Rattle.std.proofs.lemmas.Bool.{cases_eq, cases_lt, eq-eqb, eqb-true, ne_eqb, cond-true, cond-false, cases_Bool}
-use Rattle.std.proofs.lemmas.Nat.{mod_below}
+use Rattle.std.proofs.lemmas.Bool.{eq-eqb, ne_eqb, cond-true, cond-false}
 use Rattle.qcow2_metadata.specs.Bytes.{Bytes}
 use Rattle.qcow2_metadata.specs.declared.header.HeaderFields.{HeaderFields}
-use Rattle.qcow2_metadata.specs.Header.{header, cluster_size, entries_per_cluster}
-use Rattle.qcow2_metadata.specs.Entries.{l1_entry, l2_entry, host_offset, is_copied, count}
-use Rattle.qcow2_metadata.specs.Cover.{cover, entry_cover}
-use Rattle.qcow2_metadata.specs.Named.{named, named_for_tables, named_by_l1_table, table_in, in_cluster}
-use Rattle.qcow2_metadata.specs.Consistent.{Consistent, IsConsistent, EachCover, CoverIsAligned, IsOwn, KeptIsOwn, CopiedIsOwn}
+use Rattle.qcow2_metadata.specs.Header.{cluster_size, entries_per_cluster}
+use Rattle.qcow2_metadata.specs.Entries.{l1_entry, is_copied, count}
+use Rattle.qcow2_metadata.specs.Cover.{cover}
+use Rattle.qcow2_metadata.specs.Named.{named, table_in, in_cluster}
+use Rattle.qcow2_metadata.specs.Consistent.{Consistent, IsConsistent, EachCover, CoverIsAligned, KeptIsOwn, CopiedIsOwn}
 use Rattle.qcow2_metadata.specs.declared.l2_mapping.L2Mapping.{L2Mapping}
 use Rattle.qcow2_metadata.specs.declared.l2_mapping.L2Mapping.TheVariants.{Data, Zero, Compressed, Uncovered}
-use Rattle.qcow2_laws.specs.Clusters.{Direction, Neither}
-use Rattle.qcow2_laws.specs.Guests.{guests, over_guests, names, marks, marked_by_cover, marked_by_kept, marked_by_l1_table, table_at}
+use Rattle.qcow2_laws.specs.Clusters.{Direction}
+use Rattle.qcow2_laws.specs.Guests.{over_guests, marks, marked_by_cover, marked_by_kept, marked_by_l1_table, table_at}
 use Rattle.qcow2_laws.specs.Guard.{Pending, cluster, IsGuarded}
-use Rattle.qcow2_laws.proofs.Sums.{term_le-sum_below, some_term}
-use Rattle.qcow2_laws.proofs.Places.{Sizes, Sizes-from, cover_at, cover_in, cover_none, has_table}
+use Rattle.qcow2_laws.proofs.Sums.{term_le-sum_below}
+use Rattle.qcow2_laws.proofs.Places.{Sizes, Sizes-from, cover_at}
 use Rattle.qcow2_laws.proofs.Clusters.{Fine, fine}
 use Rattle.qcow2_laws.proofs.Guests.{named-is, guest_le, names_within, marks-le}
 use Rattle.qcow2_laws.proofs.Mixes.{tied, good, known_guarded}

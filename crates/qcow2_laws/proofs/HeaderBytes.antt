@@ -1,16 +1,16 @@
 -- Bytes of the header are written: its other numbers, its extensions and the backing's name stay.
-use Rattle.std.proofs.Common.{◌≡◌, ℕ, ◌+◌, ◌-◌, ◌*◌, ◌/◌, ◌%◌, ◌<◌, ◌≤◌, ◌≢◌, ◌⊎◌, Bool, true, false, cond, eqb, refl, sym, ap, ◌∙◌, arith, inl, inr, subst, lit≤}
+use Rattle.std.proofs.Common.{◌≡◌, ℕ, ◌+◌, ◌*◌, ◌/◌, ◌≤◌, ◌⊎◌, Bool, true, false, cond, eqb, refl, sym, ap, ◌∙◌, arith, inl, inr, subst, lit≤}
 use Rattle.std.specs.Prelude.{◌==◌}
 use Rattle.std.specs.Str.{IsUtf8}
-use Rattle.std.proofs.lemmas.Bool.{cases_lt, cases_eq, eq-eqb, ne_eqb, cond-true, cond-false}
+use Rattle.std.proofs.lemmas.Bool.{cases_lt, eq-eqb, cond-true}
 use Rattle.std.proofs.lemmas.Nat.{div-mul-add}
-use Rattle.qcow2_metadata.specs.Bytes.{Bytes, SameFrom, number_at, bytes_from}
+use Rattle.qcow2_metadata.specs.Bytes.{Bytes, number_at}
 use Rattle.qcow2_metadata.specs.declared.header.HeaderFields.{HeaderFields}
-use Rattle.qcow2_metadata.specs.Header.{header, HeaderReads, NamesRead, IsInRange, IsWithinLimits, cluster_size}
+use Rattle.qcow2_metadata.specs.Header.{header, NamesRead, IsInRange, IsWithinLimits, cluster_size}
 use Rattle.qcow2_metadata.proofs.BigEndian.{number_at-same}
 use Rattle.qcow2_laws.specs.Clusters.{Direction}
 use Rattle.qcow2_laws.specs.Guard.{Pending, IsGuarded}
-use Rattle.qcow2_laws.specs.Tops.{Places, places_of, with_places, IsSameBut, IsSameOutside, WritesHeader, WritesAt, NameIsApart, resized, with_l1_at, with_reftable_at}
+use Rattle.qcow2_laws.specs.Tops.{Places, with_places, IsSameBut, IsSameOutside, WritesHeader, WritesAt, NameIsApart, resized, with_l1_at, with_reftable_at}
 use Rattle.qcow2_laws.proofs.Places.{Sizes, Sizes-from}
 use Rattle.qcow2_laws.proofs.Tops.{AreExtensions-same, bytes_from-same}
 

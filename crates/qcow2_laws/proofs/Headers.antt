@@ -1,28 +1,22 @@
 -- Numbers of the header are written: the size, or where the L1 table stands.
-use Rattle.std.proofs.Common.{◌≡◌, ℕ, ◌+◌, ◌-◌, ◌*◌, ◌/◌, ◌%◌, ◌<◌, ◌≤◌, ◌≢◌, ◌⊎◌, cond, List, [], refl, sym, ap, ◌∙◌, arith, inl, inr, subst}
-use Rattle.std.proofs.lemmas.Bool.{cases_eq, cases_lt}
-use Rattle.std.proofs.lemmas.Nat.{mod_below}
-use Rattle.qcow2_metadata.specs.Bytes.{Bytes, SameFrom, sum_below}
+use Rattle.std.proofs.Common.{◌≡◌, ℕ, ◌+◌, ◌/◌, ◌<◌, ◌≤◌, ◌≢◌, ◌⊎◌, List, [], refl, sym, ap, ◌∙◌, arith, subst}
+use Rattle.qcow2_metadata.specs.Bytes.{Bytes}
 use Rattle.qcow2_metadata.specs.declared.header.HeaderFields.{HeaderFields}
-use Rattle.qcow2_metadata.specs.Header.{header, HeaderReads, cluster_size, entries_per_cluster, reftable_entries, counts_per_block}
-use Rattle.qcow2_metadata.specs.Entries.{l1_entry, reftable_entry, count, count_under, host_offset, block_offset, is_copied, L1EntryReads, ReftableEntryReads}
+use Rattle.qcow2_metadata.specs.Header.{cluster_size}
+use Rattle.qcow2_metadata.specs.Entries.{l1_entry, reftable_entry, count, count_under, host_offset, block_offset, L1EntryReads, ReftableEntryReads}
 use Rattle.qcow2_metadata.specs.Cover.{cover, cover_under}
-use Rattle.qcow2_metadata.specs.Named.{in_cluster, in_run, table_in, named_for_tables, named_by_header, named_by_reftable, named_by_l1_table}
+use Rattle.qcow2_metadata.specs.Named.{in_cluster, named_for_tables, named_by_header, named_by_reftable, named_by_l1_table}
 use Rattle.qcow2_metadata.specs.Consistent.{IsAligned}
 use Rattle.qcow2_laws.specs.Stops.{IsAsked, Mark, more, IsKeptAt}
-use Rattle.qcow2_laws.specs.Clusters.{Direction, RbDependsOnL2}
-use Rattle.qcow2_laws.specs.Guests.{named_in_either, table_at, marked_by_l1_table}
-use Rattle.qcow2_laws.specs.Guard.{Pending, cluster, IsGuarded, IsTop, SameTop, SameCovers, SameCounts, SameIn}
-use Rattle.qcow2_laws.specs.Changes.{renamed}
-use Rattle.qcow2_laws.specs.Tops.{Places, with_places, places_of, KeepsCovers, IsSameOutside, WritesHeader, resized, with_l1_at, IsNewL1}
-use Rattle.qcow2_laws.proofs.Sums.{sum_below-same, sum_below-longer}
-use Rattle.qcow2_laws.proofs.Places.{Sizes, Sizes-from, l1-same, l1_entry-past}
+use Rattle.qcow2_laws.specs.Clusters.{Direction}
+use Rattle.qcow2_laws.specs.Guests.{named_in_either, marked_by_l1_table}
+use Rattle.qcow2_laws.specs.Guard.{Pending, IsGuarded, IsTop, SameTop, SameCovers, SameCounts, SameIn}
+use Rattle.qcow2_laws.specs.Tops.{Places, with_places, KeepsCovers, WritesHeader, resized}
+use Rattle.qcow2_laws.proofs.Places.{Sizes, Sizes-from}
 use Rattle.qcow2_laws.proofs.Tops.{IsTop-top, for_tables-top, l1_names-same, reftable_names-same, l1_marks-same}
 use Rattle.qcow2_laws.proofs.Consistency.{in_own}
-use Rattle.qcow2_laws.proofs.Mixes.{tied, good}
-use Rattle.qcow2_laws.proofs.Writes.{fresh_is_unnamed}
 use Rattle.qcow2_laws.proofs.Blocks.{table_apart, table_once}
-use Rattle.qcow2_laws.proofs.Shares.{shares, in_l1, in_reftable, run_has, first_l1, first_reftable, first_covers, first_counts}
+use Rattle.qcow2_laws.proofs.Shares.{shares, first_l1, first_reftable, first_covers, first_counts}
 use Rattle.qcow2_laws.proofs.Renaming.{tables_renamed, moved_kept, moved_known_kept}
 
 -- ---- what stays where the first cluster alone changes

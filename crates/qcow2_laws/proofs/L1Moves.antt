@@ -1,5 +1,5 @@
 -- The header is written to name a new, maybe longer, L1 table.
-use Rattle.std.proofs.Common.{◌≡◌, ℕ, ◌+◌, ◌-◌, ◌*◌, ◌/◌, ◌<◌, ◌≤◌, ◌≢◌, cond, List, [], refl, sym, ap, ◌∙◌, arith, inl, inr, subst}
+use Rattle.std.proofs.Common.{◌≡◌, ℕ, ◌+◌, ◌-◌, ◌*◌, ◌/◌, ◌<◌, ◌≤◌, ◌≢◌, cond, [], refl, sym, ap, ◌∙◌, arith, inl, inr, subst}
 use Rattle.std.proofs.lemmas.Bool.{cases_lt}
 use Rattle.qcow2_metadata.specs.Bytes.{Bytes, sum_below}
 use Rattle.qcow2_metadata.specs.declared.header.HeaderFields.{HeaderFields}
@@ -15,8 +15,7 @@ use Rattle.qcow2_laws.specs.Guard.{Pending, IsGuarded, IsTop, SameTop, SameIn}
 use Rattle.qcow2_laws.specs.Changes.{renamed}
 use Rattle.qcow2_laws.specs.Tops.{with_places, KeepsCovers, WritesHeader, with_l1_at, IsNewL1}
 use Rattle.qcow2_laws.proofs.Sums.{sum_below-same, sum_below-longer}
-use Rattle.qcow2_laws.proofs.Places.{Sizes, Sizes-from, l1-same, l1_entry-past}
-use Rattle.qcow2_laws.proofs.Tops.{reftable_names-same}
+use Rattle.qcow2_laws.proofs.Places.{Sizes-from, l1-same, l1_entry-past}
 use Rattle.qcow2_laws.proofs.Writes.{fresh_is_unnamed}
 use Rattle.qcow2_laws.proofs.Shares.{shares, in_l1, in_run-le, l1_has}
 use Rattle.qcow2_laws.proofs.Renaming.{tables_renamed, moved_kept, moved_known_kept}
@@ -24,7 +23,6 @@ use Rattle.qcow2_laws.proofs.Headers.{header_sizes, header_same, header_known_sa
 
 module _ (h : HeaderFields) (offset entries : ℕ) (d : Direction) (p : Pending) (base known base' known' : Bytes) (guarded : IsGuarded h d p base known)
     (writes : WritesHeader h (with_l1_at h offset entries) base known base' known') (new : IsNewL1 h d p base known offset entries) where
-
   reftable_too : (b : Bytes) (k : ℕ) → reftable_entry (with_places h (with_l1_at h offset entries)) b k ≡ reftable_entry h b k
   unfolding reftable_entry
   reftable_too b k = refl

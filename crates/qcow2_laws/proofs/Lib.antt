@@ -20,3 +20,12 @@ pub mod Headers
 pub mod L1Moves
 pub mod ReftableMoves
 pub mod HeaderBytes
+pub mod Lists
+pub mod Caches
+pub mod Leads
+pub mod Steps
+pub mod RunSteps
+pub mod Compose
+pub mod Samples
+pub mod KeptSteps
+pub mod NewImages

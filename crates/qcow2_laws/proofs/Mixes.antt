@@ -1,10 +1,8 @@
 -- An image in which some cached tables are written, in an order that is allowed, is guarded as before.
-use Rattle.std.proofs.Common.{◌≡◌, ℕ, ◌+◌, ◌*◌, ◌/◌, ◌%◌, ◌<◌, ◌≤◌, ◌≢◌, ◌⊎◌, refl, sym, ap, ◌∙◌, arith, inl, inr, subst, max}
-use Rattle.std.proofs.lemmas.Bool.{cases_eq}
-use Rattle.std.proofs.lemmas.Nat.{mod_below}
+use Rattle.std.proofs.Common.{◌≡◌, ℕ, ◌+◌, ◌*◌, ◌/◌, ◌%◌, ◌≤◌, ◌≢◌, ◌⊎◌, refl, sym, ap, ◌∙◌, arith, inl, inr, subst, max}
 use Rattle.qcow2_metadata.specs.Bytes.{Bytes, SameFrom}
 use Rattle.qcow2_metadata.specs.declared.header.HeaderFields.{HeaderFields}
-use Rattle.qcow2_metadata.specs.Header.{cluster_size, reftable_entries, entries_per_cluster, counts_per_block}
+use Rattle.qcow2_metadata.specs.Header.{cluster_size, entries_per_cluster, counts_per_block}
 use Rattle.qcow2_metadata.specs.Entries.{reftable_entry, count, host_offset, block_offset}
 use Rattle.qcow2_metadata.specs.Cover.{cover}
 use Rattle.qcow2_metadata.specs.Named.{named_by_cover}
@@ -12,7 +10,7 @@ use Rattle.qcow2_metadata.specs.Consistent.{CoverIsAligned}
 use Rattle.qcow2_metadata.specs.declared.l2_mapping.L2Mapping.{L2Mapping}
 use Rattle.qcow2_laws.specs.Clusters.{Direction, Neither, L2DependsOnRb, RbDependsOnL2}
 use Rattle.qcow2_laws.specs.Guests.{over_guests, names, marks, marked_by_cover, named_in_either, table_at}
-use Rattle.qcow2_laws.specs.Guard.{IsTop, SameTop, Pending, cluster, IsGuarded, IsPartly, SameIn, SameCovers, SameCounts, IsInOrder, IsMixed, MayTurn}
+use Rattle.qcow2_laws.specs.Guard.{IsTop, SameTop, Pending, cluster, IsGuarded, IsPartly, SameCovers, IsInOrder, IsMixed, MayTurn}
 use Rattle.qcow2_laws.proofs.Clusters.{Tied, Good, Nearer, InOrder, mix, turn_from_free, turn_to_l2, turn_to_rb, turn_free, turn_free_too}
 use Rattle.qcow2_laws.proofs.Places.{Sizes, Sizes-from, SameFrom-in, SameFrom-sym, l1-same, reftable-same, has_table, has_block, count-same, cover-same}
 use Rattle.qcow2_laws.proofs.Guests.{over_guests-le, over_guests-same, marks-le, marks-all}
@@ -134,6 +132,10 @@ module _ (h : HeaderFields) (d : Direction) (p : Pending) (base known b : Bytes)
       let fixed = for_tables-top h base b c kept in
       let sole = sole-top h base b c kept in
       subst (λ k. Good d k (p.surplus c)) (λ j. record (cluster h p b known c) { fixed = fixed j; sole = sole j }) before
+
+  -- a mix names nothing that neither names
+  pub mixed_either : (c : ℕ) → named_in_either h b known c ≤ named_in_either h base known c
+  mixed_either c = (nearer c).in_either
 
   pub mixed_guarded : IsGuarded h d p b known
   mixed_guarded = record {

@@ -1,26 +1,23 @@
 -- A reftable entry that is written to name a refblock keeps the guard, and what was kept.
-use Rattle.std.proofs.Common.{◌≡◌, ℕ, ◌+◌, ◌-◌, ◌*◌, ◌/◌, ◌%◌, ◌<◌, ◌≤◌, ◌≢◌, ◌⊎◌, cond, ltb, List, [], refl, sym, ap, ◌∙◌, arith, inl, inr, subst}
-use mathlib.Core.Path.{fun_ext}
-use Rattle.std.proofs.lemmas.Bool.{cases_eq, cases_lt, eq-eqb, ne_eqb, cond-true, cond-false}
+use Rattle.std.proofs.Common.{◌≡◌, ℕ, ◌+◌, ◌-◌, ◌*◌, ◌/◌, ◌%◌, ◌<◌, ◌≤◌, ◌≢◌, ltb, [], refl, sym, ap, ◌∙◌, arith, inl, inr, subst}
+use Rattle.std.proofs.lemmas.Bool.{cases_eq, cases_lt}
 use Rattle.std.proofs.lemmas.Nat.{mod_below}
-use Rattle.qcow2_metadata.specs.Bytes.{Bytes, SameFrom, sum_below}
+use Rattle.qcow2_metadata.specs.Bytes.{Bytes, SameFrom}
 use Rattle.qcow2_metadata.specs.declared.header.HeaderFields.{HeaderFields}
 use Rattle.qcow2_metadata.specs.Header.{cluster_size, reftable_entries, count_width, counts_per_block}
-use Rattle.qcow2_metadata.specs.Entries.{l1_entry, reftable_entry, count, block_count, host_offset, block_offset, is_copied, L1EntryReads, ReftableEntryReads}
-use Rattle.qcow2_metadata.specs.Named.{table_in, named_for_tables, named_by_reftable, named_by_l1_table}
+use Rattle.qcow2_metadata.specs.Entries.{l1_entry, reftable_entry, count, block_count, host_offset, block_offset, L1EntryReads, ReftableEntryReads}
+use Rattle.qcow2_metadata.specs.Named.{table_in, named_for_tables, named_by_reftable}
 use Rattle.qcow2_metadata.specs.Consistent.{IsAligned}
 use Rattle.qcow2_metadata.proofs.BigEndian.{number_at-same}
 use Rattle.qcow2_laws.specs.Stops.{Mark, IsKeptAt}
 use Rattle.qcow2_laws.specs.Clusters.{Direction, RbDependsOnL2}
-use Rattle.qcow2_laws.specs.Guests.{named_in_either, marked_by_l1_table}
-use Rattle.qcow2_laws.specs.Guard.{Pending, cluster, IsGuarded, IsTop, SameTop, SameCovers, SameIn}
-use Rattle.qcow2_laws.specs.Changes.{one_at, named_now}
+use Rattle.qcow2_laws.specs.Guests.{named_in_either}
+use Rattle.qcow2_laws.specs.Guard.{Pending, IsGuarded, IsTop, SameTop, SameCovers, SameIn}
+use Rattle.qcow2_laws.specs.Changes.{named_now}
 use Rattle.qcow2_laws.specs.Tops.{places_of, IsSameBut, IsSameOutside, WritesReftableEntry, IsNewBlock}
-use Rattle.qcow2_laws.proofs.Sums.{sum_below-same, sum_below-change}
+use Rattle.qcow2_laws.proofs.Sums.{sum_below-change}
 use Rattle.qcow2_laws.proofs.Places.{Sizes, Sizes-from, SameFrom-in, cond-same, block_count-moved, count_in, count_none}
 use Rattle.qcow2_laws.proofs.Tops.{header-same, HeaderReads-same, IsTop-top, for_tables-top, l1_names-same, l1_marks-same}
-use Rattle.qcow2_laws.proofs.Changes.{one_at-le}
-use Rattle.qcow2_laws.proofs.Consistency.{table_in_own}
 use Rattle.qcow2_laws.proofs.Writes.{fresh_is_unnamed, unused_is_unnamed}
 use Rattle.qcow2_laws.proofs.Blocks.{table_apart, table_once}
 use Rattle.qcow2_laws.proofs.NewTables.{outside_eight, table_in-le, table_in-at}
@@ -103,10 +100,10 @@ module _ (h : HeaderFields) (d : Direction) (p p' : Pending) (base known base' k
       let at : block_offset (reftable_entry h b' (c / counts_per_block h)) ≡ block_offset entry = ap (λ k. block_offset (reftable_entry h b' k)) here ∙ ap block_offset is in (
         count_none h b c (ap (λ k. block_offset (reftable_entry h b k)) here ∙ none),
         count_in h b' c (λ zero. new.real (sym at ∙ zero))
-        ∙ ap (λ t. block_count b' (count_width h) t (c % counts_per_block h)) at
-        ∙ sym (block_count-moved h b b' (block_offset entry) (block_offset entry) (c % counts_per_block h) sizes (mod_below c (counts_per_block h) sizes.counts)
-        (SameFrom-in (cluster_size h) _ (block_offset entry) b b' (alike (block_offset entry / cluster_size h) apart) new.aligned refl))
-        ∙ says c here,
+            ∙ ap (λ t. block_count b' (count_width h) t (c % counts_per_block h)) at
+            ∙ sym (block_count-moved h b b' (block_offset entry) (block_offset entry) (c % counts_per_block h) sizes (mod_below c (counts_per_block h) sizes.counts)
+            (SameFrom-in (cluster_size h) _ (block_offset entry) b b' (alike (block_offset entry / cluster_size h) apart) new.aligned refl))
+            ∙ says c here,
       )
 
   known_none : block_offset (reftable_entry h known k0) ≡ 0
@@ -133,9 +130,9 @@ module _ (h : HeaderFields) (d : Direction) (p p' : Pending) (base known base' k
   empty : (c : ℕ) → 0 < s c → (count h known c ≡ 0) × (count h base c ≡ 0)
   empty c some = elim (cases_eq (c / counts_per_block h) k0) [
     | inl here ↦ (
-        (counts_new known known' known_same known_none writes.known_is new.known_says c here).0,
-        (counts_new base base' same new.none writes.is new.says c here).0,
-      )
+      (counts_new known known' known_same known_none writes.known_is new.known_says c here).0,
+      (counts_new base base' same new.none writes.is new.says c here).0,
+    )
     | inr other ↦ absurd (let zero = in_range c other in omega arith)
   ]
 

@@ -1,27 +1,24 @@
 -- An L1 entry that is written to name a fresh table keeps the guard, and what was kept.
-use Rattle.std.proofs.Common.{◌≡◌, ℕ, ◌+◌, ◌-◌, ◌*◌, ◌/◌, ◌%◌, ◌<◌, ◌≤◌, ◌≢◌, ◌⊎◌, Bool, true, false, cond, ltb, eqb, List, [], refl, sym, ap, ◌∙◌, arith, inl, inr, subst, max}
+use Rattle.std.proofs.Common.{◌≡◌, ℕ, ◌+◌, ◌-◌, ◌*◌, ◌/◌, ◌%◌, ◌<◌, ◌≤◌, ◌≢◌, Bool, true, false, cond, ltb, eqb, [], refl, sym, ap, ◌∙◌, arith, inl, inr, subst}
 use Rattle.std.proofs.lemmas.Bool.{cases_eq, cases_lt, eq-eqb, ne_eqb, cond-true, cond-false}
-use Rattle.qcow2_metadata.specs.Bytes.{Bytes, SameFrom, sum_below, number_at}
+use Rattle.qcow2_metadata.specs.Bytes.{Bytes, SameFrom}
 use Rattle.qcow2_metadata.specs.declared.header.HeaderFields.{HeaderFields}
-use Rattle.qcow2_metadata.specs.Header.{header, cluster_size, entries_per_cluster, reftable_entries}
+use Rattle.qcow2_metadata.specs.Header.{cluster_size, entries_per_cluster}
 use Rattle.qcow2_metadata.specs.Entries.{l1_entry, l2_entry, reftable_entry, count, host_offset, block_offset, is_copied, L1EntryReads, ReftableEntryReads}
 use Rattle.qcow2_metadata.specs.Cover.{cover, entry_cover}
-use Rattle.qcow2_metadata.specs.Named.{table_in, in_cluster, named_for_tables, named_by_reftable, named_by_l1_table}
+use Rattle.qcow2_metadata.specs.Named.{table_in, in_cluster, named_for_tables, named_by_l1_table}
 use Rattle.qcow2_metadata.specs.Consistent.{IsAligned}
 use Rattle.qcow2_metadata.proofs.BigEndian.{number_at-same}
 use Rattle.qcow2_laws.specs.Stops.{Mark, IsKeptAt}
-use Rattle.qcow2_laws.specs.Clusters.{Direction, Neither, L2DependsOnRb, RbDependsOnL2}
-use Rattle.qcow2_laws.specs.Guests.{names, named_in_either, table_at, marked_by_cover, marked_by_l1_table}
-use Rattle.qcow2_laws.specs.Guard.{Pending, cluster, IsGuarded, IsTop, SameTop, SameCovers, SameCounts, SameIn}
+use Rattle.qcow2_laws.specs.Clusters.{Direction}
+use Rattle.qcow2_laws.specs.Guests.{named_in_either, table_at, marked_by_l1_table}
+use Rattle.qcow2_laws.specs.Guard.{Pending, IsGuarded, IsTop, SameTop, SameCovers, SameCounts, SameIn}
 use Rattle.qcow2_laws.specs.Changes.{renamed}
 use Rattle.qcow2_laws.specs.Tops.{places_of, IsSameBut, IsSameOutside, WritesL1Entry, IsNewTable}
-use Rattle.qcow2_laws.proofs.Sums.{sum_below-same, sum_below-change}
-use Rattle.qcow2_laws.proofs.Places.{Sizes, Sizes-from, eight_in, SameFrom-in, l1-same, l1_entry-past, l2_entry-same, cover_in, cond-same}
+use Rattle.qcow2_laws.proofs.Sums.{sum_below-change}
+use Rattle.qcow2_laws.proofs.Places.{Sizes, Sizes-from, eight_in, SameFrom-in, l2_entry-same, cover_in, cond-same}
 use Rattle.qcow2_laws.proofs.Tops.{header-same, HeaderReads-same, IsTop-top, for_tables-top, reftable_names-same}
-use Rattle.qcow2_laws.proofs.Clusters.{Good, Written, rename}
-use Rattle.qcow2_laws.proofs.Guests.{l1_marks-le}
-use Rattle.qcow2_laws.proofs.Mixes.{tied, good, as_known}
-use Rattle.qcow2_laws.proofs.Writes.{fresh_is_unnamed, written_covers}
+use Rattle.qcow2_laws.proofs.Writes.{fresh_is_unnamed}
 use Rattle.qcow2_laws.proofs.Blocks.{table_apart, table_once}
 use Rattle.std.proofs.lemmas.Nat.{mod_below}
 use Rattle.qcow2_laws.proofs.Shares.{shares, in_l1, l1_has, l1_first, l1_reftable, l1_covers, l1_counts}

@@ -1,26 +1,25 @@
 -- A consistent image is guarded as it is opened.
-use Rattle.std.proofs.Common.{◌≡◌, ℕ, ◌+◌, ◌-◌, ◌*◌, ◌/◌, ◌%◌, ◌<◌, ◌≤◌, ◌≢◌, Bool, true, false, cond, eqb, refl, sym, ap, ◌∙◌, arith, subst, inl, inr, max}
-use Rattle.std.specs.Prelude.{IsTrue, Option, Some, None}
-use Rattle.std.proofs.lemmas.Bool.{cases_eq, cases_lt, cases_Bool, eq-eqb, eqb-true, cond-true, cond-false, ne_eqb}
+use Rattle.std.proofs.Common.{◌≡◌, ℕ, ◌+◌, ◌/◌, ◌%◌, ◌<◌, ◌≤◌, ◌≢◌, Bool, true, false, cond, eqb, refl, sym, ap, ◌∙◌, arith, subst, inl, inr, max}
+use Rattle.std.specs.Prelude.{Option, Some, None}
+use Rattle.std.proofs.lemmas.Bool.{cases_eq, cases_lt, eq-eqb, eqb-true}
 use Rattle.std.proofs.lemmas.Nat.{mod_below}
 use Rattle.qcow2_metadata.specs.Bytes.{Bytes}
 use Rattle.qcow2_metadata.specs.declared.header.HeaderFields.{HeaderFields}
 use Rattle.qcow2_metadata.specs.Header.{header, cluster_size, entries_per_cluster}
-use Rattle.qcow2_metadata.specs.Entries.{l1_entry, l2_entry, is_copied, count}
-use Rattle.qcow2_metadata.specs.Cover.{cover, entry_cover}
-use Rattle.qcow2_metadata.specs.Named.{named, named_for_tables, named_by_header, named_by_l1_table, table_in, in_cluster}
-use Rattle.qcow2_metadata.specs.Consistent.{Consistent, IsConsistent, EachCover, CoverIsAligned, IsOwn, KeptIsOwn, CopiedIsOwn}
+use Rattle.qcow2_metadata.specs.Entries.{l1_entry, is_copied, count}
+use Rattle.qcow2_metadata.specs.Cover.{cover}
+use Rattle.qcow2_metadata.specs.Named.{named_for_tables, named_by_l1_table, table_in, in_cluster}
+use Rattle.qcow2_metadata.specs.Consistent.{Consistent, EachCover, CoverIsAligned, IsOwn, KeptIsOwn, CopiedIsOwn}
 use Rattle.qcow2_metadata.specs.declared.l2_mapping.L2Mapping.{L2Mapping}
 use Rattle.qcow2_metadata.specs.declared.l2_mapping.L2Mapping.TheVariants.{Data, Zero, Compressed, Uncovered}
-use Rattle.qcow2_laws.specs.Clusters.{Direction, Neither, Always, BaseCovers, KnownCovers}
-use Rattle.qcow2_laws.specs.Guests.{over_guests, names, marks, named_in_either, marked_by_cover, marked_by_kept, marked_by_l1_table, table_at}
-use Rattle.qcow2_laws.specs.Guard.{Pending, cluster, IsGuarded}
+use Rattle.qcow2_laws.specs.Clusters.{Neither, Always}
+use Rattle.qcow2_laws.specs.Guests.{over_guests, names, marks, marked_by_cover, marked_by_kept, marked_by_l1_table, table_at}
+use Rattle.qcow2_laws.specs.Guard.{cluster, IsGuarded}
 use Rattle.qcow2_laws.specs.Opened.{nothing_pending, surplus_of}
 use Rattle.qcow2_laws.proofs.Sums.{some_term}
 use Rattle.qcow2_laws.proofs.Places.{Sizes, Sizes-from, cover_in, cover_none, has_table}
 use Rattle.qcow2_laws.proofs.Guests.{named-is, over_guests-same, some_guest, marks-all, l1_marks-le}
 use Rattle.qcow2_laws.proofs.Tops.{SameTop-refl}
-use Rattle.qcow2_laws.proofs.Mixes.{tied}
 
 -- what holds of each entry of each table, and of none, holds of each guest cluster
 each_cover : (h : HeaderFields) (b : Bytes) (P : L2Mapping → Type 0) → Sizes h → P Uncovered → EachCover h b P → (g : ℕ) → P (cover h b g)

@@ -1,8 +1,8 @@
 -- The header is written to name a new reftable, with new refblocks.
-use Rattle.std.proofs.Common.{◌≡◌, ℕ, ◌+◌, ◌-◌, ◌*◌, ◌/◌, ◌%◌, ◌<◌, ◌≤◌, ◌≢◌, List, [], refl, sym, ap, ◌∙◌, arith, inl, inr, subst}
+use Rattle.std.proofs.Common.{◌≡◌, ℕ, ◌+◌, ◌-◌, ◌*◌, ◌/◌, ◌%◌, ◌<◌, ◌≤◌, ◌≢◌, [], refl, sym, ap, ◌∙◌, arith, inl, inr, subst}
 use Rattle.std.proofs.lemmas.Bool.{cases_eq, cases_lt}
 use Rattle.std.proofs.lemmas.Nat.{mod_below}
-use Rattle.qcow2_metadata.specs.Bytes.{Bytes, SameFrom, sum_below}
+use Rattle.qcow2_metadata.specs.Bytes.{Bytes}
 use Rattle.qcow2_metadata.specs.declared.header.HeaderFields.{HeaderFields}
 use Rattle.qcow2_metadata.specs.Header.{cluster_size, counts_per_block, count_width}
 use Rattle.qcow2_metadata.specs.Entries.{l1_entry, reftable_entry, count, count_under, block_count, host_offset, block_offset, L1EntryReads, ReftableEntryReads}
@@ -10,15 +10,15 @@ use Rattle.qcow2_metadata.specs.Cover.{cover, cover_under}
 use Rattle.qcow2_metadata.specs.Named.{in_cluster, in_run, table_in, named_for_tables, named_by_reftable, named_by_l1_table}
 use Rattle.qcow2_metadata.specs.Consistent.{IsAligned}
 use Rattle.qcow2_laws.specs.Stops.{Mark, IsKeptAt}
-use Rattle.qcow2_laws.specs.Clusters.{Direction, RbDependsOnL2}
+use Rattle.qcow2_laws.specs.Clusters.{Direction}
 use Rattle.qcow2_laws.specs.Guests.{named_in_either, marked_by_l1_table}
-use Rattle.qcow2_laws.specs.Guard.{Pending, IsGuarded, IsTop, SameTop, SameIn, SameCovers}
+use Rattle.qcow2_laws.specs.Guard.{Pending, IsGuarded, IsTop, SameTop, SameIn}
 use Rattle.qcow2_laws.specs.Changes.{renamed}
 use Rattle.qcow2_laws.specs.Writes.{IsUnnamed}
 use Rattle.qcow2_laws.specs.Tops.{with_places, KeepsCovers, WritesHeader, with_reftable_at, IsNewReftable}
 use Rattle.qcow2_laws.proofs.Sums.{sum_below-same}
 use Rattle.qcow2_laws.proofs.Places.{Sizes, Sizes-from, SameFrom-in, reftable-same, block_count-moved, count_in, count_none}
-use Rattle.qcow2_laws.proofs.Tops.{l1_names-same, l1_marks-same}
+use Rattle.qcow2_laws.proofs.Tops.{l1_marks-same}
 use Rattle.qcow2_laws.proofs.Consistency.{in_own}
 use Rattle.qcow2_laws.proofs.Writes.{fresh_is_unnamed, unused_is_unnamed}
 use Rattle.qcow2_laws.proofs.Shares.{shares, in_reftable, reftable_has, block_has}

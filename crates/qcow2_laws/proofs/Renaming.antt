@@ -8,13 +8,13 @@ use Rattle.qcow2_metadata.specs.Entries.{count}
 use Rattle.qcow2_metadata.specs.Cover.{cover}
 use Rattle.qcow2_metadata.specs.Guest.{guest_value, value_under}
 use Rattle.qcow2_metadata.specs.Named.{named_by_cover, named_for_tables}
-use Rattle.qcow2_metadata.specs.Consistent.{CoverIsAligned, IsConsistent}
+use Rattle.qcow2_metadata.specs.Consistent.{CoverIsAligned}
 use Rattle.qcow2_metadata.specs.declared.l2_mapping.L2Mapping.{L2Mapping}
 use Rattle.qcow2_metadata.specs.declared.l2_mapping.L2Mapping.TheVariants.{Uncovered}
 use Rattle.qcow2_laws.specs.Disk.{disk}
 use Rattle.qcow2_laws.specs.Stops.{IsAsked, Mark, more, IsKeptAt}
 use Rattle.qcow2_laws.specs.Clusters.{Direction, RbDependsOnL2}
-use Rattle.qcow2_laws.specs.Guests.{guests, over_guests, names, marks, named_in_either, marked_by_cover, marked_by_l1_table}
+use Rattle.qcow2_laws.specs.Guests.{guests, over_guests, names, named_in_either, marked_by_cover, marked_by_l1_table}
 use Rattle.qcow2_laws.specs.Guard.{IsTop, SameTop, Pending, cluster, IsGuarded, SameCovers}
 use Rattle.qcow2_laws.specs.Tops.{Places, with_places, KeepsCovers}
 use Rattle.qcow2_laws.proofs.Clusters.{Good, rename}
@@ -65,15 +65,15 @@ module _ (h : HeaderFields) (a : Places) (d : Direction) (p p' : Pending) (base 
       omega arith)
 
   pub top_changed : ((c : ℕ) → Good d (record (cluster h p base known c) {
-        fixed = named_for_tables (with_places h a) base' c;
-        sole = marked_by_l1_table (with_places h a) base' c;
-        base_count = count (with_places h a) base' c;
-        known_count = count (with_places h a) known' c;
-        held = p'.held c;
-        fresh = p'.fresh c;
-        spent = p'.spent c;
-        dropped = p'.dropped c;
-      }) (p'.surplus c)) → IsGuarded (with_places h a) d p' base' known'
+    fixed = named_for_tables (with_places h a) base' c;
+    sole = marked_by_l1_table (with_places h a) base' c;
+    base_count = count (with_places h a) base' c;
+    known_count = count (with_places h a) known' c;
+    held = p'.held c;
+    fresh = p'.fresh c;
+    spent = p'.spent c;
+    dropped = p'.dropped c;
+  }) (p'.surplus c)) → IsGuarded (with_places h a) d p' base' known'
   top_changed numbers =
       let now : (c : ℕ) → Good d (cluster (with_places h a) p' base' known' c) (p'.surplus c) = λ c.
       let in_base = base_sum (named_by_cover h c) refl in
@@ -83,7 +83,12 @@ module _ (h : HeaderFields) (a : Places) (d : Direction) (p p' : Pending) (base 
       let marks_known = known_sum (marked_by_cover h c) refl in
       let marks_either = either_sum (marked_by_cover h c) refl in
       subst (λ k. Good d k (p'.surplus c)) (λ j. record (cluster (with_places h a) p' base' known' c) {
-        in_base = in_base j; in_known = in_known j; in_either = in_either j; marks_base = marks_base j; marks_known = marks_known j; marks_either = marks_either j;
+        in_base = in_base j;
+        in_known = in_known j;
+        in_either = in_either j;
+        marks_base = marks_base j;
+        marks_known = marks_known j;
+        marks_either = marks_either j;
       }) (numbers c) in
       record {
         top = top;

@@ -1,12 +1,12 @@
 -- What stands in a cluster: the header, a part of the L1 table or of the reftable, a refblock or an L2 table. Bytes that change elsewhere change nothing of it.
-use Rattle.std.proofs.Common.{◌≡◌, ℕ, ◌+◌, ◌-◌, ◌*◌, ◌/◌, ◌%◌, ◌<◌, ◌≤◌, ◌≢◌, Bool, true, false, ltb, leb, eqb, refl, sym, ap, ◌∙◌, arith, inl, inr, subst}
+use Rattle.std.proofs.Common.{◌≡◌, ℕ, ◌+◌, ◌-◌, ◌*◌, ◌/◌, ◌%◌, ◌<◌, ◌≤◌, ◌≢◌, Bool, true, false, ltb, leb, refl, sym, ap, ◌∙◌, arith, subst}
 use Rattle.std.specs.Prelude.{◌&&◌}
-use Rattle.std.proofs.lemmas.Bool.{cases_eq, cases_lt, eq-eqb, ne_eqb, cond-true, cond-false, le-leb, lt-ltb, and_from}
-use Rattle.std.proofs.lemmas.Nat.{div-add-mod', div-mul-add, mod_below, le-div, pow_pos}
-use Rattle.qcow2_metadata.specs.Bytes.{Bytes, SameFrom, sum_below, one_if}
+use Rattle.std.proofs.lemmas.Bool.{cond-true, le-leb, lt-ltb, and_from}
+use Rattle.std.proofs.lemmas.Nat.{div-add-mod', div-mul-add, mod_below, le-div}
+use Rattle.qcow2_metadata.specs.Bytes.{Bytes, SameFrom, one_if}
 use Rattle.qcow2_metadata.specs.declared.header.HeaderFields.{HeaderFields}
 use Rattle.qcow2_metadata.specs.Header.{cluster_size, entries_per_cluster, reftable_entries, counts_per_block}
-use Rattle.qcow2_metadata.specs.Entries.{l1_entry, reftable_entry, count, host_offset, block_offset}
+use Rattle.qcow2_metadata.specs.Entries.{l1_entry, reftable_entry, count, block_offset}
 use Rattle.qcow2_metadata.specs.Cover.{cover}
 use Rattle.qcow2_metadata.specs.Named.{in_cluster, in_run, table_in, named_by_header, named_by_reftable, named_by_l1_table, named_for_tables}
 use Rattle.qcow2_laws.specs.Guests.{table_at}

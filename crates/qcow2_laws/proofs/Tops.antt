@@ -2,7 +2,7 @@
 use Rattle.std.proofs.Common.{◌≡◌, ℕ, ◌+◌, ◌<◌, ◌≤◌, List, [], ◌∷◌, length, refl, sym, ap, ◌∙◌, arith, subst, cond, lit≤, add-zero, zero, suc}
 use Rattle.std.specs.Prelude.{◌==◌}
 use Rattle.std.specs.Str.{IsUtf8}
-use Rattle.qcow2_metadata.specs.Bytes.{Bytes, bytes_from, number_at, sum_below, SameFrom}
+use Rattle.qcow2_metadata.specs.Bytes.{Bytes, bytes_from, number_at, SameFrom}
 use Rattle.qcow2_metadata.specs.declared.header.HeaderFields.{HeaderFields}
 use Rattle.qcow2_metadata.specs.Header.{header, HeaderReads, NamesRead, AreExtensions, rounded_up, cluster_size, reftable_entries}
 use Rattle.qcow2_metadata.specs.Entries.{l1_entry, reftable_entry, host_offset, block_offset, is_copied, L1EntryReads, ReftableEntryReads}
@@ -12,7 +12,7 @@ use Rattle.qcow2_metadata.proofs.BigEndian.{number_at-same}
 use Rattle.qcow2_laws.specs.Guests.{marked_by_l1_table}
 use Rattle.qcow2_laws.specs.Guard.{IsTop, SameTop}
 use Rattle.qcow2_laws.proofs.Sums.{sum_below-same}
-use Rattle.qcow2_laws.proofs.Places.{SameFrom-sym, SameFrom-part, Sizes, Sizes-from}
+use Rattle.qcow2_laws.proofs.Places.{SameFrom-sym, SameFrom-part, Sizes-from}
 
 -- ---- the header's numbers, extensions and names
 

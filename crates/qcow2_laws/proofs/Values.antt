@@ -1,26 +1,26 @@
 -- Guest bytes stay where covers, and the bytes that they name, stay.
-use Rattle.std.proofs.Common.{◌≡◌, ℕ, ◌+◌, ◌-◌, ◌*◌, ◌/◌, ◌%◌, ◌<◌, ◌≤◌, ◌⊎◌, List, [], refl, sym, ap, ◌∙◌, arith, inl, inr, subst, max}
+use Rattle.std.proofs.Common.{◌≡◌, ℕ, ◌+◌, ◌-◌, ◌*◌, ◌/◌, ◌%◌, ◌<◌, ◌⊎◌, List, [], refl, sym, ap, ◌∙◌, arith, inl, inr, subst, max}
 use Rattle.std.proofs.lemmas.Bool.{cond-true, le-leb, and_from}
-use Rattle.std.proofs.lemmas.Nat.{div-add-mod', mod_below, le-div, pow_pos}
+use Rattle.std.proofs.lemmas.Nat.{mod_below, pow_pos}
 use Rattle.qcow2_metadata.specs.Bytes.{Bytes}
 use Rattle.qcow2_metadata.specs.declared.header.HeaderFields.{HeaderFields}
 use Rattle.qcow2_metadata.specs.Header.{header, cluster_size}
 use Rattle.qcow2_metadata.specs.Cover.{cover}
-use Rattle.qcow2_metadata.specs.Guest.{Value, known_byte, compressed_byte, guest_value, value_under, bytes_of_sectors}
+use Rattle.qcow2_metadata.specs.Guest.{known_byte, compressed_byte, guest_value, value_under, bytes_of_sectors}
 use Rattle.qcow2_metadata.specs.Named.{named_by_cover, in_cluster}
 use Rattle.qcow2_metadata.specs.Consistent.{CoverIsAligned, IsConsistent}
 use Rattle.qcow2_metadata.specs.declared.l2_mapping.L2Mapping.{L2Mapping}
 use Rattle.qcow2_metadata.specs.declared.l2_mapping.L2Mapping.TheVariants.{Data, Zero, Compressed, Uncovered}
 use Rattle.qcow2_laws.specs.Disk.{disk}
-use Rattle.qcow2_laws.specs.Stops.{Gift, IsGiven, IsAsked, Mark, more, IsKeptAt}
+use Rattle.qcow2_laws.specs.Stops.{Gift, IsGiven, Mark, more, IsKeptAt}
 use Rattle.qcow2_laws.specs.Clusters.{Direction}
-use Rattle.qcow2_laws.specs.Guests.{over_guests, names, named_in_either}
-use Rattle.qcow2_laws.specs.Guard.{Pending, IsGuarded, SameTop, IsMixed}
+use Rattle.qcow2_laws.specs.Guests.{names}
+use Rattle.qcow2_laws.specs.Guard.{Pending, IsGuarded, IsMixed}
 use Rattle.qcow2_laws.proofs.Places.{Sizes, Sizes-from, in_one, div_mono}
 use Rattle.qcow2_laws.proofs.Tops.{bytes_from-same, IsTop-top}
 use Rattle.qcow2_laws.proofs.Guests.{guest_le, names_within}
 use Rattle.qcow2_laws.proofs.Consistency.{in_own, guarded_consistent}
-use Rattle.qcow2_laws.proofs.Mixes.{mixed_guarded, top_kept, either_cover}
+use Rattle.qcow2_laws.proofs.Mixes.{mixed_guarded, either_cover}
 use Rattle.qcow2_laws.proofs.Stops.{kept_on, kept_either}
 
 -- the value that a cover shows is as in another image where the bytes are so in each cluster that the cover names

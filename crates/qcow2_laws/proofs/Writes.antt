@@ -1,10 +1,10 @@
 -- Writes to clusters that no table stands in keep the guard, and what was kept, with what they give.
-use Rattle.std.proofs.Common.{◌≡◌, ℕ, ◌+◌, ◌-◌, ◌*◌, ◌/◌, ◌%◌, ◌<◌, ◌≤◌, ◌≢◌, ◌⊎◌, List, [], refl, sym, ap, ◌∙◌, arith, inl, inr, subst, max}
+use Rattle.std.proofs.Common.{◌≡◌, ℕ, ◌+◌, ◌*◌, ◌/◌, ◌%◌, ◌<◌, ◌≤◌, ◌⊎◌, List, [], refl, sym, ap, ◌∙◌, arith, inl, inr, subst, max}
 use Rattle.std.proofs.lemmas.Bool.{cases_eq, cases_lt}
 use Rattle.std.proofs.lemmas.Nat.{div-add-mod', mod_below, mod-mul-add, pow_pos}
 use Rattle.qcow2_metadata.specs.Bytes.{Bytes}
 use Rattle.qcow2_metadata.specs.declared.header.HeaderFields.{HeaderFields}
-use Rattle.qcow2_metadata.specs.Header.{header, cluster_size}
+use Rattle.qcow2_metadata.specs.Header.{cluster_size}
 use Rattle.qcow2_metadata.specs.Entries.{count}
 use Rattle.qcow2_metadata.specs.Cover.{cover}
 use Rattle.qcow2_metadata.specs.Guest.{Value, known_byte, guest_value, value_under}
@@ -14,17 +14,17 @@ use Rattle.qcow2_metadata.specs.declared.l2_mapping.L2Mapping.{L2Mapping}
 use Rattle.qcow2_metadata.specs.declared.l2_mapping.L2Mapping.TheVariants.{Data, Zero, Compressed, Uncovered}
 use Rattle.qcow2_laws.specs.Stops.{Gift, IsGiven, Mark, more, IsKeptAt}
 use Rattle.qcow2_laws.specs.Clusters.{Direction, Neither, L2DependsOnRb, RbDependsOnL2}
-use Rattle.qcow2_laws.specs.Guests.{over_guests, names, marks, named_in_either, marked_by_cover, marked_by_l1_table}
+use Rattle.qcow2_laws.specs.Guests.{over_guests, names, marks, named_in_either, marked_by_cover}
 use Rattle.qcow2_laws.specs.Guard.{Pending, cluster, IsGuarded, SameTop, SameCovers, SameCounts, SameIn}
-use Rattle.qcow2_laws.specs.Writes.{IsUnnamed, IsInPlace, IsWritten}
-use Rattle.qcow2_laws.proofs.Clusters.{Good, Written, held_unnamed, fresh_unnamed, unused_unnamed, named_once, table_unnamed}
+use Rattle.qcow2_laws.specs.Writes.{IsUnnamed, IsWritten}
+use Rattle.qcow2_laws.proofs.Clusters.{Good, Written, held_unnamed, fresh_unnamed, unused_unnamed, named_once}
 use Rattle.qcow2_laws.proofs.Places.{Sizes, Sizes-from, in_one}
 use Rattle.qcow2_laws.proofs.Guests.{over_guests-same, guest_le, two_guests_le, names_within, marks-le}
 use Rattle.qcow2_laws.proofs.Tops.{SameTop-sym, SameTop-trans, for_tables-top, sole-top, IsTop-top}
-use Rattle.qcow2_laws.proofs.Mixes.{tied, good, known_guarded, as_known}
+use Rattle.qcow2_laws.proofs.Mixes.{tied, good, as_known}
 use Rattle.qcow2_laws.proofs.Consistency.{in_own, guarded_consistent, known_consistent}
 use Rattle.qcow2_laws.proofs.Shares.{top_stays, covers_stay, counts_stay}
-use Rattle.qcow2_laws.proofs.Values.{guest_value-same, shown, kept_shown}
+use Rattle.qcow2_laws.proofs.Values.{shown, kept_shown}
 
 -- ---- two images that mean the same are guarded alike
 module _ (h : HeaderFields) (d : Direction) (p : Pending) (base known base' known' : Bytes) (guarded : IsGuarded h d p base known)
@@ -45,8 +45,16 @@ module _ (h : HeaderFields) (d : Direction) (p : Pending) (base known base' know
       let marks_known = over_guests-same h (marks h known c) (marks h known' c) (λ g. ap (marked_by_cover h c) (known_covers g)) in
       let marks_either = sym (either_same (marked_by_cover h c)) in
       subst (λ k. Good d k (p.surplus c)) (λ j. record (cluster h p base' known' c) {
-        fixed = fixed j; sole = sole j; in_base = in_base j; in_known = in_known j; in_either = in_either j;
-        marks_base = marks_base j; marks_known = marks_known j; marks_either = marks_either j; base_count = counts c j; known_count = known_counts c j;
+        fixed = fixed j;
+        sole = sole j;
+        in_base = in_base j;
+        in_known = in_known j;
+        in_either = in_either j;
+        marks_base = marks_base j;
+        marks_known = marks_known j;
+        marks_either = marks_either j;
+        base_count = counts c j;
+        known_count = known_counts c j;
       }) (good h d p base known guarded c)
 
   pub same_guarded : IsGuarded h d p base' known'
@@ -208,10 +216,13 @@ module _ (h : HeaderFields) (d : Direction) (p : Pending) (base known base' know
           let marked : 0 < marks h known (place / cluster_size h) (o / cluster_size h) = subst (λ n. 0 < marks h known (place / cluster_size h) n) here at.marked in
           let owns = guarded.own (o / cluster_size h) (place / cluster_size h) marked in
           let both : base' place ≡ known' place = written.agree place (guarded.unlaid place (let n = named_too (place / cluster_size h) (o / cluster_size h) (omega arith) in omega arith)) in
-          inr (omega arith, (λ rest. elim (at.gives place refl) [
-            | inl same ↦ inl same.0
-            | inr gift ↦ inr (subst (λ n. IsGiven given o (known_byte n)) (sym both) (gift_at place o at.guest here rest gift))
-          ]))
+          inr (
+            omega arith,
+            (λ rest. elim (at.gives place refl) [
+              | inl same ↦ inl same.0
+              | inr gift ↦ inr (subst (λ n. IsGiven given o (known_byte n)) (sym both) (gift_at place o at.guest here rest gift))
+            ]),
+          )
     ]
   ]
 
@@ -224,10 +235,13 @@ module _ (h : HeaderFields) (d : Direction) (p : Pending) (base known base' know
       | inr at ↦
           let here = its_own (place / cluster_size h) at.guest (o / cluster_size h) at.marked (omega arith) in
           let marked : 0 < marks h known (place / cluster_size h) (o / cluster_size h) = subst (λ n. 0 < marks h known (place / cluster_size h) n) here at.marked in
-          inr (marked, (λ rest. elim (at.gives place refl) [
-            | inl same ↦ inl same.1
-            | inr gift ↦ inr (gift_at place o at.guest here rest gift)
-          ]))
+          inr (
+            marked,
+            (λ rest. elim (at.gives place refl) [
+              | inl same ↦ inl same.1
+              | inr gift ↦ inr (gift_at place o at.guest here rest gift)
+            ]),
+          )
     ]
   ]
 

@@ -1,5 +1,5 @@
 -- How often all guest clusters name a host cluster, and mark it copied.
-use Rattle.std.specs.Prelude.{ℕ, ◌*◌, ◌≡◌, Bool, Option, Some, None, max, if◌then◌else◌}
+use Rattle.std.specs.Prelude.{ℕ, ◌*◌, Bool, Option, Some, None, max, if◌then◌else◌}
 use Rattle.qcow2_metadata.specs.Bytes.{Bytes, sum_below}
 use Rattle.qcow2_metadata.specs.declared.header.HeaderFields.{HeaderFields}
 use Rattle.qcow2_metadata.specs.Header.{entries_per_cluster}

@@ -13,4 +13,9 @@ pub mod Opened
 pub mod Changes
 pub mod Writes
 pub mod Tops
+pub mod Caches
+pub mod Leads
+pub mod Steps
+pub mod NewImages
+pub mod Laws
 pub mod Samples
