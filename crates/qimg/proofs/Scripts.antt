@@ -41,7 +41,7 @@ asked_more (Some text) (Some between) left commands all command e before (rest, 
   rest = rest;
   left_is = left_is;
   asks =
-    let same : between ≡ before.rest = cc in
-    let asks : Asks text (map order commands) between = rw same before.asks in
-    rw e (rw (map-append order commands (command ∷ [])) (and_then (map order commands) between (order command) rest asks begins));
+      let same : between ≡ before.rest = cc in
+      let asks : Asks text (map order commands) between = rw same before.asks in
+      rw e (rw (map-append order commands (command ∷ [])) (and_then (map order commands) between (order command) rest asks begins));
 }

@@ -2,11 +2,11 @@
 use Rattle.std.specs.Prelude.{ℕ, Bool, true, false, codes, List, [], ◌∷◌, ◌++◌, length, ◌==◌, Option, Some, None, if◌then◌else◌}
 use Rattle.std.specs.Fmt.{decimal, option_append, with_newline}
 use Rattle.hex.specs.Hex.{encode_lower}
-use Rattle.qcow2_image.specs.declared.image.Mapping.{Mapping}
-use Rattle.qcow2_image.specs.declared.image.MappingKind.{MappingKind}
-use Rattle.qcow2_image.specs.declared.image.MappingKind.TheVariants as K
-use Rattle.qcow2_image.specs.declared.image.Place.{Place}
-use Rattle.qcow2_image.specs.declared.image.Place.TheVariants as P
+use Rattle.qcow2_image.specs.declared.mapping.Mapping.{Mapping}
+use Rattle.qcow2_image.specs.declared.mapping.MappingKind.{MappingKind}
+use Rattle.qcow2_image.specs.declared.mapping.MappingKind.TheVariants as K
+use Rattle.qcow2_image.specs.declared.mapping.Place.{Place}
+use Rattle.qcow2_image.specs.declared.mapping.Place.TheVariants as P
 use Rattle.qcow2_session.specs.declared.session.Reply.{Reply}
 use Rattle.qcow2_session.specs.declared.session.Reply.TheVariants as R
 

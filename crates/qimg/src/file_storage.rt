@@ -47,7 +47,9 @@ fn told<T>(faults: &mut u64, answer: io::Result<T>) -> Result<T, StorageError>
 // Past the end of the file it reads zeros, also where no file can reach.
 fn read_all<F: FileExt>(file: &F, at: u64, buf: &mut [u8]) -> io::Result<()> {
     let reachable = (i64::MAX as u64).saturating_sub(at);
-    let within = usize::try_from(reachable).unwrap_or(usize::MAX).min(buf.len());
+    let within = usize::try_from(reachable)
+        .unwrap_or(usize::MAX)
+        .min(buf.len());
     let (within, beyond) = buf.split_at_mut(within);
     beyond.fill(0);
     read_within(file, at, within)

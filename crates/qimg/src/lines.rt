@@ -124,9 +124,11 @@ fn fill_command(alloc: Global, operands: &[&str]) -> Result<Command, LineError>
     let [offset, length, pair] = operands else {
         return Err(LineError::Unreadable);
     };
-    let (Some(offset), Some(length), Some(byte)) =
-        (number(offset), short_length(length), byte_of_pair(pair))
-    else {
+    let (Some(offset), Some(length), Some(byte)) = (
+        number(offset),
+        short_length(length),
+        byte_of_pair(pair),
+    ) else {
         return Err(LineError::Unreadable);
     };
     let bytes = vec![in alloc; byte; length as usize]?;
@@ -137,7 +139,11 @@ fn short_length(word: &str) -> Option<u64>
     ensures { result ≡ length_within (number_of word.now) }
 {
     let length = number(word)?;
-    if length <= LONGEST { Some(length) } else { None }
+    if length <= LONGEST {
+        Some(length)
+    } else {
+        None
+    }
 }
 
 fn is_lower_hex(word: &str) -> bool

@@ -51,7 +51,10 @@ fn run_words(rt: &HostRuntime, given: &[String], output: &mut impl Write) -> u8 
 }
 
 fn main(rt: HostRuntime) -> ExitCode {
-    let status = match (given_words(&rt), BufWriter::new(rt.alloc(), io::writer(&rt))) {
+    let status = match (
+        given_words(&rt),
+        BufWriter::new(rt.alloc(), io::writer(&rt)),
+    ) {
         (Ok(given), Ok(mut output)) => run_words(&rt, &given, &mut output),
         _ => refuse(&mut io::writer(&rt), &ImageError::Memory),
     };

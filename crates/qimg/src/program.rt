@@ -114,19 +114,31 @@ fn run_script<S: Storage, W: Write>(
 ) -> io::Result<bool>
     ensures { result ≡ Ok true → (script.now.is_cut ≡ false) × IsAnsweredOnce (vec_len script.now.commands) (W.contents output.old) (W.contents output.new) }
 {
-    let is_accepted = match Qcow2::<S>::open_image(alloc, storage, true, 1) {
-        Ok(image) => run_on(alloc, image, &script.commands, output)?,
-        Err((_storage, e)) => {
-            print_refusal(output, &e)?;
-            false
-        }
-    };
+    let is_accepted = open_and_run(alloc, storage, &script.commands, output)?;
     if script.is_cut {
         let number = script.commands.len() + 1;
         writeln!(output, "bad line {number}")?;
         return Ok(false);
     }
     Ok(is_accepted)
+}
+
+// The same of commands alone.
+fn open_and_run<S: Storage, W: Write>(
+    alloc: Global,
+    storage: S,
+    commands: &[Command],
+    output: &mut W,
+) -> io::Result<bool>
+    ensures { result ≡ Ok true → IsAnsweredOnce (length commands.now) (W.contents output.old) (W.contents output.new) }
+{
+    match Qcow2::<S>::open_image(alloc, storage, true, 1) {
+        Ok(image) => run_on(alloc, image, commands, output),
+        Err((_storage, e)) => {
+            print_refusal(output, &e)?;
+            Ok(false)
+        }
+    }
 }
 
 // The same of an image, which is flushed whatever could be printed.

@@ -17,7 +17,9 @@ pub enum Invocation<'a> {
         width: u64,
     },
     /// Run the commands of the standard input on an image.
-    Run { file: &'a str },
+    Run {
+        file: &'a str,
+    },
 }
 
 /// Reads the words after the program's name; None where they can't be read.

@@ -88,7 +88,11 @@ fn makes_images(rt: HostRuntime) {
         };
         let mut output = Vec::new(alloc);
         let storage = MemStorage::new(Vec::new(alloc));
-        assert_eq!(rt; create(alloc, storage, &asked, &mut output), wanted, "{cluster}");
+        assert_eq!(rt;
+            create(alloc, storage, &asked, &mut output),
+            wanted,
+            "{cluster}"
+        );
         assert_eq!(rt; output.as_slice(), want.as_bytes(), "{cluster}");
     }
 }
@@ -98,11 +102,27 @@ fn answers_scripts(rt: HostRuntime) -> Result<(), Fail> {
     let alloc = rt.alloc();
     for (text, want, wanted) in [
         ("", "", 0),
-        ("map 0 65536\nsize\n", "zero 32768 implicit\nsize 65536\n", 0),
+        (
+            "map 0 65536\nsize\n",
+            "zero 32768 implicit\nsize 65536\n",
+            0,
+        ),
         ("fill 0 512 11\nmap 0 512", "ok\nraw image 2560 512 rw\n", 0),
-        ("write 1 ab0c\nflush\nread 0 4\n", "ok\nok\ndata 00ab0c00\n", 0),
-        ("read 65536 1\nread 65536 0\n", "refused 2 beyond size\ndata -\n", 1),
-        ("read 65536 1\n\nsize\n", "refused 2 beyond size\nbad line 2\n", 2),
+        (
+            "write 1 ab0c\nflush\nread 0 4\n",
+            "ok\nok\ndata 00ab0c00\n",
+            0,
+        ),
+        (
+            "read 65536 1\nread 65536 0\n",
+            "refused 2 beyond size\ndata -\n",
+            1,
+        ),
+        (
+            "read 65536 1\n\nsize\n",
+            "refused 2 beyond size\nbad line 2\n",
+            2,
+        ),
         ("size\r\n", "bad line 1\n", 2),
         ("zero 0 512\n", "bad line 1\n", 2),
     ] {
@@ -124,7 +144,10 @@ fn refuses_what_is_no_image(rt: HostRuntime) -> Result<(), Fail> {
     ] {
         let mut output = Vec::new(alloc);
         let storage = MemStorage::new(vec![in alloc; 81, 70, 73]?);
-        assert_eq!(rt; script(alloc, storage, &mut text.as_bytes(), &mut output), wanted);
+        assert_eq!(rt;
+            script(alloc, storage, &mut text.as_bytes(), &mut output),
+            wanted
+        );
         assert_eq!(rt; output.as_slice(), want.as_bytes(), "{text}");
     }
     Ok(())
@@ -141,7 +164,11 @@ fn stops_at_a_read_that_fails(rt: HostRuntime) -> Result<(), Fail> {
         let bytes = b"size\nsi";
         let mut input = BufReader::new(alloc, Broken { bytes, kind })?;
         let storage = MemStorage::new(image(alloc)?);
-        assert_eq!(rt; script(alloc, storage, &mut input, &mut output), wanted, "{kind:?}");
+        assert_eq!(rt;
+            script(alloc, storage, &mut input, &mut output),
+            wanted,
+            "{kind:?}"
+        );
         assert_eq!(rt; output.as_slice(), want.as_bytes(), "{kind:?}");
     }
     Ok(())
@@ -172,7 +199,11 @@ fn says_that_the_flush_was_refused(rt: HostRuntime) -> Result<(), Fail> {
             assert_eq!(rt; status, 1, "{n}");
             refused_last += 1;
         } else if refused_last == 0 {
-            assert_eq!(rt; output.as_slice(), b"refused 15 storage\n".as_slice(), "{n}");
+            assert_eq!(rt;
+                output.as_slice(),
+                b"refused 15 storage\n".as_slice(),
+                "{n}"
+            );
             assert_eq!(rt; status, 1, "{n}");
         } else {
             assert_eq!(rt; output.as_slice(), b"size 65536\n".as_slice(), "{n}");
