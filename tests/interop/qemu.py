@@ -109,7 +109,9 @@ def mapped_by_qemu(image, size, cluster):
     offsets = [None] * -(-size // cluster)
     for run_ in json.loads(tool("qemu-img", "map", "--output=json", "-f", "qcow2", image)):
         if "offset" in run_:
-            for at in range(run_["start"], run_["start"] + run_["length"], cluster):
+            # a run may begin within a cluster, where the file has a hole before it
+            first = run_["start"] - run_["start"] % cluster
+            for at in range(first, run_["start"] + run_["length"], cluster):
                 offsets[at // cluster] = run_["offset"] + at - run_["start"]
     return offsets
 
