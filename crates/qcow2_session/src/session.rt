@@ -464,6 +464,3 @@ fn discard_all<S: Storage, F: WrappedFormat<S>>(image: &mut Qcow2<S, F>, slots: 
     }
     prepared.destroy_empty();
 }
-
-#[cfg(test)]
-mod tests;

@@ -1,0 +1,126 @@
+#!/usr/bin/env python3
+"""The order of the program's writes on a real file, as the system's calls show it, and the file that a stop between two of them leaves."""
+
+import os
+import re
+import subprocess
+
+import checks
+from checks import create, equal
+
+WRITE = re.compile(r'pwrite64\(\d+, "((?:\\x[0-9a-f]{2})*)", (\d+), (\d+)\)\s+= (\d+)')
+
+
+def written(words, given=b""):
+    """Runs the program, and answers each write to a file: where, and the bytes."""
+    done = subprocess.run(
+        ["strace", "-f", "-qq", "-xx", "-s", "1000000", "-e", "trace=pwrite64", "-o", "calls", checks.QIMG, *words],
+        input=given, stdout=subprocess.PIPE, timeout=600)
+    equal(done.returncode, 0, "status")
+    answered = []
+    with open("calls") as calls:
+        for text, length, at, gone in WRITE.findall(calls.read()):
+            data = bytes.fromhex(text.replace("\\x", ""))
+            equal((len(data), int(gone)), (int(length), int(length)), "length of a write")
+            answered.append((int(at), data))
+    return done.stdout.decode(), answered
+
+
+def places(writes):
+    return [(at, len(data)) for at, data in writes]
+
+
+def content(file):
+    with open(file, "rb") as f:
+        return f.read()
+
+
+def leave(file, before, writes):
+    """Writes the file that a stop after these writes leaves."""
+    held = bytearray(before)
+    for at, data in writes:
+        held.extend(bytes(max(0, at + len(data) - len(held))))
+        held[at:at + len(data)] = data
+    with open(file, "wb") as f:
+        f.write(held)
+
+
+def is_consistent(file, what):
+    """QEMU's check finds leaks at worst."""
+    done = subprocess.run(["qemu-img", "check", "-f", "qcow2", file], stdout=subprocess.PIPE, stderr=subprocess.STDOUT)
+    if done.returncode not in (0, 3):
+        raise AssertionError(f"{what}: qemu-img check ended with {done.returncode}: {done.stdout.decode(errors='replace')}")
+
+
+def creates_in_order():
+    said, writes = written(["create", "disk", "65536", "512", "16", "none"])
+    equal(said, "created\n", "output")
+    equal(places(writes), [(1024, 512), (512, 512), (0, 112), (1024, 512), (1536, 16), (36, 12), (24, 8)], "writes")
+    equal(writes[0][1], bytes.fromhex("000100010001") + bytes(506), "first counts")
+    equal(writes[1][1], bytes.fromhex("0000000000000400") + bytes(504), "reftable")
+    equal(writes[3][1], bytes.fromhex("0001000100010001") + bytes(504), "last counts")
+    equal(writes[4][1], bytes(16), "L1 table")
+    equal(writes[5][1], bytes.fromhex("000000020000000000000600"), "L1's length and offset")
+    equal(writes[6][1], bytes.fromhex("0000000000010000"), "size")
+    leave("again", b"", writes)
+    equal(content("disk")[:1552], content("again")[:1552], "the writes make the file")
+    # Before the header there is no image, and then one of no bytes, up to the write of the size.
+    for stop in range(3, len(writes) + 1):
+        leave("stopped", b"", writes[:stop])
+        is_consistent("stopped", f"a stop after {stop} writes")
+        size = 65536 if stop == len(writes) else 0
+        equal(checks.qimg("run", "stopped", given=f"read {size} 1\n".encode())[1], "refused 2 beyond size\n", "past the size")
+        said = checks.qimg("run", "stopped", given=f"read 0 {min(size, 4)}\n".encode())
+        equal(said, (0, "data 00000000\n" if size else "data -\n"), f"read after {stop} writes")
+
+
+def writes_in_order():
+    create("disk", 65536, 512)
+    before = content("disk")
+    said, writes = written(["run", "disk"], b"fill 0 512 11\nflush\n")
+    equal(said, "ok\nok\n", "output")
+    equal([at for at, _ in writes], [1024, 2048, 1536, 2560, 1024, 2048], "offsets")
+    equal(writes[0][1][:12], bytes.fromhex("00010001000100010001") + bytes(2), "counts before the L2 table is entered")
+    equal(writes[1][1], bytes(512), "a new L2 table maps nothing")
+    equal(writes[2][1], bytes.fromhex("8000000000000800"), "L1 entry")
+    equal(writes[3][1], b"\x11" * 512, "guest bytes")
+    equal(writes[4][1][:14], bytes.fromhex("000100010001000100010001") + bytes(2), "counts before the mapping")
+    equal(writes[5][1], bytes.fromhex("8000000000000a00") + bytes(504), "L2 entry")
+    for stop in range(len(writes) + 1):
+        leave("stopped", before, writes[:stop])
+        is_consistent("stopped", f"a stop after {stop} writes")
+        value = "11" if stop == len(writes) else "00"
+        equal(checks.qimg("run", "stopped", given=b"read 0 4\n"), (0, f"data {value * 4}\n"), f"a stop after {stop} writes")
+
+
+def stops_leave_leaks_at_worst(size, cluster, width, lines, is_old_or_given):
+    """Stops after each write of some commands: the file is consistent, and each guest cluster is as flushed or as given."""
+    create("disk", size, cluster, width)
+    before = content("disk")
+    said, writes = written(["run", "disk"], lines)
+    equal(set(said.split()), {"ok"}, "output")
+    for stop in range(len(writes) + 1):
+        leave("stopped", before, writes[:stop])
+        is_consistent("stopped", f"a stop after {stop} writes")
+        reads = b"".join(b"read %d 1\n" % at for at in range(0, size, cluster))
+        status, text = checks.qimg("run", "stopped", given=reads)
+        equal(status, 0, "status")
+        values = [line.removeprefix("data ") for line in text.splitlines()]
+        for index, value in enumerate(values):
+            if not is_old_or_given(index, value):
+                raise AssertionError(f"a stop after {stop} writes: guest cluster {index} reads {value}")
+
+
+def main():
+    tests = checks.Checks()
+    tests.run("creates in order", creates_in_order)
+    tests.run("writes in order", writes_in_order)
+    for width in (1, 8, 16, 64):
+        tests.run(f"stops, width {width}", stops_leave_leaks_at_worst, 65536, 512, width,
+                  b"".join(b"fill %d 512 %02x\n" % (at * 512, at + 1) for at in range(0, 128, 9)) + b"flush\nfill 0 512 99\nflush\n",
+                  lambda index, value: value == "00" or (index % 9 == 0 and value in {f"{index + 1:02x}"} | ({"99"} if index == 0 else set())))
+    tests.done()
+
+
+if __name__ == "__main__":
+    main()
