@@ -1,8 +1,10 @@
 -- Numbers of the header are written: the size, or where the L1 table stands.
-use Rattle.std.proofs.Common.{◌≡◌, ℕ, ◌+◌, ◌/◌, ◌<◌, ◌≤◌, ◌≢◌, ◌⊎◌, List, [], refl, sym, ap, ◌∙◌, arith, subst}
+use Rattle.std.proofs.Common.{◌≡◌, ℕ, ◌+◌, ◌*◌, ◌/◌, ◌<◌, ◌≤◌, ◌≢◌, ◌⊎◌, inl, inr, List, [], refl, sym, ap, ◌∙◌, arith, subst}
+use Rattle.std.proofs.lemmas.Bool.{cases_lt}
+use Rattle.std.proofs.lemmas.Nat.{div-mul-add}
 use Rattle.qcow2_metadata.specs.Bytes.{Bytes}
 use Rattle.qcow2_metadata.specs.declared.header.HeaderFields.{HeaderFields}
-use Rattle.qcow2_metadata.specs.Header.{cluster_size}
+use Rattle.qcow2_metadata.specs.Header.{header, HeaderReads, cluster_size}
 use Rattle.qcow2_metadata.specs.Entries.{l1_entry, reftable_entry, count, count_under, host_offset, block_offset, L1EntryReads, ReftableEntryReads}
 use Rattle.qcow2_metadata.specs.Cover.{cover, cover_under}
 use Rattle.qcow2_metadata.specs.Named.{in_cluster, named_for_tables, named_by_header, named_by_reftable, named_by_l1_table}
@@ -11,13 +13,33 @@ use Rattle.qcow2_laws.specs.Stops.{IsAsked, Mark, more, IsKeptAt}
 use Rattle.qcow2_laws.specs.Clusters.{Direction}
 use Rattle.qcow2_laws.specs.Guests.{named_in_either, marked_by_l1_table}
 use Rattle.qcow2_laws.specs.Guard.{Pending, IsGuarded, IsTop, SameTop, SameCovers, SameCounts, SameIn}
-use Rattle.qcow2_laws.specs.Tops.{Places, with_places, KeepsCovers, WritesHeader, resized}
+use Rattle.qcow2_laws.specs.Tops.{Places, with_places, KeepsCovers, IsSameBut, IsSameOutside, WritesHeader, WritesAt, resized}
 use Rattle.qcow2_laws.proofs.Places.{Sizes, Sizes-from}
 use Rattle.qcow2_laws.proofs.Tops.{IsTop-top, for_tables-top, l1_names-same, reftable_names-same, l1_marks-same}
 use Rattle.qcow2_laws.proofs.Consistency.{in_own}
 use Rattle.qcow2_laws.proofs.Blocks.{table_apart, table_once}
 use Rattle.qcow2_laws.proofs.Shares.{shares, first_l1, first_reftable, first_covers, first_counts}
 use Rattle.qcow2_laws.proofs.Renaming.{tables_renamed, moved_kept, moved_known_kept}
+
+-- bytes among the header's own numbers are written, and it reads
+pub writes_header : (h : HeaderFields) (d : Direction) (p : Pending) (base known base' known' : Bytes) → IsGuarded h d p base known → (a : Places) (place n : ℕ) → WritesAt place n base known base' known' → place + n ≤ 104
+    → header base' ≡ with_places h a → HeaderReads (with_places h a) base' → WritesHeader h a base known base' known'
+writes_header h d p base known base' known' guarded a place n writes small is reads = record {
+  others = outside base base' writes.others;
+  known_others = outside known known' writes.known_others;
+  same_first = λ i lt. writes.agree (0 + i) (guarded.same_top.first_cluster i lt);
+  is = is;
+  reads = reads;
+}
+  where
+    outside : (b b' : Bytes) → IsSameBut place n b b' → IsSameOutside (cluster_size h) 0 b b'
+    outside b b' but o other = but o (elim (cases_lt o (place + n)) [
+      | inl lt ↦ absurd (other (
+          let l = (Sizes-from h base guarded.top.header_reads).large in
+          let e : o ≡ 0 * cluster_size h + o = omega arith in
+          ap (λ k. k / cluster_size h) e ∙ div-mul-add 0 (cluster_size h) o (omega arith)))
+      | inr past ↦ inr past
+    ])
 
 -- ---- what stays where the first cluster alone changes
 module _ (h : HeaderFields) (a : Places) (d : Direction) (p : Pending) (base known base' known' : Bytes) (guarded : IsGuarded h d p base known) (writes : WritesHeader h a base known base' known') where

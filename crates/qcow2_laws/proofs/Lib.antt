@@ -19,7 +19,6 @@ pub mod NewBlocks
 pub mod Headers
 pub mod L1Moves
 pub mod ReftableMoves
-pub mod HeaderBytes
 pub mod Lists
 pub mod Caches
 pub mod Leads
@@ -29,3 +28,5 @@ pub mod Compose
 pub mod Samples
 pub mod KeptSteps
 pub mod NewImages
+pub mod CachedChanges
+pub mod Beside

@@ -17,7 +17,7 @@ use Rattle.qcow2_laws.specs.Changes.{named_now}
 use Rattle.qcow2_laws.specs.Tops.{places_of, IsSameBut, IsSameOutside, WritesReftableEntry, IsNewBlock}
 use Rattle.qcow2_laws.proofs.Sums.{sum_below-change}
 use Rattle.qcow2_laws.proofs.Places.{Sizes, Sizes-from, SameFrom-in, cond-same, block_count-moved, count_in, count_none}
-use Rattle.qcow2_laws.proofs.Tops.{header-same, HeaderReads-same, IsTop-top, for_tables-top, l1_names-same, l1_marks-same}
+use Rattle.qcow2_laws.proofs.Tops.{header-first, HeaderReads-same, IsTop-top, for_tables-top, l1_names-same, l1_marks-same}
 use Rattle.qcow2_laws.proofs.Writes.{fresh_is_unnamed, unused_is_unnamed}
 use Rattle.qcow2_laws.proofs.Blocks.{table_apart, table_once}
 use Rattle.qcow2_laws.proofs.NewTables.{outside_eight, table_in-le, table_in-at}
@@ -144,7 +144,7 @@ module _ (h : HeaderFields) (d : Direction) (p p' : Pending) (base known base' k
 
   top_now : IsTop h base'
   top_now = record {
-    header_is = sym (header-same base base' (λ i lt. first i (let l = sizes.large in omega arith))) ∙ guarded.top.header_is;
+    header_is = sym (header-first h base base' sizes first) ∙ guarded.top.header_is;
     header_reads = HeaderReads-same h base base' first guarded.top.header_reads;
     l1_reads = λ i lt. subst L1EntryReads (l1 i) (guarded.top.l1_reads i lt);
     reftable_reads = λ k lt. each_block ReftableEntryReads new.reads k (guarded.top.reftable_reads k lt);

@@ -29,11 +29,11 @@ module _ (h : HeaderFields) (b : Bytes) (new : IsNewImage h b) where
   -- the size of clusters in sectors
   sectors : cluster_size h ≡ 2 ^ (h.cluster_bits - 9) * 512
   sectors =
-      let split : h.cluster_bits ≡ h.cluster_bits - 9 + 9 = omega (arith, new.reads.in_range.cluster_bits.0) in
+      let split : h.cluster_bits ≡ h.cluster_bits - 9 + 9 = omega (arith, new.reads.well_formed.in_range.cluster_bits.0) in
       ap (λ n. 2 ^ n) split ∙ pow-add 2 (h.cluster_bits - 9) 9
 
   few : 2 ^ (h.cluster_bits - 9) ≤ 2 ^ 12
-  few = let le : h.cluster_bits - 9 ≤ 12 = omega (arith, new.reads.in_range.cluster_bits.1) in pow_mono le
+  few = let le : h.cluster_bits - 9 ≤ 12 = omega (arith, new.reads.well_formed.in_range.cluster_bits.1) in pow_mono le
 
   block_at : block_offset (2 * cluster_size h) ≡ 2 * cluster_size h
   block_at =
@@ -156,7 +156,7 @@ module _ (h : HeaderFields) (b : Bytes) (new : IsNewImage h b) where
 
   enough : 3 < counts_per_block h
   enough =
-      let narrow : 2 ^ h.refcount_order ≤ 2 ^ 6 = pow_mono new.reads.in_range.refcount_order in
+      let narrow : 2 ^ h.refcount_order ≤ 2 ^ 6 = pow_mono new.reads.well_formed.in_range.refcount_order in
       let large = sizes.large in
       let le : 4 ≤ cluster_size h * 8 / count_width h = le-div 4 (cluster_size h * 8) (count_width h) (pow_pos h.refcount_order) (omega arith) in
       omega arith

@@ -17,7 +17,7 @@ use Rattle.qcow2_laws.specs.Changes.{renamed}
 use Rattle.qcow2_laws.specs.Tops.{places_of, IsSameBut, IsSameOutside, WritesL1Entry, IsNewTable}
 use Rattle.qcow2_laws.proofs.Sums.{sum_below-change}
 use Rattle.qcow2_laws.proofs.Places.{Sizes, Sizes-from, eight_in, SameFrom-in, l2_entry-same, cover_in, cond-same}
-use Rattle.qcow2_laws.proofs.Tops.{header-same, HeaderReads-same, IsTop-top, for_tables-top, reftable_names-same}
+use Rattle.qcow2_laws.proofs.Tops.{header-first, HeaderReads-same, IsTop-top, for_tables-top, reftable_names-same}
 use Rattle.qcow2_laws.proofs.Writes.{fresh_is_unnamed}
 use Rattle.qcow2_laws.proofs.Blocks.{table_apart, table_once}
 use Rattle.std.proofs.lemmas.Nat.{mod_below}
@@ -158,7 +158,7 @@ module _ (h : HeaderFields) (d : Direction) (p : Pending) (base known base' know
 
   top_now : IsTop h base'
   top_now = record {
-    header_is = sym (header-same base base' (λ i lt. first i (let l = sizes.large in omega arith))) ∙ guarded.top.header_is;
+    header_is = sym (header-first h base base' sizes first) ∙ guarded.top.header_is;
     header_reads = HeaderReads-same h base base' first guarded.top.header_reads;
     l1_reads = λ i lt. each_l1 L1EntryReads new.reads i (guarded.top.l1_reads i lt);
     reftable_reads = λ k lt. subst ReftableEntryReads (reftable k) (guarded.top.reftable_reads k lt);

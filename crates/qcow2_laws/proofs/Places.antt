@@ -26,10 +26,10 @@ pub record Sizes (h : HeaderFields) : Type 0 where
 -- an image whose header reads has whole sizes
 pub Sizes-from : (h : HeaderFields) (b : Bytes) → HeaderReads h b → Sizes h
 Sizes-from h b reads =
-    let split : h.cluster_bits ≡ h.cluster_bits - 3 + 3 = omega (arith, reads.in_range.cluster_bits.0) in
+    let split : h.cluster_bits ≡ h.cluster_bits - 3 + 3 = omega (arith, reads.well_formed.in_range.cluster_bits.0) in
     let size : 2 ^ h.cluster_bits ≡ 2 ^ (h.cluster_bits - 3) * 2 ^ 3 = ap (λ n. 2 ^ n) split ∙ pow-add 2 (h.cluster_bits - 3) 3 in
-    let large : 2 ^ 9 ≤ 2 ^ h.cluster_bits = pow_mono reads.in_range.cluster_bits.0 in
-    let narrow : 2 ^ h.refcount_order ≤ 2 ^ 6 = pow_mono reads.in_range.refcount_order in
+    let large : 2 ^ 9 ≤ 2 ^ h.cluster_bits = pow_mono reads.well_formed.in_range.cluster_bits.0 in
+    let narrow : 2 ^ h.refcount_order ≤ 2 ^ 6 = pow_mono reads.well_formed.in_range.refcount_order in
     record {
       some = omega arith;
       large = omega arith;
@@ -37,7 +37,7 @@ Sizes-from h b reads =
       entries = omega arith;
       eights = omega arith;
       counts = le-div 1 (cluster_size h * 8) (count_width h) (pow_pos h.refcount_order) (omega arith);
-      order = reads.in_range.refcount_order;
+      order = reads.well_formed.in_range.refcount_order;
     }
 
 -- ---- places in a cluster

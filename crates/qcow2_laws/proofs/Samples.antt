@@ -125,21 +125,18 @@ tables_once (suc (suc (suc c))) some = absurd (some (tables-past (suc (suc (suc 
 reads : HeaderReads h b
 unfolding number_at
 reads = record {
-  in_range = record {
-    magic = refl;
-    version = inr refl;
-    cluster_bits = (lit≤ tt, lit≤ tt);
-    refcount_order = lit≤ tt;
-    not_encrypted = refl;
-    incompatible = inl refl;
-    header_length = ((λ _. lit≤ tt), lit≤ tt);
-  };
-  names = record {
-    extensions = [];
-    are_extensions = (lit≤ tt, refl);
-    names_text = λ k d lt. absurd (omega arith);
-    backing_inside = λ some. absurd (some refl);
-    backing_text = λ some. absurd (some refl);
+  well_formed = record {
+    in_range = record {
+      magic = refl;
+      version = inr refl;
+      cluster_bits = (lit≤ tt, lit≤ tt);
+      refcount_order = lit≤ tt;
+      not_encrypted = refl;
+      incompatible = inl refl;
+      header_length = ((λ _. lit≤ tt), lit≤ tt);
+    };
+    extensions = record { list = []; stand = (lit≤ tt, refl) };
+    backing_name = record { inside = λ some. absurd (some refl); behind_header = λ some. absurd (some refl); text = λ some. absurd (some refl) };
   };
   within_limits = record { few_l1_entries = lit≤ tt; few_reftable_entries = lit≤ tt };
 }

@@ -136,12 +136,8 @@ pub record IsNewReftable (h : HeaderFields) (d : Direction) (p : Pending) (base 
   pub fresh : (c : ℕ) → counted c < in_run h c offset (clusters * cluster_size h) + blocks c → (0 < p.fresh c) × (count h base c ≡ count h known c)
   pub written : d ≡ RbDependsOnL2 → SameCovers h base known
 
--- n bytes of the header from a place on become the same, on the storage and as known
+-- n bytes from a place on become the same, on the storage and as known
 pub record WritesAt (place n : ℕ) (base known base' known' : Bytes) : Type 0 where
   pub others : IsSameBut place n base base'
   pub known_others : IsSameBut place n known known'
   pub agree : (o : ℕ) → base o ≡ known o → base' o ≡ known' o
-
--- the backing's name stands elsewhere
-abbrev pub NameIsApart : HeaderFields → ℕ → ℕ → Type 0
-NameIsApart h place n = h.backing_offset ≢ 0 → (place + n ≤ h.backing_offset) ⊎ (h.backing_offset + h.backing_length ≤ place)
