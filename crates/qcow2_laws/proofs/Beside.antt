@@ -1,0 +1,139 @@
+-- Storage writes beside the modified tables of the caches: what is known changes as the storage does.
+use Rattle.std.proofs.Common.{◌≡◌, ℕ, ◌+◌, ◌*◌, ◌/◌, ◌%◌, ◌<◌, ◌≤◌, ◌≢◌, ◌⊎◌, ◌==◌, inl, inr, List, [], length, refl, sym, ap, ◌∙◌, subst, arith, max}
+use Rattle.std.proofs.lemmas.Bool.{cases_eq, cases_lt}
+use Rattle.std.proofs.lemmas.Nat.{div-mul-add, mod_below}
+use Rattle.image_access.specs.Contents.{overwritten}
+use Rattle.image_access.proofs.Bytes.{byte_at-overwritten_outside}
+use Rattle.qcow2_metadata.specs.Bytes.{Bytes, byte_at, SameFrom}
+use Rattle.qcow2_metadata.specs.declared.header.HeaderFields.{HeaderFields}
+use Rattle.qcow2_metadata.specs.Header.{header, HeaderReads, cluster_size, entries_per_cluster, reftable_entries, has_data_file}
+use Rattle.qcow2_metadata.specs.Entries.{l1_entry, l2_entry, reftable_entry, host_offset}
+use Rattle.qcow2_metadata.specs.Cover.{cover, entry_cover}
+use Rattle.qcow2_metadata.specs.Named.{in_cluster}
+use Rattle.qcow2_metadata.specs.Tables.{CachedTable}
+use Rattle.qcow2_metadata.specs.declared.l2_mapping.L2Mapping.TheVariants.{Uncovered}
+use Rattle.qcow2_laws.specs.Stops.{Gift}
+use Rattle.qcow2_laws.specs.Clusters.{Direction}
+use Rattle.qcow2_laws.specs.Guests.{marks, table_at}
+use Rattle.qcow2_laws.specs.Guard.{Pending, SameIn}
+use Rattle.qcow2_laws.specs.Writes.{IsUnnamed, MayChange, IsWritten}
+use Rattle.qcow2_laws.specs.Tops.{Places, with_places, IsSameBut, IsSameOutside, WritesL1Entry, WritesReftableEntry, WritesAt, WritesHeader}
+use Rattle.qcow2_laws.specs.Caches.{known_bytes, IsFreeAt, IsFreeOf, IsKept, AreSettled}
+use Rattle.qcow2_laws.proofs.Places.{Sizes, l1-same, reftable-same, cover_none, cover_in}
+use Rattle.qcow2_laws.proofs.Consistency.{in_own}
+use Rattle.qcow2_laws.proofs.Shares.{in_l1, in_reftable, l1_has, reftable_has}
+use Rattle.qcow2_laws.proofs.Caches.{kept_sizes, rbs_free, l2s_free, unnamed_free_l2, unnamed_free_rb}
+use Rattle.qcow2_laws.proofs.KeptSteps.{known_beside, known_is_base, still_agree}
+use Rattle.qcow2_laws.proofs.Writes.{marked_alone}
+use Rattle.qcow2_metadata.proofs.MadeEntries.{cover_of-0}
+use Rattle.qcow2_laws.proofs.Headers.{writes_header}
+
+-- a storage's write, as what stands at each place
+pub overwritten_but : (contents : List ℕ) (at : ℕ) (bytes : List ℕ) → IsSameBut at (length bytes) (byte_at contents) (byte_at (overwritten contents at bytes))
+overwritten_but contents at bytes o outside = sym (byte_at-overwritten_outside contents at bytes o outside)
+
+module _ (h : HeaderFields) (d : Direction) (p : Pending) (l2s rbs : List CachedTable) (base base' : Bytes) (kept : IsKept h d p l2s rbs base) where
+  sizes : Sizes h
+  sizes = kept_sizes h d p l2s rbs base kept
+
+  -- no modified table lies in the clusters of the header, the L1 table and the reftable
+  pub first_free : (c : ℕ) → 0 < in_cluster h c 0 + in_l1 h c + in_reftable h c → IsFreeOf (cluster_size h) l2s c × IsFreeOf (cluster_size h) rbs c
+  first_free c some = (l2s_free h d p l2s rbs base kept c (omega arith), rbs_free h d p l2s rbs base kept c (omega arith))
+
+  but_known : (place n : ℕ) → IsSameBut place n base base' → IsSameBut place n (known_bytes (cluster_size h) l2s rbs base) (known_bytes (cluster_size h) l2s rbs base')
+  but_known place n but o outside = known_beside (cluster_size h) l2s rbs base base' o (but o outside)
+
+  -- in a cluster that no modified table lies in, what is known is on the storage
+  free_in : (c : ℕ) → IsFreeOf (cluster_size h) l2s c × IsFreeOf (cluster_size h) rbs c → SameIn (cluster_size h) c (known_bytes (cluster_size h) l2s rbs base') base'
+  free_in c free o in_c = known_is_base (cluster_size h) l2s rbs base' o (free.0 o in_c) (free.1 o in_c)
+
+  -- ---- an entry of the L1 table, and one of the reftable
+  pub l1_entry_beside : (i entry : ℕ) → i < h.l1_entries → IsSameBut (h.l1_offset + 8 * i) 8 base base' → l1_entry h base' i ≡ entry
+      → WritesL1Entry h base (known_bytes (cluster_size h) l2s rbs base) base' (known_bytes (cluster_size h) l2s rbs base') i entry
+  l1_entry_beside i entry lt but is = record {
+    within = lt;
+    others = but;
+    known_others = but_known (h.l1_offset + 8 * i) 8 but;
+    is = is;
+    known_is =
+        let aligned = kept.guarded.top.l1_aligned in
+        l1-same h (known_bytes (cluster_size h) l2s rbs base') base' i sizes aligned (λ _.
+        free_in ((h.l1_offset + 8 * i) / cluster_size h) (first_free ((h.l1_offset + 8 * i) / cluster_size h) (let one = l1_has h i sizes aligned lt in omega arith))) ∙ is;
+  }
+
+  pub reftable_entry_beside : (k entry : ℕ) → k < reftable_entries h → IsSameBut (h.reftable_offset + 8 * k) 8 base base' → reftable_entry h base' k ≡ entry
+      → WritesReftableEntry h base (known_bytes (cluster_size h) l2s rbs base) base' (known_bytes (cluster_size h) l2s rbs base') k entry
+  reftable_entry_beside k entry lt but is = record {
+    within = lt;
+    others = but;
+    known_others = but_known (h.reftable_offset + 8 * k) 8 but;
+    is = is;
+    known_is =
+        let aligned = kept.guarded.top.reftable_aligned in
+        reftable-same h (known_bytes (cluster_size h) l2s rbs base') base' k sizes aligned (λ _.
+        free_in ((h.reftable_offset + 8 * k) / cluster_size h) (first_free ((h.reftable_offset + 8 * k) / cluster_size h) (let one = reftable_has h k sizes aligned lt in omega arith))) ∙ is;
+  }
+
+  -- ---- the header
+  pub header_beside : (a : Places) (place n : ℕ) → place + n ≤ 104 → IsSameBut place n base base' → header base' ≡ with_places h a → HeaderReads (with_places h a) base'
+      → WritesHeader h a base (known_bytes (cluster_size h) l2s rbs base) base' (known_bytes (cluster_size h) l2s rbs base')
+  header_beside a place n small but is reads =
+      writes_header h d p base (known_bytes (cluster_size h) l2s rbs base) base' (known_bytes (cluster_size h) l2s rbs base') kept.guarded a place n
+      (record {
+        others = but;
+        known_others = but_known place n but;
+        agree = still_agree (cluster_size h) l2s rbs base base' (λ o. elim (cases_lt o (place + n)) [
+          | inr past ↦ inl (but o (inr past))
+          | inl lt ↦
+              let large = sizes.large in
+              let e : o ≡ 0 * cluster_size h + o = omega arith in
+              let zero : o / cluster_size h ≡ 0 = ap (λ k. k / cluster_size h) e ∙ div-mul-add 0 (cluster_size h) o (omega arith) in
+              let z : 0 / cluster_size h ≡ 0 = omega arith in
+              let one : in_cluster h 0 0 ≡ 1 = ap (λ m. in_cluster h m 0) (sym z) ∙ in_own h 0 in
+              let free = first_free 0 (omega arith) in
+              inr (free.0 o zero, free.1 o zero)
+        ]);
+      }) small is reads
+
+  -- ---- data, and bytes of new tables: no refblock is modified that nothing names
+  pub data_beside : (given : List Gift) → ((c : ℕ) → SameIn (cluster_size h) c base base' ⊎ (IsFreeOf (cluster_size h) l2s c × IsFreeOf (cluster_size h) rbs c))
+      → ((c : ℕ) → MayChange h base (known_bytes (cluster_size h) l2s rbs base) base' (known_bytes (cluster_size h) l2s rbs base') given c)
+      → IsWritten h base (known_bytes (cluster_size h) l2s rbs base) base' (known_bytes (cluster_size h) l2s rbs base') given
+  data_beside given free each = record {
+    agree = still_agree (cluster_size h) l2s rbs base base' (λ o. elim (free (o / cluster_size h)) [
+      | inl same ↦ inl (same o refl)
+      | inr none ↦ inr (none.0 o refl, none.1 o refl)
+    ]);
+    each = each;
+  }
+
+  -- a cluster that stays on the storage stays as known
+  pub same_beside : (c : ℕ) → SameIn (cluster_size h) c base base' → SameIn (cluster_size h) c base base' × SameIn (cluster_size h) c (known_bytes (cluster_size h) l2s rbs base) (known_bytes (cluster_size h) l2s rbs base')
+  same_beside c same = (same, (λ o in_c. known_beside (cluster_size h) l2s rbs base base' o (same o in_c)))
+
+  pub unnamed_free : AreSettled h rbs base → (c : ℕ) → IsUnnamed h base (known_bytes (cluster_size h) l2s rbs base) c → IsFreeOf (cluster_size h) l2s c × IsFreeOf (cluster_size h) rbs c
+  unnamed_free settled c unnamed = (unnamed_free_l2 h d p l2s rbs base kept c unnamed.no_table, unnamed_free_rb h d p l2s rbs base kept settled c unnamed.no_table)
+
+  -- nor does one lie in a cluster that a guest cluster is known to have to itself
+  pub in_place_free : AreSettled h rbs base → (c g : ℕ) → 0 < marks h (known_bytes (cluster_size h) l2s rbs base) c g → IsFreeOf (cluster_size h) l2s c × IsFreeOf (cluster_size h) rbs c
+  in_place_free settled c g marked =
+      let alone = marked_alone h d p base (known_bytes (cluster_size h) l2s rbs base) kept.guarded c g marked in
+      (unnamed_free_l2 h d p l2s rbs base kept c alone.0, unnamed_free_rb h d p l2s rbs base kept settled c alone.0)
+
+-- ---- what a new L2 table says
+
+-- one of zeros says what no table said
+pub zeros_say : (h : HeaderFields) (b : Bytes) (i place : ℕ) → table_at h b i ≡ 0 → ((j : ℕ) → l2_entry b place j ≡ 0)
+    → (g : ℕ) → g / entries_per_cluster h ≡ i → cover h b g ≡ entry_cover h (l2_entry b place (g % entries_per_cluster h))
+zeros_say h b i place none zeros g here =
+    cover_none h b g (ap (table_at h b) here ∙ none)
+    ∙ sym (ap (entry_cover h) (zeros (g % entries_per_cluster h)) ∙ cover_of-0 h.cluster_bits (h.version == 3) (has_data_file h))
+
+-- a copy says what the table said
+pub copy_says : (h : HeaderFields) (b : Bytes) (i place : ℕ) → table_at h b i ≢ 0 → ((j : ℕ) → j < entries_per_cluster h → l2_entry b place j ≡ l2_entry b (table_at h b i) j) → 0 < entries_per_cluster h
+    → (g : ℕ) → g / entries_per_cluster h ≡ i → cover h b g ≡ entry_cover h (l2_entry b place (g % entries_per_cluster h))
+copy_says h b i place real same some g here =
+    let at = ap (table_at h b) here in
+    cover_in h b g (λ none. real (sym at ∙ none))
+    ∙ ap (λ t. entry_cover h (l2_entry b t (g % entries_per_cluster h))) at
+    ∙ ap (entry_cover h) (sym (same (g % entries_per_cluster h) (mod_below g (entries_per_cluster h) some)))

@@ -1,0 +1,205 @@
+-- Changes of a cached table's bytes, as changes of what is known.
+use Rattle.std.proofs.Common.{◌≡◌, ℕ, ◌+◌, ◌-◌, ◌*◌, ◌/◌, ◌%◌, ◌<◌, ◌≤◌, ◌≢◌, ◌⊎◌, Bool, true, false, cond, inl, inr, List, [], Option, Some, None, refl, sym, ap, ◌∙◌, subst, arith, max}
+use Rattle.std.proofs.lemmas.Bool.{cases_eq, cases_lt, eq-eqb, ne_eqb, cond-true, cond-false}
+use Rattle.std.proofs.lemmas.Nat.{mod_below}
+use Rattle.qcow2_metadata.specs.Bytes.{Bytes}
+use Rattle.qcow2_metadata.specs.declared.header.HeaderFields.{HeaderFields}
+use Rattle.qcow2_metadata.specs.Header.{cluster_size, entries_per_cluster, count_width, counts_per_block}
+use Rattle.qcow2_metadata.specs.Entries.{l2_entry, block_count, host_offset}
+use Rattle.qcow2_metadata.specs.Cover.{cover, entry_cover}
+use Rattle.qcow2_metadata.specs.Guest.{guest_value, value_under}
+use Rattle.qcow2_metadata.specs.Named.{in_cluster, named_by_cover}
+use Rattle.qcow2_metadata.specs.Consistent.{CoverIsAligned}
+use Rattle.qcow2_metadata.specs.TableBytes.{entry_at, ChangesEntry}
+use Rattle.qcow2_metadata.specs.RefBlock.{count_in, ChangesCount}
+use Rattle.qcow2_metadata.specs.L2Table.{copied_host, zero_cover}
+use Rattle.qcow2_metadata.specs.declared.l2_mapping.L2Mapping.{L2Mapping}
+use Rattle.qcow2_metadata.specs.declared.l2_mapping.L2Mapping.TheVariants.{Data, Zero, Compressed, Uncovered}
+use Rattle.qcow2_laws.specs.Guests.{names, marks, table_at, marked_by_cover}
+use Rattle.qcow2_laws.specs.Changes.{one_at}
+use Rattle.qcow2_laws.specs.Tops.{IsSameOutside}
+use Rattle.qcow2_laws.specs.Leads.{Stand, IsSound}
+use Rattle.qcow2_laws.specs.Steps.{block_of, CountRises, CountFalls, EntryChanges, guest_at}
+use Rattle.qcow2_laws.proofs.Places.{Sizes, Sizes-from, count_in as count_found, cover_at}
+use Rattle.qcow2_laws.proofs.Tops.{IsTop-top}
+use Rattle.qcow2_laws.proofs.Guests.{guest_le, names_within, marks-le}
+use Rattle.qcow2_laws.proofs.Consistency.{in_own}
+use Rattle.qcow2_laws.proofs.Writes.{held_is_unnamed}
+use Rattle.qcow2_laws.proofs.Blocks.{entry_top}
+
+one_here : (i : ℕ) → one_at i i ≡ 1
+one_here i = cond-true {A = ℕ} _ 1 0 (eq-eqb i i refl)
+
+none_there : (i j : ℕ) → j ≢ i → one_at i j ≡ 0
+none_there i j ne = cond-false {A = ℕ} _ 1 0 (ne_eqb j i ne)
+
+-- ---- a count of a cached refblock, whose counts are those known before and after
+module _ (h : HeaderFields) (known known' : Bytes) (c : ℕ) (old new : List ℕ) (sizes : Sizes h) (real : block_of h known c ≢ 0)
+    (outside : IsSameOutside (cluster_size h) (block_of h known c / cluster_size h) known known')
+    (was : (i : ℕ) → i < counts_per_block h → count_in h.refcount_order old i ≡ block_count known (count_width h) (block_of h known c) i)
+    (now : (i : ℕ) → i < counts_per_block h → count_in h.refcount_order new i ≡ block_count known' (count_width h) (block_of h known c) i) where
+  pub count_rises : ChangesCount h.refcount_order old new (c % counts_per_block h) (count_in h.refcount_order old (c % counts_per_block h) + 1) → count_in h.refcount_order old (c % counts_per_block h) ≡ 0 → CountRises h known known' c
+  count_rises changes free = record {
+    real = real;
+    outside = outside;
+    more = λ i lt. let a = was i lt in let b = now i lt in elim (cases_eq i (c % counts_per_block h)) [
+      | inl here ↦
+          let one : one_at (c % counts_per_block h) i ≡ 1 = ap (one_at (c % counts_per_block h)) here ∙ one_here (c % counts_per_block h) in
+          let after : count_in h.refcount_order new i ≡ count_in h.refcount_order old i + 1 = ap (count_in h.refcount_order new) here ∙ changes.count_is ∙ ap (λ n. count_in h.refcount_order old n + 1) (sym here) in
+          omega arith
+      | inr other ↦ let none = none_there (c % counts_per_block h) i other in let same = changes.others i other in omega arith
+    ];
+    free = count_found h known c real ∙ sym (was (c % counts_per_block h) (mod_below c (counts_per_block h) sizes.counts)) ∙ free;
+  }
+
+  pub count_falls : ChangesCount h.refcount_order old new (c % counts_per_block h) (count_in h.refcount_order old (c % counts_per_block h) - 1) → 0 < count_in h.refcount_order old (c % counts_per_block h) → CountFalls h known known' c
+  count_falls changes some = record {
+    real = real;
+    outside = outside;
+    less = λ i lt. let a = was i lt in let b = now i lt in elim (cases_eq i (c % counts_per_block h)) [
+      | inl here ↦
+          let one : one_at (c % counts_per_block h) i ≡ 1 = ap (one_at (c % counts_per_block h)) here ∙ one_here (c % counts_per_block h) in
+          let after : count_in h.refcount_order new i ≡ count_in h.refcount_order old i - 1 = ap (count_in h.refcount_order new) here ∙ changes.count_is ∙ ap (λ n. count_in h.refcount_order old n - 1) (sym here) in
+          let before : 0 < count_in h.refcount_order old i = subst (λ n. 0 < count_in h.refcount_order old n) (sym here) some in
+          omega arith
+      | inr other ↦ let none = none_there (c % counts_per_block h) i other in let same = changes.others i other in omega arith
+    ];
+  }
+
+-- ---- what an entry takes from what is held, where its cover becomes another one
+pub record Takes (h : HeaderFields) (enough : ℕ → ℕ) (before after : L2Mapping) : Type 0 where
+  pub held : (c : ℕ) → named_by_cover h c after - named_by_cover h c before ≤ enough c
+  pub marked : (c : ℕ) → marked_by_cover h c after ≤ marked_by_cover h c before + (named_by_cover h c after - named_by_cover h c before)
+  pub aligned : CoverIsAligned h after
+
+-- it names nothing any more
+pub takes_nothing : (h : HeaderFields) (held : ℕ → ℕ) (before : L2Mapping) → Takes h held before Uncovered × Takes h held before (Zero None)
+takes_nothing h held before = (
+  record { held = λ c. omega arith; marked = λ c. omega arith; aligned = tt },
+  record { held = λ c. omega arith; marked = λ c. omega arith; aligned = tt },
+)
+
+-- it keeps the host cluster that it marked copied
+copied_alone : (h : HeaderFields) (host c : ℕ) (v : L2Mapping) → copied_host v ≡ Some host → (named_by_cover h c v ≡ in_cluster h c host) × (marked_by_cover h c v ≡ in_cluster h c host)
+copied_alone h host c (Data place true) is = let e : place ≡ host = some_is is in (ap (in_cluster h c) e, ap (in_cluster h c) e)
+  where
+    some_is : {a b : ℕ} → Some a ≡ Some b → a ≡ b
+    some_is e = cc
+copied_alone h host c (Data place false) is = absurd (cc)
+copied_alone h host c (Zero None) is = absurd (cc)
+copied_alone h host c (Zero (Some k)) is = kept_alone k is
+  where
+    some_is : {a b : ℕ} → Some a ≡ Some b → a ≡ b
+    some_is e = cc
+    by_mark : (place : ℕ) (mark : Bool) → cond mark (Some place) None ≡ Some host → (in_cluster h c place ≡ in_cluster h c host) × (cond mark (in_cluster h c place) 0 ≡ in_cluster h c host)
+    by_mark place true e = let p : place ≡ host = some_is e in (ap (in_cluster h c) p, ap (in_cluster h c) p)
+    by_mark place false e = absurd (cc)
+    kept_alone : (k : ℕ × Bool) → cond k.1 (Some k.0) None ≡ Some host → (in_cluster h c k.0 ≡ in_cluster h c host) × (cond k.1 (in_cluster h c k.0) 0 ≡ in_cluster h c host)
+    kept_alone k e = by_mark k.0 k.1 e
+copied_alone h host c (Compressed place sectors) is = absurd (cc)
+copied_alone h host c Uncovered is = absurd (cc)
+
+pub takes_own : (h : HeaderFields) (held : ℕ → ℕ) (before : L2Mapping) (host : ℕ) → host % cluster_size h ≡ 0 → copied_host before ≡ Some host
+    → Takes h held before (Data host true) × Takes h held before (Zero (Some (host, true)))
+takes_own h held before host aligned is = (
+  record {
+    held = λ c. let own = copied_alone h host c before is in omega (arith, own.0);
+    marked = λ c. let own = copied_alone h host c before is in omega (arith, own.1);
+    aligned = aligned;
+  },
+  record {
+    held = λ c. let own = copied_alone h host c before is in omega (arith, own.0);
+    marked = λ c. let own = copied_alone h host c before is in omega (arith, own.1);
+    aligned = aligned;
+  },
+)
+
+-- it takes a host cluster that is held
+in_at : (h : HeaderFields) (c place : ℕ) → 0 < in_cluster h c place → place / cluster_size h ≡ c
+in_at h c place some = elim (cases_eq (place / cluster_size h) c) [
+  | inl e ↦ e
+  | inr ne ↦ absurd (let none : in_cluster h c place ≡ 0 = cond-false {A = ℕ} _ 1 0 (ne_eqb (place / cluster_size h) c ne) in omega arith)
+]
+
+in_most : (h : HeaderFields) (c place : ℕ) → in_cluster h c place ≤ 1
+in_most h c place = elim (cases_eq (place / cluster_size h) c) [
+  | inl e ↦ let one : in_cluster h c place ≡ 1 = cond-true {A = ℕ} _ 1 0 (eq-eqb (place / cluster_size h) c e) in omega arith
+  | inr ne ↦ let none : in_cluster h c place ≡ 0 = cond-false {A = ℕ} _ 1 0 (ne_eqb (place / cluster_size h) c ne) in omega arith
+]
+
+pub takes_held : (s : Stand) (g host : ℕ) → IsSound s → host % cluster_size s.header ≡ 0 → 0 < s.pending.held (host / cluster_size s.header) → Takes s.header s.pending.held (cover s.header s.known g) (Data host true)
+takes_held s g host sound aligned some = record {
+  held = λ c. elim (cases_lt 0 (in_cluster s.header c host)) [
+    | inl here ↦
+        let most = in_most s.header c host in
+        let enough : 0 < s.pending.held c = subst (λ n. 0 < s.pending.held n) (in_at s.header c host here) some in
+        omega arith
+    | inr none ↦ omega arith
+  ];
+  marked = λ c. elim (cases_lt 0 (in_cluster s.header c host)) [
+    | inl here ↦
+        let enough : 0 < s.pending.held c = subst (λ n. 0 < s.pending.held n) (in_at s.header c host here) some in
+        let unnamed = held_is_unnamed s.header s.direction s.pending s.base s.known sound c enough in
+        let before : names s.header s.known c g ≡ 0 = elim (cases_lt 0 (names s.header s.known c g)) [
+          | inl named ↦ absurd (
+              let within = names_within s.header s.known c g (Sizes-from s.header s.base sound.top.header_reads) named in
+              let le = guest_le s.header (λ k. max (names s.header s.base c k) (names s.header s.known c k)) g within in
+              let zero = unnamed.no_entry in
+              omega arith)
+          | inr zero ↦ omega arith
+        ] in
+        omega arith
+    | inr none ↦ omega arith
+  ];
+  aligned = aligned;
+}
+
+-- ---- an entry of a cached L2 table, whose entries are those known before and after
+module _ (s : Stand) (known' : Bytes) (i j entry : ℕ) (old new : List ℕ) (sound : IsSound s) (real : table_at s.header s.known i ≢ 0) (within : j < entries_per_cluster s.header)
+    (outside : IsSameOutside (cluster_size s.header) (table_at s.header s.known i / cluster_size s.header) s.known known')
+    (was : (k : ℕ) → k < entries_per_cluster s.header → entry_at old k ≡ l2_entry s.known (table_at s.header s.known i) k)
+    (now : (k : ℕ) → k < entries_per_cluster s.header → entry_at new k ≡ l2_entry known' (table_at s.header s.known i) k)
+    (changes : ChangesEntry old new j entry) where
+  same_entries : (k : ℕ) → k < entries_per_cluster s.header → k ≢ j → l2_entry s.known (table_at s.header s.known i) k ≡ l2_entry known' (table_at s.header s.known i) k
+  same_entries k lt other = sym (was k lt) ∙ sym (changes.others k other) ∙ now k lt
+
+  same_table : table_at s.header known' i ≡ table_at s.header s.known i
+  same_table = ap host_offset (sym ((entry_top s.header s.direction s.pending s.base s.known known' sound i j real within outside same_entries).l1 i))
+
+  sizes : Sizes s.header
+  sizes = Sizes-from s.header s.base sound.top.header_reads
+
+  pub cover_was : cover s.header s.known (guest_at s.header i j) ≡ entry_cover s.header (entry_at old j)
+  cover_was = cover_at s.header s.known i j sizes real within ∙ ap (entry_cover s.header) (sym (was j within))
+
+  pub cover_now : cover s.header known' (guest_at s.header i j) ≡ entry_cover s.header entry
+  cover_now =
+      cover_at s.header known' i j sizes (λ none. real (sym same_table ∙ none)) within
+      ∙ ap (λ t. entry_cover s.header (l2_entry known' t j)) same_table
+      ∙ ap (entry_cover s.header) (sym (now j within) ∙ changes.entry_is)
+
+  pub entry_changes : Takes s.header s.pending.held (entry_cover s.header (entry_at old j)) (entry_cover s.header entry) → EntryChanges s known' i j
+  entry_changes takes = record {
+    real = real;
+    within = within;
+    outside = outside;
+    entries = same_entries;
+    held = λ c.
+        let a : names s.header s.known c (guest_at s.header i j) ≡ named_by_cover s.header c (entry_cover s.header (entry_at old j)) = ap (named_by_cover s.header c) cover_was in
+        let b : names s.header known' c (guest_at s.header i j) ≡ named_by_cover s.header c (entry_cover s.header entry) = ap (named_by_cover s.header c) cover_now in
+        let t = takes.held c in
+        omega arith;
+    marked = λ c.
+        let a : names s.header s.known c (guest_at s.header i j) ≡ named_by_cover s.header c (entry_cover s.header (entry_at old j)) = ap (named_by_cover s.header c) cover_was in
+        let b : names s.header known' c (guest_at s.header i j) ≡ named_by_cover s.header c (entry_cover s.header entry) = ap (named_by_cover s.header c) cover_now in
+        let m : marks s.header s.known c (guest_at s.header i j) ≡ marked_by_cover s.header c (entry_cover s.header (entry_at old j)) = ap (marked_by_cover s.header c) cover_was in
+        let n : marks s.header known' c (guest_at s.header i j) ≡ marked_by_cover s.header c (entry_cover s.header entry) = ap (marked_by_cover s.header c) cover_now in
+        let t = takes.marked c in
+        omega arith;
+    aligned = subst (CoverIsAligned s.header) (sym cover_now) takes.aligned;
+  }
+
+  -- what the guest cluster shows then
+  pub shows_now : (backing : Bytes) (o : ℕ) → o / cluster_size s.header ≡ guest_at s.header i j → guest_value s.header known' known' backing o ≡ value_under s.header known' known' backing o (entry_cover s.header entry)
+  unfolding guest_value
+  shows_now backing o here = ap (λ v. value_under s.header known' known' backing o v) (ap (cover s.header known') here ∙ cover_now)

@@ -1,0 +1,91 @@
+-- A guarded image is consistent, and a consistent image is guarded.
+use Rattle.std.proofs.Common.{◌≡◌, ℕ, ◌+◌, ◌*◌, ◌/◌, ◌<◌, ◌≢◌, Bool, cond, refl, sym, ◌∙◌, arith, subst}
+use Rattle.std.specs.Prelude.{IsTrue, Option, Some, None}
+use Rattle.std.proofs.lemmas.Bool.{eq-eqb, ne_eqb, cond-true, cond-false}
+use Rattle.qcow2_metadata.specs.Bytes.{Bytes}
+use Rattle.qcow2_metadata.specs.declared.header.HeaderFields.{HeaderFields}
+use Rattle.qcow2_metadata.specs.Header.{cluster_size, entries_per_cluster}
+use Rattle.qcow2_metadata.specs.Entries.{l1_entry, is_copied, count}
+use Rattle.qcow2_metadata.specs.Cover.{cover}
+use Rattle.qcow2_metadata.specs.Named.{named, table_in, in_cluster}
+use Rattle.qcow2_metadata.specs.Consistent.{Consistent, IsConsistent, EachCover, CoverIsAligned, KeptIsOwn, CopiedIsOwn}
+use Rattle.qcow2_metadata.specs.declared.l2_mapping.L2Mapping.{L2Mapping}
+use Rattle.qcow2_metadata.specs.declared.l2_mapping.L2Mapping.TheVariants.{Data, Zero, Compressed, Uncovered}
+use Rattle.qcow2_laws.specs.Clusters.{Direction}
+use Rattle.qcow2_laws.specs.Guests.{over_guests, marks, marked_by_cover, marked_by_kept, marked_by_l1_table, table_at}
+use Rattle.qcow2_laws.specs.Guard.{Pending, cluster, IsGuarded}
+use Rattle.qcow2_laws.proofs.Sums.{term_le-sum_below}
+use Rattle.qcow2_laws.proofs.Places.{Sizes, Sizes-from, cover_at}
+use Rattle.qcow2_laws.proofs.Clusters.{Fine, fine}
+use Rattle.qcow2_laws.proofs.Guests.{named-is, guest_le, names_within, marks-le}
+use Rattle.qcow2_laws.proofs.Mixes.{tied, good, known_guarded}
+
+pub in_own : (h : HeaderFields) (place : ℕ) → in_cluster h (place / cluster_size h) place ≡ 1
+in_own h place = cond-true {A = ℕ} _ 1 0 (eq-eqb _ _ refl)
+
+pub table_in_own : (h : HeaderFields) (place : ℕ) → place ≢ 0 → table_in h (place / cluster_size h) place ≡ 1
+table_in_own h place real = cond-false _ _ _ (ne_eqb place 0 real) ∙ in_own h place
+
+abbrev Owned : HeaderFields → Bytes → ℕ → Type 0
+Owned h b c = (named h b c ≡ 1) × (count h b c ≡ 1)
+
+kept_own : (h : HeaderFields) (b : Bytes) (k : Option (ℕ × Bool)) → ((c : ℕ) → 0 < marked_by_kept h c k → Owned h b c) → KeptIsOwn h b k
+kept_own h b None own = tt
+kept_own h b (Some k) own = λ copied.
+    own (k.0 / cluster_size h) (let e : cond k.1 (in_cluster h (k.0 / cluster_size h) k.0) 0 ≡ in_cluster h (k.0 / cluster_size h) k.0 = cond-true _ _ _ copied in let one = in_own h k.0 in omega arith)
+
+cover_own : (h : HeaderFields) (b : Bytes) (v : L2Mapping) → ((c : ℕ) → 0 < marked_by_cover h c v → Owned h b c) → CopiedIsOwn h b v
+cover_own h b (Data host copied) own = λ is.
+    own (host / cluster_size h) (let e : cond copied (in_cluster h (host / cluster_size h) host) 0 ≡ in_cluster h (host / cluster_size h) host = cond-true _ _ _ is in let one = in_own h host in omega arith)
+cover_own h b (Zero kept) own = kept_own h b kept own
+cover_own h b (Compressed host sectors) own = tt
+cover_own h b Uncovered own = tt
+
+l1_marked : (h : HeaderFields) (b : Bytes) (i : ℕ) → i < h.l1_entries → table_at h b i ≢ 0 → IsTrue (is_copied (l1_entry h b i))
+    → 0 < marked_by_l1_table h b (table_at h b i / cluster_size h)
+unfolding marked_by_l1_table
+l1_marked h b i lt real copied =
+    let c = table_at h b i / cluster_size h in
+    let term = term_le-sum_below h.l1_entries (λ k. cond (is_copied (l1_entry h b k)) (table_in h (table_at h b i / cluster_size h) (table_at h b k)) 0) i lt in
+    let here : cond (is_copied (l1_entry h b i)) (table_in h (table_at h b i / cluster_size h) (table_at h b i)) 0 ≡ table_in h (table_at h b i / cluster_size h) (table_at h b i) = cond-true _ _ _ copied in
+    let one = table_in_own h (table_at h b i) real in
+    omega arith
+
+-- what holds of each guest cluster holds of each entry of each table
+each_entry : (h : HeaderFields) (b : Bytes) (P : L2Mapping → Type 0) → Sizes h → ((g : ℕ) → P (cover h b g)) → EachCover h b P
+each_entry h b P sizes each i j lt real within = subst P (cover_at h b i j sizes real within) (each (i * entries_per_cluster h + j))
+
+module _ (h : HeaderFields) (d : Direction) (p : Pending) (base known : Bytes) (guarded : IsGuarded h d p base known) where
+  sizes : Sizes h
+  sizes = Sizes-from h base guarded.top.header_reads
+
+  fine_at : (c : ℕ) → Fine (cluster h p base known c)
+  fine_at c = fine d (cluster h p base known c) (p.surplus c) (tied h p base known c) (good h d p base known guarded c)
+
+  owned : (c : ℕ) → 0 < marked_by_l1_table h base c + over_guests h (marks h base c) → Owned h base c
+  owned c some = let f = (fine_at c).copied some in (named-is h base c sizes ∙ f.0, f.1)
+
+  pub consistent : Consistent h base
+  consistent = record {
+    header_reads = guarded.top.header_reads;
+    l1_reads = guarded.top.l1_reads;
+    reftable_reads = guarded.top.reftable_reads;
+    no_snapshots = guarded.top.no_snapshots;
+    no_data_file = guarded.top.no_data_file;
+    l1_aligned = guarded.top.l1_aligned;
+    reftable_aligned = guarded.top.reftable_aligned;
+    l2_tables_aligned = guarded.top.l2_tables_aligned;
+    refblocks_aligned = guarded.top.refblocks_aligned;
+    data_aligned = each_entry h base (CoverIsAligned h) sizes guarded.aligned;
+    counted = λ c. let e = named-is h base c sizes in let f = (fine_at c).counted in omega arith;
+    tables_once = λ c some. named-is h base c sizes ∙ (fine_at c).tables (omega (arith, some));
+    copied_tables = λ i lt real copied. owned (table_at h base i / cluster_size h) (let s = l1_marked h base i lt real copied in omega arith);
+    copied_data = each_entry h base (CopiedIsOwn h base) sizes (λ g. cover_own h base (cover h base g)
+        (λ c some. owned c (let le = guest_le h (marks h base c) g (names_within h base c g sizes (let m = marks-le h c (cover h base g) in omega arith)) in omega arith)));
+  }
+
+  pub guarded_consistent : IsConsistent base
+  guarded_consistent = subst (λ t. Consistent t base) (sym guarded.top.header_is) consistent
+
+pub known_consistent : (h : HeaderFields) (d : Direction) (p : Pending) (base known : Bytes) → IsGuarded h d p base known → IsConsistent known
+known_consistent h d p base known guarded = guarded_consistent h d p known known (known_guarded h d p base known guarded)

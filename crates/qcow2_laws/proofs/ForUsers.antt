@@ -1,0 +1,64 @@
+-- Laws that a user would quote: what was given, put and committed.
+use Rattle.std.proofs.Common.{◌≡◌, ⊎_elim, ◌+◌, ◌-◌, ◌<◌, ℕ, refl, sym, ap, ◌∙◌, subst, Bool, true, false, Some, List, length, eqb, arith}
+use Rattle.std.specs.Prelude.{if◌then◌else◌}
+use Rattle.std.proofs.lemmas.Bool.{cond-true, eq-eqb, le-leb, lt-ltb, and_from}
+use Rattle.qcow2_metadata.specs.Bytes.{byte_at, laid_over, is_within}
+use Rattle.qcow2_metadata.specs.Guest.{known_byte}
+use Rattle.qcow2_laws.specs.Disk.{Disk, disk, with_bytes}
+use Rattle.qcow2_laws.specs.Views.{Guest}
+use Rattle.qcow2_laws.specs.Mappings.{PreparedMapping, put_disk, put_mapping, committed}
+use Rattle.qcow2_laws.specs.ForUsers.{PrivateBytesAreUnseen, CommittedIsReadBack, FlushedIsExact}
+
+pub exact : FlushedIsExact
+exact backing b d stop =
+    let size = ⊎_elim (λ (e : (disk b backing).size ≡ d.size). e) (λ h. absurd h) stop.size in
+    (size, (λ o lt. ⊎_elim (λ (e : (disk b backing).value o ≡ d.value o). e) (λ h. absurd h) (stop.values o (subst (λ s. o < s) (sym size) lt) lt)))
+
+some_is : {X : Type 0} {a b : X} → Some a ≡ Some b → a ≡ b
+some_is e = cc
+
+byte_is : {a b : ℕ} → known_byte a ≡ known_byte b → a ≡ b
+byte_is e = cc
+
+both : {X : Type 0} (test : Bool) (a b c v : X) → a ≡ v → c ≡ v → (if test then a else (if test then b else c)) ≡ v
+both true a b c v e f = e
+both false a b c v e f = f
+
+laid_inside : {A : Type 0} (place n : ℕ) (top under : ℕ → A) (i : ℕ) → i < n → laid_over place n top under (place + i) ≡ top i
+unfolding laid_over
+laid_inside place n top under i lt =
+    let inside : is_within place n (place + i) ≡ true = and_from _ _ (le-leb place (place + i) (omega arith)) (lt-ltb (place + i) (place + n) (omega arith)) in
+    let at : place + i - place ≡ i = omega arith in
+    cond-true (is_within place n (place + i)) (top (place + i - place)) (under (place + i)) inside ∙ ap top at
+
+pub unseen : PrivateBytesAreUnseen
+unseen x found g0 g1 g2 g3 slot offset n count at overwrite bytes prepared all_private put discard =
+    let same1 : g1.disk ≡ g0.disk = ap (λ (g : Guest). g.disk) prepared.1.3 in
+    let same2 : g2.disk ≡ put_disk g1.disk put.0 at bytes = ap (λ (g : Guest). g.disk) put.3 in
+    let same3 : g3.disk ≡ g2.disk = ap (λ (g : Guest). g.disk) discard.1 in (
+      ap (λ (d : Disk). d.size) (same3 ∙ same2) ∙ ap (λ (d : Disk). d.size) same1,
+      (λ o. ap (λ (d : Disk). d.value o) (same3 ∙ same2)
+          ∙ cond-true (put.0.is_private o) (g1.disk.value o) ((with_bytes g1.disk (put.0.from + at) bytes).value o) (all_private put.0 o put.1)
+          ∙ ap (λ (d : Disk). d.value o) same1),
+    )
+
+-- what stands at a place of the bytes that were put, once they are committed
+there_at : (g : Disk) (m : PreparedMapping) (at : ℕ) (bytes : List ℕ) (i : ℕ) → i < length bytes
+    → (committed (put_disk g m at bytes) (put_mapping m at bytes)).value (m.from + at + i) ≡ known_byte (byte_at bytes i)
+there_at g m at bytes i lt =
+    let o = m.from + at + i in
+    let inside : laid_over (m.from + at) (length bytes) (λ k. known_byte (byte_at bytes k)) m.shown o ≡ known_byte (byte_at bytes i) = laid_inside (m.from + at) (length bytes) (λ k. known_byte (byte_at bytes k)) m.shown i lt in
+    let inside2 : laid_over (m.from + at) (length bytes) (λ k. known_byte (byte_at bytes k)) g.value o ≡ known_byte (byte_at bytes i) = laid_inside (m.from + at) (length bytes) (λ k. known_byte (byte_at bytes k)) g.value i lt in
+    both (m.is_private o) _ (g.value o) _ (known_byte (byte_at bytes i)) inside inside2
+
+pub read_back : CommittedIsReadBack
+read_back x found g0 g1 g2 g3 m slot at n i bytes answer there put commit read lt within =
+    let m-is : put.0 ≡ m = some_is (sym put.1 ∙ there) in
+    let slot-is : g1.slots slot ≡ Some (put_mapping put.0 at bytes) = ap (λ (g : Guest). g.slots slot) put.3 ∙ cond-true (eqb slot slot) (Some (put_mapping put.0 at bytes)) (g0.slots slot) (eq-eqb slot slot refl) in
+    let c-is : commit.0 ≡ put_mapping put.0 at bytes = some_is (sym commit.1 ∙ slot-is) in
+    let disk-is : g2.disk ≡ committed (put_disk g0.disk put.0 at bytes) (put_mapping put.0 at bytes) =
+    ap (λ (g : Guest). g.disk) commit.2 ∙ ap (λ (d : Disk). committed d commit.0) (ap (λ (g : Guest). g.disk) put.3) ∙ ap (λ (k : PreparedMapping). committed (put_disk g0.disk put.0 at bytes) k) c-is in
+    let shown : g2.disk.value (m.from + at + i) ≡ known_byte (byte_at answer i) = read.1 i lt in
+    let was : g2.disk.value (m.from + at + i) ≡ known_byte (byte_at bytes i) =
+    subst (λ (k : PreparedMapping). g2.disk.value (k.from + at + i) ≡ known_byte (byte_at bytes i)) m-is (ap (λ (d : Disk). d.value (put.0.from + at + i)) disk-is ∙ there_at g0.disk put.0 at bytes i within) in
+    byte_is (sym shown ∙ was)

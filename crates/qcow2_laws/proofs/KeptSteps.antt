@@ -1,0 +1,110 @@
+-- What the caches keep, after what they hold, or the bytes under them, changed.
+use Rattle.std.proofs.Common.{◌≡◌, ℕ, ◌/◌, ◌%◌, ◌≢◌, ◌⊎◌, inl, inr, List, [], ◌∷◌, ◌++◌, false, sym, ap, subst, ◌∙◌, max}
+use Rattle.std.proofs.lemmas.Bool.{cases_eq}
+use Rattle.qcow2_metadata.specs.Bytes.{Bytes}
+use Rattle.qcow2_metadata.specs.declared.header.HeaderFields.{HeaderFields}
+use Rattle.qcow2_metadata.specs.Header.{cluster_size}
+use Rattle.qcow2_metadata.specs.Tables.{CachedTable, known, overlays}
+use Rattle.qcow2_metadata.specs.Named.{named_by_cover}
+use Rattle.qcow2_laws.specs.Clusters.{Direction}
+use Rattle.qcow2_laws.specs.Guests.{names}
+use Rattle.qcow2_laws.specs.Guard.{Pending, IsGuarded, SameCovers}
+use Rattle.qcow2_laws.specs.Writes.{IsUnnamed}
+use Rattle.qcow2_laws.specs.Caches.{known_bytes, IsFreeAt, IsFreeOf, AreApart, HasL2, HasBlock, IsKept, AreSettled}
+use Rattle.qcow2_laws.proofs.Guests.{over_guests-same}
+use Rattle.qcow2_laws.proofs.Lists.{known-at, known-none, no_overlay, overlays_within, within_cluster}
+
+-- where another table was changed, none lies where none lay
+free_changed : (size : ℕ) (front back : List CachedTable) (t t' : CachedTable) (o : ℕ) → overlays size t' o ≡ false → IsFreeAt size (front ++ t ∷ back) o → IsFreeAt size (front ++ t' ∷ back) o
+free_changed size [] back t t' o past free = (past, free.1)
+free_changed size (u ∷ front) back t t' o past free = (free.0, free_changed size front back t t' o past free.1)
+
+-- a table that is changed lies in its own cluster alone
+elsewhere_free : (size : ℕ) (front back : List CachedTable) (t t' : CachedTable) (c : ℕ) → t'.place % size ≡ 0 → c ≢ t'.place / size → IsFreeOf size (front ++ t ∷ back) c → IsFreeOf size (front ++ t' ∷ back) c
+elsewhere_free size front back t t' c aligned other free o in_c =
+    free_changed size front back t t' o (no_overlay size t' o (λ over. other (sym in_c ∙ within_cluster t'.place size o aligned (overlays_within size t' o over)))) (free o in_c)
+
+-- ---- a cached refblock changes, and what it says of clusters with it
+pub refblock_changed : (h : HeaderFields) (d d' : Direction) (p p' : Pending) (l2s front back : List CachedTable) (t t' : CachedTable) (base : Bytes) → IsKept h d p l2s (front ++ t ∷ back) base
+    → t'.place % cluster_size h ≡ 0 → HasBlock h base (t'.place / cluster_size h) → AreApart (cluster_size h) (front ++ t' ∷ back)
+    → SameCovers h (known_bytes (cluster_size h) l2s (front ++ t ∷ back) base) (known_bytes (cluster_size h) l2s (front ++ t' ∷ back) base)
+    → IsGuarded h d' p' base (known_bytes (cluster_size h) l2s (front ++ t' ∷ back) base) → IsKept h d' p' l2s (front ++ t' ∷ back) base
+refblock_changed h d d' p p' l2s front back t t' base kept aligned stands apart covers guarded = record {
+  guarded = guarded;
+  l2_apart = kept.l2_apart;
+  rb_apart = apart;
+  l2_stand = kept.l2_stand;
+  rb_stand = λ c. elim (cases_eq c (t'.place / cluster_size h)) [
+    | inl here ↦ inr (inl (subst (HasBlock h base) (sym here) stands))
+    | inr other ↦ elim (kept.rb_stand c) [
+      | inl free ↦ inl (elsewhere_free (cluster_size h) front back t t' c aligned other free)
+      | inr more ↦ elim more [
+        | inl has ↦ inr (inl has)
+        | inr unnamed ↦ inr (inr (record {
+          no_table = unnamed.no_table;
+          no_entry =
+              let same = over_guests-same h (λ g. max (names h base c g) (names h (known_bytes (cluster_size h) l2s (front ++ t ∷ back) base) c g))
+              (λ g. max (names h base c g) (names h (known_bytes (cluster_size h) l2s (front ++ t' ∷ back) base) c g))
+              (λ g. ap (λ v. max (names h base c g) (named_by_cover h c v)) (covers g)) in
+              sym same ∙ unnamed.no_entry;
+        }))
+      ]
+    ]
+  ];
+}
+
+-- ---- a cached L2 table changes, while no refblock is unnamed
+pub l2_table_changed : (h : HeaderFields) (d d' : Direction) (p p' : Pending) (front back rbs : List CachedTable) (t t' : CachedTable) (base : Bytes) → IsKept h d p (front ++ t ∷ back) rbs base
+    → AreSettled h rbs base → t'.place % cluster_size h ≡ 0 → HasL2 h base (t'.place / cluster_size h) → AreApart (cluster_size h) (front ++ t' ∷ back)
+    → IsGuarded h d' p' base (known_bytes (cluster_size h) (front ++ t' ∷ back) rbs base) → IsKept h d' p' (front ++ t' ∷ back) rbs base
+l2_table_changed h d d' p p' front back rbs t t' base kept settled aligned stands apart guarded = record {
+  guarded = guarded;
+  l2_apart = apart;
+  rb_apart = kept.rb_apart;
+  l2_stand = λ c. elim (cases_eq c (t'.place / cluster_size h)) [
+    | inl here ↦ inr (subst (HasL2 h base) (sym here) stands)
+    | inr other ↦ elim (kept.l2_stand c) [
+      | inl free ↦ inl (elsewhere_free (cluster_size h) front back t t' c aligned other free)
+      | inr has ↦ inr has
+    ]
+  ];
+  rb_stand = λ c. elim (settled c) [ inl free ↦ inl free | inr has ↦ inr (inl has) ];
+}
+
+-- ---- bytes are written to the storage, beside the modified tables
+
+-- what is known changes with it, as the storage does
+pub known_beside : (size : ℕ) (l2s rbs : List CachedTable) (base base' : Bytes) (o : ℕ) → base o ≡ base' o → known_bytes size l2s rbs base o ≡ known_bytes size l2s rbs base' o
+known_beside size l2s rbs base base' o same = known-at size l2s (known size rbs base) (known size rbs base') o (known-at size rbs base base' o same)
+
+pub known_is_base : (size : ℕ) (l2s rbs : List CachedTable) (base : Bytes) (o : ℕ) → IsFreeAt size l2s o → IsFreeAt size rbs o → known_bytes size l2s rbs base o ≡ base o
+known_is_base size l2s rbs base o l2_free rb_free = known-none size l2s (known size rbs base) o l2_free ∙ known-none size rbs base o rb_free
+
+-- where the two were alike they still are, if each byte stays or has no modified table over it
+pub still_agree : (size : ℕ) (l2s rbs : List CachedTable) (base base' : Bytes) → ((o : ℕ) → (base o ≡ base' o) ⊎ (IsFreeAt size l2s o × IsFreeAt size rbs o))
+    → (o : ℕ) → base o ≡ known_bytes size l2s rbs base o → base' o ≡ known_bytes size l2s rbs base' o
+still_agree size l2s rbs base base' each o same = elim (each o) [
+  | inl stays ↦ sym stays ∙ same ∙ known_beside size l2s rbs base base' o stays
+  | inr free ↦ sym (known_is_base size l2s rbs base' o free.0 free.1)
+]
+
+-- what stands where is kept by what names it, before and after
+pub kept_beside : (h h' : HeaderFields) (d d' : Direction) (p p' : Pending) (l2s rbs : List CachedTable) (base base' : Bytes) → IsKept h d p l2s rbs base → cluster_size h' ≡ cluster_size h
+    → IsGuarded h' d' p' base' (known_bytes (cluster_size h') l2s rbs base')
+    → ((c : ℕ) → HasL2 h base c → IsFreeOf (cluster_size h) l2s c ⊎ HasL2 h' base' c)
+    → ((c : ℕ) → HasBlock h base c ⊎ IsUnnamed h base (known_bytes (cluster_size h) l2s rbs base) c
+    → IsFreeOf (cluster_size h) rbs c ⊎ (HasBlock h' base' c ⊎ IsUnnamed h' base' (known_bytes (cluster_size h') l2s rbs base') c))
+    → IsKept h' d' p' l2s rbs base'
+kept_beside h h' d d' p p' l2s rbs base base' kept size guarded l2 rb = record {
+  guarded = guarded;
+  l2_apart = subst (λ n. AreApart n l2s) (sym size) kept.l2_apart;
+  rb_apart = subst (λ n. AreApart n rbs) (sym size) kept.rb_apart;
+  l2_stand = λ c. elim (kept.l2_stand c) [
+    | inl free ↦ inl (subst (λ n. IsFreeOf n l2s c) (sym size) free)
+    | inr has ↦ elim (l2 c has) [ inl free ↦ inl (subst (λ n. IsFreeOf n l2s c) (sym size) free) | inr still ↦ inr still ]
+  ];
+  rb_stand = λ c. elim (kept.rb_stand c) [
+    | inl free ↦ inl (subst (λ n. IsFreeOf n rbs c) (sym size) free)
+    | inr more ↦ elim (rb c more) [ inl free ↦ inl (subst (λ n. IsFreeOf n rbs c) (sym size) free) | inr still ↦ inr still ]
+  ];
+}

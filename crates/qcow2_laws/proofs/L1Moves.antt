@@ -1,0 +1,159 @@
+-- The header is written to name a new, maybe longer, L1 table.
+use Rattle.std.proofs.Common.{◌≡◌, ℕ, ◌+◌, ◌-◌, ◌*◌, ◌/◌, ◌<◌, ◌≤◌, ◌≢◌, cond, [], refl, sym, ap, ◌∙◌, arith, inl, inr, subst}
+use Rattle.std.proofs.lemmas.Bool.{cases_lt}
+use Rattle.qcow2_metadata.specs.Bytes.{Bytes, sum_below}
+use Rattle.qcow2_metadata.specs.declared.header.HeaderFields.{HeaderFields}
+use Rattle.qcow2_metadata.specs.Header.{cluster_size, entries_per_cluster}
+use Rattle.qcow2_metadata.specs.Entries.{l1_entry, reftable_entry, count, count_under, host_offset, block_offset, is_copied, L1EntryReads, ReftableEntryReads}
+use Rattle.qcow2_metadata.specs.Cover.{cover, cover_under}
+use Rattle.qcow2_metadata.specs.Named.{in_run, table_in, named_for_tables, named_by_reftable, named_by_l1_table}
+use Rattle.qcow2_metadata.specs.Consistent.{IsAligned}
+use Rattle.qcow2_laws.specs.Stops.{Mark, IsKeptAt}
+use Rattle.qcow2_laws.specs.Clusters.{Direction}
+use Rattle.qcow2_laws.specs.Guests.{named_in_either, marked_by_l1_table}
+use Rattle.qcow2_laws.specs.Guard.{Pending, IsGuarded, IsTop, SameTop, SameIn}
+use Rattle.qcow2_laws.specs.Changes.{renamed}
+use Rattle.qcow2_laws.specs.Tops.{with_places, KeepsCovers, WritesHeader, with_l1_at, IsNewL1}
+use Rattle.qcow2_laws.proofs.Sums.{sum_below-same, sum_below-longer}
+use Rattle.qcow2_laws.proofs.Places.{Sizes-from, l1-same, l1_entry-past}
+use Rattle.qcow2_laws.proofs.Writes.{fresh_is_unnamed}
+use Rattle.qcow2_laws.proofs.Shares.{shares, in_l1, in_run-le, l1_has}
+use Rattle.qcow2_laws.proofs.Renaming.{tables_renamed, moved_kept, moved_known_kept}
+use Rattle.qcow2_laws.proofs.Headers.{header_sizes, header_same, header_known_same, header_l1, header_known_l1, header_reftable, header_known_reftable, header_covers, header_known_covers, header_counts, header_known_counts, header_elsewhere, header_unlaid, unnamed_elsewhere}
+
+module _ (h : HeaderFields) (offset entries : ℕ) (d : Direction) (p : Pending) (base known base' known' : Bytes) (guarded : IsGuarded h d p base known)
+    (writes : WritesHeader h (with_l1_at h offset entries) base known base' known') (new : IsNewL1 h d p base known offset entries) where
+  reftable_too : (b : Bytes) (k : ℕ) → reftable_entry (with_places h (with_l1_at h offset entries)) b k ≡ reftable_entry h b k
+  unfolding reftable_entry
+  reftable_too b k = refl
+
+  counts_too : (b : Bytes) (c : ℕ) → count (with_places h (with_l1_at h offset entries)) b c ≡ count h b c
+  unfolding count count_under reftable_entry
+  counts_too b c = refl
+
+  -- the new table's clusters are others than the header's
+  stays : (b b' : Bytes) → ((c : ℕ) → c ≢ 0 → SameIn (cluster_size h) c b b') → (i : ℕ)
+      → l1_entry (with_places h (with_l1_at h offset entries)) b i ≡ l1_entry (with_places h (with_l1_at h offset entries)) b' i
+  stays b b' same i =
+      l1-same (with_places h (with_l1_at h offset entries)) b b' i (Sizes-from (with_places h (with_l1_at h offset entries)) base' writes.reads) new.aligned (λ lt.
+      same _ (unnamed_elsewhere h (with_l1_at h offset entries) d p base known base' known' guarded writes _
+      (fresh_is_unnamed h d p base known guarded _
+      (new.fresh ((offset + 8 * i) / cluster_size h) (let one = l1_has (with_places h (with_l1_at h offset entries)) i (Sizes-from (with_places h (with_l1_at h offset entries)) base' writes.reads) new.aligned lt in omega arith)).0
+      new.written).no_table))
+
+  now_l1 : (i : ℕ) → l1_entry h base i ≡ l1_entry (with_places h (with_l1_at h offset entries)) base' i
+  now_l1 i = sym (new.same i) ∙ stays base base' (header_same h (with_l1_at h offset entries) d p base known base' known' guarded writes) i
+
+  now_known_l1 : (i : ℕ) → l1_entry h known i ≡ l1_entry (with_places h (with_l1_at h offset entries)) known' i
+  now_known_l1 i = sym (new.known_same i) ∙ stays known known' (header_known_same h (with_l1_at h offset entries) d p base known base' known' guarded writes) i
+
+  now_reftable : (k : ℕ) → reftable_entry h base k ≡ reftable_entry (with_places h (with_l1_at h offset entries)) base' k
+  now_reftable k = header_reftable h (with_l1_at h offset entries) d p base known base' known' guarded writes k ∙ sym (reftable_too base' k)
+
+  -- an entry that is none reads, and is aligned
+  each_l1 : (Q : ℕ → Type 0) → Q 0 → ((i : ℕ) → i < h.l1_entries → Q (l1_entry h base i)) → (i : ℕ) → Q (l1_entry (with_places h (with_l1_at h offset entries)) base' i)
+  each_l1 Q none each i = subst Q (now_l1 i) (elim (cases_lt i h.l1_entries) [
+    | inl lt ↦ each i lt
+    | inr past ↦ subst Q (sym (l1_entry-past h base i past)) none
+  ])
+
+  zero_reads : L1EntryReads 0
+  zero_reads = (refl, refl)
+
+  zero_aligned : IsAligned h (host_offset 0)
+  zero_aligned = let some = (header_sizes h (with_l1_at h offset entries) d p base known base' known' guarded writes).some in omega arith
+
+  top_now : IsTop (with_places h (with_l1_at h offset entries)) base'
+  top_now = record {
+    header_is = writes.is;
+    header_reads = writes.reads;
+    l1_reads = λ i lt. each_l1 L1EntryReads zero_reads guarded.top.l1_reads i;
+    reftable_reads = λ k lt. subst ReftableEntryReads (now_reftable k) (guarded.top.reftable_reads k lt);
+    no_snapshots = guarded.top.no_snapshots;
+    no_data_file = guarded.top.no_data_file;
+    l1_aligned = new.aligned;
+    reftable_aligned = guarded.top.reftable_aligned;
+    l2_tables_aligned = λ i lt. each_l1 (λ e. IsAligned h (host_offset e)) zero_aligned guarded.top.l2_tables_aligned i;
+    refblocks_aligned = λ k lt. subst (λ e. IsAligned h (block_offset e)) (now_reftable k) (guarded.top.refblocks_aligned k lt);
+  }
+
+  same_top_now : SameTop (with_places h (with_l1_at h offset entries)) base' known'
+  same_top_now = record {
+    first_cluster = writes.same_first;
+    l1 = λ i. sym (now_l1 i) ∙ guarded.same_top.l1 i ∙ now_known_l1 i;
+    reftable = λ k. sym (now_reftable k) ∙ guarded.same_top.reftable k ∙ header_known_reftable h (with_l1_at h offset entries) d p base known base' known' guarded writes k ∙ sym (reftable_too known' k);
+  }
+
+  cover_of : (b : Bytes) (g e : ℕ) → l1_entry h b (g / entries_per_cluster h) ≡ e → l1_entry (with_places h (with_l1_at h offset entries)) b (g / entries_per_cluster h) ≡ e
+      → cover h b g ≡ cover (with_places h (with_l1_at h offset entries)) b g
+  unfolding cover cover_under
+  cover_of b g e is is' = ap (λ x. cover_under h b x g) is ∙ sym (ap (λ x. cover_under h b x g) is')
+
+  covers : KeepsCovers h (with_l1_at h offset entries) base base'
+  covers g =
+      header_covers h (with_l1_at h offset entries) d p base known base' known' guarded writes g
+      ∙ cover_of base' g _ refl (sym (now_l1 (g / entries_per_cluster h)) ∙ header_l1 h (with_l1_at h offset entries) d p base known base' known' guarded writes (g / entries_per_cluster h))
+
+  known_covers : KeepsCovers h (with_l1_at h offset entries) known known'
+  known_covers g =
+      header_known_covers h (with_l1_at h offset entries) d p base known base' known' guarded writes g
+      ∙ cover_of known' g _ refl (sym (now_known_l1 (g / entries_per_cluster h)) ∙ header_known_l1 h (with_l1_at h offset entries) d p base known base' known' guarded writes (g / entries_per_cluster h))
+
+  unlaid : (o : ℕ) → 0 < named_in_either h base known (o / cluster_size h) + p.held (o / cluster_size h) → base' o ≡ known' o
+  unlaid = header_unlaid h (with_l1_at h offset entries) d p base known base' known' guarded writes
+
+  -- ---- how often tables name a cluster now
+  longer_sum : (f g : ℕ → ℕ) → ((i : ℕ) → f i ≡ g i) → ((i : ℕ) → h.l1_entries ≤ i → f i ≡ 0) → sum_below entries g ≡ sum_below h.l1_entries f
+  longer_sum f g same none =
+      let e : h.l1_entries + (entries - h.l1_entries) ≡ entries = let l = new.longer in omega arith in
+      sum_below-same entries g f (λ i lt. sym (same i)) ∙ ap (λ n. sum_below n f) (sym e) ∙ sum_below-longer h.l1_entries (entries - h.l1_entries) f none
+
+  tables_same : (c : ℕ) → named_by_l1_table (with_places h (with_l1_at h offset entries)) base' c ≡ named_by_l1_table h base c
+  unfolding named_by_l1_table
+  tables_same c =
+      longer_sum (λ i. table_in h c (host_offset (l1_entry h base i))) (λ i. table_in h c (host_offset (l1_entry (with_places h (with_l1_at h offset entries)) base' i)))
+      (λ i. ap (λ e. table_in h c (host_offset e)) (now_l1 i)) (λ i past. ap (λ e. table_in h c (host_offset e)) (l1_entry-past h base i past))
+
+  marks_same : (c : ℕ) → marked_by_l1_table (with_places h (with_l1_at h offset entries)) base' c ≡ marked_by_l1_table h base c
+  unfolding marked_by_l1_table
+  marks_same c =
+      longer_sum (λ i. cond (is_copied (l1_entry h base i)) (table_in h c (host_offset (l1_entry h base i))) 0)
+      (λ i. cond (is_copied (l1_entry (with_places h (with_l1_at h offset entries)) base' i)) (table_in h c (host_offset (l1_entry (with_places h (with_l1_at h offset entries)) base' i))) 0)
+      (λ i. ap (λ e. cond (is_copied e) (table_in h c (host_offset e)) 0) (now_l1 i)) (λ i past. ap (λ e. cond (is_copied e) (table_in h c (host_offset e)) 0) (l1_entry-past h base i past))
+
+  blocks_same : (c : ℕ) → named_by_reftable (with_places h (with_l1_at h offset entries)) base' c ≡ named_by_reftable h base c
+  unfolding named_by_reftable
+  blocks_same c = sum_below-same _ _ _ (λ k lt. ap (λ e. table_in h c (block_offset e)) (sym (now_reftable k)))
+
+  fixed_changed : (c : ℕ) → named_for_tables (with_places h (with_l1_at h offset entries)) base' c + in_l1 h c ≡ named_for_tables h base c + in_run h c offset (8 * entries) + 0
+  fixed_changed c =
+      let before = shares h base c in
+      let after = shares (with_places h (with_l1_at h offset entries)) base' c in
+      let tables = tables_same c in
+      let blocks = blocks_same c in
+      omega arith
+
+  pub l1_moved : IsGuarded (with_places h (with_l1_at h offset entries)) d (renamed p (λ c. in_run h c offset (8 * entries)) (in_l1 h)) base' known'
+  l1_moved =
+      tables_renamed h (with_l1_at h offset entries) d p (renamed p (λ c. in_run h c offset (8 * entries)) (in_l1 h)) base known base' known' guarded
+      top_now same_top_now new.longer covers known_covers unlaid
+      (λ c. in_run h c offset (8 * entries)) (λ c. 0) (in_l1 h) (λ c. (refl, refl, refl, refl, refl))
+      (λ c. let one = in_run-le h c offset (8 * entries) in omega arith) fixed_changed (λ c. let e = marks_same c in omega arith)
+      (λ c. let e = counts_too base' c in let s = header_counts h (with_l1_at h offset entries) d p base known base' known' guarded writes c in omega arith)
+      (λ c. let e = counts_too known' c in let s = header_known_counts h (with_l1_at h offset entries) d p base known base' known' guarded writes c in omega arith)
+      (λ c some. let f = new.fresh c some in (f.0, f.1, new.written)) (λ c some. absurd (omega arith))
+
+  elsewhere : (o : ℕ) → 0 < named_in_either h base known (o / cluster_size h) → o / cluster_size h ≢ 0
+  elsewhere o some = header_elsewhere h (with_l1_at h offset entries) d p base known base' known' guarded writes o (omega arith)
+
+  pub l1_moved_kept : (backing : Bytes) (m : Mark) → IsKeptAt backing m base → IsKeptAt backing m base'
+  l1_moved_kept backing m kept =
+      moved_kept h (with_l1_at h offset entries) d p (renamed p (λ c. in_run h c offset (8 * entries)) (in_l1 h)) base known base' known' guarded
+      top_now same_top_now new.longer covers known_covers unlaid l1_moved
+      (λ o some. writes.others o (elsewhere o some)) (λ o some. writes.known_others o (elsewhere o some)) backing m [] (inl refl) kept
+
+  pub l1_moved_known_kept : (backing : Bytes) (m : Mark) → IsKeptAt backing m known → IsKeptAt backing m known'
+  l1_moved_known_kept backing m kept =
+      moved_known_kept h (with_l1_at h offset entries) d p (renamed p (λ c. in_run h c offset (8 * entries)) (in_l1 h)) base known base' known' guarded
+      top_now same_top_now new.longer covers known_covers unlaid l1_moved
+      (λ o some. writes.others o (elsewhere o some)) (λ o some. writes.known_others o (elsewhere o some)) backing m [] (inl refl) kept

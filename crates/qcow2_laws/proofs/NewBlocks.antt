@@ -1,0 +1,272 @@
+-- A reftable entry that is written to name a refblock keeps the guard, and what was kept.
+use Rattle.std.proofs.Common.{◌≡◌, ℕ, ◌+◌, ◌-◌, ◌*◌, ◌/◌, ◌%◌, ◌<◌, ◌≤◌, ◌≢◌, ltb, [], refl, sym, ap, ◌∙◌, arith, inl, inr, subst}
+use Rattle.std.proofs.lemmas.Bool.{cases_eq, cases_lt}
+use Rattle.std.proofs.lemmas.Nat.{mod_below}
+use Rattle.qcow2_metadata.specs.Bytes.{Bytes, SameFrom}
+use Rattle.qcow2_metadata.specs.declared.header.HeaderFields.{HeaderFields}
+use Rattle.qcow2_metadata.specs.Header.{cluster_size, reftable_entries, count_width, counts_per_block}
+use Rattle.qcow2_metadata.specs.Entries.{l1_entry, reftable_entry, count, block_count, host_offset, block_offset, L1EntryReads, ReftableEntryReads}
+use Rattle.qcow2_metadata.specs.Named.{table_in, named_for_tables, named_by_reftable}
+use Rattle.qcow2_metadata.specs.Consistent.{IsAligned}
+use Rattle.qcow2_metadata.proofs.BigEndian.{number_at-same}
+use Rattle.qcow2_laws.specs.Stops.{Mark, IsKeptAt}
+use Rattle.qcow2_laws.specs.Clusters.{Direction, RbDependsOnL2}
+use Rattle.qcow2_laws.specs.Guests.{named_in_either}
+use Rattle.qcow2_laws.specs.Guard.{Pending, IsGuarded, IsTop, SameTop, SameCovers, SameIn}
+use Rattle.qcow2_laws.specs.Changes.{named_now}
+use Rattle.qcow2_laws.specs.Tops.{places_of, IsSameBut, IsSameOutside, WritesReftableEntry, IsNewBlock}
+use Rattle.qcow2_laws.proofs.Sums.{sum_below-change}
+use Rattle.qcow2_laws.proofs.Places.{Sizes, Sizes-from, SameFrom-in, cond-same, block_count-moved, count_in, count_none}
+use Rattle.qcow2_laws.proofs.Tops.{header-first, HeaderReads-same, IsTop-top, for_tables-top, l1_names-same, l1_marks-same}
+use Rattle.qcow2_laws.proofs.Writes.{fresh_is_unnamed, unused_is_unnamed}
+use Rattle.qcow2_laws.proofs.Blocks.{table_apart, table_once}
+use Rattle.qcow2_laws.proofs.NewTables.{outside_eight, table_in-le, table_in-at}
+use Rattle.qcow2_laws.proofs.Shares.{shares, in_reftable, reftable_has, reftable_first, reftable_l1, reftable_covers, reftable_counts}
+use Rattle.qcow2_laws.proofs.Renaming.{tables_renamed, moved_kept, moved_known_kept}
+
+pub other_reftable : (h : HeaderFields) (b b' : Bytes) (k0 k : ℕ) → IsSameBut (h.reftable_offset + 8 * k0) 8 b b' → k ≢ k0 → reftable_entry h b k ≡ reftable_entry h b' k
+unfolding reftable_entry
+other_reftable h b b' k0 k but other =
+    cond-same (ltb k (reftable_entries h)) _ _ 0 (λ inside. number_at-same b b' (h.reftable_offset + 8 * k) 8 (λ j lt. but (h.reftable_offset + 8 * k + j)
+    (elim (cases_lt k k0) [ inl below ↦ inl (omega arith) | inr above ↦ inr (omega arith) ])))
+
+-- counts are those of the clusters in the new refblock's range; of the new refblock's own cluster it is 1 where it isn't counted elsewhere
+module _ (h : HeaderFields) (d : Direction) (p p' : Pending) (base known base' known' : Bytes) (guarded : IsGuarded h d p base known) (k0 entry : ℕ) (s : ℕ → ℕ)
+    (pending : (c : ℕ) → (p'.held c ≡ p.held c) × (p'.fresh c ≡ p.fresh c - (table_in h c (block_offset entry) - s c)) × (p'.spent c ≡ p.spent c + 0) × (p'.dropped c ≡ p.dropped c) × (p'.surplus c ≡ p.surplus c))
+    (writes : WritesReftableEntry h base known base' known' k0 entry) (new : IsNewBlock h base known k0 entry s) (no_table : named_for_tables h base (block_offset entry / cluster_size h) ≡ 0)
+    (in_range : (c : ℕ) → c / counts_per_block h ≢ k0 → s c ≡ 0) (few : (c : ℕ) → s c ≤ table_in h c (block_offset entry))
+    (fresh : (c : ℕ) → 0 < table_in h c (block_offset entry) - s c → (0 < p.fresh c) × (count h base c ≡ count h known c) × (d ≡ RbDependsOnL2 → SameCovers h base known)) where
+  sizes : Sizes h
+  sizes = Sizes-from h base guarded.top.header_reads
+
+  known_top : IsTop h known
+  known_top = IsTop-top h base known guarded.same_top guarded.top
+
+  one_part : 1 ≤ in_reftable h ((h.reftable_offset + 8 * k0) / cluster_size h)
+  one_part = let one = reftable_has h k0 sizes guarded.top.reftable_aligned writes.within in omega arith
+
+  fixed : 0 < named_for_tables h base ((h.reftable_offset + 8 * k0) / cluster_size h)
+  fixed = let parts = shares h base ((h.reftable_offset + 8 * k0) / cluster_size h) in let one = one_part in omega arith
+
+  once : named_for_tables h base ((h.reftable_offset + 8 * k0) / cluster_size h) ≤ 1
+  once = let t = table_once h d p base known guarded ((h.reftable_offset + 8 * k0) / cluster_size h) fixed in omega arith
+
+  known_once : named_for_tables h known ((h.reftable_offset + 8 * k0) / cluster_size h) ≤ 1
+  known_once = let e = for_tables-top h base known ((h.reftable_offset + 8 * k0) / cluster_size h) guarded.same_top in let o = once in omega arith
+
+  outside : IsSameOutside (cluster_size h) ((h.reftable_offset + 8 * k0) / cluster_size h) base base'
+  outside = outside_eight (cluster_size h) h.reftable_offset k0 base base' sizes.whole sizes.some guarded.top.reftable_aligned writes.others
+
+  known_outside : IsSameOutside (cluster_size h) ((h.reftable_offset + 8 * k0) / cluster_size h) known known'
+  known_outside = outside_eight (cluster_size h) h.reftable_offset k0 known known' sizes.whole sizes.some guarded.top.reftable_aligned writes.known_others
+
+  same : (c : ℕ) → c ≢ (h.reftable_offset + 8 * k0) / cluster_size h → SameIn (cluster_size h) c base base'
+  same c other o in_c = outside o (λ e. other (sym in_c ∙ e))
+
+  known_same : (c : ℕ) → c ≢ (h.reftable_offset + 8 * k0) / cluster_size h → SameIn (cluster_size h) c known known'
+  known_same c other o in_c = known_outside o (λ e. other (sym in_c ∙ e))
+
+  first : SameFrom 0 (cluster_size h) base base'
+  first = reftable_first h base base' guarded.top ((h.reftable_offset + 8 * k0) / cluster_size h) one_part once same
+
+  l1 : (i : ℕ) → l1_entry h base i ≡ l1_entry h base' i
+  l1 = reftable_l1 h base base' guarded.top ((h.reftable_offset + 8 * k0) / cluster_size h) one_part once same
+
+  covers : SameCovers h base base'
+  covers = reftable_covers h base base' guarded.top ((h.reftable_offset + 8 * k0) / cluster_size h) one_part once same
+
+  known_covers : SameCovers h known known'
+  known_covers = reftable_covers h known known' known_top ((h.reftable_offset + 8 * k0) / cluster_size h) one_part known_once known_same
+
+  others : (k : ℕ) → k ≢ k0 → reftable_entry h base k ≡ reftable_entry h base' k
+  others k = other_reftable h base base' k0 k writes.others
+
+  known_others : (k : ℕ) → k ≢ k0 → reftable_entry h known k ≡ reftable_entry h known' k
+  known_others k = other_reftable h known known' k0 k writes.known_others
+
+  -- the new refblock stands elsewhere
+  apart : block_offset entry / cluster_size h ≢ (h.reftable_offset + 8 * k0) / cluster_size h
+  apart e =
+      let here : named_for_tables h base ((h.reftable_offset + 8 * k0) / cluster_size h) ≡ 0 = ap (named_for_tables h base) (sym e) ∙ no_table in
+      let some = fixed in
+      absurd (omega arith)
+
+  -- a count in the new refblock's range, before and after
+  counts_new : (b b' : Bytes) → ((c : ℕ) → c ≢ (h.reftable_offset + 8 * k0) / cluster_size h → SameIn (cluster_size h) c b b')
+      → block_offset (reftable_entry h b k0) ≡ 0 → reftable_entry h b' k0 ≡ entry
+      → ((c : ℕ) → c / counts_per_block h ≡ k0 → block_count b (count_width h) (block_offset entry) (c % counts_per_block h) ≡ s c)
+      → (c : ℕ) → c / counts_per_block h ≡ k0 → (count h b c ≡ 0) × (count h b' c ≡ s c)
+  counts_new b b' alike none is says c here =
+      let at : block_offset (reftable_entry h b' (c / counts_per_block h)) ≡ block_offset entry = ap (λ k. block_offset (reftable_entry h b' k)) here ∙ ap block_offset is in (
+        count_none h b c (ap (λ k. block_offset (reftable_entry h b k)) here ∙ none),
+        count_in h b' c (λ zero. new.real (sym at ∙ zero))
+            ∙ ap (λ t. block_count b' (count_width h) t (c % counts_per_block h)) at
+            ∙ sym (block_count-moved h b b' (block_offset entry) (block_offset entry) (c % counts_per_block h) sizes (mod_below c (counts_per_block h) sizes.counts)
+            (SameFrom-in (cluster_size h) _ (block_offset entry) b b' (alike (block_offset entry / cluster_size h) apart) new.aligned refl))
+            ∙ says c here,
+      )
+
+  known_none : block_offset (reftable_entry h known k0) ≡ 0
+  known_none = ap block_offset (sym (guarded.same_top.reftable k0)) ∙ new.none
+
+  counts : (c : ℕ) → count h base' c ≡ count h base c + s c
+  counts c = elim (cases_eq (c / counts_per_block h) k0) [
+    | inl here ↦ let n = counts_new base base' same new.none writes.is new.says c here in omega (arith, n.0, n.1)
+    | inr other ↦
+        let e = reftable_counts h base base' guarded.top ((h.reftable_offset + 8 * k0) / cluster_size h) one_part once same c (others (c / counts_per_block h) other) in
+        let zero = in_range c other in
+        omega arith
+  ]
+
+  known_counts : (c : ℕ) → count h known' c ≡ count h known c + s c
+  known_counts c = elim (cases_eq (c / counts_per_block h) k0) [
+    | inl here ↦ let n = counts_new known known' known_same known_none writes.known_is new.known_says c here in omega (arith, n.0, n.1)
+    | inr other ↦
+        let e = reftable_counts h known known' known_top ((h.reftable_offset + 8 * k0) / cluster_size h) one_part known_once known_same c (known_others (c / counts_per_block h) other) in
+        let zero = in_range c other in
+        omega arith
+  ]
+
+  empty : (c : ℕ) → 0 < s c → (count h known c ≡ 0) × (count h base c ≡ 0)
+  empty c some = elim (cases_eq (c / counts_per_block h) k0) [
+    | inl here ↦ (
+      (counts_new known known' known_same known_none writes.known_is new.known_says c here).0,
+      (counts_new base base' same new.none writes.is new.says c here).0,
+    )
+    | inr other ↦ absurd (let zero = in_range c other in omega arith)
+  ]
+
+  each_block : (Q : ℕ → Type 0) → Q entry → (k : ℕ) → Q (reftable_entry h base k) → Q (reftable_entry h base' k)
+  each_block Q there k before = elim (cases_eq k k0) [
+    | inl e ↦ subst (λ n. Q (reftable_entry h base' n)) (sym e) (subst Q (sym writes.is) there)
+    | inr ne ↦ subst Q (others k ne) before
+  ]
+
+  top_now : IsTop h base'
+  top_now = record {
+    header_is = sym (header-first h base base' sizes first) ∙ guarded.top.header_is;
+    header_reads = HeaderReads-same h base base' first guarded.top.header_reads;
+    l1_reads = λ i lt. subst L1EntryReads (l1 i) (guarded.top.l1_reads i lt);
+    reftable_reads = λ k lt. each_block ReftableEntryReads new.reads k (guarded.top.reftable_reads k lt);
+    no_snapshots = guarded.top.no_snapshots;
+    no_data_file = guarded.top.no_data_file;
+    l1_aligned = guarded.top.l1_aligned;
+    reftable_aligned = guarded.top.reftable_aligned;
+    l2_tables_aligned = λ i lt. subst (λ e. IsAligned h (host_offset e)) (l1 i) (guarded.top.l2_tables_aligned i lt);
+    refblocks_aligned = λ k lt. each_block (λ e. IsAligned h (block_offset e)) new.aligned k (guarded.top.refblocks_aligned k lt);
+  }
+
+  same_top_now : SameTop h base' known'
+  same_top_now = record {
+    first_cluster = λ i lt. sym (first i lt) ∙ guarded.same_top.first_cluster i lt ∙ reftable_first h known known' known_top ((h.reftable_offset + 8 * k0) / cluster_size h) one_part known_once known_same i lt;
+    l1 = λ i. sym (l1 i) ∙ guarded.same_top.l1 i ∙ reftable_l1 h known known' known_top ((h.reftable_offset + 8 * k0) / cluster_size h) one_part known_once known_same i;
+    reftable = λ k. elim (cases_eq k k0) [
+      | inl e ↦ ap (reftable_entry h base') e ∙ writes.is ∙ sym writes.known_is ∙ ap (reftable_entry h known') (sym e)
+      | inr ne ↦ sym (others k ne) ∙ guarded.same_top.reftable k ∙ known_others k ne
+    ];
+  }
+
+  blocks_changed : (c : ℕ) → named_by_reftable h base' c ≡ named_by_reftable h base c + table_in h c (block_offset entry)
+  unfolding named_by_reftable
+  blocks_changed c =
+      let change = sum_below-change (reftable_entries h) (λ k. table_in h c (block_offset (reftable_entry h base' k))) (λ k. table_in h c (block_offset (reftable_entry h base k))) k0 writes.within
+      (λ k lt ne. ap (λ e. table_in h c (block_offset e)) (sym (others k ne))) in
+      let here : table_in h c (block_offset (reftable_entry h base' k0)) ≡ table_in h c (block_offset entry) = ap (λ e. table_in h c (block_offset e)) writes.is in
+      let before : table_in h c (block_offset (reftable_entry h base k0)) ≡ 0 = ap (table_in h c) new.none in
+      omega arith
+
+  fixed_changed : (c : ℕ) → named_for_tables h base' c + 0 ≡ named_for_tables h base c + (table_in h c (block_offset entry) - s c) + s c
+  fixed_changed c =
+      let before = shares h base c in
+      let after = shares h base' c in
+      let blocks = blocks_changed c in
+      let tables = l1_names-same h base base' c l1 in
+      let le = few c in
+      omega arith
+
+  elsewhere : (o : ℕ) → 0 < named_in_either h base known (o / cluster_size h) + p.held (o / cluster_size h) → o / cluster_size h ≢ (h.reftable_offset + 8 * k0) / cluster_size h
+  elsewhere o some e =
+      let none = table_apart h d p base known guarded ((h.reftable_offset + 8 * k0) / cluster_size h) fixed in
+      let here = subst (λ n. 0 < named_in_either h base known n + p.held n) e some in
+      absurd (omega arith)
+
+  unlaid : (o : ℕ) → 0 < named_in_either h base known (o / cluster_size h) + p'.held (o / cluster_size h) → base' o ≡ known' o
+  unlaid o any =
+      let some : 0 < named_in_either h base known (o / cluster_size h) + p.held (o / cluster_size h) = let e = (pending (o / cluster_size h)).0 in omega arith in
+      sym (outside o (elsewhere o some)) ∙ guarded.unlaid o some ∙ known_outside o (elsewhere o some)
+
+  pub reftable_named : IsGuarded h d p' base' known'
+  reftable_named =
+      tables_renamed h (places_of h) d p p' base known base' known' guarded
+      top_now same_top_now (omega arith) covers known_covers unlaid
+      (λ c. table_in h c (block_offset entry) - s c) s (λ c. 0) pending
+      (λ c. let one = table_in-le h c (block_offset entry) in let le = few c in omega arith) fixed_changed (λ c. let e = l1_marks-same h base base' c l1 in omega arith)
+      counts known_counts fresh empty
+
+  pub reftable_named_kept : (backing : Bytes) (m : Mark) → IsKeptAt backing m base → IsKeptAt backing m base'
+  reftable_named_kept backing m kept =
+      moved_kept h (places_of h) d p p' base known base' known' guarded
+      top_now same_top_now (omega arith) covers known_covers unlaid reftable_named
+      (λ o some. outside o (elsewhere o (omega arith))) (λ o some. known_outside o (elsewhere o (omega arith))) backing m [] (inl refl) kept
+
+  pub reftable_named_known_kept : (backing : Bytes) (m : Mark) → IsKeptAt backing m known → IsKeptAt backing m known'
+  reftable_named_known_kept backing m kept =
+      moved_known_kept h (places_of h) d p p' base known base' known' guarded
+      top_now same_top_now (omega arith) covers known_covers unlaid reftable_named
+      (λ o some. outside o (elsewhere o (omega arith))) (λ o some. known_outside o (elsewhere o (omega arith))) backing m [] (inl refl) kept
+
+-- ---- a refblock of zeros in a fresh cluster
+module _ (h : HeaderFields) (d : Direction) (p : Pending) (base known base' known' : Bytes) (guarded : IsGuarded h d p base known) (k0 entry : ℕ)
+    (writes : WritesReftableEntry h base known base' known' k0 entry) (new : IsNewBlock h base known k0 entry (λ c. 0))
+    (fresh : 0 < p.fresh (block_offset entry / cluster_size h)) (counted : count h base (block_offset entry / cluster_size h) ≡ count h known (block_offset entry / cluster_size h))
+    (written : d ≡ RbDependsOnL2 → SameCovers h base known) where
+  no_table_there : named_for_tables h base (block_offset entry / cluster_size h) ≡ 0
+  no_table_there = (fresh_is_unnamed h d p base known guarded (block_offset entry / cluster_size h) fresh written).no_table
+
+  fresh_there : (c : ℕ) → 0 < table_in h c (block_offset entry) - 0 → (0 < p.fresh c) × (count h base c ≡ count h known c) × (d ≡ RbDependsOnL2 → SameCovers h base known)
+  fresh_there c some =
+      let here = table_in-at h c (block_offset entry) (omega arith) in
+      (subst (λ n. 0 < p.fresh n) here fresh, subst (λ n. count h base n ≡ count h known n) here counted, written)
+
+  pending_named : (c : ℕ) → (p.held c ≡ p.held c) × (p.fresh c - table_in h c (block_offset entry) ≡ p.fresh c - (table_in h c (block_offset entry) - 0)) × (p.spent c ≡ p.spent c + 0) × (p.dropped c ≡ p.dropped c) × (p.surplus c ≡ p.surplus c)
+  pending_named c = (refl, omega arith, omega arith, refl, refl)
+
+  pub block_named : IsGuarded h d (named_now p (λ c. table_in h c (block_offset entry))) base' known'
+  block_named = reftable_named h d p (named_now p (λ c. table_in h c (block_offset entry))) base known base' known' guarded k0 entry (λ c. 0) pending_named writes new no_table_there (λ c _. refl) (λ c. omega arith) fresh_there
+
+  pub block_named_kept : (backing : Bytes) (m : Mark) → IsKeptAt backing m base → IsKeptAt backing m base'
+  block_named_kept = reftable_named_kept h d p (named_now p (λ c. table_in h c (block_offset entry))) base known base' known' guarded k0 entry (λ c. 0) pending_named writes new no_table_there (λ c _. refl) (λ c. omega arith) fresh_there
+
+  pub block_named_known_kept : (backing : Bytes) (m : Mark) → IsKeptAt backing m known → IsKeptAt backing m known'
+  block_named_known_kept = reftable_named_known_kept h d p (named_now p (λ c. table_in h c (block_offset entry))) base known base' known' guarded k0 entry (λ c. 0) pending_named writes new no_table_there (λ c _. refl) (λ c. omega arith) fresh_there
+
+-- ---- a refblock that counts itself, and nothing else
+module _ (h : HeaderFields) (d : Direction) (p : Pending) (base known base' known' : Bytes) (guarded : IsGuarded h d p base known) (k0 entry : ℕ)
+    (writes : WritesReftableEntry h base known base' known' k0 entry) (new : IsNewBlock h base known k0 entry (λ c. table_in h c (block_offset entry)))
+    (range : block_offset entry / cluster_size h / counts_per_block h ≡ k0) where
+  itself_unnamed : named_for_tables h base (block_offset entry / cluster_size h) ≡ 0
+  itself_unnamed =
+      (unused_is_unnamed h d p base known guarded (block_offset entry / cluster_size h)
+      (count_none h known (block_offset entry / cluster_size h) (ap (λ k. block_offset (reftable_entry h known k)) range ∙ ap block_offset (sym (guarded.same_top.reftable k0)) ∙ new.none))
+      (count_none h base (block_offset entry / cluster_size h) (ap (λ k. block_offset (reftable_entry h base k)) range ∙ new.none))).no_table
+
+  only_itself : (c : ℕ) → c / counts_per_block h ≢ k0 → table_in h c (block_offset entry) ≡ 0
+  only_itself c other = elim (cases_lt 0 (table_in h c (block_offset entry))) [
+    | inl some ↦ absurd (other (ap (λ n. n / counts_per_block h) (sym (table_in-at h c (block_offset entry) some)) ∙ range))
+    | inr none ↦ omega arith
+  ]
+
+  nothing_fresh : (c : ℕ) → 0 < table_in h c (block_offset entry) - table_in h c (block_offset entry) → (0 < p.fresh c) × (count h base c ≡ count h known c) × (d ≡ RbDependsOnL2 → SameCovers h base known)
+  nothing_fresh c some = absurd (omega arith)
+
+  pending_still : (c : ℕ) → (p.held c ≡ p.held c) × (p.fresh c ≡ p.fresh c - (table_in h c (block_offset entry) - table_in h c (block_offset entry))) × (p.spent c ≡ p.spent c + 0) × (p.dropped c ≡ p.dropped c) × (p.surplus c ≡ p.surplus c)
+  pending_still c = (refl, omega arith, omega arith, refl, refl)
+
+  pub block_counts_itself : IsGuarded h d p base' known'
+  block_counts_itself = reftable_named h d p p base known base' known' guarded k0 entry (λ c. table_in h c (block_offset entry)) pending_still writes new itself_unnamed only_itself (λ c. omega arith) nothing_fresh
+
+  pub block_counts_itself_kept : (backing : Bytes) (m : Mark) → IsKeptAt backing m base → IsKeptAt backing m base'
+  block_counts_itself_kept = reftable_named_kept h d p p base known base' known' guarded k0 entry (λ c. table_in h c (block_offset entry)) pending_still writes new itself_unnamed only_itself (λ c. omega arith) nothing_fresh
+
+  pub block_counts_itself_known_kept : (backing : Bytes) (m : Mark) → IsKeptAt backing m known → IsKeptAt backing m known'
+  block_counts_itself_known_kept = reftable_named_known_kept h d p p base known base' known' guarded k0 entry (λ c. table_in h c (block_offset entry)) pending_still writes new itself_unnamed only_itself (λ c. omega arith) nothing_fresh

@@ -1,0 +1,133 @@
+-- A consistent image is guarded as it is opened.
+use Rattle.std.proofs.Common.{◌≡◌, ℕ, ◌+◌, ◌/◌, ◌%◌, ◌<◌, ◌≤◌, ◌≢◌, Bool, true, false, cond, eqb, refl, sym, ap, ◌∙◌, arith, subst, inl, inr, max}
+use Rattle.std.specs.Prelude.{Option, Some, None}
+use Rattle.std.proofs.lemmas.Bool.{cases_eq, cases_lt, eq-eqb, eqb-true}
+use Rattle.std.proofs.lemmas.Nat.{mod_below}
+use Rattle.qcow2_metadata.specs.Bytes.{Bytes}
+use Rattle.qcow2_metadata.specs.declared.header.HeaderFields.{HeaderFields}
+use Rattle.qcow2_metadata.specs.Header.{header, cluster_size, entries_per_cluster}
+use Rattle.qcow2_metadata.specs.Entries.{l1_entry, is_copied, count}
+use Rattle.qcow2_metadata.specs.Cover.{cover}
+use Rattle.qcow2_metadata.specs.Named.{named_for_tables, named_by_l1_table, table_in, in_cluster}
+use Rattle.qcow2_metadata.specs.Consistent.{Consistent, EachCover, CoverIsAligned, IsOwn, KeptIsOwn, CopiedIsOwn}
+use Rattle.qcow2_metadata.specs.declared.l2_mapping.L2Mapping.{L2Mapping}
+use Rattle.qcow2_metadata.specs.declared.l2_mapping.L2Mapping.TheVariants.{Data, Zero, Compressed, Uncovered}
+use Rattle.qcow2_laws.specs.Clusters.{Neither, Always}
+use Rattle.qcow2_laws.specs.Guests.{over_guests, names, marks, marked_by_cover, marked_by_kept, marked_by_l1_table, table_at}
+use Rattle.qcow2_laws.specs.Guard.{cluster, IsGuarded}
+use Rattle.qcow2_laws.specs.Opened.{nothing_pending, surplus_of}
+use Rattle.qcow2_laws.proofs.Sums.{some_term}
+use Rattle.qcow2_laws.proofs.Places.{Sizes, Sizes-from, cover_in, cover_none, has_table}
+use Rattle.qcow2_laws.proofs.Guests.{named-is, over_guests-same, some_guest, marks-all, l1_marks-le}
+use Rattle.qcow2_laws.proofs.Tops.{SameTop-refl}
+
+-- what holds of each entry of each table, and of none, holds of each guest cluster
+each_cover : (h : HeaderFields) (b : Bytes) (P : L2Mapping → Type 0) → Sizes h → P Uncovered → EachCover h b P → (g : ℕ) → P (cover h b g)
+each_cover h b P sizes none each g = elim (cases_eq (table_at h b (g / entries_per_cluster h)) 0) [
+  | inl free ↦ subst P (sym (cover_none h b g free)) none
+  | inr real ↦ subst P (sym (cover_in h b g real))
+      (each (g / entries_per_cluster h) (g % entries_per_cluster h) (has_table h b (g / entries_per_cluster h) real) real (mod_below g (entries_per_cluster h) sizes.entries))
+]
+
+-- where a test is 1, it passes
+passes : (t : Bool) (n : ℕ) → 0 < cond t n 0 → (t ≡ true) × (0 < n)
+passes true n some = (refl, some)
+passes false n some = absurd (omega arith)
+
+fails : (t : Bool) (n : ℕ) → 0 < cond t 0 n → (t ≡ false) × (0 < n)
+fails true n some = absurd (omega arith)
+fails false n some = (refl, some)
+
+pub in_cluster-is : (h : HeaderFields) (c place : ℕ) → 0 < in_cluster h c place → place / cluster_size h ≡ c
+in_cluster-is h c place some = eqb-true (place / cluster_size h) c (passes (eqb (place / cluster_size h) c) 1 some).0
+
+pub table_in-is : (h : HeaderFields) (c place : ℕ) → 0 < table_in h c place → place / cluster_size h ≡ c
+table_in-is h c place some = in_cluster-is h c place (fails (eqb place 0) (in_cluster h c place) some).1
+
+pub table_in-real : (h : HeaderFields) (c place : ℕ) → 0 < table_in h c place → place ≢ 0
+table_in-real h c place some e = absurd (let f : eqb place 0 ≡ false = (fails (eqb place 0) (in_cluster h c place) some).0 in let t = eq-eqb place 0 e in cc)
+
+counted_at : (h : HeaderFields) (b : Bytes) (c place : ℕ) → place / cluster_size h ≡ c → IsOwn h b place → count h b c ≡ 1
+counted_at h b c place here own = ap (count h b) (sym here) ∙ own.1
+
+kept_counted : (h : HeaderFields) (b : Bytes) (c : ℕ) (k : Option (ℕ × Bool)) → KeptIsOwn h b k → 0 < marked_by_kept h c k → count h b c ≡ 1
+kept_counted h b c None own some = absurd (omega arith)
+kept_counted h b c (Some k) own some = let t = passes k.1 (in_cluster h c k.0) some in counted_at h b c k.0 (in_cluster-is h c k.0 t.1) (own t.0)
+
+cover_counted : (h : HeaderFields) (b : Bytes) (c : ℕ) (v : L2Mapping) → CopiedIsOwn h b v → 0 < marked_by_cover h c v → count h b c ≡ 1
+cover_counted h b c (Data host copied) own some = let t = passes copied (in_cluster h c host) some in counted_at h b c host (in_cluster-is h c host t.1) (own t.0)
+cover_counted h b c (Zero kept) own some = kept_counted h b c kept own some
+cover_counted h b c (Compressed host sectors) own some = absurd (omega arith)
+cover_counted h b c Uncovered own some = absurd (omega arith)
+
+module _ (h : HeaderFields) (b : Bytes) (ok : Consistent h b) where
+  sizes : Sizes h
+  sizes = Sizes-from h b ok.header_reads
+
+  sole_counted : (c : ℕ) → 0 < marked_by_l1_table h b c → count h b c ≡ 1
+  unfolding marked_by_l1_table
+  sole_counted c some =
+      let t = some_term h.l1_entries (λ i. cond (is_copied (l1_entry h b i)) (table_in h c (table_at h b i)) 0) some in
+      let is = passes (is_copied (l1_entry h b t.0)) (table_in h c (table_at h b t.0)) t.2 in
+      counted_at h b c (table_at h b t.0) (table_in-is h c (table_at h b t.0) is.1)
+      (ok.copied_tables t.0 t.1 (table_in-real h c (table_at h b t.0) is.1) is.0)
+
+  marks_counted : (c : ℕ) → 0 < over_guests h (marks h b c) → count h b c ≡ 1
+  marks_counted c some =
+      let t = some_guest h (marks h b c) some in
+      cover_counted h b c (cover h b t.0) (each_cover h b (CopiedIsOwn h b) sizes tt ok.copied_data t.0) t.2
+
+  alone : (c : ℕ) → 0 < marked_by_l1_table h b c + over_guests h (marks h b c) → count h b c ≤ 1
+  alone c some = elim (cases_lt 0 (marked_by_l1_table h b c)) [
+    | inl sole ↦ let e = sole_counted c sole in omega arith
+    | inr none ↦ let e = marks_counted c (omega arith) in omega arith
+  ]
+
+  twice : (f : ℕ → ℕ) → over_guests h (λ g. max (f g) (f g)) ≡ over_guests h f
+  twice f = over_guests-same h _ _ (λ g. omega arith)
+
+  fixed_l1 : (c : ℕ) → named_by_l1_table h b c ≤ named_for_tables h b c
+  unfolding named_for_tables
+  fixed_l1 c = omega arith
+
+  always : (c : ℕ) → Always (cluster h (nothing_pending (surplus_of h b)) b b c) (surplus_of h b c)
+  always c =
+      let e = named-is h b c sizes in
+      let counted = ok.counted c in
+      let either = twice (names h b c) in
+      record {
+        tally = omega arith;
+        marked = alone c;
+        pending = λ some. absurd (omega arith);
+        table = λ some. let once = ok.tables_once c (λ none. omega (arith, none)) in omega arith;
+        sole = omega (arith, l1_marks-le h b c, fixed_l1 c);
+      }
+
+  pub opened_guarded : header b ≡ h → IsGuarded h Neither (nothing_pending (surplus_of h b)) b b
+  opened_guarded is = record {
+    top = record {
+      header_is = is;
+      header_reads = ok.header_reads;
+      l1_reads = ok.l1_reads;
+      reftable_reads = ok.reftable_reads;
+      no_snapshots = ok.no_snapshots;
+      no_data_file = ok.no_data_file;
+      l1_aligned = ok.l1_aligned;
+      reftable_aligned = ok.reftable_aligned;
+      l2_tables_aligned = ok.l2_tables_aligned;
+      refblocks_aligned = ok.refblocks_aligned;
+    };
+    same_top = SameTop-refl h b;
+    always = always;
+    ordered = λ c.
+        let e = named-is h b c sizes in
+        let counted = ok.counted c in
+        let either = twice (names h b c) in
+        let marked = twice (marks h b c) in
+        let once = alone c in
+        (record { covers = omega arith; alone = λ some. once (omega arith) }, record { covers = omega arith; alone = λ some. once (omega arith) });
+    aligned = each_cover h b (CoverIsAligned h) sizes tt ok.data_aligned;
+    known_aligned = each_cover h b (CoverIsAligned h) sizes tt ok.data_aligned;
+    own = λ g c marked. marks-all h c (cover h b g) marked;
+    unlaid = λ o some. refl;
+  }

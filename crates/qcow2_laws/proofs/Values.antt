@@ -1,0 +1,111 @@
+-- Guest bytes stay where covers, and the bytes that they name, stay.
+use Rattle.std.proofs.Common.{◌≡◌, ℕ, ◌+◌, ◌-◌, ◌*◌, ◌/◌, ◌%◌, ◌<◌, ◌⊎◌, List, [], refl, sym, ap, ◌∙◌, arith, inl, inr, subst, max}
+use Rattle.std.proofs.lemmas.Bool.{cond-true, le-leb, and_from}
+use Rattle.std.proofs.lemmas.Nat.{mod_below, pow_pos}
+use Rattle.qcow2_metadata.specs.Bytes.{Bytes}
+use Rattle.qcow2_metadata.specs.declared.header.HeaderFields.{HeaderFields}
+use Rattle.qcow2_metadata.specs.Header.{header, cluster_size}
+use Rattle.qcow2_metadata.specs.Cover.{cover}
+use Rattle.qcow2_metadata.specs.Guest.{known_byte, compressed_byte, guest_value, value_under, bytes_of_sectors}
+use Rattle.qcow2_metadata.specs.Named.{named_by_cover, in_cluster}
+use Rattle.qcow2_metadata.specs.Consistent.{CoverIsAligned, IsConsistent}
+use Rattle.qcow2_metadata.specs.declared.l2_mapping.L2Mapping.{L2Mapping}
+use Rattle.qcow2_metadata.specs.declared.l2_mapping.L2Mapping.TheVariants.{Data, Zero, Compressed, Uncovered}
+use Rattle.qcow2_laws.specs.Disk.{disk}
+use Rattle.qcow2_laws.specs.Stops.{Gift, IsGiven, Mark, more, IsKeptAt}
+use Rattle.qcow2_laws.specs.Clusters.{Direction}
+use Rattle.qcow2_laws.specs.Guests.{names}
+use Rattle.qcow2_laws.specs.Guard.{Pending, IsGuarded, IsMixed}
+use Rattle.qcow2_laws.proofs.Places.{Sizes, Sizes-from, in_one, div_mono}
+use Rattle.qcow2_laws.proofs.Tops.{bytes_from-same, IsTop-top}
+use Rattle.qcow2_laws.proofs.Guests.{guest_le, names_within}
+use Rattle.qcow2_laws.proofs.Consistency.{in_own, guarded_consistent}
+use Rattle.qcow2_laws.proofs.Mixes.{mixed_guarded, either_cover}
+use Rattle.qcow2_laws.proofs.Stops.{kept_on, kept_either}
+
+-- the value that a cover shows is as in another image where the bytes are so in each cluster that the cover names
+pub shown : (h : HeaderFields) (b c backing : Bytes) (o : ℕ) (v : L2Mapping) → CoverIsAligned h v → ((place : ℕ) → 0 < named_by_cover h (place / cluster_size h) v → b place ≡ c place)
+    → value_under h b b backing o v ≡ value_under h c c backing o v
+shown h b c backing o (Data host copied) aligned same =
+    let inside = in_one (cluster_size h) host (o % cluster_size h) aligned (mod_below o (cluster_size h) (pow_pos h.cluster_bits)) in
+    ap known_byte (same (host + o % cluster_size h) (let one : in_cluster h ((host + o % cluster_size h) / cluster_size h) host ≡ 1 = ap (λ n. in_cluster h n host) inside ∙ in_own h host in omega arith))
+shown h b c backing o (Zero kept) aligned same = refl
+shown h b c backing o (Compressed host sectors) aligned same =
+    ap (λ bytes. compressed_byte bytes (o % cluster_size h)) (bytes_from-same b c host (bytes_of_sectors host sectors) (λ i lt.
+    same (host + i) (
+    let some : 0 < cluster_size h = pow_pos h.cluster_bits in
+    let from = div_mono host (host + i) (cluster_size h) some (omega arith) in
+    let to = div_mono (host + i) ((host / 512 + sectors) * 512 - 1) (cluster_size h) some (omega arith) in
+    let one = cond-true {A = ℕ} _ 1 0 (and_from _ _ (le-leb (host / cluster_size h) ((host + i) / cluster_size h) from) (le-leb ((host + i) / cluster_size h) (((host / 512 + sectors) * 512 - 1) / cluster_size h) to)) in
+    omega (arith, one))))
+shown h b c backing o Uncovered aligned same = refl
+
+pub guest_value-same : (h : HeaderFields) (b c backing : Bytes) (o : ℕ) → cover h b (o / cluster_size h) ≡ cover h c (o / cluster_size h)
+    → CoverIsAligned h (cover h b (o / cluster_size h)) → ((place : ℕ) → 0 < names h b (place / cluster_size h) (o / cluster_size h) → b place ≡ c place)
+    → guest_value h b b backing o ≡ guest_value h c c backing o
+unfolding guest_value
+guest_value-same h b c backing o same aligned bytes =
+    shown h b c backing o (cover h b (o / cluster_size h)) aligned bytes ∙ ap (λ v. value_under h c c backing o v) same
+
+-- ---- disks of images whose headers are known
+
+pub value_is : (h : HeaderFields) (b backing : Bytes) (o : ℕ) → header b ≡ h → (disk b backing).value o ≡ guest_value h b b backing o
+unfolding disk
+value_is h b backing o is = ap (λ t. guest_value t b b backing o) is
+
+pub size_is : (h : HeaderFields) (b backing : Bytes) → header b ≡ h → (disk b backing).size ≡ h.size
+unfolding disk
+size_is h b backing is = ap (λ (t : HeaderFields). t.size) is
+
+-- an image that shows the same, but for what is given
+pub kept_shown : (h : HeaderFields) (backing : Bytes) (m : Mark) (given : List Gift) (b b' : Bytes) → header b ≡ h → header b' ≡ h → IsConsistent b'
+    → ((o : ℕ) → (guest_value h b' b' backing o ≡ guest_value h b b backing o) ⊎ IsGiven given o (guest_value h b' b' backing o))
+    → IsKeptAt backing m b → IsKeptAt backing (more given [] m) b'
+kept_shown h backing m given b b' is is' consistent values kept =
+    kept_on backing m given [] b b' consistent (inl (size_is h b' backing is' ∙ sym (size_is h b backing is)))
+    (λ o. elim (values o) [
+      | inl same ↦ inl (value_is h b' backing o is' ∙ same ∙ sym (value_is h b backing o is))
+      | inr gift ↦ inr (subst (λ v. IsGiven given o v) (sym (value_is h b' backing o is')) gift)
+    ]) kept
+
+-- ---- a mix of what is on the storage and what is known
+module _ (h : HeaderFields) (d : Direction) (p : Pending) (base known b : Bytes) (guarded : IsGuarded h d p base known) (mixed : IsMixed h d base known b) where
+  sizes : Sizes h
+  sizes = Sizes-from h base guarded.top.header_reads
+
+  as_base : (place : ℕ) → base place ≡ known place → b place ≡ base place
+  as_base place same = elim (mixed.partly (place / cluster_size h)) [
+    | inl is ↦ is place refl
+    | inr is ↦ is place refl ∙ sym same
+  ]
+
+  -- where a guest cluster names a cluster on the storage, or as known, no table is laid over it
+  unlaid_base : (g place : ℕ) → 0 < names h base (place / cluster_size h) g → base place ≡ known place
+  unlaid_base g place some =
+      guarded.unlaid place (let le = guest_le h (λ k. max (names h base (place / cluster_size h) k) (names h known (place / cluster_size h) k)) g (names_within h base (place / cluster_size h) g sizes some) in omega arith)
+
+  unlaid_known : (g place : ℕ) → 0 < names h known (place / cluster_size h) g → base place ≡ known place
+  unlaid_known g place some =
+      guarded.unlaid place (let le = guest_le h (λ k. max (names h base (place / cluster_size h) k) (names h known (place / cluster_size h) k)) g (names_within h known (place / cluster_size h) g sizes some) in omega arith)
+
+  either_value : (backing : Bytes) (o : ℕ) → (guest_value h b b backing o ≡ guest_value h base base backing o) ⊎ (guest_value h b b backing o ≡ guest_value h known known backing o)
+  either_value backing o =
+      let g = o / cluster_size h in
+      elim (either_cover h base known b guarded.top guarded.same_top mixed.partly (o / cluster_size h)) [
+        | inl same ↦ inl (sym (guest_value-same h base b backing o (sym same) (guarded.aligned g) (λ place some. sym (as_base place (unlaid_base g place some)))))
+        | inr same ↦ inr (sym (guest_value-same h known b backing o (sym same) (guarded.known_aligned g)
+            (λ place some. let u = unlaid_known g place some in sym (as_base place u ∙ u))))
+      ]
+
+  -- what was kept is kept on the way
+  pub mixed_kept : (backing : Bytes) (m : Mark) → IsKeptAt backing m base → IsKeptAt backing m known → IsKeptAt backing m b
+  mixed_kept backing m kept known_kept =
+      let now = mixed_guarded h d p base known b guarded mixed in
+      let at_b = now.top.header_is in
+      let at_base = guarded.top.header_is in
+      let at_known = (IsTop-top h base known guarded.same_top guarded.top).header_is in
+      kept_either backing m base known b (guarded_consistent h d p b known now) (size_is h b backing at_b ∙ sym (size_is h base backing at_base))
+      (λ o. elim (either_value backing o) [
+        | inl is ↦ inl (value_is h b backing o at_b ∙ is ∙ sym (value_is h base backing o at_base))
+        | inr is ↦ inr (value_is h b backing o at_b ∙ is ∙ sym (value_is h known backing o at_known))
+      ]) kept known_kept

@@ -1,0 +1,257 @@
+-- Writes to clusters that no table stands in keep the guard, and what was kept, with what they give.
+use Rattle.std.proofs.Common.{◌≡◌, ℕ, ◌+◌, ◌*◌, ◌/◌, ◌%◌, ◌<◌, ◌≤◌, ◌⊎◌, List, [], refl, sym, ap, ◌∙◌, arith, inl, inr, subst, max}
+use Rattle.std.proofs.lemmas.Bool.{cases_eq, cases_lt}
+use Rattle.std.proofs.lemmas.Nat.{div-add-mod', mod_below, mod-mul-add, pow_pos}
+use Rattle.qcow2_metadata.specs.Bytes.{Bytes}
+use Rattle.qcow2_metadata.specs.declared.header.HeaderFields.{HeaderFields}
+use Rattle.qcow2_metadata.specs.Header.{cluster_size}
+use Rattle.qcow2_metadata.specs.Entries.{count}
+use Rattle.qcow2_metadata.specs.Cover.{cover}
+use Rattle.qcow2_metadata.specs.Guest.{Value, known_byte, guest_value, value_under}
+use Rattle.qcow2_metadata.specs.Named.{named_by_cover, named_for_tables, in_cluster}
+use Rattle.qcow2_metadata.specs.Consistent.{CoverIsAligned}
+use Rattle.qcow2_metadata.specs.declared.l2_mapping.L2Mapping.{L2Mapping}
+use Rattle.qcow2_metadata.specs.declared.l2_mapping.L2Mapping.TheVariants.{Data, Zero, Compressed, Uncovered}
+use Rattle.qcow2_laws.specs.Stops.{Gift, IsGiven, Mark, more, IsKeptAt}
+use Rattle.qcow2_laws.specs.Clusters.{Direction, Neither, L2DependsOnRb, RbDependsOnL2}
+use Rattle.qcow2_laws.specs.Guests.{over_guests, names, marks, named_in_either, marked_by_cover}
+use Rattle.qcow2_laws.specs.Guard.{Pending, cluster, IsGuarded, SameTop, SameCovers, SameCounts, SameIn}
+use Rattle.qcow2_laws.specs.Writes.{IsUnnamed, IsWritten}
+use Rattle.qcow2_laws.proofs.Clusters.{Good, Written, held_unnamed, fresh_unnamed, unused_unnamed, named_once}
+use Rattle.qcow2_laws.proofs.Places.{Sizes, Sizes-from, in_one}
+use Rattle.qcow2_laws.proofs.Guests.{over_guests-same, guest_le, two_guests_le, names_within, marks-le}
+use Rattle.qcow2_laws.proofs.Tops.{SameTop-sym, SameTop-trans, for_tables-top, sole-top, IsTop-top}
+use Rattle.qcow2_laws.proofs.Mixes.{tied, good, as_known}
+use Rattle.qcow2_laws.proofs.Consistency.{in_own, guarded_consistent, known_consistent}
+use Rattle.qcow2_laws.proofs.Shares.{top_stays, covers_stay, counts_stay}
+use Rattle.qcow2_laws.proofs.Values.{shown, kept_shown}
+
+-- ---- two images that mean the same are guarded alike
+module _ (h : HeaderFields) (d : Direction) (p : Pending) (base known base' known' : Bytes) (guarded : IsGuarded h d p base known)
+    (top : SameTop h base base') (known_top : SameTop h known known') (covers : SameCovers h base base') (known_covers : SameCovers h known known')
+    (counts : SameCounts h base base') (known_counts : SameCounts h known known')
+    (unlaid : (o : ℕ) → 0 < named_in_either h base known (o / cluster_size h) + p.held (o / cluster_size h) → base' o ≡ known' o) where
+  either_same : (f : L2Mapping → ℕ) → over_guests h (λ g. max (f (cover h base' g)) (f (cover h known' g))) ≡ over_guests h (λ g. max (f (cover h base g)) (f (cover h known g)))
+  either_same f = over_guests-same h _ _ (λ g. ap (λ v. max (f v) (f (cover h known' g))) (sym (covers g)) ∙ ap (λ v. max (f (cover h base g)) (f v)) (sym (known_covers g)))
+
+  good_too : (c : ℕ) → Good d (cluster h p base' known' c) (p.surplus c)
+  good_too c =
+      let fixed = for_tables-top h base base' c top in
+      let sole = sole-top h base base' c top in
+      let in_base = over_guests-same h (names h base c) (names h base' c) (λ g. ap (named_by_cover h c) (covers g)) in
+      let in_known = over_guests-same h (names h known c) (names h known' c) (λ g. ap (named_by_cover h c) (known_covers g)) in
+      let in_either = sym (either_same (named_by_cover h c)) in
+      let marks_base = over_guests-same h (marks h base c) (marks h base' c) (λ g. ap (marked_by_cover h c) (covers g)) in
+      let marks_known = over_guests-same h (marks h known c) (marks h known' c) (λ g. ap (marked_by_cover h c) (known_covers g)) in
+      let marks_either = sym (either_same (marked_by_cover h c)) in
+      subst (λ k. Good d k (p.surplus c)) (λ j. record (cluster h p base' known' c) {
+        fixed = fixed j;
+        sole = sole j;
+        in_base = in_base j;
+        in_known = in_known j;
+        in_either = in_either j;
+        marks_base = marks_base j;
+        marks_known = marks_known j;
+        marks_either = marks_either j;
+        base_count = counts c j;
+        known_count = known_counts c j;
+      }) (good h d p base known guarded c)
+
+  pub same_guarded : IsGuarded h d p base' known'
+  same_guarded = record {
+    top = IsTop-top h base base' top guarded.top;
+    same_top = SameTop-trans h base' base known' (SameTop-sym h base base' top) (SameTop-trans h base known known' guarded.same_top known_top);
+    always = λ c. (good_too c).always;
+    ordered = λ c. (good_too c).ordered;
+    aligned = λ g. subst (CoverIsAligned h) (covers g) (guarded.aligned g);
+    known_aligned = λ g. subst (CoverIsAligned h) (known_covers g) (guarded.known_aligned g);
+    own = λ g c some.
+        subst (λ v. named_by_cover h c v ≤ marked_by_cover h c v) (covers g) (guarded.own g c (subst (λ v. 0 < marked_by_cover h c v) (sym (known_covers g)) some));
+    unlaid = λ o some. unlaid o (let e = either_same (named_by_cover h (o / cluster_size h)) in omega arith);
+  }
+
+-- ---- what is pending, or counted nowhere, is unnamed
+module _ (h : HeaderFields) (d : Direction) (p : Pending) (base known : Bytes) (guarded : IsGuarded h d p base known) (c : ℕ) where
+  pub held_is_unnamed : 0 < p.held c → IsUnnamed h base known c
+  held_is_unnamed some =
+      let none = held_unnamed d (cluster h p base known c) (p.surplus c) (tied h p base known c) some (good h d p base known guarded c) in
+      record { no_table = none.1; no_entry = none.0 }
+
+  -- where what is known of entries is on the storage, no mix has more
+  pub written_covers : (d ≡ RbDependsOnL2 → SameCovers h base known) → Written d (cluster h p base known c)
+  written_covers = written d
+    where
+      written : (e : Direction) → (e ≡ RbDependsOnL2 → SameCovers h base known) → Written e (cluster h p base known c)
+      written Neither covers = tt
+      written L2DependsOnRb covers = tt
+      written RbDependsOnL2 covers =
+          (as_known h known base (λ k. sym (covers refl k)) (named_by_cover h c), as_known h known base (λ k. sym (covers refl k)) (marked_by_cover h c))
+
+  -- a fresh cluster may still be named by an entry on the storage, unless L2 tables are written
+  pub fresh_is_unnamed : 0 < p.fresh c → (d ≡ RbDependsOnL2 → SameCovers h base known) → IsUnnamed h base known c
+  fresh_is_unnamed some covers =
+      let none = fresh_unnamed d (cluster h p base known c) (p.surplus c) (tied h p base known c) some (written_covers covers) (good h d p base known guarded c) in
+      record { no_table = none.1; no_entry = none.0 }
+
+  pub unused_is_unnamed : count h known c ≡ 0 → count h base c ≡ 0 → IsUnnamed h base known c
+  unused_is_unnamed known_none base_none =
+      let none = unused_unnamed d (cluster h p base known c) (p.surplus c) (tied h p base known c) known_none base_none (good h d p base known guarded c) in
+      record { no_table = let t = (guarded.always c).tally in omega arith; no_entry = none }
+
+  pub marked_alone : (g : ℕ) → 0 < marks h known c g → (named_for_tables h base c ≡ 0) × (named_in_either h base known c ≤ 1)
+  marked_alone g some =
+      let sizes = Sizes-from h base guarded.top.header_reads in
+      let le = marks-le h c (cover h known g) in
+      let inside = names_within h known c g sizes (omega arith) in
+      let in_sum = guest_le h (marks h known c) g inside in
+      let in_either = guest_le h (λ k. max (names h base c k) (names h known c k)) g inside in
+      let table = (guarded.always c).table in
+      let once = named_once d (cluster h p base known c) (p.surplus c) (tied h p base known c) (omega arith) (good h d p base known guarded c) in
+      (elim (cases_lt 0 (named_for_tables h base c)) [ inl fixed ↦ absurd (let t = table fixed in omega arith) | inr none ↦ omega arith ], once)
+
+-- ---- a value that is as before, or given
+shown_given : (h : HeaderFields) (b b' backing : Bytes) (o : ℕ) (given : List Gift) (v : L2Mapping) → CoverIsAligned h v
+    → ((place : ℕ) → 0 < named_by_cover h (place / cluster_size h) v
+    → (b place ≡ b' place) ⊎ ((0 < marked_by_cover h (place / cluster_size h) v) × (place % cluster_size h ≡ o % cluster_size h → (b place ≡ b' place) ⊎ IsGiven given o (known_byte (b' place)))))
+    → (value_under h b' b' backing o v ≡ value_under h b b backing o v) ⊎ IsGiven given o (value_under h b' b' backing o v)
+shown_given h b b' backing o given (Data host copied) aligned each =
+    let some : 0 < cluster_size h = pow_pos h.cluster_bits in
+    let place = host + o % cluster_size h in
+    let below = mod_below o (cluster_size h) some in
+    let inside = in_one (cluster_size h) host (o % cluster_size h) aligned below in
+    let is : host / cluster_size h * cluster_size h + host % cluster_size h ≡ host = div-add-mod' host (cluster_size h) in
+    let e : host + o % cluster_size h ≡ host / cluster_size h * cluster_size h + o % cluster_size h = omega arith in
+    let rest : (host + o % cluster_size h) % cluster_size h ≡ o % cluster_size h = ap (λ n. n % cluster_size h) e ∙ mod-mul-add (host / cluster_size h) (cluster_size h) (o % cluster_size h) below in
+    elim (each place (let one : in_cluster h ((host + o % cluster_size h) / cluster_size h) host ≡ 1 = ap (λ n. in_cluster h n host) inside ∙ in_own h host in omega arith)) [
+      | inl same ↦ inl (ap known_byte (sym same))
+      | inr change ↦ elim (change.1 rest) [ inl same ↦ inl (ap known_byte (sym same)) | inr gift ↦ inr gift ]
+    ]
+shown_given h b b' backing o given (Zero kept) aligned each = inl refl
+shown_given h b b' backing o given (Compressed host sectors) aligned each =
+    inl (sym (shown h b b' backing o (Compressed host sectors) tt (λ place some. elim (each place some) [ inl same ↦ same | inr change ↦ absurd (omega (arith, change.0)) ])))
+shown_given h b b' backing o given Uncovered aligned each = inl refl
+
+guest_given : (h : HeaderFields) (b b' backing : Bytes) (o : ℕ) (given : List Gift) → cover h b (o / cluster_size h) ≡ cover h b' (o / cluster_size h) → CoverIsAligned h (cover h b (o / cluster_size h))
+    → ((place : ℕ) → 0 < names h b (place / cluster_size h) (o / cluster_size h)
+    → (b place ≡ b' place) ⊎ ((0 < marks h b (place / cluster_size h) (o / cluster_size h)) × (place % cluster_size h ≡ o % cluster_size h → (b place ≡ b' place) ⊎ IsGiven given o (known_byte (b' place)))))
+    → (guest_value h b' b' backing o ≡ guest_value h b b backing o) ⊎ IsGiven given o (guest_value h b' b' backing o)
+unfolding guest_value
+guest_given h b b' backing o given same aligned each =
+    let e : value_under h b' b' backing o (cover h b (o / cluster_size h)) ≡ value_under h b' b' backing o (cover h b' (o / cluster_size h)) = ap (λ v. value_under h b' b' backing o v) same in
+    elim (shown_given h b b' backing o given (cover h b (o / cluster_size h)) aligned each) [
+      | inl is ↦ inl (sym e ∙ is)
+      | inr gift ↦ inr (subst (λ (v : Value). IsGiven given o v) e gift)
+    ]
+
+-- ---- a write of data
+module _ (h : HeaderFields) (d : Direction) (p : Pending) (base known base' known' : Bytes) (given : List Gift) (guarded : IsGuarded h d p base known)
+    (written : IsWritten h base known base' known' given) where
+  sizes : Sizes h
+  sizes = Sizes-from h base guarded.top.header_reads
+
+  stays : (c : ℕ) → 0 < named_for_tables h base c → SameIn (cluster_size h) c base base' × SameIn (cluster_size h) c known known'
+  stays c some = elim (written.each c) [
+    | inl same ↦ same
+    | inr change ↦ elim change [
+      | inl unnamed ↦ absurd (omega (arith, some, unnamed.no_table))
+      | inr place ↦ absurd (let none = marked_alone h d p base known guarded c place.guest place.marked in omega (arith, some, none.0))
+    ]
+  ]
+
+  base_stays : (c : ℕ) → 0 < named_for_tables h base c → SameIn (cluster_size h) c base base'
+  base_stays c some = (stays c some).0
+
+  known_stays : (c : ℕ) → 0 < named_for_tables h known c → SameIn (cluster_size h) c known known'
+  known_stays c some = (stays c (let e = for_tables-top h base known c guarded.same_top in omega arith)).1
+
+  now_covers : SameCovers h base base'
+  now_covers = covers_stay h base base' guarded.top base_stays
+
+  known_covers : SameCovers h known known'
+  known_covers = covers_stay h known known' (IsTop-top h base known guarded.same_top guarded.top) known_stays
+
+  pub written_guarded : IsGuarded h d p base' known'
+  written_guarded =
+      let known_top = IsTop-top h base known guarded.same_top guarded.top in
+      same_guarded h d p base known base' known' guarded
+      (top_stays h base base' guarded.top base_stays) (top_stays h known known' known_top known_stays) now_covers known_covers
+      (counts_stay h base base' guarded.top base_stays) (counts_stay h known known' known_top known_stays)
+      (λ o some. written.agree o (guarded.unlaid o some))
+
+  -- a cluster that a guest cluster has to itself is named by no other
+  its_own : (c g g' : ℕ) → 0 < marks h known c g → 0 < names h base c g' + names h known c g' → g ≡ g'
+  its_own c g g' marked some = elim (cases_eq g g') [
+    | inl same ↦ same
+    | inr other ↦ absurd (
+        let le = marks-le h c (cover h known g) in
+        let within = names_within h known c g sizes (omega arith) in
+        let once = marked_alone h d p base known guarded c g marked in
+        elim (cases_lt 0 (names h base c g')) [
+          | inl in_base ↦ let two = two_guests_le h (λ k. max (names h base c k) (names h known c k)) g g' within (names_within h base c g' sizes in_base) other in omega arith
+          | inr none ↦ let two = two_guests_le h (λ k. max (names h base c k) (names h known c k)) g g' within (names_within h known c g' sizes (omega arith)) other in omega arith
+        ])
+  ]
+
+  named_too : (c g : ℕ) → 0 < names h base c g + names h known c g → 0 < named_in_either h base known c
+  named_too c g some = elim (cases_lt 0 (names h base c g)) [
+    | inl in_base ↦ let le = guest_le h (λ k. max (names h base c k) (names h known c k)) g (names_within h base c g sizes in_base) in omega arith
+    | inr none ↦ let le = guest_le h (λ k. max (names h base c k) (names h known c k)) g (names_within h known c g sizes (omega arith)) in omega arith
+  ]
+
+  -- what was given for a guest cluster that has the place to itself
+  gift_at : (place o g : ℕ) → g ≡ o / cluster_size h → place % cluster_size h ≡ o % cluster_size h → IsGiven given (g * cluster_size h + place % cluster_size h) (known_byte (known' place)) → IsGiven given o (known_byte (known' place))
+  gift_at place o g here rest gift =
+      let is : o / cluster_size h * cluster_size h + o % cluster_size h ≡ o = div-add-mod' o (cluster_size h) in
+      let e : g * cluster_size h + place % cluster_size h ≡ o = ap (λ n. n * cluster_size h + place % cluster_size h) here ∙ ap (λ n. o / cluster_size h * cluster_size h + n) rest ∙ is in
+      subst (λ n. IsGiven given n (known_byte (known' place))) e gift
+
+  base_place : (o place : ℕ) → 0 < names h base (place / cluster_size h) (o / cluster_size h)
+      → (base place ≡ base' place) ⊎ ((0 < marks h base (place / cluster_size h) (o / cluster_size h)) × (place % cluster_size h ≡ o % cluster_size h → (base place ≡ base' place) ⊎ IsGiven given o (known_byte (base' place))))
+  base_place o place some = elim (written.each (place / cluster_size h)) [
+    | inl same ↦ inl (same.0 place refl)
+    | inr change ↦ elim change [
+      | inl unnamed ↦ absurd (let n = named_too (place / cluster_size h) (o / cluster_size h) (omega arith) in omega (arith, n, unnamed.no_entry))
+      | inr at ↦
+          let here = its_own (place / cluster_size h) at.guest (o / cluster_size h) at.marked (omega arith) in
+          let marked : 0 < marks h known (place / cluster_size h) (o / cluster_size h) = subst (λ n. 0 < marks h known (place / cluster_size h) n) here at.marked in
+          let owns = guarded.own (o / cluster_size h) (place / cluster_size h) marked in
+          let both : base' place ≡ known' place = written.agree place (guarded.unlaid place (let n = named_too (place / cluster_size h) (o / cluster_size h) (omega arith) in omega arith)) in
+          inr (
+            omega arith,
+            (λ rest. elim (at.gives place refl) [
+              | inl same ↦ inl same.0
+              | inr gift ↦ inr (subst (λ n. IsGiven given o (known_byte n)) (sym both) (gift_at place o at.guest here rest gift))
+            ]),
+          )
+    ]
+  ]
+
+  known_place : (o place : ℕ) → 0 < names h known (place / cluster_size h) (o / cluster_size h)
+      → (known place ≡ known' place) ⊎ ((0 < marks h known (place / cluster_size h) (o / cluster_size h)) × (place % cluster_size h ≡ o % cluster_size h → (known place ≡ known' place) ⊎ IsGiven given o (known_byte (known' place))))
+  known_place o place some = elim (written.each (place / cluster_size h)) [
+    | inl same ↦ inl (same.1 place refl)
+    | inr change ↦ elim change [
+      | inl unnamed ↦ absurd (let n = named_too (place / cluster_size h) (o / cluster_size h) (omega arith) in omega (arith, n, unnamed.no_entry))
+      | inr at ↦
+          let here = its_own (place / cluster_size h) at.guest (o / cluster_size h) at.marked (omega arith) in
+          let marked : 0 < marks h known (place / cluster_size h) (o / cluster_size h) = subst (λ n. 0 < marks h known (place / cluster_size h) n) here at.marked in
+          inr (
+            marked,
+            (λ rest. elim (at.gives place refl) [
+              | inl same ↦ inl same.1
+              | inr gift ↦ inr (gift_at place o at.guest here rest gift)
+            ]),
+          )
+    ]
+  ]
+
+  pub written_kept : (backing : Bytes) (m : Mark) → IsKeptAt backing m base → IsKeptAt backing (more given [] m) base'
+  written_kept backing m kept =
+      kept_shown h backing m given base base' guarded.top.header_is written_guarded.top.header_is (guarded_consistent h d p base' known' written_guarded)
+      (λ o. guest_given h base base' backing o given (now_covers (o / cluster_size h)) (guarded.aligned (o / cluster_size h)) (base_place o)) kept
+
+  pub written_known_kept : (backing : Bytes) (m : Mark) → IsKeptAt backing m known → IsKeptAt backing (more given [] m) known'
+  written_known_kept backing m kept =
+      kept_shown h backing m given known known' (IsTop-top h base known guarded.same_top guarded.top).header_is
+      (IsTop-top h base' known' written_guarded.same_top written_guarded.top).header_is (known_consistent h d p base' known' written_guarded)
+      (λ o. guest_given h known known' backing o given (known_covers (o / cluster_size h)) (guarded.known_aligned (o / cluster_size h)) (known_place o)) kept

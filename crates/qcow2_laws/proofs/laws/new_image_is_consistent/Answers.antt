@@ -1,0 +1,6 @@
+use Rattle.qcow2_laws.proofs.NewImages.{new_image_consistent}
+use Rattle.qcow2_laws.proofs.Samples.{is_consistent}
+use Rattle.qcow2_laws.proofs.laws.new_image_is_consistent.Goals as goal
+
+pub returns : goal.returns
+returns c = record { each = new_image_consistent; small = is_consistent }

@@ -1,0 +1,80 @@
+-- Cached tables over a storage: where modified ones stand, and what writing them does.
+use Rattle.std.specs.Prelude.{ℕ, ◌/◌, ◌%◌, ◌≡◌, ◌≢◌, ◌⊎◌, true, false, List, [], ◌∷◌}
+use Rattle.qcow2_metadata.specs.Bytes.{Bytes}
+use Rattle.qcow2_metadata.specs.declared.header.HeaderFields.{HeaderFields}
+use Rattle.qcow2_metadata.specs.Header.{cluster_size}
+use Rattle.qcow2_metadata.specs.Entries.{reftable_entry, block_offset}
+use Rattle.qcow2_metadata.specs.Tables.{CachedTable, known, overlays}
+use Rattle.qcow2_laws.specs.Stops.{Mark, IsKeptAt}
+use Rattle.qcow2_laws.specs.Clusters.{Direction, Neither, L2DependsOnRb, RbDependsOnL2}
+use Rattle.qcow2_laws.specs.Guests.{table_at}
+use Rattle.qcow2_laws.specs.Guard.{Pending, IsGuarded}
+use Rattle.qcow2_laws.specs.Writes.{IsUnnamed}
+
+-- the contents with the modified tables of both caches laid over
+abbrev pub known_bytes : ℕ → List CachedTable → List CachedTable → Bytes → Bytes
+known_bytes size l2s rbs b = known size l2s (known size rbs b)
+
+-- no modified table lies at the place
+abbrev pub IsFreeAt : ℕ → List CachedTable → ℕ → Type 0
+IsFreeAt size [] o = Unit {0}
+IsFreeAt size (t ∷ tables) o = (overlays size t o ≡ false) × IsFreeAt size tables o
+
+-- nor in the cluster
+abbrev pub IsFreeOf : ℕ → List CachedTable → ℕ → Type 0
+IsFreeOf size tables c = (o : ℕ) → o / size ≡ c → IsFreeAt size tables o
+
+-- tables begin with a cluster, and no other modified one lies where a modified one does
+abbrev pub AreApart : ℕ → List CachedTable → Type 0
+AreApart size [] = Unit {0}
+AreApart size (t ∷ tables) = (t.place % size ≡ 0) × ((o : ℕ) → overlays size t o ≡ true → IsFreeAt size tables o) × AreApart size tables
+
+abbrev pub AreClean : List CachedTable → Type 0
+AreClean [] = Unit {0}
+AreClean (t ∷ tables) = (t.is_modified ≡ false) × AreClean tables
+
+-- an L2 table, a refblock stands in the cluster
+abbrev pub HasL2 : HeaderFields → Bytes → ℕ → Type 0
+HasL2 h b c = (i : ℕ) × (table_at h b i ≢ 0) × (table_at h b i / cluster_size h ≡ c)
+
+abbrev pub HasBlock : HeaderFields → Bytes → ℕ → Type 0
+HasBlock h b c = (k : ℕ) × (block_offset (reftable_entry h b k) ≢ 0) × (block_offset (reftable_entry h b k) / cluster_size h ≡ c)
+
+-- What is kept of the L2 tables, the refblocks and the storage. A modified table stands where it is named; a refblock may be new, and stand where nothing is named.
+pub record IsKept (h : HeaderFields) (d : Direction) (p : Pending) (l2s rbs : List CachedTable) (base : Bytes) : Type 0 where
+  pub guarded : IsGuarded h d p base (known_bytes (cluster_size h) l2s rbs base)
+  pub l2_apart : AreApart (cluster_size h) l2s
+  pub rb_apart : AreApart (cluster_size h) rbs
+  pub l2_stand : (c : ℕ) → IsFreeOf (cluster_size h) l2s c ⊎ HasL2 h base c
+  pub rb_stand : (c : ℕ) → IsFreeOf (cluster_size h) rbs c ⊎ (HasBlock h base c ⊎ IsUnnamed h base (known_bytes (cluster_size h) l2s rbs base) c)
+
+-- what has to be written before refblocks, L2 tables may be
+abbrev pub BlocksMayGo : Direction → List CachedTable → Type 0
+BlocksMayGo Neither l2s = Unit {0}
+BlocksMayGo L2DependsOnRb l2s = Unit {0}
+BlocksMayGo RbDependsOnL2 l2s = AreClean l2s
+
+abbrev pub TablesMayGo : Direction → List CachedTable → Type 0
+TablesMayGo Neither rbs = Unit {0}
+TablesMayGo L2DependsOnRb rbs = AreClean rbs
+TablesMayGo RbDependsOnL2 rbs = Unit {0}
+
+-- what a write of a table may leave: nothing done; or its cluster written, and then it is marked as before or no longer
+pub record IsWrittenSo (size : ℕ) (t t' : CachedTable) (b b' : Bytes) : Type 0 where
+  pub place : t'.place ≡ t.place
+  pub bytes : t'.bytes ≡ t.bytes
+  pub outcome : ((b' ≡ b) × (t'.is_modified ≡ t.is_modified)) ⊎ ((b' ≡ known size (t ∷ []) b) × ((t'.is_modified ≡ t.is_modified) ⊎ (t'.is_modified ≡ false)))
+
+-- what was kept of these two is kept of the third
+abbrev pub IsSafeBetween : Bytes → Bytes → Bytes → Type 0
+IsSafeBetween base known b = (backing : Bytes) (m : Mark) → IsKeptAt backing m base → IsKeptAt backing m known → IsKeptAt backing m b
+
+-- one table more is written: all is kept, nothing known changes, and a stop is as safe as before
+pub record Keeps (h : HeaderFields) (d : Direction) (p : Pending) (l2s rbs : List CachedTable) (base : Bytes) (l2s' rbs' : List CachedTable) (base' : Bytes) : Type 0 where
+  pub kept : IsKept h d p l2s' rbs' base'
+  pub known : known_bytes (cluster_size h) l2s' rbs' base' ≡ known_bytes (cluster_size h) l2s rbs base
+  pub safe : IsSafeBetween base (known_bytes (cluster_size h) l2s rbs base) base'
+
+-- no refblock is modified that nothing names yet
+abbrev pub AreSettled : HeaderFields → List CachedTable → Bytes → Type 0
+AreSettled h rbs base = (c : ℕ) → IsFreeOf (cluster_size h) rbs c ⊎ HasBlock h base c

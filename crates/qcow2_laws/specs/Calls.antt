@@ -1,0 +1,130 @@
+-- What each call does to an image.
+use Rattle.std.specs.Prelude.{ℕ, ◌+◌, ◌≡◌, ◌⊎◌, ◌≤◌, ◌<◌, ◌==◌, Bool, true, false, IsTrue, List, [], ◌∷◌, length, take, Option, nat_le, if◌then◌else◌}
+use Rattle.image_access.specs.Moments.{Passing}
+use Rattle.image_access.specs.declared.storage.PreallocateMode.{PreallocateMode}
+use Rattle.image_access.specs.declared.storage.PreallocateMode.TheVariants as Mode
+use Rattle.qcow2_metadata.specs.Bytes.{byte_at}
+use Rattle.qcow2_metadata.specs.Header.{rounded_up}
+use Rattle.qcow2_metadata.specs.Guest.{known_byte}
+use Rattle.qcow2_laws.specs.Disk.{Disk, with_bytes, zeroed, uncovered, grown, shrunk}
+use Rattle.qcow2_laws.specs.Stops.{Gift, Mark, more, IsKeptAt}
+use Rattle.qcow2_laws.specs.Mappings.{PreparedMapping, gift_shown}
+use Rattle.qcow2_laws.specs.Rules.{touched_from, touched_to}
+use Rattle.qcow2_laws.specs.Views.{Setting, Guest, View, guest_of, contents_of}
+
+-- why a call was refused, as far as the state after it depends on that
+pub data Refusal : Type 0 where
+  memory : Refusal
+  storage : Refusal
+  another : ℕ → Refusal
+
+-- the storage failed, or memory was refused
+abbrev pub IsFault : Refusal → Type 0
+IsFault memory = Unit {0}
+IsFault storage = Unit {0}
+IsFault (another number) = ⊥
+
+-- ---- what is said of every call
+
+-- where a stop may find the image, with what a call gives and asks
+pub record Stops (old new : View) (given : List Gift) (asked : List ℕ) (m : Mark) : Type 0 where
+  pub moments : Passing old.storage new.storage (λ c. IsKeptAt old.setting.backing (more given asked m) (byte_at c))
+  pub contents : IsKeptAt old.setting.backing (more given asked m) (contents_of new)
+  pub known : new.is_sound → IsKeptAt old.setting.backing (more given asked m) new.known
+
+abbrev pub StartsAt : View → Mark → Type 0
+StartsAt v m = IsKeptAt v.setting.backing m (contents_of v) × IsKeptAt v.setting.backing m v.known
+
+-- what a call does to a sound image
+pub record Works (old new : View) (given : List Gift) (asked : List ℕ) : Type 0 where
+  pub setting : new.setting ≡ old.setting
+  pub surplus : new.is_sound → new.surplus ≡ old.surplus
+  pub stops : (m : Mark) → StartsAt old m → Stops old new given asked m
+
+-- a failed image writes nothing more
+pub record Rests (old new : View) : Type 0 where
+  pub setting : new.setting ≡ old.setting
+  pub failed : IsTrue new.is_failed
+  pub contents : new.storage.contents ≡ old.storage.contents
+  pub moments : Passing old.storage new.storage (λ c. c ≡ old.storage.contents)
+
+-- a call that gives these values and asks for these sizes
+pub record Acts (old new : View) (given : List Gift) (asked : List ℕ) : Type 0 where
+  pub number : new.number ≡ old.number
+  pub works : old.is_sound → Works old new given asked
+  pub rests : IsTrue old.is_failed → Rests old new
+
+-- it was answered: the image is sound, and this was done
+pub record Does (old new : View) (given : List Gift) (asked : List ℕ) (done : Type 0) : Type 0 where
+  pub acts : Acts old new given asked
+  pub answer : old.is_sound → new.is_sound × done
+
+-- it was refused: the image is sound, and this is so; or it failed, by a fault or want of memory. A fault always fails it.
+pub record Refuses (old new : View) (given : List Gift) (asked : List ℕ) (e : Refusal) (still : Type 0) : Type 0 where
+  pub acts : Acts old new given asked
+  pub answer : old.is_sound → (new.is_sound × still) ⊎ (IsFault e × IsTrue new.is_failed)
+  pub fault : e ≡ storage → IsTrue new.is_failed
+
+-- the guest sees what it saw
+abbrev pub IsSame : View → View → Type 0
+IsSame old new = guest_of new ≡ guest_of old
+
+-- ---- what single calls do
+
+-- the disk has these bytes at an offset
+abbrev pub Shows : Disk → ℕ → List ℕ → Type 0
+Shows d offset bytes = (i : ℕ) → i < length bytes → d.value (offset + i) ≡ known_byte (byte_at bytes i)
+
+abbrev pub with_disk : Guest → Disk → Guest
+with_disk g d = record g { disk = d }
+
+abbrev pub with_slot : Guest → ℕ → Option PreparedMapping → Guest
+with_slot g slot m = record g { slots = λ k. if k == slot then m else g.slots k }
+
+-- A refused write: the leading bytes that it names are there. Where memory was refused, of those behind them any may be.
+pub record WritesSome (old : Disk) (offset : ℕ) (bytes : List ℕ) (n : ℕ) (new : Disk) : Type 0 where
+  pub size : new.size ≡ old.size
+  pub values : (o : ℕ) → (new.value o ≡ (with_bytes old offset (take n bytes)).value o) ⊎ (new.value o ≡ (with_bytes old offset bytes).value o)
+
+abbrev pub MayWrite : Refusal → Guest → ℕ → List ℕ → ℕ → Guest → Type 0
+MayWrite memory old offset bytes n new = (n ≤ length bytes) × ((d : Disk) × WritesSome old.disk offset bytes n d × (new ≡ with_disk old d))
+MayWrite e old offset bytes n new = (n ≤ length bytes) × (new ≡ with_disk old (with_bytes old.disk offset (take n bytes)))
+
+-- how whole clusters are cleared: to zeros, whether their host clusters are kept or not, or to what the backing shows
+pub data Clearing : Type 0 where
+  to_zero : Clearing
+  to_backing : Clearing
+
+abbrev pub cleared : Setting → Disk → Clearing → ℕ → ℕ → Disk
+cleared x d to_backing from to = uncovered d x.backing from to
+cleared x d to_zero from to = zeroed d from to
+
+abbrev pub cleared_at : Setting → Disk → Clearing → ℕ → ℕ → Disk
+cleared_at x d how offset n = cleared x d how (touched_from x.cluster_size offset) (touched_to x.cluster_size d.size offset n)
+
+abbrev pub gift_of_clear : Setting → Disk → Clearing → ℕ → ℕ → Gift
+gift_of_clear x d how offset n = gift_shown (cleared_at x d how offset n) (touched_from x.cluster_size offset) (touched_to x.cluster_size d.size offset n)
+
+abbrev pub shows_old : PreallocateMode → Bool
+shows_old Mode.None = true
+shows_old mode = false
+
+abbrev pub grown_to : Setting → Disk → ℕ → PreallocateMode → Disk
+grown_to x d size mode = if nat_le size d.size then d else grown x.cluster_size d size (shows_old mode)
+
+-- a refused grow: bytes past the size may be zero
+pub record MayGrow (x : Setting) (old : Disk) (size : ℕ) (new : Disk) : Type 0 where
+  pub same_size : new.size ≡ old.size
+  pub values : (o : ℕ) → (new.value o ≡ old.value o) ⊎ ((old.size ≤ o) × (o < rounded_up x.cluster_size size) × (new.value o ≡ known_byte 0))
+
+abbrev pub gift_of_grow : Setting → Disk → ℕ → PreallocateMode → List Gift
+gift_of_grow x d size Mode.None = []
+gift_of_grow x d size mode = gift_shown (zeroed d d.size (rounded_up x.cluster_size size)) d.size (rounded_up x.cluster_size size) ∷ []
+
+-- the new size, or the end of the disk, and what lies between
+pub record IsShrunk (x : Setting) (old : Disk) (size answer : ℕ) (new : Disk) : Type 0 where
+  pub no_smaller : old.size ≤ size → (answer ≡ old.size) × (new ≡ old)
+  pub smaller : size < old.size → (size ≤ answer) × (answer ≤ old.size) × (new ≡ shrunk x.cluster_size old x.backing size answer)
+
+abbrev pub gift_of_shrink : Setting → Disk → ℕ → Gift
+gift_of_shrink x d size = gift_shown (uncovered d x.backing (rounded_up x.cluster_size size) (rounded_up x.cluster_size d.size)) (rounded_up x.cluster_size size) (rounded_up x.cluster_size d.size)

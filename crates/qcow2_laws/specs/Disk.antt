@@ -1,0 +1,40 @@
+-- The disk that a guest sees, and how calls change it.
+use Rattle.std.specs.Prelude.{ℕ, ◌-◌, ◌+◌, ◌==◌, Bool, List, length, if◌then◌else◌}
+use Rattle.qcow2_metadata.specs.Bytes.{Bytes, byte_at, laid_over}
+use Rattle.qcow2_metadata.specs.Header.{header, rounded_up}
+use Rattle.qcow2_metadata.specs.Guest.{Value, known_byte, guest_value}
+
+-- a size, and a value at each offset, also past the size
+pub record Disk : Type 0 where
+  pub size : ℕ
+  pub value : ℕ → Value
+
+-- the disk of an image whose data stand in the image itself, over the bytes of its backing disk
+unfoldable pub disk : Bytes → Bytes → Disk
+disk image backing = record { size = (header image).size; value = guest_value (header image) image image backing }
+
+-- ---- what calls change
+
+abbrev pub with_values : Disk → ℕ → ℕ → (ℕ → Value) → Disk
+with_values d from n values = record d { value = laid_over from n values d.value }
+
+-- these bytes are at an offset
+abbrev pub with_bytes : Disk → ℕ → List ℕ → Disk
+with_bytes d offset bytes = with_values d offset (length bytes) (λ i. known_byte (byte_at bytes i))
+
+-- 0 from one offset up to another
+abbrev pub zeroed : Disk → ℕ → ℕ → Disk
+zeroed d from to = with_values d from (to - from) (λ _. known_byte 0)
+
+-- the backing's bytes from one offset up to another
+abbrev pub uncovered : Disk → Bytes → ℕ → ℕ → Disk
+uncovered d backing from to = with_values d from (to - from) (λ i. known_byte (backing (from + i)))
+
+-- a larger size; 0 up to the end of the last cluster, unless the old bytes are to show
+abbrev pub grown : ℕ → Disk → ℕ → Bool → Disk
+grown cluster_size d size shows_old = record (if shows_old then d else zeroed d d.size (rounded_up cluster_size size)) { size = size }
+
+-- a smaller size; the backing shows from the first boundary on, up to where the call answers
+abbrev pub shrunk : ℕ → Disk → Bytes → ℕ → ℕ → Disk
+shrunk cluster_size d backing size answered =
+    record (uncovered d backing (rounded_up cluster_size size) (if answered == d.size then rounded_up cluster_size answered else answered)) { size = size }

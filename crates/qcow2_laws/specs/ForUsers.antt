@@ -1,0 +1,31 @@
+-- Laws that a user would quote.
+use Rattle.std.specs.Prelude.{ℕ, ◌+◌, ◌≡◌, ◌<◌, Bool, IsTrue, List, length, Option, Some}
+use Rattle.qcow2_metadata.specs.Bytes.{Bytes, byte_at}
+use Rattle.qcow2_laws.specs.Disk.{Disk, disk}
+use Rattle.qcow2_laws.specs.Stops.{marked, IsStopAt}
+use Rattle.qcow2_laws.specs.Mappings.{PreparedMapping}
+use Rattle.qcow2_laws.specs.Views.{Setting, Guest}
+use Rattle.qcow2_laws.specs.Runs.{Found, Means, read, prepare, put, commit, discard, done, bytes_are, prepared_is}
+
+-- Preparing, writing to private clusters and discarding leaves every guest byte.
+abbrev pub PrivateBytesAreUnseen : Type 0
+PrivateBytesAreUnseen =
+    (x : Setting) (found : ℕ → Option Found) (g0 g1 g2 g3 : Guest) (slot offset n count at : ℕ) (overwrite : Bool) (bytes : List ℕ)
+    → Means x found g0 (prepare slot offset n overwrite) (prepared_is count) g1
+    → ((m : PreparedMapping) (o : ℕ) → g1.slots slot ≡ Some m → IsTrue (m.is_private o))
+    → Means x found g1 (put slot at bytes) done g2 → Means x found g2 (discard slot) done g3
+    → (g3.disk.size ≡ g0.disk.size) × ((o : ℕ) → g3.disk.value o ≡ g0.disk.value o)
+
+-- What was put into a mapping and committed is read back, wherever it was private or in place.
+abbrev pub CommittedIsReadBack : Type 0
+CommittedIsReadBack =
+    (x : Setting) (found : ℕ → Option Found) (g0 g1 g2 g3 : Guest) (m : PreparedMapping) (slot at n i : ℕ) (bytes answer : List ℕ)
+    → g0.slots slot ≡ Some m → Means x found g0 (put slot at bytes) done g1 → Means x found g1 (commit slot) done g2
+    → Means x found g2 (read (m.from + at) n) (bytes_are answer) g3
+    → i < length answer → i < length bytes → byte_at answer i ≡ byte_at bytes i
+
+-- A stop right after a flush gives exactly the disk.
+abbrev pub FlushedIsExact : Type 0
+FlushedIsExact =
+    (backing b : Bytes) (d : Disk) → IsStopAt backing (marked d) b
+    → ((disk b backing).size ≡ d.size) × ((o : ℕ) → o < d.size → (disk b backing).value o ≡ d.value o)

@@ -1,0 +1,48 @@
+-- How often all guest clusters name a host cluster, and mark it copied.
+use Rattle.std.specs.Prelude.{ℕ, ◌*◌, Bool, Option, Some, None, max, if◌then◌else◌}
+use Rattle.qcow2_metadata.specs.Bytes.{Bytes, sum_below}
+use Rattle.qcow2_metadata.specs.declared.header.HeaderFields.{HeaderFields}
+use Rattle.qcow2_metadata.specs.Header.{entries_per_cluster}
+use Rattle.qcow2_metadata.specs.Entries.{l1_entry, host_offset, is_copied}
+use Rattle.qcow2_metadata.specs.Cover.{cover}
+use Rattle.qcow2_metadata.specs.Named.{in_cluster, table_in, named_by_cover}
+use Rattle.qcow2_metadata.specs.declared.l2_mapping.L2Mapping.{L2Mapping}
+use Rattle.qcow2_metadata.specs.declared.l2_mapping.L2Mapping.TheVariants.{Data, Zero, Compressed, Uncovered}
+
+-- how many guest clusters the L1 table has place for; past them all is uncovered
+abbrev pub guests : HeaderFields → ℕ
+guests h = h.l1_entries * entries_per_cluster h
+
+-- a sum over all guest clusters
+unfoldable pub over_guests : HeaderFields → (ℕ → ℕ) → ℕ
+over_guests h f = sum_below (guests h) f
+
+abbrev pub marked_by_kept : HeaderFields → ℕ → Option (ℕ × Bool) → ℕ
+marked_by_kept h cluster None = 0
+marked_by_kept h cluster (Some k) = if k.1 then in_cluster h cluster k.0 else 0
+
+-- 1 where a mapping marks the cluster copied
+abbrev pub marked_by_cover : HeaderFields → ℕ → L2Mapping → ℕ
+marked_by_cover h cluster (Data host copied) = if copied then in_cluster h cluster host else 0
+marked_by_cover h cluster (Zero kept) = marked_by_kept h cluster kept
+marked_by_cover h cluster (Compressed host sectors) = 0
+marked_by_cover h cluster Uncovered = 0
+
+-- how often a guest cluster names a host cluster, and marks it copied
+abbrev pub names : HeaderFields → Bytes → ℕ → ℕ → ℕ
+names h b cluster guest = named_by_cover h cluster (cover h b guest)
+
+abbrev pub marks : HeaderFields → Bytes → ℕ → ℕ → ℕ
+marks h b cluster guest = marked_by_cover h cluster (cover h b guest)
+
+-- how often guest clusters name a host cluster at most, each in the one image or in the other
+abbrev pub named_in_either : HeaderFields → Bytes → Bytes → ℕ → ℕ
+named_in_either h base known cluster = over_guests h (λ g. max (names h base cluster g) (names h known cluster g))
+
+-- the place of the L2 table of an L1 entry, 0 for none
+abbrev pub table_at : HeaderFields → Bytes → ℕ → ℕ
+table_at h b i = host_offset (l1_entry h b i)
+
+-- how often L1 entries that are marked copied name the cluster
+unfoldable pub marked_by_l1_table : HeaderFields → Bytes → ℕ → ℕ
+marked_by_l1_table h b cluster = sum_below h.l1_entries (λ i. if is_copied (l1_entry h b i) then table_in h cluster (table_at h b i) else 0)

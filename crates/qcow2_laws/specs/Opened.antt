@@ -1,0 +1,14 @@
+-- What is pending as an image is opened: nothing. What is counted more than named is surplus.
+use Rattle.std.specs.Prelude.{ℕ, ◌-◌}
+use Rattle.qcow2_metadata.specs.Bytes.{Bytes}
+use Rattle.qcow2_metadata.specs.declared.header.HeaderFields.{HeaderFields}
+use Rattle.qcow2_metadata.specs.Entries.{count}
+use Rattle.qcow2_metadata.specs.Named.{named}
+use Rattle.qcow2_laws.specs.Guard.{Pending}
+
+abbrev pub nothing_pending : (ℕ → ℕ) → Pending
+nothing_pending surplus = record { held = λ c. 0; fresh = λ c. 0; spent = λ c. 0; dropped = λ c. 0; surplus = surplus }
+
+-- how much more often each cluster is counted than named
+abbrev pub surplus_of : HeaderFields → Bytes → ℕ → ℕ
+surplus_of h b c = count h b c - named h b c

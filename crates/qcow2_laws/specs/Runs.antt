@@ -1,0 +1,201 @@
+-- A run of commands with its replies.
+use Rattle.std.specs.Prelude.{ℕ, ◌+◌, ◌≡◌, ◌≢◌, ◌⊎◌, ◌≤◌, ◌==◌, Bool, true, false, IsTrue, List, [], ◌∷◌, length, Option, Some, None, slice_get, if◌then◌else◌}
+use Rattle.image_access.specs.Moments.{Passing}
+use Rattle.image_access.specs.declared.storage.PreallocateMode.{PreallocateMode}
+use Rattle.qcow2_metadata.specs.Bytes.{Bytes, byte_at}
+use Rattle.qcow2_metadata.specs.Consistent.{IsConsistent}
+use Rattle.qcow2_laws.specs.Disk.{Disk, with_bytes}
+use Rattle.qcow2_laws.specs.Stops.{Gift, Mark, marked, more, IsKeptAt, IsStopAt}
+use Rattle.qcow2_laws.specs.Rules.{answered}
+use Rattle.qcow2_laws.specs.Mappings.{PreparedMapping, IsPrepared, put_mapping, put_disk, committed, gift_of, gift_of_commit}
+use Rattle.qcow2_laws.specs.Views.{Setting, Guest, Spec, View, guest_of, contents_of}
+use Rattle.qcow2_laws.specs.Calls.{Refusal, IsFault, Shows, with_disk, with_slot, MayWrite, Clearing, cleared_at, gift_of_clear, grown_to, gift_of_grow, MayGrow, IsShrunk, gift_of_shrink}
+
+pub data Command : Type 0 where
+  read : (offset length : ℕ) → Command
+  write : (offset : ℕ) → (bytes : List ℕ) → Command
+  -- what is found goes to a place of its own, from which it is read
+  get_mapping : (place offset max : ℕ) → Command
+  read_mapped : (place at length : ℕ) → Command
+  prepare : (slot offset length : ℕ) → (overwrite : Bool) → Command
+  put : (slot at : ℕ) → (bytes : List ℕ) → Command
+  commit : (slot : ℕ) → Command
+  discard : (slot : ℕ) → Command
+  clear : (how : Clearing) → (offset length : ℕ) → Command
+  read_special : (offset length : ℕ) → Command
+  flush : Command
+  sync : Command
+  invalidate_cache : Command
+  grow : (size : ℕ) → (mode : PreallocateMode) → Command
+  shrink : (size : ℕ) → Command
+  get_size : Command
+  get_leaked : Command
+
+pub data Reply : Type 0 where
+  done : Reply
+  bytes_are : List ℕ → Reply
+  -- so much of the range asked for
+  mapping_is : (length : ℕ) → Reply
+  prepared_is : (length : ℕ) → Reply
+  range_is : (offset length : ℕ) → Reply
+  number_is : ℕ → Reply
+  refused : Refusal → Reply
+  write_refused : Refusal → (done : ℕ) → Reply
+  misuse : Reply
+
+-- a guest range that was found: where it begins, and its length
+pub record Found : Type 0 where
+  pub from : ℕ
+  pub length : ℕ
+
+abbrev pub given_at : Option PreparedMapping → (PreparedMapping → Gift) → List Gift
+given_at None gift = []
+given_at (Some m) gift = gift m ∷ []
+
+-- what a command gives, and which sizes it asks for
+abbrev pub given_by : Setting → Guest → Command → List Gift
+given_by x g (write offset bytes) = gift_of offset bytes ∷ []
+given_by x g (put slot at bytes) = given_at (g.slots slot) (λ m. gift_of (m.from + at) bytes)
+given_by x g (commit slot) = given_at (g.slots slot) (gift_of_commit x.cluster_size g.disk)
+given_by x g (clear how offset n) = gift_of_clear x g.disk how offset n ∷ []
+given_by x g (grow size mode) = gift_of_grow x g.disk size mode
+given_by x g (shrink size) = gift_of_shrink x g.disk size ∷ []
+given_by x g command = []
+
+abbrev pub asked_by : Command → List ℕ
+asked_by (grow size mode) = size ∷ []
+asked_by (shrink size) = size ∷ []
+asked_by command = []
+
+-- to this command the image may give this reply, and the guest then sees new; found is what was found last for each place
+abbrev pub Means : Setting → (ℕ → Option Found) → Guest → Command → Reply → Guest → Type 0
+Means x found old (read offset n) (bytes_are bytes) new = (length bytes ≡ n) × Shows old.disk offset bytes × (new ≡ old)
+Means x found old (write offset bytes) done new = new ≡ with_disk old (with_bytes old.disk offset bytes)
+Means x found old (write offset bytes) (write_refused e n) new = MayWrite e old offset bytes n new
+Means x found old (get_mapping place offset max) (mapping_is n) new = (n ≤ max) × (new ≡ old)
+Means x found old (read_mapped place at n) (bytes_are bytes) new =
+    (f : Found) × (found place ≡ Some f) × (length bytes ≡ n) × Shows old.disk (f.from + at) bytes × (new ≡ old)
+Means x found old (prepare slot offset n overwrite) (prepared_is count) new =
+    (old.slots slot ≡ None) × ((m : PreparedMapping) × IsPrepared x.cluster_size old.disk offset n overwrite m × (m.length ≡ count) × (new ≡ with_slot old slot (Some m)))
+Means x found old (put slot at bytes) done new =
+    (m : PreparedMapping) × (old.slots slot ≡ Some m) × (at + length bytes ≤ m.length)
+    × (new ≡ with_slot (with_disk old (put_disk old.disk m at bytes)) slot (Some (put_mapping m at bytes)))
+Means x found old (commit slot) done new = (m : PreparedMapping) × (old.slots slot ≡ Some m) × (new ≡ with_slot (with_disk old (committed old.disk m)) slot None)
+Means x found old (discard slot) done new = (old.slots slot ≢ None) × (new ≡ with_slot old slot None)
+Means x found old (clear how offset n) (range_is from count) new =
+    (from ≡ (answered x.cluster_size old.disk.size offset n).0) × (count ≡ (answered x.cluster_size old.disk.size offset n).1)
+    × (new ≡ with_disk old (cleared_at x old.disk how offset n))
+Means x found old (read_special offset n) done new = (n ≡ 0) × (new ≡ old)
+Means x found old flush done new = new ≡ old
+Means x found old sync done new = new ≡ old
+Means x found old (grow size mode) done new = new ≡ with_disk old (grown_to x old.disk size mode)
+Means x found old (grow size mode) (refused e) new = (d : Disk) × MayGrow x old.disk size d × (new ≡ with_disk old d)
+Means x found old (shrink size) (number_is answer) new = (d : Disk) × IsShrunk x old.disk size answer d × (new ≡ with_disk old d)
+Means x found old get_size (number_is n) new = (n ≡ old.disk.size) × (new ≡ old)
+Means x found old get_leaked (number_is n) new = new ≡ old
+Means x found old command (refused e) new = new ≡ old
+Means x found old command misuse new = new ≡ old
+Means x found old command reply new = ⊥
+
+-- the storage failed, or memory was refused
+abbrev pub IsFaultReply : Reply → Type 0
+IsFaultReply (refused e) = IsFault e
+IsFaultReply (write_refused e n) = IsFault e
+IsFaultReply reply = ⊥
+
+abbrev pub found_after : (ℕ → Option Found) → Command → Reply → ℕ → Option Found
+found_after found (get_mapping place offset max) (mapping_is n) k = if k == place then Some (record { from = offset; length = n }) else found k
+found_after found command reply k = found k
+
+-- A run so far: what the guest sees, what was found, what was flushed last with what was given and asked since, and the same for each call that was begun.
+pub record State : Type 0 where
+  pub guest : Guest
+  pub found : ℕ → Option Found
+  pub is_failed : Bool
+  pub mark : Mark
+  pub marks : List Mark
+
+abbrev pub started : Guest → State
+started g = record { guest = g; found = λ _. None; is_failed = false; mark = marked g.disk; marks = marked g.disk ∷ [] }
+
+-- the mark of the call under way
+abbrev pub mark_in : Setting → State → Command → Mark
+mark_in x old command = more (given_by x old.guest command) (asked_by command) old.mark
+
+-- a flush that succeeded is the last one from then on
+abbrev pub mark_after : Setting → State → Command → Reply → Guest → Mark
+mark_after x old flush done new = marked new.disk
+mark_after x old command reply new = mark_in x old command
+
+abbrev pub stepped : Setting → State → Command → Reply → Guest → Bool → State
+stepped x old command reply new failed = record {
+  guest = new;
+  found = found_after old.found command reply;
+  is_failed = failed;
+  mark = mark_after x old command reply new;
+  marks = mark_in x old command ∷ old.marks;
+}
+
+-- Once the image failed, which a fault or refused memory alone brings about, nothing more is said of replies.
+abbrev pub Step : Setting → State → Command → Reply → State → Type 0
+Step x old command reply new =
+    (IsTrue old.is_failed × (new ≡ old))
+    ⊎ ((old.is_failed ≡ false) × ((guest : Guest) × Means x old.found old.guest command reply guest × (new ≡ stepped x old command reply guest false))
+    ⊎ ((old.is_failed ≡ false) × IsFaultReply reply × (new ≡ stepped x old command reply old.guest true)))
+
+abbrev pub Run : Setting → State → List Command → List Reply → State → Type 0
+Run x old [] [] new = new ≡ old
+Run x old (command ∷ commands) (reply ∷ replies) new = (mid : State) × Step x old command reply mid × Run x mid commands replies new
+Run x old [] (reply ∷ replies) new = ⊥
+Run x old (command ∷ commands) [] new = ⊥
+
+-- the bytes are what a stop may leave at one of these places in a run
+abbrev pub IsStopIn : Bytes → List Mark → Bytes → Type 0
+IsStopIn backing [] b = ⊥
+IsStopIn backing (m ∷ marks) b = IsStopAt backing m b ⊎ IsStopIn backing marks b
+
+-- the image stands at this place of a run
+pub record StandsAt (x : Setting) (v : View) (s : State) : Type 0 where
+  pub setting : v.setting ≡ x
+  pub works : s.is_failed ≡ false → v.is_sound
+  pub failed : IsTrue s.is_failed → IsTrue v.is_failed
+  pub guest : s.is_failed ≡ false → guest_of v ≡ s.guest
+  pub known : s.is_failed ≡ false → IsKeptAt x.backing s.mark v.known
+  pub contents : s.is_failed ≡ false → IsKeptAt x.backing s.mark (contents_of v)
+  -- where a stop now finds it
+  pub at_rest : IsStopIn x.backing s.marks (contents_of v)
+
+-- one step of a run, with the moments on the way
+pub record Goes (x : Setting) (old new : View) (s : State) (command : Command) (reply : Reply) : Type 0 where
+  pub end : State
+  pub step : Step x s command reply end
+  pub stands : StandsAt x new end
+  pub moments : Passing old.storage new.storage (λ c. IsStopIn x.backing end.marks (byte_at c))
+  pub surplus : end.is_failed ≡ false → new.surplus ≡ old.surplus
+  pub grows : (b : Bytes) → IsStopIn x.backing s.marks b → IsStopIn x.backing end.marks b
+  pub since : end.is_failed ≡ false → s.is_failed ≡ false
+
+-- a whole run
+pub record Ran (x : Setting) (old new : View) (s : State) (commands : List Command) (replies : List Reply) : Type 0 where
+  pub end : State
+  pub run : Run x s commands replies end
+  pub stands : StandsAt x new end
+  pub moments : Passing old.storage new.storage (λ c. IsStopIn x.backing end.marks (byte_at c))
+  pub surplus : end.is_failed ≡ false → new.surplus ≡ old.surplus
+  pub grows : (b : Bytes) → IsStopIn x.backing s.marks b → IsStopIn x.backing end.marks b
+
+-- what is said of any list of commands with its replies
+pub record MeansTheDisk (old new : View) (commands : List Command) (replies : List Reply) : Type 0 where
+  pub end : State
+  -- the replies are a run of the disk
+  pub run : Run old.setting (started (guest_of old)) commands replies end
+  -- the guest sees what the run says, the known image is consistent, and nothing is lost or gained
+  pub disk : end.is_failed ≡ false → (guest_of new).disk ≡ end.guest.disk
+  pub consistent : end.is_failed ≡ false → IsConsistent new.known
+  pub surplus : end.is_failed ≡ false → new.surplus ≡ old.surplus
+  -- at each moment since the start a stop is safe, for the last flush before some place of the run, what was given since, and the sizes asked
+  pub stops : (c : List ℕ) → new.storage.had_since old.storage.moment c → IsStopIn old.setting.backing (end.mark ∷ end.marks) (byte_at c)
+
+-- the prepared mappings are this image's own
+abbrev pub AreOwn : {D P : Type 0} → Spec D P → D → List (Option P) → Type 0
+AreOwn {P = P} spec d out = (k : ℕ) (p : P) → slice_get out k ≡ Some (Some p) → spec.number_of p ≡ spec.number d

@@ -1,0 +1,53 @@
+-- What the steps of the driver do to what is known, and to the bytes on the storage.
+use Rattle.std.specs.Prelude.{ℕ, ◌+◌, ◌-◌, ◌*◌, ◌/◌, ◌%◌, ◌<◌, ◌≤◌, ◌≡◌, ◌≢◌, ◌⊎◌, List}
+use Rattle.qcow2_metadata.specs.Bytes.{Bytes}
+use Rattle.qcow2_metadata.specs.declared.header.HeaderFields.{HeaderFields}
+use Rattle.qcow2_metadata.specs.Header.{cluster_size, entries_per_cluster, count_width, counts_per_block}
+use Rattle.qcow2_metadata.specs.Entries.{l2_entry, reftable_entry, block_count, count, block_offset}
+use Rattle.qcow2_metadata.specs.Cover.{cover}
+use Rattle.qcow2_metadata.specs.Guest.{guest_value}
+use Rattle.qcow2_metadata.specs.Consistent.{CoverIsAligned}
+use Rattle.qcow2_laws.specs.Stops.{Gift, IsGiven}
+use Rattle.qcow2_laws.specs.Guests.{names, marks, table_at}
+use Rattle.qcow2_laws.specs.Changes.{one_at}
+use Rattle.qcow2_laws.specs.Tops.{IsSameOutside}
+use Rattle.qcow2_laws.specs.Leads.{Stand}
+
+-- the refblock that counts a cluster
+abbrev pub block_of : HeaderFields → Bytes → ℕ → ℕ
+block_of h b c = block_offset (reftable_entry h b (c / counts_per_block h))
+
+-- a cluster's count rises from 0, in a refblock that there is
+pub record CountRises (h : HeaderFields) (known known' : Bytes) (c : ℕ) : Type 0 where
+  pub real : block_of h known c ≢ 0
+  pub outside : IsSameOutside (cluster_size h) (block_of h known c / cluster_size h) known known'
+  pub more : (i : ℕ) → i < counts_per_block h
+      → block_count known' (count_width h) (block_of h known c) i ≡ block_count known (count_width h) (block_of h known c) i + one_at (c % counts_per_block h) i
+  pub free : count h known c ≡ 0
+
+-- a cluster's count falls by one
+pub record CountFalls (h : HeaderFields) (known known' : Bytes) (c : ℕ) : Type 0 where
+  pub real : block_of h known c ≢ 0
+  pub outside : IsSameOutside (cluster_size h) (block_of h known c / cluster_size h) known known'
+  pub less : (i : ℕ) → i < counts_per_block h
+      → block_count known' (count_width h) (block_of h known c) i + one_at (c % counts_per_block h) i ≡ block_count known (count_width h) (block_of h known c) i
+
+-- the guest cluster of entry j of the L2 table of L1 entry i
+abbrev pub guest_at : HeaderFields → ℕ → ℕ → ℕ
+guest_at h i j = i * entries_per_cluster h + j
+
+-- Entry j of the L2 table of L1 entry i changes, and no other. What it names now beside the old is held; what it marks now it named, and marked, or takes from what is held.
+pub record EntryChanges (s : Stand) (known' : Bytes) (i j : ℕ) : Type 0 where
+  pub real : table_at s.header s.known i ≢ 0
+  pub within : j < entries_per_cluster s.header
+  pub outside : IsSameOutside (cluster_size s.header) (table_at s.header s.known i / cluster_size s.header) s.known known'
+  pub entries : (k : ℕ) → k < entries_per_cluster s.header → k ≢ j → l2_entry s.known (table_at s.header s.known i) k ≡ l2_entry known' (table_at s.header s.known i) k
+  pub held : (c : ℕ) → names s.header known' c (guest_at s.header i j) - names s.header s.known c (guest_at s.header i j) ≤ s.pending.held c
+  pub marked : (c : ℕ) → marks s.header known' c (guest_at s.header i j)
+      ≤ marks s.header s.known c (guest_at s.header i j) + (names s.header known' c (guest_at s.header i j) - names s.header s.known c (guest_at s.header i j))
+  pub aligned : CoverIsAligned s.header (cover s.header known' (guest_at s.header i j))
+
+-- each byte of a guest cluster is as it was, or given
+abbrev pub ShowsGiven : HeaderFields → Bytes → Bytes → ℕ → (Bytes → List Gift) → Type 0
+ShowsGiven h known known' g given =
+    (backing : Bytes) (o : ℕ) → o / cluster_size h ≡ g → (guest_value h known' known' backing o ≡ guest_value h known known backing o) ⊎ IsGiven (given backing) o (guest_value h known' known' backing o)

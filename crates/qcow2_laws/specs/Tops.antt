@@ -1,0 +1,143 @@
+-- Images whose header, L1 table or reftable change, while all guest clusters keep their covers.
+use Rattle.std.specs.Prelude.{ℕ, ◌+◌, ◌*◌, ◌/◌, ◌%◌, ◌<◌, ◌≤◌, ◌≡◌, ◌≢◌, ◌⊎◌}
+use Rattle.qcow2_metadata.specs.Bytes.{Bytes, SameFrom}
+use Rattle.qcow2_metadata.specs.declared.header.HeaderFields.{HeaderFields}
+use Rattle.qcow2_metadata.specs.Header.{header, HeaderReads, cluster_size, entries_per_cluster, reftable_entries, count_width, counts_per_block}
+use Rattle.qcow2_metadata.specs.Entries.{l1_entry, l2_entry, reftable_entry, count, block_count, host_offset, block_offset, L1EntryReads, ReftableEntryReads}
+use Rattle.qcow2_metadata.specs.Cover.{cover, entry_cover}
+use Rattle.qcow2_metadata.specs.Named.{in_run, named_by_reftable}
+use Rattle.qcow2_metadata.specs.Consistent.{IsAligned}
+use Rattle.qcow2_laws.specs.Clusters.{Direction, RbDependsOnL2}
+use Rattle.qcow2_laws.specs.Guard.{Pending, SameCovers}
+
+-- the numbers of a header that are written again after it was created
+pub record Places : Type 0 where
+  pub size : ℕ
+  pub l1_entries : ℕ
+  pub l1_offset : ℕ
+  pub reftable_offset : ℕ
+  pub reftable_clusters : ℕ
+  pub autoclear : ℕ
+
+abbrev pub places_of : HeaderFields → Places
+places_of h = record {
+  size = h.size;
+  l1_entries = h.l1_entries;
+  l1_offset = h.l1_offset;
+  reftable_offset = h.reftable_offset;
+  reftable_clusters = h.reftable_clusters;
+  autoclear = h.autoclear;
+}
+
+-- the header with these
+abbrev pub with_places : HeaderFields → Places → HeaderFields
+with_places h a = record h {
+  size = a.size;
+  l1_entries = a.l1_entries;
+  l1_offset = a.l1_offset;
+  reftable_offset = a.reftable_offset;
+  reftable_clusters = a.reftable_clusters;
+  autoclear = a.autoclear;
+}
+
+-- the same stands for each guest cluster
+abbrev pub KeepsCovers : HeaderFields → Places → Bytes → Bytes → Type 0
+KeepsCovers h a b b' = (g : ℕ) → cover h b g ≡ cover (with_places h a) b' g
+
+-- the same bytes outside of one cluster
+abbrev pub IsSameOutside : ℕ → ℕ → Bytes → Bytes → Type 0
+IsSameOutside size c b b' = (o : ℕ) → o / size ≢ c → b o ≡ b' o
+
+-- the same bytes but for n from a place on
+abbrev pub IsSameBut : ℕ → ℕ → Bytes → Bytes → Type 0
+IsSameBut place n b b' = (o : ℕ) → (o < place) ⊎ (place + n ≤ o) → b o ≡ b' o
+
+-- one entry of the L1 table is written, to the storage and to what is known
+pub record WritesL1Entry (h : HeaderFields) (base known base' known' : Bytes) (i entry : ℕ) : Type 0 where
+  pub within : i < h.l1_entries
+  pub others : IsSameBut (h.l1_offset + 8 * i) 8 base base'
+  pub known_others : IsSameBut (h.l1_offset + 8 * i) 8 known known'
+  pub is : l1_entry h base' i ≡ entry
+  pub known_is : l1_entry h known' i ≡ entry
+
+-- the table that an L1 entry is to name: its cluster is fresh and counted on the storage, and it says what was said before
+pub record IsNewTable (h : HeaderFields) (d : Direction) (p : Pending) (base known : Bytes) (i entry : ℕ) : Type 0 where
+  pub reads : L1EntryReads entry
+  pub real : host_offset entry ≢ 0
+  pub aligned : IsAligned h (host_offset entry)
+  pub fresh : 0 < p.fresh (host_offset entry / cluster_size h)
+  pub counted : count h base (host_offset entry / cluster_size h) ≡ count h known (host_offset entry / cluster_size h)
+  -- then the L2 tables are written
+  pub written : d ≡ RbDependsOnL2 → SameCovers h base known
+  pub covers : (g : ℕ) → g / entries_per_cluster h ≡ i → cover h base g ≡ entry_cover h (l2_entry base (host_offset entry) (g % entries_per_cluster h))
+  pub known_covers : (g : ℕ) → g / entries_per_cluster h ≡ i → cover h known g ≡ entry_cover h (l2_entry known (host_offset entry) (g % entries_per_cluster h))
+
+-- one entry of the reftable is written, to the storage and to what is known
+pub record WritesReftableEntry (h : HeaderFields) (base known base' known' : Bytes) (k entry : ℕ) : Type 0 where
+  pub within : k < reftable_entries h
+  pub others : IsSameBut (h.reftable_offset + 8 * k) 8 base base'
+  pub known_others : IsSameBut (h.reftable_offset + 8 * k) 8 known known'
+  pub is : reftable_entry h base' k ≡ entry
+  pub known_is : reftable_entry h known' k ≡ entry
+
+-- the refblock that a reftable entry is to name where there is none, with these counts of its clusters
+pub record IsNewBlock (h : HeaderFields) (base known : Bytes) (k entry : ℕ) (counts : ℕ → ℕ) : Type 0 where
+  pub none : block_offset (reftable_entry h base k) ≡ 0
+  pub reads : ReftableEntryReads entry
+  pub real : block_offset entry ≢ 0
+  pub aligned : IsAligned h (block_offset entry)
+  pub says : (c : ℕ) → c / counts_per_block h ≡ k → block_count base (count_width h) (block_offset entry) (c % counts_per_block h) ≡ counts c
+  pub known_says : (c : ℕ) → c / counts_per_block h ≡ k → block_count known (count_width h) (block_offset entry) (c % counts_per_block h) ≡ counts c
+
+-- ---- the header's own numbers are written
+
+-- numbers of the header become these, on the storage and as known
+pub record WritesHeader (h : HeaderFields) (a : Places) (base known base' known' : Bytes) : Type 0 where
+  pub others : IsSameOutside (cluster_size h) 0 base base'
+  pub known_others : IsSameOutside (cluster_size h) 0 known known'
+  pub same_first : SameFrom 0 (cluster_size h) base' known'
+  pub is : header base' ≡ with_places h a
+  pub reads : HeaderReads (with_places h a) base'
+
+abbrev pub resized : HeaderFields → ℕ → ℕ → Places
+resized h size autoclear = record (places_of h) { size = size; autoclear = autoclear }
+
+abbrev pub with_l1_at : HeaderFields → ℕ → ℕ → Places
+with_l1_at h offset entries = record (places_of h) { l1_offset = offset; l1_entries = entries }
+
+abbrev pub with_reftable_at : HeaderFields → ℕ → ℕ → Places
+with_reftable_at h offset clusters = record (places_of h) { reftable_offset = offset; reftable_clusters = clusters }
+
+-- an L1 table that stands in fresh clusters, counted on the storage, and has the entries of the old one, and then none
+pub record IsNewL1 (h : HeaderFields) (d : Direction) (p : Pending) (base known : Bytes) (offset entries : ℕ) : Type 0 where
+  pub longer : h.l1_entries ≤ entries
+  pub aligned : IsAligned h offset
+  pub same : (i : ℕ) → l1_entry (with_places h (with_l1_at h offset entries)) base i ≡ l1_entry h base i
+  pub known_same : (i : ℕ) → l1_entry (with_places h (with_l1_at h offset entries)) known i ≡ l1_entry h known i
+  pub fresh : (c : ℕ) → 0 < in_run h c offset (8 * entries) → (0 < p.fresh c) × (count h base c ≡ count h known c)
+  pub written : d ≡ RbDependsOnL2 → SameCovers h base known
+
+-- A reftable that stands in other clusters and has the entries of the old one, and more. Of each cluster it is said how often new refblocks stand in it, and
+-- how often new refblocks count it, which no old one does. Each cluster of the table and of new refblocks is fresh, counted on the storage, or counted by new refblocks.
+pub record IsNewReftable (h : HeaderFields) (d : Direction) (p : Pending) (base known : Bytes) (offset clusters : ℕ) (blocks counted : ℕ → ℕ) : Type 0 where
+  pub aligned : IsAligned h offset
+  pub same : (k : ℕ) → block_offset (reftable_entry h base k) ≢ 0 → reftable_entry (with_places h (with_reftable_at h offset clusters)) base k ≡ reftable_entry h base k
+  pub known_same : (k : ℕ) → reftable_entry (with_places h (with_reftable_at h offset clusters)) known k ≡ reftable_entry (with_places h (with_reftable_at h offset clusters)) base k
+  pub reads : (k : ℕ) → ReftableEntryReads (reftable_entry (with_places h (with_reftable_at h offset clusters)) base k)
+  pub blocks_aligned : (k : ℕ) → IsAligned h (block_offset (reftable_entry (with_places h (with_reftable_at h offset clusters)) base k))
+  pub blocks_are : (c : ℕ) → named_by_reftable (with_places h (with_reftable_at h offset clusters)) base c ≡ named_by_reftable h base c + blocks c
+  pub says : (c : ℕ) → block_offset (reftable_entry h base (c / counts_per_block h)) ≡ 0 → block_offset (reftable_entry (with_places h (with_reftable_at h offset clusters)) base (c / counts_per_block h)) ≢ 0
+      → (block_count base (count_width h) (block_offset (reftable_entry (with_places h (with_reftable_at h offset clusters)) base (c / counts_per_block h))) (c % counts_per_block h) ≡ counted c)
+      × (block_count known (count_width h) (block_offset (reftable_entry (with_places h (with_reftable_at h offset clusters)) base (c / counts_per_block h))) (c % counts_per_block h) ≡ counted c)
+  pub counted_anew : (c : ℕ) → 0 < counted c
+      → (block_offset (reftable_entry h base (c / counts_per_block h)) ≡ 0) × (block_offset (reftable_entry (with_places h (with_reftable_at h offset clusters)) base (c / counts_per_block h)) ≢ 0)
+  pub once : (c : ℕ) → in_run h c offset (clusters * cluster_size h) + blocks c ≤ 1
+  pub counted_there : (c : ℕ) → counted c ≤ in_run h c offset (clusters * cluster_size h) + blocks c
+  pub fresh : (c : ℕ) → counted c < in_run h c offset (clusters * cluster_size h) + blocks c → (0 < p.fresh c) × (count h base c ≡ count h known c)
+  pub written : d ≡ RbDependsOnL2 → SameCovers h base known
+
+-- n bytes from a place on become the same, on the storage and as known
+pub record WritesAt (place n : ℕ) (base known base' known' : Bytes) : Type 0 where
+  pub others : IsSameBut place n base base'
+  pub known_others : IsSameBut place n known known'
+  pub agree : (o : ℕ) → base o ≡ known o → base' o ≡ known' o

@@ -1,0 +1,80 @@
+//! Laws: no function here does anything, its contract is the law.
+
+ghost use Rattle.qcow2_laws.specs.ForUsers.{PrivateBytesAreUnseen, CommittedIsReadBack, FlushedIsExact};
+ghost use Rattle.qcow2_metadata.specs.Bytes.{Bytes, byte_at};
+ghost use Rattle.qcow2_metadata.specs.Consistent.{IsConsistent};
+ghost use Rattle.qcow2_metadata.specs.declared.header.HeaderFields.{HeaderFields};
+ghost use Rattle.qcow2_laws.specs.Samples.{empty_image};
+ghost use Rattle.qcow2_laws.specs.NewImages.{IsNewImage};
+ghost use Rattle.qcow2_laws.specs.Laws.{SoundIsConsistent, MixIsSafe, TableIsWritten, CountIsChanged, PendingIsChanged, EntryIsChanged, DataIsWritten, TableIsNamed, HeaderIsWritten, StepsCompose};
+
+/// Preparing, writing to private clusters and discarding leaves every guest byte.
+pub fn private_bytes_are_unseen()
+    ensures { PrivateBytesAreUnseen }
+{}
+
+/// What was put into a mapping and committed is read back.
+pub fn committed_is_read_back()
+    ensures { CommittedIsReadBack }
+{}
+
+/// A stop right after a flush gives exactly the disk.
+pub fn flushed_is_exact()
+    ensures { FlushedIsExact }
+{}
+
+/// Where the order of writes is kept, the storage and what is known are consistent images; a consistent image begins so.
+pub fn sound_is_consistent()
+    ensures { SoundIsConsistent }
+{}
+
+/// Cached tables may be written in any order that the direction allows: the order of writes is kept, and a stop is as safe as before.
+pub fn mix_is_safe()
+    ensures { MixIsSafe }
+{}
+
+/// So is one table of the caches, whatever the storage answers.
+pub fn table_is_written()
+    ensures { TableIsWritten }
+{}
+
+/// A cluster is allocated or freed.
+pub fn count_is_changed()
+    ensures { CountIsChanged }
+{}
+
+/// What was allocated is to be freed.
+pub fn pending_is_changed()
+    ensures { PendingIsChanged }
+{}
+
+/// A guest cluster is mapped anew, zeroed or discarded.
+pub fn entry_is_changed()
+    ensures { EntryIsChanged }
+{}
+
+/// Data, or the bytes of a new table, are written.
+pub fn data_is_written()
+    ensures { DataIsWritten }
+{}
+
+/// A new L2 table or refblock is named.
+pub fn table_is_named()
+    ensures { TableIsNamed }
+{}
+
+/// The size, the place of the L1 table or that of the reftable is written.
+pub fn header_is_written()
+    ensures { HeaderIsWritten }
+{}
+
+/// Steps go together, and what they keep is what a stop may leave.
+pub fn steps_compose()
+    ensures { StepsCompose }
+{}
+
+/// The image of three clusters that creating begins with is consistent, of whatever size clusters and counts are.
+pub fn new_image_is_consistent()
+    ensures each { (h : HeaderFields) (b : Bytes) → IsNewImage h b → IsConsistent b }
+    ensures small { IsConsistent (byte_at empty_image) }
+{}
