@@ -1,24 +1,23 @@
 -- Storage writes beside the modified tables of the caches: what is known changes as the storage does.
-use Rattle.std.proofs.Common.{◌≡◌, ℕ, ◌+◌, ◌*◌, ◌/◌, ◌%◌, ◌<◌, ◌≤◌, ◌≢◌, ◌⊎◌, ◌==◌, inl, inr, List, [], length, refl, sym, ap, ◌∙◌, subst, arith, max}
-use Rattle.std.proofs.lemmas.Bool.{cases_eq, cases_lt}
+use Rattle.std.proofs.Common.{◌≡◌, ℕ, ◌+◌, ◌*◌, ◌/◌, ◌%◌, ◌<◌, ◌≤◌, ◌≢◌, ◌⊎◌, ◌==◌, inl, inr, List, length, refl, sym, ap, ◌∙◌, arith}
+use Rattle.std.proofs.lemmas.Bool.{cases_lt}
 use Rattle.std.proofs.lemmas.Nat.{div-mul-add, mod_below}
 use Rattle.image_access.specs.Contents.{overwritten}
 use Rattle.image_access.proofs.Bytes.{byte_at-overwritten_outside}
-use Rattle.qcow2_metadata.specs.Bytes.{Bytes, byte_at, SameFrom}
+use Rattle.qcow2_metadata.specs.Bytes.{Bytes, byte_at}
 use Rattle.qcow2_metadata.specs.declared.header.HeaderFields.{HeaderFields}
 use Rattle.qcow2_metadata.specs.Header.{header, HeaderReads, cluster_size, entries_per_cluster, reftable_entries, has_data_file}
-use Rattle.qcow2_metadata.specs.Entries.{l1_entry, l2_entry, reftable_entry, host_offset}
+use Rattle.qcow2_metadata.specs.Entries.{l1_entry, l2_entry, reftable_entry}
 use Rattle.qcow2_metadata.specs.Cover.{cover, entry_cover}
 use Rattle.qcow2_metadata.specs.Named.{in_cluster}
 use Rattle.qcow2_metadata.specs.Tables.{CachedTable}
-use Rattle.qcow2_metadata.specs.declared.l2_mapping.L2Mapping.TheVariants.{Uncovered}
 use Rattle.qcow2_laws.specs.Stops.{Gift}
 use Rattle.qcow2_laws.specs.Clusters.{Direction}
 use Rattle.qcow2_laws.specs.Guests.{marks, table_at}
 use Rattle.qcow2_laws.specs.Guard.{Pending, SameIn}
 use Rattle.qcow2_laws.specs.Writes.{IsUnnamed, MayChange, IsWritten}
-use Rattle.qcow2_laws.specs.Tops.{Places, with_places, IsSameBut, IsSameOutside, WritesL1Entry, WritesReftableEntry, WritesAt, WritesHeader}
-use Rattle.qcow2_laws.specs.Caches.{known_bytes, IsFreeAt, IsFreeOf, IsKept, AreSettled}
+use Rattle.qcow2_laws.specs.Tops.{Places, with_places, IsSameBut, WritesL1Entry, WritesReftableEntry, WritesHeader}
+use Rattle.qcow2_laws.specs.Caches.{known_bytes, IsFreeOf, IsKept, AreSettled}
 use Rattle.qcow2_laws.proofs.Places.{Sizes, l1-same, reftable-same, cover_none, cover_in}
 use Rattle.qcow2_laws.proofs.Consistency.{in_own}
 use Rattle.qcow2_laws.proofs.Shares.{in_l1, in_reftable, l1_has, reftable_has}

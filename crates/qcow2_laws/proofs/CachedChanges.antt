@@ -1,5 +1,5 @@
 -- Changes of a cached table's bytes, as changes of what is known.
-use Rattle.std.proofs.Common.{◌≡◌, ℕ, ◌+◌, ◌-◌, ◌*◌, ◌/◌, ◌%◌, ◌<◌, ◌≤◌, ◌≢◌, ◌⊎◌, Bool, true, false, cond, inl, inr, List, [], Option, Some, None, refl, sym, ap, ◌∙◌, subst, arith, max}
+use Rattle.std.proofs.Common.{◌≡◌, ℕ, ◌+◌, ◌-◌, ◌/◌, ◌%◌, ◌<◌, ◌≤◌, ◌≢◌, Bool, true, false, cond, inl, inr, List, Some, None, refl, sym, ap, ◌∙◌, subst, arith, max}
 use Rattle.std.proofs.lemmas.Bool.{cases_eq, cases_lt, eq-eqb, ne_eqb, cond-true, cond-false}
 use Rattle.std.proofs.lemmas.Nat.{mod_below}
 use Rattle.qcow2_metadata.specs.Bytes.{Bytes}
@@ -12,7 +12,7 @@ use Rattle.qcow2_metadata.specs.Named.{in_cluster, named_by_cover}
 use Rattle.qcow2_metadata.specs.Consistent.{CoverIsAligned}
 use Rattle.qcow2_metadata.specs.TableBytes.{entry_at, ChangesEntry}
 use Rattle.qcow2_metadata.specs.RefBlock.{count_in, ChangesCount}
-use Rattle.qcow2_metadata.specs.L2Table.{copied_host, zero_cover}
+use Rattle.qcow2_metadata.specs.L2Table.{copied_host}
 use Rattle.qcow2_metadata.specs.declared.l2_mapping.L2Mapping.{L2Mapping}
 use Rattle.qcow2_metadata.specs.declared.l2_mapping.L2Mapping.TheVariants.{Data, Zero, Compressed, Uncovered}
 use Rattle.qcow2_laws.specs.Guests.{names, marks, table_at, marked_by_cover}
@@ -21,9 +21,7 @@ use Rattle.qcow2_laws.specs.Tops.{IsSameOutside}
 use Rattle.qcow2_laws.specs.Leads.{Stand, IsSound}
 use Rattle.qcow2_laws.specs.Steps.{block_of, CountRises, CountFalls, EntryChanges, guest_at}
 use Rattle.qcow2_laws.proofs.Places.{Sizes, Sizes-from, count_in as count_found, cover_at}
-use Rattle.qcow2_laws.proofs.Tops.{IsTop-top}
-use Rattle.qcow2_laws.proofs.Guests.{guest_le, names_within, marks-le}
-use Rattle.qcow2_laws.proofs.Consistency.{in_own}
+use Rattle.qcow2_laws.proofs.Guests.{guest_le, names_within}
 use Rattle.qcow2_laws.proofs.Writes.{held_is_unnamed}
 use Rattle.qcow2_laws.proofs.Blocks.{entry_top}
 
@@ -91,9 +89,11 @@ copied_alone h host c (Zero (Some k)) is = kept_alone k is
   where
     some_is : {a b : ℕ} → Some a ≡ Some b → a ≡ b
     some_is e = cc
+
     by_mark : (place : ℕ) (mark : Bool) → cond mark (Some place) None ≡ Some host → (in_cluster h c place ≡ in_cluster h c host) × (cond mark (in_cluster h c place) 0 ≡ in_cluster h c host)
     by_mark place true e = let p : place ≡ host = some_is e in (ap (in_cluster h c) p, ap (in_cluster h c) p)
     by_mark place false e = absurd (cc)
+
     kept_alone : (k : ℕ × Bool) → cond k.1 (Some k.0) None ≡ Some host → (in_cluster h c k.0 ≡ in_cluster h c host) × (cond k.1 (in_cluster h c k.0) 0 ≡ in_cluster h c host)
     kept_alone k e = by_mark k.0 k.1 e
 copied_alone h host c (Compressed place sectors) is = absurd (cc)
