@@ -30,3 +30,4 @@ pub mod KeptSteps
 pub mod NewImages
 pub mod CachedChanges
 pub mod Beside
+pub mod HeaderWrites

@@ -1,0 +1,76 @@
+-- The calls that write numbers of the header, as steps beside the modified tables of the caches.
+use Rattle.std.proofs.Common.{◌≡◌, ℕ, List, replicate, ap, ◌∙◌, subst, lit≤}
+use Rattle.std.specs.Int.{w64, to_be_bytes}
+use Rattle.qcow2_metadata.specs.Bytes.{Bytes, byte_at}
+use Rattle.qcow2_metadata.specs.declared.header.HeaderFields.{HeaderFields}
+use Rattle.qcow2_metadata.specs.Header.{HeaderView, header, HeaderReads, cluster_size, with_size, with_l1_table, with_reftable, without_autoclear}
+use Rattle.qcow2_metadata.specs.HeaderLoad.{IsHeaderIn}
+use Rattle.qcow2_metadata.specs.HeaderWrite.{bytes_of_numbers, size_written, l1_table_pointer_written, reftable_pointer_written, autoclear_cleared}
+use Rattle.qcow2_metadata.specs.Tables.{CachedTable}
+use Rattle.qcow2_laws.specs.Clusters.{Direction}
+use Rattle.qcow2_laws.specs.Guard.{Pending}
+use Rattle.qcow2_laws.specs.Tops.{Places, with_places, IsSameBut, WritesHeader, resized, with_l1_at, with_reftable_at}
+use Rattle.qcow2_laws.specs.Caches.{known_bytes, IsKept}
+use Rattle.qcow2_laws.proofs.Beside.{overwritten_but, header_beside}
+
+-- a pointer has twelve bytes
+l1_pointer_but : (h : HeaderFields) (contents : List ℕ) → IsSameBut 36 12 (byte_at contents) (byte_at (l1_table_pointer_written h contents))
+unfolding bytes_of_numbers
+l1_pointer_but h contents = overwritten_but contents 36 _
+
+reftable_pointer_but : (h : HeaderFields) (contents : List ℕ) → IsSameBut 48 12 (byte_at contents) (byte_at (reftable_pointer_written h contents))
+unfolding bytes_of_numbers
+reftable_pointer_but h contents = overwritten_but contents 48 _
+
+module _ (h : HeaderFields) (d : Direction) (p : Pending) (l2s rbs : List CachedTable) (contents : List ℕ) (kept : IsKept h d p l2s rbs (byte_at contents)) where
+  abbrev known : List ℕ → Bytes
+  known c = known_bytes (cluster_size h) l2s rbs (byte_at c)
+
+  header_is : header (byte_at contents) ≡ h
+  header_is = kept.guarded.top.header_is
+
+  -- what the header of the contents reads as, the same header reads
+  reads_as : (a : Places) (v : HeaderView) (c : List ℕ) → header (byte_at c) ≡ with_places h a → IsHeaderIn v c → HeaderReads (with_places h a) (byte_at c)
+  reads_as a v c is there = subst (λ k. HeaderReads k (byte_at c)) is there.reads
+
+  -- the size
+  pub size_beside : (v : HeaderView) → header (byte_at (size_written v.fields contents)) ≡ with_size (header (byte_at contents)) v.fields.size → IsHeaderIn v (size_written v.fields contents)
+      → WritesHeader h (resized h v.fields.size h.autoclear) (byte_at contents) (known contents) (byte_at (size_written v.fields contents)) (known (size_written v.fields contents))
+  size_beside v fields there =
+      let a = resized h v.fields.size h.autoclear in
+      let new = size_written v.fields contents in
+      let is : header (byte_at new) ≡ with_places h a = fields ∙ ap (λ k. with_size k v.fields.size) header_is in
+      header_beside h d p l2s rbs (byte_at contents) (byte_at new) kept a 24 8 (lit≤ tt) (overwritten_but contents 24 (to_be_bytes w64 v.fields.size)) is (reads_as a v new is there)
+
+  -- the place of the L1 table
+  pub l1_pointer_beside : (v : HeaderView)
+      → header (byte_at (l1_table_pointer_written v.fields contents)) ≡ with_l1_table (header (byte_at contents)) v.fields.l1_offset v.fields.l1_entries
+      → IsHeaderIn v (l1_table_pointer_written v.fields contents)
+      → WritesHeader h (with_l1_at h v.fields.l1_offset v.fields.l1_entries) (byte_at contents) (known contents) (byte_at (l1_table_pointer_written v.fields contents))
+      (known (l1_table_pointer_written v.fields contents))
+  l1_pointer_beside v fields there =
+      let a = with_l1_at h v.fields.l1_offset v.fields.l1_entries in
+      let new = l1_table_pointer_written v.fields contents in
+      let is : header (byte_at new) ≡ with_places h a = fields ∙ ap (λ k. with_l1_table k v.fields.l1_offset v.fields.l1_entries) header_is in
+      header_beside h d p l2s rbs (byte_at contents) (byte_at new) kept a 36 12 (lit≤ tt) (l1_pointer_but v.fields contents) is (reads_as a v new is there)
+
+  -- that of the reftable
+  pub reftable_pointer_beside : (v : HeaderView)
+      → header (byte_at (reftable_pointer_written v.fields contents)) ≡ with_reftable (header (byte_at contents)) v.fields.reftable_offset v.fields.reftable_clusters
+      → IsHeaderIn v (reftable_pointer_written v.fields contents)
+      → WritesHeader h (with_reftable_at h v.fields.reftable_offset v.fields.reftable_clusters) (byte_at contents) (known contents) (byte_at (reftable_pointer_written v.fields contents))
+      (known (reftable_pointer_written v.fields contents))
+  reftable_pointer_beside v fields there =
+      let a = with_reftable_at h v.fields.reftable_offset v.fields.reftable_clusters in
+      let new = reftable_pointer_written v.fields contents in
+      let is : header (byte_at new) ≡ with_places h a = fields ∙ ap (λ k. with_reftable k v.fields.reftable_offset v.fields.reftable_clusters) header_is in
+      header_beside h d p l2s rbs (byte_at contents) (byte_at new) kept a 48 12 (lit≤ tt) (reftable_pointer_but v.fields contents) is (reads_as a v new is there)
+
+  -- no autoclear bit any more
+  pub autoclear_beside : (v : HeaderView) → header (byte_at (autoclear_cleared contents)) ≡ without_autoclear (header (byte_at contents)) → IsHeaderIn v (autoclear_cleared contents)
+      → WritesHeader h (resized h h.size 0) (byte_at contents) (known contents) (byte_at (autoclear_cleared contents)) (known (autoclear_cleared contents))
+  autoclear_beside v fields there =
+      let a = resized h h.size 0 in
+      let new = autoclear_cleared contents in
+      let is : header (byte_at new) ≡ with_places h a = fields ∙ ap without_autoclear header_is in
+      header_beside h d p l2s rbs (byte_at contents) (byte_at new) kept a 88 8 (lit≤ tt) (overwritten_but contents 88 (replicate 8 0)) is (reads_as a v new is there)
