@@ -9,3 +9,4 @@ pub mod CachedEntries
 pub mod TableSteps
 pub mod TableLaws
 pub mod TableCaches
+pub mod KeptTables

@@ -13,7 +13,7 @@ use Rattle.qcow2_laws.proofs.Places.{in_one}
 
 -- ---- places in a cluster
 
-within_is : (place size o : ℕ) → is_within place size o ≡ true → (place ≤ o) × (o < place + size)
+pub within_is : (place size o : ℕ) → is_within place size o ≡ true → (place ≤ o) × (o < place + size)
 within_is place size o is =
     elim (cases_lt o place) [
       | inl below ↦ absurd (let none : leb place o ≡ false = lt-leb place o below in let e = and_left (leb place o) (ltb o (place + size)) none in differ (is_within place size o) is e)

@@ -1,0 +1,3 @@
+-- Facts about cached tables over the bytes of the storage.
+pub mod Loaded
+pub mod Writing

@@ -1,0 +1,252 @@
+-- One cached table is written, and a whole cache is flushed: all is kept, nothing known changes, and a stop is as safe as before.
+use Rattle.std.proofs.Common.{◌≡◌, ◌≢◌, ℕ, ◌+◌, ◌-◌, ◌*◌, ◌/◌, ◌%◌, ◌^◌, ◌<◌, ◌≤◌, ◌⊎◌, Bool, true, false, ◌&&◌, cond, inl, inr, List, [], ◌∷◌, ◌++◌, Option, Some, None, length, refl, sym, ap, ◌∙◌, subst, append_assoc, arith}
+use Rattle.std.proofs.lemmas.Bool.{cases_Bool, cases_lt, and_from, le-leb, lt-ltb}
+use mathlib.Core.Path.{fun_ext}
+use Rattle.std.specs.Option.{option_or}
+use Rattle.image_access.specs.Contents.{overwritten}
+use Rattle.image_access.specs.Moments.{StorageView, Passing}
+use Rattle.image_access.proofs.Bytes.{byte_at-overwritten, byte_at-overwritten_outside}
+use Rattle.image_access.proofs.Passing.{passes_none, passes_on, passes_if}
+use Rattle.qcow2_metadata.specs.Bytes.{Bytes, byte_at, is_within}
+use Rattle.qcow2_metadata.specs.declared.header.HeaderFields.{HeaderFields}
+use Rattle.qcow2_metadata.specs.declared.error.MetadataError.{MetadataError}
+use Rattle.qcow2_metadata.specs.Header.{cluster_size}
+use Rattle.qcow2_metadata.specs.Entries.{reftable_entry, host_offset, block_offset}
+use Rattle.qcow2_metadata.specs.Named.{named_by_reftable, named_by_l1_table}
+use Rattle.qcow2_metadata.specs.Tables.{CachedTable, known, overlays}
+use Rattle.qcow2_laws.specs.Stops.{Mark, IsKeptAt}
+use Rattle.qcow2_laws.specs.Clusters.{Direction}
+use Rattle.qcow2_laws.specs.Guests.{table_at}
+use Rattle.qcow2_laws.specs.Guard.{Pending, SameTop, SameIn}
+use Rattle.qcow2_laws.specs.Caches.{known_bytes, AreClean, HasL2, HasBlock, IsKept, BlocksMayGo, TablesMayGo, IsWrittenSo, IsSafeBetween, Keeps}
+use Rattle.qcow2_laws.proofs.Tops.{SameTop-sym, SameTop-trans}
+use Rattle.qcow2_laws.proofs.Shares.{table_has, block_has}
+use Rattle.qcow2_laws.proofs.Caches.{rbs_free, l2s_free}
+use Rattle.qcow2_laws.proofs.Lists.{known-none, unmodified_over, within_is, differs}
+use Rattle.qcow2_laws.proofs.Steps.{table_is_written}
+use Rattle.qcow2_alloc.specs.declared.async_lru_cache.slot.Slot.{Slot}
+use Rattle.qcow2_alloc.specs.TableSteps.{FlushesTable, FailsToFlush, table_steps}
+use Rattle.qcow2_alloc.specs.CacheAnswers.{FlushesEntry, FlushesAll}
+use Rattle.qcow2_alloc.specs.KeptTables.{cached_table, cached_tables, AreLoaded, AreKept, IsSafeSince}
+use Rattle.qcow2_alloc.proofs.KeptTables.Loaded.{stays_free, loaded_written, loaded_beside}
+
+-- ---- one table of either cache is written
+
+-- where two images are known alike, their header, L1 table and reftable are the same
+same_top : (h : HeaderFields) (d : Direction) (p : Pending) (l2s rbs l2s' rbs' : List CachedTable) (base base' : Bytes) → Keeps h d p l2s rbs base l2s' rbs' base' → IsKept h d p l2s rbs base → SameTop h base' base
+same_top h d p l2s rbs l2s' rbs' base base' keeps kept =
+    SameTop-trans h base' (known_bytes (cluster_size h) l2s rbs base) base
+    (subst (SameTop h base') keeps.known keeps.kept.guarded.same_top)
+    (SameTop-sym h base (known_bytes (cluster_size h) l2s rbs base) kept.guarded.same_top)
+
+l2_named : (h : HeaderFields) (base base' : Bytes) → SameTop h base' base → (c : ℕ) → HasL2 h base' c → HasL2 h base c
+l2_named h base base' top c has =
+    let e = ap host_offset (top.l1 has.0) in
+    (has.0, (λ none. has.1 (e ∙ none)), ap (λ n. n / cluster_size h) (sym e) ∙ has.2)
+
+block_named : (h : HeaderFields) (base base' : Bytes) → SameTop h base' base → (c : ℕ) → HasBlock h base' c → HasBlock h base c
+block_named h base base' top c has =
+    let e = ap block_offset (top.reftable has.0) in
+    (has.0, (λ none. has.1 (e ∙ none)), ap (λ n. n / cluster_size h) (sym e) ∙ has.2)
+
+-- what one write of a table leaves
+pub record Wrote (h : HeaderFields) (d : Direction) (p : Pending) (l2s rbs : List CachedTable) (base : Bytes) (l2s' rbs' : List CachedTable) (base' : Bytes) : Type 0 where
+  pub kept : AreKept h d p l2s' rbs' base'
+  pub known : known_bytes (cluster_size h) l2s' rbs' base' ≡ known_bytes (cluster_size h) l2s rbs base
+  pub safe : IsSafeBetween base (known_bytes (cluster_size h) l2s rbs base) base'
+
+pub wrote_none : (h : HeaderFields) (d : Direction) (p : Pending) (l2s rbs : List CachedTable) (base : Bytes) → AreKept h d p l2s rbs base → Wrote h d p l2s rbs base l2s rbs base
+wrote_none h d p l2s rbs base kept = record { kept = kept; known = refl; safe = λ backing m ok known_ok. ok }
+
+pub wrote_then : (h : HeaderFields) (d : Direction) (p : Pending) (l2s rbs : List CachedTable) (base : Bytes) (l2s' rbs' : List CachedTable) (base' : Bytes) (l2s'' rbs'' : List CachedTable) (base'' : Bytes)
+    → Wrote h d p l2s rbs base l2s' rbs' base' → Wrote h d p l2s' rbs' base' l2s'' rbs'' base'' → Wrote h d p l2s rbs base l2s'' rbs'' base''
+wrote_then h d p l2s rbs base l2s' rbs' base' l2s'' rbs'' base'' first second = record {
+  kept = second.kept;
+  known = second.known ∙ first.known;
+  safe = λ backing m ok known_ok. second.safe backing m (first.safe backing m ok known_ok) (subst (IsKeptAt backing m) (sym first.known) known_ok);
+}
+
+pub l2_wrote : (h : HeaderFields) (d : Direction) (p : Pending) (rbs front back : List CachedTable) (t t' : CachedTable) (base base' : Bytes) → AreKept h d p (front ++ t ∷ back) rbs base
+    → TablesMayGo d rbs → IsWrittenSo (cluster_size h) t t' base base' → Wrote h d p (front ++ t ∷ back) rbs base (front ++ t' ∷ back) rbs base'
+l2_wrote h d p rbs front back t t' base base' are may so =
+    let k = table_is_written.table h d p front back rbs t t' base base' are.kept may so in
+    let top = same_top h d p (front ++ t ∷ back) rbs (front ++ t' ∷ back) rbs base base' k are.kept in
+    record {
+      kept = record {
+        kept = k.kept;
+        l2_loaded = loaded_written (cluster_size h) t t' base base' so (HasL2 h base) (HasL2 h base') front back (l2_named h base base' top) are.l2_loaded;
+        rb_loaded = loaded_beside (cluster_size h) (HasBlock h base) (HasBlock h base') base base' rbs (λ c is.
+            let has = block_named h base base' top c is in
+            (has, stays_free (cluster_size h) t t' base base' so front back c
+                (l2s_free h d p (front ++ t ∷ back) rbs base are.kept c
+                (let one : 1 ≤ named_by_reftable h base c = subst (λ n. 1 ≤ named_by_reftable h base n) has.2 (block_has h base has.0 has.1) in omega arith)))) are.rb_loaded;
+      };
+      known = k.known;
+      safe = k.safe;
+    }
+
+pub rb_wrote : (h : HeaderFields) (d : Direction) (p : Pending) (l2s front back : List CachedTable) (t t' : CachedTable) (base base' : Bytes) → AreKept h d p l2s (front ++ t ∷ back) base
+    → BlocksMayGo d l2s → IsWrittenSo (cluster_size h) t t' base base' → Wrote h d p l2s (front ++ t ∷ back) base l2s (front ++ t' ∷ back) base'
+rb_wrote h d p l2s front back t t' base base' are may so =
+    let k = table_is_written.block h d p l2s front back t t' base base' are.kept may so in
+    let top = same_top h d p l2s (front ++ t ∷ back) l2s (front ++ t' ∷ back) base base' k are.kept in
+    record {
+      kept = record {
+        kept = k.kept;
+        rb_loaded = loaded_written (cluster_size h) t t' base base' so (HasBlock h base) (HasBlock h base') front back (block_named h base base' top) are.rb_loaded;
+        l2_loaded = loaded_beside (cluster_size h) (HasL2 h base) (HasL2 h base') base base' l2s (λ c is.
+            let has = l2_named h base base' top c is in
+            (has, stays_free (cluster_size h) t t' base base' so front back c
+                (rbs_free h d p l2s (front ++ t ∷ back) base are.kept c
+                (let one : 1 ≤ named_by_l1_table h base c = subst (λ n. 1 ≤ named_by_l1_table h base n) has.2 (table_has h base has.0 has.1) in omega arith)))) are.l2_loaded;
+      };
+      known = k.known;
+      safe = k.safe;
+    }
+
+-- ---- what a backend's flush writes
+
+outside_of : (place size o : ℕ) → is_within place size o ≡ false → (o < place) ⊎ (place + size ≤ o)
+outside_of place size o isnt = elim (cases_lt o place) [
+  | inl below ↦ inl below
+  | inr above ↦ elim (cases_lt o (place + size)) [
+    | inl lt ↦ absurd (differs (is_within place size o) (and_from _ _ (le-leb place o above) (lt-ltb o (place + size) lt)) isnt)
+    | inr past ↦ inr past
+  ]
+]
+
+-- a cluster is overwritten with a table's bytes
+pub laid : (size place : ℕ) (contents bytes : List ℕ) (m : Bool) → length bytes ≡ size → m ≡ true
+    → byte_at (overwritten contents place bytes) ≡ known size ((record { place = place; bytes = byte_at bytes; is_modified = m }) ∷ []) (byte_at contents)
+unfolding known
+laid size place contents bytes m fits modified = fun_ext (λ o. (elim (is_within place size o) as (λ b. is_within place size o ≡ b → byte_at (overwritten contents place bytes) o ≡ cond (m && is_within place size o) (byte_at bytes (o - place)) (byte_at contents o)) [
+  | true ↦ λ is.
+      let w = within_is place size o is in
+      let e : o ≡ place + (o - place) = omega arith in
+      ap (byte_at (overwritten contents place bytes)) e ∙ byte_at-overwritten contents place bytes (o - place) (omega (arith, w)) ∙ rw (modified, is) refl
+  | false ↦ λ isnt. byte_at-overwritten_outside contents place bytes o (subst (λ n. (o < place) ⊎ (place + n ≤ o)) (sym fits) (outside_of place size o isnt)) ∙ rw (modified, isnt) refl
+]) refl)
+
+module _ {S V : Type 0} (view : S → StorageView) (bits : ℕ) (bytes : V → List ℕ) (is_modified : V → Bool) (cleared : V → V)
+    (unmodified : (v : V) → is_modified (cleared v) ≡ false) (same_bytes : (v : V) → bytes (cleared v) ≡ bytes v) where
+  abbrev table : ℕ × Slot V → CachedTable
+  table = cached_table bits bytes is_modified
+
+  abbrev contents : S → Bytes
+  contents s = byte_at (view s).contents
+
+  -- what a flush of an entry leaves of it, and of the bytes
+  pub flushed_so : (s t : S) (k : ℕ) (v w : V) (n m : ℕ) → (view s).is_honest → FlushesTable view bits bytes is_modified cleared s k v w t
+      → IsWrittenSo (2 ^ bits) (table (k, record { value = v; pins = n })) (table (k, record { value = w; pins = m })) (contents s) (contents t)
+  flushed_so s t k v w n m honest f = record {
+    place = refl;
+    bytes = ap (λ l. byte_at l) (ap bytes f.clean ∙ same_bytes v);
+    outcome = (elim (is_modified v) as (λ b. is_modified v ≡ b → Outcome) [
+      | false ↦ λ is. inl (ap (λ l. byte_at l) (f.skips is honest), ap is_modified f.clean ∙ unmodified v ∙ sym is)
+      | true ↦ λ is. let g = f.writes is in inr (ap (λ l. byte_at l) (g.written honest) ∙ laid (2 ^ bits) (k * 2 ^ bits) (view s).contents (bytes v) (is_modified v) g.fits is, inr (ap is_modified f.clean ∙ unmodified v))
+    ]) refl;
+  }
+    where
+      t0 : CachedTable
+      t0 = table (k, record { value = v; pins = n })
+
+      t1 : CachedTable
+      t1 = table (k, record { value = w; pins = m })
+
+      Outcome : Type 0
+      Outcome = ((contents t ≡ contents s) × (t1.is_modified ≡ t0.is_modified)) ⊎ ((contents t ≡ known (2 ^ bits) (t0 ∷ []) (contents s)) × ((t1.is_modified ≡ t0.is_modified) ⊎ (t1.is_modified ≡ false)))
+
+  pub failed_so : (s t : S) (k : ℕ) (v : V) (n : ℕ) (e : MetadataError) → (view s).is_honest → FailsToFlush view bits bytes is_modified cleared s k v e t
+      → IsWrittenSo (2 ^ bits) (table (k, record { value = v; pins = n })) (table (k, record { value = v; pins = n })) (contents s) (contents t)
+  failed_so s t k v n e honest f = record {
+    place = refl;
+    bytes = refl;
+    outcome = elim (f.stopped honest) [
+      | inl same ↦ inl (ap (λ l. byte_at l) same, refl)
+      | inr done ↦ inr (ap (λ l. byte_at l) done.1 ∙ laid (2 ^ bits) (k * 2 ^ bits) (view s).contents (bytes v) (is_modified v) done.0 f.modified, inl refl)
+    ];
+  }
+
+  pub entry_so : (s t : S) (e : ℕ × Slot V) (x : Option MetadataError) (d : Slot V) → (view s).is_honest → FlushesEntry (table_steps view bits bytes is_modified cleared) s e x t d
+      → IsWrittenSo (2 ^ bits) (table e) (table (e.0, d)) (contents s) (contents t)
+  entry_so s t e None d honest f = flushed_so s t e.0 e.1.value d.value e.1.pins d.pins honest f.0
+  entry_so s t e (Some x) d honest f =
+      subst (λ (y : Slot V). IsWrittenSo (2 ^ bits) (table e) (table (e.0, y)) (contents s) (contents t)) (sym f.1) (failed_so s t e.0 e.1.value e.1.pins x honest f.0)
+
+  entry_calls : (s t : S) (e : ℕ × Slot V) (x : Option MetadataError) (d : Slot V) → (view s).is_honest → FlushesEntry (table_steps view bits bytes is_modified cleared) s e x t d
+      → (view t).is_honest × Passing (view s) (view t) (λ c. c ≡ (view t).contents)
+  entry_calls s t e None d honest f = (f.0.calls.honest honest, f.0.calls.time)
+  entry_calls s t e (Some x) d honest f = (f.0.calls.honest honest, f.0.calls.time)
+
+  -- ---- a whole cache is flushed, where each write of one of its tables keeps P and what is known
+  module _ (P : List CachedTable → Bytes → Type 0) (all : List CachedTable → Bytes → Bytes)
+      (step : (front back : List CachedTable) (t t' : CachedTable) (base base' : Bytes) → P (front ++ t ∷ back) base → IsWrittenSo (2 ^ bits) t t' base base'
+          → P (front ++ t' ∷ back) base' × (all (front ++ t' ∷ back) base' ≡ all (front ++ t ∷ back) base) × IsSafeBetween base (all (front ++ t ∷ back) base) base') where
+    pub record Flushed (s t : S) (before after : List CachedTable) : Type 0 where
+      pub honest : (view t).is_honest
+      pub kept : P after (contents t)
+      pub known : all after (contents t) ≡ all before (contents s)
+      pub since : IsSafeSince (view s) (view t) (all before (contents s))
+
+    pub flushed_none : (s : S) (ts : List CachedTable) → (view s).is_honest → P ts (contents s) → Flushed s s ts ts
+    flushed_none s ts honest kept = record {
+      honest = honest;
+      kept = kept;
+      known = refl;
+      since = record { moments = passes_none (view s) _; contents = λ backing m ok known_ok. ok };
+    }
+
+    pub flushed_then : (r s t : S) (xs ys zs : List CachedTable) → Flushed r s xs ys → Flushed s t ys zs → Flushed r t xs zs
+    flushed_then r s t xs ys zs f g = record {
+      honest = g.honest;
+      kept = g.kept;
+      known = g.known ∙ f.known;
+      since = record {
+        moments = passes_on _ f.since.moments g.since.moments (λ c safe backing m ok known_ok. safe backing m (f.since.contents backing m ok known_ok) (subst (IsKeptAt backing m) (sym f.known) known_ok));
+        contents = λ backing m ok known_ok. g.since.contents backing m (f.since.contents backing m ok known_ok) (subst (IsKeptAt backing m) (sym f.known) known_ok);
+      };
+    }
+
+    pub flushed_entry : (s t : S) (front back : List CachedTable) (e : ℕ × Slot V) (x : Option MetadataError) (d : Slot V) → (view s).is_honest → P (front ++ table e ∷ back) (contents s)
+        → FlushesEntry (table_steps view bits bytes is_modified cleared) s e x t d → Flushed s t (front ++ table e ∷ back) (front ++ table (e.0, d) ∷ back)
+    flushed_entry s t front back e x d honest kept f =
+        let w = step front back (table e) (table (e.0, d)) (contents s) (contents t) kept (entry_so s t e x d honest f) in
+        let c = entry_calls s t e x d honest f in
+        record {
+          honest = c.0;
+          kept = w.0;
+          known = w.1;
+          since = record { moments = passes_if _ (λ l is. subst (λ l'. IsSafeBetween (contents s) (all (front ++ table e ∷ back) (contents s)) (byte_at l')) (sym is) w.2) c.1; contents = w.2 };
+        }
+
+    pub flushed_all : (s t : S) (front : List CachedTable) (es fs : List (ℕ × Slot V)) (x : Option MetadataError) → (view s).is_honest → P (front ++ cached_tables bits bytes is_modified es) (contents s)
+        → FlushesAll (table_steps view bits bytes is_modified cleared) s es x t fs
+        → Flushed s t (front ++ cached_tables bits bytes is_modified es) (front ++ cached_tables bits bytes is_modified fs)
+    flushed_all s t front [] fs x honest kept f = rw (f.1, f.2) (flushed_none s (front ++ []) honest kept)
+    flushed_all s t front (e ∷ es) fs x honest kept f =
+        let r : S = f.1 in
+        let d : Slot V = f.2 in
+        let rest : List (ℕ × Slot V) = f.4 in
+        let back : List CachedTable = cached_tables bits bytes is_modified es in
+        let back' : List CachedTable = cached_tables bits bytes is_modified rest in
+        let first = flushed_entry s r front back e f.0 d honest kept f.5 in
+        let moved : front ++ table (e.0, d) ∷ back ≡ (front ++ table (e.0, d) ∷ []) ++ back = sym (append_assoc front (table (e.0, d) ∷ []) back) in
+        let more = flushed_all r t (front ++ table (e.0, d) ∷ []) es rest f.3 first.honest (subst (λ l. P l (contents r)) moved first.kept) f.6 in
+        let moved' : (front ++ table (e.0, d) ∷ []) ++ back' ≡ front ++ table (e.0, d) ∷ back' = append_assoc front (table (e.0, d) ∷ []) back' in
+        rw f.8 (flushed_then s r t (front ++ table e ∷ back) (front ++ table (e.0, d) ∷ back) (front ++ table (e.0, d) ∷ back') first
+        (subst (λ l. Flushed r t l (front ++ table (e.0, d) ∷ back')) (sym moved) (subst (λ l. Flushed r t ((front ++ table (e.0, d) ∷ []) ++ back) l) moved' more)))
+
+  -- a flush without a failure leaves nothing modified
+  pub flushed_clean : (s t : S) (es fs : List (ℕ × Slot V)) (x : Option MetadataError) → x ≡ None → FlushesAll (table_steps view bits bytes is_modified cleared) s es x t fs → AreClean (cached_tables bits bytes is_modified fs)
+  flushed_clean s t [] fs x is f = rw f.2 tt
+  flushed_clean s t (e ∷ es) fs x is f =
+      let none = none_of f.0 f.3 (sym f.7 ∙ is) in
+      rw f.8 (clean_entry f.0 f.1 f.2 none.0 f.5, flushed_clean f.1 t es f.4 f.3 none.1 f.6)
+    where
+      none_of : (a b : Option MetadataError) → option_or a b ≡ None → (a ≡ None) × (b ≡ None)
+      none_of None b h = (refl, h)
+      none_of (Some y) b h = cc
+
+      clean_entry : (a : Option MetadataError) (r : S) (d : Slot V) → a ≡ None → FlushesEntry (table_steps view bits bytes is_modified cleared) s e a r d → is_modified d.value ≡ false
+      clean_entry None r d h f = ap is_modified f.0.clean ∙ unmodified e.1.value
+      clean_entry (Some y) r d h f = cc

@@ -1,0 +1,44 @@
+-- Cached tables over the bytes of the storage: what is known, and what is kept of both caches.
+use Rattle.std.specs.Prelude.{ℕ, ◌+◌, ◌*◌, ◌/◌, ◌%◌, ◌^◌, ◌<◌, ◌≡◌, ◌≢◌, Bool, false, List, [], ◌∷◌, map}
+use Rattle.image_access.specs.Moments.{StorageView, Passing}
+use Rattle.qcow2_metadata.specs.Bytes.{Bytes, byte_at}
+use Rattle.qcow2_metadata.specs.declared.header.HeaderFields.{HeaderFields}
+use Rattle.qcow2_metadata.specs.Header.{cluster_size}
+use Rattle.qcow2_metadata.specs.Tables.{CachedTable}
+use Rattle.qcow2_laws.specs.Clusters.{Direction}
+use Rattle.qcow2_laws.specs.Guard.{Pending}
+use Rattle.qcow2_laws.specs.Caches.{IsKept, IsSafeBetween, HasL2, HasBlock}
+use Rattle.qcow2_alloc.specs.declared.async_lru_cache.slot.Slot.{Slot}
+
+-- an entry of a cache as a table over the bytes
+abbrev pub cached_table : {V : Type 0} → ℕ → (V → List ℕ) → (V → Bool) → ℕ × Slot V → CachedTable
+cached_table bits bytes is_modified e = record { place = e.0 * 2 ^ bits; bytes = byte_at (bytes e.1.value); is_modified = is_modified e.1.value }
+
+abbrev pub cached_tables : {V : Type 0} → ℕ → (V → List ℕ) → (V → Bool) → List (ℕ × Slot V) → List CachedTable
+cached_tables bits bytes is_modified es = map (cached_table bits bytes is_modified) es
+
+-- none of them begins at the place
+abbrev pub AreElsewhere : ℕ → List CachedTable → Type 0
+AreElsewhere place [] = Unit {0}
+AreElsewhere place (t ∷ ts) = (t.place ≢ place) × AreElsewhere place ts
+
+-- it holds what stands in its cluster
+abbrev pub IsCurrent : ℕ → CachedTable → Bytes → Type 0
+IsCurrent size t base = (i : ℕ) → i < size → t.bytes i ≡ base (t.place + i)
+
+-- Each fills a cluster of its own. One that isn't modified is current where the cluster is named for a table of its kind.
+abbrev pub AreLoaded : ℕ → (ℕ → Type 0) → List CachedTable → Bytes → Type 0
+AreLoaded size IsNamed [] base = Unit {0}
+AreLoaded size IsNamed (t ∷ ts) base =
+    (t.place % size ≡ 0) × AreElsewhere t.place ts × (t.is_modified ≡ false → IsNamed (t.place / size) → IsCurrent size t base) × AreLoaded size IsNamed ts base
+
+-- What is kept of the L2 tables and the refblocks of the caches over the bytes of a storage.
+pub record AreKept (h : HeaderFields) (d : Direction) (p : Pending) (l2s rbs : List CachedTable) (base : Bytes) : Type 0 where
+  pub kept : IsKept h d p l2s rbs base
+  pub l2_loaded : AreLoaded (cluster_size h) (HasL2 h base) l2s base
+  pub rb_loaded : AreLoaded (cluster_size h) (HasBlock h base) rbs base
+
+-- Since an earlier view of a storage, at each moment and now, a stop is as safe as it was of the contents then and of what was known.
+pub record IsSafeSince (old new : StorageView) (known : Bytes) : Type 0 where
+  pub moments : Passing old new (λ c. IsSafeBetween (byte_at old.contents) known (byte_at c))
+  pub contents : IsSafeBetween (byte_at old.contents) known (byte_at new.contents)
