@@ -1,3 +1,5 @@
 -- Facts about cached tables over the bytes of the storage.
 pub mod Loaded
 pub mod Writing
+pub mod Flushing
+pub mod Turning

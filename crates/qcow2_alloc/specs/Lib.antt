@@ -10,3 +10,4 @@ pub mod TableSteps
 pub mod TableLaws
 pub mod TableCaches
 pub mod KeptTables
+pub mod MetadataCaches

@@ -1,6 +1,10 @@
 //! The caches of L2 tables and of refblocks, and which of them has to be written first.
-ghost use Rattle.std.specs.Prelude.{◌≡◌, IsSome, IfErr};
+ghost use Rattle.std.specs.Prelude.{◌≡◌, IsSome, IfErr, OnOk, OnErr};
+ghost use Rattle.qcow2_laws.specs.Clusters.{L2DependsOnRb, RbDependsOnL2};
+ghost use Rattle.qcow2_laws.specs.Caches.{AreClean, BlocksMayGo, TablesMayGo};
 ghost use Rattle.qcow2_alloc.specs.ImageError.{IsOfTables};
+ghost use Rattle.qcow2_alloc.specs.ImageStorage.{storage_of};
+ghost use Rattle.qcow2_alloc.specs.MetadataCaches.{order_of, l2_tables, refblocks, AreAllWritten, KeepSound};
 
 mod backends;
 
@@ -47,74 +51,126 @@ impl<S: Storage> MetadataCaches<S> {
         })
     }
 
+    // Writes the modified L2 tables.
+    fn write_tables(&mut self, storage: &mut ImageStorage<S>) -> Result<(), ImageError>
+        ensures cause { IfErr result IsOfTables }
+        ensures direction { self.new.direction ≡ self.old.direction }
+        ensures refblocks { self.new.rb ≡ self.old.rb }
+        ensures written { OnOk result (AreClean (l2_tables self.new)) }
+        ensures keeps { TablesMayGo (order_of self.old) (refblocks self.old) → KeepSound S.view storage.old self.old storage.new self.new }
+    {
+        self.l2.flush(storage)?;
+        Ok(())
+    }
+
+    // Writes the modified refblocks.
+    fn write_blocks(&mut self, storage: &mut ImageStorage<S>) -> Result<(), ImageError>
+        ensures cause { IfErr result IsOfTables }
+        ensures direction { self.new.direction ≡ self.old.direction }
+        ensures tables { self.new.l2 ≡ self.old.l2 }
+        ensures written { OnOk result (AreClean (refblocks self.new)) }
+        ensures keeps { BlocksMayGo (order_of self.old) (l2_tables self.old) → KeepSound S.view storage.old self.old storage.new self.new }
+    {
+        self.rb.flush(storage)?;
+        Ok(())
+    }
+
     /// From here on refblocks are written before L2 tables.
     pub fn l2_depends_on_rb(&mut self, storage: &mut ImageStorage<S>) -> Result<(), ImageError>
         ensures cause { IfErr result IsOfTables }
+        ensures order { OnOk result (order_of self.new ≡ L2DependsOnRb) }
+        ensures refused { OnErr result (order_of self.new ≡ order_of self.old) }
+        ensures keeps { KeepSound S.view storage.old self.old storage.new self.new }
     {
-        if let Direction::RbDependsOnL2 = self.direction {
-            self.l2.flush(storage)?;
+        match self.direction {
+            Direction::L2DependsOnRb => {}
+            Direction::None => self.direction = Direction::L2DependsOnRb,
+            Direction::RbDependsOnL2 => {
+                self.write_tables(storage)?;
+                self.direction = Direction::L2DependsOnRb;
+            }
         }
-        self.direction = Direction::L2DependsOnRb;
         Ok(())
     }
 
     /// From here on L2 tables are written before refblocks.
     pub fn rb_depends_on_l2(&mut self, storage: &mut ImageStorage<S>) -> Result<(), ImageError>
         ensures cause { IfErr result IsOfTables }
+        ensures order { OnOk result (order_of self.new ≡ RbDependsOnL2) }
+        ensures refused { OnErr result (order_of self.new ≡ order_of self.old) }
+        ensures keeps { KeepSound S.view storage.old self.old storage.new self.new }
     {
-        if let Direction::L2DependsOnRb = self.direction {
-            self.rb.flush(storage)?;
+        match self.direction {
+            Direction::RbDependsOnL2 => {}
+            Direction::None => self.direction = Direction::RbDependsOnL2,
+            Direction::L2DependsOnRb => {
+                self.write_blocks(storage)?;
+                self.direction = Direction::RbDependsOnL2;
+            }
         }
-        self.direction = Direction::RbDependsOnL2;
         Ok(())
     }
 
     /// Writes both caches, in the order that the direction asks for.
     pub fn flush_all(&mut self, storage: &mut ImageStorage<S>) -> Result<(), ImageError>
         ensures cause { IfErr result IsOfTables }
+        ensures order { order_of self.new ≡ order_of self.old }
+        ensures written { OnOk result (AreAllWritten self.new) }
+        ensures keeps { KeepSound S.view storage.old self.old storage.new self.new }
     {
         match self.direction {
             Direction::L2DependsOnRb => {
-                self.rb.flush(storage)?;
-                self.l2.flush(storage)?;
+                self.write_blocks(storage)?;
+                self.write_tables(storage)
             }
             Direction::None | Direction::RbDependsOnL2 => {
-                self.l2.flush(storage)?;
-                self.rb.flush(storage)?;
+                self.write_tables(storage)?;
+                self.write_blocks(storage)
             }
         }
-        Ok(())
     }
 
     /// Writes the refblocks, and the L2 tables before them where the direction asks for it.
     pub fn flush_rb(&mut self, storage: &mut ImageStorage<S>) -> Result<(), ImageError>
         ensures cause { IfErr result IsOfTables }
+        ensures order { order_of self.new ≡ order_of self.old }
+        ensures written { OnOk result (AreClean (refblocks self.new)) }
+        ensures first { OnOk result (BlocksMayGo (order_of self.new) (l2_tables self.new)) }
+        ensures keeps { KeepSound S.view storage.old self.old storage.new self.new }
     {
-        if let Direction::RbDependsOnL2 = self.direction {
-            self.l2.flush(storage)?;
+        match self.direction {
+            Direction::RbDependsOnL2 => {
+                self.write_tables(storage)?;
+                self.write_blocks(storage)
+            }
+            Direction::None | Direction::L2DependsOnRb => self.write_blocks(storage),
         }
-        self.rb.flush(storage)?;
-        Ok(())
     }
 
     // What has to be written before an L2 table goes.
     fn before_l2(&mut self, storage: &mut ImageStorage<S>) -> Result<(), ImageError>
         ensures cause { IfErr result IsOfTables }
+        ensures order { order_of self.new ≡ order_of self.old }
+        ensures first { OnOk result (TablesMayGo (order_of self.new) (refblocks self.new)) }
+        ensures keeps { KeepSound S.view storage.old self.old storage.new self.new }
     {
-        if let Direction::L2DependsOnRb = self.direction {
-            self.rb.flush(storage)?;
+        match self.direction {
+            Direction::L2DependsOnRb => self.write_blocks(storage),
+            Direction::None | Direction::RbDependsOnL2 => Ok(()),
         }
-        Ok(())
     }
 
     // What has to be written before a refblock goes.
     fn before_rb(&mut self, storage: &mut ImageStorage<S>) -> Result<(), ImageError>
         ensures cause { IfErr result IsOfTables }
+        ensures order { order_of self.new ≡ order_of self.old }
+        ensures first { OnOk result (BlocksMayGo (order_of self.new) (l2_tables self.new)) }
+        ensures keeps { KeepSound S.view storage.old self.old storage.new self.new }
     {
-        if let Direction::RbDependsOnL2 = self.direction {
-            self.l2.flush(storage)?;
+        match self.direction {
+            Direction::RbDependsOnL2 => self.write_tables(storage),
+            Direction::None | Direction::L2DependsOnRb => Ok(()),
         }
-        Ok(())
     }
 
     /// Brings the L2 table of a cluster to the front, loading it where it isn't there.

@@ -1,0 +1,105 @@
+-- A whole cache is flushed.
+use Rattle.std.proofs.Common.{◌≡◌, ℕ, ◌^◌, List, [], ◌∷◌, ◌++◌, Option, Some, None, Result, Ok, Err, refl, sym, ap, ◌∙◌, subst}
+use Rattle.image_access.specs.Moments.{StorageView}
+use Rattle.qcow2_metadata.specs.Bytes.{Bytes, byte_at}
+use Rattle.qcow2_metadata.specs.declared.header.HeaderFields.{HeaderFields}
+use Rattle.qcow2_metadata.specs.declared.error.MetadataError.{MetadataError}
+use Rattle.qcow2_metadata.specs.Header.{cluster_size}
+use Rattle.qcow2_metadata.specs.L2Table.{L2TableView}
+use Rattle.qcow2_metadata.specs.RefBlock.{RefBlockView}
+use Rattle.qcow2_metadata.specs.Tables.{CachedTable}
+use Rattle.qcow2_laws.specs.Clusters.{Direction}
+use Rattle.qcow2_laws.specs.Guard.{Pending}
+use Rattle.qcow2_laws.specs.Caches.{known_bytes, AreClean, BlocksMayGo, TablesMayGo, IsWrittenSo, IsSafeBetween}
+use Rattle.qcow2_alloc.specs.declared.async_lru_cache.slot.Slot.{Slot}
+use Rattle.qcow2_alloc.specs.declared.async_lru_cache.error.CacheError.{CacheError}
+use Rattle.qcow2_alloc.specs.declared.async_lru_cache.error.CacheError.TheVariants.{InUse, StillInUse, Memory, Backend}
+use Rattle.qcow2_alloc.specs.declared.cache.backends.L2CacheBackend.{L2CacheBackend}
+use Rattle.qcow2_alloc.specs.declared.cache.backends.RefBlockCacheBackend.{RefBlockCacheBackend}
+use Rattle.qcow2_alloc.specs.declared.cache.MetadataCaches.{MetadataCaches}
+use Rattle.qcow2_alloc.specs.declared.image_storage.ImageStorage.{ImageStorage}
+use Rattle.qcow2_alloc.specs.AsyncLruCache.{Cache, with_entries}
+use Rattle.qcow2_alloc.specs.CacheAnswers.{Unit₀, Flushes, FlushesAll}
+use Rattle.qcow2_alloc.specs.ImageStorage.{storage_of}
+use Rattle.qcow2_alloc.specs.TableCaches.{l2_steps, rb_steps, cleared_l2, cleared_rb}
+use Rattle.qcow2_alloc.specs.KeptTables.{cached_tables, AreKept}
+use Rattle.qcow2_alloc.specs.MetadataCaches.{order_of, l2_tables, refblocks, known_of, AreSound, StaySound, KeepSound}
+use Rattle.qcow2_alloc.proofs.KeptTables.Writing.{l2_wrote, rb_wrote, Flushed, flushed_all, flushed_clean}
+
+-- the flush of all behind an answer
+all_of : {S K V E : Type 0} (steps : _) (s t : S) (es fs : List (K × Slot V)) (r : Result Unit₀ (CacheError K E)) → Flushes steps s es r t fs → (x : Option E) × FlushesAll steps s es x t fs
+all_of steps s t es fs (Ok _) h = (None, h)
+all_of steps s t es fs (Err (Backend x)) h = (Some x, h)
+all_of steps s t es fs (Err InUse) h = absurd h
+all_of steps s t es fs (Err Memory) h = absurd h
+all_of steps s t es fs (Err (StillInUse _)) h = absurd h
+
+module _ (h : HeaderFields) (d : Direction) (p : Pending) (bits : ℕ) (same : bits ≡ h.cluster_bits) where
+  -- one L2 table, one refblock is written
+  pub l2_step : (rbs : List CachedTable) → TablesMayGo d rbs → (front back : List CachedTable) (t t' : CachedTable) (base base' : Bytes) → AreKept h d p (front ++ t ∷ back) rbs base → IsWrittenSo (2 ^ bits) t t' base base'
+      → AreKept h d p (front ++ t' ∷ back) rbs base' × (known_bytes (cluster_size h) (front ++ t' ∷ back) rbs base' ≡ known_bytes (cluster_size h) (front ++ t ∷ back) rbs base)
+      × IsSafeBetween base (known_bytes (cluster_size h) (front ++ t ∷ back) rbs base) base'
+  l2_step rbs may front back t t' base base' kept so =
+      let w = l2_wrote h d p rbs front back t t' base base' kept may (subst (λ n. IsWrittenSo (2 ^ n) t t' base base') same so) in
+      (w.kept, w.known, w.safe)
+
+  pub rb_step : (l2s : List CachedTable) → BlocksMayGo d l2s → (front back : List CachedTable) (t t' : CachedTable) (base base' : Bytes) → AreKept h d p l2s (front ++ t ∷ back) base → IsWrittenSo (2 ^ bits) t t' base base'
+      → AreKept h d p l2s (front ++ t' ∷ back) base' × (known_bytes (cluster_size h) l2s (front ++ t' ∷ back) base' ≡ known_bytes (cluster_size h) l2s (front ++ t ∷ back) base)
+      × IsSafeBetween base (known_bytes (cluster_size h) l2s (front ++ t ∷ back) base) base'
+  rb_step l2s may front back t t' base base' kept so =
+      let w = rb_wrote h d p l2s front back t t' base base' kept may (subst (λ n. IsWrittenSo (2 ^ n) t t' base base') same so) in
+      (w.kept, w.known, w.safe)
+
+module _ {S : Type 0} (view : S → StorageView) (old new : ImageStorage S) (caches : MetadataCaches S) where
+  abbrev seen : ImageStorage S → StorageView
+  seen s = view (storage_of s)
+
+  -- ---- the L2 tables
+  module _ (l2 : Cache (L2CacheBackend S) ℕ L2TableView) (others : l2 ≡ with_entries caches.l2 l2.entries) (answer : Result Unit₀ (CacheError ℕ MetadataError))
+      (flushes : Flushes (l2_steps seen caches.l2.backend.header.fields.cluster_bits) old caches.l2.entries answer new l2.entries) where
+    pub tables_flushed : TablesMayGo (order_of caches) (refblocks caches) → KeepSound view old caches new (record caches { l2 = l2 })
+    tables_flushed may = λ h p honest sound.
+        let bits = caches.l2.backend.header.fields.cluster_bits in
+        let same_backend : l2.backend ≡ caches.l2.backend = ap (λ c. c.backend) others in
+        let f = flushed_all seen bits (λ (t : L2TableView). t.bytes) (λ t. t.is_modified) cleared_l2 (λ v. refl) (λ v. refl)
+            (λ ts base. AreKept h (order_of caches) p ts (refblocks caches) base)
+            (λ ts base. known_bytes (cluster_size h) ts (refblocks caches) base)
+            (l2_step h (order_of caches) p bits sound.l2_bits (refblocks caches) may)
+            old new [] caches.l2.entries l2.entries (all_of (l2_steps seen caches.l2.backend.header.fields.cluster_bits) old new caches.l2.entries l2.entries answer flushes).0 honest sound.kept (all_of (l2_steps seen caches.l2.backend.header.fields.cluster_bits) old new caches.l2.entries l2.entries answer flushes).1 in
+        rw same_backend (record {
+          honest = f.honest;
+          sound = record { l2_bits = sound.l2_bits; rb_bits = sound.rb_bits; kept = f.kept };
+          known = f.known;
+          since = f.since;
+        })
+
+    pub tables_written : answer ≡ Ok tt → AreClean (l2_tables (record caches { l2 = l2 }))
+    tables_written ok =
+        let same_backend : l2.backend ≡ caches.l2.backend = ap (λ c. c.backend) others in
+        rw same_backend (flushed_clean seen caches.l2.backend.header.fields.cluster_bits (λ (t : L2TableView). t.bytes) (λ t. t.is_modified) cleared_l2 (λ v. refl) (λ v. refl)
+        old new caches.l2.entries l2.entries None refl (rw ok at flushes))
+
+  -- ---- the refblocks
+  module _ (rb : Cache (RefBlockCacheBackend S) ℕ RefBlockView) (others : rb ≡ with_entries caches.rb rb.entries) (answer : Result Unit₀ (CacheError ℕ MetadataError))
+      (flushes : Flushes (rb_steps seen caches.rb.backend.header.fields.cluster_bits) old caches.rb.entries answer new rb.entries) where
+    pub blocks_flushed : BlocksMayGo (order_of caches) (l2_tables caches) → KeepSound view old caches new (record caches { rb = rb })
+    blocks_flushed may = λ h p honest sound.
+        let bits = caches.rb.backend.header.fields.cluster_bits in
+        let same_backend : rb.backend ≡ caches.rb.backend = ap (λ c. c.backend) others in
+        let f = flushed_all seen bits (λ (b : RefBlockView). b.bytes) (λ b. b.is_modified) cleared_rb (λ v. refl) (λ v. refl)
+            (λ ts base. AreKept h (order_of caches) p (l2_tables caches) ts base)
+            (λ ts base. known_bytes (cluster_size h) (l2_tables caches) ts base)
+            (rb_step h (order_of caches) p bits sound.rb_bits (l2_tables caches) may)
+            old new [] caches.rb.entries rb.entries (all_of (rb_steps seen caches.rb.backend.header.fields.cluster_bits) old new caches.rb.entries rb.entries answer flushes).0 honest sound.kept (all_of (rb_steps seen caches.rb.backend.header.fields.cluster_bits) old new caches.rb.entries rb.entries answer flushes).1 in
+        rw same_backend (record {
+          honest = f.honest;
+          sound = record { l2_bits = sound.l2_bits; rb_bits = sound.rb_bits; kept = f.kept };
+          known = f.known;
+          since = f.since;
+        })
+
+    pub blocks_written : answer ≡ Ok tt → AreClean (refblocks (record caches { rb = rb }))
+    blocks_written ok =
+        let same_backend : rb.backend ≡ caches.rb.backend = ap (λ c. c.backend) others in
+        rw same_backend (flushed_clean seen caches.rb.backend.header.fields.cluster_bits (λ (b : RefBlockView). b.bytes) (λ b. b.is_modified) cleared_rb (λ v. refl) (λ v. refl)
+        old new caches.rb.entries rb.entries None refl (rw ok at flushes))

@@ -1,0 +1,6 @@
+use Rattle.std.proofs.Common.{inr}
+use Rattle.qcow2_alloc.proofs.KeptTables.Turning.{tables_free}
+use Rattle.qcow2_alloc.proofs.cache.MetadataCaches.before_rb.Goals as goal
+
+pub returns-in-RbDependsOnL2-clause-keeps : goal.returns-in-RbDependsOnL2-clause-keeps
+returns-in-RbDependsOnL2-clause-keeps g c = c.write_tables.ensures.keeps (tables_free c.args.self.now (inr c.in-RbDependsOnL2.is))

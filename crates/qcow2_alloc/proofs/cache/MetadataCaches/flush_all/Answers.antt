@@ -1,0 +1,31 @@
+use Rattle.std.proofs.Common.{inr, rules, ◌∙◌}
+use Rattle.qcow2_alloc.proofs.KeptTables.Turning.{tables_free, blocks_free, tables_clean, blocks_either, both_written, keep_then}
+use Rattle.qcow2_alloc.proofs.cache.MetadataCaches.flush_all.Goals as goal
+
+pub returns-in_err-write_blocks-in-L2DependsOnRb-clause-keeps : goal.returns-in_err-write_blocks-in-L2DependsOnRb-clause-keeps
+returns-in_err-write_blocks-in-L2DependsOnRb-clause-keeps g c = c.write_blocks.ensures.keeps (blocks_free c.args.self.now (inr c.in-L2DependsOnRb.is))
+
+pub returns-in_err-write_tables-in-None : goal.returns-in_err-write_tables-in-None
+returns-in_err-write_tables-in-None g c = record {
+  cause = search rules;
+  order = search rules;
+  written = search rules;
+  keeps = c.write_tables-in-None.ensures.keeps (tables_free c.args.self.now c.in-None.is);
+}
+
+pub returns-in_ok-write_blocks-in-L2DependsOnRb-clause-keeps : goal.returns-in_ok-write_blocks-in-L2DependsOnRb-clause-keeps
+returns-in_ok-write_blocks-in-L2DependsOnRb-clause-keeps g c =
+    keep_then g.S.Storage.view c.args.storage.now c.write_blocks.new.storage c.write_tables.new.storage c.args.self.now c.write_blocks.new.self c.write_tables.new.self
+    (c.write_blocks.ensures.keeps (blocks_free c.args.self.now (inr c.in-L2DependsOnRb.is)))
+    (c.write_tables.ensures.keeps (tables_clean c.write_blocks.new.self (c.write_blocks.ensures.direction ∙ c.in-L2DependsOnRb.is) c.in_ok-write_blocks-in-L2DependsOnRb.ensures.written))
+
+pub returns-in_ok-write_tables-in-None : goal.returns-in_ok-write_tables-in-None
+returns-in_ok-write_tables-in-None g c = record {
+  cause = search rules;
+  order = search rules;
+  written = both_written c.write_tables-in-None.new.self c.write_blocks-in-None.new.self c.write_blocks-in-None.result c.write_blocks-in-None.ensures.tables c.in_ok-write_tables-in-None.ensures.written c.write_blocks-in-None.ensures.written;
+  keeps =
+      keep_then g.S.Storage.view c.args.storage.now c.write_tables-in-None.new.storage c.write_blocks-in-None.new.storage c.args.self.now c.write_tables-in-None.new.self c.write_blocks-in-None.new.self
+      (c.write_tables-in-None.ensures.keeps (tables_free c.args.self.now c.in-None.is))
+      (c.write_blocks-in-None.ensures.keeps (blocks_either c.write_tables-in-None.new.self c.args.self.now c.write_tables-in-None.ensures.direction c.in-None.is c.in_ok-write_tables-in-None.ensures.written));
+}

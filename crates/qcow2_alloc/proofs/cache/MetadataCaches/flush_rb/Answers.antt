@@ -1,0 +1,21 @@
+use Rattle.std.proofs.Common.{inr, rules, ◌∙◌}
+use Rattle.qcow2_alloc.proofs.KeptTables.Turning.{tables_free, blocks_free, blocks_clean, blocks_still, always_ok, keep_then}
+use Rattle.qcow2_alloc.proofs.cache.MetadataCaches.flush_rb.Goals as goal
+
+pub returns-in_err-write_tables-in-RbDependsOnL2-clause-keeps : goal.returns-in_err-write_tables-in-RbDependsOnL2-clause-keeps
+returns-in_err-write_tables-in-RbDependsOnL2-clause-keeps g c = c.write_tables.ensures.keeps (tables_free c.args.self.now (inr c.in-RbDependsOnL2.is))
+
+pub returns-in_ok-write_tables-in-RbDependsOnL2-clause-keeps : goal.returns-in_ok-write_tables-in-RbDependsOnL2-clause-keeps
+returns-in_ok-write_tables-in-RbDependsOnL2-clause-keeps g c =
+    keep_then g.S.Storage.view c.args.storage.now c.write_tables.new.storage c.write_blocks.new.storage c.args.self.now c.write_tables.new.self c.write_blocks.new.self
+    (c.write_tables.ensures.keeps (tables_free c.args.self.now (inr c.in-RbDependsOnL2.is)))
+    (c.write_blocks.ensures.keeps (blocks_clean c.write_tables.new.self (c.write_tables.ensures.direction ∙ c.in-RbDependsOnL2.is) c.in_ok-write_tables-in-RbDependsOnL2.ensures.written))
+
+pub returns-in-None : goal.returns-in-None
+returns-in-None g c = record {
+  cause = search rules;
+  order = search rules;
+  written = search rules;
+  first = always_ok c.write_blocks-in-None.result (blocks_still c.write_blocks-in-None.new.self c.args.self.now c.write_blocks-in-None.ensures.direction c.in-None.is);
+  keeps = c.write_blocks-in-None.ensures.keeps (blocks_free c.args.self.now c.in-None.is);
+}

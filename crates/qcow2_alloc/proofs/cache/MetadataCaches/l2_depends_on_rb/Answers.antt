@@ -1,0 +1,19 @@
+use Rattle.std.proofs.Common.{inl, inr, refl, ap, ◌∙◌}
+use Rattle.qcow2_alloc.specs.declared.cache.Direction.TheVariants as D
+use Rattle.qcow2_alloc.specs.MetadataCaches.{order}
+use Rattle.qcow2_alloc.proofs.KeptTables.Turning.{tables_free, keep_none, keep_turned, may_l2_depend}
+use Rattle.qcow2_alloc.proofs.cache.MetadataCaches.l2_depends_on_rb.Goals as goal
+use Rattle.qcow2_alloc.proofs.cache.MetadataCaches.l2_depends_on_rb.Goals.{in-L2DependsOnRb, in-None, in-RbDependsOnL2+in_ok-write_tables-in-RbDependsOnL2}
+
+pub returns-in_err-write_tables-in-RbDependsOnL2-clause-keeps : goal.returns-in_err-write_tables-in-RbDependsOnL2-clause-keeps
+returns-in_err-write_tables-in-RbDependsOnL2-clause-keeps g c = c.write_tables.ensures.keeps (tables_free c.args.self.now (inr c.in-RbDependsOnL2.is))
+
+pub returns-clause-keeps : goal.returns-clause-keeps
+returns-clause-keeps g c = elim c.match-self.branch [
+  | in-L2DependsOnRb w ↦ rw (w.self-is, w.storage-is) (keep_none g.S.Storage.view c.args.storage.now c.args.self.now)
+  | in-None w ↦ rw (w.self-is, w.storage-is) (keep_turned g.S.Storage.view c.args.storage.now c.args.storage.now c.args.self.now c.args.self.now D.L2DependsOnRb
+      (keep_none g.S.Storage.view c.args.storage.now c.args.self.now) (may_l2_depend g.S.Storage.view c.args.self.now c.args.storage.now (inl (ap order w.in-None.is))))
+  | in-RbDependsOnL2+in_ok-write_tables-in-RbDependsOnL2 w ↦ rw (w.self-is, w.storage-is) (keep_turned g.S.Storage.view c.args.storage.now w.write_tables.new.storage c.args.self.now w.write_tables.new.self D.L2DependsOnRb
+      (w.write_tables.ensures.keeps (tables_free c.args.self.now (inr w.in-RbDependsOnL2.is)))
+      (may_l2_depend g.S.Storage.view w.write_tables.new.self w.write_tables.new.storage (inr (ap order (w.write_tables.ensures.direction ∙ w.in-RbDependsOnL2.is), w.in_ok-write_tables-in-RbDependsOnL2.ensures.written))))
+]

@@ -1,0 +1,19 @@
+use Rattle.std.proofs.Common.{inl, inr, refl, ap, ◌∙◌}
+use Rattle.qcow2_alloc.specs.declared.cache.Direction.TheVariants as D
+use Rattle.qcow2_alloc.specs.MetadataCaches.{order}
+use Rattle.qcow2_alloc.proofs.KeptTables.Turning.{blocks_free, keep_none, keep_turned, may_rb_depend}
+use Rattle.qcow2_alloc.proofs.cache.MetadataCaches.rb_depends_on_l2.Goals as goal
+use Rattle.qcow2_alloc.proofs.cache.MetadataCaches.rb_depends_on_l2.Goals.{in-RbDependsOnL2, in-None, in-L2DependsOnRb+in_ok-write_blocks-in-L2DependsOnRb}
+
+pub returns-in_err-write_blocks-in-L2DependsOnRb-clause-keeps : goal.returns-in_err-write_blocks-in-L2DependsOnRb-clause-keeps
+returns-in_err-write_blocks-in-L2DependsOnRb-clause-keeps g c = c.write_blocks.ensures.keeps (blocks_free c.args.self.now (inr c.in-L2DependsOnRb.is))
+
+pub returns-clause-keeps : goal.returns-clause-keeps
+returns-clause-keeps g c = elim c.match-self.branch [
+  | in-RbDependsOnL2 w ↦ rw (w.self-is, w.storage-is) (keep_none g.S.Storage.view c.args.storage.now c.args.self.now)
+  | in-None w ↦ rw (w.self-is, w.storage-is) (keep_turned g.S.Storage.view c.args.storage.now c.args.storage.now c.args.self.now c.args.self.now D.RbDependsOnL2
+      (keep_none g.S.Storage.view c.args.storage.now c.args.self.now) (may_rb_depend g.S.Storage.view c.args.self.now c.args.storage.now (inl (ap order w.in-None.is))))
+  | in-L2DependsOnRb+in_ok-write_blocks-in-L2DependsOnRb w ↦ rw (w.self-is, w.storage-is) (keep_turned g.S.Storage.view c.args.storage.now w.write_blocks.new.storage c.args.self.now w.write_blocks.new.self D.RbDependsOnL2
+      (w.write_blocks.ensures.keeps (blocks_free c.args.self.now (inr w.in-L2DependsOnRb.is)))
+      (may_rb_depend g.S.Storage.view w.write_blocks.new.self w.write_blocks.new.storage (inr (ap order (w.write_blocks.ensures.direction ∙ w.in-L2DependsOnRb.is), w.in_ok-write_blocks-in-L2DependsOnRb.ensures.written))))
+]

@@ -1,0 +1,62 @@
+-- What contracts see of the caches of L2 tables and refblocks over the bytes of the storage.
+use Rattle.std.specs.Prelude.{ℕ, ◌≡◌, Bool, List}
+use Rattle.image_access.specs.Moments.{StorageView}
+use Rattle.qcow2_metadata.specs.Bytes.{Bytes, byte_at}
+use Rattle.qcow2_metadata.specs.declared.header.HeaderFields.{HeaderFields}
+use Rattle.qcow2_metadata.specs.Header.{cluster_size}
+use Rattle.qcow2_metadata.specs.L2Table.{L2TableView}
+use Rattle.qcow2_metadata.specs.RefBlock.{RefBlockView}
+use Rattle.qcow2_metadata.specs.Tables.{CachedTable}
+use Rattle.qcow2_laws.specs.Clusters as Order
+use Rattle.qcow2_laws.specs.Guard.{Pending}
+use Rattle.qcow2_laws.specs.Caches.{known_bytes, AreClean}
+use Rattle.qcow2_alloc.specs.AsyncLruCache.{Cache}
+use Rattle.qcow2_alloc.specs.declared.cache.Direction.{Direction}
+use Rattle.qcow2_alloc.specs.declared.cache.Direction.TheVariants as D
+use Rattle.qcow2_alloc.specs.declared.cache.MetadataCaches.{MetadataCaches}
+use Rattle.qcow2_alloc.specs.declared.image_storage.ImageStorage.{ImageStorage}
+use Rattle.qcow2_alloc.specs.ImageStorage.{storage_of}
+use Rattle.qcow2_alloc.specs.KeptTables.{cached_tables, AreKept, IsSafeSince}
+
+-- which tables are written first
+abbrev pub order : Direction → Order.Direction
+order D.None = Order.Neither
+order D.L2DependsOnRb = Order.L2DependsOnRb
+order D.RbDependsOnL2 = Order.RbDependsOnL2
+
+module _ {S : Type 0} where
+  abbrev pub order_of : MetadataCaches S → Order.Direction
+  order_of caches = order caches.direction
+
+  abbrev pub l2_tables : MetadataCaches S → List CachedTable
+  l2_tables caches = cached_tables caches.l2.backend.header.fields.cluster_bits (λ (t : L2TableView). t.bytes) (λ t. t.is_modified) caches.l2.entries
+
+  abbrev pub refblocks : MetadataCaches S → List CachedTable
+  refblocks caches = cached_tables caches.rb.backend.header.fields.cluster_bits (λ (b : RefBlockView). b.bytes) (λ b. b.is_modified) caches.rb.entries
+
+  -- the contents with the modified tables laid over
+  abbrev pub known_of : HeaderFields → MetadataCaches S → Bytes → Bytes
+  known_of h caches base = known_bytes (cluster_size h) (l2_tables caches) (refblocks caches) base
+
+  -- no table is modified
+  abbrev pub AreAllWritten : MetadataCaches S → Type 0
+  AreAllWritten caches = AreClean (l2_tables caches) × AreClean (refblocks caches)
+
+  -- they are the caches of an image with this header, and what is kept of them is kept over these bytes, while this is pending
+  pub record AreSound (h : HeaderFields) (p : Pending) (caches : MetadataCaches S) (base : Bytes) : Type 0 where
+    pub l2_bits : caches.l2.backend.header.fields.cluster_bits ≡ h.cluster_bits
+    pub rb_bits : caches.rb.backend.header.fields.cluster_bits ≡ h.cluster_bits
+    pub kept : AreKept h (order_of caches) p (l2_tables caches) (refblocks caches) base
+
+  -- they are sound again, nothing known changes, and a stop is as safe as before
+  pub record StaySound (h : HeaderFields) (p : Pending) (old : StorageView) (caches : MetadataCaches S) (new : StorageView) (caches' : MetadataCaches S) : Type 0 where
+    pub honest : new.is_honest
+    pub sound : AreSound h p caches' (byte_at new.contents)
+    pub known : known_of h caches' (byte_at new.contents) ≡ known_of h caches (byte_at old.contents)
+    pub since : IsSafeSince old new (known_of h caches (byte_at old.contents))
+
+  -- what loading, flushing and turning do to sound caches over an honest storage
+  abbrev pub KeepSound : (S → StorageView) → ImageStorage S → MetadataCaches S → ImageStorage S → MetadataCaches S → Type 0
+  KeepSound view old caches new caches' =
+      (h : HeaderFields) (p : Pending) → (view (storage_of old)).is_honest → AreSound h p caches (byte_at (view (storage_of old)).contents)
+      → StaySound h p (view (storage_of old)) caches (view (storage_of new)) caches'
