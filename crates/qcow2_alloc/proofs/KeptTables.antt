@@ -1,5 +1,8 @@
 -- Facts about cached tables over the bytes of the storage.
 pub mod Loaded
 pub mod Writing
+pub mod Entries
+pub mod Listing
+pub mod Getting
 pub mod Flushing
 pub mod Turning

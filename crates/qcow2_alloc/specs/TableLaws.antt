@@ -20,7 +20,7 @@ other_number k j h = grind (arith, nat_tests)
 ends_before : (j k size : ℕ) → j < k → j * size + size ≤ k * size
 ends_before j k size lt = let le : j + 1 ≤ k = omega arith in let m = mul-le-mul_left size le in omega (arith, m)
 
-apart : (k j size : ℕ) → k ≢ j → (j * size + size ≤ k * size) ⊎ (k * size + size ≤ j * size)
+pub apart : (k j size : ℕ) → k ≢ j → (j * size + size ≤ k * size) ⊎ (k * size + size ≤ j * size)
 apart k j size ne = elim (cases_lt j k) [
   | inl lt ↦ inl (ends_before j k size lt)
   | inr le ↦ inr (ends_before k j size (omega arith))

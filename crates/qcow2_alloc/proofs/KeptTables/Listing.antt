@@ -1,0 +1,164 @@
+-- The lists of cached tables change, and nothing that is known: an unmodified table comes, goes, or comes to the front.
+use Rattle.std.proofs.Common.{◌≡◌, ◌≢◌, ℕ, ◌%◌, ◌/◌, Bool, true, false, inl, inr, List, [], ◌∷◌, ◌++◌, refl, sym, ap, ◌∙◌, subst}
+use mathlib.Core.Path.{fun_ext}
+use Rattle.qcow2_metadata.specs.Bytes.{Bytes}
+use Rattle.qcow2_metadata.specs.declared.header.HeaderFields.{HeaderFields}
+use Rattle.qcow2_metadata.specs.Header.{cluster_size}
+use Rattle.qcow2_metadata.specs.Tables.{CachedTable, known, overlays}
+use Rattle.qcow2_laws.specs.Clusters.{Direction}
+use Rattle.qcow2_laws.specs.Guard.{Pending, IsGuarded}
+use Rattle.qcow2_laws.specs.Writes.{IsUnnamed}
+use Rattle.qcow2_laws.specs.Caches.{known_bytes, IsFreeAt, AreApart, HasL2, HasBlock, IsKept}
+use Rattle.qcow2_laws.proofs.Lists.{known_unmodified, known_promoted, unmodified_over, no_overlay, differs}
+use Rattle.qcow2_alloc.specs.KeptTables.{AreElsewhere, IsCurrent, AreLoaded, AreKept}
+use Rattle.qcow2_alloc.proofs.KeptTables.Loaded.{loaded_without, loaded_promoted}
+use Rattle.qcow2_alloc.proofs.KeptTables.Entries.{AreDistinct}
+
+pub loaded_distinct : (size : ℕ) (IsNamed : ℕ → Type 0) (base : Bytes) (ts : List CachedTable) → AreLoaded size IsNamed ts base → AreDistinct ts
+loaded_distinct size IsNamed base [] loaded = tt
+loaded_distinct size IsNamed base (t ∷ ts) loaded = (loaded.1, loaded_distinct size IsNamed base ts loaded.3)
+
+-- ---- what another list keeps
+
+-- it shows the same, is apart, and is free wherever the old one was
+pub record ShowsSame (size : ℕ) (ts us : List CachedTable) : Type 0 where
+  pub known : (b : Bytes) → known size us b ≡ known size ts b
+  pub apart : AreApart size us
+  pub free : (o : ℕ) → IsFreeAt size ts o → IsFreeAt size us o
+
+pub l2_relisted : (h : HeaderFields) (d : Direction) (p : Pending) (l2s l2s' rbs : List CachedTable) (base : Bytes) → ShowsSame (cluster_size h) l2s l2s' → IsKept h d p l2s rbs base → IsKept h d p l2s' rbs base
+l2_relisted h d p l2s l2s' rbs base same kept =
+    let shows : known_bytes (cluster_size h) l2s' rbs base ≡ known_bytes (cluster_size h) l2s rbs base = same.known (known (cluster_size h) rbs base) in
+    record {
+      guarded = subst (IsGuarded h d p base) (sym shows) kept.guarded;
+      l2_apart = same.apart;
+      rb_apart = kept.rb_apart;
+      l2_stand = λ c. elim (kept.l2_stand c) [ inl free ↦ inl (λ o in_c. same.free o (free o in_c)) | inr has ↦ inr has ];
+      rb_stand = λ c. elim (kept.rb_stand c) [
+        | inl free ↦ inl free
+        | inr more ↦ elim more [
+          | inl has ↦ inr (inl has)
+          | inr unnamed ↦ inr (inr (subst (λ (k : Bytes). IsUnnamed h base k c) (sym shows) unnamed))
+        ]
+      ];
+    }
+
+pub rb_relisted : (h : HeaderFields) (d : Direction) (p : Pending) (l2s rbs rbs' : List CachedTable) (base : Bytes) → ShowsSame (cluster_size h) rbs rbs' → IsKept h d p l2s rbs base → IsKept h d p l2s rbs' base
+rb_relisted h d p l2s rbs rbs' base same kept =
+    let shows : known_bytes (cluster_size h) l2s rbs' base ≡ known_bytes (cluster_size h) l2s rbs base = ap (known (cluster_size h) l2s) (same.known base) in
+    record {
+      guarded = subst (IsGuarded h d p base) (sym shows) kept.guarded;
+      l2_apart = kept.l2_apart;
+      rb_apart = same.apart;
+      l2_stand = kept.l2_stand;
+      rb_stand = λ c. elim (kept.rb_stand c) [
+        | inl free ↦ inl (λ o in_c. same.free o (free o in_c))
+        | inr more ↦ elim more [
+          | inl has ↦ inr (inl has)
+          | inr unnamed ↦ inr (inr (subst (λ (k : Bytes). IsUnnamed h base k c) (sym shows) unnamed))
+        ]
+      ];
+    }
+
+-- ---- the three changes
+
+free_without : (size : ℕ) (front back : List CachedTable) (t : CachedTable) (o : ℕ) → IsFreeAt size (front ++ t ∷ back) o → IsFreeAt size (front ++ back) o
+free_without size [] back t o free = free.1
+free_without size (u ∷ front) back t o free = (free.0, free_without size front back t o free.1)
+
+free_of : (size : ℕ) (front back : List CachedTable) (t : CachedTable) (o : ℕ) → IsFreeAt size (front ++ t ∷ back) o → overlays size t o ≡ false
+free_of size [] back t o free = free.0
+free_of size (u ∷ front) back t o free = free_of size front back t o free.1
+
+apart_without : (size : ℕ) (front back : List CachedTable) (t : CachedTable) → AreApart size (front ++ t ∷ back) → AreApart size (front ++ back)
+apart_without size [] back t apart = apart.2
+apart_without size (u ∷ front) back t apart = (apart.0, (λ o over. free_without size front back t o (apart.1 o over)), apart_without size front back t apart.2)
+
+apart_front : (size : ℕ) (front back : List CachedTable) (t : CachedTable) → AreApart size (front ++ t ∷ back) → (t.place % size ≡ 0) × ((o : ℕ) → overlays size t o ≡ true → IsFreeAt size (front ++ back) o)
+apart_front size [] back t apart = (apart.0, apart.1)
+apart_front size (u ∷ front) back t apart =
+    let rest = apart_front size front back t apart.2 in
+    (rest.0, (λ o over. (no_overlay size u o (λ both. differs (overlays size t o) over (free_of size front back t o (apart.1 o both))), rest.1 o over)))
+
+pub shows_without : (size : ℕ) (front back : List CachedTable) (t : CachedTable) → t.is_modified ≡ false → AreApart size (front ++ t ∷ back) → ShowsSame size (front ++ t ∷ back) (front ++ back)
+shows_without size front back t clean apart = record {
+  known = λ b. sym (known_unmodified size front back t b clean);
+  apart = apart_without size front back t apart;
+  free = free_without size front back t;
+}
+
+pub shows_more : (size : ℕ) (ts : List CachedTable) (t : CachedTable) → t.is_modified ≡ false → t.place % size ≡ 0 → AreApart size ts → ShowsSame size ts (t ∷ ts)
+shows_more size ts t clean aligned apart = record {
+  known = λ b. known_unmodified size [] ts t b clean;
+  apart = (aligned, (λ o over. absurd (differs (overlays size t o) over (unmodified_over size t o clean))), apart);
+  free = λ o free. (unmodified_over size t o clean, free);
+}
+
+pub shows_promoted : (size : ℕ) (front back : List CachedTable) (t : CachedTable) → AreApart size (front ++ t ∷ back) → ShowsSame size (front ++ t ∷ back) (t ∷ (front ++ back))
+shows_promoted size front back t apart = record {
+  known = λ b. sym (known_promoted size front back t b apart);
+  apart = let own = apart_front size front back t apart in (own.0, own.1, apart_without size front back t apart);
+  free = λ o free. (free_of size front back t o free, free_without size front back t o free);
+}
+
+-- ---- of the L2 tables, and of the refblocks
+module _ (h : HeaderFields) (d : Direction) (p : Pending) where
+  pub l2_drop : (rbs front back : List CachedTable) (t : CachedTable) (base : Bytes) → AreKept h d p (front ++ t ∷ back) rbs base → t.is_modified ≡ false
+      → AreKept h d p (front ++ back) rbs base × (known_bytes (cluster_size h) (front ++ back) rbs base ≡ known_bytes (cluster_size h) (front ++ t ∷ back) rbs base)
+  l2_drop rbs front back t base are clean =
+      let same = shows_without (cluster_size h) front back t clean are.kept.l2_apart in
+      (record {
+        kept = l2_relisted h d p (front ++ t ∷ back) (front ++ back) rbs base same are.kept;
+        l2_loaded = loaded_without (cluster_size h) (HasL2 h base) base front back t are.l2_loaded;
+        rb_loaded = are.rb_loaded;
+      }, same.known (known (cluster_size h) rbs base))
+
+  pub l2_add : (rbs : List CachedTable) (t : CachedTable) (ts : List CachedTable) (base : Bytes) → AreKept h d p ts rbs base → t.place % cluster_size h ≡ 0 → AreElsewhere t.place ts → t.is_modified ≡ false
+      → IsCurrent (cluster_size h) t base → AreKept h d p (t ∷ ts) rbs base × (known_bytes (cluster_size h) (t ∷ ts) rbs base ≡ known_bytes (cluster_size h) ts rbs base)
+  l2_add rbs t ts base are aligned away clean current =
+      let same = shows_more (cluster_size h) ts t clean aligned are.kept.l2_apart in
+      (record {
+        kept = l2_relisted h d p ts (t ∷ ts) rbs base same are.kept;
+        l2_loaded = (aligned, away, (λ _ _. current), are.l2_loaded);
+        rb_loaded = are.rb_loaded;
+      }, same.known (known (cluster_size h) rbs base))
+
+  pub l2_promote : (rbs front back : List CachedTable) (t : CachedTable) (base : Bytes) → AreKept h d p (front ++ t ∷ back) rbs base
+      → AreKept h d p (t ∷ (front ++ back)) rbs base × (known_bytes (cluster_size h) (t ∷ (front ++ back)) rbs base ≡ known_bytes (cluster_size h) (front ++ t ∷ back) rbs base)
+  l2_promote rbs front back t base are =
+      let same = shows_promoted (cluster_size h) front back t are.kept.l2_apart in
+      (record {
+        kept = l2_relisted h d p (front ++ t ∷ back) (t ∷ (front ++ back)) rbs base same are.kept;
+        l2_loaded = loaded_promoted (cluster_size h) (HasL2 h base) base front back t are.l2_loaded;
+        rb_loaded = are.rb_loaded;
+      }, same.known (known (cluster_size h) rbs base))
+
+  pub rb_drop : (l2s front back : List CachedTable) (t : CachedTable) (base : Bytes) → AreKept h d p l2s (front ++ t ∷ back) base → t.is_modified ≡ false
+      → AreKept h d p l2s (front ++ back) base × (known_bytes (cluster_size h) l2s (front ++ back) base ≡ known_bytes (cluster_size h) l2s (front ++ t ∷ back) base)
+  rb_drop l2s front back t base are clean =
+      let same = shows_without (cluster_size h) front back t clean are.kept.rb_apart in
+      (record {
+        kept = rb_relisted h d p l2s (front ++ t ∷ back) (front ++ back) base same are.kept;
+        l2_loaded = are.l2_loaded;
+        rb_loaded = loaded_without (cluster_size h) (HasBlock h base) base front back t are.rb_loaded;
+      }, ap (known (cluster_size h) l2s) (same.known base))
+
+  pub rb_add : (l2s : List CachedTable) (t : CachedTable) (ts : List CachedTable) (base : Bytes) → AreKept h d p l2s ts base → t.place % cluster_size h ≡ 0 → AreElsewhere t.place ts → t.is_modified ≡ false
+      → IsCurrent (cluster_size h) t base → AreKept h d p l2s (t ∷ ts) base × (known_bytes (cluster_size h) l2s (t ∷ ts) base ≡ known_bytes (cluster_size h) l2s ts base)
+  rb_add l2s t ts base are aligned away clean current =
+      let same = shows_more (cluster_size h) ts t clean aligned are.kept.rb_apart in
+      (record {
+        kept = rb_relisted h d p l2s ts (t ∷ ts) base same are.kept;
+        l2_loaded = are.l2_loaded;
+        rb_loaded = (aligned, away, (λ _ _. current), are.rb_loaded);
+      }, ap (known (cluster_size h) l2s) (same.known base))
+
+  pub rb_promote : (l2s front back : List CachedTable) (t : CachedTable) (base : Bytes) → AreKept h d p l2s (front ++ t ∷ back) base
+      → AreKept h d p l2s (t ∷ (front ++ back)) base × (known_bytes (cluster_size h) l2s (t ∷ (front ++ back)) base ≡ known_bytes (cluster_size h) l2s (front ++ t ∷ back) base)
+  rb_promote l2s front back t base are =
+      let same = shows_promoted (cluster_size h) front back t are.kept.rb_apart in
+      (record {
+        kept = rb_relisted h d p l2s (front ++ t ∷ back) (t ∷ (front ++ back)) base same are.kept;
+        l2_loaded = are.l2_loaded;
+        rb_loaded = loaded_promoted (cluster_size h) (HasBlock h base) base front back t are.rb_loaded;
+      }, ap (known (cluster_size h) l2s) (same.known base))
