@@ -5,4 +5,5 @@ pub mod Entries
 pub mod Listing
 pub mod Getting
 pub mod Flushing
+pub mod Fetching
 pub mod Turning

@@ -20,14 +20,12 @@ use Rattle.qcow2_alloc.specs.TableSteps.{LoadsTable, FailsToLoad, table_steps}
 use Rattle.qcow2_alloc.specs.CacheAnswers.{Evicts, HasRoom, HasNoRoom, GetsNew}
 use Rattle.qcow2_alloc.specs.KeptTables.{cached_table, cached_tables, AreElsewhere, IsCurrent, IsSafeSince}
 use Rattle.qcow2_alloc.proofs.CachedEntries.Lists.{lookup_none-removed}
-use Rattle.qcow2_alloc.proofs.KeptTables.Writing.{Flushed, flushed_none, flushed_then, flushed_entry}
+use Rattle.qcow2_alloc.proofs.KeptTables.Writing.{WritesOne, Flushed, flushed_none, flushed_then, flushed_entry}
 use Rattle.qcow2_alloc.proofs.KeptTables.Entries.{AreDistinct, split_oldest, split_found, tables_at, tables_both, removed_at, elsewhere_of_none}
 
 module _ {S V : Type 0} (view : S → StorageView) (bits : ℕ) (bytes : V → List ℕ) (is_modified : V → Bool) (cleared : V → V)
     (unmodified : (v : V) → is_modified (cleared v) ≡ false) (same_bytes : (v : V) → bytes (cleared v) ≡ bytes v)
     (P : List CachedTable → Bytes → Type 0) (all : List CachedTable → Bytes → Bytes)
-    (step : (front back : List CachedTable) (t t' : CachedTable) (base base' : Bytes) → P (front ++ t ∷ back) base → IsWrittenSo (2 ^ bits) t t' base base'
-        → P (front ++ t' ∷ back) base' × (all (front ++ t' ∷ back) base' ≡ all (front ++ t ∷ back) base) × IsSafeBetween base (all (front ++ t ∷ back) base) base')
     (distinct : (ts : List CachedTable) (base : Bytes) → P ts base → AreDistinct ts)
     (drop_clean : (front back : List CachedTable) (t : CachedTable) (base : Bytes) → P (front ++ t ∷ back) base → t.is_modified ≡ false → P (front ++ back) base × (all (front ++ back) base ≡ all (front ++ t ∷ back) base))
     (add : (t : CachedTable) (ts : List CachedTable) (base : Bytes) → P ts base → t.place % 2 ^ bits ≡ 0 → AreElsewhere t.place ts → t.is_modified ≡ false → IsCurrent (2 ^ bits) t base
@@ -43,19 +41,19 @@ module _ {S V : Type 0} (view : S → StorageView) (bits : ℕ) (bytes : V → L
   contents s = byte_at (view s).contents
 
   abbrev Done : S → S → List (ℕ × Slot V) → List (ℕ × Slot V) → Type 0
-  Done s t es fs = Flushed view bits bytes is_modified cleared unmodified same_bytes P all step s t (tables es) (tables fs)
+  Done s t es fs = Flushed view bits bytes is_modified cleared unmodified same_bytes P all s t (tables es) (tables fs)
 
   pub done_none : (s t : S) (es fs : List (ℕ × Slot V)) → (view s).is_honest → P (tables es) (contents s) → t ≡ s → fs ≡ es → Done s t es fs
   done_none s t es fs honest kept t_is fs_is =
-      subst (λ x. Done s x es fs) (sym t_is) (subst (λ l. Done s s es l) (sym fs_is) (flushed_none view bits bytes is_modified cleared unmodified same_bytes P all step s (tables es) honest kept))
+      subst (λ x. Done s x es fs) (sym t_is) (subst (λ l. Done s s es l) (sym fs_is) (flushed_none view bits bytes is_modified cleared unmodified same_bytes P all s (tables es) honest kept))
 
   pub done_then : (r s t : S) (xs ys zs : List (ℕ × Slot V)) → Done r s xs ys → Done s t ys zs → Done r t xs zs
-  done_then r s t xs ys zs = flushed_then view bits bytes is_modified cleared unmodified same_bytes P all step r s t (tables xs) (tables ys) (tables zs)
+  done_then r s t xs ys zs = flushed_then view bits bytes is_modified cleared unmodified same_bytes P all r s t (tables xs) (tables ys) (tables zs)
 
   -- the list alone changes
   relisted : (s : S) (es fs : List (ℕ × Slot V)) → (view s).is_honest → P (tables es) (contents s) → P (tables fs) (contents s) × (all (tables fs) (contents s) ≡ all (tables es) (contents s)) → Done s s es fs
   relisted s es fs honest kept new =
-      let none = flushed_none view bits bytes is_modified cleared unmodified same_bytes P all step s (tables es) honest kept in
+      let none = flushed_none view bits bytes is_modified cleared unmodified same_bytes P all s (tables es) honest kept in
       record { honest = honest; kept = new.0; known = new.1; since = none.since }
 
   -- ---- a hit
@@ -74,52 +72,6 @@ module _ {S V : Type 0} (view : S → StorageView) (bits : ℕ) (bytes : V → L
 
   pub hit_done : (s : S) (k : ℕ) (es : List (ℕ × Slot V)) → (view s).is_honest → P (tables es) (contents s) → Done s s es (promoted (eqb k) es)
   hit_done s k es = hit_of s k es (lookup_entry (eqb k) es) refl
-
-  -- ---- room for one more
-  evicted : (size : ℕ) (may_flush : Bool) (s t : S) (es fs : List (ℕ × Slot V)) → (view s).is_honest → P (tables es) (contents s)
-      → Evicts (table_steps view bits bytes is_modified cleared) eqb size may_flush s es t fs → Done s t es fs
-  evicted size may_flush s t es fs honest kept v =
-      let e : ℕ × Slot V = v.entry in
-      let w : ℕ × Slot V = (e.0, record { value = v.clean; pins = e.1.pins }) in
-      let sp = split_oldest es e v.goes in
-      let at = tables_at bits bytes is_modified sp.front sp.back e in
-      let both = tables_both bits bytes is_modified sp.front sp.back in
-      let whole : tables es ≡ tables sp.front ++ table e ∷ tables sp.back = ap tables sp.is ∙ at in
-      let kept' : P (tables sp.front ++ table e ∷ tables sp.back) (contents s) = subst (λ l. P l (contents s)) whole kept in
-      let one = flushed_entry view bits bytes is_modified cleared unmodified same_bytes P all step s t (tables sp.front) (tables sp.back) e None w.1 honest kept' (v.flushed, refl) in
-      let clean : is_modified v.clean ≡ false = ap is_modified v.flushed.clean ∙ unmodified e.1.value in
-      let dropped = drop_clean (tables sp.front) (tables sp.back) (table w) (contents t) one.kept clean in
-      let apart : AreDistinct (tables (sp.front ++ e ∷ sp.back)) = subst (λ l. AreDistinct (tables l)) sp.is (distinct (tables es) (contents s) kept) in
-      let rest : fs ≡ sp.front ++ sp.back = v.rest ∙ ap (remove_entry (eqb e.0)) sp.is ∙ removed_at bits bytes is_modified sp.front sp.back e apart in
-      let fs_is : tables fs ≡ tables sp.front ++ tables sp.back = ap tables rest ∙ both in
-      record {
-        honest = one.honest;
-        kept = subst (λ l. P l (contents t)) (sym fs_is) dropped.0;
-        known = ap (λ l. all l (contents t)) fs_is ∙ dropped.1 ∙ one.known ∙ sym (ap (λ l. all l (contents s)) whole);
-        since = rw whole one.since;
-      }
-
-  pub room_done : (size : ℕ) (may_flush : Bool) (s t : S) (es fs : List (ℕ × Slot V)) → (view s).is_honest → P (tables es) (contents s)
-      → HasRoom (table_steps view bits bytes is_modified cleared) eqb size may_flush s es t fs → Done s t es fs
-  room_done size may_flush s t es fs honest kept room = elim room [
-    | inl there ↦ done_none s t es fs honest kept there.1 there.2
-    | inr evicts ↦ evicted size may_flush s t es fs honest kept evicts
-  ]
-
-  pub no_room_done : (size : ℕ) (may_flush : Bool) (s t : S) (es fs : List (ℕ × Slot V)) (r : Result Bool (CacheError ℕ MetadataError)) → (view s).is_honest → P (tables es) (contents s)
-      → HasNoRoom (table_steps view bits bytes is_modified cleared) eqb size may_flush s es r t fs → Done s t es fs
-  no_room_done size may_flush s t es fs (Ok true) honest kept h = absurd h
-  no_room_done size may_flush s t es fs (Ok false) honest kept h = done_none s t es fs honest kept h.2 h.3
-  no_room_done size may_flush s t es fs (Err InUse) honest kept h = done_none s t es fs honest kept h.2 h.3
-  no_room_done size may_flush s t es fs (Err (StillInUse _)) honest kept h = absurd h
-  no_room_done size may_flush s t es fs (Err Memory) honest kept h = absurd h
-  no_room_done size may_flush s t es fs (Err (Backend x)) honest kept h =
-      let e : ℕ × Slot V = h.entry in
-      let sp = split_oldest es e h.goes in
-      let whole : tables es ≡ tables sp.front ++ table e ∷ tables sp.back = ap tables sp.is ∙ tables_at bits bytes is_modified sp.front sp.back e in
-      let kept' : P (tables sp.front ++ table e ∷ tables sp.back) (contents s) = subst (λ l. P l (contents s)) whole kept in
-      let one = flushed_entry view bits bytes is_modified cleared unmodified same_bytes P all step s t (tables sp.front) (tables sp.back) e (Some x) e.1 honest kept' (h.failed, refl) in
-      rw (h.same, whole) one
 
   -- ---- a load
   loaded_done : (s t : S) (k : ℕ) (v : V) (es : List (ℕ × Slot V)) → (view s).is_honest → P (tables es) (contents s) → lookup (eqb k) es ≡ None
@@ -150,29 +102,76 @@ module _ {S V : Type 0} (view : S → StorageView) (bits : ℕ) (bytes : V → L
         since = record { moments = passes_if _ (λ c is. subst (λ l'. IsSafeBetween (contents s) (all (tables es) (contents s)) (byte_at l')) (sym is) still) l.calls.time; contents = still };
       }
 
-  -- a missing key is still missing once there is room
-  pub still_missing : (size : ℕ) (may_flush : Bool) (s t : S) (k : ℕ) (es fs : List (ℕ × Slot V)) → lookup (eqb k) es ≡ None → HasRoom (table_steps view bits bytes is_modified cleared) eqb size may_flush s es t fs
-      → lookup (eqb k) fs ≡ None
-  still_missing size may_flush s t k es fs missing room = elim room [
-    | inl there ↦ ap (lookup (eqb k)) there.2 ∙ missing
-    | inr evicts ↦ ap (lookup (eqb k)) evicts.rest ∙ lookup_none-removed (eqb k) (eqb evicts.entry.0) es missing
-  ]
+  -- ---- with room for one more, which an eviction may make
+  module _ (size : ℕ) (may_flush : Bool) (step : may_flush ≡ true → WritesOne view bits bytes is_modified cleared unmodified same_bytes P all) where
+    evicted : (s t : S) (es fs : List (ℕ × Slot V)) → (view s).is_honest → P (tables es) (contents s)
+        → Evicts (table_steps view bits bytes is_modified cleared) eqb size may_flush s es t fs → Done s t es fs
+    evicted s t es fs honest kept v =
+        let e : ℕ × Slot V = v.entry in
+        let w : ℕ × Slot V = (e.0, record { value = v.clean; pins = e.1.pins }) in
+        let sp = split_oldest es e v.goes in
+        let at = tables_at bits bytes is_modified sp.front sp.back e in
+        let both = tables_both bits bytes is_modified sp.front sp.back in
+        let whole : tables es ≡ tables sp.front ++ table e ∷ tables sp.back = ap tables sp.is ∙ at in
+        let kept' : P (tables sp.front ++ table e ∷ tables sp.back) (contents s) = subst (λ l. P l (contents s)) whole kept in
+        let one = flushed_entry view bits bytes is_modified cleared unmodified same_bytes P all (step v.must.may) s t (tables sp.front) (tables sp.back) e None w.1 honest kept' (v.flushed, refl) in
+        let clean : is_modified v.clean ≡ false = ap is_modified v.flushed.clean ∙ unmodified e.1.value in
+        let dropped = drop_clean (tables sp.front) (tables sp.back) (table w) (contents t) one.kept clean in
+        let apart : AreDistinct (tables (sp.front ++ e ∷ sp.back)) = subst (λ l. AreDistinct (tables l)) sp.is (distinct (tables es) (contents s) kept) in
+        let rest : fs ≡ sp.front ++ sp.back = v.rest ∙ ap (remove_entry (eqb e.0)) sp.is ∙ removed_at bits bytes is_modified sp.front sp.back e apart in
+        let fs_is : tables fs ≡ tables sp.front ++ tables sp.back = ap tables rest ∙ both in
+        record {
+          honest = one.honest;
+          kept = subst (λ l. P l (contents t)) (sym fs_is) dropped.0;
+          known = ap (λ l. all l (contents t)) fs_is ∙ dropped.1 ∙ one.known ∙ sym (ap (λ l. all l (contents s)) whole);
+          since = rw whole one.since;
+        }
 
-  pub get_done : (size : ℕ) (may_flush : Bool) (s t : S) (k : ℕ) (es fs : List (ℕ × Slot V)) (r : Result Bool (CacheError ℕ MetadataError)) → (view s).is_honest → P (tables es) (contents s) → lookup (eqb k) es ≡ None
-      → GetsNew (table_steps view bits bytes is_modified cleared) eqb size may_flush k s es r t fs → Done s t es fs
-  get_done size may_flush s t k es fs (Ok true) honest kept missing (r, gs, v, room, loads, is) =
-      let first = room_done size may_flush s r es gs honest kept room in
-      let second = (loaded_done r t k v gs first.honest first.kept (still_missing size may_flush s r k es gs missing room) loads).1 in
-      subst (λ l. Done s t es l) (sym is) (done_then s r t es gs ((k, slot_of v 0) ∷ gs) first second)
-  get_done size may_flush s t k es fs (Ok false) honest kept missing h = no_room_done size may_flush s t es fs (Ok false) honest kept h
-  get_done size may_flush s t k es fs (Err InUse) honest kept missing h = no_room_done size may_flush s t es fs (Err InUse) honest kept h
-  get_done size may_flush s t k es fs (Err (StillInUse _)) honest kept missing h = absurd h
-  get_done size may_flush s t k es fs (Err Memory) honest kept missing (r, v, room, loads) =
-      let first = room_done size may_flush s r es fs honest kept room in
-      done_then s r t es fs fs first (loaded_done r t k v fs first.honest first.kept (still_missing size may_flush s r k es fs missing room) loads).0
-  get_done size may_flush s t k es fs (Err (Backend x)) honest kept missing h = elim h [
-    | inl none ↦ no_room_done size may_flush s t es fs (Err (Backend x)) honest kept none
-    | inr failed ↦
-        let first = room_done size may_flush s failed.0 es fs honest kept failed.1 in
-        done_then s failed.0 t es fs fs first (failed_load failed.0 t k x fs first.honest first.kept failed.2)
-  ]
+    pub room_done : (s t : S) (es fs : List (ℕ × Slot V)) → (view s).is_honest → P (tables es) (contents s)
+        → HasRoom (table_steps view bits bytes is_modified cleared) eqb size may_flush s es t fs → Done s t es fs
+    room_done s t es fs honest kept room = elim room [
+      | inl there ↦ done_none s t es fs honest kept there.1 there.2
+      | inr evicts ↦ evicted s t es fs honest kept evicts
+    ]
+
+    pub no_room_done : (s t : S) (es fs : List (ℕ × Slot V)) (r : Result Bool (CacheError ℕ MetadataError)) → (view s).is_honest → P (tables es) (contents s)
+        → HasNoRoom (table_steps view bits bytes is_modified cleared) eqb size may_flush s es r t fs → Done s t es fs
+    no_room_done s t es fs (Ok true) honest kept h = absurd h
+    no_room_done s t es fs (Ok false) honest kept h = done_none s t es fs honest kept h.2 h.3
+    no_room_done s t es fs (Err InUse) honest kept h = done_none s t es fs honest kept h.2 h.3
+    no_room_done s t es fs (Err (StillInUse _)) honest kept h = absurd h
+    no_room_done s t es fs (Err Memory) honest kept h = absurd h
+    no_room_done s t es fs (Err (Backend x)) honest kept h =
+        let e : ℕ × Slot V = h.entry in
+        let sp = split_oldest es e h.goes in
+        let whole : tables es ≡ tables sp.front ++ table e ∷ tables sp.back = ap tables sp.is ∙ tables_at bits bytes is_modified sp.front sp.back e in
+        let kept' : P (tables sp.front ++ table e ∷ tables sp.back) (contents s) = subst (λ l. P l (contents s)) whole kept in
+        let one = flushed_entry view bits bytes is_modified cleared unmodified same_bytes P all (step h.must.may) s t (tables sp.front) (tables sp.back) e (Some x) e.1 honest kept' (h.failed, refl) in
+        rw (h.same, whole) one
+
+    -- a missing key is still missing once there is room
+    pub still_missing : (s t : S) (k : ℕ) (es fs : List (ℕ × Slot V)) → lookup (eqb k) es ≡ None → HasRoom (table_steps view bits bytes is_modified cleared) eqb size may_flush s es t fs
+        → lookup (eqb k) fs ≡ None
+    still_missing s t k es fs missing room = elim room [
+      | inl there ↦ ap (lookup (eqb k)) there.2 ∙ missing
+      | inr evicts ↦ ap (lookup (eqb k)) evicts.rest ∙ lookup_none-removed (eqb k) (eqb evicts.entry.0) es missing
+    ]
+
+    pub get_done : (s t : S) (k : ℕ) (es fs : List (ℕ × Slot V)) (r : Result Bool (CacheError ℕ MetadataError)) → (view s).is_honest → P (tables es) (contents s) → lookup (eqb k) es ≡ None
+        → GetsNew (table_steps view bits bytes is_modified cleared) eqb size may_flush k s es r t fs → Done s t es fs
+    get_done s t k es fs (Ok true) honest kept missing (r, gs, v, room, loads, is) =
+        let first = room_done s r es gs honest kept room in
+        let second = (loaded_done r t k v gs first.honest first.kept (still_missing s r k es gs missing room) loads).1 in
+        subst (λ l. Done s t es l) (sym is) (done_then s r t es gs ((k, slot_of v 0) ∷ gs) first second)
+    get_done s t k es fs (Ok false) honest kept missing h = no_room_done s t es fs (Ok false) honest kept h
+    get_done s t k es fs (Err InUse) honest kept missing h = no_room_done s t es fs (Err InUse) honest kept h
+    get_done s t k es fs (Err (StillInUse _)) honest kept missing h = absurd h
+    get_done s t k es fs (Err Memory) honest kept missing (r, v, room, loads) =
+        let first = room_done s r es fs honest kept room in
+        done_then s r t es fs fs first (loaded_done r t k v fs first.honest first.kept (still_missing s r k es fs missing room) loads).0
+    get_done s t k es fs (Err (Backend x)) honest kept missing h = elim h [
+      | inl none ↦ no_room_done s t es fs (Err (Backend x)) honest kept none
+      | inr failed ↦
+          let first = room_done s failed.0 es fs honest kept failed.1 in
+          done_then s failed.0 t es fs fs first (failed_load failed.0 t k x fs first.honest first.kept failed.2)
+    ]

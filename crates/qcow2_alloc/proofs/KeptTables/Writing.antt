@@ -179,9 +179,13 @@ module _ {S V : Type 0} (view : S → StorageView) (bits : ℕ) (bytes : V → L
   entry_calls s t e (Some x) d honest f = (f.0.calls.honest honest, f.0.calls.time)
 
   -- ---- a whole cache is flushed, where each write of one of its tables keeps P and what is known
-  module _ (P : List CachedTable → Bytes → Type 0) (all : List CachedTable → Bytes → Bytes)
-      (step : (front back : List CachedTable) (t t' : CachedTable) (base base' : Bytes) → P (front ++ t ∷ back) base → IsWrittenSo (2 ^ bits) t t' base base'
-          → P (front ++ t' ∷ back) base' × (all (front ++ t' ∷ back) base' ≡ all (front ++ t ∷ back) base) × IsSafeBetween base (all (front ++ t ∷ back) base) base') where
+  module _ (P : List CachedTable → Bytes → Type 0) (all : List CachedTable → Bytes → Bytes) where
+    -- what the write of one table does
+    abbrev pub WritesOne : Type 0
+    WritesOne =
+        (front back : List CachedTable) (t t' : CachedTable) (base base' : Bytes) → P (front ++ t ∷ back) base → IsWrittenSo (2 ^ bits) t t' base base'
+        → P (front ++ t' ∷ back) base' × (all (front ++ t' ∷ back) base' ≡ all (front ++ t ∷ back) base) × IsSafeBetween base (all (front ++ t ∷ back) base) base'
+
     pub record Flushed (s t : S) (before after : List CachedTable) : Type 0 where
       pub honest : (view t).is_honest
       pub kept : P after (contents t)
@@ -207,34 +211,35 @@ module _ {S V : Type 0} (view : S → StorageView) (bits : ℕ) (bytes : V → L
       };
     }
 
-    pub flushed_entry : (s t : S) (front back : List CachedTable) (e : ℕ × Slot V) (x : Option MetadataError) (d : Slot V) → (view s).is_honest → P (front ++ table e ∷ back) (contents s)
-        → FlushesEntry (table_steps view bits bytes is_modified cleared) s e x t d → Flushed s t (front ++ table e ∷ back) (front ++ table (e.0, d) ∷ back)
-    flushed_entry s t front back e x d honest kept f =
-        let w = step front back (table e) (table (e.0, d)) (contents s) (contents t) kept (entry_so s t e x d honest f) in
-        let c = entry_calls s t e x d honest f in
-        record {
-          honest = c.0;
-          kept = w.0;
-          known = w.1;
-          since = record { moments = passes_if _ (λ l is. subst (λ l'. IsSafeBetween (contents s) (all (front ++ table e ∷ back) (contents s)) (byte_at l')) (sym is) w.2) c.1; contents = w.2 };
-        }
+    module _ (step : WritesOne) where
+      pub flushed_entry : (s t : S) (front back : List CachedTable) (e : ℕ × Slot V) (x : Option MetadataError) (d : Slot V) → (view s).is_honest → P (front ++ table e ∷ back) (contents s)
+          → FlushesEntry (table_steps view bits bytes is_modified cleared) s e x t d → Flushed s t (front ++ table e ∷ back) (front ++ table (e.0, d) ∷ back)
+      flushed_entry s t front back e x d honest kept f =
+          let w = step front back (table e) (table (e.0, d)) (contents s) (contents t) kept (entry_so s t e x d honest f) in
+          let c = entry_calls s t e x d honest f in
+          record {
+            honest = c.0;
+            kept = w.0;
+            known = w.1;
+            since = record { moments = passes_if _ (λ l is. subst (λ l'. IsSafeBetween (contents s) (all (front ++ table e ∷ back) (contents s)) (byte_at l')) (sym is) w.2) c.1; contents = w.2 };
+          }
 
-    pub flushed_all : (s t : S) (front : List CachedTable) (es fs : List (ℕ × Slot V)) (x : Option MetadataError) → (view s).is_honest → P (front ++ cached_tables bits bytes is_modified es) (contents s)
-        → FlushesAll (table_steps view bits bytes is_modified cleared) s es x t fs
-        → Flushed s t (front ++ cached_tables bits bytes is_modified es) (front ++ cached_tables bits bytes is_modified fs)
-    flushed_all s t front [] fs x honest kept f = rw (f.1, f.2) (flushed_none s (front ++ []) honest kept)
-    flushed_all s t front (e ∷ es) fs x honest kept f =
-        let r : S = f.1 in
-        let d : Slot V = f.2 in
-        let rest : List (ℕ × Slot V) = f.4 in
-        let back : List CachedTable = cached_tables bits bytes is_modified es in
-        let back' : List CachedTable = cached_tables bits bytes is_modified rest in
-        let first = flushed_entry s r front back e f.0 d honest kept f.5 in
-        let moved : front ++ table (e.0, d) ∷ back ≡ (front ++ table (e.0, d) ∷ []) ++ back = sym (append_assoc front (table (e.0, d) ∷ []) back) in
-        let more = flushed_all r t (front ++ table (e.0, d) ∷ []) es rest f.3 first.honest (subst (λ l. P l (contents r)) moved first.kept) f.6 in
-        let moved' : (front ++ table (e.0, d) ∷ []) ++ back' ≡ front ++ table (e.0, d) ∷ back' = append_assoc front (table (e.0, d) ∷ []) back' in
-        rw f.8 (flushed_then s r t (front ++ table e ∷ back) (front ++ table (e.0, d) ∷ back) (front ++ table (e.0, d) ∷ back') first
-        (subst (λ l. Flushed r t l (front ++ table (e.0, d) ∷ back')) (sym moved) (subst (λ l. Flushed r t ((front ++ table (e.0, d) ∷ []) ++ back) l) moved' more)))
+      pub flushed_all : (s t : S) (front : List CachedTable) (es fs : List (ℕ × Slot V)) (x : Option MetadataError) → (view s).is_honest → P (front ++ cached_tables bits bytes is_modified es) (contents s)
+          → FlushesAll (table_steps view bits bytes is_modified cleared) s es x t fs
+          → Flushed s t (front ++ cached_tables bits bytes is_modified es) (front ++ cached_tables bits bytes is_modified fs)
+      flushed_all s t front [] fs x honest kept f = rw (f.1, f.2) (flushed_none s (front ++ []) honest kept)
+      flushed_all s t front (e ∷ es) fs x honest kept f =
+          let r : S = f.1 in
+          let d : Slot V = f.2 in
+          let rest : List (ℕ × Slot V) = f.4 in
+          let back : List CachedTable = cached_tables bits bytes is_modified es in
+          let back' : List CachedTable = cached_tables bits bytes is_modified rest in
+          let first = flushed_entry s r front back e f.0 d honest kept f.5 in
+          let moved : front ++ table (e.0, d) ∷ back ≡ (front ++ table (e.0, d) ∷ []) ++ back = sym (append_assoc front (table (e.0, d) ∷ []) back) in
+          let more = flushed_all r t (front ++ table (e.0, d) ∷ []) es rest f.3 first.honest (subst (λ l. P l (contents r)) moved first.kept) f.6 in
+          let moved' : (front ++ table (e.0, d) ∷ []) ++ back' ≡ front ++ table (e.0, d) ∷ back' = append_assoc front (table (e.0, d) ∷ []) back' in
+          rw f.8 (flushed_then s r t (front ++ table e ∷ back) (front ++ table (e.0, d) ∷ back) (front ++ table (e.0, d) ∷ back') first
+          (subst (λ l. Flushed r t l (front ++ table (e.0, d) ∷ back')) (sym moved) (subst (λ l. Flushed r t ((front ++ table (e.0, d) ∷ []) ++ back) l) moved' more)))
 
   -- a flush without a failure leaves nothing modified
   pub flushed_clean : (s t : S) (es fs : List (ℕ × Slot V)) (x : Option MetadataError) → x ≡ None → FlushesAll (table_steps view bits bytes is_modified cleared) s es x t fs → AreClean (cached_tables bits bytes is_modified fs)

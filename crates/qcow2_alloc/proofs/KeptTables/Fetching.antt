@@ -1,0 +1,111 @@
+-- A table is fetched into the caches.
+use Rattle.std.proofs.Common.{◌≡◌, ◌≢◌, ◌⊎◌, inl, inr, ℕ, ◌^◌, ◌%◌, Bool, true, false, eqb, List, [], ◌∷◌, ◌++◌, Option, Some, None, Result, Ok, Err, IsSome, refl, sym, ap, ◌∙◌, subst}
+use Rattle.std.specs.Option.{IsNone}
+use Rattle.std.specs.Map.{lookup}
+use Rattle.lru.specs.LruCache.{promoted}
+use Rattle.image_access.specs.Moments.{StorageView}
+use Rattle.qcow2_metadata.specs.Bytes.{Bytes, byte_at}
+use Rattle.qcow2_metadata.specs.declared.header.HeaderFields.{HeaderFields}
+use Rattle.qcow2_metadata.specs.declared.error.MetadataError.{MetadataError}
+use Rattle.qcow2_metadata.specs.Header.{cluster_size}
+use Rattle.qcow2_metadata.specs.L2Table.{L2TableView}
+use Rattle.qcow2_metadata.specs.RefBlock.{RefBlockView}
+use Rattle.qcow2_metadata.specs.Tables.{CachedTable}
+use Rattle.qcow2_laws.specs.Caches.{known_bytes, BlocksMayGo, TablesMayGo, HasL2, HasBlock}
+use Rattle.qcow2_alloc.specs.declared.async_lru_cache.slot.Slot.{Slot}
+use Rattle.qcow2_alloc.specs.declared.async_lru_cache.error.CacheError.{CacheError}
+use Rattle.qcow2_alloc.specs.declared.cache.backends.L2CacheBackend.{L2CacheBackend}
+use Rattle.qcow2_alloc.specs.declared.cache.backends.RefBlockCacheBackend.{RefBlockCacheBackend}
+use Rattle.qcow2_alloc.specs.declared.cache.MetadataCaches.{MetadataCaches}
+use Rattle.qcow2_alloc.specs.declared.image_storage.ImageStorage.{ImageStorage}
+use Rattle.qcow2_alloc.specs.AsyncLruCache.{Cache, with_entries}
+use Rattle.qcow2_alloc.specs.CacheAnswers.{GetsNew}
+use Rattle.qcow2_alloc.specs.ImageStorage.{storage_of}
+use Rattle.qcow2_alloc.specs.TableCaches.{l2_steps, rb_steps, cleared_l2, cleared_rb}
+use Rattle.qcow2_alloc.specs.KeptTables.{cached_tables, AreElsewhere, IsCurrent, AreKept}
+use Rattle.qcow2_alloc.specs.MetadataCaches.{order_of, l2_tables, refblocks, KeepSound}
+use Rattle.qcow2_alloc.proofs.KeptTables.Writing.{Flushed}
+use Rattle.qcow2_alloc.proofs.KeptTables.Entries.{AreDistinct}
+use Rattle.qcow2_alloc.proofs.KeptTables.Listing.{loaded_distinct, l2_drop, l2_add, l2_promote, rb_drop, rb_add, rb_promote}
+use Rattle.qcow2_alloc.proofs.KeptTables.Getting.{hit_done, get_done}
+use Rattle.qcow2_alloc.proofs.KeptTables.Flushing.{l2_step, rb_step}
+
+none_or_some : {X : Type 0} (o : Option X) → IsSome o ⊎ IsNone o
+none_or_some None = inr refl
+none_or_some (Some x) = inl refl
+
+is_none : {X : Type 0} (o : Option X) → IsNone o → o ≡ None
+is_none None h = refl
+is_none (Some x) h = cc
+
+module _ {S : Type 0} (view : S → StorageView) (old new : ImageStorage S) (caches : MetadataCaches S) (may_flush : Bool) (key : ℕ) where
+  abbrev seen : ImageStorage S → StorageView
+  seen s = view (storage_of s)
+
+  -- ---- an L2 table
+  module _ (l2 : Cache (L2CacheBackend S) ℕ L2TableView) (others : l2 ≡ with_entries caches.l2 l2.entries) (answer : Result Bool (CacheError ℕ MetadataError))
+      (hit : IsSome (lookup (eqb key) caches.l2.entries) → (answer ≡ Ok true) × (l2.entries ≡ promoted (eqb key) caches.l2.entries) × (new ≡ old))
+      (miss : IsNone (lookup (eqb key) caches.l2.entries)
+          → GetsNew (l2_steps seen caches.l2.backend.header.fields.cluster_bits) eqb caches.l2.size may_flush key old caches.l2.entries answer new l2.entries) where
+    pub table_got : (may_flush ≡ true → TablesMayGo (order_of caches) (refblocks caches)) → KeepSound view old caches new (record caches { l2 = l2 })
+    table_got may = λ h p honest sound.
+        let bits = caches.l2.backend.header.fields.cluster_bits in
+        let P : List CachedTable → Bytes → Type 0 = λ ts base. AreKept h (order_of caches) p ts (refblocks caches) base in
+        let all : List CachedTable → Bytes → Bytes = λ ts base. known_bytes (cluster_size h) ts (refblocks caches) base in
+        let same_backend : l2.backend ≡ caches.l2.backend = ap (λ c. c.backend) others in
+        let distinct : (ts : List CachedTable) (base : Bytes) → P ts base → AreDistinct ts = λ ts base are. loaded_distinct (cluster_size h) (HasL2 h base) base ts are.l2_loaded in
+        let add : (t : CachedTable) (ts : List CachedTable) (base : Bytes) → P ts base → t.place % 2 ^ bits ≡ 0 → AreElsewhere t.place ts → t.is_modified ≡ false → IsCurrent (2 ^ bits) t base
+                → P (t ∷ ts) base × (all (t ∷ ts) base ≡ all ts base) =
+            λ t ts base are aligned away clean current.
+            l2_add h (order_of caches) p (refblocks caches) t ts base are (subst (λ n. t.place % 2 ^ n ≡ 0) sound.l2_bits aligned) away clean (subst (λ n. IsCurrent (2 ^ n) t base) sound.l2_bits current) in
+        let f : Flushed seen bits (λ (t : L2TableView). t.bytes) (λ t. t.is_modified) cleared_l2 (λ v. refl) (λ v. refl) P all old new (l2_tables caches)
+                (cached_tables bits (λ (t : L2TableView). t.bytes) (λ t. t.is_modified) l2.entries) =
+            elim (none_or_some (lookup (eqb key) caches.l2.entries)) [
+              | inl there ↦
+                  let is = hit there in
+                  rw (is.1, is.2) (hit_done seen bits (λ (t : L2TableView). t.bytes) (λ t. t.is_modified) cleared_l2 (λ v. refl) (λ v. refl) P all distinct (l2_drop h (order_of caches) p (refblocks caches)) add (l2_promote h (order_of caches) p (refblocks caches)) old key caches.l2.entries honest sound.kept)
+              | inr missing ↦
+                  get_done seen bits (λ (t : L2TableView). t.bytes) (λ t. t.is_modified) cleared_l2 (λ v. refl) (λ v. refl) P all distinct (l2_drop h (order_of caches) p (refblocks caches)) add (l2_promote h (order_of caches) p (refblocks caches)) caches.l2.size may_flush
+                  (λ flush. l2_step h (order_of caches) p bits sound.l2_bits (refblocks caches) (may flush))
+                  old new key caches.l2.entries l2.entries answer honest sound.kept (is_none (lookup (eqb key) caches.l2.entries) missing) (miss missing)
+            ] in
+        rw same_backend (record {
+          honest = f.honest;
+          sound = record { l2_bits = sound.l2_bits; rb_bits = sound.rb_bits; kept = f.kept };
+          known = f.known;
+          since = f.since;
+        })
+
+  -- ---- a refblock
+  module _ (rb : Cache (RefBlockCacheBackend S) ℕ RefBlockView) (others : rb ≡ with_entries caches.rb rb.entries) (answer : Result Bool (CacheError ℕ MetadataError))
+      (hit : IsSome (lookup (eqb key) caches.rb.entries) → (answer ≡ Ok true) × (rb.entries ≡ promoted (eqb key) caches.rb.entries) × (new ≡ old))
+      (miss : IsNone (lookup (eqb key) caches.rb.entries)
+          → GetsNew (rb_steps seen caches.rb.backend.header.fields.cluster_bits) eqb caches.rb.size may_flush key old caches.rb.entries answer new rb.entries) where
+    pub block_got : (may_flush ≡ true → BlocksMayGo (order_of caches) (l2_tables caches)) → KeepSound view old caches new (record caches { rb = rb })
+    block_got may = λ h p honest sound.
+        let bits = caches.rb.backend.header.fields.cluster_bits in
+        let P : List CachedTable → Bytes → Type 0 = λ ts base. AreKept h (order_of caches) p (l2_tables caches) ts base in
+        let all : List CachedTable → Bytes → Bytes = λ ts base. known_bytes (cluster_size h) (l2_tables caches) ts base in
+        let same_backend : rb.backend ≡ caches.rb.backend = ap (λ c. c.backend) others in
+        let distinct : (ts : List CachedTable) (base : Bytes) → P ts base → AreDistinct ts = λ ts base are. loaded_distinct (cluster_size h) (HasBlock h base) base ts are.rb_loaded in
+        let add : (t : CachedTable) (ts : List CachedTable) (base : Bytes) → P ts base → t.place % 2 ^ bits ≡ 0 → AreElsewhere t.place ts → t.is_modified ≡ false → IsCurrent (2 ^ bits) t base
+                → P (t ∷ ts) base × (all (t ∷ ts) base ≡ all ts base) =
+            λ t ts base are aligned away clean current.
+            rb_add h (order_of caches) p (l2_tables caches) t ts base are (subst (λ n. t.place % 2 ^ n ≡ 0) sound.rb_bits aligned) away clean (subst (λ n. IsCurrent (2 ^ n) t base) sound.rb_bits current) in
+        let f : Flushed seen bits (λ (b : RefBlockView). b.bytes) (λ b. b.is_modified) cleared_rb (λ v. refl) (λ v. refl) P all old new (refblocks caches)
+                (cached_tables bits (λ (b : RefBlockView). b.bytes) (λ b. b.is_modified) rb.entries) =
+            elim (none_or_some (lookup (eqb key) caches.rb.entries)) [
+              | inl there ↦
+                  let is = hit there in
+                  rw (is.1, is.2) (hit_done seen bits (λ (b : RefBlockView). b.bytes) (λ b. b.is_modified) cleared_rb (λ v. refl) (λ v. refl) P all distinct (rb_drop h (order_of caches) p (l2_tables caches)) add (rb_promote h (order_of caches) p (l2_tables caches)) old key caches.rb.entries honest sound.kept)
+              | inr missing ↦
+                  get_done seen bits (λ (b : RefBlockView). b.bytes) (λ b. b.is_modified) cleared_rb (λ v. refl) (λ v. refl) P all distinct (rb_drop h (order_of caches) p (l2_tables caches)) add (rb_promote h (order_of caches) p (l2_tables caches)) caches.rb.size may_flush
+                  (λ flush. rb_step h (order_of caches) p bits sound.rb_bits (l2_tables caches) (may flush))
+                  old new key caches.rb.entries rb.entries answer honest sound.kept (is_none (lookup (eqb key) caches.rb.entries) missing) (miss missing)
+            ] in
+        rw same_backend (record {
+          honest = f.honest;
+          sound = record { l2_bits = sound.l2_bits; rb_bits = sound.rb_bits; kept = f.kept };
+          known = f.known;
+          since = f.since;
+        })
