@@ -1,5 +1,5 @@
 -- What contracts see of the caches of L2 tables and refblocks over the bytes of the storage.
-use Rattle.std.specs.Prelude.{ℕ, ◌≡◌, Bool, List}
+use Rattle.std.specs.Prelude.{ℕ, ◌≡◌, ◌==◌, Bool, List, Option}
 use Rattle.image_access.specs.Moments.{StorageView}
 use Rattle.qcow2_metadata.specs.Bytes.{Bytes, byte_at}
 use Rattle.qcow2_metadata.specs.declared.header.HeaderFields.{HeaderFields}
@@ -10,7 +10,7 @@ use Rattle.qcow2_metadata.specs.Tables.{CachedTable}
 use Rattle.qcow2_laws.specs.Clusters as Order
 use Rattle.qcow2_laws.specs.Guard.{Pending}
 use Rattle.qcow2_laws.specs.Caches.{known_bytes, AreClean}
-use Rattle.qcow2_alloc.specs.AsyncLruCache.{Cache}
+use Rattle.qcow2_alloc.specs.AsyncLruCache.{value_at}
 use Rattle.qcow2_alloc.specs.declared.cache.Direction.{Direction}
 use Rattle.qcow2_alloc.specs.declared.cache.Direction.TheVariants as D
 use Rattle.qcow2_alloc.specs.declared.cache.MetadataCaches.{MetadataCaches}
@@ -33,6 +33,13 @@ module _ {S : Type 0} where
 
   abbrev pub refblocks : MetadataCaches S → List CachedTable
   refblocks caches = cached_tables caches.rb.backend.header.fields.cluster_bits (λ (b : RefBlockView). b.bytes) (λ b. b.is_modified) caches.rb.entries
+
+  -- the L2 table, the refblock of a cluster, where it is held
+  abbrev pub l2_at : MetadataCaches S → ℕ → Option L2TableView
+  l2_at caches cluster = value_at (λ k. cluster == k) caches.l2.entries
+
+  abbrev pub rb_at : MetadataCaches S → ℕ → Option RefBlockView
+  rb_at caches cluster = value_at (λ k. cluster == k) caches.rb.entries
 
   -- the contents with the modified tables laid over
   abbrev pub known_of : HeaderFields → MetadataCaches S → Bytes → Bytes

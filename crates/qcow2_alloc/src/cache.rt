@@ -1,10 +1,10 @@
 //! The caches of L2 tables and of refblocks, and which of them has to be written first.
-ghost use Rattle.std.specs.Prelude.{◌≡◌, IsSome, IfErr, OnOk, OnErr};
+ghost use Rattle.std.specs.Prelude.{◌≡◌, IsSome, IfErr, OnOk, OnErr, option_copied};
 ghost use Rattle.qcow2_laws.specs.Clusters.{L2DependsOnRb, RbDependsOnL2};
 ghost use Rattle.qcow2_laws.specs.Caches.{AreClean, BlocksMayGo, TablesMayGo};
 ghost use Rattle.qcow2_alloc.specs.ImageError.{IsOfTables};
 ghost use Rattle.qcow2_alloc.specs.ImageStorage.{storage_of};
-ghost use Rattle.qcow2_alloc.specs.MetadataCaches.{order_of, l2_tables, refblocks, AreAllWritten, KeepSound};
+ghost use Rattle.qcow2_alloc.specs.MetadataCaches.{order_of, l2_at, rb_at, l2_tables, refblocks, AreAllWritten, KeepSound};
 
 mod backends;
 
@@ -180,6 +180,9 @@ impl<S: Storage> MetadataCaches<S> {
         cluster: HostCluster,
     ) -> Result<(), ImageError>
         ensures cause { IfErr result IsOfTables }
+        ensures order { order_of self.new ≡ order_of self.old }
+        ensures held { OnOk result (IsSome (l2_at self.new cluster)) }
+        ensures keeps { KeepSound S.view storage.old self.old storage.new self.new }
     {
         if self.l2.get_or_insert(storage, cluster, false)? {
             return Ok(());
@@ -196,6 +199,9 @@ impl<S: Storage> MetadataCaches<S> {
         cluster: HostCluster,
     ) -> Result<(), ImageError>
         ensures cause { IfErr result IsOfTables }
+        ensures order { order_of self.new ≡ order_of self.old }
+        ensures held { OnOk result (IsSome (rb_at self.new cluster)) }
+        ensures keeps { KeepSound S.view storage.old self.old storage.new self.new }
     {
         if self.rb.get_or_insert(storage, cluster, false)? {
             return Ok(());
@@ -248,12 +254,16 @@ impl<S: Storage> MetadataCaches<S> {
     }
 
     /// The L2 table of a cluster, where it is held.
-    pub fn l2_peek(&self, cluster: HostCluster) -> Option<&L2Table> {
+    pub fn l2_peek(&self, cluster: HostCluster) -> Option<&L2Table>
+        ensures { option_copied result ≡ l2_at self.now cluster }
+    {
         self.l2.peek(cluster)
     }
 
     /// The refblock of a cluster, where it is held.
-    pub fn rb_peek(&self, cluster: HostCluster) -> Option<&RefBlock> {
+    pub fn rb_peek(&self, cluster: HostCluster) -> Option<&RefBlock>
+        ensures { option_copied result ≡ rb_at self.now cluster }
+    {
         self.rb.peek(cluster)
     }
 
