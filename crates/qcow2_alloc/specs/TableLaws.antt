@@ -10,7 +10,7 @@ use Rattle.qcow2_metadata.specs.declared.error.MetadataError.{MetadataError}
 use Rattle.qcow2_alloc.specs.AsyncLruCacheBackend.{laid_over, IsLawful}
 use Rattle.qcow2_alloc.specs.TableSteps.{LoadsTable, FailsToLoad, FlushesTable, FailsToFlush, table_steps}
 
-same_number : (k j : ℕ) → eqb k j ≡ true → k ≡ j
+pub same_number : (k j : ℕ) → eqb k j ≡ true → k ≡ j
 same_number k j h = grind (arith, nat_tests)
 
 other_number : (k j : ℕ) → eqb k j ≡ false → k ≢ j

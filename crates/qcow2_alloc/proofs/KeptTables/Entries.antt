@@ -11,11 +11,16 @@ use Rattle.qcow2_alloc.specs.declared.async_lru_cache.slot.Slot.{Slot}
 use Rattle.qcow2_alloc.specs.AsyncLruCache.{oldest_free, is_pinned}
 use Rattle.qcow2_alloc.specs.TableLaws.{apart}
 use Rattle.qcow2_alloc.specs.KeptTables.{cached_table, cached_tables, AreElsewhere}
+use Rattle.qcow2_alloc.proofs.KeptTables.Loaded.{elsewhere_of}
 
 -- each begins at a place of its own
 abbrev pub AreDistinct : List CachedTable → Type 0
 AreDistinct [] = Unit {0}
 AreDistinct (t ∷ ts) = AreElsewhere t.place ts × AreDistinct ts
+
+pub away_from : (front back : List CachedTable) (t : CachedTable) → AreDistinct (front ++ t ∷ back) → AreElsewhere t.place (front ++ back)
+away_from [] back t apart = apart.0
+away_from (u ∷ front) back t apart = ((λ e. elsewhere_of u.place front back t apart.0 (sym e)), away_from front back t apart.1)
 
 -- an entry of a list, with what stands before and behind it
 pub record Splits {X : Type 0} (es : List X) (e : X) : Type 0 where

@@ -22,12 +22,12 @@ use Rattle.qcow2_alloc.specs.AsyncLruCache.{Cache, with_entries}
 use Rattle.qcow2_alloc.specs.CacheAnswers.{GetsNew}
 use Rattle.qcow2_alloc.specs.ImageStorage.{storage_of}
 use Rattle.qcow2_alloc.specs.TableCaches.{l2_steps, rb_steps, cleared_l2, cleared_rb}
-use Rattle.qcow2_alloc.specs.KeptTables.{cached_tables, AreElsewhere, IsCurrent, AreKept}
+use Rattle.qcow2_alloc.specs.KeptTables.{cached_tables, AreElsewhere, AreKept}
 use Rattle.qcow2_alloc.specs.MetadataCaches.{order_of, l2_tables, refblocks, KeepSound}
 use Rattle.qcow2_alloc.proofs.KeptTables.Writing.{Flushed}
 use Rattle.qcow2_alloc.proofs.KeptTables.Entries.{AreDistinct}
 use Rattle.qcow2_alloc.proofs.KeptTables.Listing.{loaded_distinct, l2_drop, l2_add, l2_promote, rb_drop, rb_add, rb_promote}
-use Rattle.qcow2_alloc.proofs.KeptTables.Getting.{hit_done, get_done}
+use Rattle.qcow2_alloc.proofs.KeptTables.Getting.{HoldsWhatStands, hit_done, get_done}
 use Rattle.qcow2_alloc.proofs.KeptTables.Flushing.{l2_step, rb_step}
 
 none_or_some : {X : Type 0} (o : Option X) → IsSome o ⊎ IsNone o
@@ -54,10 +54,10 @@ module _ {S : Type 0} (view : S → StorageView) (old new : ImageStorage S) (cac
         let all : List CachedTable → Bytes → Bytes = λ ts base. known_bytes (cluster_size h) ts (refblocks caches) base in
         let same_backend : l2.backend ≡ caches.l2.backend = ap (λ c. c.backend) others in
         let distinct : (ts : List CachedTable) (base : Bytes) → P ts base → AreDistinct ts = λ ts base are. loaded_distinct (cluster_size h) (HasL2 h base) base ts are.l2_loaded in
-        let add : (t : CachedTable) (ts : List CachedTable) (base : Bytes) → P ts base → t.place % 2 ^ bits ≡ 0 → AreElsewhere t.place ts → t.is_modified ≡ false → IsCurrent (2 ^ bits) t base
+        let add : (t : CachedTable) (ts : List CachedTable) (base : Bytes) → P ts base → t.place % 2 ^ bits ≡ 0 → AreElsewhere t.place ts → t.is_modified ≡ false → HoldsWhatStands all (2 ^ bits) t ts base
                 → P (t ∷ ts) base × (all (t ∷ ts) base ≡ all ts base) =
             λ t ts base are aligned away clean current.
-            l2_add h (order_of caches) p (refblocks caches) t ts base are (subst (λ n. t.place % 2 ^ n ≡ 0) sound.l2_bits aligned) away clean (subst (λ n. IsCurrent (2 ^ n) t base) sound.l2_bits current) in
+            l2_add h (order_of caches) p (refblocks caches) t ts base are (subst (λ n. t.place % 2 ^ n ≡ 0) sound.l2_bits aligned) away clean (subst (λ n. HoldsWhatStands all (2 ^ n) t ts base) sound.l2_bits current) in
         let f : Flushed seen bits (λ (t : L2TableView). t.bytes) (λ t. t.is_modified) cleared_l2 (λ v. refl) (λ v. refl) P all old new (l2_tables caches)
                 (cached_tables bits (λ (t : L2TableView). t.bytes) (λ t. t.is_modified) l2.entries) =
             elim (none_or_some (lookup (eqb key) caches.l2.entries)) [
@@ -88,10 +88,10 @@ module _ {S : Type 0} (view : S → StorageView) (old new : ImageStorage S) (cac
         let all : List CachedTable → Bytes → Bytes = λ ts base. known_bytes (cluster_size h) (l2_tables caches) ts base in
         let same_backend : rb.backend ≡ caches.rb.backend = ap (λ c. c.backend) others in
         let distinct : (ts : List CachedTable) (base : Bytes) → P ts base → AreDistinct ts = λ ts base are. loaded_distinct (cluster_size h) (HasBlock h base) base ts are.rb_loaded in
-        let add : (t : CachedTable) (ts : List CachedTable) (base : Bytes) → P ts base → t.place % 2 ^ bits ≡ 0 → AreElsewhere t.place ts → t.is_modified ≡ false → IsCurrent (2 ^ bits) t base
+        let add : (t : CachedTable) (ts : List CachedTable) (base : Bytes) → P ts base → t.place % 2 ^ bits ≡ 0 → AreElsewhere t.place ts → t.is_modified ≡ false → HoldsWhatStands all (2 ^ bits) t ts base
                 → P (t ∷ ts) base × (all (t ∷ ts) base ≡ all ts base) =
             λ t ts base are aligned away clean current.
-            rb_add h (order_of caches) p (l2_tables caches) t ts base are (subst (λ n. t.place % 2 ^ n ≡ 0) sound.rb_bits aligned) away clean (subst (λ n. IsCurrent (2 ^ n) t base) sound.rb_bits current) in
+            rb_add h (order_of caches) p (l2_tables caches) t ts base are (subst (λ n. t.place % 2 ^ n ≡ 0) sound.rb_bits aligned) away clean (subst (λ n. HoldsWhatStands all (2 ^ n) t ts base) sound.rb_bits current) in
         let f : Flushed seen bits (λ (b : RefBlockView). b.bytes) (λ b. b.is_modified) cleared_rb (λ v. refl) (λ v. refl) P all old new (refblocks caches)
                 (cached_tables bits (λ (b : RefBlockView). b.bytes) (λ b. b.is_modified) rb.entries) =
             elim (none_or_some (lookup (eqb key) caches.rb.entries)) [

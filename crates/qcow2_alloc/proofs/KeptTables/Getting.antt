@@ -1,9 +1,10 @@
 -- A table is brought to the front of a cache, loaded into it, or goes: all is kept, nothing known changes, and a stop is as safe as before.
-use Rattle.std.proofs.Common.{◌≡◌, ◌≢◌, ℕ, ◌+◌, ◌*◌, ◌%◌, ◌^◌, ◌<◌, Bool, true, false, eqb, inl, inr, List, [], ◌∷◌, ◌++◌, Option, Some, None, Result, Ok, Err, length, refl, sym, ap, ◌∙◌, subst, arith}
+use Rattle.std.proofs.Common.{◌≡◌, ◌≢◌, ◌⊎◌, ℕ, ◌+◌, ◌*◌, ◌%◌, ◌^◌, ◌<◌, Bool, true, false, eqb, inl, inr, List, [], ◌∷◌, ◌++◌, Option, Some, None, Result, Ok, Err, length, refl, sym, ap, ◌∙◌, subst, arith}
 use Rattle.std.proofs.lemmas.Nat.{mod-mul-add, pow_pos}
 use Rattle.std.specs.Option.{option_map_or}
 use Rattle.std.specs.Map.{lookup, lookup_entry, remove_entry}
 use Rattle.lru.specs.LruCache.{promoted}
+use Rattle.lru.proofs.CallerLemmas.{Contains-lookup_entry}
 use Rattle.image_access.specs.Contents.{bytes_at}
 use Rattle.image_access.specs.Moments.{StorageView, Passing}
 use Rattle.image_access.proofs.Bytes.{byte_at-bytes_at}
@@ -16,19 +17,27 @@ use Rattle.qcow2_alloc.specs.declared.async_lru_cache.slot.Slot.{Slot}
 use Rattle.qcow2_alloc.specs.declared.async_lru_cache.error.CacheError.{CacheError}
 use Rattle.qcow2_alloc.specs.declared.async_lru_cache.error.CacheError.TheVariants.{InUse, StillInUse, Memory, Backend}
 use Rattle.qcow2_alloc.specs.AsyncLruCache.{slot_of}
-use Rattle.qcow2_alloc.specs.TableSteps.{LoadsTable, FailsToLoad, table_steps}
-use Rattle.qcow2_alloc.specs.CacheAnswers.{Evicts, HasRoom, HasNoRoom, GetsNew}
+use Rattle.qcow2_alloc.specs.TableSteps.{LoadsTable, FailsToLoad, FlushesTable, FailsToFlush, table_steps}
+use Rattle.qcow2_alloc.specs.CacheAnswers.{Evicts, HasRoom, HasNoRoom, GetsNew, InsertsNew, Replaces}
+use Rattle.qcow2_alloc.specs.TableLaws.{same_number}
 use Rattle.qcow2_alloc.specs.KeptTables.{cached_table, cached_tables, AreElsewhere, IsCurrent, IsSafeSince}
 use Rattle.qcow2_alloc.proofs.CachedEntries.Lists.{lookup_none-removed}
 use Rattle.qcow2_alloc.proofs.KeptTables.Writing.{WritesOne, Flushed, flushed_none, flushed_then, flushed_entry}
-use Rattle.qcow2_alloc.proofs.KeptTables.Entries.{AreDistinct, split_oldest, split_found, tables_at, tables_both, removed_at, elsewhere_of_none}
+use Rattle.qcow2_alloc.proofs.KeptTables.Entries.{AreDistinct, away_from, split_oldest, split_found, tables_at, tables_both, removed_at, elsewhere_of_none}
+
+cluster_aligned : (k bits : ℕ) → k * 2 ^ bits % 2 ^ bits ≡ 0
+cluster_aligned k bits = let e : k * 2 ^ bits ≡ k * 2 ^ bits + 0 = omega arith in ap (λ m. m % 2 ^ bits) e ∙ mod-mul-add k (2 ^ bits) 0 (pow_pos bits)
+
+-- it holds what stands in its cluster, or what is known of it
+abbrev pub HoldsWhatStands : (List CachedTable → Bytes → Bytes) → ℕ → CachedTable → List CachedTable → Bytes → Type 0
+HoldsWhatStands all size t ts base = IsCurrent size t base ⊎ ((i : ℕ) → i < size → t.bytes i ≡ all ts base (t.place + i))
 
 module _ {S V : Type 0} (view : S → StorageView) (bits : ℕ) (bytes : V → List ℕ) (is_modified : V → Bool) (cleared : V → V)
     (unmodified : (v : V) → is_modified (cleared v) ≡ false) (same_bytes : (v : V) → bytes (cleared v) ≡ bytes v)
     (P : List CachedTable → Bytes → Type 0) (all : List CachedTable → Bytes → Bytes)
     (distinct : (ts : List CachedTable) (base : Bytes) → P ts base → AreDistinct ts)
     (drop_clean : (front back : List CachedTable) (t : CachedTable) (base : Bytes) → P (front ++ t ∷ back) base → t.is_modified ≡ false → P (front ++ back) base × (all (front ++ back) base ≡ all (front ++ t ∷ back) base))
-    (add : (t : CachedTable) (ts : List CachedTable) (base : Bytes) → P ts base → t.place % 2 ^ bits ≡ 0 → AreElsewhere t.place ts → t.is_modified ≡ false → IsCurrent (2 ^ bits) t base
+    (add : (t : CachedTable) (ts : List CachedTable) (base : Bytes) → P ts base → t.place % 2 ^ bits ≡ 0 → AreElsewhere t.place ts → t.is_modified ≡ false → HoldsWhatStands all (2 ^ bits) t ts base
         → P (t ∷ ts) base × (all (t ∷ ts) base ≡ all ts base))
     (promote : (front back : List CachedTable) (t : CachedTable) (base : Bytes) → P (front ++ t ∷ back) base → P (t ∷ (front ++ back)) base × (all (t ∷ (front ++ back)) base ≡ all (front ++ t ∷ back) base)) where
   abbrev tables : List (ℕ × Slot V) → List CachedTable
@@ -79,17 +88,14 @@ module _ {S V : Type 0} (view : S → StorageView) (bits : ℕ) (bytes : V → L
   loaded_done s t k v es honest kept missing l =
       let same : contents t ≡ contents s = ap (λ c. byte_at c) (l.keeps honest) in
       let kept' : P (tables es) (contents t) = subst (λ b. P (tables es) b) (sym same) kept in
-      let aligned : k * 2 ^ bits % 2 ^ bits ≡ 0 = mul-mod k (2 ^ bits) (pow_pos bits) in
+      let aligned : k * 2 ^ bits % 2 ^ bits ≡ 0 = cluster_aligned k bits in
       let added = add (table (k, slot_of v 0)) (tables es) (contents t) kept' aligned (elsewhere_of_none bits bytes is_modified k es missing) l.unmodified
-          (λ i lt. ap (λ c. byte_at c i) (l.read honest) ∙ byte_at-bytes_at (view s).contents (k * 2 ^ bits) (2 ^ bits) i lt ∙ ap (λ (b : Bytes). b (k * 2 ^ bits + i)) (sym same)) in
+          (inl (λ i lt. ap (λ c. byte_at c i) (l.read honest) ∙ byte_at-bytes_at (view s).contents (k * 2 ^ bits) (2 ^ bits) i lt ∙ ap (λ (b : Bytes). b (k * 2 ^ bits + i)) (sym same))) in
       let stays : all (tables es) (contents t) ≡ all (tables es) (contents s) = ap (λ b. all (tables es) b) same in
       let still : IsSafeBetween (contents s) (all (tables es) (contents s)) (contents t) = λ backing m ok known_ok. rw same ok in
       let since : IsSafeSince (view s) (view t) (all (tables es) (contents s)) = record { moments = passes_if _ (λ c is. subst (λ l'. IsSafeBetween (contents s) (all (tables es) (contents s)) (byte_at l')) (sym is) still) l.calls.time; contents = still } in
       (record { honest = l.calls.honest honest; kept = kept'; known = stays; since = since },
        record { honest = l.calls.honest honest; kept = added.0; known = added.1 ∙ stays; since = since })
-    where
-      mul-mod : (a n : ℕ) → 0 < n → a * n % n ≡ 0
-      mul-mod a n some = let e : a * n ≡ a * n + 0 = omega arith in ap (λ m. m % n) e ∙ mod-mul-add a n 0 some
 
   failed_load : (s t : S) (k : ℕ) (x : MetadataError) (es : List (ℕ × Slot V)) → (view s).is_honest → P (tables es) (contents s) → FailsToLoad view bits bytes is_modified cleared s k x t → Done s t es es
   failed_load s t k x es honest kept l =
@@ -175,3 +181,80 @@ module _ {S V : Type 0} (view : S → StorageView) (bits : ℕ) (bytes : V → L
           let first = room_done s failed.0 es fs honest kept failed.1 in
           done_then s failed.0 t es fs fs first (failed_load failed.0 t k x fs first.honest first.kept failed.2)
     ]
+
+    -- ---- a table is put in
+    module _ (k : ℕ) (v : V) (clean : is_modified v ≡ false) where
+      abbrev Holds : S → List (ℕ × Slot V) → Type 0
+      Holds s es = (i : ℕ) → i < 2 ^ bits → byte_at (bytes v) i ≡ all (tables es) (contents s) (k * 2 ^ bits + i)
+
+      added : (t : S) (n : ℕ) (es : List (ℕ × Slot V)) → (view t).is_honest → P (tables es) (contents t) → AreElsewhere (k * 2 ^ bits) (tables es) → Holds t es → Done t t es ((k, slot_of v n) ∷ es)
+      added t n es honest kept away holds =
+          let aligned : k * 2 ^ bits % 2 ^ bits ≡ 0 = cluster_aligned k bits in
+          relisted t es ((k, slot_of v n) ∷ es) honest kept (add (table (k, slot_of v n)) (tables es) (contents t) kept aligned away clean (inr holds))
+
+      still_holds : (s t : S) (es fs : List (ℕ × Slot V)) → Done s t es fs → Holds s es → Holds t fs
+      still_holds s t es fs d holds i lt = holds i lt ∙ ap (λ (m : Bytes). m (k * 2 ^ bits + i)) (sym d.known)
+
+      pub insert_done : (s t : S) (es fs : List (ℕ × Slot V)) (r : Result Bool (CacheError ℕ MetadataError)) (left : Option V) → (view s).is_honest → P (tables es) (contents s) → lookup (eqb k) es ≡ None → Holds s es
+          → InsertsNew (table_steps view bits bytes is_modified cleared) eqb size may_flush k v s es r t fs left → Done s t es fs
+      insert_done s t es fs (Ok true) left honest kept missing holds h =
+          let gs : List (ℕ × Slot V) = h.0.0 in
+          let first = room_done s t es gs honest kept h.0.1 in
+          let away = elsewhere_of_none bits bytes is_modified k gs (still_missing s t k es gs missing h.0.1) in
+          subst (λ l. Done s t es l) (sym h.0.2) (done_then s t t es gs ((k, slot_of v 0) ∷ gs) first (added t 0 gs first.honest first.kept away (still_holds s t es gs first holds)))
+      insert_done s t es fs (Ok false) left honest kept missing holds h = no_room_done s t es fs (Ok false) honest kept h.0
+      insert_done s t es fs (Err Memory) left honest kept missing holds h = room_done s t es fs honest kept h.0
+      insert_done s t es fs (Err InUse) left honest kept missing holds h = no_room_done s t es fs (Err InUse) honest kept h.0
+      insert_done s t es fs (Err (StillInUse _)) left honest kept missing holds h = absurd h
+      insert_done s t es fs (Err (Backend x)) left honest kept missing holds h = no_room_done s t es fs (Err (Backend x)) honest kept h.0
+
+      -- in the place of another one
+      module _ (s t : S) (es : List (ℕ × Slot V)) (e : ℕ × Slot V) (found : lookup_entry (eqb k) es ≡ Some e) (honest : (view s).is_honest) (kept : P (tables es) (contents s)) where
+        own_key : e.0 ≡ k
+        own_key = let passes = (Contains-lookup_entry (eqb k) es e found).1 in sym (same_number k e.0 passes)
+
+        whole : tables es ≡ tables (split_found (eqb k) es e found).front ++ table e ∷ tables (split_found (eqb k) es e found).back
+        whole = let f = split_found (eqb k) es e found in ap tables f.is ∙ tables_at bits bytes is_modified f.front f.back e
+
+        kept' : P (tables (split_found (eqb k) es e found).front ++ table e ∷ tables (split_found (eqb k) es e found).back) (contents s)
+        kept' = subst (λ l. P l (contents s)) whole kept
+
+        rest_is : tables (remove_entry (eqb k) es) ≡ tables (split_found (eqb k) es e found).front ++ tables (split_found (eqb k) es e found).back
+        rest_is = let f = split_found (eqb k) es e found in ap tables f.rest ∙ tables_both bits bytes is_modified f.front f.back
+
+        pub replace_done : (fs : List (ℕ × Slot V)) (r : Result Bool (CacheError ℕ MetadataError)) (left : Option V) → Holds s es
+            → Replaces (table_steps view bits bytes is_modified cleared) k e (remove_entry (eqb k) es) v may_flush s es r t fs left → Done s t es fs
+        replace_done fs (Ok true) left holds h =
+            let f = split_found (eqb k) es e found in
+            let w : V = h.1.0 in
+            let one = flushed_entry view bits bytes is_modified cleared unmodified same_bytes P all (step h.0) s t (tables f.front) (tables f.back) e None (record { value = w; pins = e.1.pins }) honest kept'
+                    (subst (λ n. FlushesTable view bits bytes is_modified cleared s n e.1.value w t) (sym own_key) h.1.1, refl) in
+            let gone = drop_clean (tables f.front) (tables f.back) (table (e.0, record { value = w; pins = e.1.pins })) (contents t) one.kept (ap is_modified h.1.1.clean ∙ unmodified e.1.value) in
+            let without : Done s t es (remove_entry (eqb k) es) = record {
+                  honest = one.honest;
+                  kept = subst (λ l. P l (contents t)) (sym rest_is) gone.0;
+                  known = ap (λ l. all l (contents t)) rest_is ∙ gone.1 ∙ one.known ∙ sym (ap (λ l. all l (contents s)) whole);
+                  since = rw whole one.since;
+                } in
+            let apart : AreDistinct (tables f.front ++ table e ∷ tables f.back) = distinct _ (contents s) kept' in
+            let away : AreElsewhere (k * 2 ^ bits) (tables (remove_entry (eqb k) es)) =
+                subst (λ l. AreElsewhere (k * 2 ^ bits) l) (sym rest_is) (subst (λ n. AreElsewhere (n * 2 ^ bits) (tables f.front ++ tables f.back)) own_key (away_from (tables f.front) (tables f.back) (table e) apart)) in
+            subst (λ l. Done s t es l) (sym (h.2 ∙ ap (λ n. (n, slot_of v e.1.pins) ∷ remove_entry (eqb k) es) own_key))
+            (done_then s t t es (remove_entry (eqb k) es) ((k, slot_of v e.1.pins) ∷ remove_entry (eqb k) es) without
+            (added t e.1.pins (remove_entry (eqb k) es) one.honest without.kept away (still_holds s t es (remove_entry (eqb k) es) without holds)))
+        replace_done fs (Ok false) left holds h = done_none s t es fs honest kept h.1 h.2
+        replace_done fs (Err (Backend x)) left holds h =
+            let f = split_found (eqb k) es e found in
+            let one = flushed_entry view bits bytes is_modified cleared unmodified same_bytes P all (step h.0) s t (tables f.front) (tables f.back) e (Some x) e.1 honest kept'
+                    (subst (λ n. FailsToFlush view bits bytes is_modified cleared s n e.1.value x t) (sym own_key) h.1, refl) in
+            let front = promote (tables f.front) (tables f.back) (table e) (contents t) one.kept in
+            let fs_is : tables fs ≡ table e ∷ (tables f.front ++ tables f.back) = ap tables h.2 ∙ ap (λ l. table e ∷ l) rest_is in
+            record {
+              honest = one.honest;
+              kept = subst (λ l. P l (contents t)) (sym fs_is) front.0;
+              known = ap (λ l. all l (contents t)) fs_is ∙ front.1 ∙ one.known ∙ sym (ap (λ l. all l (contents s)) whole);
+              since = rw whole one.since;
+            }
+        replace_done fs (Err InUse) left holds h = absurd h
+        replace_done fs (Err (StillInUse _)) left holds h = absurd h
+        replace_done fs (Err Memory) left holds h = absurd h

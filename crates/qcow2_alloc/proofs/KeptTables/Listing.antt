@@ -1,17 +1,21 @@
 -- The lists of cached tables change, and nothing that is known: an unmodified table comes, goes, or comes to the front.
-use Rattle.std.proofs.Common.{◌≡◌, ◌≢◌, ℕ, ◌%◌, ◌/◌, Bool, true, false, inl, inr, List, [], ◌∷◌, ◌++◌, refl, sym, ap, ◌∙◌, subst}
+use Rattle.std.proofs.Common.{◌≡◌, ◌≢◌, ◌⊎◌, ℕ, ◌+◌, ◌%◌, ◌/◌, ◌<◌, ◌≤◌, arith, Bool, true, false, inl, inr, List, [], ◌∷◌, ◌++◌, refl, sym, ap, ◌∙◌, subst}
 use mathlib.Core.Path.{fun_ext}
 use Rattle.qcow2_metadata.specs.Bytes.{Bytes}
 use Rattle.qcow2_metadata.specs.declared.header.HeaderFields.{HeaderFields}
 use Rattle.qcow2_metadata.specs.Header.{cluster_size}
+use Rattle.qcow2_metadata.specs.Named.{named_by_reftable, named_by_l1_table}
 use Rattle.qcow2_metadata.specs.Tables.{CachedTable, known, overlays}
 use Rattle.qcow2_laws.specs.Clusters.{Direction}
 use Rattle.qcow2_laws.specs.Guard.{Pending, IsGuarded}
 use Rattle.qcow2_laws.specs.Writes.{IsUnnamed}
 use Rattle.qcow2_laws.specs.Caches.{known_bytes, IsFreeAt, AreApart, HasL2, HasBlock, IsKept}
-use Rattle.qcow2_laws.proofs.Lists.{known_unmodified, known_promoted, unmodified_over, no_overlay, differs}
+use Rattle.qcow2_laws.proofs.Lists.{known_unmodified, known_promoted, unmodified_over, overlays_within, within_cluster, no_overlay, differs}
+use Rattle.qcow2_laws.proofs.Shares.{table_has, block_has}
+use Rattle.qcow2_laws.proofs.Caches.{rbs_free, l2s_free}
+use Rattle.qcow2_laws.proofs.KeptSteps.{known_is_base}
 use Rattle.qcow2_alloc.specs.KeptTables.{AreElsewhere, IsCurrent, AreLoaded, AreKept}
-use Rattle.qcow2_alloc.proofs.KeptTables.Loaded.{loaded_without, loaded_promoted}
+use Rattle.qcow2_alloc.proofs.KeptTables.Loaded.{one_place, in_own_cluster, loaded_without, loaded_promoted}
 use Rattle.qcow2_alloc.proofs.KeptTables.Entries.{AreDistinct}
 
 pub loaded_distinct : (size : ℕ) (IsNamed : ℕ → Type 0) (base : Bytes) (ts : List CachedTable) → AreLoaded size IsNamed ts base → AreDistinct ts
@@ -61,6 +65,14 @@ rb_relisted h d p l2s rbs rbs' base same kept =
     }
 
 -- ---- the three changes
+
+-- where no table begins at the place, none lies in its cluster
+free_elsewhere : (size : ℕ) (IsNamed : ℕ → Type 0) (base : Bytes) (ts : List CachedTable) (place o : ℕ) → place % size ≡ 0 → AreElsewhere place ts → AreLoaded size IsNamed ts base → o / size ≡ place / size → IsFreeAt size ts o
+free_elsewhere size IsNamed base [] place o aligned away loaded here = tt
+free_elsewhere size IsNamed base (u ∷ ts) place o aligned away loaded here = (
+  no_overlay size u o (λ over. away.0 (one_place size u.place place loaded.0 aligned (sym (within_cluster u.place size o loaded.0 (overlays_within size u o over)) ∙ here))),
+  free_elsewhere size IsNamed base ts place o aligned away.1 loaded.3 here,
+)
 
 free_without : (size : ℕ) (front back : List CachedTable) (t : CachedTable) (o : ℕ) → IsFreeAt size (front ++ t ∷ back) o → IsFreeAt size (front ++ back) o
 free_without size [] back t o free = free.1
@@ -114,12 +126,21 @@ module _ (h : HeaderFields) (d : Direction) (p : Pending) where
       }, same.known (known (cluster_size h) rbs base))
 
   pub l2_add : (rbs : List CachedTable) (t : CachedTable) (ts : List CachedTable) (base : Bytes) → AreKept h d p ts rbs base → t.place % cluster_size h ≡ 0 → AreElsewhere t.place ts → t.is_modified ≡ false
-      → IsCurrent (cluster_size h) t base → AreKept h d p (t ∷ ts) rbs base × (known_bytes (cluster_size h) (t ∷ ts) rbs base ≡ known_bytes (cluster_size h) ts rbs base)
-  l2_add rbs t ts base are aligned away clean current =
+      → IsCurrent (cluster_size h) t base ⊎ ((i : ℕ) → i < cluster_size h → t.bytes i ≡ known_bytes (cluster_size h) ts rbs base (t.place + i)) → AreKept h d p (t ∷ ts) rbs base × (known_bytes (cluster_size h) (t ∷ ts) rbs base ≡ known_bytes (cluster_size h) ts rbs base)
+  l2_add rbs t ts base are aligned away clean holds =
       let same = shows_more (cluster_size h) ts t clean aligned are.kept.l2_apart in
       (record {
         kept = l2_relisted h d p ts (t ∷ ts) rbs base same are.kept;
-        l2_loaded = (aligned, away, (λ _ _. current), are.l2_loaded);
+        l2_loaded = (aligned, away, (λ _ has. elim holds [
+          | inl current ↦ current
+          | inr known ↦ λ i lt.
+              known i lt
+              ∙ known_is_base (cluster_size h) ts rbs base (t.place + i)
+              (free_elsewhere (cluster_size h) (HasL2 h base) base ts t.place (t.place + i) aligned away are.l2_loaded (in_own_cluster (cluster_size h) t.place i aligned lt))
+              (rbs_free h d p ts rbs base are.kept (t.place / cluster_size h)
+              (let one : 1 ≤ named_by_l1_table h base (t.place / cluster_size h) = subst (λ n. 1 ≤ named_by_l1_table h base n) has.2 (table_has h base has.0 has.1) in omega arith)
+              (t.place + i) (in_own_cluster (cluster_size h) t.place i aligned lt))
+        ]), are.l2_loaded);
         rb_loaded = are.rb_loaded;
       }, same.known (known (cluster_size h) rbs base))
 
@@ -144,13 +165,22 @@ module _ (h : HeaderFields) (d : Direction) (p : Pending) where
       }, ap (known (cluster_size h) l2s) (same.known base))
 
   pub rb_add : (l2s : List CachedTable) (t : CachedTable) (ts : List CachedTable) (base : Bytes) → AreKept h d p l2s ts base → t.place % cluster_size h ≡ 0 → AreElsewhere t.place ts → t.is_modified ≡ false
-      → IsCurrent (cluster_size h) t base → AreKept h d p l2s (t ∷ ts) base × (known_bytes (cluster_size h) l2s (t ∷ ts) base ≡ known_bytes (cluster_size h) l2s ts base)
-  rb_add l2s t ts base are aligned away clean current =
+      → IsCurrent (cluster_size h) t base ⊎ ((i : ℕ) → i < cluster_size h → t.bytes i ≡ known_bytes (cluster_size h) l2s ts base (t.place + i)) → AreKept h d p l2s (t ∷ ts) base × (known_bytes (cluster_size h) l2s (t ∷ ts) base ≡ known_bytes (cluster_size h) l2s ts base)
+  rb_add l2s t ts base are aligned away clean holds =
       let same = shows_more (cluster_size h) ts t clean aligned are.kept.rb_apart in
       (record {
         kept = rb_relisted h d p l2s ts (t ∷ ts) base same are.kept;
         l2_loaded = are.l2_loaded;
-        rb_loaded = (aligned, away, (λ _ _. current), are.rb_loaded);
+        rb_loaded = (aligned, away, (λ _ has. elim holds [
+          | inl current ↦ current
+          | inr known ↦ λ i lt.
+              known i lt
+              ∙ known_is_base (cluster_size h) l2s ts base (t.place + i)
+              (l2s_free h d p l2s ts base are.kept (t.place / cluster_size h)
+              (let one : 1 ≤ named_by_reftable h base (t.place / cluster_size h) = subst (λ n. 1 ≤ named_by_reftable h base n) has.2 (block_has h base has.0 has.1) in omega arith)
+              (t.place + i) (in_own_cluster (cluster_size h) t.place i aligned lt))
+              (free_elsewhere (cluster_size h) (HasBlock h base) base ts t.place (t.place + i) aligned away are.rb_loaded (in_own_cluster (cluster_size h) t.place i aligned lt))
+        ]), are.rb_loaded);
       }, ap (known (cluster_size h) l2s) (same.known base))
 
   pub rb_promote : (l2s front back : List CachedTable) (t : CachedTable) (base : Bytes) → AreKept h d p l2s (front ++ t ∷ back) base

@@ -24,14 +24,14 @@ elsewhere_without place [] back t away = away.1
 elsewhere_without place (u ∷ front) back t away = (away.0, elsewhere_without place front back t away.1)
 
 -- two tables of one cluster begin at one place
-one_place : (size a b : ℕ) → a % size ≡ 0 → b % size ≡ 0 → a / size ≡ b / size → a ≡ b
+pub one_place : (size a b : ℕ) → a % size ≡ 0 → b % size ≡ 0 → a / size ≡ b / size → a ≡ b
 one_place size a b at bt same =
     let x : a / size * size + a % size ≡ a = div-add-mod' a size in
     let y : b / size * size + b % size ≡ b = div-add-mod' b size in
     let z : a / size * size ≡ b / size * size = ap (λ n. n * size) same in
     omega arith
 
-in_own_cluster : (size place i : ℕ) → place % size ≡ 0 → i < size → (place + i) / size ≡ place / size
+pub in_own_cluster : (size place i : ℕ) → place % size ≡ 0 → i < size → (place + i) / size ≡ place / size
 in_own_cluster size place i aligned lt =
     let x : place / size * size + place % size ≡ place = div-add-mod' place size in
     let e : place + i ≡ place / size * size + i = omega arith in
