@@ -6,4 +6,5 @@ pub mod Listing
 pub mod Getting
 pub mod Flushing
 pub mod Fetching
+pub mod Inserting
 pub mod Turning

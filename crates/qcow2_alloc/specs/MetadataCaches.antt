@@ -1,5 +1,5 @@
 -- What contracts see of the caches of L2 tables and refblocks over the bytes of the storage.
-use Rattle.std.specs.Prelude.{ℕ, ◌≡◌, ◌==◌, Bool, List, Option}
+use Rattle.std.specs.Prelude.{ℕ, ◌+◌, ◌*◌, ◌≡◌, ◌<◌, ◌==◌, Bool, false, List, Option, IfSome}
 use Rattle.image_access.specs.Moments.{StorageView}
 use Rattle.qcow2_metadata.specs.Bytes.{Bytes, byte_at}
 use Rattle.qcow2_metadata.specs.declared.header.HeaderFields.{HeaderFields}
@@ -61,6 +61,17 @@ module _ {S : Type 0} where
     pub sound : AreSound h p caches' (byte_at new.contents)
     pub known : known_of h caches' (byte_at new.contents) ≡ known_of h caches (byte_at old.contents)
     pub since : IsSafeSince old new (known_of h caches (byte_at old.contents))
+
+  -- a table holds what is known in the cluster
+  abbrev pub HoldsKnown : HeaderFields → MetadataCaches S → Bytes → List ℕ → ℕ → Type 0
+  HoldsKnown h caches base bytes cluster = (i : ℕ) → i < cluster_size h → byte_at bytes i ≡ known_of h caches base (cluster * cluster_size h + i)
+
+  -- what putting in an unmodified table that holds what is known in its cluster does to sound caches over an honest storage
+  abbrev pub PutSound : (S → StorageView) → ImageStorage S → MetadataCaches S → ImageStorage S → MetadataCaches S → Option ℕ → List ℕ → Bool → Type 0
+  PutSound view old caches new caches' cluster bytes is_modified =
+      (h : HeaderFields) (p : Pending) → (view (storage_of old)).is_honest → AreSound h p caches (byte_at (view (storage_of old)).contents)
+      → is_modified ≡ false → IfSome cluster (HoldsKnown h caches (byte_at (view (storage_of old)).contents) bytes)
+      → StaySound h p (view (storage_of old)) caches (view (storage_of new)) caches'
 
   -- what loading, flushing and turning do to sound caches over an honest storage
   abbrev pub KeepSound : (S → StorageView) → ImageStorage S → MetadataCaches S → ImageStorage S → MetadataCaches S → Type 0

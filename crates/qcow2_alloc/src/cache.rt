@@ -1,10 +1,10 @@
 //! The caches of L2 tables and of refblocks, and which of them has to be written first.
-ghost use Rattle.std.specs.Prelude.{◌≡◌, IsSome, IfErr, OnOk, OnErr, option_copied};
+ghost use Rattle.std.specs.Prelude.{◌≡◌, IsSome, IfSome, IfErr, OnOk, OnErr, Some, option_copied};
 ghost use Rattle.qcow2_laws.specs.Clusters.{L2DependsOnRb, RbDependsOnL2};
 ghost use Rattle.qcow2_laws.specs.Caches.{AreClean, BlocksMayGo, TablesMayGo};
 ghost use Rattle.qcow2_alloc.specs.ImageError.{IsOfTables};
 ghost use Rattle.qcow2_alloc.specs.ImageStorage.{storage_of};
-ghost use Rattle.qcow2_alloc.specs.MetadataCaches.{order_of, l2_at, rb_at, l2_tables, refblocks, AreAllWritten, KeepSound};
+ghost use Rattle.qcow2_alloc.specs.MetadataCaches.{order_of, l2_at, rb_at, l2_tables, refblocks, AreAllWritten, KeepSound, PutSound};
 
 mod backends;
 
@@ -219,6 +219,9 @@ impl<S: Storage> MetadataCaches<S> {
     ) -> Result<(), ImageError>
         requires { IsSome table.cluster }
         ensures cause { IfErr result IsOfTables }
+        ensures order { order_of self.new ≡ order_of self.old }
+        ensures held { OnOk result (IfSome table.cluster (λ cluster. l2_at self.new cluster ≡ Some table)) }
+        ensures keeps { PutSound S.view storage.old self.old storage.new self.new table.cluster table.bytes table.is_modified }
     {
         let Some(cluster) = table.get_cluster() else {
             unreachable!();
@@ -240,6 +243,9 @@ impl<S: Storage> MetadataCaches<S> {
     ) -> Result<(), ImageError>
         requires { IsSome block.cluster }
         ensures cause { IfErr result IsOfTables }
+        ensures order { order_of self.new ≡ order_of self.old }
+        ensures held { OnOk result (IfSome block.cluster (λ cluster. rb_at self.new cluster ≡ Some block)) }
+        ensures keeps { PutSound S.view storage.old self.old storage.new self.new block.cluster block.bytes block.is_modified }
     {
         let Some(cluster) = block.get_cluster() else {
             unreachable!();

@@ -1,0 +1,174 @@
+-- A table is put into the caches.
+use Rattle.std.proofs.Common.{◌≡◌, ◌≢◌, ◌⊎◌, ℕ, ◌+◌, ◌*◌, ◌<◌, ◌^◌, ◌%◌, Bool, true, false, eqb, List, [], ◌∷◌, ◌++◌, Option, Some, None, Result, Ok, Err, arith, refl, sym, ap, ◌∙◌, subst}
+use Rattle.std.specs.Option.{IfSome, IsNone, option_map}
+use Rattle.std.specs.Map.{lookup, lookup_entry, remove_entry}
+use Rattle.lru.proofs.CallerLemmas.{Contains-lookup_entry}
+use Rattle.std.proofs.lemmas.Bool.Decides.{nat_tests}
+use Rattle.image_access.specs.Moments.{StorageView}
+use Rattle.qcow2_metadata.specs.Bytes.{Bytes, byte_at}
+use Rattle.qcow2_metadata.specs.declared.header.HeaderFields.{HeaderFields}
+use Rattle.qcow2_laws.specs.Guard.{Pending}
+use Rattle.qcow2_metadata.specs.declared.error.MetadataError.{MetadataError}
+use Rattle.qcow2_metadata.specs.Header.{cluster_size}
+use Rattle.qcow2_metadata.specs.L2Table.{L2TableView}
+use Rattle.qcow2_metadata.specs.RefBlock.{RefBlockView}
+use Rattle.qcow2_metadata.specs.Tables.{CachedTable}
+use Rattle.qcow2_laws.specs.Caches.{known_bytes, BlocksMayGo, TablesMayGo, HasL2, HasBlock}
+use Rattle.qcow2_alloc.specs.declared.async_lru_cache.slot.Slot.{Slot}
+use Rattle.qcow2_alloc.specs.declared.async_lru_cache.error.CacheError.{CacheError}
+use Rattle.qcow2_alloc.specs.declared.cache.backends.L2CacheBackend.{L2CacheBackend}
+use Rattle.qcow2_alloc.specs.declared.cache.backends.RefBlockCacheBackend.{RefBlockCacheBackend}
+use Rattle.qcow2_alloc.specs.declared.cache.MetadataCaches.{MetadataCaches}
+use Rattle.qcow2_alloc.specs.declared.image_storage.ImageStorage.{ImageStorage}
+use Rattle.qcow2_alloc.specs.AsyncLruCache.{Cache, slot_of, value_at, with_entries}
+use Rattle.qcow2_alloc.specs.AsyncLruCacheBackend.{Steps}
+use Rattle.qcow2_alloc.specs.CacheAnswers.{InsertsNew, Replaces}
+use Rattle.qcow2_alloc.specs.ImageStorage.{storage_of}
+use Rattle.qcow2_alloc.specs.TableCaches.{l2_steps, rb_steps, cleared_l2, cleared_rb}
+use Rattle.qcow2_alloc.specs.KeptTables.{cached_tables, AreElsewhere, AreKept}
+use Rattle.qcow2_alloc.specs.MetadataCaches.{order_of, l2_tables, refblocks, AreSound, StaySound, HoldsKnown}
+use Rattle.qcow2_alloc.proofs.CachedEntries.Lists.{lookup-from_entry}
+use Rattle.qcow2_alloc.proofs.KeptTables.Writing.{Flushed}
+use Rattle.qcow2_alloc.proofs.KeptTables.Entries.{AreDistinct}
+use Rattle.qcow2_alloc.proofs.KeptTables.Listing.{loaded_distinct, l2_drop, l2_add, l2_promote, rb_drop, rb_add, rb_promote}
+use Rattle.qcow2_alloc.proofs.KeptTables.Getting.{HoldsWhatStands, insert_done, replace_done}
+use Rattle.qcow2_alloc.proofs.KeptTables.Flushing.{l2_step, rb_step}
+
+found_or_not : {X Y : Type 0} (o : Option X) → (o ≡ None → Y) → ((x : X) → o ≡ Some x → Y) → Y
+found_or_not None none some = none refl
+found_or_not (Some x) none some = some x refl
+
+lookup_none : {K X : Type 0} (test : K → Bool) (es : List (K × X)) → lookup_entry test es ≡ None → lookup test es ≡ None
+lookup_none test es none = lookup-from_entry test es ∙ ap (option_map (λ (e : _). e.1)) none
+
+-- what holds of what is there
+pub if_some : {A : Type 0} (P : A → Type 0) (o : Option A) (a : A) → o ≡ Some a → P a → IfSome o P
+if_some P o a is holds = subst (λ x. IfSome x P) (sym is) holds
+
+-- the value is there where it was put in, and is kept where nothing was done
+pub record IsTakenOrKept {V E : Type 0} (key : ℕ) (v : V) (may_flush : Bool) (fs : List (ℕ × Slot V)) (answer : Result Bool (CacheError ℕ E)) (left : Option V) : Type 0 where
+  pub held : answer ≡ Ok true → value_at (eqb key) fs ≡ Some v
+  pub kept : answer ≡ Ok false → left ≡ Some v
+  pub done : answer ≡ Ok false → may_flush ≡ false
+
+in_front : {V : Type 0} (key k : ℕ) (v : V) (n : ℕ) (gs fs : List (ℕ × Slot V)) → eqb key k ≡ true → fs ≡ (k, slot_of v n) ∷ gs → value_at (eqb key) fs ≡ Some v
+in_front key k v n gs fs passes is = rw is (rw passes refl)
+
+own : (a : ℕ) → eqb a a ≡ true
+own a = grind (arith, nat_tests)
+
+true_false : {E : Type 0} {r : Result Bool E} → r ≡ Ok true → r ≡ Ok false → ⊥
+true_false a b = let e = sym a ∙ b in cc
+
+module _ {S V E : Type 0} (steps : Steps S ℕ V E) (size : ℕ) (may_flush : Bool) (key : ℕ) (v : V) (s t : S) (es fs : List (ℕ × Slot V)) where
+  pub taken_new : (answer : Result Bool (CacheError ℕ E)) (left : Option V) → InsertsNew steps eqb size may_flush key v s es answer t fs left → IsTakenOrKept key v may_flush fs answer left
+  taken_new (Ok true) left h = record { held = λ _. in_front key key v 0 h.0.0 fs (own key) h.0.2; kept = λ no. absurd (true_false refl no); done = λ no. absurd (true_false refl no) }
+  taken_new (Ok false) left h = record { held = λ yes. absurd (true_false yes refl); kept = λ _. h.1; done = λ _. h.0.1 }
+  taken_new (Err x) left h = record { held = λ yes. absurd (cc); kept = λ no. absurd (cc); done = λ no. absurd (cc) }
+
+module _ {S V E : Type 0} (steps : Steps S ℕ V E) (may_flush : Bool) (key : ℕ) (v : V) (s t : S) (es fs : List (ℕ × Slot V)) (e : ℕ × Slot V) (others : List (ℕ × Slot V)) where
+  pub taken_place : (answer : Result Bool (CacheError ℕ E)) (left : Option V) → eqb key e.0 ≡ true → Replaces steps key e others v may_flush s es answer t fs left → IsTakenOrKept key v may_flush fs answer left
+  taken_place (Ok true) left passes h = record { held = λ _. in_front key e.0 v e.1.pins others fs passes h.2; kept = λ no. absurd (true_false refl no); done = λ no. absurd (true_false refl no) }
+  taken_place (Ok false) left passes h = record { held = λ yes. absurd (true_false yes refl); kept = λ _. h.3; done = λ _. h.0 }
+  taken_place (Err x) left passes h = record { held = λ yes. absurd (cc); kept = λ no. absurd (cc); done = λ no. absurd (cc) }
+
+-- a call that may flush takes the value, unless it is refused
+pub taken_at_last : {V E : Type 0} (key : ℕ) (v : V) (fs : List (ℕ × Slot V)) (answer : Result Bool (CacheError ℕ E)) (left : Option V) (b : Bool) → answer ≡ Ok b → IsTakenOrKept key v true fs answer left → value_at (eqb key) fs ≡ Some v
+taken_at_last key v fs answer left true is taken = taken.held is
+taken_at_last key v fs answer left false is taken = let e = taken.done is in absurd (cc)
+
+module _ {S : Type 0} (view : S → StorageView) (old new : ImageStorage S) (caches : MetadataCaches S) (may_flush : Bool) (key : ℕ) where
+  abbrev seen : ImageStorage S → StorageView
+  seen s = view (storage_of s)
+
+  -- ---- an L2 table
+  module _ (l2 : Cache (L2CacheBackend S) ℕ L2TableView) (others : l2 ≡ with_entries caches.l2 l2.entries) (v : L2TableView) (value left : Option L2TableView) (is : value ≡ Some v) (answer : Result Bool (CacheError ℕ MetadataError))
+      (there : IfSome (lookup_entry (eqb key) caches.l2.entries) (λ e. IfSome value (λ v.
+          Replaces (l2_steps seen caches.l2.backend.header.fields.cluster_bits) key e (remove_entry (eqb key) caches.l2.entries) v may_flush old caches.l2.entries answer new l2.entries left)))
+      (missing : IsNone (lookup (eqb key) caches.l2.entries)
+          → IfSome value (λ v. InsertsNew (l2_steps seen caches.l2.backend.header.fields.cluster_bits) eqb caches.l2.size may_flush key v old caches.l2.entries answer new l2.entries left)) where
+    -- it is the value that is put in, or kept
+    pub l2_taken : IsTakenOrKept key v may_flush l2.entries answer left
+    l2_taken =
+        found_or_not (lookup_entry (eqb key) caches.l2.entries)
+        (λ none. taken_new (l2_steps seen caches.l2.backend.header.fields.cluster_bits) caches.l2.size may_flush key v old new caches.l2.entries l2.entries answer left
+            (rw is at (missing (rw (lookup_none (eqb key) caches.l2.entries none) refl))))
+        (λ e some. taken_place (l2_steps seen caches.l2.backend.header.fields.cluster_bits) may_flush key v old new caches.l2.entries l2.entries e (remove_entry (eqb key) caches.l2.entries) answer left
+            (Contains-lookup_entry (eqb key) caches.l2.entries e some).1 (rw is at (rw some at there)))
+
+    pub table_put : (may_flush ≡ true → TablesMayGo (order_of caches) (refblocks caches)) → (h : HeaderFields) (p : Pending) → (seen old).is_honest → AreSound h p caches (byte_at (seen old).contents)
+        → v.is_modified ≡ false → HoldsKnown h caches (byte_at (seen old).contents) v.bytes key → StaySound h p (seen old) caches (seen new) (record caches { l2 = l2 })
+    table_put may h p honest sound clean holds =
+        let bits = caches.l2.backend.header.fields.cluster_bits in
+        let P : List CachedTable → Bytes → Type 0 = λ ts base. AreKept h (order_of caches) p ts (refblocks caches) base in
+        let all : List CachedTable → Bytes → Bytes = λ ts base. known_bytes (cluster_size h) ts (refblocks caches) base in
+        let same_backend : l2.backend ≡ caches.l2.backend = ap (λ c. c.backend) others in
+        let distinct : (ts : List CachedTable) (base : Bytes) → P ts base → AreDistinct ts = λ ts base are. loaded_distinct (cluster_size h) (HasL2 h base) base ts are.l2_loaded in
+        let add : (t : CachedTable) (ts : List CachedTable) (base : Bytes) → P ts base → t.place % 2 ^ bits ≡ 0 → AreElsewhere t.place ts → t.is_modified ≡ false → HoldsWhatStands all (2 ^ bits) t ts base
+                → P (t ∷ ts) base × (all (t ∷ ts) base ≡ all ts base) =
+            λ t ts base are aligned away clean current.
+            l2_add h (order_of caches) p (refblocks caches) t ts base are (subst (λ n. t.place % 2 ^ n ≡ 0) sound.l2_bits aligned) away clean (subst (λ n. HoldsWhatStands all (2 ^ n) t ts base) sound.l2_bits current) in
+        let holds' : (i : ℕ) → i < 2 ^ bits → byte_at v.bytes i ≡ all (l2_tables caches) (byte_at (seen old).contents) (key * 2 ^ bits + i) =
+            subst (λ n. (i : ℕ) → i < 2 ^ n → byte_at v.bytes i ≡ all (l2_tables caches) (byte_at (seen old).contents) (key * 2 ^ n + i)) (sym sound.l2_bits) holds in
+        let f : Flushed seen bits (λ (t : L2TableView). t.bytes) (λ t. t.is_modified) cleared_l2 (λ v. refl) (λ v. refl) P all old new (l2_tables caches)
+                (cached_tables bits (λ (t : L2TableView). t.bytes) (λ t. t.is_modified) l2.entries) =
+            found_or_not (lookup_entry (eqb key) caches.l2.entries)
+            (λ none. insert_done seen bits (λ (t : L2TableView). t.bytes) (λ t. t.is_modified) cleared_l2 (λ v. refl) (λ v. refl) P all distinct (l2_drop h (order_of caches) p (refblocks caches)) add (l2_promote h (order_of caches) p (refblocks caches)) caches.l2.size may_flush
+                (λ flush. l2_step h (order_of caches) p bits sound.l2_bits (refblocks caches) (may flush)) key v clean
+                old new caches.l2.entries l2.entries answer left honest sound.kept (lookup_none (eqb key) caches.l2.entries none) holds'
+                (rw is at (missing (rw (lookup_none (eqb key) caches.l2.entries none) refl))))
+            (λ e some. replace_done seen bits (λ (t : L2TableView). t.bytes) (λ t. t.is_modified) cleared_l2 (λ v. refl) (λ v. refl) P all distinct (l2_drop h (order_of caches) p (refblocks caches)) add (l2_promote h (order_of caches) p (refblocks caches)) caches.l2.size may_flush
+                (λ flush. l2_step h (order_of caches) p bits sound.l2_bits (refblocks caches) (may flush)) key v clean
+                old new caches.l2.entries e some honest sound.kept l2.entries answer left holds' (rw is at (rw some at there))) in
+        rw same_backend (record {
+          honest = f.honest;
+          sound = record { l2_bits = sound.l2_bits; rb_bits = sound.rb_bits; kept = f.kept };
+          known = f.known;
+          since = f.since;
+        })
+
+  -- ---- a refblock
+  module _ (rb : Cache (RefBlockCacheBackend S) ℕ RefBlockView) (others : rb ≡ with_entries caches.rb rb.entries) (v : RefBlockView) (value left : Option RefBlockView) (is : value ≡ Some v) (answer : Result Bool (CacheError ℕ MetadataError))
+      (there : IfSome (lookup_entry (eqb key) caches.rb.entries) (λ e. IfSome value (λ v.
+          Replaces (rb_steps seen caches.rb.backend.header.fields.cluster_bits) key e (remove_entry (eqb key) caches.rb.entries) v may_flush old caches.rb.entries answer new rb.entries left)))
+      (missing : IsNone (lookup (eqb key) caches.rb.entries)
+          → IfSome value (λ v. InsertsNew (rb_steps seen caches.rb.backend.header.fields.cluster_bits) eqb caches.rb.size may_flush key v old caches.rb.entries answer new rb.entries left)) where
+    -- it is the value that is put in, or kept
+    pub rb_taken : IsTakenOrKept key v may_flush rb.entries answer left
+    rb_taken =
+        found_or_not (lookup_entry (eqb key) caches.rb.entries)
+        (λ none. taken_new (rb_steps seen caches.rb.backend.header.fields.cluster_bits) caches.rb.size may_flush key v old new caches.rb.entries rb.entries answer left
+            (rw is at (missing (rw (lookup_none (eqb key) caches.rb.entries none) refl))))
+        (λ e some. taken_place (rb_steps seen caches.rb.backend.header.fields.cluster_bits) may_flush key v old new caches.rb.entries rb.entries e (remove_entry (eqb key) caches.rb.entries) answer left
+            (Contains-lookup_entry (eqb key) caches.rb.entries e some).1 (rw is at (rw some at there)))
+
+    pub block_put : (may_flush ≡ true → BlocksMayGo (order_of caches) (l2_tables caches)) → (h : HeaderFields) (p : Pending) → (seen old).is_honest → AreSound h p caches (byte_at (seen old).contents)
+        → v.is_modified ≡ false → HoldsKnown h caches (byte_at (seen old).contents) v.bytes key → StaySound h p (seen old) caches (seen new) (record caches { rb = rb })
+    block_put may h p honest sound clean holds =
+        let bits = caches.rb.backend.header.fields.cluster_bits in
+        let P : List CachedTable → Bytes → Type 0 = λ ts base. AreKept h (order_of caches) p (l2_tables caches) ts base in
+        let all : List CachedTable → Bytes → Bytes = λ ts base. known_bytes (cluster_size h) (l2_tables caches) ts base in
+        let same_backend : rb.backend ≡ caches.rb.backend = ap (λ c. c.backend) others in
+        let distinct : (ts : List CachedTable) (base : Bytes) → P ts base → AreDistinct ts = λ ts base are. loaded_distinct (cluster_size h) (HasBlock h base) base ts are.rb_loaded in
+        let add : (t : CachedTable) (ts : List CachedTable) (base : Bytes) → P ts base → t.place % 2 ^ bits ≡ 0 → AreElsewhere t.place ts → t.is_modified ≡ false → HoldsWhatStands all (2 ^ bits) t ts base
+                → P (t ∷ ts) base × (all (t ∷ ts) base ≡ all ts base) =
+            λ t ts base are aligned away clean current.
+            rb_add h (order_of caches) p (l2_tables caches) t ts base are (subst (λ n. t.place % 2 ^ n ≡ 0) sound.rb_bits aligned) away clean (subst (λ n. HoldsWhatStands all (2 ^ n) t ts base) sound.rb_bits current) in
+        let holds' : (i : ℕ) → i < 2 ^ bits → byte_at v.bytes i ≡ all (refblocks caches) (byte_at (seen old).contents) (key * 2 ^ bits + i) =
+            subst (λ n. (i : ℕ) → i < 2 ^ n → byte_at v.bytes i ≡ all (refblocks caches) (byte_at (seen old).contents) (key * 2 ^ n + i)) (sym sound.rb_bits) holds in
+        let f : Flushed seen bits (λ (b : RefBlockView). b.bytes) (λ b. b.is_modified) cleared_rb (λ v. refl) (λ v. refl) P all old new (refblocks caches)
+                (cached_tables bits (λ (b : RefBlockView). b.bytes) (λ b. b.is_modified) rb.entries) =
+            found_or_not (lookup_entry (eqb key) caches.rb.entries)
+            (λ none. insert_done seen bits (λ (b : RefBlockView). b.bytes) (λ b. b.is_modified) cleared_rb (λ v. refl) (λ v. refl) P all distinct (rb_drop h (order_of caches) p (l2_tables caches)) add (rb_promote h (order_of caches) p (l2_tables caches)) caches.rb.size may_flush
+                (λ flush. rb_step h (order_of caches) p bits sound.rb_bits (l2_tables caches) (may flush)) key v clean
+                old new caches.rb.entries rb.entries answer left honest sound.kept (lookup_none (eqb key) caches.rb.entries none) holds'
+                (rw is at (missing (rw (lookup_none (eqb key) caches.rb.entries none) refl))))
+            (λ e some. replace_done seen bits (λ (b : RefBlockView). b.bytes) (λ b. b.is_modified) cleared_rb (λ v. refl) (λ v. refl) P all distinct (rb_drop h (order_of caches) p (l2_tables caches)) add (rb_promote h (order_of caches) p (l2_tables caches)) caches.rb.size may_flush
+                (λ flush. rb_step h (order_of caches) p bits sound.rb_bits (l2_tables caches) (may flush)) key v clean
+                old new caches.rb.entries e some honest sound.kept rb.entries answer left holds' (rw is at (rw some at there))) in
+        rw same_backend (record {
+          honest = f.honest;
+          sound = record { l2_bits = sound.l2_bits; rb_bits = sound.rb_bits; kept = f.kept };
+          known = f.known;
+          since = f.since;
+        })
