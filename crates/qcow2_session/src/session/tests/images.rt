@@ -4,7 +4,7 @@ use super::{
 };
 use image_access::{Format, Storage, TraceStorage};
 use qcow2_image::{ImageError, MappingKind, Qcow2, Qcow2CreateBuilder};
-use std::alloc::Global;
+use std::alloc::{AllocError, Global};
 use std::test::Fail;
 
 // The size of the image that a storage is probed to hold.
@@ -13,6 +13,15 @@ fn probed_size<S: Storage>(alloc: Global, mut storage: S) -> Result<Option<u64>,
         return Ok(None);
     }
     Ok(Some(opened(alloc, storage, true)?.size()))
+}
+
+// The same after so many writes.
+fn size_after(
+    alloc: Global,
+    storage: &TraceStorage,
+    writes: usize,
+) -> Result<Option<u64>, ImageError> {
+    probed_size(alloc, stopped(alloc, storage, writes)?)
 }
 
 #[test]
@@ -40,8 +49,11 @@ fn a_new_image_is_there_once_its_header_is(rt: HostRuntime) -> Result<(), Fail> 
         (6, Some(0)),
         (7, Some(65536)),
     ] {
-        let storage = stopped(alloc, &storage, writes)?;
-        assert_eq!(rt; probed_size(alloc, storage)?, size, "after {writes} writes");
+        assert_eq!(rt;
+            size_after(alloc, &storage, writes)?,
+            size,
+            "after {writes} writes"
+        );
     }
     Ok(())
 }
@@ -83,14 +95,22 @@ fn creation_refusal<S: Storage>(alloc: Global, storage: S, cluster: u64, width: 
     (storage, refusal(done))
 }
 
+// The same, and how often the storage was called.
+fn refused_options(alloc: Global, cluster: u64, width: u64) -> Result<(u8, u64), AllocError> {
+    let storage = TraceStorage::new(alloc, Vec::new(alloc))?;
+    let (storage, number) = creation_refusal(alloc, storage, cluster, width);
+    Ok((number, storage.calls()))
+}
+
 #[test]
 fn options_that_are_not_allowed(rt: HostRuntime) -> Result<(), Fail> {
     let alloc = rt.alloc();
     for (cluster, width) in [(513, 16), (256, 16), (65536, 128)] {
-        let storage = TraceStorage::new(alloc, Vec::new(alloc))?;
-        let (storage, number) = creation_refusal(alloc, storage, cluster, width);
-        assert_eq!(rt; number, 5, "{cluster} {width}");
-        assert_eq!(rt; storage.calls(), 0, "{cluster} {width}");
+        assert_eq!(rt;
+            refused_options(alloc, cluster, width)?,
+            (5, 0),
+            "{cluster} {width}"
+        );
     }
     Ok(())
 }

@@ -3,7 +3,7 @@ ghost use Rattle.std.specs.Prelude.{◌≡◌};
 ghost use Rattle.qcow2_image.specs.Image.{number_of};
 ghost use Rattle.qcow2_image.specs.Prepared.{image_of};
 
-use super::{copied, fresh, guest_bytes, opened, refusal, written};
+use super::{copied, fresh, opened, refusal};
 use crate::session::{let_go, read};
 use image_access::Storage;
 use qcow2_image::{CommitRefused, ImageError, MappingKind, Prepared, Qcow2};
@@ -21,6 +21,17 @@ fn shown<S: Storage>(image: &Qcow2<S>, prepared: &Prepared) -> (u64, u64, bool, 
 }
 
 // Prepares a range and discards it.
+fn prepare_and_let_go<S: Storage>(
+    image: &mut Qcow2<S>,
+    offset: u64,
+    length: u64,
+) -> Result<(u64, u64, bool, bool), ImageError> {
+    let prepared = image.prepare_data_mapping(offset, length, true)?;
+    let shown = shown(image, &prepared);
+    let_go(image, prepared);
+    Ok(shown)
+}
+
 fn prepared_and_let_go<S: Storage>(
     alloc: Global,
     storage: S,
@@ -29,10 +40,7 @@ fn prepared_and_let_go<S: Storage>(
     length: u64,
 ) -> Result<(u64, u64, bool, bool), ImageError> {
     let mut image = opened(alloc, storage, writable)?;
-    let prepared = image.prepare_data_mapping(offset, length, true)?;
-    let shown = shown(&image, &prepared);
-    let_go(&mut image, prepared);
-    Ok(shown)
+    prepare_and_let_go(&mut image, offset, length)
 }
 
 #[test]
@@ -146,18 +154,34 @@ fn commit_elsewhere<S: Storage>(
 
 // The refusal's number, and what both images say of the range then.
 fn foreign_commit<S: Storage>(
+    first: &mut Qcow2<S>,
+    second: &mut Qcow2<S>,
+) -> Result<(u8, MappingKind, MappingKind), ImageError> {
+    let number = commit_elsewhere(first, second)?;
+    let (mapping, _length) = first.get_mapping(0, 512)?;
+    let (other, _length) = second.get_mapping(0, 512)?;
+    Ok((number, mapping.kind, other.kind))
+}
+
+// The same between image 1 and another one.
+fn committed_to<S: Storage>(
+    alloc: Global,
+    first: &mut Qcow2<S>,
+    second: S,
+) -> Result<(u8, MappingKind, MappingKind), ImageError> {
+    match Qcow2::open_image(alloc, second, true, 2) {
+        Ok(mut second) => foreign_commit(first, &mut second),
+        Err((_storage, refusal)) => Err(refusal),
+    }
+}
+
+fn committed_elsewhere<S: Storage>(
     alloc: Global,
     first: S,
     second: S,
 ) -> Result<(u8, MappingKind, MappingKind), ImageError> {
     let mut first = opened(alloc, first, true)?;
-    let Ok(mut second) = Qcow2::<S>::open_image(alloc, second, true, 2) else {
-        return Err(ImageError::Limit);
-    };
-    let number = commit_elsewhere(&mut first, &mut second)?;
-    let (mapping, _length) = first.get_mapping(0, 512)?;
-    let (other, _length) = second.get_mapping(0, 512)?;
-    Ok((number, mapping.kind, other.kind))
+    committed_to(alloc, &mut first, second)
 }
 
 #[test]
@@ -166,7 +190,7 @@ fn another_images_mapping_comes_back(rt: HostRuntime) -> Result<(), Fail> {
     let storage = fresh(alloc)?;
     let zero = MappingKind::Zero { explicit: false };
     assert_eq!(rt;
-        foreign_commit(alloc, copied(alloc, &storage)?, storage)?,
+        committed_elsewhere(alloc, copied(alloc, &storage)?, storage)?,
         (11, zero, zero)
     );
     Ok(())

@@ -2,8 +2,9 @@
 use super::{
     copied, created, fresh, guest_bytes, mapped, number_at, opened, stopped, write_all, written,
 };
-use image_access::Storage;
-use qcow2_image::{ImageError, MappingKind, Place};
+use crate::session::read;
+use image_access::{Storage, StorageError, TraceStorage};
+use qcow2_image::{ImageError, MappingKind, Place, Qcow2};
 use std::alloc::Global;
 use std::test::Fail;
 
@@ -18,25 +19,29 @@ fn a_write_and_a_flush_write_in_order(rt: HostRuntime) -> Result<(), Fail> {
     Ok(())
 }
 
-// Two numbers of the file.
-fn numbers<S: Storage>(mut storage: S, first: u64, second: u64) -> Result<(u64, u64), ImageError> {
-    Ok((
-        number_at(&mut storage, first)?,
-        number_at(&mut storage, second)?,
-    ))
+// Four numbers of the file.
+fn numbers<S: Storage>(storage: &mut S, at: [u64; 4]) -> Result<[u64; 4], StorageError> {
+    let [first, second, third, fourth] = at;
+    Ok([
+        number_at(storage, first)?,
+        number_at(storage, second)?,
+        number_at(storage, third)?,
+        number_at(storage, fourth)?,
+    ])
 }
 
 #[test]
 fn a_write_leaves_its_entries_and_counts(rt: HostRuntime) -> Result<(), Fail> {
     let alloc = rt.alloc();
-    let storage = written(alloc, fresh(alloc)?, 0, &[0x11; 512])?;
+    let mut storage = written(alloc, fresh(alloc)?, 0, &[0x11; 512])?;
     assert_eq!(rt;
-        numbers(copied(alloc, &storage)?, 1536, 2048)?,
-        (0x8000_0000_0000_0800, 0x8000_0000_0000_0a00)
-    );
-    assert_eq!(rt;
-        numbers(copied(alloc, &storage)?, 1024, 1032)?,
-        (0x0001_0001_0001_0001, 0x0001_0001_0000_0000)
+        numbers(&mut storage, [1536, 2048, 1024, 1032])?,
+        [
+            0x8000_0000_0000_0800,
+            0x8000_0000_0000_0a00,
+            0x0001_0001_0001_0001,
+            0x0001_0001_0000_0000
+        ]
     );
     assert_eq!(rt; mapped(alloc, storage, 0, 512)?, (raw(2560), 512));
     Ok(())
@@ -62,6 +67,15 @@ fn stop<S: Storage>(
     Ok((counts, l1_entry, l2_entry, bytes.first().copied()))
 }
 
+// The same of the file after so many writes.
+fn stop_after(
+    alloc: Global,
+    storage: &TraceStorage,
+    writes: usize,
+) -> Result<(u64, u64, u64, Option<u8>), ImageError> {
+    stop(alloc, stopped(alloc, storage, writes)?)
+}
+
 #[test]
 fn a_write_is_seen_once_its_entry_is_there(rt: HostRuntime) -> Result<(), Fail> {
     let alloc = rt.alloc();
@@ -78,7 +92,7 @@ fn a_write_is_seen_once_its_entry_is_there(rt: HostRuntime) -> Result<(), Fail> 
         (6, 0x0001_0001_0000_0000, l1, l2, 0x11),
     ] {
         assert_eq!(rt;
-            stop(alloc, stopped(alloc, &storage, writes)?)?,
+            stop_after(alloc, &storage, writes)?,
             (counts, l1_entry, l2_entry, Some(guest)),
             "after {writes} writes"
         );
@@ -96,7 +110,7 @@ fn write_and_read<S: Storage>(
 ) -> Result<Vec<u8>, ImageError> {
     let mut image = opened(alloc, storage, true)?;
     write_all(&mut image, at, bytes)?;
-    super::read(alloc, &mut image, range.0, range.1)
+    read(alloc, &mut image, range.0, range.1)
 }
 
 #[test]
@@ -132,26 +146,31 @@ fn what_was_flushed_is_read(rt: HostRuntime) -> Result<(), Fail> {
 }
 
 // Writes the first 60 clusters, one by one, and flushes.
+fn write_sixty<S: Storage>(image: &mut Qcow2<S>) -> Result<(), ImageError> {
+    for cluster in 0..60u64 {
+        write_all(image, cluster * 512, &[0x44; 512])?;
+    }
+    image.flush()
+}
+
 fn sixty_clusters<S: Storage>(alloc: Global, storage: S) -> Result<S, ImageError> {
     let mut image = opened(alloc, storage, true)?;
-    for cluster in 0..60u64 {
-        write_all(&mut image, cluster * 512, &[0x44; 512])?;
-    }
-    image.flush()?;
+    write_sixty(&mut image)?;
     Ok(image.into_storage())
 }
 
 #[test]
 fn refblocks_are_made_on_the_way(rt: HostRuntime) -> Result<(), Fail> {
     let alloc = rt.alloc();
-    let storage = sixty_clusters(alloc, created(alloc, 65536, 64)?)?;
-    for (cluster, host) in [(58, 32256), (59, 33280)] {
-        assert_eq!(rt;
-            mapped(alloc, copied(alloc, &storage)?, cluster * 512, 512)?,
-            (raw(host), 512)
-        );
-    }
-    assert_eq!(rt; numbers(copied(alloc, &storage)?, 520, 32768)?, (32768, 1));
-    assert_eq!(rt; numbers(storage, 32776, 32784)?, (1, 0));
+    let mut storage = sixty_clusters(alloc, created(alloc, 65536, 64)?)?;
+    assert_eq!(rt;
+        numbers(&mut storage, [520, 32768, 32776, 32784])?,
+        [32768, 1, 1, 0]
+    );
+    assert_eq!(rt;
+        mapped(alloc, copied(alloc, &storage)?, 29696, 512)?,
+        (raw(32256), 512)
+    );
+    assert_eq!(rt; mapped(alloc, storage, 30208, 512)?, (raw(33280), 512));
     Ok(())
 }
