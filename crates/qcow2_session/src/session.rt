@@ -464,3 +464,6 @@ fn discard_all<S: Storage, F: WrappedFormat<S>>(image: &mut Qcow2<S, F>, slots: 
     }
     prepared.destroy_empty();
 }
+
+#[cfg(test)]
+mod tests;

@@ -187,3 +187,6 @@ fn print_answers<W: Write>(
     print_replies(output, replies)?;
     Ok(!any_refused(replies))
 }
+
+#[cfg(test)]
+mod tests;

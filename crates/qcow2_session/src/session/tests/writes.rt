@@ -1,0 +1,176 @@
+//! What is written, and in which order.
+use super::{
+    copied, created, fresh, guest_bytes, mapped, number_at, opened, stopped, write_all, written,
+};
+use crate::session::read;
+use image_access::{Storage, StorageError, TraceStorage};
+use qcow2_image::{ImageError, MappingKind, Place, Qcow2};
+use std::alloc::Global;
+use std::test::Fail;
+
+#[test]
+fn a_write_and_a_flush_write_in_order(rt: HostRuntime) -> Result<(), Fail> {
+    let alloc = rt.alloc();
+    let storage = written(alloc, fresh(alloc)?, 0, &[0x11; 512])?;
+    assert_eq!(rt;
+        storage.writes(alloc)?.as_slice(),
+        [1024, 2048, 1536, 2560, 1024, 2048].as_slice()
+    );
+    Ok(())
+}
+
+// Four numbers of the file.
+fn numbers<S: Storage>(storage: &mut S, at: [u64; 4]) -> Result<[u64; 4], StorageError> {
+    let [first, second, third, fourth] = at;
+    Ok([
+        number_at(storage, first)?,
+        number_at(storage, second)?,
+        number_at(storage, third)?,
+        number_at(storage, fourth)?,
+    ])
+}
+
+#[test]
+fn a_write_leaves_its_entries_and_counts(rt: HostRuntime) -> Result<(), Fail> {
+    let alloc = rt.alloc();
+    let mut storage = written(alloc, fresh(alloc)?, 0, &[0x11; 512])?;
+    assert_eq!(rt;
+        numbers(&mut storage, [1536, 2048, 1024, 1032])?,
+        [
+            0x8000_0000_0000_0800,
+            0x8000_0000_0000_0a00,
+            0x0001_0001_0001_0001,
+            0x0001_0001_0000_0000
+        ]
+    );
+    assert_eq!(rt; mapped(alloc, storage, 0, 512)?, (raw(2560), 512));
+    Ok(())
+}
+
+fn raw(offset: u64) -> MappingKind {
+    MappingKind::Raw {
+        place: Place::Image,
+        offset,
+        writable: true,
+    }
+}
+
+// The counts of clusters 4 to 7, the L1 entry, the L2 entry and the guest's first byte.
+fn stop<S: Storage>(
+    alloc: Global,
+    mut storage: S,
+) -> Result<(u64, u64, u64, Option<u8>), ImageError> {
+    let counts = number_at(&mut storage, 1032)?;
+    let l1_entry = number_at(&mut storage, 1536)?;
+    let l2_entry = number_at(&mut storage, 2048)?;
+    let bytes = guest_bytes(alloc, storage, 0, 1)?;
+    Ok((counts, l1_entry, l2_entry, bytes.first().copied()))
+}
+
+// The same of the file after so many writes.
+fn stop_after(
+    alloc: Global,
+    storage: &TraceStorage,
+    writes: usize,
+) -> Result<(u64, u64, u64, Option<u8>), ImageError> {
+    stop(alloc, stopped(alloc, storage, writes)?)
+}
+
+#[test]
+fn a_write_is_seen_once_its_entry_is_there(rt: HostRuntime) -> Result<(), Fail> {
+    let alloc = rt.alloc();
+    let storage = written(alloc, fresh(alloc)?, 0, &[0x11; 512])?;
+    let l1 = 0x8000_0000_0000_0800;
+    let l2 = 0x8000_0000_0000_0a00;
+    for (writes, counts, l1_entry, l2_entry, guest) in [
+        (0, 0, 0, 0, 0),
+        (1, 0x0001_0000_0000_0000, 0, 0, 0),
+        (2, 0x0001_0000_0000_0000, 0, 0, 0),
+        (3, 0x0001_0000_0000_0000, l1, 0, 0),
+        (4, 0x0001_0000_0000_0000, l1, 0, 0),
+        (5, 0x0001_0001_0000_0000, l1, 0, 0),
+        (6, 0x0001_0001_0000_0000, l1, l2, 0x11),
+    ] {
+        assert_eq!(rt;
+            stop_after(alloc, &storage, writes)?,
+            (counts, l1_entry, l2_entry, Some(guest)),
+            "after {writes} writes"
+        );
+    }
+    Ok(())
+}
+
+// Writes bytes, and reads a range of the same image.
+fn write_and_read<S: Storage>(
+    alloc: Global,
+    storage: S,
+    at: u64,
+    bytes: &[u8],
+    range: (u64, u64),
+) -> Result<Vec<u8>, ImageError> {
+    let mut image = opened(alloc, storage, true)?;
+    write_all(&mut image, at, bytes)?;
+    read(alloc, &mut image, range.0, range.1)
+}
+
+#[test]
+fn what_is_written_is_read(rt: HostRuntime) -> Result<(), Fail> {
+    let alloc = rt.alloc();
+    let bytes = [0x11; 512];
+    assert_eq!(rt;
+        write_and_read(alloc, fresh(alloc)?, 0, &bytes, (0, 512))?.as_slice(),
+        bytes.as_slice()
+    );
+    Ok(())
+}
+
+#[test]
+fn what_is_written_across_clusters_is_read(rt: HostRuntime) -> Result<(), Fail> {
+    let alloc = rt.alloc();
+    assert_eq!(rt;
+        write_and_read(alloc, fresh(alloc)?, 510, &[1, 2, 3, 4], (508, 8))?.as_slice(),
+        [0, 0, 1, 2, 3, 4, 0, 0].as_slice()
+    );
+    Ok(())
+}
+
+#[test]
+fn what_was_flushed_is_read(rt: HostRuntime) -> Result<(), Fail> {
+    let alloc = rt.alloc();
+    let storage = written(alloc, fresh(alloc)?, 32766, &[5, 6, 7, 8])?;
+    assert_eq!(rt;
+        guest_bytes(alloc, storage, 32764, 8)?.as_slice(),
+        [0, 0, 5, 6, 7, 8, 0, 0].as_slice()
+    );
+    Ok(())
+}
+
+// Writes the first 60 clusters, one by one, and flushes.
+fn write_sixty<S: Storage>(image: &mut Qcow2<S>) -> Result<(), ImageError> {
+    for cluster in 0..60u64 {
+        write_all(image, cluster * 512, &[0x44; 512])?;
+    }
+    image.flush()
+}
+
+fn sixty_clusters<S: Storage>(alloc: Global, storage: S) -> Result<S, ImageError> {
+    let mut image = opened(alloc, storage, true)?;
+    write_sixty(&mut image)?;
+    Ok(image.into_storage())
+}
+
+#[test]
+fn refblocks_are_made_on_the_way(rt: HostRuntime) -> Result<(), Fail> {
+    let alloc = rt.alloc();
+    let mut storage = sixty_clusters(alloc, created(alloc, 65536, 64)?)?;
+    assert_eq!(rt;
+        numbers(&mut storage, [520, 32768, 32776, 32784])?,
+        [32768, 1, 1, 0]
+    );
+    assert_eq!(rt;
+        mapped(alloc, copied(alloc, &storage)?, 29696, 512)?,
+        (raw(32256), 512)
+    );
+    assert_eq!(rt; mapped(alloc, storage, 30208, 512)?, (raw(33280), 512));
+    Ok(())
+}
