@@ -121,6 +121,14 @@ fn misuse_of_prepared_slots(rt: HostRuntime) -> Result<(), Fail> {
     Ok(())
 }
 
+fn read_mapped(slot: u8, at: u64) -> Command {
+    Command::ReadMapped {
+        slot,
+        at,
+        length: 1,
+    }
+}
+
 // What image 1 says of the second cluster, which stands at 2560.
 fn second_cluster() -> Mapping {
     Mapping {
@@ -148,21 +156,9 @@ fn a_mapping_slot_is_read(rt: HostRuntime) -> Result<(), Fail> {
             offset: 512,
             max: 512
         },
-        Command::ReadMapped {
-            slot: 3,
-            at: 0,
-            length: 1
-        },
-        Command::ReadMapped {
-            slot: 3,
-            at: 512,
-            length: 1
-        },
-        Command::ReadMapped {
-            slot: 4,
-            at: 0,
-            length: 1
-        },
+        read_mapped(3, 0),
+        read_mapped(3, 512),
+        read_mapped(4, 0),
     ]?;
     assert_eq!(rt;
         replies(alloc, fresh(alloc)?, &commands)?.as_slice(),
