@@ -24,6 +24,7 @@ use Rattle.qcow2_alloc.specs.ImageStorage.{storage_of}
 use Rattle.qcow2_alloc.specs.TableCaches.{l2_steps, rb_steps, cleared_l2, cleared_rb, IsTableOf, IsBlockOf}
 use Rattle.qcow2_alloc.specs.KeptTables.{cached_tables, AreKept}
 use Rattle.qcow2_alloc.specs.MetadataCaches.{order_of, l2_tables, refblocks, known_of, AreSound, StaySound, KeepSound}
+use Rattle.qcow2_alloc.proofs.KeptTables.Fitting.{flush_fits}
 use Rattle.qcow2_alloc.proofs.KeptTables.Writing.{l2_wrote, rb_wrote, Flushed, flushed_all, flushed_clean}
 
 -- the flush of all behind an answer
@@ -50,6 +51,13 @@ module _ (h : HeaderFields) (d : Direction) (p : Pending) (bits : ℕ) (same : b
       let w = rb_wrote h d p l2s front back t t' base base' kept may (subst (λ n. IsWrittenSo (2 ^ n) t t' base base') same so) in
       (w.kept, w.known, w.safe)
 
+-- a table that was written is of the same format
+pub table_still : (h : HeaderFields) (v : L2TableView) → IsTableOf h v → IsTableOf h (cleared_l2 v)
+table_still h v is = record { bits = is.bits; zero_bit = is.zero_bit; external = is.external }
+
+pub block_still : (h : HeaderFields) (v : RefBlockView) → IsBlockOf h v → IsBlockOf h (cleared_rb v)
+block_still h v is = record { bits = is.bits; order = is.order }
+
 module _ {S : Type 0} (view : S → StorageView) (old new : ImageStorage S) (caches : MetadataCaches S) where
   abbrev seen : ImageStorage S → StorageView
   seen s = view (storage_of s)
@@ -64,11 +72,17 @@ module _ {S : Type 0} (view : S → StorageView) (old new : ImageStorage S) (cac
         let f = flushed_all seen bits (λ (t : L2TableView). t.bytes) (λ t. t.is_modified) cleared_l2 (IsTableOf caches.l2.backend.header.fields) (λ v. refl) (λ v. refl)
             (λ ts base. AreKept h (order_of caches) p ts (refblocks caches) base)
             (λ ts base. known_bytes (cluster_size h) ts (refblocks caches) base)
-            (l2_step h (order_of caches) p bits sound.l2_bits (refblocks caches) may)
+            (l2_step h (order_of caches) p bits sound.l2_format.bits (refblocks caches) may)
             old new [] caches.l2.entries l2.entries (all_of (l2_steps seen caches.l2.backend.header.fields) old new caches.l2.entries l2.entries answer flushes).0 honest sound.kept (all_of (l2_steps seen caches.l2.backend.header.fields) old new caches.l2.entries l2.entries answer flushes).1 in
         rw same_backend (record {
           honest = f.honest;
-          sound = record { l2_bits = sound.l2_bits; rb_bits = sound.rb_bits; kept = f.kept };
+          sound = record {
+            l2_format = sound.l2_format;
+            rb_format = sound.rb_format;
+            l2_fit = flush_fits seen caches.l2.backend.header.fields.cluster_bits (λ (t : L2TableView). t.bytes) (λ t. t.is_modified) cleared_l2 (IsTableOf caches.l2.backend.header.fields) (table_still caches.l2.backend.header.fields) old new caches.l2.entries l2.entries answer sound.l2_fit flushes;
+            rb_fit = sound.rb_fit;
+            kept = f.kept;
+          };
           known = f.known;
           since = f.since;
         })
@@ -89,11 +103,17 @@ module _ {S : Type 0} (view : S → StorageView) (old new : ImageStorage S) (cac
         let f = flushed_all seen bits (λ (b : RefBlockView). b.bytes) (λ b. b.is_modified) cleared_rb (IsBlockOf caches.rb.backend.header.fields) (λ v. refl) (λ v. refl)
             (λ ts base. AreKept h (order_of caches) p (l2_tables caches) ts base)
             (λ ts base. known_bytes (cluster_size h) (l2_tables caches) ts base)
-            (rb_step h (order_of caches) p bits sound.rb_bits (l2_tables caches) may)
+            (rb_step h (order_of caches) p bits sound.rb_format.bits (l2_tables caches) may)
             old new [] caches.rb.entries rb.entries (all_of (rb_steps seen caches.rb.backend.header.fields) old new caches.rb.entries rb.entries answer flushes).0 honest sound.kept (all_of (rb_steps seen caches.rb.backend.header.fields) old new caches.rb.entries rb.entries answer flushes).1 in
         rw same_backend (record {
           honest = f.honest;
-          sound = record { l2_bits = sound.l2_bits; rb_bits = sound.rb_bits; kept = f.kept };
+          sound = record {
+            l2_format = sound.l2_format;
+            rb_format = sound.rb_format;
+            l2_fit = sound.l2_fit;
+            rb_fit = flush_fits seen caches.rb.backend.header.fields.cluster_bits (λ (b : RefBlockView). b.bytes) (λ b. b.is_modified) cleared_rb (IsBlockOf caches.rb.backend.header.fields) (block_still caches.rb.backend.header.fields) old new caches.rb.entries rb.entries answer sound.rb_fit flushes;
+            kept = f.kept;
+          };
           known = f.known;
           since = f.since;
         })
