@@ -4,6 +4,7 @@ pub mod Writing
 pub mod Entries
 pub mod Listing
 pub mod Getting
+pub mod Fitting
 pub mod Flushing
 pub mod Fetching
 pub mod Inserting

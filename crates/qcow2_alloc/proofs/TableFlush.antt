@@ -8,12 +8,12 @@ use Rattle.qcow2_metadata.specs.declared.error.MetadataError.{MetadataError}
 use Rattle.qcow2_metadata.specs.declared.error.MetadataError.TheVariants.{Storage}
 use Rattle.qcow2_alloc.specs.TableSteps.{FailsToFlush}
 
-module _ {S V : Type 0} (view : S → StorageView) (cluster_bits : ℕ) (bytes : V → List ℕ) (is_modified : V → Bool) (cleared : V → V) where
+module _ {S V : Type 0} (view : S → StorageView) (cluster_bits : ℕ) (bytes : V → List ℕ) (is_modified : V → Bool) (cleared : V → V) (IsFit : V → Type 0) where
   pub write_fails : (s t : S) (k : ℕ) (v : V) (e : StorageError) (before : StorageView) → before ≡ view s
       → is_modified v ≡ true → length (bytes v) ≡ 2 ^ cluster_bits
       → Changes {T = Unit {0}} before (view t) (Err e) (overwritten before.contents (k * 2 ^ cluster_bits) (bytes v))
       → Calls {T = Unit {0}} before (view t) (Err e)
-      → FailsToFlush view cluster_bits bytes is_modified cleared s k v (Storage e) t
+      → FailsToFlush view cluster_bits bytes is_modified cleared IsFit s k v (Storage e) t
   write_fails s t k v e before same modified fits changes calls = record {
     modified = modified;
     stopped = λ honest. subst (λ (b : StorageView). b.is_honest → ((view t).contents ≡ b.contents) ⊎ ((length (bytes v) ≡ 2 ^ cluster_bits) × ((view t).contents ≡ overwritten b.contents (k * 2 ^ cluster_bits) (bytes v)))) same

@@ -32,6 +32,11 @@ AreLoaded size IsNamed [] base = Unit {0}
 AreLoaded size IsNamed (t ∷ ts) base =
     (t.place % size ≡ 0) × AreElsewhere t.place ts × (t.is_modified ≡ false → IsNamed (t.place / size) → IsCurrent size t base) × AreLoaded size IsNamed ts base
 
+-- each value is fit
+abbrev pub AllFit : {V : Type 0} → (V → Type 0) → List (ℕ × Slot V) → Type 0
+AllFit IsFit [] = Unit {0}
+AllFit IsFit (e ∷ es) = IsFit e.1.value × AllFit IsFit es
+
 -- What is kept of the L2 tables and the refblocks of the caches over the bytes of a storage.
 pub record AreKept (h : HeaderFields) (d : Direction) (p : Pending) (l2s rbs : List CachedTable) (base : Bytes) : Type 0 where
   pub kept : IsKept h d p l2s rbs base

@@ -3,7 +3,7 @@ use Rattle.std.specs.Prelude.{ℕ, ◌+◌, ◌*◌, ◌≡◌, ◌<◌, ◌==�
 use Rattle.image_access.specs.Moments.{StorageView}
 use Rattle.qcow2_metadata.specs.Bytes.{Bytes, byte_at}
 use Rattle.qcow2_metadata.specs.declared.header.HeaderFields.{HeaderFields}
-use Rattle.qcow2_metadata.specs.Header.{cluster_size}
+use Rattle.qcow2_metadata.specs.Header.{cluster_size, has_data_file}
 use Rattle.qcow2_metadata.specs.L2Table.{L2TableView}
 use Rattle.qcow2_metadata.specs.RefBlock.{RefBlockView}
 use Rattle.qcow2_metadata.specs.Tables.{CachedTable}
@@ -16,7 +16,15 @@ use Rattle.qcow2_alloc.specs.declared.cache.Direction.TheVariants as D
 use Rattle.qcow2_alloc.specs.declared.cache.MetadataCaches.{MetadataCaches}
 use Rattle.qcow2_alloc.specs.declared.image_storage.ImageStorage.{ImageStorage}
 use Rattle.qcow2_alloc.specs.ImageStorage.{storage_of}
-use Rattle.qcow2_alloc.specs.KeptTables.{cached_tables, AreKept, IsSafeSince}
+use Rattle.qcow2_alloc.specs.TableCaches.{IsTableOf, IsBlockOf}
+use Rattle.qcow2_alloc.specs.KeptTables.{cached_tables, AllFit, AreKept, IsSafeSince}
+
+-- the header says the same of tables
+pub record HasFormat (g h : HeaderFields) : Type 0 where
+  pub bits : g.cluster_bits ≡ h.cluster_bits
+  pub order : g.refcount_order ≡ h.refcount_order
+  pub zero_bit : (g.version == 3) ≡ (h.version == 3)
+  pub external : has_data_file g ≡ has_data_file h
 
 -- which tables are written first
 abbrev pub order : Direction → Order.Direction
@@ -51,8 +59,10 @@ module _ {S : Type 0} where
 
   -- they are the caches of an image with this header, and what is kept of them is kept over these bytes, while this is pending
   pub record AreSound (h : HeaderFields) (p : Pending) (caches : MetadataCaches S) (base : Bytes) : Type 0 where
-    pub l2_bits : caches.l2.backend.header.fields.cluster_bits ≡ h.cluster_bits
-    pub rb_bits : caches.rb.backend.header.fields.cluster_bits ≡ h.cluster_bits
+    pub l2_format : HasFormat caches.l2.backend.header.fields h
+    pub rb_format : HasFormat caches.rb.backend.header.fields h
+    pub l2_fit : AllFit (IsTableOf caches.l2.backend.header.fields) caches.l2.entries
+    pub rb_fit : AllFit (IsBlockOf caches.rb.backend.header.fields) caches.rb.entries
     pub kept : AreKept h (order_of caches) p (l2_tables caches) (refblocks caches) base
 
   -- they are sound again, nothing known changes, and a stop is as safe as before
@@ -66,11 +76,11 @@ module _ {S : Type 0} where
   abbrev pub HoldsKnown : HeaderFields → MetadataCaches S → Bytes → List ℕ → ℕ → Type 0
   HoldsKnown h caches base bytes cluster = (i : ℕ) → i < cluster_size h → byte_at bytes i ≡ known_of h caches base (cluster * cluster_size h + i)
 
-  -- what putting in an unmodified table that holds what is known in its cluster does to sound caches over an honest storage
-  abbrev pub PutSound : (S → StorageView) → ImageStorage S → MetadataCaches S → ImageStorage S → MetadataCaches S → Option ℕ → List ℕ → Bool → Type 0
-  PutSound view old caches new caches' cluster bytes is_modified =
+  -- what putting in an unmodified table of the image's format that holds what is known in its cluster does to sound caches over an honest storage
+  abbrev pub PutSound : (S → StorageView) → ImageStorage S → MetadataCaches S → ImageStorage S → MetadataCaches S → (HeaderFields → Type 0) → Option ℕ → List ℕ → Bool → Type 0
+  PutSound view old caches new caches' IsFitFor cluster bytes is_modified =
       (h : HeaderFields) (p : Pending) → (view (storage_of old)).is_honest → AreSound h p caches (byte_at (view (storage_of old)).contents)
-      → is_modified ≡ false → IfSome cluster (HoldsKnown h caches (byte_at (view (storage_of old)).contents) bytes)
+      → IsFitFor h → is_modified ≡ false → IfSome cluster (HoldsKnown h caches (byte_at (view (storage_of old)).contents) bytes)
       → StaySound h p (view (storage_of old)) caches (view (storage_of new)) caches'
 
   -- what loading, flushing and turning do to sound caches over an honest storage

@@ -26,7 +26,7 @@ apart k j size ne = elim (cases_lt j k) [
   | inr le ↦ inr (ends_before k j size (omega arith))
 ]
 
-module _ {S V : Type 0} (view : S → StorageView) (cluster_bits : ℕ) (bytes : V → List ℕ) (is_modified : V → Bool) (cleared : V → V) where
+module _ {S V : Type 0} (view : S → StorageView) (cluster_bits : ℕ) (bytes : V → List ℕ) (is_modified : V → Bool) (cleared : V → V) (IsFit : V → Type 0) where
   abbrev at : S → ℕ → List ℕ
   at s j = bytes_at (view s).contents (j * 2 ^ cluster_bits) (2 ^ cluster_bits)
 
@@ -52,15 +52,15 @@ module _ {S V : Type 0} (view : S → StorageView) (cluster_bits : ℕ) (bytes :
     at_any j true h = here j h
     at_any j false h = there j h
 
-  loaded_reads : (s t : S) (k : ℕ) (v : V) → LoadsTable view cluster_bits bytes is_modified cleared s k v t → (view s).is_honest
+  loaded_reads : (s t : S) (k : ℕ) (v : V) → LoadsTable view cluster_bits bytes is_modified cleared IsFit s k v t → (view s).is_honest
       → (view t).is_honest × (bytes v ≡ at s k) × ((j : ℕ) → at t j ≡ at s j)
   loaded_reads s t k v h honest = (h.calls.honest honest, h.read honest, λ j. same_at s t j (h.keeps honest))
 
-  failed_load_keeps : (s t : S) (k : ℕ) (e : MetadataError) → FailsToLoad view cluster_bits bytes is_modified cleared s k e t → (view s).is_honest
+  failed_load_keeps : (s t : S) (k : ℕ) (e : MetadataError) → FailsToLoad view cluster_bits bytes is_modified cleared IsFit s k e t → (view s).is_honest
       → (view t).is_honest × ((j : ℕ) → at t j ≡ at s j)
   failed_load_keeps s t k e h honest = (h.calls.honest honest, λ j. same_at s t j (h.keeps honest))
 
-  flush_writes : (s t : S) (k : ℕ) (v w : V) → FlushesTable view cluster_bits bytes is_modified cleared s k v w t → (view s).is_honest
+  flush_writes : (s t : S) (k : ℕ) (v w : V) → FlushesTable view cluster_bits bytes is_modified cleared IsFit s k v w t → (view s).is_honest
       → (view t).is_honest × ((j : ℕ) → at t j ≡ cond (eqb k j) (laid_over is_modified bytes v (at s j)) (at s j))
   flush_writes s t k v w h honest = (
     h.calls.honest honest,
@@ -70,7 +70,7 @@ module _ {S V : Type 0} (view : S → StorageView) (cluster_bits : ℕ) (bytes :
     ]) refl,
   )
 
-  failed_flush_keeps : (s t : S) (k : ℕ) (v : V) (e : MetadataError) → FailsToFlush view cluster_bits bytes is_modified cleared s k v e t → (view s).is_honest
+  failed_flush_keeps : (s t : S) (k : ℕ) (v : V) (e : MetadataError) → FailsToFlush view cluster_bits bytes is_modified cleared IsFit s k v e t → (view s).is_honest
       → (view t).is_honest × (is_modified v ≡ false → (j : ℕ) → at t j ≡ at s j) × ((j : ℕ) → eqb k j ≡ false → at t j ≡ at s j)
   failed_flush_keeps s t k v e h honest = (
     h.calls.honest honest,
@@ -83,7 +83,7 @@ module _ {S V : Type 0} (view : S → StorageView) (cluster_bits : ℕ) (bytes :
 
   -- a backend of tables keeps the laws
   pub table_laws : ((v : V) → is_modified (cleared v) ≡ false) → ((v : V) → bytes (cleared v) ≡ bytes v)
-      → IsLawful (table_steps view cluster_bits bytes is_modified cleared) eqb is_modified bytes at (λ s. (view s).is_honest)
+      → IsLawful (table_steps view cluster_bits bytes is_modified cleared IsFit) eqb is_modified bytes at (λ s. (view s).is_honest)
   table_laws unmodified same = record {
     load_gives = λ s t k v h. h.unmodified;
     load_reads = loaded_reads;

@@ -19,7 +19,7 @@ refused e = storage_result {T = Unit {0}} (Err e)
 abbrev pub IsFault : MetadataError → Type 0
 IsFault e = IsErrOf (refused e) Fault
 
-module _ {S V : Type 0} (view : S → StorageView) (cluster_bits : ℕ) (bytes : V → List ℕ) (is_modified : V → Bool) (cleared : V → V) where
+module _ {S V : Type 0} (view : S → StorageView) (cluster_bits : ℕ) (bytes : V → List ℕ) (is_modified : V → Bool) (cleared : V → V) (IsFit : V → Type 0) where
   -- where a cluster begins
   abbrev pub place_of : ℕ → ℕ
   place_of k = k * 2 ^ cluster_bits
@@ -27,6 +27,7 @@ module _ {S V : Type 0} (view : S → StorageView) (cluster_bits : ℕ) (bytes :
   -- an unmodified table with the bytes of its cluster
   pub record LoadsTable (s : S) (k : ℕ) (v : V) (t : S) : Type 0 where
     pub unmodified : is_modified v ≡ false
+    pub fits : IsFit v
     pub read : (view s).is_honest → bytes v ≡ bytes_at (view s).contents (place_of k) (2 ^ cluster_bits)
     pub calls : Calls (view s) (view t) done
     pub keeps : Keeps (view s) (view t)

@@ -4,6 +4,7 @@ ghost use Rattle.qcow2_laws.specs.Clusters.{L2DependsOnRb, RbDependsOnL2};
 ghost use Rattle.qcow2_laws.specs.Caches.{AreClean, BlocksMayGo, TablesMayGo};
 ghost use Rattle.qcow2_alloc.specs.ImageError.{IsOfTables};
 ghost use Rattle.qcow2_alloc.specs.ImageStorage.{storage_of};
+ghost use Rattle.qcow2_alloc.specs.TableCaches.{IsTableOf, IsBlockOf};
 ghost use Rattle.qcow2_alloc.specs.MetadataCaches.{order_of, l2_at, rb_at, l2_tables, refblocks, AreAllWritten, KeepSound, PutSound};
 
 mod backends;
@@ -221,7 +222,7 @@ impl<S: Storage> MetadataCaches<S> {
         ensures cause { IfErr result IsOfTables }
         ensures order { order_of self.new ≡ order_of self.old }
         ensures held { OnOk result (IfSome table.cluster (λ cluster. l2_at self.new cluster ≡ Some table)) }
-        ensures keeps { PutSound S.view storage.old self.old storage.new self.new table.cluster table.bytes table.is_modified }
+        ensures keeps { PutSound S.view storage.old self.old storage.new self.new (λ h. IsTableOf h table) table.cluster table.bytes table.is_modified }
     {
         let Some(cluster) = table.get_cluster() else {
             unreachable!();
@@ -245,7 +246,7 @@ impl<S: Storage> MetadataCaches<S> {
         ensures cause { IfErr result IsOfTables }
         ensures order { order_of self.new ≡ order_of self.old }
         ensures held { OnOk result (IfSome block.cluster (λ cluster. rb_at self.new cluster ≡ Some block)) }
-        ensures keeps { PutSound S.view storage.old self.old storage.new self.new block.cluster block.bytes block.is_modified }
+        ensures keeps { PutSound S.view storage.old self.old storage.new self.new (λ h. IsBlockOf h block) block.cluster block.bytes block.is_modified }
     {
         let Some(cluster) = block.get_cluster() else {
             unreachable!();

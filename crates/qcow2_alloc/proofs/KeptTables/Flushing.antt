@@ -21,9 +21,10 @@ use Rattle.qcow2_alloc.specs.declared.image_storage.ImageStorage.{ImageStorage}
 use Rattle.qcow2_alloc.specs.AsyncLruCache.{Cache, with_entries}
 use Rattle.qcow2_alloc.specs.CacheAnswers.{Unit₀, Flushes, FlushesAll}
 use Rattle.qcow2_alloc.specs.ImageStorage.{storage_of}
-use Rattle.qcow2_alloc.specs.TableCaches.{l2_steps, rb_steps, cleared_l2, cleared_rb}
+use Rattle.qcow2_alloc.specs.TableCaches.{l2_steps, rb_steps, cleared_l2, cleared_rb, IsTableOf, IsBlockOf}
 use Rattle.qcow2_alloc.specs.KeptTables.{cached_tables, AreKept}
 use Rattle.qcow2_alloc.specs.MetadataCaches.{order_of, l2_tables, refblocks, known_of, AreSound, StaySound, KeepSound}
+use Rattle.qcow2_alloc.proofs.KeptTables.Fitting.{flush_fits}
 use Rattle.qcow2_alloc.proofs.KeptTables.Writing.{l2_wrote, rb_wrote, Flushed, flushed_all, flushed_clean}
 
 -- the flush of all behind an answer
@@ -50,25 +51,38 @@ module _ (h : HeaderFields) (d : Direction) (p : Pending) (bits : ℕ) (same : b
       let w = rb_wrote h d p l2s front back t t' base base' kept may (subst (λ n. IsWrittenSo (2 ^ n) t t' base base') same so) in
       (w.kept, w.known, w.safe)
 
+-- a table that was written is of the same format
+pub table_still : (h : HeaderFields) (v : L2TableView) → IsTableOf h v → IsTableOf h (cleared_l2 v)
+table_still h v is = record { bits = is.bits; zero_bit = is.zero_bit; external = is.external }
+
+pub block_still : (h : HeaderFields) (v : RefBlockView) → IsBlockOf h v → IsBlockOf h (cleared_rb v)
+block_still h v is = record { bits = is.bits; order = is.order }
+
 module _ {S : Type 0} (view : S → StorageView) (old new : ImageStorage S) (caches : MetadataCaches S) where
   abbrev seen : ImageStorage S → StorageView
   seen s = view (storage_of s)
 
   -- ---- the L2 tables
   module _ (l2 : Cache (L2CacheBackend S) ℕ L2TableView) (others : l2 ≡ with_entries caches.l2 l2.entries) (answer : Result Unit₀ (CacheError ℕ MetadataError))
-      (flushes : Flushes (l2_steps seen caches.l2.backend.header.fields.cluster_bits) old caches.l2.entries answer new l2.entries) where
+      (flushes : Flushes (l2_steps seen caches.l2.backend.header.fields) old caches.l2.entries answer new l2.entries) where
     pub tables_flushed : TablesMayGo (order_of caches) (refblocks caches) → KeepSound view old caches new (record caches { l2 = l2 })
     tables_flushed may = λ h p honest sound.
         let bits = caches.l2.backend.header.fields.cluster_bits in
         let same_backend : l2.backend ≡ caches.l2.backend = ap (λ c. c.backend) others in
-        let f = flushed_all seen bits (λ (t : L2TableView). t.bytes) (λ t. t.is_modified) cleared_l2 (λ v. refl) (λ v. refl)
+        let f = flushed_all seen bits (λ (t : L2TableView). t.bytes) (λ t. t.is_modified) cleared_l2 (IsTableOf caches.l2.backend.header.fields) (λ v. refl) (λ v. refl)
             (λ ts base. AreKept h (order_of caches) p ts (refblocks caches) base)
             (λ ts base. known_bytes (cluster_size h) ts (refblocks caches) base)
-            (l2_step h (order_of caches) p bits sound.l2_bits (refblocks caches) may)
-            old new [] caches.l2.entries l2.entries (all_of (l2_steps seen caches.l2.backend.header.fields.cluster_bits) old new caches.l2.entries l2.entries answer flushes).0 honest sound.kept (all_of (l2_steps seen caches.l2.backend.header.fields.cluster_bits) old new caches.l2.entries l2.entries answer flushes).1 in
+            (l2_step h (order_of caches) p bits sound.l2_format.bits (refblocks caches) may)
+            old new [] caches.l2.entries l2.entries (all_of (l2_steps seen caches.l2.backend.header.fields) old new caches.l2.entries l2.entries answer flushes).0 honest sound.kept (all_of (l2_steps seen caches.l2.backend.header.fields) old new caches.l2.entries l2.entries answer flushes).1 in
         rw same_backend (record {
           honest = f.honest;
-          sound = record { l2_bits = sound.l2_bits; rb_bits = sound.rb_bits; kept = f.kept };
+          sound = record {
+            l2_format = sound.l2_format;
+            rb_format = sound.rb_format;
+            l2_fit = flush_fits seen caches.l2.backend.header.fields.cluster_bits (λ (t : L2TableView). t.bytes) (λ t. t.is_modified) cleared_l2 (IsTableOf caches.l2.backend.header.fields) (table_still caches.l2.backend.header.fields) old new caches.l2.entries l2.entries answer sound.l2_fit flushes;
+            rb_fit = sound.rb_fit;
+            kept = f.kept;
+          };
           known = f.known;
           since = f.since;
         })
@@ -76,24 +90,30 @@ module _ {S : Type 0} (view : S → StorageView) (old new : ImageStorage S) (cac
     pub tables_written : answer ≡ Ok tt → AreClean (l2_tables (record caches { l2 = l2 }))
     tables_written ok =
         let same_backend : l2.backend ≡ caches.l2.backend = ap (λ c. c.backend) others in
-        rw same_backend (flushed_clean seen caches.l2.backend.header.fields.cluster_bits (λ (t : L2TableView). t.bytes) (λ t. t.is_modified) cleared_l2 (λ v. refl) (λ v. refl)
+        rw same_backend (flushed_clean seen caches.l2.backend.header.fields.cluster_bits (λ (t : L2TableView). t.bytes) (λ t. t.is_modified) cleared_l2 (IsTableOf caches.l2.backend.header.fields) (λ v. refl) (λ v. refl)
         old new caches.l2.entries l2.entries None refl (rw ok at flushes))
 
   -- ---- the refblocks
   module _ (rb : Cache (RefBlockCacheBackend S) ℕ RefBlockView) (others : rb ≡ with_entries caches.rb rb.entries) (answer : Result Unit₀ (CacheError ℕ MetadataError))
-      (flushes : Flushes (rb_steps seen caches.rb.backend.header.fields.cluster_bits) old caches.rb.entries answer new rb.entries) where
+      (flushes : Flushes (rb_steps seen caches.rb.backend.header.fields) old caches.rb.entries answer new rb.entries) where
     pub blocks_flushed : BlocksMayGo (order_of caches) (l2_tables caches) → KeepSound view old caches new (record caches { rb = rb })
     blocks_flushed may = λ h p honest sound.
         let bits = caches.rb.backend.header.fields.cluster_bits in
         let same_backend : rb.backend ≡ caches.rb.backend = ap (λ c. c.backend) others in
-        let f = flushed_all seen bits (λ (b : RefBlockView). b.bytes) (λ b. b.is_modified) cleared_rb (λ v. refl) (λ v. refl)
+        let f = flushed_all seen bits (λ (b : RefBlockView). b.bytes) (λ b. b.is_modified) cleared_rb (IsBlockOf caches.rb.backend.header.fields) (λ v. refl) (λ v. refl)
             (λ ts base. AreKept h (order_of caches) p (l2_tables caches) ts base)
             (λ ts base. known_bytes (cluster_size h) (l2_tables caches) ts base)
-            (rb_step h (order_of caches) p bits sound.rb_bits (l2_tables caches) may)
-            old new [] caches.rb.entries rb.entries (all_of (rb_steps seen caches.rb.backend.header.fields.cluster_bits) old new caches.rb.entries rb.entries answer flushes).0 honest sound.kept (all_of (rb_steps seen caches.rb.backend.header.fields.cluster_bits) old new caches.rb.entries rb.entries answer flushes).1 in
+            (rb_step h (order_of caches) p bits sound.rb_format.bits (l2_tables caches) may)
+            old new [] caches.rb.entries rb.entries (all_of (rb_steps seen caches.rb.backend.header.fields) old new caches.rb.entries rb.entries answer flushes).0 honest sound.kept (all_of (rb_steps seen caches.rb.backend.header.fields) old new caches.rb.entries rb.entries answer flushes).1 in
         rw same_backend (record {
           honest = f.honest;
-          sound = record { l2_bits = sound.l2_bits; rb_bits = sound.rb_bits; kept = f.kept };
+          sound = record {
+            l2_format = sound.l2_format;
+            rb_format = sound.rb_format;
+            l2_fit = sound.l2_fit;
+            rb_fit = flush_fits seen caches.rb.backend.header.fields.cluster_bits (λ (b : RefBlockView). b.bytes) (λ b. b.is_modified) cleared_rb (IsBlockOf caches.rb.backend.header.fields) (block_still caches.rb.backend.header.fields) old new caches.rb.entries rb.entries answer sound.rb_fit flushes;
+            kept = f.kept;
+          };
           known = f.known;
           since = f.since;
         })
@@ -101,5 +121,5 @@ module _ {S : Type 0} (view : S → StorageView) (old new : ImageStorage S) (cac
     pub blocks_written : answer ≡ Ok tt → AreClean (refblocks (record caches { rb = rb }))
     blocks_written ok =
         let same_backend : rb.backend ≡ caches.rb.backend = ap (λ c. c.backend) others in
-        rw same_backend (flushed_clean seen caches.rb.backend.header.fields.cluster_bits (λ (b : RefBlockView). b.bytes) (λ b. b.is_modified) cleared_rb (λ v. refl) (λ v. refl)
+        rw same_backend (flushed_clean seen caches.rb.backend.header.fields.cluster_bits (λ (b : RefBlockView). b.bytes) (λ b. b.is_modified) cleared_rb (IsBlockOf caches.rb.backend.header.fields) (λ v. refl) (λ v. refl)
         old new caches.rb.entries rb.entries None refl (rw ok at flushes))

@@ -32,7 +32,7 @@ cluster_aligned k bits = let e : k * 2 ^ bits ≡ k * 2 ^ bits + 0 = omega arith
 abbrev pub HoldsWhatStands : (List CachedTable → Bytes → Bytes) → ℕ → CachedTable → List CachedTable → Bytes → Type 0
 HoldsWhatStands all size t ts base = IsCurrent size t base ⊎ ((i : ℕ) → i < size → t.bytes i ≡ all ts base (t.place + i))
 
-module _ {S V : Type 0} (view : S → StorageView) (bits : ℕ) (bytes : V → List ℕ) (is_modified : V → Bool) (cleared : V → V)
+module _ {S V : Type 0} (view : S → StorageView) (bits : ℕ) (bytes : V → List ℕ) (is_modified : V → Bool) (cleared : V → V) (IsFit : V → Type 0)
     (unmodified : (v : V) → is_modified (cleared v) ≡ false) (same_bytes : (v : V) → bytes (cleared v) ≡ bytes v)
     (P : List CachedTable → Bytes → Type 0) (all : List CachedTable → Bytes → Bytes)
     (distinct : (ts : List CachedTable) (base : Bytes) → P ts base → AreDistinct ts)
@@ -50,19 +50,19 @@ module _ {S V : Type 0} (view : S → StorageView) (bits : ℕ) (bytes : V → L
   contents s = byte_at (view s).contents
 
   abbrev Done : S → S → List (ℕ × Slot V) → List (ℕ × Slot V) → Type 0
-  Done s t es fs = Flushed view bits bytes is_modified cleared unmodified same_bytes P all s t (tables es) (tables fs)
+  Done s t es fs = Flushed view bits bytes is_modified cleared IsFit unmodified same_bytes P all s t (tables es) (tables fs)
 
   pub done_none : (s t : S) (es fs : List (ℕ × Slot V)) → (view s).is_honest → P (tables es) (contents s) → t ≡ s → fs ≡ es → Done s t es fs
   done_none s t es fs honest kept t_is fs_is =
-      subst (λ x. Done s x es fs) (sym t_is) (subst (λ l. Done s s es l) (sym fs_is) (flushed_none view bits bytes is_modified cleared unmodified same_bytes P all s (tables es) honest kept))
+      subst (λ x. Done s x es fs) (sym t_is) (subst (λ l. Done s s es l) (sym fs_is) (flushed_none view bits bytes is_modified cleared IsFit unmodified same_bytes P all s (tables es) honest kept))
 
   pub done_then : (r s t : S) (xs ys zs : List (ℕ × Slot V)) → Done r s xs ys → Done s t ys zs → Done r t xs zs
-  done_then r s t xs ys zs = flushed_then view bits bytes is_modified cleared unmodified same_bytes P all r s t (tables xs) (tables ys) (tables zs)
+  done_then r s t xs ys zs = flushed_then view bits bytes is_modified cleared IsFit unmodified same_bytes P all r s t (tables xs) (tables ys) (tables zs)
 
   -- the list alone changes
   relisted : (s : S) (es fs : List (ℕ × Slot V)) → (view s).is_honest → P (tables es) (contents s) → P (tables fs) (contents s) × (all (tables fs) (contents s) ≡ all (tables es) (contents s)) → Done s s es fs
   relisted s es fs honest kept new =
-      let none = flushed_none view bits bytes is_modified cleared unmodified same_bytes P all s (tables es) honest kept in
+      let none = flushed_none view bits bytes is_modified cleared IsFit unmodified same_bytes P all s (tables es) honest kept in
       record { honest = honest; kept = new.0; known = new.1; since = none.since }
 
   -- ---- a hit
@@ -84,7 +84,7 @@ module _ {S V : Type 0} (view : S → StorageView) (bits : ℕ) (bytes : V → L
 
   -- ---- a load
   loaded_done : (s t : S) (k : ℕ) (v : V) (es : List (ℕ × Slot V)) → (view s).is_honest → P (tables es) (contents s) → lookup (eqb k) es ≡ None
-      → LoadsTable view bits bytes is_modified cleared s k v t → Done s t es es × Done s t es ((k, slot_of v 0) ∷ es)
+      → LoadsTable view bits bytes is_modified cleared IsFit s k v t → Done s t es es × Done s t es ((k, slot_of v 0) ∷ es)
   loaded_done s t k v es honest kept missing l =
       let same : contents t ≡ contents s = ap (λ c. byte_at c) (l.keeps honest) in
       let kept' : P (tables es) (contents t) = subst (λ b. P (tables es) b) (sym same) kept in
@@ -97,7 +97,7 @@ module _ {S V : Type 0} (view : S → StorageView) (bits : ℕ) (bytes : V → L
       (record { honest = l.calls.honest honest; kept = kept'; known = stays; since = since },
        record { honest = l.calls.honest honest; kept = added.0; known = added.1 ∙ stays; since = since })
 
-  failed_load : (s t : S) (k : ℕ) (x : MetadataError) (es : List (ℕ × Slot V)) → (view s).is_honest → P (tables es) (contents s) → FailsToLoad view bits bytes is_modified cleared s k x t → Done s t es es
+  failed_load : (s t : S) (k : ℕ) (x : MetadataError) (es : List (ℕ × Slot V)) → (view s).is_honest → P (tables es) (contents s) → FailsToLoad view bits bytes is_modified cleared IsFit s k x t → Done s t es es
   failed_load s t k x es honest kept l =
       let same : contents t ≡ contents s = ap (λ c. byte_at c) (l.keeps honest) in
       let still : IsSafeBetween (contents s) (all (tables es) (contents s)) (contents t) = λ backing m ok known_ok. rw same ok in
@@ -109,9 +109,9 @@ module _ {S V : Type 0} (view : S → StorageView) (bits : ℕ) (bytes : V → L
       }
 
   -- ---- with room for one more, which an eviction may make
-  module _ (size : ℕ) (may_flush : Bool) (step : may_flush ≡ true → WritesOne view bits bytes is_modified cleared unmodified same_bytes P all) where
+  module _ (size : ℕ) (may_flush : Bool) (step : may_flush ≡ true → WritesOne view bits bytes is_modified cleared IsFit unmodified same_bytes P all) where
     evicted : (s t : S) (es fs : List (ℕ × Slot V)) → (view s).is_honest → P (tables es) (contents s)
-        → Evicts (table_steps view bits bytes is_modified cleared) eqb size may_flush s es t fs → Done s t es fs
+        → Evicts (table_steps view bits bytes is_modified cleared IsFit) eqb size may_flush s es t fs → Done s t es fs
     evicted s t es fs honest kept v =
         let e : ℕ × Slot V = v.entry in
         let w : ℕ × Slot V = (e.0, record { value = v.clean; pins = e.1.pins }) in
@@ -120,7 +120,7 @@ module _ {S V : Type 0} (view : S → StorageView) (bits : ℕ) (bytes : V → L
         let both = tables_both bits bytes is_modified sp.front sp.back in
         let whole : tables es ≡ tables sp.front ++ table e ∷ tables sp.back = ap tables sp.is ∙ at in
         let kept' : P (tables sp.front ++ table e ∷ tables sp.back) (contents s) = subst (λ l. P l (contents s)) whole kept in
-        let one = flushed_entry view bits bytes is_modified cleared unmodified same_bytes P all (step v.must.may) s t (tables sp.front) (tables sp.back) e None w.1 honest kept' (v.flushed, refl) in
+        let one = flushed_entry view bits bytes is_modified cleared IsFit unmodified same_bytes P all (step v.must.may) s t (tables sp.front) (tables sp.back) e None w.1 honest kept' (v.flushed, refl) in
         let clean : is_modified v.clean ≡ false = ap is_modified v.flushed.clean ∙ unmodified e.1.value in
         let dropped = drop_clean (tables sp.front) (tables sp.back) (table w) (contents t) one.kept clean in
         let apart : AreDistinct (tables (sp.front ++ e ∷ sp.back)) = subst (λ l. AreDistinct (tables l)) sp.is (distinct (tables es) (contents s) kept) in
@@ -134,14 +134,14 @@ module _ {S V : Type 0} (view : S → StorageView) (bits : ℕ) (bytes : V → L
         }
 
     pub room_done : (s t : S) (es fs : List (ℕ × Slot V)) → (view s).is_honest → P (tables es) (contents s)
-        → HasRoom (table_steps view bits bytes is_modified cleared) eqb size may_flush s es t fs → Done s t es fs
+        → HasRoom (table_steps view bits bytes is_modified cleared IsFit) eqb size may_flush s es t fs → Done s t es fs
     room_done s t es fs honest kept room = elim room [
       | inl there ↦ done_none s t es fs honest kept there.1 there.2
       | inr evicts ↦ evicted s t es fs honest kept evicts
     ]
 
     pub no_room_done : (s t : S) (es fs : List (ℕ × Slot V)) (r : Result Bool (CacheError ℕ MetadataError)) → (view s).is_honest → P (tables es) (contents s)
-        → HasNoRoom (table_steps view bits bytes is_modified cleared) eqb size may_flush s es r t fs → Done s t es fs
+        → HasNoRoom (table_steps view bits bytes is_modified cleared IsFit) eqb size may_flush s es r t fs → Done s t es fs
     no_room_done s t es fs (Ok true) honest kept h = absurd h
     no_room_done s t es fs (Ok false) honest kept h = done_none s t es fs honest kept h.2 h.3
     no_room_done s t es fs (Err InUse) honest kept h = done_none s t es fs honest kept h.2 h.3
@@ -152,11 +152,11 @@ module _ {S V : Type 0} (view : S → StorageView) (bits : ℕ) (bytes : V → L
         let sp = split_oldest es e h.goes in
         let whole : tables es ≡ tables sp.front ++ table e ∷ tables sp.back = ap tables sp.is ∙ tables_at bits bytes is_modified sp.front sp.back e in
         let kept' : P (tables sp.front ++ table e ∷ tables sp.back) (contents s) = subst (λ l. P l (contents s)) whole kept in
-        let one = flushed_entry view bits bytes is_modified cleared unmodified same_bytes P all (step h.must.may) s t (tables sp.front) (tables sp.back) e (Some x) e.1 honest kept' (h.failed, refl) in
+        let one = flushed_entry view bits bytes is_modified cleared IsFit unmodified same_bytes P all (step h.must.may) s t (tables sp.front) (tables sp.back) e (Some x) e.1 honest kept' (h.failed, refl) in
         rw (h.same, whole) one
 
     -- a missing key is still missing once there is room
-    pub still_missing : (s t : S) (k : ℕ) (es fs : List (ℕ × Slot V)) → lookup (eqb k) es ≡ None → HasRoom (table_steps view bits bytes is_modified cleared) eqb size may_flush s es t fs
+    pub still_missing : (s t : S) (k : ℕ) (es fs : List (ℕ × Slot V)) → lookup (eqb k) es ≡ None → HasRoom (table_steps view bits bytes is_modified cleared IsFit) eqb size may_flush s es t fs
         → lookup (eqb k) fs ≡ None
     still_missing s t k es fs missing room = elim room [
       | inl there ↦ ap (lookup (eqb k)) there.2 ∙ missing
@@ -164,7 +164,7 @@ module _ {S V : Type 0} (view : S → StorageView) (bits : ℕ) (bytes : V → L
     ]
 
     pub get_done : (s t : S) (k : ℕ) (es fs : List (ℕ × Slot V)) (r : Result Bool (CacheError ℕ MetadataError)) → (view s).is_honest → P (tables es) (contents s) → lookup (eqb k) es ≡ None
-        → GetsNew (table_steps view bits bytes is_modified cleared) eqb size may_flush k s es r t fs → Done s t es fs
+        → GetsNew (table_steps view bits bytes is_modified cleared IsFit) eqb size may_flush k s es r t fs → Done s t es fs
     get_done s t k es fs (Ok true) honest kept missing (r, gs, v, room, loads, is) =
         let first = room_done s r es gs honest kept room in
         let second = (loaded_done r t k v gs first.honest first.kept (still_missing s r k es gs missing room) loads).1 in
@@ -196,7 +196,7 @@ module _ {S V : Type 0} (view : S → StorageView) (bits : ℕ) (bytes : V → L
       still_holds s t es fs d holds i lt = holds i lt ∙ ap (λ (m : Bytes). m (k * 2 ^ bits + i)) (sym d.known)
 
       pub insert_done : (s t : S) (es fs : List (ℕ × Slot V)) (r : Result Bool (CacheError ℕ MetadataError)) (left : Option V) → (view s).is_honest → P (tables es) (contents s) → lookup (eqb k) es ≡ None → Holds s es
-          → InsertsNew (table_steps view bits bytes is_modified cleared) eqb size may_flush k v s es r t fs left → Done s t es fs
+          → InsertsNew (table_steps view bits bytes is_modified cleared IsFit) eqb size may_flush k v s es r t fs left → Done s t es fs
       insert_done s t es fs (Ok true) left honest kept missing holds h =
           let gs : List (ℕ × Slot V) = h.0.0 in
           let first = room_done s t es gs honest kept h.0.1 in
@@ -223,12 +223,12 @@ module _ {S V : Type 0} (view : S → StorageView) (bits : ℕ) (bytes : V → L
         rest_is = let f = split_found (eqb k) es e found in ap tables f.rest ∙ tables_both bits bytes is_modified f.front f.back
 
         pub replace_done : (fs : List (ℕ × Slot V)) (r : Result Bool (CacheError ℕ MetadataError)) (left : Option V) → Holds s es
-            → Replaces (table_steps view bits bytes is_modified cleared) k e (remove_entry (eqb k) es) v may_flush s es r t fs left → Done s t es fs
+            → Replaces (table_steps view bits bytes is_modified cleared IsFit) k e (remove_entry (eqb k) es) v may_flush s es r t fs left → Done s t es fs
         replace_done fs (Ok true) left holds h =
             let f = split_found (eqb k) es e found in
             let w : V = h.1.0 in
-            let one = flushed_entry view bits bytes is_modified cleared unmodified same_bytes P all (step h.0) s t (tables f.front) (tables f.back) e None (record { value = w; pins = e.1.pins }) honest kept'
-                    (subst (λ n. FlushesTable view bits bytes is_modified cleared s n e.1.value w t) (sym own_key) h.1.1, refl) in
+            let one = flushed_entry view bits bytes is_modified cleared IsFit unmodified same_bytes P all (step h.0) s t (tables f.front) (tables f.back) e None (record { value = w; pins = e.1.pins }) honest kept'
+                    (subst (λ n. FlushesTable view bits bytes is_modified cleared IsFit s n e.1.value w t) (sym own_key) h.1.1, refl) in
             let gone = drop_clean (tables f.front) (tables f.back) (table (e.0, record { value = w; pins = e.1.pins })) (contents t) one.kept (ap is_modified h.1.1.clean ∙ unmodified e.1.value) in
             let without : Done s t es (remove_entry (eqb k) es) = record {
                   honest = one.honest;
@@ -245,8 +245,8 @@ module _ {S V : Type 0} (view : S → StorageView) (bits : ℕ) (bytes : V → L
         replace_done fs (Ok false) left holds h = done_none s t es fs honest kept h.1 h.2
         replace_done fs (Err (Backend x)) left holds h =
             let f = split_found (eqb k) es e found in
-            let one = flushed_entry view bits bytes is_modified cleared unmodified same_bytes P all (step h.0) s t (tables f.front) (tables f.back) e (Some x) e.1 honest kept'
-                    (subst (λ n. FailsToFlush view bits bytes is_modified cleared s n e.1.value x t) (sym own_key) h.1, refl) in
+            let one = flushed_entry view bits bytes is_modified cleared IsFit unmodified same_bytes P all (step h.0) s t (tables f.front) (tables f.back) e (Some x) e.1 honest kept'
+                    (subst (λ n. FailsToFlush view bits bytes is_modified cleared IsFit s n e.1.value x t) (sym own_key) h.1, refl) in
             let front = promote (tables f.front) (tables f.back) (table e) (contents t) one.kept in
             let fs_is : tables fs ≡ table e ∷ (tables f.front ++ tables f.back) = ap tables h.2 ∙ ap (λ l. table e ∷ l) rest_is in
             record {

@@ -57,8 +57,10 @@ module _ {S : Type 0} (view : S → StorageView) where
       record {
         honest = f.honest;
         sound = record {
-          l2_bits = f.sound.l2_bits;
-          rb_bits = f.sound.rb_bits;
+          l2_format = f.sound.l2_format;
+          rb_format = f.sound.rb_format;
+          l2_fit = f.sound.l2_fit;
+          rb_fit = f.sound.rb_fit;
           kept = record {
             kept = kept_turned h (order_of b) p (l2_tables b) (refblocks b) (byte_at (view (storage_of s)).contents) f.sound.kept.kept (order to) (may h p f.sound);
             l2_loaded = f.sound.kept.l2_loaded;

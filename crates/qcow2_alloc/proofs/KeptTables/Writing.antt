@@ -127,7 +127,7 @@ laid size place contents bytes m fits modified = fun_ext (λ o. (elim (is_within
   | false ↦ λ isnt. byte_at-overwritten_outside contents place bytes o (subst (λ n. (o < place) ⊎ (place + n ≤ o)) (sym fits) (outside_of place size o isnt)) ∙ rw (modified, isnt) refl
 ]) refl)
 
-module _ {S V : Type 0} (view : S → StorageView) (bits : ℕ) (bytes : V → List ℕ) (is_modified : V → Bool) (cleared : V → V)
+module _ {S V : Type 0} (view : S → StorageView) (bits : ℕ) (bytes : V → List ℕ) (is_modified : V → Bool) (cleared : V → V) (IsFit : V → Type 0)
     (unmodified : (v : V) → is_modified (cleared v) ≡ false) (same_bytes : (v : V) → bytes (cleared v) ≡ bytes v) where
   abbrev table : ℕ × Slot V → CachedTable
   table = cached_table bits bytes is_modified
@@ -136,7 +136,7 @@ module _ {S V : Type 0} (view : S → StorageView) (bits : ℕ) (bytes : V → L
   contents s = byte_at (view s).contents
 
   -- what a flush of an entry leaves of it, and of the bytes
-  pub flushed_so : (s t : S) (k : ℕ) (v w : V) (n m : ℕ) → (view s).is_honest → FlushesTable view bits bytes is_modified cleared s k v w t
+  pub flushed_so : (s t : S) (k : ℕ) (v w : V) (n m : ℕ) → (view s).is_honest → FlushesTable view bits bytes is_modified cleared IsFit s k v w t
       → IsWrittenSo (2 ^ bits) (table (k, record { value = v; pins = n })) (table (k, record { value = w; pins = m })) (contents s) (contents t)
   flushed_so s t k v w n m honest f = record {
     place = refl;
@@ -156,7 +156,7 @@ module _ {S V : Type 0} (view : S → StorageView) (bits : ℕ) (bytes : V → L
       Outcome : Type 0
       Outcome = ((contents t ≡ contents s) × (t1.is_modified ≡ t0.is_modified)) ⊎ ((contents t ≡ known (2 ^ bits) (t0 ∷ []) (contents s)) × ((t1.is_modified ≡ t0.is_modified) ⊎ (t1.is_modified ≡ false)))
 
-  pub failed_so : (s t : S) (k : ℕ) (v : V) (n : ℕ) (e : MetadataError) → (view s).is_honest → FailsToFlush view bits bytes is_modified cleared s k v e t
+  pub failed_so : (s t : S) (k : ℕ) (v : V) (n : ℕ) (e : MetadataError) → (view s).is_honest → FailsToFlush view bits bytes is_modified cleared IsFit s k v e t
       → IsWrittenSo (2 ^ bits) (table (k, record { value = v; pins = n })) (table (k, record { value = v; pins = n })) (contents s) (contents t)
   failed_so s t k v n e honest f = record {
     place = refl;
@@ -167,13 +167,13 @@ module _ {S V : Type 0} (view : S → StorageView) (bits : ℕ) (bytes : V → L
     ];
   }
 
-  pub entry_so : (s t : S) (e : ℕ × Slot V) (x : Option MetadataError) (d : Slot V) → (view s).is_honest → FlushesEntry (table_steps view bits bytes is_modified cleared) s e x t d
+  pub entry_so : (s t : S) (e : ℕ × Slot V) (x : Option MetadataError) (d : Slot V) → (view s).is_honest → FlushesEntry (table_steps view bits bytes is_modified cleared IsFit) s e x t d
       → IsWrittenSo (2 ^ bits) (table e) (table (e.0, d)) (contents s) (contents t)
   entry_so s t e None d honest f = flushed_so s t e.0 e.1.value d.value e.1.pins d.pins honest f.0
   entry_so s t e (Some x) d honest f =
       subst (λ (y : Slot V). IsWrittenSo (2 ^ bits) (table e) (table (e.0, y)) (contents s) (contents t)) (sym f.1) (failed_so s t e.0 e.1.value e.1.pins x honest f.0)
 
-  entry_calls : (s t : S) (e : ℕ × Slot V) (x : Option MetadataError) (d : Slot V) → (view s).is_honest → FlushesEntry (table_steps view bits bytes is_modified cleared) s e x t d
+  entry_calls : (s t : S) (e : ℕ × Slot V) (x : Option MetadataError) (d : Slot V) → (view s).is_honest → FlushesEntry (table_steps view bits bytes is_modified cleared IsFit) s e x t d
       → (view t).is_honest × Passing (view s) (view t) (λ c. c ≡ (view t).contents)
   entry_calls s t e None d honest f = (f.0.calls.honest honest, f.0.calls.time)
   entry_calls s t e (Some x) d honest f = (f.0.calls.honest honest, f.0.calls.time)
@@ -213,7 +213,7 @@ module _ {S V : Type 0} (view : S → StorageView) (bits : ℕ) (bytes : V → L
 
     module _ (step : WritesOne) where
       pub flushed_entry : (s t : S) (front back : List CachedTable) (e : ℕ × Slot V) (x : Option MetadataError) (d : Slot V) → (view s).is_honest → P (front ++ table e ∷ back) (contents s)
-          → FlushesEntry (table_steps view bits bytes is_modified cleared) s e x t d → Flushed s t (front ++ table e ∷ back) (front ++ table (e.0, d) ∷ back)
+          → FlushesEntry (table_steps view bits bytes is_modified cleared IsFit) s e x t d → Flushed s t (front ++ table e ∷ back) (front ++ table (e.0, d) ∷ back)
       flushed_entry s t front back e x d honest kept f =
           let w = step front back (table e) (table (e.0, d)) (contents s) (contents t) kept (entry_so s t e x d honest f) in
           let c = entry_calls s t e x d honest f in
@@ -225,7 +225,7 @@ module _ {S V : Type 0} (view : S → StorageView) (bits : ℕ) (bytes : V → L
           }
 
       pub flushed_all : (s t : S) (front : List CachedTable) (es fs : List (ℕ × Slot V)) (x : Option MetadataError) → (view s).is_honest → P (front ++ cached_tables bits bytes is_modified es) (contents s)
-          → FlushesAll (table_steps view bits bytes is_modified cleared) s es x t fs
+          → FlushesAll (table_steps view bits bytes is_modified cleared IsFit) s es x t fs
           → Flushed s t (front ++ cached_tables bits bytes is_modified es) (front ++ cached_tables bits bytes is_modified fs)
       flushed_all s t front [] fs x honest kept f = rw (f.1, f.2) (flushed_none s (front ++ []) honest kept)
       flushed_all s t front (e ∷ es) fs x honest kept f =
@@ -242,7 +242,7 @@ module _ {S V : Type 0} (view : S → StorageView) (bits : ℕ) (bytes : V → L
           (subst (λ l. Flushed r t l (front ++ table (e.0, d) ∷ back')) (sym moved) (subst (λ l. Flushed r t ((front ++ table (e.0, d) ∷ []) ++ back) l) moved' more)))
 
   -- a flush without a failure leaves nothing modified
-  pub flushed_clean : (s t : S) (es fs : List (ℕ × Slot V)) (x : Option MetadataError) → x ≡ None → FlushesAll (table_steps view bits bytes is_modified cleared) s es x t fs → AreClean (cached_tables bits bytes is_modified fs)
+  pub flushed_clean : (s t : S) (es fs : List (ℕ × Slot V)) (x : Option MetadataError) → x ≡ None → FlushesAll (table_steps view bits bytes is_modified cleared IsFit) s es x t fs → AreClean (cached_tables bits bytes is_modified fs)
   flushed_clean s t [] fs x is f = rw f.2 tt
   flushed_clean s t (e ∷ es) fs x is f =
       let none = none_of f.0 f.3 (sym f.7 ∙ is) in
@@ -252,6 +252,6 @@ module _ {S V : Type 0} (view : S → StorageView) (bits : ℕ) (bytes : V → L
       none_of None b h = (refl, h)
       none_of (Some y) b h = cc
 
-      clean_entry : (a : Option MetadataError) (r : S) (d : Slot V) → a ≡ None → FlushesEntry (table_steps view bits bytes is_modified cleared) s e a r d → is_modified d.value ≡ false
+      clean_entry : (a : Option MetadataError) (r : S) (d : Slot V) → a ≡ None → FlushesEntry (table_steps view bits bytes is_modified cleared IsFit) s e a r d → is_modified d.value ≡ false
       clean_entry None r d h f = ap is_modified f.0.clean ∙ unmodified e.1.value
       clean_entry (Some y) r d h f = cc

@@ -19,7 +19,7 @@ impl<S: Storage> AsyncLruCacheBackend for L2CacheBackend<S> {
     ghost use Rattle.image_access.specs.Contents.{bytes_at};
     ghost use Rattle.qcow2_metadata.specs.L2Table.{L2TableView};
     ghost use Rattle.qcow2_alloc.specs.ImageStorage.{storage_of};
-    ghost use Rattle.qcow2_alloc.specs.TableCaches.{l2_steps, cleared_l2};
+    ghost use Rattle.qcow2_alloc.specs.TableCaches.{l2_steps, cleared_l2, IsTableOf};
     ghost use Rattle.qcow2_alloc.specs.TableLaws.{table_laws};
 
     type Key = HostCluster;
@@ -30,7 +30,7 @@ impl<S: Storage> AsyncLruCacheBackend for L2CacheBackend<S> {
 
     type Store = ImageStorage<S>;
 
-    ghost steps = { λ b. l2_steps (λ s. S.view (storage_of s)) b.header.fields.cluster_bits };
+    ghost steps = { λ b. l2_steps (λ s. S.view (storage_of s)) b.header.fields };
 
     ghost evicted = { λ _ _ _. ⊤ };
 
@@ -79,7 +79,7 @@ impl<S: Storage> AsyncLruCacheBackend for L2CacheBackend<S> {
 
     fn evict(&self, _key: HostCluster, _value: L2Table) {}
 
-    ghost lawful = { λ b. table_laws (λ s. S.view (storage_of s)) b.header.fields.cluster_bits (λ (v : L2TableView). v.bytes) (λ v. v.is_modified) cleared_l2 (λ _. refl) (λ _. refl) };
+    ghost lawful = { λ b. table_laws (λ s. S.view (storage_of s)) b.header.fields.cluster_bits (λ (v : L2TableView). v.bytes) (λ v. v.is_modified) cleared_l2 (IsTableOf b.header.fields) (λ _. refl) (λ _. refl) };
 }
 
 impl<S> L2CacheBackend<S> {
@@ -105,7 +105,7 @@ impl<S: Storage> AsyncLruCacheBackend for RefBlockCacheBackend<S> {
     ghost use Rattle.image_access.specs.Contents.{bytes_at};
     ghost use Rattle.qcow2_metadata.specs.RefBlock.{RefBlockView};
     ghost use Rattle.qcow2_alloc.specs.ImageStorage.{storage_of};
-    ghost use Rattle.qcow2_alloc.specs.TableCaches.{rb_steps, cleared_rb};
+    ghost use Rattle.qcow2_alloc.specs.TableCaches.{rb_steps, cleared_rb, IsBlockOf};
     ghost use Rattle.qcow2_alloc.specs.TableLaws.{table_laws};
 
     type Key = HostCluster;
@@ -116,7 +116,7 @@ impl<S: Storage> AsyncLruCacheBackend for RefBlockCacheBackend<S> {
 
     type Store = ImageStorage<S>;
 
-    ghost steps = { λ b. rb_steps (λ s. S.view (storage_of s)) b.header.fields.cluster_bits };
+    ghost steps = { λ b. rb_steps (λ s. S.view (storage_of s)) b.header.fields };
 
     ghost evicted = { λ _ _ _. ⊤ };
 
@@ -165,7 +165,7 @@ impl<S: Storage> AsyncLruCacheBackend for RefBlockCacheBackend<S> {
 
     fn evict(&self, _key: HostCluster, _value: RefBlock) {}
 
-    ghost lawful = { λ b. table_laws (λ s. S.view (storage_of s)) b.header.fields.cluster_bits (λ (v : RefBlockView). v.bytes) (λ v. v.is_modified) cleared_rb (λ _. refl) (λ _. refl) };
+    ghost lawful = { λ b. table_laws (λ s. S.view (storage_of s)) b.header.fields.cluster_bits (λ (v : RefBlockView). v.bytes) (λ v. v.is_modified) cleared_rb (IsBlockOf b.header.fields) (λ _. refl) (λ _. refl) };
 }
 
 impl<S> RefBlockCacheBackend<S> {

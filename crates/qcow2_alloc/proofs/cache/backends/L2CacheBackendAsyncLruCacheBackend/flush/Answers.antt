@@ -1,7 +1,7 @@
 use Rattle.std.proofs.Common.{◌≡◌, ◌^◌, true, ap, sym, ◌∙◌}
 use Rattle.qcow2_metadata.specs.L2Table.{L2TableView}
 use Rattle.qcow2_alloc.specs.ImageStorage.{storage_of}
-use Rattle.qcow2_alloc.specs.TableCaches.{cleared_l2}
+use Rattle.qcow2_alloc.specs.TableCaches.{cleared_l2, IsTableOf}
 use Rattle.qcow2_alloc.proofs.TableFlush.{write_fails}
 use Rattle.qcow2_alloc.proofs.cache.backends.L2CacheBackendAsyncLruCacheBackend.flush.Goals as goal
 
@@ -11,7 +11,7 @@ returns-in-Err-clause-err g c =
     let same_bits = sym c.cluster_bits.ensures.value ∙ c.if-cluster_bits.false ∙ c.cluster_bits-2.ensures.value in
     let written = rw (c.in-Err.is, same_bits) at (c.write_if_modified.ensures.written modified) in
     let calls = rw c.in-Err.is at c.write_if_modified.ensures.calls in
-    write_fails (λ s. g.S.Storage.view (storage_of s)) c.args.self.now.header.fields.cluster_bits (λ (v : L2TableView). v.bytes) (λ v. v.is_modified) cleared_l2
+    write_fails (λ s. g.S.Storage.view (storage_of s)) c.args.self.now.header.fields.cluster_bits (λ (v : L2TableView). v.bytes) (λ v. v.is_modified) cleared_l2 (IsTableOf c.args.self.now.header.fields)
     c.args.store.now c.write_if_modified.new.storage c.args.key c.args.value.now c.in-Err.e
     (g.S.Storage.view (storage_of c.will_write.new.self)) (ap g.S.Storage.view c.will_write.ensures.storage)
     modified (c.is_modified.ensures.whole.whole ∙ ap (λ n. 2 ^ n) same_bits) written calls
