@@ -1,12 +1,13 @@
 -- One count of a held refblock changes.
-use Rattle.std.proofs.Common.{◌≡◌, ◌≢◌, ◌⊎◌, inl, inr, ℕ, ◌+◌, ◌-◌, ◌*◌, ◌/◌, ◌%◌, ◌^◌, ◌<◌, ◌≤◌, ◌==◌, Bool, true, false, eqb, List, [], ◌∷◌, ◌++◌, Option, Some, None, refl, sym, ap, ◌∙◌, subst, arith}
+use Rattle.std.proofs.Common.{◌≡◌, ◌≢◌, ◌⊎◌, ◌↔◌, IsTrue, inl, inr, ℕ, ◌+◌, ◌-◌, ◌*◌, ◌/◌, ◌%◌, ◌^◌, ◌<◌, ◌≤◌, ◌==◌, Bool, true, false, eqb, List, [], ◌∷◌, ◌++◌, Option, Some, None, refl, sym, ap, ◌∙◌, subst, arith}
 use Rattle.std.proofs.lemmas.Nat.{mod_below}
+use Rattle.std.proofs.lemmas.Bool.{eq-eqb, ne_eqb}
 use Rattle.qcow2_metadata.specs.Bytes.{Bytes, byte_at}
 use Rattle.qcow2_metadata.specs.declared.header.HeaderFields.{HeaderFields}
 use Rattle.qcow2_metadata.specs.Header.{cluster_size, count_width, counts_per_block}
 use Rattle.qcow2_metadata.specs.Entries.{reftable_entry, block_offset, block_count, count}
 use Rattle.qcow2_metadata.specs.Named.{named_by_reftable}
-use Rattle.qcow2_metadata.specs.RefBlock.{RefBlockView, count_in, ChangesCount}
+use Rattle.qcow2_metadata.specs.RefBlock.{RefBlockView, count_in, count_at, counts_of, ChangesCount}
 use Rattle.qcow2_metadata.specs.Tables.{CachedTable, known}
 use Rattle.qcow2_laws.specs.Clusters.{Direction}
 use Rattle.qcow2_laws.specs.Guard.{Pending, IsGuarded, SameCovers}
@@ -112,6 +113,20 @@ module _ {S : Type 0} (h : HeaderFields) (p : Pending) (base : Bytes) (caches : 
   count_is =
       count_found h (known_of h caches base) c at.real ∙ sym (was (c % counts_per_block h) (mod_below c (counts_per_block h) sizes.counts))
       ∙ ap (count_in h.refcount_order v.bytes) at.at ∙ ap (λ n. count_in n v.bytes index) (sym order_is)
+
+  bits_is : v.cluster_bits ≡ h.cluster_bits
+  bits_is = (fit_held (IsBlockOf caches.rb.backend.header.fields) key there.front there.back v there.pins (subst (AllFit (IsBlockOf caches.rb.backend.header.fields)) there.is sound.rb_fit)).bits ∙ sound.rb_format.bits
+
+  -- the refblock has such a count
+  pub index_fits : index < counts_of v
+  index_fits =
+      subst (λ n. n < counts_of v) at.at
+      (subst (λ n. c % counts_per_block h < 2 ^ n * 8 / 2 ^ v.refcount_order) (sym bits_is)
+      (subst (λ n. c % counts_per_block h < 2 ^ h.cluster_bits * 8 / 2 ^ n) (sym order_is) (mod_below c (counts_per_block h) sizes.counts)))
+
+  pub zero_told : (b : Bool) → (IsTrue b ↔ (count_at v index ≡ 0)) → b ≡ (count h (known_of h caches base) c == 0)
+  zero_told true is = let none : count_in v.refcount_order v.bytes index ≡ 0 = is.0 refl in sym (eq-eqb (count h (known_of h caches base) c) 0 (count_is ∙ none))
+  zero_told false is = sym (ne_eqb (count h (known_of h caches base) c) 0 (λ none. let e : false ≡ true = is.1 (sym count_is ∙ none) in cc))
 
   -- ---- another refblock in its place
   module _ (w : RefBlockView) (marked : w.is_modified ≡ true) (same_bits : w.cluster_bits ≡ v.cluster_bits) (same_order : w.refcount_order ≡ v.refcount_order) (caches' : MetadataCaches S)
