@@ -8,4 +8,6 @@ pub mod Fitting
 pub mod Flushing
 pub mod Fetching
 pub mod Inserting
+pub mod Changing
+pub mod Counting
 pub mod Turning

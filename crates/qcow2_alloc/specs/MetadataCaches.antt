@@ -1,14 +1,16 @@
 -- What contracts see of the caches of L2 tables and refblocks over the bytes of the storage.
-use Rattle.std.specs.Prelude.{ℕ, ◌+◌, ◌*◌, ◌≡◌, ◌<◌, ◌==◌, Bool, false, List, Option, IfSome}
+use Rattle.std.specs.Prelude.{ℕ, ◌+◌, ◌*◌, ◌%◌, ◌≡◌, ◌≢◌, ◌<◌, ◌==◌, Bool, false, List, Option, IfSome, IsSome}
 use Rattle.image_access.specs.Moments.{StorageView}
 use Rattle.qcow2_metadata.specs.Bytes.{Bytes, byte_at}
 use Rattle.qcow2_metadata.specs.declared.header.HeaderFields.{HeaderFields}
-use Rattle.qcow2_metadata.specs.Header.{cluster_size, has_data_file}
+use Rattle.qcow2_metadata.specs.Header.{cluster_size, counts_per_block, has_data_file}
+use Rattle.qcow2_metadata.specs.Entries.{count}
 use Rattle.qcow2_metadata.specs.L2Table.{L2TableView}
 use Rattle.qcow2_metadata.specs.RefBlock.{RefBlockView}
 use Rattle.qcow2_metadata.specs.Tables.{CachedTable}
 use Rattle.qcow2_laws.specs.Clusters as Order
-use Rattle.qcow2_laws.specs.Guard.{Pending}
+use Rattle.qcow2_laws.specs.Guard.{Pending, IsGuarded}
+use Rattle.qcow2_laws.specs.Steps.{block_of, CountRises, CountFalls}
 use Rattle.qcow2_laws.specs.Caches.{known_bytes, AreClean}
 use Rattle.qcow2_alloc.specs.AsyncLruCache.{value_at}
 use Rattle.qcow2_alloc.specs.declared.cache.Direction.{Direction}
@@ -25,6 +27,12 @@ pub record HasFormat (g h : HeaderFields) : Type 0 where
   pub order : g.refcount_order ≡ h.refcount_order
   pub zero_bit : (g.version == 3) ≡ (h.version == 3)
   pub external : has_data_file g ≡ has_data_file h
+
+-- a cluster's count stands at this place of the refblock in that cluster
+pub record IsCountedAt (h : HeaderFields) (known : Bytes) (c block index : ℕ) : Type 0 where
+  pub real : block_of h known c ≢ 0
+  pub place : block_of h known c ≡ block * cluster_size h
+  pub at : c % counts_per_block h ≡ index
 
 -- which tables are written first
 abbrev pub order : Direction → Order.Direction
@@ -88,3 +96,34 @@ module _ {S : Type 0} where
   KeepSound view old caches new caches' =
       (h : HeaderFields) (p : Pending) → (view (storage_of old)).is_honest → AreSound h p caches (byte_at (view (storage_of old)).contents)
       → StaySound h p (view (storage_of old)) caches (view (storage_of new)) caches'
+
+  -- ---- counts of held refblocks
+
+  -- the change was made, and the caches are sound again, whatever is pending, where the order of writes is kept
+  pub record Made (Change : Type 0) (h : HeaderFields) (caches' : MetadataCaches S) (base : Bytes) : Type 0 where
+    pub change : Change
+    pub sound : (p : Pending) → IsGuarded h (order_of caches') p base (known_of h caches' base) → AreSound h p caches' base
+
+  -- the count at this place of the refblock of a cluster rises from 0
+  abbrev pub RaisesCount : MetadataCaches S → MetadataCaches S → ℕ → ℕ → Type 0
+  RaisesCount caches caches' block index =
+      (h : HeaderFields) (p : Pending) (base : Bytes) (c : ℕ) → AreSound h p caches base → IsCountedAt h (known_of h caches base) c block index → count h (known_of h caches base) c ≡ 0
+      → Made (CountRises h (known_of h caches base) (known_of h caches' base) c) h caches' base
+
+  -- it falls
+  abbrev pub LowersCount : MetadataCaches S → MetadataCaches S → ℕ → ℕ → Type 0
+  LowersCount caches caches' block index =
+      (h : HeaderFields) (p : Pending) (base : Bytes) (c : ℕ) → AreSound h p caches base → IsCountedAt h (known_of h caches base) c block index
+      → Made (CountFalls h (known_of h caches base) (known_of h caches' base) c) h caches' base
+
+  -- the count is 0 where this is true, as far as the refblock is held
+  abbrev pub TellsZero : MetadataCaches S → ℕ → ℕ → Bool → Type 0
+  TellsZero caches block index is_zero =
+      (h : HeaderFields) (p : Pending) (base : Bytes) (c : ℕ) → AreSound h p caches base → IsCountedAt h (known_of h caches base) c block index → IsSome (rb_at caches block)
+      → is_zero ≡ (count h (known_of h caches base) c == 0)
+
+  -- the same tables, in the same order
+  pub record AreSame (caches caches' : MetadataCaches S) : Type 0 where
+    pub l2 : caches'.l2 ≡ caches.l2
+    pub rb : caches'.rb ≡ caches.rb
+    pub direction : caches'.direction ≡ caches.direction

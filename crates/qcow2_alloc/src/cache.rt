@@ -1,11 +1,11 @@
 //! The caches of L2 tables and of refblocks, and which of them has to be written first.
-ghost use Rattle.std.specs.Prelude.{◌≡◌, IsSome, IfSome, IfErr, OnOk, OnErr, Some, option_copied};
+ghost use Rattle.std.specs.Prelude.{◌≡◌, IsSome, IfSome, IfErr, OnOk, OnErr, IsTrue, IsFalse, Some, option_copied};
 ghost use Rattle.qcow2_laws.specs.Clusters.{L2DependsOnRb, RbDependsOnL2};
 ghost use Rattle.qcow2_laws.specs.Caches.{AreClean, BlocksMayGo, TablesMayGo};
 ghost use Rattle.qcow2_alloc.specs.ImageError.{IsOfTables};
 ghost use Rattle.qcow2_alloc.specs.ImageStorage.{storage_of};
 ghost use Rattle.qcow2_alloc.specs.TableCaches.{IsTableOf, IsBlockOf};
-ghost use Rattle.qcow2_alloc.specs.MetadataCaches.{order_of, l2_at, rb_at, l2_tables, refblocks, AreAllWritten, KeepSound, PutSound};
+ghost use Rattle.qcow2_alloc.specs.MetadataCaches.{order_of, l2_at, rb_at, l2_tables, refblocks, AreAllWritten, KeepSound, PutSound, RaisesCount, LowersCount, TellsZero, AreSame};
 
 mod backends;
 
@@ -321,7 +321,9 @@ impl<S: Storage> MetadataCaches<S> {
     }
 
     /// Whether a count of a held refblock is 0.
-    pub fn rb_is_zero(&self, cluster: HostCluster, index: usize) -> bool {
+    pub fn rb_is_zero(&self, cluster: HostCluster, index: usize) -> bool
+        ensures { TellsZero self.now cluster index result }
+    {
         match self.rb.peek(cluster) {
             Some(block) => index < block.counts() && block.is_zero(index),
             None => false,
@@ -329,7 +331,11 @@ impl<S: Storage> MetadataCaches<S> {
     }
 
     /// Counts a cluster of a held refblock once more. False at the greatest count.
-    pub fn rb_increment(&mut self, cluster: HostCluster, index: usize) -> bool {
+    pub fn rb_increment(&mut self, cluster: HostCluster, index: usize) -> bool
+        ensures order { order_of self.new ≡ order_of self.old }
+        ensures counted { IsTrue result → RaisesCount self.old self.new cluster index }
+        ensures refused { IsFalse result → AreSame self.old self.new }
+    {
         let Some(block) = self.rb.peek_mut(cluster) else {
             return false;
         };
@@ -341,7 +347,11 @@ impl<S: Storage> MetadataCaches<S> {
     }
 
     /// Counts a cluster of a held refblock once less. False at 0.
-    pub fn rb_decrement(&mut self, cluster: HostCluster, index: usize) -> bool {
+    pub fn rb_decrement(&mut self, cluster: HostCluster, index: usize) -> bool
+        ensures order { order_of self.new ≡ order_of self.old }
+        ensures counted { IsTrue result → LowersCount self.old self.new cluster index }
+        ensures refused { IsFalse result → AreSame self.old self.new }
+    {
         let Some(block) = self.rb.peek_mut(cluster) else {
             return false;
         };

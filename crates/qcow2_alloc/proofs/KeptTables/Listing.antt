@@ -67,7 +67,7 @@ rb_relisted h d p l2s rbs rbs' base same kept =
 -- ---- the three changes
 
 -- where no table begins at the place, none lies in its cluster
-free_elsewhere : (size : ℕ) (IsNamed : ℕ → Type 0) (base : Bytes) (ts : List CachedTable) (place o : ℕ) → place % size ≡ 0 → AreElsewhere place ts → AreLoaded size IsNamed ts base → o / size ≡ place / size → IsFreeAt size ts o
+pub free_elsewhere : (size : ℕ) (IsNamed : ℕ → Type 0) (base : Bytes) (ts : List CachedTable) (place o : ℕ) → place % size ≡ 0 → AreElsewhere place ts → AreLoaded size IsNamed ts base → o / size ≡ place / size → IsFreeAt size ts o
 free_elsewhere size IsNamed base [] place o aligned away loaded here = tt
 free_elsewhere size IsNamed base (u ∷ ts) place o aligned away loaded here = (
   no_overlay size u o (λ over. away.0 (one_place size u.place place loaded.0 aligned (sym (within_cluster u.place size o loaded.0 (overlays_within size u o over)) ∙ here))),

@@ -1,0 +1,151 @@
+-- A cached table is changed in its place.
+use Rattle.std.proofs.Common.{◌≡◌, ◌≢◌, ◌⊎◌, inl, inr, ℕ, ◌+◌, ◌-◌, ◌*◌, ◌/◌, ◌%◌, ◌^◌, ◌<◌, ◌≤◌, ◌&&◌, Bool, true, false, cond, eqb, List, [], ◌∷◌, ◌++◌, Option, Some, None, refl, sym, ap, ◌∙◌, subst, arith}
+use Rattle.std.proofs.lemmas.Bool.{cases_Bool}
+use Rattle.std.specs.Option.{option_map, option_map_or}
+use Rattle.std.specs.Map.{lookup, set_value}
+use Rattle.qcow2_metadata.specs.Bytes.{Bytes, byte_at, is_within}
+use Rattle.qcow2_metadata.specs.declared.header.HeaderFields.{HeaderFields}
+use Rattle.qcow2_metadata.specs.Header.{cluster_size}
+use Rattle.qcow2_metadata.specs.Entries.{reftable_entry, block_offset}
+use Rattle.qcow2_metadata.specs.Named.{named_by_reftable, named_by_l1_table}
+use Rattle.qcow2_metadata.specs.Tables.{CachedTable, known, overlays}
+use Rattle.qcow2_laws.specs.Clusters.{Direction}
+use Rattle.qcow2_laws.specs.Guests.{table_at}
+use Rattle.qcow2_laws.specs.Guard.{Pending, SameIn}
+use Rattle.qcow2_laws.specs.Tops.{IsSameOutside}
+use Rattle.qcow2_laws.specs.Caches.{known_bytes, IsFreeAt, IsFreeOf, AreApart, HasL2, HasBlock, IsKept}
+use Rattle.qcow2_laws.proofs.Lists.{known-at, known-none, known_there, known_elsewhere, unmodified_over, no_overlay, overlays_within, within_cluster, cluster_within, changed_outside, changed_there}
+use Rattle.qcow2_laws.proofs.Shares.{table_has, block_has}
+use Rattle.qcow2_laws.proofs.Caches.{kept_sizes, rbs_free, l2s_free}
+use Rattle.qcow2_alloc.specs.declared.async_lru_cache.slot.Slot.{Slot}
+use Rattle.qcow2_alloc.specs.AsyncLruCache.{slot_of, value_at, set_at}
+use Rattle.qcow2_alloc.specs.TableLaws.{same_number}
+use Rattle.qcow2_alloc.specs.KeptTables.{cached_table, cached_tables, AreElsewhere, IsCurrent, AreLoaded, AreKept, AllFit}
+use Rattle.qcow2_alloc.proofs.KeptTables.Loaded.{elsewhere_of, elsewhere_with, in_own_cluster, one_place}
+use Rattle.qcow2_alloc.proofs.KeptTables.Listing.{free_elsewhere, loaded_distinct}
+use Rattle.qcow2_alloc.proofs.KeptTables.Entries.{away_from}
+
+-- ---- the entry of a key, and another value in its place
+pub record Held {V : Type 0} (key : ℕ) (es : List (ℕ × Slot V)) (v : V) : Type 0 where
+  pub front : List (ℕ × Slot V)
+  pub back : List (ℕ × Slot V)
+  pub pins : ℕ
+  pub is : es ≡ front ++ (key, slot_of v pins) ∷ back
+  pub set : (w : V) → set_at (eqb key) es w ≡ front ++ (key, slot_of w pins) ∷ back
+
+set_found : {V : Type 0} (key : ℕ) (es : List (ℕ × Slot V)) (s : Slot V) (w : V) → lookup (eqb key) es ≡ Some s → set_at (eqb key) es w ≡ set_value (eqb key) es (slot_of w s.pins)
+set_found key es s w found = rw found refl
+
+record Splits {V : Type 0} (key : ℕ) (es : List (ℕ × Slot V)) (s : Slot V) : Type 0 where
+  front : List (ℕ × Slot V)
+  back : List (ℕ × Slot V)
+  is : es ≡ front ++ (key, s) ∷ back
+  set : (x : Slot V) → set_value (eqb key) es x ≡ front ++ (key, x) ∷ back
+
+splits : {V : Type 0} (key : ℕ) (es : List (ℕ × Slot V)) (s : Slot V) → lookup (eqb key) es ≡ Some s → Splits key es s
+splits key [] s h = absurd (cc)
+splits key (e ∷ es) s h = (elim (eqb key e.0) as (λ b. eqb key e.0 ≡ b → Splits key (e ∷ es) s) [
+  | true ↦ λ t.
+      let h' = rw t at h in
+      let own : e.0 ≡ key = sym (same_number key e.0 t) in
+      let val : e.1 ≡ s = some_is h' in
+      record { front = []; back = es; is = ap (λ k. (k, e.1) ∷ es) own ∙ ap (λ x. (key, x) ∷ es) val; set = λ x. rw t (ap (λ k. (k, x) ∷ es) own) }
+  | false ↦ λ t.
+      let r = splits key es s (rw t at h) in
+      record { front = e ∷ r.front; back = r.back; is = ap (λ l. e ∷ l) r.is; set = λ x. rw t (ap (λ l. e ∷ l) (r.set x)) }
+]) refl
+  where
+    some_is : {A : Type 0} {a b : A} → Some a ≡ Some b → a ≡ b
+    some_is e = cc
+
+pub held : {V : Type 0} (key : ℕ) (es : List (ℕ × Slot V)) (v : V) → value_at (eqb key) es ≡ Some v → Held key es v
+held {V = V} key es v h = of (lookup (eqb key) es) refl h
+  where
+    some_is : {A : Type 0} {a b : A} → Some a ≡ Some b → a ≡ b
+    some_is e = cc
+
+    of : (o : Option (Slot V)) → lookup (eqb key) es ≡ o → option_map (λ s. s.value) o ≡ Some v → Held key es v
+    of None found is = absurd (cc)
+    of (Some s) found is =
+        let sp = splits key es s found in
+        let same : s ≡ slot_of v s.pins = ap (λ x. slot_of x s.pins) (some_is is) in
+        record {
+          front = sp.front;
+          back = sp.back;
+          pins = s.pins;
+          is = sp.is ∙ ap (λ x. sp.front ++ (key, x) ∷ sp.back) same;
+          set = λ w. set_found key es s w found ∙ sp.set (slot_of w s.pins);
+        }
+
+-- the same value leaves the entries as they are
+pub set_same : {V : Type 0} (key : ℕ) (es : List (ℕ × Slot V)) (v : V) → value_at (eqb key) es ≡ Some v → set_at (eqb key) es v ≡ es
+set_same key es v found = let there = held key es v found in there.set v ∙ sym there.is
+
+-- ---- lists of loaded tables
+
+pub loaded_apart : (size : ℕ) (IsNamed : ℕ → Type 0) (base : Bytes) (ts : List CachedTable) → AreLoaded size IsNamed ts base → AreApart size ts
+loaded_apart size IsNamed base [] loaded = tt
+loaded_apart size IsNamed base (t ∷ ts) loaded = (
+  loaded.0,
+  (λ o over. free_elsewhere size IsNamed base ts t.place o loaded.0 loaded.1 loaded.3 (within_cluster t.place size o loaded.0 (overlays_within size t o over))),
+  loaded_apart size IsNamed base ts loaded.3,
+)
+
+-- one becomes another one that is modified
+pub loaded_changed : (size : ℕ) (IsNamed : ℕ → Type 0) (base : Bytes) (front back : List CachedTable) (t t' : CachedTable) → t'.place ≡ t.place → t'.is_modified ≡ true
+    → AreLoaded size IsNamed (front ++ t ∷ back) base → AreLoaded size IsNamed (front ++ t' ∷ back) base
+loaded_changed size IsNamed base [] back t t' place marked loaded = (
+  ap (λ n. n % size) place ∙ loaded.0,
+  subst (λ n. AreElsewhere n back) (sym place) loaded.1,
+  (λ clean. absurd (differ t'.is_modified marked clean)),
+  loaded.3,
+)
+  where
+    differ : (b : Bool) → b ≡ true → b ≡ false → ⊥
+    differ b is isnt = cc
+loaded_changed size IsNamed base (u ∷ front) back t t' place marked loaded =
+    (loaded.0, elsewhere_with u.place front back t t' place loaded.1, loaded.2, loaded_changed size IsNamed base front back t t' place marked loaded.3)
+
+own_part : (size : ℕ) (IsNamed : ℕ → Type 0) (base : Bytes) (front back : List CachedTable) (t : CachedTable) → AreLoaded size IsNamed (front ++ t ∷ back) base
+    → (t.place % size ≡ 0) × (t.is_modified ≡ false → IsNamed (t.place / size) → IsCurrent size t base)
+own_part size IsNamed base [] back t loaded = (loaded.0, loaded.2)
+own_part size IsNamed base (u ∷ front) back t loaded = own_part size IsNamed base front back t loaded.3
+
+loaded_rest : (size : ℕ) (IsNamed : ℕ → Type 0) (base : Bytes) (front back : List CachedTable) (t : CachedTable) → AreLoaded size IsNamed (front ++ t ∷ back) base → AreLoaded size IsNamed (front ++ back) base
+loaded_rest size IsNamed base [] back t loaded = loaded.3
+loaded_rest size IsNamed base (u ∷ front) back t loaded = (loaded.0, without front loaded.1, loaded.2, loaded_rest size IsNamed base front back t loaded.3)
+  where
+    without : (front : List CachedTable) → AreElsewhere u.place (front ++ t ∷ back) → AreElsewhere u.place (front ++ back)
+    without [] away = away.1
+    without (v ∷ front) away = (away.0, without front away.1)
+
+-- what a table that is named holds is known
+module _ (size : ℕ) (IsNamed : ℕ → Type 0) (base : Bytes) (front back : List CachedTable) (t : CachedTable) (loaded : AreLoaded size IsNamed (front ++ t ∷ back) base) where
+  pub place_aligned : t.place % size ≡ 0
+  place_aligned = (own_part size IsNamed base front back t loaded).0
+
+  pub list_knows : IsNamed (t.place / size) → (i : ℕ) → i < size → known size (front ++ t ∷ back) base (t.place + i) ≡ t.bytes i
+  list_knows named i lt =
+      let here = in_own_cluster size t.place i place_aligned lt in
+      let some : 0 < size = omega arith in
+      elim (cases_Bool t.is_modified) [
+        | inl modified ↦
+            let over : overlays size t (t.place + i) ≡ true = ap (λ m. m && is_within t.place size (t.place + i)) modified ∙ cluster_within t.place size (t.place + i) some place_aligned here in
+            let back_to : t.place + i - t.place ≡ i = omega arith in
+            known_there size front back t base (t.place + i) (loaded_apart size IsNamed base (front ++ t ∷ back) loaded) over ∙ ap t.bytes back_to
+        | inr clean ↦
+            let away = away_from front back t (loaded_distinct size IsNamed base (front ++ t ∷ back) loaded) in
+            known_elsewhere size front back t base (t.place + i) (unmodified_over size t (t.place + i) clean)
+            ∙ known-none size (front ++ back) base (t.place + i) (free_elsewhere size IsNamed base (front ++ back) t.place (t.place + i) place_aligned away (loaded_rest size IsNamed base front back t loaded) here)
+            ∙ sym ((own_part size IsNamed base front back t loaded).1 clean named i lt)
+      ]
+
+-- ---- the values of entries, of which one is changed
+module _ {V : Type 0} (IsFit : V → Type 0) where
+  pub fit_set : (key : ℕ) (front back : List (ℕ × Slot V)) (v w : V) (pins : ℕ) → IsFit w → AllFit IsFit (front ++ (key, slot_of v pins) ∷ back) → AllFit IsFit (front ++ (key, slot_of w pins) ∷ back)
+  fit_set key [] back v w pins is all = (is, all.1)
+  fit_set key (u ∷ front) back v w pins is all = (all.0, fit_set key front back v w pins is all.1)
+
+  pub fit_held : (key : ℕ) (front back : List (ℕ × Slot V)) (v : V) (pins : ℕ) → AllFit IsFit (front ++ (key, slot_of v pins) ∷ back) → IsFit v
+  fit_held key [] back v pins all = all.0
+  fit_held key (u ∷ front) back v pins all = fit_held key front back v pins all.1
