@@ -160,17 +160,17 @@ module _ {S : Type 0} (h : HeaderFields) (p : Pending) (base : Bytes) (caches : 
     pub sound_again : (p' : Pending) → IsGuarded h (order_of caches') p' base (known_of h caches' base) → AreSound h p' caches' base
     sound_again p' guarded =
         let covers : SameCovers h (known_bytes (cluster_size h) (l2_tables caches) (list_with v) base) (known_bytes (cluster_size h) (l2_tables caches) (list_with w) base) =
-            subst (λ (b : Bytes). SameCovers h b (known_bytes (cluster_size h) (l2_tables caches) (list_with w) base)) known_is
-            (subst (λ (b : Bytes). SameCovers h (known_of h caches base) b) known' (counted_covers h (order_of caches) p base (known_of h caches base) (known_of h caches' base) sound.kept.kept.guarded c at.real outside)) in
+        subst (λ (b : Bytes). SameCovers h b (known_bytes (cluster_size h) (l2_tables caches) (list_with w) base)) known_is
+        (subst (λ (b : Bytes). SameCovers h (known_of h caches base) b) known' (counted_covers h (order_of caches) p base (known_of h caches base) (known_of h caches' base) sound.kept.kept.guarded c at.real outside)) in
         let guarded' : IsGuarded h (order_of caches) p' base (known_bytes (cluster_size h) (l2_tables caches) (list_with w) base) =
-            subst (λ (b : Bytes). IsGuarded h (order_of caches) p' base b) known' (rw direction_is at guarded) in
+        subst (λ (b : Bytes). IsGuarded h (order_of caches) p' base b) known' (rw direction_is at guarded) in
         let again = refblock_changed h (order_of caches) (order_of caches) p p' (l2_tables caches) (tables there.front) (tables there.back) (table v) (table w) base kept.kept aligned_v (has w)
-                (loaded_apart (cluster_size h) (HasBlock h base) base (list_with w) loaded') covers guarded' in
+        (loaded_apart (cluster_size h) (HasBlock h base) base (list_with w) loaded') covers guarded' in
         let all : AllFit (IsBlockOf caches.rb.backend.header.fields) (set_at (eqb key) caches.rb.entries w) =
-            let old = subst (AllFit (IsBlockOf caches.rb.backend.header.fields)) there.is sound.rb_fit in
-            let own = fit_held (IsBlockOf caches.rb.backend.header.fields) key there.front there.back v there.pins old in
-            subst (AllFit (IsBlockOf caches.rb.backend.header.fields)) (sym (there.set w))
-            (fit_set (IsBlockOf caches.rb.backend.header.fields) key there.front there.back v w there.pins (record { bits = same_bits ∙ own.bits; order = same_order ∙ own.order }) old) in
+        let old = subst (AllFit (IsBlockOf caches.rb.backend.header.fields)) there.is sound.rb_fit in
+        let own = fit_held (IsBlockOf caches.rb.backend.header.fields) key there.front there.back v there.pins old in
+        subst (AllFit (IsBlockOf caches.rb.backend.header.fields)) (sym (there.set w))
+        (fit_set (IsBlockOf caches.rb.backend.header.fields) key there.front there.back v w there.pins (record { bits = same_bits ∙ own.bits; order = same_order ∙ own.order }) old) in
         rw (l2_is, rb_is, direction_is) (record {
           l2_format = sound.l2_format;
           rb_format = sound.rb_format;

@@ -47,7 +47,7 @@ module _ {S : Type 0} (view : S → StorageView) (old new : ImageStorage S) (cac
   module _ (l2 : Cache (L2CacheBackend S) ℕ L2TableView) (others : l2 ≡ with_entries caches.l2 l2.entries) (answer : Result Bool (CacheError ℕ MetadataError))
       (hit : IsSome (lookup (eqb key) caches.l2.entries) → (answer ≡ Ok true) × (l2.entries ≡ promoted (eqb key) caches.l2.entries) × (new ≡ old))
       (miss : IsNone (lookup (eqb key) caches.l2.entries)
-          → GetsNew (l2_steps seen caches.l2.backend.header.fields) eqb caches.l2.size may_flush key old caches.l2.entries answer new l2.entries) where
+      → GetsNew (l2_steps seen caches.l2.backend.header.fields) eqb caches.l2.size may_flush key old caches.l2.entries answer new l2.entries) where
     pub table_got : (may_flush ≡ true → TablesMayGo (order_of caches) (refblocks caches)) → KeepSound view old caches new (record caches { l2 = l2 })
     table_got may = λ h p honest sound.
         let bits = caches.l2.backend.header.fields.cluster_bits in
@@ -56,24 +56,24 @@ module _ {S : Type 0} (view : S → StorageView) (old new : ImageStorage S) (cac
         let same_backend : l2.backend ≡ caches.l2.backend = ap (λ c. c.backend) others in
         let distinct : (ts : List CachedTable) (base : Bytes) → P ts base → AreDistinct ts = λ ts base are. loaded_distinct (cluster_size h) (HasL2 h base) base ts are.l2_loaded in
         let add : (t : CachedTable) (ts : List CachedTable) (base : Bytes) → P ts base → t.place % 2 ^ bits ≡ 0 → AreElsewhere t.place ts → t.is_modified ≡ false → HoldsWhatStands all (2 ^ bits) t ts base
-                → P (t ∷ ts) base × (all (t ∷ ts) base ≡ all ts base) =
-            λ t ts base are aligned away clean current.
-            l2_add h (order_of caches) p (refblocks caches) t ts base are (subst (λ n. t.place % 2 ^ n ≡ 0) sound.l2_format.bits aligned) away clean (subst (λ n. HoldsWhatStands all (2 ^ n) t ts base) sound.l2_format.bits current) in
+        → P (t ∷ ts) base × (all (t ∷ ts) base ≡ all ts base) =
+        λ t ts base are aligned away clean current.
+        l2_add h (order_of caches) p (refblocks caches) t ts base are (subst (λ n. t.place % 2 ^ n ≡ 0) sound.l2_format.bits aligned) away clean (subst (λ n. HoldsWhatStands all (2 ^ n) t ts base) sound.l2_format.bits current) in
         let f : Flushed seen bits (λ (t : L2TableView). t.bytes) (λ t. t.is_modified) cleared_l2 (IsTableOf caches.l2.backend.header.fields) (λ v. refl) (λ v. refl) P all old new (l2_tables caches)
-                (cached_tables bits (λ (t : L2TableView). t.bytes) (λ t. t.is_modified) l2.entries) =
-            elim (none_or_some (lookup (eqb key) caches.l2.entries)) [
-              | inl there ↦
-                  let is = hit there in
-                  rw (is.1, is.2) (hit_done seen bits (λ (t : L2TableView). t.bytes) (λ t. t.is_modified) cleared_l2 (IsTableOf caches.l2.backend.header.fields) (λ v. refl) (λ v. refl) P all distinct (l2_drop h (order_of caches) p (refblocks caches)) add (l2_promote h (order_of caches) p (refblocks caches)) old key caches.l2.entries honest sound.kept)
-              | inr missing ↦
-                  get_done seen bits (λ (t : L2TableView). t.bytes) (λ t. t.is_modified) cleared_l2 (IsTableOf caches.l2.backend.header.fields) (λ v. refl) (λ v. refl) P all distinct (l2_drop h (order_of caches) p (refblocks caches)) add (l2_promote h (order_of caches) p (refblocks caches)) caches.l2.size may_flush
-                  (λ flush. l2_step h (order_of caches) p bits sound.l2_format.bits (refblocks caches) (may flush))
-                  old new key caches.l2.entries l2.entries answer honest sound.kept (is_none (lookup (eqb key) caches.l2.entries) missing) (miss missing)
-            ] in
+        (cached_tables bits (λ (t : L2TableView). t.bytes) (λ t. t.is_modified) l2.entries) =
+        elim (none_or_some (lookup (eqb key) caches.l2.entries)) [
+          | inl there ↦
+              let is = hit there in
+              rw (is.1, is.2) (hit_done seen bits (λ (t : L2TableView). t.bytes) (λ t. t.is_modified) cleared_l2 (IsTableOf caches.l2.backend.header.fields) (λ v. refl) (λ v. refl) P all distinct (l2_drop h (order_of caches) p (refblocks caches)) add (l2_promote h (order_of caches) p (refblocks caches)) old key caches.l2.entries honest sound.kept)
+          | inr missing ↦
+              get_done seen bits (λ (t : L2TableView). t.bytes) (λ t. t.is_modified) cleared_l2 (IsTableOf caches.l2.backend.header.fields) (λ v. refl) (λ v. refl) P all distinct (l2_drop h (order_of caches) p (refblocks caches)) add (l2_promote h (order_of caches) p (refblocks caches)) caches.l2.size may_flush
+              (λ flush. l2_step h (order_of caches) p bits sound.l2_format.bits (refblocks caches) (may flush))
+              old new key caches.l2.entries l2.entries answer honest sound.kept (is_none (lookup (eqb key) caches.l2.entries) missing) (miss missing)
+        ] in
         let fit : AllFit (IsTableOf caches.l2.backend.header.fields) l2.entries = elim (none_or_some (lookup (eqb key) caches.l2.entries)) [
-              | inl there ↦ subst (AllFit (IsTableOf caches.l2.backend.header.fields)) (sym (hit there).1) (fit_promoted (IsTableOf caches.l2.backend.header.fields) (eqb key) caches.l2.entries sound.l2_fit)
-              | inr missing ↦ get_fits seen caches.l2.backend.header.fields.cluster_bits (λ (t : L2TableView). t.bytes) (λ t. t.is_modified) cleared_l2 (IsTableOf caches.l2.backend.header.fields) (table_still caches.l2.backend.header.fields) caches.l2.size may_flush old new key caches.l2.entries l2.entries answer sound.l2_fit (miss missing)
-            ] in
+          | inl there ↦ subst (AllFit (IsTableOf caches.l2.backend.header.fields)) (sym (hit there).1) (fit_promoted (IsTableOf caches.l2.backend.header.fields) (eqb key) caches.l2.entries sound.l2_fit)
+          | inr missing ↦ get_fits seen caches.l2.backend.header.fields.cluster_bits (λ (t : L2TableView). t.bytes) (λ t. t.is_modified) cleared_l2 (IsTableOf caches.l2.backend.header.fields) (table_still caches.l2.backend.header.fields) caches.l2.size may_flush old new key caches.l2.entries l2.entries answer sound.l2_fit (miss missing)
+        ] in
         rw same_backend (record {
           honest = f.honest;
           sound = record { l2_format = sound.l2_format; rb_format = sound.rb_format; l2_fit = fit; rb_fit = sound.rb_fit; kept = f.kept };
@@ -85,7 +85,7 @@ module _ {S : Type 0} (view : S → StorageView) (old new : ImageStorage S) (cac
   module _ (rb : Cache (RefBlockCacheBackend S) ℕ RefBlockView) (others : rb ≡ with_entries caches.rb rb.entries) (answer : Result Bool (CacheError ℕ MetadataError))
       (hit : IsSome (lookup (eqb key) caches.rb.entries) → (answer ≡ Ok true) × (rb.entries ≡ promoted (eqb key) caches.rb.entries) × (new ≡ old))
       (miss : IsNone (lookup (eqb key) caches.rb.entries)
-          → GetsNew (rb_steps seen caches.rb.backend.header.fields) eqb caches.rb.size may_flush key old caches.rb.entries answer new rb.entries) where
+      → GetsNew (rb_steps seen caches.rb.backend.header.fields) eqb caches.rb.size may_flush key old caches.rb.entries answer new rb.entries) where
     pub block_got : (may_flush ≡ true → BlocksMayGo (order_of caches) (l2_tables caches)) → KeepSound view old caches new (record caches { rb = rb })
     block_got may = λ h p honest sound.
         let bits = caches.rb.backend.header.fields.cluster_bits in
@@ -94,24 +94,24 @@ module _ {S : Type 0} (view : S → StorageView) (old new : ImageStorage S) (cac
         let same_backend : rb.backend ≡ caches.rb.backend = ap (λ c. c.backend) others in
         let distinct : (ts : List CachedTable) (base : Bytes) → P ts base → AreDistinct ts = λ ts base are. loaded_distinct (cluster_size h) (HasBlock h base) base ts are.rb_loaded in
         let add : (t : CachedTable) (ts : List CachedTable) (base : Bytes) → P ts base → t.place % 2 ^ bits ≡ 0 → AreElsewhere t.place ts → t.is_modified ≡ false → HoldsWhatStands all (2 ^ bits) t ts base
-                → P (t ∷ ts) base × (all (t ∷ ts) base ≡ all ts base) =
-            λ t ts base are aligned away clean current.
-            rb_add h (order_of caches) p (l2_tables caches) t ts base are (subst (λ n. t.place % 2 ^ n ≡ 0) sound.rb_format.bits aligned) away clean (subst (λ n. HoldsWhatStands all (2 ^ n) t ts base) sound.rb_format.bits current) in
+        → P (t ∷ ts) base × (all (t ∷ ts) base ≡ all ts base) =
+        λ t ts base are aligned away clean current.
+        rb_add h (order_of caches) p (l2_tables caches) t ts base are (subst (λ n. t.place % 2 ^ n ≡ 0) sound.rb_format.bits aligned) away clean (subst (λ n. HoldsWhatStands all (2 ^ n) t ts base) sound.rb_format.bits current) in
         let f : Flushed seen bits (λ (b : RefBlockView). b.bytes) (λ b. b.is_modified) cleared_rb (IsBlockOf caches.rb.backend.header.fields) (λ v. refl) (λ v. refl) P all old new (refblocks caches)
-                (cached_tables bits (λ (b : RefBlockView). b.bytes) (λ b. b.is_modified) rb.entries) =
-            elim (none_or_some (lookup (eqb key) caches.rb.entries)) [
-              | inl there ↦
-                  let is = hit there in
-                  rw (is.1, is.2) (hit_done seen bits (λ (b : RefBlockView). b.bytes) (λ b. b.is_modified) cleared_rb (IsBlockOf caches.rb.backend.header.fields) (λ v. refl) (λ v. refl) P all distinct (rb_drop h (order_of caches) p (l2_tables caches)) add (rb_promote h (order_of caches) p (l2_tables caches)) old key caches.rb.entries honest sound.kept)
-              | inr missing ↦
-                  get_done seen bits (λ (b : RefBlockView). b.bytes) (λ b. b.is_modified) cleared_rb (IsBlockOf caches.rb.backend.header.fields) (λ v. refl) (λ v. refl) P all distinct (rb_drop h (order_of caches) p (l2_tables caches)) add (rb_promote h (order_of caches) p (l2_tables caches)) caches.rb.size may_flush
-                  (λ flush. rb_step h (order_of caches) p bits sound.rb_format.bits (l2_tables caches) (may flush))
-                  old new key caches.rb.entries rb.entries answer honest sound.kept (is_none (lookup (eqb key) caches.rb.entries) missing) (miss missing)
-            ] in
+        (cached_tables bits (λ (b : RefBlockView). b.bytes) (λ b. b.is_modified) rb.entries) =
+        elim (none_or_some (lookup (eqb key) caches.rb.entries)) [
+          | inl there ↦
+              let is = hit there in
+              rw (is.1, is.2) (hit_done seen bits (λ (b : RefBlockView). b.bytes) (λ b. b.is_modified) cleared_rb (IsBlockOf caches.rb.backend.header.fields) (λ v. refl) (λ v. refl) P all distinct (rb_drop h (order_of caches) p (l2_tables caches)) add (rb_promote h (order_of caches) p (l2_tables caches)) old key caches.rb.entries honest sound.kept)
+          | inr missing ↦
+              get_done seen bits (λ (b : RefBlockView). b.bytes) (λ b. b.is_modified) cleared_rb (IsBlockOf caches.rb.backend.header.fields) (λ v. refl) (λ v. refl) P all distinct (rb_drop h (order_of caches) p (l2_tables caches)) add (rb_promote h (order_of caches) p (l2_tables caches)) caches.rb.size may_flush
+              (λ flush. rb_step h (order_of caches) p bits sound.rb_format.bits (l2_tables caches) (may flush))
+              old new key caches.rb.entries rb.entries answer honest sound.kept (is_none (lookup (eqb key) caches.rb.entries) missing) (miss missing)
+        ] in
         let fit : AllFit (IsBlockOf caches.rb.backend.header.fields) rb.entries = elim (none_or_some (lookup (eqb key) caches.rb.entries)) [
-              | inl there ↦ subst (AllFit (IsBlockOf caches.rb.backend.header.fields)) (sym (hit there).1) (fit_promoted (IsBlockOf caches.rb.backend.header.fields) (eqb key) caches.rb.entries sound.rb_fit)
-              | inr missing ↦ get_fits seen caches.rb.backend.header.fields.cluster_bits (λ (b : RefBlockView). b.bytes) (λ b. b.is_modified) cleared_rb (IsBlockOf caches.rb.backend.header.fields) (block_still caches.rb.backend.header.fields) caches.rb.size may_flush old new key caches.rb.entries rb.entries answer sound.rb_fit (miss missing)
-            ] in
+          | inl there ↦ subst (AllFit (IsBlockOf caches.rb.backend.header.fields)) (sym (hit there).1) (fit_promoted (IsBlockOf caches.rb.backend.header.fields) (eqb key) caches.rb.entries sound.rb_fit)
+          | inr missing ↦ get_fits seen caches.rb.backend.header.fields.cluster_bits (λ (b : RefBlockView). b.bytes) (λ b. b.is_modified) cleared_rb (IsBlockOf caches.rb.backend.header.fields) (block_still caches.rb.backend.header.fields) caches.rb.size may_flush old new key caches.rb.entries rb.entries answer sound.rb_fit (miss missing)
+        ] in
         rw same_backend (record {
           honest = f.honest;
           sound = record { l2_format = sound.l2_format; rb_format = sound.rb_format; l2_fit = sound.l2_fit; rb_fit = fit; kept = f.kept };

@@ -70,10 +70,10 @@ module _ {S : Type 0} (view : S → StorageView) (old new : ImageStorage S) (cac
         let bits = caches.l2.backend.header.fields.cluster_bits in
         let same_backend : l2.backend ≡ caches.l2.backend = ap (λ c. c.backend) others in
         let f = flushed_all seen bits (λ (t : L2TableView). t.bytes) (λ t. t.is_modified) cleared_l2 (IsTableOf caches.l2.backend.header.fields) (λ v. refl) (λ v. refl)
-            (λ ts base. AreKept h (order_of caches) p ts (refblocks caches) base)
-            (λ ts base. known_bytes (cluster_size h) ts (refblocks caches) base)
-            (l2_step h (order_of caches) p bits sound.l2_format.bits (refblocks caches) may)
-            old new [] caches.l2.entries l2.entries (all_of (l2_steps seen caches.l2.backend.header.fields) old new caches.l2.entries l2.entries answer flushes).0 honest sound.kept (all_of (l2_steps seen caches.l2.backend.header.fields) old new caches.l2.entries l2.entries answer flushes).1 in
+        (λ ts base. AreKept h (order_of caches) p ts (refblocks caches) base)
+        (λ ts base. known_bytes (cluster_size h) ts (refblocks caches) base)
+        (l2_step h (order_of caches) p bits sound.l2_format.bits (refblocks caches) may)
+        old new [] caches.l2.entries l2.entries (all_of (l2_steps seen caches.l2.backend.header.fields) old new caches.l2.entries l2.entries answer flushes).0 honest sound.kept (all_of (l2_steps seen caches.l2.backend.header.fields) old new caches.l2.entries l2.entries answer flushes).1 in
         rw same_backend (record {
           honest = f.honest;
           sound = record {
@@ -101,10 +101,10 @@ module _ {S : Type 0} (view : S → StorageView) (old new : ImageStorage S) (cac
         let bits = caches.rb.backend.header.fields.cluster_bits in
         let same_backend : rb.backend ≡ caches.rb.backend = ap (λ c. c.backend) others in
         let f = flushed_all seen bits (λ (b : RefBlockView). b.bytes) (λ b. b.is_modified) cleared_rb (IsBlockOf caches.rb.backend.header.fields) (λ v. refl) (λ v. refl)
-            (λ ts base. AreKept h (order_of caches) p (l2_tables caches) ts base)
-            (λ ts base. known_bytes (cluster_size h) (l2_tables caches) ts base)
-            (rb_step h (order_of caches) p bits sound.rb_format.bits (l2_tables caches) may)
-            old new [] caches.rb.entries rb.entries (all_of (rb_steps seen caches.rb.backend.header.fields) old new caches.rb.entries rb.entries answer flushes).0 honest sound.kept (all_of (rb_steps seen caches.rb.backend.header.fields) old new caches.rb.entries rb.entries answer flushes).1 in
+        (λ ts base. AreKept h (order_of caches) p (l2_tables caches) ts base)
+        (λ ts base. known_bytes (cluster_size h) (l2_tables caches) ts base)
+        (rb_step h (order_of caches) p bits sound.rb_format.bits (l2_tables caches) may)
+        old new [] caches.rb.entries rb.entries (all_of (rb_steps seen caches.rb.backend.header.fields) old new caches.rb.entries rb.entries answer flushes).0 honest sound.kept (all_of (rb_steps seen caches.rb.backend.header.fields) old new caches.rb.entries rb.entries answer flushes).1 in
         rw same_backend (record {
           honest = f.honest;
           sound = record {

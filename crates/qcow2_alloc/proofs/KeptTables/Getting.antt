@@ -38,7 +38,7 @@ module _ {S V : Type 0} (view : S → StorageView) (bits : ℕ) (bytes : V → L
     (distinct : (ts : List CachedTable) (base : Bytes) → P ts base → AreDistinct ts)
     (drop_clean : (front back : List CachedTable) (t : CachedTable) (base : Bytes) → P (front ++ t ∷ back) base → t.is_modified ≡ false → P (front ++ back) base × (all (front ++ back) base ≡ all (front ++ t ∷ back) base))
     (add : (t : CachedTable) (ts : List CachedTable) (base : Bytes) → P ts base → t.place % 2 ^ bits ≡ 0 → AreElsewhere t.place ts → t.is_modified ≡ false → HoldsWhatStands all (2 ^ bits) t ts base
-        → P (t ∷ ts) base × (all (t ∷ ts) base ≡ all ts base))
+    → P (t ∷ ts) base × (all (t ∷ ts) base ≡ all ts base))
     (promote : (front back : List CachedTable) (t : CachedTable) (base : Bytes) → P (front ++ t ∷ back) base → P (t ∷ (front ++ back)) base × (all (t ∷ (front ++ back)) base ≡ all (front ++ t ∷ back) base)) where
   abbrev tables : List (ℕ × Slot V) → List CachedTable
   tables = cached_tables bits bytes is_modified
@@ -90,12 +90,13 @@ module _ {S V : Type 0} (view : S → StorageView) (bits : ℕ) (bytes : V → L
       let kept' : P (tables es) (contents t) = subst (λ b. P (tables es) b) (sym same) kept in
       let aligned : k * 2 ^ bits % 2 ^ bits ≡ 0 = cluster_aligned k bits in
       let added = add (table (k, slot_of v 0)) (tables es) (contents t) kept' aligned (elsewhere_of_none bits bytes is_modified k es missing) l.unmodified
-          (inl (λ i lt. ap (λ c. byte_at c i) (l.read honest) ∙ byte_at-bytes_at (view s).contents (k * 2 ^ bits) (2 ^ bits) i lt ∙ ap (λ (b : Bytes). b (k * 2 ^ bits + i)) (sym same))) in
+      (inl (λ i lt. ap (λ c. byte_at c i) (l.read honest) ∙ byte_at-bytes_at (view s).contents (k * 2 ^ bits) (2 ^ bits) i lt ∙ ap (λ (b : Bytes). b (k * 2 ^ bits + i)) (sym same))) in
       let stays : all (tables es) (contents t) ≡ all (tables es) (contents s) = ap (λ b. all (tables es) b) same in
       let still : IsSafeBetween (contents s) (all (tables es) (contents s)) (contents t) = λ backing m ok known_ok. rw same ok in
-      let since : IsSafeSince (view s) (view t) (all (tables es) (contents s)) = record { moments = passes_if _ (λ c is. subst (λ l'. IsSafeBetween (contents s) (all (tables es) (contents s)) (byte_at l')) (sym is) still) l.calls.time; contents = still } in
-      (record { honest = l.calls.honest honest; kept = kept'; known = stays; since = since },
-       record { honest = l.calls.honest honest; kept = added.0; known = added.1 ∙ stays; since = since })
+      let since : IsSafeSince (view s) (view t) (all (tables es) (contents s)) = record { moments = passes_if _ (λ c is. subst (λ l'. IsSafeBetween (contents s) (all (tables es) (contents s)) (byte_at l')) (sym is) still) l.calls.time; contents = still } in (
+        record { honest = l.calls.honest honest; kept = kept'; known = stays; since = since },
+        record { honest = l.calls.honest honest; kept = added.0; known = added.1 ∙ stays; since = since },
+      )
 
   failed_load : (s t : S) (k : ℕ) (x : MetadataError) (es : List (ℕ × Slot V)) → (view s).is_honest → P (tables es) (contents s) → FailsToLoad view bits bytes is_modified cleared IsFit s k x t → Done s t es es
   failed_load s t k x es honest kept l =
@@ -228,17 +229,17 @@ module _ {S V : Type 0} (view : S → StorageView) (bits : ℕ) (bytes : V → L
             let f = split_found (eqb k) es e found in
             let w : V = h.1.0 in
             let one = flushed_entry view bits bytes is_modified cleared IsFit unmodified same_bytes P all (step h.0) s t (tables f.front) (tables f.back) e None (record { value = w; pins = e.1.pins }) honest kept'
-                    (subst (λ n. FlushesTable view bits bytes is_modified cleared IsFit s n e.1.value w t) (sym own_key) h.1.1, refl) in
+            (subst (λ n. FlushesTable view bits bytes is_modified cleared IsFit s n e.1.value w t) (sym own_key) h.1.1, refl) in
             let gone = drop_clean (tables f.front) (tables f.back) (table (e.0, record { value = w; pins = e.1.pins })) (contents t) one.kept (ap is_modified h.1.1.clean ∙ unmodified e.1.value) in
             let without : Done s t es (remove_entry (eqb k) es) = record {
-                  honest = one.honest;
-                  kept = subst (λ l. P l (contents t)) (sym rest_is) gone.0;
-                  known = ap (λ l. all l (contents t)) rest_is ∙ gone.1 ∙ one.known ∙ sym (ap (λ l. all l (contents s)) whole);
-                  since = rw whole one.since;
-                } in
+              honest = one.honest;
+              kept = subst (λ l. P l (contents t)) (sym rest_is) gone.0;
+              known = ap (λ l. all l (contents t)) rest_is ∙ gone.1 ∙ one.known ∙ sym (ap (λ l. all l (contents s)) whole);
+              since = rw whole one.since;
+            } in
             let apart : AreDistinct (tables f.front ++ table e ∷ tables f.back) = distinct _ (contents s) kept' in
             let away : AreElsewhere (k * 2 ^ bits) (tables (remove_entry (eqb k) es)) =
-                subst (λ l. AreElsewhere (k * 2 ^ bits) l) (sym rest_is) (subst (λ n. AreElsewhere (n * 2 ^ bits) (tables f.front ++ tables f.back)) own_key (away_from (tables f.front) (tables f.back) (table e) apart)) in
+            subst (λ l. AreElsewhere (k * 2 ^ bits) l) (sym rest_is) (subst (λ n. AreElsewhere (n * 2 ^ bits) (tables f.front ++ tables f.back)) own_key (away_from (tables f.front) (tables f.back) (table e) apart)) in
             subst (λ l. Done s t es l) (sym (h.2 ∙ ap (λ n. (n, slot_of v e.1.pins) ∷ remove_entry (eqb k) es) own_key))
             (done_then s t t es (remove_entry (eqb k) es) ((k, slot_of v e.1.pins) ∷ remove_entry (eqb k) es) without
             (added t e.1.pins (remove_entry (eqb k) es) one.honest without.kept away (still_holds s t es (remove_entry (eqb k) es) without holds)))
@@ -246,7 +247,7 @@ module _ {S V : Type 0} (view : S → StorageView) (bits : ℕ) (bytes : V → L
         replace_done fs (Err (Backend x)) left holds h =
             let f = split_found (eqb k) es e found in
             let one = flushed_entry view bits bytes is_modified cleared IsFit unmodified same_bytes P all (step h.0) s t (tables f.front) (tables f.back) e (Some x) e.1 honest kept'
-                    (subst (λ n. FailsToFlush view bits bytes is_modified cleared IsFit s n e.1.value x t) (sym own_key) h.1, refl) in
+            (subst (λ n. FailsToFlush view bits bytes is_modified cleared IsFit s n e.1.value x t) (sym own_key) h.1, refl) in
             let front = promote (tables f.front) (tables f.back) (table e) (contents t) one.kept in
             let fs_is : tables fs ≡ table e ∷ (tables f.front ++ tables f.back) = ap tables h.2 ∙ ap (λ l. table e ∷ l) rest_is in
             record {

@@ -92,17 +92,17 @@ module _ {S : Type 0} (view : S → StorageView) (old new : ImageStorage S) (cac
   -- ---- an L2 table
   module _ (l2 : Cache (L2CacheBackend S) ℕ L2TableView) (others : l2 ≡ with_entries caches.l2 l2.entries) (v : L2TableView) (value left : Option L2TableView) (is : value ≡ Some v) (answer : Result Bool (CacheError ℕ MetadataError))
       (there : IfSome (lookup_entry (eqb key) caches.l2.entries) (λ e. IfSome value (λ v.
-          Replaces (l2_steps seen caches.l2.backend.header.fields) key e (remove_entry (eqb key) caches.l2.entries) v may_flush old caches.l2.entries answer new l2.entries left)))
+      Replaces (l2_steps seen caches.l2.backend.header.fields) key e (remove_entry (eqb key) caches.l2.entries) v may_flush old caches.l2.entries answer new l2.entries left)))
       (missing : IsNone (lookup (eqb key) caches.l2.entries)
-          → IfSome value (λ v. InsertsNew (l2_steps seen caches.l2.backend.header.fields) eqb caches.l2.size may_flush key v old caches.l2.entries answer new l2.entries left)) where
+      → IfSome value (λ v. InsertsNew (l2_steps seen caches.l2.backend.header.fields) eqb caches.l2.size may_flush key v old caches.l2.entries answer new l2.entries left)) where
     -- it is the value that is put in, or kept
     pub l2_taken : IsTakenOrKept key v may_flush l2.entries answer left
     l2_taken =
         found_or_not (lookup_entry (eqb key) caches.l2.entries)
         (λ none. taken_new (l2_steps seen caches.l2.backend.header.fields) caches.l2.size may_flush key v old new caches.l2.entries l2.entries answer left
-            (rw is at (missing (rw (lookup_none (eqb key) caches.l2.entries none) refl))))
+        (rw is at (missing (rw (lookup_none (eqb key) caches.l2.entries none) refl))))
         (λ e some. taken_place (l2_steps seen caches.l2.backend.header.fields) may_flush key v old new caches.l2.entries l2.entries e (remove_entry (eqb key) caches.l2.entries) answer left
-            (Contains-lookup_entry (eqb key) caches.l2.entries e some).1 (rw is at (rw some at there)))
+        (Contains-lookup_entry (eqb key) caches.l2.entries e some).1 (rw is at (rw some at there)))
 
     pub table_put : (may_flush ≡ true → TablesMayGo (order_of caches) (refblocks caches)) → (h : HeaderFields) (p : Pending) → (seen old).is_honest → AreSound h p caches (byte_at (seen old).contents)
         → IsTableOf h v → v.is_modified ≡ false → HoldsKnown h caches (byte_at (seen old).contents) v.bytes key → StaySound h p (seen old) caches (seen new) (record caches { l2 = l2 })
@@ -114,24 +114,24 @@ module _ {S : Type 0} (view : S → StorageView) (old new : ImageStorage S) (cac
         let same_backend : l2.backend ≡ caches.l2.backend = ap (λ c. c.backend) others in
         let distinct : (ts : List CachedTable) (base : Bytes) → P ts base → AreDistinct ts = λ ts base are. loaded_distinct (cluster_size h) (HasL2 h base) base ts are.l2_loaded in
         let add : (t : CachedTable) (ts : List CachedTable) (base : Bytes) → P ts base → t.place % 2 ^ bits ≡ 0 → AreElsewhere t.place ts → t.is_modified ≡ false → HoldsWhatStands all (2 ^ bits) t ts base
-                → P (t ∷ ts) base × (all (t ∷ ts) base ≡ all ts base) =
-            λ t ts base are aligned away clean current.
-            l2_add h (order_of caches) p (refblocks caches) t ts base are (subst (λ n. t.place % 2 ^ n ≡ 0) sound.l2_format.bits aligned) away clean (subst (λ n. HoldsWhatStands all (2 ^ n) t ts base) sound.l2_format.bits current) in
+        → P (t ∷ ts) base × (all (t ∷ ts) base ≡ all ts base) =
+        λ t ts base are aligned away clean current.
+        l2_add h (order_of caches) p (refblocks caches) t ts base are (subst (λ n. t.place % 2 ^ n ≡ 0) sound.l2_format.bits aligned) away clean (subst (λ n. HoldsWhatStands all (2 ^ n) t ts base) sound.l2_format.bits current) in
         let holds' : (i : ℕ) → i < 2 ^ bits → byte_at v.bytes i ≡ all (l2_tables caches) (byte_at (seen old).contents) (key * 2 ^ bits + i) =
-            subst (λ n. (i : ℕ) → i < 2 ^ n → byte_at v.bytes i ≡ all (l2_tables caches) (byte_at (seen old).contents) (key * 2 ^ n + i)) (sym sound.l2_format.bits) holds in
+        subst (λ n. (i : ℕ) → i < 2 ^ n → byte_at v.bytes i ≡ all (l2_tables caches) (byte_at (seen old).contents) (key * 2 ^ n + i)) (sym sound.l2_format.bits) holds in
         let f : Flushed seen bits (λ (t : L2TableView). t.bytes) (λ t. t.is_modified) cleared_l2 (IsTableOf caches.l2.backend.header.fields) (λ v. refl) (λ v. refl) P all old new (l2_tables caches)
-                (cached_tables bits (λ (t : L2TableView). t.bytes) (λ t. t.is_modified) l2.entries) =
-            found_or_not (lookup_entry (eqb key) caches.l2.entries)
-            (λ none. insert_done seen bits (λ (t : L2TableView). t.bytes) (λ t. t.is_modified) cleared_l2 (IsTableOf caches.l2.backend.header.fields) (λ v. refl) (λ v. refl) P all distinct (l2_drop h (order_of caches) p (refblocks caches)) add (l2_promote h (order_of caches) p (refblocks caches)) caches.l2.size may_flush
-                (λ flush. l2_step h (order_of caches) p bits sound.l2_format.bits (refblocks caches) (may flush)) key v clean
-                old new caches.l2.entries l2.entries answer left honest sound.kept (lookup_none (eqb key) caches.l2.entries none) holds'
-                (rw is at (missing (rw (lookup_none (eqb key) caches.l2.entries none) refl))))
-            (λ e some. replace_done seen bits (λ (t : L2TableView). t.bytes) (λ t. t.is_modified) cleared_l2 (IsTableOf caches.l2.backend.header.fields) (λ v. refl) (λ v. refl) P all distinct (l2_drop h (order_of caches) p (refblocks caches)) add (l2_promote h (order_of caches) p (refblocks caches)) caches.l2.size may_flush
-                (λ flush. l2_step h (order_of caches) p bits sound.l2_format.bits (refblocks caches) (may flush)) key v clean
-                old new caches.l2.entries e some honest sound.kept l2.entries answer left holds' (rw is at (rw some at there))) in
+        (cached_tables bits (λ (t : L2TableView). t.bytes) (λ t. t.is_modified) l2.entries) =
+        found_or_not (lookup_entry (eqb key) caches.l2.entries)
+        (λ none. insert_done seen bits (λ (t : L2TableView). t.bytes) (λ t. t.is_modified) cleared_l2 (IsTableOf caches.l2.backend.header.fields) (λ v. refl) (λ v. refl) P all distinct (l2_drop h (order_of caches) p (refblocks caches)) add (l2_promote h (order_of caches) p (refblocks caches)) caches.l2.size may_flush
+        (λ flush. l2_step h (order_of caches) p bits sound.l2_format.bits (refblocks caches) (may flush)) key v clean
+        old new caches.l2.entries l2.entries answer left honest sound.kept (lookup_none (eqb key) caches.l2.entries none) holds'
+        (rw is at (missing (rw (lookup_none (eqb key) caches.l2.entries none) refl))))
+        (λ e some. replace_done seen bits (λ (t : L2TableView). t.bytes) (λ t. t.is_modified) cleared_l2 (IsTableOf caches.l2.backend.header.fields) (λ v. refl) (λ v. refl) P all distinct (l2_drop h (order_of caches) p (refblocks caches)) add (l2_promote h (order_of caches) p (refblocks caches)) caches.l2.size may_flush
+        (λ flush. l2_step h (order_of caches) p bits sound.l2_format.bits (refblocks caches) (may flush)) key v clean
+        old new caches.l2.entries e some honest sound.kept l2.entries answer left holds' (rw is at (rw some at there))) in
         let fit : AllFit (IsTableOf caches.l2.backend.header.fields) l2.entries = found_or_not (lookup_entry (eqb key) caches.l2.entries)
-            (λ none. insert_fits seen caches.l2.backend.header.fields.cluster_bits (λ (t : L2TableView). t.bytes) (λ t. t.is_modified) cleared_l2 (IsTableOf caches.l2.backend.header.fields) (table_still caches.l2.backend.header.fields) caches.l2.size may_flush old new key v caches.l2.entries l2.entries answer left of_format sound.l2_fit (rw is at (missing (rw (lookup_none (eqb key) caches.l2.entries none) refl))))
-            (λ e some. replace_fits seen caches.l2.backend.header.fields.cluster_bits (λ (t : L2TableView). t.bytes) (λ t. t.is_modified) cleared_l2 (IsTableOf caches.l2.backend.header.fields) (table_still caches.l2.backend.header.fields) may_flush old new key v caches.l2.entries l2.entries e answer left some of_format sound.l2_fit (rw is at (rw some at there))) in
+        (λ none. insert_fits seen caches.l2.backend.header.fields.cluster_bits (λ (t : L2TableView). t.bytes) (λ t. t.is_modified) cleared_l2 (IsTableOf caches.l2.backend.header.fields) (table_still caches.l2.backend.header.fields) caches.l2.size may_flush old new key v caches.l2.entries l2.entries answer left of_format sound.l2_fit (rw is at (missing (rw (lookup_none (eqb key) caches.l2.entries none) refl))))
+        (λ e some. replace_fits seen caches.l2.backend.header.fields.cluster_bits (λ (t : L2TableView). t.bytes) (λ t. t.is_modified) cleared_l2 (IsTableOf caches.l2.backend.header.fields) (table_still caches.l2.backend.header.fields) may_flush old new key v caches.l2.entries l2.entries e answer left some of_format sound.l2_fit (rw is at (rw some at there))) in
         rw same_backend (record {
           honest = f.honest;
           sound = record { l2_format = sound.l2_format; rb_format = sound.rb_format; l2_fit = fit; rb_fit = sound.rb_fit; kept = f.kept };
@@ -142,17 +142,17 @@ module _ {S : Type 0} (view : S → StorageView) (old new : ImageStorage S) (cac
   -- ---- a refblock
   module _ (rb : Cache (RefBlockCacheBackend S) ℕ RefBlockView) (others : rb ≡ with_entries caches.rb rb.entries) (v : RefBlockView) (value left : Option RefBlockView) (is : value ≡ Some v) (answer : Result Bool (CacheError ℕ MetadataError))
       (there : IfSome (lookup_entry (eqb key) caches.rb.entries) (λ e. IfSome value (λ v.
-          Replaces (rb_steps seen caches.rb.backend.header.fields) key e (remove_entry (eqb key) caches.rb.entries) v may_flush old caches.rb.entries answer new rb.entries left)))
+      Replaces (rb_steps seen caches.rb.backend.header.fields) key e (remove_entry (eqb key) caches.rb.entries) v may_flush old caches.rb.entries answer new rb.entries left)))
       (missing : IsNone (lookup (eqb key) caches.rb.entries)
-          → IfSome value (λ v. InsertsNew (rb_steps seen caches.rb.backend.header.fields) eqb caches.rb.size may_flush key v old caches.rb.entries answer new rb.entries left)) where
+      → IfSome value (λ v. InsertsNew (rb_steps seen caches.rb.backend.header.fields) eqb caches.rb.size may_flush key v old caches.rb.entries answer new rb.entries left)) where
     -- it is the value that is put in, or kept
     pub rb_taken : IsTakenOrKept key v may_flush rb.entries answer left
     rb_taken =
         found_or_not (lookup_entry (eqb key) caches.rb.entries)
         (λ none. taken_new (rb_steps seen caches.rb.backend.header.fields) caches.rb.size may_flush key v old new caches.rb.entries rb.entries answer left
-            (rw is at (missing (rw (lookup_none (eqb key) caches.rb.entries none) refl))))
+        (rw is at (missing (rw (lookup_none (eqb key) caches.rb.entries none) refl))))
         (λ e some. taken_place (rb_steps seen caches.rb.backend.header.fields) may_flush key v old new caches.rb.entries rb.entries e (remove_entry (eqb key) caches.rb.entries) answer left
-            (Contains-lookup_entry (eqb key) caches.rb.entries e some).1 (rw is at (rw some at there)))
+        (Contains-lookup_entry (eqb key) caches.rb.entries e some).1 (rw is at (rw some at there)))
 
     pub block_put : (may_flush ≡ true → BlocksMayGo (order_of caches) (l2_tables caches)) → (h : HeaderFields) (p : Pending) → (seen old).is_honest → AreSound h p caches (byte_at (seen old).contents)
         → IsBlockOf h v → v.is_modified ≡ false → HoldsKnown h caches (byte_at (seen old).contents) v.bytes key → StaySound h p (seen old) caches (seen new) (record caches { rb = rb })
@@ -164,24 +164,24 @@ module _ {S : Type 0} (view : S → StorageView) (old new : ImageStorage S) (cac
         let same_backend : rb.backend ≡ caches.rb.backend = ap (λ c. c.backend) others in
         let distinct : (ts : List CachedTable) (base : Bytes) → P ts base → AreDistinct ts = λ ts base are. loaded_distinct (cluster_size h) (HasBlock h base) base ts are.rb_loaded in
         let add : (t : CachedTable) (ts : List CachedTable) (base : Bytes) → P ts base → t.place % 2 ^ bits ≡ 0 → AreElsewhere t.place ts → t.is_modified ≡ false → HoldsWhatStands all (2 ^ bits) t ts base
-                → P (t ∷ ts) base × (all (t ∷ ts) base ≡ all ts base) =
-            λ t ts base are aligned away clean current.
-            rb_add h (order_of caches) p (l2_tables caches) t ts base are (subst (λ n. t.place % 2 ^ n ≡ 0) sound.rb_format.bits aligned) away clean (subst (λ n. HoldsWhatStands all (2 ^ n) t ts base) sound.rb_format.bits current) in
+        → P (t ∷ ts) base × (all (t ∷ ts) base ≡ all ts base) =
+        λ t ts base are aligned away clean current.
+        rb_add h (order_of caches) p (l2_tables caches) t ts base are (subst (λ n. t.place % 2 ^ n ≡ 0) sound.rb_format.bits aligned) away clean (subst (λ n. HoldsWhatStands all (2 ^ n) t ts base) sound.rb_format.bits current) in
         let holds' : (i : ℕ) → i < 2 ^ bits → byte_at v.bytes i ≡ all (refblocks caches) (byte_at (seen old).contents) (key * 2 ^ bits + i) =
-            subst (λ n. (i : ℕ) → i < 2 ^ n → byte_at v.bytes i ≡ all (refblocks caches) (byte_at (seen old).contents) (key * 2 ^ n + i)) (sym sound.rb_format.bits) holds in
+        subst (λ n. (i : ℕ) → i < 2 ^ n → byte_at v.bytes i ≡ all (refblocks caches) (byte_at (seen old).contents) (key * 2 ^ n + i)) (sym sound.rb_format.bits) holds in
         let f : Flushed seen bits (λ (b : RefBlockView). b.bytes) (λ b. b.is_modified) cleared_rb (IsBlockOf caches.rb.backend.header.fields) (λ v. refl) (λ v. refl) P all old new (refblocks caches)
-                (cached_tables bits (λ (b : RefBlockView). b.bytes) (λ b. b.is_modified) rb.entries) =
-            found_or_not (lookup_entry (eqb key) caches.rb.entries)
-            (λ none. insert_done seen bits (λ (b : RefBlockView). b.bytes) (λ b. b.is_modified) cleared_rb (IsBlockOf caches.rb.backend.header.fields) (λ v. refl) (λ v. refl) P all distinct (rb_drop h (order_of caches) p (l2_tables caches)) add (rb_promote h (order_of caches) p (l2_tables caches)) caches.rb.size may_flush
-                (λ flush. rb_step h (order_of caches) p bits sound.rb_format.bits (l2_tables caches) (may flush)) key v clean
-                old new caches.rb.entries rb.entries answer left honest sound.kept (lookup_none (eqb key) caches.rb.entries none) holds'
-                (rw is at (missing (rw (lookup_none (eqb key) caches.rb.entries none) refl))))
-            (λ e some. replace_done seen bits (λ (b : RefBlockView). b.bytes) (λ b. b.is_modified) cleared_rb (IsBlockOf caches.rb.backend.header.fields) (λ v. refl) (λ v. refl) P all distinct (rb_drop h (order_of caches) p (l2_tables caches)) add (rb_promote h (order_of caches) p (l2_tables caches)) caches.rb.size may_flush
-                (λ flush. rb_step h (order_of caches) p bits sound.rb_format.bits (l2_tables caches) (may flush)) key v clean
-                old new caches.rb.entries e some honest sound.kept rb.entries answer left holds' (rw is at (rw some at there))) in
+        (cached_tables bits (λ (b : RefBlockView). b.bytes) (λ b. b.is_modified) rb.entries) =
+        found_or_not (lookup_entry (eqb key) caches.rb.entries)
+        (λ none. insert_done seen bits (λ (b : RefBlockView). b.bytes) (λ b. b.is_modified) cleared_rb (IsBlockOf caches.rb.backend.header.fields) (λ v. refl) (λ v. refl) P all distinct (rb_drop h (order_of caches) p (l2_tables caches)) add (rb_promote h (order_of caches) p (l2_tables caches)) caches.rb.size may_flush
+        (λ flush. rb_step h (order_of caches) p bits sound.rb_format.bits (l2_tables caches) (may flush)) key v clean
+        old new caches.rb.entries rb.entries answer left honest sound.kept (lookup_none (eqb key) caches.rb.entries none) holds'
+        (rw is at (missing (rw (lookup_none (eqb key) caches.rb.entries none) refl))))
+        (λ e some. replace_done seen bits (λ (b : RefBlockView). b.bytes) (λ b. b.is_modified) cleared_rb (IsBlockOf caches.rb.backend.header.fields) (λ v. refl) (λ v. refl) P all distinct (rb_drop h (order_of caches) p (l2_tables caches)) add (rb_promote h (order_of caches) p (l2_tables caches)) caches.rb.size may_flush
+        (λ flush. rb_step h (order_of caches) p bits sound.rb_format.bits (l2_tables caches) (may flush)) key v clean
+        old new caches.rb.entries e some honest sound.kept rb.entries answer left holds' (rw is at (rw some at there))) in
         let fit : AllFit (IsBlockOf caches.rb.backend.header.fields) rb.entries = found_or_not (lookup_entry (eqb key) caches.rb.entries)
-            (λ none. insert_fits seen caches.rb.backend.header.fields.cluster_bits (λ (b : RefBlockView). b.bytes) (λ b. b.is_modified) cleared_rb (IsBlockOf caches.rb.backend.header.fields) (block_still caches.rb.backend.header.fields) caches.rb.size may_flush old new key v caches.rb.entries rb.entries answer left of_format sound.rb_fit (rw is at (missing (rw (lookup_none (eqb key) caches.rb.entries none) refl))))
-            (λ e some. replace_fits seen caches.rb.backend.header.fields.cluster_bits (λ (b : RefBlockView). b.bytes) (λ b. b.is_modified) cleared_rb (IsBlockOf caches.rb.backend.header.fields) (block_still caches.rb.backend.header.fields) may_flush old new key v caches.rb.entries rb.entries e answer left some of_format sound.rb_fit (rw is at (rw some at there))) in
+        (λ none. insert_fits seen caches.rb.backend.header.fields.cluster_bits (λ (b : RefBlockView). b.bytes) (λ b. b.is_modified) cleared_rb (IsBlockOf caches.rb.backend.header.fields) (block_still caches.rb.backend.header.fields) caches.rb.size may_flush old new key v caches.rb.entries rb.entries answer left of_format sound.rb_fit (rw is at (missing (rw (lookup_none (eqb key) caches.rb.entries none) refl))))
+        (λ e some. replace_fits seen caches.rb.backend.header.fields.cluster_bits (λ (b : RefBlockView). b.bytes) (λ b. b.is_modified) cleared_rb (IsBlockOf caches.rb.backend.header.fields) (block_still caches.rb.backend.header.fields) may_flush old new key v caches.rb.entries rb.entries e answer left some of_format sound.rb_fit (rw is at (rw some at there))) in
         rw same_backend (record {
           honest = f.honest;
           sound = record { l2_format = sound.l2_format; rb_format = sound.rb_format; l2_fit = sound.l2_fit; rb_fit = fit; kept = f.kept };

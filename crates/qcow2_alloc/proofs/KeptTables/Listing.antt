@@ -118,77 +118,99 @@ module _ (h : HeaderFields) (d : Direction) (p : Pending) where
   pub l2_drop : (rbs front back : List CachedTable) (t : CachedTable) (base : Bytes) → AreKept h d p (front ++ t ∷ back) rbs base → t.is_modified ≡ false
       → AreKept h d p (front ++ back) rbs base × (known_bytes (cluster_size h) (front ++ back) rbs base ≡ known_bytes (cluster_size h) (front ++ t ∷ back) rbs base)
   l2_drop rbs front back t base are clean =
-      let same = shows_without (cluster_size h) front back t clean are.kept.l2_apart in
-      (record {
-        kept = l2_relisted h d p (front ++ t ∷ back) (front ++ back) rbs base same are.kept;
-        l2_loaded = loaded_without (cluster_size h) (HasL2 h base) base front back t are.l2_loaded;
-        rb_loaded = are.rb_loaded;
-      }, same.known (known (cluster_size h) rbs base))
+      let same = shows_without (cluster_size h) front back t clean are.kept.l2_apart in (
+        record {
+          kept = l2_relisted h d p (front ++ t ∷ back) (front ++ back) rbs base same are.kept;
+          l2_loaded = loaded_without (cluster_size h) (HasL2 h base) base front back t are.l2_loaded;
+          rb_loaded = are.rb_loaded;
+        },
+        same.known (known (cluster_size h) rbs base),
+      )
 
   pub l2_add : (rbs : List CachedTable) (t : CachedTable) (ts : List CachedTable) (base : Bytes) → AreKept h d p ts rbs base → t.place % cluster_size h ≡ 0 → AreElsewhere t.place ts → t.is_modified ≡ false
       → IsCurrent (cluster_size h) t base ⊎ ((i : ℕ) → i < cluster_size h → t.bytes i ≡ known_bytes (cluster_size h) ts rbs base (t.place + i)) → AreKept h d p (t ∷ ts) rbs base × (known_bytes (cluster_size h) (t ∷ ts) rbs base ≡ known_bytes (cluster_size h) ts rbs base)
   l2_add rbs t ts base are aligned away clean holds =
-      let same = shows_more (cluster_size h) ts t clean aligned are.kept.l2_apart in
-      (record {
-        kept = l2_relisted h d p ts (t ∷ ts) rbs base same are.kept;
-        l2_loaded = (aligned, away, (λ _ has. elim holds [
-          | inl current ↦ current
-          | inr known ↦ λ i lt.
-              known i lt
-              ∙ known_is_base (cluster_size h) ts rbs base (t.place + i)
-              (free_elsewhere (cluster_size h) (HasL2 h base) base ts t.place (t.place + i) aligned away are.l2_loaded (in_own_cluster (cluster_size h) t.place i aligned lt))
-              (rbs_free h d p ts rbs base are.kept (t.place / cluster_size h)
-              (let one : 1 ≤ named_by_l1_table h base (t.place / cluster_size h) = subst (λ n. 1 ≤ named_by_l1_table h base n) has.2 (table_has h base has.0 has.1) in omega arith)
-              (t.place + i) (in_own_cluster (cluster_size h) t.place i aligned lt))
-        ]), are.l2_loaded);
-        rb_loaded = are.rb_loaded;
-      }, same.known (known (cluster_size h) rbs base))
+      let same = shows_more (cluster_size h) ts t clean aligned are.kept.l2_apart in (
+        record {
+          kept = l2_relisted h d p ts (t ∷ ts) rbs base same are.kept;
+          l2_loaded = (
+            aligned,
+            away,
+            (λ _ has. elim holds [
+              | inl current ↦ current
+              | inr known ↦ λ i lt.
+                  known i lt
+                  ∙ known_is_base (cluster_size h) ts rbs base (t.place + i)
+                  (free_elsewhere (cluster_size h) (HasL2 h base) base ts t.place (t.place + i) aligned away are.l2_loaded (in_own_cluster (cluster_size h) t.place i aligned lt))
+                  (rbs_free h d p ts rbs base are.kept (t.place / cluster_size h)
+                  (let one : 1 ≤ named_by_l1_table h base (t.place / cluster_size h) = subst (λ n. 1 ≤ named_by_l1_table h base n) has.2 (table_has h base has.0 has.1) in omega arith)
+                  (t.place + i) (in_own_cluster (cluster_size h) t.place i aligned lt))
+            ]),
+            are.l2_loaded,
+          );
+          rb_loaded = are.rb_loaded;
+        },
+        same.known (known (cluster_size h) rbs base),
+      )
 
   pub l2_promote : (rbs front back : List CachedTable) (t : CachedTable) (base : Bytes) → AreKept h d p (front ++ t ∷ back) rbs base
       → AreKept h d p (t ∷ (front ++ back)) rbs base × (known_bytes (cluster_size h) (t ∷ (front ++ back)) rbs base ≡ known_bytes (cluster_size h) (front ++ t ∷ back) rbs base)
   l2_promote rbs front back t base are =
-      let same = shows_promoted (cluster_size h) front back t are.kept.l2_apart in
-      (record {
-        kept = l2_relisted h d p (front ++ t ∷ back) (t ∷ (front ++ back)) rbs base same are.kept;
-        l2_loaded = loaded_promoted (cluster_size h) (HasL2 h base) base front back t are.l2_loaded;
-        rb_loaded = are.rb_loaded;
-      }, same.known (known (cluster_size h) rbs base))
+      let same = shows_promoted (cluster_size h) front back t are.kept.l2_apart in (
+        record {
+          kept = l2_relisted h d p (front ++ t ∷ back) (t ∷ (front ++ back)) rbs base same are.kept;
+          l2_loaded = loaded_promoted (cluster_size h) (HasL2 h base) base front back t are.l2_loaded;
+          rb_loaded = are.rb_loaded;
+        },
+        same.known (known (cluster_size h) rbs base),
+      )
 
   pub rb_drop : (l2s front back : List CachedTable) (t : CachedTable) (base : Bytes) → AreKept h d p l2s (front ++ t ∷ back) base → t.is_modified ≡ false
       → AreKept h d p l2s (front ++ back) base × (known_bytes (cluster_size h) l2s (front ++ back) base ≡ known_bytes (cluster_size h) l2s (front ++ t ∷ back) base)
   rb_drop l2s front back t base are clean =
-      let same = shows_without (cluster_size h) front back t clean are.kept.rb_apart in
-      (record {
-        kept = rb_relisted h d p l2s (front ++ t ∷ back) (front ++ back) base same are.kept;
-        l2_loaded = are.l2_loaded;
-        rb_loaded = loaded_without (cluster_size h) (HasBlock h base) base front back t are.rb_loaded;
-      }, ap (known (cluster_size h) l2s) (same.known base))
+      let same = shows_without (cluster_size h) front back t clean are.kept.rb_apart in (
+        record {
+          kept = rb_relisted h d p l2s (front ++ t ∷ back) (front ++ back) base same are.kept;
+          l2_loaded = are.l2_loaded;
+          rb_loaded = loaded_without (cluster_size h) (HasBlock h base) base front back t are.rb_loaded;
+        },
+        ap (known (cluster_size h) l2s) (same.known base),
+      )
 
   pub rb_add : (l2s : List CachedTable) (t : CachedTable) (ts : List CachedTable) (base : Bytes) → AreKept h d p l2s ts base → t.place % cluster_size h ≡ 0 → AreElsewhere t.place ts → t.is_modified ≡ false
       → IsCurrent (cluster_size h) t base ⊎ ((i : ℕ) → i < cluster_size h → t.bytes i ≡ known_bytes (cluster_size h) l2s ts base (t.place + i)) → AreKept h d p l2s (t ∷ ts) base × (known_bytes (cluster_size h) l2s (t ∷ ts) base ≡ known_bytes (cluster_size h) l2s ts base)
   rb_add l2s t ts base are aligned away clean holds =
-      let same = shows_more (cluster_size h) ts t clean aligned are.kept.rb_apart in
-      (record {
-        kept = rb_relisted h d p l2s ts (t ∷ ts) base same are.kept;
-        l2_loaded = are.l2_loaded;
-        rb_loaded = (aligned, away, (λ _ has. elim holds [
-          | inl current ↦ current
-          | inr known ↦ λ i lt.
-              known i lt
-              ∙ known_is_base (cluster_size h) l2s ts base (t.place + i)
-              (l2s_free h d p l2s ts base are.kept (t.place / cluster_size h)
-              (let one : 1 ≤ named_by_reftable h base (t.place / cluster_size h) = subst (λ n. 1 ≤ named_by_reftable h base n) has.2 (block_has h base has.0 has.1) in omega arith)
-              (t.place + i) (in_own_cluster (cluster_size h) t.place i aligned lt))
-              (free_elsewhere (cluster_size h) (HasBlock h base) base ts t.place (t.place + i) aligned away are.rb_loaded (in_own_cluster (cluster_size h) t.place i aligned lt))
-        ]), are.rb_loaded);
-      }, ap (known (cluster_size h) l2s) (same.known base))
+      let same = shows_more (cluster_size h) ts t clean aligned are.kept.rb_apart in (
+        record {
+          kept = rb_relisted h d p l2s ts (t ∷ ts) base same are.kept;
+          l2_loaded = are.l2_loaded;
+          rb_loaded = (
+            aligned,
+            away,
+            (λ _ has. elim holds [
+              | inl current ↦ current
+              | inr known ↦ λ i lt.
+                  known i lt
+                  ∙ known_is_base (cluster_size h) l2s ts base (t.place + i)
+                  (l2s_free h d p l2s ts base are.kept (t.place / cluster_size h)
+                  (let one : 1 ≤ named_by_reftable h base (t.place / cluster_size h) = subst (λ n. 1 ≤ named_by_reftable h base n) has.2 (block_has h base has.0 has.1) in omega arith)
+                  (t.place + i) (in_own_cluster (cluster_size h) t.place i aligned lt))
+                  (free_elsewhere (cluster_size h) (HasBlock h base) base ts t.place (t.place + i) aligned away are.rb_loaded (in_own_cluster (cluster_size h) t.place i aligned lt))
+            ]),
+            are.rb_loaded,
+          );
+        },
+        ap (known (cluster_size h) l2s) (same.known base),
+      )
 
   pub rb_promote : (l2s front back : List CachedTable) (t : CachedTable) (base : Bytes) → AreKept h d p l2s (front ++ t ∷ back) base
       → AreKept h d p l2s (t ∷ (front ++ back)) base × (known_bytes (cluster_size h) l2s (t ∷ (front ++ back)) base ≡ known_bytes (cluster_size h) l2s (front ++ t ∷ back) base)
   rb_promote l2s front back t base are =
-      let same = shows_promoted (cluster_size h) front back t are.kept.rb_apart in
-      (record {
-        kept = rb_relisted h d p l2s (front ++ t ∷ back) (t ∷ (front ++ back)) base same are.kept;
-        l2_loaded = are.l2_loaded;
-        rb_loaded = loaded_promoted (cluster_size h) (HasBlock h base) base front back t are.rb_loaded;
-      }, ap (known (cluster_size h) l2s) (same.known base))
+      let same = shows_promoted (cluster_size h) front back t are.kept.rb_apart in (
+        record {
+          kept = rb_relisted h d p l2s (front ++ t ∷ back) (t ∷ (front ++ back)) base same are.kept;
+          l2_loaded = are.l2_loaded;
+          rb_loaded = loaded_promoted (cluster_size h) (HasBlock h base) base front back t are.rb_loaded;
+        },
+        ap (known (cluster_size h) l2s) (same.known base),
+      )

@@ -50,7 +50,7 @@ module _ {S : Type 0} (view : S → StorageView) where
   -- then the direction turns
   pub keep_turned : (r s : ImageStorage S) (a b : MetadataCaches S) (to : _) → KeepSound view r a s b
       → ((h : HeaderFields) (p : Pending) → AreSound h p b (byte_at (view (storage_of s)).contents)
-          → MayTurn (order_of b) (order to) h (byte_at (view (storage_of s)).contents) (known_of h b (byte_at (view (storage_of s)).contents)))
+      → MayTurn (order_of b) (order to) h (byte_at (view (storage_of s)).contents) (known_of h b (byte_at (view (storage_of s)).contents)))
       → KeepSound view r a s (record b { direction = to })
   keep_turned r s a b to keeps may = λ h p honest sound.
       let f = keeps h p honest sound in

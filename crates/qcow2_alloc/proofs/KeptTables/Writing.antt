@@ -76,10 +76,12 @@ l2_wrote h d p rbs front back t t' base base' are may so =
         kept = k.kept;
         l2_loaded = loaded_written (cluster_size h) t t' base base' so (HasL2 h base) (HasL2 h base') front back (l2_named h base base' top) are.l2_loaded;
         rb_loaded = loaded_beside (cluster_size h) (HasBlock h base) (HasBlock h base') base base' rbs (λ c is.
-            let has = block_named h base base' top c is in
-            (has, stays_free (cluster_size h) t t' base base' so front back c
-                (l2s_free h d p (front ++ t ∷ back) rbs base are.kept c
-                (let one : 1 ≤ named_by_reftable h base c = subst (λ n. 1 ≤ named_by_reftable h base n) has.2 (block_has h base has.0 has.1) in omega arith)))) are.rb_loaded;
+            let has = block_named h base base' top c is in (
+              has,
+              stays_free (cluster_size h) t t' base base' so front back c
+                  (l2s_free h d p (front ++ t ∷ back) rbs base are.kept c
+                  (let one : 1 ≤ named_by_reftable h base c = subst (λ n. 1 ≤ named_by_reftable h base n) has.2 (block_has h base has.0 has.1) in omega arith)),
+            )) are.rb_loaded;
       };
       known = k.known;
       safe = k.safe;
@@ -95,10 +97,12 @@ rb_wrote h d p l2s front back t t' base base' are may so =
         kept = k.kept;
         rb_loaded = loaded_written (cluster_size h) t t' base base' so (HasBlock h base) (HasBlock h base') front back (block_named h base base' top) are.rb_loaded;
         l2_loaded = loaded_beside (cluster_size h) (HasL2 h base) (HasL2 h base') base base' l2s (λ c is.
-            let has = l2_named h base base' top c is in
-            (has, stays_free (cluster_size h) t t' base base' so front back c
-                (rbs_free h d p l2s (front ++ t ∷ back) base are.kept c
-                (let one : 1 ≤ named_by_l1_table h base c = subst (λ n. 1 ≤ named_by_l1_table h base n) has.2 (table_has h base has.0 has.1) in omega arith)))) are.l2_loaded;
+            let has = l2_named h base base' top c is in (
+              has,
+              stays_free (cluster_size h) t t' base base' so front back c
+                  (rbs_free h d p l2s (front ++ t ∷ back) base are.kept c
+                  (let one : 1 ≤ named_by_l1_table h base c = subst (λ n. 1 ≤ named_by_l1_table h base n) has.2 (table_has h base has.0 has.1) in omega arith)),
+            )) are.l2_loaded;
       };
       known = k.known;
       safe = k.safe;
