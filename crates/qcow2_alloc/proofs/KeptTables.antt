@@ -10,4 +10,5 @@ pub mod Fetching
 pub mod Inserting
 pub mod Changing
 pub mod Counting
+pub mod Mapping
 pub mod Turning

@@ -1,17 +1,21 @@
 -- What contracts see of the caches of L2 tables and refblocks over the bytes of the storage.
-use Rattle.std.specs.Prelude.{ℕ, ◌+◌, ◌*◌, ◌%◌, ◌≡◌, ◌≢◌, ◌<◌, ◌==◌, Bool, false, List, Option, IfSome, IsSome}
+use Rattle.std.specs.Prelude.{ℕ, ◌+◌, ◌*◌, ◌/◌, ◌%◌, ◌≡◌, ◌≢◌, ◌<◌, ◌==◌, Bool, false, List, Option, IfSome, IsSome}
 use Rattle.image_access.specs.Moments.{StorageView}
 use Rattle.qcow2_metadata.specs.Bytes.{Bytes, byte_at}
 use Rattle.qcow2_metadata.specs.declared.header.HeaderFields.{HeaderFields}
-use Rattle.qcow2_metadata.specs.Header.{cluster_size, counts_per_block, has_data_file}
-use Rattle.qcow2_metadata.specs.Entries.{count}
-use Rattle.qcow2_metadata.specs.L2Table.{L2TableView}
+use Rattle.qcow2_metadata.specs.Header.{cluster_size, entries_per_cluster, counts_per_block, has_data_file}
+use Rattle.qcow2_metadata.specs.Entries.{count, l2_entry}
+use Rattle.qcow2_metadata.specs.Cover.{entry_cover}
+use Rattle.qcow2_metadata.specs.L2Mapping.{IsHostCluster, dropped_run}
+use Rattle.qcow2_metadata.specs.L2Table.{L2TableView, copied_entry}
 use Rattle.qcow2_metadata.specs.RefBlock.{RefBlockView}
 use Rattle.qcow2_metadata.specs.Tables.{CachedTable}
 use Rattle.qcow2_laws.specs.Clusters as Order
 use Rattle.qcow2_laws.specs.Guard.{Pending, IsGuarded}
 use Rattle.qcow2_laws.specs.Steps.{block_of, CountRises, CountFalls}
-use Rattle.qcow2_laws.specs.Caches.{known_bytes, AreClean}
+use Rattle.qcow2_laws.specs.Caches.{known_bytes, AreClean, AreSettled}
+use Rattle.qcow2_laws.specs.Guests.{table_at}
+use Rattle.qcow2_laws.specs.Tops.{IsSameOutside}
 use Rattle.qcow2_alloc.specs.AsyncLruCache.{value_at}
 use Rattle.qcow2_alloc.specs.declared.cache.Direction.{Direction}
 use Rattle.qcow2_alloc.specs.declared.cache.Direction.TheVariants as D
@@ -33,6 +37,18 @@ pub record IsCountedAt (h : HeaderFields) (known : Bytes) (c block index : ℕ) 
   pub real : block_of h known c ≢ 0
   pub place : block_of h known c ≡ block * cluster_size h
   pub at : c % counts_per_block h ≡ index
+
+-- an entry of the table of L1 entry i, which stands in the cluster
+pub record IsEntryAt (h : HeaderFields) (known : Bytes) (i table index : ℕ) : Type 0 where
+  pub real : table_at h known i ≢ 0
+  pub place : table_at h known i ≡ table * cluster_size h
+  pub within : index < entries_per_cluster h
+
+-- entry j of that table becomes this one, and nothing else changes
+pub record ChangesKnownEntry (h : HeaderFields) (known known' : Bytes) (i j entry : ℕ) : Type 0 where
+  pub outside : IsSameOutside (cluster_size h) (table_at h known i / cluster_size h) known known'
+  pub others : (k : ℕ) → k < entries_per_cluster h → k ≢ j → l2_entry known' (table_at h known i) k ≡ l2_entry known (table_at h known i) k
+  pub is : l2_entry known' (table_at h known i) j ≡ entry
 
 -- which tables are written first
 abbrev pub order : Direction → Order.Direction
@@ -127,3 +143,18 @@ module _ {S : Type 0} where
     pub l2 : caches'.l2 ≡ caches.l2
     pub rb : caches'.rb ≡ caches.rb
     pub direction : caches'.direction ≡ caches.direction
+
+  -- ---- entries of held L2 tables
+
+  -- Entry j of the table of L1 entry i becomes another one, and what the old one names that the new one doesn't is answered. The caches are sound again, whatever is
+  -- pending, where the order of writes is kept and each modified refblock is named.
+  pub record MadeEntry (h : HeaderFields) (caches caches' : MetadataCaches S) (base : Bytes) (i j entry : ℕ) (answer : Option (ℕ × ℕ)) : Type 0 where
+    pub change : ChangesKnownEntry h (known_of h caches base) (known_of h caches' base) i j entry
+    pub answered : answer ≡ dropped_run h.cluster_bits (entry_cover h (l2_entry (known_of h caches base) (table_at h (known_of h caches base) i) j)) (entry_cover h entry)
+    pub sound : (p : Pending) → AreSettled h (refblocks caches) base → IsGuarded h (order_of caches') p base (known_of h caches' base) → AreSound h p caches' base
+
+  -- an entry of the held table of a cluster becomes copied data at a host cluster
+  abbrev pub MapsEntry : MetadataCaches S → MetadataCaches S → ℕ → ℕ → ℕ → Option (ℕ × ℕ) → Type 0
+  MapsEntry caches caches' table index host answer =
+      (h : HeaderFields) (p : Pending) (base : Bytes) (i : ℕ) → AreSound h p caches base → IsEntryAt h (known_of h caches base) i table index → IsSome (l2_at caches table) → IsHostCluster h.cluster_bits host
+      → MadeEntry h caches caches' base i index (copied_entry (host * cluster_size h)) answer

@@ -5,7 +5,7 @@ ghost use Rattle.qcow2_laws.specs.Caches.{AreClean, BlocksMayGo, TablesMayGo};
 ghost use Rattle.qcow2_alloc.specs.ImageError.{IsOfTables};
 ghost use Rattle.qcow2_alloc.specs.ImageStorage.{storage_of};
 ghost use Rattle.qcow2_alloc.specs.TableCaches.{IsTableOf, IsBlockOf};
-ghost use Rattle.qcow2_alloc.specs.MetadataCaches.{order_of, l2_at, rb_at, l2_tables, refblocks, AreAllWritten, KeepSound, PutSound, RaisesCount, LowersCount, TellsZero, AreSame};
+ghost use Rattle.qcow2_alloc.specs.MetadataCaches.{order_of, l2_at, rb_at, l2_tables, refblocks, AreAllWritten, KeepSound, PutSound, RaisesCount, LowersCount, TellsZero, AreSame, MapsEntry};
 
 mod backends;
 
@@ -310,7 +310,10 @@ impl<S: Storage> MetadataCaches<S> {
         cluster: HostCluster,
         index: usize,
         host: HostCluster,
-    ) -> Option<(HostCluster, ClusterCount)> {
+    ) -> Option<(HostCluster, ClusterCount)>
+        ensures order { order_of self.new ≡ order_of self.old }
+        ensures mapped { MapsEntry self.old self.new cluster index host result }
+    {
         let table = self.l2.peek_mut(cluster)?;
         let bits = table.cluster_bits();
         if index >= table.entries() || !host.is_nameable(bits) {
