@@ -7,7 +7,7 @@ import subprocess
 import sys
 
 ROOT = os.path.dirname(os.path.dirname(os.path.abspath(__file__)))
-SCRIPTS = ["tests/program.py", "tests/writes.py", "tests/interop/write.py", "tests/interop/open.py"]
+SCRIPTS = ["tests/program.py", "tests/writes.py", "tests/caches.py", "tests/stops.py", "tests/interop/write.py", "tests/interop/open.py"]
 
 
 def counts(words):

@@ -416,7 +416,7 @@ impl<S: Storage, F: WrappedFormat<S>> Qcow2<S, F> {
     }
 
     // Gives a table a cluster, writes it there, and then the L1 entry that names it.
-    fn enter_l2(&mut self, index: usize, mut table: L2Table) -> Result<HostCluster, ImageError>
+    fn enter_l2(&mut self, index: usize, table: L2Table) -> Result<HostCluster, ImageError>
         requires writable { IsTrue (is_writable self.old) }
         ensures stays { Stays self.old self.new }
         ensures cause { IfErr result IsMet }
@@ -426,25 +426,25 @@ impl<S: Storage, F: WrappedFormat<S>> Qcow2<S, F> {
         };
         let pending = allocator.allocate_meta(&mut self.file, ClusterCount::new(1))?;
         let cluster = pending.cluster();
-        match self.write_l2(index, cluster, &mut table) {
-            Ok(()) => pending.make_persistent(),
+        match self.write_l2(index, cluster, table) {
+            Ok(()) => {
+                pending.make_persistent();
+                Ok(cluster)
+            }
             Err(refusal) => {
                 pending.hand_back(&mut self.file.free_list);
-                return Err(refusal);
+                Err(refusal)
             }
         }
-        self.file.caches.l2_insert(&mut self.file.storage, table)?;
-        Ok(cluster)
     }
 
-    // Counts are written first, then the table's bytes, then the entry that names it.
+    // Counts are written first, then the table's bytes, then the entry that names it. The table is in its cache before it is named, so that no older one is found there.
     fn write_l2(
         &mut self,
         index: usize,
         cluster: HostCluster,
-        table: &mut L2Table,
+        mut table: L2Table,
     ) -> Result<(), ImageError>
-        ensures placed { OnOk result (IsSome table.new.cluster) }
         ensures stays { Stays self.old self.new }
         ensures cause { IfErr result IsMet }
     {
@@ -456,6 +456,8 @@ impl<S: Storage, F: WrappedFormat<S>> Qcow2<S, F> {
         self.file.storage.will_write(WriteKind::Other);
         table.write(&mut self.file.storage)?;
         table.clear_modified();
+        self.file.caches.l2_insert(&mut self.file.storage, table)?;
+        self.file.storage.will_write(WriteKind::Other);
         self.l1_table.enter_l2_table(index, cluster);
         self.l1_table.write_entry(&mut self.file.storage, index)?;
         Ok(())
