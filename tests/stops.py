@@ -13,8 +13,8 @@ from checks import create, run
 CLUSTER = 512
 CLUSTERS = 256
 SIZE = CLUSTER * CLUSTERS
-COMMANDS = 6000
-KILLS = 40
+COMMANDS = 12000
+KILLS = 150
 
 
 def commands():
