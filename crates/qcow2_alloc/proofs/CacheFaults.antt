@@ -1,5 +1,5 @@
 -- What a cache's call leaves of a measure of its store that steps never lower, and that a fault raises.
-use Rattle.std.proofs.Common.{◌≡◌, ◌≤◌, ℕ, Bool, true, false, List, [], ◌∷◌, Option, Some, None, Result, Ok, Err, ◌⊎◌, ⊎_elim, sym, subst, arith, refl, ap}
+use Rattle.std.proofs.Common.{◌≤◌, ℕ, Bool, true, false, List, [], ◌∷◌, Option, Some, None, Result, Ok, Err, ⊎_elim, sym, subst, arith}
 use Rattle.std.specs.Option.{option_or}
 use Rattle.image_access.specs.Moments.{Rose}
 use Rattle.image_access.proofs.Passing.{rose_since, rose_still}

@@ -3,6 +3,7 @@ pub mod Flushing
 pub mod Going
 pub mod Knowing
 pub mod Lists
+pub mod Pins
 pub mod Putting
 pub mod Room
 pub mod Turns

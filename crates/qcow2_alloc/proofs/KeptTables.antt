@@ -1,6 +1,7 @@
 -- Facts about cached tables over the bytes of the storage.
 pub mod Loaded
 pub mod Writing
+pub mod Empty
 pub mod Entries
 pub mod Listing
 pub mod Getting
@@ -12,3 +13,8 @@ pub mod Changing
 pub mod Counting
 pub mod Mapping
 pub mod Turning
+pub mod Standing
+pub mod Settled
+pub mod Causes
+pub mod Beside
+pub mod Named

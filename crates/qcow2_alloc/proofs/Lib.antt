@@ -1,5 +1,10 @@
 pub mod CachedEntries
 pub mod CacheFaults
+pub mod CacheMarks
 pub mod TableFlush
 pub mod TableErrors
 pub mod KeptTables
+pub mod FileSteps
+pub mod AllocationSteps
+pub mod Runs
+pub mod FileWrites

@@ -1,10 +1,9 @@
 -- A flush of a modified table that is refused.
-use Rattle.std.proofs.Common.{◌≡◌, ◌⊎◌, inl, inr, ℕ, ◌*◌, ◌^◌, Bool, true, List, length, Result, Ok, Err, subst}
+use Rattle.std.proofs.Common.{◌≡◌, ◌⊎◌, inl, inr, ℕ, ◌*◌, ◌^◌, Bool, true, List, length, Err, subst}
 use Rattle.image_access.specs.Contents.{overwritten}
 use Rattle.image_access.specs.Moments.{StorageView, Changes, Calls}
 use Rattle.image_access.specs.declared.error.StorageError.{StorageError}
 use Rattle.image_access.proofs.Passing.{whole_or_nothing}
-use Rattle.qcow2_metadata.specs.declared.error.MetadataError.{MetadataError}
 use Rattle.qcow2_metadata.specs.declared.error.MetadataError.TheVariants.{Storage}
 use Rattle.qcow2_alloc.specs.TableSteps.{FailsToFlush}
 
@@ -16,6 +15,7 @@ module _ {S V : Type 0} (view : S → StorageView) (cluster_bits : ℕ) (bytes :
       → FailsToFlush view cluster_bits bytes is_modified cleared IsFit s k v (Storage e) t
   write_fails s t k v e before same modified fits changes calls = record {
     modified = modified;
+    cause = λ fits here. tt;
     stopped = λ honest. subst (λ (b : StorageView). b.is_honest → ((view t).contents ≡ b.contents) ⊎ ((length (bytes v) ≡ 2 ^ cluster_bits) × ((view t).contents ≡ overwritten b.contents (k * 2 ^ cluster_bits) (bytes v)))) same
         (λ h. elim (whole_or_nothing {T = Unit {0}} (Err e) before.contents (overwritten before.contents (k * 2 ^ cluster_bits) (bytes v)) (view t).contents (changes h)) [
           | inl is ↦ inl is

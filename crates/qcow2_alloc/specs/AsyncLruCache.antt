@@ -50,6 +50,10 @@ module _ {K V : Type 0} (test : K → Bool) (es : List (K × Slot V)) where
   abbrev pub can_remove : Bool
   can_remove = option_map_or (λ s. not (nat_lt 0 s.pins)) (lookup test es) false
 
+  -- how often the entry under the key that passes is pinned
+  abbrev pub pins_at : ℕ
+  pins_at = option_map_or (λ s. s.pins) (lookup test es) 0
+
   -- the key that passes is that of the most recently used entry
   abbrev pub IsInFront : Type 0
   IsInFront = IsSomeAnd (slice_get es 0) (λ e. test e.0 ≡ true)
@@ -72,3 +76,8 @@ module _ {K V : Type 0} where
   abbrev pub OnlyOldestGoes : (K → K → Bool) → (K × Slot V → Type 0) → List (K × Slot V) → List (K × Slot V) → Type 0
   OnlyOldestGoes eq P es fs = (k : K) → IsSome (lookup (eq k) es) → IsNone (lookup (eq k) fs)
       → IsSomeAnd (oldest_free es) (λ e. (eq k e.0 ≡ true) × P e)
+
+  -- each key keeps its pins, and where none was pinned none is
+  pub record KeepsPins (eq : K → K → Bool) (es fs : List (K × Slot V)) : Type 0 where
+    pub pins : (k : K) → pins_at (eq k) fs ≡ pins_at (eq k) es
+    pub free : pinned es ≡ [] → pinned fs ≡ []

@@ -1,5 +1,5 @@
 -- The refusals: their numbers, their kinds, and which refusal a lower layer's error becomes.
-use Rattle.std.specs.Prelude.{ℕ}
+use Rattle.std.specs.Prelude.{ℕ, ◌≡◌, ◌⊎◌}
 use Rattle.std.specs.declared.io.ErrorKind.{ErrorKind}
 use Rattle.std.specs.declared.io.ErrorKind.TheVariants as Kind
 use Rattle.image_access.specs.declared.error.StorageError.{StorageError}
@@ -75,6 +75,10 @@ of_cache C.InUse = I.InUse
 of_cache (C.StillInUse tables) = I.StillInUse tables
 of_cache C.Memory = I.Memory
 of_cache (C.Backend e) = of_metadata e
+
+-- the storage failed, or memory was refused
+abbrev pub IsFault : ImageError → Type 0
+IsFault e = (e ≡ I.Storage) ⊎ (e ≡ I.Memory)
 
 -- what stands in the way of loading, changing and writing tables, and of taking clusters
 abbrev pub IsOfTables : ImageError → Type 0

@@ -11,3 +11,6 @@ pub mod TableLaws
 pub mod TableCaches
 pub mod KeptTables
 pub mod MetadataCaches
+pub mod CacheMarks
+pub mod ImageFile
+pub mod Allocation

@@ -1,5 +1,5 @@
 -- What contracts see of the caches of L2 tables and refblocks over the bytes of the storage.
-use Rattle.std.specs.Prelude.{ℕ, ◌+◌, ◌*◌, ◌/◌, ◌%◌, ◌≡◌, ◌≢◌, ◌<◌, ◌==◌, Bool, false, List, Option, IfSome, IsSome}
+use Rattle.std.specs.Prelude.{ℕ, ◌+◌, ◌*◌, ◌/◌, ◌%◌, ◌≡◌, ◌≢◌, ◌<◌, ◌==◌, Bool, false, List, Option, Result, IfSome, IfErr, IsSome, IsTrue}
 use Rattle.image_access.specs.Moments.{StorageView}
 use Rattle.qcow2_metadata.specs.Bytes.{Bytes, byte_at}
 use Rattle.qcow2_metadata.specs.declared.header.HeaderFields.{HeaderFields}
@@ -9,6 +9,7 @@ use Rattle.qcow2_metadata.specs.Cover.{entry_cover}
 use Rattle.qcow2_metadata.specs.L2Mapping.{IsHostCluster, dropped_run}
 use Rattle.qcow2_metadata.specs.L2Table.{L2TableView, copied_entry}
 use Rattle.qcow2_metadata.specs.RefBlock.{RefBlockView}
+use Rattle.qcow2_metadata.specs.TableBytes.{entry_at}
 use Rattle.qcow2_metadata.specs.Tables.{CachedTable}
 use Rattle.qcow2_laws.specs.Clusters as Order
 use Rattle.qcow2_laws.specs.Guard.{Pending, IsGuarded}
@@ -20,6 +21,7 @@ use Rattle.qcow2_alloc.specs.AsyncLruCache.{value_at}
 use Rattle.qcow2_alloc.specs.declared.cache.Direction.{Direction}
 use Rattle.qcow2_alloc.specs.declared.cache.Direction.TheVariants as D
 use Rattle.qcow2_alloc.specs.declared.cache.MetadataCaches.{MetadataCaches}
+use Rattle.qcow2_alloc.specs.declared.error.ImageError.{ImageError}
 use Rattle.qcow2_alloc.specs.declared.image_storage.ImageStorage.{ImageStorage}
 use Rattle.qcow2_alloc.specs.ImageStorage.{storage_of}
 use Rattle.qcow2_alloc.specs.TableCaches.{IsTableOf, IsBlockOf}
@@ -49,6 +51,11 @@ pub record ChangesKnownEntry (h : HeaderFields) (known known' : Bytes) (i j entr
   pub outside : IsSameOutside (cluster_size h) (table_at h known i / cluster_size h) known known'
   pub others : (k : ℕ) → k < entries_per_cluster h → k ≢ j → l2_entry known' (table_at h known i) k ≡ l2_entry known (table_at h known i) k
   pub is : l2_entry known' (table_at h known i) j ≡ entry
+
+-- a table is read as one of this image, and this entry of it is the known one
+pub record ShowsEntry (h : HeaderFields) (known : Bytes) (i index : ℕ) (t : L2TableView) : Type 0 where
+  pub format : IsTableOf h t
+  pub entry : entry_at t.bytes index ≡ l2_entry known (table_at h known i) index
 
 -- which tables are written first
 abbrev pub order : Direction → Order.Direction
@@ -89,11 +96,12 @@ module _ {S : Type 0} where
     pub rb_fit : AllFit (IsBlockOf caches.rb.backend.header.fields) caches.rb.entries
     pub kept : AreKept h (order_of caches) p (l2_tables caches) (refblocks caches) base
 
-  -- they are sound again, nothing known changes, and a stop is as safe as before
+  -- they are sound again, nothing known changes, no refblock is new, and a stop is as safe as before
   pub record StaySound (h : HeaderFields) (p : Pending) (old : StorageView) (caches : MetadataCaches S) (new : StorageView) (caches' : MetadataCaches S) : Type 0 where
     pub honest : new.is_honest
     pub sound : AreSound h p caches' (byte_at new.contents)
     pub known : known_of h caches' (byte_at new.contents) ≡ known_of h caches (byte_at old.contents)
+    pub settled : AreSettled h (refblocks caches) (byte_at old.contents) → AreSettled h (refblocks caches') (byte_at new.contents)
     pub since : IsSafeSince old new (known_of h caches (byte_at old.contents))
 
   -- a table holds what is known in the cluster
@@ -113,30 +121,56 @@ module _ {S : Type 0} where
       (h : HeaderFields) (p : Pending) → (view (storage_of old)).is_honest → AreSound h p caches (byte_at (view (storage_of old)).contents)
       → StaySound h p (view (storage_of old)) caches (view (storage_of new)) caches'
 
+  -- ---- why calls are refused, over an honest storage, on sound caches of which no refblock is new
+
+  -- a call refuses for such a cause
+  abbrev pub RefusesBy : (ImageError → Type 0) → (S → StorageView) → ImageStorage S → MetadataCaches S → HeaderFields → Result (Unit {0}) ImageError → Type 0
+  RefusesBy IsCause view old caches h result =
+      (p : Pending) → (view (storage_of old)).is_honest → AreSound h p caches (byte_at (view (storage_of old)).contents) → AreSettled h (refblocks caches) (byte_at (view (storage_of old)).contents) → IfErr result IsCause
+
+  -- so does one that puts in such a table as is said above
+  abbrev pub PutRefusesBy : (ImageError → Type 0) → (S → StorageView) → ImageStorage S → MetadataCaches S → (HeaderFields → Type 0) → Option ℕ → List ℕ → Bool → Result (Unit {0}) ImageError → Type 0
+  PutRefusesBy IsCause view old caches IsFitFor cluster bytes is_modified result =
+      (h : HeaderFields) (p : Pending) → (view (storage_of old)).is_honest → AreSound h p caches (byte_at (view (storage_of old)).contents) → AreSettled h (refblocks caches) (byte_at (view (storage_of old)).contents)
+      → IsFitFor h → is_modified ≡ false → IfSome cluster (HoldsKnown h caches (byte_at (view (storage_of old)).contents) bytes) → IfErr result IsCause
+
   -- ---- counts of held refblocks
 
   -- the change was made, and the caches are sound again, whatever is pending, where the order of writes is kept
-  pub record Made (Change : Type 0) (h : HeaderFields) (caches' : MetadataCaches S) (base : Bytes) : Type 0 where
+  pub record Made (Change : Type 0) (h : HeaderFields) (caches caches' : MetadataCaches S) (base : Bytes) : Type 0 where
     pub change : Change
+    pub settled : AreSettled h (refblocks caches) base → AreSettled h (refblocks caches') base
     pub sound : (p : Pending) → IsGuarded h (order_of caches') p base (known_of h caches' base) → AreSound h p caches' base
 
   -- the count at this place of the refblock of a cluster rises from 0
   abbrev pub RaisesCount : MetadataCaches S → MetadataCaches S → ℕ → ℕ → Type 0
   RaisesCount caches caches' block index =
       (h : HeaderFields) (p : Pending) (base : Bytes) (c : ℕ) → AreSound h p caches base → IsCountedAt h (known_of h caches base) c block index → count h (known_of h caches base) c ≡ 0
-      → Made (CountRises h (known_of h caches base) (known_of h caches' base) c) h caches' base
+      → Made (CountRises h (known_of h caches base) (known_of h caches' base) c) h caches caches' base
 
   -- it falls
   abbrev pub LowersCount : MetadataCaches S → MetadataCaches S → ℕ → ℕ → Type 0
   LowersCount caches caches' block index =
       (h : HeaderFields) (p : Pending) (base : Bytes) (c : ℕ) → AreSound h p caches base → IsCountedAt h (known_of h caches base) c block index
-      → Made (CountFalls h (known_of h caches base) (known_of h caches' base) c) h caches' base
+      → Made (CountFalls h (known_of h caches base) (known_of h caches' base) c) h caches caches' base
 
   -- the count is 0 where this is true, as far as the refblock is held
   abbrev pub TellsZero : MetadataCaches S → ℕ → ℕ → Bool → Type 0
   TellsZero caches block index is_zero =
       (h : HeaderFields) (p : Pending) (base : Bytes) (c : ℕ) → AreSound h p caches base → IsCountedAt h (known_of h caches base) c block index → IsSome (rb_at caches block)
       → is_zero ≡ (count h (known_of h caches base) c == 0)
+
+  -- on sound caches a count of a held refblock that is 0 rises
+  abbrev pub RaisesZero : MetadataCaches S → ℕ → ℕ → Bool → Type 0
+  RaisesZero caches block index made =
+      (h : HeaderFields) (p : Pending) (base : Bytes) (c : ℕ) → AreSound h p caches base → IsCountedAt h (known_of h caches base) c block index → IsSome (rb_at caches block)
+      → count h (known_of h caches base) c ≡ 0 → IsTrue made
+
+  -- one that isn't 0 falls
+  abbrev pub LowersSome : MetadataCaches S → ℕ → ℕ → Bool → Type 0
+  LowersSome caches block index made =
+      (h : HeaderFields) (p : Pending) (base : Bytes) (c : ℕ) → AreSound h p caches base → IsCountedAt h (known_of h caches base) c block index → IsSome (rb_at caches block)
+      → count h (known_of h caches base) c ≢ 0 → IsTrue made
 
   -- the same tables, in the same order
   pub record AreSame (caches caches' : MetadataCaches S) : Type 0 where
@@ -150,6 +184,7 @@ module _ {S : Type 0} where
   -- pending, where the order of writes is kept and each modified refblock is named.
   pub record MadeEntry (h : HeaderFields) (caches caches' : MetadataCaches S) (base : Bytes) (i j entry : ℕ) (answer : Option (ℕ × ℕ)) : Type 0 where
     pub change : ChangesKnownEntry h (known_of h caches base) (known_of h caches' base) i j entry
+    pub settled : AreSettled h (refblocks caches) base → AreSettled h (refblocks caches') base
     pub answered : answer ≡ dropped_run h.cluster_bits (entry_cover h (l2_entry (known_of h caches base) (table_at h (known_of h caches base) i) j)) (entry_cover h entry)
     pub sound : (p : Pending) → AreSettled h (refblocks caches) base → IsGuarded h (order_of caches') p base (known_of h caches' base) → AreSound h p caches' base
 
@@ -158,3 +193,14 @@ module _ {S : Type 0} where
   MapsEntry caches caches' table index host answer =
       (h : HeaderFields) (p : Pending) (base : Bytes) (i : ℕ) → AreSound h p caches base → IsEntryAt h (known_of h caches base) i table index → IsSome (l2_at caches table) → IsHostCluster h.cluster_bits host
       → MadeEntry h caches caches' base i index (copied_entry (host * cluster_size h)) answer
+
+  -- a change of it is noted
+  abbrev pub NotesEntry : MetadataCaches S → MetadataCaches S → ℕ → ℕ → ℕ → Type 0
+  NotesEntry caches caches' table index host =
+      (h : HeaderFields) (p : Pending) (base : Bytes) (i : ℕ) → AreSound h p caches base → IsEntryAt h (known_of h caches base) i table index → IsSome (l2_at caches table) → IsHostCluster h.cluster_bits host
+      → IsTrue caches'.is_changed
+
+  -- so for each entry of the held table of a cluster
+  abbrev pub ShowsKnown : MetadataCaches S → ℕ → L2TableView → Type 0
+  ShowsKnown caches table t =
+      (h : HeaderFields) (p : Pending) (base : Bytes) (i index : ℕ) → AreSound h p caches base → IsEntryAt h (known_of h caches base) i table index → ShowsEntry h (known_of h caches base) i index t

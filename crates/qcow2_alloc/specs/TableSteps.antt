@@ -6,6 +6,7 @@ use Rattle.image_access.specs.declared.error.StorageError.{StorageError}
 use Rattle.image_access.specs.declared.error.StorageError.TheVariants.{Fault}
 use Rattle.qcow2_metadata.specs.declared.error.MetadataError.{MetadataError}
 use Rattle.qcow2_metadata.specs.MetadataError.{storage_result}
+use Rattle.qcow2_metadata.specs.TableBytes.{HasPlace, IsOfStorageOrMemory}
 use Rattle.qcow2_alloc.specs.AsyncLruCacheBackend.{Steps}
 
 -- the storage's answer in a step that is done, or refused
@@ -32,7 +33,9 @@ module _ {S V : Type 0} (view : S → StorageView) (cluster_bits : ℕ) (bytes :
     pub calls : Calls (view s) (view t) done
     pub keeps : Keeps (view s) (view t)
 
+  -- a cluster that has a place is refused by the storage, or for memory
   pub record FailsToLoad (s : S) (k : ℕ) (e : MetadataError) (t : S) : Type 0 where
+    pub cause : HasPlace cluster_bits k → IsOfStorageOrMemory e
     pub calls : Calls (view s) (view t) (refused e)
     pub keeps : Keeps (view s) (view t)
 
@@ -51,6 +54,7 @@ module _ {S V : Type 0} (view : S → StorageView) (cluster_bits : ℕ) (bytes :
   -- only a modified one fails; it was written whole or not at all
   pub record FailsToFlush (s : S) (k : ℕ) (v : V) (e : MetadataError) (t : S) : Type 0 where
     pub modified : is_modified v ≡ true
+    pub cause : IsFit v → HasPlace cluster_bits k → IsOfStorageOrMemory e
     pub stopped : (view s).is_honest → ((view t).contents ≡ (view s).contents)
         ⊎ ((length (bytes v) ≡ 2 ^ cluster_bits) × ((view t).contents ≡ overwritten (view s).contents (place_of k) (bytes v)))
     pub calls : Calls (view s) (view t) (refused e)

@@ -1,6 +1,13 @@
 //! Taking clusters of the image's file.
-ghost use Rattle.std.specs.Prelude.{◌≡◌, ◌+◌, ◌*◌, ◌^◌, ◌<◌, ◌≤◌, IfOk, IfErr, IsSome, IsTrue};
-ghost use Rattle.qcow2_alloc.specs.ImageError.{IsOfTables};
+ghost use Rattle.std.specs.Prelude.{◌≡◌, ℕ, ◌+◌, ◌*◌, ◌^◌, ◌<◌, ◌≤◌, Bool, IfOk, IfErr, OnOk, IsSome, IsTrue};
+ghost use Rattle.image_access.specs.Moments.{Keeps, Passing};
+ghost use Rattle.qcow2_laws.specs.Changes.{one_at};
+ghost use Rattle.qcow2_laws.specs.Guard.{Pending};
+ghost use Rattle.qcow2_alloc.specs.Allocation.{run_at, taken_as, MayTake, LoadsBlock, TakesOne, TakesRun, LowersOne, GivesBack, GivesBackRun};
+ghost use Rattle.qcow2_alloc.specs.CacheMarks.{KeepsMarks};
+ghost use Rattle.qcow2_alloc.specs.ImageError.{IsOfTables, IsFault};
+ghost use Rattle.qcow2_alloc.specs.ImageFile.{view_in, HasReftable, IsSoundWith};
+ghost use Rattle.qcow2_alloc.specs.MetadataCaches.{order_of};
 ghost use Rattle.qcow2_metadata.specs.L2Mapping.{IsHostCluster};
 ghost use Rattle.qcow2_metadata.specs.EntryTable.{entry_count};
 
@@ -23,7 +30,10 @@ pub struct Allocator {
 }
 
 // What stops an allocation: a failure, or want of memory. After any other refusal the search may go on.
-fn ends_call(refusal: &ImageError) -> bool {
+fn ends_call(refusal: &ImageError) -> bool
+    ensures ends { IsFault refusal.now → IsTrue result }
+    ensures fault { IsTrue result → IsFault refusal.now }
+{
     match refusal {
         ImageError::Memory | ImageError::Storage => true,
         _ => false,
@@ -35,6 +45,11 @@ impl Allocator {
     /// Loads the reftable.
     pub fn new<S: Storage>(file: &mut ImageFile<S>) -> Result<Allocator, ImageError>
         ensures cause { IfErr result IsOfTables }
+        ensures rest { file.new ≡ record file.old { storage = file.new.storage } }
+        ensures honest { (view_in S.view file.old).is_honest → (view_in S.view file.new).is_honest }
+        ensures same { Keeps (view_in S.view file.old) (view_in S.view file.new) }
+        ensures time { Passing (view_in S.view file.old) (view_in S.view file.new) (λ c. c ≡ (view_in S.view file.new).contents) }
+        ensures reftable { (view_in S.view file.old).is_honest → IfOk result (λ allocator. HasReftable S.view file.new allocator.reftable) }
     {
         let bits = file.header.cluster_bits();
         let Some(cluster) = file.header.reftable_offset().checked_cluster(bits) else {
@@ -194,6 +209,10 @@ impl Allocator {
         n: u64,
     ) -> Result<(), ImageError>
         requires { first + n < 2 ^ 63 }
+        ensures marks { KeepsMarks file.old.caches file.new.caches }
+        ensures order { order_of file.new.caches ≡ order_of file.old.caches }
+        ensures reftable { self.new.reftable ≡ self.old.reftable }
+        ensures sound { GivesBackRun S.view self.old file.old self.new file.new first n result }
         ensures header { file.new.header ≡ file.old.header }
         ensures cause { IfErr result IsOfTables }
     {
@@ -209,6 +228,11 @@ impl Allocator {
 
     // Lowers the count of a cluster. One that can't be lowered is counted as leaked.
     fn lower<S: Storage>(&mut self, file: &mut ImageFile<S>, cluster: u64) -> Result<(), ImageError>
+        ensures marks { KeepsMarks file.old.caches file.new.caches }
+        ensures order { order_of file.new.caches ≡ order_of file.old.caches }
+        ensures reftable { self.new.reftable ≡ self.old.reftable }
+        ensures sound { (p : Pending) (is_data : Bool) → IsSoundWith S.view self.old (taken_as is_data p (one_at cluster)) file.old
+            → GivesBack S.view (taken_as is_data p (one_at cluster)) file.old self.new file.new p result }
         ensures header { file.new.header ≡ file.old.header }
         ensures cause { IfErr result IsOfTables }
     {
@@ -231,6 +255,9 @@ impl Allocator {
         file: &mut ImageFile<S>,
         range: u64,
     ) -> Result<Option<HostCluster>, ImageError>
+        ensures marks { KeepsMarks file.old.caches file.new.caches }
+        ensures order { order_of file.new.caches ≡ order_of file.old.caches }
+        ensures sound { (p : Pending) → IsSoundWith S.view self.now p file.old → LoadsBlock S.view p file.old self.now file.new range result }
         ensures header { file.new.header ≡ file.old.header }
         ensures cause { IfErr result IsOfTables }
     {
@@ -250,6 +277,11 @@ impl Allocator {
         file: &mut ImageFile<S>,
         cluster: u64,
     ) -> Result<bool, ImageError>
+        ensures marks { KeepsMarks file.old.caches file.new.caches }
+        ensures order { order_of file.new.caches ≡ order_of file.old.caches }
+        ensures noted { IfOk result (λ taken. IsTrue taken → IsTrue file.new.caches.is_changed) }
+        ensures same { self.new ≡ self.old }
+        ensures sound { (p : Pending) (is_data : Bool) → IsSoundWith S.view self.old p file.old → MayTake is_data file.old → TakesOne S.view p file.old self.new file.new is_data cluster result }
         ensures header { file.new.header ≡ file.old.header }
         ensures cause { IfErr result IsOfTables }
     {
@@ -267,6 +299,11 @@ impl Allocator {
         file: &mut ImageFile<S>,
         cluster: u64,
     ) -> Result<bool, ImageError>
+        ensures marks { KeepsMarks file.old.caches file.new.caches }
+        ensures order { order_of file.new.caches ≡ order_of file.old.caches }
+        ensures same { self.new ≡ self.old }
+        ensures sound { (p : Pending) (is_data : Bool) → IsSoundWith S.view self.old (taken_as is_data p (one_at cluster)) file.old
+            → LowersOne S.view (taken_as is_data p (one_at cluster)) file.old self.new file.new p result }
         ensures header { file.new.header ≡ file.old.header }
         ensures cause { IfErr result IsOfTables }
     {

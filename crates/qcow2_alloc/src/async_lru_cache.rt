@@ -1,9 +1,9 @@
 //! A cache of bounded size over a store that is lent to each call.
-ghost use Rattle.std.specs.Prelude.{◌≡◌, ◌≢◌, ◌≤◌, cond, [], length, option_copied, option_map, All, IsSome, IsNone, IfOk, IfSome, Ok, Err, None, true, false};
+ghost use Rattle.std.specs.Prelude.{◌≡◌, ◌≢◌, ◌<◌, ◌≤◌, ◌↔◌, IsTrue, cond, [], length, option_copied, option_map, All, IsSome, IsNone, IfOk, IfSome, Ok, Err, None, true, false};
 ghost use Rattle.std.specs.List.{IsDistinct};
 ghost use Rattle.std.specs.Map.{keys_of, lookup, lookup_entry, remove_entry};
 ghost use Rattle.lru.specs.LruCache.{promoted};
-ghost use Rattle.qcow2_alloc.specs.AsyncLruCache.{cache_of, with_entries, value_at, is_pinned, can_pin, pin_at, can_unpin, unpin_at, can_remove, oldest_free, IsInFront, OnlyOldestGoes};
+ghost use Rattle.qcow2_alloc.specs.AsyncLruCache.{cache_of, with_entries, value_at, is_pinned, can_pin, pin_at, can_unpin, unpin_at, can_remove, oldest_free, pins_at, IsInFront, OnlyOldestGoes, KeepsPins};
 ghost use Rattle.qcow2_alloc.specs.AsyncLruCacheBackend.{KeepsKnown, LaysOver};
 ghost use Rattle.qcow2_alloc.specs.CacheAnswers.{Invalidates, Flushes, FlushesKey, GetsNew, InsertsNew, Replaces};
 
@@ -88,6 +88,9 @@ impl<B: AsyncLruCacheBackend> AsyncLruCache<B> {
         ensures goes { OnlyOldestGoes B.Key.eq (λ e. (w : B.Value) × (t : B.Store) × (B.steps self.old.backend).flushed store.old e.0 e.1.value w t)
             self.old.entries self.new.entries }
 
+        // Pins stay.
+        ensures pins { KeepsPins B.Key.eq self.old.entries self.new.entries }
+
         // The bytes of the store, with the modified values laid over, stay.
         ensures known { KeepsKnown B.Key.eq B.is_modified B.bytes (B.stored self.old.backend) B.is_honest store.old self.old.entries store.new self.new.entries }
     {
@@ -119,6 +122,8 @@ impl<B: AsyncLruCacheBackend> AsyncLruCache<B> {
         ensures missing { IsNone (lookup (B.Key.eq key) self.old.entries) → IfSome value.old (λ v.
             InsertsNew (B.steps self.old.backend) B.Key.eq self.old.size may_flush key v store.old self.old.entries result store.new self.new.entries value.new) }
         ensures others { self.new ≡ with_entries self.old self.new.entries }
+
+        ensures pins { KeepsPins B.Key.eq self.old.entries self.new.entries }
 
         // The value is laid over the known bytes where it is taken, and else they stay.
         ensures laid { IfSome value.old (λ v. result ≡ Ok true
@@ -188,10 +193,21 @@ impl<B: AsyncLruCacheBackend> AsyncLruCache<B> {
         true
     }
 
+    /// Whether the entry under a key has a pin. False where there is none.
+    pub fn is_pinned(&self, key: B::Key) -> bool
+        ensures { IsTrue result ↔ (0 < pins_at (B.Key.eq key) self.now.entries) }
+    {
+        match self.entries.peek(&key) {
+            Some(slot) => slot.pins > 0,
+            None => false,
+        }
+    }
+
     /// Flushes each entry, the most recently used first, also past a failure. The first failure is answered.
     pub fn flush(&mut self, store: &mut B::Store) -> Result<(), CacheError<B::Key, B::Error>>
         ensures flushed { Flushes (B.steps self.old.backend) store.old self.old.entries result store.new self.new.entries }
         ensures others { self.new ≡ with_entries self.old self.new.entries }
+        ensures pins { KeepsPins B.Key.eq self.old.entries self.new.entries }
         ensures known { KeepsKnown B.Key.eq B.is_modified B.bytes (B.stored self.old.backend) B.is_honest store.old self.old.entries store.new self.new.entries }
     {
         match flush_all(&self.backend, store, &mut self.entries) {

@@ -1,11 +1,16 @@
 //! The caches of L2 tables and of refblocks, and which of them has to be written first.
-ghost use Rattle.std.specs.Prelude.{◌≡◌, IsSome, IfSome, IfErr, OnOk, OnErr, IsTrue, IsFalse, Some, option_copied};
-ghost use Rattle.qcow2_laws.specs.Clusters.{L2DependsOnRb, RbDependsOnL2};
-ghost use Rattle.qcow2_laws.specs.Caches.{AreClean, BlocksMayGo, TablesMayGo};
-ghost use Rattle.qcow2_alloc.specs.ImageError.{IsOfTables};
+ghost use Rattle.std.specs.Prelude.{◌≡◌, ◌⊎◌, ◌↔◌, ℕ, ◌+◌, ◌-◌, ◌^◌, ◌<◌, ◌≤◌, IsSome, IsNone, IfSome, IfOk, IfErr, OnOk, OnErr, IsTrue, IsFalse, Some, true, false, option_copied};
+ghost use Rattle.qcow2_metadata.specs.Bytes.{Bytes};
+ghost use Rattle.qcow2_metadata.specs.declared.header.HeaderFields.{HeaderFields};
+ghost use Rattle.qcow2_metadata.specs.TableBytes.{HasPlace};
+ghost use Rattle.qcow2_laws.specs.Guard.{Pending, IsGuarded};
+ghost use Rattle.qcow2_laws.specs.Clusters.{Neither, L2DependsOnRb, RbDependsOnL2};
+ghost use Rattle.qcow2_laws.specs.Caches.{AreClean, AreSettled, BlocksMayGo, TablesMayGo};
+ghost use Rattle.qcow2_alloc.specs.ImageError.{IsOfTables, IsFault};
 ghost use Rattle.qcow2_alloc.specs.ImageStorage.{storage_of};
 ghost use Rattle.qcow2_alloc.specs.TableCaches.{IsTableOf, IsBlockOf};
-ghost use Rattle.qcow2_alloc.specs.MetadataCaches.{order_of, l2_at, rb_at, l2_tables, refblocks, AreAllWritten, KeepSound, PutSound, RaisesCount, LowersCount, TellsZero, AreSame, MapsEntry};
+ghost use Rattle.qcow2_alloc.specs.MetadataCaches.{order_of, l2_at, rb_at, l2_tables, refblocks, known_of, AreAllWritten, AreSound, KeepSound, PutSound, RefusesBy, PutRefusesBy, RaisesCount, LowersCount, TellsZero, RaisesZero, LowersSome, AreSame, MapsEntry, NotesEntry, ShowsKnown};
+ghost use Rattle.qcow2_alloc.specs.CacheMarks.{l2_pins, HasRoom, KeepsMarks, SameTables, SetsPins, IsInUseOrFault};
 
 mod backends;
 
@@ -41,7 +46,15 @@ impl<S: Storage> MetadataCaches<S> {
         header: &Header,
         l2_entries: usize,
         rb_entries: usize,
-    ) -> Result<Self, AllocError> {
+    ) -> Result<Self, AllocError>
+        ensures sound { IfOk result (λ caches. (p : Pending) (base : Bytes) → IsGuarded header.now.fields Neither p base base → AreSound header.now.fields p caches base) }
+        ensures known { IfOk result (λ caches. (base : Bytes) → known_of header.now.fields caches base ≡ base) }
+        ensures settled { IfOk result (λ caches. (base : Bytes) → AreSettled header.now.fields (refblocks caches) base) }
+        ensures order { IfOk result (λ caches. order_of caches ≡ Neither) }
+        ensures room { IfOk result (λ caches. 0 < rb_entries → HasRoom caches) }
+        ensures pins { IfOk result (λ caches. (cluster : ℕ) → l2_pins caches cluster ≡ 0) }
+        ensures unchanged { IfOk result (λ caches. IsFalse caches.is_changed) }
+    {
         let l2 = AsyncLruCache::new(alloc, L2CacheBackend::new(header), l2_entries)?;
         let rb = AsyncLruCache::new(alloc, RefBlockCacheBackend::new(header), rb_entries)?;
         Ok(MetadataCaches {
@@ -58,6 +71,8 @@ impl<S: Storage> MetadataCaches<S> {
         ensures direction { self.new.direction ≡ self.old.direction }
         ensures refblocks { self.new.rb ≡ self.old.rb }
         ensures written { OnOk result (AreClean (l2_tables self.new)) }
+        ensures marks { KeepsMarks self.old self.new }
+        ensures faults { (h : HeaderFields) → RefusesBy IsFault S.view storage.old self.old h result }
         ensures keeps { TablesMayGo (order_of self.old) (refblocks self.old) → KeepSound S.view storage.old self.old storage.new self.new }
     {
         self.l2.flush(storage)?;
@@ -70,6 +85,8 @@ impl<S: Storage> MetadataCaches<S> {
         ensures direction { self.new.direction ≡ self.old.direction }
         ensures tables { self.new.l2 ≡ self.old.l2 }
         ensures written { OnOk result (AreClean (refblocks self.new)) }
+        ensures marks { KeepsMarks self.old self.new }
+        ensures faults { (h : HeaderFields) → RefusesBy IsFault S.view storage.old self.old h result }
         ensures keeps { BlocksMayGo (order_of self.old) (l2_tables self.old) → KeepSound S.view storage.old self.old storage.new self.new }
     {
         self.rb.flush(storage)?;
@@ -81,6 +98,8 @@ impl<S: Storage> MetadataCaches<S> {
         ensures cause { IfErr result IsOfTables }
         ensures order { OnOk result (order_of self.new ≡ L2DependsOnRb) }
         ensures refused { OnErr result (order_of self.new ≡ order_of self.old) }
+        ensures marks { KeepsMarks self.old self.new }
+        ensures faults { (h : HeaderFields) → RefusesBy IsFault S.view storage.old self.old h result }
         ensures keeps { KeepSound S.view storage.old self.old storage.new self.new }
     {
         match self.direction {
@@ -99,6 +118,8 @@ impl<S: Storage> MetadataCaches<S> {
         ensures cause { IfErr result IsOfTables }
         ensures order { OnOk result (order_of self.new ≡ RbDependsOnL2) }
         ensures refused { OnErr result (order_of self.new ≡ order_of self.old) }
+        ensures marks { KeepsMarks self.old self.new }
+        ensures faults { (h : HeaderFields) → RefusesBy IsFault S.view storage.old self.old h result }
         ensures keeps { KeepSound S.view storage.old self.old storage.new self.new }
     {
         match self.direction {
@@ -117,6 +138,8 @@ impl<S: Storage> MetadataCaches<S> {
         ensures cause { IfErr result IsOfTables }
         ensures order { order_of self.new ≡ order_of self.old }
         ensures written { OnOk result (AreAllWritten self.new) }
+        ensures marks { KeepsMarks self.old self.new }
+        ensures faults { (h : HeaderFields) → RefusesBy IsFault S.view storage.old self.old h result }
         ensures keeps { KeepSound S.view storage.old self.old storage.new self.new }
     {
         match self.direction {
@@ -137,6 +160,8 @@ impl<S: Storage> MetadataCaches<S> {
         ensures order { order_of self.new ≡ order_of self.old }
         ensures written { OnOk result (AreClean (refblocks self.new)) }
         ensures first { OnOk result (BlocksMayGo (order_of self.new) (l2_tables self.new)) }
+        ensures marks { KeepsMarks self.old self.new }
+        ensures faults { (h : HeaderFields) → RefusesBy IsFault S.view storage.old self.old h result }
         ensures keeps { KeepSound S.view storage.old self.old storage.new self.new }
     {
         match self.direction {
@@ -152,7 +177,10 @@ impl<S: Storage> MetadataCaches<S> {
     fn before_l2(&mut self, storage: &mut ImageStorage<S>) -> Result<(), ImageError>
         ensures cause { IfErr result IsOfTables }
         ensures order { order_of self.new ≡ order_of self.old }
+        ensures tables { self.new.l2 ≡ self.old.l2 }
         ensures first { OnOk result (TablesMayGo (order_of self.new) (refblocks self.new)) }
+        ensures marks { KeepsMarks self.old self.new }
+        ensures faults { (h : HeaderFields) → RefusesBy IsFault S.view storage.old self.old h result }
         ensures keeps { KeepSound S.view storage.old self.old storage.new self.new }
     {
         match self.direction {
@@ -165,7 +193,10 @@ impl<S: Storage> MetadataCaches<S> {
     fn before_rb(&mut self, storage: &mut ImageStorage<S>) -> Result<(), ImageError>
         ensures cause { IfErr result IsOfTables }
         ensures order { order_of self.new ≡ order_of self.old }
+        ensures refblocks { self.new.rb ≡ self.old.rb }
         ensures first { OnOk result (BlocksMayGo (order_of self.new) (l2_tables self.new)) }
+        ensures marks { KeepsMarks self.old self.new }
+        ensures faults { (h : HeaderFields) → RefusesBy IsFault S.view storage.old self.old h result }
         ensures keeps { KeepSound S.view storage.old self.old storage.new self.new }
     {
         match self.direction {
@@ -183,6 +214,8 @@ impl<S: Storage> MetadataCaches<S> {
         ensures cause { IfErr result IsOfTables }
         ensures order { order_of self.new ≡ order_of self.old }
         ensures held { OnOk result (IsSome (l2_at self.new cluster)) }
+        ensures marks { KeepsMarks self.old self.new }
+        ensures refusals { (h : HeaderFields) → HasPlace h.cluster_bits cluster → RefusesBy (IsInUseOrFault self.old) S.view storage.old self.old h result }
         ensures keeps { KeepSound S.view storage.old self.old storage.new self.new }
     {
         if self.l2.get_or_insert(storage, cluster, false)? {
@@ -202,6 +235,8 @@ impl<S: Storage> MetadataCaches<S> {
         ensures cause { IfErr result IsOfTables }
         ensures order { order_of self.new ≡ order_of self.old }
         ensures held { OnOk result (IsSome (rb_at self.new cluster)) }
+        ensures marks { KeepsMarks self.old self.new }
+        ensures faults { HasRoom self.old → (h : HeaderFields) → HasPlace h.cluster_bits cluster → RefusesBy IsFault S.view storage.old self.old h result }
         ensures keeps { KeepSound S.view storage.old self.old storage.new self.new }
     {
         if self.rb.get_or_insert(storage, cluster, false)? {
@@ -222,6 +257,8 @@ impl<S: Storage> MetadataCaches<S> {
         ensures cause { IfErr result IsOfTables }
         ensures order { order_of self.new ≡ order_of self.old }
         ensures held { OnOk result (IfSome table.cluster (λ cluster. l2_at self.new cluster ≡ Some table)) }
+        ensures marks { KeepsMarks self.old self.new }
+        ensures refusals { PutRefusesBy (IsInUseOrFault self.old) S.view storage.old self.old (λ h. IsTableOf h table) table.cluster table.bytes table.is_modified result }
         ensures keeps { PutSound S.view storage.old self.old storage.new self.new (λ h. IsTableOf h table) table.cluster table.bytes table.is_modified }
     {
         let Some(cluster) = table.get_cluster() else {
@@ -246,6 +283,8 @@ impl<S: Storage> MetadataCaches<S> {
         ensures cause { IfErr result IsOfTables }
         ensures order { order_of self.new ≡ order_of self.old }
         ensures held { OnOk result (IfSome block.cluster (λ cluster. rb_at self.new cluster ≡ Some block)) }
+        ensures marks { KeepsMarks self.old self.new }
+        ensures faults { HasRoom self.old → PutRefusesBy IsFault S.view storage.old self.old (λ h. IsBlockOf h block) block.cluster block.bytes block.is_modified result }
         ensures keeps { PutSound S.view storage.old self.old storage.new self.new (λ h. IsBlockOf h block) block.cluster block.bytes block.is_modified }
     {
         let Some(cluster) = block.get_cluster() else {
@@ -262,7 +301,8 @@ impl<S: Storage> MetadataCaches<S> {
 
     /// The L2 table of a cluster, where it is held.
     pub fn l2_peek(&self, cluster: HostCluster) -> Option<&L2Table>
-        ensures { option_copied result ≡ l2_at self.now cluster }
+        ensures value { option_copied result ≡ l2_at self.now cluster }
+        ensures shows { IfSome (option_copied result) (ShowsKnown self.now cluster) }
     {
         self.l2.peek(cluster)
     }
@@ -275,12 +315,25 @@ impl<S: Storage> MetadataCaches<S> {
     }
 
     /// Keeps an L2 table in the cache: false where it isn't there, or at the greatest count of pins.
-    pub fn l2_pin(&mut self, cluster: HostCluster) -> bool {
+    pub fn l2_pin(&mut self, cluster: HostCluster) -> bool
+        ensures tables { SameTables self.old self.new }
+        ensures changed { self.new.is_changed ≡ self.old.is_changed }
+        ensures held { IsTrue result → IsSome (l2_at self.old cluster) }
+        ensures pinned { IsTrue result → SetsPins self.old self.new cluster (l2_pins self.old cluster + 1) }
+        ensures refused { IsFalse result → IsNone (l2_at self.old cluster) ⊎ (2 ^ 64 - 1 ≤ l2_pins self.old cluster) }
+        ensures same { IsFalse result → self.new ≡ self.old }
+    {
         self.l2.pin(cluster)
     }
 
     /// Takes a pin off: false where there is none.
-    pub fn l2_unpin(&mut self, cluster: HostCluster) -> bool {
+    pub fn l2_unpin(&mut self, cluster: HostCluster) -> bool
+        ensures tables { SameTables self.old self.new }
+        ensures changed { self.new.is_changed ≡ self.old.is_changed }
+        ensures answer { IsTrue result ↔ (0 < l2_pins self.old cluster) }
+        ensures unpinned { IsTrue result → SetsPins self.old self.new cluster (l2_pins self.old cluster - 1) }
+        ensures same { IsFalse result → self.new ≡ self.old }
+    {
         self.l2.unpin(cluster)
     }
 
@@ -290,17 +343,35 @@ impl<S: Storage> MetadataCaches<S> {
     }
 
     /// Whether an L2 table is held and has a pin.
-    pub fn l2_is_pinned(&mut self, cluster: HostCluster) -> bool {
-        self.l2.unpin(cluster) && self.l2.pin(cluster)
+    pub fn l2_is_pinned(&self, cluster: HostCluster) -> bool
+        ensures { IsTrue result ↔ (0 < l2_pins self.now cluster) }
+    {
+        self.l2.is_pinned(cluster)
     }
 
     /// From here on it is noted anew whether a table is changed.
-    pub fn begin(&mut self) {
+    pub fn begin(&mut self)
+        ensures changed { IsFalse self.new.is_changed }
+        ensures same { self.new ≡ record self.old { is_changed = false } }
+        ensures tables { SameTables self.old self.new }
+    {
         self.is_changed = false;
     }
 
-    /// Whether a table was changed since the last `begin`.
-    pub fn is_changed(&self) -> bool {
+    /// Notes a change that is none of a cached table.
+    pub fn note_change(&mut self)
+        ensures changed { IsTrue self.new.is_changed }
+        ensures same { self.new ≡ record self.old { is_changed = true } }
+        ensures tables { SameTables self.old self.new }
+        ensures marks { KeepsMarks self.old self.new }
+    {
+        self.is_changed = true;
+    }
+
+    /// Whether a change was noted since the last `begin`.
+    pub fn is_changed(&self) -> bool
+        ensures { result ≡ self.now.is_changed }
+    {
         self.is_changed
     }
 
@@ -312,7 +383,9 @@ impl<S: Storage> MetadataCaches<S> {
         host: HostCluster,
     ) -> Option<(HostCluster, ClusterCount)>
         ensures order { order_of self.new ≡ order_of self.old }
+        ensures marks { KeepsMarks self.old self.new }
         ensures mapped { MapsEntry self.old self.new cluster index host result }
+        ensures noted { NotesEntry self.old self.new cluster index host }
     {
         let table = self.l2.peek_mut(cluster)?;
         let bits = table.cluster_bits();
@@ -338,6 +411,9 @@ impl<S: Storage> MetadataCaches<S> {
         ensures order { order_of self.new ≡ order_of self.old }
         ensures counted { IsTrue result → RaisesCount self.old self.new cluster index }
         ensures refused { IsFalse result → AreSame self.old self.new }
+        ensures marks { KeepsMarks self.old self.new }
+        ensures noted { IsTrue result → IsTrue self.new.is_changed }
+        ensures made { RaisesZero self.old cluster index result }
     {
         let Some(block) = self.rb.peek_mut(cluster) else {
             return false;
@@ -354,6 +430,9 @@ impl<S: Storage> MetadataCaches<S> {
         ensures order { order_of self.new ≡ order_of self.old }
         ensures counted { IsTrue result → LowersCount self.old self.new cluster index }
         ensures refused { IsFalse result → AreSame self.old self.new }
+        ensures marks { KeepsMarks self.old self.new }
+        ensures noted { IsTrue result → IsTrue self.new.is_changed }
+        ensures made { LowersSome self.old cluster index result }
     {
         let Some(block) = self.rb.peek_mut(cluster) else {
             return false;

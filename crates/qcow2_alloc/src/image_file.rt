@@ -14,20 +14,27 @@ pub struct ImageFile<S: Storage> {
 }
 
 impl<S: Storage> ImageFile<S> {
-    ghost use Rattle.std.specs.Prelude.{◌≡◌};
-    ghost use Rattle.qcow2_alloc.specs.ImageStorage.{storage_of};
+    ghost use Rattle.std.specs.Prelude.{◌≡◌, ◌||◌, false};
+    ghost use Rattle.qcow2_alloc.specs.CacheMarks.{SameTables};
+    ghost use Rattle.qcow2_alloc.specs.ImageStorage.{storage_of, is_changed_of};
 
     /// From here on it is noted anew whether anything changes.
     pub fn begin(&mut self)
         ensures header { self.new.header ≡ self.old.header }
         ensures storage { storage_of self.new.storage ≡ storage_of self.old.storage }
+        ensures unchanged { is_changed_of self.new.storage ≡ false }
+        ensures caches { self.new.caches ≡ record self.old.caches { is_changed = false } }
+        ensures tables { SameTables self.old.caches self.new.caches }
+        ensures free_list { self.new.free_list ≡ self.old.free_list }
     {
         self.storage.begin();
         self.caches.begin();
     }
 
     /// Whether the storage or a table was changed since the last `begin`.
-    pub fn is_changed(&self) -> bool {
+    pub fn is_changed(&self) -> bool
+        ensures { result ≡ (is_changed_of self.now.storage || self.now.caches.is_changed) }
+    {
         self.storage.is_changed() || self.caches.is_changed()
     }
 

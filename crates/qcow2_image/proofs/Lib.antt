@@ -1,1 +1,9 @@
+pub mod Sound
+pub mod Ready
+pub mod Loading
+pub mod Reading
+pub mod Called
+pub mod Answers
+pub mod Looked
+pub mod Answered
 pub mod MetErrors

@@ -3,3 +3,7 @@ pub mod FirstCluster
 pub mod Image
 pub mod Prepared
 pub mod Refusals
+pub mod Views
+pub mod Calls
+pub mod Steps
+pub mod Found

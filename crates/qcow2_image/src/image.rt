@@ -83,8 +83,14 @@ impl<S: Storage, F: WrappedFormat<S>> Qcow2<S, F> {
     ghost use Rattle.std.specs.Prelude.{◌≡◌, IfOk, IfErr, IsTrue, MatchOption, Ok, Err, Some, None, false, nat_le, option_map, if◌then◌else◌};
     ghost use Rattle.std.specs.String.{string_bytes};
     ghost use Rattle.qcow2_metadata.specs.Header.{cluster_size};
-    ghost use Rattle.qcow2_alloc.specs.declared.error.ImageError.TheVariants.{Failed};
+    ghost use Rattle.qcow2_alloc.specs.declared.error.ImageError.TheVariants.{Failed, Memory};
     ghost use Rattle.qcow2_image.specs.Image.{storage_of_image, Stays, IsSameImage, is_failed, is_writable, is_external, number_of, size_of};
+    ghost use Rattle.std.specs.Prelude.{List, Option};
+    ghost use Rattle.qcow2_laws.specs.Views.{guest_of};
+    ghost use Rattle.qcow2_image.specs.declared.prepared.Prepared.{Prepared};
+    ghost use Rattle.qcow2_laws.specs.Guard.{Pending};
+    ghost use Rattle.qcow2_image.specs.Views.{seen, IsSoundAt};
+    ghost use Rattle.qcow2_image.specs.Steps.{Keeps};
     ghost use Rattle.qcow2_image.specs.Refusals.{unusable, IsMet, Marks, failed_after};
 
     /// Whether the first bytes of a storage are those of an image of version 2 or 3.
@@ -169,7 +175,8 @@ impl<S: Storage, F: WrappedFormat<S>> Qcow2<S, F> {
 
     /// The size of the guest's disk, in bytes.
     pub fn size(&self) -> u64
-        ensures { result ≡ size_of self.now }
+        ensures value { result ≡ size_of self.now }
+        ensures sees { (out : List (Option Prepared)) → (seen S.view F.backing self.now out).is_sound → result ≡ (guest_of (seen S.view F.backing self.now out)).disk.size }
     {
         self.file.header.size()
     }
@@ -238,7 +245,7 @@ impl<S: Storage, F: WrappedFormat<S>> Qcow2<S, F> {
         if self.is_failed {
             return Err(ImageError::Failed);
         }
-        self.file.begin();
+        self.begin();
         let done = self.write_back();
         self.settled(done)
     }
@@ -250,6 +257,16 @@ impl<S: Storage, F: WrappedFormat<S>> Qcow2<S, F> {
         self.file.caches.flush_all(&mut self.file.storage)?;
         self.file.storage.flush()?;
         Ok(())
+    }
+
+    // From here on it is noted anew whether anything changes.
+    pub(crate) fn begin(&mut self)
+        ensures stays { Stays self.old self.new }
+        ensures list { self.new.file.free_list ≡ self.old.file.free_list }
+        ensures keeps { (p : Pending) (out : List (Option Prepared)) → IsSoundAt S.view F.backing p self.old out → Keeps S.view F.backing p p self.old self.new out }
+    {
+        self.file.storage.begin();
+        self.file.caches.begin();
     }
 
     // What makes every call that looks at guest data refused: an earlier failure, or that the data's file is missing.
@@ -269,6 +286,8 @@ impl<S: Storage, F: WrappedFormat<S>> Qcow2<S, F> {
     pub(crate) fn note(&mut self, refusal: &ImageError)
         ensures image { IsSameImage self.old self.new }
         ensures marks { failed_after refusal.now (is_failed self.old) (is_failed self.new) }
+        ensures rest { self.new ≡ record self.old { is_failed = is_failed self.new } }
+        ensures memory { refusal.now ≡ Memory → IsTrue self.old.file.caches.is_changed → IsTrue (is_failed self.new) }
     {
         match refusal {
             ImageError::Storage => self.is_failed = true,
@@ -285,6 +304,8 @@ impl<S: Storage, F: WrappedFormat<S>> Qcow2<S, F> {
         ensures answer { result ≡ done }
         ensures image { IsSameImage self.old self.new }
         ensures marks { Marks done (is_failed self.old) (is_failed self.new) }
+        ensures rest { self.new ≡ record self.old { is_failed = is_failed self.new } }
+        ensures memory { IfErr done (λ e. e ≡ Memory → IsTrue self.old.file.caches.is_changed → IsTrue (is_failed self.new)) }
     {
         if let Err(refusal) = &done {
             self.note(refusal);

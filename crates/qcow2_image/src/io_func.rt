@@ -43,7 +43,7 @@ impl<S: Storage, F: WrappedFormat<S>> Qcow2<S, F> {
         if bytes.is_empty() {
             return Ok(());
         }
-        self.file.begin();
+        self.begin();
         let done = self.read_current(mapping, at, bytes);
         self.settled(done)
     }
@@ -70,23 +70,29 @@ impl<S: Storage, F: WrappedFormat<S>> Qcow2<S, F> {
                 place: _,
                 offset,
                 writable: _,
-            } => self.file.storage.read(offset, bytes)?,
-            MappingKind::Indirect { offset } => self.read_backing(offset, bytes)?,
-            MappingKind::Zero { explicit: _ } => bytes.fill(0),
-            MappingKind::Special { offset: _ } => return Err(ImageError::Compressed),
-            MappingKind::Eof => return Err(ImageError::OutdatedMapping),
+            } => {
+                self.file.storage.read(offset, bytes)?;
+                Ok(())
+            }
+            MappingKind::Indirect { offset } => self.read_backing(offset, bytes),
+            MappingKind::Zero { explicit: _ } => {
+                bytes.fill(0);
+                Ok(())
+            }
+            MappingKind::Special { offset: _ } => Err(ImageError::Compressed),
+            MappingKind::Eof => Err(ImageError::OutdatedMapping),
         }
-        Ok(())
     }
 
     fn read_backing(&mut self, offset: u64, bytes: &mut [u8]) -> Result<(), ImageError>
         ensures stays { Stays self.old self.new }
         ensures cause { IfErr result IsMet }
     {
-        match &mut self.backing {
-            Some(backing) => backing.read(offset, bytes)?,
-            None => bytes.fill(0),
-        }
+        let Some(backing) = &mut self.backing else {
+            bytes.fill(0);
+            return Ok(());
+        };
+        backing.read(offset, bytes)?;
         Ok(())
     }
 
@@ -115,7 +121,7 @@ impl<S: Storage, F: WrappedFormat<S>> Qcow2<S, F> {
         if !self.writable() {
             return Err(ImageError::ReadOnly);
         }
-        self.file.begin();
+        self.begin();
         let done = self.write_current(prepared, at, bytes);
         self.settled(done)
     }

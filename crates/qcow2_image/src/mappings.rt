@@ -1,10 +1,19 @@
 //! What a guest range is mapped to, and making it writable.
-ghost use Rattle.std.specs.Prelude.{◌≡◌, ◌≢◌, ◌+◌, ◌*◌, ◌^◌, ◌<◌, ◌≤◌, IfOk, IfErr, IfSome, OnOk, IsOk, IsNone, IsSome, IsTrue, MatchOption, Ok, Err, None, false};
+ghost use Rattle.std.specs.Prelude.{◌↔◌, ℕ, List, Option, is_some, ◌≡◌, ◌≢◌, ◌+◌, ◌*◌, ◌^◌, ◌<◌, ◌≤◌, [], IfOk, IfErr, IfSome, OnOk, IsOk, IsNone, IsSome, IsTrue, MatchOption, Ok, Err, None, false};
 ghost use Rattle.qcow2_metadata.specs.L2Mapping.{IsHostCluster, IsInReach};
 ghost use Rattle.qcow2_metadata.specs.EntryTable.{entry_count};
 ghost use Rattle.qcow2_image.specs.FirstCluster.{IsNear};
 ghost use Rattle.qcow2_image.specs.Image.{Stays, IsSameImage, is_failed, is_writable, number_of};
 ghost use Rattle.qcow2_image.specs.Prepared.{image_of, length_of, table_of, IsKept};
+ghost use Rattle.qcow2_laws.specs.Guard.{Pending};
+ghost use Rattle.qcow2_alloc.specs.MetadataCaches.{IsEntryAt};
+ghost use Rattle.qcow2_alloc.specs.ImageFile.{known_in, IsSoundFile};
+ghost use Rattle.qcow2_image.specs.declared.prepared.Prepared.{Prepared};
+ghost use Rattle.qcow2_image.specs.Calls.{Answers};
+ghost use Rattle.qcow2_laws.specs.Alike.{IsAlike};
+ghost use Rattle.qcow2_image.specs.Found.{mapping_of, IsRunBehind, NamesTable, IsRunFrom, IsFound, kind_at, rest_of_table, l1_index_of, l2_index_of};
+ghost use Rattle.qcow2_image.specs.Steps.{Keeps};
+ghost use Rattle.qcow2_image.specs.Views.{HasL1Table, IsSoundAt, seen};
 ghost use Rattle.qcow2_image.specs.Refusals.{unusable, refuses_to_prepare, passes as passes_size, IsMet, Marks};
 ghost use Rattle.qcow2_image.specs.declared.prepared.CommitRefused.TheVariants.{Kept};
 ghost use Rattle.qcow2_alloc.specs.declared.error.ImageError.TheVariants.{Failed, ForeignState};
@@ -18,22 +27,32 @@ use qcow2_alloc::{
 use qcow2_metadata::{ClusterCount, GuestCluster, GuestOffset, HostCluster, L2Mapping, L2Table};
 
 // Whether a guest cluster is mapped like an earlier one that lies so many bytes before it.
-fn is_alike(first: &L2Mapping, mapping: &L2Mapping, distance: u64) -> bool {
+fn is_alike(first: &L2Mapping, mapping: &L2Mapping, distance: u64) -> bool
+    requires reach { IsInReach first.now }
+    requires near { distance ≤ 2 ^ 42 }
+    ensures { IsTrue result ↔ IsAlike distance first.now mapping.now }
+{
     match mapping {
         L2Mapping::Data { host, copied } => match first {
             L2Mapping::Data {
                 host: first_host,
                 copied: first_copied,
-            } => {
-                host.value().wrapping_sub(first_host.value()) == distance
-                    && *copied == *first_copied
-            }
+            } => host.value() == first_host.value() + distance && *copied == *first_copied,
             _ => false,
         },
         L2Mapping::Zero { .. } => matches!(first, L2Mapping::Zero { .. }),
         L2Mapping::Compressed { .. } => matches!(first, L2Mapping::Compressed { .. }),
         L2Mapping::Uncovered => matches!(first, L2Mapping::Uncovered),
     }
+}
+
+// How many bytes a cluster has.
+fn cluster_size(table: &L2Table) -> u64
+    ensures value { result ≡ 2 ^ table.now.cluster_bits }
+    ensures some { 0 < result }
+    ensures few { result ≤ 2 ^ 21 }
+{
+    1 << table.cluster_bits()
 }
 
 // Whether a range isn't empty and passes a size.
@@ -60,9 +79,12 @@ impl<S: Storage, F: WrappedFormat<S>> Qcow2<S, F> {
         ensures marks { Marks result (is_failed self.old) (is_failed self.new) }
         ensures image { IsSameImage self.old self.new }
         ensures own { IfOk result (λ (mapping, n). (mapping.image ≡ number_of self.old) × (mapping.offset ≡ offset) × (mapping.length ≡ n)) }
+        ensures within { IfOk result (λ (mapping, n). n ≤ max) }
+        ensures sees { Answers S.view F.backing self.old self.new [] (λ found old new. new ≡ old) result }
+        ensures run { (out : List (Option Prepared)) → (seen S.view F.backing self.old out).is_sound → IfOk result (λ (mapping, n). IsFound S.view self.new offset max mapping.kind n) }
     {
         self.check_usable()?;
-        self.file.begin();
+        self.begin();
         let found = self.look_up(offset, max);
         let (kind, length) = self.settled(found)?;
         let mapping = Mapping {
@@ -81,6 +103,10 @@ impl<S: Storage, F: WrappedFormat<S>> Qcow2<S, F> {
     ) -> Result<(MappingKind, u64), ImageError>
         ensures stays { Stays self.old self.new }
         ensures cause { IfErr result IsMet }
+        ensures keeps { (p : Pending) (out : List (Option Prepared)) → IsSoundAt S.view F.backing p self.old out → Keeps S.view F.backing p p self.old self.new out }
+        ensures list { self.new.file.free_list ≡ self.old.file.free_list }
+        ensures within { IfOk result (λ (kind, n). n ≤ max) }
+        ensures found { (p : Pending) (out : List (Option Prepared)) → IsSoundAt S.view F.backing p self.old out → IfOk result (λ (kind, n). IsFound S.view self.new offset max kind n) }
     {
         let size = self.file.header.size();
         if offset >= size {
@@ -100,6 +126,7 @@ impl<S: Storage, F: WrappedFormat<S>> Qcow2<S, F> {
 
     // How many bytes there are from an offset on to the end of what its L2 table covers.
     fn rest_of_table(&self, offset: u64) -> u64
+        ensures value { result ≡ rest_of_table self.now.file.header.fields offset }
         ensures some { 0 < result }
         ensures bounded { result ≤ 2 ^ 40 }
     {
@@ -110,6 +137,7 @@ impl<S: Storage, F: WrappedFormat<S>> Qcow2<S, F> {
     // Where the L2 table of an offset lies, or None where there is none.
     fn l2_cluster(&self, offset: u64) -> Result<Option<HostCluster>, ImageError>
         ensures cause { IfErr result IsMet }
+        ensures names { HasL1Table S.view F.backing self.now.file self.now.l1_table → IfOk result (NamesTable S.view self.now offset) }
     {
         let bits = self.file.header.cluster_bits();
         let Some(entry) = self.l1_table.get(GuestOffset::new(offset).l1_index(bits)) else {
@@ -121,7 +149,9 @@ impl<S: Storage, F: WrappedFormat<S>> Qcow2<S, F> {
         }
     }
 
-    fn uncovered(&self, offset: u64) -> MappingKind {
+    fn uncovered(&self, offset: u64) -> MappingKind
+        ensures value { result ≡ kind_at self.now.file.header.fields (is_some self.now.backing) offset L2Mapping.Uncovered }
+    {
         match &self.backing {
             Some(_) => MappingKind::Indirect { offset },
             None => MappingKind::Zero { explicit: false },
@@ -137,6 +167,10 @@ impl<S: Storage, F: WrappedFormat<S>> Qcow2<S, F> {
     ) -> Result<(MappingKind, u64), ImageError>
         requires { max ≤ 2 ^ 40 }
         ensures cause { IfErr result IsMet }
+        ensures within { IfOk result (λ (kind, n). n ≤ max) }
+        ensures run { (p : Pending) → IsSoundFile S.view p self.now.file
+            → IsEntryAt self.now.file.header.fields (known_in S.view self.now.file) (l1_index_of self.now.file.header.fields offset) table (l2_index_of self.now.file.header.fields offset)
+            → max ≤ rest_of_table self.now.file.header.fields offset → IfOk result (λ (kind, n). IsRunFrom S.view self.now offset max kind n) }
     {
         let bits = self.file.header.cluster_bits();
         let Some(table) = self.file.caches.l2_peek(table) else {
@@ -149,6 +183,23 @@ impl<S: Storage, F: WrappedFormat<S>> Qcow2<S, F> {
         Ok((self.kind_of(first, offset), (rest + behind).min(max)))
     }
 
+    // Whether two guest clusters that a table covers, so many bytes apart, are mapped alike.
+    fn are_alike(
+        &self,
+        table: &L2Table,
+        first: GuestCluster,
+        next: GuestCluster,
+        distance: u64,
+    ) -> Result<bool, ImageError>
+        requires near { distance ≤ 2 ^ 42 }
+        ensures alike { IfOk result (λ alike. IsTrue alike ↔ IsAlike distance (mapping_of table.now first) (mapping_of table.now next)) }
+        ensures cause { IfErr result IsMet }
+    {
+        let first = table.get_mapping(first)?;
+        let next = table.get_mapping(next)?;
+        Ok(is_alike(&first, &next, distance))
+    }
+
     // How many bytes, at least up to `max`, lie in clusters behind one that are mapped like it.
     fn alike_behind(
         &self,
@@ -156,27 +207,27 @@ impl<S: Storage, F: WrappedFormat<S>> Qcow2<S, F> {
         cluster: GuestCluster,
         max: u64,
     ) -> Result<u64, ImageError>
-        requires { max ≤ 2 ^ 40 }
-        ensures value { IfOk result (λ n. n ≤ 2 ^ 41) }
+        requires few { max ≤ 2 ^ 40 }
+        requires near { cluster < 2 ^ 62 }
+        ensures bounded { IfOk result (λ n. n ≤ 2 ^ 41) }
+        ensures run { IfOk result (IsRunBehind table.now cluster max) }
         ensures cause { IfErr result IsMet }
     {
-        let size = self.file.header.cluster_size();
-        let first = table.get_mapping(cluster)?;
-        let mut length = 0;
-        let mut next = cluster.value();
-        while length < max {
-            next = next.wrapping_add(1);
-            let mapping = table.get_mapping(GuestCluster::new(next))?;
-            if !is_alike(&first, &mapping, length + size) {
+        let size = cluster_size(table);
+        let mut count = 0;
+        while count * size < max {
+            let next = GuestCluster::new(cluster.value() + count + 1);
+            if !self.are_alike(table, cluster, next, (count + 1) * size)? {
                 break;
             }
-            length += size;
+            count += 1;
         }
-        Ok(length)
+        Ok(count * size)
     }
 
     fn kind_of(&self, mapping: L2Mapping, offset: u64) -> MappingKind
         requires { IsInReach mapping }
+        ensures value { result ≡ kind_at self.now.file.header.fields (is_some self.now.backing) offset mapping }
     {
         let within = GuestOffset::new(offset).in_cluster_offset(self.file.header.cluster_bits());
         match mapping {
@@ -211,7 +262,7 @@ impl<S: Storage, F: WrappedFormat<S>> Qcow2<S, F> {
         if length == 0 {
             return Ok(self.existing_at(offset, 0, 0));
         }
-        self.file.begin();
+        self.begin();
         let prepared = self.prepare(offset, length, overwrite);
         self.settled(prepared)
     }
@@ -506,7 +557,7 @@ impl<S: Storage, F: WrappedFormat<S>> Qcow2<S, F> {
         if self.file.caches.l2_peek(table).is_some() {
             return Ok(());
         }
-        self.file.begin();
+        self.begin();
         self.file
             .caches
             .l2_get_or_insert(&mut self.file.storage, table)

@@ -21,7 +21,7 @@ impl<S: Storage, F: WrappedFormat<S>> Qcow2<S, F> {
         if size <= self.file.header.size() {
             return Ok(());
         }
-        self.file.begin();
+        self.begin();
         let done = self.grow_to(size);
         self.settled(done)
     }

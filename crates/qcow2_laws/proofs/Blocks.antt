@@ -243,7 +243,7 @@ module _ (h : HeaderFields) (d : Direction) (p : Pending) (base known known' : B
     | inr other ↦ table_others h known known' l2_known_top i0 real l2_once l2_same g other
   ]
 
-  guest_within : i0 * entries_per_cluster h + j0 < guests h
+  pub guest_within : i0 * entries_per_cluster h + j0 < guests h
   guest_within =
       let lt = has_table h known i0 real in
       let rows : (i0 + 1) * entries_per_cluster h ≤ h.l1_entries * entries_per_cluster h = mul-le (i0 + 1) (entries_per_cluster h) h.l1_entries (entries_per_cluster h) (omega arith) (omega arith) in

@@ -115,13 +115,13 @@ takes_own h held before host aligned is = (
 )
 
 -- it takes a host cluster that is held
-in_at : (h : HeaderFields) (c place : ℕ) → 0 < in_cluster h c place → place / cluster_size h ≡ c
+pub in_at : (h : HeaderFields) (c place : ℕ) → 0 < in_cluster h c place → place / cluster_size h ≡ c
 in_at h c place some = elim (cases_eq (place / cluster_size h) c) [
   | inl e ↦ e
   | inr ne ↦ absurd (let none : in_cluster h c place ≡ 0 = cond-false {A = ℕ} _ 1 0 (ne_eqb (place / cluster_size h) c ne) in omega arith)
 ]
 
-in_most : (h : HeaderFields) (c place : ℕ) → in_cluster h c place ≤ 1
+pub in_most : (h : HeaderFields) (c place : ℕ) → in_cluster h c place ≤ 1
 in_most h c place = elim (cases_eq (place / cluster_size h) c) [
   | inl e ↦ let one : in_cluster h c place ≡ 1 = cond-true {A = ℕ} _ 1 0 (eq-eqb (place / cluster_size h) c e) in omega arith
   | inr ne ↦ let none : in_cluster h c place ≡ 0 = cond-false {A = ℕ} _ 1 0 (ne_eqb (place / cluster_size h) c ne) in omega arith

@@ -1,7 +1,7 @@
 -- Laws that a user would quote: what was given, put and committed.
-use Rattle.std.proofs.Common.{◌≡◌, ⊎_elim, ◌+◌, ◌-◌, ◌<◌, ℕ, refl, sym, ap, ◌∙◌, subst, Bool, true, false, Some, List, length, eqb, arith}
+use Rattle.std.proofs.Common.{◌≡◌, ◌⊎◌, ⊎_elim, inl, inr, ◌+◌, ◌-◌, ◌<◌, ◌≤◌, ltb, leb, ℕ, refl, sym, ap, ◌∙◌, subst, Bool, true, false, Some, List, length, eqb, arith}
 use Rattle.std.specs.Prelude.{if◌then◌else◌}
-use Rattle.std.proofs.lemmas.Bool.{cond-true, eq-eqb, le-leb, lt-ltb, and_from}
+use Rattle.std.proofs.lemmas.Bool.{cond-true, cond-false, eq-eqb, le-leb, lt-ltb, lt-leb, le-ltb, and_from, and_left, and_right}
 use Rattle.qcow2_metadata.specs.Bytes.{byte_at, laid_over, is_within}
 use Rattle.qcow2_metadata.specs.Guest.{known_byte}
 use Rattle.qcow2_laws.specs.Disk.{Disk, disk, with_bytes}
@@ -20,16 +20,21 @@ some_is e = cc
 byte_is : {a b : ℕ} → known_byte a ≡ known_byte b → a ≡ b
 byte_is e = cc
 
-both : {X : Type 0} (test : Bool) (a b c v : X) → a ≡ v → c ≡ v → (if test then a else (if test then b else c)) ≡ v
-both true a b c v e f = e
-both false a b c v e f = f
+both : {X : Type 0} (test : Bool) (a x b c v : X) → a ≡ v → c ≡ v → (if test then (if test then a else x) else (if test then b else c)) ≡ v
+both true a x b c v e f = e
+both false a x b c v e f = f
 
-laid_inside : {A : Type 0} (place n : ℕ) (top under : ℕ → A) (i : ℕ) → i < n → laid_over place n top under (place + i) ≡ top i
+pub laid_inside : {A : Type 0} (place n : ℕ) (top under : ℕ → A) (i : ℕ) → i < n → laid_over place n top under (place + i) ≡ top i
 unfolding laid_over
 laid_inside place n top under i lt =
     let inside : is_within place n (place + i) ≡ true = and_from _ _ (le-leb place (place + i) (omega arith)) (lt-ltb (place + i) (place + n) (omega arith)) in
     let at : place + i - place ≡ i = omega arith in
     cond-true (is_within place n (place + i)) (top (place + i - place)) (under (place + i)) inside ∙ ap top at
+
+pub laid_outside : {A : Type 0} (place n : ℕ) (top under : ℕ → A) (o : ℕ) → (o < place) ⊎ (place + n ≤ o) → laid_over place n top under o ≡ under o
+unfolding laid_over
+laid_outside place n top under o (inl below) = cond-false _ _ _ (and_left (leb place o) (ltb o (place + n)) (lt-leb place o below))
+laid_outside place n top under o (inr past) = cond-false _ _ _ (and_right (leb place o) (ltb o (place + n)) (le-ltb o (place + n) past))
 
 pub unseen : PrivateBytesAreUnseen
 unseen x found g0 g1 g2 g3 slot offset n count at overwrite bytes prepared all_private put discard =
@@ -49,7 +54,7 @@ there_at g m at bytes i lt =
     let o = m.from + at + i in
     let inside : laid_over (m.from + at) (length bytes) (λ k. known_byte (byte_at bytes k)) m.shown o ≡ known_byte (byte_at bytes i) = laid_inside (m.from + at) (length bytes) (λ k. known_byte (byte_at bytes k)) m.shown i lt in
     let inside2 : laid_over (m.from + at) (length bytes) (λ k. known_byte (byte_at bytes k)) g.value o ≡ known_byte (byte_at bytes i) = laid_inside (m.from + at) (length bytes) (λ k. known_byte (byte_at bytes k)) g.value i lt in
-    both (m.is_private o) _ (g.value o) _ (known_byte (byte_at bytes i)) inside inside2
+    both (m.is_private o) _ (m.shown o) (g.value o) _ (known_byte (byte_at bytes i)) inside inside2
 
 pub read_back : CommittedIsReadBack
 read_back x found g0 g1 g2 g3 m slot at n i bytes answer there put commit read lt within =

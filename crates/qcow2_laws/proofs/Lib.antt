@@ -31,3 +31,8 @@ pub mod NewImages
 pub mod CachedChanges
 pub mod Beside
 pub mod HeaderWrites
+pub mod Unseen
+pub mod Shown
+pub mod Alike
+pub mod Overwritten
+pub mod MappedAnew

@@ -143,7 +143,7 @@ module _ (h : HeaderFields) (d : Direction) (p : Pending) (base known base' know
     | inr other ↦ l1_covers h base base' guarded.top ((h.l1_offset + 8 * i0) / cluster_size h) one_part once same g (others (g / entries_per_cluster h) other)
   ]
 
-  known_covers : SameCovers h known known'
+  pub known_covers : SameCovers h known known'
   known_covers g = elim (cases_eq (g / entries_per_cluster h) i0) [
     | inl here ↦ new_cover known known' known_same writes.known_is new.known_covers g here
     | inr other ↦ l1_covers h known known' known_top ((h.l1_offset + 8 * i0) / cluster_size h) one_part known_once known_same g (known_others (g / entries_per_cluster h) other)

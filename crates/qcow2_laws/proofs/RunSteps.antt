@@ -1,14 +1,16 @@
 -- One call is one step of a run.
-use Rattle.std.proofs.Common.{◌≡◌, ◌⊎◌, ⊎_elim, inl, inr, ℕ, List, [], ◌∷◌, ◌++◌, Bool, true, false, IsTrue, refl, sym, ap, ◌∙◌, subst, arith, Option}
+use Rattle.std.proofs.Common.{◌≡◌, ◌⊎◌, ⊎_elim, inl, inr, ℕ, List, [], ◌∷◌, ◌++◌, Bool, true, false, IsTrue, refl, sym, ap, ◌∙◌, subst, arith, Option, None}
+use mathlib.Core.Path.{fun_ext}
 use Rattle.image_access.specs.Moments.{Passing}
-use Rattle.image_access.proofs.Passing.{passes_none, passes_if}
+use Rattle.image_access.proofs.Passing.{passes_none, passes_if, passes_on}
 use Rattle.qcow2_metadata.specs.Bytes.{Bytes, byte_at}
 use Rattle.qcow2_metadata.specs.Consistent.{IsConsistent}
-use Rattle.qcow2_laws.specs.Disk.{disk}
+use Rattle.qcow2_laws.specs.Disk.{Disk, disk}
 use Rattle.qcow2_laws.specs.Stops.{Gift, marked, more, IsKeptAt}
-use Rattle.qcow2_laws.specs.Views.{Setting, Guest, Spec, View, view, guest_of, contents_of, IsWhole}
+use Rattle.qcow2_laws.specs.Mappings.{PreparedMapping}
+use Rattle.qcow2_laws.specs.Views.{Setting, Guest, View, guest_of, contents_of, IsWhole}
 use Rattle.qcow2_laws.specs.Calls.{Refusal, Acts, Does, Refuses, IsFault, Works, Rests, Stops}
-use Rattle.qcow2_laws.specs.Runs.{Command, Reply, Found, Means, IsFaultReply, State, Step, Run, StandsAt, Goes, Ran, MeansTheDisk, IsStopIn, started, mark_in, mark_after, stepped, given_by, asked_by}
+use Rattle.qcow2_laws.specs.Runs.{Command, Reply, Found, Means, IsFaultReply, State, Step, Run, StandsAt, Goes, Ran, Completes, MeansTheDisk, IsStopIn, started, over, mark_in, mark_after, stepped, given_by, asked_by}
 use Rattle.qcow2_laws.proofs.Stops.{stop_of_kept, kept_more}
 
 bool_cases : (b : Bool) → (b ≡ true) ⊎ (b ≡ false)
@@ -196,8 +198,8 @@ none_as x v s command is reply e stands means mark =
     (λ sound. record { ends = inl (sound, means sound); mark = λ x' s' _. inl (mark x' s') }))
 
 -- where a run begins
-pub begins : (v : View) → v.is_sound → IsWhole v → v.known ≡ contents_of v → v.is_failed ≡ false → StandsAt v.setting v (started (guest_of v))
-begins v sound whole same works = record {
+pub begins : (v : View) → v.is_sound → IsWhole v → v.known ≡ contents_of v → StandsAt v.setting v (started (guest_of v))
+begins v sound whole same = record {
   setting = refl;
   works = λ _. sound;
   failed = λ e. absurd (let t : false ≡ true = e in cc);
@@ -243,38 +245,68 @@ ran_more x old mid new s commands replies command reply ran goes = record {
   grows = λ b h. goes.grows b (ran.grows b h);
 }
 
--- a run with all its mappings discarded at the end: before and after no mapping is out
-module _ {D P : Type 0} (spec : Spec D P) (d dl dn : D) (out outl : List (Option P)) (commands : List Command) (replies : List Reply) where
-  module _ (ran : Ran (spec.setting d) (view spec d out) (view spec dl outl) (started (guest_of (view spec d out))) commands replies)
-      (does : Does (view spec dl outl) (view spec dn []) [] [] ((guest_of (view spec dn [])).disk ≡ (guest_of (view spec dl outl)).disk)) where
-    ending : Passing (view spec dl outl).storage (view spec dn []).storage (λ c. IsStopIn (spec.setting d).backing (ran.end.mark ∷ ran.end.marks) (byte_at c))
-    ending = elim (bool_cases ran.end.is_failed) [
-      | inl failed ↦ passes_if (λ c. IsStopIn (spec.setting d).backing (ran.end.mark ∷ ran.end.marks) (byte_at c))
-          (λ c e. inr (subst (λ k. IsStopIn (spec.setting d).backing ran.end.marks (byte_at k)) (sym e) ran.stands.at_rest)) (does.acts.rests (ran.stands.failed failed)).moments
-      | inr ok ↦
-          let same : spec.setting dl ≡ spec.setting d = ran.stands.setting in
-          let backing : (spec.setting dl).backing ≡ (spec.setting d).backing = ap (λ (y : Setting). y.backing) same in
-          let stops = (does.acts.works (ran.stands.works ok)).stops ran.end.mark
-          (subst (λ b. IsKeptAt b ran.end.mark (contents_of (view spec dl outl))) (sym backing) (ran.stands.contents ok), subst (λ b. IsKeptAt b ran.end.mark (spec.known dl)) (sym backing) (ran.stands.known ok)) in
-          passes_if (λ c. IsStopIn (spec.setting d).backing (ran.end.mark ∷ ran.end.marks) (byte_at c))
-          (λ c k. inl (stop_of_kept (spec.setting d).backing ran.end.mark (byte_at c) (subst (λ b. IsKeptAt b ran.end.mark (byte_at c)) backing k))) stops.moments
-    ]
+-- a run whose mappings are let go at its end
+module _ (x : Setting) (old last new : View) (s : State) (commands : List Command) (replies : List Reply) (ran : Ran x old last s commands replies)
+    (does : Does last new [] [] ((guest_of new).disk ≡ (guest_of last).disk)) (empty : (k : ℕ) → new.slots k ≡ None) where
+  backing_then : last.setting.backing ≡ x.backing
+  backing_then = ap (λ (y : Setting). y.backing) ran.stands.setting
 
-    pub means_the_disk : ((c : List ℕ) → (spec.storage d).had_since (spec.storage d).moment c → c ≡ (spec.storage d).contents) → (spec.is_sound dn [] → IsWhole (view spec dn []))
-        → guest_of (view spec d []) ≡ guest_of (view spec d out) → spec.surplus d out ≡ spec.surplus d []
-        → StandsAt (spec.setting d) (view spec d out) (started (guest_of (view spec d out)))
-        → MeansTheDisk (view spec d []) (view spec dn []) commands replies
-    means_the_disk only whole guest surplus stands = record {
-      end = ran.end;
-      run = subst (λ h. Run (spec.setting d) (started h) commands replies ran.end) (sym guest) ran.run;
-      disk = λ e. (does.answer (ran.stands.works e)).1 ∙ ap (λ (h : Guest). h.disk) (ran.stands.guest e);
-      consistent = λ e. (whole (does.answer (ran.stands.works e)).0).consistent;
-      surplus = λ e. (does.acts.works (ran.stands.works e)).surplus (does.answer (ran.stands.works e)).0 ∙ ran.surplus e ∙ surplus;
-      stops = λ c had. ⊎_elim
-          (λ h. inr (⊎_elim
-          (λ h2. ran.grows (byte_at c) (subst (λ k. IsStopIn (spec.setting d).backing (started (guest_of (view spec d out))).marks (byte_at k)) (sym (only c h2)) stands.at_rest))
-          (λ p. p)
-          (ran.moments.each (spec.storage d).moment c (omega arith) h)))
-          (λ p. p)
-          (ending.each (spec.storage d).moment c ran.moments.later had);
-    }
+  at_end : ran.end.is_failed ≡ false → Stops last new [] [] ran.end.mark
+  at_end ok =
+      (does.acts.works (ran.stands.works ok)).stops ran.end.mark
+      (subst (λ b. IsKeptAt b ran.end.mark (contents_of last)) (sym backing_then) (ran.stands.contents ok), subst (λ b. IsKeptAt b ran.end.mark last.known) (sym backing_then) (ran.stands.known ok))
+
+  setting_then : new.setting ≡ x
+  setting_then = elim (bool_cases ran.end.is_failed) [
+    | inl failed ↦ (does.acts.rests (ran.stands.failed failed)).setting ∙ ran.stands.setting
+    | inr ok ↦ (does.acts.works (ran.stands.works ok)).setting ∙ ran.stands.setting
+  ]
+
+  ending : Passing last.storage new.storage (λ c. IsStopIn x.backing (over ran.end).marks (byte_at c))
+  ending = elim (bool_cases ran.end.is_failed) [
+    | inl failed ↦ passes_if (λ c. IsStopIn x.backing (over ran.end).marks (byte_at c))
+        (λ c e. inr (subst (λ k. IsStopIn x.backing ran.end.marks (byte_at k)) (sym e) ran.stands.at_rest)) (does.acts.rests (ran.stands.failed failed)).moments
+    | inr ok ↦ passes_if (λ c. IsStopIn x.backing (over ran.end).marks (byte_at c))
+        (λ c k. inl (stop_of_kept x.backing ran.end.mark (byte_at c) (subst (λ b. IsKeptAt b ran.end.mark (byte_at c)) backing_then k))) (at_end ok).moments
+  ]
+
+  resting : IsStopIn x.backing (over ran.end).marks (contents_of new)
+  resting = elim (bool_cases ran.end.is_failed) [
+    | inl failed ↦ inr (subst (λ k. IsStopIn x.backing ran.end.marks (byte_at k)) (sym (does.acts.rests (ran.stands.failed failed)).contents) ran.stands.at_rest)
+    | inr ok ↦ inl (stop_of_kept x.backing ran.end.mark (contents_of new) (subst (λ b. IsKeptAt b ran.end.mark (contents_of new)) backing_then (at_end ok).contents))
+  ]
+
+  pub completes : Completes x old new s commands replies
+  completes = record {
+    end = ran.end;
+    run = ran.run;
+    stands = record {
+      setting = setting_then;
+      works = λ ok. (does.answer (ran.stands.works ok)).0;
+      failed = λ failed. (does.acts.rests (ran.stands.failed failed)).failed;
+      guest = λ ok.
+          ap (λ (f : ℕ → Option PreparedMapping). record (guest_of new) { slots = f }) (fun_ext empty)
+          ∙ ap (λ (d : Disk). record { disk = d; slots = λ _. None }) ((does.answer (ran.stands.works ok)).1 ∙ ap (λ (g : Guest). g.disk) (ran.stands.guest ok));
+      known = λ ok. subst (λ b. IsKeptAt b ran.end.mark new.known) backing_then ((at_end ok).known (does.answer (ran.stands.works ok)).0);
+      contents = λ ok. subst (λ b. IsKeptAt b ran.end.mark (contents_of new)) backing_then (at_end ok).contents;
+      at_rest = resting;
+    };
+    moments = passes_on (λ c. IsStopIn x.backing (over ran.end).marks (byte_at c)) (passes_if (λ c. IsStopIn x.backing (over ran.end).marks (byte_at c)) (λ c h. inr h) ran.moments) ending (λ c h. h);
+    surplus = λ ok. (does.acts.works (ran.stands.works ok)).surplus (does.answer (ran.stands.works ok)).0 ∙ ran.surplus ok;
+    grows = λ b h. inr (ran.grows b h);
+  }
+
+-- a whole run of an image that was just opened
+pub means_the_disk : (old new : View) (commands : List Command) (replies : List Reply) → ((c : List ℕ) → old.storage.had_since old.storage.moment c → c ≡ old.storage.contents)
+    → (new.is_sound → IsWhole new) → StandsAt old.setting old (started (guest_of old)) → Completes old.setting old new (started (guest_of old)) commands replies → MeansTheDisk old new commands replies
+means_the_disk old new commands replies only whole stands all = record {
+  end = all.end;
+  run = all.run;
+  disk = λ ok. ap (λ (g : Guest). g.disk) (all.stands.guest ok);
+  consistent = λ ok. (whole (all.stands.works ok)).consistent;
+  surplus = all.surplus;
+  stops = λ c had. ⊎_elim
+      (λ h. all.grows (byte_at c) (subst (λ k. IsStopIn old.setting.backing (started (guest_of old)).marks (byte_at k)) (sym (only c h)) stands.at_rest))
+      (λ p. p)
+      (all.moments.each old.storage.moment c (omega arith) had);
+}

@@ -158,7 +158,7 @@ module _ (h : HeaderFields) (d : Direction) (p : Pending) (base known base' know
     ]
   ]
 
-  base_stays : (c : ℕ) → 0 < named_for_tables h base c → SameIn (cluster_size h) c base base'
+  pub base_stays : (c : ℕ) → 0 < named_for_tables h base c → SameIn (cluster_size h) c base base'
   base_stays c some = (stays c some).0
 
   known_stays : (c : ℕ) → 0 < named_for_tables h known c → SameIn (cluster_size h) c known known'
@@ -167,7 +167,7 @@ module _ (h : HeaderFields) (d : Direction) (p : Pending) (base known base' know
   now_covers : SameCovers h base base'
   now_covers = covers_stay h base base' guarded.top base_stays
 
-  known_covers : SameCovers h known known'
+  pub known_covers : SameCovers h known known'
   known_covers = covers_stay h known known' (IsTop-top h base known guarded.same_top guarded.top) known_stays
 
   pub written_guarded : IsGuarded h d p base' known'
@@ -179,7 +179,7 @@ module _ (h : HeaderFields) (d : Direction) (p : Pending) (base known base' know
       (λ o some. written.agree o (guarded.unlaid o some))
 
   -- a cluster that a guest cluster has to itself is named by no other
-  its_own : (c g g' : ℕ) → 0 < marks h known c g → 0 < names h base c g' + names h known c g' → g ≡ g'
+  pub its_own : (c g g' : ℕ) → 0 < marks h known c g → 0 < names h base c g' + names h known c g' → g ≡ g'
   its_own c g g' marked some = elim (cases_eq g g') [
     | inl same ↦ same
     | inr other ↦ absurd (

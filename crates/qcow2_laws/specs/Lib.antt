@@ -13,6 +13,8 @@ pub mod Opened
 pub mod Changes
 pub mod Writes
 pub mod Tops
+pub mod Unseen
+pub mod Alike
 pub mod Caches
 pub mod Leads
 pub mod Steps

@@ -44,7 +44,7 @@ IsPrivateIn h b m = (o : ℕ) → first_of (cluster_size h) m ≤ o → o < end_
 
 -- bytes put into it: private ones are kept for the commit, all others are written at once
 abbrev pub put_mapping : PreparedMapping → ℕ → List ℕ → PreparedMapping
-put_mapping m at bytes = record m { shown = laid_over (m.from + at) (length bytes) (λ i. known_byte (byte_at bytes i)) m.shown }
+put_mapping m at bytes = record m { shown = λ o. if m.is_private o then laid_over (m.from + at) (length bytes) (λ i. known_byte (byte_at bytes i)) m.shown o else m.shown o }
 
 abbrev pub put_disk : Disk → PreparedMapping → ℕ → List ℕ → Disk
 put_disk d m at bytes = record d { value = λ o. if m.is_private o then d.value o else (with_bytes d (m.from + at) bytes).value o }

@@ -1,5 +1,5 @@
 -- A run of commands with its replies.
-use Rattle.std.specs.Prelude.{ℕ, ◌+◌, ◌≡◌, ◌≢◌, ◌⊎◌, ◌≤◌, ◌==◌, Bool, true, false, IsTrue, List, [], ◌∷◌, length, Option, Some, None, slice_get, if◌then◌else◌}
+use Rattle.std.specs.Prelude.{ℕ, ◌+◌, ◌≡◌, ◌≢◌, ◌⊎◌, ◌≤◌, ◌<◌, ◌==◌, Bool, true, false, IsTrue, List, [], ◌∷◌, length, Option, Some, None, MatchOption, slice_get, if◌then◌else◌}
 use Rattle.image_access.specs.Moments.{Passing}
 use Rattle.image_access.specs.declared.storage.PreallocateMode.{PreallocateMode}
 use Rattle.qcow2_metadata.specs.Bytes.{Bytes, byte_at}
@@ -67,6 +67,15 @@ asked_by (grow size mode) = size ∷ []
 asked_by (shrink size) = size ∷ []
 asked_by command = []
 
+-- The slot or the range is wrong: nothing was found or is prepared there, or the range passes its end, or the place is taken.
+abbrev pub IsMisuse : (ℕ → Option Found) → Guest → Command → Type 0
+IsMisuse found g (read_mapped place at n) = MatchOption (found place) (Unit {0}) (λ f. f.length < at + n)
+IsMisuse found g (prepare slot offset n overwrite) = g.slots slot ≢ None
+IsMisuse found g (put slot at bytes) = MatchOption (g.slots slot) (Unit {0}) (λ m. m.length < at + length bytes)
+IsMisuse found g (commit slot) = g.slots slot ≡ None
+IsMisuse found g (discard slot) = g.slots slot ≡ None
+IsMisuse found g command = ⊥
+
 -- to this command the image may give this reply, and the guest then sees new; found is what was found last for each place
 abbrev pub Means : Setting → (ℕ → Option Found) → Guest → Command → Reply → Guest → Type 0
 Means x found old (read offset n) (bytes_are bytes) new = (length bytes ≡ n) × Shows old.disk offset bytes × (new ≡ old)
@@ -94,7 +103,7 @@ Means x found old (shrink size) (number_is answer) new = (d : Disk) × IsShrunk 
 Means x found old get_size (number_is n) new = (n ≡ old.disk.size) × (new ≡ old)
 Means x found old get_leaked (number_is n) new = new ≡ old
 Means x found old command (refused e) new = new ≡ old
-Means x found old command misuse new = new ≡ old
+Means x found old command misuse new = IsMisuse found old command × (new ≡ old)
 Means x found old command reply new = ⊥
 
 -- the storage failed, or memory was refused
@@ -117,6 +126,14 @@ pub record State : Type 0 where
 
 abbrev pub started : Guest → State
 started g = record { guest = g; found = λ _. None; is_failed = false; mark = marked g.disk; marks = marked g.disk ∷ [] }
+
+-- the same with nothing found yet
+abbrev pub begun : State → State
+begun s = record s { found = λ _. None }
+
+-- a run that is over: its mappings are let go
+abbrev pub over : State → State
+over s = record s { guest = record s.guest { slots = λ _. None }; marks = s.mark ∷ s.marks }
 
 -- the mark of the call under way
 abbrev pub mark_in : Setting → State → Command → Mark
@@ -184,7 +201,16 @@ pub record Ran (x : Setting) (old new : View) (s : State) (commands : List Comma
   pub surplus : end.is_failed ≡ false → new.surplus ≡ old.surplus
   pub grows : (b : Bytes) → IsStopIn x.backing s.marks b → IsStopIn x.backing end.marks b
 
--- what is said of any list of commands with its replies
+-- a whole run, and then the mappings that are left are let go
+pub record Completes (x : Setting) (old new : View) (s : State) (commands : List Command) (replies : List Reply) : Type 0 where
+  pub end : State
+  pub run : Run x s commands replies end
+  pub stands : StandsAt x new (over end)
+  pub moments : Passing old.storage new.storage (λ c. IsStopIn x.backing (over end).marks (byte_at c))
+  pub surplus : end.is_failed ≡ false → new.surplus ≡ old.surplus
+  pub grows : (b : Bytes) → IsStopIn x.backing s.marks b → IsStopIn x.backing (over end).marks b
+
+-- what is said of any list of commands with its replies, of an image that was just opened
 pub record MeansTheDisk (old new : View) (commands : List Command) (replies : List Reply) : Type 0 where
   pub end : State
   -- the replies are a run of the disk

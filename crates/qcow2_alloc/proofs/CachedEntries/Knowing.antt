@@ -11,7 +11,7 @@ use Rattle.lru.proofs.CallerLemmas.{Contains-lookup_entry}
 use Rattle.qcow2_alloc.specs.declared.async_lru_cache.slot.Slot.{Slot}
 use Rattle.qcow2_alloc.specs.declared.async_lru_cache.error.CacheError.{CacheError}
 use Rattle.qcow2_alloc.specs.declared.async_lru_cache.error.CacheError.TheVariants.{InUse, StillInUse, Memory, Backend}
-use Rattle.qcow2_alloc.specs.AsyncLruCache.{slot_of, oldest_free}
+use Rattle.qcow2_alloc.specs.AsyncLruCache.{slot_of}
 use Rattle.qcow2_alloc.specs.AsyncLruCacheBackend.{Steps, IsLawful, KeepsBytes, laid_over, known, KeepsKnown, LaysOver}
 use Rattle.qcow2_alloc.specs.CacheAnswers.{FlushesEntry, FlushesAll, Evicts, HasRoom, HasNoRoom, InsertsNew, GetsNew, Replaces}
 use Rattle.qcow2_alloc.specs.CachedEntries.{FlushesFound}

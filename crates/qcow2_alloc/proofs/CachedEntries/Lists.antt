@@ -116,7 +116,7 @@ module _ {K V : Type 0} where
   oldest_free-push [] e = elim (is_pinned e.1) as (λ y. option_or None (cond y None (Some e)) ≡ cond y None (Some e)) [ true ↦ refl | false ↦ refl ]
   oldest_free-push (f ∷ es) e = rw (oldest_free-push es e) (elim (is_pinned e.1) as (λ y. option_or (cond y (oldest_free es) (Some e)) (cond (is_pinned f.1) None (Some f)) ≡ cond y (oldest_free (f ∷ es)) (Some e)) [ true ↦ refl | false ↦ refl ])
 
-  oldest_cases : (o : Option (K × Slot V)) (b : Bool) (f e : K × Slot V) → option_or o (cond b None (Some f)) ≡ Some e → {P : Type 0} → (o ≡ Some e → P) → (o ≡ None → f ≡ e → P) → P
+  pub oldest_cases : (o : Option (K × Slot V)) (b : Bool) (f e : K × Slot V) → option_or o (cond b None (Some f)) ≡ Some e → {P : Type 0} → (o ≡ Some e → P) → (o ≡ None → f ≡ e → P) → P
   oldest_cases None true f e h p q = cc
   oldest_cases None false f e h p q = q refl cc
   oldest_cases (Some g) b f e h p q = p h

@@ -1,27 +1,17 @@
 -- A cached table is changed in its place.
-use Rattle.std.proofs.Common.{◌≡◌, ◌≢◌, ◌⊎◌, inl, inr, ℕ, ◌+◌, ◌-◌, ◌*◌, ◌/◌, ◌%◌, ◌^◌, ◌<◌, ◌≤◌, ◌&&◌, Bool, true, false, cond, eqb, List, [], ◌∷◌, ◌++◌, Option, Some, None, refl, sym, ap, ◌∙◌, subst, arith}
+use Rattle.std.proofs.Common.{◌≡◌, inl, inr, ℕ, ◌+◌, ◌-◌, ◌/◌, ◌%◌, ◌<◌, ◌&&◌, Bool, true, false, eqb, List, [], ◌∷◌, ◌++◌, Option, Some, None, refl, sym, ap, ◌∙◌, subst, arith}
 use Rattle.std.proofs.lemmas.Bool.{cases_Bool}
-use Rattle.std.specs.Option.{option_map, option_map_or}
+use Rattle.std.specs.Option.{option_map}
 use Rattle.std.specs.Map.{lookup, set_value}
-use Rattle.qcow2_metadata.specs.Bytes.{Bytes, byte_at, is_within}
-use Rattle.qcow2_metadata.specs.declared.header.HeaderFields.{HeaderFields}
-use Rattle.qcow2_metadata.specs.Header.{cluster_size}
-use Rattle.qcow2_metadata.specs.Entries.{reftable_entry, block_offset}
-use Rattle.qcow2_metadata.specs.Named.{named_by_reftable, named_by_l1_table}
+use Rattle.qcow2_metadata.specs.Bytes.{Bytes, is_within}
 use Rattle.qcow2_metadata.specs.Tables.{CachedTable, known, overlays}
-use Rattle.qcow2_laws.specs.Clusters.{Direction}
-use Rattle.qcow2_laws.specs.Guests.{table_at}
-use Rattle.qcow2_laws.specs.Guard.{Pending, SameIn}
-use Rattle.qcow2_laws.specs.Tops.{IsSameOutside}
-use Rattle.qcow2_laws.specs.Caches.{known_bytes, IsFreeAt, IsFreeOf, AreApart, HasL2, HasBlock, IsKept}
-use Rattle.qcow2_laws.proofs.Lists.{known-at, known-none, known_there, known_elsewhere, unmodified_over, no_overlay, overlays_within, within_cluster, cluster_within, changed_outside, changed_there}
-use Rattle.qcow2_laws.proofs.Shares.{table_has, block_has}
-use Rattle.qcow2_laws.proofs.Caches.{kept_sizes, rbs_free, l2s_free}
+use Rattle.qcow2_laws.specs.Caches.{AreApart}
+use Rattle.qcow2_laws.proofs.Lists.{known-none, known_there, known_elsewhere, unmodified_over, overlays_within, within_cluster, cluster_within}
 use Rattle.qcow2_alloc.specs.declared.async_lru_cache.slot.Slot.{Slot}
 use Rattle.qcow2_alloc.specs.AsyncLruCache.{slot_of, value_at, set_at}
 use Rattle.qcow2_alloc.specs.TableLaws.{same_number}
-use Rattle.qcow2_alloc.specs.KeptTables.{cached_table, cached_tables, AreElsewhere, IsCurrent, AreLoaded, AreKept, AllFit}
-use Rattle.qcow2_alloc.proofs.KeptTables.Loaded.{elsewhere_of, elsewhere_with, in_own_cluster, one_place}
+use Rattle.qcow2_alloc.specs.KeptTables.{AreElsewhere, IsCurrent, AreLoaded, AllFit}
+use Rattle.qcow2_alloc.proofs.KeptTables.Loaded.{elsewhere_with, in_own_cluster}
 use Rattle.qcow2_alloc.proofs.KeptTables.Listing.{free_elsewhere, loaded_distinct}
 use Rattle.qcow2_alloc.proofs.KeptTables.Entries.{away_from}
 

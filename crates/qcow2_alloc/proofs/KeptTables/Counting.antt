@@ -1,5 +1,5 @@
 -- One count of a held refblock changes.
-use Rattle.std.proofs.Common.{◌≡◌, ◌≢◌, ◌⊎◌, ◌↔◌, IsTrue, inl, inr, ℕ, ◌+◌, ◌-◌, ◌*◌, ◌/◌, ◌%◌, ◌^◌, ◌<◌, ◌≤◌, ◌==◌, Bool, true, false, eqb, List, [], ◌∷◌, ◌++◌, Option, Some, None, refl, sym, ap, ◌∙◌, subst, arith}
+use Rattle.std.proofs.Common.{◌≡◌, ◌↔◌, IsTrue, ℕ, ◌+◌, ◌-◌, ◌*◌, ◌/◌, ◌%◌, ◌^◌, ◌<◌, ◌≤◌, ◌==◌, Bool, true, false, eqb, List, [], ◌∷◌, ◌++◌, Some, refl, sym, ap, ◌∙◌, subst, arith}
 use Rattle.std.proofs.lemmas.Nat.{mod_below}
 use Rattle.std.proofs.lemmas.Bool.{eq-eqb, ne_eqb}
 use Rattle.qcow2_metadata.specs.Bytes.{Bytes, byte_at}
@@ -9,11 +9,10 @@ use Rattle.qcow2_metadata.specs.Entries.{reftable_entry, block_offset, block_cou
 use Rattle.qcow2_metadata.specs.Named.{named_by_reftable}
 use Rattle.qcow2_metadata.specs.RefBlock.{RefBlockView, count_in, count_at, counts_of, ChangesCount}
 use Rattle.qcow2_metadata.specs.Tables.{CachedTable, known}
-use Rattle.qcow2_laws.specs.Clusters.{Direction}
 use Rattle.qcow2_laws.specs.Guard.{Pending, IsGuarded, SameCovers}
 use Rattle.qcow2_laws.specs.Steps.{block_of, CountRises, CountFalls}
 use Rattle.qcow2_laws.specs.Tops.{IsSameOutside}
-use Rattle.qcow2_laws.specs.Caches.{known_bytes, HasBlock}
+use Rattle.qcow2_laws.specs.Caches.{known_bytes, HasBlock, AreSettled}
 use Rattle.qcow2_laws.proofs.Places.{Sizes, block_count-moved, count_in as count_found}
 use Rattle.qcow2_laws.proofs.Lists.{known-at, known-none, changed_outside}
 use Rattle.qcow2_laws.proofs.Shares.{block_has}
@@ -29,6 +28,8 @@ use Rattle.qcow2_alloc.specs.KeptTables.{cached_table, cached_tables, AreKept, A
 use Rattle.qcow2_alloc.specs.MetadataCaches.{order_of, l2_tables, refblocks, known_of, AreSound, IsCountedAt, Made}
 use Rattle.qcow2_alloc.proofs.KeptTables.Entries.{tables_at}
 use Rattle.qcow2_alloc.proofs.KeptTables.Loaded.{in_own_cluster}
+use Rattle.qcow2_alloc.proofs.KeptTables.Settled.{blocks_stand, settled_in}
+use Rattle.qcow2_alloc.proofs.KeptTables.Standing.{AreStanding, stand_set, own_cluster}
 use Rattle.qcow2_alloc.proofs.KeptTables.Changing.{Held, held, loaded_apart, loaded_changed, list_knows, fit_set, fit_held}
 
 module _ {S : Type 0} (h : HeaderFields) (p : Pending) (base : Bytes) (caches : MetadataCaches S) (sound : AreSound h p caches base) (key index : ℕ) (v : RefBlockView)
@@ -179,18 +180,31 @@ module _ {S : Type 0} (h : HeaderFields) (p : Pending) (base : Bytes) (caches : 
           kept = rw new_list (record { kept = again; l2_loaded = kept.l2_loaded; rb_loaded = loaded' });
         })
 
+    -- the refblock is named, and the others are as they were
+    pub settled_again : AreSettled h (refblocks caches) base → AreSettled h (refblocks caches') base
+    settled_again settled =
+        let mine : IsBlockOf caches.rb.backend.header.fields w = let own = fit_held (IsBlockOf caches.rb.backend.header.fields) key there.front there.back v there.pins (subst (AllFit (IsBlockOf caches.rb.backend.header.fields)) there.is sound.rb_fit) in
+        record { bits = same_bits ∙ own.bits; order = same_order ∙ own.order } in
+        let own_key : (table w).place / cluster_size h ≡ key = ap (λ n. key * 2 ^ n / cluster_size h) sound.rb_format.bits ∙ own_cluster h.cluster_bits key in
+        let all = stand_set (λ (b : RefBlockView). b.is_modified) (IsBlockOf caches.rb.backend.header.fields) (HasBlock h base) key there.front there.back v w there.pins (record { fits = mine; named = λ _. subst (HasBlock h base) own_key (has w) })
+        (subst (AreStanding (λ (b : RefBlockView). b.is_modified) (IsBlockOf caches.rb.backend.header.fields) (HasBlock h base)) there.is (blocks_stand h p caches base sound settled)) in
+        rw rb_is (settled_in h base caches.rb.backend.header.fields.cluster_bits sound.rb_format.bits (IsBlockOf caches.rb.backend.header.fields) (set_at (eqb key) caches.rb.entries w)
+        (subst (AreStanding (λ (b : RefBlockView). b.is_modified) (IsBlockOf caches.rb.backend.header.fields) (HasBlock h base)) (sym (there.set w)) all))
+
     pub raised : ChangesCount v.refcount_order v.bytes w.bytes index (count_in v.refcount_order v.bytes index + 1) → count h (known_of h caches base) c ≡ 0
-        → Made (CountRises h (known_of h caches base) (known_of h caches' base) c) h caches' base
+        → Made (CountRises h (known_of h caches base) (known_of h caches' base) c) h caches caches' base
     raised changes free = record {
       change = count_rises h (known_of h caches base) (known_of h caches' base) c v.bytes w.bytes sizes at.real outside was now
           (rw (order_is, sym at.at) at changes) (ap (count_in h.refcount_order v.bytes) at.at ∙ ap (λ n. count_in n v.bytes index) (sym order_is) ∙ sym count_is ∙ free);
+      settled = settled_again;
       sound = sound_again;
     }
 
     pub lowered : ChangesCount v.refcount_order v.bytes w.bytes index (count_in v.refcount_order v.bytes index - 1) → 0 < count_in v.refcount_order v.bytes index
-        → Made (CountFalls h (known_of h caches base) (known_of h caches' base) c) h caches' base
+        → Made (CountFalls h (known_of h caches base) (known_of h caches' base) c) h caches caches' base
     lowered changes some = record {
       change = count_falls h (known_of h caches base) (known_of h caches' base) c v.bytes w.bytes sizes at.real outside was now
           (rw (order_is, sym at.at) at changes) (rw (order_is, sym at.at) at some);
+      settled = settled_again;
       sound = sound_again;
     }

@@ -1,18 +1,17 @@
 -- A table is brought to the front of a cache, loaded into it, or goes: all is kept, nothing known changes, and a stop is as safe as before.
-use Rattle.std.proofs.Common.{◌≡◌, ◌≢◌, ◌⊎◌, ℕ, ◌+◌, ◌*◌, ◌%◌, ◌^◌, ◌<◌, Bool, true, false, eqb, inl, inr, List, [], ◌∷◌, ◌++◌, Option, Some, None, Result, Ok, Err, length, refl, sym, ap, ◌∙◌, subst, arith}
+use Rattle.std.proofs.Common.{◌≡◌, ◌⊎◌, ℕ, ◌+◌, ◌*◌, ◌%◌, ◌^◌, ◌<◌, Bool, true, false, eqb, inl, inr, List, ◌∷◌, ◌++◌, Option, Some, None, Result, Ok, Err, refl, sym, ap, ◌∙◌, subst, arith}
 use Rattle.std.proofs.lemmas.Nat.{mod-mul-add, pow_pos}
 use Rattle.std.specs.Option.{option_map_or}
 use Rattle.std.specs.Map.{lookup, lookup_entry, remove_entry}
 use Rattle.lru.specs.LruCache.{promoted}
 use Rattle.lru.proofs.CallerLemmas.{Contains-lookup_entry}
-use Rattle.image_access.specs.Contents.{bytes_at}
-use Rattle.image_access.specs.Moments.{StorageView, Passing}
+use Rattle.image_access.specs.Moments.{StorageView}
 use Rattle.image_access.proofs.Bytes.{byte_at-bytes_at}
 use Rattle.image_access.proofs.Passing.{passes_if}
 use Rattle.qcow2_metadata.specs.Bytes.{Bytes, byte_at}
 use Rattle.qcow2_metadata.specs.declared.error.MetadataError.{MetadataError}
 use Rattle.qcow2_metadata.specs.Tables.{CachedTable}
-use Rattle.qcow2_laws.specs.Caches.{IsWrittenSo, IsSafeBetween}
+use Rattle.qcow2_laws.specs.Caches.{IsSafeBetween}
 use Rattle.qcow2_alloc.specs.declared.async_lru_cache.slot.Slot.{Slot}
 use Rattle.qcow2_alloc.specs.declared.async_lru_cache.error.CacheError.{CacheError}
 use Rattle.qcow2_alloc.specs.declared.async_lru_cache.error.CacheError.TheVariants.{InUse, StillInUse, Memory, Backend}
@@ -25,7 +24,7 @@ use Rattle.qcow2_alloc.proofs.CachedEntries.Lists.{lookup_none-removed}
 use Rattle.qcow2_alloc.proofs.KeptTables.Writing.{WritesOne, Flushed, flushed_none, flushed_then, flushed_entry}
 use Rattle.qcow2_alloc.proofs.KeptTables.Entries.{AreDistinct, away_from, split_oldest, split_found, tables_at, tables_both, removed_at, elsewhere_of_none}
 
-cluster_aligned : (k bits : ℕ) → k * 2 ^ bits % 2 ^ bits ≡ 0
+pub cluster_aligned : (k bits : ℕ) → k * 2 ^ bits % 2 ^ bits ≡ 0
 cluster_aligned k bits = let e : k * 2 ^ bits ≡ k * 2 ^ bits + 0 = omega arith in ap (λ m. m % 2 ^ bits) e ∙ mod-mul-add k (2 ^ bits) 0 (pow_pos bits)
 
 -- it holds what stands in its cluster, or what is known of it

@@ -1,5 +1,5 @@
 -- A table is put into the caches.
-use Rattle.std.proofs.Common.{◌≡◌, ◌≢◌, ◌⊎◌, ℕ, ◌+◌, ◌*◌, ◌<◌, ◌^◌, ◌%◌, Bool, true, false, eqb, List, [], ◌∷◌, ◌++◌, Option, Some, None, Result, Ok, Err, arith, refl, sym, ap, ◌∙◌, subst}
+use Rattle.std.proofs.Common.{◌≡◌, ℕ, ◌+◌, ◌*◌, ◌<◌, ◌^◌, ◌%◌, Bool, true, false, eqb, List, ◌∷◌, Option, Some, None, Result, Ok, Err, arith, refl, sym, ap, ◌∙◌, subst}
 use Rattle.std.specs.Option.{IfSome, IsNone, option_map}
 use Rattle.std.specs.Map.{lookup, lookup_entry, remove_entry}
 use Rattle.lru.proofs.CallerLemmas.{Contains-lookup_entry}
@@ -28,6 +28,8 @@ use Rattle.qcow2_alloc.specs.TableCaches.{l2_steps, rb_steps, cleared_l2, cleare
 use Rattle.qcow2_alloc.specs.KeptTables.{cached_tables, AllFit, AreElsewhere, AreKept}
 use Rattle.qcow2_alloc.specs.MetadataCaches.{HasFormat, order_of, l2_tables, refblocks, AreSound, StaySound, HoldsKnown}
 use Rattle.qcow2_alloc.proofs.CachedEntries.Lists.{lookup-from_entry}
+use Rattle.qcow2_alloc.proofs.KeptTables.Settled.{settled_beside, settled_anew, blocks_stand, block_place}
+use Rattle.qcow2_alloc.proofs.KeptTables.Standing.{insert_stands, replace_stands}
 use Rattle.qcow2_alloc.proofs.KeptTables.Writing.{Flushed}
 use Rattle.qcow2_alloc.proofs.KeptTables.Entries.{AreDistinct}
 use Rattle.qcow2_alloc.proofs.KeptTables.Fitting.{insert_fits, replace_fits}
@@ -35,11 +37,11 @@ use Rattle.qcow2_alloc.proofs.KeptTables.Listing.{loaded_distinct, l2_drop, l2_a
 use Rattle.qcow2_alloc.proofs.KeptTables.Getting.{HoldsWhatStands, insert_done, replace_done}
 use Rattle.qcow2_alloc.proofs.KeptTables.Flushing.{l2_step, rb_step, table_still, block_still}
 
-found_or_not : {X Y : Type 0} (o : Option X) → (o ≡ None → Y) → ((x : X) → o ≡ Some x → Y) → Y
+pub found_or_not : {X Y : Type 0} (o : Option X) → (o ≡ None → Y) → ((x : X) → o ≡ Some x → Y) → Y
 found_or_not None none some = none refl
 found_or_not (Some x) none some = some x refl
 
-lookup_none : {K X : Type 0} (test : K → Bool) (es : List (K × X)) → lookup_entry test es ≡ None → lookup test es ≡ None
+pub lookup_none : {K X : Type 0} (test : K → Bool) (es : List (K × X)) → lookup_entry test es ≡ None → lookup test es ≡ None
 lookup_none test es none = lookup-from_entry test es ∙ ap (option_map (λ (e : _). e.1)) none
 
 -- headers that say the same of tables
@@ -136,6 +138,7 @@ module _ {S : Type 0} (view : S → StorageView) (old new : ImageStorage S) (cac
           honest = f.honest;
           sound = record { l2_format = sound.l2_format; rb_format = sound.rb_format; l2_fit = fit; rb_fit = sound.rb_fit; kept = f.kept };
           known = f.known;
+          settled = settled_beside h (order_of caches) (order_of caches) p p (l2_tables caches) (refblocks caches) (cached_tables bits (λ (t : L2TableView). t.bytes) (λ t. t.is_modified) l2.entries) (refblocks caches) (byte_at (seen old).contents) (byte_at (seen new).contents) sound.kept f.kept f.known;
           since = f.since;
         })
 
@@ -186,5 +189,10 @@ module _ {S : Type 0} (view : S → StorageView) (old new : ImageStorage S) (cac
           honest = f.honest;
           sound = record { l2_format = sound.l2_format; rb_format = sound.rb_format; l2_fit = sound.l2_fit; rb_fit = fit; kept = f.kept };
           known = f.known;
+          settled = λ settled.
+              settled_anew h (order_of caches) (order_of caches) p p (l2_tables caches) (refblocks caches) (l2_tables caches) (cached_tables bits (λ (b : RefBlockView). b.bytes) (λ b. b.is_modified) rb.entries) (byte_at (seen old).contents) (byte_at (seen new).contents) sound.kept f.kept f.known bits sound.rb_format.bits (IsBlockOf caches.rb.backend.header.fields) rb.entries
+              (found_or_not (lookup_entry (eqb key) caches.rb.entries)
+              (λ none. insert_stands seen bits (λ (b : RefBlockView). b.bytes) (λ b. b.is_modified) cleared_rb (IsBlockOf caches.rb.backend.header.fields) (λ v. refl) (block_still caches.rb.backend.header.fields) (HasBlock h (byte_at (seen old).contents)) (block_place h (byte_at (seen old).contents) caches.rb.backend.header.fields.cluster_bits sound.rb_format.bits) caches.rb.size may_flush old new key v caches.rb.entries rb.entries answer left of_format clean (blocks_stand h p caches (byte_at (seen old).contents) sound settled) (rw is at (missing (rw (lookup_none (eqb key) caches.rb.entries none) refl))))
+              (λ e some. replace_stands seen bits (λ (b : RefBlockView). b.bytes) (λ b. b.is_modified) cleared_rb (IsBlockOf caches.rb.backend.header.fields) (λ v. refl) (block_still caches.rb.backend.header.fields) (HasBlock h (byte_at (seen old).contents)) (block_place h (byte_at (seen old).contents) caches.rb.backend.header.fields.cluster_bits sound.rb_format.bits) may_flush old new key v caches.rb.entries rb.entries e answer left some of_format clean (blocks_stand h p caches (byte_at (seen old).contents) sound settled) (rw is at (rw some at there))));
           since = f.since;
         })

@@ -1,12 +1,12 @@
 -- What caches hold, after one of their tables was written.
-use Rattle.std.proofs.Common.{◌≡◌, ◌≢◌, ℕ, ◌+◌, ◌-◌, ◌*◌, ◌/◌, ◌%◌, ◌<◌, ◌≤◌, Bool, true, false, ◌&&◌, inl, inr, List, [], ◌∷◌, ◌++◌, refl, sym, ap, ◌∙◌, subst, arith}
-use Rattle.std.proofs.lemmas.Bool.{cases_Bool, cases_eq}
+use Rattle.std.proofs.Common.{◌≡◌, ◌≢◌, ℕ, ◌+◌, ◌-◌, ◌*◌, ◌/◌, ◌%◌, ◌<◌, true, false, ◌&&◌, inl, inr, List, [], ◌∷◌, ◌++◌, sym, ap, ◌∙◌, subst, arith}
+use Rattle.std.proofs.lemmas.Bool.{cases_Bool}
 use Rattle.std.proofs.lemmas.Nat.{div-add-mod', div-mul-add}
 use Rattle.qcow2_metadata.specs.Bytes.{Bytes, is_within}
-use Rattle.qcow2_metadata.specs.Tables.{CachedTable, known, overlays}
+use Rattle.qcow2_metadata.specs.Tables.{CachedTable, overlays}
 use Rattle.qcow2_laws.specs.Guard.{SameIn}
-use Rattle.qcow2_laws.specs.Caches.{IsFreeAt, IsFreeOf, AreApart, IsWrittenSo}
-use Rattle.qcow2_laws.proofs.Lists.{known_there, known_elsewhere, known-none, unmodified_over, overlays_within, within_cluster, cluster_within, no_overlay, written_byte, differs}
+use Rattle.qcow2_laws.specs.Caches.{IsFreeAt, IsFreeOf, IsWrittenSo}
+use Rattle.qcow2_laws.proofs.Lists.{known_there, known-none, unmodified_over, overlays_within, within_cluster, cluster_within, no_overlay}
 use Rattle.qcow2_alloc.specs.KeptTables.{AreElsewhere, IsCurrent, AreLoaded}
 
 -- ---- places

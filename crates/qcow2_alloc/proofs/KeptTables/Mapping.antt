@@ -1,9 +1,9 @@
 -- One entry of a held L2 table changes.
-use Rattle.std.proofs.Common.{◌≡◌, ◌≢◌, ◌⊎◌, inl, inr, ℕ, ◌+◌, ◌*◌, ◌/◌, ◌%◌, ◌^◌, ◌<◌, ◌≤◌, Bool, true, false, eqb, List, [], ◌∷◌, ◌++◌, Option, Some, None, refl, sym, ap, ◌∙◌, subst, arith}
-use Rattle.qcow2_metadata.specs.Bytes.{Bytes, byte_at, number_at}
+use Rattle.std.proofs.Common.{◌≡◌, ℕ, ◌+◌, ◌*◌, ◌/◌, ◌%◌, ◌^◌, ◌<◌, ◌≤◌, true, eqb, List, [], ◌∷◌, ◌++◌, Option, Some, None, IfSome, refl, sym, ap, ◌∙◌, subst, arith}
+use Rattle.qcow2_metadata.specs.Bytes.{Bytes, byte_at}
 use Rattle.qcow2_metadata.specs.declared.header.HeaderFields.{HeaderFields}
 use Rattle.qcow2_metadata.specs.Header.{cluster_size, entries_per_cluster}
-use Rattle.qcow2_metadata.specs.Entries.{l1_entry, l2_entry, host_offset}
+use Rattle.qcow2_metadata.specs.Entries.{l2_entry, host_offset}
 use Rattle.qcow2_metadata.specs.Cover.{entry_cover}
 use Rattle.qcow2_metadata.specs.Named.{named_by_l1_table}
 use Rattle.qcow2_metadata.specs.L2Mapping.{dropped_run}
@@ -11,7 +11,6 @@ use Rattle.qcow2_metadata.specs.L2Table.{L2TableView, cover_at, entries_of}
 use Rattle.qcow2_metadata.specs.TableBytes.{entry_at, ChangesEntry}
 use Rattle.qcow2_metadata.specs.Tables.{CachedTable, known}
 use Rattle.qcow2_metadata.proofs.TableEntries.{number_at-moved}
-use Rattle.qcow2_laws.specs.Clusters.{Direction}
 use Rattle.qcow2_laws.specs.Guests.{table_at}
 use Rattle.qcow2_laws.specs.Guard.{Pending, IsGuarded}
 use Rattle.qcow2_laws.specs.Tops.{IsSameOutside}
@@ -26,7 +25,7 @@ use Rattle.qcow2_alloc.specs.declared.cache.MetadataCaches.{MetadataCaches}
 use Rattle.qcow2_alloc.specs.AsyncLruCache.{slot_of, value_at, set_at, with_entries}
 use Rattle.qcow2_alloc.specs.TableCaches.{IsTableOf}
 use Rattle.qcow2_alloc.specs.KeptTables.{cached_table, cached_tables, AreKept, AreLoaded, AllFit}
-use Rattle.qcow2_alloc.specs.MetadataCaches.{order_of, l2_tables, refblocks, known_of, AreSound, IsEntryAt, ChangesKnownEntry, MadeEntry}
+use Rattle.qcow2_alloc.specs.MetadataCaches.{order_of, l2_tables, refblocks, known_of, AreSound, IsEntryAt, MadeEntry, ShowsEntry, ShowsKnown}
 use Rattle.qcow2_alloc.proofs.KeptTables.Entries.{tables_at}
 use Rattle.qcow2_alloc.proofs.KeptTables.Loaded.{in_own_cluster}
 use Rattle.qcow2_alloc.proofs.KeptTables.Changing.{Held, held, loaded_apart, loaded_changed, list_knows, fit_set, fit_held}
@@ -120,6 +119,12 @@ module _ {S : Type 0} (h : HeaderFields) (p : Pending) (base : Bytes) (caches : 
   cover_is : (w : L2TableView) → IsTableOf caches.l2.backend.header.fields w → cover_at w index ≡ entry_cover h (entry_at w.bytes index)
   cover_is w fit = rw (fit.bits ∙ sound.l2_format.bits, fit.zero_bit ∙ sound.l2_format.zero_bit, fit.external ∙ sound.l2_format.external) refl
 
+  pub entry_shown : ShowsEntry h (known_of h caches base) i index v
+  entry_shown = record {
+    format = record { bits = bits_is; zero_bit = own_fit.zero_bit ∙ sound.l2_format.zero_bit; external = own_fit.external ∙ sound.l2_format.external };
+    entry = was index at.within;
+  }
+
   -- ---- another table in its place
   module _ (w : L2TableView) (marked : w.is_modified ≡ true) (same_bits : w.cluster_bits ≡ v.cluster_bits) (same_zero : w.has_zero_bit ≡ v.has_zero_bit) (same_external : w.data_is_external ≡ v.data_is_external)
       (caches' : MetadataCaches S) (l2_is : caches'.l2 ≡ with_entries caches.l2 (set_at (eqb key) caches.l2.entries w)) (rb_is : caches'.rb ≡ caches.rb) (direction_is : caches'.direction ≡ caches.direction) where
@@ -171,9 +176,15 @@ module _ {S : Type 0} (h : HeaderFields) (p : Pending) (base : Bytes) (caches : 
         others = λ k lt other. sym (now k lt) ∙ changes.others k other ∙ was k lt;
         is = sym (now index at.within) ∙ changes.entry_is;
       };
+      settled = rw rb_is (λ settled. settled);
       answered =
           answered ∙ ap (λ n. dropped_run n (cover_at v index) (cover_at w index)) bits_is
           ∙ ap (λ c. dropped_run h.cluster_bits c (cover_at w index)) (cover_is v own_fit ∙ ap (entry_cover h) (was index at.within))
           ∙ ap (dropped_run h.cluster_bits (entry_cover h (l2_entry (known_of h caches base) (table_at h (known_of h caches base) i) index))) (cover_is w fit' ∙ ap (entry_cover h) changes.entry_is);
       sound = sound_again;
     }
+
+-- what a peek shows
+pub shown_if : {S : Type 0} (caches : MetadataCaches S) (cluster : ℕ) (o : Option L2TableView) → o ≡ value_at (eqb cluster) caches.l2.entries → IfSome o (ShowsKnown caches cluster)
+shown_if caches cluster None is = tt
+shown_if caches cluster (Some t) is = λ h p base i index sound at. entry_shown h p base caches sound cluster index t (sym is) i at

@@ -1,8 +1,8 @@
 -- Calls of the caches one after another, and turns of the direction.
-use Rattle.std.proofs.Common.{◌≡◌, ◌⊎◌, inl, inr, ℕ, Result, Ok, Err, OnOk, refl, sym, ◌∙◌, subst}
+use Rattle.std.proofs.Common.{◌≡◌, ◌⊎◌, inl, inr, Result, Ok, Err, OnOk, refl, sym, ◌∙◌, subst}
 use Rattle.image_access.specs.Moments.{StorageView}
 use Rattle.image_access.proofs.Passing.{passes_none, passes_on}
-use Rattle.qcow2_metadata.specs.Bytes.{Bytes, byte_at}
+use Rattle.qcow2_metadata.specs.Bytes.{byte_at}
 use Rattle.qcow2_metadata.specs.declared.header.HeaderFields.{HeaderFields}
 use Rattle.qcow2_laws.specs.Stops.{IsKeptAt}
 use Rattle.qcow2_laws.specs.Clusters.{Direction, Neither, L2DependsOnRb, RbDependsOnL2}
@@ -23,6 +23,7 @@ module _ {S : Type 0} (view : S → StorageView) where
     honest = honest;
     sound = sound;
     known = refl;
+    settled = λ settled. settled;
     since = record { moments = passes_none (view (storage_of s)) _; contents = λ backing m ok known_ok. ok };
   }
 
@@ -35,6 +36,7 @@ module _ {S : Type 0} (view : S → StorageView) where
     honest = second.honest;
     sound = second.sound;
     known = second.known ∙ first.known;
+    settled = λ settled. second.settled (first.settled settled);
     since = record {
       moments = passes_on _ first.since.moments second.since.moments
           (λ l safe backing m ok known_ok. safe backing m (first.since.contents backing m ok known_ok) (subst (IsKeptAt backing m) (sym first.known) known_ok));
@@ -68,6 +70,7 @@ module _ {S : Type 0} (view : S → StorageView) where
           };
         };
         known = f.known;
+        settled = f.settled;
         since = f.since;
       }
 

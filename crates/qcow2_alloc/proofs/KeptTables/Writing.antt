@@ -1,6 +1,6 @@
 -- One cached table is written, and a whole cache is flushed: all is kept, nothing known changes, and a stop is as safe as before.
-use Rattle.std.proofs.Common.{◌≡◌, ◌≢◌, ℕ, ◌+◌, ◌-◌, ◌*◌, ◌/◌, ◌%◌, ◌^◌, ◌<◌, ◌≤◌, ◌⊎◌, Bool, true, false, ◌&&◌, cond, inl, inr, List, [], ◌∷◌, ◌++◌, Option, Some, None, length, refl, sym, ap, ◌∙◌, subst, append_assoc, arith}
-use Rattle.std.proofs.lemmas.Bool.{cases_Bool, cases_lt, and_from, le-leb, lt-ltb}
+use Rattle.std.proofs.Common.{◌≡◌, ℕ, ◌+◌, ◌-◌, ◌*◌, ◌/◌, ◌^◌, ◌<◌, ◌≤◌, ◌⊎◌, Bool, true, false, ◌&&◌, cond, inl, inr, List, [], ◌∷◌, ◌++◌, Option, Some, None, length, refl, sym, ap, ◌∙◌, subst, append_assoc, arith}
+use Rattle.std.proofs.lemmas.Bool.{cases_lt, and_from, le-leb, lt-ltb}
 use mathlib.Core.Path.{fun_ext}
 use Rattle.std.specs.Option.{option_or}
 use Rattle.image_access.specs.Contents.{overwritten}
@@ -11,23 +11,22 @@ use Rattle.qcow2_metadata.specs.Bytes.{Bytes, byte_at, is_within}
 use Rattle.qcow2_metadata.specs.declared.header.HeaderFields.{HeaderFields}
 use Rattle.qcow2_metadata.specs.declared.error.MetadataError.{MetadataError}
 use Rattle.qcow2_metadata.specs.Header.{cluster_size}
-use Rattle.qcow2_metadata.specs.Entries.{reftable_entry, host_offset, block_offset}
+use Rattle.qcow2_metadata.specs.Entries.{host_offset, block_offset}
 use Rattle.qcow2_metadata.specs.Named.{named_by_reftable, named_by_l1_table}
-use Rattle.qcow2_metadata.specs.Tables.{CachedTable, known, overlays}
-use Rattle.qcow2_laws.specs.Stops.{Mark, IsKeptAt}
+use Rattle.qcow2_metadata.specs.Tables.{CachedTable, known}
+use Rattle.qcow2_laws.specs.Stops.{IsKeptAt}
 use Rattle.qcow2_laws.specs.Clusters.{Direction}
-use Rattle.qcow2_laws.specs.Guests.{table_at}
-use Rattle.qcow2_laws.specs.Guard.{Pending, SameTop, SameIn}
+use Rattle.qcow2_laws.specs.Guard.{Pending, SameTop}
 use Rattle.qcow2_laws.specs.Caches.{known_bytes, AreClean, HasL2, HasBlock, IsKept, BlocksMayGo, TablesMayGo, IsWrittenSo, IsSafeBetween, Keeps}
 use Rattle.qcow2_laws.proofs.Tops.{SameTop-sym, SameTop-trans}
 use Rattle.qcow2_laws.proofs.Shares.{table_has, block_has}
 use Rattle.qcow2_laws.proofs.Caches.{rbs_free, l2s_free}
-use Rattle.qcow2_laws.proofs.Lists.{known-none, unmodified_over, within_is, differs}
+use Rattle.qcow2_laws.proofs.Lists.{within_is, differs}
 use Rattle.qcow2_laws.proofs.Steps.{table_is_written}
 use Rattle.qcow2_alloc.specs.declared.async_lru_cache.slot.Slot.{Slot}
 use Rattle.qcow2_alloc.specs.TableSteps.{FlushesTable, FailsToFlush, table_steps}
 use Rattle.qcow2_alloc.specs.CacheAnswers.{FlushesEntry, FlushesAll}
-use Rattle.qcow2_alloc.specs.KeptTables.{cached_table, cached_tables, AreLoaded, AreKept, IsSafeSince}
+use Rattle.qcow2_alloc.specs.KeptTables.{cached_table, cached_tables, AreKept, IsSafeSince}
 use Rattle.qcow2_alloc.proofs.KeptTables.Loaded.{stays_free, loaded_written, loaded_beside}
 
 -- ---- one table of either cache is written

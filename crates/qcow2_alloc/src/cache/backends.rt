@@ -83,8 +83,12 @@ impl<S: Storage> AsyncLruCacheBackend for L2CacheBackend<S> {
 }
 
 impl<S> L2CacheBackend<S> {
+    ghost use Rattle.std.specs.Prelude.{◌≡◌};
+
     /// For the tables of an image with this header.
-    pub(crate) fn new(header: &Header) -> L2CacheBackend<S> {
+    pub(crate) fn new(header: &Header) -> L2CacheBackend<S>
+        ensures { result.header.fields ≡ header.now.fields }
+    {
         L2CacheBackend {
             header: header.without_names(),
             storage: PhantomData,
@@ -169,8 +173,12 @@ impl<S: Storage> AsyncLruCacheBackend for RefBlockCacheBackend<S> {
 }
 
 impl<S> RefBlockCacheBackend<S> {
+    ghost use Rattle.std.specs.Prelude.{◌≡◌};
+
     /// For the tables of an image with this header.
-    pub(crate) fn new(header: &Header) -> RefBlockCacheBackend<S> {
+    pub(crate) fn new(header: &Header) -> RefBlockCacheBackend<S>
+        ensures { result.header.fields ≡ header.now.fields }
+    {
         RefBlockCacheBackend {
             header: header.without_names(),
             storage: PhantomData,

@@ -1,5 +1,18 @@
-use Rattle.std.proofs.Common.{◌≡◌}
+use Rattle.std.proofs.Common.{◌≡◌, ◌+◌, ◌-◌, Bool}
+use Rattle.qcow2_laws.specs.Guard.{Pending}
+use Rattle.qcow2_alloc.specs.Allocation.{run_at, taken_as, Becomes}
+use Rattle.qcow2_alloc.specs.CacheMarks.{KeepsMarks}
+use Rattle.qcow2_alloc.specs.declared.image_file.ImageFile.{ImageFile}
+use Rattle.qcow2_alloc.specs.MetadataCaches.{order_of}
 use Rattle.qcow2_alloc.proofs.allocation.Allocator.give_back.Given as goal
 
+-- the clusters before this one are given back
 abbrev pub invariant-lowering : goal.invariant-lowering
-invariant-lowering g l = l.file.header ≡ l.fn.file.header
+invariant-lowering g l = record {
+  header : l.file.header ≡ l.fn.file.header;
+  marks : KeepsMarks l.fn.file.caches l.file.caches;
+  order : order_of l.file.caches ≡ order_of l.fn.file.caches;
+  reftable : l.self.reftable ≡ l.fn.self.reftable;
+  sound : (p : Pending) (d : Bool) (start : ImageFile g.row.S.Denot) → Becomes g.S.Storage.view p start l.fn.self l.fn.file (taken_as d p (run_at l.fn.first l.fn.n))
+      → Becomes g.S.Storage.view p start l.self l.file (taken_as d p (run_at l.cluster (l.fn.first + l.fn.n - l.cluster)));
+}

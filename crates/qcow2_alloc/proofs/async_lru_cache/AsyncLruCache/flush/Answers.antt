@@ -1,6 +1,7 @@
 use Rattle.std.proofs.Common.{◌∙◌, arith}
 use Rattle.qcow2_alloc.proofs.CachedEntries.Flushing.{length_flushed}
 use Rattle.qcow2_alloc.proofs.CachedEntries.Knowing.{all_keeps}
+use Rattle.qcow2_alloc.proofs.CachedEntries.Pins.{all_keep_pins}
 use Rattle.qcow2_alloc.proofs.async_lru_cache.AsyncLruCache.flush.Goals as goal
 
 pub invariant_of-self : goal.invariant_of-self
@@ -11,3 +12,7 @@ invariant_of-self g c =
 pub returns-clause-known : goal.returns-clause-known
 returns-clause-known g c =
     rw (← c.self.view_is) (all_keeps g.met.B.Key.Eq.laws (g.met.B.AsyncLruCacheBackend.lawful c.self.inside.backend) c.args.store.now c.self.inside.entries.entries c.flush_all.result c.flush_all.new.store c.flush_all.new.entries.entries c.flush_all.ensures.distinct c.flush_all.ensures.flushed)
+
+pub returns-clause-pins : goal.returns-clause-pins
+returns-clause-pins g c =
+    rw (← c.self.view_is) (all_keep_pins g.B.Key.PartialEq.eq g.met.B.Key.Eq.laws (g.B.AsyncLruCacheBackend.steps c.self.inside.backend) c.args.store.now c.self.inside.entries.entries c.flush_all.result c.flush_all.new.store c.flush_all.new.entries.entries c.flush_all.ensures.flushed)

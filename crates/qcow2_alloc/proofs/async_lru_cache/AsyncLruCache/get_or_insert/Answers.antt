@@ -5,6 +5,7 @@ use Rattle.qcow2_alloc.specs.declared.async_lru_cache.slot.Slot.{Slot}
 use Rattle.qcow2_alloc.proofs.CachedEntries.Going.{front-promoted, hit_goes, gets_goes}
 use Rattle.qcow2_alloc.proofs.CachedEntries.Knowing.{hit_keeps, gets_keeps}
 use Rattle.qcow2_alloc.proofs.CachedEntries.Lists.{length-promoted, none_of, promoted_none}
+use Rattle.qcow2_alloc.proofs.CachedEntries.Pins.{pins_promoted, gets_keep_pins}
 use Rattle.qcow2_alloc.proofs.async_lru_cache.AsyncLruCache.get_or_insert.Goals as goal
 
 pub invariant_of-self : goal.invariant_of-self
@@ -63,3 +64,17 @@ returns-clause-known g c =
     let h = rw same at c.load_new.ensures.loads in
     let d = rw same at c.load_new.ensures.distinct in
     rw (← c.self.view_is) (gets_keeps g.met.B.Key.Eq.laws (g.met.B.AsyncLruCacheBackend.lawful c.self.inside.backend) c.self.inside.size c.args.may_flush c.args.key c.args.store.now c.load_new.new.store es c.load_new.new.entries.entries c.load_new.result d m h)
+
+pub returns-then-promote-clause-pins : goal.returns-then-promote-clause-pins
+returns-then-promote-clause-pins g c =
+    rw (← c.self.view_is, c.promote.ensures.entries) (pins_promoted g.B.Key.PartialEq.eq g.met.B.Key.Eq.laws c.self.inside.entries.entries c.args.key)
+
+pub returns-clause-pins : goal.returns-clause-pins
+returns-clause-pins g c =
+    let test = g.B.Key.PartialEq.eq c.args.key in
+    let es = c.self.inside.entries.entries in
+    let m : lookup test es ≡ None = none_of (sym (c.if-promote.false) ∙ c.promote.ensures.value) in
+    let same : c.promote.new.self.entries ≡ es = ap (λ (x : LruCache g.row.B-Key.Denot (Slot g.row.B-Value.Denot)). x.entries) c.promote.ensures.entries ∙ promoted_none test es m in
+    let h = rw same at c.load_new.ensures.loads in
+    let d = rw same at c.load_new.ensures.distinct in
+    rw (← c.self.view_is) (gets_keep_pins g.B.Key.PartialEq.eq g.met.B.Key.Eq.laws (g.B.AsyncLruCacheBackend.steps c.self.inside.backend) c.self.inside.size c.args.may_flush c.args.store.now es c.args.key c.load_new.result c.load_new.new.store c.load_new.new.entries.entries d m h)

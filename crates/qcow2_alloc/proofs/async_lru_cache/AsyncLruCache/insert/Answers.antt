@@ -1,7 +1,8 @@
-use Rattle.std.proofs.Common.{◌≡◌, None, not, sym, ap, ◌∙◌}
+use Rattle.std.proofs.Common.{◌≡◌, None, not, refl, sym, ap, ◌∙◌}
 use Rattle.std.specs.Map.{lookup}
 use Rattle.qcow2_alloc.proofs.CachedEntries.Knowing.{inserted, replaced}
 use Rattle.qcow2_alloc.proofs.CachedEntries.Lists.{none_of, entry_none}
+use Rattle.qcow2_alloc.proofs.CachedEntries.Pins.{pins_same, inserts_keep_pins, replaces_keep_pins}
 use Rattle.qcow2_alloc.proofs.async_lru_cache.AsyncLruCache.insert.Goals as goal
 
 pub returns-clause-there : goal.returns-clause-there
@@ -32,3 +33,15 @@ returns-clause-known g c =
     let m = none_of (sym (c.if-contains.false) ∙ c.contains.ensures) in
     let h = inserted g.met.B.Key.Eq.laws (g.met.B.AsyncLruCacheBackend.lawful c.self.inside.backend) c.self.inside.size c.args.may_flush c.args.key c.args.value.now c.args.store.now c.insert_new.new.store c.self.inside.entries.entries c.insert_new.new.entries.entries c.insert_new.new.value c.insert_new.result c.insert_new.ensures.distinct m (c.is_none.ensures ∙ ap not c.if-is_none.false) c.insert_new.ensures.inserts in
     rw (← c.self.view_is) h.known
+
+pub returns-then-is_none-clause-pins : goal.returns-then-is_none-clause-pins
+returns-then-is_none-clause-pins g c = pins_same g.B.Key.PartialEq.eq _ _ refl
+
+pub returns-then-contains-clause-pins : goal.returns-then-contains-clause-pins
+returns-then-contains-clause-pins g c =
+    rw (← c.self.view_is) (replaces_keep_pins g.B.Key.PartialEq.eq g.met.B.Key.Eq.laws (g.B.AsyncLruCacheBackend.steps c.self.inside.backend) c.args.may_flush c.args.store.now c.self.inside.entries.entries c.args.key c.replace_entry.new.store c.replace_entry.new.entries.entries c.replace_entry.new.value c.args.value.now c.replace_entry.result (sym c.contains.ensures ∙ c.if-contains.true) (c.is_none.ensures ∙ ap not c.if-is_none.false) c.replace_entry.ensures.replaces)
+
+pub returns-clause-pins : goal.returns-clause-pins
+returns-clause-pins g c =
+    let m = none_of (sym (c.if-contains.false) ∙ c.contains.ensures) in
+    rw (← c.self.view_is) (inserts_keep_pins g.B.Key.PartialEq.eq g.met.B.Key.Eq.laws (g.B.AsyncLruCacheBackend.steps c.self.inside.backend) c.self.inside.size c.args.may_flush c.args.store.now c.self.inside.entries.entries c.args.key c.args.value.now c.insert_new.result c.insert_new.new.store c.insert_new.new.entries.entries c.insert_new.new.value c.insert_new.ensures.distinct m (c.is_none.ensures ∙ ap not c.if-is_none.false) c.insert_new.ensures.inserts)

@@ -1,5 +1,8 @@
 use Rattle.std.proofs.Common.{inr, rules, ◌∙◌}
+use Rattle.qcow2_alloc.proofs.CacheMarks.{marks_then}
 use Rattle.qcow2_alloc.proofs.KeptTables.Turning.{tables_free, blocks_free, tables_clean, blocks_either, both_written, keep_then}
+use Rattle.qcow2_alloc.specs.ImageError.{IsFault}
+use Rattle.qcow2_alloc.proofs.KeptTables.Causes.{given_err}
 use Rattle.qcow2_alloc.proofs.cache.MetadataCaches.flush_all.Goals as goal
 
 pub returns-in_err-write_blocks-in-L2DependsOnRb-clause-keeps : goal.returns-in_err-write_blocks-in-L2DependsOnRb-clause-keeps
@@ -10,6 +13,8 @@ returns-in_err-write_tables-in-None g c = record {
   cause = search rules;
   order = search rules;
   written = search rules;
+  marks = search rules;
+  faults = λ h p honest sound settled. given_err c.from_residual-in_err-write_tables-in-None.result c.in_err-write_tables-in-None.field-0.0 IsFault c.from_residual-in_err-write_tables-in-None.ensures (c.in_err-write_tables-in-None.ensures.faults h p honest sound settled);
   keeps = c.write_tables-in-None.ensures.keeps (tables_free c.args.self.now c.in-None.is);
 }
 
@@ -24,8 +29,20 @@ returns-in_ok-write_tables-in-None g c = record {
   cause = search rules;
   order = search rules;
   written = both_written c.write_tables-in-None.new.self c.write_blocks-in-None.new.self c.write_blocks-in-None.result c.write_blocks-in-None.ensures.tables c.in_ok-write_tables-in-None.ensures.written c.write_blocks-in-None.ensures.written;
+  marks = marks_then c.args.self.now c.write_tables-in-None.new.self c.write_blocks-in-None.new.self c.write_tables-in-None.ensures.marks c.write_blocks-in-None.ensures.marks;
+  faults = λ h p honest sound settled.
+      let one = c.write_tables-in-None.ensures.keeps (tables_free c.args.self.now c.in-None.is) h p honest sound in
+      c.write_blocks-in-None.ensures.faults h p one.honest one.sound (one.settled settled);
   keeps =
       keep_then g.S.Storage.view c.args.storage.now c.write_tables-in-None.new.storage c.write_blocks-in-None.new.storage c.args.self.now c.write_tables-in-None.new.self c.write_blocks-in-None.new.self
       (c.write_tables-in-None.ensures.keeps (tables_free c.args.self.now c.in-None.is))
       (c.write_blocks-in-None.ensures.keeps (blocks_either c.write_tables-in-None.new.self c.args.self.now c.write_tables-in-None.ensures.direction c.in-None.is c.in_ok-write_tables-in-None.ensures.written));
 }
+
+pub returns-in_err-write_blocks-in-L2DependsOnRb-clause-faults : goal.returns-in_err-write_blocks-in-L2DependsOnRb-clause-faults
+returns-in_err-write_blocks-in-L2DependsOnRb-clause-faults g c = λ h p honest sound settled. given_err c.from_residual.result c.in_err-write_blocks-in-L2DependsOnRb.field-0.0 IsFault c.from_residual.ensures (c.in_err-write_blocks-in-L2DependsOnRb.ensures.faults h p honest sound settled)
+
+pub returns-in_ok-write_blocks-in-L2DependsOnRb-clause-faults : goal.returns-in_ok-write_blocks-in-L2DependsOnRb-clause-faults
+returns-in_ok-write_blocks-in-L2DependsOnRb-clause-faults g c = λ h p honest sound settled.
+    let one = c.write_blocks.ensures.keeps (blocks_free c.args.self.now (inr c.in-L2DependsOnRb.is)) h p honest sound in
+    c.write_tables.ensures.faults h p one.honest one.sound (one.settled settled)

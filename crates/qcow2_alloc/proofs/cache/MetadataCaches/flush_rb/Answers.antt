@@ -1,5 +1,7 @@
 use Rattle.std.proofs.Common.{inr, rules, ◌∙◌}
 use Rattle.qcow2_alloc.proofs.KeptTables.Turning.{tables_free, blocks_free, blocks_clean, blocks_still, always_ok, keep_then}
+use Rattle.qcow2_alloc.specs.ImageError.{IsFault}
+use Rattle.qcow2_alloc.proofs.KeptTables.Causes.{given_err}
 use Rattle.qcow2_alloc.proofs.cache.MetadataCaches.flush_rb.Goals as goal
 
 pub returns-in_err-write_tables-in-RbDependsOnL2-clause-keeps : goal.returns-in_err-write_tables-in-RbDependsOnL2-clause-keeps
@@ -16,6 +18,16 @@ returns-in-None g c = record {
   cause = search rules;
   order = search rules;
   written = search rules;
+  marks = search rules;
   first = always_ok c.write_blocks-in-None.result (blocks_still c.write_blocks-in-None.new.self c.args.self.now c.write_blocks-in-None.ensures.direction c.in-None.is);
+  faults = c.write_blocks-in-None.ensures.faults;
   keeps = c.write_blocks-in-None.ensures.keeps (blocks_free c.args.self.now c.in-None.is);
 }
+
+pub returns-in_err-write_tables-in-RbDependsOnL2-clause-faults : goal.returns-in_err-write_tables-in-RbDependsOnL2-clause-faults
+returns-in_err-write_tables-in-RbDependsOnL2-clause-faults g c = λ h p honest sound settled. given_err c.from_residual.result c.in_err-write_tables-in-RbDependsOnL2.field-0.0 IsFault c.from_residual.ensures (c.in_err-write_tables-in-RbDependsOnL2.ensures.faults h p honest sound settled)
+
+pub returns-in_ok-write_tables-in-RbDependsOnL2-clause-faults : goal.returns-in_ok-write_tables-in-RbDependsOnL2-clause-faults
+returns-in_ok-write_tables-in-RbDependsOnL2-clause-faults g c = λ h p honest sound settled.
+    let one = c.write_tables.ensures.keeps (tables_free c.args.self.now (inr c.in-RbDependsOnL2.is)) h p honest sound in
+    c.write_blocks.ensures.faults h p one.honest one.sound (one.settled settled)

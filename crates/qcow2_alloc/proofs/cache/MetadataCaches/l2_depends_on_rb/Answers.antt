@@ -1,7 +1,9 @@
-use Rattle.std.proofs.Common.{inl, inr, refl, ap, ◌∙◌}
+use Rattle.std.proofs.Common.{inl, inr, ap, ◌∙◌}
 use Rattle.qcow2_alloc.specs.declared.cache.Direction.TheVariants as D
 use Rattle.qcow2_alloc.specs.MetadataCaches.{order}
 use Rattle.qcow2_alloc.proofs.KeptTables.Turning.{tables_free, keep_none, keep_turned, may_l2_depend}
+use Rattle.qcow2_alloc.specs.ImageError.{IsFault}
+use Rattle.qcow2_alloc.proofs.KeptTables.Causes.{given_err}
 use Rattle.qcow2_alloc.proofs.cache.MetadataCaches.l2_depends_on_rb.Goals as goal
 use Rattle.qcow2_alloc.proofs.cache.MetadataCaches.l2_depends_on_rb.Goals.{in-L2DependsOnRb, in-None, in-RbDependsOnL2+in_ok-write_tables-in-RbDependsOnL2}
 
@@ -17,3 +19,6 @@ returns-clause-keeps g c = elim c.match-self.branch [
       (w.write_tables.ensures.keeps (tables_free c.args.self.now (inr w.in-RbDependsOnL2.is)))
       (may_l2_depend g.S.Storage.view w.write_tables.new.self w.write_tables.new.storage (inr (ap order (w.write_tables.ensures.direction ∙ w.in-RbDependsOnL2.is), w.in_ok-write_tables-in-RbDependsOnL2.ensures.written))))
 ]
+
+pub returns-in_err-write_tables-in-RbDependsOnL2-clause-faults : goal.returns-in_err-write_tables-in-RbDependsOnL2-clause-faults
+returns-in_err-write_tables-in-RbDependsOnL2-clause-faults g c = λ h p honest sound settled. given_err c.from_residual.result c.in_err-write_tables-in-RbDependsOnL2.field-0.0 IsFault c.from_residual.ensures (c.in_err-write_tables-in-RbDependsOnL2.ensures.faults h p honest sound settled)

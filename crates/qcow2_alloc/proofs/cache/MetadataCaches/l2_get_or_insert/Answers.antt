@@ -1,6 +1,14 @@
-use Rattle.std.proofs.Common.{true, false}
+use Rattle.std.proofs.Common.{true, false, inr, Ok, ap, ◌∙◌}
 use Rattle.qcow2_alloc.proofs.KeptTables.Fetching.{table_got}
 use Rattle.qcow2_alloc.proofs.KeptTables.Turning.{keep_then}
+use Rattle.qcow2_alloc.proofs.CacheMarks.{marks_tables, marks_then}
+use Rattle.qcow2_alloc.specs.ImageError.{of_cache}
+use Rattle.qcow2_alloc.proofs.KeptTables.Causes.{given_err, in_use_as, not_fetched, table_load_refused}
+use Rattle.qcow2_metadata.specs.Bytes.{byte_at}
+use Rattle.qcow2_alloc.specs.ImageStorage.{storage_of}
+use Rattle.qcow2_alloc.specs.CacheMarks.{IsInUseOrFault}
+use Rattle.qcow2_alloc.specs.AsyncLruCache.{with_entries}
+use Rattle.qcow2_alloc.specs.TableCaches.{l2_steps}
 use Rattle.qcow2_alloc.proofs.cache.MetadataCaches.l2_get_or_insert.Goals as goal
 
 pub returns-in_err-get_or_insert-clause-keeps : goal.returns-in_err-get_or_insert-clause-keeps
@@ -32,3 +40,32 @@ returns-clause-keeps g c =
     (table_got g.S.Storage.view c.args.storage.now c.get_or_insert.new.store c.args.self.now false c.args.cluster c.get_or_insert.new.self c.get_or_insert.ensures.others c.get_or_insert.result c.get_or_insert.ensures.hit c.get_or_insert.ensures.miss (λ flush. absurd (cc)))
     c.before_l2.ensures.keeps)
     (table_got g.S.Storage.view c.before_l2.new.storage c.get_or_insert-2.new.store c.before_l2.new.self true c.args.cluster c.get_or_insert-2.new.self c.get_or_insert-2.ensures.others c.get_or_insert-2.result c.get_or_insert-2.ensures.hit c.get_or_insert-2.ensures.miss (λ _. c.in_ok-before_l2.ensures.first))
+
+pub returns-in_err-before_l2-clause-marks : goal.returns-in_err-before_l2-clause-marks
+returns-in_err-before_l2-clause-marks g c =
+    marks_then c.args.self.now (record c.args.self.now { l2 = c.get_or_insert.new.self }) c.before_l2.new.self (marks_tables c.args.self.now c.get_or_insert.new.self c.get_or_insert.ensures.pins) c.before_l2.ensures.marks
+
+pub returns-in_err-get_or_insert-2-clause-marks : goal.returns-in_err-get_or_insert-2-clause-marks
+returns-in_err-get_or_insert-2-clause-marks g c =
+    marks_then c.args.self.now c.before_l2.new.self (record c.before_l2.new.self { l2 = c.get_or_insert-2.new.self })
+    (marks_then c.args.self.now (record c.args.self.now { l2 = c.get_or_insert.new.self }) c.before_l2.new.self (marks_tables c.args.self.now c.get_or_insert.new.self c.get_or_insert.ensures.pins) c.before_l2.ensures.marks)
+    (marks_tables c.before_l2.new.self c.get_or_insert-2.new.self c.get_or_insert-2.ensures.pins)
+
+pub returns-clause-marks : goal.returns-clause-marks
+returns-clause-marks g c =
+    marks_then c.args.self.now c.before_l2.new.self (record c.before_l2.new.self { l2 = c.get_or_insert-2.new.self })
+    (marks_then c.args.self.now (record c.args.self.now { l2 = c.get_or_insert.new.self }) c.before_l2.new.self (marks_tables c.args.self.now c.get_or_insert.new.self c.get_or_insert.ensures.pins) c.before_l2.ensures.marks)
+    (marks_tables c.before_l2.new.self c.get_or_insert-2.new.self c.get_or_insert-2.ensures.pins)
+
+pub returns-in_err-before_l2-clause-refusals : goal.returns-in_err-before_l2-clause-refusals
+returns-in_err-before_l2-clause-refusals g c = λ h here p honest sound settled.
+    let one = table_got g.S.Storage.view c.args.storage.now c.get_or_insert.new.store c.args.self.now false c.args.cluster c.get_or_insert.new.self c.get_or_insert.ensures.others c.get_or_insert.result c.get_or_insert.ensures.hit c.get_or_insert.ensures.miss (λ flush. absurd (cc)) h p honest sound in
+    given_err c.from_residual-in_err-before_l2.result c.in_err-before_l2.field-0.0 (IsInUseOrFault c.args.self.now) c.from_residual-in_err-before_l2.ensures (inr (c.in_err-before_l2.ensures.faults h p one.honest one.sound (one.settled settled)))
+
+pub returns-in_err-get_or_insert-2-clause-refusals : goal.returns-in_err-get_or_insert-2-clause-refusals
+returns-in_err-get_or_insert-2-clause-refusals g c = λ h here p honest sound settled.
+    let one = table_got g.S.Storage.view c.args.storage.now c.get_or_insert.new.store c.args.self.now false c.args.cluster c.get_or_insert.new.self c.get_or_insert.ensures.others c.get_or_insert.result c.get_or_insert.ensures.hit c.get_or_insert.ensures.miss (λ flush. absurd (cc)) h p honest sound in
+    let two = c.before_l2.ensures.keeps h p one.honest one.sound in
+    let same = c.get_or_insert.ensures.others ∙ ap (with_entries c.args.self.now.l2) (not_fetched (l2_steps (λ s. g.S.Storage.view (storage_of s)) c.args.self.now.l2.backend.header.fields) c.args.self.now.l2.size false c.args.cluster c.args.storage.now c.get_or_insert.new.store c.args.self.now.l2.entries c.get_or_insert.new.self.entries c.get_or_insert.result (c.in_ok-get_or_insert.was ∙ ap Ok c.if-branch.false) c.get_or_insert.ensures.hit c.get_or_insert.ensures.miss) in
+    given_err c.from_residual-in_err-get_or_insert-2.result (of_cache c.in_err-get_or_insert-2.field-0.0) (IsInUseOrFault c.args.self.now) c.from_residual-in_err-get_or_insert-2.ensures
+    (in_use_as c.args.self.now c.before_l2.new.self (of_cache c.in_err-get_or_insert-2.field-0.0) (c.before_l2.ensures.tables ∙ same) (table_load_refused g.S.Storage.view c.before_l2.new.storage c.get_or_insert-2.new.store c.before_l2.new.self h p (byte_at (g.S.Storage.view (storage_of c.before_l2.new.storage)).contents) two.sound true c.args.cluster c.get_or_insert-2.result c.in_err-get_or_insert-2.field-0.0 c.in_err-get_or_insert-2.was c.get_or_insert-2.new.self here c.get_or_insert-2.ensures.hit c.get_or_insert-2.ensures.miss))

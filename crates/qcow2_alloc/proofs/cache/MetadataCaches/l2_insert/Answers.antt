@@ -1,8 +1,15 @@
-use Rattle.std.proofs.Common.{true, false, Some, Ok, refl, sym, ap, ◌∙◌, ◌+◌, ◌*◌}
+use Rattle.std.proofs.Common.{true, false, inr, Some, Ok, refl, sym, ap, ◌∙◌, ◌+◌, ◌*◌}
 use Rattle.qcow2_alloc.proofs.KeptTables.Inserting.{table_put, l2_taken, taken_at_last, if_some}
-use Rattle.qcow2_metadata.specs.Bytes.{Bytes}
 use Rattle.qcow2_metadata.specs.Header.{cluster_size}
 use Rattle.qcow2_alloc.proofs.KeptTables.Turning.{stay_then}
+use Rattle.qcow2_alloc.proofs.CacheMarks.{marks_tables, marks_then}
+use Rattle.qcow2_alloc.specs.ImageError.{of_cache}
+use Rattle.qcow2_alloc.proofs.KeptTables.Causes.{given_err, in_use_as, not_put, table_put_refused}
+use Rattle.qcow2_metadata.specs.Bytes.{Bytes, byte_at}
+use Rattle.qcow2_alloc.specs.ImageStorage.{storage_of}
+use Rattle.qcow2_alloc.specs.CacheMarks.{IsInUseOrFault}
+use Rattle.qcow2_alloc.specs.AsyncLruCache.{with_entries}
+use Rattle.qcow2_alloc.specs.TableCaches.{l2_steps}
 use Rattle.qcow2_alloc.proofs.cache.MetadataCaches.l2_insert.Goals as goal
 
 pub returns-in_err-insert-clause-keeps : goal.returns-in_err-insert-clause-keeps
@@ -43,3 +50,37 @@ pub returns-clause-held : goal.returns-clause-held
 returns-clause-held g c =
     if_some _ c.args.table.cluster c.in-Some.cluster (sym c.get_cluster.ensures.value ∙ c.in-Some.is) (taken_at_last c.in-Some.cluster c.args.table c.insert-2.new.self.entries c.insert-2.result c.insert-2.new.value c.in_ok-insert-2.field-0 c.in_ok-insert-2.was
     (l2_taken g.S.Storage.view c.before_l2.new.storage c.insert-2.new.store c.before_l2.new.self true c.in-Some.cluster c.insert-2.new.self c.insert-2.ensures.others c.args.table c.insert.new.value c.insert-2.new.value ((l2_taken g.S.Storage.view c.args.storage.now c.insert.new.store c.args.self.now false c.in-Some.cluster c.insert.new.self c.insert.ensures.others c.args.table (Some c.args.table) c.insert.new.value refl c.insert.result c.insert.ensures.there c.insert.ensures.missing).kept (c.in_ok-insert.was ∙ ap Ok c.if-branch.false)) c.insert-2.result c.insert-2.ensures.there c.insert-2.ensures.missing))
+
+pub returns-in_err-before_l2-clause-marks : goal.returns-in_err-before_l2-clause-marks
+returns-in_err-before_l2-clause-marks g c =
+    marks_then c.args.self.now (record c.args.self.now { l2 = c.insert.new.self }) c.before_l2.new.self (marks_tables c.args.self.now c.insert.new.self c.insert.ensures.pins) c.before_l2.ensures.marks
+
+pub returns-in_err-insert-2-clause-marks : goal.returns-in_err-insert-2-clause-marks
+returns-in_err-insert-2-clause-marks g c =
+    marks_then c.args.self.now c.before_l2.new.self (record c.before_l2.new.self { l2 = c.insert-2.new.self })
+    (marks_then c.args.self.now (record c.args.self.now { l2 = c.insert.new.self }) c.before_l2.new.self (marks_tables c.args.self.now c.insert.new.self c.insert.ensures.pins) c.before_l2.ensures.marks)
+    (marks_tables c.before_l2.new.self c.insert-2.new.self c.insert-2.ensures.pins)
+
+pub returns-clause-marks : goal.returns-clause-marks
+returns-clause-marks g c =
+    marks_then c.args.self.now c.before_l2.new.self (record c.before_l2.new.self { l2 = c.insert-2.new.self })
+    (marks_then c.args.self.now (record c.args.self.now { l2 = c.insert.new.self }) c.before_l2.new.self (marks_tables c.args.self.now c.insert.new.self c.insert.ensures.pins) c.before_l2.ensures.marks)
+    (marks_tables c.before_l2.new.self c.insert-2.new.self c.insert-2.ensures.pins)
+
+pub returns-in_err-insert-clause-refusals : goal.returns-in_err-insert-clause-refusals
+returns-in_err-insert-clause-refusals g c = λ h p honest sound settled fits clean holds.
+    given_err c.from_residual.result (of_cache c.in_err-insert.field-0.0) (IsInUseOrFault c.args.self.now) c.from_residual.ensures
+    (table_put_refused g.S.Storage.view c.args.storage.now c.insert.new.store c.args.self.now h p (byte_at (g.S.Storage.view (storage_of c.args.storage.now)).contents) sound false c.in-Some.cluster c.insert.result c.in_err-insert.field-0.0 c.in_err-insert.was c.insert.new.self c.args.table (Some c.args.table) c.insert.new.value refl c.insert.ensures.there c.insert.ensures.missing)
+
+pub returns-in_err-before_l2-clause-refusals : goal.returns-in_err-before_l2-clause-refusals
+returns-in_err-before_l2-clause-refusals g c = λ h p honest sound settled fits clean holds.
+    let one = table_put g.S.Storage.view c.args.storage.now c.insert.new.store c.args.self.now false c.in-Some.cluster c.insert.new.self c.insert.ensures.others c.args.table (Some c.args.table) c.insert.new.value refl c.insert.result c.insert.ensures.there c.insert.ensures.missing (λ flush. absurd (cc)) h p honest sound fits clean (rw (sym c.get_cluster.ensures.value ∙ c.in-Some.is) at holds) in
+    given_err c.from_residual-in_err-before_l2.result c.in_err-before_l2.field-0.0 (IsInUseOrFault c.args.self.now) c.from_residual-in_err-before_l2.ensures (inr (c.in_err-before_l2.ensures.faults h p one.honest one.sound (one.settled settled)))
+
+pub returns-in_err-insert-2-clause-refusals : goal.returns-in_err-insert-2-clause-refusals
+returns-in_err-insert-2-clause-refusals g c = λ h p honest sound settled fits clean holds.
+    let one = table_put g.S.Storage.view c.args.storage.now c.insert.new.store c.args.self.now false c.in-Some.cluster c.insert.new.self c.insert.ensures.others c.args.table (Some c.args.table) c.insert.new.value refl c.insert.result c.insert.ensures.there c.insert.ensures.missing (λ flush. absurd (cc)) h p honest sound fits clean (rw (sym c.get_cluster.ensures.value ∙ c.in-Some.is) at holds) in
+    let two = c.before_l2.ensures.keeps h p one.honest one.sound in
+    let same = c.insert.ensures.others ∙ ap (with_entries c.args.self.now.l2) (not_put (l2_steps (λ s. g.S.Storage.view (storage_of s)) c.args.self.now.l2.backend.header.fields) c.args.self.now.l2.size false c.in-Some.cluster c.args.storage.now c.insert.new.store c.args.self.now.l2.entries c.insert.new.self.entries c.insert.result (c.in_ok-insert.was ∙ ap Ok c.if-branch.false) c.args.table (Some c.args.table) c.insert.new.value refl c.insert.ensures.there c.insert.ensures.missing) in
+    given_err c.from_residual-in_err-insert-2.result (of_cache c.in_err-insert-2.field-0.0) (IsInUseOrFault c.args.self.now) c.from_residual-in_err-insert-2.ensures
+    (in_use_as c.args.self.now c.before_l2.new.self (of_cache c.in_err-insert-2.field-0.0) (c.before_l2.ensures.tables ∙ same) (table_put_refused g.S.Storage.view c.before_l2.new.storage c.insert-2.new.store c.before_l2.new.self h p (byte_at (g.S.Storage.view (storage_of c.before_l2.new.storage)).contents) two.sound true c.in-Some.cluster c.insert-2.result c.in_err-insert-2.field-0.0 c.in_err-insert-2.was c.insert-2.new.self c.args.table c.insert.new.value c.insert-2.new.value ((l2_taken g.S.Storage.view c.args.storage.now c.insert.new.store c.args.self.now false c.in-Some.cluster c.insert.new.self c.insert.ensures.others c.args.table (Some c.args.table) c.insert.new.value refl c.insert.result c.insert.ensures.there c.insert.ensures.missing).kept (c.in_ok-insert.was ∙ ap Ok c.if-branch.false)) c.insert-2.ensures.there c.insert-2.ensures.missing))

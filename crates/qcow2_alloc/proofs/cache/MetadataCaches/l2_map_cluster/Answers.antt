@@ -1,9 +1,11 @@
-use Rattle.std.proofs.Common.{◌≡◌, ℕ, ◌<◌, ◌*◌, ◌^◌, Bool, true, false, IsTrue, ◌↔◌, refl, sym, ap, ◌∙◌, subst, arith}
+use Rattle.std.proofs.Common.{◌≡◌, ◌*◌, ◌^◌, Bool, false, eqb, IsTrue, ◌↔◌, refl, sym, ap, ◌∙◌, subst, arith}
 use Rattle.std.specs.Option.{option_copied_mut}
 use Rattle.qcow2_metadata.specs.L2Mapping.{IsHostCluster}
 use Rattle.qcow2_metadata.specs.L2Table.{L2TableView, copied_entry}
 use Rattle.qcow2_metadata.specs.TableBytes.{ChangesEntry}
 use Rattle.qcow2_alloc.proofs.KeptTables.Mapping.{bits_is, index_fits, entry_made}
+use Rattle.qcow2_alloc.proofs.CacheMarks.{marks_tables, marks_noted, set_keeps_pins}
+use Rattle.qcow2_alloc.specs.AsyncLruCache.{with_entries, set_at}
 use Rattle.qcow2_alloc.proofs.cache.MetadataCaches.l2_map_cluster.Goals as goal
 use Rattle.qcow2_alloc.proofs.cache.MetadataCaches.l2_map_cluster.Goals.{then-index-entries-via-then-index-entries, then-index-entries-via-else-index-entries+then-not-is_nameable}
 
@@ -31,3 +33,24 @@ returns-clause-mapped g c = λ h p base i sound at there host.
     (ap (λ (t : L2TableView). t.is_modified) same) (ap (λ (t : L2TableView). t.cluster_bits) same) (ap (λ (t : L2TableView). t.has_zero_bit) same) (ap (λ (t : L2TableView). t.data_is_external) same)
     _ refl refl refl (copied_entry (c.args.host * 2 ^ h.cluster_bits)) c.map_cluster.result
     (subst (λ n. ChangesEntry c.in_ok-table.table.now.bytes c.map_cluster.new.self.bytes c.args.index (copied_entry (c.args.host * 2 ^ n))) bits c.map_cluster.ensures.changed) c.map_cluster.ensures.dropped
+
+pub returns-then-index-entries-clause-noted : goal.returns-then-index-entries-clause-noted
+returns-then-index-entries-clause-noted g c = λ h p base i sound at there host.
+    let found = sym c.peek_mut.ensures.value ∙ ap option_copied_mut c.in_ok-table.was in
+    let fits = index_fits h p base c.args.self.now sound c.args.cluster c.args.index c.in_ok-table.table.now found i at in
+    let bits = c.cluster_bits-bits.ensures.value ∙ bits_is h p base c.args.self.now sound c.args.cluster c.args.index c.in_ok-table.table.now found i at in
+    elim c.then-index-entries.branch [
+      | then-index-entries-via-then-index-entries w ↦ absurd (let count = c.entries.ensures.value in let past = w.if-index-entries.true in omega arith)
+      | then-index-entries-via-else-index-entries+then-not-is_nameable w ↦ absurd (named w.is_nameable.result w.is_nameable.ensures (subst (λ n. IsHostCluster n c.args.host) (sym bits) host) w.if-not-is_nameable.true)
+    ]
+
+pub returns-then-index-entries-clause-marks : goal.returns-then-index-entries-clause-marks
+returns-then-index-entries-clause-marks g c = elim c.then-index-entries.branch [
+  | then-index-entries-via-then-index-entries w ↦ rw w.self-is (marks_tables c.args.self.now (with_entries c.args.self.now.l2 (set_at (eqb c.args.cluster) c.args.self.now.l2.entries c.in_ok-table.table.now)) (set_keeps_pins c.args.cluster c.args.self.now.l2.entries c.in_ok-table.table.now))
+  | then-index-entries-via-else-index-entries+then-not-is_nameable w ↦ rw w.self-is (marks_tables c.args.self.now (with_entries c.args.self.now.l2 (set_at (eqb c.args.cluster) c.args.self.now.l2.entries c.in_ok-table.table.now)) (set_keeps_pins c.args.cluster c.args.self.now.l2.entries c.in_ok-table.table.now))
+]
+
+pub returns-clause-marks : goal.returns-clause-marks
+returns-clause-marks g c =
+    marks_noted c.args.self.now (record c.args.self.now { l2 = with_entries c.args.self.now.l2 (set_at (eqb c.args.cluster) c.args.self.now.l2.entries c.map_cluster.new.self) })
+    (marks_tables c.args.self.now (with_entries c.args.self.now.l2 (set_at (eqb c.args.cluster) c.args.self.now.l2.entries c.map_cluster.new.self)) (set_keeps_pins c.args.cluster c.args.self.now.l2.entries c.map_cluster.new.self))

@@ -1,9 +1,10 @@
-use Rattle.std.proofs.Common.{eqb, refl, sym, ap, ◌∙◌}
+use Rattle.std.proofs.Common.{eqb, refl, sym, ap, ◌∙◌, arith}
 use Rattle.std.specs.Option.{option_copied_mut}
 use Rattle.qcow2_metadata.specs.RefBlock.{RefBlockView}
-use Rattle.qcow2_alloc.specs.AsyncLruCache.{with_entries, value_at}
+use Rattle.qcow2_alloc.specs.AsyncLruCache.{with_entries, set_at}
 use Rattle.qcow2_alloc.proofs.KeptTables.Changing.{set_same}
-use Rattle.qcow2_alloc.proofs.KeptTables.Counting.{lowered}
+use Rattle.qcow2_alloc.proofs.KeptTables.Counting.{index_fits, count_is, lowered}
+use Rattle.qcow2_alloc.proofs.CacheMarks.{marks_blocks, marks_noted, set_keeps_pins}
 use Rattle.qcow2_alloc.proofs.cache.MetadataCaches.rb_decrement.Goals as goal
 use Rattle.qcow2_alloc.proofs.cache.MetadataCaches.rb_decrement.Goals.{then-index-counts-via-then-index-counts, then-index-counts-via-else-index-counts+then-not-decrement}
 
@@ -22,3 +23,27 @@ returns-clause-counted g c = λ _ h p base k sound at.
     let found = sym c.peek_mut.ensures.value ∙ ap option_copied_mut c.in-Some.is in
     let same = c.decrement.ensures.same c.if-not-decrement.false in
     lowered h p base c.args.self.now sound c.args.cluster c.args.index c.in-Some.block.now found k at c.decrement.new.self (ap (λ (b : RefBlockView). b.is_modified) same) (ap (λ (b : RefBlockView). b.cluster_bits) same) (ap (λ (b : RefBlockView). b.refcount_order) same) _ refl refl refl (c.decrement.ensures.counted c.if-not-decrement.false) (c.decrement.ensures.some c.if-not-decrement.false)
+
+pub returns-then-index-counts-clause-marks : goal.returns-then-index-counts-clause-marks
+returns-then-index-counts-clause-marks g c = elim c.then-index-counts.branch [
+  | then-index-counts-via-then-index-counts w ↦ rw w.self-is (marks_blocks c.args.self.now (with_entries c.args.self.now.rb (set_at (eqb c.args.cluster) c.args.self.now.rb.entries c.in-Some.block.now)) refl (set_keeps_pins c.args.cluster c.args.self.now.rb.entries c.in-Some.block.now))
+  | then-index-counts-via-else-index-counts+then-not-decrement w ↦ rw w.self-is (marks_blocks c.args.self.now (with_entries c.args.self.now.rb (set_at (eqb c.args.cluster) c.args.self.now.rb.entries w.decrement.new.self)) refl (set_keeps_pins c.args.cluster c.args.self.now.rb.entries w.decrement.new.self))
+]
+
+pub returns-then-index-counts-clause-made : goal.returns-then-index-counts-clause-made
+returns-then-index-counts-clause-made g c = λ h p base k sound at there counted.
+    let found = sym c.peek_mut.ensures.value ∙ ap option_copied_mut c.in-Some.is in
+    absurd (elim c.then-index-counts.branch [
+      | then-index-counts-via-then-index-counts w ↦
+          let fits = index_fits h p base c.args.self.now sound c.args.cluster c.args.index c.in-Some.block.now found k at in
+          let count = c.counts.ensures.value in
+          let past = w.if-index-counts.true in
+          omega arith
+      | then-index-counts-via-else-index-counts+then-not-decrement w ↦
+          counted (count_is h p base c.args.self.now sound c.args.cluster c.args.index c.in-Some.block.now found k at ∙ w.decrement.ensures.empty w.if-not-decrement.true)
+    ])
+
+pub returns-clause-marks : goal.returns-clause-marks
+returns-clause-marks g c =
+    marks_noted c.args.self.now (record c.args.self.now { rb = with_entries c.args.self.now.rb (set_at (eqb c.args.cluster) c.args.self.now.rb.entries c.decrement.new.self) })
+    (marks_blocks c.args.self.now (with_entries c.args.self.now.rb (set_at (eqb c.args.cluster) c.args.self.now.rb.entries c.decrement.new.self)) refl (set_keeps_pins c.args.cluster c.args.self.now.rb.entries c.decrement.new.self))

@@ -1,7 +1,9 @@
-use Rattle.std.proofs.Common.{inl, inr, refl, ap, ◌∙◌}
+use Rattle.std.proofs.Common.{inl, inr, ap, ◌∙◌}
 use Rattle.qcow2_alloc.specs.declared.cache.Direction.TheVariants as D
 use Rattle.qcow2_alloc.specs.MetadataCaches.{order}
 use Rattle.qcow2_alloc.proofs.KeptTables.Turning.{blocks_free, keep_none, keep_turned, may_rb_depend}
+use Rattle.qcow2_alloc.specs.ImageError.{IsFault}
+use Rattle.qcow2_alloc.proofs.KeptTables.Causes.{given_err}
 use Rattle.qcow2_alloc.proofs.cache.MetadataCaches.rb_depends_on_l2.Goals as goal
 use Rattle.qcow2_alloc.proofs.cache.MetadataCaches.rb_depends_on_l2.Goals.{in-RbDependsOnL2, in-None, in-L2DependsOnRb+in_ok-write_blocks-in-L2DependsOnRb}
 
@@ -17,3 +19,6 @@ returns-clause-keeps g c = elim c.match-self.branch [
       (w.write_blocks.ensures.keeps (blocks_free c.args.self.now (inr w.in-L2DependsOnRb.is)))
       (may_rb_depend g.S.Storage.view w.write_blocks.new.self w.write_blocks.new.storage (inr (ap order (w.write_blocks.ensures.direction ∙ w.in-L2DependsOnRb.is), w.in_ok-write_blocks-in-L2DependsOnRb.ensures.written))))
 ]
+
+pub returns-in_err-write_blocks-in-L2DependsOnRb-clause-faults : goal.returns-in_err-write_blocks-in-L2DependsOnRb-clause-faults
+returns-in_err-write_blocks-in-L2DependsOnRb-clause-faults g c = λ h p honest sound settled. given_err c.from_residual.result c.in_err-write_blocks-in-L2DependsOnRb.field-0.0 IsFault c.from_residual.ensures (c.in_err-write_blocks-in-L2DependsOnRb.ensures.faults h p honest sound settled)

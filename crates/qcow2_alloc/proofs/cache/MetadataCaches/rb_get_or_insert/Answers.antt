@@ -1,6 +1,11 @@
 use Rattle.std.proofs.Common.{true, false}
 use Rattle.qcow2_alloc.proofs.KeptTables.Fetching.{block_got}
 use Rattle.qcow2_alloc.proofs.KeptTables.Turning.{keep_then}
+use Rattle.qcow2_alloc.proofs.CacheMarks.{marks_blocks, marks_then}
+use Rattle.qcow2_alloc.specs.ImageError.{of_cache, IsFault}
+use Rattle.qcow2_alloc.proofs.KeptTables.Causes.{given_err, block_load_refused}
+use Rattle.qcow2_metadata.specs.Bytes.{byte_at}
+use Rattle.qcow2_alloc.specs.ImageStorage.{storage_of}
 use Rattle.qcow2_alloc.proofs.cache.MetadataCaches.rb_get_or_insert.Goals as goal
 
 pub returns-in_err-get_or_insert-clause-keeps : goal.returns-in_err-get_or_insert-clause-keeps
@@ -32,3 +37,32 @@ returns-clause-keeps g c =
     (block_got g.S.Storage.view c.args.storage.now c.get_or_insert.new.store c.args.self.now false c.args.cluster c.get_or_insert.new.self c.get_or_insert.ensures.others c.get_or_insert.result c.get_or_insert.ensures.hit c.get_or_insert.ensures.miss (λ flush. absurd (cc)))
     c.before_rb.ensures.keeps)
     (block_got g.S.Storage.view c.before_rb.new.storage c.get_or_insert-2.new.store c.before_rb.new.self true c.args.cluster c.get_or_insert-2.new.self c.get_or_insert-2.ensures.others c.get_or_insert-2.result c.get_or_insert-2.ensures.hit c.get_or_insert-2.ensures.miss (λ _. c.in_ok-before_rb.ensures.first))
+
+pub returns-in_err-before_rb-clause-marks : goal.returns-in_err-before_rb-clause-marks
+returns-in_err-before_rb-clause-marks g c =
+    marks_then c.args.self.now (record c.args.self.now { rb = c.get_or_insert.new.self }) c.before_rb.new.self (marks_blocks c.args.self.now c.get_or_insert.new.self c.get_or_insert.ensures.others c.get_or_insert.ensures.pins) c.before_rb.ensures.marks
+
+pub returns-in_err-get_or_insert-2-clause-marks : goal.returns-in_err-get_or_insert-2-clause-marks
+returns-in_err-get_or_insert-2-clause-marks g c =
+    marks_then c.args.self.now c.before_rb.new.self (record c.before_rb.new.self { rb = c.get_or_insert-2.new.self })
+    (marks_then c.args.self.now (record c.args.self.now { rb = c.get_or_insert.new.self }) c.before_rb.new.self (marks_blocks c.args.self.now c.get_or_insert.new.self c.get_or_insert.ensures.others c.get_or_insert.ensures.pins) c.before_rb.ensures.marks)
+    (marks_blocks c.before_rb.new.self c.get_or_insert-2.new.self c.get_or_insert-2.ensures.others c.get_or_insert-2.ensures.pins)
+
+pub returns-clause-marks : goal.returns-clause-marks
+returns-clause-marks g c =
+    marks_then c.args.self.now c.before_rb.new.self (record c.before_rb.new.self { rb = c.get_or_insert-2.new.self })
+    (marks_then c.args.self.now (record c.args.self.now { rb = c.get_or_insert.new.self }) c.before_rb.new.self (marks_blocks c.args.self.now c.get_or_insert.new.self c.get_or_insert.ensures.others c.get_or_insert.ensures.pins) c.before_rb.ensures.marks)
+    (marks_blocks c.before_rb.new.self c.get_or_insert-2.new.self c.get_or_insert-2.ensures.others c.get_or_insert-2.ensures.pins)
+
+pub returns-in_err-before_rb-clause-faults : goal.returns-in_err-before_rb-clause-faults
+returns-in_err-before_rb-clause-faults g c = λ room h here p honest sound settled.
+    let one = block_got g.S.Storage.view c.args.storage.now c.get_or_insert.new.store c.args.self.now false c.args.cluster c.get_or_insert.new.self c.get_or_insert.ensures.others c.get_or_insert.result c.get_or_insert.ensures.hit c.get_or_insert.ensures.miss (λ flush. absurd (cc)) h p honest sound in
+    given_err c.from_residual-in_err-before_rb.result c.in_err-before_rb.field-0.0 IsFault c.from_residual-in_err-before_rb.ensures ((c.in_err-before_rb.ensures.faults h p one.honest one.sound (one.settled settled)))
+
+pub returns-in_err-get_or_insert-2-clause-faults : goal.returns-in_err-get_or_insert-2-clause-faults
+returns-in_err-get_or_insert-2-clause-faults g c = λ room h here p honest sound settled.
+    let one = block_got g.S.Storage.view c.args.storage.now c.get_or_insert.new.store c.args.self.now false c.args.cluster c.get_or_insert.new.self c.get_or_insert.ensures.others c.get_or_insert.result c.get_or_insert.ensures.hit c.get_or_insert.ensures.miss (λ flush. absurd (cc)) h p honest sound in
+    let two = c.before_rb.ensures.keeps h p one.honest one.sound in
+    let marks = marks_then c.args.self.now (record c.args.self.now { rb = c.get_or_insert.new.self }) c.before_rb.new.self (marks_blocks c.args.self.now c.get_or_insert.new.self c.get_or_insert.ensures.others c.get_or_insert.ensures.pins) c.before_rb.ensures.marks in
+    given_err c.from_residual-in_err-get_or_insert-2.result (of_cache c.in_err-get_or_insert-2.field-0.0) IsFault c.from_residual-in_err-get_or_insert-2.ensures
+    (block_load_refused g.S.Storage.view c.before_rb.new.storage c.get_or_insert-2.new.store c.before_rb.new.self h p (byte_at (g.S.Storage.view (storage_of c.before_rb.new.storage)).contents) two.sound true c.args.cluster c.get_or_insert-2.result c.in_err-get_or_insert-2.field-0.0 c.in_err-get_or_insert-2.was (marks.room room) (two.settled (one.settled settled)) c.get_or_insert-2.new.self here c.get_or_insert-2.ensures.hit c.get_or_insert-2.ensures.miss)

@@ -1,11 +1,21 @@
-use Rattle.std.proofs.Common.{eqb, refl, sym, ap, ◌∙◌}
+use Rattle.std.proofs.Common.{◌≡◌, ℕ, zero, suc, ◌+◌, ◌^◌, ◌<◌, pow-suc, eqb, refl, sym, ap, ◌∙◌, arith}
+use Rattle.std.proofs.lemmas.Nat.{pow_pos}
 use Rattle.std.specs.Option.{option_copied_mut}
-use Rattle.qcow2_metadata.specs.RefBlock.{RefBlockView}
-use Rattle.qcow2_alloc.specs.AsyncLruCache.{with_entries, value_at}
+use Rattle.qcow2_metadata.specs.RefBlock.{RefBlockView, count_at}
+use Rattle.qcow2_alloc.specs.AsyncLruCache.{with_entries, set_at}
 use Rattle.qcow2_alloc.proofs.KeptTables.Changing.{set_same}
-use Rattle.qcow2_alloc.proofs.KeptTables.Counting.{raised}
+use Rattle.qcow2_alloc.proofs.KeptTables.Counting.{index_fits, count_is, raised}
+use Rattle.qcow2_alloc.proofs.CacheMarks.{marks_blocks, marks_noted, set_keeps_pins}
 use Rattle.qcow2_alloc.proofs.cache.MetadataCaches.rb_increment.Goals as goal
 use Rattle.qcow2_alloc.proofs.cache.MetadataCaches.rb_increment.Goals.{then-index-counts-via-then-index-counts, then-index-counts-via-else-index-counts+then-not-increment}
+
+-- a count of 0 is none of the greatest
+not_full : (order n : ℕ) → n ≡ 0 → n + 1 ≡ 2 ^ (2 ^ order) → ⊥
+not_full order n none full = let a : 1 < 2 ^ (2 ^ order) = pow_more (2 ^ order) (pow_pos order) in omega arith
+  where
+    pow_more : (m : ℕ) → 0 < m → 1 < 2 ^ m
+    pow_more zero some = omega arith
+    pow_more (suc m) some = let p = pow_pos m in rw pow-suc (omega arith)
 
 pub returns-then-index-counts-clause-refused : goal.returns-then-index-counts-clause-refused
 returns-then-index-counts-clause-refused g c = λ _.
@@ -22,3 +32,28 @@ returns-clause-counted g c = λ _ h p base k sound at free.
     let found = sym c.peek_mut.ensures.value ∙ ap option_copied_mut c.in-Some.is in
     let same = c.increment.ensures.same c.if-not-increment.false in
     raised h p base c.args.self.now sound c.args.cluster c.args.index c.in-Some.block.now found k at c.increment.new.self (ap (λ (b : RefBlockView). b.is_modified) same) (ap (λ (b : RefBlockView). b.cluster_bits) same) (ap (λ (b : RefBlockView). b.refcount_order) same) _ refl refl refl (c.increment.ensures.counted c.if-not-increment.false) free
+
+pub returns-then-index-counts-clause-marks : goal.returns-then-index-counts-clause-marks
+returns-then-index-counts-clause-marks g c = elim c.then-index-counts.branch [
+  | then-index-counts-via-then-index-counts w ↦ rw w.self-is (marks_blocks c.args.self.now (with_entries c.args.self.now.rb (set_at (eqb c.args.cluster) c.args.self.now.rb.entries c.in-Some.block.now)) refl (set_keeps_pins c.args.cluster c.args.self.now.rb.entries c.in-Some.block.now))
+  | then-index-counts-via-else-index-counts+then-not-increment w ↦ rw w.self-is (marks_blocks c.args.self.now (with_entries c.args.self.now.rb (set_at (eqb c.args.cluster) c.args.self.now.rb.entries w.increment.new.self)) refl (set_keeps_pins c.args.cluster c.args.self.now.rb.entries w.increment.new.self))
+]
+
+pub returns-then-index-counts-clause-made : goal.returns-then-index-counts-clause-made
+returns-then-index-counts-clause-made g c = λ h p base k sound at there counted.
+    let found = sym c.peek_mut.ensures.value ∙ ap option_copied_mut c.in-Some.is in
+    absurd (elim c.then-index-counts.branch [
+      | then-index-counts-via-then-index-counts w ↦
+          let fits = index_fits h p base c.args.self.now sound c.args.cluster c.args.index c.in-Some.block.now found k at in
+          let count = c.counts.ensures.value in
+          let past = w.if-index-counts.true in
+          omega arith
+      | then-index-counts-via-else-index-counts+then-not-increment w ↦
+          let is : count_at c.in-Some.block.now c.args.index ≡ 0 = sym (count_is h p base c.args.self.now sound c.args.cluster c.args.index c.in-Some.block.now found k at) ∙ counted in
+          not_full c.in-Some.block.now.refcount_order (count_at c.in-Some.block.now c.args.index) is (w.increment.ensures.full w.if-not-increment.true)
+    ])
+
+pub returns-clause-marks : goal.returns-clause-marks
+returns-clause-marks g c =
+    marks_noted c.args.self.now (record c.args.self.now { rb = with_entries c.args.self.now.rb (set_at (eqb c.args.cluster) c.args.self.now.rb.entries c.increment.new.self) })
+    (marks_blocks c.args.self.now (with_entries c.args.self.now.rb (set_at (eqb c.args.cluster) c.args.self.now.rb.entries c.increment.new.self)) refl (set_keeps_pins c.args.cluster c.args.self.now.rb.entries c.increment.new.self))

@@ -1,8 +1,12 @@
 use Rattle.std.proofs.Common.{true, false, Some, Ok, refl, sym, ap, ◌∙◌, ◌+◌, ◌*◌}
 use Rattle.qcow2_alloc.proofs.KeptTables.Inserting.{block_put, rb_taken, taken_at_last, if_some}
-use Rattle.qcow2_metadata.specs.Bytes.{Bytes}
 use Rattle.qcow2_metadata.specs.Header.{cluster_size}
 use Rattle.qcow2_alloc.proofs.KeptTables.Turning.{stay_then}
+use Rattle.qcow2_alloc.proofs.CacheMarks.{marks_blocks, marks_then}
+use Rattle.qcow2_alloc.specs.ImageError.{of_cache, IsFault}
+use Rattle.qcow2_alloc.proofs.KeptTables.Causes.{given_err, block_put_refused}
+use Rattle.qcow2_metadata.specs.Bytes.{Bytes, byte_at}
+use Rattle.qcow2_alloc.specs.ImageStorage.{storage_of}
 use Rattle.qcow2_alloc.proofs.cache.MetadataCaches.rb_insert.Goals as goal
 
 pub returns-in_err-insert-clause-keeps : goal.returns-in_err-insert-clause-keeps
@@ -43,3 +47,37 @@ pub returns-clause-held : goal.returns-clause-held
 returns-clause-held g c =
     if_some _ c.args.block.cluster c.in-Some.cluster (sym c.get_cluster.ensures.value ∙ c.in-Some.is) (taken_at_last c.in-Some.cluster c.args.block c.insert-2.new.self.entries c.insert-2.result c.insert-2.new.value c.in_ok-insert-2.field-0 c.in_ok-insert-2.was
     (rb_taken g.S.Storage.view c.before_rb.new.storage c.insert-2.new.store c.before_rb.new.self true c.in-Some.cluster c.insert-2.new.self c.insert-2.ensures.others c.args.block c.insert.new.value c.insert-2.new.value ((rb_taken g.S.Storage.view c.args.storage.now c.insert.new.store c.args.self.now false c.in-Some.cluster c.insert.new.self c.insert.ensures.others c.args.block (Some c.args.block) c.insert.new.value refl c.insert.result c.insert.ensures.there c.insert.ensures.missing).kept (c.in_ok-insert.was ∙ ap Ok c.if-branch.false)) c.insert-2.result c.insert-2.ensures.there c.insert-2.ensures.missing))
+
+pub returns-in_err-before_rb-clause-marks : goal.returns-in_err-before_rb-clause-marks
+returns-in_err-before_rb-clause-marks g c =
+    marks_then c.args.self.now (record c.args.self.now { rb = c.insert.new.self }) c.before_rb.new.self (marks_blocks c.args.self.now c.insert.new.self c.insert.ensures.others c.insert.ensures.pins) c.before_rb.ensures.marks
+
+pub returns-in_err-insert-2-clause-marks : goal.returns-in_err-insert-2-clause-marks
+returns-in_err-insert-2-clause-marks g c =
+    marks_then c.args.self.now c.before_rb.new.self (record c.before_rb.new.self { rb = c.insert-2.new.self })
+    (marks_then c.args.self.now (record c.args.self.now { rb = c.insert.new.self }) c.before_rb.new.self (marks_blocks c.args.self.now c.insert.new.self c.insert.ensures.others c.insert.ensures.pins) c.before_rb.ensures.marks)
+    (marks_blocks c.before_rb.new.self c.insert-2.new.self c.insert-2.ensures.others c.insert-2.ensures.pins)
+
+pub returns-clause-marks : goal.returns-clause-marks
+returns-clause-marks g c =
+    marks_then c.args.self.now c.before_rb.new.self (record c.before_rb.new.self { rb = c.insert-2.new.self })
+    (marks_then c.args.self.now (record c.args.self.now { rb = c.insert.new.self }) c.before_rb.new.self (marks_blocks c.args.self.now c.insert.new.self c.insert.ensures.others c.insert.ensures.pins) c.before_rb.ensures.marks)
+    (marks_blocks c.before_rb.new.self c.insert-2.new.self c.insert-2.ensures.others c.insert-2.ensures.pins)
+
+pub returns-in_err-insert-clause-faults : goal.returns-in_err-insert-clause-faults
+returns-in_err-insert-clause-faults g c = λ room h p honest sound settled fits clean holds.
+    given_err c.from_residual.result (of_cache c.in_err-insert.field-0.0) IsFault c.from_residual.ensures
+    (block_put_refused g.S.Storage.view c.args.storage.now c.insert.new.store c.args.self.now h p (byte_at (g.S.Storage.view (storage_of c.args.storage.now)).contents) sound false c.in-Some.cluster c.insert.result c.in_err-insert.field-0.0 c.in_err-insert.was room settled c.insert.new.self c.args.block (Some c.args.block) c.insert.new.value refl c.insert.ensures.there c.insert.ensures.missing)
+
+pub returns-in_err-before_rb-clause-faults : goal.returns-in_err-before_rb-clause-faults
+returns-in_err-before_rb-clause-faults g c = λ room h p honest sound settled fits clean holds.
+    let one = block_put g.S.Storage.view c.args.storage.now c.insert.new.store c.args.self.now false c.in-Some.cluster c.insert.new.self c.insert.ensures.others c.args.block (Some c.args.block) c.insert.new.value refl c.insert.result c.insert.ensures.there c.insert.ensures.missing (λ flush. absurd (cc)) h p honest sound fits clean (rw (sym c.get_cluster.ensures.value ∙ c.in-Some.is) at holds) in
+    given_err c.from_residual-in_err-before_rb.result c.in_err-before_rb.field-0.0 IsFault c.from_residual-in_err-before_rb.ensures ((c.in_err-before_rb.ensures.faults h p one.honest one.sound (one.settled settled)))
+
+pub returns-in_err-insert-2-clause-faults : goal.returns-in_err-insert-2-clause-faults
+returns-in_err-insert-2-clause-faults g c = λ room h p honest sound settled fits clean holds.
+    let one = block_put g.S.Storage.view c.args.storage.now c.insert.new.store c.args.self.now false c.in-Some.cluster c.insert.new.self c.insert.ensures.others c.args.block (Some c.args.block) c.insert.new.value refl c.insert.result c.insert.ensures.there c.insert.ensures.missing (λ flush. absurd (cc)) h p honest sound fits clean (rw (sym c.get_cluster.ensures.value ∙ c.in-Some.is) at holds) in
+    let two = c.before_rb.ensures.keeps h p one.honest one.sound in
+    let marks = marks_then c.args.self.now (record c.args.self.now { rb = c.insert.new.self }) c.before_rb.new.self (marks_blocks c.args.self.now c.insert.new.self c.insert.ensures.others c.insert.ensures.pins) c.before_rb.ensures.marks in
+    given_err c.from_residual-in_err-insert-2.result (of_cache c.in_err-insert-2.field-0.0) IsFault c.from_residual-in_err-insert-2.ensures
+    (block_put_refused g.S.Storage.view c.before_rb.new.storage c.insert-2.new.store c.before_rb.new.self h p (byte_at (g.S.Storage.view (storage_of c.before_rb.new.storage)).contents) two.sound true c.in-Some.cluster c.insert-2.result c.in_err-insert-2.field-0.0 c.in_err-insert-2.was (marks.room room) (two.settled (one.settled settled)) c.insert-2.new.self c.args.block c.insert.new.value c.insert-2.new.value ((rb_taken g.S.Storage.view c.args.storage.now c.insert.new.store c.args.self.now false c.in-Some.cluster c.insert.new.self c.insert.ensures.others c.args.block (Some c.args.block) c.insert.new.value refl c.insert.result c.insert.ensures.there c.insert.ensures.missing).kept (c.in_ok-insert.was ∙ ap Ok c.if-branch.false)) c.insert-2.ensures.there c.insert-2.ensures.missing)

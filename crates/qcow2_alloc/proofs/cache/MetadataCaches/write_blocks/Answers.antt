@@ -1,4 +1,8 @@
 use Rattle.qcow2_alloc.proofs.KeptTables.Flushing.{blocks_flushed, blocks_written}
+use Rattle.qcow2_alloc.specs.ImageError.{of_cache, IsFault}
+use Rattle.qcow2_alloc.proofs.KeptTables.Causes.{given_err, blocks_flush_refused}
+use Rattle.qcow2_metadata.specs.Bytes.{byte_at}
+use Rattle.qcow2_alloc.specs.ImageStorage.{storage_of}
 use Rattle.qcow2_alloc.proofs.cache.MetadataCaches.write_blocks.Goals as goal
 
 pub returns-in_err-flush-clause-keeps : goal.returns-in_err-flush-clause-keeps
@@ -9,3 +13,8 @@ returns-clause-written g c = blocks_written g.S.Storage.view c.args.storage.now 
 
 pub returns-clause-keeps : goal.returns-clause-keeps
 returns-clause-keeps g c = blocks_flushed g.S.Storage.view c.args.storage.now c.flush.new.store c.args.self.now c.flush.new.self c.flush.ensures.others c.flush.result c.flush.ensures.flushed
+
+pub returns-in_err-flush-clause-faults : goal.returns-in_err-flush-clause-faults
+returns-in_err-flush-clause-faults g c = λ h p honest sound settled.
+    given_err c.from_residual.result (of_cache c.in_err-flush.field-0.0) IsFault c.from_residual.ensures
+    (blocks_flush_refused g.S.Storage.view c.args.storage.now c.flush.new.store c.args.self.now h p (byte_at (g.S.Storage.view (storage_of c.args.storage.now)).contents) sound settled c.flush.new.self c.flush.result c.flush.ensures.flushed c.in_err-flush.field-0.0 c.in_err-flush.was)

@@ -1,8 +1,15 @@
-use Rattle.std.proofs.Common.{◌-◌, ◌≤◌, ◌^◌}
+use Rattle.std.proofs.Common.{ℕ, ◌-◌, ◌+◌, ◌*◌, ◌<◌}
+use Rattle.qcow2_metadata.specs.L2Table.{L2TableView}
+use Rattle.qcow2_image.specs.Found.{AreAlikeBehind}
 use Rattle.qcow2_image.proofs.image.Qcow2.alike_behind.Given as goal
 
-abbrev pub invariant-loop-length : goal.invariant-loop-length
-invariant-loop-length g l = l.length ≤ 2 ^ 41
+-- so many clusters behind are alike
+pub record Passed (table : L2TableView) (cluster max size count : ℕ) : Type 0 where
+  pub near : count * size < max + size
+  pub alike : AreAlikeBehind table cluster count
 
-abbrev pub decreases-loop-length : goal.decreases-loop-length
-decreases-loop-length g l = l.max - l.length
+abbrev pub invariant-loop-count : goal.invariant-loop-count
+invariant-loop-count g l = Passed l.table l.cluster l.max l.size l.count
+
+abbrev pub decreases-loop-count : goal.decreases-loop-count
+decreases-loop-count g l = l.max - l.count * l.size

@@ -1,0 +1,120 @@
+-- Loading refblocks, and taking and giving back one cluster.
+use Rattle.std.proofs.Common.{◌≡◌, ◌≢◌, ℕ, ◌+◌, ◌*◌, ◌/◌, ◌%◌, ◌^◌, ◌<◌, Bool, true, false, List, length, Some, None, Result, Ok, Err, IsErr, IsErrAnd, IsSome, sym, ap, ◌∙◌, subst, arith}
+use Rattle.std.proofs.lemmas.Nat.{mod_below, pow_pos}
+use Rattle.image_access.specs.Moments.{StorageView}
+use Rattle.qcow2_metadata.specs.Bytes.{byte_at}
+use Rattle.qcow2_metadata.specs.declared.header.HeaderFields.{HeaderFields}
+use Rattle.qcow2_metadata.specs.EntryTable.{EntryTableView, entry_table, NamesRefTable, IsRefTableOf}
+use Rattle.qcow2_metadata.specs.TableBytes.{entry_at, HasPlace}
+use Rattle.qcow2_metadata.specs.Header.{cluster_size, counts_per_block, reftable_entries}
+use Rattle.qcow2_metadata.specs.Entries.{reftable_entry, block_offset, count}
+use Rattle.qcow2_laws.specs.Changes.{one_at}
+use Rattle.qcow2_laws.specs.Guard.{Pending}
+use Rattle.qcow2_laws.proofs.Places.{count_none}
+use Rattle.qcow2_alloc.specs.declared.allocation.Allocator.{Allocator}
+use Rattle.qcow2_alloc.specs.declared.cache.MetadataCaches.{MetadataCaches}
+use Rattle.qcow2_alloc.specs.declared.image_file.ImageFile.{ImageFile}
+use Rattle.qcow2_alloc.specs.Allocation.{taken_as, MayTake, StandsAt, Becomes}
+use Rattle.qcow2_alloc.specs.CacheMarks.{KeepsMarks}
+use Rattle.qcow2_alloc.specs.ImageFile.{view_in, contents_in, known_in, IsSoundFile, HasReftable}
+use Rattle.qcow2_alloc.specs.MetadataCaches.{order_of, rb_at, IsCountedAt, RaisesCount, LowersCount}
+use Rattle.qcow2_alloc.specs.declared.image_storage.ImageStorage.{ImageStorage}
+use Rattle.qcow2_alloc.specs.ImageStorage.{storage_of}
+use Rattle.qcow2_alloc.proofs.KeptTables.Standing.{own_cluster}
+use Rattle.qcow2_alloc.proofs.FileSteps.{one_here, moves_then, reftable_counted, moves_raised, moves_lowered}
+
+-- what a `?` hands on
+pub handed_on : {A E : Type 0} (P : Result A E → Type 0) (r : Result A E) (e : E) → IsErr r × IsErrAnd r (λ x. x ≡ e) → P (Err e) → P r
+handed_on P (Ok x) e is holds = absurd (let bad = is.0 in cc)
+handed_on P (Err x) e is holds = subst (λ y. P (Err y)) (sym is.1) holds
+
+-- what holds of one answer holds of an equal one
+pub of_equal : {A B : Type 0} (P : A → B → Type 0) (a a' : A) (b b' : B) → a ≡ a' → b ≡ b' → P a' b' → P a b
+of_equal P a a' b b' same_a same_b holds = subst (λ x. P x b) (sym same_a) (subst (P a') (sym same_b) holds)
+
+pub may_still : {S : Type 0} (d : Bool) (a b : ImageFile S) → order_of b.caches ≡ order_of a.caches → MayTake d a → MayTake d b
+may_still true a b same may = same ∙ may
+may_still false a b same may = tt
+
+module _ {S : Type 0} (view : S → StorageView) where
+  -- ---- the refblock of a range
+  pub stands : (p : Pending) (file : ImageFile S) (t : EntryTableView) → IsSoundFile view p file → HasReftable view file t → (range offset cluster bits : ℕ) → offset ≡ block_offset (entry_at t.bytes range) → 0 < offset
+      → cluster * 2 ^ bits ≡ offset → bits ≡ file.header.fields.cluster_bits → IsSome (rb_at file.caches cluster) → StandsAt view file range (Some cluster)
+  stands p file t sound has range offset cluster bits is some at same there =
+      let known : offset ≡ block_offset (reftable_entry file.header.fields (known_in view file) range) =
+      is ∙ ap block_offset (has.entries range ∙ sound.caches.kept.kept.guarded.same_top.reftable range) in (
+        (λ none. let zero : offset ≡ 0 = known ∙ none in omega arith),
+        sym known ∙ sym at ∙ ap (λ n. cluster * 2 ^ n) same,
+        there,
+      )
+
+  -- 64 bits hold where it stands
+  pub place_fits : (entry offset cluster bits header_bits : ℕ) → offset ≡ block_offset entry → cluster * 2 ^ bits ≡ offset → bits ≡ header_bits → HasPlace header_bits cluster
+  place_fits entry offset cluster bits header_bits is at same =
+      let low : entry / 2 ^ 9 % 2 ^ 55 < 2 ^ 55 = mod_below (entry / 2 ^ 9) (2 ^ 55) (pow_pos 55) in
+      subst (λ n. HasPlace n cluster) same (omega arith)
+
+  -- a cluster's count stands there
+  pub counted_at : (file : ImageFile S) (header : HeaderFields) → file.header.fields ≡ header → (cluster range block index bits : ℕ) → StandsAt view file range (Some block) → counts_per_block header ≡ 2 ^ bits
+      → range ≡ cluster / 2 ^ bits → index ≡ cluster % 2 ^ bits → IsCountedAt file.header.fields (known_in view file) cluster block index
+  counted_at file header is cluster range block index bits at counts in_range in_block =
+      let per : counts_per_block file.header.fields ≡ 2 ^ bits = ap counts_per_block is ∙ counts in
+      let same : cluster / counts_per_block file.header.fields ≡ range = ap (λ n. cluster / n) per ∙ sym in_range in
+      record {
+        real = λ none. at.0 (ap (λ n. block_offset (reftable_entry file.header.fields (known_in view file) n)) (sym same) ∙ none);
+        place = ap (λ n. block_offset (reftable_entry file.header.fields (known_in view file) n)) same ∙ at.1;
+        at = ap (λ n. cluster % n) per ∙ sym in_block;
+      }
+
+  -- ---- one cluster
+  module _ (p : Pending) (a b : ImageFile S) (t : Allocator) (first : Becomes view p a t b p) (cluster block index : ℕ) (at : IsCountedAt b.header.fields (known_in view b) cluster block index)
+      (caches : MetadataCaches S) (turned : order_of caches ≡ order_of b.caches) (marks : KeepsMarks b.caches caches) where
+    pub taken_one : (d : Bool) → MayTake d a → order_of b.caches ≡ order_of a.caches → count b.header.fields (known_in view b) cluster ≡ 0 → RaisesCount b.caches caches block index
+        → Becomes view p a t (record b { caches = caches }) (taken_as d p (one_at cluster))
+    taken_one d may same free raises =
+        let made = raises b.header.fields p (contents_in view b) cluster first.moves.sound.caches at free in record {
+          moves = moves_then view p p (taken_as d p (one_at cluster)) a b (record b { caches = caches }) (λ k some. some) first.moves
+              (moves_raised view p b caches cluster first.moves.sound marks turned made d (may_still d a b same may));
+          reftable = reftable_counted view p b caches cluster first.moves.sound marks turned t.reftable first.reftable;
+        }
+
+    pub given_one : (d : Bool) (q : Pending) → p ≡ taken_as d q (one_at cluster) → LowersCount b.caches caches block index → Becomes view p a t (record b { caches = caches }) q
+    given_one d q taken lowers =
+        let made = lowers b.header.fields p (contents_in view b) cluster first.moves.sound.caches at in record {
+          moves = moves_then view p p q a b (record b { caches = caches }) (λ k some. some) first.moves (moves_lowered view p b caches cluster first.moves.sound marks turned q made d taken);
+          reftable = reftable_counted view p b caches cluster first.moves.sound marks turned t.reftable first.reftable;
+        }
+
+  -- what is taken is counted
+  pub taken_counted : (d : Bool) (q : Pending) (cluster : ℕ) (p : Pending) (file : ImageFile S) → p ≡ taken_as d q (one_at cluster) → IsSoundFile view p file → count file.header.fields (known_in view file) cluster ≢ 0
+  taken_counted d q cluster p file taken sound none =
+      let tally = (sound.caches.kept.kept.guarded.always cluster).tally in
+      let some = some_taken d taken in
+      absurd (omega (arith, tally, none, some))
+    where
+      some_taken : (d : Bool) → p ≡ taken_as d q (one_at cluster) → 0 < p.held cluster + p.fresh cluster
+      some_taken true taken = let own = one_here cluster in let e : p.held cluster ≡ q.held cluster + one_at cluster cluster = ap (λ (r : Pending). r.held cluster) taken in omega arith
+      some_taken false taken = let own = one_here cluster in let e : p.fresh cluster ≡ q.fresh cluster + one_at cluster cluster = ap (λ (r : Pending). r.fresh cluster) taken in omega arith
+
+  -- so it has a refblock
+  pub taken_has_block : (d : Bool) (q : Pending) (cluster range bits : ℕ) (p : Pending) (file : ImageFile S) (header : HeaderFields) → file.header.fields ≡ header → p ≡ taken_as d q (one_at cluster) → IsSoundFile view p file
+      → counts_per_block header ≡ 2 ^ bits → range ≡ cluster / 2 ^ bits → StandsAt view file range None → ⊥
+  taken_has_block d q cluster range bits p file header is taken sound counts in_range none =
+      let same : cluster / counts_per_block file.header.fields ≡ range = ap (λ n. cluster / n) (ap counts_per_block is ∙ counts) ∙ sym in_range in
+      taken_counted d q cluster p file taken sound
+      (count_none file.header.fields (known_in view file) cluster (ap (λ n. block_offset (reftable_entry file.header.fields (known_in view file) n)) same ∙ none))
+
+  -- ---- the reftable that was loaded
+  pub table_loaded : (file : ImageFile S) (storage : ImageStorage S) (t : EntryTableView) (cluster bits entries offset : ℕ) → t ≡ entry_table file.header.fields (Some cluster) t.bytes → length t.bytes ≡ 8 * entries → bits ≡ file.header.fields.cluster_bits
+      → cluster * 2 ^ bits ≡ offset → offset ≡ file.header.fields.reftable_offset → entries ≡ reftable_entries file.header.fields
+      → (NamesRefTable file.header.fields (cluster * cluster_size file.header.fields) entries → IsRefTableOf file.header.fields (contents_in view file) t) → (view (storage_of storage)).contents ≡ (view_in view file).contents
+      → HasReftable view (record file { storage = storage }) t
+  table_loaded file storage t cluster bits entries offset is long same_bits at is_offset is_entries of_image same =
+      let h = file.header.fields in
+      let place : cluster * cluster_size file.header.fields ≡ file.header.fields.reftable_offset = ap (λ n. cluster * 2 ^ n) (sym same_bits) ∙ at ∙ is_offset in
+      let named = of_image (sym place, sym is_entries) in record {
+        cluster = ap (λ (x : EntryTableView). x.cluster) is ∙ ap (λ n. Some n) (sym (own_cluster file.header.fields.cluster_bits cluster) ∙ ap (λ n. n / cluster_size file.header.fields) place);
+        bits = ap (λ (x : EntryTableView). x.cluster_bits) is;
+        count = omega (arith, long, is_entries);
+        entries = λ k. named k ∙ ap (λ (c : List ℕ). reftable_entry file.header.fields (byte_at c) k) (sym same);
+      }

@@ -1,0 +1,222 @@
+-- Steps of an image's file, one after another: calls of its caches, and counts that change.
+use Rattle.std.proofs.Common.{◌≡◌, inl, inr, ℕ, ◌+◌, ◌/◌, ◌<◌, ◌≤◌, ◌==◌, Bool, true, false, cond, [], IsTrue, refl, sym, ap, ◌∙◌, subst, arith}
+use mathlib.Core.Path.{fun_ext}
+use Rattle.std.proofs.lemmas.Bool.{cases_eq, eq-eqb, ne_eqb, cond-true, cond-false}
+use Rattle.image_access.specs.Moments.{StorageView}
+use Rattle.image_access.proofs.Passing.{passes_none, passes_on}
+use Rattle.qcow2_metadata.specs.Bytes.{Bytes}
+use Rattle.qcow2_metadata.specs.EntryTable.{EntryTableView}
+use Rattle.qcow2_metadata.specs.Header.{cluster_size}
+use Rattle.qcow2_metadata.specs.Entries.{l1_entry}
+use Rattle.qcow2_metadata.specs.Named.{named_for_tables}
+use Rattle.qcow2_laws.specs.Stops.{Mark, IsKeptAt}
+use Rattle.qcow2_laws.specs.Clusters.{Direction}
+use Rattle.qcow2_laws.specs.Guard.{Pending}
+use Rattle.qcow2_laws.specs.Changes.{one_at, with_held, with_fresh, without_spent, held_to_spent, fresh_to_spent}
+use Rattle.qcow2_laws.specs.Leads.{Stand, Leads, Endures}
+use Rattle.qcow2_laws.specs.Steps.{CountRises, CountFalls}
+use Rattle.qcow2_laws.proofs.Caches.{unnamed_free_l2, unnamed_free_rb}
+use Rattle.qcow2_laws.proofs.KeptSteps.{known_is_base}
+use Rattle.qcow2_laws.proofs.Steps.{count_is_changed, pending_is_changed}
+use Rattle.qcow2_laws.proofs.Unseen.{unseen_none, unseen_then, unseen_known, unseen_count, l1_same_none, l1_same_then, l1_same_base, l1_same_known}
+use Rattle.qcow2_alloc.specs.declared.allocation.Allocator.{Allocator}
+use Rattle.qcow2_alloc.specs.declared.cache.MetadataCaches.{MetadataCaches}
+use Rattle.qcow2_alloc.specs.declared.error.ImageError.{ImageError}
+use Rattle.qcow2_alloc.specs.declared.image_file.ImageFile.{ImageFile}
+use Rattle.qcow2_alloc.specs.declared.image_storage.ImageStorage.{ImageStorage}
+use Rattle.qcow2_alloc.specs.Allocation.{taken_as, MayTake}
+use Rattle.qcow2_alloc.specs.CacheMarks.{KeepsMarks}
+use Rattle.qcow2_alloc.specs.ImageFile.{nothing_given, view_in, contents_in, known_in, stand_in, IsSoundFile, HasReftable, Moves, Breaks, LeavesSound, IsFault}
+use Rattle.qcow2_alloc.specs.ImageStorage.{storage_of}
+use Rattle.qcow2_alloc.specs.MetadataCaches.{order_of, l2_tables, refblocks, known_of, StaySound, Made}
+use Rattle.qcow2_alloc.proofs.KeptTables.Settled.{top_still}
+
+-- ---- what is pending
+
+pub one_here : (c : ℕ) → one_at c c ≡ 1
+one_here c = cond-true {A = ℕ} (c == c) 1 0 (eq-eqb c c refl)
+
+one_alone : (c k : ℕ) → 0 < one_at c k → k ≡ c
+one_alone c k some = elim (cases_eq k c) [
+  | inl same ↦ same
+  | inr other ↦ absurd (let none : one_at c k ≡ 0 = cond-false {A = ℕ} (k == c) 1 0 (ne_eqb k c other) in omega arith)
+]
+
+-- the same numbers
+pub pending_same : (p q : Pending) → ((k : ℕ) → p.held k ≡ q.held k) → ((k : ℕ) → p.fresh k ≡ q.fresh k) → ((k : ℕ) → p.spent k ≡ q.spent k) → ((k : ℕ) → p.dropped k ≡ q.dropped k) → ((k : ℕ) → p.surplus k ≡ q.surplus k) → p ≡ q
+pending_same p q held fresh spent dropped surplus =
+    ap (λ (f : ℕ → ℕ). record p { held = f }) (fun_ext held)
+    ∙ ap (λ (f : ℕ → ℕ). record p { held = q.held; fresh = f }) (fun_ext fresh)
+    ∙ ap (λ (f : ℕ → ℕ). record p { held = q.held; fresh = q.fresh; spent = f }) (fun_ext spent)
+    ∙ ap (λ (f : ℕ → ℕ). record p { held = q.held; fresh = q.fresh; spent = q.spent; dropped = f }) (fun_ext dropped)
+    ∙ ap (λ (f : ℕ → ℕ). record p { held = q.held; fresh = q.fresh; spent = q.spent; dropped = q.dropped; surplus = f }) (fun_ext surplus)
+
+pub one_few : (c k : ℕ) → one_at c k ≤ 1
+one_few c k = elim (k == c) as (λ (b : Bool). cond b 1 0 ≤ 1) [ true ↦ omega arith | false ↦ omega arith ]
+
+module _ {S : Type 0} (view : S → StorageView) where
+  abbrev Moved : Pending → Pending → ImageFile S → ImageFile S → Type 0
+  Moved = Moves view
+
+  -- ---- one step after another
+
+  pub moves_none : (p : Pending) (file : ImageFile S) → IsSoundFile view p file → Moved p p file file
+  moves_none p file sound = record {
+    sound = sound;
+    leads = record { sound = sound.caches.kept.kept.guarded; base = λ backing m ok known_ok. ok; known = λ backing m ok known_ok. known_ok };
+    since = record { moments = passes_none (view_in view file) _; contents = λ backing m ok known_ok. ok };
+    unseen = unseen_none (stand_in view file p);
+    l1_table = l1_same_none (stand_in view file p);
+  }
+
+  pub endures_then : (a b c : ImageFile S) → Endures (view_in view a) (view_in view b) (known_in view a) nothing_given []
+      → ((backing : Bytes) (m : Mark) → IsKeptAt backing m (contents_in view a) → IsKeptAt backing m (known_in view a) → IsKeptAt backing m (known_in view b))
+      → Endures (view_in view b) (view_in view c) (known_in view b) nothing_given [] → Endures (view_in view a) (view_in view c) (known_in view a) nothing_given []
+  endures_then a b c first known second = record {
+    moments = passes_on _ first.moments second.moments (λ l q backing m ok known_ok. q backing m (first.contents backing m ok known_ok) (known backing m ok known_ok));
+    contents = λ backing m ok known_ok. second.contents backing m (first.contents backing m ok known_ok) (known backing m ok known_ok);
+  }
+
+  pub moves_then : (p q r : Pending) (a b c : ImageFile S) → ((k : ℕ) → 0 < p.held k → 0 < q.held k) → Moved p q a b → Moved q r b c → Moved p r a c
+  moves_then p q r a b c held first second = record {
+    sound = second.sound;
+    leads = record {
+      sound = second.leads.sound;
+      base = λ backing m ok known_ok. second.leads.base backing m (first.leads.base backing m ok known_ok) (first.leads.known backing m ok known_ok);
+      known = λ backing m ok known_ok. second.leads.known backing m (first.leads.base backing m ok known_ok) (first.leads.known backing m ok known_ok);
+    };
+    since = endures_then a b c first.since first.leads.known second.since;
+    unseen = unseen_then (stand_in view a p) (stand_in view b q) (stand_in view c r) first.unseen second.unseen held;
+    l1_table = l1_same_then (stand_in view a p) (stand_in view b q) (stand_in view c r) first.unseen.header first.l1_table second.l1_table;
+  }
+
+  pub breaks_then : (p q : Pending) (a b c : ImageFile S) (e : ImageError) → Moved p q a b → Breaks view b c e → Breaks view a c e
+  breaks_then p q a b c e first second = record { fault = second.fault; noted = second.noted; since = endures_then a b c first.since first.leads.known second.since }
+
+  -- a fault after a change that was noted breaks off
+  pub breaks_after : (p q : Pending) (a b c : ImageFile S) (t : Allocator) (e : ImageError) → Moved p q a b → IsFault e → IsTrue c.caches.is_changed → LeavesSound view q b t c e → Breaks view a c e
+  breaks_after p q a b c t e first fault noted second = record {
+    fault = fault;
+    noted = λ _. noted;
+    since = elim second [
+      | inl sound ↦ endures_then a b c first.since first.leads.known sound.0.since
+      | inr breaks ↦ endures_then a b c first.since first.leads.known breaks.since
+    ];
+  }
+
+  -- a refusal after a step that left the same pending
+  pub leaves_then : (p : Pending) (a b c : ImageFile S) (t : Allocator) (e : ImageError) → Moved p p a b → LeavesSound view p b t c e → LeavesSound view p a t c e
+  leaves_then p a b c t e first second = elim second [
+    | inl sound ↦ inl (moves_then p p p a b c (λ k some. some) first sound.0, sound.1)
+    | inr breaks ↦ inr (breaks_then p p a b c e first breaks)
+  ]
+
+  -- ---- a call of the caches
+  module _ (p : Pending) (file : ImageFile S) (storage : ImageStorage S) (caches : MetadataCaches S) (sound : IsSoundFile view p file)
+      (stays : StaySound file.header.fields p (view_in view file) file.caches (view (storage_of storage)) caches) where
+    abbrev called : ImageFile S
+    called = record file { storage = storage; caches = caches }
+
+    pub moves_cached : KeepsMarks file.caches caches → Moved p p file called
+    moves_cached marks = record {
+      sound = record { honest = stays.honest; caches = stays.sound; settled = stays.settled sound.settled; room = marks.room sound.room };
+      leads = record {
+        sound = stays.sound.kept.kept.guarded;
+        base = λ backing m ok known_ok. stays.since.contents backing m ok known_ok;
+        known = λ backing m ok known_ok. subst (IsKeptAt backing m) (sym stays.known) known_ok;
+      };
+      since = record { moments = stays.since.moments; contents = stays.since.contents };
+      unseen = unseen_known (stand_in view file p) (stand_in view called p) refl stays.known;
+      l1_table = l1_same_known (stand_in view file p) (stand_in view called p) sound.caches.kept.kept.guarded stays.sound.kept.kept.guarded refl (λ i. ap (λ (b : Bytes). l1_entry file.header.fields b i) stays.known);
+    }
+
+    pub reftable_cached : (t : EntryTableView) → HasReftable view file t → HasReftable view called t
+    reftable_cached t has = record {
+      cluster = has.cluster;
+      bits = has.bits;
+      count = has.count;
+      entries = λ k. has.entries k ∙ (top_still file.header.fields (order_of file.caches) (order_of caches) p p (l2_tables file.caches) (refblocks file.caches) (l2_tables caches) (refblocks caches) (contents_in view file) (contents_in view called) sound.caches.kept stays.sound.kept stays.known).reftable k;
+    }
+
+  -- ---- a count changes
+  module _ (p : Pending) (file : ImageFile S) (caches : MetadataCaches S) (c : ℕ) (sound : IsSoundFile view p file) (marks : KeepsMarks file.caches caches) (turned : order_of caches ≡ order_of file.caches) where
+    abbrev counted : ImageFile S
+    counted = record file { caches = caches }
+
+    abbrev now_known : Bytes
+    now_known = known_of file.header.fields caches (contents_in view file)
+
+    pub reftable_counted : (t : EntryTableView) → HasReftable view file t → HasReftable view counted t
+    reftable_counted t has = record { cluster = has.cluster; bits = has.bits; count = has.count; entries = has.entries }
+
+    module _ (made : Made (CountRises file.header.fields (known_in view file) now_known c) file.header.fields file.caches caches (contents_in view file)) where
+      raised_as : (q : Pending) → Leads (stand_in view file p) (record (stand_in view file p) { pending = q; known = now_known }) nothing_given [] → Moved p q file counted
+      raised_as q leads =
+          let leads' : Leads (stand_in view file p) (stand_in view counted q) nothing_given [] =
+          subst (λ (d : Direction). Leads (stand_in view file p) (record (stand_in view file p) { direction = d; pending = q; known = now_known }) nothing_given []) (sym turned) leads in record {
+            sound = record { honest = sound.honest; caches = made.sound q leads'.sound; settled = made.settled sound.settled; room = marks.room sound.room };
+            leads = leads';
+            since = record { moments = passes_none (view_in view file) _; contents = λ backing m ok known_ok. ok };
+            unseen = unseen_count (stand_in view file p) (stand_in view counted q) sound.caches.kept.kept.guarded c refl made.change.real made.change.outside;
+            l1_table = l1_same_base (stand_in view file p) (stand_in view counted q) refl;
+          }
+
+      -- no table lies in a cluster that isn't counted
+      unlaid : (o : ℕ) → o / cluster_size file.header.fields ≡ c → contents_in view file o ≡ known_in view file o
+      unlaid o in_c =
+          let h = file.header.fields in
+          let kept = sound.caches.kept.kept in
+          let tally = (kept.guarded.always c).tally in
+          let free = made.change.free in
+          let none : named_for_tables file.header.fields (contents_in view file) c ≡ 0 = omega (arith, tally, free) in
+          sym (known_is_base (cluster_size h) (l2_tables file.caches) (refblocks file.caches) (contents_in view file) o
+          (unnamed_free_l2 h (order_of file.caches) p (l2_tables file.caches) (refblocks file.caches) (contents_in view file) kept c none o in_c)
+          (unnamed_free_rb h (order_of file.caches) p (l2_tables file.caches) (refblocks file.caches) (contents_in view file) kept sound.settled c none o in_c))
+
+      -- a cluster is taken
+      pub moves_raised : (d : Bool) → MayTake d file → Moved p (taken_as d p (one_at c)) file counted
+      moves_raised true may = raised_as (with_held p (one_at c)) (count_is_changed.data_allocated (stand_in view file p) now_known c sound.caches.kept.kept.guarded may made.change unlaid)
+      moves_raised false may = raised_as (with_fresh p (one_at c)) (count_is_changed.table_allocated (stand_in view file p) now_known c sound.caches.kept.kept.guarded made.change)
+
+    -- a cluster that was taken is given back
+    module _ (d : Bool) (q : Pending) (taken : p ≡ taken_as d q (one_at c))
+        (made : Made (CountFalls file.header.fields (known_in view file) now_known c) file.header.fields file.caches caches (contents_in view file)) where
+      lowered_as : Leads (stand_in view file p) (record (stand_in view file p) { pending = q; known = now_known }) nothing_given [] → Moved p q file counted
+      lowered_as leads =
+          let leads' : Leads (stand_in view file p) (stand_in view counted q) nothing_given [] =
+          subst (λ (d : Direction). Leads (stand_in view file p) (record (stand_in view file p) { direction = d; pending = q; known = now_known }) nothing_given []) (sym turned) leads in record {
+            sound = record { honest = sound.honest; caches = made.sound q leads'.sound; settled = made.settled sound.settled; room = marks.room sound.room };
+            leads = leads';
+            since = record { moments = passes_none (view_in view file) _; contents = λ backing m ok known_ok. ok };
+            unseen = unseen_count (stand_in view file p) (stand_in view counted q) sound.caches.kept.kept.guarded c refl made.change.real made.change.outside;
+            l1_table = l1_same_base (stand_in view file p) (stand_in view counted q) refl;
+          }
+
+      -- it is spent first, and then no longer counted
+      freed : (spent : Pending) → Leads (stand_in view file p) (record (stand_in view file p) { pending = spent }) nothing_given [] → 0 < spent.spent c → without_spent spent (one_at c) ≡ q
+          → Leads (stand_in view file p) (record (stand_in view file p) { pending = q; known = now_known }) nothing_given []
+      freed spent first some same =
+          let s : Stand = stand_in view file p in
+          let second = count_is_changed.table_freed (record s { pending = spent }) now_known c first.sound made.change some in
+          subst (λ (r : Pending). Leads s (record s { pending = r; known = now_known }) nothing_given []) same (record {
+            sound = second.sound;
+            base = λ backing m ok known_ok. second.base backing m (first.base backing m ok known_ok) (first.known backing m ok known_ok);
+            known = λ backing m ok known_ok. second.known backing m (first.base backing m ok known_ok) (first.known backing m ok known_ok);
+          })
+
+    module _ (q : Pending) (made : Made (CountFalls file.header.fields (known_in view file) now_known c) file.header.fields file.caches caches (contents_in view file)) where
+      pub moves_lowered : (d : Bool) → p ≡ taken_as d q (one_at c) → Moved p q file counted
+      moves_lowered true taken =
+          let held : p.held c ≡ q.held c + one_at c c = ap (λ (r : Pending). r.held c) taken in
+          let own = one_here c in
+          let first = pending_is_changed.undone (stand_in view file p) (one_at c) sound.caches.kept.kept.guarded (one_few c) (λ k some. subst (λ n. 0 < p.held n) (sym (one_alone c k some)) (omega arith)) in
+          lowered_as true q taken made (freed true q taken made (held_to_spent p (one_at c)) first (omega arith)
+          (ap (λ (r : Pending). without_spent (held_to_spent r (one_at c)) (one_at c)) taken
+          ∙ pending_same (without_spent (held_to_spent (with_held q (one_at c)) (one_at c)) (one_at c)) q (λ k. omega arith) (λ k. refl) (λ k. omega arith) (λ k. refl) (λ k. refl)))
+      moves_lowered false taken =
+          let fresh : p.fresh c ≡ q.fresh c + one_at c c = ap (λ (r : Pending). r.fresh c) taken in
+          let own = one_here c in
+          let first = pending_is_changed.abandoned (stand_in view file p) (one_at c) sound.caches.kept.kept.guarded (one_few c) (λ k some. subst (λ n. 0 < p.fresh n) (sym (one_alone c k some)) (omega arith)) in
+          lowered_as false q taken made (freed false q taken made (fresh_to_spent p (one_at c)) first (omega arith)
+          (ap (λ (r : Pending). without_spent (fresh_to_spent r (one_at c)) (one_at c)) taken
+          ∙ pending_same (without_spent (fresh_to_spent (with_fresh q (one_at c)) (one_at c)) (one_at c)) q (λ k. refl) (λ k. omega arith) (λ k. omega arith) (λ k. refl) (λ k. refl)))

@@ -1,0 +1,84 @@
+-- Bytes are written to clusters of an image's file that nothing names, and that aren't held.
+use Rattle.std.proofs.Common.{◌≡◌, ◌⊎◌, inl, inr, ℕ, [], refl, sym, ◌∙◌, subst}
+use Rattle.image_access.specs.Moments.{StorageView, Passing}
+use Rattle.image_access.proofs.Passing.{passes_if}
+use Rattle.qcow2_metadata.specs.Bytes.{byte_at}
+use Rattle.qcow2_metadata.specs.EntryTable.{EntryTableView}
+use Rattle.qcow2_metadata.specs.Header.{cluster_size}
+use Rattle.qcow2_metadata.specs.Named.{named_for_tables}
+use Rattle.qcow2_laws.specs.Stops.{IsKeptAt}
+use Rattle.qcow2_laws.specs.Guard.{Pending, SameIn}
+use Rattle.qcow2_laws.specs.Leads.{Leads}
+use Rattle.qcow2_laws.specs.Writes.{IsUnnamed, IsWritten}
+use Rattle.qcow2_laws.proofs.Beside.{data_beside, same_beside, unnamed_free}
+use Rattle.qcow2_laws.proofs.Steps.{data_is_written}
+use Rattle.qcow2_laws.proofs.Unseen.{unseen_written}
+use Rattle.qcow2_alloc.specs.declared.image_file.ImageFile.{ImageFile}
+use Rattle.qcow2_alloc.specs.declared.image_storage.ImageStorage.{ImageStorage}
+use Rattle.qcow2_alloc.specs.ImageFile.{nothing_given, view_in, contents_in, known_in, stand_in, IsSoundFile, HasReftable, Moves}
+use Rattle.qcow2_alloc.specs.ImageStorage.{storage_of}
+use Rattle.qcow2_alloc.specs.MetadataCaches.{order_of, l2_tables, refblocks}
+use Rattle.qcow2_alloc.proofs.KeptTables.Beside.{top_beside, settled_beside_write, sound_beside}
+
+module _ {S : Type 0} (view : S → StorageView) (p : Pending) (file : ImageFile S) (storage : ImageStorage S) (sound : IsSoundFile view p file) (honest : (view (storage_of storage)).is_honest)
+    (each : (c : ℕ) → SameIn (cluster_size file.header.fields) c (contents_in view file) (byte_at (view (storage_of storage)).contents)
+    ⊎ (IsUnnamed file.header.fields (contents_in view file) (known_in view file) c × (p.held c ≡ 0))) where
+  abbrev written : ImageFile S
+  written = record file { storage = storage }
+
+  -- a cluster with a table stays
+  tables_stay : (c : ℕ) → SameIn (cluster_size file.header.fields) c (contents_in view file) (contents_in view written) ⊎ (named_for_tables file.header.fields (contents_in view file) c ≡ 0)
+  tables_stay c = elim (each c) [ inl same ↦ inl same | inr free ↦ inr free.0.no_table ]
+
+  is_written : IsWritten file.header.fields (contents_in view file) (known_in view file) (contents_in view written) (known_in view written) []
+  is_written =
+      let h = file.header.fields in
+      let l2s = l2_tables file.caches in
+      let rbs = refblocks file.caches in
+      let kept = sound.caches.kept.kept in
+      data_beside h (order_of file.caches) p (l2_tables file.caches) (refblocks file.caches) (contents_in view file) (contents_in view written) kept []
+      (λ c. elim (each c) [
+        | inl same ↦ inl same
+        | inr free ↦ inr (unnamed_free h (order_of file.caches) p (l2_tables file.caches) (refblocks file.caches) (contents_in view file) (contents_in view written) kept sound.settled c free.0)
+      ])
+      (λ c. elim (each c) [
+        | inl same ↦ inl (same_beside h (order_of file.caches) p (l2_tables file.caches) (refblocks file.caches) (contents_in view file) (contents_in view written) kept c same)
+        | inr free ↦ inr (inl free.0)
+      ])
+
+  leads_written : Leads (stand_in view file p) (stand_in view written p) nothing_given []
+  leads_written = data_is_written.written (stand_in view file p) (contents_in view written) (known_in view written) [] sound.caches.kept.kept.guarded is_written
+
+  each_known : (c : ℕ) → (SameIn (cluster_size file.header.fields) c (contents_in view file) (contents_in view written) × SameIn (cluster_size file.header.fields) c (known_in view file) (known_in view written))
+      ⊎ (IsUnnamed file.header.fields (contents_in view file) (known_in view file) c × (p.held c ≡ 0))
+  each_known c = elim (each c) [
+    | inl same ↦ inl (same_beside file.header.fields (order_of file.caches) p (l2_tables file.caches) (refblocks file.caches) (contents_in view file) (contents_in view written) sound.caches.kept.kept c same)
+    | inr free ↦ inr free
+  ]
+
+  pub reftable_written : (t : EntryTableView) → HasReftable view file t → HasReftable view written t
+  reftable_written t has = record {
+    cluster = has.cluster;
+    bits = has.bits;
+    count = has.count;
+    entries = λ k. has.entries k ∙ (top_beside file.header.fields p p file.caches (contents_in view file) (contents_in view written) sound.caches sound.settled tables_stay).reftable k;
+  }
+
+  -- no guest sees it
+  pub moves_written : Passing (view_in view file) (view (storage_of storage)) (λ c. c ≡ (view (storage_of storage)).contents) → Moves view p p file written
+  moves_written time =
+      let unseen = unseen_written (stand_in view file p) (stand_in view written p) sound.caches.kept.kept.guarded each_known refl in record {
+        sound = record {
+          honest = honest;
+          caches = sound_beside file.header.fields p p file.caches (contents_in view file) (contents_in view written) sound.caches sound.settled tables_stay leads_written.sound;
+          settled = settled_beside_write file.header.fields p p file.caches (contents_in view file) (contents_in view written) sound.caches sound.settled tables_stay;
+          room = sound.room;
+        };
+        leads = leads_written;
+        since = record {
+          moments = passes_if _ (λ c is backing m ok known_ok. subst (λ l. IsKeptAt backing m (byte_at l)) (sym is) (leads_written.base backing m ok known_ok)) time;
+          contents = λ backing m ok known_ok. leads_written.base backing m ok known_ok;
+        };
+        unseen = unseen.0;
+        l1_table = unseen.1;
+      }

@@ -1,0 +1,258 @@
+-- The modified tables of a cache stand where the image has tables, whatever is flushed, loaded or put in. So flushes and loads are refused by the storage or for memory.
+use Rattle.std.proofs.Common.{◌≡◌, ◌⊎◌, inl, inr, ℕ, ◌+◌, ◌*◌, ◌/◌, ◌^◌, ◌≤◌, Bool, true, false, ◌&&◌, cond, eqb, List, [], ◌∷◌, ◌++◌, length, Option, Some, None, Result, Ok, Err, IfErr, refl, sym, ap, ◌∙◌, subst, arith}
+use Rattle.std.proofs.lemmas.Bool.{cases_Bool, cases_eq}
+use Rattle.std.specs.Option.{option_map_or, option_or, IfSome}
+use Rattle.std.specs.Map.{lookup_entry, remove_entry}
+use Rattle.std.proofs.lemmas.Nat.{div-mul-add, pow_pos}
+use Rattle.lru.specs.LruCache.{promoted}
+use Rattle.lru.proofs.CallerLemmas.{Contains-lookup_entry}
+use Rattle.image_access.specs.Moments.{StorageView}
+use Rattle.qcow2_metadata.specs.Bytes.{is_within}
+use Rattle.qcow2_metadata.specs.declared.error.MetadataError.{MetadataError}
+use Rattle.qcow2_metadata.specs.TableBytes.{HasPlace, IsOfStorageOrMemory}
+use Rattle.qcow2_metadata.specs.Tables.{CachedTable, overlays}
+use Rattle.qcow2_laws.specs.Caches.{IsFreeOf}
+use Rattle.qcow2_laws.proofs.Lists.{overlays_within, within_cluster, cluster_within, no_overlay, unmodified_over, differs}
+use Rattle.qcow2_alloc.specs.declared.async_lru_cache.slot.Slot.{Slot}
+use Rattle.qcow2_alloc.specs.declared.async_lru_cache.error.CacheError.{CacheError}
+use Rattle.qcow2_alloc.specs.declared.async_lru_cache.error.CacheError.TheVariants.{InUse, StillInUse, Memory, Backend}
+use Rattle.qcow2_alloc.specs.AsyncLruCache.{slot_of, oldest_free}
+use Rattle.qcow2_alloc.specs.AsyncLruCacheBackend.{Steps}
+use Rattle.qcow2_alloc.specs.TableSteps.{table_steps}
+use Rattle.qcow2_alloc.specs.CacheAnswers.{Unit₀, FlushesEntry, FlushesAll, Flushes, HasRoom, HasNoRoom, GetsNew, InsertsNew, Replaces}
+use Rattle.qcow2_alloc.specs.KeptTables.{cached_table, cached_tables, AllFit}
+use Rattle.qcow2_alloc.specs.TableLaws.{same_number}
+use Rattle.qcow2_alloc.proofs.KeptTables.Entries.{split_oldest}
+use Rattle.qcow2_alloc.proofs.KeptTables.Getting.{cluster_aligned}
+
+-- what refuses a call of a cache; that all is in use only where this holds
+abbrev pub IsCause : Type 0 → CacheError ℕ MetadataError → Type 0
+IsCause in_use InUse = in_use
+IsCause in_use (StillInUse _) = ⊥
+IsCause in_use Memory = Unit {0}
+IsCause in_use (Backend x) = IsOfStorageOrMemory x
+
+-- there is no room, and no entry may go
+abbrev pub IsFull : {V : Type 0} → ℕ → List (ℕ × Slot V) → Type 0
+IsFull size es = (size ≤ length es) × (oldest_free es ≡ None)
+
+module _ {V : Type 0} (is_modified : V → Bool) (IsFit : V → Type 0) (Named : ℕ → Type 0) where
+  -- the table is of the format, and where it is modified its cluster is named
+  pub record IsStanding (k : ℕ) (v : V) : Type 0 where
+    pub fits : IsFit v
+    pub named : is_modified v ≡ true → Named k
+
+  abbrev pub AreStanding : List (ℕ × Slot V) → Type 0
+  AreStanding [] = Unit {0}
+  AreStanding (e ∷ es) = IsStanding e.0 e.1.value × AreStanding es
+
+  pub clean_stands : (k : ℕ) (v : V) → IsFit v → is_modified v ≡ false → IsStanding k v
+  clean_stands k v fits clean = record { fits = fits; named = λ m. absurd (differ (is_modified v) m clean) }
+    where
+      differ : (b : Bool) → b ≡ true → b ≡ false → ⊥
+      differ b is isnt = cc
+
+  pub stand_removed : (test : ℕ → Bool) (es : List (ℕ × Slot V)) → AreStanding es → AreStanding (remove_entry test es)
+  stand_removed test [] all = tt
+  stand_removed test (e ∷ es) all = elim (test e.0) as (λ b. AreStanding (cond b es (e ∷ remove_entry test es))) [ true ↦ all.1 | false ↦ (all.0, stand_removed test es all.1) ]
+
+  pub stand_entry : (test : ℕ → Bool) (es : List (ℕ × Slot V)) (e : ℕ × Slot V) → lookup_entry test es ≡ Some e → AreStanding es → IsStanding e.0 e.1.value
+  stand_entry test [] e h all = absurd (cc)
+  stand_entry test (f ∷ es) e h all = (elim (test f.0) as (λ b. test f.0 ≡ b → IsStanding e.0 e.1.value) [
+    | true ↦ λ t. let h' = rw t at h in subst (λ (x : ℕ × Slot V). IsStanding x.0 x.1.value) (some_is h') all.0
+    | false ↦ λ t. stand_entry test es e (rw t at h) all.1
+  ]) refl
+    where
+      some_is : {A : Type 0} {a b : A} → Some a ≡ Some b → a ≡ b
+      some_is e = cc
+
+  stand_hit : (test : ℕ → Bool) (es : List (ℕ × Slot V)) (o : Option (ℕ × Slot V)) → lookup_entry test es ≡ o → AreStanding es → AreStanding (option_map_or (λ e. e ∷ remove_entry test es) o es)
+  stand_hit test es None h all = all
+  stand_hit test es (Some e) h all = (stand_entry test es e h all, stand_removed test es all)
+
+  pub stand_promoted : (test : ℕ → Bool) (es : List (ℕ × Slot V)) → AreStanding es → AreStanding (promoted test es)
+  stand_promoted test es all = stand_hit test es (lookup_entry test es) refl all
+
+  -- the oldest entry with no pin
+  pub stand_oldest : (es : List (ℕ × Slot V)) (e : ℕ × Slot V) → oldest_free es ≡ Some e → AreStanding es → IsStanding e.0 e.1.value
+  stand_oldest es e goes all = let s = split_oldest es e goes in in_list s.front s.back (subst AreStanding s.is all)
+    where
+      in_list : (front back : List (ℕ × Slot V)) → AreStanding (front ++ e ∷ back) → IsStanding e.0 e.1.value
+      in_list [] back all = all.0
+      in_list (f ∷ front) back all = in_list front back all.1
+
+  -- another value in the place of one
+  pub stand_set : (key : ℕ) (front back : List (ℕ × Slot V)) (v w : V) (pins : ℕ) → IsStanding key w → AreStanding (front ++ (key, slot_of v pins) ∷ back) → AreStanding (front ++ (key, slot_of w pins) ∷ back)
+  stand_set key [] back v w pins is all = (is, all.1)
+  stand_set key (f ∷ front) back v w pins is all = (all.0, stand_set key front back v w pins is all.1)
+
+module _ {S V : Type 0} (view : S → StorageView) (bits : ℕ) (bytes : V → List ℕ) (is_modified : V → Bool) (cleared : V → V) (IsFit : V → Type 0)
+    (unmodified : (v : V) → is_modified (cleared v) ≡ false) (still : (v : V) → IsFit v → IsFit (cleared v)) (Named : ℕ → Type 0) where
+  abbrev Steps₀ : Steps S ℕ V MetadataError
+  Steps₀ = table_steps view bits bytes is_modified cleared IsFit
+
+  abbrev One : ℕ → V → Type 0
+  One = IsStanding is_modified IsFit Named
+
+  abbrev All : List (ℕ × Slot V) → Type 0
+  All = AreStanding is_modified IsFit Named
+
+  module _ (place : (k : ℕ) → Named k → HasPlace bits k) where
+    one_stands : (s t : S) (e : ℕ × Slot V) (x : Option MetadataError) (d : Slot V) → One e.0 e.1.value → FlushesEntry Steps₀ s e x t d → One e.0 d.value
+    one_stands s t e None d is f = subst (One e.0) (sym f.0.clean) (clean_stands is_modified IsFit Named e.0 (cleared e.1.value) (still e.1.value is.fits) (unmodified e.1.value))
+    one_stands s t e (Some x) d is f = subst (λ (y : Slot V). One e.0 y.value) (sym f.1) is
+
+    pub all_stand : (s t : S) (es fs : List (ℕ × Slot V)) (x : Option MetadataError) → All es → FlushesAll Steps₀ s es x t fs → All fs
+    all_stand s t [] fs x all f = rw f.2 tt
+    all_stand s t (e ∷ es) fs x all f = rw f.8 (one_stands s f.1 e f.0 f.2 all.0 f.5, all_stand f.1 t es f.4 f.3 all.1 f.6)
+
+    one_cause : (s t : S) (e : ℕ × Slot V) (x : Option MetadataError) (d : Slot V) → One e.0 e.1.value → FlushesEntry Steps₀ s e x t d → IfSome x IsOfStorageOrMemory
+    one_cause s t e None d is f = tt
+    one_cause s t e (Some x) d is f = f.0.cause is.fits (place e.0 (is.named f.0.modified))
+
+    first_cause : (a b : Option MetadataError) → IfSome a IsOfStorageOrMemory → IfSome b IsOfStorageOrMemory → IfSome (option_or a b) IsOfStorageOrMemory
+    first_cause None b ha hb = hb
+    first_cause (Some x) b ha hb = ha
+
+    all_cause : (s t : S) (es fs : List (ℕ × Slot V)) (x : Option MetadataError) → All es → FlushesAll Steps₀ s es x t fs → IfSome x IsOfStorageOrMemory
+    all_cause s t [] fs x all f = rw f.0 tt
+    all_cause s t (e ∷ es) fs x all f = rw f.7 (first_cause f.0 f.3 (one_cause s f.1 e f.0 f.2 all.0 f.5) (all_cause f.1 t es f.4 f.3 all.1 f.6))
+
+    pub flush_stands : (s t : S) (es fs : List (ℕ × Slot V)) (r : Result Unit₀ (CacheError ℕ MetadataError)) → All es → Flushes Steps₀ s es r t fs → All fs
+    flush_stands s t es fs (Ok _) all f = all_stand s t es fs None all f
+    flush_stands s t es fs (Err (Backend x)) all f = all_stand s t es fs (Some x) all f
+    flush_stands s t es fs (Err InUse) all f = absurd f
+    flush_stands s t es fs (Err Memory) all f = absurd f
+    flush_stands s t es fs (Err (StillInUse _)) all f = absurd f
+
+    pub flush_cause : (s t : S) (es fs : List (ℕ × Slot V)) (r : Result Unit₀ (CacheError ℕ MetadataError)) → All es → Flushes Steps₀ s es r t fs → IfErr r (IsCause ⊥)
+    flush_cause s t es fs (Ok _) all f = tt
+    flush_cause s t es fs (Err (Backend x)) all f = all_cause s t es fs (Some x) all f
+    flush_cause s t es fs (Err InUse) all f = absurd f
+    flush_cause s t es fs (Err Memory) all f = absurd f
+    flush_cause s t es fs (Err (StillInUse _)) all f = absurd f
+
+    module _ (size : ℕ) (may_flush : Bool) where
+      room_stands : (s t : S) (es fs : List (ℕ × Slot V)) → All es → HasRoom Steps₀ eqb size may_flush s es t fs → All fs
+      room_stands s t es fs all room = elim room [
+        | inl there ↦ subst All (sym there.2) all
+        | inr evicts ↦ subst All (sym evicts.rest) (stand_removed is_modified IsFit Named (eqb evicts.entry.0) es all)
+      ]
+
+      no_room_stands : (s t : S) (es fs : List (ℕ × Slot V)) (r : Result Bool (CacheError ℕ MetadataError)) → All es → HasNoRoom Steps₀ eqb size may_flush s es r t fs → All fs
+      no_room_stands s t es fs (Ok true) all h = absurd h
+      no_room_stands s t es fs (Ok false) all h = subst All (sym h.3) all
+      no_room_stands s t es fs (Err InUse) all h = subst All (sym h.3) all
+      no_room_stands s t es fs (Err (StillInUse _)) all h = absurd h
+      no_room_stands s t es fs (Err Memory) all h = absurd h
+      no_room_stands s t es fs (Err (Backend x)) all h = subst All (sym h.same) all
+
+      no_room_cause : (s t : S) (es fs : List (ℕ × Slot V)) (r : Result Bool (CacheError ℕ MetadataError)) → All es → HasNoRoom Steps₀ eqb size may_flush s es r t fs → IfErr r (IsCause (IsFull size es))
+      no_room_cause s t es fs (Ok true) all h = tt
+      no_room_cause s t es fs (Ok false) all h = tt
+      no_room_cause s t es fs (Err InUse) all h = (h.0.full, h.1)
+      no_room_cause s t es fs (Err (StillInUse _)) all h = absurd h
+      no_room_cause s t es fs (Err Memory) all h = absurd h
+      no_room_cause s t es fs (Err (Backend x)) all h = let is = stand_oldest is_modified IsFit Named es h.entry h.goes all in h.failed.cause is.fits (place h.entry.0 (is.named h.failed.modified))
+
+      pub get_stands : (s t : S) (k : ℕ) (es fs : List (ℕ × Slot V)) (r : Result Bool (CacheError ℕ MetadataError)) → All es → GetsNew Steps₀ eqb size may_flush k s es r t fs → All fs
+      get_stands s t k es fs (Ok true) all (r, gs, v, room, loads, is) = subst All (sym is) (clean_stands is_modified IsFit Named k v loads.fits loads.unmodified, room_stands s r es gs all room)
+      get_stands s t k es fs (Ok false) all h = no_room_stands s t es fs (Ok false) all h
+      get_stands s t k es fs (Err InUse) all h = no_room_stands s t es fs (Err InUse) all h
+      get_stands s t k es fs (Err (StillInUse _)) all h = absurd h
+      get_stands s t k es fs (Err Memory) all (r, v, room, loads) = room_stands s r es fs all room
+      get_stands s t k es fs (Err (Backend x)) all h = elim h [
+        | inl none ↦ no_room_stands s t es fs (Err (Backend x)) all none
+        | inr failed ↦ room_stands s failed.0 es fs all failed.1
+      ]
+
+      pub get_cause : (s t : S) (k : ℕ) (es fs : List (ℕ × Slot V)) (r : Result Bool (CacheError ℕ MetadataError)) → HasPlace bits k → All es → GetsNew Steps₀ eqb size may_flush k s es r t fs → IfErr r (IsCause (IsFull size es))
+      get_cause s t k es fs (Ok _) here all h = tt
+      get_cause s t k es fs (Err InUse) here all h = no_room_cause s t es fs (Err InUse) all h
+      get_cause s t k es fs (Err (StillInUse _)) here all h = absurd h
+      get_cause s t k es fs (Err Memory) here all h = tt
+      get_cause s t k es fs (Err (Backend x)) here all h = elim h [
+        | inl none ↦ no_room_cause s t es fs (Err (Backend x)) all none
+        | inr failed ↦ failed.2.cause here
+      ]
+
+      pub insert_stands : (s t : S) (k : ℕ) (v : V) (es fs : List (ℕ × Slot V)) (r : Result Bool (CacheError ℕ MetadataError)) (left : Option V) → IsFit v → is_modified v ≡ false → All es
+          → InsertsNew Steps₀ eqb size may_flush k v s es r t fs left → All fs
+      insert_stands s t k v es fs (Ok true) left is clean all h = subst All (sym h.0.2) (clean_stands is_modified IsFit Named k v is clean, room_stands s t es h.0.0 all h.0.1)
+      insert_stands s t k v es fs (Ok false) left is clean all h = no_room_stands s t es fs (Ok false) all h.0
+      insert_stands s t k v es fs (Err Memory) left is clean all h = room_stands s t es fs all h.0
+      insert_stands s t k v es fs (Err InUse) left is clean all h = no_room_stands s t es fs (Err InUse) all h.0
+      insert_stands s t k v es fs (Err (StillInUse _)) left is clean all h = absurd h
+      insert_stands s t k v es fs (Err (Backend x)) left is clean all h = no_room_stands s t es fs (Err (Backend x)) all h.0
+
+      pub insert_cause : (s t : S) (k : ℕ) (v : V) (es fs : List (ℕ × Slot V)) (r : Result Bool (CacheError ℕ MetadataError)) (left : Option V) → All es
+          → InsertsNew Steps₀ eqb size may_flush k v s es r t fs left → IfErr r (IsCause (IsFull size es))
+      insert_cause s t k v es fs (Ok _) left all h = tt
+      insert_cause s t k v es fs (Err Memory) left all h = tt
+      insert_cause s t k v es fs (Err InUse) left all h = no_room_cause s t es fs (Err InUse) all h.0
+      insert_cause s t k v es fs (Err (StillInUse _)) left all h = absurd h
+      insert_cause s t k v es fs (Err (Backend x)) left all h = no_room_cause s t es fs (Err (Backend x)) all h.0
+
+    module _ (may_flush : Bool) (s t : S) (k : ℕ) (v : V) (es fs : List (ℕ × Slot V)) (e : ℕ × Slot V) where
+      pub replace_stands : (r : Result Bool (CacheError ℕ MetadataError)) (left : Option V) → lookup_entry (eqb k) es ≡ Some e → IsFit v → is_modified v ≡ false → All es
+          → Replaces Steps₀ k e (remove_entry (eqb k) es) v may_flush s es r t fs left → All fs
+      replace_stands (Ok true) left found is clean all h = subst All (sym h.2) (clean_stands is_modified IsFit Named e.0 v is clean, stand_removed is_modified IsFit Named (eqb k) es all)
+      replace_stands (Ok false) left found is clean all h = subst All (sym h.2) all
+      replace_stands (Err (Backend x)) left found is clean all h = subst All (sym h.2) (stand_entry is_modified IsFit Named (eqb k) es e found all, stand_removed is_modified IsFit Named (eqb k) es all)
+      replace_stands (Err InUse) left found is clean all h = absurd h
+      replace_stands (Err (StillInUse _)) left found is clean all h = absurd h
+      replace_stands (Err Memory) left found is clean all h = absurd h
+
+      pub replace_cause : (r : Result Bool (CacheError ℕ MetadataError)) (left : Option V) → lookup_entry (eqb k) es ≡ Some e → All es
+          → Replaces Steps₀ k e (remove_entry (eqb k) es) v may_flush s es r t fs left → IfErr r (IsCause ⊥)
+      replace_cause (Ok _) left found all h = tt
+      replace_cause (Err (Backend x)) left found all h =
+          let is = stand_entry is_modified IsFit Named (eqb k) es e found all in
+          let own : e.0 ≡ k = sym (same_number k e.0 (Contains-lookup_entry (eqb k) es e found).1) in
+          h.1.cause is.fits (subst (HasPlace bits) own (place e.0 (is.named h.1.modified)))
+      replace_cause (Err InUse) left found all h = absurd h
+      replace_cause (Err (StillInUse _)) left found all h = absurd h
+      replace_cause (Err Memory) left found all h = absurd h
+
+-- ---- what the caches keep says that their modified tables stand
+
+pub own_cluster : (bits k : ℕ) → k * 2 ^ bits / 2 ^ bits ≡ k
+own_cluster bits k = let e : k * 2 ^ bits ≡ k * 2 ^ bits + 0 = omega arith in ap (λ n. n / 2 ^ bits) e ∙ div-mul-add k (2 ^ bits) 0 (pow_pos bits)
+
+module _ {V : Type 0} (bits : ℕ) (bytes : V → List ℕ) (is_modified : V → Bool) (IsFit : V → Type 0) (Named : ℕ → Type 0) where
+  abbrev tables : List (ℕ × Slot V) → List CachedTable
+  tables = cached_tables bits bytes is_modified
+
+  covers_own : (e : ℕ × Slot V) → is_modified e.1.value ≡ true → overlays (2 ^ bits) (cached_table bits bytes is_modified e) (e.0 * 2 ^ bits) ≡ true
+  covers_own e modified = ap (λ m. m && is_within (e.0 * 2 ^ bits) (2 ^ bits) (e.0 * 2 ^ bits)) modified ∙ cluster_within (e.0 * 2 ^ bits) (2 ^ bits) (e.0 * 2 ^ bits) (pow_pos bits) (cluster_aligned e.0 bits) refl
+
+  pub standing_of : (es : List (ℕ × Slot V)) → AllFit IsFit es → ((c : ℕ) → IsFreeOf (2 ^ bits) (tables es) c ⊎ Named c) → AreStanding is_modified IsFit Named es
+  standing_of [] fits each = tt
+  standing_of (e ∷ es) fits each = (
+    record {
+      fits = fits.0;
+      named = λ modified. elim (each e.0) [
+        | inl free ↦ absurd (differs (overlays (2 ^ bits) (cached_table bits bytes is_modified e) (e.0 * 2 ^ bits)) (covers_own e modified) (free (e.0 * 2 ^ bits) (own_cluster bits e.0)).0)
+        | inr named ↦ named
+      ];
+    },
+    standing_of es fits.1 (λ c. elim (each c) [ inl free ↦ inl (λ o in_c. (free o in_c).1) | inr named ↦ inr named ]),
+  )
+
+  pub free_or_named : (es : List (ℕ × Slot V)) → AreStanding is_modified IsFit Named es → (c : ℕ) → IsFreeOf (2 ^ bits) (tables es) c ⊎ Named c
+  free_or_named [] all c = inl (λ o in_c. tt)
+  free_or_named (e ∷ es) all c =
+      let t : CachedTable = cached_table bits bytes is_modified e in
+      elim (free_or_named es all.1 c) [
+        | inr named ↦ inr named
+        | inl free ↦ elim (cases_Bool (is_modified e.1.value)) [
+          | inr clean ↦ inl (λ o in_c. (unmodified_over (2 ^ bits) t o clean, free o in_c))
+          | inl modified ↦ elim (cases_eq e.0 c) [
+            | inl same ↦ inr (subst Named same (all.0.named modified))
+            | inr other ↦ inl (λ o in_c. (
+              no_overlay (2 ^ bits) t o (λ over. other (sym (own_cluster bits e.0) ∙ sym (within_cluster (e.0 * 2 ^ bits) (2 ^ bits) o (cluster_aligned e.0 bits) (overlays_within (2 ^ bits) t o over)) ∙ in_c)),
+              free o in_c,
+            ))
+          ]
+        ]
+      ]

@@ -1,0 +1,12 @@
+use Rattle.qcow2_alloc.proofs.allocation.Allocator.lower.Goals.{in-Ok-false, in-Err+else-ends_call+in-StillInUse-1, in-Err+else-ends_call+in-ReadOnly-1}
+use Rattle.qcow2_alloc.proofs.allocation.Allocator.lower.Goals as goal
+
+pub returns-in-Ok-true-clause-sound : goal.returns-in-Ok-true-clause-sound
+returns-in-Ok-true-clause-sound g c = λ p is_data sound. rw c.in-Ok-true.field-0-test at (c.in-Ok-true.ensures.sound p is_data sound)
+
+pub returns-clause-sound : goal.returns-clause-sound
+returns-clause-sound g c = λ p is_data sound. elim c.match-try_lower.branch [
+  | in-Ok-false w ↦ absurd (rw w.in-Ok-false.field-0-test at (w.in-Ok-false.ensures.sound p is_data sound))
+  | in-Err+else-ends_call+in-StillInUse-1 w ↦ absurd (let yes_so = w.ends_call.ensures.ends (w.in-Err.ensures.sound p is_data sound).0 in let none = w.if-ends_call.false in cc)
+  | in-Err+else-ends_call+in-ReadOnly-1 w ↦ absurd (let yes_so = w.ends_call.ensures.ends (w.in-Err.ensures.sound p is_data sound).0 in let none = w.if-ends_call.false in cc)
+]

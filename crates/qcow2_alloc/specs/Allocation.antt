@@ -1,0 +1,76 @@
+-- What the allocator's calls take, and what they leave of an image's file.
+use Rattle.std.specs.Prelude.{ℕ, ◌+◌, ◌*◌, ◌<◌, ◌≡◌, ◌≢◌, ◌&&◌, nat_le, nat_lt, Bool, true, false, Option, Some, None, Result, Ok, Err, IsSome, IsTrue, if◌then◌else◌}
+use Rattle.image_access.specs.Moments.{StorageView}
+use Rattle.qcow2_metadata.specs.Header.{cluster_size}
+use Rattle.qcow2_metadata.specs.Entries.{reftable_entry, block_offset}
+use Rattle.qcow2_laws.specs.Clusters.{L2DependsOnRb}
+use Rattle.qcow2_laws.specs.Changes.{one_at, with_held, with_fresh}
+use Rattle.qcow2_laws.specs.Guard.{Pending}
+use Rattle.qcow2_alloc.specs.MetadataCaches.{order_of, rb_at}
+use Rattle.qcow2_alloc.specs.ImageError.{IsFault}
+use Rattle.qcow2_alloc.specs.ImageFile.{known_in, HasReftable, Moves, LeavesSound}
+use Rattle.qcow2_alloc.specs.declared.allocation.Allocator.{Allocator}
+use Rattle.qcow2_alloc.specs.declared.error.ImageError.{ImageError}
+use Rattle.qcow2_alloc.specs.declared.image_file.ImageFile.{ImageFile}
+
+-- how often a cluster is one of n from first on
+abbrev pub run_at : ℕ → ℕ → ℕ → ℕ
+run_at first n k = if nat_le first k && nat_lt k (first + n) then 1 else 0
+
+-- clusters that are taken for data are held, those for tables are fresh
+abbrev pub taken_as : Bool → Pending → (ℕ → ℕ) → Pending
+taken_as true p n = with_held p n
+taken_as false p n = with_fresh p n
+
+module _ {S : Type 0} where
+  -- data clusters are taken where refblocks are written before L2 tables
+  abbrev pub MayTake : Bool → ImageFile S → Type 0
+  MayTake true file = order_of file.caches ≡ L2DependsOnRb
+  MayTake false file = Unit {0}
+
+  module _ (view : S → StorageView) where
+    -- where the refblock of a range stands, which is held; or it has none
+    abbrev pub StandsAt : ImageFile S → ℕ → Option ℕ → Type 0
+    StandsAt file range None = block_offset (reftable_entry file.header.fields (known_in view file) range) ≡ 0
+    StandsAt file range (Some block) =
+        (block_offset (reftable_entry file.header.fields (known_in view file) range) ≢ 0)
+        × (block_offset (reftable_entry file.header.fields (known_in view file) range) ≡ block * cluster_size file.header.fields) × IsSome (rb_at file.caches block)
+
+    module _ (p : Pending) (old : ImageFile S) (allocator' : Allocator) (new : ImageFile S) where
+      -- all is sound again, while this is pending
+      pub record Becomes (p' : Pending) : Type 0 where
+        pub moves : Moves view p p' old new
+        pub reftable : HasReftable view new allocator'.reftable
+
+      -- the refblock of a range is loaded
+      abbrev pub LoadsBlock : ℕ → Result (Option ℕ) ImageError → Type 0
+      LoadsBlock range (Ok block) = Becomes p × StandsAt new range block
+      LoadsBlock range (Err e) = IsFault e × LeavesSound view p old allocator' new e
+
+      -- a cluster is taken, or it is in use
+      abbrev pub TakesOne : Bool → ℕ → Result Bool ImageError → Type 0
+      TakesOne is_data cluster (Ok true) = Becomes (taken_as is_data p (one_at cluster))
+      TakesOne is_data cluster (Ok false) = Becomes p
+      TakesOne is_data cluster (Err e) = LeavesSound view p old allocator' new e
+
+      -- so many clusters of the run are taken, or none where one is in use
+      abbrev pub TakesRun : Bool → ℕ → ℕ → Result ℕ ImageError → Type 0
+      TakesRun is_data first n (Ok taken) = (taken ≡ n → Becomes (taken_as is_data p (run_at first n))) × (taken ≢ n → Becomes p)
+      TakesRun is_data first n (Err e) = LeavesSound view p old allocator' new e
+
+      -- one that was taken is given back
+      abbrev pub LowersOne : Pending → Result Bool ImageError → Type 0
+      LowersOne p' (Ok true) = Becomes p'
+      LowersOne p' (Ok false) = ⊥
+      LowersOne p' (Err e) = IsFault e × LeavesSound view p old allocator' new e
+
+      -- what was taken is given back
+      abbrev pub GivesBack : Pending → Result (Unit {0}) ImageError → Type 0
+      GivesBack p' (Ok _) = Becomes p'
+      GivesBack p' (Err e) = IsFault e × LeavesSound view p old allocator' new e
+
+    -- the run that was taken since a start is given back, after a change was noted
+    abbrev pub GivesBackRun : Allocator → ImageFile S → Allocator → ImageFile S → ℕ → ℕ → Result (Unit {0}) ImageError → Type 0
+    GivesBackRun allocator old allocator' new first n result =
+        (p : Pending) (is_data : Bool) (start : ImageFile S) → Becomes p start allocator old (taken_as is_data p (run_at first n)) → (0 < n → IsTrue old.caches.is_changed)
+        → GivesBack p start allocator' new p result

@@ -1,0 +1,75 @@
+-- What contracts see of an image's file, and of the allocator beside it: where it stands, when it is sound, and steps that no guest sees.
+use Rattle.std.specs.Prelude.{◌/◌, ◌≡◌, ◌⊎◌, IsTrue, List, [], Some}
+use Rattle.image_access.specs.Moments.{StorageView}
+use Rattle.qcow2_metadata.specs.Bytes.{Bytes, byte_at}
+use Rattle.qcow2_metadata.specs.Header.{cluster_size, reftable_entries}
+use Rattle.qcow2_metadata.specs.EntryTable.{EntryTableView, IsRefTableOf, entry_count}
+use Rattle.qcow2_laws.specs.Stops.{Gift}
+use Rattle.qcow2_laws.specs.Guard.{Pending}
+use Rattle.qcow2_laws.specs.Caches.{AreSettled}
+use Rattle.qcow2_laws.specs.Leads.{Stand, Leads, Endures}
+use Rattle.qcow2_laws.specs.Unseen.{IsUnseen, SameL1Table}
+pub use Rattle.qcow2_alloc.specs.ImageError.{IsFault}
+pub use Rattle.qcow2_alloc.specs.CacheMarks.{l2_pins, HasRoom, KeepsMarks}
+use Rattle.qcow2_alloc.specs.ImageStorage.{storage_of}
+use Rattle.qcow2_alloc.specs.MetadataCaches.{order_of, refblocks, known_of, AreSound}
+use Rattle.qcow2_alloc.specs.declared.allocation.Allocator.{Allocator}
+use Rattle.qcow2_alloc.specs.declared.error.ImageError.{ImageError}
+use Rattle.qcow2_alloc.specs.declared.error.ImageError.TheVariants as I
+use Rattle.qcow2_alloc.specs.declared.image_file.ImageFile.{ImageFile}
+
+abbrev pub nothing_given : Bytes → List Gift
+nothing_given backing = []
+
+module _ {S : Type 0} where
+  module _ (view : S → StorageView) where
+    abbrev pub view_in : ImageFile S → StorageView
+    view_in file = view (storage_of file.storage)
+
+    abbrev pub contents_in : ImageFile S → Bytes
+    contents_in file = byte_at (view_in file).contents
+
+    -- the contents with the modified tables laid over
+    abbrev pub known_in : ImageFile S → Bytes
+    known_in file = known_of file.header.fields file.caches (contents_in file)
+
+    -- where it stands, while this is pending
+    abbrev pub stand_in : ImageFile S → Pending → Stand
+    stand_in file p = record { header = file.header.fields; direction = order_of file.caches; pending = p; base = contents_in file; known = known_in file }
+
+    -- its storage is honest, and what is kept of its caches is kept, while this is pending
+    pub record IsSoundFile (p : Pending) (file : ImageFile S) : Type 0 where
+      pub honest : (view_in file).is_honest
+      pub caches : AreSound file.header.fields p file.caches (contents_in file)
+      pub settled : AreSettled file.header.fields (refblocks file.caches) (contents_in file)
+      pub room : HasRoom file.caches
+
+    -- the allocator's reftable is the one on the storage
+    pub record HasReftable (file : ImageFile S) (reftable : EntryTableView) : Type 0 where
+      pub cluster : reftable.cluster ≡ Some (file.header.fields.reftable_offset / cluster_size file.header.fields)
+      pub bits : reftable.cluster_bits ≡ file.header.fields.cluster_bits
+      pub count : entry_count reftable ≡ reftable_entries file.header.fields
+      pub entries : IsRefTableOf file.header.fields (contents_in file) reftable
+
+    -- an allocator with the file that it takes clusters of
+    pub record IsSoundWith (allocator : Allocator) (p : Pending) (file : ImageFile S) : Type 0 where
+      pub sound : IsSoundFile p file
+      pub reftable : HasReftable file allocator.reftable
+
+    -- A step that no guest sees, from what was pending to what is: all is sound again, and at each moment what was kept is kept.
+    pub record Moves (p p' : Pending) (old new : ImageFile S) : Type 0 where
+      pub sound : IsSoundFile p' new
+      pub leads : Leads (stand_in old p) (stand_in new p') nothing_given []
+      pub since : Endures (view_in old) (view_in new) (known_in old) nothing_given []
+      pub unseen : IsUnseen (stand_in old p) (stand_in new p')
+      pub l1_table : SameL1Table (stand_in old p) (stand_in new p')
+
+    -- The storage failed, or memory was refused after a change, which is noted. At each moment what was kept is kept.
+    pub record Breaks (old new : ImageFile S) (e : ImageError) : Type 0 where
+      pub fault : IsFault e
+      pub noted : e ≡ I.Memory → IsTrue new.caches.is_changed
+      pub since : Endures (view_in old) (view_in new) (known_in old) nothing_given []
+
+    -- what a refused call leaves of a sound file with its allocator: all as sound as before; or it broke off
+    abbrev pub LeavesSound : Pending → ImageFile S → Allocator → ImageFile S → ImageError → Type 0
+    LeavesSound p old allocator' new e = (Moves p p old new × HasReftable new allocator'.reftable) ⊎ Breaks old new e

@@ -1,0 +1,152 @@
+-- What a call that no guest sees does, from its parts.
+use Rattle.std.proofs.Common.{◌≡◌, ℕ, ◌+◌, ◌-◌, ◌*◌, ◌/◌, ◌%◌, ◌<◌, ◌≤◌, ◌⊎◌, ◌++◌, zero, suc, Bool, true, false, List, [], ◌∷◌, refl, sym, ap, ◌∙◌, subst, arith, inl, inr}
+use Rattle.std.specs.Prelude.{Option, Some, None, slice_get, ◌&&◌, if◌then◌else◌, ◌==◌, is_some, nat_le, nat_lt}
+use Rattle.std.specs.Option.{option_map_or}
+use Rattle.std.proofs.lemmas.Bool.{and_from, le-leb, lt-ltb, cond-true}
+use Rattle.std.proofs.lemmas.Nat.{div-mul-add, mod_below, pow_pos}
+use mathlib.Core.Path.{fun_ext}
+use Rattle.image_access.specs.Backing.{BackingView}
+use Rattle.image_access.specs.Moments.{StorageView}
+use Rattle.image_access.proofs.Passing.{passes_if}
+use Rattle.qcow2_metadata.specs.Bytes.{Bytes, byte_at}
+use Rattle.qcow2_metadata.specs.Header.{cluster_size}
+use Rattle.qcow2_metadata.specs.Guest.{known_byte}
+use Rattle.qcow2_laws.specs.Disk.{Disk, disk}
+use Rattle.qcow2_laws.specs.Guard.{Pending}
+use Rattle.qcow2_laws.specs.Leads.{Stand, IsSound}
+use Rattle.qcow2_laws.specs.Mappings.{PreparedMapping}
+use Rattle.qcow2_laws.specs.Stops.{IsKeptAt, more}
+use Rattle.qcow2_laws.specs.Views.{Setting, Guest, View, guest_of, contents_of, meaning_at}
+use Rattle.qcow2_laws.specs.Calls.{Works, Stops}
+use Rattle.qcow2_laws.specs.Unseen.{IsUnseen}
+use Rattle.qcow2_laws.proofs.Unseen.{unseen_disk}
+use Rattle.qcow2_metadata.specs.declared.header.HeaderFields.{HeaderFields}
+use Rattle.qcow2_laws.specs.Guests.{named_in_either}
+use Rattle.qcow2_alloc.specs.ImageFile.{stand_in, contents_in, known_in}
+use Rattle.qcow2_image.specs.declared.image.Qcow2.{Qcow2}
+use Rattle.qcow2_image.specs.declared.prepared.Prepared.{Prepared}
+use Rattle.qcow2_image.specs.declared.prepared.NewCluster.{NewCluster}
+use Rattle.qcow2_image.specs.Views.{run_of, of_data, of_tables, to_free, held_by, over_all, surplus_in, pending_in, seen, meaning, is_private, begin_of, backing_bytes, HasCluster, IsNewFor, IsPending, IsReadyWith, IsReady, IsSoundAt}
+use Rattle.qcow2_image.specs.Steps.{following, ListGrows, Keeps}
+use Rattle.qcow2_image.proofs.Sound.{free_more, pending_is, IsOnly}
+
+same_guest : (a b : Guest) → a.disk ≡ b.disk → a.slots ≡ b.slots → a ≡ b
+same_guest a b disks slots = ap (λ d. record a { disk = d }) disks ∙ ap (λ f. record b { slots = f }) slots
+
+same_mapping : (a b : PreparedMapping) → a.from ≡ b.from → a.length ≡ b.length → a.is_private ≡ b.is_private → a.shown ≡ b.shown → a ≡ b
+same_mapping a b from length private shown =
+    ap (λ n. record a { from = n }) from ∙ ap (λ n. record a { from = b.from; length = n }) length ∙ ap (λ f. record a { from = b.from; length = b.length; is_private = f }) private ∙ ap (λ f. record b { shown = f }) shown
+
+same_setting : (a b : Setting) → a.cluster_size ≡ b.cluster_size → a.backing ≡ b.backing → a ≡ b
+same_setting a b sizes below = ap (λ n. record a { cluster_size = n }) sizes ∙ ap (λ f. record b { backing = f }) below
+
+some_of : {X : Type 0} {m : Option X} {n : X} → m ≡ Some n → is_some m ≡ true
+some_of is = cc
+
+-- one of the mappings holds no more than all of them
+pub over_all_at : (f : Prepared → ℕ → ℕ) (out : List (Option Prepared)) (k : ℕ) (q : Prepared) → slice_get out k ≡ Some (Some q) → (c : ℕ) → f q c ≤ over_all f out c
+over_all_at f [] k q at c = absurd cc
+over_all_at f (p ∷ out) zero q at c = let is : p ≡ Some q = cc in subst (λ (m : Option Prepared). f q c ≤ option_map_or (λ r. f r c) m 0 + over_all f out c) (sym is) (omega arith)
+over_all_at f (p ∷ out) (suc k) q at c = let rest = over_all_at f out k q at c in omega arith
+
+-- a mapping with a new cluster holds it
+pub held_one : (q : Prepared) (n : NewCluster) → q.new_cluster ≡ Some n → n.pending.count ≡ 1 → held_by q n.pending.first_cluster ≡ 1
+held_one q n is one =
+    let first = n.pending.first_cluster in
+    let below : first < first + n.pending.count = omega (arith, one) in
+    let inside : (nat_le first first && nat_lt first (first + n.pending.count)) ≡ true = and_from _ _ (le-leb first first (omega arith)) (lt-ltb first (first + n.pending.count) below) in
+    ap (λ (m : Option NewCluster). option_map_or (λ (x : NewCluster). run_of x.pending n.pending.first_cluster) m 0) is ∙ cond-true {A = ℕ} (nat_le first first && nat_lt first (first + n.pending.count)) 1 0 inside
+
+module _ {S F : Type 0} (view : S → StorageView) (backing : F → BackingView) (old new : Qcow2 S F) (out : List (Option Prepared)) where
+  -- with the clusters that are to be freed since, all that is pending is known
+  followed : IsSoundAt view backing (pending_in view backing old out) old out → ListGrows old new
+      → IsSound (stand_in view new.file (following (pending_in view backing old out) old new)) → following (pending_in view backing old out) old new ≡ pending_in view backing new out
+  followed sound grows still = pending_is view backing new out (following (pending_in view backing old out) old new) still (record {
+    held = λ k. refl;
+    fresh = λ k. refl;
+    spent = λ k. let e = ap (λ l. to_free of_tables l k) grows.is ∙ free_more of_tables old.file.free_list grows.more k in omega arith;
+    dropped = λ k. let e = ap (λ l. to_free of_data l k) grows.is ∙ free_more of_data old.file.free_list grows.more k in omega arith;
+  })
+
+  -- a mapping with a new cluster pins its table
+  ready_table : {n : NewCluster} (q : Prepared) → q.new_cluster ≡ Some n → IsReadyWith old.file.header.fields (known_in view old.file) (contents_in view old.file) q q.table → (t : ℕ) × IsPending old.file.header.fields (known_in view old.file) (contents_in view old.file) q t
+  ready_table {n = n} q is ready = table_of q.table ready where
+    table_of : (t : Option ℕ) → IsReadyWith old.file.header.fields (known_in view old.file) (contents_in view old.file) q t → (u : ℕ) × IsPending old.file.header.fields (known_in view old.file) (contents_in view old.file) q u
+    table_of None none = absurd cc
+    table_of (Some t) pending = (t, pending)
+
+  module _ (p : Pending) (p' : Pending) (sound : IsSoundAt view backing p old out) (holds : (k : ℕ) → over_all held_by out k ≤ p.held k) (holds_still : (k : ℕ) → over_all held_by out k ≤ p'.held k)
+      (keeps : Keeps view backing p p' old new out) where
+    same_header : new.file.header.fields ≡ old.file.header.fields
+    same_header = keeps.unseen.header
+
+    -- in a cluster that is held the same bytes stand on the storage
+    held_bytes : (o : ℕ) → 0 < p.held (o / cluster_size old.file.header.fields) → 0 < p'.held (o / cluster_size old.file.header.fields) → contents_in view new.file o ≡ contents_in view old.file o
+    held_bytes o some still =
+        let before : contents_in view old.file o ≡ known_in view old.file o = sound.file.caches.kept.kept.guarded.unlaid o (omega (arith, some)) in
+        let after : contents_in view new.file o ≡ known_in view new.file o = keeps.sound.file.caches.kept.kept.guarded.unlaid o (subst (λ (h : HeaderFields). 0 < named_in_either h (contents_in view new.file) (known_in view new.file) (o / cluster_size h) + p'.held (o / cluster_size h)) (sym same_header) (omega (arith, still))) in
+        after ∙ keeps.unseen.bytes o (omega (arith, some)) ∙ sym before
+
+    -- a prepared mapping means what it meant
+    module _ (k : ℕ) (q : Prepared) (at : slice_get out k ≡ Some (Some q)) where
+      same_private : is_private view backing new q ≡ is_private view backing old q
+      same_private = let test : HeaderFields → ℕ → Bool = λ h o. is_some q.new_cluster && o / cluster_size h == q.guest / cluster_size h in ap test same_header
+
+      same_byte : (n : NewCluster) → IsNewFor old.file.header.fields (known_in view old.file) (contents_in view old.file) q n → q.new_cluster ≡ Some n → (o : ℕ)
+          → contents_in view new.file (begin_of new.file.header.fields q + o % cluster_size new.file.header.fields) ≡ contents_in view old.file (begin_of old.file.header.fields q + o % cluster_size old.file.header.fields)
+      same_byte n ready is o =
+          let place = begin_of old.file.header.fields q + o % cluster_size old.file.header.fields in
+          let moved : begin_of new.file.header.fields q + o % cluster_size new.file.header.fields ≡ place = ap (λ (h : HeaderFields). q.offset - q.guest % cluster_size h + o % cluster_size h) same_header in
+          let begins : begin_of old.file.header.fields q ≡ n.pending.first_cluster * cluster_size old.file.header.fields = let b = ready.begins in omega arith in
+          let in_it : place / cluster_size old.file.header.fields ≡ n.pending.first_cluster = ap (λ b. (b + o % cluster_size old.file.header.fields) / cluster_size old.file.header.fields) begins
+          ∙ div-mul-add n.pending.first_cluster (cluster_size old.file.header.fields) (o % cluster_size old.file.header.fields) (mod_below o (cluster_size old.file.header.fields) (pow_pos old.file.header.fields.cluster_bits)) in
+          let mine : 0 < over_all held_by out n.pending.first_cluster = let all = over_all_at held_by out k q at n.pending.first_cluster in let one = held_one q n is ready.one in omega arith in
+          let some : 0 < p.held (place / cluster_size old.file.header.fields) = subst (λ c. 0 < p.held c) (sym in_it) (let l = holds n.pending.first_cluster in omega arith) in
+          let still : 0 < p'.held (place / cluster_size old.file.header.fields) = subst (λ c. 0 < p'.held c) (sym in_it) (let l = holds_still n.pending.first_cluster in omega arith) in
+          ap (contents_in view new.file) moved ∙ held_bytes place some still
+
+      same_shown : (m : Option NewCluster) → q.new_cluster ≡ m → IsReadyWith old.file.header.fields (known_in view old.file) (contents_in view old.file) q q.table → (o : ℕ) → (meaning view backing new q).shown o ≡ (meaning view backing old q).shown o
+      same_shown None is ready o = let isnt : is_some q.new_cluster ≡ false = ap is_some is in cc
+      same_shown (Some n) is ready o =
+          let pending = ready_table q is ready in
+          let new_for : IsNewFor old.file.header.fields (known_in view old.file) (contents_in view old.file) q n = subst (HasCluster old.file.header.fields (known_in view old.file) (contents_in view old.file) q) is pending.1.cluster in
+          ap known_byte (ap (λ (b : Bool). if b then contents_in view new.file (begin_of new.file.header.fields q + o % cluster_size new.file.header.fields) else 0) (ap (λ (f : ℕ → Bool). f o) same_private)
+          ∙ ap (λ b. if is_private view backing old q o then b else 0) (same_byte n new_for is o))
+
+      same_meaning : meaning view backing new q ≡ meaning view backing old q
+      same_meaning = same_mapping _ _ refl refl same_private (fun_ext (same_shown q.new_cluster refl (sound.ready k q at).mapped))
+
+    same_slot : (k : ℕ) (m : Option (Option Prepared)) → slice_get out k ≡ m → meaning_at (meaning view backing new) m ≡ meaning_at (meaning view backing old) m
+    same_slot k None at = refl
+    same_slot k (Some None) at = refl
+    same_slot k (Some (Some q)) at = ap Some (same_meaning k q at)
+
+    pub still_seen : guest_of (seen view backing new out) ≡ guest_of (seen view backing old out)
+    still_seen = same_guest _ _
+        (unseen_disk (stand_in view old.file p) (stand_in view new.file p') sound.file.caches.kept.kept.guarded keeps.sound.file.caches.kept.kept.guarded keeps.unseen (backing_bytes view backing new.backing)
+        ∙ ap (λ (b : Bytes). disk (known_in view old.file) b) keeps.below)
+        (fun_ext (λ k. same_slot k (slice_get out k) refl))
+
+  -- ---- a whole call that no guest sees
+
+  module _ (sound : IsSoundAt view backing (pending_in view backing old out) old out)
+      (keeps : Keeps view backing (pending_in view backing old out) (following (pending_in view backing old out) old new) old new out) where
+    pending_now : following (pending_in view backing old out) old new ≡ pending_in view backing new out
+    pending_now = followed sound keeps.list keeps.sound.file.caches.kept.kept.guarded
+
+    pub sound_now : IsSoundAt view backing (pending_in view backing new out) new out
+    sound_now = subst (λ (q : Pending). IsSoundAt view backing q new out) pending_now keeps.sound
+
+    pub same_now : guest_of (seen view backing new out) ≡ guest_of (seen view backing old out)
+    same_now = still_seen (pending_in view backing old out) (following (pending_in view backing old out) old new) sound (λ k. omega arith) (λ k. omega arith) keeps
+
+    pub works_now : Works (seen view backing old out) (seen view backing new out) [] []
+    works_now = record {
+      setting = same_setting _ _ (ap (λ (h : HeaderFields). cluster_size h) keeps.unseen.header) keeps.below;
+      surplus = λ still. ap (λ (q : Pending). q.surplus) (sym pending_now);
+      stops = λ m starts. record {
+        moments = passes_if (λ c. IsKeptAt (backing_bytes view backing old.backing) (more [] [] m) (byte_at c)) (λ c kept. kept (backing_bytes view backing old.backing) m starts.0 starts.1) keeps.since.moments;
+        contents = keeps.since.contents (backing_bytes view backing old.backing) m starts.0 starts.1;
+        known = λ still. keeps.leads.known (backing_bytes view backing old.backing) m starts.0 starts.1;
+      };
+    }

@@ -1,0 +1,34 @@
+-- What a call's parts say of its answer.
+use Rattle.std.proofs.Common.{◌≡◌, ℕ, Bool, true, false, List, [], refl, sym, ap, ◌∙◌, subst}
+use Rattle.std.specs.Prelude.{Option, Some, None, MatchOption, Result, Ok, Err, IsErr, IsErrAnd}
+use Rattle.std.specs.Option.{option_or}
+use Rattle.image_access.specs.Backing.{BackingView}
+use Rattle.image_access.specs.Moments.{StorageView}
+use Rattle.qcow2_laws.specs.Stops.{Gift}
+use Rattle.qcow2_laws.specs.Views.{Guest}
+use Rattle.qcow2_laws.specs.Calls.{Refuses, IsSame}
+use Rattle.qcow2_alloc.specs.declared.error.ImageError.{ImageError}
+use Rattle.qcow2_alloc.specs.declared.error.ImageError.TheVariants as I
+use Rattle.qcow2_image.specs.declared.image.Qcow2.{Qcow2}
+use Rattle.qcow2_image.specs.declared.prepared.Prepared.{Prepared}
+use Rattle.qcow2_image.specs.Calls.{refusal_of, Answers}
+use Rattle.qcow2_image.specs.Image.{is_failed, is_external}
+use Rattle.qcow2_image.specs.Refusals.{refuse_if, unusable}
+use Rattle.qcow2_image.specs.Views.{seen}
+
+module _ {S F : Type 0} (view : S → StorageView) (backing : F → BackingView) (old new : Qcow2 S F) where
+  -- an answer that is this refusal
+  pub answers_err : {A : Type 0} (given : List Gift) (Done : A → Guest → Guest → Type 0) (r : Result A ImageError) (e : ImageError) → IsErr r × IsErrAnd r (λ x. x ≡ e)
+      → ((out : List (Option Prepared)) → Refuses (seen view backing old out) (seen view backing new out) given [] (refusal_of e) (IsSame (seen view backing old out) (seen view backing new out)))
+      → Answers view backing old new given Done r
+  answers_err given Done (Ok a) e is refuses = absurd (let no : false ≡ true = is.0 in cc)
+  answers_err given Done (Err x) e is refuses = λ out.
+      subst (λ (y : ImageError). Refuses (seen view backing old out) (seen view backing new out) given [] (refusal_of y) (IsSame (seen view backing old out) (seen view backing new out))) (sym is.1) (refuses out)
+
+-- an image that isn't refused wasn't marked as failed
+not_failed : (failed : Bool) (rest : Option ImageError) (r : Result (Unit {0}) ImageError) → r ≡ Ok tt → MatchOption (option_or (refuse_if failed I.Failed) rest) (r ≡ Ok tt) (λ e. r ≡ Err e) → failed ≡ false
+not_failed false rest r ok is = refl
+not_failed true rest r ok is = absurd cc
+
+pub usable_works : {S F : Type 0} (image : Qcow2 S F) (r : Result (Unit {0}) ImageError) → r ≡ Ok tt → MatchOption (unusable image) (r ≡ Ok tt) (λ e. r ≡ Err e) → is_failed image ≡ false
+usable_works image r ok is = not_failed (is_failed image) (refuse_if (is_external image) I.Dependency) r ok is

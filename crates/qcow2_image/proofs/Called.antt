@@ -1,0 +1,165 @@
+-- Calls that no guest sees, from their parts.
+use Rattle.std.proofs.Common.{◌≡◌, ◌⊎◌, inl, inr, ⊎_elim, ℕ, ◌+◌, ◌-◌, ◌<◌, Bool, true, false, List, [], ◌++◌, refl, sym, ap, ◌∙◌, subst, arith}
+use Rattle.std.specs.Prelude.{Option, Some, None, IsTrue, Result, Ok, Err}
+use Rattle.std.proofs.lemmas.List.{append_assoc}
+use mathlib.Core.Path.{fun_ext}
+use Rattle.image_access.specs.Backing.{BackingView}
+use Rattle.image_access.specs.Moments.{StorageView}
+use Rattle.image_access.proofs.Passing.{passes_none}
+use Rattle.qcow2_metadata.specs.Bytes.{byte_at}
+use Rattle.qcow2_metadata.specs.declared.header.HeaderFields.{HeaderFields}
+use Rattle.qcow2_metadata.specs.Entries.{l1_entry, is_copied}
+use Rattle.qcow2_laws.specs.Guard.{Pending}
+use Rattle.qcow2_laws.specs.Leads.{Stand}
+use Rattle.qcow2_laws.specs.Stops.{IsKeptAt, more, Gift}
+use Rattle.qcow2_laws.specs.Views.{Guest, View, guest_of, contents_of}
+use Rattle.qcow2_laws.specs.Calls.{Refusal, memory, storage, another, IsFault, Works, Rests, Acts, Does, Refuses, IsSame}
+use Rattle.qcow2_laws.proofs.Leads.{leads_then, steps_endure}
+use Rattle.qcow2_laws.proofs.Unseen.{unseen_then}
+use Rattle.qcow2_alloc.specs.declared.error.ImageError.{ImageError}
+use Rattle.qcow2_alloc.specs.declared.error.ImageError.TheVariants as I
+use Rattle.qcow2_alloc.specs.ImageFile.{stand_in, view_in, nothing_given}
+use Rattle.qcow2_image.specs.declared.image.Qcow2.{Qcow2}
+use Rattle.qcow2_image.specs.declared.prepared.Prepared.{Prepared}
+use Rattle.qcow2_image.specs.Calls.{refusal_of}
+use Rattle.qcow2_image.specs.Image.{number_of, is_failed}
+use Rattle.qcow2_image.specs.Refusals.{failed_after}
+use Rattle.qcow2_image.specs.Views.{of_data, of_tables, to_free, IsSoundAt, pending_in, seen}
+use Rattle.qcow2_image.specs.Steps.{KeepsCopied, following, Keeps}
+use Rattle.qcow2_image.proofs.Answered.{works_now, sound_now, same_now}
+
+-- what a refusal leaves: a fault, or want of memory, that marks the image; or the image is marked as before, and no fault was told
+abbrev pub IsOutcome : ImageError → Bool → Bool → Type 0
+IsOutcome e before now = ((e ≡ I.Storage) × (now ≡ true)) ⊎ (((e ≡ I.Memory) × (now ≡ true)) ⊎ ((now ≡ before) × (refusal_of e ≡ storage → ⊥)))
+
+memory_outcome : (before now : Bool) → (now ≡ before) ⊎ (now ≡ true) → IsOutcome I.Memory before now
+memory_outcome before now (inl same) = inr (inr (same, λ is. absurd cc))
+memory_outcome before now (inr marked) = inr (inl (refl, marked))
+
+pub outcome : (e : ImageError) (before now : Bool) → failed_after e before now → IsOutcome e before now
+outcome I.ReadOnly before now m = inr (inr (m, λ is. absurd cc))
+outcome I.BeyondSize before now m = inr (inr (m, λ is. absurd cc))
+outcome I.Version before now m = inr (inr (m, λ is. absurd cc))
+outcome I.UnalignedTable before now m = inr (inr (m, λ is. absurd cc))
+outcome I.InvalidOption before now m = inr (inr (m, λ is. absurd cc))
+outcome I.Preallocation before now m = inr (inr (m, λ is. absurd cc))
+outcome I.Compressed before now m = inr (inr (m, λ is. absurd cc))
+outcome I.InUse before now m = inr (inr (m, λ is. absurd cc))
+outcome I.TablePrepared before now m = inr (inr (m, λ is. absurd cc))
+outcome I.OutdatedMapping before now m = inr (inr (m, λ is. absurd cc))
+outcome I.ForeignState before now m = inr (inr (m, λ is. absurd cc))
+outcome I.Dependency before now m = inr (inr (m, λ is. absurd cc))
+outcome I.Limit before now m = inr (inr (m, λ is. absurd cc))
+outcome I.Memory before now m = memory_outcome before now m
+outcome I.Storage before now m = inl (refl, m)
+outcome I.Failed before now m = inr (inr (m, λ is. absurd cc))
+outcome I.MappingPrepared before now m = inr (inr (m, λ is. absurd cc))
+outcome (I.NotCompressed offset) before now m = inr (inr (m, λ is. absurd cc))
+outcome I.Metadata before now m = inr (inr (m, λ is. absurd cc))
+outcome I.Overflow before now m = inr (inr (m, λ is. absurd cc))
+outcome (I.StillInUse tables) before now m = inr (inr (m, λ is. absurd cc))
+
+pub is_fault : (e : ImageError) (before now : Bool) → IsOutcome e before now → refusal_of e ≡ storage → IsTrue now
+is_fault e before now (inl failed) is = failed.1
+is_fault e before now (inr (inl failed)) is = failed.1
+is_fault e before now (inr (inr kept)) is = absurd (kept.1 is)
+
+-- ---- a call that was refused before it did anything
+module _ (v : View) where
+  works_none : v.is_sound → Works v v [] []
+  works_none sound = record {
+    setting = refl;
+    surplus = λ still. refl;
+    stops = λ m starts. record { moments = passes_none v.storage _; contents = starts.0; known = λ still. starts.1 };
+  }
+
+  pub refuses_early : (e : Refusal) → (e ≡ storage → ⊥) → Refuses v v [] [] e (IsSame v v)
+  refuses_early e none = record {
+    acts = record { number = refl; works = works_none; rests = λ failed. record { setting = refl; failed = failed; contents = refl; moments = passes_none v.storage _ } };
+    answer = λ sound. inl (sound, refl);
+    fault = λ is. absurd (none is);
+  }
+
+same_freed : (p q : Pending) → q ≡ record p { spent = q.spent; dropped = q.dropped } → p.spent ≡ q.spent → p.dropped ≡ q.dropped → p ≡ q
+same_freed p q rest spent dropped = ap (λ f. record p { spent = f }) spent ∙ ap (λ f. record p { spent = q.spent; dropped = f }) dropped ∙ sym rest
+
+module _ {S F : Type 0} (view : S → StorageView) (backing : F → BackingView) (out : List (Option Prepared)) where
+  -- one part after another
+  module _ (a b c : Qcow2 S F) (p p' p'' : Pending) (held : (k : ℕ) → 0 < p.held k → 0 < p'.held k) where
+    copied_then : b.file.header.fields ≡ a.file.header.fields → KeepsCopied (stand_in view a.file p) (stand_in view b.file p') → KeepsCopied (stand_in view b.file p') (stand_in view c.file p'')
+        → KeepsCopied (stand_in view a.file p) (stand_in view c.file p'')
+    copied_then header first then i is =
+        let one = first i is in
+        let moved : is_copied (l1_entry b.file.header.fields (stand_in view b.file p').base i) ≡ true = ap (λ h. is_copied (l1_entry h (stand_in view b.file p').base i)) header ∙ ap is_copied one ∙ is in
+        subst (λ (h : HeaderFields). l1_entry h (stand_in view c.file p'').base i ≡ l1_entry h (stand_in view b.file p').base i) header (then i moved) ∙ one
+
+    pub keeps_then : Keeps view backing p p' a b out → Keeps view backing p' p'' b c out → Keeps view backing p p'' a c out
+    keeps_then first then = record {
+      sound = then.sound;
+      leads = leads_then (stand_in view a.file p) (stand_in view b.file p') (stand_in view c.file p'') nothing_given nothing_given [] [] first.leads then.leads;
+      since = steps_endure (view_in view a.file) (view_in view b.file) (view_in view c.file) (stand_in view a.file p) (stand_in view b.file p') nothing_given nothing_given [] [] refl first.since first.leads then.since;
+      unseen = unseen_then (stand_in view a.file p) (stand_in view b.file p') (stand_in view c.file p'') first.unseen then.unseen held;
+      copied = copied_then first.unseen.header first.copied then.copied;
+      below = then.below ∙ first.below;
+      list = record { more = first.list.more ++ then.list.more; is = then.list.is ∙ ap (λ l. l ++ then.list.more) first.list.is ∙ append_assoc a.file.free_list first.list.more then.list.more };
+    }
+
+  -- ---- a call that frees nothing and holds nothing: what was pending is pending
+
+  module _ (old new : Qcow2 S F) where
+    -- nothing is held or to be freed in between, and no guest sees a change
+    pub record Quietly : Type 0 where
+      pub keeps : Keeps view backing (pending_in view backing old out) (pending_in view backing old out) old new out
+      pub list : new.file.free_list ≡ old.file.free_list
+
+    module _ (quiet : IsSoundAt view backing (pending_in view backing old out) old out → Quietly) where
+      unmoved : (sound : IsSoundAt view backing (pending_in view backing old out) old out) → pending_in view backing old out ≡ following (pending_in view backing old out) old new
+      unmoved sound = same_freed (pending_in view backing old out) (following (pending_in view backing old out) old new) refl
+          (fun_ext (λ k. let e = ap (λ l. to_free of_tables l k) (quiet sound).list in omega arith)) (fun_ext (λ k. let e = ap (λ l. to_free of_data l k) (quiet sound).list in omega arith))
+
+      listed : (sound : IsSoundAt view backing (pending_in view backing old out) old out) → Keeps view backing (pending_in view backing old out) (following (pending_in view backing old out) old new) old new out
+      listed sound = subst (λ (q : Pending). Keeps view backing (pending_in view backing old out) q old new out) (unmoved sound) (quiet sound).keeps
+
+      pub quiet_works : IsSoundAt view backing (pending_in view backing old out) old out → Works (seen view backing old out) (seen view backing new out) [] []
+      quiet_works sound = works_now view backing old new out sound (listed sound)
+
+      pub quiet_sound : IsSoundAt view backing (pending_in view backing old out) old out → IsSoundAt view backing (pending_in view backing new out) new out
+      quiet_sound sound = sound_now view backing old new out sound (listed sound)
+
+      pub quiet_same : IsSoundAt view backing (pending_in view backing old out) old out → guest_of (seen view backing new out) ≡ guest_of (seen view backing old out)
+      quiet_same sound = same_now view backing old new out sound (listed sound)
+
+      -- it was answered
+      pub quiet_does : number_of new ≡ number_of old → is_failed old ≡ false → Does (seen view backing old out) (seen view backing new out) [] [] (guest_of (seen view backing new out) ≡ guest_of (seen view backing old out))
+      quiet_does number works = record {
+        acts = record { number = number; works = quiet_works; rests = λ failed. absurd (let e : true ≡ false = sym failed ∙ works in cc) };
+        answer = λ sound. (quiet_sound sound, quiet_same sound);
+      }
+
+      -- it was refused, and the image is marked as failed now or as before
+      module _ (marked : Bool) where
+        still_sound : marked ≡ is_failed new → IsSoundAt view backing (pending_in view backing new out) new out
+            → IsSoundAt view backing (pending_in view backing (record new { is_failed = marked }) out) (record new { is_failed = marked }) out
+        still_sound same s = record { works = same ∙ s.works; file = s.file; l1_table = s.l1_table; reftable = s.reftable; below = s.below; ready = λ k q at. let r = s.ready k q at in record { own = r.own; mapped = r.mapped }; pinned = s.pinned; once = s.once }
+
+        still_works : IsSoundAt view backing (pending_in view backing old out) old out → Works (seen view backing old out) (seen view backing (record new { is_failed = marked }) out) [] []
+        still_works sound = let w = quiet_works sound in record {
+          setting = w.setting;
+          surplus = λ still. w.surplus (quiet_sound sound);
+          stops = λ m starts. let t = w.stops m starts in record { moments = t.moments; contents = t.contents; known = λ still. t.known (quiet_sound sound) };
+        }
+
+        answer_of : (e : ImageError) → IsOutcome e (is_failed new) marked → IsSoundAt view backing (pending_in view backing old out) old out
+            → ((seen view backing (record new { is_failed = marked }) out).is_sound × (guest_of (seen view backing (record new { is_failed = marked }) out) ≡ guest_of (seen view backing old out)))
+            ⊎ (IsFault (refusal_of e) × IsTrue marked)
+        answer_of e (inl failed) sound = inr (subst (λ (x : ImageError). IsFault (refusal_of x)) (sym failed.0) tt, failed.1)
+        answer_of e (inr (inl failed)) sound = inr (subst (λ (x : ImageError). IsFault (refusal_of x)) (sym failed.0) tt, failed.1)
+        answer_of e (inr (inr kept)) sound = inl (still_sound kept.0 (quiet_sound sound), quiet_same sound)
+
+        pub quiet_refuses : (e : ImageError) → failed_after e (is_failed new) marked → number_of new ≡ number_of old → is_failed old ≡ false
+            → Refuses (seen view backing old out) (seen view backing (record new { is_failed = marked }) out) [] [] (refusal_of e) (guest_of (seen view backing (record new { is_failed = marked }) out) ≡ guest_of (seen view backing old out))
+        quiet_refuses e marks number works = record {
+          acts = record { number = number; works = still_works; rests = λ failed. absurd (let f : true ≡ false = sym failed ∙ works in cc) };
+          answer = answer_of e (outcome e (is_failed new) marked marks);
+          fault = is_fault e (is_failed new) marked (outcome e (is_failed new) marked marks);
+        }

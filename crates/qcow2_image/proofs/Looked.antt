@@ -1,0 +1,122 @@
+-- What a lookup finds: the longest run of clusters that are mapped alike, within one L2 table.
+use Rattle.std.proofs.Common.{◌≡◌, ℕ, zero, suc, ◌+◌, ◌-◌, ◌*◌, ◌/◌, ◌%◌, ◌^◌, ◌<◌, ◌≤◌, ◌≢◌, refl, sym, ap, ◌∙◌, arith, subst, min}
+use Rattle.std.proofs.lemmas.Nat.{div-add-mod', div-mul-add, mod_below}
+use Rattle.std.specs.Prelude.{◌==◌}
+use Rattle.std.proofs.Math.Nat.{div-div-eq-div-mul, div-mul-le_self}
+use Rattle.std.proofs.Math.Pow.{pow_mono}
+use Rattle.qcow2_metadata.specs.Bytes.{Bytes}
+use Rattle.qcow2_metadata.specs.declared.header.HeaderFields.{HeaderFields}
+use Rattle.qcow2_metadata.specs.Header.{cluster_size, entries_per_cluster}
+use Rattle.qcow2_metadata.specs.Entries.{l2_entry}
+use Rattle.qcow2_metadata.specs.TableBytes.{entry_at}
+use Rattle.qcow2_metadata.specs.Cover.{cover, cover_of, entry_cover}
+use Rattle.qcow2_metadata.specs.L2Table.{L2TableView}
+use Rattle.qcow2_metadata.specs.declared.l2_mapping.L2Mapping.{L2Mapping}
+use Rattle.qcow2_metadata.specs.declared.l2_mapping.L2Mapping.TheVariants.{Uncovered}
+use Rattle.qcow2_laws.specs.Alike.{IsAlike, IsAlikeAt, IsAlikeRun, IsLongestRun}
+use Rattle.qcow2_laws.specs.Guests.{table_at}
+use Rattle.qcow2_laws.proofs.Places.{Sizes, cover_none, cover_in}
+use Rattle.qcow2_alloc.specs.TableCaches.{IsTableOf}
+use Rattle.qcow2_laws.proofs.Alike.{run_first, run_begins, clusters_on, clusters_end, run_longest}
+use Rattle.qcow2_image.specs.Found.{mapping_of, rest_of_table, l1_index_of, AreAlikeBehind, IsAlikeTo, IsRunBehind}
+
+pub product_le : (m n k : ℕ) → m ≤ n → m * k ≤ n * k
+product_le m n k le = let e : n ≡ m + (n - m) = omega (arith, le) in let f : n * k ≡ m * k + (n - m) * k = ap (λ x. x * k) e ∙ omega arith in omega arith
+
+-- a cluster's number isn't large
+pub cluster_near : (offset bits : ℕ) → offset < 2 ^ 64 → 9 ≤ bits → offset / 2 ^ bits < 2 ^ 62
+cluster_near offset bits lt le =
+    let large : 2 ^ 9 ≤ 2 ^ bits = pow_mono le in
+    let within = div-mul-le_self offset (2 ^ bits) in
+    let much = product_le (2 ^ 9) (2 ^ bits) (offset / 2 ^ bits) large in
+    omega (arith, lt)
+
+-- a table with the known entries says what is known of each cluster that it covers
+pub says_known : (h : HeaderFields) (known : Bytes) (t : L2TableView) (i : ℕ) → Sizes h → table_at h known i ≢ 0 → IsTableOf h t
+    → ((index : ℕ) → index < entries_per_cluster h → entry_at t.bytes index ≡ l2_entry known (table_at h known i) index) → (g : ℕ) → g / entries_per_cluster h ≡ i → mapping_of t g ≡ cover h known g
+says_known h known t i sizes real format entries g is =
+    let here : entry_at t.bytes (g % (2 ^ t.cluster_bits / 8)) ≡ l2_entry known (table_at h known (g / entries_per_cluster h)) (g % entries_per_cluster h) =
+    ap (λ b. entry_at t.bytes (g % (2 ^ b / 8))) format.bits ∙ entries (g % entries_per_cluster h) (mod_below g (entries_per_cluster h) sizes.entries) ∙ ap (λ k. l2_entry known (table_at h known k) (g % entries_per_cluster h)) (sym is) in
+    ap (λ b. cover_of b t.has_zero_bit t.data_is_external (entry_at t.bytes (g % (2 ^ t.cluster_bits / 8)))) format.bits
+    ∙ ap (λ z. cover_of h.cluster_bits z t.data_is_external (entry_at t.bytes (g % (2 ^ t.cluster_bits / 8)))) format.zero_bit
+    ∙ ap (λ x. cover_of h.cluster_bits (h.version == 3) x (entry_at t.bytes (g % (2 ^ t.cluster_bits / 8)))) format.external
+    ∙ ap (λ e. entry_cover h e) here
+    ∙ sym (cover_in h known g (λ none. real (ap (table_at h known) (sym is) ∙ none)))
+
+module _ (h : HeaderFields) (offset : ℕ) (sizes : Sizes h) where
+  -- what lies within the reach of an offset's L2 table has the same L1 entry
+  pub same_table : (i : ℕ) → i < rest_of_table h offset → l1_index_of h (offset + i) ≡ l1_index_of h offset
+  same_table i lt =
+      let whole = cluster_size h * entries_per_cluster h in
+      let split : offset / whole * whole + offset % whole ≡ offset = div-add-mod' offset whole in
+      let e : offset + i ≡ offset / whole * whole + (offset % whole + i) = omega arith in
+      div-div-eq-div-mul (offset + i) (cluster_size h) (entries_per_cluster h) ∙ ap (λ n. n / whole) e ∙ div-mul-add (offset / whole) whole (offset % whole + i) (omega (arith, lt))
+      ∙ sym (div-div-eq-div-mul offset (cluster_size h) (entries_per_cluster h))
+
+  -- without an L2 table all of it is uncovered
+  pub none_found : (known : Bytes) (limit : ℕ) → limit ≤ rest_of_table h offset → table_at h known (l1_index_of h offset) ≡ 0 → IsLongestRun h known offset limit limit
+  none_found known limit le none =
+      let here : cover h known (offset / cluster_size h) ≡ Uncovered = cover_none h known (offset / cluster_size h) none in
+      record {
+        within = omega arith;
+        alike = λ i lt.
+            let there : cover h known ((offset + i) / cluster_size h) ≡ Uncovered = cover_none h known ((offset + i) / cluster_size h) (ap (table_at h known) (same_table i (omega (arith, lt, le))) ∙ none) in
+            subst (λ (v : L2Mapping). IsAlike (((offset + i) / cluster_size h - offset / cluster_size h) * cluster_size h) v (cover h known ((offset + i) / cluster_size h))) (sym here)
+            (subst (λ (v : L2Mapping). IsAlike (((offset + i) / cluster_size h - offset / cluster_size h) * cluster_size h) Uncovered v) (sym there) tt);
+        longest = λ lt. absurd (omega (arith, lt));
+      }
+
+  -- a table that says what is known of the clusters that it covers
+  module _ (known : Bytes) (t : L2TableView) (bits : t.cluster_bits ≡ h.cluster_bits) (says : (g : ℕ) → g / entries_per_cluster h ≡ l1_index_of h offset → mapping_of t g ≡ cover h known g) (max : ℕ)
+      (within : max ≤ rest_of_table h offset) where
+    abbrev pub rest : ℕ
+    rest = cluster_size h - offset % cluster_size h
+
+    -- the cluster behind so many bytes, as the table says
+    said : (k : ℕ) → rest + k * cluster_size h < max → mapping_of t (offset / cluster_size h + k + 1) ≡ cover h known (offset / cluster_size h + k + 1)
+    said k lt =
+        let begins = run_begins h known offset k in
+        let at : (offset + (cluster_size h - offset % cluster_size h + k * cluster_size h)) / cluster_size h ≡ offset / cluster_size h + k + 1 =
+        ap (λ n. n / cluster_size h) (begins ∙ omega arith) ∙ div-mul-add (offset / cluster_size h + k + 1) (cluster_size h) 0 sizes.some in
+        says (offset / cluster_size h + k + 1) (ap (λ n. n / entries_per_cluster h) (sym at) ∙ same_table (cluster_size h - offset % cluster_size h + k * cluster_size h) (omega (arith, lt, within)))
+
+    -- the table's word of a cluster behind is the word of what is known
+    alike_there : (k : ℕ) → rest + k * cluster_size h < max → IsAlikeTo t (offset / cluster_size h) (k + 1)
+        → IsAlike (k * cluster_size h + cluster_size h) (cover h known (offset / cluster_size h)) (cover h known (offset / cluster_size h + k + 1))
+    alike_there k lt alike =
+        let far : (k + 1) * 2 ^ t.cluster_bits ≡ k * cluster_size h + cluster_size h = ap (λ n. (k + 1) * 2 ^ n) bits ∙ omega arith in
+        let next : offset / cluster_size h + (k + 1) ≡ offset / cluster_size h + k + 1 = omega arith in
+        subst (λ (v : L2Mapping). IsAlike (k * cluster_size h + cluster_size h) v (cover h known (offset / cluster_size h + k + 1))) (says (offset / cluster_size h) refl)
+        (subst (λ (v : L2Mapping). IsAlike (k * cluster_size h + cluster_size h) (mapping_of t (offset / cluster_size h)) v) (said k lt)
+        (subst (λ n. IsAlike (k * cluster_size h + cluster_size h) (mapping_of t (offset / cluster_size h)) (mapping_of t n)) next
+        (subst (λ n. IsAlike n (mapping_of t (offset / cluster_size h)) (mapping_of t (offset / cluster_size h + (k + 1)))) far alike)))
+
+    back_there : (k : ℕ) → rest + k * cluster_size h < max
+        → IsAlike (k * cluster_size h + cluster_size h) (cover h known (offset / cluster_size h)) (cover h known (offset / cluster_size h + k + 1)) → IsAlikeTo t (offset / cluster_size h) (k + 1)
+    back_there k lt alike =
+        let far : (k + 1) * 2 ^ t.cluster_bits ≡ k * cluster_size h + cluster_size h = ap (λ n. (k + 1) * 2 ^ n) bits ∙ omega arith in
+        let next : offset / cluster_size h + (k + 1) ≡ offset / cluster_size h + k + 1 = omega arith in
+        subst (λ n. IsAlike n (mapping_of t (offset / cluster_size h)) (mapping_of t (offset / cluster_size h + (k + 1)))) (sym far)
+        (subst (λ n. IsAlike (k * cluster_size h + cluster_size h) (mapping_of t (offset / cluster_size h)) (mapping_of t n)) (sym next)
+        (subst (λ (v : L2Mapping). IsAlike (k * cluster_size h + cluster_size h) (mapping_of t (offset / cluster_size h)) v) (sym (said k lt))
+        (subst (λ (v : L2Mapping). IsAlike (k * cluster_size h + cluster_size h) v (cover h known (offset / cluster_size h + k + 1))) (sym (says (offset / cluster_size h) refl)) alike)))
+
+    module _ (count : ℕ) (near : count * cluster_size h < max - rest + cluster_size h) (alike : AreAlikeBehind t (offset / cluster_size h) count) where
+      before_max : (k : ℕ) → k + 1 ≤ count → rest + k * cluster_size h < max
+      before_max k le = let p = product_le (k + 1) count (cluster_size h) le in let e : (k + 1) * cluster_size h ≡ k * cluster_size h + cluster_size h = omega arith in omega (arith, near)
+
+      alike_upto : (k : ℕ) → k ≤ count → IsAlikeRun h known offset (rest + k * cluster_size h)
+      alike_upto zero le = run_first h known offset (cluster_size h - offset % cluster_size h + 0 * cluster_size h) (omega arith)
+      alike_upto (suc k) le =
+          let step = clusters_on h known offset k (alike_there k (before_max k (omega (arith, le))) (alike (k + 1) (omega arith) (omega (arith, le)))) (alike_upto k (omega (arith, le))) in
+          let e : cluster_size h - offset % cluster_size h + (k * cluster_size h + cluster_size h) ≡ cluster_size h - offset % cluster_size h + suc k * cluster_size h = omega arith in
+          subst (IsAlikeRun h known offset) e step
+
+    pub run_found : (n : ℕ) → IsRunBehind t (offset / cluster_size h) (max - rest) n → IsLongestRun h known offset max (min (rest + n) max)
+    run_found n run =
+        let size : 2 ^ t.cluster_bits ≡ cluster_size h = ap (λ k. 2 ^ k) bits in
+        let whole : n ≡ run.count * cluster_size h = run.whole ∙ ap (λ k. run.count * k) size in
+        let near : run.count * cluster_size h < max - rest + cluster_size h = let l = run.near in omega arith in
+        let all : IsAlikeRun h known offset (rest + n) = subst (λ m. IsAlikeRun h known offset (rest + m)) (sym whole) (alike_upto run.count near run.alike run.count (omega arith)) in
+        run_longest h known offset max (rest + n) all (λ lt at.
+        clusters_end h known offset run.count (λ next. run.longest (omega (arith, lt)) (back_there run.count (omega (arith, lt, whole)) next)) (subst (λ m. IsAlikeAt h known offset (rest + m)) whole at))

@@ -1,0 +1,55 @@
+-- A part of a call that no guest sees: the image is sound again, the guest sees what it saw, and a stop is as safe as before.
+use Rattle.std.proofs.Common.{◌≡◌, ℕ, ◌+◌, ◌-◌, ◌*◌, ◌/◌, ◌%◌, ◌<◌, ◌≤◌, ◌⊎◌, ◌++◌, Bool, true, false, List, [], ◌∷◌, refl, sym, ap, ◌∙◌, subst, arith, inl, inr}
+use Rattle.std.specs.Prelude.{Option, Some, None, slice_get, ◌&&◌, if◌then◌else◌, ◌==◌, is_some}
+use mathlib.Core.Path.{fun_ext}
+use Rattle.image_access.specs.Backing.{BackingView}
+use Rattle.image_access.specs.Moments.{StorageView}
+use Rattle.image_access.proofs.Passing.{passes_if}
+use Rattle.qcow2_metadata.specs.Bytes.{Bytes, byte_at}
+use Rattle.qcow2_metadata.specs.Header.{cluster_size}
+use Rattle.qcow2_metadata.specs.Entries.{count}
+use Rattle.qcow2_metadata.specs.Named.{named}
+use Rattle.qcow2_laws.specs.Guard.{Pending}
+use Rattle.qcow2_laws.specs.Leads.{Stand, IsSound}
+use Rattle.qcow2_laws.proofs.Guests.{named-is}
+use Rattle.qcow2_laws.proofs.Places.{Sizes-from}
+use Rattle.qcow2_laws.proofs.Tops.{for_tables-top, IsTop-top}
+use Rattle.qcow2_alloc.specs.declared.clusters_to_free.ClusterKind.{ClusterKind}
+use Rattle.qcow2_alloc.specs.declared.clusters_to_free.ClustersToFreeEntry.{ClustersToFreeEntry}
+use Rattle.qcow2_image.specs.declared.image.Qcow2.{Qcow2}
+use Rattle.qcow2_image.specs.declared.prepared.Prepared.{Prepared}
+use Rattle.qcow2_image.specs.Views.{run_of, of_data, of_tables, to_free, held_by, over_all, surplus_in, pending_in}
+use Rattle.qcow2_alloc.specs.ImageFile.{stand_in}
+
+-- ---- what is pending
+
+pub free_more : (kind : ClusterKind → ℕ → ℕ) (es fs : List ClustersToFreeEntry) (k : ℕ) → to_free kind (es ++ fs) k ≡ to_free kind es k + to_free kind fs k
+free_more kind [] fs k = sym (omega arith)
+free_more kind (e ∷ es) fs k = let rest = free_more kind es fs k in omega arith
+
+-- what is counted more than named and pending is the surplus
+pub surplus_is : (s : Stand) → IsSound s → (k : ℕ)
+    → s.pending.surplus k ≡ count s.header s.known k - (named s.header s.known k + s.pending.held k + s.pending.fresh k + s.pending.spent k + s.pending.dropped k)
+surplus_is s sound k =
+    let sizes = Sizes-from s.header s.known (IsTop-top s.header s.base s.known sound.same_top sound.top).header_reads in
+    let named = named-is s.header s.known k sizes in
+    let fixed = for_tables-top s.header s.base s.known k sound.same_top in
+    let tally = (sound.always k).tally in
+    omega arith
+
+same_pending : (p q : Pending) → p.held ≡ q.held → p.fresh ≡ q.fresh → p.spent ≡ q.spent → p.dropped ≡ q.dropped → p.surplus ≡ q.surplus → p ≡ q
+same_pending p q held fresh spent dropped surplus =
+    ap (λ f. record p { held = f }) held ∙ ap (λ f. record p { held = q.held; fresh = f }) fresh ∙ ap (λ f. record p { held = q.held; fresh = q.fresh; spent = f }) spent
+    ∙ ap (λ f. record p { held = q.held; fresh = q.fresh; spent = q.spent; dropped = f }) dropped ∙ ap (λ f. record q { surplus = f }) surplus
+
+module _ {S F : Type 0} (view : S → StorageView) (backing : F → BackingView) (image : Qcow2 S F) (out : List (Option Prepared)) (p : Pending) where
+  -- only this is pending
+  pub record IsOnly : Type 0 where
+    pub held : (k : ℕ) → p.held k ≡ over_all held_by out k
+    pub fresh : (k : ℕ) → p.fresh k ≡ 0
+    pub spent : (k : ℕ) → p.spent k ≡ to_free of_tables image.file.free_list k
+    pub dropped : (k : ℕ) → p.dropped k ≡ to_free of_data image.file.free_list k
+
+  pub pending_is : IsSound (stand_in view image.file p) → IsOnly → p ≡ pending_in view backing image out
+  pending_is sound only = same_pending p (pending_in view backing image out) (fun_ext only.held) (fun_ext only.fresh) (fun_ext only.spent) (fun_ext only.dropped)
+      (fun_ext (λ k. surplus_is (stand_in view image.file p) sound k ∙ (let held = only.held k in let fresh = only.fresh k in let spent = only.spent k in let dropped = only.dropped k in omega arith)))

@@ -1,0 +1,58 @@
+use Rattle.std.proofs.Common.{◌≡◌, ℕ, Bool, false, List, Option, [], refl, sym, ap, ◌∙◌, subst, IfOk}
+use Rattle.qcow2_laws.specs.Calls.{Does, Refuses, IsSame}
+use Rattle.qcow2_laws.specs.Views.{guest_of}
+use Rattle.qcow2_image.specs.declared.image.Qcow2.{Qcow2}
+use Rattle.qcow2_image.specs.declared.prepared.Prepared.{Prepared}
+use Rattle.qcow2_image.specs.Found.{IsFound}
+use Rattle.qcow2_image.specs.Image.{is_failed}
+use Rattle.qcow2_image.specs.Refusals.{Marks}
+use Rattle.qcow2_image.specs.Views.{seen, pending_in, IsSoundAt}
+use Rattle.qcow2_image.specs.Calls.{refusal_of}
+use Rattle.qcow2_image.proofs.Answers.{answers_err, usable_works}
+use Rattle.qcow2_image.proofs.Called.{Quietly, keeps_then, quiet_does, quiet_refuses}
+use Rattle.qcow2_image.proofs.image.Qcow2.get_mapping.Goals as goal
+
+pub returns-in_err-kind-clause-sees : goal.returns-in_err-kind-clause-sees
+returns-in_err-kind-clause-sees g c =
+    let view = g.S.Storage.view in
+    let below = g.F.BackingDisk.backing in
+    let old = c.args.self.now in
+    let new = c.look_up-found.new.self in
+    let e = c.in_err-kind.field-0.0 in
+    let marks = subst (λ r. Marks r (is_failed new) (is_failed c.settled.new.self)) (sym c.settled.ensures.answer ∙ c.in_err-kind.was) c.settled.ensures.marks in
+    answers_err view below old c.settled.new.self [] (λ found was is. is ≡ was) c.from_residual-in_err-kind.result e c.from_residual-in_err-kind.ensures
+    (λ out.
+    let quiet : IsSoundAt view below (pending_in view below old out) old out → Quietly view below out old new = λ sound.
+    let p = pending_in view below old out in
+    let first = c.begin.ensures.keeps p out sound in
+    record { keeps = keeps_then view below out old c.begin.new.self new p p p (λ k h. h) first (c.look_up-found.ensures.keeps p out first.sound); list = c.look_up-found.ensures.list ∙ c.begin.ensures.list } in
+    subst (λ (image : Qcow2 _ _). Refuses (seen view below old out) (seen view below image out) [] [] (refusal_of e) (IsSame (seen view below old out) (seen view below image out))) (sym c.settled.ensures.rest)
+    (quiet_refuses view below out old new quiet (is_failed c.settled.new.self) e marks (c.look_up-found.ensures.stays.image.number ∙ c.begin.ensures.stays.image.number)
+    (usable_works old c.check_usable.result c.in_ok-check_usable.was c.check_usable.ensures)))
+
+pub returns-clause-sees : goal.returns-clause-sees
+returns-clause-sees g c = λ out.
+    let view = g.S.Storage.view in
+    let below = g.F.BackingDisk.backing in
+    let old = c.args.self.now in
+    let new = c.look_up-found.new.self in
+    let quiet : IsSoundAt view below (pending_in view below old out) old out → Quietly view below out old new = λ sound.
+    let p = pending_in view below old out in
+    let first = c.begin.ensures.keeps p out sound in
+    record { keeps = keeps_then view below out old c.begin.new.self new p p p (λ k h. h) first (c.look_up-found.ensures.keeps p out first.sound); list = c.look_up-found.ensures.list ∙ c.begin.ensures.list } in
+    let marks = subst (λ r. Marks r (is_failed new) (is_failed c.settled.new.self)) (sym c.settled.ensures.answer ∙ c.in_ok-kind.was) c.settled.ensures.marks in
+    let same : c.settled.new.self ≡ new = c.settled.ensures.rest ∙ ap (λ f. record new { is_failed = f }) marks in
+    subst (λ (image : Qcow2 _ _). Does (seen view below old out) (seen view below image out) [] [] (guest_of (seen view below image out) ≡ guest_of (seen view below old out))) (sym same)
+    (quiet_does view below out old new quiet (c.look_up-found.ensures.stays.image.number ∙ c.begin.ensures.stays.image.number) (usable_works old c.check_usable.result c.in_ok-check_usable.was c.check_usable.ensures))
+
+pub returns-clause-run : goal.returns-clause-run
+returns-clause-run g c = λ out sound.
+    let view = g.S.Storage.view in
+    let below = g.F.BackingDisk.backing in
+    let new = c.look_up-found.new.self in
+    let p = pending_in view below c.args.self.now out in
+    let marks = subst (λ r. Marks r (is_failed new) (is_failed c.settled.new.self)) (sym c.settled.ensures.answer ∙ c.in_ok-kind.was) c.settled.ensures.marks in
+    let same : c.settled.new.self ≡ new = c.settled.ensures.rest ∙ ap (λ f. record new { is_failed = f }) marks in
+    let found = c.look_up-found.ensures.found p out (c.begin.ensures.keeps p out sound).sound in
+    subst (λ (image : Qcow2 _ _). IsFound view image c.args.offset c.args.max c.in_ok-kind.kind c.in_ok-kind.length) (sym same)
+    (subst (λ r. IfOk r (λ x. IsFound view new c.args.offset c.args.max x.0 x.1)) (sym c.settled.ensures.answer ∙ c.in_ok-kind.was) found)

@@ -1,0 +1,75 @@
+use Rattle.std.proofs.Common.{◌≡◌, ◌≢◌, ℕ, ◌+◌, ◌-◌, ◌*◌, ◌/◌, ◌%◌, ◌<◌, ◌≤◌, Bool, false, refl, sym, ap, ◌∙◌, subst, arith, min, is_some, List, Option, Some, None}
+use Rattle.std.proofs.lemmas.Nat.{mod_below}
+use Rattle.qcow2_metadata.specs.Bytes.{Bytes}
+use Rattle.qcow2_metadata.specs.declared.header.HeaderFields.{HeaderFields}
+use Rattle.qcow2_metadata.specs.Header.{cluster_size, entries_per_cluster}
+use Rattle.qcow2_metadata.specs.Entries.{host_offset}
+use Rattle.qcow2_metadata.specs.Cover.{cover}
+use Rattle.qcow2_laws.specs.Alike.{IsLongestRun}
+use Rattle.qcow2_laws.specs.Guard.{Pending}
+use Rattle.qcow2_laws.specs.Guests.{table_at}
+use Rattle.qcow2_laws.proofs.Places.{Sizes, Sizes-from, cover_none}
+use Rattle.qcow2_laws.proofs.Tops.{IsTop-top}
+use Rattle.qcow2_alloc.specs.ImageFile.{contents_in, known_in}
+use Rattle.qcow2_image.specs.declared.prepared.Prepared.{Prepared}
+use Rattle.qcow2_image.specs.Found.{kind_at, l1_index_of, l2_index_of, rest_of_table, NamesTable, IsRunFrom}
+use Rattle.qcow2_image.specs.Steps.{Keeps}
+use Rattle.qcow2_image.specs.Views.{IsSoundAt}
+use Rattle.qcow2_image.proofs.Loading.{caches_moved, with_caches, if_ok}
+use Rattle.qcow2_image.proofs.Looked.{none_found}
+use Rattle.qcow2_image.proofs.image.Qcow2.look_up.Goals as goal
+
+pub returns-in_err-l2_get_or_insert-in-Some-clause-keeps :
+    goal.returns-in_err-l2_get_or_insert-in-Some-clause-keeps
+returns-in_err-l2_get_or_insert-in-Some-clause-keeps g c = λ p out sound.
+    caches_moved g.S.Storage.view g.F.BackingDisk.backing c.args.self.now out p sound c.l2_get_or_insert.new.storage c.l2_get_or_insert.new.self
+    (c.l2_get_or_insert.ensures.keeps c.args.self.now.file.header.fields p sound.file.honest sound.file.caches) c.l2_get_or_insert.ensures.marks.room c.l2_get_or_insert.ensures.marks.pins
+
+pub returns-in_ok-l2_get_or_insert-in-Some-clause-keeps :
+    goal.returns-in_ok-l2_get_or_insert-in-Some-clause-keeps
+returns-in_ok-l2_get_or_insert-in-Some-clause-keeps g c = λ p out sound.
+    caches_moved g.S.Storage.view g.F.BackingDisk.backing c.args.self.now out p sound c.l2_get_or_insert.new.storage c.l2_get_or_insert.new.self
+    (c.l2_get_or_insert.ensures.keeps c.args.self.now.file.header.fields p sound.file.honest sound.file.caches) c.l2_get_or_insert.ensures.marks.room c.l2_get_or_insert.ensures.marks.pins
+
+pub returns-in-None-clause-found : goal.returns-in-None-clause-found
+returns-in-None-clause-found g c = λ p out sound.
+    let h = c.args.self.now.file.header.fields in
+    let known = known_in g.S.Storage.view c.args.self.now.file in
+    let guarded = sound.file.caches.kept.kept.guarded in
+    let sizes = Sizes-from h known (IsTop-top h (contents_in g.S.Storage.view c.args.self.now.file) known guarded.same_top guarded.top).header_reads in
+    let names : NamesTable g.S.Storage.view c.args.self.now c.args.offset None = subst (NamesTable g.S.Storage.view c.args.self.now c.args.offset) c.in-None.is (c.in_ok-l2_cluster.ensures.names sound.l1_table) in
+    let none : table_at h known (l1_index_of h c.args.offset) ≡ 0 = ap host_offset (sym (guarded.same_top.l1 (l1_index_of h c.args.offset))) ∙ names in
+    let limit : c.min-max.result ≡ min (min c.args.max (h.size - c.args.offset)) (rest_of_table h c.args.offset) =
+    let a = c.min-max.ensures in let b = c.min.ensures in let s = c.size-size.ensures in let r = c.rest_of_table.ensures.value in omega arith in
+    record {
+      past = λ le. absurd (let e = c.if-offset-size.false in let s = c.size-size.ensures in omega arith);
+      run = λ lt. record {
+        kind_is = c.uncovered.ensures.value ∙ ap (kind_at h (is_some c.args.self.now.backing) c.args.offset) (sym (cover_none h known (c.args.offset / cluster_size h) none));
+        longest = subst (λ m. IsLongestRun h known c.args.offset m c.min-max.result) limit (none_found h c.args.offset sizes known c.min-max.result (omega (arith, limit)) none);
+      };
+    }
+
+pub returns-in_ok-l2_get_or_insert-in-Some-clause-found :
+    goal.returns-in_ok-l2_get_or_insert-in-Some-clause-found
+returns-in_ok-l2_get_or_insert-in-Some-clause-found g c = λ p out sound.
+    let h = c.args.self.now.file.header.fields in
+    let stay = c.l2_get_or_insert.ensures.keeps h p sound.file.honest sound.file.caches in
+    let kept = caches_moved g.S.Storage.view g.F.BackingDisk.backing c.args.self.now out p sound c.l2_get_or_insert.new.storage c.l2_get_or_insert.new.self stay c.l2_get_or_insert.ensures.marks.room
+    c.l2_get_or_insert.ensures.marks.pins in
+    let image = with_caches g.S.Storage.view g.F.BackingDisk.backing c.args.self.now out p sound c.l2_get_or_insert.new.storage c.l2_get_or_insert.new.self in
+    let guarded = sound.file.caches.kept.kept.guarded in
+    let known = known_in g.S.Storage.view image.file in
+    let sizes = Sizes-from h (known_in g.S.Storage.view c.args.self.now.file) (IsTop-top h (contents_in g.S.Storage.view c.args.self.now.file) (known_in g.S.Storage.view c.args.self.now.file) guarded.same_top guarded.top).header_reads in
+    let names : NamesTable g.S.Storage.view c.args.self.now c.args.offset (Some c.in-Some.table) =
+    subst (NamesTable g.S.Storage.view c.args.self.now c.args.offset) c.in-Some.is (c.in_ok-l2_cluster.ensures.names sound.l1_table) in
+    let there : table_at h known (l1_index_of h c.args.offset) ≡ table_at h (contents_in g.S.Storage.view c.args.self.now.file) (l1_index_of h c.args.offset) =
+    ap (λ b. table_at h b (l1_index_of h c.args.offset)) stay.known ∙ ap host_offset (sym (guarded.same_top.l1 (l1_index_of h c.args.offset))) in
+    let limit : c.min-max.result ≡ min (min c.args.max (h.size - c.args.offset)) (rest_of_table h c.args.offset) =
+    let a = c.min-max.ensures in let b = c.min.ensures in let s = c.size-size.ensures in let r = c.rest_of_table.ensures.value in omega arith in
+    if_ok c.run_in_table.result
+    (λ x run. record {
+      past = λ le. absurd (let e = c.if-offset-size.false in let s = c.size-size.ensures in omega arith);
+      run = λ lt. subst (λ m. IsRunFrom g.S.Storage.view image c.args.offset m x.0 x.1) limit run;
+    })
+    (c.run_in_table.ensures.run p kept.sound.file
+    (record { real = λ none. names.1 (sym there ∙ none); place = there ∙ names.0; within = mod_below (c.args.offset / cluster_size h) (entries_per_cluster h) sizes.entries }) (omega (arith, limit)))

@@ -1,0 +1,41 @@
+use Rattle.std.proofs.Common.{◌≡◌, ℕ, ◌+◌, ◌-◌, ◌*◌, ◌/◌, ◌%◌, ◌^◌, ◌<◌, ◌≤◌, sym, ap, ◌∙◌, subst, arith, min, refl, is_some}
+use Rattle.qcow2_metadata.specs.Header.{cluster_size, entries_per_cluster}
+use Rattle.qcow2_metadata.specs.Cover.{cover}
+use Rattle.qcow2_laws.specs.Alike.{IsLongestRun}
+use Rattle.qcow2_laws.proofs.Places.{Sizes-from}
+use Rattle.qcow2_laws.proofs.Tops.{IsTop-top}
+use Rattle.qcow2_alloc.specs.ImageFile.{contents_in, known_in}
+use Rattle.qcow2_image.specs.Found.{mapping_of, kind_at, l1_index_of, IsRunBehind}
+use Rattle.qcow2_image.proofs.Looked.{cluster_near, says_known, run_found}
+use Rattle.qcow2_image.proofs.image.Qcow2.run_in_table.Goals as goal
+
+pub alike_behind-requires-clause-near : goal.alike_behind-requires-clause-near
+alike_behind-requires-clause-near g c =
+    subst (λ n. n < 2 ^ 62) (sym (c.cluster-2.ensures ∙ ap (λ o. o / 2 ^ c.cluster_bits-bits.result) c.new-guest.ensures)) (cluster_near c.args.offset c.cluster_bits-bits.result (omega (arith, c.ranges.offset.fits)) c.cluster_bits-bits.ensures.low)
+
+pub returns-clause-run : goal.returns-clause-run
+returns-clause-run g c = λ p sound at le.
+    let h = c.args.self.now.file.header.fields in
+    let known = known_in g.S.Storage.view c.args.self.now.file in
+    let guarded = sound.caches.kept.kept.guarded in
+    let sizes = Sizes-from h known (IsTop-top h (contents_in g.S.Storage.view c.args.self.now.file) known guarded.same_top guarded.top).header_reads in
+    let t = c.in-Some.table.now in
+    let shows = λ (index : ℕ) (lt : index < entries_per_cluster h). c.in-Some.ensures.shows h p (contents_in g.S.Storage.view c.args.self.now.file) (l1_index_of h c.args.offset) index sound.caches (record { real = at.real; place = at.place; within = lt }) in
+    let format = (shows (c.args.offset / cluster_size h % entries_per_cluster h) at.within).format in
+    let says = says_known h known t (l1_index_of h c.args.offset) sizes at.real format (λ index lt. (shows index lt).entry) in
+    let bits = c.cluster_bits-bits.ensures.value in
+    let own : c.cluster.result ≡ c.args.offset / cluster_size h = c.cluster.ensures ∙ ap (λ o. o / 2 ^ c.cluster_bits-bits.result) c.new-guest.ensures ∙ ap (λ b. c.args.offset / 2 ^ b) bits in
+    let own2 : c.cluster-2.result ≡ c.args.offset / cluster_size h = c.cluster-2.ensures ∙ ap (λ o. o / 2 ^ c.cluster_bits-bits.result) c.new-guest.ensures ∙ ap (λ b. c.args.offset / 2 ^ b) bits in
+    let first : c.in_ok-first.first ≡ cover h known (c.args.offset / cluster_size h) = c.in_ok-first.ensures.ok ∙ ap (mapping_of t) own ∙ says (c.args.offset / cluster_size h) refl in
+    let rest : c.remaining_in_cluster-rest.result ≡ cluster_size h - c.args.offset % cluster_size h =
+    let e = c.remaining_in_cluster-rest.ensures in
+    let f : c.new-guest.result % 2 ^ c.cluster_bits-bits.result ≡ c.args.offset % cluster_size h = ap (λ o. o % 2 ^ c.cluster_bits-bits.result) c.new-guest.ensures ∙ ap (λ b. c.args.offset % 2 ^ b) bits in
+    let k : 2 ^ c.cluster_bits-bits.result ≡ cluster_size h = ap (λ b. 2 ^ b) bits in omega arith in
+    let more : c.saturating_sub.result ≡ c.args.max - (cluster_size h - c.args.offset % cluster_size h) = c.saturating_sub.ensures ∙ ap (λ n. c.args.max - n) rest in
+    let behind : IsRunBehind t (c.args.offset / cluster_size h) (c.args.max - (cluster_size h - c.args.offset % cluster_size h)) c.in_ok-behind.behind =
+    subst (λ n. IsRunBehind t (c.args.offset / cluster_size h) n c.in_ok-behind.behind) more (subst (λ n. IsRunBehind t n c.saturating_sub.result c.in_ok-behind.behind) own2 c.in_ok-behind.ensures.run) in
+    let is : c.min.result ≡ min (cluster_size h - c.args.offset % cluster_size h + c.in_ok-behind.behind) c.args.max = c.min.ensures ∙ ap (λ n. min (n + c.in_ok-behind.behind) c.args.max) rest in
+    record {
+      kind_is = c.kind_of.ensures.value ∙ ap (kind_at h (is_some c.args.self.now.backing) c.args.offset) first;
+      longest = subst (IsLongestRun h known c.args.offset c.args.max) (sym is) (run_found h c.args.offset sizes known t format.bits says c.args.max le c.in_ok-behind.behind behind);
+    }

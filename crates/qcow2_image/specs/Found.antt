@@ -1,0 +1,78 @@
+-- What a lookup finds: the kind of a mapping, and how far it goes.
+use Rattle.std.specs.Prelude.{ℕ, ◌+◌, ◌-◌, ◌*◌, ◌/◌, ◌%◌, ◌^◌, ◌≡◌, ◌<◌, ◌≤◌, ◌≢◌, Bool, true, false, is_some, List, length, Option, Some, None, min, if◌then◌else◌}
+use Rattle.image_access.specs.Moments.{StorageView}
+use Rattle.qcow2_metadata.specs.Bytes.{Bytes, byte_at}
+use Rattle.qcow2_metadata.specs.Header.{cluster_size, entries_per_cluster}
+use Rattle.qcow2_metadata.specs.Cover.{cover}
+use Rattle.qcow2_metadata.specs.L2Table.{L2TableView, entries_of, cover_at}
+use Rattle.qcow2_metadata.specs.declared.header.HeaderFields.{HeaderFields}
+use Rattle.qcow2_metadata.specs.declared.l2_mapping.L2Mapping.{L2Mapping}
+use Rattle.qcow2_metadata.specs.declared.l2_mapping.L2Mapping.TheVariants.{Data, Zero, Compressed, Uncovered}
+use Rattle.qcow2_laws.specs.Alike.{IsAlike, IsLongestRun}
+use Rattle.qcow2_laws.specs.Guests.{table_at}
+use Rattle.qcow2_alloc.specs.ImageFile.{contents_in, known_in}
+use Rattle.qcow2_image.specs.declared.image.Qcow2.{Qcow2}
+use Rattle.qcow2_image.specs.Image.{size_of}
+use Rattle.qcow2_image.specs.declared.mapping.MappingKind.{MappingKind}
+use Rattle.qcow2_image.specs.declared.mapping.MappingKind.TheVariants as Kind
+use Rattle.qcow2_image.specs.declared.mapping.Place.TheVariants.{Image}
+
+-- what a cover means at a guest offset, with a backing disk or without
+abbrev pub kind_at : HeaderFields → Bool → ℕ → L2Mapping → MappingKind
+kind_at h backed offset (Data host copied) = Kind.Raw Image (host + offset % cluster_size h) copied
+kind_at h backed offset (Zero kept) = Kind.Zero true
+kind_at h backed offset (Compressed place sectors) = Kind.Special offset
+kind_at h backed offset Uncovered = if backed then Kind.Indirect offset else Kind.Zero false
+
+-- the L1 entry, and the entry of its L2 table, that cover an offset
+abbrev pub l1_index_of : HeaderFields → ℕ → ℕ
+l1_index_of h offset = offset / cluster_size h / entries_per_cluster h
+
+abbrev pub l2_index_of : HeaderFields → ℕ → ℕ
+l2_index_of h offset = offset / cluster_size h % entries_per_cluster h
+
+-- how far the L2 table of an offset reaches behind it
+abbrev pub rest_of_table : HeaderFields → ℕ → ℕ
+rest_of_table h offset = cluster_size h * entries_per_cluster h - offset % (cluster_size h * entries_per_cluster h)
+
+-- these bytes stand at a place of a file
+abbrev pub AreBytesOf : Bytes → ℕ → List ℕ → Type 0
+AreBytesOf b place bytes = (i : ℕ) → i < length bytes → byte_at bytes i ≡ b (place + i)
+
+-- what a table says of a guest cluster that it covers
+abbrev pub mapping_of : L2TableView → ℕ → L2Mapping
+mapping_of table guest = cover_at table (guest % entries_of table)
+
+-- the k-th cluster behind one is mapped like it
+abbrev pub IsAlikeTo : L2TableView → ℕ → ℕ → Type 0
+IsAlikeTo table guest k = IsAlike (k * 2 ^ table.cluster_bits) (mapping_of table guest) (mapping_of table (guest + k))
+
+-- n clusters behind it are
+abbrev pub AreAlikeBehind : L2TableView → ℕ → ℕ → Type 0
+AreAlikeBehind table guest n = (k : ℕ) → 0 < k → k ≤ n → IsAlikeTo table guest k
+
+-- n bytes are clusters behind one that are mapped like it, up to a limit as many as there are
+pub record IsRunBehind (table : L2TableView) (guest max n : ℕ) : Type 0 where
+  pub count : ℕ
+  pub whole : n ≡ count * 2 ^ table.cluster_bits
+  pub near : n < max + 2 ^ table.cluster_bits
+  pub alike : AreAlikeBehind table guest count
+  pub longest : n < max → ¬ IsAlikeTo table guest (count + 1)
+
+module _ {S F : Type 0} (view : S → StorageView) (image : Qcow2 S F) (offset : ℕ) where
+  -- the L1 entry of an offset names the L2 table in this cluster, or none
+  abbrev pub NamesTable : Option ℕ → Type 0
+  NamesTable None = table_at image.file.header.fields (contents_in view image.file) (l1_index_of image.file.header.fields offset) ≡ 0
+  NamesTable (Some cluster) =
+      (table_at image.file.header.fields (contents_in view image.file) (l1_index_of image.file.header.fields offset) ≡ cluster * cluster_size image.file.header.fields)
+      × (table_at image.file.header.fields (contents_in view image.file) (l1_index_of image.file.header.fields offset) ≢ 0)
+
+  -- The longest run of clusters that are mapped alike, up to a limit: its kind, and its length.
+  pub record IsRunFrom (limit : ℕ) (kind : MappingKind) (n : ℕ) : Type 0 where
+    pub kind_is : kind ≡ kind_at image.file.header.fields (is_some image.backing) offset (cover image.file.header.fields (known_in view image.file) (offset / cluster_size image.file.header.fields))
+    pub longest : IsLongestRun image.file.header.fields (known_in view image.file) offset limit n
+
+  -- nothing at or past the size; else such a run within one L2 table and below the size
+  pub record IsFound (max : ℕ) (kind : MappingKind) (n : ℕ) : Type 0 where
+    pub past : size_of image ≤ offset → (kind ≡ Kind.Eof) × (n ≡ 0)
+    pub run : offset < size_of image → IsRunFrom (min (min max (size_of image - offset)) (rest_of_table image.file.header.fields offset)) kind n

@@ -1,0 +1,46 @@
+-- What the parts of a call do to a sound image.
+use Rattle.std.specs.Prelude.{ℕ, ◌+◌, ◌-◌, ◌≡◌, ◌⊎◌, ◌++◌, true, List, [], Option}
+use Rattle.image_access.specs.Backing.{BackingView}
+use Rattle.image_access.specs.Moments.{StorageView}
+use Rattle.qcow2_metadata.specs.Entries.{l1_entry, is_copied}
+use Rattle.qcow2_laws.specs.Guard.{Pending}
+use Rattle.qcow2_laws.specs.Leads.{Stand, Leads, Endures}
+use Rattle.qcow2_laws.specs.Unseen.{IsUnseen}
+use Rattle.qcow2_alloc.specs.declared.clusters_to_free.ClustersToFreeEntry.{ClustersToFreeEntry}
+use Rattle.qcow2_alloc.specs.declared.error.ImageError.{ImageError}
+use Rattle.qcow2_alloc.specs.ImageFile.{view_in, known_in, stand_in, nothing_given, Breaks}
+use Rattle.qcow2_image.specs.declared.image.Qcow2.{Qcow2}
+use Rattle.qcow2_image.specs.declared.prepared.Prepared.{Prepared}
+use Rattle.qcow2_image.specs.Views.{of_data, of_tables, to_free, backing_bytes, IsSoundAt}
+
+-- an L2 table that is marked copied stays where it is
+abbrev pub KeepsCopied : Stand → Stand → Type 0
+KeepsCopied old new = (i : ℕ) → is_copied (l1_entry old.header old.base i) ≡ true → l1_entry old.header new.base i ≡ l1_entry old.header old.base i
+
+module _ {S F : Type 0} where
+  -- more clusters are to be freed than before
+  pub record ListGrows (old new : Qcow2 S F) : Type 0 where
+    pub more : List ClustersToFreeEntry
+    pub is : new.file.free_list ≡ old.file.free_list ++ more
+
+  -- what is pending, with those
+  abbrev pub following : Pending → Qcow2 S F → Qcow2 S F → Pending
+  following p old new = record p {
+    spent = λ k. p.spent k + (to_free of_tables new.file.free_list k - to_free of_tables old.file.free_list k);
+    dropped = λ k. p.dropped k + (to_free of_data new.file.free_list k - to_free of_data old.file.free_list k);
+  }
+
+  module _ (view : S → StorageView) (backing : F → BackingView) where
+    -- Nothing changes that a guest sees, and all is sound again, from what was pending to what is. At each moment what was kept is kept.
+    pub record Keeps (p p' : Pending) (old new : Qcow2 S F) (out : List (Option Prepared)) : Type 0 where
+      pub sound : IsSoundAt view backing p' new out
+      pub leads : Leads (stand_in view old.file p) (stand_in view new.file p') nothing_given []
+      pub since : Endures (view_in view old.file) (view_in view new.file) (known_in view old.file) nothing_given []
+      pub unseen : IsUnseen (stand_in view old.file p) (stand_in view new.file p')
+      pub copied : KeepsCopied (stand_in view old.file p) (stand_in view new.file p')
+      pub below : backing_bytes view backing new.backing ≡ backing_bytes view backing old.backing
+      pub list : ListGrows old new
+
+    -- a part of a call that was refused: all is sound as before but for what is to be freed; or it broke off
+    abbrev pub Leaves : Pending → Qcow2 S F → Qcow2 S F → List (Option Prepared) → ImageError → Type 0
+    Leaves p old new out e = Keeps p (following p old new) old new out ⊎ Breaks view old.file new.file e

@@ -1,0 +1,236 @@
+-- What guests read of data that stand in a row, and of clusters that are mapped alike; and how long a run of these is.
+use Rattle.std.proofs.Common.{◌≡◌, ℕ, ◌+◌, ◌-◌, ◌*◌, ◌/◌, ◌%◌, ◌<◌, ◌≤◌, ◌⊎◌, Bool, refl, sym, ap, ◌∙◌, arith, inl, inr, subst, min}
+use Rattle.std.specs.Prelude.{Option}
+use Rattle.std.proofs.lemmas.Bool.{cases_eq, cases_lt}
+use Rattle.std.proofs.lemmas.Nat.{div-add-mod', div-mul-add, mod_below, mod-mul-add, pow_pos}
+use Rattle.qcow2_metadata.specs.Bytes.{Bytes}
+use Rattle.qcow2_metadata.specs.declared.header.HeaderFields.{HeaderFields}
+use Rattle.qcow2_metadata.specs.Header.{cluster_size}
+use Rattle.qcow2_metadata.specs.Cover.{cover}
+use Rattle.qcow2_metadata.specs.Guest.{known_byte}
+use Rattle.qcow2_metadata.specs.declared.l2_mapping.L2Mapping.{L2Mapping}
+use Rattle.qcow2_metadata.specs.declared.l2_mapping.L2Mapping.TheVariants.{Data, Zero, Compressed, Uncovered}
+use Rattle.qcow2_laws.specs.Disk.{disk}
+use Rattle.qcow2_laws.specs.Guests.{names}
+use Rattle.qcow2_laws.specs.Leads.{Stand, IsSound}
+use Rattle.qcow2_laws.specs.Alike.{IsDataAt, AreDataAt, IsAlike, IsAlikeAt, IsAlikeRun, IsLongestRun}
+use Rattle.qcow2_laws.proofs.Places.{in_one, div_mono}
+use Rattle.qcow2_laws.proofs.Shown.{shown_data, shown_zero, shown_uncovered, data_aligned, data_named, data_unlaid}
+
+-- ---- a guest byte that stands at a place
+module _ (s : Stand) (sound : IsSound s) (copied : Bool) (o place : ℕ) (at : IsDataAt s.header s.known copied o place) where
+  pub at_cluster : place / cluster_size s.header ≡ at.0 / cluster_size s.header
+  at_cluster =
+      ap (λ n. n / cluster_size s.header) (sym at.2)
+      ∙ in_one (cluster_size s.header) at.0 (o % cluster_size s.header) (data_aligned s sound (o / cluster_size s.header) at.0 copied at.1) (mod_below o (cluster_size s.header) (pow_pos s.header.cluster_bits))
+
+  pub at_named : names s.header s.known (place / cluster_size s.header) (o / cluster_size s.header) ≡ 1
+  at_named = ap (λ c. names s.header s.known c (o / cluster_size s.header)) at_cluster ∙ data_named s sound (o / cluster_size s.header) at.0 copied at.1
+
+  pub at_unlaid : s.base place ≡ s.known place
+  at_unlaid =
+      subst (λ n. s.base n ≡ s.known n) at.2
+      (data_unlaid s sound (o / cluster_size s.header) at.0 copied at.1 (o % cluster_size s.header) (mod_below o (cluster_size s.header) (pow_pos s.header.cluster_bits)))
+
+  pub at_shown : (backing : Bytes) → (disk s.known backing).value o ≡ known_byte (s.base place)
+  at_shown backing = shown_data s sound backing o at.0 copied at.1 ∙ ap (λ n. known_byte (s.base n)) at.2
+
+-- ---- bytes that stand in a row
+
+-- part of them
+pub are_part : (h : HeaderFields) (b : Bytes) (copied : Bool) (offset place n at m : ℕ) → at + m ≤ n → AreDataAt h b copied offset place n → AreDataAt h b copied (offset + at) (place + at) m
+are_part h b copied offset place n at m le are i lt =
+    let from : offset + (at + i) ≡ offset + at + i = omega arith in
+    let to : place + (at + i) ≡ place + at + i = omega arith in
+    subst (IsDataAt h b copied (offset + at + i)) to (subst (λ o. IsDataAt h b copied o (place + (at + i))) from (are (at + i) (omega arith)))
+
+-- where their covers stay they stand there still
+pub are_still : (h : HeaderFields) (b c : Bytes) (copied : Bool) (offset place n : ℕ) → ((i : ℕ) → i < n → cover h b ((offset + i) / cluster_size h) ≡ cover h c ((offset + i) / cluster_size h))
+    → AreDataAt h b copied offset place n → AreDataAt h c copied offset place n
+are_still h b c copied offset place n same are i lt = let at = are i lt in (at.0, sym (same i lt) ∙ at.1, at.2)
+
+-- ---- what is mapped alike
+pub alike_self : (v : L2Mapping) → IsAlike 0 v v
+alike_self (Data host copied) = (omega arith, refl)
+alike_self (Zero kept) = tt
+alike_self (Compressed host sectors) = tt
+alike_self Uncovered = tt
+
+alike_data : (distance host : ℕ) (copied : Bool) (v : L2Mapping) → IsAlike distance (Data host copied) v → v ≡ Data (host + distance) copied
+alike_data distance host copied (Data next marked) alike = λ j. Data (alike.0 j) (alike.1 j)
+alike_data distance host copied (Zero kept) alike = absurd alike
+alike_data distance host copied (Compressed next sectors) alike = absurd alike
+alike_data distance host copied Uncovered alike = absurd alike
+
+alike_zero : (distance : ℕ) (kept : Option (ℕ × Bool)) (v : L2Mapping) → IsAlike distance (Zero kept) v → (k : Option (ℕ × Bool)) × (v ≡ Zero k)
+alike_zero distance kept (Data next marked) alike = absurd alike
+alike_zero distance kept (Zero k) alike = (k, refl)
+alike_zero distance kept (Compressed next sectors) alike = absurd alike
+alike_zero distance kept Uncovered alike = absurd alike
+
+alike_uncovered : (distance : ℕ) (v : L2Mapping) → IsAlike distance Uncovered v → v ≡ Uncovered
+alike_uncovered distance (Data next marked) alike = absurd alike
+alike_uncovered distance (Zero kept) alike = absurd alike
+alike_uncovered distance (Compressed next sectors) alike = absurd alike
+alike_uncovered distance Uncovered alike = refl
+
+-- a row of bytes goes on by as much as their clusters lie apart
+along : (size offset i : ℕ) → 0 < size → ((offset + i) / size - offset / size) * size + (offset + i) % size ≡ offset % size + i
+along size offset i some =
+    let from : offset / size * size + offset % size ≡ offset = div-add-mod' offset size in
+    let to : (offset + i) / size * size + (offset + i) % size ≡ offset + i = div-add-mod' (offset + i) size in
+    let le = div_mono offset (offset + i) size some (omega arith) in
+    let apart : (offset + i) / size ≡ offset / size + ((offset + i) / size - offset / size) = omega arith in
+    let rows : (offset + i) / size * size ≡ (offset / size + ((offset + i) / size - offset / size)) * size = ap (λ n. n * size) apart in
+    omega arith
+
+module _ (h : HeaderFields) (b : Bytes) (offset n : ℕ) (run : IsAlikeRun h b offset n) where
+  pub run_data : (host : ℕ) (copied : Bool) → cover h b (offset / cluster_size h) ≡ Data host copied → AreDataAt h b copied offset (host + offset % cluster_size h) n
+  run_data host copied is i lt =
+      let distance = ((offset + i) / cluster_size h - offset / cluster_size h) * cluster_size h in
+      let on = along (cluster_size h) offset i (pow_pos h.cluster_bits) in (
+        host + distance,
+        alike_data distance host copied (cover h b ((offset + i) / cluster_size h)) (subst (λ v. IsAlike distance v (cover h b ((offset + i) / cluster_size h))) is (run i lt)),
+        omega arith,
+      )
+
+  pub run_zero : (kept : Option (ℕ × Bool)) → cover h b (offset / cluster_size h) ≡ Zero kept → (i : ℕ) → i < n → (k : Option (ℕ × Bool)) × (cover h b ((offset + i) / cluster_size h) ≡ Zero k)
+  run_zero kept is i lt =
+      let distance = ((offset + i) / cluster_size h - offset / cluster_size h) * cluster_size h in
+      alike_zero distance kept (cover h b ((offset + i) / cluster_size h)) (subst (λ v. IsAlike distance v (cover h b ((offset + i) / cluster_size h))) is (run i lt))
+
+  pub run_uncovered : cover h b (offset / cluster_size h) ≡ Uncovered → (i : ℕ) → i < n → cover h b ((offset + i) / cluster_size h) ≡ Uncovered
+  run_uncovered is i lt =
+      let distance = ((offset + i) / cluster_size h - offset / cluster_size h) * cluster_size h in
+      alike_uncovered distance (cover h b ((offset + i) / cluster_size h)) (subst (λ v. IsAlike distance v (cover h b ((offset + i) / cluster_size h))) is (run i lt))
+
+-- ---- what guests read of a run
+module _ (s : Stand) (sound : IsSound s) (offset n : ℕ) (run : IsAlikeRun s.header s.known offset n) (backing : Bytes) where
+  pub run_shows_data : (host : ℕ) (copied : Bool) → cover s.header s.known (offset / cluster_size s.header) ≡ Data host copied
+      → (i : ℕ) → i < n → (disk s.known backing).value (offset + i) ≡ known_byte (s.base (host + offset % cluster_size s.header + i))
+  run_shows_data host copied is i lt =
+      at_shown s sound copied (offset + i) (host + offset % cluster_size s.header + i) (run_data s.header s.known offset n run host copied is i lt) backing
+
+  pub run_shows_zero : (kept : Option (ℕ × Bool)) → cover s.header s.known (offset / cluster_size s.header) ≡ Zero kept → (i : ℕ) → i < n → (disk s.known backing).value (offset + i) ≡ known_byte 0
+  run_shows_zero kept is i lt = let at = run_zero s.header s.known offset n run kept is i lt in shown_zero s sound backing (offset + i) at.0 at.1
+
+  pub run_shows_uncovered : cover s.header s.known (offset / cluster_size s.header) ≡ Uncovered → (i : ℕ) → i < n → (disk s.known backing).value (offset + i) ≡ known_byte (backing (offset + i))
+  run_shows_uncovered is i lt = shown_uncovered s sound backing (offset + i) (run_uncovered s.header s.known offset n run is i lt)
+
+-- ---- how long a run is
+module _ (h : HeaderFields) (b : Bytes) (offset : ℕ) where
+  -- within one cluster all is alike
+  pub alike_within : (i k : ℕ) → (offset + i) / cluster_size h ≡ (offset + k) / cluster_size h → IsAlikeAt h b offset i → IsAlikeAt h b offset k
+  alike_within i k same = subst (λ c. IsAlike ((c - offset / cluster_size h) * cluster_size h) (cover h b (offset / cluster_size h)) (cover h b c)) same
+
+  alike_here : (i : ℕ) → (offset + i) / cluster_size h ≡ offset / cluster_size h → IsAlikeAt h b offset i
+  alike_here i here =
+      let none : (offset + i) / cluster_size h - offset / cluster_size h ≡ 0 = omega arith in
+      let apart : ((offset + i) / cluster_size h - offset / cluster_size h) * cluster_size h ≡ 0 = ap (λ d. d * cluster_size h) none ∙ omega arith in
+      subst (λ d. IsAlike d (cover h b (offset / cluster_size h)) (cover h b ((offset + i) / cluster_size h))) (sym apart)
+      (subst (λ c. IsAlike 0 (cover h b (offset / cluster_size h)) (cover h b c)) (sym here) (alike_self (cover h b (offset / cluster_size h))))
+
+  -- the rest of the first cluster
+  pub run_first : (n : ℕ) → n ≤ cluster_size h - offset % cluster_size h → IsAlikeRun h b offset n
+  run_first n le i lt = alike_here i (
+      let is : offset / cluster_size h * cluster_size h + offset % cluster_size h ≡ offset = div-add-mod' offset (cluster_size h) in
+      let e : offset + i ≡ offset / cluster_size h * cluster_size h + (offset % cluster_size h + i) = omega arith in
+      ap (λ k. k / cluster_size h) e ∙ div-mul-add (offset / cluster_size h) (cluster_size h) (offset % cluster_size h + i) (omega arith))
+
+  pub run_less : (m n : ℕ) → m ≤ n → IsAlikeRun h b offset n → IsAlikeRun h b offset m
+  run_less m n le run i lt = run i (omega arith)
+
+  -- one cluster more
+  pub run_more : (n : ℕ) → (offset + n) % cluster_size h ≡ 0 → IsAlikeAt h b offset n → IsAlikeRun h b offset n → IsAlikeRun h b offset (n + cluster_size h)
+  run_more n boundary alike run i lt = elim (cases_lt i n) [
+    | inl below ↦ run i below
+    | inr above ↦ alike_within n i (
+        let e : offset + i ≡ offset + n + (i - n) = omega arith in
+        sym (ap (λ k. k / cluster_size h) e ∙ in_one (cluster_size h) (offset + n) (i - n) boundary (omega arith))) alike
+  ]
+
+  -- the guest cluster that begins behind a run, and how far from the first it lies
+  module _ (n next distance : ℕ) (begins : offset + n ≡ next * cluster_size h) (far : offset / cluster_size h * cluster_size h + distance ≡ next * cluster_size h) where
+    next_is : (offset + n) / cluster_size h ≡ next
+    next_is = let e : offset + n ≡ next * cluster_size h + 0 = omega arith in ap (λ k. k / cluster_size h) e ∙ div-mul-add next (cluster_size h) 0 (pow_pos h.cluster_bits)
+
+    next_begins : (offset + n) % cluster_size h ≡ 0
+    next_begins = let e : offset + n ≡ next * cluster_size h + 0 = omega arith in ap (λ k. k % cluster_size h) e ∙ mod-mul-add next (cluster_size h) 0 (pow_pos h.cluster_bits)
+
+    next_far : ((offset + n) / cluster_size h - offset / cluster_size h) * cluster_size h ≡ distance
+    next_far =
+        let on = along (cluster_size h) offset n (pow_pos h.cluster_bits) in
+        let boundary = next_begins in
+        let is : offset / cluster_size h * cluster_size h + offset % cluster_size h ≡ offset = div-add-mod' offset (cluster_size h) in
+        omega arith
+
+    next_alike : IsAlikeAt h b offset n ≡ IsAlike distance (cover h b (offset / cluster_size h)) (cover h b next)
+    next_alike =
+        ap (λ d. IsAlike d (cover h b (offset / cluster_size h)) (cover h b ((offset + n) / cluster_size h))) next_far
+        ∙ ap (λ c. IsAlike distance (cover h b (offset / cluster_size h)) (cover h b c)) next_is
+
+    -- where it is alike the run goes on
+    pub run_on : IsAlike distance (cover h b (offset / cluster_size h)) (cover h b next) → IsAlikeRun h b offset n → IsAlikeRun h b offset (n + cluster_size h)
+    run_on alike run = run_more n next_begins (subst (λ X. X) (sym next_alike) alike) run
+
+    -- where it isn't the run ends
+    pub run_ends : (IsAlike distance (cover h b (offset / cluster_size h)) (cover h b next) → ⊥) → IsAlikeAt h b offset n → ⊥
+    run_ends other alike = other (subst (λ X. X) next_alike alike)
+
+  -- behind the rest of the first cluster and k clusters more
+  pub run_begins : (k : ℕ) → offset + (cluster_size h - offset % cluster_size h + k * cluster_size h) ≡ (offset / cluster_size h + k + 1) * cluster_size h
+  run_begins k =
+      let is : offset / cluster_size h * cluster_size h + offset % cluster_size h ≡ offset = div-add-mod' offset (cluster_size h) in
+      let below = mod_below offset (cluster_size h) (pow_pos h.cluster_bits) in
+      omega arith
+
+  pub run_far : (k : ℕ) → offset / cluster_size h * cluster_size h + (k * cluster_size h + cluster_size h) ≡ (offset / cluster_size h + k + 1) * cluster_size h
+  run_far k = omega arith
+
+  pub clusters_on : (k : ℕ) → IsAlike (k * cluster_size h + cluster_size h) (cover h b (offset / cluster_size h)) (cover h b (offset / cluster_size h + k + 1))
+      → IsAlikeRun h b offset (cluster_size h - offset % cluster_size h + k * cluster_size h) → IsAlikeRun h b offset (cluster_size h - offset % cluster_size h + (k * cluster_size h + cluster_size h))
+  clusters_on k alike run =
+      let e : cluster_size h - offset % cluster_size h + k * cluster_size h + cluster_size h ≡ cluster_size h - offset % cluster_size h + (k * cluster_size h + cluster_size h) = omega arith in
+      subst (IsAlikeRun h b offset) e (run_on _ (offset / cluster_size h + k + 1) (k * cluster_size h + cluster_size h) (run_begins k) (run_far k) alike run)
+
+  pub clusters_end : (k : ℕ) → (IsAlike (k * cluster_size h + cluster_size h) (cover h b (offset / cluster_size h)) (cover h b (offset / cluster_size h + k + 1)) → ⊥)
+      → IsAlikeAt h b offset (cluster_size h - offset % cluster_size h + k * cluster_size h) → ⊥
+  clusters_end k other = run_ends _ (offset / cluster_size h + k + 1) (k * cluster_size h + cluster_size h) (run_begins k) (run_far k) other
+
+  -- ---- the longest run
+  pub run_longest : (limit n : ℕ) → IsAlikeRun h b offset n → (n < limit → IsAlikeAt h b offset n → ⊥) → IsLongestRun h b offset limit (min n limit)
+  run_longest limit n run stop = elim (cases_lt n limit) [
+    | inl lt ↦ let is : min n limit ≡ n = omega arith in subst (IsLongestRun h b offset limit) (sym is) (record { within = omega arith; alike = run; longest = stop })
+    | inr le ↦
+        let is : min n limit ≡ limit = omega arith in
+        subst (IsLongestRun h b offset limit) (sym is) (record { within = omega arith; alike = run_less limit n le run; longest = λ lt. absurd (omega arith) })
+  ]
+
+  module _ (limit n : ℕ) (longest : IsLongestRun h b offset limit n) where
+    -- no run is longer
+    pub longest_is : (m : ℕ) → m ≤ limit → IsAlikeRun h b offset m → m ≤ n
+    longest_is m fits run = elim (cases_lt n m) [ inr le ↦ le | inl more ↦ absurd (longest.longest (omega arith) (run n more)) ]
+
+    -- it has a byte where there may be one
+    pub longest_some : 0 < limit → 0 < n
+    longest_some some = elim (cases_lt 0 n) [
+      | inl is ↦ is
+      | inr none ↦ absurd (longest.longest (omega arith) (alike_here n (let e : offset + n ≡ offset = omega arith in ap (λ k. k / cluster_size h) e)))
+    ]
+
+    -- short of the limit it ends with a cluster
+    pub longest_boundary : (n ≡ limit) ⊎ ((offset + n) % cluster_size h ≡ 0)
+    longest_boundary = elim (cases_lt n limit) [
+      | inr past ↦ inl (let le = longest.within in omega arith)
+      | inl lt ↦ elim (cases_eq ((offset + n) % cluster_size h) 0) [
+        | inl is ↦ inr is
+        | inr inside ↦ absurd (
+            let some = longest_some (omega arith) in
+            let is : (offset + n) / cluster_size h * cluster_size h + (offset + n) % cluster_size h ≡ offset + n = div-add-mod' (offset + n) (cluster_size h) in
+            let below = mod_below (offset + n) (cluster_size h) (pow_pos h.cluster_bits) in
+            let e : offset + (n - 1) ≡ (offset + n) / cluster_size h * cluster_size h + ((offset + n) % cluster_size h - 1) = omega arith in
+            let same : (offset + (n - 1)) / cluster_size h ≡ (offset + n) / cluster_size h =
+            ap (λ k. k / cluster_size h) e ∙ div-mul-add ((offset + n) / cluster_size h) (cluster_size h) ((offset + n) % cluster_size h - 1) (omega arith) in
+            longest.longest lt (alike_within (n - 1) n same (longest.alike (n - 1) (omega arith))))
+      ]
+    ]

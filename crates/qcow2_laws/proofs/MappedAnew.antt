@@ -1,0 +1,174 @@
+-- One guest cluster is mapped anew: what it shows then, and that all else stays.
+use Rattle.std.proofs.Common.{◌≡◌, ℕ, ◌+◌, ◌-◌, ◌*◌, ◌/◌, ◌%◌, ◌<◌, ◌≤◌, ◌⊎◌, Bool, true, cond, eqb, [], ◌∷◌, refl, sym, ap, ◌∙◌, arith, inl, inr, subst}
+use Rattle.std.specs.Prelude.{Option}
+use mathlib.Core.Path.{fun_ext}
+use Rattle.std.proofs.lemmas.Bool.{cases_eq, cases_lt, eq-eqb, ne_eqb, cond-true, cond-false}
+use Rattle.std.proofs.lemmas.Nat.{div-add-mod', mod_below, pow_pos}
+use Rattle.qcow2_metadata.specs.Bytes.{Bytes}
+use Rattle.qcow2_metadata.specs.Header.{header, cluster_size}
+use Rattle.qcow2_metadata.specs.Cover.{cover}
+use Rattle.qcow2_metadata.specs.Guest.{Value, known_byte, value_under}
+use Rattle.qcow2_metadata.specs.Named.{in_cluster, named_by_cover, named_for_tables}
+use Rattle.qcow2_metadata.specs.Consistent.{CoverIsAligned}
+use Rattle.qcow2_metadata.specs.declared.l2_mapping.L2Mapping.TheVariants.{Data, Zero, Uncovered}
+use Rattle.qcow2_laws.specs.Disk.{disk}
+use Rattle.qcow2_laws.specs.Mappings.{gift_shown}
+use Rattle.qcow2_laws.specs.Guests.{names, table_at}
+use Rattle.qcow2_laws.specs.Guard.{Pending}
+use Rattle.qcow2_laws.specs.Changes.{remapped}
+use Rattle.qcow2_laws.specs.Leads.{Stand, IsSound, Leads}
+use Rattle.qcow2_laws.specs.Steps.{guest_at, EntryChanges}
+use Rattle.qcow2_laws.specs.Unseen.{used_by_guests, IsMappedAnew, with_cluster}
+use Rattle.qcow2_laws.proofs.Places.{in_one}
+use Rattle.qcow2_laws.proofs.Guests.{over_guests-change}
+use Rattle.qcow2_laws.proofs.Tops.{for_tables-top, IsTop-top}
+use Rattle.qcow2_laws.proofs.Mixes.{tied}
+use Rattle.qcow2_laws.proofs.Values.{value_is}
+use Rattle.qcow2_laws.proofs.Writes.{held_is_unnamed}
+use Rattle.qcow2_laws.proofs.Shares.{shares, table_has}
+use Rattle.qcow2_laws.proofs.Blocks.{entry_top, entry_others, guest_within}
+use Rattle.qcow2_laws.proofs.CachedChanges.{in_at, in_most}
+use Rattle.qcow2_laws.proofs.Steps.{entry_is_changed}
+use Rattle.qcow2_laws.proofs.Unseen.{table_bytes, named_some, size_stays, value_stays}
+use Rattle.qcow2_laws.proofs.Shown.{shown_under}
+
+-- what such a step does: it gives what the guest cluster shows then, which are these values over each backing disk
+pub record Maps (guest : ℕ) (old new : Stand) (values : Bytes → ℕ → Value) : Type 0 where
+  pub leads : Leads old new (λ backing. gift_shown (disk new.known backing) (guest * cluster_size old.header) (guest * cluster_size old.header + cluster_size old.header) ∷ []) []
+  pub unseen : IsMappedAnew guest old new
+  pub shows : (backing : Bytes) → disk new.known backing ≡ with_cluster (cluster_size old.header) (disk old.known backing) guest (values backing)
+
+-- what is pending after an entry changed
+abbrev pub pending_after : Stand → Bytes → ℕ → Pending
+pending_after s known' guest = remapped s.pending (λ c. names s.header s.known c guest) (λ c. names s.header known' c guest)
+
+in_cluster_of : (o g size : ℕ) → 0 < size → o / size ≡ g → (g * size ≤ o) × (o < g * size + (g * size + size - g * size)) × (g * size + (o - g * size) ≡ o)
+in_cluster_of o g size some here =
+    let is : o / size * size + o % size ≡ o = div-add-mod' o size in
+    let below = mod_below o size some in
+    let q : o / size * size ≡ g * size = ap (λ n. n * size) here in
+    (omega arith, omega arith, omega arith)
+
+module _ (s : Stand) (known' : Bytes) (i j : ℕ) (sound : IsSound s) (changes : EntryChanges s known' i j) where
+  -- whatever is pending then
+  pub entry_unseen : (p' : Pending) → IsMappedAnew (guest_at s.header i j) s (record s { pending = p'; known = known' })
+  entry_unseen p' =
+      let fixed : 0 < named_for_tables s.header s.base (table_at s.header s.known i / cluster_size s.header) =
+      let e = for_tables-top s.header s.base s.known (table_at s.header s.known i / cluster_size s.header) sound.same_top in
+      let parts = shares s.header s.known (table_at s.header s.known i / cluster_size s.header) in
+      let one = table_has s.header s.known i changes.real in
+      omega arith in
+      record {
+        header = refl;
+        covers = entry_others s.header s.direction s.pending s.base s.known known' sound i j changes.real changes.within changes.outside changes.entries;
+        bytes = table_bytes s (record s { pending = p'; known = known' }) sound (table_at s.header s.known i / cluster_size s.header) fixed changes.outside;
+      }
+
+  new_header : header known' ≡ s.header
+  new_header =
+      let top = entry_top s.header s.direction s.pending s.base s.known known' sound i j changes.real changes.within changes.outside changes.entries in
+      (IsTop-top s.header s.known known' top (IsTop-top s.header s.base s.known sound.same_top sound.top)).header_is
+
+  leads_on : Leads s (record s { pending = pending_after s known' (guest_at s.header i j); known = known' })
+      (λ backing. gift_shown (disk known' backing) (guest_at s.header i j * cluster_size s.header) (guest_at s.header i j * cluster_size s.header + cluster_size s.header) ∷ []) []
+  leads_on =
+      entry_is_changed s known' i j _ sound changes (λ backing o here.
+      let inside = in_cluster_of o (guest_at s.header i j) (cluster_size s.header) (pow_pos s.header.cluster_bits) here in
+      inr (inl (inside.0, inside.1, sym (value_is s.header known' backing o new_header) ∙ ap (disk known' backing).value (sym inside.2))))
+
+  -- it shows what its new cover gives
+  module _ (values : Bytes → ℕ → Value)
+      (are : (backing : Bytes) (o : ℕ) → o / cluster_size s.header ≡ guest_at s.header i j → value_under s.header known' known' backing o (cover s.header known' (guest_at s.header i j)) ≡ values backing o) where
+    value_now : (backing : Bytes) (o : ℕ)
+        → (disk known' backing).value o ≡ cond (eqb (o / cluster_size s.header) (guest_at s.header i j)) (values backing o) ((disk s.known backing).value o)
+    value_now backing o =
+        let new : Stand = record s { pending = pending_after s known' (guest_at s.header i j); known = known' } in
+        elim (cases_eq (o / cluster_size s.header) (guest_at s.header i j)) [
+          | inl here ↦
+              shown_under new leads_on.sound backing o (cover s.header known' (guest_at s.header i j)) (ap (cover s.header known') here)
+              ∙ are backing o here
+              ∙ sym (cond-true _ _ _ (eq-eqb _ _ here))
+          | inr other ↦
+              let unseen = entry_unseen (pending_after s known' (guest_at s.header i j)) in
+              value_stays s new sound leads_on.sound refl backing o (unseen.covers (o / cluster_size s.header) other) (λ place some.
+              unseen.bytes place (let named = named_some s new sound (place / cluster_size s.header) (o / cluster_size s.header) some in omega arith))
+              ∙ sym (cond-false _ _ _ (ne_eqb _ _ other))
+        ]
+
+    pub entry_maps : Maps (guest_at s.header i j) s (record s { pending = pending_after s known' (guest_at s.header i j); known = known' }) values
+    entry_maps = record {
+      leads = leads_on;
+      unseen = entry_unseen (pending_after s known' (guest_at s.header i j));
+      shows = λ backing.
+          let new : Stand = record s { pending = pending_after s known' (guest_at s.header i j); known = known' } in
+          let value : (disk known' backing).value ≡ (with_cluster (cluster_size s.header) (disk s.known backing) (guest_at s.header i j) (values backing)).value = fun_ext (λ o. value_now backing o) in
+          λ k. record { size = size_stays s new sound leads_on.sound refl backing k; value = value k };
+    }
+
+  -- ---- as zeros, or as nothing
+  pub entry_zeroed : (kept : Option (ℕ × Bool)) → cover s.header known' (guest_at s.header i j) ≡ Zero kept
+      → Maps (guest_at s.header i j) s (record s { pending = pending_after s known' (guest_at s.header i j); known = known' }) (λ backing o. known_byte 0)
+  entry_zeroed kept is = entry_maps (λ backing o. known_byte 0) (λ backing o here. ap (value_under s.header known' known' backing o) is)
+
+  pub entry_uncovered : cover s.header known' (guest_at s.header i j) ≡ Uncovered
+      → Maps (guest_at s.header i j) s (record s { pending = pending_after s known' (guest_at s.header i j); known = known' }) (λ backing o. known_byte (backing o))
+  entry_uncovered is = entry_maps (λ backing o. known_byte (backing o)) (λ backing o here. ap (value_under s.header known' known' backing o) is)
+
+  -- ---- as data of a host cluster that is held
+  module _ (host : ℕ) (is : cover s.header known' (guest_at s.header i j) ≡ Data host true) (some : 0 < s.pending.held (host / cluster_size s.header)) where
+    aligned : host % cluster_size s.header ≡ 0
+    aligned = subst (CoverIsAligned s.header) is changes.aligned
+
+    -- nothing is laid over it, and the entry that changes is elsewhere
+    host_bytes : (k : ℕ) → k < cluster_size s.header → known' (host + k) ≡ s.base (host + k)
+    host_bytes k lt =
+        let here = in_one (cluster_size s.header) host k aligned lt in
+        let held : 0 < s.pending.held ((host + k) / cluster_size s.header) = subst (λ n. 0 < s.pending.held n) (sym here) some in
+        (entry_unseen s.pending).bytes (host + k) (omega arith) ∙ sym (sound.unlaid (host + k) (omega arith))
+
+    pub private_committed : Maps (guest_at s.header i j) s (record s { pending = pending_after s known' (guest_at s.header i j); known = known' })
+        (λ backing o. known_byte (s.base (host + o % cluster_size s.header)))
+    private_committed = entry_maps (λ backing o. known_byte (s.base (host + o % cluster_size s.header))) (λ backing o here.
+        ap (value_under s.header known' known' backing o) is ∙ ap known_byte (host_bytes (o % cluster_size s.header) (mod_below o (cluster_size s.header) (pow_pos s.header.cluster_bits))))
+
+    -- what the guest cluster named before isn't the new host cluster
+    either : (c : ℕ) → (in_cluster s.header c host ≡ 0) ⊎ ((in_cluster s.header c host ≡ 1) × (names s.header s.known c (guest_at s.header i j) ≡ 0) × (0 < s.pending.held c))
+    either c = elim (cases_lt 0 (in_cluster s.header c host)) [
+      | inr none ↦ inl (omega arith)
+      | inl here ↦
+          let most = in_most s.header c host in
+          let held : 0 < s.pending.held c = subst (λ n. 0 < s.pending.held n) (in_at s.header c host here) some in
+          let unnamed = held_is_unnamed s.header s.direction s.pending s.base s.known sound c held in
+          let t = (tied s.header s.pending s.base s.known c).known in
+          let old : names s.header s.known c (guest_at s.header i j) ≡ 0 = elim (cases_lt 0 (names s.header s.known c (guest_at s.header i j))) [
+            | inl named ↦ absurd (let sum = named_some s s sound c (guest_at s.header i j) named in omega (arith, unnamed.no_entry))
+            | inr none ↦ omega arith
+          ] in
+          inr (omega arith, old, held)
+    ]
+
+    names_new : (c : ℕ) → names s.header known' c (guest_at s.header i j) ≡ in_cluster s.header c host
+    names_new c = ap (named_by_cover s.header c) is
+
+    -- what of it is pending then
+    pub committed_held : (c : ℕ) → (pending_after s known' (guest_at s.header i j)).held c ≡ s.pending.held c - in_cluster s.header c host
+    committed_held c = let now = names_new c in elim (either c) [ inl none ↦ omega arith | inr one ↦ omega (arith, one.0, one.1) ]
+
+    pub committed_dropped : (c : ℕ) → (pending_after s known' (guest_at s.header i j)).dropped c ≡ s.pending.dropped c + names s.header s.known c (guest_at s.header i j)
+    committed_dropped c = let now = names_new c in elim (either c) [ inl none ↦ omega arith | inr one ↦ omega (arith, one.0, one.1) ]
+
+    -- what guests use then, with what is dropped
+    pub committed_used : (c : ℕ) → used_by_guests (record s { pending = pending_after s known' (guest_at s.header i j); known = known' }) c + names s.header s.known c (guest_at s.header i j) ≡ used_by_guests s c
+    committed_used c =
+        let now = names_new c in
+        let others = (entry_unseen s.pending).covers in
+        let within = guest_within s.header s.direction s.pending s.base s.known known' sound i j changes.real changes.within changes.outside changes.entries in
+        let sum = over_guests-change s.header (names s.header known' c) (names s.header s.known c) (guest_at s.header i j) within (λ g ne. ap (named_by_cover s.header c) (sym (others g ne))) in
+        elim (either c) [ inl none ↦ omega arith | inr one ↦ omega (arith, one.0, one.1, one.2) ]
+
+    -- where nothing stood for the guest cluster
+    pub committed_dropped_none : cover s.header s.known (guest_at s.header i j) ≡ Uncovered → (c : ℕ) → (pending_after s known' (guest_at s.header i j)).dropped c ≡ s.pending.dropped c
+    committed_dropped_none none c =
+        let zero : names s.header s.known c (guest_at s.header i j) ≡ 0 = ap (named_by_cover s.header c) none in
+        let dropped = committed_dropped c in
+        omega arith

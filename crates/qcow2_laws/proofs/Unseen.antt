@@ -1,0 +1,247 @@
+-- Steps of the driver that change nothing a guest sees.
+use Rattle.std.proofs.Common.{◌≡◌, ℕ, ◌+◌, ◌*◌, ◌/◌, ◌<◌, ◌≤◌, ◌≢◌, ◌⊎◌, refl, sym, ap, ◌∙◌, arith, inl, inr, subst}
+use mathlib.Core.Path.{fun_ext}
+use Rattle.qcow2_metadata.specs.Bytes.{Bytes}
+use Rattle.qcow2_metadata.specs.declared.header.HeaderFields.{HeaderFields}
+use Rattle.qcow2_metadata.specs.Header.{header, cluster_size}
+use Rattle.qcow2_metadata.specs.Entries.{l1_entry}
+use Rattle.qcow2_metadata.specs.Cover.{cover}
+use Rattle.qcow2_metadata.specs.Named.{named_by_cover, named_for_tables}
+use Rattle.qcow2_laws.specs.Disk.{disk}
+use Rattle.qcow2_laws.specs.Guests.{over_guests, names, named_in_either}
+use Rattle.qcow2_laws.specs.Guard.{SameCovers, SameIn}
+use Rattle.qcow2_laws.specs.Tops.{IsSameOutside, WritesL1Entry, IsNewTable, WritesReftableEntry}
+use Rattle.qcow2_laws.specs.Writes.{IsUnnamed}
+use Rattle.qcow2_laws.specs.Leads.{Stand, IsSound}
+use Rattle.qcow2_laws.specs.Steps.{block_of}
+use Rattle.qcow2_laws.specs.Unseen.{used_by_guests, SameUsedBytes, SameUsedBytesBut, IsUnseen, IsUnseenBut, SameL1Table}
+use Rattle.qcow2_laws.proofs.Places.{Sizes-from}
+use Rattle.qcow2_laws.proofs.Guests.{over_guests-same, guest_le, names_within}
+use Rattle.qcow2_laws.proofs.Tops.{for_tables-top, IsTop-top}
+use Rattle.qcow2_laws.proofs.Mixes.{tied}
+use Rattle.qcow2_laws.proofs.Values.{guest_value-same, value_is, size_is}
+use Rattle.qcow2_laws.proofs.Shares.{shares, block_has, reftable_has, l1_has, reftable_l1, reftable_covers, top_stays, covers_stay}
+use Rattle.qcow2_laws.proofs.Blocks.{table_apart, table_once, counted_covers}
+use Rattle.qcow2_laws.proofs.NewTables.{outside_eight, known_covers}
+
+-- ---- one step after another
+
+-- a cluster is named as often where the same covers stand
+named_same : (h : HeaderFields) (known known' : Bytes) (c : ℕ) → SameCovers h known known' → over_guests h (names h known c) ≡ over_guests h (names h known' c)
+named_same h known known' c covers = over_guests-same h (names h known c) (names h known' c) (λ g. ap (named_by_cover h c) (covers g))
+
+pub unseen_none : (s : Stand) → IsUnseen s s
+unseen_none s = record { header = refl; covers = λ g. refl; bytes = λ o some. refl }
+
+module _ (a b : Stand) (header : b.header ≡ a.header) (covers : SameCovers a.header a.known b.known) where
+  covers_then : (c : Stand) → SameCovers b.header b.known c.known → SameCovers a.header a.known c.known
+  covers_then c then g = covers g ∙ subst (λ h. cover h b.known g ≡ cover h c.known g) header (then g)
+
+  -- what guests used they still use
+  used_still : ((k : ℕ) → 0 < a.pending.held k → 0 < b.pending.held k) → (o : ℕ) → 0 < used_by_guests a (o / cluster_size a.header) → 0 < used_by_guests b (o / cluster_size b.header)
+  used_still held o some =
+      let same = named_same a.header a.known b.known (o / cluster_size a.header) covers in
+      let still = held (o / cluster_size a.header) in
+      let used : 0 < over_guests a.header (names a.header b.known (o / cluster_size a.header)) + b.pending.held (o / cluster_size a.header) = grind arith in
+      subst (λ (h : HeaderFields). 0 < over_guests h (names h b.known (o / cluster_size h)) + b.pending.held (o / cluster_size h)) (sym header) used
+
+pub unseen_then : (a b c : Stand) → IsUnseen a b → IsUnseen b c → ((k : ℕ) → 0 < a.pending.held k → 0 < b.pending.held k) → IsUnseen a c
+unseen_then a b c first then held = record {
+  header = then.header ∙ first.header;
+  covers = covers_then a b first.header first.covers c then.covers;
+  bytes = λ o some. then.bytes o (used_still a b first.header first.covers held o some) ∙ first.bytes o some;
+}
+
+-- the same, but for one cluster
+pub unseen_but : (n : ℕ) (old new : Stand) → IsUnseen old new → IsUnseenBut n old new
+unseen_but n old new unseen = record { header = unseen.header; covers = unseen.covers; bytes = λ o other some. unseen.bytes o some }
+
+pub unseen_but_then : (n : ℕ) (a b c : Stand) → IsUnseenBut n a b → IsUnseenBut n b c → ((k : ℕ) → 0 < a.pending.held k → 0 < b.pending.held k) → IsUnseenBut n a c
+unseen_but_then n a b c first then held = record {
+  header = then.header ∙ first.header;
+  covers = covers_then a b first.header first.covers c then.covers;
+  bytes = λ o other some.
+      then.bytes o (λ e. other (ap (λ h. o / cluster_size h) (sym first.header) ∙ e)) (used_still a b first.header first.covers held o some)
+      ∙ first.bytes o other some;
+}
+
+pub l1_same_none : (s : Stand) → SameL1Table s s
+l1_same_none s i = refl
+
+pub l1_same_then : (a b c : Stand) → b.header ≡ a.header → SameL1Table a b → SameL1Table b c → SameL1Table a c
+l1_same_then a b c header first then i = subst (λ h. l1_entry h c.base i ≡ l1_entry h b.base i) header (then i) ∙ first i
+
+-- ---- the same is known
+pub unseen_known : (old new : Stand) → new.header ≡ old.header → new.known ≡ old.known → IsUnseen old new
+unseen_known old new header same = record {
+  header = header;
+  covers = λ g. ap (λ (b : Bytes). cover old.header b g) (sym same);
+  bytes = λ o some. ap (λ (b : Bytes). b o) same;
+}
+
+pub l1_same_base : (old new : Stand) → new.base ≡ old.base → SameL1Table old new
+l1_same_base old new same i = ap (λ (b : Bytes). l1_entry old.header b i) same
+
+-- the storage has the L1 table that is known
+pub l1_same_known : (old new : Stand) → IsSound old → IsSound new → new.header ≡ old.header → ((i : ℕ) → l1_entry old.header new.known i ≡ l1_entry old.header old.known i) → SameL1Table old new
+l1_same_known old new sound sound' header same i =
+    subst (λ h. l1_entry h new.base i ≡ l1_entry h new.known i) header (sound'.same_top.l1 i) ∙ same i ∙ sym (sound.same_top.l1 i)
+
+-- ---- bytes change where guests use none
+pub known_header : (s : Stand) → IsSound s → header s.known ≡ s.header
+known_header s sound = (IsTop-top s.header s.base s.known sound.same_top sound.top).header_is
+
+module _ (old new : Stand) (sound : IsSound old) where
+  -- what guests use is named, on the storage or as known, or held
+  used_within : (c : ℕ) → 0 < used_by_guests old c → 0 < named_in_either old.header old.base old.known c + old.pending.held c
+  used_within c some = let t = (tied old.header old.pending old.base old.known c).known in omega arith
+
+  -- in one cluster, where a table stands
+  pub table_bytes : (c : ℕ) → 0 < named_for_tables old.header old.base c → IsSameOutside (cluster_size old.header) c old.known new.known → SameUsedBytes old new
+  table_bytes c fixed outside o some =
+      sym (outside o (λ e.
+      let apart = table_apart old.header old.direction old.pending old.base old.known sound c fixed in
+      let within = used_within (o / cluster_size old.header) some in
+      let here = subst (λ n. 0 < named_in_either old.header old.base old.known n + old.pending.held n) e within in
+      absurd (omega arith)))
+
+  -- counts of one refblock change
+  pub unseen_count : (c : ℕ) → new.header ≡ old.header → block_of old.header old.known c ≢ 0
+      → IsSameOutside (cluster_size old.header) (block_of old.header old.known c / cluster_size old.header) old.known new.known → IsUnseen old new
+  unseen_count c header real outside =
+      let fixed : 0 < named_for_tables old.header old.base (block_of old.header old.known c / cluster_size old.header) =
+      let e = for_tables-top old.header old.base old.known (block_of old.header old.known c / cluster_size old.header) sound.same_top in
+      let s = shares old.header old.known (block_of old.header old.known c / cluster_size old.header) in
+      let one = block_has old.header old.known _ real in
+      omega arith in
+      record {
+        header = header;
+        covers = counted_covers old.header old.direction old.pending old.base old.known new.known sound c real outside;
+        bytes = table_bytes (block_of old.header old.known c / cluster_size old.header) fixed outside;
+      }
+
+  -- ---- an entry of the reftable, or of the L1 table, is written
+  once : (c : ℕ) → 0 < named_for_tables old.header old.base c → (named_for_tables old.header old.base c ≤ 1) × (named_for_tables old.header old.known c ≤ 1)
+  once c fixed =
+      let is = table_once old.header old.direction old.pending old.base old.known sound c fixed in
+      let e = for_tables-top old.header old.base old.known c sound.same_top in
+      (omega arith, omega arith)
+
+  outside_same : (c : ℕ) (b b' : Bytes) → IsSameOutside (cluster_size old.header) c b b' → (k : ℕ) → k ≢ c → SameIn (cluster_size old.header) k b b'
+  outside_same c b b' outside k other o in_k = outside o (λ e. other (sym in_k ∙ e))
+
+  pub unseen_refblock : (k entry : ℕ) → new.header ≡ old.header → WritesReftableEntry old.header old.base old.known new.base new.known k entry → IsUnseen old new × SameL1Table old new
+  unseen_refblock k entry header writes =
+      let sizes = Sizes-from old.header old.base sound.top.header_reads in
+      let c = (old.header.reftable_offset + 8 * k) / cluster_size old.header in
+      let has = reftable_has old.header k sizes sound.top.reftable_aligned writes.within in
+      let parts = shares old.header old.base ((old.header.reftable_offset + 8 * k) / cluster_size old.header) in
+      let fixed : 0 < named_for_tables old.header old.base ((old.header.reftable_offset + 8 * k) / cluster_size old.header) = omega arith in
+      let single = once c fixed in
+      let outside = outside_eight (cluster_size old.header) old.header.reftable_offset k old.base new.base sizes.whole sizes.some sound.top.reftable_aligned writes.others in
+      let known_outside = outside_eight (cluster_size old.header) old.header.reftable_offset k old.known new.known sizes.whole sizes.some sound.top.reftable_aligned writes.known_others in
+      let known_top = IsTop-top old.header old.base old.known sound.same_top sound.top in (
+        record {
+          header = header;
+          covers = reftable_covers old.header old.known new.known known_top c (omega arith) single.1 (outside_same c old.known new.known known_outside);
+          bytes = table_bytes c fixed known_outside;
+        },
+        (λ i. sym (reftable_l1 old.header old.base new.base sound.top c (omega arith) single.0 (outside_same c old.base new.base outside) i)),
+      )
+
+  pub unseen_l2_table : (i entry : ℕ) → new.header ≡ old.header → WritesL1Entry old.header old.base old.known new.base new.known i entry
+      → IsNewTable old.header old.direction old.pending old.base old.known i entry → IsUnseen old new
+  unseen_l2_table i entry header writes table =
+      let sizes = Sizes-from old.header old.base sound.top.header_reads in
+      let has = l1_has old.header i sizes sound.top.l1_aligned writes.within in
+      let parts = shares old.header old.base ((old.header.l1_offset + 8 * i) / cluster_size old.header) in
+      record {
+        header = header;
+        covers = known_covers old.header old.direction old.pending old.base old.known new.base new.known sound i entry writes table;
+        bytes = table_bytes ((old.header.l1_offset + 8 * i) / cluster_size old.header) (omega arith)
+            (outside_eight (cluster_size old.header) old.header.l1_offset i old.known new.known sizes.whole sizes.some sound.top.l1_aligned writes.known_others);
+      }
+
+  -- ---- bytes are written to clusters that nothing names, and that aren't held
+  module _ (each : (c : ℕ) → (SameIn (cluster_size old.header) c old.base new.base × SameIn (cluster_size old.header) c old.known new.known)
+      ⊎ (IsUnnamed old.header old.base old.known c × (old.pending.held c ≡ 0))) where
+    tables_stay : (c : ℕ) → 0 < named_for_tables old.header old.base c → SameIn (cluster_size old.header) c old.base new.base × SameIn (cluster_size old.header) c old.known new.known
+    tables_stay c fixed = elim (each c) [ inl same ↦ same | inr free ↦ absurd (omega (arith, fixed, free.0.no_table)) ]
+
+    pub unseen_written : new.header ≡ old.header → IsUnseen old new × SameL1Table old new
+    unseen_written header =
+        let known_top = IsTop-top old.header old.base old.known sound.same_top sound.top in (
+          record {
+            header = header;
+            covers = covers_stay old.header old.known new.known known_top (λ c fixed. (tables_stay c (let e = for_tables-top old.header old.base old.known c sound.same_top in omega arith)).1);
+            bytes = λ o some. elim (each (o / cluster_size old.header)) [
+              | inl same ↦ sym (same.1 o refl)
+              | inr free ↦ absurd (let within = used_within (o / cluster_size old.header) some in let none = free.0.no_entry in let unheld = free.1 in omega arith)
+            ];
+          },
+          (λ i. sym ((top_stays old.header old.base new.base sound.top (λ c fixed. (tables_stay c fixed).0)).l1 i)),
+        )
+
+  -- ---- bytes are written to one cluster that no table stands in
+  pub unseen_but_written : (c : ℕ) → new.header ≡ old.header → named_for_tables old.header old.base c ≡ 0 → IsSameOutside (cluster_size old.header) c old.base new.base
+      → IsSameOutside (cluster_size old.header) c old.known new.known → IsUnseenBut c old new × SameL1Table old new
+  unseen_but_written c header none outside known_outside =
+      let known_top = IsTop-top old.header old.base old.known sound.same_top sound.top in
+      let apart : (k : ℕ) → 0 < named_for_tables old.header old.base k → k ≢ c = λ k some e. absurd (let here : named_for_tables old.header old.base k ≡ 0 = ap (named_for_tables old.header old.base) e ∙ none in omega arith) in
+      let known_apart : (k : ℕ) → 0 < named_for_tables old.header old.known k → k ≢ c = λ k some. apart k (let e = for_tables-top old.header old.base old.known k sound.same_top in omega arith) in (
+        record {
+          header = header;
+          covers = covers_stay old.header old.known new.known known_top (λ k some. outside_same c old.known new.known known_outside k (known_apart k some));
+          bytes = λ o other some. sym (known_outside o other);
+        },
+        (λ i. sym ((top_stays old.header old.base new.base sound.top (λ k some. outside_same c old.base new.base outside k (apart k some))).l1 i)),
+      )
+
+  -- ---- what is held for guests stays where only bytes of other clusters change, on the storage and as known
+  module _ (sound' : IsSound new) (header : new.header ≡ old.header) (k : ℕ) (held : 0 < old.pending.held k) (still : 0 < new.pending.held k) where
+    pub held_stays_but : (c : ℕ) → k ≢ c → SameUsedBytesBut c old new → SameIn (cluster_size old.header) k old.base new.base × SameIn (cluster_size old.header) k old.known new.known
+    held_stays_but c other bytes =
+        let known : SameIn (cluster_size old.header) k old.known new.known = λ o in_k.
+        let held_here : 0 < old.pending.held (o / cluster_size old.header) = subst (λ n. 0 < old.pending.held n) (sym in_k) held in
+        sym (bytes o (λ e. other (sym in_k ∙ e)) (omega arith)) in (
+          (λ o in_k.
+              let held_here : 0 < old.pending.held (o / cluster_size old.header) = subst (λ n. 0 < old.pending.held n) (sym in_k) held in
+              let still_here : 0 < new.pending.held (o / cluster_size new.header) = subst (λ n. 0 < new.pending.held n) (sym (ap (λ h. o / cluster_size h) header ∙ in_k)) still in
+              sound.unlaid o (omega arith) ∙ known o in_k ∙ sym (sound'.unlaid o (omega arith))),
+          known,
+        )
+
+    pub held_stays : SameUsedBytes old new → SameIn (cluster_size old.header) k old.base new.base × SameIn (cluster_size old.header) k old.known new.known
+    held_stays bytes = held_stays_but (k + 1) (omega arith) (λ o other some. bytes o some)
+
+  -- ---- the guest's disk stays
+  -- what a guest cluster names is named
+  pub named_some : (c g : ℕ) → 0 < names old.header old.known c g → 0 < over_guests old.header (names old.header old.known c)
+  named_some c g some =
+      let within = names_within old.header old.known c g (Sizes-from old.header old.base sound.top.header_reads) some in
+      let le = guest_le old.header (names old.header old.known c) g within in
+      omega arith
+
+  module _ (sound' : IsSound new) (header : new.header ≡ old.header) (backing : Bytes) where
+    pub size_stays : (disk new.known backing).size ≡ (disk old.known backing).size
+    size_stays = size_is old.header new.known backing (known_header new sound' ∙ header) ∙ sym (size_is old.header old.known backing (known_header old sound))
+
+    -- a byte stays where its cover stays, and the bytes in each cluster that this names
+    pub value_stays : (o : ℕ) → cover old.header old.known (o / cluster_size old.header) ≡ cover old.header new.known (o / cluster_size old.header)
+        → ((place : ℕ) → 0 < names old.header old.known (place / cluster_size old.header) (o / cluster_size old.header) → new.known place ≡ old.known place)
+        → (disk new.known backing).value o ≡ (disk old.known backing).value o
+    value_stays o same bytes =
+        value_is old.header new.known backing o (known_header new sound' ∙ header)
+        ∙ sym (guest_value-same old.header old.known new.known backing o same (sound.known_aligned (o / cluster_size old.header)) (λ place some. sym (bytes place some)))
+        ∙ sym (value_is old.header old.known backing o (known_header old sound))
+
+    pub disk_stays : SameCovers old.header old.known new.known
+        → ((place : ℕ) → 0 < over_guests old.header (names old.header old.known (place / cluster_size old.header)) → new.known place ≡ old.known place) → disk new.known backing ≡ disk old.known backing
+    unfolding disk
+    disk_stays covers bytes =
+        let value : (disk new.known backing).value ≡ (disk old.known backing).value = fun_ext (λ o.
+        value_stays o (covers (o / cluster_size old.header)) (λ place some. bytes place (named_some (place / cluster_size old.header) (o / cluster_size old.header) some))) in
+        λ j. record { size = size_stays j; value = value j }
+
+  pub unseen_disk : IsSound new → IsUnseen old new → (backing : Bytes) → disk new.known backing ≡ disk old.known backing
+  unseen_disk sound' unseen backing = disk_stays sound' unseen.header backing unseen.covers (λ place some. unseen.bytes place (omega arith))
