@@ -5,17 +5,21 @@ import os
 import re
 import subprocess
 import sys
+import time
 
 ROOT = os.path.dirname(os.path.dirname(os.path.abspath(__file__)))
+FAILURES = re.compile(r"NOT PROVED|NOT REFUSED|BAD EDIT|FAILED|: error")
 SCRIPTS = ["tests/program.py", "tests/writes.py", "tests/caches.py", "tests/stops.py", "tests/interop/write.py", "tests/interop/open.py"]
 
 
-def counts(words):
-    """Runs a command that ends with a line 'N passed, M failed', and answers these numbers."""
+def counts(words, told):
+    """Runs a command that ends with a line 'N passed, M failed', and answers these numbers. Lines that tell of failures are kept in `told`."""
     started = subprocess.Popen(words, cwd=ROOT, stdout=subprocess.PIPE, text=True, errors="replace")
     last = ""
     for line in started.stdout:
         print(line, end="", flush=True)
+        if FAILURES.search(line) and "refused, as it must be" not in line:
+            told.append(line.rstrip())
         if line.strip():
             last = line.strip()
     status = started.wait()
@@ -36,17 +40,22 @@ def succeeds(words):
 
 
 def main():
-    results = [counts(["rt", "ci"])]
+    began = time.monotonic()
+    told = []
+    results = [counts(["rt", "ci"], told)]
+    print(f"the gate took {(time.monotonic() - began) / 60:.0f} minutes", flush=True)
     if not succeeds(["make", "-s", "qimg"]):
         print("the program wasn't built", flush=True)
         results.append((0, len(SCRIPTS)))
     elif not succeeds(["tests/install.sh"]):
-        results.append(counts([SCRIPTS[0]]))
+        results.append(counts([SCRIPTS[0]], told))
         results.append((0, len(SCRIPTS) - 1))
     else:
-        results += [counts([script]) for script in SCRIPTS]
+        results += [counts([script], told) for script in SCRIPTS]
     passed = sum(each[0] for each in results)
     failed = sum(each[1] for each in results)
+    if failed:
+        print("what failed:", *told[-40:], sep="\n")
     print(f"{passed} passed, {failed} failed")
     return 1 if failed else 0
 
