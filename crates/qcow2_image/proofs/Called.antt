@@ -1,6 +1,6 @@
 -- Calls that no guest sees, from their parts.
 use Rattle.std.proofs.Common.{◌≡◌, ◌⊎◌, inl, inr, ⊎_elim, ℕ, ◌+◌, ◌-◌, ◌<◌, Bool, true, false, List, [], ◌++◌, refl, sym, ap, ◌∙◌, subst, arith}
-use Rattle.std.specs.Prelude.{Option, Some, None, IsTrue, Result, Ok, Err}
+use Rattle.std.specs.Prelude.{Option, Some, None, IsTrue, Result, Ok, Err, IfOk}
 use Rattle.std.proofs.lemmas.List.{append_assoc}
 use mathlib.Core.Path.{fun_ext}
 use Rattle.image_access.specs.Backing.{BackingView}
@@ -21,9 +21,9 @@ use Rattle.qcow2_alloc.specs.declared.error.ImageError.TheVariants as I
 use Rattle.qcow2_alloc.specs.ImageFile.{stand_in, view_in, nothing_given}
 use Rattle.qcow2_image.specs.declared.image.Qcow2.{Qcow2}
 use Rattle.qcow2_image.specs.declared.prepared.Prepared.{Prepared}
-use Rattle.qcow2_image.specs.Calls.{refusal_of}
+use Rattle.qcow2_image.specs.Calls.{refusal_of, Answers}
 use Rattle.qcow2_image.specs.Image.{number_of, is_failed}
-use Rattle.qcow2_image.specs.Refusals.{failed_after}
+use Rattle.qcow2_image.specs.Refusals.{failed_after, Marks}
 use Rattle.qcow2_image.specs.Views.{of_data, of_tables, to_free, IsSoundAt, pending_in, seen}
 use Rattle.qcow2_image.specs.Steps.{KeepsCopied, following, Keeps}
 use Rattle.qcow2_image.proofs.Answered.{works_now, sound_now, same_now}
@@ -163,3 +163,26 @@ module _ {S F : Type 0} (view : S → StorageView) (backing : F → BackingView)
           answer = answer_of e (outcome e (is_failed new) marked marks);
           fault = is_fault e (is_failed new) marked (outcome e (is_failed new) marked marks);
         }
+
+module _ {S F : Type 0} (view : S → StorageView) (backing : F → BackingView) where
+  -- two parts after one another
+  pub quietly_then : (out : List (Option Prepared)) (a b c : Qcow2 S F)
+      → ((p : Pending) (out : List (Option Prepared)) → IsSoundAt view backing p a out → Keeps view backing p p a b out) → b.file.free_list ≡ a.file.free_list
+      → ((p : Pending) (out : List (Option Prepared)) → IsSoundAt view backing p b out → Keeps view backing p p b c out) → c.file.free_list ≡ b.file.free_list
+      → IsSoundAt view backing (pending_in view backing a out) a out → Quietly view backing out a c
+  quietly_then out a b c first listed then still sound =
+      let p = pending_in view backing a out in
+      let kept = first p out sound in
+      record { keeps = keeps_then view backing out a b c p p p (λ k h. h) kept (then p out kept.sound); list = still ∙ listed }
+
+  module _ (old new : Qcow2 S F) (quiet : (out : List (Option Prepared)) → IsSoundAt view backing (pending_in view backing old out) old out → Quietly view backing out old new) (marked : Bool) where
+    -- a call that no guest sees gives its answer, or is refused
+    pub answers_quietly : {A : Type 0} (Done : A → Guest → Guest → Type 0) (done : Result A ImageError) → Marks done (is_failed new) marked → number_of new ≡ number_of old → is_failed old ≡ false
+        → ((out : List (Option Prepared)) → IsSoundAt view backing (pending_in view backing old out) old out → guest_of (seen view backing new out) ≡ guest_of (seen view backing old out)
+        → IfOk done (λ a. Done a (guest_of (seen view backing old out)) (guest_of (seen view backing new out))))
+        → Answers view backing old (record new { is_failed = marked }) [] Done done
+    answers_quietly Done (Ok a) marks number works done = λ out.
+        let does = quiet_does view backing out old new (quiet out) number works in
+        subst (λ (f : Bool). Does (seen view backing old out) (seen view backing (record new { is_failed = f }) out) [] [] (Done a (guest_of (seen view backing old out)) (guest_of (seen view backing (record new { is_failed = f }) out)))) (sym marks)
+        (record { acts = does.acts; answer = λ sound. let is = does.answer sound in (is.0, done out sound is.1) })
+    answers_quietly Done (Err e) marks number works done = λ out. quiet_refuses view backing out old new (quiet out) marked e marks number works

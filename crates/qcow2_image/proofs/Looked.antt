@@ -1,5 +1,5 @@
 -- What a lookup finds: the longest run of clusters that are mapped alike, within one L2 table.
-use Rattle.std.proofs.Common.{◌≡◌, ℕ, zero, suc, ◌+◌, ◌-◌, ◌*◌, ◌/◌, ◌%◌, ◌^◌, ◌<◌, ◌≤◌, ◌≢◌, refl, sym, ap, ◌∙◌, arith, subst, min}
+use Rattle.std.proofs.Common.{◌≡◌, ◌⊎◌, ⊎_elim, ℕ, zero, suc, ◌+◌, ◌-◌, ◌*◌, ◌/◌, ◌%◌, ◌^◌, ◌<◌, ◌≤◌, ◌≢◌, refl, sym, ap, ◌∙◌, arith, subst, min}
 use Rattle.std.proofs.lemmas.Nat.{div-add-mod', div-mul-add, mod_below}
 use Rattle.std.specs.Prelude.{◌==◌}
 use Rattle.std.proofs.Math.Nat.{div-div-eq-div-mul, div-mul-le_self}
@@ -17,8 +17,14 @@ use Rattle.qcow2_laws.specs.Alike.{IsAlike, IsAlikeAt, IsAlikeRun, IsLongestRun}
 use Rattle.qcow2_laws.specs.Guests.{table_at}
 use Rattle.qcow2_laws.proofs.Places.{Sizes, cover_none, cover_in}
 use Rattle.qcow2_alloc.specs.TableCaches.{IsTableOf}
-use Rattle.qcow2_laws.proofs.Alike.{run_first, run_begins, clusters_on, clusters_end, run_longest}
-use Rattle.qcow2_image.specs.Found.{mapping_of, rest_of_table, l1_index_of, AreAlikeBehind, IsAlikeTo, IsRunBehind}
+use Rattle.qcow2_laws.proofs.Alike.{run_first, run_less, run_begins, clusters_on, clusters_end, run_longest}
+use Rattle.std.proofs.lemmas.Bool.{cases_lt}
+use Rattle.image_access.specs.Moments.{StorageView}
+use Rattle.qcow2_alloc.specs.ImageFile.{known_in}
+use Rattle.qcow2_image.specs.declared.image.Qcow2.{Qcow2}
+use Rattle.qcow2_image.specs.declared.mapping.MappingKind.{MappingKind}
+use Rattle.qcow2_image.specs.Image.{size_of}
+use Rattle.qcow2_image.specs.Found.{mapping_of, rest_of_table, l1_index_of, AreAlikeBehind, IsAlikeTo, IsRunBehind, IsFound, IsMappedAs}
 
 pub product_le : (m n k : ℕ) → m ≤ n → m * k ≤ n * k
 product_le m n k le = let e : n ≡ m + (n - m) = omega (arith, le) in let f : n * k ≡ m * k + (n - m) * k = ap (λ x. x * k) e ∙ omega arith in omega arith
@@ -120,3 +126,9 @@ module _ (h : HeaderFields) (offset : ℕ) (sizes : Sizes h) where
         let all : IsAlikeRun h known offset (rest + n) = subst (λ m. IsAlikeRun h known offset (rest + m)) (sym whole) (alike_upto run.count near run.alike run.count (omega arith)) in
         run_longest h known offset max (rest + n) all (λ lt at.
         clusters_end h known offset run.count (λ next. run.longest (omega (arith, lt)) (back_there run.count (omega (arith, lt, whole)) next)) (subst (λ m. IsAlikeAt h known offset (rest + m)) whole at))
+
+-- a range that isn't longer than what was found is mapped so
+pub mapped_as : {S F : Type 0} (view : S → StorageView) (image : Qcow2 S F) (offset n : ℕ) (kind : MappingKind) (found : ℕ) → 0 < n → n ≤ found → IsFound view image offset n kind found → IsMappedAs view image offset kind n
+mapped_as view image offset n kind found some le is = ⊎_elim
+    (λ lt. let run = is.run lt in record { kind_is = run.kind_is; alike = run_less image.file.header.fields (known_in view image.file) offset n found le run.longest.alike })
+    (λ past. absurd (let none = (is.past past).1 in omega arith)) (cases_lt offset (size_of image))

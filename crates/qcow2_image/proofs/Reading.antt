@@ -17,6 +17,12 @@ use Rattle.qcow2_image.specs.declared.mapping.MappingKind.{MappingKind}
 use Rattle.qcow2_image.specs.declared.mapping.MappingKind.TheVariants as Kind
 use Rattle.qcow2_image.specs.declared.mapping.Place.{Place}
 use Rattle.qcow2_image.specs.Found.{kind_at}
+use Rattle.qcow2_image.specs.Views.{backing_bytes}
+
+-- without a disk below all is zero there
+pub none_below : {S F : Type 0} (view : S → StorageView) (backing : F → BackingView) (below : Option F) → is_some below ≡ false → (o : ℕ) → backing_bytes view backing below o ≡ 0
+none_below view backing None none o = refl
+none_below view backing (Some f) none o = absurd cc
 
 module _ (s : Stand) (sound : IsSound s) (offset n : ℕ) (run : IsAlikeRun s.header s.known offset n) (backed : Bool) (backing : Bytes) where
   -- bytes in the file

@@ -8,7 +8,7 @@ use Rattle.qcow2_metadata.specs.L2Table.{L2TableView, entries_of, cover_at}
 use Rattle.qcow2_metadata.specs.declared.header.HeaderFields.{HeaderFields}
 use Rattle.qcow2_metadata.specs.declared.l2_mapping.L2Mapping.{L2Mapping}
 use Rattle.qcow2_metadata.specs.declared.l2_mapping.L2Mapping.TheVariants.{Data, Zero, Compressed, Uncovered}
-use Rattle.qcow2_laws.specs.Alike.{IsAlike, IsLongestRun}
+use Rattle.qcow2_laws.specs.Alike.{IsAlike, IsAlikeRun, IsLongestRun}
 use Rattle.qcow2_laws.specs.Guests.{table_at}
 use Rattle.qcow2_alloc.specs.ImageFile.{contents_in, known_in}
 use Rattle.qcow2_image.specs.declared.image.Qcow2.{Qcow2}
@@ -66,6 +66,11 @@ module _ {S F : Type 0} (view : S → StorageView) (image : Qcow2 S F) (offset :
   NamesTable (Some cluster) =
       (table_at image.file.header.fields (contents_in view image.file) (l1_index_of image.file.header.fields offset) ≡ cluster * cluster_size image.file.header.fields)
       × (table_at image.file.header.fields (contents_in view image.file) (l1_index_of image.file.header.fields offset) ≢ 0)
+
+  -- a range of so many bytes is mapped so
+  pub record IsMappedAs (kind : MappingKind) (n : ℕ) : Type 0 where
+    pub kind_is : kind ≡ kind_at image.file.header.fields (is_some image.backing) offset (cover image.file.header.fields (known_in view image.file) (offset / cluster_size image.file.header.fields))
+    pub alike : IsAlikeRun image.file.header.fields (known_in view image.file) offset n
 
   -- The longest run of clusters that are mapped alike, up to a limit: its kind, and its length.
   pub record IsRunFrom (limit : ℕ) (kind : MappingKind) (n : ℕ) : Type 0 where

@@ -1,5 +1,12 @@
 //! Reading and writing what is mapped.
-ghost use Rattle.std.specs.Prelude.{◌≡◌, ◌+◌, ◌<◌, ◌≤◌, length, IfErr, IfSome, IsTrue, MatchOption, Ok, Err, None, false};
+ghost use Rattle.std.specs.Prelude.{◌≡◌, ◌+◌, ◌<◌, ◌≤◌, ℕ, List, [], Option, length, IfOk, IfErr, IfSome, IsTrue, MatchOption, Ok, Err, None, false};
+ghost use Rattle.qcow2_laws.specs.Calls.{Shows};
+ghost use Rattle.qcow2_laws.specs.Guard.{Pending};
+ghost use Rattle.qcow2_image.specs.Calls.{Answers};
+ghost use Rattle.qcow2_image.specs.Found.{AreBytesOf, IsMappedAs};
+ghost use Rattle.qcow2_image.specs.Steps.{Keeps};
+ghost use Rattle.qcow2_image.specs.Views.{IsHonestBacking, IsSoundAt, backing_bytes, disk_of};
+ghost use Rattle.qcow2_image.specs.declared.prepared.Prepared.{Prepared};
 ghost use Rattle.qcow2_image.specs.Image.{Stays, IsSameImage, is_failed, is_writable};
 ghost use Rattle.qcow2_image.specs.Prepared.{image_of};
 ghost use Rattle.qcow2_image.specs.Refusals.{refuses_mapping, refuses_to_read, IsMet, Marks};
@@ -35,6 +42,7 @@ impl<S: Storage, F: WrappedFormat<S>> Qcow2<S, F> {
         ensures late { refuses_mapping self.old mapping.now.image ≡ None → IfErr result IsMet }
         ensures marks { Marks result (is_failed self.old) (is_failed self.new) }
         ensures image { IsSameImage self.old self.new }
+        ensures sees { Answers S.view F.backing self.old self.new [] (λ done old new. (new ≡ old) × Shows old.disk (mapping.now.offset + at) bytes.new) result }
     {
         self.check_usable()?;
         if mapping.image != self.number {
@@ -56,25 +64,62 @@ impl<S: Storage, F: WrappedFormat<S>> Qcow2<S, F> {
     ) -> Result<(), ImageError>
         ensures stays { Stays self.old self.new }
         ensures cause { IfErr result IsMet }
+        ensures list { self.new.file.free_list ≡ self.old.file.free_list }
+        ensures keeps { (p : Pending) (out : List (Option Prepared)) → IsSoundAt S.view F.backing p self.old out → Keeps S.view F.backing p p self.old self.new out }
+        ensures shows { 0 < length bytes.old → (p : Pending) (out : List (Option Prepared)) → IsSoundAt S.view F.backing p self.old out → IfOk result (λ done. Shows (disk_of S.view F.backing self.new) (mapping.now.offset + at) bytes.new) }
     {
-        let length = bytes.len() as u64;
         let Some(offset) = mapping.offset.checked_add(at) else {
             return Err(ImageError::OutdatedMapping);
         };
+        let kind = mapping.kind.further(at);
+        self.check_mapped(offset, bytes.len() as u64, &kind)?;
+        self.read_as(offset, &kind, bytes)
+    }
+
+    // Refuses a range that isn't mapped so any more.
+    fn check_mapped(
+        &mut self,
+        offset: u64,
+        length: u64,
+        wanted: &MappingKind,
+    ) -> Result<(), ImageError>
+        ensures stays { Stays self.old self.new }
+        ensures cause { IfErr result IsMet }
+        ensures list { self.new.file.free_list ≡ self.old.file.free_list }
+        ensures keeps { (p : Pending) (out : List (Option Prepared)) → IsSoundAt S.view F.backing p self.old out → Keeps S.view F.backing p p self.old self.new out }
+        ensures mapped { 0 < length → (p : Pending) (out : List (Option Prepared)) → IsSoundAt S.view F.backing p self.old out → IfOk result (λ done. IsMappedAs S.view self.new offset wanted.now length) }
+    {
         let (kind, found) = self.look_up(offset, length)?;
-        if found < length || kind != mapping.kind.further(at) {
-            return Err(ImageError::OutdatedMapping);
+        if found >= length && wanted.is(&kind) {
+            return Ok(());
         }
+        Err(ImageError::OutdatedMapping)
+    }
+
+    // Reads the bytes of a range that is mapped so.
+    fn read_as(
+        &mut self,
+        offset: u64,
+        kind: &MappingKind,
+        bytes: &mut [u8],
+    ) -> Result<(), ImageError>
+        ensures stays { Stays self.old self.new }
+        ensures cause { IfErr result IsMet }
+        ensures list { self.new.file.free_list ≡ self.old.file.free_list }
+        ensures keeps { (p : Pending) (out : List (Option Prepared)) → IsSoundAt S.view F.backing p self.old out → Keeps S.view F.backing p p self.old self.new out }
+        ensures shows { (p : Pending) (out : List (Option Prepared)) → IsSoundAt S.view F.backing p self.old out → IsMappedAs S.view self.old offset kind.now (length bytes.old)
+            → IfOk result (λ done. Shows (disk_of S.view F.backing self.new) offset bytes.new) }
+    {
         match kind {
             MappingKind::Raw {
                 place: _,
                 offset,
                 writable: _,
             } => {
-                self.file.storage.read(offset, bytes)?;
+                self.file.storage.read(*offset, bytes)?;
                 Ok(())
             }
-            MappingKind::Indirect { offset } => self.read_backing(offset, bytes),
+            MappingKind::Indirect { offset } => self.read_backing(*offset, bytes),
             MappingKind::Zero { explicit: _ } => {
                 bytes.fill(0);
                 Ok(())
@@ -87,6 +132,9 @@ impl<S: Storage, F: WrappedFormat<S>> Qcow2<S, F> {
     fn read_backing(&mut self, offset: u64, bytes: &mut [u8]) -> Result<(), ImageError>
         ensures stays { Stays self.old self.new }
         ensures cause { IfErr result IsMet }
+        ensures file { self.new.file ≡ self.old.file }
+        ensures keeps { (p : Pending) (out : List (Option Prepared)) → IsSoundAt S.view F.backing p self.old out → Keeps S.view F.backing p p self.old self.new out }
+        ensures reads { IsHonestBacking S.view F.backing self.old.backing → IfOk result (λ done. (length bytes.new ≡ length bytes.old) × AreBytesOf (backing_bytes S.view F.backing self.old.backing) offset bytes.new) }
     {
         let Some(backing) = &mut self.backing else {
             bytes.fill(0);
@@ -154,15 +202,11 @@ impl<S: Storage, F: WrappedFormat<S>> Qcow2<S, F> {
         ensures stays { Stays self.old self.new }
         ensures cause { IfErr result IsMet }
     {
-        let (kind, found) = self.look_up(guest, length)?;
         let wanted = MappingKind::Raw {
             place: Place::Image,
             offset: host,
             writable: true,
         };
-        if found < length || kind != wanted {
-            return Err(ImageError::OutdatedMapping);
-        }
-        Ok(())
+        self.check_mapped(guest, length, &wanted)
     }
 }

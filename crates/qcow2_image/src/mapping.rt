@@ -1,3 +1,5 @@
+ghost use Rattle.std.specs.Prelude.{◌≡◌, IsTrue};
+
 /// Where mapped bytes stand.
 #[derive(Clone, Copy, Debug, PartialEq, Eq)]
 pub enum Place {
@@ -45,6 +47,13 @@ pub struct Mapping {
 }
 
 impl MappingKind {
+    // Whether it is the same kind, and at the same place.
+    pub(crate) fn is(&self, other: &MappingKind) -> bool
+        ensures { IsTrue result → self.now ≡ other.now }
+    {
+        self == other
+    }
+
     /// The same, so many bytes further on.
     pub(crate) fn further(self, bytes: u64) -> MappingKind {
         match self {

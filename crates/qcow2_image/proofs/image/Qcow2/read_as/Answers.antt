@@ -1,0 +1,63 @@
+use Rattle.std.proofs.Common.{◌≡◌, ℕ, ◌+◌, ◌/◌, ◌<◌, Bool, false, List, length, replicate, Option, Some, None, refl, sym, ap, ◌∙◌, subst, arith, rules, is_some}
+use Rattle.std.proofs.lemmas.List.{length-replicate, get_or-replicate}
+use Rattle.image_access.specs.Contents.{bytes_at}
+use Rattle.image_access.proofs.Bytes.{byte_at-bytes_at, length-bytes_at}
+use Rattle.qcow2_metadata.specs.Bytes.{Bytes, byte_at}
+use Rattle.qcow2_metadata.specs.Guest.{known_byte}
+use Rattle.qcow2_metadata.specs.Header.{cluster_size}
+use Rattle.qcow2_metadata.specs.Cover.{cover}
+use Rattle.qcow2_laws.specs.Disk.{disk}
+use Rattle.qcow2_alloc.specs.MetadataCaches.{known_of}
+use Rattle.qcow2_alloc.specs.ImageFile.{contents_in, known_in, stand_in, view_in}
+use Rattle.qcow2_image.specs.Views.{backing_bytes, disk_of}
+use Rattle.qcow2_image.proofs.Loading.{read_moved, if_ok}
+use Rattle.qcow2_image.proofs.Reading.{raw_shown, zero_shown, indirect_shown, none_below}
+use Rattle.qcow2_image.proofs.image.Qcow2.read_as.Goals as goal
+
+pub returns-in_err-read-in-Raw-clause-keeps : goal.returns-in_err-read-in-Raw-clause-keeps
+returns-in_err-read-in-Raw-clause-keeps g c = λ p out sound. read_moved g.S.Storage.view g.F.BackingDisk.backing c.args.self.now out p sound c.read.new.self c.read.ensures.calls c.read.ensures.same
+
+pub returns-in_ok-read-in-Raw-clause-keeps : goal.returns-in_ok-read-in-Raw-clause-keeps
+returns-in_ok-read-in-Raw-clause-keeps g c = λ p out sound. read_moved g.S.Storage.view g.F.BackingDisk.backing c.args.self.now out p sound c.read.new.self c.read.ensures.calls c.read.ensures.same
+
+pub returns-in_ok-read-in-Raw-clause-shows : goal.returns-in_ok-read-in-Raw-clause-shows
+returns-in_ok-read-in-Raw-clause-shows g c = λ p out sound mapped i lt.
+    let file = c.args.self.now.file in
+    let h = file.header.fields in
+    let below = backing_bytes g.S.Storage.view g.F.BackingDisk.backing c.args.self.now.backing in
+    let contents = (view_in g.S.Storage.view file).contents in
+    let n = length c.args.bytes.now in
+    let read : c.read.new.buf ≡ bytes_at contents c.in-Raw.offset n = c.in_ok-read-in-Raw.ensures.read sound.file.honest in
+    let within : i < n = subst (λ m. i < m) (ap length read ∙ length-bytes_at contents c.in-Raw.offset n) lt in
+    ap (λ (bytes : List ℕ). (disk (known_of h file.caches (byte_at bytes)) below).value (c.args.offset + i)) (c.read.ensures.same sound.file.honest)
+    ∙ raw_shown (stand_in g.S.Storage.view file p) sound.file.caches.kept.kept.guarded c.args.offset n mapped.alike (is_some c.args.self.now.backing) below
+    (cover h (known_in g.S.Storage.view file) (c.args.offset / cluster_size h)) refl c.in-Raw.place c.in-Raw.offset c.in-Raw.writable (sym c.in-Raw.is ∙ mapped.kind_is) i within
+    ∙ ap known_byte (sym (ap (λ (b : List ℕ). byte_at b i) read ∙ byte_at-bytes_at contents c.in-Raw.offset n i within))
+
+pub returns-in-Indirect-clause-shows : goal.returns-in-Indirect-clause-shows
+returns-in-Indirect-clause-shows g c = λ p out sound mapped.
+    let image = c.args.self.now in
+    let file = image.file in
+    let h = file.header.fields in
+    let new = c.read_backing.new.self in
+    let below = backing_bytes g.S.Storage.view g.F.BackingDisk.backing image.backing in
+    let same : disk_of g.S.Storage.view g.F.BackingDisk.backing new ≡ disk (known_in g.S.Storage.view file) below =
+    ap (λ b. disk (known_in g.S.Storage.view new.file) b) (c.read_backing.ensures.keeps p out sound).below ∙ ap (λ f. disk (known_in g.S.Storage.view f) below) c.read_backing.ensures.file in
+    if_ok c.read_backing.result
+    (λ done read i lt. ap (λ d. d.value (c.args.offset + i)) same
+    ∙ indirect_shown (stand_in g.S.Storage.view file p) sound.file.caches.kept.kept.guarded c.args.offset (length c.args.bytes.now) mapped.alike (is_some image.backing) below
+    (cover h (known_in g.S.Storage.view file) (c.args.offset / cluster_size h)) refl c.in-Indirect.offset (sym c.in-Indirect.is ∙ mapped.kind_is) i (subst (λ m. i < m) read.0 lt)
+    ∙ ap known_byte (sym (read.1 i lt)))
+    (c.read_backing.ensures.reads sound.below)
+
+pub returns-in-Zero-clause-shows : goal.returns-in-Zero-clause-shows
+returns-in-Zero-clause-shows g c = λ p out sound mapped i lt.
+    let image = c.args.self.now in
+    let file = image.file in
+    let h = file.header.fields in
+    let n = length c.args.bytes.now in
+    let filled : c.fill.new.self ≡ replicate n 0 = search rules in
+    let within : i < n = subst (λ m. i < m) (ap length filled ∙ length-replicate {A = ℕ} n 0) lt in
+    zero_shown (stand_in g.S.Storage.view file p) sound.file.caches.kept.kept.guarded c.args.offset n mapped.alike (is_some image.backing) (backing_bytes g.S.Storage.view g.F.BackingDisk.backing image.backing)
+    (cover h (known_in g.S.Storage.view file) (c.args.offset / cluster_size h)) refl (none_below g.S.Storage.view g.F.BackingDisk.backing image.backing) c.in-Zero.explicit (sym c.in-Zero.is ∙ mapped.kind_is) i within
+    ∙ ap known_byte (sym (ap (λ (b : List ℕ). byte_at b i) filled ∙ get_or-replicate n i 0 0 within))
