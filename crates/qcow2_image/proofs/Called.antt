@@ -21,7 +21,7 @@ use Rattle.qcow2_alloc.specs.declared.error.ImageError.TheVariants as I
 use Rattle.qcow2_alloc.specs.ImageFile.{stand_in, view_in, nothing_given}
 use Rattle.qcow2_image.specs.declared.image.Qcow2.{Qcow2}
 use Rattle.qcow2_image.specs.declared.prepared.Prepared.{Prepared}
-use Rattle.qcow2_image.specs.Calls.{refusal_of, Answers}
+use Rattle.qcow2_image.specs.Calls.{refusal_of, Answers, Flushes}
 use Rattle.qcow2_image.specs.Image.{number_of, is_failed}
 use Rattle.qcow2_image.specs.Refusals.{failed_after, Marks}
 use Rattle.qcow2_image.specs.Views.{of_data, of_tables, to_free, IsSoundAt, pending_in, seen}
@@ -175,14 +175,27 @@ module _ {S F : Type 0} (view : S → StorageView) (backing : F → BackingView)
       let kept = first p out sound in
       record { keeps = keeps_then view backing out a b c p p p (λ k h. h) kept (then p out kept.sound); list = still ∙ listed }
 
+  -- what an answer tells of a call that no guest sees
+  abbrev pub Tells : (old new : Qcow2 S F) {A : Type 0} → (A → View → View → Type 0) → Result A ImageError → Type 0
+  Tells old new Done (Ok a) = (out : List (Option Prepared)) → let v = seen view backing old out in let w = seen view backing new out in Does v w [] [] (Done a v w)
+  Tells old new Done (Err e) = (out : List (Option Prepared)) → let v = seen view backing old out in let w = seen view backing new out in Refuses v w [] [] (refusal_of e) (IsSame v w)
+
+  pub told_answers : (old new : Qcow2 S F) {A : Type 0} (Done : A → Guest → Guest → Type 0) (r : Result A ImageError) → Tells old new (λ a v w. Done a (guest_of v) (guest_of w)) r → Answers view backing old new [] Done r
+  told_answers old new Done (Ok a) told = told
+  told_answers old new Done (Err e) told = told
+
+  pub told_flushes : (old new : Qcow2 S F) (r : Result (Unit {0}) ImageError) → Tells old new (λ a v w. (w.known ≡ contents_of w) × IsSame v w) r → Flushes view backing old new r
+  told_flushes old new (Ok a) told = told
+  told_flushes old new (Err e) told = told
+
   module _ (old new : Qcow2 S F) (quiet : (out : List (Option Prepared)) → IsSoundAt view backing (pending_in view backing old out) old out → Quietly view backing out old new) (marked : Bool) where
-    -- a call that no guest sees gives its answer, or is refused
-    pub answers_quietly : {A : Type 0} (Done : A → Guest → Guest → Type 0) (done : Result A ImageError) → Marks done (is_failed new) marked → number_of new ≡ number_of old → is_failed old ≡ false
-        → ((out : List (Option Prepared)) → IsSoundAt view backing (pending_in view backing old out) old out → guest_of (seen view backing new out) ≡ guest_of (seen view backing old out)
-        → IfOk done (λ a. Done a (guest_of (seen view backing old out)) (guest_of (seen view backing new out))))
-        → Answers view backing old (record new { is_failed = marked }) [] Done done
-    answers_quietly Done (Ok a) marks number works done = λ out.
+    -- it gives its answer, or is refused
+    pub tells_quietly : {A : Type 0} (Done : A → View → View → Type 0) (done : Result A ImageError) → Marks done (is_failed new) marked → number_of new ≡ number_of old → is_failed old ≡ false
+        → ((out : List (Option Prepared)) → IsSoundAt view backing (pending_in view backing old out) old out → IsSame (seen view backing old out) (seen view backing new out)
+        → IfOk done (λ a. Done a (seen view backing old out) (seen view backing new out)))
+        → Tells old (record new { is_failed = marked }) Done done
+    tells_quietly Done (Ok a) marks number works done = λ out.
         let does = quiet_does view backing out old new (quiet out) number works in
-        subst (λ (f : Bool). Does (seen view backing old out) (seen view backing (record new { is_failed = f }) out) [] [] (Done a (guest_of (seen view backing old out)) (guest_of (seen view backing (record new { is_failed = f }) out)))) (sym marks)
+        subst (λ (f : Bool). Does (seen view backing old out) (seen view backing (record new { is_failed = f }) out) [] [] (Done a (seen view backing old out) (seen view backing (record new { is_failed = f }) out))) (sym marks)
         (record { acts = does.acts; answer = λ sound. let is = does.answer sound in (is.0, done out sound is.1) })
-    answers_quietly Done (Err e) marks number works done = λ out. quiet_refuses view backing out old new (quiet out) marked e marks number works
+    tells_quietly Done (Err e) marks number works done = λ out. quiet_refuses view backing out old new (quiet out) marked e marks number works

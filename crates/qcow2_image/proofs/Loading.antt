@@ -18,7 +18,9 @@ use Rattle.qcow2_alloc.specs.declared.allocation.Allocator.{Allocator}
 use Rattle.qcow2_alloc.specs.CacheMarks.{l2_pins, HasRoom, SameTables}
 use Rattle.qcow2_alloc.specs.ImageStorage.{storage_of}
 use Rattle.qcow2_metadata.specs.declared.header.HeaderFields.{HeaderFields}
-use Rattle.qcow2_metadata.specs.Tables.{CachedTable}
+use Rattle.qcow2_metadata.specs.Header.{cluster_size}
+use Rattle.qcow2_metadata.specs.Tables.{CachedTable, known}
+use Rattle.qcow2_laws.proofs.Lists.{clean_known}
 use Rattle.qcow2_laws.specs.Caches.{AreSettled}
 use Rattle.image_access.specs.declared.error.StorageError.{StorageError}
 use Rattle.image_access.specs.Backing.{Stays}
@@ -26,7 +28,7 @@ use Rattle.image_access.specs.Moments.{Calls, Keeps as ContentsStay}
 use Rattle.image_access.proofs.Passing.{passes_none, passes_if}
 use Rattle.qcow2_laws.specs.Caches.{IsSafeBetween}
 use Rattle.qcow2_laws.proofs.Leads.{leads_none, endures_none}
-use Rattle.qcow2_alloc.specs.MetadataCaches.{refblocks, known_of, AreSound, StaySound}
+use Rattle.qcow2_alloc.specs.MetadataCaches.{l2_tables, refblocks, known_of, AreAllWritten, AreSound, StaySound}
 use Rattle.qcow2_alloc.specs.ImageFile.{stand_in, view_in, contents_in, known_in, HasReftable, IsSoundFile}
 use Rattle.qcow2_image.specs.declared.image.Qcow2.{Qcow2}
 use Rattle.qcow2_image.specs.declared.prepared.Prepared.{Prepared}
@@ -88,6 +90,10 @@ module _ {S F : Type 0} (view : S → StorageView) (backing : F → BackingView)
       below = refl;
       list = record { more = []; is = sym (append-nil old.file.free_list) };
     }
+
+-- where all tables are written, what is known is what stands on the storage
+pub all_known : {S : Type 0} (h : HeaderFields) (caches : MetadataCaches S) (base : Bytes) → AreAllWritten caches → known_of h caches base ≡ base
+all_known h caches base written = clean_known (cluster_size h) (l2_tables caches) (known (cluster_size h) (refblocks caches) base) written.0 ∙ clean_known (cluster_size h) (refblocks caches) base written.1
 
 -- ---- where nothing is loaded or written
 

@@ -90,6 +90,8 @@ impl<S: Storage, F: WrappedFormat<S>> Qcow2<S, F> {
     ghost use Rattle.qcow2_image.specs.declared.prepared.Prepared.{Prepared};
     ghost use Rattle.qcow2_laws.specs.Guard.{Pending};
     ghost use Rattle.qcow2_image.specs.Views.{seen, IsSoundAt};
+    ghost use Rattle.qcow2_image.specs.Calls.{Flushes};
+    ghost use Rattle.qcow2_alloc.specs.ImageFile.{contents_in, known_in};
     ghost use Rattle.qcow2_image.specs.Steps.{Keeps};
     ghost use Rattle.qcow2_image.specs.Refusals.{unusable, IsMet, Marks, failed_after};
 
@@ -241,6 +243,7 @@ impl<S: Storage, F: WrappedFormat<S>> Qcow2<S, F> {
         ensures late { is_failed self.old ≡ false → IfErr result IsMet }
         ensures marks { Marks result (is_failed self.old) (is_failed self.new) }
         ensures image { IsSameImage self.old self.new }
+        ensures sees { Flushes S.view F.backing self.old self.new result }
     {
         if self.is_failed {
             return Err(ImageError::Failed);
@@ -253,6 +256,9 @@ impl<S: Storage, F: WrappedFormat<S>> Qcow2<S, F> {
     fn write_back(&mut self) -> Result<(), ImageError>
         ensures stays { Stays self.old self.new }
         ensures cause { IfErr result IsMet }
+        ensures list { self.new.file.free_list ≡ self.old.file.free_list }
+        ensures keeps { (p : Pending) (out : List (Option Prepared)) → IsSoundAt S.view F.backing p self.old out → Keeps S.view F.backing p p self.old self.new out }
+        ensures written { IfOk result (λ done. known_in S.view self.new.file ≡ contents_in S.view self.new.file) }
     {
         self.file.caches.flush_all(&mut self.file.storage)?;
         self.file.storage.flush()?;

@@ -1,6 +1,6 @@
 use Rattle.std.proofs.Common.{◌≡◌, ℕ, ◌+◌, ◌<◌, [], refl, sym, ap, ◌∙◌, subst, arith, rules, length}
 use Rattle.std.specs.Prelude.{Result}
-use Rattle.qcow2_laws.specs.Calls.{Shows}
+use Rattle.qcow2_laws.specs.Calls.{Shows, IsSame}
 use Rattle.qcow2_laws.specs.Views.{guest_of}
 use Rattle.qcow2_image.specs.Calls.{Answers}
 use Rattle.qcow2_image.specs.declared.image.Qcow2.{Qcow2}
@@ -8,7 +8,7 @@ use Rattle.qcow2_image.specs.Image.{is_failed}
 use Rattle.qcow2_image.specs.Refusals.{Marks}
 use Rattle.qcow2_image.specs.Views.{seen, pending_in}
 use Rattle.qcow2_image.proofs.Answers.{usable_works}
-use Rattle.qcow2_image.proofs.Called.{answers_quietly, quietly_then}
+use Rattle.qcow2_image.proofs.Called.{told_answers, tells_quietly, quietly_then}
 use Rattle.qcow2_image.proofs.Loading.{if_ok}
 use Rattle.qcow2_image.proofs.image.Qcow2.read_mapped.Goals as goal
 
@@ -23,8 +23,9 @@ returns-clause-sees g c =
     let some : 0 < length c.args.bytes.now = search rules in
     subst (λ (image : Qcow2 _ _). Answers view below old image [] (λ done was is. (is ≡ was) × Shows was.disk place shown) c.settled.result) (sym c.settled.ensures.rest)
     (subst (λ (r : Result _ _). Answers view below old (record new { is_failed = is_failed c.settled.new.self }) [] (λ done was is. (is ≡ was) × Shows was.disk place shown) r) (sym c.settled.ensures.answer)
-    (answers_quietly view below old new (λ out. quietly_then view below out old c.begin.new.self new c.begin.ensures.keeps c.begin.ensures.list c.read_current-done.ensures.keeps c.read_current-done.ensures.list)
-    (is_failed c.settled.new.self) (λ done was is. (is ≡ was) × Shows was.disk place shown) c.read_current-done.result c.settled.ensures.marks (c.read_current-done.ensures.stays.image.number ∙ c.begin.ensures.stays.image.number)
+    (told_answers view below old (record new { is_failed = is_failed c.settled.new.self }) (λ done was is. (is ≡ was) × Shows was.disk place shown) c.read_current-done.result
+    (tells_quietly view below old new (λ out. quietly_then view below out old c.begin.new.self new c.begin.ensures.keeps c.begin.ensures.list c.read_current-done.ensures.keeps c.read_current-done.ensures.list)
+    (is_failed c.settled.new.self) (λ done v w. IsSame v w × Shows (guest_of v).disk place shown) c.read_current-done.result c.settled.ensures.marks (c.read_current-done.ensures.stays.image.number ∙ c.begin.ensures.stays.image.number)
     (usable_works old c.check_usable.result c.in_ok-check_usable.was c.check_usable.ensures)
     (λ out sound same. if_ok c.read_current-done.result (λ done shows. (same, subst (λ g. Shows g.disk place shown) same shows))
-    (c.read_current-done.ensures.shows some (pending_in view below old out) out (c.begin.ensures.keeps (pending_in view below old out) out sound).sound))))
+    (c.read_current-done.ensures.shows some (pending_in view below old out) out (c.begin.ensures.keeps (pending_in view below old out) out sound).sound)))))
