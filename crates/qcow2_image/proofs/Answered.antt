@@ -30,14 +30,14 @@ use Rattle.qcow2_image.specs.Views.{run_of, of_data, of_tables, to_free, held_by
 use Rattle.qcow2_image.specs.Steps.{following, ListGrows, Keeps}
 use Rattle.qcow2_image.proofs.Sound.{free_more, pending_is, IsOnly}
 
-same_guest : (a b : Guest) → a.disk ≡ b.disk → a.slots ≡ b.slots → a ≡ b
+pub same_guest : (a b : Guest) → a.disk ≡ b.disk → a.slots ≡ b.slots → a ≡ b
 same_guest a b disks slots = ap (λ d. record a { disk = d }) disks ∙ ap (λ f. record b { slots = f }) slots
 
 same_mapping : (a b : PreparedMapping) → a.from ≡ b.from → a.length ≡ b.length → a.is_private ≡ b.is_private → a.shown ≡ b.shown → a ≡ b
 same_mapping a b from length private shown =
     ap (λ n. record a { from = n }) from ∙ ap (λ n. record a { from = b.from; length = n }) length ∙ ap (λ f. record a { from = b.from; length = b.length; is_private = f }) private ∙ ap (λ f. record b { shown = f }) shown
 
-same_setting : (a b : Setting) → a.cluster_size ≡ b.cluster_size → a.backing ≡ b.backing → a ≡ b
+pub same_setting : (a b : Setting) → a.cluster_size ≡ b.cluster_size → a.backing ≡ b.backing → a ≡ b
 same_setting a b sizes below = ap (λ n. record a { cluster_size = n }) sizes ∙ ap (λ f. record b { backing = f }) below
 
 some_of : {X : Type 0} {m : Option X} {n : X} → m ≡ Some n → is_some m ≡ true
@@ -69,7 +69,7 @@ module _ {S F : Type 0} (view : S → StorageView) (backing : F → BackingView)
   })
 
   -- a mapping with a new cluster pins its table
-  ready_table : {n : NewCluster} (q : Prepared) → q.new_cluster ≡ Some n → IsReadyWith old.file.header.fields (known_in view old.file) (contents_in view old.file) q q.table → (t : ℕ) × IsPending old.file.header.fields (known_in view old.file) (contents_in view old.file) q t
+  pub ready_table : {n : NewCluster} (q : Prepared) → q.new_cluster ≡ Some n → IsReadyWith old.file.header.fields (known_in view old.file) (contents_in view old.file) q q.table → (t : ℕ) × IsPending old.file.header.fields (known_in view old.file) (contents_in view old.file) q t
   ready_table {n = n} q is ready = table_of q.table ready where
     table_of : (t : Option ℕ) → IsReadyWith old.file.header.fields (known_in view old.file) (contents_in view old.file) q t → (u : ℕ) × IsPending old.file.header.fields (known_in view old.file) (contents_in view old.file) q u
     table_of None none = absurd cc

@@ -7,3 +7,6 @@ pub mod Answers
 pub mod Looked
 pub mod Answered
 pub mod MetErrors
+pub mod Slots
+pub mod Stepped
+pub mod LetGo

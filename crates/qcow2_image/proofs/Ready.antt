@@ -15,7 +15,7 @@ module _ (h : HeaderFields) (known base known' base' : Bytes) (covers : SameCove
     (copied : (i : ℕ) → is_copied (l1_entry h base i) ≡ true → l1_entry h base' i ≡ l1_entry h base i) (q : Prepared) where
   still_placed : (n : Option NewCluster) → HasCluster h known base q n → HasCluster h known' base' q n
   still_placed None is = record { begins = is.begins; entry = sym (covers (cluster_of h q)) ∙ is.entry }
-  still_placed (Some n) is = record { begins = is.begins; one = is.one; nameable = is.nameable; index = is.index; entry = sym (covers (cluster_of h q)) ∙ is.entry }
+  still_placed (Some n) is = record { begins = is.begins; one = is.one; kind = is.kind; nameable = is.nameable; index = is.index; entry = sym (covers (cluster_of h q)) ∙ is.entry }
 
   still_pending : (table : ℕ) → IsPending h known base q table → IsPending h known' base' q table
   still_pending table is =

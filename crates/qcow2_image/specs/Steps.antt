@@ -1,5 +1,5 @@
 -- What the parts of a call do to a sound image.
-use Rattle.std.specs.Prelude.{ℕ, ◌+◌, ◌-◌, ◌≡◌, ◌⊎◌, ◌++◌, true, List, [], Option}
+use Rattle.std.specs.Prelude.{ℕ, ◌+◌, ◌-◌, ◌≡◌, ◌⊎◌, ◌++◌, true, List, [], ◌∷◌, Option, Some, None}
 use Rattle.image_access.specs.Backing.{BackingView}
 use Rattle.image_access.specs.Moments.{StorageView}
 use Rattle.qcow2_metadata.specs.Entries.{l1_entry, is_copied}
@@ -11,13 +11,30 @@ use Rattle.qcow2_alloc.specs.declared.error.ImageError.{ImageError}
 use Rattle.qcow2_alloc.specs.ImageFile.{view_in, known_in, stand_in, nothing_given, Breaks}
 use Rattle.qcow2_image.specs.declared.image.Qcow2.{Qcow2}
 use Rattle.qcow2_image.specs.declared.prepared.Prepared.{Prepared}
-use Rattle.qcow2_image.specs.Views.{of_data, of_tables, to_free, backing_bytes, IsSoundAt}
+use Rattle.qcow2_alloc.specs.CacheMarks.{l2_pins, SameTables}
+use Rattle.qcow2_image.specs.declared.prepared.NewCluster.{NewCluster}
+use Rattle.qcow2_image.specs.Views.{of_data, of_tables, to_free, pins_of, backing_bytes, IsSoundAt}
 
 -- an L2 table that is marked copied stays where it is
 abbrev pub KeepsCopied : Stand → Stand → Type 0
 KeepsCopied old new = (i : ℕ) → is_copied (l1_entry old.header old.base i) ≡ true → l1_entry old.header new.base i ≡ l1_entry old.header old.base i
 
+-- what becomes of the cluster of a mapping that is dropped
+abbrev pub freed_by : Option NewCluster → List ClustersToFreeEntry
+freed_by None = []
+freed_by (Some n) = n.pending ∷ []
+
 module _ {S F : Type 0} where
+  -- clusters are put on the list of those to be freed, and nothing else changes
+  abbrev pub FreesLater : List ClustersToFreeEntry → Qcow2 S F → Qcow2 S F → Type 0
+  FreesLater more old new = new ≡ record old { file = record old.file { free_list = old.file.free_list ++ more } }
+
+  -- an L2 table has one pin less, where one is named, and nothing else changes
+  pub record Unpins (table : Option ℕ) (old new : Qcow2 S F) : Type 0 where
+    pub rest : new ≡ record old { file = record old.file { caches = new.file.caches } }
+    pub tables : SameTables old.file.caches new.file.caches
+    pub pins : (c : ℕ) → l2_pins new.file.caches c ≡ l2_pins old.file.caches c - pins_of table c
+
   -- more clusters are to be freed than before
   pub record ListGrows (old new : Qcow2 S F) : Type 0 where
     pub more : List ClustersToFreeEntry

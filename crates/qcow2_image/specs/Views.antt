@@ -21,6 +21,7 @@ use Rattle.qcow2_alloc.specs.declared.clusters_to_free.ClusterKind.{ClusterKind}
 use Rattle.qcow2_alloc.specs.declared.clusters_to_free.ClusterKind.TheVariants as Kind
 use Rattle.qcow2_alloc.specs.declared.clusters_to_free.ClustersToFreeEntry.{ClustersToFreeEntry}
 use Rattle.qcow2_alloc.specs.declared.image_file.ImageFile.{ImageFile}
+use Rattle.qcow2_alloc.specs.Allocation.{run_at}
 use Rattle.qcow2_alloc.specs.MetadataCaches.{IsEntryAt}
 use Rattle.qcow2_alloc.specs.ImageFile.{l2_pins, view_in, contents_in, known_in, IsSoundFile, HasReftable}
 use Rattle.qcow2_image.specs.declared.image.Qcow2.{Qcow2}
@@ -33,14 +34,18 @@ use Rattle.qcow2_image.specs.Prepared.{image_of}
 
 -- 1 for each cluster of a run
 abbrev pub run_of : ClustersToFreeEntry → ℕ → ℕ
-run_of e k = one_if (nat_le e.first_cluster k && nat_lt k (e.first_cluster + e.count))
+run_of e k = run_at e.first_cluster e.count k
+
+-- 1 for the cluster that is named
+abbrev pub pins_of : Option ℕ → ℕ → ℕ
+pins_of pinned table = option_map_or (λ t. one_if (t == table)) pinned 0
 
 -- how often a prepared mapping holds the cluster, and how often it pins the L2 table of a cluster
 abbrev pub held_by : Prepared → ℕ → ℕ
 held_by p k = option_map_or (λ (n : NewCluster). run_of n.pending k) p.new_cluster 0
 
 abbrev pub pins_by : Prepared → ℕ → ℕ
-pins_by p table = option_map_or (λ t. one_if (t == table)) p.table 0
+pins_by p table = pins_of p.table table
 
 -- how often all do
 abbrev pub over_all : (Prepared → ℕ → ℕ) → List (Option Prepared) → ℕ → ℕ
@@ -79,6 +84,7 @@ module _ (h : HeaderFields) where
     pub record IsNewFor (n : NewCluster) : Type 0 where
       pub begins : n.pending.first_cluster * cluster_size h + p.guest % cluster_size h ≡ p.offset
       pub one : n.pending.count ≡ 1
+      pub kind : n.pending.kind ≡ Kind.Data
       pub nameable : IsHostCluster h.cluster_bits n.pending.first_cluster
       pub index : n.index ≡ cluster_of p % entries_per_cluster h
       pub entry : cover h known (cluster_of p) ≡ Uncovered

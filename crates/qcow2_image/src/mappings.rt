@@ -9,10 +9,10 @@ ghost use Rattle.qcow2_laws.specs.Guard.{Pending};
 ghost use Rattle.qcow2_alloc.specs.MetadataCaches.{IsEntryAt};
 ghost use Rattle.qcow2_alloc.specs.ImageFile.{known_in, IsSoundFile};
 ghost use Rattle.qcow2_image.specs.declared.prepared.Prepared.{Prepared};
-ghost use Rattle.qcow2_image.specs.Calls.{Answers};
+ghost use Rattle.qcow2_image.specs.Calls.{Answers, Discards};
 ghost use Rattle.qcow2_laws.specs.Alike.{IsAlike};
 ghost use Rattle.qcow2_image.specs.Found.{mapping_of, IsRunBehind, NamesTable, IsRunFrom, IsFound, kind_at, rest_of_table, l1_index_of, l2_index_of};
-ghost use Rattle.qcow2_image.specs.Steps.{Keeps};
+ghost use Rattle.qcow2_image.specs.Steps.{Keeps, FreesLater, Unpins, freed_by};
 ghost use Rattle.qcow2_image.specs.Views.{HasL1Table, IsSoundAt, seen};
 ghost use Rattle.qcow2_image.specs.Refusals.{unusable, refuses_to_prepare, passes as passes_size, IsMet, Marks};
 ghost use Rattle.qcow2_image.specs.declared.prepared.CommitRefused.TheVariants.{Kept};
@@ -595,6 +595,7 @@ impl<S: Storage, F: WrappedFormat<S>> Qcow2<S, F> {
         ensures own { image_of prepared ≡ number_of self.old → IsOk result }
         ensures foreign { IfErr result (λ (e, p). (image_of prepared ≢ number_of self.old) × (e ≡ ForeignState) × (p ≡ prepared) × (self.new ≡ self.old)) }
         ensures stays { Stays self.old self.new }
+        ensures sees { IfOk result (λ done. Discards S.view F.backing self.old self.new prepared) }
     {
         if prepared.image != self.number {
             return Err((ImageError::ForeignState, prepared));
@@ -608,12 +609,26 @@ impl<S: Storage, F: WrappedFormat<S>> Qcow2<S, F> {
             table,
             new_cluster,
         } = prepared;
+        self.free_later(new_cluster);
+        self.unpin(table);
+        Ok(())
+    }
+
+    // The cluster of a mapping that is dropped is to be freed.
+    fn free_later(&mut self, new_cluster: Option<NewCluster>)
+        ensures { FreesLater (freed_by new_cluster) self.old self.new }
+    {
         if let Some(NewCluster { index: _, pending }) = new_cluster {
             pending.hand_back(&mut self.file.free_list);
         }
+    }
+
+    // The L2 table of a mapping may change its place again.
+    fn unpin(&mut self, table: Option<HostCluster>)
+        ensures { Unpins table self.old self.new }
+    {
         if let Some(table) = table {
             self.file.caches.l2_unpin(table);
         }
-        Ok(())
     }
 }
