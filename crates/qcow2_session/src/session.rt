@@ -105,7 +105,7 @@ fn read_some<S: Storage, F: WrappedFormat<S>>(
     ensures within { IfOk result (λ n. n ≤ length bytes.old) }
 {
     let (mapping, found) = image.get_mapping(offset, bytes.len() as u64)?;
-    let count = bytes.len().min(found as usize);
+    let count = found as usize;
     if count == 0 {
         return Err(ImageError::BeyondSize);
     }
