@@ -33,7 +33,7 @@ use Rattle.qcow2_image.proofs.Sound.{free_more, pending_is, IsOnly}
 pub same_guest : (a b : Guest) → a.disk ≡ b.disk → a.slots ≡ b.slots → a ≡ b
 same_guest a b disks slots = ap (λ d. record a { disk = d }) disks ∙ ap (λ f. record b { slots = f }) slots
 
-same_mapping : (a b : PreparedMapping) → a.from ≡ b.from → a.length ≡ b.length → a.is_private ≡ b.is_private → a.shown ≡ b.shown → a ≡ b
+pub same_mapping : (a b : PreparedMapping) → a.from ≡ b.from → a.length ≡ b.length → a.is_private ≡ b.is_private → a.shown ≡ b.shown → a ≡ b
 same_mapping a b from length private shown =
     ap (λ n. record a { from = n }) from ∙ ap (λ n. record a { from = b.from; length = n }) length ∙ ap (λ f. record a { from = b.from; length = b.length; is_private = f }) private ∙ ap (λ f. record b { shown = f }) shown
 
@@ -57,6 +57,12 @@ held_one q n is one =
     let inside : (nat_le first first && nat_lt first (first + n.pending.count)) ≡ true = and_from _ _ (le-leb first first (omega arith)) (lt-ltb first (first + n.pending.count) below) in
     ap (λ (m : Option NewCluster). option_map_or (λ (x : NewCluster). run_of x.pending n.pending.first_cluster) m 0) is ∙ cond-true {A = ℕ} (nat_le first first && nat_lt first (first + n.pending.count)) 1 0 inside
 
+-- the private bytes of a mapping lie in its new cluster
+pub new_place : (h : HeaderFields) (known base : Bytes) (q : Prepared) (n : NewCluster) → IsNewFor h known base q n → (o : ℕ) → (begin_of h q + o % cluster_size h) / cluster_size h ≡ n.pending.first_cluster
+new_place h known base q n ready o =
+    let begins : begin_of h q ≡ n.pending.first_cluster * cluster_size h = let b = ready.begins in omega arith in
+    ap (λ b. (b + o % cluster_size h) / cluster_size h) begins ∙ div-mul-add n.pending.first_cluster (cluster_size h) (o % cluster_size h) (mod_below o (cluster_size h) (pow_pos h.cluster_bits))
+
 module _ {S F : Type 0} (view : S → StorageView) (backing : F → BackingView) (old new : Qcow2 S F) (out : List (Option Prepared)) where
   -- with the clusters that are to be freed since, all that is pending is known
   followed : IsSoundAt view backing (pending_in view backing old out) old out → ListGrows old new
@@ -75,20 +81,11 @@ module _ {S F : Type 0} (view : S → StorageView) (backing : F → BackingView)
     table_of None none = absurd cc
     table_of (Some t) pending = (t, pending)
 
-  module _ (p : Pending) (p' : Pending) (sound : IsSoundAt view backing p old out) (holds : (k : ℕ) → over_all held_by out k ≤ p.held k) (holds_still : (k : ℕ) → over_all held_by out k ≤ p'.held k)
-      (keeps : Keeps view backing p p' old new out) where
-    same_header : new.file.header.fields ≡ old.file.header.fields
-    same_header = keeps.unseen.header
-
-    -- in a cluster that is held the same bytes stand on the storage
-    held_bytes : (o : ℕ) → 0 < p.held (o / cluster_size old.file.header.fields) → 0 < p'.held (o / cluster_size old.file.header.fields) → contents_in view new.file o ≡ contents_in view old.file o
-    held_bytes o some still =
-        let before : contents_in view old.file o ≡ known_in view old.file o = sound.file.caches.kept.kept.guarded.unlaid o (omega (arith, some)) in
-        let after : contents_in view new.file o ≡ known_in view new.file o = keeps.sound.file.caches.kept.kept.guarded.unlaid o (subst (λ (h : HeaderFields). 0 < named_in_either h (contents_in view new.file) (known_in view new.file) (o / cluster_size h) + p'.held (o / cluster_size h)) (sym same_header) (omega (arith, still))) in
-        after ∙ keeps.unseen.bytes o (omega (arith, some)) ∙ sym before
-
-    -- a prepared mapping means what it meant
-    module _ (k : ℕ) (q : Prepared) (at : slice_get out k ≡ Some (Some q)) where
+  -- where the header stays
+  module _ (p : Pending) (sound : IsSoundAt view backing p old out) (same_header : new.file.header.fields ≡ old.file.header.fields) where
+    -- a prepared mapping means what it meant, where the bytes of its own cluster stay
+    module _ (k : ℕ) (q : Prepared) (at : slice_get out k ≡ Some (Some q))
+        (own_bytes : (n : NewCluster) → q.new_cluster ≡ Some n → (o : ℕ) → o / cluster_size old.file.header.fields ≡ n.pending.first_cluster → contents_in view new.file o ≡ contents_in view old.file o) where
       same_private : is_private view backing new q ≡ is_private view backing old q
       same_private = let test : HeaderFields → ℕ → Bool = λ h o. is_some q.new_cluster && o / cluster_size h == q.guest / cluster_size h in ap test same_header
 
@@ -97,13 +94,7 @@ module _ {S F : Type 0} (view : S → StorageView) (backing : F → BackingView)
       same_byte n ready is o =
           let place = begin_of old.file.header.fields q + o % cluster_size old.file.header.fields in
           let moved : begin_of new.file.header.fields q + o % cluster_size new.file.header.fields ≡ place = ap (λ (h : HeaderFields). q.offset - q.guest % cluster_size h + o % cluster_size h) same_header in
-          let begins : begin_of old.file.header.fields q ≡ n.pending.first_cluster * cluster_size old.file.header.fields = let b = ready.begins in omega arith in
-          let in_it : place / cluster_size old.file.header.fields ≡ n.pending.first_cluster = ap (λ b. (b + o % cluster_size old.file.header.fields) / cluster_size old.file.header.fields) begins
-          ∙ div-mul-add n.pending.first_cluster (cluster_size old.file.header.fields) (o % cluster_size old.file.header.fields) (mod_below o (cluster_size old.file.header.fields) (pow_pos old.file.header.fields.cluster_bits)) in
-          let mine : 0 < over_all held_by out n.pending.first_cluster = let all = over_all_at held_by out k q at n.pending.first_cluster in let one = held_one q n is ready.one in omega arith in
-          let some : 0 < p.held (place / cluster_size old.file.header.fields) = subst (λ c. 0 < p.held c) (sym in_it) (let l = holds n.pending.first_cluster in omega arith) in
-          let still : 0 < p'.held (place / cluster_size old.file.header.fields) = subst (λ c. 0 < p'.held c) (sym in_it) (let l = holds_still n.pending.first_cluster in omega arith) in
-          ap (contents_in view new.file) moved ∙ held_bytes place some still
+          ap (contents_in view new.file) moved ∙ own_bytes n is place (new_place old.file.header.fields (known_in view old.file) (contents_in view old.file) q n ready o)
 
       same_shown : (m : Option NewCluster) → q.new_cluster ≡ m → IsReadyWith old.file.header.fields (known_in view old.file) (contents_in view old.file) q q.table → (o : ℕ) → (meaning view backing new q).shown o ≡ (meaning view backing old q).shown o
       same_shown None is ready o = let isnt : is_some q.new_cluster ≡ false = ap is_some is in cc
@@ -113,19 +104,45 @@ module _ {S F : Type 0} (view : S → StorageView) (backing : F → BackingView)
           ap known_byte (ap (λ (b : Bool). if b then contents_in view new.file (begin_of new.file.header.fields q + o % cluster_size new.file.header.fields) else 0) (ap (λ (f : ℕ → Bool). f o) same_private)
           ∙ ap (λ b. if is_private view backing old q o then b else 0) (same_byte n new_for is o))
 
-      same_meaning : meaning view backing new q ≡ meaning view backing old q
+      pub same_meaning : meaning view backing new q ≡ meaning view backing old q
       same_meaning = same_mapping _ _ refl refl same_private (fun_ext (same_shown q.new_cluster refl (sound.ready k q at).mapped))
 
-    same_slot : (k : ℕ) (m : Option (Option Prepared)) → slice_get out k ≡ m → meaning_at (meaning view backing new) m ≡ meaning_at (meaning view backing old) m
-    same_slot k None at = refl
-    same_slot k (Some None) at = refl
-    same_slot k (Some (Some q)) at = ap Some (same_meaning k q at)
+    -- a mapping with a new cluster holds it
+    pub holds_one : (k : ℕ) (q : Prepared) → slice_get out k ≡ Some (Some q) → (n : NewCluster) → q.new_cluster ≡ Some n → held_by q n.pending.first_cluster ≡ 1
+    holds_one k q at n is =
+        let pending = ready_table q is (sound.ready k q at).mapped in
+        let new_for : IsNewFor old.file.header.fields (known_in view old.file) (contents_in view old.file) q n = subst (HasCluster old.file.header.fields (known_in view old.file) (contents_in view old.file) q) is pending.1.cluster in
+        held_one q n is new_for.one
+
+    pub holds_own : (k : ℕ) (q : Prepared) → slice_get out k ≡ Some (Some q) → (n : NewCluster) → q.new_cluster ≡ Some n → 0 < over_all held_by out n.pending.first_cluster
+    holds_own k q at n is = let all = over_all_at held_by out k q at n.pending.first_cluster in let one = holds_one k q at n is in omega arith
+
+    -- so do all, where the bytes of all clusters stay that are held
+    module _ (held_bytes : (o : ℕ) → 0 < over_all held_by out (o / cluster_size old.file.header.fields) → contents_in view new.file o ≡ contents_in view old.file o) where
+      pub same_slot : (k : ℕ) (m : Option (Option Prepared)) → slice_get out k ≡ m → meaning_at (meaning view backing new) m ≡ meaning_at (meaning view backing old) m
+      same_slot k None at = refl
+      same_slot k (Some None) at = refl
+      same_slot k (Some (Some q)) at = ap Some (same_meaning k q at (λ n is o in_it. held_bytes o (subst (λ c. 0 < over_all held_by out c) (sym in_it) (holds_own k q at n is))))
+
+  module _ (p : Pending) (p' : Pending) (sound : IsSoundAt view backing p old out) (holds : (k : ℕ) → over_all held_by out k ≤ p.held k) (holds_still : (k : ℕ) → over_all held_by out k ≤ p'.held k)
+      (keeps : Keeps view backing p p' old new out) where
+    same_header : new.file.header.fields ≡ old.file.header.fields
+    same_header = keeps.unseen.header
+
+    -- in a cluster that is held the same bytes stand on the storage
+    held_bytes : (o : ℕ) → 0 < over_all held_by out (o / cluster_size old.file.header.fields) → contents_in view new.file o ≡ contents_in view old.file o
+    held_bytes o mine =
+        let some : 0 < p.held (o / cluster_size old.file.header.fields) = let l = holds (o / cluster_size old.file.header.fields) in omega arith in
+        let still : 0 < p'.held (o / cluster_size old.file.header.fields) = let l = holds_still (o / cluster_size old.file.header.fields) in omega arith in
+        let before : contents_in view old.file o ≡ known_in view old.file o = sound.file.caches.kept.kept.guarded.unlaid o (omega (arith, some)) in
+        let after : contents_in view new.file o ≡ known_in view new.file o = keeps.sound.file.caches.kept.kept.guarded.unlaid o (subst (λ (h : HeaderFields). 0 < named_in_either h (contents_in view new.file) (known_in view new.file) (o / cluster_size h) + p'.held (o / cluster_size h)) (sym same_header) (omega (arith, still))) in
+        after ∙ keeps.unseen.bytes o (omega (arith, some)) ∙ sym before
 
     pub still_seen : guest_of (seen view backing new out) ≡ guest_of (seen view backing old out)
     still_seen = same_guest _ _
         (unseen_disk (stand_in view old.file p) (stand_in view new.file p') sound.file.caches.kept.kept.guarded keeps.sound.file.caches.kept.kept.guarded keeps.unseen (backing_bytes view backing new.backing)
         ∙ ap (λ (b : Bytes). disk (known_in view old.file) b) keeps.below)
-        (fun_ext (λ k. same_slot k (slice_get out k) refl))
+        (fun_ext (λ k. same_slot p sound same_header held_bytes k (slice_get out k) refl))
 
   -- ---- a whole call that no guest sees
 

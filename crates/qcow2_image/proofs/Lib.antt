@@ -10,3 +10,5 @@ pub mod MetErrors
 pub mod Slots
 pub mod Stepped
 pub mod LetGo
+pub mod Written
+pub mod Put

@@ -1,5 +1,5 @@
 -- Places of prepared mappings, one of which changes.
-use Rattle.std.proofs.Common.{◌≡◌, ◌⊎◌, ⊎_elim, inl, inr, ℕ, zero, suc, ◌+◌, ◌-◌, List, [], ◌∷◌, refl, sym, ap, ◌∙◌, Option, Some, None, arith, cond, eqb}
+use Rattle.std.proofs.Common.{◌≡◌, ◌⊎◌, ⊎_elim, inl, inr, ℕ, zero, suc, ◌+◌, ◌-◌, ◌≤◌, List, [], ◌∷◌, refl, sym, ap, ◌∙◌, Option, Some, None, arith, cond, eqb}
 use Rattle.std.specs.Prelude.{slice_get, slice_set}
 use Rattle.std.specs.Option.{option_map_or}
 use Rattle.std.proofs.lemmas.Bool.{cases_eq, eq-eqb, ne_eqb, cond-true, cond-false}
@@ -7,6 +7,7 @@ use Rattle.qcow2_laws.specs.Mappings.{PreparedMapping}
 use Rattle.qcow2_laws.specs.Views.{meaning_at}
 use Rattle.qcow2_image.specs.declared.prepared.Prepared.{Prepared}
 use Rattle.qcow2_image.specs.Views.{over_all}
+use Rattle.qcow2_image.proofs.Answered.{over_all_at}
 
 pub get_set : {X : Type 0} (xs : List X) (k j : ℕ) (a y : X) → slice_get (slice_set xs k a) j ≡ Some y → (y ≡ a) ⊎ (slice_get xs j ≡ Some y)
 get_set [] k j a y e = inr e
@@ -35,6 +36,13 @@ pub over_all_left : (f : Prepared → ℕ → ℕ) (out : List (Option Prepared)
 over_all_left f [] k p at c = absurd cc
 over_all_left f (q ∷ out) zero p at c = let is : q ≡ Some p = cc in let one : option_map_or (λ r. f r c) q 0 ≡ f p c = ap (λ (m : Option Prepared). option_map_or (λ r. f r c) m 0) is in omega arith
 over_all_left f (q ∷ out) (suc k) p at c = let rest = over_all_left f out k p at c in omega arith
+
+-- two of them hold no more than all
+pub over_all_two : (f : Prepared → ℕ → ℕ) (out : List (Option Prepared)) (k : ℕ) (p : Prepared) (j : ℕ) (q : Prepared) → slice_get out k ≡ Some (Some p) → (j ≡ k → ⊥) → slice_get out j ≡ Some (Some q) → (c : ℕ) → f p c + f q c ≤ over_all f out c
+over_all_two f out k p j q at apart there c =
+    let rest = over_all_left f out k p at c in
+    let its = over_all_at f (slice_set out k None) j q (get_set_other out k j None apart ∙ there) c in
+    omega arith
 
 -- or another comes to a place that is there
 pub slot_set : {P : Type 0} (means : P → PreparedMapping) (out : List (Option P)) (k : ℕ) (a v : Option P) → slice_get out k ≡ Some v
