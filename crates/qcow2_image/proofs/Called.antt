@@ -27,42 +27,7 @@ use Rattle.qcow2_image.specs.Refusals.{failed_after, Marks}
 use Rattle.qcow2_image.specs.Views.{of_data, of_tables, to_free, IsSoundAt, pending_in, seen}
 use Rattle.qcow2_image.specs.Steps.{KeepsCopied, following, Keeps}
 use Rattle.qcow2_image.proofs.Answered.{works_now, sound_now, same_now}
-
--- what a refusal leaves: a fault, or want of memory, that marks the image; or the image is marked as before, and no fault was told
-abbrev pub IsOutcome : ImageError → Bool → Bool → Type 0
-IsOutcome e before now = ((e ≡ I.Storage) × (now ≡ true)) ⊎ (((e ≡ I.Memory) × (now ≡ true)) ⊎ ((now ≡ before) × (refusal_of e ≡ storage → ⊥)))
-
-memory_outcome : (before now : Bool) → (now ≡ before) ⊎ (now ≡ true) → IsOutcome I.Memory before now
-memory_outcome before now (inl same) = inr (inr (same, λ is. absurd cc))
-memory_outcome before now (inr marked) = inr (inl (refl, marked))
-
-pub outcome : (e : ImageError) (before now : Bool) → failed_after e before now → IsOutcome e before now
-outcome I.ReadOnly before now m = inr (inr (m, λ is. absurd cc))
-outcome I.BeyondSize before now m = inr (inr (m, λ is. absurd cc))
-outcome I.Version before now m = inr (inr (m, λ is. absurd cc))
-outcome I.UnalignedTable before now m = inr (inr (m, λ is. absurd cc))
-outcome I.InvalidOption before now m = inr (inr (m, λ is. absurd cc))
-outcome I.Preallocation before now m = inr (inr (m, λ is. absurd cc))
-outcome I.Compressed before now m = inr (inr (m, λ is. absurd cc))
-outcome I.InUse before now m = inr (inr (m, λ is. absurd cc))
-outcome I.TablePrepared before now m = inr (inr (m, λ is. absurd cc))
-outcome I.OutdatedMapping before now m = inr (inr (m, λ is. absurd cc))
-outcome I.ForeignState before now m = inr (inr (m, λ is. absurd cc))
-outcome I.Dependency before now m = inr (inr (m, λ is. absurd cc))
-outcome I.Limit before now m = inr (inr (m, λ is. absurd cc))
-outcome I.Memory before now m = memory_outcome before now m
-outcome I.Storage before now m = inl (refl, m)
-outcome I.Failed before now m = inr (inr (m, λ is. absurd cc))
-outcome I.MappingPrepared before now m = inr (inr (m, λ is. absurd cc))
-outcome (I.NotCompressed offset) before now m = inr (inr (m, λ is. absurd cc))
-outcome I.Metadata before now m = inr (inr (m, λ is. absurd cc))
-outcome I.Overflow before now m = inr (inr (m, λ is. absurd cc))
-outcome (I.StillInUse tables) before now m = inr (inr (m, λ is. absurd cc))
-
-pub is_fault : (e : ImageError) (before now : Bool) → IsOutcome e before now → refusal_of e ≡ storage → IsTrue now
-is_fault e before now (inl failed) is = failed.1
-is_fault e before now (inr (inl failed)) is = failed.1
-is_fault e before now (inr (inr kept)) is = absurd (kept.1 is)
+use Rattle.qcow2_image.proofs.Settled.{settled_does, settled_refuses}
 
 -- ---- a call that was refused before it did anything
 module _ (v : View) where
@@ -130,39 +95,13 @@ module _ {S F : Type 0} (view : S → StorageView) (backing : F → BackingView)
       quiet_same sound = same_now view backing old new out sound (listed sound)
 
       -- it was answered
-      pub quiet_does : number_of new ≡ number_of old → is_failed old ≡ false → Does (seen view backing old out) (seen view backing new out) [] [] (guest_of (seen view backing new out) ≡ guest_of (seen view backing old out))
-      quiet_does number works = record {
-        acts = record { number = number; works = quiet_works; rests = λ failed. absurd (let e : true ≡ false = sym failed ∙ works in cc) };
-        answer = λ sound. (quiet_sound sound, quiet_same sound);
-      }
+      pub quiet_does : number_of new ≡ number_of old → is_failed old ≡ false → Does (seen view backing old out) (seen view backing new out) [] [] (IsSame (seen view backing old out) (seen view backing new out))
+      quiet_does number works = settled_does view backing old new out out [] quiet_works quiet_sound number works quiet_same
 
       -- it was refused, and the image is marked as failed now or as before
-      module _ (marked : Bool) where
-        still_sound : marked ≡ is_failed new → IsSoundAt view backing (pending_in view backing new out) new out
-            → IsSoundAt view backing (pending_in view backing (record new { is_failed = marked }) out) (record new { is_failed = marked }) out
-        still_sound same s = record { works = same ∙ s.works; file = s.file; l1_table = s.l1_table; reftable = s.reftable; below = s.below; ready = λ k q at. let r = s.ready k q at in record { own = r.own; mapped = r.mapped }; pinned = s.pinned; once = s.once }
-
-        still_works : IsSoundAt view backing (pending_in view backing old out) old out → Works (seen view backing old out) (seen view backing (record new { is_failed = marked }) out) [] []
-        still_works sound = let w = quiet_works sound in record {
-          setting = w.setting;
-          surplus = λ still. w.surplus (quiet_sound sound);
-          stops = λ m starts. let t = w.stops m starts in record { moments = t.moments; contents = t.contents; known = λ still. t.known (quiet_sound sound) };
-        }
-
-        answer_of : (e : ImageError) → IsOutcome e (is_failed new) marked → IsSoundAt view backing (pending_in view backing old out) old out
-            → ((seen view backing (record new { is_failed = marked }) out).is_sound × (guest_of (seen view backing (record new { is_failed = marked }) out) ≡ guest_of (seen view backing old out)))
-            ⊎ (IsFault (refusal_of e) × IsTrue marked)
-        answer_of e (inl failed) sound = inr (subst (λ (x : ImageError). IsFault (refusal_of x)) (sym failed.0) tt, failed.1)
-        answer_of e (inr (inl failed)) sound = inr (subst (λ (x : ImageError). IsFault (refusal_of x)) (sym failed.0) tt, failed.1)
-        answer_of e (inr (inr kept)) sound = inl (still_sound kept.0 (quiet_sound sound), quiet_same sound)
-
-        pub quiet_refuses : (e : ImageError) → failed_after e (is_failed new) marked → number_of new ≡ number_of old → is_failed old ≡ false
-            → Refuses (seen view backing old out) (seen view backing (record new { is_failed = marked }) out) [] [] (refusal_of e) (guest_of (seen view backing (record new { is_failed = marked }) out) ≡ guest_of (seen view backing old out))
-        quiet_refuses e marks number works = record {
-          acts = record { number = number; works = still_works; rests = λ failed. absurd (let f : true ≡ false = sym failed ∙ works in cc) };
-          answer = answer_of e (outcome e (is_failed new) marked marks);
-          fault = is_fault e (is_failed new) marked (outcome e (is_failed new) marked marks);
-        }
+      pub quiet_refuses : (marked : Bool) (e : ImageError) → failed_after e (is_failed new) marked → number_of new ≡ number_of old → is_failed old ≡ false
+          → Refuses (seen view backing old out) (seen view backing (record new { is_failed = marked }) out) [] [] (refusal_of e) (IsSame (seen view backing old out) (seen view backing (record new { is_failed = marked }) out))
+      quiet_refuses marked e marks number works = settled_refuses view backing old new out out [] quiet_works quiet_sound number works marked e marks (λ sound. inl (quiet_same sound))
 
 module _ {S F : Type 0} (view : S → StorageView) (backing : F → BackingView) where
   -- two parts after one another

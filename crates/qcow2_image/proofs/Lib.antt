@@ -12,3 +12,5 @@ pub mod Stepped
 pub mod LetGo
 pub mod Written
 pub mod Put
+pub mod Settled
+pub mod PutParts

@@ -24,7 +24,7 @@ use Rattle.qcow2_laws.proofs.Lists.{clean_known}
 use Rattle.qcow2_laws.specs.Caches.{AreSettled}
 use Rattle.image_access.specs.declared.error.StorageError.{StorageError}
 use Rattle.image_access.specs.Backing.{Stays}
-use Rattle.image_access.specs.Moments.{Calls, Keeps as ContentsStay}
+use Rattle.image_access.specs.Moments.{Calls, Passing, Keeps as ContentsStay}
 use Rattle.image_access.proofs.Passing.{passes_none, passes_if}
 use Rattle.qcow2_laws.specs.Caches.{IsSafeBetween}
 use Rattle.qcow2_laws.proofs.Leads.{leads_none, endures_none}
@@ -115,28 +115,30 @@ pub if_ok : {A E : Type 0} {P Q : A → Type 0} (answer : Result A E) → ((x : 
 if_ok (Ok x) follows is = follows x is
 if_ok (Err e) follows is = tt
 
--- ---- where bytes are read
+-- ---- where the contents stay, while time goes on
 
-module _ {S : Type 0} (h : HeaderFields) (p : Pending) (caches : MetadataCaches S) (v v' : StorageView) {T : Type 0} {result : Result T StorageError} (calls : Calls v v' result) (keeps : ContentsStay v v') where
-  pub stays_read : v.is_honest → AreSound h p caches (byte_at v.contents) → StaySound h p v caches v' caches
-  stays_read honest sound =
-      let same : v'.contents ≡ v.contents = keeps honest in
-      record {
-        honest = calls.honest honest;
-        sound = subst (λ c. AreSound h p caches (byte_at c)) (sym same) sound;
-        known = ap (λ c. known_of h caches (byte_at c)) same;
-        settled = λ settled. subst (λ c. AreSettled h (refblocks caches) (byte_at c)) (sym same) settled;
-        since = record {
-          moments = passes_if (λ c. IsSafeBetween (byte_at v.contents) (known_of h caches (byte_at v.contents)) (byte_at c)) (λ c is bytes m kept known_kept. subst (λ x. IsKeptAt bytes m (byte_at x)) (sym (is ∙ same)) kept) calls.time;
-          contents = λ bytes m kept known_kept. subst (λ x. IsKeptAt bytes m (byte_at x)) (sym same) kept;
-        };
-      }
+module _ {S : Type 0} (h : HeaderFields) (p : Pending) (caches : MetadataCaches S) (v v' : StorageView) where
+  pub stays_still : v'.is_honest → Passing v v' (λ c. c ≡ v'.contents) → v'.contents ≡ v.contents → AreSound h p caches (byte_at v.contents) → StaySound h p v caches v' caches
+  stays_still honest time same sound = record {
+    honest = honest;
+    sound = subst (λ c. AreSound h p caches (byte_at c)) (sym same) sound;
+    known = ap (λ c. known_of h caches (byte_at c)) same;
+    settled = λ settled. subst (λ c. AreSettled h (refblocks caches) (byte_at c)) (sym same) settled;
+    since = record {
+      moments = passes_if (λ c. IsSafeBetween (byte_at v.contents) (known_of h caches (byte_at v.contents)) (byte_at c)) (λ c is bytes m kept known_kept. subst (λ x. IsKeptAt bytes m (byte_at x)) (sym (is ∙ same)) kept) time;
+      contents = λ bytes m kept known_kept. subst (λ x. IsKeptAt bytes m (byte_at x)) (sym same) kept;
+    };
+  }
 
 module _ {S F : Type 0} (view : S → StorageView) (backing : F → BackingView) (image : Qcow2 S F) (out : List (Option Prepared)) (p : Pending) (sound : IsSoundAt view backing p image out) where
+  pub still_moved : (storage' : ImageStorage S) → (view (storage_of storage')).is_honest → Passing (view_in view image.file) (view (storage_of storage')) (λ c. c ≡ (view (storage_of storage')).contents)
+      → (view (storage_of storage')).contents ≡ (view_in view image.file).contents → Keeps view backing p p image (with_caches view backing image out p sound storage' image.file.caches) out
+  still_moved storage' honest time same = caches_moved view backing image out p sound storage' image.file.caches
+      (stays_still image.file.header.fields p image.file.caches (view_in view image.file) (view (storage_of storage')) honest time same sound.file.caches) (λ room. room) (λ table. refl)
+
   pub read_moved : {T : Type 0} {result : Result T StorageError} (storage' : ImageStorage S) → Calls (view_in view image.file) (view (storage_of storage')) result → ContentsStay (view_in view image.file) (view (storage_of storage'))
       → Keeps view backing p p image (with_caches view backing image out p sound storage' image.file.caches) out
-  read_moved {result = result} storage' calls keeps = caches_moved view backing image out p sound storage' image.file.caches
-      (stays_read image.file.header.fields p image.file.caches (view_in view image.file) (view (storage_of storage')) {result = result} calls keeps sound.file.honest sound.file.caches) (λ room. room) (λ table. refl)
+  read_moved storage' calls keeps = still_moved storage' (calls.honest sound.file.honest) calls.time (keeps sound.file.honest)
 
   pub backing_moved : {T : Type 0} {result : Result T StorageError} (f f' : F) → image.backing ≡ Some f → Stays (backing f) (backing f') result → Keeps view backing p p image (record image { backing = Some f' }) out
   backing_moved f f' is stays =

@@ -38,6 +38,7 @@ use Rattle.qcow2_alloc.specs.ImageFile.{stand_in, view_in, contents_in, known_in
 use Rattle.qcow2_image.specs.declared.image.Qcow2.{Qcow2}
 use Rattle.qcow2_image.specs.declared.prepared.Prepared.{Prepared}
 use Rattle.qcow2_image.specs.declared.prepared.NewCluster.{NewCluster}
+use Rattle.qcow2_image.specs.Parts.{put_guest}
 use Rattle.qcow2_image.specs.Views.{held_by, pending_in, seen, meaning, is_private, begin_of, backing_bytes, HasCluster, IsNewFor, IsPending, IsSoundAt}
 use Rattle.qcow2_image.proofs.Answered.{same_guest, same_mapping, same_meaning, same_slot, ready_table, holds_own, holds_one}
 use Rattle.qcow2_image.proofs.Slots.{over_all_two}
@@ -55,10 +56,6 @@ at_marked s sound o place at =
 laid_same : {A : Type 0} (place n : ℕ) (top under under' : ℕ → A) (o : ℕ) → under o ≡ under' o → laid_over place n top under o ≡ laid_over place n top under' o
 unfolding laid_over
 laid_same place n top under under' o same = ap (λ u. if is_within place n o then top (o - place) else u) same
-
--- what a guest sees once bytes were put into the mapping at a place
-abbrev pub put_guest : Guest → ℕ → PreparedMapping → ℕ → List ℕ → Guest
-put_guest g k m at bytes = with_slot (with_disk g (put_disk g.disk m at bytes)) k (Some (put_mapping m at bytes))
 
 -- where nothing of it is private, they are on the disk
 put_in_place : (g : Guest) (k : ℕ) (m : PreparedMapping) (at : ℕ) (bytes : List ℕ) → g.slots k ≡ Some m → ((o : ℕ) → m.is_private o ≡ false) → put_guest g k m at bytes ≡ with_disk g (with_bytes g.disk (m.from + at) bytes)

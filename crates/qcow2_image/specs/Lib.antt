@@ -7,3 +7,4 @@ pub mod Views
 pub mod Calls
 pub mod Steps
 pub mod Found
+pub mod Parts

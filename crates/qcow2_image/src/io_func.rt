@@ -1,14 +1,17 @@
 //! Reading and writing what is mapped.
-ghost use Rattle.std.specs.Prelude.{◌≡◌, ◌+◌, ◌<◌, ◌≤◌, ℕ, List, [], Option, length, IfOk, IfErr, IfSome, IsTrue, MatchOption, Ok, Err, None, false};
+ghost use Rattle.std.specs.Prelude.{◌≡◌, ◌+◌, ◌<◌, ◌≤◌, ℕ, List, [], Option, length, slice_get, IfOk, IfErr, IfSome, IsTrue, MatchOption, Ok, Err, Some, None, true, false};
 ghost use Rattle.qcow2_laws.specs.Calls.{Shows};
 ghost use Rattle.qcow2_laws.specs.Guard.{Pending};
-ghost use Rattle.qcow2_image.specs.Calls.{Answers};
+ghost use Rattle.qcow2_image.specs.Calls.{Answers, Puts};
 ghost use Rattle.qcow2_image.specs.Found.{AreBytesOf, IsMappedAs};
+ghost use Rattle.qcow2_image.specs.Parts.{PutsPart, WritesBytes};
 ghost use Rattle.qcow2_image.specs.Steps.{Keeps};
-ghost use Rattle.qcow2_image.specs.Views.{IsHonestBacking, IsSoundAt, backing_bytes, disk_of};
+ghost use Rattle.qcow2_image.specs.Views.{IsHonestBacking, IsSoundAt, pending_in, backing_bytes, disk_of};
+ghost use Rattle.qcow2_image.specs.declared.mapping.MappingKind.TheVariants.{Raw};
+ghost use Rattle.qcow2_image.specs.declared.mapping.Place.TheVariants.{Image};
 ghost use Rattle.qcow2_image.specs.declared.prepared.Prepared.{Prepared};
 ghost use Rattle.qcow2_image.specs.Image.{Stays, IsSameImage, is_failed, is_writable};
-ghost use Rattle.qcow2_image.specs.Prepared.{image_of};
+ghost use Rattle.qcow2_image.specs.Prepared.{image_of, table_of};
 ghost use Rattle.qcow2_image.specs.Refusals.{refuses_mapping, refuses_to_read, IsMet, Marks};
 ghost use Rattle.qcow2_alloc.specs.declared.error.ImageError.TheVariants.{ReadOnly};
 
@@ -158,6 +161,7 @@ impl<S: Storage, F: WrappedFormat<S>> Qcow2<S, F> {
         ensures late { refuses_mapping self.old (image_of prepared.now) ≡ None → IsTrue (is_writable self.old) → IfErr result IsMet }
         ensures marks { Marks result (is_failed self.old) (is_failed self.new) }
         ensures image { IsSameImage self.old self.new }
+        ensures sees { Puts S.view F.backing self.old self.new prepared.now at bytes.now result }
     {
         self.check_usable()?;
         if prepared.image != self.number {
@@ -182,6 +186,8 @@ impl<S: Storage, F: WrappedFormat<S>> Qcow2<S, F> {
     ) -> Result<(), ImageError>
         ensures stays { Stays self.old self.new }
         ensures cause { IfErr result IsMet }
+        ensures puts { 0 < length bytes.now → at + length bytes.now ≤ prepared.now.length → (out : List (Option Prepared)) (k : ℕ) → slice_get out k ≡ Some (Some prepared.now)
+            → IsSoundAt S.view F.backing (pending_in S.view F.backing self.old out) self.old out → PutsPart S.view F.backing self.old self.new out k prepared.now at bytes.now result }
     {
         let (Some(guest), Some(host)) = (
             prepared.guest.checked_add(at),
@@ -189,24 +195,43 @@ impl<S: Storage, F: WrappedFormat<S>> Qcow2<S, F> {
         ) else {
             return Err(ImageError::OutdatedMapping);
         };
-        if prepared.table.is_none() {
-            self.check_in_place(guest, host, bytes.len() as u64)?;
-        }
-        self.file.storage.will_write(WriteKind::Data);
-        self.file.storage.write(host, bytes)?;
-        Ok(())
+        self.check_in_place(prepared, guest, host, bytes.len() as u64)?;
+        self.write_data(host, bytes)
     }
 
     // Whether a part of an existing mapping is still copied data at its place.
-    fn check_in_place(&mut self, guest: u64, host: u64, length: u64) -> Result<(), ImageError>
+    fn check_in_place(
+        &mut self,
+        prepared: &Prepared,
+        guest: u64,
+        host: u64,
+        length: u64,
+    ) -> Result<(), ImageError>
         ensures stays { Stays self.old self.new }
         ensures cause { IfErr result IsMet }
+        ensures list { self.new.file.free_list ≡ self.old.file.free_list }
+        ensures keeps { (p : Pending) (out : List (Option Prepared)) → IsSoundAt S.view F.backing p self.old out → Keeps S.view F.backing p p self.old self.new out }
+        ensures mapped { table_of prepared.now ≡ None → 0 < length → (p : Pending) (out : List (Option Prepared)) → IsSoundAt S.view F.backing p self.old out
+            → IfOk result (λ done. IsMappedAs S.view self.new guest (Raw Image host true) length) }
     {
+        if prepared.table.is_some() {
+            return Ok(());
+        }
         let wanted = MappingKind::Raw {
             place: Place::Image,
             offset: host,
             writable: true,
         };
         self.check_mapped(guest, length, &wanted)
+    }
+
+    fn write_data(&mut self, host: u64, bytes: &[u8]) -> Result<(), ImageError>
+        ensures stays { Stays self.old self.new }
+        ensures cause { IfErr result IsMet }
+        ensures written { WritesBytes S.view self.old self.new host bytes.now result }
+    {
+        self.file.storage.will_write(WriteKind::Data);
+        self.file.storage.write(host, bytes)?;
+        Ok(())
     }
 }

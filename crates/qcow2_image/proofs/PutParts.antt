@@ -1,0 +1,158 @@
+-- What a write into a prepared mapping does, from its parts.
+use Rattle.std.proofs.Common.{◌≡◌, ◌⊎◌, ⊎_elim, inl, inr, ℕ, ◌+◌, ◌-◌, ◌*◌, ◌/◌, ◌%◌, ◌<◌, ◌≤◌, Bool, true, false, List, length, [], ◌∷◌, refl, sym, ap, ◌∙◌, subst, arith, is_some}
+use Rattle.std.specs.Prelude.{Option, Some, None, Result, Ok, Err, slice_get, if◌then◌else◌}
+use Rattle.std.proofs.lemmas.Nat.{div-mul-add, mod-mul-add, div-add-mod'}
+use Rattle.image_access.specs.Backing.{BackingView}
+use Rattle.image_access.specs.Contents.{overwritten}
+use Rattle.image_access.specs.Moments.{StorageView, Passing}
+use Rattle.qcow2_metadata.specs.Bytes.{Bytes}
+use Rattle.qcow2_metadata.specs.declared.header.HeaderFields.{HeaderFields}
+use Rattle.qcow2_metadata.specs.Header.{cluster_size}
+use Rattle.qcow2_metadata.specs.Cover.{cover}
+use Rattle.qcow2_metadata.specs.declared.l2_mapping.L2Mapping.{L2Mapping}
+use Rattle.qcow2_metadata.specs.declared.l2_mapping.L2Mapping.TheVariants.{Data, Zero, Compressed, Uncovered}
+use Rattle.qcow2_laws.specs.Alike.{AreDataAt}
+use Rattle.qcow2_laws.specs.Calls.{Works}
+use Rattle.qcow2_laws.specs.Mappings.{gift_of}
+use Rattle.qcow2_laws.specs.Stops.{Gift}
+use Rattle.qcow2_laws.specs.Views.{Guest, View, guest_of, meaning_at}
+use Rattle.qcow2_laws.proofs.Alike.{run_data}
+use Rattle.qcow2_laws.proofs.Compose.{works_less, works_then}
+use Rattle.qcow2_alloc.specs.declared.error.ImageError.{ImageError}
+use Rattle.qcow2_alloc.specs.declared.error.ImageError.TheVariants as I
+use Rattle.qcow2_alloc.specs.declared.image_storage.ImageStorage.{ImageStorage}
+use Rattle.qcow2_alloc.specs.ImageStorage.{storage_of}
+use Rattle.qcow2_alloc.specs.ImageFile.{view_in, contents_in, known_in}
+use Rattle.qcow2_image.specs.declared.image.Qcow2.{Qcow2}
+use Rattle.qcow2_image.specs.declared.mapping.MappingKind.TheVariants as Kind
+use Rattle.qcow2_image.specs.declared.mapping.Place.TheVariants.{Image}
+use Rattle.qcow2_image.specs.declared.prepared.Prepared.{Prepared}
+use Rattle.qcow2_image.specs.declared.prepared.NewCluster.{NewCluster}
+use Rattle.qcow2_image.specs.Found.{kind_at, IsMappedAs}
+use Rattle.qcow2_image.specs.Parts.{put_guest, IsPut, IsWritten, WritesBytes, PutsPart}
+use Rattle.qcow2_image.specs.Views.{begin_of, cluster_of, HasCluster, IsInPlace, IsPending, IsReadyWith, IsSoundAt, pending_in, seen, meaning}
+use Rattle.qcow2_image.proofs.Called.{Quietly, quiet_works, quiet_sound, quiet_same}
+use Rattle.qcow2_image.proofs.Loading.{still_moved, with_caches}
+use Rattle.qcow2_image.proofs.Put.{over_works, over_sound, put_in_place_seen, private_works, private_sound, private_seen}
+
+-- what is mapped in place stands in a row
+mapped_data : (h : HeaderFields) (known : Bytes) (offset n host : ℕ) (backed : Bool) (v : L2Mapping) → cover h known (offset / cluster_size h) ≡ v → Kind.Raw Image host true ≡ kind_at h backed offset v
+    → ((w : L2Mapping) → cover h known (offset / cluster_size h) ≡ w → (start : ℕ) (copied : Bool) → w ≡ Data start copied → AreDataAt h known copied offset (start + offset % cluster_size h) n) → AreDataAt h known true offset host n
+mapped_data h known offset n host backed (Data start copied) is kind given =
+    let marked : true ≡ copied = cc in
+    let place : host ≡ start + offset % cluster_size h = cc in
+    subst (λ b. AreDataAt h known b offset host n) (sym marked) (subst (λ p. AreDataAt h known copied offset p n) (sym place) (given (Data start copied) is start copied refl))
+mapped_data h known offset n host backed (Zero kept) is kind given = absurd cc
+mapped_data h known offset n host backed (Compressed place sectors) is kind given = absurd cc
+mapped_data h known offset n host true Uncovered is kind given = absurd cc
+mapped_data h known offset n host false Uncovered is kind given = absurd cc
+
+module _ (h : HeaderFields) (known base : Bytes) (p : Prepared) (at n : ℕ) where
+  -- so does what is mapped to one cluster in place
+  cluster_data : (t : ℕ) → IsPending h known base p t → IsInPlace h known base p → at + n ≤ p.length → AreDataAt h known true (p.guest + at) (p.offset + at) n
+  cluster_data t pending in_place fits i lt =
+      let within = pending.within in
+      let begins = in_place.begins in
+      let g_is : p.guest / cluster_size h * cluster_size h + p.guest % cluster_size h ≡ p.guest = div-add-mod' p.guest (cluster_size h) in
+      let e : p.guest + at + i ≡ p.guest / cluster_size h * cluster_size h + (p.guest % cluster_size h + at + i) = omega arith in
+      let here : (p.guest + at + i) / cluster_size h ≡ p.guest / cluster_size h = ap (λ o. o / cluster_size h) e ∙ div-mul-add (p.guest / cluster_size h) (cluster_size h) (p.guest % cluster_size h + at + i) (omega arith) in
+      let rest : (p.guest + at + i) % cluster_size h ≡ p.guest % cluster_size h + at + i = ap (λ o. o % cluster_size h) e ∙ mod-mul-add (p.guest / cluster_size h) (cluster_size h) (p.guest % cluster_size h + at + i) (omega arith) in
+      (begin_of h p, ap (cover h known) here ∙ in_place.entry, omega arith)
+
+module _ {S F : Type 0} (view : S → StorageView) (backing : F → BackingView) (out : List (Option Prepared)) (k : ℕ) (p : Prepared) (at : ℕ) (bytes : List ℕ) (placed : slice_get out k ≡ Some (Some p)) where
+  abbrev gifts : List Gift
+  gifts = gift_of (p.guest + at) bytes ∷ []
+
+  -- a part that no guest sees, and is refused then
+  pub puts_refused : (old new : Qcow2 S F) (e : ImageError) → Quietly view backing out old new → IsSoundAt view backing (pending_in view backing old out) old out → PutsPart view backing old new out k p at bytes (Err e)
+  puts_refused old new e quiet sound = record {
+    works = works_less (seen view backing old out) (seen view backing new out) [] gifts [] (λ o v none. absurd none) (quiet_works view backing out old new (λ _. quiet) sound);
+    sound = quiet_sound view backing out old new (λ _. quiet) sound;
+    is = inl (quiet_same view backing out old new (λ _. quiet) sound);
+  }
+
+  is_put_of : (a b put put' c : Guest) (r : Result (Unit {0}) ImageError) → b ≡ a → put' ≡ put → IsPut r b put' c → IsPut r a put c
+  is_put_of a b put put' c (Ok _) same puts is = is ∙ puts
+  is_put_of a b put put' c (Err e) same puts is = ⊎_elim (λ (still : c ≡ b). inl (still ∙ same)) (λ (fault : e ≡ I.Storage). inr fault) is
+
+  -- or goes on
+  pub puts_then : (a b c : Qcow2 S F) (r : Result (Unit {0}) ImageError) → Quietly view backing out a b → IsSoundAt view backing (pending_in view backing a out) a out → PutsPart view backing b c out k p at bytes r
+      → PutsPart view backing a c out k p at bytes r
+  puts_then a b c r quiet sound part =
+      let same = quiet_same view backing out a b (λ _. quiet) sound in
+      let mid = quiet_sound view backing out a b (λ _. quiet) sound in
+      let at_place : (image : Qcow2 S F) → (guest_of (seen view backing image out)).slots k ≡ Some (meaning view backing image p) = λ image. ap (meaning_at (meaning view backing image)) placed in
+      let means : Some (meaning view backing b p) ≡ Some (meaning view backing a p) = sym (at_place b) ∙ ap (λ (g : Guest). g.slots k) same ∙ at_place a in
+      let mean : meaning view backing b p ≡ meaning view backing a p = cc in
+      record {
+        works = works_then (seen view backing a out) (seen view backing b out) (seen view backing c out) gifts [] mid
+            (works_less (seen view backing a out) (seen view backing b out) [] gifts [] (λ o v none. absurd none) (quiet_works view backing out a b (λ _. quiet) sound)) part.works;
+        sound = part.sound;
+        is = is_put_of (guest_of (seen view backing a out)) (guest_of (seen view backing b out)) (put_guest (guest_of (seen view backing a out)) k (meaning view backing a p) at bytes)
+            (put_guest (guest_of (seen view backing b out)) k (meaning view backing b p) at bytes) (guest_of (seen view backing c out)) r same
+            (ap (λ g. put_guest g k (meaning view backing b p) at bytes) same ∙ ap (λ m. put_guest (guest_of (seen view backing a out)) k m at bytes) mean) part.is;
+      }
+
+  -- the write itself
+  module _ (old : Qcow2 S F) (sound : IsSoundAt view backing (pending_in view backing old out) old out) (fits : at + length bytes ≤ p.length)
+      (mapped : p.table ≡ None → IsMappedAs view old (p.guest + at) (Kind.Raw Image (p.offset + at) true) (length bytes)) where
+    data_of : p.new_cluster ≡ None → AreDataAt old.file.header.fields (known_in view old.file) true (p.guest + at) (p.offset + at) (length bytes)
+    data_of none = by_table p.table refl (sound.ready k p placed).mapped where
+      by_table : (t : Option ℕ) → p.table ≡ t → IsReadyWith old.file.header.fields (known_in view old.file) (contents_in view old.file) p t
+          → AreDataAt old.file.header.fields (known_in view old.file) true (p.guest + at) (p.offset + at) (length bytes)
+      by_table None is ready =
+          let h = old.file.header.fields in
+          let known = known_in view old.file in
+          let run = mapped is in
+          mapped_data h known (p.guest + at) (length bytes) (p.offset + at) (is_some old.backing) (cover h known ((p.guest + at) / cluster_size h)) refl run.kind_is
+          (λ w covered start copied is_data. run_data h known (p.guest + at) (length bytes) run.alike start copied (covered ∙ is_data))
+      by_table (Some t) is pending =
+          cluster_data old.file.header.fields (known_in view old.file) (contents_in view old.file) p at (length bytes) t pending
+          (subst (HasCluster old.file.header.fields (known_in view old.file) (contents_in view old.file) p) none pending.cluster) fits
+
+    module _ (storage : ImageStorage S) (honest : (view (storage_of storage)).is_honest) (time : Passing (view_in view old.file) (view (storage_of storage)) (λ c. c ≡ (view (storage_of storage)).contents)) where
+      abbrev new : Qcow2 S F
+      new = record old { file = record old.file { storage = storage } }
+
+      -- it is there
+      puts_changed : (x : Option NewCluster) → p.new_cluster ≡ x → (view (storage_of storage)).contents ≡ overwritten (view_in view old.file).contents (p.offset + at) bytes
+          → Works (seen view backing old out) (seen view backing new out) gifts [] × IsSoundAt view backing (pending_in view backing new out) new out
+          × (guest_of (seen view backing new out) ≡ put_guest (guest_of (seen view backing old out)) k (meaning view backing old p) at bytes)
+      puts_changed None none is = (
+          over_works view backing old out sound storage (p.offset + at) bytes is honest time (p.guest + at) (data_of none),
+          over_sound view backing old out sound storage (p.offset + at) bytes is honest time (p.guest + at) (data_of none),
+          put_in_place_seen view backing old out sound storage (p.offset + at) bytes is honest time (p.guest + at) (data_of none) k p at placed none refl)
+      puts_changed (Some n) fresh is = (
+          private_works view backing old out sound storage (p.offset + at) bytes is honest time k p at placed n fresh fits refl,
+          private_sound view backing old out sound storage (p.offset + at) bytes is honest time k p at placed n fresh fits refl,
+          private_seen view backing old out sound storage (p.offset + at) bytes is honest time k p at placed n fresh fits refl)
+
+      -- or it isn't
+      puts_still : (e : ImageError) → (view (storage_of storage)).contents ≡ (view_in view old.file).contents → PutsPart view backing old new out k p at bytes (Err e)
+      puts_still e same = puts_refused old new e (record { keeps = still_moved view backing old out (pending_in view backing old out) sound storage honest time same; list = refl }) sound
+
+      pub puts_written : (r : Result (Unit {0}) ImageError) → IsWritten r (view_in view old.file).contents (overwritten (view_in view old.file).contents (p.offset + at) bytes) (view (storage_of storage)).contents
+          → PutsPart view backing old new out k p at bytes r
+      puts_written (Ok done) is = let put = puts_changed p.new_cluster refl is in record { works = put.0; sound = put.1; is = put.2 }
+      puts_written (Err I.Storage) is = ⊎_elim (λ same. puts_still I.Storage same)
+          (λ (changed : (view (storage_of storage)).contents ≡ overwritten (view_in view old.file).contents (p.offset + at) bytes). let put = puts_changed p.new_cluster refl changed in record { works = put.0; sound = put.1; is = inr refl }) is
+      puts_written (Err I.ReadOnly) is = puts_still I.ReadOnly is
+      puts_written (Err I.BeyondSize) is = puts_still I.BeyondSize is
+      puts_written (Err I.Version) is = puts_still I.Version is
+      puts_written (Err I.UnalignedTable) is = puts_still I.UnalignedTable is
+      puts_written (Err I.InvalidOption) is = puts_still I.InvalidOption is
+      puts_written (Err I.Preallocation) is = puts_still I.Preallocation is
+      puts_written (Err I.Compressed) is = puts_still I.Compressed is
+      puts_written (Err I.InUse) is = puts_still I.InUse is
+      puts_written (Err I.TablePrepared) is = puts_still I.TablePrepared is
+      puts_written (Err I.OutdatedMapping) is = puts_still I.OutdatedMapping is
+      puts_written (Err I.ForeignState) is = puts_still I.ForeignState is
+      puts_written (Err I.Dependency) is = puts_still I.Dependency is
+      puts_written (Err I.Limit) is = puts_still I.Limit is
+      puts_written (Err I.Memory) is = puts_still I.Memory is
+      puts_written (Err I.Failed) is = puts_still I.Failed is
+      puts_written (Err I.MappingPrepared) is = puts_still I.MappingPrepared is
+      puts_written (Err (I.NotCompressed offset)) is = puts_still (I.NotCompressed offset) is
+      puts_written (Err I.Metadata) is = puts_still I.Metadata is
+      puts_written (Err I.Overflow) is = puts_still I.Overflow is
+      puts_written (Err (I.StillInUse tables)) is = puts_still (I.StillInUse tables) is

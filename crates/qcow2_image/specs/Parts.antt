@@ -1,0 +1,44 @@
+-- What parts of calls do that a guest sees.
+use Rattle.std.specs.Prelude.{ℕ, ◌+◌, ◌≡◌, ◌⊎◌, List, [], ◌∷◌, Option, Some, Result, Ok, Err}
+use Rattle.image_access.specs.Backing.{BackingView}
+use Rattle.image_access.specs.Contents.{overwritten}
+use Rattle.image_access.specs.Moments.{StorageView, Passing}
+use Rattle.qcow2_laws.specs.Calls.{Works, IsSame, with_disk, with_slot}
+use Rattle.qcow2_laws.specs.Mappings.{PreparedMapping, gift_of, put_mapping, put_disk}
+use Rattle.qcow2_laws.specs.Views.{Guest, guest_of}
+use Rattle.qcow2_alloc.specs.declared.error.ImageError.{ImageError}
+use Rattle.qcow2_alloc.specs.declared.error.ImageError.TheVariants as I
+use Rattle.qcow2_alloc.specs.ImageFile.{view_in}
+use Rattle.qcow2_image.specs.declared.image.Qcow2.{Qcow2}
+use Rattle.qcow2_image.specs.declared.prepared.Prepared.{Prepared}
+use Rattle.qcow2_image.specs.Views.{meaning, pending_in, seen, IsSoundAt}
+
+-- what a guest sees once bytes were put into the mapping at a place
+abbrev pub put_guest : Guest → ℕ → PreparedMapping → ℕ → List ℕ → Guest
+put_guest g k m at bytes = with_slot (with_disk g (put_disk g.disk m at bytes)) k (Some (put_mapping m at bytes))
+
+-- a write to the storage is there, or isn't; only where the storage failed it may be there though it was refused
+abbrev pub IsWritten : Result (Unit {0}) ImageError → List ℕ → List ℕ → List ℕ → Type 0
+IsWritten (Ok _) old changed new = new ≡ changed
+IsWritten (Err I.Storage) old changed new = (new ≡ old) ⊎ (new ≡ changed)
+IsWritten (Err e) old changed new = new ≡ old
+
+-- bytes are put into a mapping, or nothing changed; or the storage failed
+abbrev pub IsPut : Result (Unit {0}) ImageError → Guest → Guest → Guest → Type 0
+IsPut (Ok _) old put new = new ≡ put
+IsPut (Err e) old put new = (new ≡ old) ⊎ (e ≡ I.Storage)
+
+module _ {S F : Type 0} (view : S → StorageView) where
+  -- bytes are written to the storage, and nothing else changes
+  pub record WritesBytes (old new : Qcow2 S F) (host : ℕ) (bytes : List ℕ) (result : Result (Unit {0}) ImageError) : Type 0 where
+    pub rest : new ≡ record old { file = record old.file { storage = new.file.storage } }
+    pub honest : (view_in view old.file).is_honest → (view_in view new.file).is_honest
+    pub time : Passing (view_in view old.file) (view_in view new.file) (λ c. c ≡ (view_in view new.file).contents)
+    pub written : (view_in view old.file).is_honest → IsWritten result (view_in view old.file).contents (overwritten (view_in view old.file).contents host bytes) (view_in view new.file).contents
+
+  module _ (backing : F → BackingView) where
+    -- bytes are put into a mapping that is out
+    pub record PutsPart (old new : Qcow2 S F) (out : List (Option Prepared)) (k : ℕ) (p : Prepared) (at : ℕ) (bytes : List ℕ) (result : Result (Unit {0}) ImageError) : Type 0 where
+      pub works : Works (seen view backing old out) (seen view backing new out) (gift_of (p.guest + at) bytes ∷ []) []
+      pub sound : IsSoundAt view backing (pending_in view backing new out) new out
+      pub is : IsPut result (guest_of (seen view backing old out)) (put_guest (guest_of (seen view backing old out)) k (meaning view backing old p) at bytes) (guest_of (seen view backing new out))
