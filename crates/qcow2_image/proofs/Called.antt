@@ -31,7 +31,7 @@ use Rattle.qcow2_image.proofs.Settled.{settled_does, settled_refuses}
 
 -- ---- a call that was refused before it did anything
 module _ (v : View) where
-  works_none : v.is_sound → Works v v [] []
+  pub works_none : v.is_sound → Works v v [] []
   works_none sound = record {
     setting = refl;
     surplus = λ still. refl;

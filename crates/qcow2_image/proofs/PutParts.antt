@@ -1,5 +1,5 @@
 -- What a write into a prepared mapping does, from its parts.
-use Rattle.std.proofs.Common.{◌≡◌, ◌⊎◌, ⊎_elim, inl, inr, ℕ, ◌+◌, ◌-◌, ◌*◌, ◌/◌, ◌%◌, ◌<◌, ◌≤◌, Bool, true, false, List, length, [], ◌∷◌, refl, sym, ap, ◌∙◌, subst, arith, is_some}
+use Rattle.std.proofs.Common.{◌≡◌, ◌⊎◌, ⊎_elim, inl, inr, ℕ, ◌+◌, ◌-◌, ◌*◌, ◌/◌, ◌%◌, ◌<◌, ◌≤◌, Bool, true, false, List, length, [], ◌∷◌, refl, sym, ap, ◌∙◌, subst, arith, is_some, cond}
 use Rattle.std.specs.Prelude.{Option, Some, None, Result, Ok, Err, slice_get, if◌then◌else◌}
 use Rattle.std.proofs.lemmas.Nat.{div-mul-add, mod-mul-add, div-add-mod'}
 use Rattle.image_access.specs.Backing.{BackingView}
@@ -12,7 +12,7 @@ use Rattle.qcow2_metadata.specs.Cover.{cover}
 use Rattle.qcow2_metadata.specs.declared.l2_mapping.L2Mapping.{L2Mapping}
 use Rattle.qcow2_metadata.specs.declared.l2_mapping.L2Mapping.TheVariants.{Data, Zero, Compressed, Uncovered}
 use Rattle.qcow2_laws.specs.Alike.{AreDataAt}
-use Rattle.qcow2_laws.specs.Calls.{Works}
+use Rattle.qcow2_laws.specs.Calls.{Works, Does}
 use Rattle.qcow2_laws.specs.Mappings.{gift_of}
 use Rattle.qcow2_laws.specs.Stops.{Gift}
 use Rattle.qcow2_laws.specs.Views.{Guest, View, guest_of, meaning_at}
@@ -32,7 +32,20 @@ use Rattle.qcow2_image.specs.Found.{kind_at, IsMappedAs}
 use Rattle.qcow2_image.specs.Parts.{put_guest, IsPut, IsWritten, WritesBytes, PutsPart}
 use Rattle.qcow2_image.specs.Views.{begin_of, cluster_of, HasCluster, IsInPlace, IsPending, IsReadyWith, IsSoundAt, pending_in, seen, meaning}
 use Rattle.qcow2_image.proofs.Called.{Quietly, quiet_works, quiet_sound, quiet_same}
+use Rattle.qcow2_image.proofs.Called.{works_none}
+use Rattle.qcow2_image.proofs.Settled.{settled_does, settled_refuses}
+use Rattle.qcow2_image.proofs.Answered.{same_guest}
+use Rattle.qcow2_image.specs.Calls.{Puts}
+use Rattle.qcow2_image.specs.Image.{number_of, is_failed}
+use Rattle.qcow2_image.specs.Refusals.{Marks}
 use Rattle.qcow2_image.proofs.Loading.{still_moved, with_caches}
+use Rattle.std.proofs.lemmas.Bool.{cases_lt, cases_eq, cond-true, cond-false, eq-eqb, ne_eqb}
+use Rattle.qcow2_metadata.specs.Bytes.{byte_at, laid_over}
+use Rattle.qcow2_metadata.specs.Guest.{known_byte}
+use Rattle.qcow2_laws.specs.Disk.{with_bytes}
+use Rattle.qcow2_laws.specs.Mappings.{PreparedMapping, put_mapping, put_disk}
+use Rattle.qcow2_laws.proofs.ForUsers.{laid_outside}
+use mathlib.Core.Path.{fun_ext}
 use Rattle.qcow2_image.proofs.Put.{over_works, over_sound, put_in_place_seen, private_works, private_sound, private_seen}
 
 -- what is mapped in place stands in a row
@@ -156,3 +169,46 @@ module _ {S F : Type 0} (view : S → StorageView) (backing : F → BackingView)
       puts_written (Err I.Metadata) is = puts_still I.Metadata is
       puts_written (Err I.Overflow) is = puts_still I.Overflow is
       puts_written (Err (I.StillInUse tables)) is = puts_still (I.StillInUse tables) is
+
+-- ---- a whole write into a mapping
+
+-- of no bytes nothing is seen
+laid_nothing : {A : Type 0} (place : ℕ) (top under : ℕ → A) (o : ℕ) → laid_over place 0 top under o ≡ under o
+laid_nothing place top under o = laid_outside place 0 top under o (elim (cases_lt o place) [ inl below ↦ inl below | inr past ↦ inr (omega arith) ])
+
+put_none : (g : Guest) (k : ℕ) (m : PreparedMapping) (at : ℕ) → g.slots k ≡ Some m → put_guest g k m at [] ≡ g
+put_none g k m at there =
+    let value : (o : ℕ) → (put_disk g.disk m at []).value o ≡ g.disk.value o = λ o. elim (m.is_private o) as (λ (b : Bool). cond b (g.disk.value o) ((with_bytes g.disk (m.from + at) []).value o) ≡ g.disk.value o) [
+      | true ↦ refl
+      | false ↦ laid_nothing (m.from + at) (λ i. known_byte (byte_at [] i)) g.disk.value o
+    ] in
+    let shown : (o : ℕ) → (put_mapping m at []).shown o ≡ m.shown o = λ o. elim (m.is_private o) as (λ (b : Bool). cond b (laid_over (m.from + at) 0 (λ i. known_byte (byte_at [] i)) m.shown o) (m.shown o) ≡ m.shown o) [
+      | true ↦ laid_nothing (m.from + at) (λ i. known_byte (byte_at [] i)) m.shown o
+      | false ↦ refl
+    ] in
+    let still : put_mapping m at [] ≡ m = ap (λ f. record m { shown = f }) (fun_ext shown) in
+    let slot : (j : ℕ) → (put_guest g k m at []).slots j ≡ g.slots j = λ j. elim (cases_eq j k) [
+      | inl here ↦ cond-true _ _ _ (eq-eqb _ _ here) ∙ ap Some still ∙ sym there ∙ ap g.slots (sym here)
+      | inr other ↦ cond-false _ _ _ (ne_eqb _ _ other)
+    ] in
+    same_guest _ _ (ap (λ f. record g.disk { value = f }) (fun_ext value)) (fun_ext slot)
+
+module _ {S F : Type 0} (view : S → StorageView) (backing : F → BackingView) (old : Qcow2 S F) (p : Prepared) (at : ℕ) (bytes : List ℕ) (usable : is_failed old ≡ false) where
+  pub puts_none : bytes ≡ [] → (done : Unit {0}) → Puts view backing old old p at bytes (Ok done)
+  puts_none none done = λ out k placed.
+      let v = seen view backing old out in
+      settled_does view backing old old out out (gift_of (p.guest + at) bytes ∷ [])
+      (λ sound. works_less v v [] (gift_of (p.guest + at) bytes ∷ []) [] (λ o w never. absurd never) (works_none v sound)) (λ sound. sound) refl usable
+      (λ sound. sym (ap (λ b. put_guest (guest_of v) k (meaning view backing old p) at b) none ∙ put_none (guest_of v) k (meaning view backing old p) at (ap (meaning_at (meaning view backing old)) placed)))
+
+  module _ (new : Qcow2 S F) (marked : Bool) (number : number_of new ≡ number_of old) where
+    pub puts_settled : (r : Result (Unit {0}) ImageError) → Marks r (is_failed new) marked
+        → ((out : List (Option Prepared)) (k : ℕ) → slice_get out k ≡ Some (Some p) → IsSoundAt view backing (pending_in view backing old out) old out → PutsPart view backing old new out k p at bytes r)
+        → Puts view backing old (record new { is_failed = marked }) p at bytes r
+    puts_settled (Ok done) marks part = λ out k placed.
+        subst (λ (f : Bool). let v = seen view backing old out in let w = seen view backing (record new { is_failed = f }) out in
+        Does v w (gift_of (p.guest + at) bytes ∷ []) [] (guest_of w ≡ put_guest (guest_of v) k (meaning view backing old p) at bytes)) (sym marks)
+        (settled_does view backing old new out out (gift_of (p.guest + at) bytes ∷ []) (λ sound. (part out k placed sound).works) (λ sound. (part out k placed sound).sound) number usable (λ sound. (part out k placed sound).is))
+    puts_settled (Err e) marks part = λ out k placed.
+        settled_refuses view backing old new out out (gift_of (p.guest + at) bytes ∷ []) (λ sound. (part out k placed sound).works) (λ sound. (part out k placed sound).sound) number usable marked e marks
+        (λ sound. (part out k placed sound).is)

@@ -1,0 +1,34 @@
+use Rattle.std.proofs.Common.{◌≡◌, ℕ, ◌<◌, [], length, refl, sym, ap, ◌∙◌, subst, rules}
+use Rattle.std.specs.Prelude.{Result}
+use Rattle.std.proofs.lemmas.List.{nil_from_length}
+use Rattle.qcow2_image.specs.declared.image.Qcow2.{Qcow2}
+use Rattle.qcow2_image.specs.Calls.{Puts}
+use Rattle.qcow2_image.specs.Image.{is_failed}
+use Rattle.qcow2_image.specs.Views.{pending_in}
+use Rattle.qcow2_image.proofs.Answers.{usable_works}
+use Rattle.qcow2_image.proofs.Called.{Quietly, quiet_sound}
+use Rattle.qcow2_image.proofs.PutParts.{puts_none, puts_then, puts_settled}
+use Rattle.qcow2_image.proofs.image.Qcow2.write_mapped.Goals as goal
+
+pub returns-then-is_empty-clause-sees : goal.returns-then-is_empty-clause-sees
+returns-then-is_empty-clause-sees g c =
+    let none : c.args.bytes.now ≡ [] = nil_from_length c.args.bytes.now (search rules) in
+    puts_none g.S.Storage.view g.F.BackingDisk.backing c.args.self.now c.args.prepared.now c.args.at c.args.bytes.now (usable_works c.args.self.now c.check_usable.result c.in_ok-check_usable.was c.check_usable.ensures) none tt
+
+pub returns-clause-sees : goal.returns-clause-sees
+returns-clause-sees g c =
+    let view = g.S.Storage.view in
+    let below = g.F.BackingDisk.backing in
+    let old = c.args.self.now in
+    let new = c.write_current-done.new.self in
+    let p = c.args.prepared.now in
+    let bytes = c.args.bytes.now in
+    let r = c.write_current-done.result in
+    let some : 0 < length c.args.bytes.now = search rules in
+    let quiet : (out : _) → _ → Quietly view below out old c.begin.new.self = λ out sound. record { keeps = c.begin.ensures.keeps (pending_in view below old out) out sound; list = c.begin.ensures.list } in
+    subst (λ (image : Qcow2 _ _). Puts view below old image p c.args.at bytes c.settled.result) (sym c.settled.ensures.rest)
+    (subst (λ (x : Result _ _). Puts view below old (record new { is_failed = is_failed c.settled.new.self }) p c.args.at bytes x) (sym c.settled.ensures.answer)
+    (puts_settled view below old p c.args.at bytes (usable_works old c.check_usable.result c.in_ok-check_usable.was c.check_usable.ensures) new (is_failed c.settled.new.self)
+    (c.write_current-done.ensures.stays.image.number ∙ c.begin.ensures.stays.image.number) r c.settled.ensures.marks
+    (λ out k placed sound. puts_then view below out k p c.args.at bytes placed old c.begin.new.self new r (quiet out sound) sound
+    (c.write_current-done.ensures.puts some c.requires out k placed (quiet_sound view below out old c.begin.new.self (quiet out) sound)))))
