@@ -14,3 +14,5 @@ pub mod Written
 pub mod Put
 pub mod Settled
 pub mod PutParts
+pub mod Committing
+pub mod Entered

@@ -32,7 +32,7 @@ use Rattle.qcow2_alloc.specs.MetadataCaches.{l2_tables, refblocks, known_of, Are
 use Rattle.qcow2_alloc.specs.ImageFile.{stand_in, view_in, contents_in, known_in, HasReftable, IsSoundFile}
 use Rattle.qcow2_image.specs.declared.image.Qcow2.{Qcow2}
 use Rattle.qcow2_image.specs.declared.prepared.Prepared.{Prepared}
-use Rattle.qcow2_image.specs.Views.{HasL1Table, IsReady, IsHonestBacking, IsSoundAt, backing_bytes}
+use Rattle.qcow2_image.specs.Views.{cluster_of, HasL1Table, IsReady, IsHonestBacking, IsSoundAt, backing_bytes}
 use Rattle.qcow2_image.specs.Steps.{Keeps}
 use Rattle.qcow2_image.proofs.Ready.{still_ready}
 
@@ -74,7 +74,7 @@ module _ {S F : Type 0} (view : S → StorageView) (backing : F → BackingView)
         ready = λ k q at. let r = sound.ready k q at in record {
           own = r.own;
           mapped = still_ready old.file.header.fields (known_in view old.file) (contents_in view old.file) (known_in view (with_caches storage' caches').file) (contents_in view (with_caches storage' caches').file)
-              (λ g. ap (λ b. cover old.file.header.fields b g) (sym stay.known)) sound.file.caches.kept.kept.guarded.same_top.l1 stay.sound.kept.kept.guarded.same_top.l1 (λ i is. l1_still i) q q.table r.mapped;
+              q (ap (λ b. cover old.file.header.fields b (cluster_of old.file.header.fields q)) (sym stay.known)) sound.file.caches.kept.kept.guarded.same_top.l1 stay.sound.kept.kept.guarded.same_top.l1 (λ i is. l1_still i) q.table r.mapped;
         };
         pinned = λ table. pins table ∙ sound.pinned table;
         once = sound.once;

@@ -5,17 +5,17 @@ use Rattle.qcow2_metadata.specs.Bytes.{Bytes}
 use Rattle.qcow2_metadata.specs.declared.header.HeaderFields.{HeaderFields}
 use Rattle.qcow2_metadata.specs.Header.{entries_per_cluster}
 use Rattle.qcow2_metadata.specs.Entries.{l1_entry, host_offset, is_copied}
-use Rattle.qcow2_laws.specs.Guard.{SameCovers}
+use Rattle.qcow2_metadata.specs.Cover.{cover}
 use Rattle.qcow2_laws.specs.Guests.{table_at}
 use Rattle.qcow2_image.specs.declared.prepared.Prepared.{Prepared}
 use Rattle.qcow2_image.specs.declared.prepared.NewCluster.{NewCluster}
 use Rattle.qcow2_image.specs.Views.{cluster_of, HasCluster, IsInPlace, IsNewFor, IsPending, IsReadyWith}
 
-module _ (h : HeaderFields) (known base known' base' : Bytes) (covers : SameCovers h known known') (top : (i : ℕ) → l1_entry h base i ≡ l1_entry h known i) (top' : (i : ℕ) → l1_entry h base' i ≡ l1_entry h known' i)
-    (copied : (i : ℕ) → is_copied (l1_entry h base i) ≡ true → l1_entry h base' i ≡ l1_entry h base i) (q : Prepared) where
+module _ (h : HeaderFields) (known base known' base' : Bytes) (q : Prepared) (covers : cover h known (cluster_of h q) ≡ cover h known' (cluster_of h q)) (top : (i : ℕ) → l1_entry h base i ≡ l1_entry h known i) (top' : (i : ℕ) → l1_entry h base' i ≡ l1_entry h known' i)
+    (copied : (i : ℕ) → is_copied (l1_entry h base i) ≡ true → l1_entry h base' i ≡ l1_entry h base i) where
   still_placed : (n : Option NewCluster) → HasCluster h known base q n → HasCluster h known' base' q n
-  still_placed None is = record { begins = is.begins; entry = sym (covers (cluster_of h q)) ∙ is.entry }
-  still_placed (Some n) is = record { begins = is.begins; one = is.one; kind = is.kind; nameable = is.nameable; index = is.index; entry = sym (covers (cluster_of h q)) ∙ is.entry }
+  still_placed None is = record { begins = is.begins; entry = sym covers ∙ is.entry }
+  still_placed (Some n) is = record { begins = is.begins; one = is.one; kind = is.kind; nameable = is.nameable; index = is.index; entry = sym covers ∙ is.entry }
 
   still_pending : (table : ℕ) → IsPending h known base q table → IsPending h known' base' q table
   still_pending table is =
@@ -23,6 +23,7 @@ module _ (h : HeaderFields) (known base known' base' : Bytes) (covers : SameCove
       let same : l1_entry h base' i ≡ l1_entry h base i = copied i is.copied in
       let there : table_at h known' i ≡ table_at h known i = ap host_offset (sym (top' i) ∙ same ∙ top i) in
       record {
+        some = is.some;
         within = is.within;
         named = record { real = λ none. is.named.real (sym there ∙ none); place = there ∙ is.named.place; within = is.named.within };
         copied = ap is_copied same ∙ is.copied;

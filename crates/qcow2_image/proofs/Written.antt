@@ -26,7 +26,7 @@ use Rattle.qcow2_alloc.specs.ImageFile.{stand_in, view_in, contents_in, known_in
 use Rattle.qcow2_alloc.proofs.KeptTables.Beside.{top_beside, settled_beside_write, sound_beside}
 use Rattle.qcow2_image.specs.declared.image.Qcow2.{Qcow2}
 use Rattle.qcow2_image.specs.declared.prepared.Prepared.{Prepared}
-use Rattle.qcow2_image.specs.Views.{pending_in, IsSoundAt}
+use Rattle.qcow2_image.specs.Views.{cluster_of, pending_in, IsSoundAt}
 use Rattle.qcow2_image.proofs.Ready.{still_ready}
 use Rattle.qcow2_image.proofs.Stepped.{Steps}
 
@@ -110,8 +110,8 @@ module _ {S F : Type 0} (view : S → StorageView) (backing : F → BackingView)
             below = sound.below;
             ready = λ k q at. let r = sound.ready k q at in record {
               own = r.own;
-              mapped = still_ready h (known_in view old.file) (contents_in view old.file) (known_in view written.file) (contents_in view written.file) covers
-                  sound.file.caches.kept.kept.guarded.same_top.l1 leads.sound.same_top.l1 (λ i copied. sym (top.l1 i)) q q.table r.mapped;
+              mapped = still_ready h (known_in view old.file) (contents_in view old.file) (known_in view written.file) (contents_in view written.file) q (covers (cluster_of h q))
+                  sound.file.caches.kept.kept.guarded.same_top.l1 leads.sound.same_top.l1 (λ i copied. sym (top.l1 i)) q.table r.mapped;
             };
             pinned = sound.pinned;
             once = sound.once;

@@ -1,14 +1,15 @@
 -- What parts of calls do that a guest sees.
-use Rattle.std.specs.Prelude.{ℕ, ◌+◌, ◌≡◌, ◌⊎◌, List, [], ◌∷◌, Option, Some, Result, Ok, Err}
+use Rattle.std.specs.Prelude.{ℕ, ◌+◌, ◌≡◌, ◌⊎◌, List, [], ◌∷◌, Option, Some, None, IfSome, IsSome, Result, Ok, Err, slice_get, slice_set}
 use Rattle.image_access.specs.Backing.{BackingView}
 use Rattle.image_access.specs.Contents.{overwritten}
 use Rattle.image_access.specs.Moments.{StorageView, Passing}
 use Rattle.qcow2_laws.specs.Calls.{Works, IsSame, with_disk, with_slot}
-use Rattle.qcow2_laws.specs.Mappings.{PreparedMapping, gift_of, put_mapping, put_disk}
+use Rattle.qcow2_laws.specs.Mappings.{PreparedMapping, gift_of, gift_of_commit, put_mapping, put_disk, committed}
 use Rattle.qcow2_laws.specs.Views.{Guest, guest_of}
 use Rattle.qcow2_alloc.specs.declared.error.ImageError.{ImageError}
 use Rattle.qcow2_alloc.specs.declared.error.ImageError.TheVariants as I
 use Rattle.qcow2_alloc.specs.ImageFile.{view_in}
+use Rattle.qcow2_alloc.specs.MetadataCaches.{l2_at}
 use Rattle.qcow2_image.specs.declared.image.Qcow2.{Qcow2}
 use Rattle.qcow2_image.specs.declared.prepared.Prepared.{Prepared}
 use Rattle.qcow2_image.specs.Views.{meaning, pending_in, seen, IsSoundAt}
@@ -42,3 +43,14 @@ module _ {S F : Type 0} (view : S → StorageView) where
       pub works : Works (seen view backing old out) (seen view backing new out) (gift_of (p.guest + at) bytes ∷ []) []
       pub sound : IsSoundAt view backing (pending_in view backing new out) new out
       pub is : IsPut result (guest_of (seen view backing old out)) (put_guest (guest_of (seen view backing old out)) k (meaning view backing old p) at bytes) (guest_of (seen view backing new out))
+
+    -- what was private is visible
+    pub record Committed (old new : Qcow2 S F) (out : List (Option Prepared)) (k : ℕ) (p : Prepared) : Type 0 where
+      pub works : Works (seen view backing old out) (seen view backing new (slice_set out k None)) (gift_of_commit (seen view backing old out).setting.cluster_size (guest_of (seen view backing old out)).disk (meaning view backing old p) ∷ []) []
+      pub sound : IsSoundAt view backing (pending_in view backing new (slice_set out k None)) new (slice_set out k None)
+      pub is : guest_of (seen view backing new (slice_set out k None)) ≡ with_slot (with_disk (guest_of (seen view backing old out)) (committed (guest_of (seen view backing old out)).disk (meaning view backing old p))) k None
+
+    -- a mapping that is out becomes visible, and its place is free
+    abbrev pub Enters : Qcow2 S F → Qcow2 S F → Prepared → Type 0
+    Enters old new p = (out : List (Option Prepared)) (k : ℕ) → slice_get out k ≡ Some (Some p) → IfSome p.table (λ t. IsSome (l2_at old.file.caches t)) → IsSoundAt view backing (pending_in view backing old out) old out
+        → Committed old new out k p

@@ -11,7 +11,8 @@ use Rattle.qcow2_alloc.specs.declared.error.ImageError.{ImageError}
 use Rattle.qcow2_alloc.specs.ImageFile.{view_in, known_in, stand_in, nothing_given, Breaks}
 use Rattle.qcow2_image.specs.declared.image.Qcow2.{Qcow2}
 use Rattle.qcow2_image.specs.declared.prepared.Prepared.{Prepared}
-use Rattle.qcow2_alloc.specs.CacheMarks.{l2_pins, SameTables}
+use Rattle.qcow2_alloc.specs.CacheMarks.{l2_pins, KeepsMarks, SameTables}
+use Rattle.qcow2_alloc.specs.MetadataCaches.{order_of, MapsEntry}
 use Rattle.qcow2_image.specs.declared.prepared.NewCluster.{NewCluster}
 use Rattle.qcow2_image.specs.Views.{of_data, of_tables, to_free, pins_of, backing_bytes, IsSoundAt}
 
@@ -28,6 +29,18 @@ module _ {S F : Type 0} where
   -- clusters are put on the list of those to be freed, and nothing else changes
   abbrev pub FreesLater : List ClustersToFreeEntry → Qcow2 S F → Qcow2 S F → Type 0
   FreesLater more old new = new ≡ record old { file = record old.file { free_list = old.file.free_list ++ more } }
+
+  -- an entry of a cached table, where one is named, is made copied data at a host cluster, and nothing else changes
+  pub record EntersCluster (table : Option ℕ) (index host : ℕ) (old new : Qcow2 S F) : Type 0 where
+    pub rest : new ≡ record old { file = record old.file { caches = new.file.caches } }
+    pub order : order_of new.file.caches ≡ order_of old.file.caches
+    pub marks : KeepsMarks old.file.caches new.file.caches
+    pub entered : (t : ℕ) → table ≡ Some t → (answer : Option (ℕ × ℕ)) × MapsEntry old.file.caches new.file.caches t index host answer
+
+  -- so is that of a new cluster, where there is one
+  abbrev pub EntersNew : Option ℕ → Option NewCluster → Qcow2 S F → Qcow2 S F → Type 0
+  EntersNew table None old new = new ≡ old
+  EntersNew table (Some n) old new = EntersCluster table n.index n.pending.first_cluster old new
 
   -- an L2 table has one pin less, where one is named, and nothing else changes
   pub record Unpins (table : Option ℕ) (old new : Qcow2 S F) : Type 0 where

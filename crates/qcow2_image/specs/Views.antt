@@ -95,6 +95,7 @@ module _ (h : HeaderFields) where
 
     -- a mapping that isn't existing lies within one cluster, whose L2 table is the pinned one and marked copied
     pub record IsPending (table : ℕ) : Type 0 where
+      pub some : 0 < p.length
       pub within : p.guest % cluster_size h + p.length ≤ cluster_size h
       pub named : IsEntryAt h known (cluster_of p / entries_per_cluster h) table (cluster_of p % entries_per_cluster h)
       pub copied : is_copied (l1_entry h base (cluster_of p / entries_per_cluster h)) ≡ true

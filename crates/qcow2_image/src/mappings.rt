@@ -6,13 +6,15 @@ ghost use Rattle.qcow2_image.specs.FirstCluster.{IsNear};
 ghost use Rattle.qcow2_image.specs.Image.{Stays, IsSameImage, is_failed, is_writable, number_of};
 ghost use Rattle.qcow2_image.specs.Prepared.{image_of, length_of, table_of, IsKept};
 ghost use Rattle.qcow2_laws.specs.Guard.{Pending};
-ghost use Rattle.qcow2_alloc.specs.MetadataCaches.{IsEntryAt};
+ghost use Rattle.qcow2_alloc.specs.MetadataCaches.{IsEntryAt, l2_at};
 ghost use Rattle.qcow2_alloc.specs.ImageFile.{known_in, IsSoundFile};
 ghost use Rattle.qcow2_image.specs.declared.prepared.Prepared.{Prepared};
-ghost use Rattle.qcow2_image.specs.Calls.{Answers, Discards};
+ghost use Rattle.qcow2_image.specs.Calls.{Answers, Commits, Discards};
+ghost use Rattle.qcow2_image.specs.Parts.{Enters};
+ghost use Rattle.qcow2_alloc.specs.CacheMarks.{l2_pins};
 ghost use Rattle.qcow2_laws.specs.Alike.{IsAlike};
 ghost use Rattle.qcow2_image.specs.Found.{mapping_of, IsRunBehind, NamesTable, IsRunFrom, IsFound, kind_at, rest_of_table, l1_index_of, l2_index_of};
-ghost use Rattle.qcow2_image.specs.Steps.{Keeps, FreesLater, Unpins, freed_by};
+ghost use Rattle.qcow2_image.specs.Steps.{Keeps, EntersCluster, EntersNew, FreesLater, Unpins, freed_by};
 ghost use Rattle.qcow2_image.specs.Views.{HasL1Table, IsSoundAt, seen};
 ghost use Rattle.qcow2_image.specs.Refusals.{unusable, refuses_to_prepare, passes as passes_size, IsMet, Marks};
 ghost use Rattle.qcow2_image.specs.declared.prepared.CommitRefused.TheVariants.{Kept};
@@ -532,6 +534,7 @@ impl<S: Storage, F: WrappedFormat<S>> Qcow2<S, F> {
         ensures kept { IfErr result (IsKept prepared) }
         ensures existing { image_of prepared ≡ number_of self.old → is_failed self.old ≡ false → IsNone (table_of prepared) → result ≡ Ok tt }
         ensures image { IsSameImage self.old self.new }
+        ensures sees { Commits S.view F.backing self.old self.new prepared result }
     {
         if prepared.image != self.number {
             return Err(CommitRefused::Kept(ImageError::ForeignState, prepared));
@@ -539,21 +542,24 @@ impl<S: Storage, F: WrappedFormat<S>> Qcow2<S, F> {
         if self.is_failed {
             return Err(CommitRefused::Kept(ImageError::Failed, prepared));
         }
-        if let Some(table) = prepared.table {
-            if let Err(refusal) = self.hold_l2(table) {
-                self.note(&refusal);
-                return Err(CommitRefused::Kept(refusal, prepared));
-            }
+        if let Err(refusal) = self.hold_l2(prepared.table) {
+            self.note(&refusal);
+            return Err(CommitRefused::Kept(refusal, prepared));
         }
         self.enter_prepared(prepared);
         Ok(())
     }
 
     // Brings a table into its cache where it isn't there.
-    fn hold_l2(&mut self, table: HostCluster) -> Result<(), ImageError>
+    fn hold_l2(&mut self, table: Option<HostCluster>) -> Result<(), ImageError>
         ensures stays { Stays self.old self.new }
         ensures cause { IfErr result IsMet }
+        ensures none { table ≡ None → (result ≡ Ok tt) × (self.new ≡ self.old) }
+        ensures pinned { IfSome table (λ t. 0 < l2_pins self.old.file.caches t) → (result ≡ Ok tt) × (self.new ≡ self.old) × IfSome table (λ t. IsSome (l2_at self.old.file.caches t)) }
     {
+        let Some(table) = table else {
+            return Ok(());
+        };
         if self.file.caches.l2_peek(table).is_some() {
             return Ok(());
         }
@@ -566,6 +572,7 @@ impl<S: Storage, F: WrappedFormat<S>> Qcow2<S, F> {
     // Enters the new cluster of a mapping whose table is held, and lets the table go.
     fn enter_prepared(&mut self, prepared: Prepared)
         ensures stays { Stays self.old self.new }
+        ensures commits { Enters S.view F.backing self.old self.new prepared }
     {
         let Prepared {
             image: _,
@@ -576,17 +583,24 @@ impl<S: Storage, F: WrappedFormat<S>> Qcow2<S, F> {
             table,
             new_cluster,
         } = prepared;
+        self.enter_new(&table, new_cluster);
+        self.unpin(table);
+    }
+
+    fn enter_new(&mut self, table: &Option<HostCluster>, new_cluster: Option<NewCluster>)
+        ensures { EntersNew table.now new_cluster self.old self.new }
+    {
         if let Some(NewCluster { index, pending }) = new_cluster {
-            if let Some(table) = table {
-                let _nothing = self
-                    .file
-                    .caches
-                    .l2_map_cluster(table, index, pending.cluster());
-            }
+            self.enter_cluster(*table, index, pending.cluster());
             pending.make_persistent();
         }
+    }
+
+    fn enter_cluster(&mut self, table: Option<HostCluster>, index: usize, cluster: HostCluster)
+        ensures { EntersCluster table index cluster self.old self.new }
+    {
         if let Some(table) = table {
-            self.file.caches.l2_unpin(table);
+            let _nothing = self.file.caches.l2_map_cluster(table, index, cluster);
         }
     }
 
