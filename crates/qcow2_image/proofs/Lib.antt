@@ -16,3 +16,4 @@ pub mod Settled
 pub mod PutParts
 pub mod Committing
 pub mod Entered
+pub mod CommitCalls
