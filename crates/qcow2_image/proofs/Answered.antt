@@ -1,5 +1,5 @@
 -- What a call that no guest sees does, from its parts.
-use Rattle.std.proofs.Common.{◌≡◌, ℕ, ◌+◌, ◌-◌, ◌*◌, ◌/◌, ◌%◌, ◌<◌, ◌≤◌, ◌⊎◌, ◌++◌, zero, suc, Bool, true, false, List, [], ◌∷◌, refl, sym, ap, ◌∙◌, subst, arith, inl, inr}
+use Rattle.std.proofs.Common.{◌≡◌, ℕ, ◌+◌, ◌-◌, ◌*◌, ◌/◌, ◌%◌, ◌<◌, ◌≤◌, zero, suc, Bool, true, false, List, [], ◌∷◌, refl, sym, ap, ◌∙◌, subst, arith}
 use Rattle.std.specs.Prelude.{Option, Some, None, slice_get, ◌&&◌, if◌then◌else◌, ◌==◌, is_some, nat_le, nat_lt}
 use Rattle.std.specs.Option.{option_map_or}
 use Rattle.std.proofs.lemmas.Bool.{and_from, le-leb, lt-ltb, cond-true}
@@ -11,14 +11,13 @@ use Rattle.image_access.proofs.Passing.{passes_if}
 use Rattle.qcow2_metadata.specs.Bytes.{Bytes, byte_at}
 use Rattle.qcow2_metadata.specs.Header.{cluster_size}
 use Rattle.qcow2_metadata.specs.Guest.{known_byte}
-use Rattle.qcow2_laws.specs.Disk.{Disk, disk}
+use Rattle.qcow2_laws.specs.Disk.{disk}
 use Rattle.qcow2_laws.specs.Guard.{Pending}
-use Rattle.qcow2_laws.specs.Leads.{Stand, IsSound}
+use Rattle.qcow2_laws.specs.Leads.{IsSound}
 use Rattle.qcow2_laws.specs.Mappings.{PreparedMapping}
 use Rattle.qcow2_laws.specs.Stops.{IsKeptAt, more}
-use Rattle.qcow2_laws.specs.Views.{Setting, Guest, View, guest_of, contents_of, meaning_at}
-use Rattle.qcow2_laws.specs.Calls.{Works, Stops}
-use Rattle.qcow2_laws.specs.Unseen.{IsUnseen}
+use Rattle.qcow2_laws.specs.Views.{Setting, Guest, guest_of, meaning_at}
+use Rattle.qcow2_laws.specs.Calls.{Works}
 use Rattle.qcow2_laws.proofs.Unseen.{unseen_disk}
 use Rattle.qcow2_metadata.specs.declared.header.HeaderFields.{HeaderFields}
 use Rattle.qcow2_laws.specs.Guests.{named_in_either}
@@ -26,9 +25,9 @@ use Rattle.qcow2_alloc.specs.ImageFile.{stand_in, contents_in, known_in}
 use Rattle.qcow2_image.specs.declared.image.Qcow2.{Qcow2}
 use Rattle.qcow2_image.specs.declared.prepared.Prepared.{Prepared}
 use Rattle.qcow2_image.specs.declared.prepared.NewCluster.{NewCluster}
-use Rattle.qcow2_image.specs.Views.{run_of, of_data, of_tables, to_free, held_by, over_all, surplus_in, pending_in, seen, meaning, is_private, begin_of, backing_bytes, HasCluster, IsNewFor, IsPending, IsReadyWith, IsReady, IsSoundAt}
+use Rattle.qcow2_image.specs.Views.{run_of, of_data, of_tables, to_free, held_by, over_all, pending_in, seen, meaning, is_private, begin_of, backing_bytes, HasCluster, IsNewFor, IsPending, IsReadyWith, IsSoundAt}
 use Rattle.qcow2_image.specs.Steps.{following, ListGrows, Keeps}
-use Rattle.qcow2_image.proofs.Sound.{free_more, pending_is, IsOnly}
+use Rattle.qcow2_image.proofs.Sound.{free_more, pending_is}
 
 pub same_guest : (a b : Guest) → a.disk ≡ b.disk → a.slots ≡ b.slots → a ≡ b
 same_guest a b disks slots = ap (λ d. record a { disk = d }) disks ∙ ap (λ f. record b { slots = f }) slots

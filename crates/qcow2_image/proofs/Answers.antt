@@ -1,6 +1,6 @@
 -- What a call's parts say of its answer.
-use Rattle.std.proofs.Common.{◌≡◌, ℕ, Bool, true, false, List, [], refl, sym, ap, ◌∙◌, subst}
-use Rattle.std.specs.Prelude.{Option, Some, None, MatchOption, Result, Ok, Err, IsErr, IsErrAnd}
+use Rattle.std.proofs.Common.{◌≡◌, Bool, true, false, List, [], refl, sym, subst}
+use Rattle.std.specs.Prelude.{Option, MatchOption, Result, Ok, Err, IsErr, IsErrAnd}
 use Rattle.std.specs.Option.{option_or}
 use Rattle.image_access.specs.Backing.{BackingView}
 use Rattle.image_access.specs.Moments.{StorageView}

@@ -1,23 +1,19 @@
 -- Calls that no guest sees, from their parts.
-use Rattle.std.proofs.Common.{◌≡◌, ◌⊎◌, inl, inr, ⊎_elim, ℕ, ◌+◌, ◌-◌, ◌<◌, Bool, true, false, List, [], ◌++◌, refl, sym, ap, ◌∙◌, subst, arith}
-use Rattle.std.specs.Prelude.{Option, Some, None, IsTrue, Result, Ok, Err, IfOk}
+use Rattle.std.proofs.Common.{◌≡◌, inl, ℕ, ◌<◌, Bool, true, false, List, [], ◌++◌, refl, sym, ap, ◌∙◌, subst, arith}
+use Rattle.std.specs.Prelude.{Option, Result, Ok, Err, IfOk}
 use Rattle.std.proofs.lemmas.List.{append_assoc}
 use mathlib.Core.Path.{fun_ext}
 use Rattle.image_access.specs.Backing.{BackingView}
 use Rattle.image_access.specs.Moments.{StorageView}
 use Rattle.image_access.proofs.Passing.{passes_none}
-use Rattle.qcow2_metadata.specs.Bytes.{byte_at}
 use Rattle.qcow2_metadata.specs.declared.header.HeaderFields.{HeaderFields}
 use Rattle.qcow2_metadata.specs.Entries.{l1_entry, is_copied}
 use Rattle.qcow2_laws.specs.Guard.{Pending}
-use Rattle.qcow2_laws.specs.Leads.{Stand}
-use Rattle.qcow2_laws.specs.Stops.{IsKeptAt, more, Gift}
 use Rattle.qcow2_laws.specs.Views.{Guest, View, guest_of, contents_of}
-use Rattle.qcow2_laws.specs.Calls.{Refusal, memory, storage, another, IsFault, Works, Rests, Acts, Does, Refuses, IsSame}
+use Rattle.qcow2_laws.specs.Calls.{Refusal, storage, Works, Does, Refuses, IsSame}
 use Rattle.qcow2_laws.proofs.Leads.{leads_then, steps_endure}
 use Rattle.qcow2_laws.proofs.Unseen.{unseen_then}
 use Rattle.qcow2_alloc.specs.declared.error.ImageError.{ImageError}
-use Rattle.qcow2_alloc.specs.declared.error.ImageError.TheVariants as I
 use Rattle.qcow2_alloc.specs.ImageFile.{stand_in, view_in, nothing_given}
 use Rattle.qcow2_image.specs.declared.image.Qcow2.{Qcow2}
 use Rattle.qcow2_image.specs.declared.prepared.Prepared.{Prepared}

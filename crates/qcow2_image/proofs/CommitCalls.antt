@@ -1,10 +1,10 @@
 -- A commit as a call: it is refused only where the image isn't sound.
-use Rattle.std.proofs.Common.{◌≡◌, ℕ, ◌<◌, Bool, true, false, List, [], ◌∷◌, refl, sym, ap, ◌∙◌, subst, arith}
-use Rattle.std.specs.Prelude.{Option, Some, None, IsTrue, IsSome, IfSome, Result, Ok, Err, slice_get, slice_set}
+use Rattle.std.proofs.Common.{◌≡◌, ℕ, ◌<◌, false, List, [], ◌∷◌, refl, sym, ap, ◌∙◌, subst, arith}
+use Rattle.std.specs.Prelude.{Option, Some, None, IsTrue, IsSome, IfSome, Result, Ok, slice_get, slice_set}
 use Rattle.std.proofs.lemmas.Bool.{cond-true, eq-eqb}
 use Rattle.image_access.specs.Backing.{BackingView}
 use Rattle.image_access.specs.Moments.{StorageView}
-use Rattle.qcow2_laws.specs.Calls.{Refusal, storage, Works, Rests, Does, Refuses, IsSame, with_disk, with_slot}
+use Rattle.qcow2_laws.specs.Calls.{Refusal, storage, Rests, Does, Refuses, with_disk, with_slot}
 use Rattle.qcow2_laws.specs.Mappings.{gift_of_commit, committed}
 use Rattle.qcow2_laws.specs.Stops.{Gift}
 use Rattle.qcow2_laws.specs.Views.{View, guest_of}
@@ -15,7 +15,7 @@ use Rattle.qcow2_image.specs.declared.image.Qcow2.{Qcow2}
 use Rattle.qcow2_image.specs.declared.prepared.Prepared.{Prepared}
 use Rattle.qcow2_image.specs.Image.{number_of, is_failed}
 use Rattle.qcow2_image.specs.Parts.{Committed, Enters}
-use Rattle.qcow2_image.specs.Views.{pins_by, pins_of, over_all, pending_in, seen, meaning, IsSoundAt}
+use Rattle.qcow2_image.specs.Views.{pins_by, pins_of, pending_in, seen, meaning, IsSoundAt}
 use Rattle.qcow2_image.proofs.Answered.{over_all_at}
 use Rattle.qcow2_image.proofs.Settled.{settled_does}
 

@@ -1,42 +1,39 @@
 -- A prepared mapping is committed: its private bytes become visible, and its place is free.
-use Rattle.std.proofs.Common.{◌≡◌, ◌≢◌, ◌⊎◌, inl, inr, ⊎_elim, ℕ, ◌+◌, ◌-◌, ◌*◌, ◌/◌, ◌%◌, ◌^◌, ◌<◌, ◌≤◌, Bool, true, false, List, [], ◌∷◌, refl, sym, ap, ◌∙◌, subst, arith, is_some, cond, eqb}
-use Rattle.std.specs.Prelude.{Option, Some, None, IsSome, IfSome, slice_get, slice_set, ◌==◌, ◌&&◌, if◌then◌else◌}
+use Rattle.std.proofs.Common.{◌≡◌, ◌≢◌, inl, inr, ℕ, ◌+◌, ◌-◌, ◌*◌, ◌/◌, ◌%◌, ◌<◌, ◌≤◌, Bool, true, false, List, [], ◌∷◌, refl, sym, ap, ◌∙◌, subst, arith, is_some}
+use Rattle.std.specs.Prelude.{Option, Some, None, IsSome, IfSome, slice_get, slice_set, ◌==◌, ◌&&◌}
 use Rattle.std.specs.Option.{option_map_or}
 use Rattle.std.proofs.lemmas.Bool.{cases_lt, cases_eq, cond-true, cond-false, eq-eqb, ne_eqb}
-use Rattle.std.proofs.lemmas.Nat.{div-mul-add, mod-mul-add, div-add-mod', mod_below, pow_pos}
+use Rattle.std.proofs.lemmas.Nat.{div-mul-add, mod-mul-add, div-add-mod', pow_pos}
 use mathlib.Core.Path.{fun_ext}
 use Rattle.image_access.specs.Backing.{BackingView}
 use Rattle.image_access.specs.Moments.{StorageView}
 use Rattle.image_access.proofs.Passing.{passes_none}
 use Rattle.qcow2_metadata.specs.Bytes.{Bytes}
 use Rattle.qcow2_metadata.specs.declared.header.HeaderFields.{HeaderFields}
-use Rattle.qcow2_metadata.specs.Header.{cluster_size, entries_per_cluster, has_data_file, rounded_down, rounded_up}
-use Rattle.qcow2_metadata.specs.Entries.{l1_entry, l2_entry, host_offset}
+use Rattle.qcow2_metadata.specs.Header.{cluster_size, entries_per_cluster, has_data_file, rounded_up}
+use Rattle.qcow2_metadata.specs.Entries.{l2_entry, host_offset}
 use Rattle.qcow2_metadata.specs.Guest.{known_byte}
 use Rattle.qcow2_metadata.specs.Cover.{cover, entry_cover}
-use Rattle.qcow2_metadata.specs.L2Mapping.{IsHostCluster}
 use Rattle.qcow2_metadata.specs.L2Table.{IsEntryHost, copied_entry}
-use Rattle.qcow2_metadata.specs.Named.{in_cluster, named_by_cover, named_for_tables}
+use Rattle.qcow2_metadata.specs.Named.{in_cluster, named_by_cover}
 use Rattle.qcow2_metadata.specs.Tables.{CachedTable}
 use Rattle.qcow2_metadata.specs.declared.l2_mapping.L2Mapping.TheVariants.{Data, Uncovered}
 use Rattle.qcow2_metadata.specs.Consistent.{CoverIsAligned}
 use Rattle.qcow2_metadata.proofs.MadeEntries.{cover_of-copied_entry, cluster_is_host}
-use Rattle.qcow2_laws.specs.Calls.{Works, with_disk, with_slot}
+use Rattle.qcow2_laws.specs.Calls.{Works}
 use Rattle.qcow2_laws.specs.Caches.{AreSettled}
 use Rattle.qcow2_laws.specs.Disk.{Disk, disk}
 use Rattle.qcow2_laws.specs.Guard.{Pending, IsGuarded}
 use Rattle.qcow2_laws.specs.Guests.{names, marks, marked_by_cover, table_at}
-use Rattle.qcow2_laws.specs.Leads.{Stand, IsSound, Leads, Endures}
+use Rattle.qcow2_laws.specs.Leads.{Stand, IsSound, Leads}
 use Rattle.qcow2_laws.specs.Mappings.{PreparedMapping, gift_shown, gift_of_commit, committed}
 use Rattle.qcow2_laws.specs.Stops.{Gift}
 use Rattle.qcow2_laws.specs.Steps.{guest_at, EntryChanges}
 use Rattle.qcow2_laws.specs.Unseen.{with_cluster}
-use Rattle.qcow2_laws.specs.Views.{guest_of, meaning_at}
 use Rattle.qcow2_laws.proofs.Blocks.{entry_top}
 use Rattle.qcow2_laws.proofs.CachedChanges.{Takes, takes_held}
-use Rattle.qcow2_laws.proofs.Compose.{works_less}
 use Rattle.qcow2_laws.proofs.MappedAnew.{Maps, pending_after, private_committed, committed_held, committed_dropped_none}
-use Rattle.qcow2_laws.proofs.Places.{Sizes, Sizes-from, cover_at}
+use Rattle.qcow2_laws.proofs.Places.{Sizes-from, cover_at}
 use Rattle.qcow2_laws.proofs.Shares.{shares}
 use Rattle.qcow2_laws.proofs.Writes.{held_is_unnamed}
 use Rattle.qcow2_laws.proofs.Consistency.{in_own}
@@ -44,15 +41,15 @@ use Rattle.qcow2_alloc.specs.Allocation.{run_at}
 use Rattle.qcow2_alloc.specs.CacheMarks.{l2_pins, KeepsMarks, SameTables}
 use Rattle.qcow2_alloc.specs.declared.allocation.Allocator.{Allocator}
 use Rattle.qcow2_alloc.specs.declared.cache.MetadataCaches.{MetadataCaches}
-use Rattle.qcow2_alloc.specs.MetadataCaches.{IsEntryAt, ChangesKnownEntry, MadeEntry, MapsEntry, l2_at, order_of, known_of, refblocks}
+use Rattle.qcow2_alloc.specs.MetadataCaches.{IsEntryAt, ChangesKnownEntry, MadeEntry, MapsEntry, l2_at, order_of, known_of}
 use Rattle.qcow2_alloc.proofs.Runs.{run_in, run_before, run_after}
-use Rattle.qcow2_alloc.specs.ImageFile.{stand_in, view_in, contents_in, known_in, HasReftable}
+use Rattle.qcow2_alloc.specs.ImageFile.{stand_in, view_in, known_in, HasReftable}
 use Rattle.qcow2_image.specs.declared.image.Qcow2.{Qcow2}
 use Rattle.qcow2_image.specs.declared.prepared.Prepared.{Prepared}
 use Rattle.qcow2_image.specs.declared.prepared.NewCluster.{NewCluster}
 use Rattle.qcow2_image.specs.Parts.{Committed}
-use Rattle.qcow2_image.specs.Views.{held_by, pins_by, pins_of, over_all, pending_in, seen, meaning, is_private, cluster_of, begin_of, backing_bytes, HasCluster, IsNewFor, IsPending, IsReadyWith, IsSoundAt}
-use Rattle.qcow2_image.proofs.Answered.{same_guest, over_all_at, holds_own}
+use Rattle.qcow2_image.specs.Views.{held_by, pins_by, pins_of, pending_in, seen, meaning, is_private, cluster_of, begin_of, backing_bytes, HasCluster, IsNewFor, IsPending, IsReadyWith, IsSoundAt}
+use Rattle.qcow2_image.proofs.Answered.{same_guest, holds_own}
 use Rattle.qcow2_image.proofs.Ready.{still_ready}
 use Rattle.qcow2_image.proofs.Slots.{get_set_same, others_left, over_all_left, over_all_two, slot_set}
 use Rattle.qcow2_image.proofs.Stepped.{Steps, stepped_sound, stepped_works}

@@ -1,5 +1,5 @@
 -- A prepared mapping is committed, whatever stands for it: over data in place only its table is let go.
-use Rattle.std.proofs.Common.{◌≡◌, ℕ, ◌-◌, ◌/◌, Bool, true, false, List, [], ◌∷◌, ◌++◌, refl, sym, ap, ◌∙◌, subst, is_some, cond}
+use Rattle.std.proofs.Common.{◌≡◌, ℕ, ◌-◌, ◌/◌, false, List, [], ◌∷◌, ◌++◌, refl, sym, ap, ◌∙◌, subst, is_some}
 use Rattle.std.specs.Prelude.{Option, Some, None, IsSome, IfSome, slice_get, slice_set, ◌==◌, ◌&&◌}
 use Rattle.std.proofs.lemmas.Bool.{cond-false}
 use Rattle.std.proofs.lemmas.List.{append-nil}
@@ -12,7 +12,7 @@ use Rattle.qcow2_laws.specs.Disk.{Disk}
 use Rattle.qcow2_laws.specs.Mappings.{gift_of_commit, committed}
 use Rattle.qcow2_laws.specs.Views.{guest_of}
 use Rattle.qcow2_laws.proofs.Compose.{works_less}
-use Rattle.qcow2_alloc.specs.CacheMarks.{l2_pins, SameTables}
+use Rattle.qcow2_alloc.specs.CacheMarks.{l2_pins}
 use Rattle.qcow2_alloc.specs.MetadataCaches.{l2_at}
 use Rattle.qcow2_alloc.specs.ImageFile.{contents_in, known_in}
 use Rattle.qcow2_image.specs.declared.image.Qcow2.{Qcow2}

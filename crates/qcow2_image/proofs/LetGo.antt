@@ -1,21 +1,20 @@
 -- A prepared mapping is let go: its place is free, and its cluster is to be freed.
-use Rattle.std.proofs.Common.{◌≡◌, ℕ, ◌+◌, ◌-◌, ◌<◌, ◌≤◌, Bool, true, false, List, [], ◌∷◌, ◌++◌, refl, sym, ap, ◌∙◌, subst, arith, cond}
-use Rattle.std.specs.Prelude.{Option, Some, None, IsTrue, slice_get, slice_set, IfSome, nat_le, nat_lt, ◌&&◌}
+use Rattle.std.proofs.Common.{◌≡◌, ℕ, ◌+◌, ◌-◌, ◌≤◌, Bool, true, false, List, [], ◌++◌, refl, sym, ap, ◌∙◌, subst, arith, cond}
+use Rattle.std.specs.Prelude.{Option, Some, None, slice_get, slice_set, IfSome, nat_le, nat_lt, ◌&&◌}
 use Rattle.std.specs.Option.{option_map_or}
-use Rattle.std.proofs.lemmas.List.{append-nil}
 use mathlib.Core.Path.{fun_ext}
 use Rattle.image_access.specs.Backing.{BackingView}
 use Rattle.image_access.specs.Moments.{StorageView}
 use Rattle.image_access.proofs.Passing.{passes_none}
-use Rattle.qcow2_metadata.specs.Bytes.{Bytes, byte_at}
+use Rattle.qcow2_metadata.specs.Bytes.{Bytes}
 use Rattle.qcow2_metadata.specs.declared.header.HeaderFields.{HeaderFields}
 use Rattle.qcow2_laws.specs.Changes.{held_to_dropped}
 use Rattle.qcow2_laws.specs.Disk.{disk}
 use Rattle.qcow2_laws.specs.Guard.{Pending, IsGuarded}
-use Rattle.qcow2_laws.specs.Leads.{Stand, IsSound, Leads}
+use Rattle.qcow2_laws.specs.Leads.{Stand, Leads}
 use Rattle.qcow2_laws.specs.Caches.{AreSettled}
 use Rattle.qcow2_laws.specs.Views.{guest_of}
-use Rattle.qcow2_laws.specs.Calls.{Works, Rests, Does, with_slot}
+use Rattle.qcow2_laws.specs.Calls.{with_slot}
 use Rattle.qcow2_laws.proofs.Leads.{endures_none}
 use Rattle.qcow2_laws.proofs.Steps.{pending_is_changed}
 use Rattle.qcow2_metadata.specs.Tables.{CachedTable}
@@ -23,19 +22,17 @@ use Rattle.qcow2_alloc.specs.Allocation.{run_at}
 use Rattle.qcow2_alloc.specs.CacheMarks.{l2_pins, SameTables}
 use Rattle.qcow2_alloc.specs.declared.cache.MetadataCaches.{MetadataCaches}
 use Rattle.qcow2_alloc.specs.declared.clusters_to_free.ClusterKind.TheVariants as Kind
-use Rattle.qcow2_alloc.specs.declared.clusters_to_free.ClustersToFreeEntry.{ClustersToFreeEntry}
 use Rattle.qcow2_alloc.specs.MetadataCaches.{order_of, known_of, AreSound}
 use Rattle.qcow2_alloc.specs.ImageFile.{stand_in, view_in, contents_in, known_in, nothing_given, HasReftable}
 use Rattle.qcow2_image.specs.declared.image.Qcow2.{Qcow2}
 use Rattle.qcow2_image.specs.declared.prepared.Prepared.{Prepared}
 use Rattle.qcow2_image.specs.declared.prepared.NewCluster.{NewCluster}
 use Rattle.qcow2_image.specs.Calls.{Discards}
-use Rattle.qcow2_image.specs.Image.{number_of, is_failed}
-use Rattle.qcow2_image.specs.Steps.{FreesLater, Unpins, freed_by}
-use Rattle.qcow2_image.specs.Views.{run_of, of_data, of_tables, to_free, held_by, pins_by, pins_of, over_all, pending_in, seen, meaning, backing_bytes, HasCluster, IsNewFor, IsReadyWith, IsReady, IsPending, IsSoundAt}
+use Rattle.qcow2_image.specs.Steps.{freed_by}
+use Rattle.qcow2_image.specs.Views.{run_of, of_data, of_tables, to_free, held_by, pins_by, pending_in, seen, meaning, backing_bytes, HasCluster, IsNewFor, IsReadyWith, IsSoundAt}
 use Rattle.qcow2_alloc.specs.declared.allocation.Allocator.{Allocator}
 use Rattle.qcow2_image.proofs.Answered.{over_all_at, same_guest, ready_table}
-use Rattle.qcow2_image.proofs.Sound.{free_more, IsOnly}
+use Rattle.qcow2_image.proofs.Sound.{free_more}
 use Rattle.qcow2_image.proofs.Slots.{others_left, over_all_left, slot_set}
 use Rattle.qcow2_image.proofs.Stepped.{Steps, stepped_sound, stepped_works}
 

@@ -1,19 +1,18 @@
 -- Tables are loaded, written and evicted, and bytes are read: no guest sees it.
-use Rattle.std.proofs.Common.{◌≡◌, ℕ, ◌+◌, ◌-◌, ◌<◌, Bool, true, List, [], ◌++◌, refl, sym, ap, ◌∙◌, subst, arith}
+use Rattle.std.proofs.Common.{◌≡◌, ℕ, List, [], refl, sym, ap, ◌∙◌, subst}
 use Rattle.std.specs.Prelude.{Option, Some, None, IfSome, Result, Ok, Err, IfOk}
 use Rattle.image_access.specs.Backing.{BackingView}
 use Rattle.image_access.specs.Moments.{StorageView}
 use Rattle.qcow2_metadata.specs.Bytes.{Bytes, byte_at}
-use Rattle.qcow2_metadata.specs.Entries.{l1_entry, reftable_entry, is_copied}
+use Rattle.qcow2_metadata.specs.Entries.{l1_entry, reftable_entry}
 use Rattle.qcow2_metadata.specs.Cover.{cover}
 use Rattle.std.proofs.lemmas.List.{append-nil}
 use Rattle.qcow2_laws.specs.Guard.{Pending}
-use Rattle.qcow2_laws.specs.Leads.{Stand, IsSound, Leads, Endures}
+use Rattle.qcow2_laws.specs.Leads.{Stand, IsSound}
 use Rattle.qcow2_laws.specs.Stops.{IsKeptAt}
 use Rattle.qcow2_laws.proofs.Unseen.{unseen_none, unseen_known}
 use Rattle.qcow2_alloc.specs.declared.cache.MetadataCaches.{MetadataCaches}
 use Rattle.qcow2_alloc.specs.declared.image_storage.ImageStorage.{ImageStorage}
-use Rattle.qcow2_alloc.specs.declared.image_file.ImageFile.{ImageFile}
 use Rattle.qcow2_alloc.specs.declared.allocation.Allocator.{Allocator}
 use Rattle.qcow2_alloc.specs.CacheMarks.{l2_pins, HasRoom, SameTables}
 use Rattle.qcow2_alloc.specs.ImageStorage.{storage_of}
@@ -29,10 +28,10 @@ use Rattle.image_access.proofs.Passing.{passes_none, passes_if}
 use Rattle.qcow2_laws.specs.Caches.{IsSafeBetween}
 use Rattle.qcow2_laws.proofs.Leads.{leads_none, endures_none}
 use Rattle.qcow2_alloc.specs.MetadataCaches.{l2_tables, refblocks, known_of, AreAllWritten, AreSound, StaySound}
-use Rattle.qcow2_alloc.specs.ImageFile.{stand_in, view_in, contents_in, known_in, HasReftable, IsSoundFile}
+use Rattle.qcow2_alloc.specs.ImageFile.{stand_in, view_in, contents_in, known_in, HasReftable}
 use Rattle.qcow2_image.specs.declared.image.Qcow2.{Qcow2}
 use Rattle.qcow2_image.specs.declared.prepared.Prepared.{Prepared}
-use Rattle.qcow2_image.specs.Views.{cluster_of, HasL1Table, IsReady, IsHonestBacking, IsSoundAt, backing_bytes}
+use Rattle.qcow2_image.specs.Views.{cluster_of, IsHonestBacking, IsSoundAt, backing_bytes}
 use Rattle.qcow2_image.specs.Steps.{Keeps}
 use Rattle.qcow2_image.proofs.Ready.{still_ready}
 

@@ -1,27 +1,26 @@
 -- Bytes are put into a prepared mapping: over data in place, or into its private cluster.
 use Rattle.std.proofs.Common.{◌≡◌, ◌≢◌, ◌⊎◌, inl, inr, ℕ, ◌+◌, ◌-◌, ◌*◌, ◌/◌, ◌%◌, ◌<◌, ◌≤◌, Bool, true, false, List, length, [], ◌∷◌, refl, sym, ap, ◌∙◌, subst, arith, is_some, cond, eqb}
-use Rattle.std.specs.Prelude.{Option, Some, None, slice_get, slice_set, if◌then◌else◌, ◌==◌, ◌&&◌}
+use Rattle.std.specs.Prelude.{Option, Some, None, slice_get, if◌then◌else◌, ◌==◌, ◌&&◌}
 use Rattle.std.proofs.lemmas.Bool.{eqb-true}
 use Rattle.std.proofs.lemmas.Bool.{cases_lt, cases_eq, cond-true, cond-false, eq-eqb, ne_eqb}
-use Rattle.std.proofs.lemmas.Nat.{div-mul-add, div-add-mod', mod_below, pow_pos}
+use Rattle.std.proofs.lemmas.Nat.{div-mul-add, div-add-mod'}
 use mathlib.Core.Path.{fun_ext}
 use Rattle.image_access.specs.Backing.{BackingView}
 use Rattle.image_access.specs.Contents.{overwritten}
 use Rattle.image_access.specs.Moments.{StorageView, Passing}
-use Rattle.qcow2_metadata.specs.Bytes.{Bytes, byte_at, is_within, laid_over}
+use Rattle.qcow2_metadata.specs.Bytes.{byte_at, is_within, laid_over}
 use Rattle.qcow2_metadata.specs.declared.header.HeaderFields.{HeaderFields}
 use Rattle.qcow2_metadata.specs.Header.{cluster_size}
 use Rattle.qcow2_metadata.specs.Guest.{known_byte}
 use Rattle.qcow2_metadata.specs.Named.{named_for_tables}
 use Rattle.qcow2_laws.specs.Alike.{IsDataAt, AreDataAt}
-use Rattle.qcow2_laws.specs.Calls.{Works, with_disk, with_slot}
+use Rattle.qcow2_laws.specs.Calls.{Works, with_disk}
 use Rattle.qcow2_laws.specs.Disk.{Disk, disk, with_bytes}
 use Rattle.qcow2_laws.specs.Guard.{Pending}
 use Rattle.qcow2_laws.specs.Guests.{marks, marked_by_cover}
 use Rattle.qcow2_laws.specs.Leads.{Stand, IsSound}
 use Rattle.qcow2_laws.specs.Mappings.{PreparedMapping, gift_of, put_mapping, put_disk}
-use Rattle.qcow2_laws.specs.Stops.{Gift, IsGiven}
-use Rattle.qcow2_laws.specs.Views.{Guest, View, guest_of, meaning_at}
+use Rattle.qcow2_laws.specs.Views.{Guest, guest_of, meaning_at}
 use Rattle.qcow2_laws.proofs.Alike.{at_cluster}
 use Rattle.qcow2_laws.proofs.Consistency.{in_own}
 use Rattle.qcow2_laws.proofs.Compose.{works_less}

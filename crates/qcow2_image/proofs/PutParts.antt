@@ -1,6 +1,6 @@
 -- What a write into a prepared mapping does, from its parts.
-use Rattle.std.proofs.Common.{◌≡◌, ◌⊎◌, ⊎_elim, inl, inr, ℕ, ◌+◌, ◌-◌, ◌*◌, ◌/◌, ◌%◌, ◌<◌, ◌≤◌, Bool, true, false, List, length, [], ◌∷◌, refl, sym, ap, ◌∙◌, subst, arith, is_some, cond}
-use Rattle.std.specs.Prelude.{Option, Some, None, Result, Ok, Err, slice_get, if◌then◌else◌}
+use Rattle.std.proofs.Common.{◌≡◌, ⊎_elim, inl, inr, ℕ, ◌+◌, ◌*◌, ◌/◌, ◌%◌, ◌≤◌, Bool, true, false, List, length, [], ◌∷◌, refl, sym, ap, ◌∙◌, subst, arith, is_some, cond}
+use Rattle.std.specs.Prelude.{Option, Some, None, Result, Ok, Err, slice_get}
 use Rattle.std.proofs.lemmas.Nat.{div-mul-add, mod-mul-add, div-add-mod'}
 use Rattle.image_access.specs.Backing.{BackingView}
 use Rattle.image_access.specs.Contents.{overwritten}
@@ -15,7 +15,7 @@ use Rattle.qcow2_laws.specs.Alike.{AreDataAt}
 use Rattle.qcow2_laws.specs.Calls.{Works, Does}
 use Rattle.qcow2_laws.specs.Mappings.{gift_of}
 use Rattle.qcow2_laws.specs.Stops.{Gift}
-use Rattle.qcow2_laws.specs.Views.{Guest, View, guest_of, meaning_at}
+use Rattle.qcow2_laws.specs.Views.{Guest, guest_of, meaning_at}
 use Rattle.qcow2_laws.proofs.Alike.{run_data}
 use Rattle.qcow2_laws.proofs.Compose.{works_less, works_then}
 use Rattle.qcow2_alloc.specs.declared.error.ImageError.{ImageError}
@@ -29,8 +29,8 @@ use Rattle.qcow2_image.specs.declared.mapping.Place.TheVariants.{Image}
 use Rattle.qcow2_image.specs.declared.prepared.Prepared.{Prepared}
 use Rattle.qcow2_image.specs.declared.prepared.NewCluster.{NewCluster}
 use Rattle.qcow2_image.specs.Found.{kind_at, IsMappedAs}
-use Rattle.qcow2_image.specs.Parts.{put_guest, IsPut, IsWritten, WritesBytes, PutsPart}
-use Rattle.qcow2_image.specs.Views.{begin_of, cluster_of, HasCluster, IsInPlace, IsPending, IsReadyWith, IsSoundAt, pending_in, seen, meaning}
+use Rattle.qcow2_image.specs.Parts.{put_guest, IsPut, IsWritten, PutsPart}
+use Rattle.qcow2_image.specs.Views.{begin_of, HasCluster, IsInPlace, IsPending, IsReadyWith, IsSoundAt, pending_in, seen, meaning}
 use Rattle.qcow2_image.proofs.Called.{Quietly, quiet_works, quiet_sound, quiet_same}
 use Rattle.qcow2_image.proofs.Called.{works_none}
 use Rattle.qcow2_image.proofs.Settled.{settled_does, settled_refuses}
@@ -38,7 +38,7 @@ use Rattle.qcow2_image.proofs.Answered.{same_guest}
 use Rattle.qcow2_image.specs.Calls.{Puts}
 use Rattle.qcow2_image.specs.Image.{number_of, is_failed}
 use Rattle.qcow2_image.specs.Refusals.{Marks}
-use Rattle.qcow2_image.proofs.Loading.{still_moved, with_caches}
+use Rattle.qcow2_image.proofs.Loading.{still_moved}
 use Rattle.std.proofs.lemmas.Bool.{cases_lt, cases_eq, cond-true, cond-false, eq-eqb, ne_eqb}
 use Rattle.qcow2_metadata.specs.Bytes.{byte_at, laid_over}
 use Rattle.qcow2_metadata.specs.Guest.{known_byte}
@@ -132,13 +132,15 @@ module _ {S F : Type 0} (view : S → StorageView) (backing : F → BackingView)
           → Works (seen view backing old out) (seen view backing new out) gifts [] × IsSoundAt view backing (pending_in view backing new out) new out
           × (guest_of (seen view backing new out) ≡ put_guest (guest_of (seen view backing old out)) k (meaning view backing old p) at bytes)
       puts_changed None none is = (
-          over_works view backing old out sound storage (p.offset + at) bytes is honest time (p.guest + at) (data_of none),
-          over_sound view backing old out sound storage (p.offset + at) bytes is honest time (p.guest + at) (data_of none),
-          put_in_place_seen view backing old out sound storage (p.offset + at) bytes is honest time (p.guest + at) (data_of none) k p at placed none refl)
+        over_works view backing old out sound storage (p.offset + at) bytes is honest time (p.guest + at) (data_of none),
+        over_sound view backing old out sound storage (p.offset + at) bytes is honest time (p.guest + at) (data_of none),
+        put_in_place_seen view backing old out sound storage (p.offset + at) bytes is honest time (p.guest + at) (data_of none) k p at placed none refl,
+      )
       puts_changed (Some n) fresh is = (
-          private_works view backing old out sound storage (p.offset + at) bytes is honest time k p at placed n fresh fits refl,
-          private_sound view backing old out sound storage (p.offset + at) bytes is honest time k p at placed n fresh fits refl,
-          private_seen view backing old out sound storage (p.offset + at) bytes is honest time k p at placed n fresh fits refl)
+        private_works view backing old out sound storage (p.offset + at) bytes is honest time k p at placed n fresh fits refl,
+        private_sound view backing old out sound storage (p.offset + at) bytes is honest time k p at placed n fresh fits refl,
+        private_seen view backing old out sound storage (p.offset + at) bytes is honest time k p at placed n fresh fits refl,
+      )
 
       -- or it isn't
       puts_still : (e : ImageError) → (view (storage_of storage)).contents ≡ (view_in view old.file).contents → PutsPart view backing old new out k p at bytes (Err e)

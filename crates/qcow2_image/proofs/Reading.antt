@@ -1,9 +1,9 @@
 -- The bytes that a run of clusters mapped alike shows.
-use Rattle.std.proofs.Common.{◌≡◌, ℕ, ◌+◌, ◌-◌, ◌*◌, ◌/◌, ◌%◌, ◌<◌, ◌≤◌, Bool, true, false, List, length, refl, sym, ap, ◌∙◌, subst, arith, min, is_some}
+use Rattle.std.proofs.Common.{◌≡◌, ℕ, ◌+◌, ◌/◌, ◌%◌, ◌<◌, Bool, true, false, refl, sym, ap, ◌∙◌, is_some}
 use Rattle.std.specs.Prelude.{Option, Some, None, if◌then◌else◌}
 use Rattle.image_access.specs.Backing.{BackingView}
 use Rattle.image_access.specs.Moments.{StorageView}
-use Rattle.qcow2_metadata.specs.Bytes.{Bytes, byte_at}
+use Rattle.qcow2_metadata.specs.Bytes.{Bytes}
 use Rattle.qcow2_metadata.specs.Header.{cluster_size}
 use Rattle.qcow2_metadata.specs.Guest.{known_byte}
 use Rattle.qcow2_metadata.specs.Cover.{cover}
@@ -13,7 +13,6 @@ use Rattle.qcow2_laws.specs.Disk.{disk}
 use Rattle.qcow2_laws.specs.Leads.{Stand, IsSound}
 use Rattle.qcow2_laws.specs.Alike.{IsAlikeRun}
 use Rattle.qcow2_laws.proofs.Alike.{run_shows_data, run_shows_zero, run_shows_uncovered}
-use Rattle.qcow2_image.specs.declared.mapping.MappingKind.{MappingKind}
 use Rattle.qcow2_image.specs.declared.mapping.MappingKind.TheVariants as Kind
 use Rattle.qcow2_image.specs.declared.mapping.Place.{Place}
 use Rattle.qcow2_image.specs.Found.{kind_at}

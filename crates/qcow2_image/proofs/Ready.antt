@@ -1,5 +1,5 @@
 -- Prepared mappings stand ready where what stands for guest clusters stays, and so do the L2 tables that are marked copied.
-use Rattle.std.proofs.Common.{◌≡◌, ℕ, ◌/◌, ◌%◌, refl, sym, ap, ◌∙◌, subst, true}
+use Rattle.std.proofs.Common.{◌≡◌, ℕ, ◌/◌, sym, ap, ◌∙◌, true}
 use Rattle.std.specs.Prelude.{Option, Some, None}
 use Rattle.qcow2_metadata.specs.Bytes.{Bytes}
 use Rattle.qcow2_metadata.specs.declared.header.HeaderFields.{HeaderFields}
@@ -9,7 +9,7 @@ use Rattle.qcow2_metadata.specs.Cover.{cover}
 use Rattle.qcow2_laws.specs.Guests.{table_at}
 use Rattle.qcow2_image.specs.declared.prepared.Prepared.{Prepared}
 use Rattle.qcow2_image.specs.declared.prepared.NewCluster.{NewCluster}
-use Rattle.qcow2_image.specs.Views.{cluster_of, HasCluster, IsInPlace, IsNewFor, IsPending, IsReadyWith}
+use Rattle.qcow2_image.specs.Views.{cluster_of, HasCluster, IsPending, IsReadyWith}
 
 module _ (h : HeaderFields) (known base known' base' : Bytes) (q : Prepared) (covers : cover h known (cluster_of h q) ≡ cover h known' (cluster_of h q)) (top : (i : ℕ) → l1_entry h base i ≡ l1_entry h known i) (top' : (i : ℕ) → l1_entry h base' i ≡ l1_entry h known' i)
     (copied : (i : ℕ) → is_copied (l1_entry h base i) ≡ true → l1_entry h base' i ≡ l1_entry h base i) where

@@ -4,7 +4,6 @@ use Rattle.std.specs.Prelude.{Option, IsTrue}
 use Rattle.image_access.specs.Backing.{BackingView}
 use Rattle.image_access.specs.Moments.{StorageView}
 use Rattle.qcow2_laws.specs.Stops.{Gift}
-use Rattle.qcow2_laws.specs.Views.{guest_of}
 use Rattle.qcow2_laws.specs.Calls.{storage, IsFault, Works, Does, Refuses, IsSame}
 use Rattle.qcow2_alloc.specs.declared.error.ImageError.{ImageError}
 use Rattle.qcow2_alloc.specs.declared.error.ImageError.TheVariants as I

@@ -1,12 +1,9 @@
 -- A part of a call that no guest sees: the image is sound again, the guest sees what it saw, and a stop is as safe as before.
-use Rattle.std.proofs.Common.{◌≡◌, ℕ, ◌+◌, ◌-◌, ◌*◌, ◌/◌, ◌%◌, ◌<◌, ◌≤◌, ◌⊎◌, ◌++◌, Bool, true, false, List, [], ◌∷◌, refl, sym, ap, ◌∙◌, subst, arith, inl, inr}
-use Rattle.std.specs.Prelude.{Option, Some, None, slice_get, ◌&&◌, if◌then◌else◌, ◌==◌, is_some}
+use Rattle.std.proofs.Common.{◌≡◌, ℕ, ◌+◌, ◌-◌, ◌++◌, List, [], ◌∷◌, sym, ap, ◌∙◌, arith}
+use Rattle.std.specs.Prelude.{Option}
 use mathlib.Core.Path.{fun_ext}
 use Rattle.image_access.specs.Backing.{BackingView}
 use Rattle.image_access.specs.Moments.{StorageView}
-use Rattle.image_access.proofs.Passing.{passes_if}
-use Rattle.qcow2_metadata.specs.Bytes.{Bytes, byte_at}
-use Rattle.qcow2_metadata.specs.Header.{cluster_size}
 use Rattle.qcow2_metadata.specs.Entries.{count}
 use Rattle.qcow2_metadata.specs.Named.{named}
 use Rattle.qcow2_laws.specs.Guard.{Pending}
@@ -18,7 +15,7 @@ use Rattle.qcow2_alloc.specs.declared.clusters_to_free.ClusterKind.{ClusterKind}
 use Rattle.qcow2_alloc.specs.declared.clusters_to_free.ClustersToFreeEntry.{ClustersToFreeEntry}
 use Rattle.qcow2_image.specs.declared.image.Qcow2.{Qcow2}
 use Rattle.qcow2_image.specs.declared.prepared.Prepared.{Prepared}
-use Rattle.qcow2_image.specs.Views.{run_of, of_data, of_tables, to_free, held_by, over_all, surplus_in, pending_in}
+use Rattle.qcow2_image.specs.Views.{of_data, of_tables, to_free, held_by, over_all, pending_in}
 use Rattle.qcow2_alloc.specs.ImageFile.{stand_in}
 
 -- ---- what is pending

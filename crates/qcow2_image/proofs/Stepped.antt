@@ -1,21 +1,19 @@
 -- What a call does, from one step of the driver and the mappings that are out then.
-use Rattle.std.proofs.Common.{◌≡◌, ℕ, ◌+◌, ◌-◌, Bool, true, false, List, [], refl, sym, ap, ◌∙◌, subst}
-use Rattle.std.specs.Prelude.{Option, IsTrue}
+use Rattle.std.proofs.Common.{◌≡◌, List, [], sym, ap, ◌∙◌, subst}
+use Rattle.std.specs.Prelude.{Option}
 use Rattle.image_access.specs.Backing.{BackingView}
 use Rattle.image_access.specs.Moments.{StorageView}
-use Rattle.image_access.proofs.Passing.{passes_if, passes_none}
+use Rattle.image_access.proofs.Passing.{passes_if}
 use Rattle.qcow2_metadata.specs.Bytes.{Bytes, byte_at}
 use Rattle.qcow2_metadata.specs.declared.header.HeaderFields.{HeaderFields}
 use Rattle.qcow2_metadata.specs.Header.{cluster_size}
 use Rattle.qcow2_laws.specs.Guard.{Pending}
-use Rattle.qcow2_laws.specs.Leads.{Stand, IsSound, Leads, Endures}
+use Rattle.qcow2_laws.specs.Leads.{Leads, Endures}
 use Rattle.qcow2_laws.specs.Stops.{Gift, IsKeptAt, more}
-use Rattle.qcow2_laws.specs.Views.{Setting, View, contents_of}
-use Rattle.qcow2_laws.specs.Calls.{Works, Rests}
+use Rattle.qcow2_laws.specs.Calls.{Works}
 use Rattle.qcow2_alloc.specs.ImageFile.{stand_in, view_in, known_in}
 use Rattle.qcow2_image.specs.declared.image.Qcow2.{Qcow2}
 use Rattle.qcow2_image.specs.declared.prepared.Prepared.{Prepared}
-use Rattle.qcow2_image.specs.Image.{is_failed}
 use Rattle.qcow2_image.specs.Views.{backing_bytes, IsSoundAt, pending_in, seen}
 use Rattle.qcow2_image.proofs.Answered.{same_setting}
 use Rattle.qcow2_image.proofs.Sound.{IsOnly, pending_is}

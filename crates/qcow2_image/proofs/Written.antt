@@ -1,5 +1,5 @@
 -- Bytes are written where no table stands: in place over data, or to the private cluster of a prepared mapping.
-use Rattle.std.proofs.Common.{◌≡◌, ◌≢◌, ◌⊎◌, inl, inr, ℕ, ◌+◌, ◌-◌, ◌*◌, ◌/◌, ◌%◌, ◌<◌, ◌≤◌, Bool, true, false, List, length, [], ◌∷◌, refl, sym, ap, ◌∙◌, subst, arith}
+use Rattle.std.proofs.Common.{◌≡◌, ◌⊎◌, inl, inr, ℕ, ◌+◌, ◌-◌, ◌/◌, ◌<◌, List, length, [], refl, sym, ap, ◌∙◌, subst, arith}
 use Rattle.std.specs.Prelude.{Option, Some, None, IfSome}
 use Rattle.std.proofs.lemmas.Bool.{cases_lt}
 use Rattle.image_access.specs.Backing.{BackingView}
@@ -11,8 +11,8 @@ use Rattle.qcow2_metadata.specs.Bytes.{Bytes, byte_at}
 use Rattle.qcow2_metadata.specs.declared.header.HeaderFields.{HeaderFields}
 use Rattle.qcow2_metadata.specs.Header.{cluster_size}
 use Rattle.qcow2_metadata.specs.Named.{named_for_tables}
-use Rattle.qcow2_laws.specs.Guard.{Pending, SameIn, SameCovers}
-use Rattle.qcow2_laws.specs.Leads.{Stand, Leads}
+use Rattle.qcow2_laws.specs.Guard.{SameIn, SameCovers}
+use Rattle.qcow2_laws.specs.Leads.{Leads}
 use Rattle.qcow2_laws.specs.Stops.{Gift, IsKeptAt, more}
 use Rattle.qcow2_laws.specs.Tops.{IsSameBut, WritesAt}
 use Rattle.qcow2_laws.proofs.Beside.{overwritten_but}
@@ -73,9 +73,10 @@ module _ {S F : Type 0} (view : S → StorageView) (backing : F → BackingView)
       agree = still_agree (cluster_size h) (l2_tables old.file.caches) (refblocks old.file.caches) (contents_in view old.file) (contents_in view written.file) (λ o. elim (free_at o) [
         | inl same ↦ inl same
         | inr none ↦ inr (
-            unnamed_free_l2 h (order_of old.file.caches) (pending_in view backing old out) (l2_tables old.file.caches) (refblocks old.file.caches) (contents_in view old.file) sound.file.caches.kept.kept (o / cluster_size h) none o refl,
-            unnamed_free_rb h (order_of old.file.caches) (pending_in view backing old out) (l2_tables old.file.caches) (refblocks old.file.caches) (contents_in view old.file) sound.file.caches.kept.kept sound.file.settled
-            (o / cluster_size h) none o refl)
+          unnamed_free_l2 h (order_of old.file.caches) (pending_in view backing old out) (l2_tables old.file.caches) (refblocks old.file.caches) (contents_in view old.file) sound.file.caches.kept.kept (o / cluster_size h) none o refl,
+          unnamed_free_rb h (order_of old.file.caches) (pending_in view backing old out) (l2_tables old.file.caches) (refblocks old.file.caches) (contents_in view old.file) sound.file.caches.kept.kept sound.file.settled
+              (o / cluster_size h) none o refl,
+        )
       ]);
     }
 

@@ -1,20 +1,17 @@
 -- What each call on an image does, for every list of prepared mappings that are out.
-use Rattle.std.specs.Prelude.{ℕ, ◌+◌, ◌≡◌, ◌<◌, ◌≤◌, ◌⊎◌, Bool, List, [], ◌∷◌, length, Option, Some, None, Result, Ok, Err, slice_get, slice_set, MatchOption}
+use Rattle.std.specs.Prelude.{ℕ, ◌+◌, ◌≡◌, Bool, List, [], ◌∷◌, Option, Some, None, Result, Ok, Err, slice_get, slice_set}
 use Rattle.image_access.specs.Backing.{BackingView}
 use Rattle.image_access.specs.Moments.{StorageView}
-use Rattle.qcow2_alloc.specs.ImageError.{number_of}
 use Rattle.qcow2_alloc.specs.declared.error.ImageError.{ImageError}
 use Rattle.qcow2_alloc.specs.declared.error.ImageError.TheVariants as I
-use Rattle.qcow2_laws.specs.Disk.{with_bytes}
 use Rattle.qcow2_laws.specs.Stops.{Gift}
-use Rattle.qcow2_laws.specs.Mappings.{PreparedMapping, IsPrepared, put_mapping, put_disk, committed, gift_of, gift_of_commit}
+use Rattle.qcow2_laws.specs.Mappings.{IsPrepared, put_mapping, put_disk, committed, gift_of, gift_of_commit}
 use Rattle.qcow2_laws.specs.Views.{Guest, View, guest_of, contents_of}
-use Rattle.qcow2_laws.specs.Calls.{Refusal, memory, storage, another, IsFault, Does, Refuses, IsSame, Shows, with_disk, with_slot}
+use Rattle.qcow2_laws.specs.Calls.{Refusal, memory, storage, another, IsFault, Does, Refuses, IsSame, with_disk, with_slot}
 use Rattle.qcow2_image.specs.declared.image.Qcow2.{Qcow2}
 use Rattle.qcow2_image.specs.declared.prepared.Prepared.{Prepared}
 use Rattle.qcow2_image.specs.declared.prepared.CommitRefused.{CommitRefused}
 use Rattle.qcow2_image.specs.declared.prepared.CommitRefused.TheVariants.{Kept, Spent}
-use Rattle.qcow2_image.specs.Prepared.{image_of}
 use Rattle.qcow2_image.specs.Views.{seen, meaning}
 
 -- a refusal, as far as the state after it depends on that

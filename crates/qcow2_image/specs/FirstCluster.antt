@@ -1,5 +1,5 @@
 -- What the first cluster of a range that is to be written has.
-use Rattle.std.specs.Prelude.{ℕ, ◌^◌, ◌<◌}
+use Rattle.std.specs.Prelude.{◌^◌, ◌<◌}
 use Rattle.qcow2_image.specs.declared.mappings.FirstCluster.{FirstCluster}
 use Rattle.qcow2_image.specs.declared.mappings.FirstCluster.TheVariants.{InPlace, Missing}
 

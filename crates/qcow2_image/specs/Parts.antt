@@ -3,7 +3,7 @@ use Rattle.std.specs.Prelude.{ℕ, ◌+◌, ◌≡◌, ◌⊎◌, List, [], ◌�
 use Rattle.image_access.specs.Backing.{BackingView}
 use Rattle.image_access.specs.Contents.{overwritten}
 use Rattle.image_access.specs.Moments.{StorageView, Passing}
-use Rattle.qcow2_laws.specs.Calls.{Works, IsSame, with_disk, with_slot}
+use Rattle.qcow2_laws.specs.Calls.{Works, with_disk, with_slot}
 use Rattle.qcow2_laws.specs.Mappings.{PreparedMapping, gift_of, gift_of_commit, put_mapping, put_disk, committed}
 use Rattle.qcow2_laws.specs.Views.{Guest, guest_of}
 use Rattle.qcow2_alloc.specs.declared.error.ImageError.{ImageError}

@@ -1,5 +1,4 @@
-use Rattle.std.proofs.Common.{lit<, ◌≤◌, ◌<◌, ◌^◌, subst, sym, ap, ◌∙◌, ◌*◌, ◌%◌, ℕ}
-use Rattle.std.proofs.lemmas.Nat.{one_shl, pow_pos}
+use Rattle.std.proofs.Common.{lit<, ◌≤◌, subst, sym}
 use Rattle.qcow2_metadata.proofs.Sizes.{shift_high}
 use Rattle.qcow2_image.proofs.mappings.cluster_size.Goals as goal
 

@@ -1,5 +1,4 @@
-use Rattle.std.proofs.Common.{◌≡◌, ℕ, ◌<◌, ◌≤◌, Option, refl, sym, ap, ◌∙◌, subst, arith, List}
-use Rattle.std.proofs.lemmas.Bool.{cases_lt}
+use Rattle.std.proofs.Common.{◌≡◌, sym, subst, arith}
 use Rattle.qcow2_image.specs.Found.{IsMappedAs}
 use Rattle.qcow2_image.proofs.Looked.{mapped_as}
 use Rattle.qcow2_image.proofs.image.Qcow2.check_mapped.Goals as goal

@@ -1,8 +1,7 @@
-use Rattle.std.proofs.Common.{◌≡◌, Bool, true, false, refl, sym, ap, ◌∙◌, subst}
+use Rattle.std.proofs.Common.{◌≡◌, true, false, refl, sym, ◌∙◌}
 use Rattle.std.specs.Prelude.{Ok, Err}
 use Rattle.image_access.proofs.Passing.{passes_none}
 use Rattle.qcow2_alloc.specs.ImageFile.{view_in}
-use Rattle.qcow2_image.specs.Calls.{refusal_of}
 use Rattle.qcow2_image.specs.Image.{is_failed}
 use Rattle.qcow2_image.specs.Views.{seen}
 use Rattle.qcow2_image.proofs.CommitCalls.{refuses_unsound, holds, commit_done}
@@ -19,9 +18,11 @@ returns-in-Err-clause-sees g c = λ out k placed.
     let old = c.args.self.now in
     let e = c.in-Err.refusal in
     let unsound : (seen g.S.Storage.view g.F.BackingDisk.backing c.args.self.now out).is_sound → ⊥ = λ sound. absurd (let ok = (holds g.S.Storage.view g.F.BackingDisk.backing old c.args.prepared c.hold_l2.result c.hold_l2.new.self c.hold_l2.ensures.none c.hold_l2.ensures.pinned out k placed sound).ok in
-    let no : Err e ≡ Ok tt = sym c.in-Err.is ∙ ok in cc) in
-    (λ sound. absurd (unsound sound), refuses_unsound _ _ _ _ _ (c.note.ensures.image.number ∙ c.hold_l2.ensures.stays.image.number) unsound (λ failed. absurd (let f : true ≡ false = sym failed ∙ c.if-self.false in cc))
-    (is_fault e (is_failed c.hold_l2.new.self) (is_failed c.note.new.self) (outcome e (is_failed c.hold_l2.new.self) (is_failed c.note.new.self) c.note.ensures.marks)))
+    let no : Err e ≡ Ok tt = sym c.in-Err.is ∙ ok in cc) in (
+      λ sound. absurd (unsound sound),
+      refuses_unsound _ _ _ _ _ (c.note.ensures.image.number ∙ c.hold_l2.ensures.stays.image.number) unsound (λ failed. absurd (let f : true ≡ false = sym failed ∙ c.if-self.false in cc))
+          (is_fault e (is_failed c.hold_l2.new.self) (is_failed c.note.new.self) (outcome e (is_failed c.hold_l2.new.self) (is_failed c.note.new.self) c.note.ensures.marks)),
+    )
 
 pub returns-clause-sees : goal.returns-clause-sees
 returns-clause-sees g c = λ out k placed.

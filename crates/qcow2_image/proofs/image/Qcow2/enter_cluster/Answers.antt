@@ -1,4 +1,4 @@
-use Rattle.std.proofs.Common.{◌≡◌, refl, sym, ap, ◌∙◌, subst}
+use Rattle.std.proofs.Common.{◌≡◌, refl, subst}
 use Rattle.qcow2_alloc.specs.MetadataCaches.{MapsEntry}
 use Rattle.qcow2_image.proofs.image.Qcow2.enter_cluster.Goals as goal
 

@@ -1,4 +1,4 @@
-use Rattle.std.proofs.Common.{◌≡◌, refl, sym, ap, ◌∙◌, subst}
+use Rattle.std.proofs.Common.{◌≡◌, sym, ◌∙◌, subst}
 use Rattle.std.specs.Prelude.{Result}
 use Rattle.qcow2_laws.specs.Calls.{IsSame}
 use Rattle.qcow2_laws.specs.Views.{contents_of}

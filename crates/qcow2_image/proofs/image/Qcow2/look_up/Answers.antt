@@ -1,20 +1,13 @@
-use Rattle.std.proofs.Common.{◌≡◌, ◌≢◌, ℕ, ◌+◌, ◌-◌, ◌*◌, ◌/◌, ◌%◌, ◌<◌, ◌≤◌, Bool, false, refl, sym, ap, ◌∙◌, subst, arith, min, is_some, List, Option, Some, None}
+use Rattle.std.proofs.Common.{◌≡◌, ◌-◌, ◌/◌, sym, ap, ◌∙◌, subst, arith, min, is_some, Some, None}
 use Rattle.std.proofs.lemmas.Nat.{mod_below}
-use Rattle.qcow2_metadata.specs.Bytes.{Bytes}
-use Rattle.qcow2_metadata.specs.declared.header.HeaderFields.{HeaderFields}
 use Rattle.qcow2_metadata.specs.Header.{cluster_size, entries_per_cluster}
 use Rattle.qcow2_metadata.specs.Entries.{host_offset}
-use Rattle.qcow2_metadata.specs.Cover.{cover}
 use Rattle.qcow2_laws.specs.Alike.{IsLongestRun}
-use Rattle.qcow2_laws.specs.Guard.{Pending}
 use Rattle.qcow2_laws.specs.Guests.{table_at}
-use Rattle.qcow2_laws.proofs.Places.{Sizes, Sizes-from, cover_none}
+use Rattle.qcow2_laws.proofs.Places.{Sizes-from, cover_none}
 use Rattle.qcow2_laws.proofs.Tops.{IsTop-top}
 use Rattle.qcow2_alloc.specs.ImageFile.{contents_in, known_in}
-use Rattle.qcow2_image.specs.declared.prepared.Prepared.{Prepared}
-use Rattle.qcow2_image.specs.Found.{kind_at, l1_index_of, l2_index_of, rest_of_table, NamesTable, IsRunFrom}
-use Rattle.qcow2_image.specs.Steps.{Keeps}
-use Rattle.qcow2_image.specs.Views.{IsSoundAt}
+use Rattle.qcow2_image.specs.Found.{kind_at, l1_index_of, rest_of_table, NamesTable, IsRunFrom}
 use Rattle.qcow2_image.proofs.Loading.{caches_moved, with_caches, if_ok}
 use Rattle.qcow2_image.proofs.Looked.{none_found}
 use Rattle.qcow2_image.proofs.image.Qcow2.look_up.Goals as goal

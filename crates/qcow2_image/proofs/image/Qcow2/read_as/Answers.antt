@@ -1,14 +1,14 @@
-use Rattle.std.proofs.Common.{◌≡◌, ℕ, ◌+◌, ◌/◌, ◌<◌, Bool, false, List, length, replicate, Option, Some, None, refl, sym, ap, ◌∙◌, subst, arith, rules, is_some}
+use Rattle.std.proofs.Common.{◌≡◌, ℕ, ◌+◌, ◌/◌, ◌<◌, List, length, replicate, refl, sym, ap, ◌∙◌, subst, rules, is_some}
 use Rattle.std.proofs.lemmas.List.{length-replicate, get_or-replicate}
 use Rattle.image_access.specs.Contents.{bytes_at}
 use Rattle.image_access.proofs.Bytes.{byte_at-bytes_at, length-bytes_at}
-use Rattle.qcow2_metadata.specs.Bytes.{Bytes, byte_at}
+use Rattle.qcow2_metadata.specs.Bytes.{byte_at}
 use Rattle.qcow2_metadata.specs.Guest.{known_byte}
 use Rattle.qcow2_metadata.specs.Header.{cluster_size}
 use Rattle.qcow2_metadata.specs.Cover.{cover}
 use Rattle.qcow2_laws.specs.Disk.{disk}
 use Rattle.qcow2_alloc.specs.MetadataCaches.{known_of}
-use Rattle.qcow2_alloc.specs.ImageFile.{contents_in, known_in, stand_in, view_in}
+use Rattle.qcow2_alloc.specs.ImageFile.{known_in, stand_in, view_in}
 use Rattle.qcow2_image.specs.Views.{backing_bytes, disk_of}
 use Rattle.qcow2_image.proofs.Loading.{read_moved, if_ok}
 use Rattle.qcow2_image.proofs.Reading.{raw_shown, zero_shown, indirect_shown, none_below}

@@ -1,4 +1,4 @@
-use Rattle.std.proofs.Common.{◌≡◌, ℕ, ◌+◌, ◌<◌, List, length, refl, sym, ap, ◌∙◌, subst}
+use Rattle.std.proofs.Common.{◌≡◌, ℕ, ◌+◌, ◌<◌, List, length, sym, ap, ◌∙◌, subst}
 use Rattle.image_access.specs.Contents.{bytes_at}
 use Rattle.image_access.proofs.Bytes.{byte_at-bytes_at, length-bytes_at}
 use Rattle.qcow2_metadata.specs.Bytes.{byte_at}
@@ -11,6 +11,8 @@ returns-clause-reads g c = λ honest.
     let n = length c.args.bytes.now in
     let there : (g.F.BackingDisk.backing c.in-Some.backing).is_honest = subst (IsHonestBacking g.S.Storage.view g.F.BackingDisk.backing) c.in-Some.is honest in
     let read : c.read.new.buf ≡ bytes_at contents c.args.offset n = c.in_ok-read.ensures.read there in
-    let long : length c.read.new.buf ≡ n = ap length read ∙ length-bytes_at contents c.args.offset n in
-    (long, λ i lt. ap (λ (b : List ℕ). byte_at b i) read ∙ byte_at-bytes_at contents c.args.offset n i (subst (λ m. i < m) long lt)
-    ∙ ap (λ f. f (c.args.offset + i)) (ap (backing_bytes g.S.Storage.view g.F.BackingDisk.backing) (sym c.in-Some.is)))
+    let long : length c.read.new.buf ≡ n = ap length read ∙ length-bytes_at contents c.args.offset n in (
+      long,
+      λ i lt. ap (λ (b : List ℕ). byte_at b i) read ∙ byte_at-bytes_at contents c.args.offset n i (subst (λ m. i < m) long lt)
+          ∙ ap (λ f. f (c.args.offset + i)) (ap (backing_bytes g.S.Storage.view g.F.BackingDisk.backing) (sym c.in-Some.is)),
+    )

@@ -1,8 +1,7 @@
-use Rattle.std.proofs.Common.{◌≡◌, ℕ, ◌+◌, ◌<◌, Option, List, refl, sym, ap, ◌∙◌, subst, IfOk}
+use Rattle.std.proofs.Common.{◌≡◌, ◌+◌, subst, IfOk}
 use Rattle.qcow2_laws.specs.Calls.{Shows}
 use Rattle.qcow2_image.specs.Views.{disk_of}
 use Rattle.qcow2_image.proofs.Called.{keeps_then}
-use Rattle.qcow2_image.proofs.Loading.{if_ok}
 use Rattle.qcow2_image.proofs.image.Qcow2.read_current.Goals as goal
 
 pub returns-clause-keeps : goal.returns-clause-keeps

@@ -1,12 +1,11 @@
-use Rattle.std.proofs.Common.{◌≡◌, ℕ, ◌+◌, ◌<◌, [], refl, sym, ap, ◌∙◌, subst, arith, rules, length}
+use Rattle.std.proofs.Common.{◌≡◌, ◌+◌, ◌<◌, [], sym, ◌∙◌, subst, rules, length}
 use Rattle.std.specs.Prelude.{Result}
 use Rattle.qcow2_laws.specs.Calls.{Shows, IsSame}
 use Rattle.qcow2_laws.specs.Views.{guest_of}
 use Rattle.qcow2_image.specs.Calls.{Answers}
 use Rattle.qcow2_image.specs.declared.image.Qcow2.{Qcow2}
 use Rattle.qcow2_image.specs.Image.{is_failed}
-use Rattle.qcow2_image.specs.Refusals.{Marks}
-use Rattle.qcow2_image.specs.Views.{seen, pending_in}
+use Rattle.qcow2_image.specs.Views.{pending_in}
 use Rattle.qcow2_image.proofs.Answers.{usable_works}
 use Rattle.qcow2_image.proofs.Called.{told_answers, tells_quietly, quietly_then}
 use Rattle.qcow2_image.proofs.Loading.{if_ok}

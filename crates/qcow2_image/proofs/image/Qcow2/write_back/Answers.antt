@@ -1,4 +1,3 @@
-use Rattle.std.proofs.Common.{◌≡◌, refl, sym, ap, ◌∙◌}
 use Rattle.qcow2_alloc.specs.ImageFile.{contents_in}
 use Rattle.qcow2_image.proofs.Called.{keeps_then}
 use Rattle.qcow2_image.proofs.Loading.{with_caches, caches_moved, read_moved, all_known}
