@@ -1,5 +1,5 @@
 -- Loading refblocks, and taking and giving back one cluster.
-use Rattle.std.proofs.Common.{◌≡◌, ◌≢◌, ℕ, ◌+◌, ◌*◌, ◌/◌, ◌%◌, ◌^◌, ◌<◌, Bool, true, false, List, length, Some, None, Result, Ok, Err, IsErr, IsErrAnd, IsSome, sym, ap, ◌∙◌, subst, arith}
+use Rattle.std.proofs.Common.{◌≡◌, ◌≢◌, inl, inr, refl, ℕ, ◌+◌, ◌*◌, ◌/◌, ◌%◌, ◌^◌, ◌<◌, Bool, true, false, List, length, Some, None, Result, Ok, Err, IsErr, IsErrAnd, IsSome, sym, ap, ◌∙◌, subst, arith}
 use Rattle.std.proofs.lemmas.Nat.{mod_below, pow_pos}
 use Rattle.image_access.specs.Moments.{StorageView}
 use Rattle.qcow2_metadata.specs.Bytes.{byte_at}
@@ -16,12 +16,15 @@ use Rattle.qcow2_alloc.specs.declared.cache.MetadataCaches.{MetadataCaches}
 use Rattle.qcow2_alloc.specs.declared.image_file.ImageFile.{ImageFile}
 use Rattle.qcow2_alloc.specs.Allocation.{taken_as, MayTake, StandsAt, Becomes}
 use Rattle.qcow2_alloc.specs.CacheMarks.{KeepsMarks}
-use Rattle.qcow2_alloc.specs.ImageFile.{view_in, contents_in, known_in, IsSoundFile, HasReftable}
-use Rattle.qcow2_alloc.specs.MetadataCaches.{order_of, rb_at, IsCountedAt, RaisesCount, LowersCount}
+use Rattle.qcow2_alloc.specs.ImageFile.{view_in, contents_in, known_in, IsSoundFile, IsSoundWith, HasReftable}
+use Rattle.image_access.specs.declared.error.StorageError.{StorageError}
+use Rattle.image_access.specs.declared.error.StorageError.TheVariants.{Fault, Memory}
+use Rattle.qcow2_alloc.specs.ImageError.{of_storage, IsFault}
+use Rattle.qcow2_alloc.specs.MetadataCaches.{order_of, rb_at, IsCountedAt, RaisesCount, LowersCount, StaySound}
 use Rattle.qcow2_alloc.specs.declared.image_storage.ImageStorage.{ImageStorage}
 use Rattle.qcow2_alloc.specs.ImageStorage.{storage_of}
 use Rattle.qcow2_alloc.proofs.KeptTables.Standing.{own_cluster}
-use Rattle.qcow2_alloc.proofs.FileSteps.{one_here, moves_then, reftable_counted, moves_raised, moves_lowered}
+use Rattle.qcow2_alloc.proofs.FileSteps.{one_here, moves_none, moves_then, moves_cached, reftable_cached, reftable_counted, moves_raised, moves_lowered}
 
 -- what a `?` hands on
 pub handed_on : {A E : Type 0} (P : Result A E → Type 0) (r : Result A E) (e : E) → IsErr r × IsErrAnd r (λ x. x ≡ e) → P (Err e) → P r
@@ -36,7 +39,25 @@ pub may_still : {S : Type 0} (d : Bool) (a b : ImageFile S) → order_of b.cache
 may_still true a b same may = same ∙ may
 may_still false a b same may = tt
 
+pub fault_of_storage : (e : StorageError) → IsFault (of_storage e)
+fault_of_storage Fault = inl refl
+fault_of_storage Memory = inr refl
+
 module _ {S : Type 0} (view : S → StorageView) where
+  -- ---- one step after another
+  pub becomes_none : (p : Pending) (file : ImageFile S) (t : Allocator) → IsSoundWith view t p file → Becomes view p file t file p
+  becomes_none p file t sound = record { moves = moves_none view p file sound.sound; reftable = sound.reftable }
+
+  pub becomes_then : (p r : Pending) (a b c : ImageFile S) (t t' : Allocator) → Becomes view p a t b p → Becomes view p b t' c r → Becomes view p a t' c r
+  becomes_then p r a b c t t' first second = record { moves = moves_then view p p r a b c (λ k some. some) first.moves second.moves; reftable = second.reftable }
+
+  pub is_sound_now : (p q : Pending) (a b : ImageFile S) (t : Allocator) → Becomes view p a t b q → IsSoundWith view t q b
+  is_sound_now p q a b t first = record { sound = first.moves.sound; reftable = first.reftable }
+
+  pub becomes_cached : (p : Pending) (file : ImageFile S) (t : Allocator) (storage : ImageStorage S) (caches : MetadataCaches S) → IsSoundWith view t p file
+      → StaySound file.header.fields p (view_in view file) file.caches (view (storage_of storage)) caches → KeepsMarks file.caches caches → Becomes view p file t (record file { storage = storage; caches = caches }) p
+  becomes_cached p file t storage caches sound stays marks = record { moves = moves_cached view p file storage caches sound.sound stays marks; reftable = reftable_cached view p file storage caches sound.sound stays t.reftable sound.reftable }
+
   -- ---- the refblock of a range
   pub stands : (p : Pending) (file : ImageFile S) (t : EntryTableView) → IsSoundFile view p file → HasReftable view file t → (range offset cluster bits : ℕ) → offset ≡ block_offset (entry_at t.bytes range) → 0 < offset
       → cluster * 2 ^ bits ≡ offset → bits ≡ file.header.fields.cluster_bits → IsSome (rb_at file.caches cluster) → StandsAt view file range (Some cluster)

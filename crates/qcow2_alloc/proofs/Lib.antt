@@ -8,3 +8,4 @@ pub mod FileSteps
 pub mod AllocationSteps
 pub mod Runs
 pub mod FileWrites
+pub mod PlacedBlocks

@@ -1,22 +1,26 @@
 //! Taking clusters of the image's file.
-ghost use Rattle.std.specs.Prelude.{◌≡◌, ℕ, ◌+◌, ◌*◌, ◌^◌, ◌<◌, ◌≤◌, Bool, IfOk, IfErr, OnOk, IsSome, IsTrue};
+ghost use Rattle.std.specs.Prelude.{◌≡◌, ◌≢◌, ℕ, ◌+◌, ◌*◌, ◌^◌, ◌<◌, ◌≤◌, Bool, Some, IfOk, IfErr, OnOk, IsSome, IsTrue};
 ghost use Rattle.image_access.specs.Moments.{Keeps, Passing};
 ghost use Rattle.qcow2_laws.specs.Changes.{one_at};
 ghost use Rattle.qcow2_laws.specs.Guard.{Pending};
-ghost use Rattle.qcow2_alloc.specs.Allocation.{run_at, taken_as, MayTake, LoadsBlock, TakesOne, TakesRun, LowersOne, GivesBack, GivesBackRun};
+ghost use Rattle.qcow2_alloc.specs.Allocation.{run_at, taken_as, placing, first_counts, HasPlaceFor, KeepsEntries, MayTake, LoadsBlock, WritesBlock, PlacesBlock, TakesOne, TakesRun, LowersOne, GivesBack, GivesBackRun};
 ghost use Rattle.qcow2_alloc.specs.CacheMarks.{KeepsMarks};
 ghost use Rattle.qcow2_alloc.specs.ImageError.{IsOfTables, IsFault};
 ghost use Rattle.qcow2_alloc.specs.ImageFile.{view_in, HasReftable, IsSoundWith};
 ghost use Rattle.qcow2_alloc.specs.MetadataCaches.{order_of};
 ghost use Rattle.qcow2_metadata.specs.L2Mapping.{IsHostCluster};
 ghost use Rattle.qcow2_metadata.specs.EntryTable.{entry_count};
+ghost use Rattle.qcow2_metadata.specs.RefBlock.{count_at, IsRefBlock};
+ghost use Rattle.qcow2_metadata.specs.TableBytes.{HasPlace};
+ghost use Rattle.qcow2_alloc.specs.TableCaches.{IsBlockOf};
 
 use crate::{
     ClusterKind, ClustersToFreeEntry, ClustersToFreeList, ImageError, ImageFile, PendingClusters,
     WriteKind,
 };
 use image_access::Storage;
-use qcow2_metadata::{ClusterCount, HostCluster, RefBlock, RefTable};
+use qcow2_metadata::{ClusterCount, Header, HostCluster, RefBlock, RefTable};
+use std::alloc::Global;
 
 /// The greatest offset of a host cluster.
 pub const MAX_HOST_OFFSET: u64 = 0x00ff_ffff_ffff_fe00;
@@ -38,6 +42,49 @@ fn ends_call(refusal: &ImageError) -> bool
         ImageError::Memory | ImageError::Storage => true,
         _ => false,
     }
+}
+
+// A refblock whose counts are 0, but for its range's first cluster where it counts itself.
+#[tactic(auto, using(crate::proofs::TableErrors::metadata_of_tables))]
+fn new_block(
+    alloc: Global,
+    header: &Header,
+    cluster: HostCluster,
+    counts_itself: bool,
+) -> Result<RefBlock, ImageError>
+    requires { HasPlace header.now.fields.cluster_bits cluster }
+    ensures cluster { IfOk result (λ block. block.cluster ≡ Some cluster) }
+    ensures format { IfOk result (IsBlockOf header.now.fields) }
+    ensures whole { IfOk result IsRefBlock }
+    ensures counts { IfOk result (λ block. (i : ℕ) → count_at block i ≡ first_counts counts_itself i) }
+    ensures memory { IfErr result (λ e. e ≡ ImageError.Memory) }
+    ensures cause { IfErr result IsOfTables }
+{
+    let mut block = RefBlock::new_cleared(alloc, header)?;
+    block.set_cluster(cluster);
+    if counts_itself && block.counts() > 0 {
+        block.increment(0);
+    }
+    Ok(block)
+}
+
+// Writes a new refblock to its cluster, after all counts, and puts it into its cache.
+#[tactic(auto, using(crate::proofs::TableErrors::storage_of_tables))]
+fn write_block<S: Storage>(file: &mut ImageFile<S>, mut block: RefBlock) -> Result<(), ImageError>
+    requires { IsSome block.cluster }
+    ensures marks { KeepsMarks file.old.caches file.new.caches }
+    ensures order { order_of file.new.caches ≡ order_of file.old.caches }
+    ensures sound { (p : Pending) (counts_itself : Bool) (allocator : Allocator) (range at : ℕ) → IsSoundWith S.view allocator (placing counts_itself p at) file.old
+        → HasPlaceFor counts_itself file.old.header.fields allocator.reftable range at → IsBlockOf file.old.header.fields block → block.cluster ≡ Some at
+        → WritesBlock S.view (placing counts_itself p at) file.old allocator file.new block at result }
+    ensures header { file.new.header ≡ file.old.header }
+    ensures cause { IfErr result IsOfTables }
+{
+    file.caches.flush_rb(&mut file.storage)?;
+    file.storage.will_write(WriteKind::Other);
+    block.write(&mut file.storage)?;
+    block.clear_modified();
+    file.caches.rb_insert(&mut file.storage, block)
 }
 
 #[tactic(auto, using(crate::proofs::TableErrors::storage_of_tables, crate::proofs::TableErrors::metadata_of_tables, crate::proofs::TableErrors::cache_of_tables))]
@@ -371,8 +418,8 @@ impl Allocator {
         Ok(None)
     }
 
-    // Makes the refblock of a range in a cluster: one that was taken for it, or the range's first one, where it counts itself.
-    // Counts are written first, then the block's bytes, then the entry that names it.
+    // Makes the refblock of a range in a cluster that it may lie in: one that was taken for it, or the range's first one, where it counts itself.
+    // The entry that names it is written last.
     fn place_block<S: Storage>(
         &mut self,
         file: &mut ImageFile<S>,
@@ -380,26 +427,27 @@ impl Allocator {
         at: u64,
         counts_itself: bool,
     ) -> Result<(), ImageError>
+        requires within { range < entry_count self.old.reftable }
+        requires placed { IsSome self.old.reftable.cluster }
+        requires nameable { IsHostCluster self.old.reftable.cluster_bits at }
+        requires nameable_here { IsHostCluster file.old.header.fields.cluster_bits at }
+        ensures marks { KeepsMarks file.old.caches file.new.caches }
+        ensures order { order_of file.new.caches ≡ order_of file.old.caches }
+        ensures noted { OnOk result (IsTrue file.new.caches.is_changed) }
+        ensures entries { KeepsEntries (λ k. k ≢ range) self.old.reftable self.new.reftable }
+        ensures sound { (p : Pending) → IsSoundWith S.view self.old (placing counts_itself p at) file.old → HasPlaceFor counts_itself file.old.header.fields self.old.reftable range at
+            → PlacesBlock S.view (placing counts_itself p at) file.old self.new file.new p range at result }
         ensures header { file.new.header ≡ file.old.header }
         ensures cause { IfErr result IsOfTables }
     {
         let cluster = HostCluster::new(at);
-        let index = range as usize;
-        if !self.can_name(file.header.cluster_bits(), index, cluster) {
-            return Err(ImageError::Limit);
-        }
-        let mut block = RefBlock::new_cleared(file.alloc, &file.header)?;
-        block.set_cluster(cluster);
-        if counts_itself && block.counts() > 0 {
-            block.increment(0);
-        }
-        file.caches.flush_rb(&mut file.storage)?;
+        let block = new_block(file.alloc, &file.header, cluster, counts_itself)?;
+        write_block(file, block)?;
+        file.caches.note_change();
+        self.reftable.enter_refblock(range as usize, cluster);
         file.storage.will_write(WriteKind::Other);
-        block.write(&mut file.storage)?;
-        block.clear_modified();
-        self.reftable.enter_refblock(index, cluster);
-        self.reftable.write_entry(&mut file.storage, index)?;
-        file.caches.rb_insert(&mut file.storage, block)
+        self.reftable.write_entry(&mut file.storage, range as usize)?;
+        Ok(())
     }
 
     // Whether the reftable has a place for the refblock of a range, and that may lie in a cluster.
