@@ -9,3 +9,4 @@ pub mod AllocationSteps
 pub mod Runs
 pub mod FileWrites
 pub mod PlacedBlocks
+pub mod NamedBlocks
