@@ -15,7 +15,9 @@ use Rattle.qcow2_alloc.specs.declared.allocation.Allocator.{Allocator}
 use Rattle.qcow2_alloc.specs.declared.cache.MetadataCaches.{MetadataCaches}
 use Rattle.qcow2_alloc.specs.declared.image_file.ImageFile.{ImageFile}
 use Rattle.qcow2_alloc.specs.Allocation.{taken_as, MayTake, StandsAt, Becomes}
-use Rattle.qcow2_alloc.specs.CacheMarks.{KeepsMarks}
+use Rattle.qcow2_laws.specs.Caches.{AreSettled}
+use Rattle.image_access.proofs.Passing.{passes_none}
+use Rattle.qcow2_alloc.specs.CacheMarks.{KeepsMarks, SameTables}
 use Rattle.qcow2_alloc.specs.ImageFile.{view_in, contents_in, known_in, IsSoundFile, IsSoundWith, HasReftable}
 use Rattle.image_access.specs.declared.error.StorageError.{StorageError}
 use Rattle.image_access.specs.declared.error.StorageError.TheVariants.{Fault, Memory}
@@ -57,6 +59,18 @@ module _ {S : Type 0} (view : S → StorageView) where
   pub becomes_cached : (p : Pending) (file : ImageFile S) (t : Allocator) (storage : ImageStorage S) (caches : MetadataCaches S) → IsSoundWith view t p file
       → StaySound file.header.fields p (view_in view file) file.caches (view (storage_of storage)) caches → KeepsMarks file.caches caches → Becomes view p file t (record file { storage = storage; caches = caches }) p
   becomes_cached p file t storage caches sound stays marks = record { moves = moves_cached view p file storage caches sound.sound stays marks; reftable = reftable_cached view p file storage caches sound.sound stays t.reftable sound.reftable }
+
+  -- nothing but marks of the caches changes
+  pub becomes_marked : (p : Pending) (file : ImageFile S) (t : Allocator) (caches : MetadataCaches S) → IsSoundWith view t p file → SameTables file.caches caches → KeepsMarks file.caches caches → Becomes view p file t (record file { caches = caches }) p
+  becomes_marked p file t caches sound tables marks =
+      let h = file.header.fields in
+      becomes_cached p file t file.storage caches sound (record {
+        honest = sound.sound.honest;
+        sound = tables.sound h p (contents_in view file) sound.sound.caches;
+        known = tables.known h (contents_in view file);
+        settled = λ settled. subst (λ ts. AreSettled h ts (contents_in view file)) (sym tables.refblocks) settled;
+        since = record { moments = passes_none (view_in view file) _; contents = λ backing m ok known_ok. ok };
+      }) marks
 
   -- ---- the refblock of a range
   pub stands : (p : Pending) (file : ImageFile S) (t : EntryTableView) → IsSoundFile view p file → HasReftable view file t → (range offset cluster bits : ℕ) → offset ≡ block_offset (entry_at t.bytes range) → 0 < offset
