@@ -1,5 +1,6 @@
 -- Loading refblocks, and taking and giving back one cluster.
-use Rattle.std.proofs.Common.{◌≡◌, ◌≢◌, inl, inr, refl, ℕ, ◌+◌, ◌*◌, ◌/◌, ◌%◌, ◌^◌, ◌<◌, Bool, true, false, List, length, Some, None, Result, Ok, Err, IsErr, IsErrAnd, IsSome, sym, ap, ◌∙◌, subst, arith}
+use Rattle.std.proofs.Common.{◌≡◌, ◌≢◌, inl, inr, refl, ℕ, ◌+◌, ◌*◌, ◌/◌, ◌%◌, ◌^◌, ◌<◌, Bool, true, false, List, length, Option, Some, None, Result, Ok, Err, IsErr, IsErrAnd, IsSome, sym, ap, ◌∙◌, subst, arith}
+use Rattle.std.specs.Option.{is_some}
 use Rattle.std.proofs.lemmas.Nat.{mod_below, pow_pos}
 use Rattle.image_access.specs.Moments.{StorageView}
 use Rattle.qcow2_metadata.specs.Bytes.{byte_at}
@@ -13,8 +14,9 @@ use Rattle.qcow2_laws.specs.Guard.{Pending}
 use Rattle.qcow2_laws.proofs.Places.{count_none}
 use Rattle.qcow2_alloc.specs.declared.allocation.Allocator.{Allocator}
 use Rattle.qcow2_alloc.specs.declared.cache.MetadataCaches.{MetadataCaches}
+use Rattle.qcow2_alloc.specs.declared.error.ImageError.{ImageError}
 use Rattle.qcow2_alloc.specs.declared.image_file.ImageFile.{ImageFile}
-use Rattle.qcow2_alloc.specs.Allocation.{taken_as, MayTake, StandsAt, Becomes}
+use Rattle.qcow2_alloc.specs.Allocation.{taken_as, MayTake, HasNone, StandsAt, Becomes, PlacesBlock, GetsBlock}
 use Rattle.qcow2_laws.specs.Caches.{AreSettled}
 use Rattle.image_access.proofs.Passing.{passes_none}
 use Rattle.qcow2_alloc.specs.CacheMarks.{KeepsMarks, SameTables}
@@ -26,7 +28,7 @@ use Rattle.qcow2_alloc.specs.MetadataCaches.{order_of, rb_at, IsCountedAt, Raise
 use Rattle.qcow2_alloc.specs.declared.image_storage.ImageStorage.{ImageStorage}
 use Rattle.qcow2_alloc.specs.ImageStorage.{storage_of}
 use Rattle.qcow2_alloc.proofs.KeptTables.Standing.{own_cluster}
-use Rattle.qcow2_alloc.proofs.FileSteps.{one_here, moves_none, moves_then, moves_cached, reftable_cached, reftable_counted, moves_raised, moves_lowered}
+use Rattle.qcow2_alloc.proofs.FileSteps.{one_here, moves_none, moves_then, leaves_then, moves_cached, reftable_cached, reftable_counted, moves_raised, moves_lowered}
 
 -- what a `?` hands on
 pub handed_on : {A E : Type 0} (P : Result A E → Type 0) (r : Result A E) (e : E) → IsErr r × IsErrAnd r (λ x. x ≡ e) → P (Err e) → P r
@@ -72,6 +74,16 @@ module _ {S : Type 0} (view : S → StorageView) where
         since = record { moments = passes_none (view_in view file) _; contents = λ backing m ok known_ok. ok };
       }) marks
 
+  -- a refblock that was placed
+  pub gets_placed : (p : Pending) (old new : ImageFile S) (t : Allocator) (range at : ℕ) (result : Result (Unit {0}) ImageError) → PlacesBlock view p old t new p range at result → GetsBlock view p old t new result
+  gets_placed p old new t range at (Ok _) placed = placed.0
+  gets_placed p old new t range at (Err e) placed = placed.1
+
+  -- a refusal after a step that left the same pending, as the errors of answers say it
+  pub gets_then : (p : Pending) (a b c : ImageFile S) (t t' : Allocator) (result : Result (Unit {0}) ImageError) → Becomes view p a t b p → GetsBlock view p b t' c result → GetsBlock view p a t' c result
+  gets_then p a b c t t' (Ok _) first second = becomes_then p p a b c t t' first second
+  gets_then p a b c t t' (Err e) first second = leaves_then view p a b c t' e first.moves second
+
   -- ---- the refblock of a range
   pub stands : (p : Pending) (file : ImageFile S) (t : EntryTableView) → IsSoundFile view p file → HasReftable view file t → (range offset cluster bits : ℕ) → offset ≡ block_offset (entry_at t.bytes range) → 0 < offset
       → cluster * 2 ^ bits ≡ offset → bits ≡ file.header.fields.cluster_bits → IsSome (rb_at file.caches cluster) → StandsAt view file range (Some cluster)
@@ -82,6 +94,14 @@ module _ {S : Type 0} (view : S → StorageView) where
         sym known ∙ sym at ∙ ap (λ n. cluster * 2 ^ n) same,
         there,
       )
+
+  pub stands_none : (file : ImageFile S) (range : ℕ) (o : Option ℕ) → is_some o ≡ false → StandsAt view file range o → StandsAt view file range None
+  stands_none file range None none at = at
+  stands_none file range (Some block) none at = absurd (let no : true ≡ false = none in cc)
+
+  -- where it has none, the reftable in memory names none
+  pub none_in_memory : (p : Pending) (file : ImageFile S) (t : EntryTableView) → IsSoundFile view p file → HasReftable view file t → (range : ℕ) → StandsAt view file range None → HasNone t range
+  none_in_memory p file t sound has range none = ap block_offset (has.entries range ∙ sound.caches.kept.kept.guarded.same_top.reftable range) ∙ none
 
   -- 64 bits hold where it stands
   pub place_fits : (entry offset cluster bits header_bits : ℕ) → offset ≡ block_offset entry → cluster * 2 ^ bits ≡ offset → bits ≡ header_bits → HasPlace header_bits cluster

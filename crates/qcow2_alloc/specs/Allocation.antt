@@ -17,12 +17,19 @@ use Rattle.qcow2_alloc.specs.MetadataCaches.{order_of, rb_at, l2_tables, refbloc
 use Rattle.qcow2_alloc.specs.ImageError.{IsFault}
 use Rattle.qcow2_alloc.specs.ImageFile.{contents_in, known_in, HasReftable, Moves, LeavesSound}
 use Rattle.qcow2_alloc.specs.declared.allocation.Allocator.{Allocator}
+use Rattle.qcow2_alloc.specs.declared.clusters_to_free.ClusterKind.{ClusterKind}
+use Rattle.qcow2_alloc.specs.declared.clusters_to_free.ClusterKind.TheVariants.{Data, Metadata}
+use Rattle.qcow2_alloc.specs.declared.clusters_to_free.ClustersToFreeEntry.{ClustersToFreeEntry}
 use Rattle.qcow2_alloc.specs.declared.error.ImageError.{ImageError}
 use Rattle.qcow2_alloc.specs.declared.image_file.ImageFile.{ImageFile}
 
 -- how often a cluster is one of n from first on
 abbrev pub run_at : ℕ → ℕ → ℕ → ℕ
 run_at first n k = if nat_le first k && nat_lt k (first + n) then 1 else 0
+
+abbrev pub is_data : ClusterKind → Bool
+is_data Data = true
+is_data Metadata = false
 
 -- clusters that are taken for data are held, those for tables are fresh
 abbrev pub taken_as : Bool → Pending → (ℕ → ℕ) → Pending
@@ -48,9 +55,13 @@ StandsFirst false h range at = Unit {0}
 abbrev pub StandAt : Bytes → ℕ → List ℕ → Type 0
 StandAt b place bytes = (i : ℕ) → i < length bytes → byte_at bytes i ≡ b (place + i)
 
+-- the reftable names no refblock for the range
+abbrev pub HasNone : EntryTableView → ℕ → Type 0
+HasNone reftable range = block_offset (entry_at reftable.bytes range) ≡ 0
+
 -- a range that has no refblock, which may be placed in the cluster
 pub record HasPlaceFor (counts_itself : Bool) (h : HeaderFields) (reftable : EntryTableView) (range at : ℕ) : Type 0 where
-  pub none : block_offset (entry_at reftable.bytes range) ≡ 0
+  pub none : HasNone reftable range
   pub first : StandsFirst counts_itself h range at
 
 -- a reftable of the same place and length, with the same entries for these ranges
@@ -101,6 +112,17 @@ module _ {S : Type 0} where
       PlacesBlock p' range at (Ok _) = Becomes p' × StandsAt new range (Some at)
       PlacesBlock p' range at (Err e) = IsFault e × LeavesSound view p old allocator' new e
 
+      -- a range gets its refblock
+      abbrev pub GetsBlock : Result (Unit {0}) ImageError → Type 0
+      GetsBlock (Ok _) = Becomes p
+      GetsBlock (Err e) = LeavesSound view p old allocator' new e
+
+      -- a cluster is taken for a table, or there is no free one
+      abbrev pub TakesLowest : Result (Option ℕ) ImageError → Type 0
+      TakesLowest (Ok (Some at)) = Becomes (taken_as false p (one_at at))
+      TakesLowest (Ok None) = Becomes p
+      TakesLowest (Err e) = LeavesSound view p old allocator' new e
+
       -- a cluster is taken, or it is in use
       abbrev pub TakesOne : Bool → ℕ → Result Bool ImageError → Type 0
       TakesOne is_data cluster (Ok true) = Becomes (taken_as is_data p (one_at cluster))
@@ -111,6 +133,16 @@ module _ {S : Type 0} where
       abbrev pub TakesRun : Bool → ℕ → ℕ → Result ℕ ImageError → Type 0
       TakesRun is_data first n (Ok taken) = (taken ≡ n → Becomes (taken_as is_data p (run_at first n))) × (taken ≢ n → Becomes p)
       TakesRun is_data first n (Err e) = LeavesSound view p old allocator' new e
+
+      -- n clusters from some one on are taken
+      abbrev pub TakesSomeRun : Bool → ℕ → Result ℕ ImageError → Type 0
+      TakesSomeRun is_data n (Ok first) = Becomes (taken_as is_data p (run_at first n))
+      TakesSomeRun is_data n (Err e) = LeavesSound view p old allocator' new e
+
+      -- what an allocation answers: so many clusters of this kind from the first one on, which are taken now. Refused, it leaves nothing taken.
+      abbrev pub Allocates : ClusterKind → ℕ → Result ClustersToFreeEntry ImageError → Type 0
+      Allocates kind n (Ok run) = (run.count ≡ n) × (run.kind ≡ kind) × Becomes (taken_as (is_data kind) p (run_at run.first_cluster n))
+      Allocates kind n (Err e) = LeavesSound view p old allocator' new e
 
       -- one that was taken is given back
       abbrev pub LowersOne : Pending → Result Bool ImageError → Type 0
