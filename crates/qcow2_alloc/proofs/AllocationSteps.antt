@@ -1,7 +1,7 @@
 -- Loading refblocks, and taking and giving back one cluster.
-use Rattle.std.proofs.Common.{◌≡◌, ◌≢◌, inl, inr, refl, ℕ, ◌+◌, ◌*◌, ◌/◌, ◌%◌, ◌^◌, ◌<◌, Bool, true, false, List, length, Option, Some, None, Result, Ok, Err, IsErr, IsErrAnd, IsSome, sym, ap, ◌∙◌, subst, arith}
+use Rattle.std.proofs.Common.{◌≡◌, ◌≢◌, inl, inr, refl, ℕ, ◌+◌, ◌*◌, ◌/◌, ◌%◌, ◌^◌, ◌<◌, ◌≤◌, Bool, true, false, List, length, Option, Some, None, Result, Ok, Err, IsErr, IsErrAnd, IsSome, sym, ap, ◌∙◌, subst, arith}
 use Rattle.std.specs.Option.{is_some}
-use Rattle.std.proofs.lemmas.Nat.{mod_below, pow_pos}
+use Rattle.std.proofs.lemmas.Nat.{mod_below, pow_pos, div-add-mod'}
 use Rattle.image_access.specs.Moments.{StorageView}
 use Rattle.qcow2_metadata.specs.Bytes.{byte_at}
 use Rattle.qcow2_metadata.specs.declared.header.HeaderFields.{HeaderFields}
@@ -16,7 +16,7 @@ use Rattle.qcow2_alloc.specs.declared.allocation.Allocator.{Allocator}
 use Rattle.qcow2_alloc.specs.declared.cache.MetadataCaches.{MetadataCaches}
 use Rattle.qcow2_alloc.specs.declared.error.ImageError.{ImageError}
 use Rattle.qcow2_alloc.specs.declared.image_file.ImageFile.{ImageFile}
-use Rattle.qcow2_alloc.specs.Allocation.{taken_as, MayTake, HasNone, StandsAt, Becomes, PlacesBlock, GetsBlock}
+use Rattle.qcow2_alloc.specs.Allocation.{taken_as, MayTake, HasNone, KeepsEntries, StandsAt, Becomes, PlacesBlock, GetsBlock}
 use Rattle.qcow2_laws.specs.Caches.{AreSettled}
 use Rattle.image_access.proofs.Passing.{passes_none}
 use Rattle.qcow2_alloc.specs.CacheMarks.{KeepsMarks, SameTables}
@@ -47,8 +47,31 @@ pub fault_of_storage : (e : StorageError) → IsFault (of_storage e)
 fault_of_storage Fault = inl refl
 fault_of_storage Memory = inr refl
 
+-- ---- reftables with the same entries
+pub entries_then : (P : ℕ → Type 0) (a b c : EntryTableView) → KeepsEntries P a b → KeepsEntries P b c → KeepsEntries P a c
+entries_then P a b c first second = record {
+  cluster = second.cluster ∙ first.cluster;
+  bits = second.bits ∙ first.bits;
+  count = second.count ∙ first.count;
+  others = λ k stays. second.others k stays ∙ first.others k stays;
+}
+
+pub entries_less : (P Q : ℕ → Type 0) (a b : EntryTableView) → ((k : ℕ) → Q k → P k) → KeepsEntries P a b → KeepsEntries Q a b
+entries_less P Q a b fewer keeps = record { cluster = keeps.cluster; bits = keeps.bits; count = keeps.count; others = λ k stays. keeps.others k (fewer k stays) }
+
+-- the range of a cluster below an end isn't one from the end on
+pub other_range : (cluster end per per' k : ℕ) → cluster < end → per' ≡ per → end ≤ k * per' → k ≢ cluster / per
+other_range cluster end per per' k below same past is =
+    let e = div-add-mod' cluster per in
+    let whole : k * per' ≡ cluster / per * per = ap (λ n. k * n) same ∙ ap (λ n. n * per) is in
+    absurd (omega (arith, e, whole, below, past))
+
 module _ {S : Type 0} (view : S → StorageView) where
   -- ---- one step after another
+  -- an allocator with the same reftable
+  pub becomes_as : (p r : Pending) (a b : ImageFile S) (t t' : Allocator) → t'.reftable ≡ t.reftable → Becomes view p a t b r → Becomes view p a t' b r
+  becomes_as p r a b t t' same first = record { moves = first.moves; reftable = subst (HasReftable view b) (sym same) first.reftable }
+
   pub becomes_none : (p : Pending) (file : ImageFile S) (t : Allocator) → IsSoundWith view t p file → Becomes view p file t file p
   becomes_none p file t sound = record { moves = moves_none view p file sound.sound; reftable = sound.reftable }
 
