@@ -1,5 +1,5 @@
 -- Loading refblocks, and taking and giving back one cluster.
-use Rattle.std.proofs.Common.{◌≡◌, ◌≢◌, inl, inr, refl, ℕ, ◌+◌, ◌*◌, ◌/◌, ◌%◌, ◌^◌, ◌<◌, ◌≤◌, Bool, true, false, List, length, Option, Some, None, Result, Ok, Err, IsErr, IsErrAnd, IsSome, sym, ap, ◌∙◌, subst, arith}
+use Rattle.std.proofs.Common.{◌≡◌, ◌≢◌, inl, inr, refl, ℕ, ◌+◌, ◌*◌, ◌/◌, ◌%◌, ◌^◌, ◌<◌, ◌≤◌, Bool, true, false, List, length, Option, Some, None, Result, Ok, Err, IsErr, IsErrAnd, IsSome, IsTrue, sym, ap, ◌∙◌, subst, arith}
 use Rattle.std.specs.Option.{is_some}
 use Rattle.std.proofs.lemmas.Nat.{mod_below, pow_pos, div-add-mod'}
 use Rattle.image_access.specs.Moments.{StorageView}
@@ -20,7 +20,7 @@ use Rattle.qcow2_alloc.specs.Allocation.{taken_as, MayTake, HasNone, KeepsEntrie
 use Rattle.qcow2_laws.specs.Caches.{AreSettled}
 use Rattle.image_access.proofs.Passing.{passes_none}
 use Rattle.qcow2_alloc.specs.CacheMarks.{KeepsMarks, SameTables}
-use Rattle.qcow2_alloc.specs.ImageFile.{view_in, contents_in, known_in, IsSoundFile, IsSoundWith, HasReftable}
+use Rattle.qcow2_alloc.specs.ImageFile.{view_in, contents_in, known_in, IsSoundFile, IsSoundWith, HasReftable, LeavesSound}
 use Rattle.image_access.specs.declared.error.StorageError.{StorageError}
 use Rattle.image_access.specs.declared.error.StorageError.TheVariants.{Fault, Memory}
 use Rattle.qcow2_alloc.specs.ImageError.{of_storage, IsFault}
@@ -28,7 +28,7 @@ use Rattle.qcow2_alloc.specs.MetadataCaches.{order_of, rb_at, IsCountedAt, Raise
 use Rattle.qcow2_alloc.specs.declared.image_storage.ImageStorage.{ImageStorage}
 use Rattle.qcow2_alloc.specs.ImageStorage.{storage_of}
 use Rattle.qcow2_alloc.proofs.KeptTables.Standing.{own_cluster}
-use Rattle.qcow2_alloc.proofs.FileSteps.{one_here, moves_none, moves_then, leaves_then, moves_cached, reftable_cached, reftable_counted, moves_raised, moves_lowered}
+use Rattle.qcow2_alloc.proofs.FileSteps.{one_here, moves_none, moves_then, leaves_then, breaks_after, moves_cached, reftable_cached, reftable_counted, moves_raised, moves_lowered}
 
 -- what a `?` hands on
 pub handed_on : {A E : Type 0} (P : Result A E → Type 0) (r : Result A E) (e : E) → IsErr r × IsErrAnd r (λ x. x ≡ e) → P (Err e) → P r
@@ -96,6 +96,16 @@ module _ {S : Type 0} (view : S → StorageView) where
         settled = λ settled. subst (λ ts. AreSettled h ts (contents_in view file)) (sym tables.refblocks) settled;
         since = record { moments = passes_none (view_in view file) _; contents = λ backing m ok known_ok. ok };
       }) marks
+
+  -- a refusal that is no fault left all sound
+  pub still_sound : (p : Pending) (a b : ImageFile S) (t : Allocator) (e : ImageError) → (IsFault e → ⊥) → LeavesSound view p a t b e → Becomes view p a t b p
+  still_sound p a b t e other leaves = elim leaves [ inl sound ↦ record { moves = sound.0; reftable = sound.1 } | inr breaks ↦ absurd (other breaks.fault) ]
+
+  -- a refblock that was placed in a cluster that was taken for it, and that was noted
+  pub gets_taken : (p : Pending) (a b c : ImageFile S) (t t' : Allocator) (range at : ℕ) (result : Result (Unit {0}) ImageError) → Becomes view p a t b (taken_as false p (one_at at)) → IsTrue c.caches.is_changed
+      → PlacesBlock view (taken_as false p (one_at at)) b t' c p range at result → GetsBlock view p a t' c result
+  gets_taken p a b c t t' range at (Ok _) first noted placed = record { moves = moves_then view p (taken_as false p (one_at at)) p a b c (λ k some. some) first.moves placed.0.moves; reftable = placed.0.reftable }
+  gets_taken p a b c t t' range at (Err e) first noted placed = inr (breaks_after view p (taken_as false p (one_at at)) a b c t' e first.moves placed.0 noted placed.1)
 
   -- a refblock that was placed
   pub gets_placed : (p : Pending) (old new : ImageFile S) (t : Allocator) (range at : ℕ) (result : Result (Unit {0}) ImageError) → PlacesBlock view p old t new p range at result → GetsBlock view p old t new result
