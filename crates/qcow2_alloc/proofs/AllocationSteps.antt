@@ -16,7 +16,7 @@ use Rattle.qcow2_alloc.specs.declared.allocation.Allocator.{Allocator}
 use Rattle.qcow2_alloc.specs.declared.cache.MetadataCaches.{MetadataCaches}
 use Rattle.qcow2_alloc.specs.declared.error.ImageError.{ImageError}
 use Rattle.qcow2_alloc.specs.declared.image_file.ImageFile.{ImageFile}
-use Rattle.qcow2_alloc.specs.Allocation.{taken_as, MayTake, HasNone, KeepsEntries, StandsAt, Becomes, PlacesBlock, GetsBlock}
+use Rattle.qcow2_alloc.specs.Allocation.{taken_as, MayTake, HasNone, KeepsEntries, StandsAt, Becomes, PlacesBlock, GetsBlock, TakesOne}
 use Rattle.qcow2_laws.specs.Caches.{AreSettled}
 use Rattle.image_access.proofs.Passing.{passes_none}
 use Rattle.qcow2_alloc.specs.CacheMarks.{KeepsMarks, SameTables}
@@ -100,6 +100,11 @@ module _ {S : Type 0} (view : S → StorageView) where
   -- a refusal that is no fault left all sound
   pub still_sound : (p : Pending) (a b : ImageFile S) (t : Allocator) (e : ImageError) → (IsFault e → ⊥) → LeavesSound view p a t b e → Becomes view p a t b p
   still_sound p a b t e other leaves = elim leaves [ inl sound ↦ record { moves = sound.0; reftable = sound.1 } | inr breaks ↦ absurd (other breaks.fault) ]
+
+  -- a cluster that is taken, or is in use, after a step that left the same pending
+  pub takes_then : (p : Pending) (a b c : ImageFile S) (t t' t'' : Allocator) (d : Bool) (cluster : ℕ) (taken : Bool) → t''.reftable ≡ t'.reftable → Becomes view p a t b p → TakesOne view p b t' c d cluster (Ok taken) → TakesOne view p a t'' c d cluster (Ok taken)
+  takes_then p a b c t t' t'' d cluster true same first second = becomes_as p (taken_as d p (one_at cluster)) a c t' t'' same (becomes_then p (taken_as d p (one_at cluster)) a b c t t' first second)
+  takes_then p a b c t t' t'' d cluster false same first second = becomes_as p p a c t' t'' same (becomes_then p p a b c t t' first second)
 
   -- a refblock that was placed in a cluster that was taken for it, and that was noted
   pub gets_taken : (p : Pending) (a b c : ImageFile S) (t t' : Allocator) (range at : ℕ) (result : Result (Unit {0}) ImageError) → Becomes view p a t b (taken_as false p (one_at at)) → IsTrue c.caches.is_changed
