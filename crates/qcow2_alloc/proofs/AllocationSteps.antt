@@ -28,6 +28,7 @@ use Rattle.qcow2_alloc.specs.MetadataCaches.{order_of, rb_at, IsCountedAt, Raise
 use Rattle.qcow2_alloc.specs.declared.image_storage.ImageStorage.{ImageStorage}
 use Rattle.qcow2_alloc.specs.ImageStorage.{storage_of}
 use Rattle.qcow2_alloc.proofs.KeptTables.Standing.{own_cluster}
+use Rattle.qcow2_alloc.proofs.Runs.{held_more}
 use Rattle.qcow2_alloc.proofs.FileSteps.{one_here, moves_none, moves_then, leaves_then, breaks_after, moves_cached, reftable_cached, reftable_counted, moves_raised, moves_lowered}
 
 -- what a `?` hands on
@@ -80,6 +81,10 @@ module _ {S : Type 0} (view : S → StorageView) where
 
   pub is_sound_now : (p q : Pending) (a b : ImageFile S) (t : Allocator) → Becomes view p a t b q → IsSoundWith view t q b
   is_sound_now p q a b t first = record { sound = first.moves.sound; reftable = first.reftable }
+
+  -- after clusters were taken
+  pub becomes_more : (d : Bool) (p : Pending) (n : ℕ → ℕ) (r : Pending) (a b c : ImageFile S) (t t' : Allocator) → Becomes view p a t b (taken_as d p n) → Becomes view (taken_as d p n) b t' c r → Becomes view p a t' c r
+  becomes_more d p n r a b c t t' first second = record { moves = moves_then view p (taken_as d p n) r a b c (held_more d p n) first.moves second.moves; reftable = second.reftable }
 
   pub becomes_cached : (p : Pending) (file : ImageFile S) (t : Allocator) (storage : ImageStorage S) (caches : MetadataCaches S) → IsSoundWith view t p file
       → StaySound file.header.fields p (view_in view file) file.caches (view (storage_of storage)) caches → KeepsMarks file.caches caches → Becomes view p file t (record file { storage = storage; caches = caches }) p
