@@ -1,5 +1,5 @@
 -- A reftable entry is written that names a refblock which stands in its cluster and in its cache.
-use Rattle.std.proofs.Common.{◌≡◌, ◌≢◌, ◌⊎◌, inl, inr, ℕ, ◌+◌, ◌-◌, ◌*◌, ◌/◌, ◌%◌, ◌^◌, ◌<◌, ◌≤◌, Bool, true, false, eqb, List, [], length, Option, Some, Result, Ok, refl, sym, ap, ◌∙◌, subst, arith}
+use Rattle.std.proofs.Common.{◌≡◌, ◌≢◌, ◌⊎◌, inl, inr, ℕ, ◌+◌, ◌*◌, ◌/◌, ◌%◌, ◌^◌, ◌<◌, ◌≤◌, Bool, true, false, List, [], Option, Some, Result, Ok, refl, sym, ap, ◌∙◌, subst, arith}
 use Rattle.std.proofs.lemmas.Bool.{cases_Bool, cases_eq, cases_lt, eq-eqb, ne_eqb, cond-true, cond-false}
 use Rattle.std.proofs.lemmas.Nat.{div-add-mod', mod_below}
 use Rattle.std.specs.Option.{IfSome}
@@ -14,7 +14,7 @@ use Rattle.qcow2_metadata.specs.RefBlock.{RefBlockView, IsRefBlock, count_at}
 use Rattle.qcow2_metadata.specs.TableBytes.{entry_at, ChangesEntry}
 use Rattle.qcow2_metadata.specs.declared.header.HeaderFields.{HeaderFields}
 use Rattle.qcow2_metadata.specs.Header.{cluster_size, counts_per_block, count_width, reftable_entries}
-use Rattle.qcow2_metadata.specs.Entries.{l1_entry, reftable_entry, block_offset, block_count, host_offset, ReftableEntryReads}
+use Rattle.qcow2_metadata.specs.Entries.{reftable_entry, block_offset, block_count, host_offset}
 use Rattle.qcow2_metadata.specs.Named.{table_in, in_cluster, named_for_tables, named_by_l1_table, named_by_reftable}
 use Rattle.qcow2_metadata.proofs.EntryTables.{on_sector}
 use Rattle.qcow2_metadata.proofs.TablesAt.{ref_block_at}

@@ -504,7 +504,8 @@ impl Allocator {
         file.caches.note_change();
         self.reftable.enter_refblock(range as usize, cluster);
         file.storage.will_write(WriteKind::Other);
-        self.reftable.write_entry(&mut file.storage, range as usize)?;
+        self.reftable
+            .write_entry(&mut file.storage, range as usize)?;
         Ok(())
     }
 

@@ -41,9 +41,9 @@ returns-in_err-write-clause-sound g c = λ p d t range at sound place fits is.
     c.from_residual-in_err-write.result (of_storage c.in_err-write.field-0.0) c.from_residual-in_err-write.ensures (
       fault_of_storage c.in_err-write.field-0.0,
       inl (
-          moves_then g.S.Storage.view (placing d p at) (placing d p at) (placing d p at) c.args.file.now file (record file { storage = c.write.new.storage }) (λ k some. some) one.moves (moves_rewritten g.S.Storage.view (placing d p at) file c.write.new.storage at c.args.block.bytes c.write.result one.moves.sound free long writes calls),
-          reftable_rewritten g.S.Storage.view (placing d p at) file c.write.new.storage at c.args.block.bytes c.write.result one.moves.sound free long writes calls t.reftable one.reftable,
-        ),
+        moves_then g.S.Storage.view (placing d p at) (placing d p at) (placing d p at) c.args.file.now file (record file { storage = c.write.new.storage }) (λ k some. some) one.moves (moves_rewritten g.S.Storage.view (placing d p at) file c.write.new.storage at c.args.block.bytes c.write.result one.moves.sound free long writes calls),
+        reftable_rewritten g.S.Storage.view (placing d p at) file c.write.new.storage at c.args.block.bytes c.write.result one.moves.sound free long writes calls t.reftable one.reftable,
+      ),
     )
 
 -- the answer at the end

@@ -1,4 +1,4 @@
-use Rattle.std.proofs.Common.{◌≡◌, inl, false, ◌∙◌}
+use Rattle.std.proofs.Common.{inl, false, ◌∙◌}
 use Rattle.qcow2_alloc.specs.Allocation.{run_at, taken_as, TakesSomeRun}
 use Rattle.qcow2_alloc.proofs.CacheMarks.{marks_then}
 use Rattle.qcow2_alloc.proofs.FileSteps.{leaves_then}

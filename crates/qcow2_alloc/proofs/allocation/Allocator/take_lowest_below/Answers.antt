@@ -1,7 +1,7 @@
 use Rattle.std.proofs.Common.{ℕ, ◌*◌, ◌^◌, ◌≤◌, false, refl, sym, ◌∙◌, subst}
 use Rattle.qcow2_metadata.specs.Header.{counts_per_block}
 use Rattle.qcow2_laws.specs.Changes.{one_at}
-use Rattle.qcow2_alloc.specs.Allocation.{taken_as, KeepsEntries, TakesOne, TakesLowest}
+use Rattle.qcow2_alloc.specs.Allocation.{taken_as, KeepsEntries, TakesLowest}
 use Rattle.qcow2_alloc.specs.declared.allocation.Allocator.{Allocator}
 use Rattle.qcow2_alloc.proofs.CacheMarks.{marks_then}
 use Rattle.qcow2_alloc.proofs.FileSteps.{leaves_then}
