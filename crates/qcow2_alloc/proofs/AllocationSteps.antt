@@ -1,6 +1,7 @@
 -- Loading refblocks, and taking and giving back one cluster.
-use Rattle.std.proofs.Common.{◌≡◌, ◌≢◌, ℕ, ◌+◌, ◌*◌, ◌/◌, ◌%◌, ◌^◌, ◌<◌, Bool, true, false, List, length, Some, None, Result, Ok, Err, IsErr, IsErrAnd, IsSome, sym, ap, ◌∙◌, subst, arith}
-use Rattle.std.proofs.lemmas.Nat.{mod_below, pow_pos}
+use Rattle.std.proofs.Common.{◌≡◌, ◌≢◌, inl, inr, refl, ℕ, ◌+◌, ◌*◌, ◌/◌, ◌%◌, ◌^◌, ◌<◌, ◌≤◌, Bool, true, false, List, length, Option, Some, None, Result, Ok, Err, IsErr, IsErrAnd, IsSome, IsTrue, sym, ap, ◌∙◌, subst, arith}
+use Rattle.std.specs.Option.{is_some}
+use Rattle.std.proofs.lemmas.Nat.{mod_below, pow_pos, div-add-mod'}
 use Rattle.image_access.specs.Moments.{StorageView}
 use Rattle.qcow2_metadata.specs.Bytes.{byte_at}
 use Rattle.qcow2_metadata.specs.declared.header.HeaderFields.{HeaderFields}
@@ -13,15 +14,22 @@ use Rattle.qcow2_laws.specs.Guard.{Pending}
 use Rattle.qcow2_laws.proofs.Places.{count_none}
 use Rattle.qcow2_alloc.specs.declared.allocation.Allocator.{Allocator}
 use Rattle.qcow2_alloc.specs.declared.cache.MetadataCaches.{MetadataCaches}
+use Rattle.qcow2_alloc.specs.declared.error.ImageError.{ImageError}
 use Rattle.qcow2_alloc.specs.declared.image_file.ImageFile.{ImageFile}
-use Rattle.qcow2_alloc.specs.Allocation.{taken_as, MayTake, StandsAt, Becomes}
-use Rattle.qcow2_alloc.specs.CacheMarks.{KeepsMarks}
-use Rattle.qcow2_alloc.specs.ImageFile.{view_in, contents_in, known_in, IsSoundFile, HasReftable}
-use Rattle.qcow2_alloc.specs.MetadataCaches.{order_of, rb_at, IsCountedAt, RaisesCount, LowersCount}
+use Rattle.qcow2_alloc.specs.Allocation.{taken_as, MayTake, HasNone, KeepsEntries, StandsAt, Becomes, PlacesBlock, GetsBlock, TakesOne}
+use Rattle.qcow2_laws.specs.Caches.{AreSettled}
+use Rattle.image_access.proofs.Passing.{passes_none}
+use Rattle.qcow2_alloc.specs.CacheMarks.{KeepsMarks, SameTables}
+use Rattle.qcow2_alloc.specs.ImageFile.{view_in, contents_in, known_in, IsSoundFile, IsSoundWith, HasReftable, LeavesSound}
+use Rattle.image_access.specs.declared.error.StorageError.{StorageError}
+use Rattle.image_access.specs.declared.error.StorageError.TheVariants.{Fault, Memory}
+use Rattle.qcow2_alloc.specs.ImageError.{of_storage, IsFault}
+use Rattle.qcow2_alloc.specs.MetadataCaches.{order_of, rb_at, IsCountedAt, RaisesCount, LowersCount, StaySound}
 use Rattle.qcow2_alloc.specs.declared.image_storage.ImageStorage.{ImageStorage}
 use Rattle.qcow2_alloc.specs.ImageStorage.{storage_of}
 use Rattle.qcow2_alloc.proofs.KeptTables.Standing.{own_cluster}
-use Rattle.qcow2_alloc.proofs.FileSteps.{one_here, moves_then, reftable_counted, moves_raised, moves_lowered}
+use Rattle.qcow2_alloc.proofs.Runs.{held_more}
+use Rattle.qcow2_alloc.proofs.FileSteps.{one_here, moves_none, moves_then, leaves_then, breaks_after, moves_cached, reftable_cached, reftable_counted, moves_raised, moves_lowered}
 
 -- what a `?` hands on
 pub handed_on : {A E : Type 0} (P : Result A E → Type 0) (r : Result A E) (e : E) → IsErr r × IsErrAnd r (λ x. x ≡ e) → P (Err e) → P r
@@ -36,7 +44,89 @@ pub may_still : {S : Type 0} (d : Bool) (a b : ImageFile S) → order_of b.cache
 may_still true a b same may = same ∙ may
 may_still false a b same may = tt
 
+pub fault_of_storage : (e : StorageError) → IsFault (of_storage e)
+fault_of_storage Fault = inl refl
+fault_of_storage Memory = inr refl
+
+-- ---- reftables with the same entries
+pub entries_then : (P : ℕ → Type 0) (a b c : EntryTableView) → KeepsEntries P a b → KeepsEntries P b c → KeepsEntries P a c
+entries_then P a b c first second = record {
+  cluster = second.cluster ∙ first.cluster;
+  bits = second.bits ∙ first.bits;
+  count = second.count ∙ first.count;
+  others = λ k stays. second.others k stays ∙ first.others k stays;
+}
+
+pub entries_less : (P Q : ℕ → Type 0) (a b : EntryTableView) → ((k : ℕ) → Q k → P k) → KeepsEntries P a b → KeepsEntries Q a b
+entries_less P Q a b fewer keeps = record { cluster = keeps.cluster; bits = keeps.bits; count = keeps.count; others = λ k stays. keeps.others k (fewer k stays) }
+
+-- the range of a cluster below an end isn't one from the end on
+pub other_range : (cluster end per per' k : ℕ) → cluster < end → per' ≡ per → end ≤ k * per' → k ≢ cluster / per
+other_range cluster end per per' k below same past is =
+    let e = div-add-mod' cluster per in
+    let whole : k * per' ≡ cluster / per * per = ap (λ n. k * n) same ∙ ap (λ n. n * per) is in
+    absurd (omega (arith, e, whole, below, past))
+
 module _ {S : Type 0} (view : S → StorageView) where
+  -- ---- one step after another
+  -- an allocator with the same reftable
+  pub becomes_as : (p r : Pending) (a b : ImageFile S) (t t' : Allocator) → t'.reftable ≡ t.reftable → Becomes view p a t b r → Becomes view p a t' b r
+  becomes_as p r a b t t' same first = record { moves = first.moves; reftable = subst (HasReftable view b) (sym same) first.reftable }
+
+  pub becomes_none : (p : Pending) (file : ImageFile S) (t : Allocator) → IsSoundWith view t p file → Becomes view p file t file p
+  becomes_none p file t sound = record { moves = moves_none view p file sound.sound; reftable = sound.reftable }
+
+  pub becomes_then : (p r : Pending) (a b c : ImageFile S) (t t' : Allocator) → Becomes view p a t b p → Becomes view p b t' c r → Becomes view p a t' c r
+  becomes_then p r a b c t t' first second = record { moves = moves_then view p p r a b c (λ k some. some) first.moves second.moves; reftable = second.reftable }
+
+  pub is_sound_now : (p q : Pending) (a b : ImageFile S) (t : Allocator) → Becomes view p a t b q → IsSoundWith view t q b
+  is_sound_now p q a b t first = record { sound = first.moves.sound; reftable = first.reftable }
+
+  -- after clusters were taken
+  pub becomes_more : (d : Bool) (p : Pending) (n : ℕ → ℕ) (r : Pending) (a b c : ImageFile S) (t t' : Allocator) → Becomes view p a t b (taken_as d p n) → Becomes view (taken_as d p n) b t' c r → Becomes view p a t' c r
+  becomes_more d p n r a b c t t' first second = record { moves = moves_then view p (taken_as d p n) r a b c (held_more d p n) first.moves second.moves; reftable = second.reftable }
+
+  pub becomes_cached : (p : Pending) (file : ImageFile S) (t : Allocator) (storage : ImageStorage S) (caches : MetadataCaches S) → IsSoundWith view t p file
+      → StaySound file.header.fields p (view_in view file) file.caches (view (storage_of storage)) caches → KeepsMarks file.caches caches → Becomes view p file t (record file { storage = storage; caches = caches }) p
+  becomes_cached p file t storage caches sound stays marks = record { moves = moves_cached view p file storage caches sound.sound stays marks; reftable = reftable_cached view p file storage caches sound.sound stays t.reftable sound.reftable }
+
+  -- nothing but marks of the caches changes
+  pub becomes_marked : (p : Pending) (file : ImageFile S) (t : Allocator) (caches : MetadataCaches S) → IsSoundWith view t p file → SameTables file.caches caches → KeepsMarks file.caches caches → Becomes view p file t (record file { caches = caches }) p
+  becomes_marked p file t caches sound tables marks =
+      let h = file.header.fields in
+      becomes_cached p file t file.storage caches sound (record {
+        honest = sound.sound.honest;
+        sound = tables.sound h p (contents_in view file) sound.sound.caches;
+        known = tables.known h (contents_in view file);
+        settled = λ settled. subst (λ ts. AreSettled h ts (contents_in view file)) (sym tables.refblocks) settled;
+        since = record { moments = passes_none (view_in view file) _; contents = λ backing m ok known_ok. ok };
+      }) marks
+
+  -- a refusal that is no fault left all sound
+  pub still_sound : (p : Pending) (a b : ImageFile S) (t : Allocator) (e : ImageError) → (IsFault e → ⊥) → LeavesSound view p a t b e → Becomes view p a t b p
+  still_sound p a b t e other leaves = elim leaves [ inl sound ↦ record { moves = sound.0; reftable = sound.1 } | inr breaks ↦ absurd (other breaks.fault) ]
+
+  -- a cluster that is taken, or is in use, after a step that left the same pending
+  pub takes_then : (p : Pending) (a b c : ImageFile S) (t t' t'' : Allocator) (d : Bool) (cluster : ℕ) (taken : Bool) → t''.reftable ≡ t'.reftable → Becomes view p a t b p → TakesOne view p b t' c d cluster (Ok taken) → TakesOne view p a t'' c d cluster (Ok taken)
+  takes_then p a b c t t' t'' d cluster true same first second = becomes_as p (taken_as d p (one_at cluster)) a c t' t'' same (becomes_then p (taken_as d p (one_at cluster)) a b c t t' first second)
+  takes_then p a b c t t' t'' d cluster false same first second = becomes_as p p a c t' t'' same (becomes_then p p a b c t t' first second)
+
+  -- a refblock that was placed in a cluster that was taken for it, and that was noted
+  pub gets_taken : (p : Pending) (a b c : ImageFile S) (t t' : Allocator) (range at : ℕ) (result : Result (Unit {0}) ImageError) → Becomes view p a t b (taken_as false p (one_at at)) → IsTrue c.caches.is_changed
+      → PlacesBlock view (taken_as false p (one_at at)) b t' c p range at result → GetsBlock view p a t' c result
+  gets_taken p a b c t t' range at (Ok _) first noted placed = record { moves = moves_then view p (taken_as false p (one_at at)) p a b c (λ k some. some) first.moves placed.0.moves; reftable = placed.0.reftable }
+  gets_taken p a b c t t' range at (Err e) first noted placed = inr (breaks_after view p (taken_as false p (one_at at)) a b c t' e first.moves placed.0 noted placed.1)
+
+  -- a refblock that was placed
+  pub gets_placed : (p : Pending) (old new : ImageFile S) (t : Allocator) (range at : ℕ) (result : Result (Unit {0}) ImageError) → PlacesBlock view p old t new p range at result → GetsBlock view p old t new result
+  gets_placed p old new t range at (Ok _) placed = placed.0
+  gets_placed p old new t range at (Err e) placed = placed.1
+
+  -- a refusal after a step that left the same pending, as the errors of answers say it
+  pub gets_then : (p : Pending) (a b c : ImageFile S) (t t' : Allocator) (result : Result (Unit {0}) ImageError) → Becomes view p a t b p → GetsBlock view p b t' c result → GetsBlock view p a t' c result
+  gets_then p a b c t t' (Ok _) first second = becomes_then p p a b c t t' first second
+  gets_then p a b c t t' (Err e) first second = leaves_then view p a b c t' e first.moves second
+
   -- ---- the refblock of a range
   pub stands : (p : Pending) (file : ImageFile S) (t : EntryTableView) → IsSoundFile view p file → HasReftable view file t → (range offset cluster bits : ℕ) → offset ≡ block_offset (entry_at t.bytes range) → 0 < offset
       → cluster * 2 ^ bits ≡ offset → bits ≡ file.header.fields.cluster_bits → IsSome (rb_at file.caches cluster) → StandsAt view file range (Some cluster)
@@ -47,6 +137,14 @@ module _ {S : Type 0} (view : S → StorageView) where
         sym known ∙ sym at ∙ ap (λ n. cluster * 2 ^ n) same,
         there,
       )
+
+  pub stands_none : (file : ImageFile S) (range : ℕ) (o : Option ℕ) → is_some o ≡ false → StandsAt view file range o → StandsAt view file range None
+  stands_none file range None none at = at
+  stands_none file range (Some block) none at = absurd (let no : true ≡ false = none in cc)
+
+  -- where it has none, the reftable in memory names none
+  pub none_in_memory : (p : Pending) (file : ImageFile S) (t : EntryTableView) → IsSoundFile view p file → HasReftable view file t → (range : ℕ) → StandsAt view file range None → HasNone t range
+  none_in_memory p file t sound has range none = ap block_offset (has.entries range ∙ sound.caches.kept.kept.guarded.same_top.reftable range) ∙ none
 
   -- 64 bits hold where it stands
   pub place_fits : (entry offset cluster bits header_bits : ℕ) → offset ≡ block_offset entry → cluster * 2 ^ bits ≡ offset → bits ≡ header_bits → HasPlace header_bits cluster

@@ -10,6 +10,7 @@ pub mod Flushing
 pub mod Fetching
 pub mod Inserting
 pub mod Changing
+pub mod Clean
 pub mod Counting
 pub mod Mapping
 pub mod Turning

@@ -8,3 +8,5 @@ pub mod FileSteps
 pub mod AllocationSteps
 pub mod Runs
 pub mod FileWrites
+pub mod PlacedBlocks
+pub mod NamedBlocks

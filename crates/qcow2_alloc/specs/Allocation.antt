@@ -1,15 +1,25 @@
 -- What the allocator's calls take, and what they leave of an image's file.
-use Rattle.std.specs.Prelude.{ℕ, ◌+◌, ◌*◌, ◌<◌, ◌≡◌, ◌≢◌, ◌&&◌, nat_le, nat_lt, Bool, true, false, Option, Some, None, Result, Ok, Err, IsSome, IsTrue, if◌then◌else◌}
+use Rattle.std.specs.Prelude.{ℕ, ◌+◌, ◌*◌, ◌<◌, ◌≡◌, ◌≢◌, ◌&&◌, nat_le, nat_lt, Bool, true, false, List, length, Option, Some, None, Result, Ok, Err, IsSome, IsTrue, if◌then◌else◌}
 use Rattle.image_access.specs.Moments.{StorageView}
-use Rattle.qcow2_metadata.specs.Header.{cluster_size}
+use Rattle.qcow2_metadata.specs.declared.header.HeaderFields.{HeaderFields}
+use Rattle.qcow2_metadata.specs.Bytes.{Bytes, byte_at}
+use Rattle.qcow2_metadata.specs.Header.{cluster_size, counts_per_block}
+use Rattle.qcow2_metadata.specs.EntryTable.{EntryTableView, entry_count}
+use Rattle.qcow2_metadata.specs.RefBlock.{RefBlockView}
+use Rattle.qcow2_metadata.specs.TableBytes.{entry_at}
+use Rattle.qcow2_laws.specs.Caches.{AreClean, BlocksMayGo}
+use Rattle.qcow2_alloc.specs.TableCaches.{cleared_rb}
 use Rattle.qcow2_metadata.specs.Entries.{reftable_entry, block_offset}
 use Rattle.qcow2_laws.specs.Clusters.{L2DependsOnRb}
 use Rattle.qcow2_laws.specs.Changes.{one_at, with_held, with_fresh}
 use Rattle.qcow2_laws.specs.Guard.{Pending}
-use Rattle.qcow2_alloc.specs.MetadataCaches.{order_of, rb_at}
+use Rattle.qcow2_alloc.specs.MetadataCaches.{order_of, rb_at, l2_tables, refblocks}
 use Rattle.qcow2_alloc.specs.ImageError.{IsFault}
-use Rattle.qcow2_alloc.specs.ImageFile.{known_in, HasReftable, Moves, LeavesSound}
+use Rattle.qcow2_alloc.specs.ImageFile.{contents_in, known_in, HasReftable, Moves, LeavesSound}
 use Rattle.qcow2_alloc.specs.declared.allocation.Allocator.{Allocator}
+use Rattle.qcow2_alloc.specs.declared.clusters_to_free.ClusterKind.{ClusterKind}
+use Rattle.qcow2_alloc.specs.declared.clusters_to_free.ClusterKind.TheVariants.{Data, Metadata}
+use Rattle.qcow2_alloc.specs.declared.clusters_to_free.ClustersToFreeEntry.{ClustersToFreeEntry}
 use Rattle.qcow2_alloc.specs.declared.error.ImageError.{ImageError}
 use Rattle.qcow2_alloc.specs.declared.image_file.ImageFile.{ImageFile}
 
@@ -17,10 +27,49 @@ use Rattle.qcow2_alloc.specs.declared.image_file.ImageFile.{ImageFile}
 abbrev pub run_at : ℕ → ℕ → ℕ → ℕ
 run_at first n k = if nat_le first k && nat_lt k (first + n) then 1 else 0
 
+abbrev pub is_data : ClusterKind → Bool
+is_data Data = true
+is_data Metadata = false
+
 -- clusters that are taken for data are held, those for tables are fresh
 abbrev pub taken_as : Bool → Pending → (ℕ → ℕ) → Pending
 taken_as true p n = with_held p n
 taken_as false p n = with_fresh p n
+
+-- what is pending where a refblock is placed: its cluster was taken for it, or it counts itself
+abbrev pub placing : Bool → Pending → ℕ → Pending
+placing true p at = p
+placing false p at = taken_as false p (one_at at)
+
+-- the counts of a new refblock
+abbrev pub first_counts : Bool → ℕ → ℕ
+first_counts true i = one_at 0 i
+first_counts false i = 0
+
+-- one that counts itself stands in the first cluster of its range
+abbrev pub StandsFirst : Bool → HeaderFields → ℕ → ℕ → Type 0
+StandsFirst true h range at = at ≡ range * counts_per_block h
+StandsFirst false h range at = Unit {0}
+
+-- these bytes stand there
+abbrev pub StandAt : Bytes → ℕ → List ℕ → Type 0
+StandAt b place bytes = (i : ℕ) → i < length bytes → byte_at bytes i ≡ b (place + i)
+
+-- the reftable names no refblock for the range
+abbrev pub HasNone : EntryTableView → ℕ → Type 0
+HasNone reftable range = block_offset (entry_at reftable.bytes range) ≡ 0
+
+-- a range that has no refblock, which may be placed in the cluster
+pub record HasPlaceFor (counts_itself : Bool) (h : HeaderFields) (reftable : EntryTableView) (range at : ℕ) : Type 0 where
+  pub none : HasNone reftable range
+  pub first : StandsFirst counts_itself h range at
+
+-- a reftable of the same place and length, with the same entries for these ranges
+pub record KeepsEntries (Stays : ℕ → Type 0) (old new : EntryTableView) : Type 0 where
+  pub cluster : new.cluster ≡ old.cluster
+  pub bits : new.cluster_bits ≡ old.cluster_bits
+  pub count : entry_count new ≡ entry_count old
+  pub others : (k : ℕ) → Stays k → entry_at new.bytes k ≡ entry_at old.bytes k
 
 module _ {S : Type 0} where
   -- data clusters are taken where refblocks are written before L2 tables
@@ -47,6 +96,33 @@ module _ {S : Type 0} where
       LoadsBlock range (Ok block) = Becomes p × StandsAt new range block
       LoadsBlock range (Err e) = IsFault e × LeavesSound view p old allocator' new e
 
+      -- a refblock stands in its cluster and in its cache, and no other one is modified, nor what goes before refblocks
+      pub record HoldsBlock (block : RefBlockView) (at : ℕ) : Type 0 where
+        pub clean : AreClean (refblocks new.caches)
+        pub first : BlocksMayGo (order_of new.caches) (l2_tables new.caches)
+        pub held : rb_at new.caches at ≡ Some (cleared_rb block)
+        pub stands : StandAt (contents_in view new) (at * cluster_size new.header.fields) block.bytes
+
+      abbrev pub WritesBlock : RefBlockView → ℕ → Result (Unit {0}) ImageError → Type 0
+      WritesBlock block at (Ok _) = Becomes p × HoldsBlock block at
+      WritesBlock block at (Err e) = IsFault e × LeavesSound view p old allocator' new e
+
+      -- the refblock of a range is placed in a cluster
+      abbrev pub PlacesBlock : Pending → ℕ → ℕ → Result (Unit {0}) ImageError → Type 0
+      PlacesBlock p' range at (Ok _) = Becomes p' × StandsAt new range (Some at)
+      PlacesBlock p' range at (Err e) = IsFault e × LeavesSound view p old allocator' new e
+
+      -- a range gets its refblock
+      abbrev pub GetsBlock : Result (Unit {0}) ImageError → Type 0
+      GetsBlock (Ok _) = Becomes p
+      GetsBlock (Err e) = LeavesSound view p old allocator' new e
+
+      -- a cluster is taken for a table, or there is no free one
+      abbrev pub TakesLowest : Result (Option ℕ) ImageError → Type 0
+      TakesLowest (Ok (Some at)) = Becomes (taken_as false p (one_at at))
+      TakesLowest (Ok None) = Becomes p
+      TakesLowest (Err e) = LeavesSound view p old allocator' new e
+
       -- a cluster is taken, or it is in use
       abbrev pub TakesOne : Bool → ℕ → Result Bool ImageError → Type 0
       TakesOne is_data cluster (Ok true) = Becomes (taken_as is_data p (one_at cluster))
@@ -57,6 +133,16 @@ module _ {S : Type 0} where
       abbrev pub TakesRun : Bool → ℕ → ℕ → Result ℕ ImageError → Type 0
       TakesRun is_data first n (Ok taken) = (taken ≡ n → Becomes (taken_as is_data p (run_at first n))) × (taken ≢ n → Becomes p)
       TakesRun is_data first n (Err e) = LeavesSound view p old allocator' new e
+
+      -- n clusters from some one on are taken
+      abbrev pub TakesSomeRun : Bool → ℕ → Result ℕ ImageError → Type 0
+      TakesSomeRun is_data n (Ok first) = Becomes (taken_as is_data p (run_at first n))
+      TakesSomeRun is_data n (Err e) = LeavesSound view p old allocator' new e
+
+      -- what an allocation answers: so many clusters of this kind from the first one on, which are taken now. Refused, it leaves nothing taken.
+      abbrev pub Allocates : ClusterKind → ℕ → Result ClustersToFreeEntry ImageError → Type 0
+      Allocates kind n (Ok run) = (run.count ≡ n) × (run.kind ≡ kind) × Becomes (taken_as (is_data kind) p (run_at run.first_cluster n))
+      Allocates kind n (Err e) = LeavesSound view p old allocator' new e
 
       -- one that was taken is given back
       abbrev pub LowersOne : Pending → Result Bool ImageError → Type 0

@@ -1,22 +1,28 @@
 //! Taking clusters of the image's file.
-ghost use Rattle.std.specs.Prelude.{◌≡◌, ℕ, ◌+◌, ◌*◌, ◌^◌, ◌<◌, ◌≤◌, Bool, IfOk, IfErr, OnOk, IsSome, IsTrue};
+ghost use Rattle.std.specs.Prelude.{◌≡◌, ◌≢◌, ℕ, ◌+◌, ◌*◌, ◌^◌, ◌<◌, ◌≤◌, Bool, Some, IfSome, IfOk, IfErr, OnOk, IsSome, IsTrue};
 ghost use Rattle.image_access.specs.Moments.{Keeps, Passing};
 ghost use Rattle.qcow2_laws.specs.Changes.{one_at};
+ghost use Rattle.qcow2_laws.specs.Clusters.{L2DependsOnRb};
 ghost use Rattle.qcow2_laws.specs.Guard.{Pending};
-ghost use Rattle.qcow2_alloc.specs.Allocation.{run_at, taken_as, MayTake, LoadsBlock, TakesOne, TakesRun, LowersOne, GivesBack, GivesBackRun};
+ghost use Rattle.qcow2_alloc.specs.Allocation.{run_at, taken_as, placing, first_counts, HasPlaceFor, KeepsEntries, MayTake, LoadsBlock, WritesBlock, PlacesBlock, TakesOne, TakesRun, LowersOne, GivesBack, GivesBackRun, HasNone, GetsBlock, TakesLowest, TakesSomeRun, is_data, Allocates};
 ghost use Rattle.qcow2_alloc.specs.CacheMarks.{KeepsMarks};
 ghost use Rattle.qcow2_alloc.specs.ImageError.{IsOfTables, IsFault};
 ghost use Rattle.qcow2_alloc.specs.ImageFile.{view_in, HasReftable, IsSoundWith};
 ghost use Rattle.qcow2_alloc.specs.MetadataCaches.{order_of};
 ghost use Rattle.qcow2_metadata.specs.L2Mapping.{IsHostCluster};
+ghost use Rattle.qcow2_metadata.specs.Header.{counts_per_block};
 ghost use Rattle.qcow2_metadata.specs.EntryTable.{entry_count};
+ghost use Rattle.qcow2_metadata.specs.RefBlock.{count_at, IsRefBlock};
+ghost use Rattle.qcow2_metadata.specs.TableBytes.{HasPlace};
+ghost use Rattle.qcow2_alloc.specs.TableCaches.{IsBlockOf};
 
 use crate::{
     ClusterKind, ClustersToFreeEntry, ClustersToFreeList, ImageError, ImageFile, PendingClusters,
     WriteKind,
 };
 use image_access::Storage;
-use qcow2_metadata::{ClusterCount, HostCluster, RefBlock, RefTable};
+use qcow2_metadata::{ClusterCount, Header, HostCluster, RefBlock, RefTable};
+use std::alloc::Global;
 
 /// The greatest offset of a host cluster.
 pub const MAX_HOST_OFFSET: u64 = 0x00ff_ffff_ffff_fe00;
@@ -38,6 +44,49 @@ fn ends_call(refusal: &ImageError) -> bool
         ImageError::Memory | ImageError::Storage => true,
         _ => false,
     }
+}
+
+// A refblock whose counts are 0, but for its range's first cluster where it counts itself.
+#[tactic(auto, using(crate::proofs::TableErrors::metadata_of_tables))]
+fn new_block(
+    alloc: Global,
+    header: &Header,
+    cluster: HostCluster,
+    counts_itself: bool,
+) -> Result<RefBlock, ImageError>
+    requires { HasPlace header.now.fields.cluster_bits cluster }
+    ensures cluster { IfOk result (λ block. block.cluster ≡ Some cluster) }
+    ensures format { IfOk result (IsBlockOf header.now.fields) }
+    ensures whole { IfOk result IsRefBlock }
+    ensures counts { IfOk result (λ block. (i : ℕ) → count_at block i ≡ first_counts counts_itself i) }
+    ensures memory { IfErr result (λ e. e ≡ ImageError.Memory) }
+    ensures cause { IfErr result IsOfTables }
+{
+    let mut block = RefBlock::new_cleared(alloc, header)?;
+    block.set_cluster(cluster);
+    if counts_itself && block.counts() > 0 {
+        block.increment(0);
+    }
+    Ok(block)
+}
+
+// Writes a new refblock to its cluster, after all counts, and puts it into its cache.
+#[tactic(auto, using(crate::proofs::TableErrors::storage_of_tables))]
+fn write_block<S: Storage>(file: &mut ImageFile<S>, mut block: RefBlock) -> Result<(), ImageError>
+    requires { IsSome block.cluster }
+    ensures marks { KeepsMarks file.old.caches file.new.caches }
+    ensures order { order_of file.new.caches ≡ order_of file.old.caches }
+    ensures sound { (p : Pending) (counts_itself : Bool) (allocator : Allocator) (range at : ℕ) → IsSoundWith S.view allocator (placing counts_itself p at) file.old
+        → HasPlaceFor counts_itself file.old.header.fields allocator.reftable range at → IsBlockOf file.old.header.fields block → block.cluster ≡ Some at
+        → WritesBlock S.view (placing counts_itself p at) file.old allocator file.new block at result }
+    ensures header { file.new.header ≡ file.old.header }
+    ensures cause { IfErr result IsOfTables }
+{
+    file.caches.flush_rb(&mut file.storage)?;
+    file.storage.will_write(WriteKind::Other);
+    block.write(&mut file.storage)?;
+    block.clear_modified();
+    file.caches.rb_insert(&mut file.storage, block)
 }
 
 #[tactic(auto, using(crate::proofs::TableErrors::storage_of_tables, crate::proofs::TableErrors::metadata_of_tables, crate::proofs::TableErrors::cache_of_tables))]
@@ -86,6 +135,10 @@ impl Allocator {
         file: &mut ImageFile<S>,
         count: ClusterCount,
     ) -> Result<PendingClusters, ImageError>
+        ensures marks { KeepsMarks file.old.caches file.new.caches }
+        ensures order { order_of file.new.caches ≡ order_of file.old.caches }
+        ensures noted { OnOk result (IsTrue file.new.caches.is_changed) }
+        ensures sound { (p : Pending) → IsSoundWith S.view self.old p file.old → Allocates S.view p file.old self.new file.new ClusterKind.Metadata count result }
         ensures header { file.new.header ≡ file.old.header }
         ensures nameable { IfOk result (λ p. IsHostCluster file.old.header.fields.cluster_bits p.first_cluster) }
         ensures cause { IfErr result IsOfTables }
@@ -99,6 +152,10 @@ impl Allocator {
         file: &mut ImageFile<S>,
         count: ClusterCount,
     ) -> Result<PendingClusters, ImageError>
+        ensures marks { KeepsMarks file.old.caches file.new.caches }
+        ensures order { OnOk result (order_of file.new.caches ≡ L2DependsOnRb) }
+        ensures noted { OnOk result (IsTrue file.new.caches.is_changed) }
+        ensures sound { (p : Pending) → IsSoundWith S.view self.old p file.old → Allocates S.view p file.old self.new file.new ClusterKind.Data count result }
         ensures header { file.new.header ≡ file.old.header }
         ensures nameable { IfOk result (λ p. IsHostCluster file.old.header.fields.cluster_bits p.first_cluster) }
         ensures cause { IfErr result IsOfTables }
@@ -114,6 +171,10 @@ impl Allocator {
         count: ClusterCount,
         kind: ClusterKind,
     ) -> Result<PendingClusters, ImageError>
+        ensures marks { KeepsMarks file.old.caches file.new.caches }
+        ensures order { order_of file.new.caches ≡ order_of file.old.caches }
+        ensures noted { OnOk result (IsTrue file.new.caches.is_changed) }
+        ensures sound { (p : Pending) → IsSoundWith S.view self.old p file.old → MayTake (is_data kind) file.old → Allocates S.view p file.old self.new file.new kind count result }
         ensures header { file.new.header ≡ file.old.header }
         ensures nameable { IfOk result (λ p. IsHostCluster file.old.header.fields.cluster_bits p.first_cluster) }
         ensures cause { IfErr result IsOfTables }
@@ -137,6 +198,10 @@ impl Allocator {
 
     // Takes the lowest run of n clusters that fits below the greatest offset.
     fn lowest_run<S: Storage>(&mut self, file: &mut ImageFile<S>, n: u64) -> Result<u64, ImageError>
+        ensures marks { KeepsMarks file.old.caches file.new.caches }
+        ensures order { order_of file.new.caches ≡ order_of file.old.caches }
+        ensures noted { OnOk result (IsTrue file.new.caches.is_changed) }
+        ensures sound { (p : Pending) (is_data : Bool) → IsSoundWith S.view self.old p file.old → MayTake is_data file.old → TakesSomeRun S.view p file.old self.new file.new is_data n result }
         ensures header { file.new.header ≡ file.old.header }
         ensures nameable { IfOk result (λ first. IsHostCluster file.old.header.fields.cluster_bits first) }
         ensures cause { IfErr result IsOfTables }
@@ -161,6 +226,10 @@ impl Allocator {
         n: u64,
     ) -> Result<u64, ImageError>
         requires { first + n < 2 ^ 63 }
+        ensures marks { KeepsMarks file.old.caches file.new.caches }
+        ensures order { order_of file.new.caches ≡ order_of file.old.caches }
+        ensures noted { IfOk result (λ taken. taken ≡ n → 0 < n → IsTrue file.new.caches.is_changed) }
+        ensures sound { (p : Pending) (is_data : Bool) → IsSoundWith S.view self.old p file.old → MayTake is_data file.old → TakesRun S.view p file.old self.new file.new is_data first n result }
         ensures header { file.new.header ≡ file.old.header }
         ensures within { IfOk result (λ taken. taken ≤ n) }
         ensures cause { IfErr result IsOfTables }
@@ -190,6 +259,10 @@ impl Allocator {
         cluster: u64,
     ) -> Result<bool, ImageError>
         requires { cluster < 2 ^ 63 }
+        ensures marks { KeepsMarks file.old.caches file.new.caches }
+        ensures order { order_of file.new.caches ≡ order_of file.old.caches }
+        ensures noted { IfOk result (λ taken. IsTrue taken → IsTrue file.new.caches.is_changed) }
+        ensures sound { (p : Pending) (is_data : Bool) → IsSoundWith S.view self.old p file.old → MayTake is_data file.old → TakesOne S.view p file.old self.new file.new is_data cluster result }
         ensures header { file.new.header ≡ file.old.header }
         ensures cause { IfErr result IsOfTables }
     {
@@ -315,13 +388,16 @@ impl Allocator {
         Ok(file.caches.rb_decrement(block, index))
     }
 
-    // Sees to it that the range of a cluster has a refblock.
+    // Sees to it that the range of a cluster has a refblock. No cluster is taken for one that couldn't be named.
     fn ensure_block<S: Storage>(
         &mut self,
         file: &mut ImageFile<S>,
         cluster: u64,
     ) -> Result<(), ImageError>
         requires { cluster < 2 ^ 63 }
+        ensures marks { KeepsMarks file.old.caches file.new.caches }
+        ensures order { order_of file.new.caches ≡ order_of file.old.caches }
+        ensures sound { (p : Pending) → IsSoundWith S.view self.old p file.old → GetsBlock S.view p file.old self.new file.new result }
         ensures header { file.new.header ≡ file.old.header }
         ensures cause { IfErr result IsOfTables }
     {
@@ -330,17 +406,18 @@ impl Allocator {
         if self.load_block(file, range)?.is_some() {
             return Ok(());
         }
-        if !self.reftable.in_bounds(range as usize) {
+        let first = HostCluster::new(range << bits);
+        if !self.can_name(file.header.cluster_bits(), range as usize, first) {
             return Err(ImageError::Limit);
         }
         match self.take_lowest_below(file, range << bits) {
             Ok(Some(at)) => self.place_block(file, range, at, false),
-            Ok(None) => self.place_block(file, range, range << bits, true),
+            Ok(None) => self.cover_range(file, range),
             Err(refusal) => {
                 if ends_call(&refusal) {
                     return Err(refusal);
                 }
-                self.place_block(file, range, range << bits, true)
+                self.cover_range(file, range)
             }
         }
     }
@@ -352,16 +429,19 @@ impl Allocator {
         end: u64,
     ) -> Result<Option<u64>, ImageError>
         requires { end < 2 ^ 63 }
+        ensures marks { KeepsMarks file.old.caches file.new.caches }
+        ensures order { order_of file.new.caches ≡ order_of file.old.caches }
+        ensures noted { IfOk result (λ at. IsSome at → IsTrue file.new.caches.is_changed) }
+        ensures below { IfOk result (λ at. IfSome at (λ at. at < end)) }
+        ensures entries { KeepsEntries (λ k. end ≤ k * counts_per_block file.old.header.fields) self.old.reftable self.new.reftable }
+        ensures sound { (p : Pending) → IsSoundWith S.view self.old p file.old → TakesLowest S.view p file.old self.new file.new result }
         ensures header { file.new.header ≡ file.old.header }
         ensures cause { IfErr result IsOfTables }
     {
         let bits = file.header.rb_bits();
         'search: while self.first_free_cluster < end {
             let cluster = self.first_free_cluster;
-            let range = cluster >> bits;
-            if self.load_block(file, range)?.is_none() {
-                self.place_block(file, range, range << bits, true)?;
-            }
+            self.cover_range(file, cluster >> bits)?;
             let taken = self.raise(file, cluster)?;
             self.first_free_cluster = cluster + 1;
             if taken {
@@ -371,8 +451,33 @@ impl Allocator {
         Ok(None)
     }
 
-    // Makes the refblock of a range in a cluster: one that was taken for it, or the range's first one, where it counts itself.
-    // Counts are written first, then the block's bytes, then the entry that names it.
+    // Sees to it that a range has a refblock. A new one lies in the range's first cluster and counts itself.
+    fn cover_range<S: Storage>(
+        &mut self,
+        file: &mut ImageFile<S>,
+        range: u64,
+    ) -> Result<(), ImageError>
+        requires { range * counts_per_block file.old.header.fields < 2 ^ 63 }
+        ensures marks { KeepsMarks file.old.caches file.new.caches }
+        ensures order { order_of file.new.caches ≡ order_of file.old.caches }
+        ensures entries { KeepsEntries (λ k. k ≢ range) self.old.reftable self.new.reftable }
+        ensures sound { (p : Pending) → IsSoundWith S.view self.old p file.old → GetsBlock S.view p file.old self.new file.new result }
+        ensures header { file.new.header ≡ file.old.header }
+        ensures cause { IfErr result IsOfTables }
+    {
+        if self.load_block(file, range)?.is_some() {
+            return Ok(());
+        }
+        let at = range << file.header.rb_bits();
+        let bits = file.header.cluster_bits();
+        if !self.can_name(bits, range as usize, HostCluster::new(at)) {
+            return Err(ImageError::Limit);
+        }
+        self.place_block(file, range, at, true)
+    }
+
+    // Makes the refblock of a range in a cluster that it may lie in: one that was taken for it, or the range's first one, where it counts itself.
+    // The entry that names it is written last.
     fn place_block<S: Storage>(
         &mut self,
         file: &mut ImageFile<S>,
@@ -380,26 +485,28 @@ impl Allocator {
         at: u64,
         counts_itself: bool,
     ) -> Result<(), ImageError>
+        requires within { range < entry_count self.old.reftable }
+        requires placed { IsSome self.old.reftable.cluster }
+        requires nameable { IsHostCluster self.old.reftable.cluster_bits at }
+        requires nameable_here { IsHostCluster file.old.header.fields.cluster_bits at }
+        ensures marks { KeepsMarks file.old.caches file.new.caches }
+        ensures order { order_of file.new.caches ≡ order_of file.old.caches }
+        ensures noted { OnOk result (IsTrue file.new.caches.is_changed) }
+        ensures entries { KeepsEntries (λ k. k ≢ range) self.old.reftable self.new.reftable }
+        ensures sound { (p : Pending) → IsSoundWith S.view self.old (placing counts_itself p at) file.old → HasPlaceFor counts_itself file.old.header.fields self.old.reftable range at
+            → PlacesBlock S.view (placing counts_itself p at) file.old self.new file.new p range at result }
         ensures header { file.new.header ≡ file.old.header }
         ensures cause { IfErr result IsOfTables }
     {
         let cluster = HostCluster::new(at);
-        let index = range as usize;
-        if !self.can_name(file.header.cluster_bits(), index, cluster) {
-            return Err(ImageError::Limit);
-        }
-        let mut block = RefBlock::new_cleared(file.alloc, &file.header)?;
-        block.set_cluster(cluster);
-        if counts_itself && block.counts() > 0 {
-            block.increment(0);
-        }
-        file.caches.flush_rb(&mut file.storage)?;
+        let block = new_block(file.alloc, &file.header, cluster, counts_itself)?;
+        write_block(file, block)?;
+        file.caches.note_change();
+        self.reftable.enter_refblock(range as usize, cluster);
         file.storage.will_write(WriteKind::Other);
-        block.write(&mut file.storage)?;
-        block.clear_modified();
-        self.reftable.enter_refblock(index, cluster);
-        self.reftable.write_entry(&mut file.storage, index)?;
-        file.caches.rb_insert(&mut file.storage, block)
+        self.reftable
+            .write_entry(&mut file.storage, range as usize)?;
+        Ok(())
     }
 
     // Whether the reftable has a place for the refblock of a range, and that may lie in a cluster.

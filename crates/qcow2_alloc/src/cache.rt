@@ -286,6 +286,8 @@ impl<S: Storage> MetadataCaches<S> {
         ensures marks { KeepsMarks self.old self.new }
         ensures faults { HasRoom self.old → PutRefusesBy IsFault S.view storage.old self.old (λ h. IsBlockOf h block) block.cluster block.bytes block.is_modified result }
         ensures keeps { PutSound S.view storage.old self.old storage.new self.new (λ h. IsBlockOf h block) block.cluster block.bytes block.is_modified }
+        ensures clean { AreClean (refblocks self.old) → IsFalse block.is_modified → OnOk result (AreClean (refblocks self.new)) }
+        ensures first { BlocksMayGo (order_of self.old) (l2_tables self.old) → OnOk result (BlocksMayGo (order_of self.new) (l2_tables self.new)) }
     {
         let Some(cluster) = block.get_cluster() else {
             unreachable!();

@@ -1,8 +1,21 @@
-use Rattle.std.proofs.Common.{◌≡◌, ◌-◌}
+use Rattle.std.proofs.Common.{◌≡◌, ◌-◌, ◌*◌, ◌≤◌}
+use Rattle.qcow2_metadata.specs.Header.{counts_per_block}
+use Rattle.qcow2_laws.specs.Guard.{Pending}
+use Rattle.qcow2_alloc.specs.Allocation.{KeepsEntries, Becomes}
+use Rattle.qcow2_alloc.specs.CacheMarks.{KeepsMarks}
+use Rattle.qcow2_alloc.specs.ImageFile.{IsSoundWith}
+use Rattle.qcow2_alloc.specs.MetadataCaches.{order_of}
 use Rattle.qcow2_alloc.proofs.allocation.Allocator.take_lowest_below.Given as goal
 
+-- nothing is taken yet, and no refblock was placed for the ranges from the end on
 abbrev pub invariant-search : goal.invariant-search
-invariant-search g l = l.file.header ≡ l.fn.file.header
+invariant-search g l = record {
+  header : l.file.header ≡ l.fn.file.header;
+  marks : KeepsMarks l.fn.file.caches l.file.caches;
+  order : order_of l.file.caches ≡ order_of l.fn.file.caches;
+  entries : KeepsEntries (λ k. l.fn.end ≤ k * counts_per_block l.fn.file.header.fields) l.fn.self.reftable l.self.reftable;
+  sound : (p : Pending) → IsSoundWith g.S.Storage.view l.fn.self p l.fn.file → Becomes g.S.Storage.view p l.fn.file l.self l.file p;
+}
 
 abbrev pub decreases-search : goal.decreases-search
 decreases-search g l = l.end - l.self.first_free_cluster

@@ -1,4 +1,4 @@
-use Rattle.std.proofs.Common.{true, false, Some, Ok, refl, sym, ap, ◌∙◌, ◌+◌, ◌*◌}
+use Rattle.std.proofs.Common.{ℕ, true, false, Some, Ok, refl, sym, ap, ◌∙◌, subst, ◌+◌, ◌*◌}
 use Rattle.qcow2_alloc.proofs.KeptTables.Inserting.{block_put, rb_taken, taken_at_last, if_some}
 use Rattle.qcow2_metadata.specs.Header.{cluster_size}
 use Rattle.qcow2_alloc.proofs.KeptTables.Turning.{stay_then}
@@ -7,6 +7,13 @@ use Rattle.qcow2_alloc.specs.ImageError.{of_cache, IsFault}
 use Rattle.qcow2_alloc.proofs.KeptTables.Causes.{given_err, block_put_refused}
 use Rattle.qcow2_metadata.specs.Bytes.{Bytes, byte_at}
 use Rattle.qcow2_alloc.specs.ImageStorage.{storage_of}
+use Rattle.qcow2_laws.specs.Caches.{AreClean}
+use Rattle.qcow2_metadata.specs.RefBlock.{RefBlockView}
+use Rattle.qcow2_alloc.specs.AsyncLruCache.{Cache}
+use Rattle.qcow2_alloc.specs.KeptTables.{cached_tables}
+use Rattle.qcow2_alloc.specs.TableCaches.{rb_steps}
+use Rattle.qcow2_alloc.specs.declared.cache.backends.RefBlockCacheBackend.{RefBlockCacheBackend}
+use Rattle.qcow2_alloc.proofs.KeptTables.Clean.{clean_as, put_clean}
 use Rattle.qcow2_alloc.proofs.cache.MetadataCaches.rb_insert.Goals as goal
 
 pub returns-in_err-insert-clause-keeps : goal.returns-in_err-insert-clause-keeps
@@ -81,3 +88,18 @@ returns-in_err-insert-2-clause-faults g c = λ room h p honest sound settled fit
     let marks = marks_then c.args.self.now (record c.args.self.now { rb = c.insert.new.self }) c.before_rb.new.self (marks_blocks c.args.self.now c.insert.new.self c.insert.ensures.others c.insert.ensures.pins) c.before_rb.ensures.marks in
     given_err c.from_residual-in_err-insert-2.result (of_cache c.in_err-insert-2.field-0.0) IsFault c.from_residual-in_err-insert-2.ensures
     (block_put_refused g.S.Storage.view c.before_rb.new.storage c.insert-2.new.store c.before_rb.new.self h p (byte_at (g.S.Storage.view (storage_of c.before_rb.new.storage)).contents) two.sound true c.in-Some.cluster c.insert-2.result c.in_err-insert-2.field-0.0 c.in_err-insert-2.was (marks.room room) (two.settled (one.settled settled)) c.insert-2.new.self c.args.block c.insert.new.value c.insert-2.new.value ((rb_taken g.S.Storage.view c.args.storage.now c.insert.new.store c.args.self.now false c.in-Some.cluster c.insert.new.self c.insert.ensures.others c.args.block (Some c.args.block) c.insert.new.value refl c.insert.result c.insert.ensures.there c.insert.ensures.missing).kept (c.in_ok-insert.was ∙ ap Ok c.if-branch.false)) c.insert-2.ensures.there c.insert-2.ensures.missing)
+
+pub returns-then-branch-clause-clean : goal.returns-then-branch-clause-clean
+returns-then-branch-clause-clean g c = λ all clean.
+    put_clean (rb_steps (λ s. g.S.Storage.view (storage_of s)) c.args.self.now.rb.backend.header.fields) c.insert.new.self.backend.header.fields.cluster_bits (λ (b : RefBlockView). b.bytes) (λ b. b.is_modified) c.args.self.now.rb.size false c.in-Some.cluster c.args.storage.now c.insert.new.store c.args.self.now.rb.entries c.insert.new.self.entries
+    c.args.block c.insert.new.value clean (clean_as _ _ (λ (b : RefBlockView). b.bytes) (λ b. b.is_modified) c.args.self.now.rb.entries all) true c.insert.result (Some c.args.block) (c.in_ok-insert.was ∙ ap Ok c.if-branch.true) refl c.insert.ensures.there c.insert.ensures.missing
+
+pub returns-clause-clean : goal.returns-clause-clean
+returns-clause-clean g c = λ all clean.
+    let kept = (rb_taken g.S.Storage.view c.args.storage.now c.insert.new.store c.args.self.now false c.in-Some.cluster c.insert.new.self c.insert.ensures.others c.args.block (Some c.args.block) c.insert.new.value refl c.insert.result c.insert.ensures.there c.insert.ensures.missing).kept (c.in_ok-insert.was ∙ ap Ok c.if-branch.false) in
+    let one =
+    put_clean (rb_steps (λ s. g.S.Storage.view (storage_of s)) c.args.self.now.rb.backend.header.fields) c.insert.new.self.backend.header.fields.cluster_bits (λ (b : RefBlockView). b.bytes) (λ b. b.is_modified) c.args.self.now.rb.size false c.in-Some.cluster c.args.storage.now c.insert.new.store c.args.self.now.rb.entries c.insert.new.self.entries
+    c.args.block c.insert.new.value clean (clean_as _ _ (λ (b : RefBlockView). b.bytes) (λ b. b.is_modified) c.args.self.now.rb.entries all) false c.insert.result (Some c.args.block) (c.in_ok-insert.was ∙ ap Ok c.if-branch.false) refl c.insert.ensures.there c.insert.ensures.missing in
+    let two = subst (λ (rb : Cache (RefBlockCacheBackend g.row.S.Denot) ℕ RefBlockView). AreClean (cached_tables rb.backend.header.fields.cluster_bits (λ (b : RefBlockView). b.bytes) (λ b. b.is_modified) rb.entries)) (sym c.before_rb.ensures.refblocks) one in
+    put_clean (rb_steps (λ s. g.S.Storage.view (storage_of s)) c.before_rb.new.self.rb.backend.header.fields) c.insert-2.new.self.backend.header.fields.cluster_bits (λ (b : RefBlockView). b.bytes) (λ b. b.is_modified) c.before_rb.new.self.rb.size true c.in-Some.cluster c.before_rb.new.storage c.insert-2.new.store c.before_rb.new.self.rb.entries c.insert-2.new.self.entries
+    c.args.block c.insert-2.new.value clean (clean_as _ _ (λ (b : RefBlockView). b.bytes) (λ b. b.is_modified) c.before_rb.new.self.rb.entries two) c.in_ok-insert-2.field-0 c.insert-2.result c.insert.new.value c.in_ok-insert-2.was kept c.insert-2.ensures.there c.insert-2.ensures.missing

@@ -1,0 +1,316 @@
+-- A reftable entry is written that names a refblock which stands in its cluster and in its cache.
+use Rattle.std.proofs.Common.{◌≡◌, ◌≢◌, ◌⊎◌, inl, inr, ℕ, ◌+◌, ◌*◌, ◌/◌, ◌%◌, ◌^◌, ◌<◌, ◌≤◌, Bool, true, false, List, [], Option, Some, Result, Ok, refl, sym, ap, ◌∙◌, subst, arith}
+use Rattle.std.proofs.lemmas.Bool.{cases_Bool, cases_eq, cases_lt, eq-eqb, ne_eqb, cond-true, cond-false}
+use Rattle.std.proofs.lemmas.Nat.{div-add-mod', mod_below}
+use Rattle.std.specs.Option.{IfSome}
+use Rattle.std.specs.Int.{w64, to_be_bytes}
+use Rattle.image_access.specs.Contents.{overwritten}
+use Rattle.image_access.specs.Moments.{StorageView, Passing, Changes, Calls}
+use Rattle.image_access.specs.declared.error.StorageError.{StorageError}
+use Rattle.image_access.proofs.Passing.{passes_if, whole_or_nothing}
+use Rattle.qcow2_metadata.specs.Bytes.{Bytes, byte_at}
+use Rattle.qcow2_metadata.specs.EntryTable.{EntryTableView, IsRefTableOf, entry_count}
+use Rattle.qcow2_metadata.specs.RefBlock.{RefBlockView, IsRefBlock, count_at}
+use Rattle.qcow2_metadata.specs.TableBytes.{entry_at, ChangesEntry}
+use Rattle.qcow2_metadata.specs.declared.header.HeaderFields.{HeaderFields}
+use Rattle.qcow2_metadata.specs.Header.{cluster_size, counts_per_block, count_width, reftable_entries}
+use Rattle.qcow2_metadata.specs.Entries.{reftable_entry, block_offset, block_count, host_offset}
+use Rattle.qcow2_metadata.specs.Named.{table_in, in_cluster, named_for_tables, named_by_l1_table, named_by_reftable}
+use Rattle.qcow2_metadata.proofs.EntryTables.{on_sector}
+use Rattle.qcow2_metadata.proofs.TablesAt.{ref_block_at}
+use Rattle.qcow2_metadata.proofs.WrittenTables.{IsRefTableOf-written_entry}
+use Rattle.qcow2_laws.specs.Stops.{Mark, IsKeptAt}
+use Rattle.qcow2_laws.specs.Changes.{one_at, with_fresh, named_now}
+use Rattle.qcow2_laws.specs.Guard.{Pending, SameIn}
+use Rattle.qcow2_laws.specs.Caches.{AreClean, BlocksMayGo, HasL2, HasBlock}
+use Rattle.qcow2_laws.specs.Guests.{table_at}
+use Rattle.qcow2_laws.specs.Leads.{Leads, Endures}
+use Rattle.qcow2_laws.specs.Unseen.{IsUnseen, SameL1Table}
+use Rattle.qcow2_laws.specs.Tops.{IsSameBut, IsSameOutside, WritesReftableEntry, IsNewBlock}
+use Rattle.qcow2_laws.proofs.Beside.{overwritten_but, reftable_entry_beside}
+use Rattle.qcow2_laws.proofs.Blocks.{table_once}
+use Rattle.qcow2_laws.proofs.Caches.{clean_counts}
+use Rattle.qcow2_laws.proofs.NewBlocks.{other_reftable}
+use Rattle.qcow2_laws.proofs.NewTables.{outside_eight}
+use Rattle.qcow2_laws.proofs.Places.{Sizes, block_count-moved}
+use Rattle.qcow2_laws.proofs.Shares.{shares, table_has, block_has, reftable_has}
+use Rattle.qcow2_laws.proofs.Steps.{table_is_named}
+use Rattle.qcow2_laws.proofs.Unseen.{unseen_refblock}
+use Rattle.qcow2_alloc.specs.declared.image_file.ImageFile.{ImageFile}
+use Rattle.qcow2_alloc.specs.declared.image_storage.ImageStorage.{ImageStorage}
+use Rattle.qcow2_alloc.specs.Allocation.{placing, first_counts, HasPlaceFor, StandsFirst, StandAt}
+use Rattle.qcow2_alloc.specs.ImageFile.{nothing_given, view_in, contents_in, known_in, stand_in, IsSoundFile, HasReftable, Moves}
+use Rattle.qcow2_alloc.specs.ImageStorage.{storage_of}
+use Rattle.qcow2_alloc.specs.KeptTables.{AreLoaded}
+use Rattle.qcow2_alloc.specs.MetadataCaches.{order_of, l2_tables, refblocks, rb_at}
+use Rattle.qcow2_alloc.specs.TableCaches.{IsBlockOf}
+use Rattle.qcow2_alloc.proofs.FileSteps.{one_here, pending_same}
+use Rattle.qcow2_alloc.proofs.KeptTables.Getting.{cluster_aligned}
+use Rattle.qcow2_alloc.proofs.KeptTables.Named.{AreCurrentIn, current_entry, settled_named, sound_named}
+use Rattle.qcow2_alloc.proofs.KeptTables.Standing.{own_cluster}
+use Rattle.qcow2_alloc.proofs.PlacedBlocks.{IsFree, is_free, file_sizes, has_none, covers_written, known_there, in_own, range_of_first}
+
+-- what a write of an entry says
+pub entry_write_as : {S : Type 0} (view : S → StorageView) (before asked after : S) (cluster : Option ℕ) (k bits bits' place n : ℕ) (bytes : List ℕ) (result : Result (Unit {0}) StorageError) → asked ≡ before → cluster ≡ Some k → bits ≡ bits' → k * 2 ^ bits' ≡ place
+    → IfSome cluster (λ k. Changes (view asked) (view after) result (overwritten (view asked).contents (k * 2 ^ bits + n) bytes)) → Changes (view before) (view after) result (overwritten (view before).contents (place + n) bytes)
+entry_write_as view before asked after cluster k bits bits' place n bytes result same is same_bits at written =
+    subst (λ s. Changes (view s) (view after) result (overwritten (view s).contents (place + n) bytes)) same
+    (subst (λ o. Changes (view asked) (view after) result (overwritten (view asked).contents (o + n) bytes)) at
+    (subst (λ b. Changes (view asked) (view after) result (overwritten (view asked).contents (k * 2 ^ b + n) bytes)) same_bits (rw is at written)))
+
+-- a table that stands in a cluster lies in this one alone
+table_in-one : (h : HeaderFields) (c place at : ℕ) → place ≢ 0 → place / cluster_size h ≡ at → table_in h c place ≡ one_at at c
+table_in-one h c place at real in_it =
+    let inside : table_in h c place ≡ in_cluster h c place = cond-false _ _ _ (ne_eqb place 0 real) in
+    elim (cases_eq c at) [
+      | inl same ↦ inside ∙ cond-true {A = ℕ} _ 1 0 (eq-eqb (place / cluster_size h) c (in_it ∙ sym same)) ∙ sym (cond-true {A = ℕ} _ 1 0 (eq-eqb c at same))
+      | inr other ↦ inside ∙ cond-false {A = ℕ} _ 1 0 (ne_eqb (place / cluster_size h) c (λ e. other (sym e ∙ in_it))) ∙ sym (cond-false {A = ℕ} _ 1 0 (ne_eqb c at other))
+    ]
+
+-- the first cluster of a range among those of it
+first_of_range : (range per at c : ℕ) → 0 < per → at ≡ range * per → c / per ≡ range → one_at 0 (c % per) ≡ one_at at c
+first_of_range range per at c some is in_range =
+    let e = div-add-mod' c per in
+    let whole : c / per * per ≡ range * per = ap (λ n. n * per) in_range in
+    elim (cases_eq (c % per) 0) [
+      | inl none ↦ cond-true {A = ℕ} _ 1 0 (eq-eqb (c % per) 0 none) ∙ sym (cond-true {A = ℕ} _ 1 0 (eq-eqb c at (omega (arith, e, whole, is, none))))
+      | inr some ↦ cond-false {A = ℕ} _ 1 0 (ne_eqb (c % per) 0 some) ∙ sym (cond-false {A = ℕ} _ 1 0 (ne_eqb c at (λ same. some (omega (arith, e, whole, is, same)))))
+    ]
+
+-- what a new refblock says of the clusters of its range
+abbrev new_counts : Bool → ℕ → ℕ → ℕ
+new_counts true at c = one_at at c
+new_counts false at c = 0
+
+counts_as : (d : Bool) (h : HeaderFields) (range at c : ℕ) → 0 < counts_per_block h → StandsFirst d h range at → c / counts_per_block h ≡ range → first_counts d (c % counts_per_block h) ≡ new_counts d at c
+counts_as true h range at c some first in_range = first_of_range range (counts_per_block h) at c some first in_range
+counts_as false h range at c some first in_range = refl
+
+module _ {S : Type 0} (view : S → StorageView) (d : Bool) (p : Pending) (range at : ℕ) (file : ImageFile S) (t t' : EntryTableView) (block : RefBlockView) (sound : IsSoundFile view (placing d p at) file)
+    (has : HasReftable view file t) (clean : AreClean (refblocks file.caches)) (may : BlocksMayGo (order_of file.caches) (l2_tables file.caches)) (place : HasPlaceFor d file.header.fields t range at)
+    (within : range < entry_count t) (same : t' ≡ record t { bytes = t'.bytes }) (enters : ChangesEntry t.bytes t'.bytes range (at * cluster_size file.header.fields))
+    (offset : block_offset (entry_at t'.bytes range) ≡ at * cluster_size file.header.fields) (fits : entry_at t'.bytes range < 2 ^ 64)
+    (whole : IsRefBlock block) (format : IsBlockOf file.header.fields block) (counts : (i : ℕ) → count_at block i ≡ first_counts d i)
+    (held : (v : RefBlockView) × (rb_at file.caches at ≡ Some v) × (v.bytes ≡ block.bytes)) (stands : StandAt (contents_in view file) (at * cluster_size file.header.fields) block.bytes) where
+  abbrev h : HeaderFields
+  h = file.header.fields
+
+  abbrev q : Pending
+  q = placing d p at
+
+  abbrev base : Bytes
+  base = contents_in view file
+
+  abbrev entry : ℕ
+  entry = entry_at t'.bytes range
+
+  sizes : Sizes h
+  sizes = file_sizes view q file sound
+
+  free : IsFree view q file at
+  free = is_free view d p range at file t sound has may place
+
+  in_at : block_offset entry / cluster_size h ≡ at
+  in_at = ap (λ n. n / cluster_size h) offset ∙ own_cluster h.cluster_bits at
+
+  -- the header's cluster is no refblock's
+  pub real : 0 < at * cluster_size h
+  real = elim (cases_lt 0 (at * cluster_size h)) [
+    | inl some ↦ some
+    | inr none ↦
+        let is : at * cluster_size h ≡ 0 = omega arith in
+        let zero : 0 / cluster_size h ≡ at = ap (λ n. n / cluster_size h) (sym is) ∙ own_cluster h.cluster_bits at in
+        let first : in_cluster h at 0 ≡ 1 = cond-true {A = ℕ} _ 1 0 (eq-eqb (0 / cluster_size h) at zero) in
+        let parts = shares h base at in
+        absurd (omega (arith, parts, first, free.unnamed.no_table))
+  ]
+
+  has_place : block_offset entry ≢ 0
+  has_place none = let some = real in absurd (omega (arith, none, offset, some))
+
+  module _ (storage : ImageStorage S) (is : (view (storage_of storage)).contents ≡ overwritten (view_in view file).contents (h.reftable_offset + 8 * range) (to_be_bytes w64 entry)) where
+    abbrev named : ImageFile S
+    named = record file { storage = storage }
+
+    abbrev base' : Bytes
+    base' = contents_in view named
+
+    -- where the entry stands
+    abbrev written_to : ℕ
+    written_to = (h.reftable_offset + 8 * range) / cluster_size h
+
+    within_table : range < reftable_entries h
+    within_table = let e = has.count in omega (arith, within, e)
+
+    but : IsSameBut (h.reftable_offset + 8 * range) 8 base base'
+    but = subst (λ (l : List ℕ). IsSameBut (h.reftable_offset + 8 * range) 8 base (byte_at l)) (sym is) (overwritten_but (view_in view file).contents (h.reftable_offset + 8 * range) (to_be_bytes w64 entry))
+
+    outside : IsSameOutside (cluster_size h) written_to base base'
+    outside = outside_eight (cluster_size h) h.reftable_offset range base base' sizes.whole sizes.some sound.caches.kept.kept.guarded.top.reftable_aligned but
+
+    table_now : IsRefTableOf h base' t'
+    table_now =
+        let as_long = enters.as_long in
+        let count : entry_count t' ≡ entry_count t = ap (λ n. n / 8) enters.as_long in
+        subst (λ (l : List ℕ). IsRefTableOf h (byte_at l) t') (sym is)
+        (IsRefTableOf-written_entry h (view_in view file).contents h.reftable_offset t' range (subst (λ n. range < n) (sym count) within) fits
+        ((refl, sym has.count ∙ sym count), (λ i other. enters.others i other ∙ has.entries i)))
+
+    pub writes : WritesReftableEntry h base (known_in view file) base' (known_in view named) range entry
+    writes = reftable_entry_beside h (order_of file.caches) q (l2_tables file.caches) (refblocks file.caches) base base' sound.caches.kept.kept range entry within_table but (sym (table_now range))
+
+    -- ---- the refblock that is named
+    counted : (i : ℕ) → i < counts_per_block h → block_count base (count_width h) (at * cluster_size h) i ≡ first_counts d i
+    counted i lt =
+        let per : counts_per_block h ≡ 2 ^ block.cluster_bits * 8 / 2 ^ block.refcount_order = sym (ap (λ n. 2 ^ n * 8 / 2 ^ block.refcount_order) format.bits ∙ ap (λ n. 2 ^ h.cluster_bits * 8 / 2 ^ n) format.order) in
+        sym (subst (λ n. count_at block i ≡ block_count base (2 ^ n) (at * cluster_size h) i) format.order (ref_block_at base (at * cluster_size h) block whole stands i (subst (λ n. i < n) per lt))) ∙ counts i
+
+    known_same : (i : ℕ) → i < counts_per_block h → block_count (known_in view file) (count_width h) (at * cluster_size h) i ≡ block_count base (count_width h) (at * cluster_size h) i
+    known_same i lt =
+        block_count-moved h (known_in view file) base (at * cluster_size h) (at * cluster_size h) i sizes lt (λ k k_lt. known_there view q file at sound free (at * cluster_size h + k) (in_own h.cluster_bits at k k_lt))
+
+    new_with : (n : ℕ → ℕ) → ((c : ℕ) → c / counts_per_block h ≡ range → first_counts d (c % counts_per_block h) ≡ n c) → IsNewBlock h base (known_in view file) range entry n
+    new_with n says = record {
+      none = (has_none view q file t sound has range place.none).0;
+      reads = let aligned = on_sector at h.cluster_bits sound.caches.kept.kept.guarded.top.header_reads.well_formed.in_range.cluster_bits.0 in let e = enters.entry_is in omega (arith, aligned, e);
+      real = has_place;
+      aligned = ap (λ n. n % cluster_size h) offset ∙ cluster_aligned at h.cluster_bits;
+      says = λ c in_range.
+          let lt = mod_below c (counts_per_block h) sizes.counts in
+          ap (λ x. block_count base (count_width h) x (c % counts_per_block h)) offset ∙ counted (c % counts_per_block h) lt ∙ says c in_range;
+      known_says = λ c in_range.
+          let lt = mod_below c (counts_per_block h) sizes.counts in
+          ap (λ x. block_count (known_in view file) (count_width h) x (c % counts_per_block h)) offset ∙ known_same (c % counts_per_block h) lt ∙ counted (c % counts_per_block h) lt ∙ says c in_range;
+    }
+
+    first_says : (c : ℕ) → c / counts_per_block h ≡ range → first_counts d (c % counts_per_block h) ≡ new_counts d at c
+    first_says c in_range = counts_as d h range at c sizes.counts place.first in_range
+
+    named_pending : d ≡ false → named_now q (λ c. table_in h c (block_offset entry)) ≡ p
+    named_pending is =
+        ap (λ b. named_now (placing b p at) (λ c. table_in h c (block_offset entry))) is
+        ∙ pending_same (named_now (with_fresh p (one_at at)) (λ c. table_in h c (block_offset entry))) p (λ k. refl) (λ k. let one = table_in-one h k (block_offset entry) at has_place in_at in omega (arith, one)) (λ k. refl) (λ k. refl) (λ k. refl)
+
+    pub leads : Leads (stand_in view file q) (stand_in view named p) nothing_given []
+    leads = elim (cases_Bool d) [
+      | inl is ↦
+          subst (λ (r : Pending). Leads (stand_in view file q) (stand_in view named r) nothing_given []) (ap (λ b. placing b p at) is)
+          (table_is_named.itself (stand_in view file q) base' (known_in view named) range entry sound.caches.kept.kept.guarded writes
+          (new_with (λ c. table_in h c (block_offset entry)) (λ c in_range. first_says c in_range ∙ ap (λ b. new_counts b at c) is ∙ sym (table_in-one h c (block_offset entry) at has_place in_at)))
+          (ap (λ n. n / counts_per_block h) in_at ∙ (range_of_first range (counts_per_block h) at sizes.counts (subst (λ b. StandsFirst b h range at) is place.first)).0))
+      | inr is ↦
+          let own = one_here at in
+          let fresh : q.fresh (block_offset entry / cluster_size h) ≡ p.fresh at + one_at at at = ap q.fresh in_at ∙ ap (λ (b : Bool). (placing b p at).fresh at) is in
+          subst (λ (r : Pending). Leads (stand_in view file q) (stand_in view named r) nothing_given []) (named_pending is)
+          (table_is_named.refblock (stand_in view file q) base' (known_in view named) range entry sound.caches.kept.kept.guarded writes
+          (new_with (λ c. 0) (λ c in_range. first_says c in_range ∙ ap (λ b. new_counts b at c) is)) (omega (arith, fresh, own))
+          (clean_counts h (order_of file.caches) q (l2_tables file.caches) (refblocks file.caches) base sound.caches.kept.kept clean (block_offset entry / cluster_size h))
+          (covers_written view q file sound may))
+    ]
+
+    -- ---- the caches
+    abbrev unseen : IsUnseen (stand_in view file q) (stand_in view named p) × SameL1Table (stand_in view file q) (stand_in view named p)
+    unseen = unseen_refblock (stand_in view file q) (stand_in view named p) sound.caches.kept.kept.guarded range entry refl writes
+
+    -- tables stand in other clusters than the reftable
+    apart : (c : ℕ) → 0 < named_by_l1_table h base c + named_by_reftable h base c → c ≢ written_to
+    apart c some here =
+        let one = reftable_has h range sizes sound.caches.kept.kept.guarded.top.reftable_aligned within_table in
+        let parts = shares h base written_to in
+        let some_here = subst (λ n. 0 < named_by_l1_table h base n + named_by_reftable h base n) here some in
+        absurd (omega (arith, table_once h (order_of file.caches) q base (known_in view file) sound.caches.kept.kept.guarded written_to (omega (arith, parts, one)), parts, one, some_here))
+
+    stays_in : (c : ℕ) → c ≢ written_to → SameIn (cluster_size h) c base' base
+    stays_in c other o in_c = sym (outside o (λ e. other (sym in_c ∙ e)))
+
+    free_apart : at ≢ written_to
+    free_apart here =
+        let one = reftable_has h range sizes sound.caches.kept.kept.guarded.top.reftable_aligned within_table in
+        let parts = shares h base written_to in
+        let none : named_for_tables h base written_to ≡ 0 = ap (named_for_tables h base) (sym here) ∙ free.unnamed.no_table in
+        absurd (omega (arith, parts, one, none))
+
+    l2_same : (i : ℕ) → table_at h base' i ≡ table_at h base i
+    l2_same i = ap host_offset (unseen.1 i)
+
+    l2_still : (c : ℕ) → HasL2 h base c → HasL2 h base' c
+    l2_still c has = (has.0, (λ none. has.1 (sym (l2_same has.0) ∙ none)), ap (λ n. n / cluster_size h) (l2_same has.0) ∙ has.2)
+
+    l2_now : (c : ℕ) → HasL2 h base' c → (HasL2 h base c × SameIn (cluster_size h) c base' base) ⊎ AreCurrentIn (cluster_size h) c (l2_tables file.caches) base'
+    l2_now c has =
+        let was : HasL2 h base c = (has.0, (λ none. has.1 (l2_same has.0 ∙ none)), ap (λ n. n / cluster_size h) (sym (l2_same has.0)) ∙ has.2) in
+        inl (was, stays_in c (apart c (let one = subst (λ n. 1 ≤ named_by_l1_table h base n) was.2 (table_has h base was.0 was.1) in omega (arith, one))))
+
+    rb_other : (k : ℕ) → k ≢ range → block_offset (reftable_entry h base k) ≡ block_offset (reftable_entry h base' k)
+    rb_other k other = ap block_offset (other_reftable h base base' range k but other)
+
+    rb_still : (c : ℕ) → HasBlock h base c → HasBlock h base' c
+    rb_still c there =
+        let e = rb_other there.0 (λ same. there.1 (ap (λ k. block_offset (reftable_entry h base k)) same ∙ (has_none view q file t sound has range place.none).0)) in
+        (there.0, (λ none. there.1 (e ∙ none)), ap (λ n. n / cluster_size h) (sym e) ∙ there.2)
+
+    current : AreCurrentIn (cluster_size h) at (refblocks file.caches) base'
+    current =
+        let bits = file.caches.rb.backend.header.fields.cluster_bits in
+        let same_bits = sound.caches.rb_format.bits in
+        let there : (i : ℕ) → i < cluster_size h → byte_at held.0.bytes i ≡ base' (at * cluster_size h + i) = λ i lt.
+        ap (λ l. byte_at l i) held.2 ∙ stands i (subst (λ n. i < n) (sym (whole.whole ∙ ap (λ n. 2 ^ n) format.bits)) lt)
+        ∙ outside (at * cluster_size h + i) (λ e. free_apart (sym (in_own h.cluster_bits at i lt) ∙ e)) in
+        subst (λ n. AreCurrentIn (2 ^ n) at (refblocks file.caches) base') same_bits
+        (current_entry bits (λ (b : RefBlockView). b.bytes) (λ b. b.is_modified) (HasBlock h base) base base' at file.caches.rb.entries held.0 held.1
+        (subst (λ n. (i : ℕ) → i < 2 ^ n → byte_at held.0.bytes i ≡ base' (at * 2 ^ n + i)) (sym same_bits) there)
+        (subst (λ n. AreLoaded (2 ^ n) (HasBlock h base) (refblocks file.caches) base) (sym same_bits) sound.caches.kept.rb_loaded))
+
+    rb_now : (c : ℕ) → HasBlock h base' c → (HasBlock h base c × SameIn (cluster_size h) c base' base) ⊎ AreCurrentIn (cluster_size h) c (refblocks file.caches) base'
+    rb_now c has = elim (cases_eq has.0 range) [
+      | inl same ↦
+          let here : at ≡ c = sym in_at ∙ ap (λ e. block_offset e / cluster_size h) (table_now range) ∙ ap (λ k. block_offset (reftable_entry h base' k) / cluster_size h) (sym same) ∙ has.2 in
+          inr (subst (λ n. AreCurrentIn (cluster_size h) n (refblocks file.caches) base') here current)
+      | inr other ↦
+          let e = rb_other has.0 other in
+          let was : HasBlock h base c = (has.0, (λ none. has.1 (sym e ∙ none)), ap (λ n. n / cluster_size h) e ∙ has.2) in
+          inl (was, stays_in c (apart c (let one = subst (λ n. 1 ≤ named_by_reftable h base n) was.2 (block_has h base was.0 was.1) in omega (arith, one))))
+    ]
+
+    pub reftable_named : HasReftable view named t'
+    reftable_named = record {
+      cluster = ap (λ (x : EntryTableView). x.cluster) same ∙ has.cluster;
+      bits = ap (λ (x : EntryTableView). x.cluster_bits) same ∙ has.bits;
+      count = ap (λ n. n / 8) enters.as_long ∙ has.count;
+      entries = table_now;
+    }
+
+    pub moves_named : (view (storage_of storage)).is_honest → Passing (view_in view file) (view (storage_of storage)) (λ c. c ≡ (view (storage_of storage)).contents) → Moves view q p file named
+    moves_named honest time = record {
+      sound = record {
+        honest = honest;
+        caches = sound_named h q p file.caches base base' sound.caches sound.settled l2_still rb_still l2_now rb_now leads.sound;
+        settled = settled_named h q p file.caches base base' sound.caches sound.settled l2_still rb_still l2_now rb_now;
+        room = sound.room;
+      };
+      leads = leads;
+      since = record {
+        moments = passes_if _ (λ c is backing m ok known_ok. subst (λ l. IsKeptAt backing m (byte_at l)) (sym is) (leads.base backing m ok known_ok)) time;
+        contents = λ backing m ok known_ok. leads.base backing m ok known_ok;
+      };
+      unseen = unseen.0;
+      l1_table = unseen.1;
+    }
+
+  -- what is kept of the storage and of what is known is kept, whether the write is done or not; and where it is done, the refblock is named
+  module _ (storage : ImageStorage S) (result : Result (Unit {0}) StorageError) (calls : Calls (view_in view file) (view (storage_of storage)) result)
+      (changes : Changes (view_in view file) (view (storage_of storage)) result (overwritten (view_in view file).contents (h.reftable_offset + 8 * range) (to_be_bytes w64 entry))) where
+    kept : (backing : Bytes) (m : Mark) → IsKeptAt backing m base → IsKeptAt backing m (known_in view file) → IsKeptAt backing m (byte_at (view (storage_of storage)).contents)
+    kept backing m ok known_ok = elim (whole_or_nothing result (view_in view file).contents _ (view (storage_of storage)).contents (changes sound.honest)) [
+      | inl same ↦ subst (λ (l : List ℕ). IsKeptAt backing m (byte_at l)) (sym same) ok
+      | inr is ↦ (leads storage is).base backing m ok known_ok
+    ]
+
+    pub endures_named : Endures (view_in view file) (view (storage_of storage)) (known_in view file) nothing_given []
+    endures_named = record {
+      moments = passes_if _ (λ c is backing m ok known_ok. subst (λ (l : List ℕ). IsKeptAt backing m (byte_at l)) (sym is) (kept backing m ok known_ok)) calls.time;
+      contents = kept;
+    }
+
+    pub named_so : (x : Unit {0}) → result ≡ Ok x → Moves view q p file (record file { storage = storage }) × HasReftable view (record file { storage = storage }) t'
+    named_so x done = let is = rw done at (changes sound.honest) in (moves_named storage is (calls.honest sound.honest) calls.time, reftable_named storage is)

@@ -1,0 +1,17 @@
+use Rattle.std.proofs.Common.{sym, ap, ◌∙◌}
+use Rattle.qcow2_alloc.specs.declared.clusters_to_free.ClustersToFreeEntry.{ClustersToFreeEntry}
+use Rattle.qcow2_alloc.specs.Allocation.{run_at, taken_as, is_data, Becomes}
+use Rattle.qcow2_alloc.proofs.AllocationSteps.{of_equal}
+use Rattle.qcow2_alloc.proofs.allocation.Allocator.allocate.Goals as goal
+
+pub returns-in-Ok-lowest_run-clause-sound : goal.returns-in-Ok-lowest_run-clause-sound
+returns-in-Ok-lowest_run-clause-sound g c = λ p sound may.
+    let first = ap (λ (r : ClustersToFreeEntry). r.first_cluster) c.placed_at.ensures ∙ c.new-in-Ok-lowest_run.ensures in (
+      ap (λ (r : ClustersToFreeEntry). r.count) c.placed_at.ensures ∙ ap (λ (r : ClustersToFreeEntry). r.count) c.in-Ok.ensures,
+      ap (λ (r : ClustersToFreeEntry). r.kind) c.placed_at.ensures ∙ ap (λ (r : ClustersToFreeEntry). r.kind) c.in-Ok.ensures,
+      of_equal (λ f n. Becomes g.S.Storage.view p c.args.file.now c.lowest_run.new.self c.lowest_run.new.file (taken_as (is_data c.args.kind) p (run_at f n))) c.placed_at.result.first_cluster c.in-Ok-lowest_run.first c.args.count c.value.result first (sym c.value.ensures)
+          (c.in-Ok-lowest_run.ensures.sound p (is_data c.args.kind) sound may),
+    )
+
+pub returns-in-Err-clause-sound : goal.returns-in-Err-clause-sound
+returns-in-Err-clause-sound g c = λ p sound may. c.in-Err.ensures.sound p (is_data c.args.kind) sound may

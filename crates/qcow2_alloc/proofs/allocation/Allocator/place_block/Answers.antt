@@ -1,0 +1,132 @@
+use Rattle.std.proofs.Common.{◌≡◌, inr, ℕ, ◌+◌, ◌*◌, ◌/◌, ◌^◌, ◌<◌, Bool, true, IsTrue, Some, Result, Ok, Err, refl, sym, ap, ◌∙◌, subst, arith}
+use Rattle.std.proofs.lemmas.Nat.{div-add-mod'}
+use Rattle.std.specs.Option.{IfSome}
+use Rattle.std.specs.Int.{w64, to_be_bytes}
+use Rattle.image_access.specs.Contents.{overwritten}
+use Rattle.image_access.specs.Moments.{StorageView, Changes, Calls}
+use Rattle.image_access.specs.declared.error.StorageError.{StorageError}
+use Rattle.qcow2_metadata.specs.declared.header.HeaderFields.{HeaderFields}
+use Rattle.qcow2_metadata.specs.EntryTable.{EntryTableView, entry_count}
+use Rattle.qcow2_metadata.specs.Header.{cluster_size}
+use Rattle.qcow2_metadata.specs.RefBlock.{RefBlockView, IsRefBlock, count_at}
+use Rattle.qcow2_metadata.specs.TableBytes.{entry_at, ChangesEntry}
+use Rattle.qcow2_metadata.specs.Entries.{block_offset}
+use Rattle.qcow2_laws.specs.Guard.{Pending}
+use Rattle.qcow2_laws.specs.Caches.{AreClean, BlocksMayGo}
+use Rattle.qcow2_alloc.specs.declared.allocation.Allocator.{Allocator}
+use Rattle.qcow2_alloc.specs.declared.cache.MetadataCaches.{MetadataCaches}
+use Rattle.qcow2_alloc.specs.declared.error.ImageError.{ImageError}
+use Rattle.qcow2_alloc.specs.declared.image_storage.ImageStorage.{ImageStorage}
+use Rattle.qcow2_alloc.specs.CacheMarks.{KeepsMarks, SameTables}
+use Rattle.qcow2_alloc.specs.declared.image_file.ImageFile.{ImageFile}
+use Rattle.qcow2_alloc.specs.Allocation.{placing, first_counts, HasPlaceFor, StandsAt, Becomes, HoldsBlock, PlacesBlock}
+use Rattle.qcow2_alloc.specs.ImageError.{of_storage, IsFault}
+use Rattle.qcow2_alloc.specs.ImageFile.{view_in}
+use Rattle.qcow2_alloc.specs.ImageStorage.{storage_of}
+use Rattle.qcow2_alloc.specs.MetadataCaches.{order_of, l2_tables, refblocks, rb_at}
+use Rattle.qcow2_alloc.specs.TableCaches.{cleared_rb, IsBlockOf}
+use Rattle.qcow2_alloc.proofs.FileSteps.{moves_then, breaks_then}
+use Rattle.qcow2_alloc.proofs.AllocationSteps.{handed_on, fault_of_storage, becomes_then, becomes_marked, is_sound_now, stands}
+use Rattle.qcow2_alloc.proofs.NamedBlocks.{entry_write_as, real, endures_named, named_so}
+use Rattle.qcow2_alloc.proofs.allocation.Allocator.place_block.Goals as goal
+
+pub returns-in_err-write_block-clause-sound : goal.returns-in_err-write_block-clause-sound
+returns-in_err-write_block-clause-sound g c = λ p sound place.
+    handed_on (PlacesBlock g.S.Storage.view (placing c.args.counts_itself p c.args.at) c.args.file.now c.args.self.now c.write_block.new.file p c.args.range c.args.at)
+    c.from_residual-in_err-write_block.result c.in_err-write_block.field-0.0 c.from_residual-in_err-write_block.ensures
+    (c.in_err-write_block.ensures.sound p c.args.counts_itself c.args.self.now c.args.range c.args.at sound place c.in_ok-block.ensures.format (c.in_ok-block.ensures.cluster ∙ ap Some c.new-cluster.ensures))
+
+-- the last step: the entry is written, or is not
+module _ {S : Type 0} (view : S → StorageView) (d : Bool) (p : Pending) (range at : ℕ) (old file : ImageFile S) (t : Allocator) (t' : EntryTableView) (caches : MetadataCaches S) (storage : ImageStorage S) (asked : S) (block : RefBlockView)
+    (result : Result (Unit {0}) StorageError) (before : Becomes view (placing d p at) old t file (placing d p at) × HoldsBlock view (placing d p at) old t file block at)
+    (noted : caches ≡ record file.caches { is_changed = true }) (tables : SameTables file.caches caches) (marks : KeepsMarks file.caches caches) (place : HasPlaceFor d file.header.fields t.reftable range at) (within : range < entry_count t.reftable)
+    (rest : t' ≡ record t.reftable { bytes = t'.bytes }) (enters : ChangesEntry t.reftable.bytes t'.bytes range (at * 2 ^ t.reftable.cluster_bits)) (offset : block_offset (entry_at t'.bytes range) ≡ at * 2 ^ t.reftable.cluster_bits)
+    (fits : entry_at t'.bytes range < 2 ^ 64) (whole : IsRefBlock block) (format : IsBlockOf file.header.fields block) (counts : (i : ℕ) → count_at block i ≡ first_counts d i) (same : asked ≡ storage_of file.storage)
+    (written : IfSome t'.cluster (λ k. Changes (view asked) (view (storage_of storage)) result (overwritten (view asked).contents (k * 2 ^ t'.cluster_bits + 8 * range) (to_be_bytes w64 (entry_at t'.bytes range)))))
+    (calls : Calls (view asked) (view (storage_of storage)) result) where
+  abbrev q : Pending
+  q = placing d p at
+
+  abbrev h : HeaderFields
+  h = file.header.fields
+
+  abbrev marked : ImageFile S
+  marked = record file { caches = caches }
+
+  abbrev named : ImageFile S
+  named = record marked { storage = storage }
+
+  now : Becomes view q file t marked q
+  now = becomes_marked view q file t caches (is_sound_now view q q old file t before.0) tables marks
+
+  four : Becomes view q old t marked q
+  four = becomes_then view q q old file marked t t before.0 now
+
+  changes : Changes (view_in view marked) (view (storage_of storage)) result (overwritten (view_in view marked).contents (h.reftable_offset + 8 * range) (to_be_bytes w64 (entry_at t'.bytes range)))
+  changes =
+      let aligned = now.moves.sound.caches.kept.kept.guarded.top.reftable_aligned in
+      let e = div-add-mod' h.reftable_offset (cluster_size h) in
+      let begins : h.reftable_offset / cluster_size h * cluster_size h ≡ h.reftable_offset = omega (arith, e, aligned) in
+      entry_write_as view (storage_of file.storage) asked (storage_of storage) t'.cluster (h.reftable_offset / cluster_size h) t'.cluster_bits h.cluster_bits h.reftable_offset (8 * range) (to_be_bytes w64 (entry_at t'.bytes range)) result same
+      (ap (λ (x : EntryTableView). x.cluster) rest ∙ now.reftable.cluster) (ap (λ (x : EntryTableView). x.cluster_bits) rest ∙ now.reftable.bits) begins written
+
+  calls_now : Calls (view_in view marked) (view (storage_of storage)) result
+  calls_now = subst (λ s. Calls (view s) (view (storage_of storage)) result) same calls
+
+  held : (v : RefBlockView) × (rb_at caches at ≡ Some v) × (v.bytes ≡ block.bytes)
+  held = (cleared_rb block, ap (λ (c : MetadataCaches S). rb_at c at) noted ∙ before.1.held, refl)
+
+  clean : AreClean (refblocks caches)
+  clean = subst AreClean (sym tables.refblocks) before.1.clean
+
+  may : BlocksMayGo (order_of caches) (l2_tables caches)
+  may = subst (λ o. BlocksMayGo o (l2_tables caches)) (sym tables.order) (subst (BlocksMayGo (order_of file.caches)) (sym tables.l2_tables) before.1.first)
+
+  there : HasPlaceFor d h t.reftable range at
+  there = place
+
+  entered : ChangesEntry t.reftable.bytes t'.bytes range (at * cluster_size h)
+  entered = subst (λ n. ChangesEntry t.reftable.bytes t'.bytes range (at * 2 ^ n)) now.reftable.bits enters
+
+  at_place : block_offset (entry_at t'.bytes range) ≡ at * cluster_size h
+  at_place = offset ∙ ap (λ n. at * 2 ^ n) now.reftable.bits
+
+  not_placed : IsTrue caches.is_changed → (e : ImageError) → IsFault e → PlacesBlock view q old (record t { reftable = t' }) named p range at (Err e)
+  not_placed changed e fault = (
+    fault,
+    inr (breaks_then view q q old marked named e four.moves (record {
+      fault = fault;
+      noted = λ _. changed;
+      since = endures_named view d p range at marked t.reftable t' block now.moves.sound now.reftable clean may there within rest entered at_place fits whole format counts held before.1.stands storage result calls_now changes;
+    })),
+  )
+
+  is_placed : (x : Unit {0}) → result ≡ Ok x → Becomes view q old (record t { reftable = t' }) named p × StandsAt view named range (Some at)
+  is_placed x done =
+      let so = named_so view d p range at marked t.reftable t' block now.moves.sound now.reftable clean may there within rest entered at_place fits whole format counts held before.1.stands storage result calls_now changes x done in
+      let some : 0 < at * cluster_size h = real view d p range at marked t.reftable t' block now.moves.sound now.reftable clean may there within rest entered at_place fits whole format counts held before.1.stands in (
+        record { moves = moves_then view q q p old marked named (λ k some. some) four.moves so.0; reftable = so.1 },
+        stands view p named t' so.0.sound so.1 range (at * cluster_size h) at h.cluster_bits (sym at_place) some refl refl (rw held.1 refl),
+      )
+
+pub returns-in_err-write_entry-clause-sound : goal.returns-in_err-write_entry-clause-sound
+returns-in_err-write_entry-clause-sound g c = λ p sound place.
+    let is = c.in_ok-block.ensures.cluster ∙ ap Some c.new-cluster.ensures in
+    let three = c.in_ok-write_block.ensures.sound p c.args.counts_itself c.args.self.now c.args.range c.args.at sound place c.in_ok-block.ensures.format is in
+    handed_on (PlacesBlock g.S.Storage.view (placing c.args.counts_itself p c.args.at) c.args.file.now (record c.args.self.now { reftable = c.enter_refblock.new.self }) (record c.write_block.new.file { storage = c.write_entry.new.storage; caches = c.note_change.new.self }) p c.args.range c.args.at)
+    c.from_residual-in_err-write_entry.result (of_storage c.in_err-write_entry.field-0.0) c.from_residual-in_err-write_entry.ensures
+    (not_placed g.S.Storage.view c.args.counts_itself p c.args.range c.args.at c.args.file.now c.write_block.new.file c.args.self.now c.enter_refblock.new.self c.note_change.new.self c.write_entry.new.storage (storage_of c.will_write.new.self) c.in_ok-block.block c.write_entry.result
+    three c.note_change.ensures.same c.note_change.ensures.tables c.note_change.ensures.marks (subst (λ h. HasPlaceFor c.args.counts_itself h c.args.self.now.reftable c.args.range c.args.at) (sym (ap (λ x. x.fields) c.write_block.ensures.header)) place)
+    c.requires.within c.enter_refblock.ensures.rest (subst (λ k. ChangesEntry c.args.self.now.reftable.bytes c.enter_refblock.new.self.bytes c.args.range (k * 2 ^ c.args.self.now.reftable.cluster_bits)) c.new-cluster.ensures c.enter_refblock.ensures.entry)
+    (c.enter_refblock.ensures.offset ∙ ap (λ k. k * 2 ^ c.args.self.now.reftable.cluster_bits) c.new-cluster.ensures) c.write_entry.ensures.fits c.in_ok-block.ensures.whole (subst (λ h. IsBlockOf h c.in_ok-block.block) (sym (ap (λ x. x.fields) c.write_block.ensures.header)) c.in_ok-block.ensures.format)
+    c.in_ok-block.ensures.counts c.will_write.ensures.storage c.write_entry.ensures.written c.write_entry.ensures.calls c.note_change.ensures.changed (of_storage c.in_err-write_entry.field-0.0) (fault_of_storage c.in_err-write_entry.field-0.0))
+
+pub returns-clause-sound : goal.returns-clause-sound
+returns-clause-sound g c = λ p sound place.
+    let is = c.in_ok-block.ensures.cluster ∙ ap Some c.new-cluster.ensures in
+    let three = c.in_ok-write_block.ensures.sound p c.args.counts_itself c.args.self.now c.args.range c.args.at sound place c.in_ok-block.ensures.format is in
+    is_placed g.S.Storage.view c.args.counts_itself p c.args.range c.args.at c.args.file.now c.write_block.new.file c.args.self.now c.enter_refblock.new.self c.note_change.new.self c.write_entry.new.storage (storage_of c.will_write.new.self) c.in_ok-block.block c.write_entry.result
+    three c.note_change.ensures.same c.note_change.ensures.tables c.note_change.ensures.marks (subst (λ h. HasPlaceFor c.args.counts_itself h c.args.self.now.reftable c.args.range c.args.at) (sym (ap (λ x. x.fields) c.write_block.ensures.header)) place)
+    c.requires.within c.enter_refblock.ensures.rest (subst (λ k. ChangesEntry c.args.self.now.reftable.bytes c.enter_refblock.new.self.bytes c.args.range (k * 2 ^ c.args.self.now.reftable.cluster_bits)) c.new-cluster.ensures c.enter_refblock.ensures.entry)
+    (c.enter_refblock.ensures.offset ∙ ap (λ k. k * 2 ^ c.args.self.now.reftable.cluster_bits) c.new-cluster.ensures) c.write_entry.ensures.fits c.in_ok-block.ensures.whole (subst (λ h. IsBlockOf h c.in_ok-block.block) (sym (ap (λ x. x.fields) c.write_block.ensures.header)) c.in_ok-block.ensures.format)
+    c.in_ok-block.ensures.counts c.will_write.ensures.storage c.write_entry.ensures.written c.write_entry.ensures.calls c.in_ok-write_entry.field-0 c.in_ok-write_entry.was

@@ -1,0 +1,48 @@
+use Rattle.std.proofs.Common.{ℕ, ◌*◌, ◌^◌, ◌≤◌, false, refl, sym, ◌∙◌, subst}
+use Rattle.qcow2_metadata.specs.Header.{counts_per_block}
+use Rattle.qcow2_laws.specs.Changes.{one_at}
+use Rattle.qcow2_alloc.specs.Allocation.{taken_as, KeepsEntries, TakesLowest}
+use Rattle.qcow2_alloc.specs.declared.allocation.Allocator.{Allocator}
+use Rattle.qcow2_alloc.proofs.CacheMarks.{marks_then}
+use Rattle.qcow2_alloc.proofs.FileSteps.{leaves_then}
+use Rattle.qcow2_alloc.proofs.AllocationSteps.{handed_on, entries_then, entries_less, other_range, becomes_as, becomes_then, is_sound_now}
+use Rattle.qcow2_alloc.proofs.allocation.Allocator.take_lowest_below.Goals as goal
+
+pub returns-in_err-cover_range-clause-sound : goal.returns-in_err-cover_range-clause-sound
+returns-in_err-cover_range-clause-sound g c = λ p sound.
+    let before = c.search.invariant.sound p sound in
+    handed_on (TakesLowest g.S.Storage.view p c.args.file.now c.cover_range.new.self c.cover_range.new.file) c.from_residual.result c.in_err-cover_range.field-0.0 c.from_residual.ensures
+    (leaves_then g.S.Storage.view p c.args.file.now c.search.file c.cover_range.new.file c.cover_range.new.self c.in_err-cover_range.field-0.0 before.moves (c.in_err-cover_range.ensures.sound p (is_sound_now g.S.Storage.view p p c.args.file.now c.search.file c.search.self before)))
+
+pub returns-in_err-taken-clause-sound : goal.returns-in_err-taken-clause-sound
+returns-in_err-taken-clause-sound g c = λ p sound.
+    let before = c.search.invariant.sound p sound in
+    let covered = becomes_then g.S.Storage.view p p c.args.file.now c.search.file c.cover_range.new.file c.search.self c.cover_range.new.self before (c.in_ok-cover_range.ensures.sound p (is_sound_now g.S.Storage.view p p c.args.file.now c.search.file c.search.self before)) in
+    handed_on (TakesLowest g.S.Storage.view p c.args.file.now c.raise.new.self c.raise.new.file) c.from_residual-in_err-taken.result c.in_err-taken.field-0.0 c.from_residual-in_err-taken.ensures
+    (leaves_then g.S.Storage.view p c.args.file.now c.cover_range.new.file c.raise.new.file c.raise.new.self c.in_err-taken.field-0.0 covered.moves (c.in_err-taken.ensures.sound p false (is_sound_now g.S.Storage.view p p c.args.file.now c.cover_range.new.file c.cover_range.new.self covered) tt))
+
+pub returns-then-taken-clause-sound : goal.returns-then-taken-clause-sound
+returns-then-taken-clause-sound g c = λ p sound.
+    let before = c.search.invariant.sound p sound in
+    let covered = becomes_then g.S.Storage.view p p c.args.file.now c.search.file c.cover_range.new.file c.search.self c.cover_range.new.self before (c.in_ok-cover_range.ensures.sound p (is_sound_now g.S.Storage.view p p c.args.file.now c.search.file c.search.self before)) in
+    let taken = rw c.if-taken.true at (c.in_ok-taken.ensures.sound p false (is_sound_now g.S.Storage.view p p c.args.file.now c.cover_range.new.file c.cover_range.new.self covered) tt) in
+    becomes_as g.S.Storage.view p (taken_as false p (one_at c.search.self.first_free_cluster)) c.args.file.now c.raise.new.file c.raise.new.self _ refl
+    (becomes_then g.S.Storage.view p (taken_as false p (one_at c.search.self.first_free_cluster)) c.args.file.now c.cover_range.new.file c.raise.new.file c.cover_range.new.self c.raise.new.self covered taken)
+
+pub search-preserved : goal.search-preserved
+search-preserved g c = record {
+  header = c.raise.ensures.header ∙ c.cover_range.ensures.header ∙ c.search.invariant.header;
+  marks = marks_then c.args.file.now.caches c.cover_range.new.file.caches c.raise.new.file.caches (marks_then c.args.file.now.caches c.search.file.caches c.cover_range.new.file.caches c.search.invariant.marks c.cover_range.ensures.marks) c.raise.ensures.marks;
+  order = c.raise.ensures.order ∙ c.cover_range.ensures.order ∙ c.search.invariant.order;
+  entries =
+      let Stays : ℕ → Type 0 = λ k. c.args.end ≤ k * counts_per_block c.args.file.now.header.fields in
+      subst (λ (t : Allocator). KeepsEntries Stays c.args.self.now.reftable t.reftable) (sym c.raise.ensures.same)
+      (entries_then Stays c.args.self.now.reftable c.search.self.reftable c.cover_range.new.self.reftable c.search.invariant.entries
+      (entries_less _ Stays c.search.self.reftable c.cover_range.new.self.reftable (λ k past. other_range c.search.self.first_free_cluster c.args.end (2 ^ c.rb_bits-bits.result) (counts_per_block c.args.file.now.header.fields) k c.search-test.true c.rb_bits-bits.ensures.counts past) c.cover_range.ensures.entries));
+  sound = λ p sound.
+      let before = c.search.invariant.sound p sound in
+      let covered = becomes_then g.S.Storage.view p p c.args.file.now c.search.file c.cover_range.new.file c.search.self c.cover_range.new.self before (c.in_ok-cover_range.ensures.sound p (is_sound_now g.S.Storage.view p p c.args.file.now c.search.file c.search.self before)) in
+      let taken = rw c.if-taken.false at (c.in_ok-taken.ensures.sound p false (is_sound_now g.S.Storage.view p p c.args.file.now c.cover_range.new.file c.cover_range.new.self covered) tt) in
+      becomes_as g.S.Storage.view p p c.args.file.now c.raise.new.file c.raise.new.self _ refl
+      (becomes_then g.S.Storage.view p p c.args.file.now c.cover_range.new.file c.raise.new.file c.cover_range.new.self c.raise.new.self covered taken);
+}
