@@ -80,6 +80,7 @@ fn write_block<S: Storage>(file: &mut ImageFile<S>, mut block: RefBlock) -> Resu
         → HasPlaceFor counts_itself file.old.header.fields allocator.reftable range at → IsBlockOf file.old.header.fields block → block.cluster ≡ Some at
         → WritesBlock S.view (placing counts_itself p at) file.old allocator file.new block at result }
     ensures header { file.new.header ≡ file.old.header }
+    ensures list { file.new.free_list ≡ file.old.free_list }
     ensures cause { IfErr result IsOfTables }
 {
     file.caches.flush_rb(&mut file.storage)?;
@@ -140,6 +141,7 @@ impl Allocator {
         ensures noted { OnOk result (IsTrue file.new.caches.is_changed) }
         ensures sound { (p : Pending) → IsSoundWith S.view self.old p file.old → Allocates S.view p file.old self.new file.new ClusterKind.Metadata count result }
         ensures header { file.new.header ≡ file.old.header }
+        ensures list { file.new.free_list ≡ file.old.free_list }
         ensures nameable { IfOk result (λ p. IsHostCluster file.old.header.fields.cluster_bits p.first_cluster) }
         ensures cause { IfErr result IsOfTables }
     {
@@ -157,6 +159,7 @@ impl Allocator {
         ensures noted { OnOk result (IsTrue file.new.caches.is_changed) }
         ensures sound { (p : Pending) → IsSoundWith S.view self.old p file.old → Allocates S.view p file.old self.new file.new ClusterKind.Data count result }
         ensures header { file.new.header ≡ file.old.header }
+        ensures list { file.new.free_list ≡ file.old.free_list }
         ensures nameable { IfOk result (λ p. IsHostCluster file.old.header.fields.cluster_bits p.first_cluster) }
         ensures cause { IfErr result IsOfTables }
     {
@@ -176,6 +179,7 @@ impl Allocator {
         ensures noted { OnOk result (IsTrue file.new.caches.is_changed) }
         ensures sound { (p : Pending) → IsSoundWith S.view self.old p file.old → MayTake (is_data kind) file.old → Allocates S.view p file.old self.new file.new kind count result }
         ensures header { file.new.header ≡ file.old.header }
+        ensures list { file.new.free_list ≡ file.old.free_list }
         ensures nameable { IfOk result (λ p. IsHostCluster file.old.header.fields.cluster_bits p.first_cluster) }
         ensures cause { IfErr result IsOfTables }
     {
@@ -203,6 +207,7 @@ impl Allocator {
         ensures noted { OnOk result (IsTrue file.new.caches.is_changed) }
         ensures sound { (p : Pending) (is_data : Bool) → IsSoundWith S.view self.old p file.old → MayTake is_data file.old → TakesSomeRun S.view p file.old self.new file.new is_data n result }
         ensures header { file.new.header ≡ file.old.header }
+        ensures list { file.new.free_list ≡ file.old.free_list }
         ensures nameable { IfOk result (λ first. IsHostCluster file.old.header.fields.cluster_bits first) }
         ensures cause { IfErr result IsOfTables }
     {
@@ -231,6 +236,7 @@ impl Allocator {
         ensures noted { IfOk result (λ taken. taken ≡ n → 0 < n → IsTrue file.new.caches.is_changed) }
         ensures sound { (p : Pending) (is_data : Bool) → IsSoundWith S.view self.old p file.old → MayTake is_data file.old → TakesRun S.view p file.old self.new file.new is_data first n result }
         ensures header { file.new.header ≡ file.old.header }
+        ensures list { file.new.free_list ≡ file.old.free_list }
         ensures within { IfOk result (λ taken. taken ≤ n) }
         ensures cause { IfErr result IsOfTables }
     {
@@ -264,6 +270,7 @@ impl Allocator {
         ensures noted { IfOk result (λ taken. IsTrue taken → IsTrue file.new.caches.is_changed) }
         ensures sound { (p : Pending) (is_data : Bool) → IsSoundWith S.view self.old p file.old → MayTake is_data file.old → TakesOne S.view p file.old self.new file.new is_data cluster result }
         ensures header { file.new.header ≡ file.old.header }
+        ensures list { file.new.free_list ≡ file.old.free_list }
         ensures cause { IfErr result IsOfTables }
     {
         self.ensure_block(file, cluster)?;
@@ -287,6 +294,7 @@ impl Allocator {
         ensures reftable { self.new.reftable ≡ self.old.reftable }
         ensures sound { GivesBackRun S.view self.old file.old self.new file.new first n result }
         ensures header { file.new.header ≡ file.old.header }
+        ensures list { file.new.free_list ≡ file.old.free_list }
         ensures cause { IfErr result IsOfTables }
     {
         if n == 0 {
@@ -307,6 +315,7 @@ impl Allocator {
         ensures sound { (p : Pending) (is_data : Bool) → IsSoundWith S.view self.old (taken_as is_data p (one_at cluster)) file.old
             → GivesBack S.view (taken_as is_data p (one_at cluster)) file.old self.new file.new p result }
         ensures header { file.new.header ≡ file.old.header }
+        ensures list { file.new.free_list ≡ file.old.free_list }
         ensures cause { IfErr result IsOfTables }
     {
         match self.try_lower(file, cluster) {
@@ -332,6 +341,7 @@ impl Allocator {
         ensures order { order_of file.new.caches ≡ order_of file.old.caches }
         ensures sound { (p : Pending) → IsSoundWith S.view self.now p file.old → LoadsBlock S.view p file.old self.now file.new range result }
         ensures header { file.new.header ≡ file.old.header }
+        ensures list { file.new.free_list ≡ file.old.free_list }
         ensures cause { IfErr result IsOfTables }
     {
         let Some(offset) = self.reftable.get(range as usize) else {
@@ -356,6 +366,7 @@ impl Allocator {
         ensures same { self.new ≡ self.old }
         ensures sound { (p : Pending) (is_data : Bool) → IsSoundWith S.view self.old p file.old → MayTake is_data file.old → TakesOne S.view p file.old self.new file.new is_data cluster result }
         ensures header { file.new.header ≡ file.old.header }
+        ensures list { file.new.free_list ≡ file.old.free_list }
         ensures cause { IfErr result IsOfTables }
     {
         let bits = file.header.rb_bits();
@@ -378,6 +389,7 @@ impl Allocator {
         ensures sound { (p : Pending) (is_data : Bool) → IsSoundWith S.view self.old (taken_as is_data p (one_at cluster)) file.old
             → LowersOne S.view (taken_as is_data p (one_at cluster)) file.old self.new file.new p result }
         ensures header { file.new.header ≡ file.old.header }
+        ensures list { file.new.free_list ≡ file.old.free_list }
         ensures cause { IfErr result IsOfTables }
     {
         let bits = file.header.rb_bits();
@@ -399,6 +411,7 @@ impl Allocator {
         ensures order { order_of file.new.caches ≡ order_of file.old.caches }
         ensures sound { (p : Pending) → IsSoundWith S.view self.old p file.old → GetsBlock S.view p file.old self.new file.new result }
         ensures header { file.new.header ≡ file.old.header }
+        ensures list { file.new.free_list ≡ file.old.free_list }
         ensures cause { IfErr result IsOfTables }
     {
         let bits = file.header.rb_bits();
@@ -436,6 +449,7 @@ impl Allocator {
         ensures entries { KeepsEntries (λ k. end ≤ k * counts_per_block file.old.header.fields) self.old.reftable self.new.reftable }
         ensures sound { (p : Pending) → IsSoundWith S.view self.old p file.old → TakesLowest S.view p file.old self.new file.new result }
         ensures header { file.new.header ≡ file.old.header }
+        ensures list { file.new.free_list ≡ file.old.free_list }
         ensures cause { IfErr result IsOfTables }
     {
         let bits = file.header.rb_bits();
@@ -463,6 +477,7 @@ impl Allocator {
         ensures entries { KeepsEntries (λ k. k ≢ range) self.old.reftable self.new.reftable }
         ensures sound { (p : Pending) → IsSoundWith S.view self.old p file.old → GetsBlock S.view p file.old self.new file.new result }
         ensures header { file.new.header ≡ file.old.header }
+        ensures list { file.new.free_list ≡ file.old.free_list }
         ensures cause { IfErr result IsOfTables }
     {
         if self.load_block(file, range)?.is_some() {
@@ -496,6 +511,7 @@ impl Allocator {
         ensures sound { (p : Pending) → IsSoundWith S.view self.old (placing counts_itself p at) file.old → HasPlaceFor counts_itself file.old.header.fields self.old.reftable range at
             → PlacesBlock S.view (placing counts_itself p at) file.old self.new file.new p range at result }
         ensures header { file.new.header ≡ file.old.header }
+        ensures list { file.new.free_list ≡ file.old.free_list }
         ensures cause { IfErr result IsOfTables }
     {
         let cluster = HostCluster::new(at);

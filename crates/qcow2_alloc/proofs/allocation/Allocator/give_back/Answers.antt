@@ -15,6 +15,7 @@ returns-then-n-eq0-clause-sound g c = λ p d start b noted. subst (λ (r : Pendi
 pub lowering-init : goal.lowering-init
 lowering-init g c = record {
   header = refl;
+  list = refl;
   marks = marks_none c.args.file.now.caches;
   order = refl;
   reftable = refl;
@@ -40,6 +41,7 @@ returns-in_err-lower-clause-sound g c = λ p d start b noted.
 pub lowering-preserved : goal.lowering-preserved
 lowering-preserved g c = record {
   header = c.lower.ensures.header ∙ c.lowering.invariant.header;
+  list = c.lower.ensures.list ∙ c.lowering.invariant.list;
   marks = marks_then c.args.file.now.caches c.lowering.file.caches c.lower.new.file.caches c.lowering.invariant.marks c.lower.ensures.marks;
   order = c.lower.ensures.order ∙ c.lowering.invariant.order;
   reftable = c.lower.ensures.reftable ∙ c.lowering.invariant.reftable;

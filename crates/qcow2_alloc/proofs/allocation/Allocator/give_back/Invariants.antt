@@ -10,6 +10,7 @@ use Rattle.qcow2_alloc.proofs.allocation.Allocator.give_back.Given as goal
 abbrev pub invariant-lowering : goal.invariant-lowering
 invariant-lowering g l = record {
   header : l.file.header ≡ l.fn.file.header;
+  list : l.file.free_list ≡ l.fn.file.free_list;
   marks : KeepsMarks l.fn.file.caches l.file.caches;
   order : order_of l.file.caches ≡ order_of l.fn.file.caches;
   reftable : l.self.reftable ≡ l.fn.self.reftable;

@@ -21,6 +21,7 @@ returns-then-taken-n-clause-sound g c = λ p d sound may.
 pub search-preserved : goal.search-preserved
 search-preserved g c = record {
   header = c.take_run.ensures.header ∙ c.search.invariant.header;
+  list = c.take_run.ensures.list ∙ c.search.invariant.list;
   limit = c.search.invariant.limit;
   near = c.search.invariant.near;
   marks = marks_then c.args.file.now.caches c.search.file.caches c.take_run.new.file.caches c.search.invariant.marks c.take_run.ensures.marks;

@@ -11,6 +11,7 @@ use Rattle.qcow2_alloc.proofs.allocation.Allocator.lowest_run.Given as goal
 abbrev pub invariant-search : goal.invariant-search
 invariant-search g l = record {
   header : l.file.header ≡ l.fn.file.header;
+  list : l.file.free_list ≡ l.fn.file.free_list;
   limit : l.limit ≡ greatest_offset / 2 ^ l.fn.file.header.fields.cluster_bits + 1;
   near : l.limit ≤ 2 ^ 57;
   marks : KeepsMarks l.fn.file.caches l.file.caches;

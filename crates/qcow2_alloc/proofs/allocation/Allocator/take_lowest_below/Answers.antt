@@ -32,6 +32,7 @@ returns-then-taken-clause-sound g c = λ p sound.
 pub search-preserved : goal.search-preserved
 search-preserved g c = record {
   header = c.raise.ensures.header ∙ c.cover_range.ensures.header ∙ c.search.invariant.header;
+  list = c.raise.ensures.list ∙ c.cover_range.ensures.list ∙ c.search.invariant.list;
   marks = marks_then c.args.file.now.caches c.cover_range.new.file.caches c.raise.new.file.caches (marks_then c.args.file.now.caches c.search.file.caches c.cover_range.new.file.caches c.search.invariant.marks c.cover_range.ensures.marks) c.raise.ensures.marks;
   order = c.raise.ensures.order ∙ c.cover_range.ensures.order ∙ c.search.invariant.order;
   entries =

@@ -11,6 +11,7 @@ use Rattle.qcow2_alloc.proofs.allocation.Allocator.take_lowest_below.Given as go
 abbrev pub invariant-search : goal.invariant-search
 invariant-search g l = record {
   header : l.file.header ≡ l.fn.file.header;
+  list : l.file.free_list ≡ l.fn.file.free_list;
   marks : KeepsMarks l.fn.file.caches l.file.caches;
   order : order_of l.file.caches ≡ order_of l.fn.file.caches;
   entries : KeepsEntries (λ k. l.fn.end ≤ k * counts_per_block l.fn.file.header.fields) l.fn.self.reftable l.self.reftable;

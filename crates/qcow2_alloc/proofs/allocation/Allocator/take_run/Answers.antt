@@ -27,6 +27,7 @@ ends_run view d p first n a b c t t' e before noted fault leaves = elim (cases_l
 pub taking-init : goal.taking-init
 taking-init g c = record {
   header = refl;
+  list = refl;
   marks = marks_none c.args.file.now.caches;
   order = refl;
   noted = λ some. absurd (omega (arith, some));
@@ -78,6 +79,7 @@ returns-in-Err-clause-sound g c = λ p d sound may.
 pub taking-preserved : goal.taking-preserved
 taking-preserved g c = record {
   header = c.take.ensures.header ∙ c.taking.invariant.header;
+  list = c.take.ensures.list ∙ c.taking.invariant.list;
   marks = marks_then c.args.file.now.caches c.taking.file.caches c.take.new.file.caches c.taking.invariant.marks c.take.ensures.marks;
   order = c.take.ensures.order ∙ c.taking.invariant.order;
   noted = λ _. rw c.in-Ok-true.field-0-test at c.in-Ok-true.ensures.noted refl;
