@@ -1,5 +1,5 @@
 -- What the parts of a call do to a sound image.
-use Rattle.std.specs.Prelude.{ℕ, ◌+◌, ◌-◌, ◌≡◌, ◌⊎◌, ◌++◌, true, List, [], ◌∷◌, Option, Some, None}
+use Rattle.std.specs.Prelude.{ℕ, ◌+◌, ◌-◌, ◌≡◌, ◌⊎◌, ◌++◌, true, List, [], ◌∷◌, Option, Some, None, IsSome, Result, Ok, Err}
 use Rattle.image_access.specs.Backing.{BackingView}
 use Rattle.image_access.specs.Moments.{StorageView}
 use Rattle.qcow2_metadata.specs.Entries.{l1_entry, is_copied}
@@ -8,11 +8,12 @@ use Rattle.qcow2_laws.specs.Leads.{Stand, Leads, Endures}
 use Rattle.qcow2_laws.specs.Unseen.{IsUnseen}
 use Rattle.qcow2_alloc.specs.declared.clusters_to_free.ClustersToFreeEntry.{ClustersToFreeEntry}
 use Rattle.qcow2_alloc.specs.declared.error.ImageError.{ImageError}
-use Rattle.qcow2_alloc.specs.ImageFile.{view_in, known_in, stand_in, nothing_given, Breaks}
+use Rattle.qcow2_alloc.specs.ImageFile.{view_in, contents_in, known_in, stand_in, nothing_given, Breaks}
+use Rattle.qcow2_image.specs.Found.{l1_index_of, l2_index_of}
 use Rattle.qcow2_image.specs.declared.image.Qcow2.{Qcow2}
 use Rattle.qcow2_image.specs.declared.prepared.Prepared.{Prepared}
 use Rattle.qcow2_alloc.specs.CacheMarks.{l2_pins, KeepsMarks, SameTables}
-use Rattle.qcow2_alloc.specs.MetadataCaches.{order_of, MapsEntry}
+use Rattle.qcow2_alloc.specs.MetadataCaches.{order_of, l2_at, IsEntryAt, MapsEntry}
 use Rattle.qcow2_image.specs.declared.prepared.NewCluster.{NewCluster}
 use Rattle.qcow2_image.specs.Views.{of_data, of_tables, to_free, pins_of, backing_bytes, IsSoundAt}
 
@@ -74,3 +75,14 @@ module _ {S F : Type 0} where
     -- a part of a call that was refused: all is sound as before but for what is to be freed; or it broke off
     abbrev pub Leaves : Pending → Qcow2 S F → Qcow2 S F → List (Option Prepared) → ImageError → Type 0
     Leaves p old new out e = Keeps p (following p old new) old new out ⊎ Breaks view old.file new.file e
+
+    -- the L2 table of an offset is held in this cluster, and named by an L1 entry that is marked copied
+    pub record HoldsTable (image : Qcow2 S F) (offset table : ℕ) : Type 0 where
+      pub entry : IsEntryAt image.file.header.fields (known_in view image.file) (l1_index_of image.file.header.fields offset) table (l2_index_of image.file.header.fields offset)
+      pub copied : is_copied (l1_entry image.file.header.fields (contents_in view image.file) (l1_index_of image.file.header.fields offset)) ≡ true
+      pub held : IsSome (l2_at image.file.caches table)
+
+    -- a part of a call that sees to it: no guest sees it
+    abbrev pub Ensures : Pending → Qcow2 S F → Qcow2 S F → List (Option Prepared) → ℕ → Result ℕ ImageError → Type 0
+    Ensures p old new out offset (Ok table) = Keeps p (following p old new) old new out × HoldsTable new offset table
+    Ensures p old new out offset (Err e) = Leaves p old new out e
