@@ -17,3 +17,4 @@ pub mod PutParts
 pub mod Committing
 pub mod Entered
 pub mod CommitCalls
+pub mod Moving

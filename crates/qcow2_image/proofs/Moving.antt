@@ -1,0 +1,62 @@
+-- A step on an image's file that no guest sees, as one on the image.
+use Rattle.std.proofs.Common.{◌≡◌, ℕ, ◌/◌, ◌<◌, List, [], Option, Some, None, true, refl, sym, ap, ◌∙◌, subst}
+use Rattle.std.specs.Prelude.{IfSome}
+use Rattle.std.proofs.lemmas.List.{append-nil}
+use Rattle.image_access.specs.Backing.{BackingView}
+use Rattle.image_access.specs.Moments.{StorageView}
+use Rattle.qcow2_metadata.specs.declared.header.HeaderFields.{HeaderFields}
+use Rattle.qcow2_metadata.specs.Header.{cluster_size}
+use Rattle.qcow2_metadata.specs.Entries.{l1_entry}
+use Rattle.qcow2_laws.specs.Guard.{Pending}
+use Rattle.qcow2_alloc.specs.CacheMarks.{l2_pins}
+use Rattle.qcow2_alloc.specs.declared.allocation.Allocator.{Allocator}
+use Rattle.qcow2_alloc.specs.declared.image_file.ImageFile.{ImageFile}
+use Rattle.qcow2_alloc.specs.ImageFile.{contents_in, known_in, Moves, HasReftable}
+use Rattle.qcow2_image.specs.declared.image.Qcow2.{Qcow2}
+use Rattle.qcow2_image.specs.declared.prepared.Prepared.{Prepared}
+use Rattle.qcow2_image.specs.Steps.{Keeps}
+use Rattle.qcow2_image.specs.Views.{cluster_of, HasL1Table, IsReadyWith, IsSoundAt}
+use Rattle.qcow2_image.proofs.Ready.{still_ready}
+
+module _ {S F : Type 0} (view : S → StorageView) (backing : F → BackingView) (old : Qcow2 S F) (out : List (Option Prepared)) (p p' : Pending) (sound : IsSoundAt view backing p old out)
+    (file : ImageFile S) (allocator : Option Allocator) (moves : Moves view p p' old.file file) (reftable : IfSome allocator (λ a. HasReftable view file a.reftable))
+    (pins : (table : ℕ) → l2_pins file.caches table ≡ l2_pins old.file.caches table) (list : file.free_list ≡ old.file.free_list) where
+  abbrev h : HeaderFields
+  h = old.file.header.fields
+
+  header : file.header.fields ≡ h
+  header = moves.unseen.header
+
+  l1_moved : HasL1Table view backing file old.l1_table
+  l1_moved = record {
+    cluster = λ some. sound.l1_table.cluster (subst (λ (x : HeaderFields). 0 < x.l1_entries) header some) ∙ ap (λ (x : HeaderFields). Some (x.l1_offset / cluster_size x)) (sym header);
+    bits = sound.l1_table.bits ∙ ap (λ (x : HeaderFields). x.cluster_bits) (sym header);
+    count = sound.l1_table.count ∙ ap (λ (x : HeaderFields). x.l1_entries) (sym header);
+    entries = λ i. sound.l1_table.entries i ∙ sym (moves.l1_table i) ∙ ap (λ x. l1_entry x (contents_in view file) i) (sym header);
+  }
+
+  ready_moved : (k : ℕ) (q : Prepared) → IsReadyWith h (known_in view old.file) (contents_in view old.file) q q.table → IsReadyWith file.header.fields (known_in view file) (contents_in view file) q q.table
+  ready_moved k q ready =
+      subst (λ x. IsReadyWith x (known_in view file) (contents_in view file) q q.table) (sym header)
+      (still_ready h (known_in view old.file) (contents_in view old.file) (known_in view file) (contents_in view file) q (moves.unseen.covers (cluster_of h q)) sound.file.caches.kept.kept.guarded.same_top.l1
+      (λ i. subst (λ x. l1_entry x (contents_in view file) i ≡ l1_entry x (known_in view file) i) header (moves.sound.caches.kept.kept.guarded.same_top.l1 i)) (λ i copied. moves.l1_table i) q.table ready)
+
+  pub file_moved : Keeps view backing p p' old (record old { file = file; allocator = allocator }) out
+  file_moved = record {
+    sound = record {
+      works = sound.works;
+      file = moves.sound;
+      l1_table = l1_moved;
+      reftable = reftable;
+      below = sound.below;
+      ready = λ k q at. let r = sound.ready k q at in record { own = r.own; mapped = ready_moved k q r.mapped };
+      pinned = λ table. pins table ∙ sound.pinned table;
+      once = sound.once;
+    };
+    leads = moves.leads;
+    since = moves.since;
+    unseen = moves.unseen;
+    copied = λ i copied. moves.l1_table i;
+    below = refl;
+    list = record { more = []; is = list ∙ sym (append-nil old.file.free_list) };
+  }
