@@ -46,16 +46,16 @@ same_freed p q rest spent dropped = ap (λ f. record p { spent = f }) spent ∙ 
 
 module _ {S F : Type 0} (view : S → StorageView) (backing : F → BackingView) (out : List (Option Prepared)) where
   -- one part after another
-  module _ (a b c : Qcow2 S F) (p p' p'' : Pending) (held : (k : ℕ) → 0 < p.held k → 0 < p'.held k) where
-    copied_then : b.file.header.fields ≡ a.file.header.fields → KeepsCopied (stand_in view a.file p) (stand_in view b.file p') → KeepsCopied (stand_in view b.file p') (stand_in view c.file p'')
+  module _ (a b c : Qcow2 S F) (p p' p'' : Pending) where
+    pub copied_then : b.file.header.fields ≡ a.file.header.fields → KeepsCopied (stand_in view a.file p) (stand_in view b.file p') → KeepsCopied (stand_in view b.file p') (stand_in view c.file p'')
         → KeepsCopied (stand_in view a.file p) (stand_in view c.file p'')
     copied_then header first then i is =
         let one = first i is in
         let moved : is_copied (l1_entry b.file.header.fields (stand_in view b.file p').base i) ≡ true = ap (λ h. is_copied (l1_entry h (stand_in view b.file p').base i)) header ∙ ap is_copied one ∙ is in
         subst (λ (h : HeaderFields). l1_entry h (stand_in view c.file p'').base i ≡ l1_entry h (stand_in view b.file p').base i) header (then i moved) ∙ one
 
-    pub keeps_then : Keeps view backing p p' a b out → Keeps view backing p' p'' b c out → Keeps view backing p p'' a c out
-    keeps_then first then = record {
+    pub keeps_then : ((k : ℕ) → 0 < p.held k → 0 < p'.held k) → Keeps view backing p p' a b out → Keeps view backing p' p'' b c out → Keeps view backing p p'' a c out
+    keeps_then held first then = record {
       sound = then.sound;
       leads = leads_then (stand_in view a.file p) (stand_in view b.file p') (stand_in view c.file p'') nothing_given nothing_given [] [] first.leads then.leads;
       since = steps_endure (view_in view a.file) (view_in view b.file) (view_in view c.file) (stand_in view a.file p) (stand_in view b.file p') nothing_given nothing_given [] [] refl first.since first.leads then.since;

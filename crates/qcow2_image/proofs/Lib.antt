@@ -18,3 +18,5 @@ pub mod Committing
 pub mod Entered
 pub mod CommitCalls
 pub mod Moving
+pub mod Going
+pub mod Copied

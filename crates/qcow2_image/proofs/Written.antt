@@ -11,9 +11,10 @@ use Rattle.qcow2_metadata.specs.Bytes.{Bytes, byte_at}
 use Rattle.qcow2_metadata.specs.declared.header.HeaderFields.{HeaderFields}
 use Rattle.qcow2_metadata.specs.Header.{cluster_size}
 use Rattle.qcow2_metadata.specs.Named.{named_for_tables}
-use Rattle.qcow2_laws.specs.Guard.{SameIn, SameCovers}
-use Rattle.qcow2_laws.specs.Leads.{Leads}
+use Rattle.qcow2_laws.specs.Guard.{Pending, SameIn, SameCovers}
+use Rattle.qcow2_laws.specs.Leads.{Endures, Leads}
 use Rattle.qcow2_laws.specs.Stops.{Gift, IsKeptAt, more}
+use Rattle.qcow2_metadata.specs.Entries.{l1_entry}
 use Rattle.qcow2_laws.specs.Tops.{IsSameBut, WritesAt}
 use Rattle.qcow2_laws.proofs.Beside.{overwritten_but}
 use Rattle.qcow2_laws.proofs.Caches.{unnamed_free_l2, unnamed_free_rb}
@@ -30,7 +31,7 @@ use Rattle.qcow2_image.specs.Views.{cluster_of, pending_in, IsSoundAt}
 use Rattle.qcow2_image.proofs.Ready.{still_ready}
 use Rattle.qcow2_image.proofs.Stepped.{Steps}
 
-module _ {S F : Type 0} (view : S → StorageView) (backing : F → BackingView) (old : Qcow2 S F) (out : List (Option Prepared)) (sound : IsSoundAt view backing (pending_in view backing old out) old out)
+module _ {S F : Type 0} {p : Pending} (view : S → StorageView) (backing : F → BackingView) (old : Qcow2 S F) (out : List (Option Prepared)) (sound : IsSoundAt view backing p old out)
     (storage : ImageStorage S) (host : ℕ) (bytes : List ℕ) (is : (view (storage_of storage)).contents ≡ overwritten (view_in view old.file).contents host bytes) where
   abbrev pub written : Qcow2 S F
   written = record old { file = record old.file { storage = storage } }
@@ -73,8 +74,8 @@ module _ {S F : Type 0} (view : S → StorageView) (backing : F → BackingView)
       agree = still_agree (cluster_size h) (l2_tables old.file.caches) (refblocks old.file.caches) (contents_in view old.file) (contents_in view written.file) (λ o. elim (free_at o) [
         | inl same ↦ inl same
         | inr none ↦ inr (
-          unnamed_free_l2 h (order_of old.file.caches) (pending_in view backing old out) (l2_tables old.file.caches) (refblocks old.file.caches) (contents_in view old.file) sound.file.caches.kept.kept (o / cluster_size h) none o refl,
-          unnamed_free_rb h (order_of old.file.caches) (pending_in view backing old out) (l2_tables old.file.caches) (refblocks old.file.caches) (contents_in view old.file) sound.file.caches.kept.kept sound.file.settled
+          unnamed_free_l2 h (order_of old.file.caches) p (l2_tables old.file.caches) (refblocks old.file.caches) (contents_in view old.file) sound.file.caches.kept.kept (o / cluster_size h) none o refl,
+          unnamed_free_rb h (order_of old.file.caches) p (l2_tables old.file.caches) (refblocks old.file.caches) (contents_in view old.file) sound.file.caches.kept.kept sound.file.settled
               (o / cluster_size h) none o refl,
         )
       ]);
@@ -82,7 +83,7 @@ module _ {S F : Type 0} (view : S → StorageView) (backing : F → BackingView)
 
     -- a step that keeps what stands for each guest cluster
     module _ (given : Bytes → List Gift) (honest : (view (storage_of storage)).is_honest) (time : Passing (view_in view old.file) (view (storage_of storage)) (λ c. c ≡ (view (storage_of storage)).contents))
-        (leads : Leads (stand_in view old.file (pending_in view backing old out)) (stand_in view written.file (pending_in view backing old out)) given [])
+        (leads : Leads (stand_in view old.file p) (stand_in view written.file p) given [])
         (covers : SameCovers h (known_in view old.file) (known_in view written.file)) where
       reftable_written : (a : Option Allocator) → IfSome a (λ x. HasReftable view old.file x.reftable) → IfSome a (λ x. HasReftable view written.file x.reftable)
       reftable_written None has = tt
@@ -91,12 +92,11 @@ module _ {S F : Type 0} (view : S → StorageView) (backing : F → BackingView)
         bits = has.bits;
         count = has.count;
         entries = λ k. has.entries k
-            ∙ (top_beside h (pending_in view backing old out) (pending_in view backing old out) old.file.caches (contents_in view old.file) (contents_in view written.file) sound.file.caches sound.file.settled tables_stay).reftable k;
+            ∙ (top_beside h p p old.file.caches (contents_in view old.file) (contents_in view written.file) sound.file.caches sound.file.settled tables_stay).reftable k;
       }
 
-      sound_written : IsSoundAt view backing (pending_in view backing old out) written out
+      pub sound_written : IsSoundAt view backing p written out
       sound_written =
-          let p = pending_in view backing old out in
           let top = top_beside h p p old.file.caches (contents_in view old.file) (contents_in view written.file) sound.file.caches sound.file.settled tables_stay in
           record {
             works = sound.works;
@@ -118,16 +118,29 @@ module _ {S F : Type 0} (view : S → StorageView) (backing : F → BackingView)
             once = sound.once;
           }
 
-      pub steps_written : Steps view backing old written out out given (pending_in view backing old out)
-      steps_written = record {
-        sound = sound_written;
-        only = record { held = λ k. refl; fresh = λ k. refl; spent = λ k. refl; dropped = λ k. refl };
-        leads = leads;
-        since = record {
-          moments = passes_if _ (λ c now b m ok known_ok. subst (λ l. IsKeptAt b (more (given b) [] m) (byte_at l)) (sym now) (leads.base b m ok known_ok)) time;
-          contents = λ b m ok known_ok. leads.base b m ok known_ok;
-        };
-        header = refl;
-        below = refl;
-        surplus = refl;
+      pub since_written : Endures (view_in view old.file) (view_in view written.file) (known_in view old.file) given []
+      since_written = record {
+        moments = passes_if _ (λ c now b m ok known_ok. subst (λ l. IsKeptAt b (more (given b) [] m) (byte_at l)) (sym now) (leads.base b m ok known_ok)) time;
+        contents = λ b m ok known_ok. leads.base b m ok known_ok;
       }
+
+      pub same_l1_written : (i : ℕ) → l1_entry h (contents_in view written.file) i ≡ l1_entry h (contents_in view old.file) i
+      same_l1_written i = sym ((top_beside h p p old.file.caches (contents_in view old.file) (contents_in view written.file) sound.file.caches sound.file.settled tables_stay).l1 i)
+
+-- so where nothing but what mappings hold and what is to be freed is pending
+pub steps_written : {S F : Type 0} (view : S → StorageView) (backing : F → BackingView) (old : Qcow2 S F) (out : List (Option Prepared)) (sound : IsSoundAt view backing (pending_in view backing old out) old out)
+    (storage : ImageStorage S) (host : ℕ) (bytes : List ℕ) (is : (view (storage_of storage)).contents ≡ overwritten (view_in view old.file).contents host bytes)
+    (free : (i : ℕ) → i < length bytes → named_for_tables old.file.header.fields (contents_in view old.file) ((host + i) / cluster_size old.file.header.fields) ≡ 0)
+    (given : Bytes → List Gift) (honest : (view (storage_of storage)).is_honest) (time : Passing (view_in view old.file) (view (storage_of storage)) (λ c. c ≡ (view (storage_of storage)).contents))
+    (leads : Leads (stand_in view old.file (pending_in view backing old out)) (stand_in view (written view backing old out sound storage host bytes is).file (pending_in view backing old out)) given [])
+    (covers : SameCovers old.file.header.fields (known_in view old.file) (known_in view (written view backing old out sound storage host bytes is).file))
+    → Steps view backing old (written view backing old out sound storage host bytes is) out out given (pending_in view backing old out)
+steps_written view backing old out sound storage host bytes is free given honest time leads covers = record {
+  sound = sound_written view backing old out sound storage host bytes is free given honest time leads covers;
+  only = record { held = λ k. refl; fresh = λ k. refl; spent = λ k. refl; dropped = λ k. refl };
+  leads = leads;
+  since = since_written view backing old out sound storage host bytes is free given honest time leads covers;
+  header = refl;
+  below = refl;
+  surplus = refl;
+}

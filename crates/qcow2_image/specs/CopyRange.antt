@@ -1,6 +1,11 @@
 -- Which part of a new cluster gets the bytes that were there before.
-use Rattle.std.specs.Prelude.{ℕ, ◌+◌, ◌-◌, ◌*◌, ◌/◌, ◌==◌, nat_lt, min, Option, Some, None, if◌then◌else◌}
+use Rattle.std.specs.Prelude.{ℕ, ◌+◌, ◌-◌, ◌*◌, ◌/◌, ◌==◌, nat_lt, min, Bool, true, false, Option, Some, None, if◌then◌else◌}
 use Rattle.qcow2_image.specs.declared.copy_range.CopyRange.{CopyRange}
+
+-- what is announced of a cluster, of a range that begins at a place within it
+abbrev pub announced_range_of : ℕ → ℕ → ℕ → Bool → Option CopyRange
+announced_range_of cs start length true = Some (record { start = start; end = start + min length (cs - start) })
+announced_range_of cs start length false = None
 
 -- The whole cluster; but where the part that is announced as overwritten begins at its start, what follows it, and where it ends at its end, what stands before it.
 abbrev pub uncut_copy_range : ℕ → Option CopyRange → CopyRange

@@ -1,5 +1,6 @@
 -- What the parts of a call do to a sound image.
-use Rattle.std.specs.Prelude.{ℕ, ◌+◌, ◌-◌, ◌≡◌, ◌⊎◌, ◌++◌, true, List, [], ◌∷◌, Option, Some, None, IsSome, Result, Ok, Err}
+use Rattle.qcow2_metadata.specs.Bytes.{is_within}
+use Rattle.std.specs.Prelude.{ℕ, ◌+◌, ◌-◌, ◌*◌, ◌%◌, ◌&&◌, min, Bool, false, ◌/◌, ◌<◌, ◌≤◌, ◌≡◌, ◌⊎◌, ◌++◌, true, List, [], ◌∷◌, Option, Some, None, IsSome, Result, Ok, Err}
 use Rattle.image_access.specs.Backing.{BackingView}
 use Rattle.image_access.specs.Moments.{StorageView}
 use Rattle.qcow2_metadata.specs.Entries.{l1_entry, is_copied}
@@ -8,6 +9,7 @@ use Rattle.qcow2_laws.specs.Leads.{Stand, Leads, Endures}
 use Rattle.qcow2_laws.specs.Unseen.{IsUnseen}
 use Rattle.qcow2_alloc.specs.declared.clusters_to_free.ClustersToFreeEntry.{ClustersToFreeEntry}
 use Rattle.qcow2_alloc.specs.declared.error.ImageError.{ImageError}
+use Rattle.qcow2_alloc.specs.declared.image_file.ImageFile.{ImageFile}
 use Rattle.qcow2_alloc.specs.ImageFile.{view_in, contents_in, known_in, stand_in, nothing_given, Breaks}
 use Rattle.qcow2_image.specs.Found.{l1_index_of, l2_index_of}
 use Rattle.qcow2_image.specs.declared.image.Qcow2.{Qcow2}
@@ -15,11 +17,22 @@ use Rattle.qcow2_image.specs.declared.prepared.Prepared.{Prepared}
 use Rattle.qcow2_alloc.specs.CacheMarks.{l2_pins, KeepsMarks, SameTables}
 use Rattle.qcow2_alloc.specs.MetadataCaches.{order_of, l2_at, IsEntryAt, MapsEntry}
 use Rattle.qcow2_image.specs.declared.prepared.NewCluster.{NewCluster}
-use Rattle.qcow2_image.specs.Views.{of_data, of_tables, to_free, pins_of, backing_bytes, IsSoundAt}
+use Rattle.qcow2_laws.specs.Guard.{SameCovers}
+use Rattle.qcow2_laws.specs.Views.{guest_of}
+use Rattle.qcow2_metadata.specs.Header.{cluster_size}
+use Rattle.qcow2_image.specs.Views.{of_data, of_tables, to_free, held_by, over_all, pins_of, backing_bytes, seen, IsSoundAt}
 
 -- an L2 table that is marked copied stays where it is
 abbrev pub KeepsCopied : Stand → Stand → Type 0
 KeepsCopied old new = (i : ℕ) → is_copied (l1_entry old.header old.base i) ≡ true → l1_entry old.header new.base i ≡ l1_entry old.header old.base i
+
+-- a byte of the cluster of an offset is announced as overwritten
+abbrev pub is_announced : ℕ → ℕ → ℕ → Bool → ℕ → Bool
+is_announced size offset length overwrite i = overwrite && is_within (offset % size) (min length (size - offset % size)) i
+
+-- so many bytes stand in a file from a place on
+abbrev pub AreThere : {S : Type 0} → (S → StorageView) → ImageFile S → ℕ → ℕ → (ℕ → ℕ) → Type 0
+AreThere view file at n values = (i : ℕ) → i < n → contents_in view file (at + i) ≡ values i
 
 -- what becomes of the cluster of a mapping that is dropped
 abbrev pub freed_by : Option NewCluster → List ClustersToFreeEntry
@@ -86,3 +99,35 @@ module _ {S F : Type 0} where
     abbrev pub Ensures : Pending → Qcow2 S F → Qcow2 S F → List (Option Prepared) → ℕ → Result ℕ ImageError → Type 0
     Ensures p old new out offset (Ok table) = Keeps p (following p old new) old new out × HoldsTable new offset table
     Ensures p old new out offset (Err e) = Leaves p old new out e
+
+    -- A part that the guest doesn't see, who may see clusters written that none of these mappings has. All is sound again, from what was pending to what is.
+    pub record Goes (p p' : Pending) (old new : Qcow2 S F) (out : List (Option Prepared)) : Type 0 where
+      pub sound : IsSoundAt view backing p' new out
+      pub leads : Leads (stand_in view old.file p) (stand_in view new.file p') nothing_given []
+      pub since : Endures (view_in view old.file) (view_in view new.file) (known_in view old.file) nothing_given []
+      pub header : new.file.header.fields ≡ old.file.header.fields
+      pub covers : SameCovers old.file.header.fields (known_in view old.file) (known_in view new.file)
+      pub copied : KeepsCopied (stand_in view old.file p) (stand_in view new.file p')
+      pub below : backing_bytes view backing new.backing ≡ backing_bytes view backing old.backing
+      pub list : ListGrows old new
+      pub seen : guest_of (seen view backing new out) ≡ guest_of (seen view backing old out)
+
+    -- so does a part that was refused, but for what is to be freed; or it broke off
+    abbrev pub GoesBack : Pending → Qcow2 S F → Qcow2 S F → List (Option Prepared) → ImageError → Type 0
+    GoesBack p old new out e = Goes p (following p old new) old new out ⊎ Breaks view old.file new.file e
+
+    -- what mappings hold is pending
+    abbrev pub HoldsAll : Pending → List (Option Prepared) → Type 0
+    HoldsAll p out = (k : ℕ) → over_all held_by out k ≤ p.held k
+
+    -- a range of the file lies in a cluster that is held, and that no mapping has yet
+    pub record IsOwn (p : Pending) (image : Qcow2 S F) (out : List (Option Prepared)) (cluster at n : ℕ) : Type 0 where
+      pub held : 0 < p.held cluster
+      pub unused : over_all held_by out cluster ≡ 0
+      pub inside : (i : ℕ) → i < n → (at + i) / cluster_size image.file.header.fields ≡ cluster
+
+    -- A new cluster has what the disk below has for the guest cluster of an offset, but where it is announced as overwritten.
+    abbrev pub IsFilled : Qcow2 S F → Qcow2 S F → ℕ → ℕ → ℕ → Bool → Type 0
+    IsFilled old new cluster offset length overwrite =
+        let size = cluster_size old.file.header.fields in
+        (i : ℕ) → i < size → is_announced size offset length overwrite i ≡ false → contents_in view new.file (cluster * size + i) ≡ backing_bytes view backing old.backing (offset - offset % size + i)

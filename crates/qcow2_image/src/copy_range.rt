@@ -1,12 +1,30 @@
 //! What is copied into a new cluster.
 ghost use Rattle.std.specs.Prelude.{◌≡◌, ◌+◌, ◌-◌, ◌*◌, ◌/◌, ◌<◌, ◌≤◌, ◌^◌, IfSome};
-ghost use Rattle.qcow2_image.specs.CopyRange.{copy_range_of, uncut_copy_range};
+ghost use Rattle.qcow2_image.specs.CopyRange.{announced_range_of, copy_range_of, uncut_copy_range};
 
 /// A part of a cluster, in bytes from its start.
 #[derive(Clone, Copy, Debug, PartialEq, Eq)]
 pub struct CopyRange {
     pub start: u64,
     pub end: u64,
+}
+
+/// The part of a cluster that is announced as overwritten, of a range that begins at `start` within it.
+pub(crate) fn announced_range(
+    cluster_size: u64,
+    start: u64,
+    length: u64,
+    overwrite: bool,
+) -> Option<CopyRange>
+    requires { start < cluster_size }
+    ensures value { result ≡ announced_range_of cluster_size start length overwrite }
+    ensures within { IfSome result (λ r. (r.start ≤ r.end) × (r.end ≤ cluster_size)) }
+{
+    if !overwrite {
+        return None;
+    }
+    let end = start + length.min(cluster_size - start);
+    Some(CopyRange { start, end })
 }
 
 fn uncut(cluster_size: u64, announced: Option<CopyRange>) -> CopyRange

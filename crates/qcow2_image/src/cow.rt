@@ -1,11 +1,17 @@
 //! Filling a new cluster with the bytes that the guest saw there before.
-ghost use Rattle.std.specs.Prelude.{◌≡◌, IfErr};
+ghost use Rattle.std.specs.Prelude.{◌≡◌, ◌+◌, ◌<◌, ℕ, List, Option, replicate, IfOk, IfErr};
+ghost use Rattle.qcow2_laws.specs.Guard.{Pending};
+ghost use Rattle.qcow2_alloc.specs.ImageFile.{view_in};
+ghost use Rattle.qcow2_image.specs.Parts.{WritesBytes};
+ghost use Rattle.qcow2_image.specs.Steps.{AreThere, Goes, HoldsAll, IsFilled, IsOwn};
+ghost use Rattle.qcow2_image.specs.Views.{IsHonestBacking, IsSoundAt, backing_bytes, held_by, over_all};
+ghost use Rattle.qcow2_image.specs.declared.prepared.Prepared.{Prepared};
 ghost use Rattle.qcow2_image.specs.Image.{Stays};
 ghost use Rattle.qcow2_image.specs.Refusals.{IsMet};
 ghost use Rattle.qcow2_metadata.specs.L2Mapping.{IsHostCluster};
 
 use crate::Qcow2;
-use crate::copy_range::{CopyRange, copy_range};
+use crate::copy_range::{announced_range, copy_range};
 use image_access::{BackingDisk, Storage, WrappedFormat};
 use qcow2_alloc::{ImageError, WriteKind};
 use qcow2_metadata::{GuestOffset, HostCluster};
@@ -24,21 +30,18 @@ impl<S: Storage, F: WrappedFormat<S>> Qcow2<S, F> {
         ensures value { self.new.file.header ≡ self.old.file.header }
         ensures stays { Stays self.old self.new }
         ensures cause { IfErr result IsMet }
+        ensures goes { (p : Pending) (out : List (Option Prepared)) → IsSoundAt S.view F.backing p self.old out → HoldsAll S.view F.backing p out → 0 < p.held cluster → over_all held_by out cluster ≡ 0 → Goes S.view F.backing p p self.old self.new out }
+        ensures list { self.new.file.free_list ≡ self.old.file.free_list }
+        ensures fills { (view_in S.view self.old.file).is_honest → IsHonestBacking S.view F.backing self.old.backing → IfOk result (λ done. IsFilled S.view F.backing self.old self.new cluster offset length overwrite) }
     {
         let bits = self.file.header.cluster_bits();
         let size = self.file.header.cluster_size();
         let start = GuestOffset::new(offset).in_cluster_offset(bits);
-        let announced = if overwrite {
-            let end = length.min(size - start) + start;
-            Some(CopyRange { start, end })
-        } else {
-            None
-        };
         let alignment = self.file.storage.req_align() as u64;
+        let announced = announced_range(size, start, length, overwrite);
         let Some(range) = copy_range(size, alignment, announced) else {
             return Ok(());
         };
-        self.file.storage.will_write(WriteKind::Data);
         let at = cluster.offset(bits).value() + range.start;
         let Some(guest) = (offset - start).checked_add(range.start) else {
             return Err(ImageError::Overflow);
@@ -51,14 +54,26 @@ impl<S: Storage, F: WrappedFormat<S>> Qcow2<S, F> {
         ensures value { self.new.file.header ≡ self.old.file.header }
         ensures stays { Stays self.old self.new }
         ensures cause { IfErr result IsMet }
+        ensures goes { (p : Pending) (out : List (Option Prepared)) (cluster : ℕ) → IsSoundAt S.view F.backing p self.old out → HoldsAll S.view F.backing p out → IsOwn S.view F.backing p self.old out cluster at length → Goes S.view F.backing p p self.old self.new out }
+        ensures list { self.new.file.free_list ≡ self.old.file.free_list }
+        ensures copies { (view_in S.view self.old.file).is_honest → IsHonestBacking S.view F.backing self.old.backing → IfOk result (λ done. AreThere S.view self.new.file at length (λ i. backing_bytes S.view F.backing self.old.backing (guest + i))) }
     {
-        let Some(backing) = &mut self.backing else {
-            self.file.storage.write_zeroes(at, length)?;
-            return Ok(());
-        };
+        if self.backing.is_none() {
+            return self.write_zeros(at, length);
+        }
         let mut bytes = vec![in self.file.alloc; 0; length as usize]?;
-        backing.read(guest, &mut bytes)?;
-        self.file.storage.write(at, &bytes)?;
+        let bytes = bytes.as_mut_slice();
+        self.read_backing(guest, bytes)?;
+        self.write_data(at, bytes)
+    }
+
+    fn write_zeros(&mut self, at: u64, length: u64) -> Result<(), ImageError>
+        ensures stays { Stays self.old self.new }
+        ensures cause { IfErr result IsMet }
+        ensures written { WritesBytes S.view self.old self.new at (replicate length 0) result }
+    {
+        self.file.storage.will_write(WriteKind::Data);
+        self.file.storage.write_zeroes(at, length)?;
         Ok(())
     }
 }

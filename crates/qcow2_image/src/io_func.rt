@@ -132,7 +132,7 @@ impl<S: Storage, F: WrappedFormat<S>> Qcow2<S, F> {
         }
     }
 
-    fn read_backing(&mut self, offset: u64, bytes: &mut [u8]) -> Result<(), ImageError>
+    pub(crate) fn read_backing(&mut self, offset: u64, bytes: &mut [u8]) -> Result<(), ImageError>
         ensures stays { Stays self.old self.new }
         ensures cause { IfErr result IsMet }
         ensures file { self.new.file ≡ self.old.file }
@@ -225,7 +225,7 @@ impl<S: Storage, F: WrappedFormat<S>> Qcow2<S, F> {
         self.check_mapped(guest, length, &wanted)
     }
 
-    fn write_data(&mut self, host: u64, bytes: &[u8]) -> Result<(), ImageError>
+    pub(crate) fn write_data(&mut self, host: u64, bytes: &[u8]) -> Result<(), ImageError>
         ensures stays { Stays self.old self.new }
         ensures cause { IfErr result IsMet }
         ensures written { WritesBytes S.view self.old self.new host bytes.now result }
