@@ -41,7 +41,7 @@ module _ (v : View) where
     fault = λ is. absurd (none is);
   }
 
-same_freed : (p q : Pending) → q ≡ record p { spent = q.spent; dropped = q.dropped } → p.spent ≡ q.spent → p.dropped ≡ q.dropped → p ≡ q
+pub same_freed : (p q : Pending) → q ≡ record p { spent = q.spent; dropped = q.dropped } → p.spent ≡ q.spent → p.dropped ≡ q.dropped → p ≡ q
 same_freed p q rest spent dropped = ap (λ f. record p { spent = f }) spent ∙ ap (λ f. record p { spent = q.spent; dropped = f }) dropped ∙ sym rest
 
 module _ {S F : Type 0} (view : S → StorageView) (backing : F → BackingView) (out : List (Option Prepared)) where

@@ -48,7 +48,7 @@ sound_while h p q caches base guarded sound =
       kept = record { kept = record { guarded = guarded; l2_apart = k.l2_apart; rb_apart = k.rb_apart; l2_stand = k.l2_stand; rb_stand = k.rb_stand }; l2_loaded = sound.kept.l2_loaded; rb_loaded = sound.kept.rb_loaded };
     }
 
-run_few : (first n k : ℕ) → run_at first n k ≤ 1
+pub run_few : (first n k : ℕ) → run_at first n k ≤ 1
 run_few first n k = elim (nat_le first k && nat_lt k (first + n)) as (λ (b : Bool). cond b 1 0 ≤ 1) [ true ↦ omega arith | false ↦ omega arith ]
 
 -- a mapping holds each cluster at most once

@@ -20,3 +20,4 @@ pub mod CommitCalls
 pub mod Moving
 pub mod Going
 pub mod Copied
+pub mod Gaining

@@ -20,7 +20,9 @@ use Rattle.qcow2_image.specs.declared.prepared.NewCluster.{NewCluster}
 use Rattle.qcow2_laws.specs.Guard.{SameCovers}
 use Rattle.qcow2_laws.specs.Views.{guest_of}
 use Rattle.qcow2_metadata.specs.Header.{cluster_size}
-use Rattle.qcow2_image.specs.Views.{of_data, of_tables, to_free, held_by, over_all, pins_of, backing_bytes, seen, IsSoundAt}
+use Rattle.qcow2_laws.specs.Changes.{with_held}
+use Rattle.qcow2_alloc.specs.declared.clusters_to_free.ClusterKind.TheVariants as Kind
+use Rattle.qcow2_image.specs.Views.{run_of, of_data, of_tables, to_free, held_by, over_all, pins_of, backing_bytes, seen, IsSoundAt}
 
 -- an L2 table that is marked copied stays where it is
 abbrev pub KeepsCopied : Stand → Stand → Type 0
@@ -131,3 +133,20 @@ module _ {S F : Type 0} where
     IsFilled old new cluster offset length overwrite =
         let size = cluster_size old.file.header.fields in
         (i : ℕ) → i < size → is_announced size offset length overwrite i ≡ false → contents_in view new.file (cluster * size + i) ≡ backing_bytes view backing old.backing (offset - offset % size + i)
+
+    -- a cluster is taken for data
+    abbrev pub TakesData : Pending → Qcow2 S F → Qcow2 S F → List (Option Prepared) → Result ClustersToFreeEntry ImageError → Type 0
+    TakesData p old new out (Ok n) = (n.count ≡ 1) × (n.kind ≡ Kind.Data) × Goes p (with_held p (run_of n)) old new out
+    TakesData p old new out (Err e) = GoesBack p old new out e
+
+    -- a new cluster that no mapping has yet
+    pub record IsGained (p : Pending) (old new : Qcow2 S F) (out : List (Option Prepared)) (offset length : ℕ) (overwrite : Bool) (n : ClustersToFreeEntry) : Type 0 where
+      pub one : n.count ≡ 1
+      pub kind : n.kind ≡ Kind.Data
+      pub unused : over_all held_by out n.first_cluster ≡ 0
+      pub goes : Goes p (with_held p (run_of n)) old new out
+      pub filled : IsFilled old new n.first_cluster offset length overwrite
+
+    abbrev pub Gains : Pending → Qcow2 S F → Qcow2 S F → List (Option Prepared) → ℕ → ℕ → Bool → Result ClustersToFreeEntry ImageError → Type 0
+    Gains p old new out offset length overwrite (Ok n) = IsGained p old new out offset length overwrite n
+    Gains p old new out offset length overwrite (Err e) = GoesBack p old new out e

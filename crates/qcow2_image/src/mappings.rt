@@ -1,5 +1,5 @@
 //! What a guest range is mapped to, and making it writable.
-ghost use Rattle.std.specs.Prelude.{◌↔◌, ℕ, List, Option, is_some, ◌≡◌, ◌≢◌, ◌+◌, ◌*◌, ◌^◌, ◌<◌, ◌≤◌, [], IfOk, IfErr, IfSome, OnOk, IsOk, IsNone, IsSome, IsTrue, MatchOption, Ok, Err, None, false};
+ghost use Rattle.std.specs.Prelude.{◌↔◌, ℕ, List, Option, is_some, ◌≡◌, ◌≢◌, ◌+◌, ◌*◌, ◌^◌, ◌<◌, ◌≤◌, [], ◌∷◌, IfOk, IfErr, IfSome, OnOk, IsOk, IsNone, IsSome, IsTrue, MatchOption, Ok, Err, None, false};
 ghost use Rattle.qcow2_metadata.specs.L2Mapping.{IsHostCluster, IsInReach};
 ghost use Rattle.qcow2_metadata.specs.EntryTable.{entry_count};
 ghost use Rattle.qcow2_image.specs.FirstCluster.{IsNear};
@@ -14,7 +14,7 @@ ghost use Rattle.qcow2_image.specs.Parts.{Enters};
 ghost use Rattle.qcow2_alloc.specs.CacheMarks.{l2_pins};
 ghost use Rattle.qcow2_laws.specs.Alike.{IsAlike};
 ghost use Rattle.qcow2_image.specs.Found.{mapping_of, IsRunBehind, NamesTable, IsRunFrom, IsFound, kind_at, rest_of_table, l1_index_of, l2_index_of};
-ghost use Rattle.qcow2_image.specs.Steps.{Keeps, EntersCluster, EntersNew, FreesLater, Unpins, freed_by};
+ghost use Rattle.qcow2_image.specs.Steps.{Ensures, Gains, HoldsAll, Keeps, TakesData, EntersCluster, EntersNew, FreesLater, Unpins, freed_by};
 ghost use Rattle.qcow2_image.specs.Views.{HasL1Table, IsSoundAt, seen};
 ghost use Rattle.qcow2_image.specs.Refusals.{unusable, refuses_to_prepare, passes as passes_size, IsMet, Marks};
 ghost use Rattle.qcow2_image.specs.declared.prepared.CommitRefused.TheVariants.{Kept};
@@ -403,18 +403,39 @@ impl<S: Storage, F: WrappedFormat<S>> Qcow2<S, F> {
         ensures header { self.new.file.header ≡ self.old.file.header }
         ensures stays { Stays self.old self.new }
         ensures cause { IfErr result IsMet }
+        ensures gains { (p : Pending) (out : List (Option Prepared)) → IsSoundAt S.view F.backing p self.old out → HoldsAll S.view F.backing p out → Gains S.view F.backing p self.old self.new out offset length overwrite result }
+    {
+        let pending = self.take_data()?;
+        match self.fill_cluster(pending.cluster(), offset, length, overwrite) {
+            Ok(()) => Ok(pending),
+            Err(refusal) => {
+                self.hand_back(pending);
+                Err(refusal)
+            }
+        }
+    }
+
+    // Takes a cluster for data.
+    fn take_data(&mut self) -> Result<PendingClusters, ImageError>
+        requires writable { IsTrue (is_writable self.old) }
+        ensures nameable { IfOk result (λ p. IsHostCluster self.old.file.header.fields.cluster_bits p.first_cluster) }
+        ensures header { self.new.file.header ≡ self.old.file.header }
+        ensures list { self.new.file.free_list ≡ self.old.file.free_list }
+        ensures stays { Stays self.old self.new }
+        ensures cause { IfErr result IsMet }
+        ensures takes { (p : Pending) (out : List (Option Prepared)) → IsSoundAt S.view F.backing p self.old out → HoldsAll S.view F.backing p out → TakesData S.view F.backing p self.old self.new out result }
     {
         let Some(allocator) = &mut self.allocator else {
             unreachable!();
         };
-        let pending = allocator.allocate_data(&mut self.file, ClusterCount::new(1))?;
-        match self.fill_cluster(pending.cluster(), offset, length, overwrite) {
-            Ok(()) => Ok(pending),
-            Err(refusal) => {
-                pending.hand_back(&mut self.file.free_list);
-                Err(refusal)
-            }
-        }
+        allocator.allocate_data(&mut self.file, ClusterCount::new(1))
+    }
+
+    // Clusters that were taken are to be freed.
+    fn hand_back(&mut self, pending: PendingClusters)
+        ensures { FreesLater (pending ∷ []) self.old self.new }
+    {
+        pending.hand_back(&mut self.file.free_list);
     }
 
     // The L2 table that covers an offset, held in its cache and marked copied. Where there is none, or it isn't, one is made.
