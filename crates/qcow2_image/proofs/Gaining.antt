@@ -40,7 +40,7 @@ module _ {S F : Type 0} (view : S → StorageView) (backing : F → BackingView)
       (fun_ext (λ k. let e = ap (λ l. to_free of_tables l k) list in omega arith)) (fun_ext (λ k. let e = ap (λ l. to_free of_data l k) list in omega arith)))
 
   -- ---- by the allocator
-  module _ (old : Qcow2 S F) (p : Pending) (sound : IsSoundAt view backing p old out) (holds : HoldsAll view backing p out) (file : ImageFile S) (a : Allocator) (marks : KeepsMarks old.file.caches file.caches) (list : file.free_list ≡ old.file.free_list) where
+  module _ (old : Qcow2 S F) (p : Pending) (sound : IsSoundAt view backing p old out) (holds : HoldsAll view backing p out) (file : ImageFile S) (a : Allocator) (marks : KeepsMarks old.file.caches file.caches) (list : file.free_list ≡ old.file.free_list) (header : file.header ≡ old.file.header) where
     abbrev taken : Qcow2 S F
     taken = record old { file = file; allocator = Some a }
 
@@ -50,7 +50,7 @@ module _ {S F : Type 0} (view : S → StorageView) (backing : F → BackingView)
 
     goes_back : (e : ImageError) → LeavesSound view p old.file a file e → GoesBack view backing p old taken out e
     goes_back e (inl kept) = inl (subst (λ q. Goes view backing p q old taken out) (sym (following_same p old taken list)) (goes_moved p holds kept.0 kept.1))
-    goes_back e (inr broken) = inr broken
+    goes_back e (inr broken) = inr (record { breaks = broken; header = ap (λ x. x.fields) header; below = refl })
 
     pub takes_data : (r : Result ClustersToFreeEntry ImageError) → Allocates view p old.file a file Kind.Data 1 r → TakesData view backing p old taken out r
     takes_data (Ok n) is =

@@ -16,6 +16,7 @@ use Rattle.qcow2_metadata.specs.Cover.{cover}
 use Rattle.qcow2_laws.specs.Disk.{disk}
 use Rattle.qcow2_laws.specs.Guard.{Pending, SameCovers}
 use Rattle.qcow2_laws.specs.Tops.{WritesAt}
+use Rattle.qcow2_laws.specs.Guests.{named_in_either}
 use Rattle.qcow2_laws.specs.Views.{guest_of}
 use Rattle.qcow2_laws.specs.Writes.{IsUnnamed}
 use Rattle.qcow2_laws.proofs.Leads.{leads_none, leads_then, endures_none, steps_endure}
@@ -30,7 +31,7 @@ use Rattle.qcow2_alloc.specs.ImageFile.{stand_in, view_in, contents_in, known_in
 use Rattle.qcow2_image.specs.declared.image.Qcow2.{Qcow2}
 use Rattle.qcow2_image.specs.declared.prepared.Prepared.{Prepared}
 use Rattle.qcow2_image.specs.Parts.{IsWritten, WritesBytes}
-use Rattle.qcow2_image.specs.Steps.{AreThere, Keeps, Goes, HoldsAll, IsOwn}
+use Rattle.qcow2_image.specs.Steps.{AreThere, Keeps, Goes, HoldsAll, IsOwn, SameHeld}
 use Rattle.qcow2_image.specs.Views.{held_by, over_all, backing_bytes, seen, IsSoundAt}
 use Rattle.qcow2_image.proofs.Answered.{same_guest, same_slot, still_seen}
 use Rattle.qcow2_image.proofs.Called.{copied_then}
@@ -76,6 +77,14 @@ module _ {S F : Type 0} (view : S → StorageView) (backing : F → BackingView)
     list = record { more = first.list.more ++ then.list.more; is = then.list.is ∙ ap (λ l. l ++ then.list.more) first.list.is ∙ append_assoc a.file.free_list first.list.more then.list.more };
     seen = then.seen ∙ first.seen;
   }
+
+  -- clusters that are held have the same bytes where no guest sees a change
+  pub same_held : (a b : Qcow2 S F) (p : Pending) → IsSoundAt view backing p a out → Keeps view backing p p a b out → SameHeld view backing p a b
+  same_held a b p sound keeps o some =
+      let before : contents_in view a.file o ≡ known_in view a.file o = sound.file.caches.kept.kept.guarded.unlaid o (omega (arith, some)) in
+      let after : contents_in view b.file o ≡ known_in view b.file o = keeps.sound.file.caches.kept.kept.guarded.unlaid o
+      (subst (λ (h : HeaderFields). 0 < named_in_either h (contents_in view b.file) (known_in view b.file) (o / cluster_size h) + p.held (o / cluster_size h)) (sym keeps.unseen.header) (omega (arith, some))) in
+      after ∙ keeps.unseen.bytes o (omega (arith, some)) ∙ sym before
 
   -- bytes are written to a cluster that is held, and that no mapping has yet
   module _ (old : Qcow2 S F) (p : Pending) (sound : IsSoundAt view backing p old out) (cluster at : ℕ) (bytes : List ℕ) (own : IsOwn view backing p old out cluster at (length bytes))

@@ -20,7 +20,12 @@ use Rattle.qcow2_alloc.specs.TableCaches.{IsTableOf}
 use Rattle.qcow2_laws.proofs.Alike.{run_first, run_less, run_begins, clusters_on, clusters_end, run_longest}
 use Rattle.std.proofs.lemmas.Bool.{cases_lt}
 use Rattle.image_access.specs.Moments.{StorageView}
-use Rattle.qcow2_alloc.specs.ImageFile.{known_in}
+use Rattle.qcow2_alloc.specs.ImageFile.{contents_in, known_in, IsSoundFile}
+use Rattle.qcow2_alloc.specs.declared.image_file.ImageFile.{ImageFile}
+use Rattle.qcow2_alloc.specs.MetadataCaches.{IsEntryAt, ShowsKnown}
+use Rattle.qcow2_laws.specs.Guard.{Pending}
+use Rattle.qcow2_laws.proofs.Places.{Sizes-from}
+use Rattle.qcow2_laws.proofs.Tops.{IsTop-top}
 use Rattle.qcow2_image.specs.declared.image.Qcow2.{Qcow2}
 use Rattle.qcow2_image.specs.declared.mapping.MappingKind.{MappingKind}
 use Rattle.qcow2_image.specs.Image.{size_of}
@@ -132,3 +137,13 @@ pub mapped_as : {S F : Type 0} (view : S → StorageView) (image : Qcow2 S F) (o
 mapped_as view image offset n kind found some le is = ⊎_elim
     (λ lt. let run = is.run lt in record { kind_is = run.kind_is; alike = run_less image.file.header.fields (known_in view image.file) offset n found le run.longest.alike })
     (λ past. absurd (let none = (is.past past).1 in omega arith)) (cases_lt offset (size_of image))
+
+-- what a held table says of a guest cluster is known
+pub held_says : {S : Type 0} (view : S → StorageView) (file : ImageFile S) (p : Pending) (t : L2TableView) (table i cluster : ℕ) → IsSoundFile view p file → ShowsKnown file.caches table t
+    → IsEntryAt file.header.fields (known_in view file) i table (cluster % entries_per_cluster file.header.fields) → cluster / entries_per_cluster file.header.fields ≡ i → mapping_of t cluster ≡ cover file.header.fields (known_in view file) cluster
+held_says view file p t table i cluster sound shows at here =
+    let h = file.header.fields in
+    let guarded = sound.caches.kept.kept.guarded in
+    let sizes = Sizes-from h (known_in view file) (IsTop-top h (contents_in view file) (known_in view file) guarded.same_top guarded.top).header_reads in
+    let each = λ (index : ℕ) (lt : index < entries_per_cluster h). shows h p (contents_in view file) i index sound.caches (record { real = at.real; place = at.place; within = lt }) in
+    says_known h (known_in view file) t i sizes at.real (each (cluster % entries_per_cluster h) at.within).format (λ index lt. (each index lt).entry) cluster here

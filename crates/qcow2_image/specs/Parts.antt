@@ -1,10 +1,12 @@
 -- What parts of calls do that a guest sees.
-use Rattle.std.specs.Prelude.{ℕ, ◌+◌, ◌≡◌, ◌⊎◌, List, [], ◌∷◌, Option, Some, None, IfSome, IsSome, Result, Ok, Err, slice_get, slice_set}
+use Rattle.qcow2_metadata.specs.Header.{cluster_size}
+use Rattle.qcow2_image.specs.Steps.{GoesBack}
+use Rattle.std.specs.Prelude.{Bool, ℕ, ◌+◌, ◌≡◌, ◌⊎◌, List, [], ◌∷◌, Option, Some, None, IfSome, IsSome, Result, Ok, Err, slice_get, slice_set}
 use Rattle.image_access.specs.Backing.{BackingView}
 use Rattle.image_access.specs.Contents.{overwritten}
 use Rattle.image_access.specs.Moments.{StorageView, Passing}
 use Rattle.qcow2_laws.specs.Calls.{Works, with_disk, with_slot}
-use Rattle.qcow2_laws.specs.Mappings.{PreparedMapping, gift_of, gift_of_commit, put_mapping, put_disk, committed}
+use Rattle.qcow2_laws.specs.Mappings.{PreparedMapping, IsPrepared, gift_of, gift_of_commit, put_mapping, put_disk, committed}
 use Rattle.qcow2_laws.specs.Views.{Guest, guest_of}
 use Rattle.qcow2_alloc.specs.declared.error.ImageError.{ImageError}
 use Rattle.qcow2_alloc.specs.declared.error.ImageError.TheVariants as I
@@ -54,3 +56,14 @@ module _ {S F : Type 0} (view : S → StorageView) where
     abbrev pub Enters : Qcow2 S F → Qcow2 S F → Prepared → Type 0
     Enters old new p = (out : List (Option Prepared)) (k : ℕ) → slice_get out k ≡ Some (Some p) → IfSome p.table (λ t. IsSome (l2_at old.file.caches t)) → IsSoundAt view backing (pending_in view backing old out) old out
         → Committed old new out k p
+
+    -- a range is prepared, and put at a place that was free
+    pub record IsReadied (old new : Qcow2 S F) (out : List (Option Prepared)) (k offset n : ℕ) (overwrite : Bool) (p : Prepared) : Type 0 where
+      pub works : Works (seen view backing old out) (seen view backing new (slice_set out k (Some p))) [] []
+      pub sound : IsSoundAt view backing (pending_in view backing new (slice_set out k (Some p))) new (slice_set out k (Some p))
+      pub prepared : IsPrepared (cluster_size old.file.header.fields) (guest_of (seen view backing old out)).disk offset n overwrite (meaning view backing new p)
+      pub is : guest_of (seen view backing new (slice_set out k (Some p))) ≡ with_slot (guest_of (seen view backing old out)) k (Some (meaning view backing new p))
+
+    abbrev pub Readies : Qcow2 S F → Qcow2 S F → List (Option Prepared) → ℕ → ℕ → ℕ → Bool → Result Prepared ImageError → Type 0
+    Readies old new out k offset n overwrite (Ok p) = IsReadied old new out k offset n overwrite p
+    Readies old new out k offset n overwrite (Err e) = GoesBack view backing (pending_in view backing old out) old new out e

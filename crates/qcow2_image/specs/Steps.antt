@@ -64,6 +64,12 @@ module _ {S F : Type 0} where
     pub tables : SameTables old.file.caches new.file.caches
     pub pins : (c : ℕ) → l2_pins new.file.caches c ≡ l2_pins old.file.caches c - pins_of table c
 
+  -- an L2 table that is held has one pin more, and nothing else changes
+  pub record Pins (table : ℕ) (old new : Qcow2 S F) : Type 0 where
+    pub rest : new ≡ record old { file = record old.file { caches = new.file.caches } }
+    pub tables : SameTables old.file.caches new.file.caches
+    pub pins : IsSome (l2_at old.file.caches table) → l2_pins old.file.caches table ≡ 0 → (c : ℕ) → l2_pins new.file.caches c ≡ l2_pins old.file.caches c + pins_of (Some table) c
+
   -- more clusters are to be freed than before
   pub record ListGrows (old new : Qcow2 S F) : Type 0 where
     pub more : List ClustersToFreeEntry
@@ -114,9 +120,19 @@ module _ {S F : Type 0} where
       pub list : ListGrows old new
       pub seen : guest_of (seen view backing new out) ≡ guest_of (seen view backing old out)
 
+    -- it broke off: the image keeps its header and its backing disk, and at each moment what was kept is kept
+    pub record Broke (old new : Qcow2 S F) (e : ImageError) : Type 0 where
+      pub breaks : Breaks view old.file new.file e
+      pub header : new.file.header.fields ≡ old.file.header.fields
+      pub below : backing_bytes view backing new.backing ≡ backing_bytes view backing old.backing
+
     -- so does a part that was refused, but for what is to be freed; or it broke off
     abbrev pub GoesBack : Pending → Qcow2 S F → Qcow2 S F → List (Option Prepared) → ImageError → Type 0
-    GoesBack p old new out e = Goes p (following p old new) old new out ⊎ Breaks view old.file new.file e
+    GoesBack p old new out e = Goes p (following p old new) old new out ⊎ Broke old new e
+
+    -- clusters that are held have the bytes that they had
+    abbrev pub SameHeld : Pending → Qcow2 S F → Qcow2 S F → Type 0
+    SameHeld p old new = (o : ℕ) → 0 < p.held (o / cluster_size old.file.header.fields) → contents_in view new.file o ≡ contents_in view old.file o
 
     -- what mappings hold is pending
     abbrev pub HoldsAll : Pending → List (Option Prepared) → Type 0

@@ -1,8 +1,8 @@
 //! What a guest range is mapped to, and making it writable.
-ghost use Rattle.std.specs.Prelude.{◌↔◌, ℕ, List, Option, is_some, ◌≡◌, ◌≢◌, ◌+◌, ◌*◌, ◌^◌, ◌<◌, ◌≤◌, [], ◌∷◌, IfOk, IfErr, IfSome, OnOk, IsOk, IsNone, IsSome, IsTrue, MatchOption, Ok, Err, None, false};
+ghost use Rattle.std.specs.Prelude.{◌↔◌, ℕ, List, Option, is_some, ◌≡◌, ◌≢◌, ◌+◌, ◌*◌, ◌-◌, ◌/◌, ◌%◌, slice_get, true, Some, ◌^◌, ◌<◌, ◌≤◌, [], ◌∷◌, IfOk, IfErr, IfSome, OnOk, IsOk, IsNone, IsSome, IsTrue, MatchOption, Ok, Err, None, false};
 ghost use Rattle.qcow2_metadata.specs.L2Mapping.{IsHostCluster, IsInReach};
 ghost use Rattle.qcow2_metadata.specs.EntryTable.{entry_count};
-ghost use Rattle.qcow2_image.specs.FirstCluster.{IsNear};
+ghost use Rattle.qcow2_image.specs.FirstCluster.{IsFirst, IsNear};
 ghost use Rattle.qcow2_image.specs.Image.{Stays, IsSameImage, is_failed, is_writable, number_of};
 ghost use Rattle.qcow2_image.specs.Prepared.{image_of, length_of, table_of, IsKept};
 ghost use Rattle.qcow2_laws.specs.Guard.{Pending};
@@ -10,12 +10,15 @@ ghost use Rattle.qcow2_alloc.specs.MetadataCaches.{IsEntryAt, l2_at};
 ghost use Rattle.qcow2_alloc.specs.ImageFile.{known_in, IsSoundFile};
 ghost use Rattle.qcow2_image.specs.declared.prepared.Prepared.{Prepared};
 ghost use Rattle.qcow2_image.specs.Calls.{Answers, Commits, Discards};
-ghost use Rattle.qcow2_image.specs.Parts.{Enters};
+ghost use Rattle.qcow2_image.specs.Parts.{Enters, Readies};
 ghost use Rattle.qcow2_alloc.specs.CacheMarks.{l2_pins};
 ghost use Rattle.qcow2_laws.specs.Alike.{IsAlike};
 ghost use Rattle.qcow2_image.specs.Found.{mapping_of, IsRunBehind, NamesTable, IsRunFrom, IsFound, kind_at, rest_of_table, l1_index_of, l2_index_of};
-ghost use Rattle.qcow2_image.specs.Steps.{Ensures, Gains, HoldsAll, Keeps, TakesData, EntersCluster, EntersNew, FreesLater, Unpins, freed_by};
-ghost use Rattle.qcow2_image.specs.Views.{HasL1Table, IsSoundAt, seen};
+ghost use Rattle.qcow2_image.specs.Steps.{Ensures, Gains, HoldsAll, HoldsTable, Pins, SameHeld, Keeps, TakesData, EntersCluster, EntersNew, FreesLater, Unpins, freed_by};
+ghost use Rattle.qcow2_image.specs.Views.{HasL1Table, IsSoundAt, pending_in, seen};
+ghost use Rattle.qcow2_metadata.specs.Header.{cluster_size, entries_per_cluster};
+ghost use Rattle.qcow2_metadata.specs.Cover.{cover};
+ghost use Rattle.qcow2_image.specs.declared.mapping.Place.TheVariants.{Image};
 ghost use Rattle.qcow2_image.specs.Refusals.{unusable, refuses_to_prepare, passes as passes_size, IsMet, Marks};
 ghost use Rattle.qcow2_image.specs.declared.prepared.CommitRefused.TheVariants.{Kept};
 ghost use Rattle.qcow2_alloc.specs.declared.error.ImageError.TheVariants.{Failed, ForeignState};
@@ -305,31 +308,39 @@ impl<S: Storage, F: WrappedFormat<S>> Qcow2<S, F> {
         ensures cause { IfErr result IsMet }
         ensures own { IfOk result (λ p. image_of p ≡ number_of self.old) }
         ensures some { IfOk result (λ p. 0 < length → 0 < length_of p) }
+        ensures readies { 0 < length → (out : List (Option Prepared)) (k : ℕ) → slice_get out k ≡ Some None → IsSoundAt S.view F.backing (pending_in S.view F.backing self.old out) self.old out
+            → Readies S.view F.backing self.old self.new out k offset length overwrite result }
     {
         let table = self.ensure_l2(offset)?;
-        let (kind, found) = self.run_in_table(
-            table,
-            offset,
-            length.min(self.rest_of_table(offset)),
-        )?;
-        if let MappingKind::Raw {
-            place: _,
-            offset: host,
-            writable: true,
-        } = kind
-        {
-            if found >= length {
-                return Ok(self.existing_at(offset, host, length));
-            }
+        match self.existing_host(table, offset, length)? {
+            Some(host) => Ok(self.existing_at(offset, host, length)),
+            None => self.prepare_in(table, offset, length, overwrite),
         }
-        if self.file.caches.l2_is_pinned(table) {
-            return Err(ImageError::TablePrepared);
-        }
-        self.prepare_first(table, offset, length, overwrite)
     }
 
-    // Makes the first cluster of a range ready: where it is copied data it stays in place, else it gets a new cluster.
-    fn prepare_first(
+    // Where the whole range is copied data that stands in a row: its place.
+    fn existing_host(
+        &self,
+        table: HostCluster,
+        offset: u64,
+        length: u64,
+    ) -> Result<Option<u64>, ImageError>
+        ensures cause { IfErr result IsMet }
+    {
+        let max = length.min(self.rest_of_table(offset));
+        let (kind, found) = self.run_in_table(table, offset, max)?;
+        match kind {
+            MappingKind::Raw {
+                place: _,
+                offset: host,
+                writable: true,
+            } if found >= length => Ok(Some(host)),
+            _ => Ok(None),
+        }
+    }
+
+    // Makes a range ready in a held table that no other mapping needs as it is.
+    fn prepare_in(
         &mut self,
         table: HostCluster,
         offset: u64,
@@ -340,30 +351,102 @@ impl<S: Storage, F: WrappedFormat<S>> Qcow2<S, F> {
         ensures stays { Stays self.old self.new }
         ensures cause { IfErr result IsMet }
         ensures own { IfOk result (λ p. image_of p ≡ number_of self.old) }
-        ensures some { IfOk result (λ p. 0 < length → 0 < length_of p) }
+        ensures some { IfOk result (λ p. 0 < length_of p) }
+        ensures readies { (out : List (Option Prepared)) (k : ℕ) → slice_get out k ≡ Some None → IsSoundAt S.view F.backing (pending_in S.view F.backing self.old out) self.old out
+            → HoldsTable S.view F.backing self.old offset table → Readies S.view F.backing self.old self.new out k offset length overwrite result }
+    {
+        if self.file.caches.l2_is_pinned(table) {
+            return Err(ImageError::TablePrepared);
+        }
+        let cluster = GuestOffset::new(offset).cluster(self.file.header.cluster_bits());
+        match self.first_cluster(table, cluster)? {
+            FirstCluster::InPlace(host) => Ok(self.prepare_at(table, offset, host, None)),
+            FirstCluster::Missing => self.prepare_new(table, offset, length, overwrite),
+        }
+    }
+
+    // Makes a range ready in a new cluster.
+    fn prepare_new(
+        &mut self,
+        table: HostCluster,
+        offset: u64,
+        length: u64,
+        overwrite: bool,
+    ) -> Result<Prepared, ImageError>
+        requires writable { IsTrue (is_writable self.old) }
+        ensures stays { Stays self.old self.new }
+        ensures cause { IfErr result IsMet }
+        ensures own { IfOk result (λ p. image_of p ≡ number_of self.old) }
+        ensures some { IfOk result (λ p. 0 < length_of p) }
+        ensures readies { (out : List (Option Prepared)) (k : ℕ) → slice_get out k ≡ Some None → IsSoundAt S.view F.backing (pending_in S.view F.backing self.old out) self.old out
+            → HoldsTable S.view F.backing self.old offset table → l2_pins self.old.file.caches table ≡ 0 → cover self.old.file.header.fields (known_in S.view self.old.file) (offset / cluster_size self.old.file.header.fields) ≡ L2Mapping.Uncovered
+            → Readies S.view F.backing self.old self.new out k offset length overwrite result }
+    {
+        let pending = self.new_cluster(offset, length, overwrite)?;
+        match self.load_l2(table) {
+            Ok(()) => {
+                let bits = self.file.header.cluster_bits();
+                let host = pending.cluster().offset(bits).value();
+                let index = GuestOffset::new(offset).l2_index(bits);
+                Ok(self.prepare_at(table, offset, host, Some(NewCluster { index, pending })))
+            }
+            Err(refusal) => {
+                self.hand_back(pending);
+                Err(refusal)
+            }
+        }
+    }
+
+    // Brings a table into its cache.
+    fn load_l2(&mut self, table: HostCluster) -> Result<(), ImageError>
+        ensures header { self.new.file.header ≡ self.old.file.header }
+        ensures stays { Stays self.old self.new }
+        ensures cause { IfErr result IsMet }
+        ensures list { self.new.file.free_list ≡ self.old.file.free_list }
+        ensures keeps { (p : Pending) (out : List (Option Prepared)) → IsSoundAt S.view F.backing p self.old out → Keeps S.view F.backing p p self.old self.new out }
+        ensures contents { (p : Pending) (out : List (Option Prepared)) → IsSoundAt S.view F.backing p self.old out → SameHeld S.view F.backing p self.old self.new }
+        ensures held { OnOk result (IsSome (l2_at self.new.file.caches table)) }
+    {
+        self.file
+            .caches
+            .l2_get_or_insert(&mut self.file.storage, table)
+    }
+
+    // The mapping of the rest of a cluster, which stands at a place. Its table is kept as it is.
+    fn prepare_at(
+        &mut self,
+        table: HostCluster,
+        offset: u64,
+        host: u64,
+        new_cluster: Option<NewCluster>,
+    ) -> Prepared
+        requires { host < 2 ^ 63 }
+        ensures stays { Stays self.old self.new }
+        ensures pins { Pins table self.old self.new }
+        ensures own { image_of result ≡ number_of self.old }
+        ensures some { 0 < length_of result }
+        ensures value { result ≡ record {
+            image = self.old.number;
+            guest = offset;
+            place = Image;
+            offset = host + offset % cluster_size self.old.file.header.fields;
+            length = cluster_size self.old.file.header.fields - offset % cluster_size self.old.file.header.fields;
+            table = Some table;
+            new_cluster = new_cluster;
+        } }
     {
         let bits = self.file.header.cluster_bits();
         let guest = GuestOffset::new(offset);
-        let rest = guest.remaining_in_cluster(bits);
-        let (host, new_cluster) = match self.first_cluster(table, guest.cluster(bits))? {
-            FirstCluster::InPlace(host) => (host, None),
-            FirstCluster::Missing => {
-                let pending = self.new_cluster(offset, length, overwrite)?;
-                let host = pending.cluster().offset(bits).value();
-                let index = guest.l2_index(bits);
-                (host, Some(NewCluster { index, pending }))
-            }
-        };
         self.file.caches.l2_pin(table);
-        Ok(Prepared {
+        Prepared {
             image: self.number,
             guest: offset,
             place: Place::Image,
             offset: host + guest.in_cluster_offset(bits),
-            length: rest,
+            length: guest.remaining_in_cluster(bits),
             table: Some(table),
             new_cluster,
-        })
+        }
     }
 
     // What a cluster of a held table has that is to be written.
@@ -374,6 +457,8 @@ impl<S: Storage, F: WrappedFormat<S>> Qcow2<S, F> {
     ) -> Result<FirstCluster, ImageError>
         ensures value { IfOk result IsNear }
         ensures cause { IfErr result IsMet }
+        ensures stands { (p : Pending) (i : ℕ) → IsSoundFile S.view p self.now.file → IsEntryAt self.now.file.header.fields (known_in S.view self.now.file) i table (cluster % entries_per_cluster self.now.file.header.fields)
+            → cluster / entries_per_cluster self.now.file.header.fields ≡ i → IfOk result (IsFirst self.now.file.header.fields (known_in S.view self.now.file) cluster) }
     {
         let Some(held) = self.file.caches.l2_peek(table) else {
             return Err(ImageError::InUse);

@@ -11,5 +11,5 @@ returns-clause-takes g c = λ p out sound holds.
     let view = g.S.Storage.view in
     let one : c.new.result ≡ 1 = c.new.ensures in
     let answer = c.allocate_data.ensures.sound p (record { sound = sound.file; reftable = subst (λ x. IfSome x (λ a. HasReftable view c.args.self.now.file a.reftable)) c.in-Some.is sound.reftable }) in
-    takes_data view g.F.BackingDisk.backing out c.args.self.now p sound holds c.allocate_data.new.file c.allocate_data.new.self c.allocate_data.ensures.marks c.allocate_data.ensures.list c.allocate_data.result
+    takes_data view g.F.BackingDisk.backing out c.args.self.now p sound holds c.allocate_data.new.file c.allocate_data.new.self c.allocate_data.ensures.marks c.allocate_data.ensures.list c.allocate_data.ensures.header c.allocate_data.result
     (subst (λ n. Allocates view p c.args.self.now.file c.allocate_data.new.self c.allocate_data.new.file Kind.Data n c.allocate_data.result) one answer)
