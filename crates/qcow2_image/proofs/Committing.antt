@@ -97,7 +97,7 @@ run_one h first count c one =
     ])
 
 -- a range within one cluster rounds to that cluster
-rounds_up : (size guest length : ℕ) → 0 < size → 0 < length → guest % size + length ≤ size → rounded_up size (guest + length) ≡ guest / size * size + size
+pub rounds_up : (size guest length : ℕ) → 0 < size → 0 < length → guest % size + length ≤ size → rounded_up size (guest + length) ≡ guest / size * size + size
 rounds_up size guest length some any within =
     let g_is : guest / size * size + guest % size ≡ guest = div-add-mod' guest size in
     let q : (guest / size + 1) * size ≡ guest / size * size + size = omega arith in

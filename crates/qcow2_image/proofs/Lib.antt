@@ -21,3 +21,5 @@ pub mod Moving
 pub mod Going
 pub mod Copied
 pub mod Gaining
+pub mod Readying
+pub mod ReadyingNew

@@ -37,6 +37,12 @@ over_all_left f [] k p at c = absurd cc
 over_all_left f (q ∷ out) zero p at c = let is : q ≡ Some p = cc in let one : option_map_or (λ r. f r c) q 0 ≡ f p c = ap (λ (m : Option Prepared). option_map_or (λ r. f r c) m 0) is in omega arith
 over_all_left f (q ∷ out) (suc k) p at c = let rest = over_all_left f out k p at c in omega arith
 
+-- one more comes to a free place
+pub over_all_put : (f : Prepared → ℕ → ℕ) (out : List (Option Prepared)) (k : ℕ) (p : Prepared) → slice_get out k ≡ Some None → (c : ℕ) → over_all f (slice_set out k (Some p)) c ≡ over_all f out c + f p c
+over_all_put f [] k p at c = absurd cc
+over_all_put f (q ∷ out) zero p at c = let is : q ≡ None = cc in let none : option_map_or (λ r. f r c) q 0 ≡ 0 = ap (λ (m : Option Prepared). option_map_or (λ r. f r c) m 0) is in omega arith
+over_all_put f (q ∷ out) (suc k) p at c = let rest = over_all_put f out k p at c in omega arith
+
 -- two of them hold no more than all
 pub over_all_two : (f : Prepared → ℕ → ℕ) (out : List (Option Prepared)) (k : ℕ) (p : Prepared) (j : ℕ) (q : Prepared) → slice_get out k ≡ Some (Some p) → (j ≡ k → ⊥) → slice_get out j ≡ Some (Some q) → (c : ℕ) → f p c + f q c ≤ over_all f out c
 over_all_two f out k p j q at apart there c =

@@ -161,6 +161,7 @@ module _ {S F : Type 0} where
       pub kind : n.kind ≡ Kind.Data
       pub unused : over_all held_by out n.first_cluster ≡ 0
       pub goes : Goes p (with_held p (run_of n)) old new out
+      pub list : new.file.free_list ≡ old.file.free_list
       pub filled : IsFilled old new n.first_cluster offset length overwrite
 
     abbrev pub Gains : Pending → Qcow2 S F → Qcow2 S F → List (Option Prepared) → ℕ → ℕ → Bool → Result ClustersToFreeEntry ImageError → Type 0

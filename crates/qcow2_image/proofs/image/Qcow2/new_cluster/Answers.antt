@@ -25,6 +25,7 @@ returns-in-Ok-clause-gains g c = λ p out sound holds.
       unused = unused;
       goes = goes_then view below out old mid new p (with_held p (run_of n)) (with_held p (run_of n)) took.2
           (c.fill_cluster.ensures.goes (with_held p (run_of n)) out took.2.sound (still_holds view below out old mid p n took.0 holds took.2) some free);
+      list = c.fill_cluster.ensures.list ∙ c.in_ok-pending.ensures.list;
       filled = filled_as view below mid old new c.cluster.result n.first_cluster c.args.offset c.args.length c.args.overwrite took.2.header took.2.below c.cluster.ensures (c.in-Ok.ensures.fills took.2.sound.file.honest took.2.sound.below);
     }
 
