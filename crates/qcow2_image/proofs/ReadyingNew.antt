@@ -1,6 +1,9 @@
 -- A mapping is made ready in a new cluster, or in place.
 use Rattle.std.proofs.Common.{◌≡◌, ◌⊎◌, inl, inr, ℕ, ◌+◌, ◌-◌, ◌*◌, ◌/◌, ◌%◌, ◌<◌, ◌≤◌, Bool, true, false, List, [], ◌∷◌, Option, Some, None, refl, sym, ap, ◌∙◌, subst, arith, is_some, cond}
-use Rattle.std.specs.Prelude.{IfSome, IsSome, IsTrue, min, nat_le, nat_lt, slice_get, slice_set, ◌&&◌, ◌==◌, if◌then◌else◌}
+use Rattle.qcow2_alloc.specs.declared.error.ImageError.{ImageError}
+use Rattle.qcow2_image.specs.declared.mappings.FirstCluster.{FirstCluster}
+use Rattle.qcow2_image.specs.FirstCluster.{IsFirst}
+use Rattle.std.specs.Prelude.{◌↔◌, IfSome, IsSome, IsTrue, min, nat_le, nat_lt, slice_get, slice_set, ◌&&◌, ◌==◌, if◌then◌else◌}
 use Rattle.std.specs.Option.{option_map_or}
 use Rattle.std.proofs.lemmas.Bool.{cases_lt, cond-true, le-leb, lt-ltb, lt-leb, le-ltb}
 use Rattle.std.proofs.lemmas.Nat.{div-mul-add, div-add-mod', mod_below, pow_pos}
@@ -28,9 +31,9 @@ use Rattle.qcow2_image.specs.declared.prepared.NewCluster.{NewCluster}
 use Rattle.qcow2_image.specs.Found.{l1_index_of, l2_index_of}
 use Rattle.qcow2_image.specs.Image.{number_of}
 use Rattle.qcow2_image.specs.Parts.{IsReadied}
-use Rattle.qcow2_image.specs.Steps.{is_announced, Goes, HoldsAll, HoldsTable, IsGained, Keeps, Pins, SameHeld}
+use Rattle.qcow2_image.specs.Steps.{is_announced, Goes, GoesBack, HoldsAll, HoldsTable, IsGained, Keeps, Pins, SameHeld}
 use Rattle.qcow2_image.specs.Views.{run_of, to_free, of_data, of_tables, held_by, pins_by, over_all, pending_in, seen, meaning, is_private, begin_of, backing_bytes, IsInPlace, IsNewFor, IsSoundAt}
-use Rattle.qcow2_image.proofs.Gaining.{still_holds, taken_held}
+use Rattle.qcow2_image.proofs.Gaining.{following_same, still_holds, taken_held}
 use Rattle.qcow2_image.proofs.Going.{goes_kept, goes_none, goes_then}
 use Rattle.qcow2_image.proofs.Readying.{mapping_at, IsNowPending, readied, prepared_by, private_inside}
 
@@ -58,6 +61,25 @@ within_cluster size offset m o here =
     let same : o ≡ offset / size * size + o % size = sym o_is ∙ ap (λ c. c * size + o % size) here in
     ap (λ x. is_within x m o) (sym offset_is) ∙ ap (λ y. is_within (offset / size * size + offset % size) m y) same ∙ within_shift (offset / size * size) (offset % size) m (o % size)
 
+-- no pin
+pub not_pinned : (n : ℕ) (b : Bool) → (IsTrue b ↔ (0 < n)) → b ≡ false → n ≡ 0
+not_pinned n b iff isnt = elim (cases_lt 0 n) [
+  | inl some ↦ absurd (let yes : b ≡ true = iff.1 some in let e : true ≡ false = sym yes ∙ isnt in cc)
+  | inr none ↦ omega arith
+]
+
+-- what the first cluster of an offset has, in a table that is held for it
+pub first_stands : {S F : Type 0} (view : S → StorageView) (backing : F → BackingView) (old : Qcow2 S F) (p : Pending) (offset table cluster : ℕ) (first : FirstCluster) → cluster ≡ offset / cluster_size old.file.header.fields
+    → HoldsTable view backing old offset table
+    → (IsEntryAt old.file.header.fields (known_in view old.file) (l1_index_of old.file.header.fields offset) table (cluster % entries_per_cluster old.file.header.fields) → cluster / entries_per_cluster old.file.header.fields ≡ l1_index_of old.file.header.fields offset
+    → IsFirst old.file.header.fields (known_in view old.file) cluster first)
+    → IsFirst old.file.header.fields (known_in view old.file) (offset / cluster_size old.file.header.fields) first
+first_stands view backing old p offset table cluster first is holds stands =
+    let h = old.file.header.fields in
+    subst (λ g. IsFirst old.file.header.fields (known_in view old.file) g first) is
+    (stands (subst (λ g. IsEntryAt old.file.header.fields (known_in view old.file) (l1_index_of old.file.header.fields offset) table (g % entries_per_cluster old.file.header.fields)) (sym is) holds.entry)
+    (ap (λ g. g / entries_per_cluster old.file.header.fields) is))
+
 module _ {S F : Type 0} (view : S → StorageView) (backing : F → BackingView) (out : List (Option Prepared)) where
   -- a table that is held and marked copied is named as before
   pub holds_still : (old new : Qcow2 S F) (p q : Pending) (offset table : ℕ) → IsSoundAt view backing p old out → Goes view backing p q old new out → HoldsTable view backing old offset table → IsSome (l2_at new.file.caches table) → HoldsTable view backing new offset table
@@ -77,6 +99,10 @@ module _ {S F : Type 0} (view : S → StorageView) (backing : F → BackingView)
         copied = subst (λ (x : HeaderFields). is_copied (l1_entry x base (l1_index_of x offset)) ≡ true) (sym goes.header) (ap is_copied moved ∙ holds.copied);
         held = held;
       }
+
+  -- a refusal that changed nothing
+  pub back_none : (old : Qcow2 S F) (p : Pending) → IsSoundAt view backing p old out → (e : ImageError) → GoesBack view backing p old old out e
+  back_none old p sound e = inl (subst (λ q. Goes view backing p q old old out) (sym (following_same view backing out p old old refl)) (goes_none view backing out old p sound))
 
   -- ---- in place
   pub readied_in_place : (old new : Qcow2 S F) (k offset n table host : ℕ) (overwrite : Bool) → slice_get out k ≡ Some None → IsSoundAt view backing (pending_in view backing old out) old out → HoldsTable view backing old offset table
