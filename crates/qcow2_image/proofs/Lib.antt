@@ -18,3 +18,4 @@ pub mod Committing
 pub mod Entered
 pub mod CommitCalls
 pub mod Moving
+pub mod Placing

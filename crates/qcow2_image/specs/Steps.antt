@@ -1,8 +1,8 @@
 -- What the parts of a call do to a sound image.
-use Rattle.std.specs.Prelude.{ℕ, ◌+◌, ◌-◌, ◌≡◌, ◌⊎◌, ◌++◌, true, List, [], ◌∷◌, Option, Some, None, IsSome, Result, Ok, Err}
+use Rattle.std.specs.Prelude.{ℕ, ◌+◌, ◌-◌, ◌≡◌, ◌≢◌, ◌⊎◌, ◌++◌, true, List, [], ◌∷◌, Option, Some, None, IsSome, Result, Ok, Err}
 use Rattle.image_access.specs.Backing.{BackingView}
 use Rattle.image_access.specs.Moments.{StorageView}
-use Rattle.qcow2_metadata.specs.Entries.{l1_entry, is_copied}
+use Rattle.qcow2_metadata.specs.Entries.{l1_entry, host_offset, is_copied}
 use Rattle.qcow2_laws.specs.Guard.{Pending}
 use Rattle.qcow2_laws.specs.Leads.{Stand, Leads, Endures}
 use Rattle.qcow2_laws.specs.Unseen.{IsUnseen}
@@ -17,9 +17,13 @@ use Rattle.qcow2_alloc.specs.MetadataCaches.{order_of, l2_at, IsEntryAt, MapsEnt
 use Rattle.qcow2_image.specs.declared.prepared.NewCluster.{NewCluster}
 use Rattle.qcow2_image.specs.Views.{of_data, of_tables, to_free, pins_of, backing_bytes, IsSoundAt}
 
+-- an L1 entry names a table and is marked copied
+abbrev pub NamesOwn : ℕ → Type 0
+NamesOwn entry = (host_offset entry ≢ 0) × (is_copied entry ≡ true)
+
 -- an L2 table that is marked copied stays where it is
 abbrev pub KeepsCopied : Stand → Stand → Type 0
-KeepsCopied old new = (i : ℕ) → is_copied (l1_entry old.header old.base i) ≡ true → l1_entry old.header new.base i ≡ l1_entry old.header old.base i
+KeepsCopied old new = (i : ℕ) → NamesOwn (l1_entry old.header old.base i) → l1_entry old.header new.base i ≡ l1_entry old.header old.base i
 
 -- what becomes of the cluster of a mapping that is dropped
 abbrev pub freed_by : Option NewCluster → List ClustersToFreeEntry
