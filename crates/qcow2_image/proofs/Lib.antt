@@ -19,3 +19,4 @@ pub mod Entered
 pub mod CommitCalls
 pub mod Moving
 pub mod Placing
+pub mod Naming

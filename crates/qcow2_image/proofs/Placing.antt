@@ -34,7 +34,7 @@ module _ {S F : Type 0} (view : S → StorageView) (backing : F → BackingView)
   h = old.file.header.fields
 
   -- nothing names it
-  free_here : IsFree view p old.file at
+  pub free_here : IsFree view p old.file at
   free_here =
       let guarded = sound.file.caches.kept.kept.guarded in
       let tally = (guarded.always at).tally in

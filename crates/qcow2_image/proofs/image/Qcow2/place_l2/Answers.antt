@@ -1,4 +1,6 @@
 use Rattle.std.proofs.Common.{◌≡◌, ◌^◌, false, length, refl, sym, ap, ◌∙◌, subst}
+use Rattle.std.specs.Option.{option_copied}
+use Rattle.std.specs.Borrow.{Bor}
 use Rattle.std.specs.Prelude.{Option, None, Some, is_some}
 use Rattle.qcow2_metadata.specs.L2Table.{L2TableView}
 use Rattle.qcow2_alloc.specs.ImageError.{of_storage}
@@ -11,9 +13,10 @@ use Rattle.qcow2_image.proofs.Loading.{caches_moved, with_caches}
 use Rattle.qcow2_image.proofs.Placing.{placed, keeps_placed, stands_ready}
 use Rattle.qcow2_image.proofs.image.Qcow2.place_l2.Goals as goal
 
-absent : {A : Type 0} (o : Option A) → is_some o ≡ false → o ≡ None
-absent None none = refl
-absent (Some a) none = absurd cc
+-- where none is seen, none is there
+absent : {A : Type 0} (r : Option (Bor A)) (o : Option A) → option_copied r ≡ o → is_some r ≡ false → o ≡ None
+absent None o is none = sym is
+absent (Some a) o is none = absurd cc
 
 pub returns-in_err-flush_all-clause-places : goal.returns-in_err-flush_all-clause-places
 returns-in_err-flush_all-clause-places g c = λ p out sound some format.
@@ -53,5 +56,5 @@ returns-clause-places g c = λ p out sound some format.
       (keeps_placed g.S.Storage.view g.F.BackingDisk.backing image out p kept.sound c.in_ok-flush_all.ensures.written c.args.cluster some c.write.new.storage (storage_of c.will_write.new.self) c.args.table c.set_cluster.new.self c.write.result c.will_write.ensures.storage c.set_cluster.ensures format.bits
       (subst (λ (t : L2TableView). length t.bytes ≡ 2 ^ t.cluster_bits) c.table.view_is c.table.invariant.whole) c.write.ensures.written c.write.ensures.calls),
       stands_ready g.S.Storage.view g.F.BackingDisk.backing image out p kept.sound c.in_ok-flush_all.ensures.written c.args.cluster some c.write.new.storage (storage_of c.will_write.new.self) c.args.table c.set_cluster.new.self c.write.result c.will_write.ensures.storage c.set_cluster.ensures format.bits
-      (subst (λ (t : L2TableView). length t.bytes ≡ 2 ^ t.cluster_bits) c.table.view_is c.table.invariant.whole) c.write.ensures.written c.write.ensures.calls c.in_ok-write.field-0 c.in_ok-write.was (absent (l2_at c.flush_all.new.self c.args.cluster) (ap is_some (sym c.l2_peek.ensures.value) ∙ c.if-is_some.false))
+      (subst (λ (t : L2TableView). length t.bytes ≡ 2 ^ t.cluster_bits) c.table.view_is c.table.invariant.whole) c.write.ensures.written c.write.ensures.calls c.in_ok-write.field-0 c.in_ok-write.was (absent c.l2_peek.result (l2_at c.flush_all.new.self c.args.cluster) c.l2_peek.ensures.value (sym c.is_some.ensures ∙ c.if-is_some.false))
     )
