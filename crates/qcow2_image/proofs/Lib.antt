@@ -20,3 +20,4 @@ pub mod CommitCalls
 pub mod Moving
 pub mod Placing
 pub mod Naming
+pub mod Entering
