@@ -69,7 +69,7 @@ module _ {S F : Type 0} (view : S → StorageView) (backing : F → BackingView)
 
   -- ---- images with the same L1 table
   module _ (p q : Pending) (a b : Qcow2 S F) (sound : IsSoundAt view backing p a out) (sound' : IsSoundAt view backing q b out) (same : b.l1_table ≡ a.l1_table) where
-    same_l1 : (i : ℕ) → l1_entry b.file.header.fields (contents_in view b.file) i ≡ l1_entry a.file.header.fields (contents_in view a.file) i
+    pub same_l1 : (i : ℕ) → l1_entry b.file.header.fields (contents_in view b.file) i ≡ l1_entry a.file.header.fields (contents_in view a.file) i
     same_l1 i = sym (sound'.l1_table.entries i) ∙ ap (λ (t : EntryTableView). entry_at t.bytes i) same ∙ sound.l1_table.entries i
 
     pub may_still : (index : ℕ) → MayName view a index → MayName view b index

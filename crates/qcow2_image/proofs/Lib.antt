@@ -21,3 +21,4 @@ pub mod Moving
 pub mod Placing
 pub mod Naming
 pub mod Entering
+pub mod Owning
