@@ -1,6 +1,6 @@
 -- The L2 table of an L1 entry is made its own: it is new, a copy, or was so before.
 use Rattle.std.proofs.Common.{◌≡◌, ◌≢◌, inl, inr, ℕ, ◌+◌, ◌*◌, ◌/◌, ◌%◌, ◌<◌, List, [], ◌∷◌, ◌++◌, Option, Some, None, Result, Ok, Err, true, refl, sym, ap, ◌∙◌, subst, arith}
-use Rattle.std.specs.Prelude.{◌==◌, IfSome, IsErr}
+use Rattle.std.specs.Prelude.{◌==◌, IfSome, IsErr, IsSome}
 use Rattle.std.proofs.lemmas.Bool.{cond-true, eq-eqb}
 use Rattle.std.proofs.lemmas.Nat.{mod_below}
 use Rattle.image_access.specs.Backing.{BackingView}
@@ -24,17 +24,21 @@ use Rattle.qcow2_alloc.specs.declared.clusters_to_free.ClustersToFreeEntry.{Clus
 use Rattle.qcow2_alloc.specs.ClustersToFree.{metadata_entry}
 use Rattle.qcow2_alloc.specs.declared.error.ImageError.{ImageError}
 use Rattle.qcow2_alloc.specs.declared.image_storage.ImageStorage.{ImageStorage}
-use Rattle.qcow2_alloc.specs.ImageFile.{contents_in, known_in, stand_in}
-use Rattle.qcow2_alloc.specs.MetadataCaches.{IsEntryAt, ShowsKnown}
+use Rattle.qcow2_alloc.specs.CacheMarks.{l2_pins, HasRoom}
+use Rattle.qcow2_alloc.specs.ImageFile.{view_in, contents_in, known_in, stand_in}
+use Rattle.qcow2_alloc.specs.ImageStorage.{storage_of}
+use Rattle.qcow2_alloc.specs.MetadataCaches.{l2_at, IsEntryAt, ShowsKnown, StaySound}
 use Rattle.qcow2_alloc.specs.TableCaches.{IsTableOf}
 use Rattle.qcow2_alloc.proofs.FileSteps.{pending_same}
 use Rattle.qcow2_image.specs.declared.image.Qcow2.{Qcow2}
 use Rattle.qcow2_image.specs.declared.prepared.Prepared.{Prepared}
 use Rattle.qcow2_image.specs.NewTables.{SaysKnown, MayName, NamesShared, NamesCopied, replacing, EntersTable, OwnsTable}
-use Rattle.qcow2_image.specs.Steps.{NamesOwn, Keeps, Leaves, following}
+use Rattle.qcow2_image.specs.Steps.{NamesOwn, Keeps, Leaves, following, HoldsTable}
+use Rattle.qcow2_image.specs.Found.{l1_index_of}
 use Rattle.qcow2_image.specs.Views.{IsSoundAt}
 use Rattle.qcow2_image.proofs.Called.{keeps_then}
 use Rattle.qcow2_image.proofs.Entering.{keeps_none, unlisted, as_following, breaks_on, same_l1, keeps_listed, given_up, freed_table}
+use Rattle.qcow2_image.proofs.Loading.{caches_moved, with_caches}
 use Rattle.qcow2_image.proofs.Naming.{table_alone}
 
 -- what holds of each refusal holds of one
@@ -141,3 +145,34 @@ module _ {S F : Type 0} (view : S → StorageView) (backing : F → BackingView)
     pub owned_then : (new : Qcow2 S F) (r : Result ℕ ImageError) → OwnsTable view backing p mid new out index r → OwnsTable view backing p old new out index r
     owned_then new (Ok cluster) owned = (followed new owned.0, owned.1)
     owned_then new (Err e) left = left_then new e left
+
+-- ---- and then it is loaded
+module _ {S F : Type 0} (view : S → StorageView) (backing : F → BackingView) (out : List (Option Prepared)) (p : Pending) (old mid : Qcow2 S F) (offset cluster : ℕ) (owned : Keeps view backing p (following p old mid) old mid out) (storage : ImageStorage S) (caches : MetadataCaches S)
+    (stay : StaySound mid.file.header.fields (following p old mid) (view_in view mid.file) mid.file.caches (view (storage_of storage)) caches) (room : HasRoom mid.file.caches → HasRoom caches) (pins : (t : ℕ) → l2_pins caches t ≡ l2_pins mid.file.caches t) where
+  abbrev q : Pending
+  q = following p old mid
+
+  abbrev loaded : Qcow2 S F
+  loaded = with_caches view backing mid out q owned.sound storage caches
+
+  loads : Keeps view backing q q mid loaded out
+  loads = caches_moved view backing mid out q owned.sound storage caches stay room pins
+
+  pub keeps_loaded : Keeps view backing p (following p old loaded) old loaded out
+  keeps_loaded = keeps_then view backing out old mid loaded p q q (λ k some. some) owned loads
+
+  pub holds_table : NamesCopied view mid (l1_index_of old.file.header.fields offset) cluster → IsSome (l2_at caches cluster) → HoldsTable view backing loaded offset cluster
+  holds_table named held =
+      let g = mid.file.header.fields in
+      let i = l1_index_of mid.file.header.fields offset in
+      let here : NamesCopied view mid i cluster = subst (λ (x : HeaderFields). NamesCopied view mid (l1_index_of x offset) cluster) (sym owned.unseen.header) named in
+      let there : table_at g (known_in view loaded.file) i ≡ table_at g (contents_in view mid.file) i = ap (λ (b : Bytes). table_at g b i) stay.known ∙ known_table view backing out q mid owned.sound i in
+      record {
+        entry = record {
+          real = λ none. here.own.0 (sym there ∙ none);
+          place = there ∙ here.place;
+          within = mod_below (offset / cluster_size g) (entries_per_cluster g) (sizes view backing out q mid owned.sound i).entries;
+        };
+        copied = ap is_copied (same_l1 view backing out q q mid loaded owned.sound loads.sound refl i) ∙ here.own.1;
+        held = held;
+      }
