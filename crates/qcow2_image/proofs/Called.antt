@@ -1,5 +1,5 @@
 -- Calls that no guest sees, from their parts.
-use Rattle.std.proofs.Common.{◌≡◌, inl, ℕ, ◌<◌, Bool, true, false, List, [], ◌++◌, refl, sym, ap, ◌∙◌, subst, arith}
+use Rattle.std.proofs.Common.{◌≡◌, inl, ℕ, ◌<◌, Bool, false, List, [], ◌++◌, refl, sym, ap, ◌∙◌, subst, arith}
 use Rattle.std.specs.Prelude.{Option, Result, Ok, Err, IfOk}
 use Rattle.std.proofs.lemmas.List.{append_assoc}
 use mathlib.Core.Path.{fun_ext}
@@ -7,7 +7,7 @@ use Rattle.image_access.specs.Backing.{BackingView}
 use Rattle.image_access.specs.Moments.{StorageView}
 use Rattle.image_access.proofs.Passing.{passes_none}
 use Rattle.qcow2_metadata.specs.declared.header.HeaderFields.{HeaderFields}
-use Rattle.qcow2_metadata.specs.Entries.{l1_entry, is_copied}
+use Rattle.qcow2_metadata.specs.Entries.{l1_entry}
 use Rattle.qcow2_laws.specs.Guard.{Pending}
 use Rattle.qcow2_laws.specs.Views.{Guest, View, guest_of, contents_of}
 use Rattle.qcow2_laws.specs.Calls.{Refusal, storage, Works, Does, Refuses, IsSame}
@@ -21,7 +21,7 @@ use Rattle.qcow2_image.specs.Calls.{refusal_of, Answers, Flushes}
 use Rattle.qcow2_image.specs.Image.{number_of, is_failed}
 use Rattle.qcow2_image.specs.Refusals.{failed_after, Marks}
 use Rattle.qcow2_image.specs.Views.{of_data, of_tables, to_free, IsSoundAt, pending_in, seen}
-use Rattle.qcow2_image.specs.Steps.{KeepsCopied, following, Keeps}
+use Rattle.qcow2_image.specs.Steps.{NamesOwn, KeepsCopied, following, Keeps}
 use Rattle.qcow2_image.proofs.Answered.{works_now, sound_now, same_now}
 use Rattle.qcow2_image.proofs.Settled.{settled_does, settled_refuses}
 
@@ -51,8 +51,8 @@ module _ {S F : Type 0} (view : S → StorageView) (backing : F → BackingView)
         → KeepsCopied (stand_in view a.file p) (stand_in view c.file p'')
     copied_then header first then i is =
         let one = first i is in
-        let moved : is_copied (l1_entry b.file.header.fields (stand_in view b.file p').base i) ≡ true = ap (λ h. is_copied (l1_entry h (stand_in view b.file p').base i)) header ∙ ap is_copied one ∙ is in
-        subst (λ (h : HeaderFields). l1_entry h (stand_in view c.file p'').base i ≡ l1_entry h (stand_in view b.file p').base i) header (then i moved) ∙ one
+        let moved : l1_entry b.file.header.fields (stand_in view b.file p').base i ≡ l1_entry a.file.header.fields (stand_in view a.file p).base i = ap (λ h. l1_entry h (stand_in view b.file p').base i) header ∙ one in
+        subst (λ (h : HeaderFields). l1_entry h (stand_in view c.file p'').base i ≡ l1_entry h (stand_in view b.file p').base i) header (then i (subst NamesOwn (sym moved) is)) ∙ one
 
     pub keeps_then : ((k : ℕ) → 0 < p.held k → 0 < p'.held k) → Keeps view backing p p' a b out → Keeps view backing p' p'' b c out → Keeps view backing p p'' a c out
     keeps_then held first then = record {

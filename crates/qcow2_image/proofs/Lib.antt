@@ -23,3 +23,7 @@ pub mod Copied
 pub mod Gaining
 pub mod Readying
 pub mod ReadyingNew
+pub mod Placing
+pub mod Naming
+pub mod Entering
+pub mod Owning

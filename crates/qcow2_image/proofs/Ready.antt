@@ -1,5 +1,5 @@
 -- Prepared mappings stand ready where what stands for guest clusters stays, and so do the L2 tables that are marked copied.
-use Rattle.std.proofs.Common.{◌≡◌, ℕ, ◌/◌, sym, ap, ◌∙◌, true}
+use Rattle.std.proofs.Common.{◌≡◌, ℕ, ◌/◌, sym, ap, ◌∙◌}
 use Rattle.std.specs.Prelude.{Option, Some, None}
 use Rattle.qcow2_metadata.specs.Bytes.{Bytes}
 use Rattle.qcow2_metadata.specs.declared.header.HeaderFields.{HeaderFields}
@@ -9,10 +9,11 @@ use Rattle.qcow2_metadata.specs.Cover.{cover}
 use Rattle.qcow2_laws.specs.Guests.{table_at}
 use Rattle.qcow2_image.specs.declared.prepared.Prepared.{Prepared}
 use Rattle.qcow2_image.specs.declared.prepared.NewCluster.{NewCluster}
+use Rattle.qcow2_image.specs.Steps.{NamesOwn}
 use Rattle.qcow2_image.specs.Views.{cluster_of, HasCluster, IsPending, IsReadyWith}
 
 module _ (h : HeaderFields) (known base known' base' : Bytes) (q : Prepared) (covers : cover h known (cluster_of h q) ≡ cover h known' (cluster_of h q)) (top : (i : ℕ) → l1_entry h base i ≡ l1_entry h known i) (top' : (i : ℕ) → l1_entry h base' i ≡ l1_entry h known' i)
-    (copied : (i : ℕ) → is_copied (l1_entry h base i) ≡ true → l1_entry h base' i ≡ l1_entry h base i) where
+    (copied : (i : ℕ) → NamesOwn (l1_entry h base i) → l1_entry h base' i ≡ l1_entry h base i) where
   still_placed : (n : Option NewCluster) → HasCluster h known base q n → HasCluster h known' base' q n
   still_placed None is = record { begins = is.begins; entry = sym covers ∙ is.entry }
   still_placed (Some n) is = record { begins = is.begins; one = is.one; kind = is.kind; nameable = is.nameable; index = is.index; entry = sym covers ∙ is.entry }
@@ -20,7 +21,7 @@ module _ (h : HeaderFields) (known base known' base' : Bytes) (q : Prepared) (co
   still_pending : (table : ℕ) → IsPending h known base q table → IsPending h known' base' q table
   still_pending table is =
       let i = cluster_of h q / entries_per_cluster h in
-      let same : l1_entry h base' i ≡ l1_entry h base i = copied i is.copied in
+      let same : l1_entry h base' i ≡ l1_entry h base i = copied i ((λ none. is.named.real (ap host_offset (sym (top i)) ∙ none)), is.copied) in
       let there : table_at h known' i ≡ table_at h known i = ap host_offset (sym (top' i) ∙ same ∙ top i) in
       record {
         some = is.some;

@@ -6,5 +6,6 @@ pub mod Refusals
 pub mod Views
 pub mod Calls
 pub mod Steps
+pub mod NewTables
 pub mod Found
 pub mod Parts

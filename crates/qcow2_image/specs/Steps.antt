@@ -1,9 +1,9 @@
 -- What the parts of a call do to a sound image.
 use Rattle.qcow2_metadata.specs.Bytes.{is_within}
-use Rattle.std.specs.Prelude.{ℕ, ◌+◌, ◌-◌, ◌*◌, ◌%◌, ◌&&◌, min, Bool, false, ◌/◌, ◌<◌, ◌≤◌, ◌≡◌, ◌⊎◌, ◌++◌, true, List, [], ◌∷◌, Option, Some, None, IsSome, Result, Ok, Err}
+use Rattle.std.specs.Prelude.{ℕ, ◌+◌, ◌-◌, ◌*◌, ◌%◌, ◌&&◌, min, Bool, false, ◌/◌, ◌<◌, ◌≤◌, ◌≡◌, ◌⊎◌, ◌++◌, true, List, [], ◌∷◌, Option, Some, None, IsSome, Result, Ok, Err, ◌≢◌}
 use Rattle.image_access.specs.Backing.{BackingView}
 use Rattle.image_access.specs.Moments.{StorageView}
-use Rattle.qcow2_metadata.specs.Entries.{l1_entry, is_copied}
+use Rattle.qcow2_metadata.specs.Entries.{l1_entry, host_offset, is_copied}
 use Rattle.qcow2_laws.specs.Guard.{Pending}
 use Rattle.qcow2_laws.specs.Leads.{Stand, Leads, Endures}
 use Rattle.qcow2_laws.specs.Unseen.{IsUnseen}
@@ -24,9 +24,13 @@ use Rattle.qcow2_laws.specs.Changes.{with_held}
 use Rattle.qcow2_alloc.specs.declared.clusters_to_free.ClusterKind.TheVariants as Kind
 use Rattle.qcow2_image.specs.Views.{run_of, of_data, of_tables, to_free, held_by, over_all, pins_of, backing_bytes, seen, IsSoundAt}
 
+-- an L1 entry names a table and is marked copied
+abbrev pub NamesOwn : ℕ → Type 0
+NamesOwn entry = (host_offset entry ≢ 0) × (is_copied entry ≡ true)
+
 -- an L2 table that is marked copied stays where it is
 abbrev pub KeepsCopied : Stand → Stand → Type 0
-KeepsCopied old new = (i : ℕ) → is_copied (l1_entry old.header old.base i) ≡ true → l1_entry old.header new.base i ≡ l1_entry old.header old.base i
+KeepsCopied old new = (i : ℕ) → NamesOwn (l1_entry old.header old.base i) → l1_entry old.header new.base i ≡ l1_entry old.header old.base i
 
 -- a byte of the cluster of an offset is announced as overwritten
 abbrev pub is_announced : ℕ → ℕ → ℕ → Bool → ℕ → Bool

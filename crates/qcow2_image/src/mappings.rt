@@ -1,5 +1,5 @@
 //! What a guest range is mapped to, and making it writable.
-ghost use Rattle.std.specs.Prelude.{◌↔◌, ℕ, List, Option, is_some, ◌≡◌, ◌≢◌, ◌+◌, ◌*◌, ◌-◌, ◌/◌, ◌%◌, slice_get, true, Some, ◌^◌, ◌<◌, ◌≤◌, [], ◌∷◌, IfOk, IfErr, IfSome, OnOk, IsOk, IsNone, IsSome, IsTrue, MatchOption, Ok, Err, None, false};
+ghost use Rattle.std.specs.Prelude.{◌↔◌, ℕ, List, Option, is_some, ◌≡◌, ◌≢◌, ◌+◌, ◌*◌, ◌-◌, ◌/◌, ◌%◌, slice_get, true, Some, ◌^◌, ◌<◌, ◌≤◌, [], ◌∷◌, IfOk, IfErr, IfSome, OnOk, IsOk, IsNone, IsSome, IsTrue, MatchOption, Ok, Err, None, false, length};
 ghost use Rattle.qcow2_metadata.specs.L2Mapping.{IsHostCluster, IsInReach};
 ghost use Rattle.qcow2_metadata.specs.EntryTable.{entry_count};
 ghost use Rattle.qcow2_image.specs.FirstCluster.{IsFirst, IsNear};
@@ -19,6 +19,10 @@ ghost use Rattle.qcow2_image.specs.Views.{HasL1Table, IsSoundAt, pending_in, see
 ghost use Rattle.qcow2_metadata.specs.Header.{cluster_size, entries_per_cluster};
 ghost use Rattle.qcow2_metadata.specs.Cover.{cover};
 ghost use Rattle.qcow2_image.specs.declared.mapping.Place.TheVariants.{Image};
+ghost use Rattle.qcow2_image.specs.NewTables.{SaysKnown, StandsReady, MayName, NamesShared, Places, NamesNew, WritesNew, EntersTable, OwnsTable};
+ghost use Rattle.qcow2_alloc.specs.TableCaches.{IsTableOf};
+ghost use Rattle.qcow2_laws.specs.Changes.{one_at, with_fresh};
+ghost use Rattle.qcow2_metadata.specs.L2Table.{L2TableView};
 ghost use Rattle.qcow2_image.specs.Refusals.{unusable, refuses_to_prepare, passes as passes_size, IsMet, Marks};
 ghost use Rattle.qcow2_image.specs.declared.prepared.CommitRefused.TheVariants.{Kept};
 ghost use Rattle.qcow2_alloc.specs.declared.error.ImageError.TheVariants.{Failed, ForeignState};
@@ -528,6 +532,21 @@ impl<S: Storage, F: WrappedFormat<S>> Qcow2<S, F> {
         requires writable { IsTrue (is_writable self.old) }
         ensures stays { Stays self.old self.new }
         ensures cause { IfErr result IsMet }
+        ensures ready { (p : Pending) (out : List (Option Prepared)) → IsSoundAt S.view F.backing p self.old out → Ensures S.view F.backing p self.old self.new out offset result }
+    {
+        let cluster = self.own_l2(offset)?;
+        self.file
+            .caches
+            .l2_get_or_insert(&mut self.file.storage, cluster)?;
+        Ok(cluster)
+    }
+
+    // Where the L2 table that covers an offset lies, which is marked copied then.
+    fn own_l2(&mut self, offset: u64) -> Result<HostCluster, ImageError>
+        requires writable { IsTrue (is_writable self.old) }
+        ensures stays { Stays self.old self.new }
+        ensures cause { IfErr result IsMet }
+        ensures owns { (p : Pending) (out : List (Option Prepared)) → IsSoundAt S.view F.backing p self.old out → OwnsTable S.view F.backing p self.old self.new out (l1_index_of self.old.file.header.fields offset) result }
     {
         let bits = self.file.header.cluster_bits();
         let index = GuestOffset::new(offset).l1_index(bits);
@@ -541,9 +560,6 @@ impl<S: Storage, F: WrappedFormat<S>> Qcow2<S, F> {
         let Some(cluster) = entry.offset.checked_cluster(bits) else {
             return Err(ImageError::UnalignedTable);
         };
-        self.file
-            .caches
-            .l2_get_or_insert(&mut self.file.storage, cluster)?;
         if entry.copied {
             return Ok(cluster);
         }
@@ -555,11 +571,30 @@ impl<S: Storage, F: WrappedFormat<S>> Qcow2<S, F> {
         requires writable { IsTrue (is_writable self.old) }
         ensures stays { Stays self.old self.new }
         ensures cause { IfErr result IsMet }
+        ensures owns { (p : Pending) (out : List (Option Prepared)) → IsSoundAt S.view F.backing p self.old out → NamesShared S.view self.old index old → OwnsTable S.view F.backing p self.old self.new out index result }
     {
+        self.file
+            .caches
+            .l2_get_or_insert(&mut self.file.storage, old)?;
         let Some(held) = self.file.caches.l2_peek(old) else {
             return Err(ImageError::InUse);
         };
         let table = held.clone()?;
+        self.swap_l2(index, old, table)
+    }
+
+    // Puts a table in the place of another one, which is to be freed.
+    fn swap_l2(
+        &mut self,
+        index: usize,
+        old: HostCluster,
+        table: L2Table,
+    ) -> Result<HostCluster, ImageError>
+        requires writable { IsTrue (is_writable self.old) }
+        ensures stays { Stays self.old self.new }
+        ensures cause { IfErr result IsMet }
+        ensures owns { (p : Pending) (out : List (Option Prepared)) → IsSoundAt S.view F.backing p self.old out → NamesShared S.view self.old index old → SaysKnown self.old.file.header.fields (known_in S.view self.old.file) index table → OwnsTable S.view F.backing p self.old self.new out index result }
+    {
         let entry = ClustersToFreeEntry::metadata(old, ClusterCount::new(1));
         let dropped = ClustersToFreeList::pending_guard(self.file.alloc, entry)?;
         match self.enter_l2(index, table) {
@@ -579,6 +614,7 @@ impl<S: Storage, F: WrappedFormat<S>> Qcow2<S, F> {
         requires writable { IsTrue (is_writable self.old) }
         ensures stays { Stays self.old self.new }
         ensures cause { IfErr result IsMet }
+        ensures enters { (p : Pending) (out : List (Option Prepared)) → IsSoundAt S.view F.backing p self.old out → MayName S.view self.old index → SaysKnown self.old.file.header.fields (known_in S.view self.old.file) index table → EntersTable S.view F.backing p self.old self.new out index result }
     {
         let Some(allocator) = &mut self.allocator else {
             unreachable!();
@@ -597,25 +633,59 @@ impl<S: Storage, F: WrappedFormat<S>> Qcow2<S, F> {
         }
     }
 
-    // Counts are written first, then the table's bytes, then the entry that names it. The table is in its cache before it is named, so that no older one is found there.
+    // The table's bytes are written first, then the entry that names it.
     fn write_l2(
         &mut self,
         index: usize,
         cluster: HostCluster,
-        mut table: L2Table,
+        table: L2Table,
     ) -> Result<(), ImageError>
         ensures stays { Stays self.old self.new }
         ensures cause { IfErr result IsMet }
+        ensures list { self.new.file.free_list ≡ self.old.file.free_list }
+        ensures writes { (p : Pending) (out : List (Option Prepared)) → IsSoundAt S.view F.backing (with_fresh p (one_at cluster)) self.old out → MayName S.view self.old index → IsTrue self.old.file.caches.is_changed
+            → SaysKnown self.old.file.header.fields (known_in S.view self.old.file) index table → WritesNew S.view F.backing p self.old self.new out index cluster result }
     {
-        if !self.can_enter(index, cluster) || !cluster.is_nameable(table.cluster_bits()) {
+        if !self.can_enter(index, cluster) {
+            return Err(ImageError::Limit);
+        }
+        self.place_l2(cluster, table)?;
+        self.name_l2(index, cluster)
+    }
+
+    // Writes a table's bytes to a cluster, after all that is cached. A cluster that an older table is held for is refused.
+    fn place_l2(&mut self, cluster: HostCluster, mut table: L2Table) -> Result<(), ImageError>
+        ensures stays { Stays self.old self.new }
+        ensures cause { IfErr result IsMet }
+        ensures rest { self.new ≡ record self.old { file = record self.old.file { storage = self.new.file.storage; caches = self.new.file.caches } } }
+        ensures noted { IsTrue self.old.file.caches.is_changed → IsTrue self.new.file.caches.is_changed }
+        ensures long { length table.bytes ≡ 2 ^ table.cluster_bits }
+        ensures places { (p : Pending) (out : List (Option Prepared)) → IsSoundAt S.view F.backing p self.old out → 0 < p.fresh cluster → IsTableOf self.old.file.header.fields table → Places S.view F.backing p self.old self.new out cluster table.bytes result }
+    {
+        if !cluster.is_nameable(table.cluster_bits()) {
             return Err(ImageError::Limit);
         }
         table.set_cluster(cluster);
-        self.file.caches.flush_rb(&mut self.file.storage)?;
+        self.file.caches.flush_all(&mut self.file.storage)?;
+        if self.file.caches.l2_peek(cluster).is_some() {
+            return Err(ImageError::InUse);
+        }
         self.file.storage.will_write(WriteKind::Other);
         table.write(&mut self.file.storage)?;
-        table.clear_modified();
-        self.file.caches.l2_insert(&mut self.file.storage, table)?;
+        Ok(())
+    }
+
+    // Writes the L1 entry that names the table in a cluster.
+    fn name_l2(&mut self, index: usize, cluster: HostCluster) -> Result<(), ImageError>
+        requires within { index < entry_count self.old.l1_table }
+        requires placed { IsSome self.old.l1_table.cluster }
+        requires nameable { IsHostCluster self.old.l1_table.cluster_bits cluster }
+        ensures stays { Stays self.old self.new }
+        ensures cause { IfErr result IsMet }
+        ensures list { self.new.file.free_list ≡ self.old.file.free_list }
+        ensures names { (p : Pending) (out : List (Option Prepared)) (table : L2TableView) → IsSoundAt S.view F.backing (with_fresh p (one_at cluster)) self.old out → MayName S.view self.old index → IsTrue self.old.file.caches.is_changed
+            → SaysKnown self.old.file.header.fields (known_in S.view self.old.file) index table → length table.bytes ≡ 2 ^ table.cluster_bits → StandsReady S.view self.old cluster table.bytes → NamesNew S.view F.backing p self.old self.new out index cluster result }
+    {
         self.file.storage.will_write(WriteKind::Other);
         self.l1_table.enter_l2_table(index, cluster);
         self.l1_table.write_entry(&mut self.file.storage, index)?;

@@ -1,0 +1,50 @@
+use Rattle.std.proofs.Common.{◌≡◌, ◌*◌, ◌/◌, ◌^◌, Ok, arith, refl, sym, ap, ◌∙◌, subst}
+use Rattle.qcow2_metadata.specs.Entries.{host_offset, is_copied}
+use Rattle.qcow2_image.specs.Found.{l1_index_of}
+use Rattle.qcow2_image.specs.NewTables.{OwnsTable}
+use Rattle.qcow2_image.proofs.Owning.{refused, left_alone, may_none, says_none, entered_owns, owns_already}
+use Rattle.qcow2_image.proofs.image.Qcow2.own_l2.Goals as goal
+
+pub returns-then-not-in_bounds-clause-owns : goal.returns-then-not-in_bounds-clause-owns
+returns-then-not-in_bounds-clause-owns g c = λ p out sound. left_alone g.S.Storage.view g.F.BackingDisk.backing out p c.args.self.now sound c.l1_index-index.result _
+
+pub returns-in_err-table-clause-owns : goal.returns-in_err-table-clause-owns
+returns-in_err-table-clause-owns g c = λ p out sound.
+    refused (OwnsTable g.S.Storage.view g.F.BackingDisk.backing p c.args.self.now c.args.self.now out (l1_index_of c.args.self.now.file.header.fields c.args.offset)) c.from_residual.result c.from_residual.ensures.0
+    (left_alone g.S.Storage.view g.F.BackingDisk.backing out p c.args.self.now sound c.l1_index-index.result)
+
+pub returns-in_default-clause-owns : goal.returns-in_default-clause-owns
+returns-in_default-clause-owns g c = λ p out sound.
+    let old = c.args.self.now in
+    let idx : c.l1_index-index.result ≡ l1_index_of old.file.header.fields c.args.offset =
+    c.l1_index-index.ensures ∙ ap (λ n. n / 2 ^ c.cluster_bits-bits.result / (2 ^ c.cluster_bits-bits.result / 8)) c.new.ensures ∙ ap (λ b. c.args.offset / 2 ^ b / (2 ^ b / 8)) c.cluster_bits-bits.ensures.value in
+    let none = ap host_offset (sym (sound.l1_table.entries c.l1_index-index.result)) ∙ c.in_default.ensures.none in
+    subst (λ i. OwnsTable g.S.Storage.view g.F.BackingDisk.backing p old c.enter_l2.new.self out i c.enter_l2.result) idx
+    (entered_owns g.S.Storage.view g.F.BackingDisk.backing out p old sound c.l1_index-index.result none c.enter_l2.new.self c.enter_l2.result
+    (c.enter_l2.ensures.enters p out sound (may_none g.S.Storage.view g.F.BackingDisk.backing out p old sound c.l1_index-index.result none)
+    (says_none g.S.Storage.view g.F.BackingDisk.backing out p old sound c.l1_index-index.result none c.in_ok-table.table _ c.in_ok-table.ensures.table c.in_ok-table.ensures.zeros)))
+
+pub returns-then-entry-clause-owns : goal.returns-then-entry-clause-owns
+returns-then-entry-clause-owns g c = λ p out sound.
+    let old = c.args.self.now in
+    let idx : c.l1_index-index.result ≡ l1_index_of old.file.header.fields c.args.offset =
+    c.l1_index-index.ensures ∙ ap (λ n. n / 2 ^ c.cluster_bits-bits.result / (2 ^ c.cluster_bits-bits.result / 8)) c.new.ensures ∙ ap (λ b. c.args.offset / 2 ^ b / (2 ^ b / 8)) c.cluster_bits-bits.ensures.value in
+    let offset = ap host_offset (sym (sound.l1_table.entries c.l1_index-index.result)) ∙ sym c.in-Some.ensures.offset in
+    subst (λ i. OwnsTable g.S.Storage.view g.F.BackingDisk.backing p old old out i (Ok c.in-Some-checked_cluster.cluster)) idx
+    (owns_already g.S.Storage.view g.F.BackingDisk.backing out p old sound c.l1_index-index.result c.in-Some-checked_cluster.cluster (record {
+      place = offset ∙ sym c.in-Some-checked_cluster.ensures.cluster ∙ ap (λ b. c.in-Some-checked_cluster.cluster * 2 ^ b) c.cluster_bits-bits.ensures.value;
+      own = ((λ none. absurd (let some = c.in-Some.ensures.some in omega (arith, some, none, offset))), ap is_copied (sym (sound.l1_table.entries c.l1_index-index.result)) ∙ sym c.in-Some.ensures.copied ∙ c.if-entry.true);
+    }))
+
+pub returns-clause-owns : goal.returns-clause-owns
+returns-clause-owns g c = λ p out sound.
+    let old = c.args.self.now in
+    let idx : c.l1_index-index.result ≡ l1_index_of old.file.header.fields c.args.offset =
+    c.l1_index-index.ensures ∙ ap (λ n. n / 2 ^ c.cluster_bits-bits.result / (2 ^ c.cluster_bits-bits.result / 8)) c.new.ensures ∙ ap (λ b. c.args.offset / 2 ^ b / (2 ^ b / 8)) c.cluster_bits-bits.ensures.value in
+    let offset = ap host_offset (sym (sound.l1_table.entries c.l1_index-index.result)) ∙ sym c.in-Some.ensures.offset in
+    subst (λ i. OwnsTable g.S.Storage.view g.F.BackingDisk.backing p old c.replace_l2.new.self out i c.replace_l2.result) idx
+    (c.replace_l2.ensures.owns p out sound (record {
+      place = offset ∙ sym c.in-Some-checked_cluster.ensures.cluster ∙ ap (λ b. c.in-Some-checked_cluster.cluster * 2 ^ b) c.cluster_bits-bits.ensures.value;
+      real = λ none. absurd (let some = c.in-Some.ensures.some in omega (arith, some, none, offset));
+      may = λ own. absurd (let is = sym own.1 ∙ ap is_copied (sym (sound.l1_table.entries c.l1_index-index.result)) ∙ sym c.in-Some.ensures.copied ∙ c.if-entry.false in cc);
+    }))

@@ -1,0 +1,17 @@
+use Rattle.std.proofs.Common.{◌≡◌, sym, ap, ◌∙◌}
+use Rattle.qcow2_alloc.specs.ClustersToFree.{metadata_entry}
+use Rattle.qcow2_image.specs.NewTables.{OwnsTable}
+use Rattle.qcow2_image.proofs.Owning.{refused, left_alone, swapped_owns}
+use Rattle.qcow2_image.proofs.image.Qcow2.swap_l2.Goals as goal
+
+pub returns-in-Err-clause-owns : goal.returns-in-Err-clause-owns
+returns-in-Err-clause-owns g c = λ p out sound shared says. c.in-Err.ensures.enters p out sound shared.may says
+
+pub returns-in-Ok-clause-owns : goal.returns-in-Ok-clause-owns
+returns-in-Ok-clause-owns g c = λ p out sound shared says.
+    swapped_owns g.S.Storage.view g.F.BackingDisk.backing out p c.args.self.now sound c.args.index c.args.old shared c.enter_l2.new.self c.in-Ok.cluster c.in_ok-dropped.dropped c.hand_back.new.list (c.in_ok-dropped.ensures ∙ c.metadata-entry.ensures ∙ ap (metadata_entry c.args.old) c.new.ensures) c.hand_back.ensures
+    (c.in-Ok.ensures.enters p out sound shared.may says)
+
+pub returns-in_err-dropped-clause-owns : goal.returns-in_err-dropped-clause-owns
+returns-in_err-dropped-clause-owns g c = λ p out sound shared says.
+    refused (OwnsTable g.S.Storage.view g.F.BackingDisk.backing p c.args.self.now c.args.self.now out c.args.index) c.from_residual.result c.from_residual.ensures.0 (left_alone g.S.Storage.view g.F.BackingDisk.backing out p c.args.self.now sound c.args.index)
