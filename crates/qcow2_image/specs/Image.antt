@@ -40,3 +40,8 @@ module _ {S F : Type 0} where
   pub record Stays (old new : Qcow2 S F) : Type 0 where
     pub image : IsSameImage old new
     pub failed : is_failed new ≡ is_failed old
+
+  -- its header and its backing disk stay as they are
+  pub record KeepsRest (old new : Qcow2 S F) : Type 0 where
+    pub header : new.file.header ≡ old.file.header
+    pub backing : new.backing ≡ old.backing

@@ -3,7 +3,7 @@ ghost use Rattle.std.specs.Prelude.{◌↔◌, ℕ, List, Option, is_some, ◌�
 ghost use Rattle.qcow2_metadata.specs.L2Mapping.{IsHostCluster, IsInReach};
 ghost use Rattle.qcow2_metadata.specs.EntryTable.{entry_count};
 ghost use Rattle.qcow2_image.specs.FirstCluster.{IsFirst, IsNear};
-ghost use Rattle.qcow2_image.specs.Image.{Stays, IsSameImage, is_failed, is_writable, number_of};
+ghost use Rattle.qcow2_image.specs.Image.{Stays, KeepsRest, IsSameImage, is_failed, is_writable, number_of};
 ghost use Rattle.qcow2_image.specs.Prepared.{image_of, length_of, table_of, IsKept};
 ghost use Rattle.qcow2_laws.specs.Guard.{Pending};
 ghost use Rattle.qcow2_alloc.specs.MetadataCaches.{IsEntryAt, l2_at};
@@ -531,6 +531,7 @@ impl<S: Storage, F: WrappedFormat<S>> Qcow2<S, F> {
     fn ensure_l2(&mut self, offset: u64) -> Result<HostCluster, ImageError>
         requires writable { IsTrue (is_writable self.old) }
         ensures stays { Stays self.old self.new }
+        ensures keeps_rest { KeepsRest self.old self.new }
         ensures cause { IfErr result IsMet }
         ensures ready { (p : Pending) (out : List (Option Prepared)) → IsSoundAt S.view F.backing p self.old out → Ensures S.view F.backing p self.old self.new out offset result }
     {
@@ -545,6 +546,7 @@ impl<S: Storage, F: WrappedFormat<S>> Qcow2<S, F> {
     fn own_l2(&mut self, offset: u64) -> Result<HostCluster, ImageError>
         requires writable { IsTrue (is_writable self.old) }
         ensures stays { Stays self.old self.new }
+        ensures keeps_rest { KeepsRest self.old self.new }
         ensures cause { IfErr result IsMet }
         ensures owns { (p : Pending) (out : List (Option Prepared)) → IsSoundAt S.view F.backing p self.old out → OwnsTable S.view F.backing p self.old self.new out (l1_index_of self.old.file.header.fields offset) result }
     {
@@ -570,6 +572,7 @@ impl<S: Storage, F: WrappedFormat<S>> Qcow2<S, F> {
     fn replace_l2(&mut self, index: usize, old: HostCluster) -> Result<HostCluster, ImageError>
         requires writable { IsTrue (is_writable self.old) }
         ensures stays { Stays self.old self.new }
+        ensures keeps_rest { KeepsRest self.old self.new }
         ensures cause { IfErr result IsMet }
         ensures owns { (p : Pending) (out : List (Option Prepared)) → IsSoundAt S.view F.backing p self.old out → NamesShared S.view self.old index old → OwnsTable S.view F.backing p self.old self.new out index result }
     {
@@ -592,6 +595,7 @@ impl<S: Storage, F: WrappedFormat<S>> Qcow2<S, F> {
     ) -> Result<HostCluster, ImageError>
         requires writable { IsTrue (is_writable self.old) }
         ensures stays { Stays self.old self.new }
+        ensures keeps_rest { KeepsRest self.old self.new }
         ensures cause { IfErr result IsMet }
         ensures owns { (p : Pending) (out : List (Option Prepared)) → IsSoundAt S.view F.backing p self.old out → NamesShared S.view self.old index old → SaysKnown self.old.file.header.fields (known_in S.view self.old.file) index table → OwnsTable S.view F.backing p self.old self.new out index result }
     {
@@ -613,6 +617,7 @@ impl<S: Storage, F: WrappedFormat<S>> Qcow2<S, F> {
     fn enter_l2(&mut self, index: usize, table: L2Table) -> Result<HostCluster, ImageError>
         requires writable { IsTrue (is_writable self.old) }
         ensures stays { Stays self.old self.new }
+        ensures keeps_rest { KeepsRest self.old self.new }
         ensures cause { IfErr result IsMet }
         ensures enters { (p : Pending) (out : List (Option Prepared)) → IsSoundAt S.view F.backing p self.old out → MayName S.view self.old index → SaysKnown self.old.file.header.fields (known_in S.view self.old.file) index table → EntersTable S.view F.backing p self.old self.new out index result }
     {
@@ -641,6 +646,7 @@ impl<S: Storage, F: WrappedFormat<S>> Qcow2<S, F> {
         table: L2Table,
     ) -> Result<(), ImageError>
         ensures stays { Stays self.old self.new }
+        ensures keeps_rest { KeepsRest self.old self.new }
         ensures cause { IfErr result IsMet }
         ensures list { self.new.file.free_list ≡ self.old.file.free_list }
         ensures writes { (p : Pending) (out : List (Option Prepared)) → IsSoundAt S.view F.backing (with_fresh p (one_at cluster)) self.old out → MayName S.view self.old index → IsTrue self.old.file.caches.is_changed
@@ -656,6 +662,7 @@ impl<S: Storage, F: WrappedFormat<S>> Qcow2<S, F> {
     // Writes a table's bytes to a cluster, after all that is cached. A cluster that an older table is held for is refused.
     fn place_l2(&mut self, cluster: HostCluster, mut table: L2Table) -> Result<(), ImageError>
         ensures stays { Stays self.old self.new }
+        ensures keeps_rest { KeepsRest self.old self.new }
         ensures cause { IfErr result IsMet }
         ensures rest { self.new ≡ record self.old { file = record self.old.file { storage = self.new.file.storage; caches = self.new.file.caches } } }
         ensures noted { IsTrue self.old.file.caches.is_changed → IsTrue self.new.file.caches.is_changed }
@@ -681,6 +688,7 @@ impl<S: Storage, F: WrappedFormat<S>> Qcow2<S, F> {
         requires placed { IsSome self.old.l1_table.cluster }
         requires nameable { IsHostCluster self.old.l1_table.cluster_bits cluster }
         ensures stays { Stays self.old self.new }
+        ensures keeps_rest { KeepsRest self.old self.new }
         ensures cause { IfErr result IsMet }
         ensures list { self.new.file.free_list ≡ self.old.file.free_list }
         ensures names { (p : Pending) (out : List (Option Prepared)) (table : L2TableView) → IsSoundAt S.view F.backing (with_fresh p (one_at cluster)) self.old out → MayName S.view self.old index → IsTrue self.old.file.caches.is_changed
