@@ -64,7 +64,7 @@ new_place h known base q n ready o =
 
 module _ {S F : Type 0} (view : S → StorageView) (backing : F → BackingView) (old new : Qcow2 S F) (out : List (Option Prepared)) where
   -- with the clusters that are to be freed since, all that is pending is known
-  followed : IsSoundAt view backing (pending_in view backing old out) old out → ListGrows old new
+  pub followed : IsSoundAt view backing (pending_in view backing old out) old out → ListGrows old new
       → IsSound (stand_in view new.file (following (pending_in view backing old out) old new)) → following (pending_in view backing old out) old new ≡ pending_in view backing new out
   followed sound grows still = pending_is view backing new out (following (pending_in view backing old out) old new) still (record {
     held = λ k. refl;

@@ -27,3 +27,4 @@ pub mod Placing
 pub mod Naming
 pub mod Entering
 pub mod Owning
+pub mod Preparing

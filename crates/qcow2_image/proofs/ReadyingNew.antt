@@ -88,7 +88,8 @@ module _ {S F : Type 0} (view : S → StorageView) (backing : F → BackingView)
       let i = l1_index_of h offset in
       let base = contents_in view new.file in
       let known = known_in view new.file in
-      let moved : l1_entry h base (l1_index_of h offset) ≡ l1_entry h (contents_in view old.file) (l1_index_of h offset) = goes.copied (l1_index_of h offset) holds.copied in
+      let moved : l1_entry h base (l1_index_of h offset) ≡ l1_entry h (contents_in view old.file) (l1_index_of h offset) =
+      goes.copied (l1_index_of h offset) ((λ none. holds.entry.real (ap host_offset (sym (sound.file.caches.kept.kept.guarded.same_top.l1 (l1_index_of h offset))) ∙ none)), holds.copied) in
       let top : l1_entry h base (l1_index_of h offset) ≡ l1_entry h known (l1_index_of h offset) =
       subst (λ (x : HeaderFields). l1_entry x base (l1_index_of h offset) ≡ l1_entry x known (l1_index_of h offset)) goes.header (goes.sound.file.caches.kept.kept.guarded.same_top.l1 (l1_index_of h offset)) in
       let there : table_at h known (l1_index_of h offset) ≡ table_at h (known_in view old.file) (l1_index_of h offset) =

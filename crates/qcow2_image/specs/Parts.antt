@@ -31,6 +31,14 @@ abbrev pub IsPut : Result (Unit {0}) ImageError → Guest → Guest → Guest �
 IsPut (Ok _) old put new = new ≡ put
 IsPut (Err e) old put new = (new ≡ old) ⊎ (e ≡ I.Storage)
 
+-- a mapping of copied data that stands where it is, of which nothing is kept
+pub record IsExisting (p : Prepared) (number guest length : ℕ) : Type 0 where
+  pub image : p.image ≡ number
+  pub guest_is : p.guest ≡ guest
+  pub length_is : p.length ≡ length
+  pub table : p.table ≡ None
+  pub cluster : p.new_cluster ≡ None
+
 module _ {S F : Type 0} (view : S → StorageView) where
   -- bytes are written to the storage, and nothing else changes
   pub record WritesBytes (old new : Qcow2 S F) (host : ℕ) (bytes : List ℕ) (result : Result (Unit {0}) ImageError) : Type 0 where
@@ -64,6 +72,6 @@ module _ {S F : Type 0} (view : S → StorageView) where
       pub prepared : IsPrepared (cluster_size old.file.header.fields) (guest_of (seen view backing old out)).disk offset n overwrite (meaning view backing new p)
       pub is : guest_of (seen view backing new (slice_set out k (Some p))) ≡ with_slot (guest_of (seen view backing old out)) k (Some (meaning view backing new p))
 
-    abbrev pub Readies : Qcow2 S F → Qcow2 S F → List (Option Prepared) → ℕ → ℕ → ℕ → Bool → Result Prepared ImageError → Type 0
-    Readies old new out k offset n overwrite (Ok p) = IsReadied old new out k offset n overwrite p
-    Readies old new out k offset n overwrite (Err e) = GoesBack view backing (pending_in view backing old out) old new out e
+    abbrev pub Readies : Qcow2 S F → Qcow2 S F → List (Option Prepared) → ℕ → ℕ → Bool → Result Prepared ImageError → Type 0
+    Readies old new out offset n overwrite (Ok p) = (k : ℕ) → slice_get out k ≡ Some None → IsReadied old new out k offset n overwrite p
+    Readies old new out offset n overwrite (Err e) = GoesBack view backing (pending_in view backing old out) old new out e

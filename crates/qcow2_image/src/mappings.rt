@@ -9,8 +9,8 @@ ghost use Rattle.qcow2_laws.specs.Guard.{Pending};
 ghost use Rattle.qcow2_alloc.specs.MetadataCaches.{IsEntryAt, l2_at};
 ghost use Rattle.qcow2_alloc.specs.ImageFile.{known_in, IsSoundFile};
 ghost use Rattle.qcow2_image.specs.declared.prepared.Prepared.{Prepared};
-ghost use Rattle.qcow2_image.specs.Calls.{Answers, Commits, Discards};
-ghost use Rattle.qcow2_image.specs.Parts.{Enters, Readies};
+ghost use Rattle.qcow2_image.specs.Calls.{Answers, Commits, Discards, Prepares};
+ghost use Rattle.qcow2_image.specs.Parts.{Enters, IsExisting, Readies};
 ghost use Rattle.qcow2_alloc.specs.CacheMarks.{l2_pins};
 ghost use Rattle.qcow2_laws.specs.Alike.{IsAlike};
 ghost use Rattle.qcow2_image.specs.Found.{mapping_of, IsRunBehind, NamesTable, IsRunFrom, IsFound, kind_at, rest_of_table, l1_index_of, l2_index_of};
@@ -266,6 +266,7 @@ impl<S: Storage, F: WrappedFormat<S>> Qcow2<S, F> {
         ensures image { IsSameImage self.old self.new }
         ensures own { IfOk result (λ p. image_of p ≡ number_of self.old) }
         ensures some { IfOk result (λ p. 0 < length → 0 < length_of p) }
+        ensures sees { Prepares S.view F.backing self.old self.new offset length overwrite result }
     {
         self.check_prepare(offset, length)?;
         if length == 0 {
@@ -294,6 +295,7 @@ impl<S: Storage, F: WrappedFormat<S>> Qcow2<S, F> {
     fn existing_at(&self, guest: u64, offset: u64, length: u64) -> Prepared
         ensures own { image_of result ≡ number_of self.now }
         ensures length { length_of result ≡ length }
+        ensures existing { IsExisting result self.now.number guest length }
     {
         Prepared {
             image: self.number,
@@ -312,8 +314,8 @@ impl<S: Storage, F: WrappedFormat<S>> Qcow2<S, F> {
         ensures cause { IfErr result IsMet }
         ensures own { IfOk result (λ p. image_of p ≡ number_of self.old) }
         ensures some { IfOk result (λ p. 0 < length → 0 < length_of p) }
-        ensures readies { 0 < length → (out : List (Option Prepared)) (k : ℕ) → slice_get out k ≡ Some None → IsSoundAt S.view F.backing (pending_in S.view F.backing self.old out) self.old out
-            → Readies S.view F.backing self.old self.new out k offset length overwrite result }
+        ensures readies { 0 < length → (out : List (Option Prepared)) → IsSoundAt S.view F.backing (pending_in S.view F.backing self.old out) self.old out
+            → Readies S.view F.backing self.old self.new out offset length overwrite result }
     {
         let table = self.ensure_l2(offset)?;
         match self.existing_host(table, offset, length)? {
@@ -356,8 +358,8 @@ impl<S: Storage, F: WrappedFormat<S>> Qcow2<S, F> {
         ensures cause { IfErr result IsMet }
         ensures own { IfOk result (λ p. image_of p ≡ number_of self.old) }
         ensures some { IfOk result (λ p. 0 < length_of p) }
-        ensures readies { (out : List (Option Prepared)) (k : ℕ) → slice_get out k ≡ Some None → IsSoundAt S.view F.backing (pending_in S.view F.backing self.old out) self.old out
-            → HoldsTable S.view F.backing self.old offset table → Readies S.view F.backing self.old self.new out k offset length overwrite result }
+        ensures readies { (out : List (Option Prepared)) → IsSoundAt S.view F.backing (pending_in S.view F.backing self.old out) self.old out
+            → HoldsTable S.view F.backing self.old offset table → Readies S.view F.backing self.old self.new out offset length overwrite result }
     {
         if self.file.caches.l2_is_pinned(table) {
             return Err(ImageError::TablePrepared);
@@ -382,9 +384,9 @@ impl<S: Storage, F: WrappedFormat<S>> Qcow2<S, F> {
         ensures cause { IfErr result IsMet }
         ensures own { IfOk result (λ p. image_of p ≡ number_of self.old) }
         ensures some { IfOk result (λ p. 0 < length_of p) }
-        ensures readies { (out : List (Option Prepared)) (k : ℕ) → slice_get out k ≡ Some None → IsSoundAt S.view F.backing (pending_in S.view F.backing self.old out) self.old out
+        ensures readies { (out : List (Option Prepared)) → IsSoundAt S.view F.backing (pending_in S.view F.backing self.old out) self.old out
             → HoldsTable S.view F.backing self.old offset table → l2_pins self.old.file.caches table ≡ 0 → cover self.old.file.header.fields (known_in S.view self.old.file) (offset / cluster_size self.old.file.header.fields) ≡ L2Mapping.Uncovered
-            → Readies S.view F.backing self.old self.new out k offset length overwrite result }
+            → Readies S.view F.backing self.old self.new out offset length overwrite result }
     {
         let pending = self.new_cluster(offset, length, overwrite)?;
         match self.load_l2(table) {

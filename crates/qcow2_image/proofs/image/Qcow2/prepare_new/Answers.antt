@@ -14,15 +14,15 @@ use Rattle.qcow2_image.proofs.ReadyingNew.{readied_new}
 use Rattle.qcow2_image.proofs.image.Qcow2.prepare_new.Goals as goal
 
 pub returns-in_err-pending-clause-readies : goal.returns-in_err-pending-clause-readies
-returns-in_err-pending-clause-readies g c = λ out k free sound holds unpinned uncovered.
+returns-in_err-pending-clause-readies g c = λ out sound holds unpinned uncovered.
     let view = g.S.Storage.view in
     let below = g.F.BackingDisk.backing in
     let old = c.args.self.now in
-    handed_on (λ r. Readies view below old c.new_cluster.new.self out k c.args.offset c.args.length c.args.overwrite r) c.from_residual.result c.in_err-pending.field-0.0 c.from_residual.ensures
+    handed_on (λ r. Readies view below old c.new_cluster.new.self out c.args.offset c.args.length c.args.overwrite r) c.from_residual.result c.in_err-pending.field-0.0 c.from_residual.ensures
     (c.in_err-pending.ensures.gains (pending_in view below old out) out sound (λ n. omega arith))
 
 pub returns-in-Ok-clause-readies : goal.returns-in-Ok-clause-readies
-returns-in-Ok-clause-readies g c = λ out k free sound holds unpinned uncovered.
+returns-in-Ok-clause-readies g c = λ out sound holds unpinned uncovered k free.
     let view = g.S.Storage.view in
     let below = g.F.BackingDisk.backing in
     let old = c.args.self.now in
@@ -40,7 +40,7 @@ returns-in-Ok-clause-readies g c = λ out k free sound holds unpinned uncovered.
     (c.in-Ok.ensures.contents (with_held p (run_of c.in_ok-pending.pending)) out gained.goes.sound) c.prepare_at.new.self c.prepare_at.ensures.pins)
 
 pub returns-in-Err-clause-readies : goal.returns-in-Err-clause-readies
-returns-in-Err-clause-readies g c = λ out k free sound holds unpinned uncovered.
+returns-in-Err-clause-readies g c = λ out sound holds unpinned uncovered.
     let view = g.S.Storage.view in
     let below = g.F.BackingDisk.backing in
     let old = c.args.self.now in
