@@ -1,6 +1,6 @@
 -- What a call's parts say of its answer.
-use Rattle.std.proofs.Common.{◌≡◌, Bool, true, false, List, [], refl, sym, subst}
-use Rattle.std.specs.Prelude.{Option, MatchOption, Result, Ok, Err, IsErr, IsErrAnd}
+use Rattle.std.proofs.Common.{◌≡◌, ℕ, Bool, true, false, List, [], refl, sym, subst}
+use Rattle.std.specs.Prelude.{◌&&◌, nat_lt, not, Option, MatchOption, Result, Ok, Err, IsErr, IsErrAnd}
 use Rattle.std.specs.Option.{option_or}
 use Rattle.image_access.specs.Backing.{BackingView}
 use Rattle.image_access.specs.Moments.{StorageView}
@@ -12,8 +12,8 @@ use Rattle.qcow2_alloc.specs.declared.error.ImageError.TheVariants as I
 use Rattle.qcow2_image.specs.declared.image.Qcow2.{Qcow2}
 use Rattle.qcow2_image.specs.declared.prepared.Prepared.{Prepared}
 use Rattle.qcow2_image.specs.Calls.{refusal_of, Answers}
-use Rattle.qcow2_image.specs.Image.{is_failed, is_external}
-use Rattle.qcow2_image.specs.Refusals.{refuse_if, unusable}
+use Rattle.qcow2_image.specs.Image.{is_failed, is_external, is_writable, size_of}
+use Rattle.qcow2_image.specs.Refusals.{passes, refuse_if, refuses_to_prepare, unusable}
 use Rattle.qcow2_image.specs.Views.{seen}
 
 module _ {S F : Type 0} (view : S → StorageView) (backing : F → BackingView) (old new : Qcow2 S F) where
@@ -32,3 +32,12 @@ not_failed true rest r ok is = absurd cc
 
 pub usable_works : {S F : Type 0} (image : Qcow2 S F) (r : Result (Unit {0}) ImageError) → r ≡ Ok tt → MatchOption (unusable image) (r ≡ Ok tt) (λ e. r ≡ Err e) → is_failed image ≡ false
 usable_works image r ok is = not_failed (is_failed image) (refuse_if (is_external image) I.Dependency) r ok is
+
+not_failed_first : (failed : Bool) (more rest : Option ImageError) (r : Result (Unit {0}) ImageError) → r ≡ Ok tt
+    → MatchOption (option_or (option_or (refuse_if failed I.Failed) more) rest) (r ≡ Ok tt) (λ e. r ≡ Err e) → failed ≡ false
+not_failed_first false more rest r ok is = refl
+not_failed_first true more rest r ok is = absurd cc
+
+pub prepare_usable : {S F : Type 0} (image : Qcow2 S F) (offset n : ℕ) (r : Result (Unit {0}) ImageError) → r ≡ Ok tt → MatchOption (refuses_to_prepare image offset n) (r ≡ Ok tt) (λ e. r ≡ Err e) → is_failed image ≡ false
+prepare_usable image offset n r ok is =
+    not_failed_first (is_failed image) (refuse_if (is_external image) I.Dependency) (option_or (refuse_if (passes (size_of image) offset n) I.BeyondSize) (refuse_if (nat_lt 0 n && not (is_writable image)) I.ReadOnly)) r ok is

@@ -78,7 +78,7 @@ module _ {S F : Type 0} (view : S → StorageView) (backing : F → BackingView)
       unmoved sound = same_freed (pending_in view backing old out) (following (pending_in view backing old out) old new) refl
           (fun_ext (λ k. let e = ap (λ l. to_free of_tables l k) (quiet sound).list in omega arith)) (fun_ext (λ k. let e = ap (λ l. to_free of_data l k) (quiet sound).list in omega arith))
 
-      listed : (sound : IsSoundAt view backing (pending_in view backing old out) old out) → Keeps view backing (pending_in view backing old out) (following (pending_in view backing old out) old new) old new out
+      pub listed : (sound : IsSoundAt view backing (pending_in view backing old out) old out) → Keeps view backing (pending_in view backing old out) (following (pending_in view backing old out) old new) old new out
       listed sound = subst (λ (q : Pending). Keeps view backing (pending_in view backing old out) q old new out) (unmoved sound) (quiet sound).keeps
 
       pub quiet_works : IsSoundAt view backing (pending_in view backing old out) old out → Works (seen view backing old out) (seen view backing new out) [] []

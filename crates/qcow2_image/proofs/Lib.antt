@@ -28,3 +28,4 @@ pub mod Naming
 pub mod Entering
 pub mod Owning
 pub mod Preparing
+pub mod PrepareCalls
