@@ -5,7 +5,7 @@ use Rattle.image_access.proofs.Bytes.{byte_at-overwritten}
 use Rattle.qcow2_metadata.specs.Bytes.{byte_at}
 use Rattle.qcow2_metadata.specs.Header.{cluster_size}
 use Rattle.qcow2_metadata.specs.RefBlock.{RefBlockView}
-use Rattle.qcow2_laws.specs.Caches.{AreClean, BlocksMayGo}
+use Rattle.qcow2_laws.specs.Caches.{BlocksMayGo}
 use Rattle.qcow2_laws.specs.Guard.{Pending}
 use Rattle.qcow2_alloc.specs.Allocation.{placing, HasPlaceFor, StandAt, Becomes, WritesBlock}
 use Rattle.qcow2_alloc.specs.ImageError.{of_storage, IsFault}
@@ -15,7 +15,7 @@ use Rattle.qcow2_alloc.specs.declared.image_file.ImageFile.{ImageFile}
 use Rattle.qcow2_alloc.specs.ImageFile.{contents_in}
 use Rattle.qcow2_alloc.proofs.FileSteps.{moves_then}
 use Rattle.qcow2_alloc.specs.ImageStorage.{storage_of}
-use Rattle.qcow2_alloc.specs.MetadataCaches.{order_of, l2_tables, refblocks, rb_at, PutSound, PutRefusesBy}
+use Rattle.qcow2_alloc.specs.MetadataCaches.{order_of, l2_tables, rb_at, PutSound, PutRefusesBy}
 use Rattle.qcow2_alloc.specs.TableCaches.{IsBlockOf, cleared_rb}
 use Rattle.qcow2_alloc.proofs.AllocationSteps.{handed_on, fault_of_storage, becomes_then, becomes_cached, is_sound_now}
 use Rattle.qcow2_alloc.proofs.PlacedBlocks.{is_free, moves_rewritten, reftable_rewritten, write_as, holds_known, still_stands}
@@ -48,10 +48,10 @@ returns-in_err-write-clause-sound g c = λ p d t range at sound place fits is.
 
 -- the answer at the end
 finish : {S : Type 0} (view : S → StorageView) (q : Pending) (old new : ImageFile S) (t : Allocator) (block : RefBlockView) (at : ℕ) (result : Result (Unit {0}) ImageError) → Becomes view q old t new q → IfErr result IsFault
-    → OnOk result (AreClean (refblocks new.caches)) → OnOk result (BlocksMayGo (order_of new.caches) (l2_tables new.caches)) → OnOk result (rb_at new.caches at ≡ Some (cleared_rb block))
+    → OnOk result (BlocksMayGo (order_of new.caches) (l2_tables new.caches)) → OnOk result (rb_at new.caches at ≡ Some (cleared_rb block))
     → (BlocksMayGo (order_of new.caches) (l2_tables new.caches) → StandAt (contents_in view new) (at * cluster_size new.header.fields) block.bytes) → WritesBlock view q old t new block at result
-finish view q old new t block at (Ok _) becomes faults clean first held stands = (becomes, record { clean = clean; first = first; held = held; stands = stands first })
-finish view q old new t block at (Err e) becomes faults clean first held stands = (faults, inl (becomes.moves, becomes.reftable))
+finish view q old new t block at (Ok _) becomes faults first held stands = (becomes, record { held = held; stands = stands first })
+finish view q old new t block at (Err e) becomes faults first held stands = (faults, inl (becomes.moves, becomes.reftable))
 
 pub returns-clause-sound : goal.returns-clause-sound
 returns-clause-sound g c = λ p d t range at sound place fits is.
@@ -80,7 +80,6 @@ returns-clause-sound g c = λ p d t range at sound place fits is.
     finish g.S.Storage.view (placing d p at) c.args.file.now (record f2 { storage = c.rb_insert.new.storage; caches = c.rb_insert.new.self }) t c.args.block at c.rb_insert.result
     (becomes_then g.S.Storage.view (placing d p at) (placing d p at) c.args.file.now f2 (record f2 { storage = c.rb_insert.new.storage; caches = c.rb_insert.new.self }) t t two three)
     (faults h (placing d p at) two.moves.sound.honest two.moves.sound.caches two.moves.sound.settled cleared refl (rw is known))
-    (c.rb_insert.ensures.clean c.in_ok-flush_rb.ensures.written (ap (λ (b : RefBlockView). b.is_modified) c.clear_modified.ensures))
     (c.rb_insert.ensures.first c.in_ok-flush_rb.ensures.first)
     (subst (λ (o : Option ℕ). OnOk c.rb_insert.result (IfSome o (λ k. rb_at c.rb_insert.new.self k ≡ Some (cleared_rb c.args.block)))) is
     (subst (λ (b : RefBlockView). OnOk c.rb_insert.result (IfSome b.cluster (λ k. rb_at c.rb_insert.new.self k ≡ Some b))) c.clear_modified.ensures c.rb_insert.ensures.held))
