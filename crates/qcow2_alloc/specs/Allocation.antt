@@ -7,13 +7,12 @@ use Rattle.qcow2_metadata.specs.Header.{cluster_size, counts_per_block}
 use Rattle.qcow2_metadata.specs.EntryTable.{EntryTableView, entry_count}
 use Rattle.qcow2_metadata.specs.RefBlock.{RefBlockView}
 use Rattle.qcow2_metadata.specs.TableBytes.{entry_at}
-use Rattle.qcow2_laws.specs.Caches.{AreClean, BlocksMayGo}
 use Rattle.qcow2_alloc.specs.TableCaches.{cleared_rb}
 use Rattle.qcow2_metadata.specs.Entries.{reftable_entry, block_offset}
 use Rattle.qcow2_laws.specs.Clusters.{L2DependsOnRb}
 use Rattle.qcow2_laws.specs.Changes.{one_at, with_held, with_fresh}
 use Rattle.qcow2_laws.specs.Guard.{Pending}
-use Rattle.qcow2_alloc.specs.MetadataCaches.{order_of, rb_at, l2_tables, refblocks}
+use Rattle.qcow2_alloc.specs.MetadataCaches.{order_of, rb_at}
 use Rattle.qcow2_alloc.specs.ImageError.{IsFault}
 use Rattle.qcow2_alloc.specs.ImageFile.{contents_in, known_in, HasReftable, Moves, LeavesSound}
 use Rattle.qcow2_alloc.specs.declared.allocation.Allocator.{Allocator}
@@ -96,13 +95,12 @@ module _ {S : Type 0} where
       LoadsBlock range (Ok block) = Becomes p × StandsAt new range block
       LoadsBlock range (Err e) = IsFault e × LeavesSound view p old allocator' new e
 
-      -- a refblock stands in its cluster and in its cache, and no other one is modified, nor what goes before refblocks
+      -- a refblock stands in its cluster and in its cache
       pub record HoldsBlock (block : RefBlockView) (at : ℕ) : Type 0 where
-        pub clean : AreClean (refblocks new.caches)
-        pub first : BlocksMayGo (order_of new.caches) (l2_tables new.caches)
         pub held : rb_at new.caches at ≡ Some (cleared_rb block)
         pub stands : StandAt (contents_in view new) (at * cluster_size new.header.fields) block.bytes
 
+      -- so it does after it was written
       abbrev pub WritesBlock : RefBlockView → ℕ → Result (Unit {0}) ImageError → Type 0
       WritesBlock block at (Ok _) = Becomes p × HoldsBlock block at
       WritesBlock block at (Err e) = IsFault e × LeavesSound view p old allocator' new e
@@ -139,7 +137,7 @@ module _ {S : Type 0} where
       TakesSomeRun is_data n (Ok first) = Becomes (taken_as is_data p (run_at first n))
       TakesSomeRun is_data n (Err e) = LeavesSound view p old allocator' new e
 
-      -- what an allocation answers: so many clusters of this kind from the first one on, which are taken now. Refused, it leaves nothing taken.
+      -- what an allocation answers: so many clusters of this kind from the first one on, which are taken now. Refused, it leaves nothing taken, or broke off.
       abbrev pub Allocates : ClusterKind → ℕ → Result ClustersToFreeEntry ImageError → Type 0
       Allocates kind n (Ok run) = (run.count ≡ n) × (run.kind ≡ kind) × Becomes (taken_as (is_data kind) p (run_at run.first_cluster n))
       Allocates kind n (Err e) = LeavesSound view p old allocator' new e

@@ -8,7 +8,8 @@ ghost use Rattle.qcow2_alloc.specs.Allocation.{run_at, taken_as, placing, first_
 ghost use Rattle.qcow2_alloc.specs.CacheMarks.{KeepsMarks};
 ghost use Rattle.qcow2_alloc.specs.ImageError.{IsOfTables, IsFault};
 ghost use Rattle.qcow2_alloc.specs.ImageFile.{view_in, HasReftable, IsSoundWith};
-ghost use Rattle.qcow2_alloc.specs.MetadataCaches.{order_of};
+ghost use Rattle.qcow2_laws.specs.Caches.{AreClean, BlocksMayGo};
+ghost use Rattle.qcow2_alloc.specs.MetadataCaches.{order_of, l2_tables, refblocks};
 ghost use Rattle.qcow2_metadata.specs.L2Mapping.{IsHostCluster};
 ghost use Rattle.qcow2_metadata.specs.Header.{counts_per_block};
 ghost use Rattle.qcow2_metadata.specs.EntryTable.{entry_count};
@@ -79,6 +80,8 @@ fn write_block<S: Storage>(file: &mut ImageFile<S>, mut block: RefBlock) -> Resu
     ensures sound { (p : Pending) (counts_itself : Bool) (allocator : Allocator) (range at : ℕ) → IsSoundWith S.view allocator (placing counts_itself p at) file.old
         → HasPlaceFor counts_itself file.old.header.fields allocator.reftable range at → IsBlockOf file.old.header.fields block → block.cluster ≡ Some at
         → WritesBlock S.view (placing counts_itself p at) file.old allocator file.new block at result }
+    ensures counted { OnOk result (AreClean (refblocks file.new.caches)) }
+    ensures first { OnOk result (BlocksMayGo (order_of file.new.caches) (l2_tables file.new.caches)) }
     ensures header { file.new.header ≡ file.old.header }
     ensures list { file.new.free_list ≡ file.old.free_list }
     ensures cause { IfErr result IsOfTables }

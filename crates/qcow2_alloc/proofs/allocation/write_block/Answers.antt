@@ -1,75 +1,112 @@
-use Rattle.std.proofs.Common.{◌≡◌, inl, ℕ, Option, Some, Result, Ok, Err, IfErr, length, refl, sym, ap, ◌∙◌, ◌+◌, ◌*◌, ◌^◌, subst}
+use Rattle.std.proofs.Common.{◌≡◌, inl, ℕ, Bool, Option, Some, Result, Ok, Err, IfErr, length, refl, sym, ap, ◌∙◌, ◌+◌, ◌*◌, ◌^◌, subst}
 use Rattle.std.specs.Prelude.{OnOk, IfSome}
-use Rattle.image_access.specs.Moments.{StorageView, Calls}
+use Rattle.image_access.specs.Contents.{overwritten}
+use Rattle.image_access.specs.Moments.{StorageView, Changes, Calls}
+use Rattle.image_access.specs.declared.error.StorageError.{StorageError}
 use Rattle.image_access.proofs.Bytes.{byte_at-overwritten}
+use Rattle.qcow2_metadata.specs.declared.header.HeaderFields.{HeaderFields}
 use Rattle.qcow2_metadata.specs.Bytes.{byte_at}
 use Rattle.qcow2_metadata.specs.Header.{cluster_size}
 use Rattle.qcow2_metadata.specs.RefBlock.{RefBlockView}
-use Rattle.qcow2_laws.specs.Caches.{AreClean, BlocksMayGo}
+use Rattle.qcow2_laws.specs.Caches.{BlocksMayGo}
 use Rattle.qcow2_laws.specs.Guard.{Pending}
 use Rattle.qcow2_alloc.specs.Allocation.{placing, HasPlaceFor, StandAt, Becomes, WritesBlock}
 use Rattle.qcow2_alloc.specs.ImageError.{of_storage, IsFault}
+use Rattle.qcow2_alloc.specs.declared.cache.MetadataCaches.{MetadataCaches}
+use Rattle.qcow2_alloc.specs.declared.image_storage.ImageStorage.{ImageStorage}
+use Rattle.qcow2_alloc.specs.CacheMarks.{KeepsMarks}
 use Rattle.qcow2_alloc.specs.declared.allocation.Allocator.{Allocator}
 use Rattle.qcow2_alloc.specs.declared.error.ImageError.{ImageError}
 use Rattle.qcow2_alloc.specs.declared.image_file.ImageFile.{ImageFile}
-use Rattle.qcow2_alloc.specs.ImageFile.{contents_in}
+use Rattle.qcow2_alloc.specs.ImageFile.{contents_in, IsSoundWith}
 use Rattle.qcow2_alloc.proofs.FileSteps.{moves_then}
 use Rattle.qcow2_alloc.specs.ImageStorage.{storage_of}
-use Rattle.qcow2_alloc.specs.MetadataCaches.{order_of, l2_tables, refblocks, rb_at, PutSound, PutRefusesBy}
+use Rattle.qcow2_alloc.specs.MetadataCaches.{order_of, l2_tables, rb_at, KeepSound, PutSound, PutRefusesBy}
 use Rattle.qcow2_alloc.specs.TableCaches.{IsBlockOf, cleared_rb}
 use Rattle.qcow2_alloc.proofs.AllocationSteps.{handed_on, fault_of_storage, becomes_then, becomes_cached, is_sound_now}
-use Rattle.qcow2_alloc.proofs.PlacedBlocks.{is_free, moves_rewritten, reftable_rewritten, write_as, holds_known, still_stands}
+use Rattle.qcow2_alloc.proofs.PlacedBlocks.{IsFree, is_free, moves_rewritten, reftable_rewritten, write_as, holds_known, still_stands}
 use Rattle.qcow2_alloc.proofs.allocation.write_block.Goals as goal
 
-pub returns-in_err-flush_rb-clause-sound : goal.returns-in_err-flush_rb-clause-sound
-returns-in_err-flush_rb-clause-sound g c = λ p d t range at sound place fits is.
-    let h = c.args.file.now.header.fields in
-    let one = becomes_cached g.S.Storage.view (placing d p at) c.args.file.now t c.flush_rb.new.storage c.flush_rb.new.self sound (c.flush_rb.ensures.keeps h (placing d p at) sound.sound.honest sound.sound.caches) c.flush_rb.ensures.marks in
-    handed_on (WritesBlock g.S.Storage.view (placing d p at) c.args.file.now t (record c.args.file.now { storage = c.flush_rb.new.storage; caches = c.flush_rb.new.self }) c.args.block at)
-    c.from_residual.result c.in_err-flush_rb.field-0.0 c.from_residual.ensures (c.in_err-flush_rb.ensures.faults h (placing d p at) sound.sound.honest sound.sound.caches sound.sound.settled, inl (one.moves, one.reftable))
+-- all counts are written, and then the block's bytes, or they are not
+module _ {S : Type 0} (view : S → StorageView) (d : Bool) (p : Pending) (range at : ℕ) (old : ImageFile S) (t : Allocator) (storage : ImageStorage S) (caches : MetadataCaches S) (sound : IsSoundWith view t (placing d p at) old)
+    (keeps : KeepSound view old.storage old.caches storage caches) (marks : KeepsMarks old.caches caches) where
+  abbrev q : Pending
+  q = placing d p at
 
-pub returns-in_err-write-clause-sound : goal.returns-in_err-write-clause-sound
-returns-in_err-write-clause-sound g c = λ p d t range at sound place fits is.
-    let h = c.args.file.now.header.fields in
-    let one = becomes_cached g.S.Storage.view (placing d p at) c.args.file.now t c.flush_rb.new.storage c.flush_rb.new.self sound (c.flush_rb.ensures.keeps h (placing d p at) sound.sound.honest sound.sound.caches) c.flush_rb.ensures.marks in
-    let file : ImageFile g.row.S.Denot = record c.args.file.now { storage = c.flush_rb.new.storage; caches = c.flush_rb.new.self } in
-    let free = is_free g.S.Storage.view d p range at file t.reftable one.moves.sound one.reftable c.in_ok-flush_rb.ensures.first (record { none = place.none; first = place.first }) in
-    let writes = write_as g.S.Storage.view (storage_of c.flush_rb.new.storage) (storage_of c.will_write.new.self) (storage_of c.write.new.storage) at c.args.block.cluster c.args.block.cluster_bits h.cluster_bits c.args.block.bytes c.write.result c.will_write.ensures.storage is fits.bits c.write.ensures.written in
-    let calls = subst (λ s. Calls (g.S.Storage.view s) (g.S.Storage.view (storage_of c.write.new.storage)) c.write.result) c.will_write.ensures.storage c.write.ensures.calls in
-    let long = subst (λ (b : RefBlockView). length b.bytes ≡ 2 ^ b.cluster_bits) c.block.view_is c.block.invariant.whole ∙ ap (λ n. 2 ^ n) fits.bits in
-    handed_on (WritesBlock g.S.Storage.view (placing d p at) c.args.file.now t (record c.args.file.now { storage = c.write.new.storage; caches = c.flush_rb.new.self }) c.args.block at)
-    c.from_residual-in_err-write.result (of_storage c.in_err-write.field-0.0) c.from_residual-in_err-write.ensures (
-      fault_of_storage c.in_err-write.field-0.0,
-      inl (
-        moves_then g.S.Storage.view (placing d p at) (placing d p at) (placing d p at) c.args.file.now file (record file { storage = c.write.new.storage }) (λ k some. some) one.moves (moves_rewritten g.S.Storage.view (placing d p at) file c.write.new.storage at c.args.block.bytes c.write.result one.moves.sound free long writes calls),
-        reftable_rewritten g.S.Storage.view (placing d p at) file c.write.new.storage at c.args.block.bytes c.write.result one.moves.sound free long writes calls t.reftable one.reftable,
-      ),
-    )
+  abbrev h : HeaderFields
+  h = old.header.fields
+
+  abbrev flushed : ImageFile S
+  flushed = record old { storage = storage; caches = caches }
+
+  counted : Becomes view q old t flushed q
+  counted = becomes_cached view q old t storage caches sound (keeps h q sound.sound.honest sound.sound.caches) marks
+
+  module _ (asked : S) (after : ImageStorage S) (block : RefBlockView) (result : Result (Unit {0}) StorageError) (first : BlocksMayGo (order_of caches) (l2_tables caches)) (place : HasPlaceFor d h t.reftable range at)
+      (fits : IsBlockOf h block) (is : block.cluster ≡ Some at) (whole : length block.bytes ≡ 2 ^ block.cluster_bits) (same : asked ≡ storage_of storage)
+      (written : IfSome block.cluster (λ k. Changes (view asked) (view (storage_of after)) result (overwritten (view asked).contents (k * 2 ^ block.cluster_bits) block.bytes))) (calls : Calls (view asked) (view (storage_of after)) result) where
+    abbrev done : ImageFile S
+    done = record flushed { storage = after }
+
+    there : HasPlaceFor d flushed.header.fields t.reftable range at
+    there = record { none = place.none; first = place.first }
+
+    free : IsFree view q flushed at
+    free = is_free view d p range at flushed t.reftable counted.moves.sound counted.reftable first there
+
+    long : length block.bytes ≡ cluster_size h
+    long = whole ∙ ap (λ n. 2 ^ n) fits.bits
+
+    writes : Changes (view (storage_of storage)) (view (storage_of after)) result (overwritten (view (storage_of storage)).contents (at * cluster_size h) block.bytes)
+    writes = write_as view (storage_of storage) asked (storage_of after) at block.cluster block.cluster_bits h.cluster_bits block.bytes result same is fits.bits written
+
+    calls_now : Calls (view (storage_of storage)) (view (storage_of after)) result
+    calls_now = subst (λ s. Calls (view s) (view (storage_of after)) result) same calls
+
+    -- all is as sound as before, in either case
+    still : Becomes view q old t done q
+    still = record {
+      moves = moves_then view q q q old flushed done (λ k some. some) counted.moves (moves_rewritten view q flushed after at block.bytes result counted.moves.sound free long writes calls_now);
+      reftable = reftable_rewritten view q flushed after at block.bytes result counted.moves.sound free long writes calls_now t.reftable counted.reftable;
+    }
+
+    stand_there : (x : Unit {0}) → result ≡ Ok x → StandAt (contents_in view done) (at * cluster_size h) block.bytes
+    stand_there x ok i lt =
+        let now = rw ok at (writes counted.moves.sound.honest) in
+        sym (ap (λ l. byte_at l (at * cluster_size h + i)) now ∙ byte_at-overwritten (view (storage_of storage)).contents (at * cluster_size h) block.bytes i lt)
 
 -- the answer at the end
 finish : {S : Type 0} (view : S → StorageView) (q : Pending) (old new : ImageFile S) (t : Allocator) (block : RefBlockView) (at : ℕ) (result : Result (Unit {0}) ImageError) → Becomes view q old t new q → IfErr result IsFault
-    → OnOk result (AreClean (refblocks new.caches)) → OnOk result (BlocksMayGo (order_of new.caches) (l2_tables new.caches)) → OnOk result (rb_at new.caches at ≡ Some (cleared_rb block))
+    → OnOk result (BlocksMayGo (order_of new.caches) (l2_tables new.caches)) → OnOk result (rb_at new.caches at ≡ Some (cleared_rb block))
     → (BlocksMayGo (order_of new.caches) (l2_tables new.caches) → StandAt (contents_in view new) (at * cluster_size new.header.fields) block.bytes) → WritesBlock view q old t new block at result
-finish view q old new t block at (Ok _) becomes faults clean first held stands = (becomes, record { clean = clean; first = first; held = held; stands = stands first })
-finish view q old new t block at (Err e) becomes faults clean first held stands = (faults, inl (becomes.moves, becomes.reftable))
+finish view q old new t block at (Ok _) becomes faults first held stands = (becomes, record { held = held; stands = stands first })
+finish view q old new t block at (Err e) becomes faults first held stands = (faults, inl (becomes.moves, becomes.reftable))
+
+pub returns-in_err-flush_rb-clause-sound : goal.returns-in_err-flush_rb-clause-sound
+returns-in_err-flush_rb-clause-sound g c = λ p d t range at sound place fits is.
+    let one = counted g.S.Storage.view d p range at c.args.file.now t c.flush_rb.new.storage c.flush_rb.new.self sound c.flush_rb.ensures.keeps c.flush_rb.ensures.marks in
+    handed_on (WritesBlock g.S.Storage.view (placing d p at) c.args.file.now t (record c.args.file.now { storage = c.flush_rb.new.storage; caches = c.flush_rb.new.self }) c.args.block at)
+    c.from_residual.result c.in_err-flush_rb.field-0.0 c.from_residual.ensures
+    (c.in_err-flush_rb.ensures.faults c.args.file.now.header.fields (placing d p at) sound.sound.honest sound.sound.caches sound.sound.settled, inl (one.moves, one.reftable))
+
+pub returns-in_err-write-clause-sound : goal.returns-in_err-write-clause-sound
+returns-in_err-write-clause-sound g c = λ p d t range at sound place fits is.
+    let whole = subst (λ (b : RefBlockView). length b.bytes ≡ 2 ^ b.cluster_bits) c.block.view_is c.block.invariant.whole in
+    let two = still g.S.Storage.view d p range at c.args.file.now t c.flush_rb.new.storage c.flush_rb.new.self sound c.flush_rb.ensures.keeps c.flush_rb.ensures.marks (storage_of c.will_write.new.self) c.write.new.storage
+    c.args.block c.write.result c.in_ok-flush_rb.ensures.first place fits is whole c.will_write.ensures.storage c.write.ensures.written c.write.ensures.calls in
+    handed_on (WritesBlock g.S.Storage.view (placing d p at) c.args.file.now t (record c.args.file.now { storage = c.write.new.storage; caches = c.flush_rb.new.self }) c.args.block at)
+    c.from_residual-in_err-write.result (of_storage c.in_err-write.field-0.0) c.from_residual-in_err-write.ensures (fault_of_storage c.in_err-write.field-0.0, inl (two.moves, two.reftable))
 
 pub returns-clause-sound : goal.returns-clause-sound
 returns-clause-sound g c = λ p d t range at sound place fits is.
     let h = c.args.file.now.header.fields in
-    let one = becomes_cached g.S.Storage.view (placing d p at) c.args.file.now t c.flush_rb.new.storage c.flush_rb.new.self sound (c.flush_rb.ensures.keeps h (placing d p at) sound.sound.honest sound.sound.caches) c.flush_rb.ensures.marks in
-    let file : ImageFile g.row.S.Denot = record c.args.file.now { storage = c.flush_rb.new.storage; caches = c.flush_rb.new.self } in
-    let free = is_free g.S.Storage.view d p range at file t.reftable one.moves.sound one.reftable c.in_ok-flush_rb.ensures.first (record { none = place.none; first = place.first }) in
-    let writes = write_as g.S.Storage.view (storage_of c.flush_rb.new.storage) (storage_of c.will_write.new.self) (storage_of c.write.new.storage) at c.args.block.cluster c.args.block.cluster_bits h.cluster_bits c.args.block.bytes c.write.result c.will_write.ensures.storage is fits.bits c.write.ensures.written in
-    let calls = subst (λ s. Calls (g.S.Storage.view s) (g.S.Storage.view (storage_of c.write.new.storage)) c.write.result) c.will_write.ensures.storage c.write.ensures.calls in
-    let long = subst (λ (b : RefBlockView). length b.bytes ≡ 2 ^ b.cluster_bits) c.block.view_is c.block.invariant.whole ∙ ap (λ n. 2 ^ n) fits.bits in
-    let f2 : ImageFile g.row.S.Denot = record file { storage = c.write.new.storage } in
-    let two : Becomes g.S.Storage.view (placing d p at) c.args.file.now t f2 (placing d p at) = record {
-      moves = moves_then g.S.Storage.view (placing d p at) (placing d p at) (placing d p at) c.args.file.now file f2 (λ k some. some) one.moves (moves_rewritten g.S.Storage.view (placing d p at) file c.write.new.storage at c.args.block.bytes c.write.result one.moves.sound free long writes calls);
-      reftable = reftable_rewritten g.S.Storage.view (placing d p at) file c.write.new.storage at c.args.block.bytes c.write.result one.moves.sound free long writes calls t.reftable one.reftable;
-    } in
-    let now = rw c.in_ok-write.was at (writes one.moves.sound.honest) in
-    let stands : StandAt (contents_in g.S.Storage.view f2) (at * cluster_size h) c.args.block.bytes = λ i lt.
-    sym (ap (λ l. byte_at l (at * cluster_size h + i)) now ∙ byte_at-overwritten (g.S.Storage.view (storage_of c.flush_rb.new.storage)).contents (at * cluster_size h) c.args.block.bytes i lt) in
+    let whole = subst (λ (b : RefBlockView). length b.bytes ≡ 2 ^ b.cluster_bits) c.block.view_is c.block.invariant.whole in
+    let long = whole ∙ ap (λ n. 2 ^ n) fits.bits in
+    let f2 : ImageFile g.row.S.Denot = record c.args.file.now { storage = c.write.new.storage; caches = c.flush_rb.new.self } in
+    let two = still g.S.Storage.view d p range at c.args.file.now t c.flush_rb.new.storage c.flush_rb.new.self sound c.flush_rb.ensures.keeps c.flush_rb.ensures.marks (storage_of c.will_write.new.self) c.write.new.storage
+    c.args.block c.write.result c.in_ok-flush_rb.ensures.first place fits is whole c.will_write.ensures.storage c.write.ensures.written c.write.ensures.calls in
+    let stands = stand_there g.S.Storage.view d p range at c.args.file.now t c.flush_rb.new.storage c.flush_rb.new.self sound c.flush_rb.ensures.keeps c.flush_rb.ensures.marks (storage_of c.will_write.new.self) c.write.new.storage
+    c.args.block c.write.result c.in_ok-flush_rb.ensures.first place fits is whole c.will_write.ensures.storage c.write.ensures.written c.write.ensures.calls c.in_ok-write.field-0 c.in_ok-write.was in
     let room : HasPlaceFor d h t.reftable range at = record { none = place.none; first = place.first } in
     let cleared : IsBlockOf h (cleared_rb c.args.block) = record { bits = fits.bits; order = fits.order } in
     let known = holds_known g.S.Storage.view d p range at f2 t.reftable two.moves.sound two.reftable c.in_ok-flush_rb.ensures.first room c.args.block fits long stands in
@@ -80,7 +117,6 @@ returns-clause-sound g c = λ p d t range at sound place fits is.
     finish g.S.Storage.view (placing d p at) c.args.file.now (record f2 { storage = c.rb_insert.new.storage; caches = c.rb_insert.new.self }) t c.args.block at c.rb_insert.result
     (becomes_then g.S.Storage.view (placing d p at) (placing d p at) c.args.file.now f2 (record f2 { storage = c.rb_insert.new.storage; caches = c.rb_insert.new.self }) t t two three)
     (faults h (placing d p at) two.moves.sound.honest two.moves.sound.caches two.moves.sound.settled cleared refl (rw is known))
-    (c.rb_insert.ensures.clean c.in_ok-flush_rb.ensures.written (ap (λ (b : RefBlockView). b.is_modified) c.clear_modified.ensures))
     (c.rb_insert.ensures.first c.in_ok-flush_rb.ensures.first)
     (subst (λ (o : Option ℕ). OnOk c.rb_insert.result (IfSome o (λ k. rb_at c.rb_insert.new.self k ≡ Some (cleared_rb c.args.block)))) is
     (subst (λ (b : RefBlockView). OnOk c.rb_insert.result (IfSome b.cluster (λ k. rb_at c.rb_insert.new.self k ≡ Some b))) c.clear_modified.ensures c.rb_insert.ensures.held))

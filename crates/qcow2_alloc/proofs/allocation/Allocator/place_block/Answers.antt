@@ -38,7 +38,7 @@ returns-in_err-write_block-clause-sound g c = λ p sound place.
 
 -- the last step: the entry is written, or is not
 module _ {S : Type 0} (view : S → StorageView) (d : Bool) (p : Pending) (range at : ℕ) (old file : ImageFile S) (t : Allocator) (t' : EntryTableView) (caches : MetadataCaches S) (storage : ImageStorage S) (asked : S) (block : RefBlockView)
-    (result : Result (Unit {0}) StorageError) (before : Becomes view (placing d p at) old t file (placing d p at) × HoldsBlock view (placing d p at) old t file block at)
+    (result : Result (Unit {0}) StorageError) (before : Becomes view (placing d p at) old t file (placing d p at) × HoldsBlock view (placing d p at) old t file block at) (counted : AreClean (refblocks file.caches)) (first : BlocksMayGo (order_of file.caches) (l2_tables file.caches))
     (noted : caches ≡ record file.caches { is_changed = true }) (tables : SameTables file.caches caches) (marks : KeepsMarks file.caches caches) (place : HasPlaceFor d file.header.fields t.reftable range at) (within : range < entry_count t.reftable)
     (rest : t' ≡ record t.reftable { bytes = t'.bytes }) (enters : ChangesEntry t.reftable.bytes t'.bytes range (at * 2 ^ t.reftable.cluster_bits)) (offset : block_offset (entry_at t'.bytes range) ≡ at * 2 ^ t.reftable.cluster_bits)
     (fits : entry_at t'.bytes range < 2 ^ 64) (whole : IsRefBlock block) (format : IsBlockOf file.header.fields block) (counts : (i : ℕ) → count_at block i ≡ first_counts d i) (same : asked ≡ storage_of file.storage)
@@ -77,10 +77,10 @@ module _ {S : Type 0} (view : S → StorageView) (d : Bool) (p : Pending) (range
   held = (cleared_rb block, ap (λ (c : MetadataCaches S). rb_at c at) noted ∙ before.1.held, refl)
 
   clean : AreClean (refblocks caches)
-  clean = subst AreClean (sym tables.refblocks) before.1.clean
+  clean = subst AreClean (sym tables.refblocks) counted
 
   may : BlocksMayGo (order_of caches) (l2_tables caches)
-  may = subst (λ o. BlocksMayGo o (l2_tables caches)) (sym tables.order) (subst (BlocksMayGo (order_of file.caches)) (sym tables.l2_tables) before.1.first)
+  may = subst (λ o. BlocksMayGo o (l2_tables caches)) (sym tables.order) (subst (BlocksMayGo (order_of file.caches)) (sym tables.l2_tables) first)
 
   there : HasPlaceFor d h t.reftable range at
   there = place
@@ -116,7 +116,7 @@ returns-in_err-write_entry-clause-sound g c = λ p sound place.
     handed_on (PlacesBlock g.S.Storage.view (placing c.args.counts_itself p c.args.at) c.args.file.now (record c.args.self.now { reftable = c.enter_refblock.new.self }) (record c.write_block.new.file { storage = c.write_entry.new.storage; caches = c.note_change.new.self }) p c.args.range c.args.at)
     c.from_residual-in_err-write_entry.result (of_storage c.in_err-write_entry.field-0.0) c.from_residual-in_err-write_entry.ensures
     (not_placed g.S.Storage.view c.args.counts_itself p c.args.range c.args.at c.args.file.now c.write_block.new.file c.args.self.now c.enter_refblock.new.self c.note_change.new.self c.write_entry.new.storage (storage_of c.will_write.new.self) c.in_ok-block.block c.write_entry.result
-    three c.note_change.ensures.same c.note_change.ensures.tables c.note_change.ensures.marks (subst (λ h. HasPlaceFor c.args.counts_itself h c.args.self.now.reftable c.args.range c.args.at) (sym (ap (λ x. x.fields) c.write_block.ensures.header)) place)
+    three c.in_ok-write_block.ensures.counted c.in_ok-write_block.ensures.first c.note_change.ensures.same c.note_change.ensures.tables c.note_change.ensures.marks (subst (λ h. HasPlaceFor c.args.counts_itself h c.args.self.now.reftable c.args.range c.args.at) (sym (ap (λ x. x.fields) c.write_block.ensures.header)) place)
     c.requires.within c.enter_refblock.ensures.rest (subst (λ k. ChangesEntry c.args.self.now.reftable.bytes c.enter_refblock.new.self.bytes c.args.range (k * 2 ^ c.args.self.now.reftable.cluster_bits)) c.new-cluster.ensures c.enter_refblock.ensures.entry)
     (c.enter_refblock.ensures.offset ∙ ap (λ k. k * 2 ^ c.args.self.now.reftable.cluster_bits) c.new-cluster.ensures) c.write_entry.ensures.fits c.in_ok-block.ensures.whole (subst (λ h. IsBlockOf h c.in_ok-block.block) (sym (ap (λ x. x.fields) c.write_block.ensures.header)) c.in_ok-block.ensures.format)
     c.in_ok-block.ensures.counts c.will_write.ensures.storage c.write_entry.ensures.written c.write_entry.ensures.calls c.note_change.ensures.changed (of_storage c.in_err-write_entry.field-0.0) (fault_of_storage c.in_err-write_entry.field-0.0))
@@ -126,7 +126,7 @@ returns-clause-sound g c = λ p sound place.
     let is = c.in_ok-block.ensures.cluster ∙ ap Some c.new-cluster.ensures in
     let three = c.in_ok-write_block.ensures.sound p c.args.counts_itself c.args.self.now c.args.range c.args.at sound place c.in_ok-block.ensures.format is in
     is_placed g.S.Storage.view c.args.counts_itself p c.args.range c.args.at c.args.file.now c.write_block.new.file c.args.self.now c.enter_refblock.new.self c.note_change.new.self c.write_entry.new.storage (storage_of c.will_write.new.self) c.in_ok-block.block c.write_entry.result
-    three c.note_change.ensures.same c.note_change.ensures.tables c.note_change.ensures.marks (subst (λ h. HasPlaceFor c.args.counts_itself h c.args.self.now.reftable c.args.range c.args.at) (sym (ap (λ x. x.fields) c.write_block.ensures.header)) place)
+    three c.in_ok-write_block.ensures.counted c.in_ok-write_block.ensures.first c.note_change.ensures.same c.note_change.ensures.tables c.note_change.ensures.marks (subst (λ h. HasPlaceFor c.args.counts_itself h c.args.self.now.reftable c.args.range c.args.at) (sym (ap (λ x. x.fields) c.write_block.ensures.header)) place)
     c.requires.within c.enter_refblock.ensures.rest (subst (λ k. ChangesEntry c.args.self.now.reftable.bytes c.enter_refblock.new.self.bytes c.args.range (k * 2 ^ c.args.self.now.reftable.cluster_bits)) c.new-cluster.ensures c.enter_refblock.ensures.entry)
     (c.enter_refblock.ensures.offset ∙ ap (λ k. k * 2 ^ c.args.self.now.reftable.cluster_bits) c.new-cluster.ensures) c.write_entry.ensures.fits c.in_ok-block.ensures.whole (subst (λ h. IsBlockOf h c.in_ok-block.block) (sym (ap (λ x. x.fields) c.write_block.ensures.header)) c.in_ok-block.ensures.format)
     c.in_ok-block.ensures.counts c.will_write.ensures.storage c.write_entry.ensures.written c.write_entry.ensures.calls c.in_ok-write_entry.field-0 c.in_ok-write_entry.was
