@@ -1,11 +1,10 @@
 -- An image whose new L2 table is named, or isn't: what is pending then, and what is to be freed.
-use Rattle.std.proofs.Common.{◌≡◌, inl, inr, ℕ, ◌+◌, ◌<◌, false, List, [], ◌∷◌, ◌++◌, Option, Result, Ok, Err, refl, sym, ap, ◌∙◌, subst, arith}
+use Rattle.std.proofs.Common.{◌≡◌, inl, inr, ℕ, ◌+◌, false, List, [], ◌∷◌, ◌++◌, Option, Result, Ok, Err, refl, sym, ap, ◌∙◌, subst, arith}
 use Rattle.std.specs.Prelude.{IfSome, Some, None}
 use Rattle.std.proofs.lemmas.Bool.{cases_lt}
 use Rattle.image_access.specs.Backing.{BackingView}
 use Rattle.image_access.specs.Moments.{StorageView}
 use Rattle.image_access.proofs.Passing.{passes_none}
-use Rattle.qcow2_metadata.specs.Bytes.{Bytes}
 use Rattle.qcow2_metadata.specs.declared.header.HeaderFields.{HeaderFields}
 use Rattle.qcow2_metadata.specs.Entries.{l1_entry, host_offset}
 use Rattle.qcow2_metadata.specs.EntryTable.{EntryTableView}
@@ -13,9 +12,9 @@ use Rattle.qcow2_metadata.specs.L2Table.{L2TableView}
 use Rattle.qcow2_metadata.specs.Named.{table_in}
 use Rattle.qcow2_metadata.specs.TableBytes.{entry_at}
 use Rattle.qcow2_laws.specs.Changes.{one_at, with_fresh, fresh_to_spent}
-use Rattle.qcow2_laws.specs.Guard.{Pending, SameCovers}
+use Rattle.qcow2_laws.specs.Guard.{Pending}
 use Rattle.qcow2_laws.specs.Leads.{Leads}
-use Rattle.qcow2_laws.proofs.Leads.{leads_none, endures_none}
+use Rattle.qcow2_laws.proofs.Leads.{endures_none}
 use Rattle.qcow2_laws.proofs.Steps.{pending_is_changed}
 use Rattle.qcow2_laws.proofs.Unseen.{unseen_known}
 use Rattle.qcow2_alloc.specs.Allocation.{run_at, taken_as, Becomes}
@@ -31,7 +30,7 @@ use Rattle.qcow2_alloc.proofs.FileSteps.{endures_then, one_few, one_here, pendin
 use Rattle.qcow2_alloc.proofs.Runs.{run_before, run_after, run_last}
 use Rattle.qcow2_image.specs.declared.image.Qcow2.{Qcow2}
 use Rattle.qcow2_image.specs.declared.prepared.Prepared.{Prepared}
-use Rattle.qcow2_image.specs.NewTables.{SaysKnown, MayName, NamesCopied, replacing, NamesNew, WritesNew, EntersTable}
+use Rattle.qcow2_image.specs.NewTables.{SaysKnown, MayName, replacing, NamesNew, WritesNew, EntersTable}
 use Rattle.qcow2_image.specs.Steps.{NamesOwn, Keeps, Leaves, following}
 use Rattle.qcow2_image.specs.Views.{of_data, of_tables, to_free, IsSoundAt}
 use Rattle.qcow2_image.proofs.Called.{keeps_then}
@@ -90,7 +89,7 @@ module _ {S F : Type 0} (view : S → StorageView) (backing : F → BackingView)
   written_so p a b c index at (Ok x) sound same first names =
       let q = with_fresh p (one_at at) in (
         subst (λ (r : Pending). Keeps view backing q r a c out) (replacing_same q q a b sound first.sound same p index first.unseen.header)
-        (keeps_then view backing out a b c q q (replacing view p b index) (λ k h. h) first names.0),
+            (keeps_then view backing out a b c q q (replacing view p b index) (λ k h. h) first names.0),
         names.1,
       )
   written_so p a b c index at (Err e) sound same first breaks = let q = with_fresh p (one_at at) in inr (breaks_on q q a b c e first breaks)
@@ -183,7 +182,7 @@ module _ {S F : Type 0} (view : S → StorageView) (backing : F → BackingView)
             let q = with_fresh p (one_at first) in
             let named : WritesNew view backing p taken new out index first (Ok x) = subst (WritesNew view backing p taken new out index first) is written in (
               subst (λ (s : Pending). Keeps view backing p s old new out) (replacing_same p q old taken sound keeps_taken.sound refl p index keeps_taken.unseen.header)
-              (keeps_then view backing out old taken new p q (replacing view p taken index) (λ k h. h) keeps_taken named.0),
+                  (keeps_then view backing out old taken new p q (replacing view p taken index) (λ k h. h) keeps_taken named.0),
               named.1,
               listed ∙ list,
             )

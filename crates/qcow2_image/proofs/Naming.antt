@@ -1,6 +1,6 @@
 -- An L1 entry is written that names a new L2 table, which stands in its cluster.
 use Rattle.std.proofs.Common.{◌≡◌, ◌≢◌, ◌⊎◌, inl, inr, ℕ, ◌+◌, ◌*◌, ◌/◌, ◌%◌, ◌^◌, ◌<◌, ◌≤◌, Bool, true, eqb, List, [], ◌∷◌, length, Option, Some, None, Result, Ok, refl, sym, ap, ◌∙◌, subst, arith}
-use Rattle.std.proofs.lemmas.Bool.{cases_eq, cases_lt, eq-eqb, ne_eqb, cond-true, cond-false}
+use Rattle.std.proofs.lemmas.Bool.{cases_eq, eq-eqb, ne_eqb, cond-true, cond-false}
 use Rattle.std.proofs.lemmas.List.{append-nil}
 use Rattle.std.proofs.lemmas.Nat.{mod_below, div-add-mod'}
 use Rattle.std.specs.Prelude.{IfSome}
@@ -27,7 +27,7 @@ use Rattle.qcow2_laws.specs.Stops.{Mark, IsKeptAt}
 use Rattle.qcow2_laws.specs.Changes.{one_at, with_fresh, renamed}
 use Rattle.qcow2_laws.specs.Guard.{Pending, SameIn}
 use Rattle.qcow2_laws.specs.Guests.{table_at}
-use Rattle.qcow2_laws.specs.Caches.{AreClean, AreSettled, IsFreeAt, IsFreeOf, HasL2, HasBlock}
+use Rattle.qcow2_laws.specs.Caches.{AreClean, IsFreeAt, IsFreeOf, HasL2, HasBlock}
 use Rattle.qcow2_laws.specs.Leads.{Leads, Endures}
 use Rattle.qcow2_laws.specs.Tops.{IsSameBut, IsSameOutside, WritesL1Entry, IsNewTable}
 use Rattle.qcow2_laws.specs.Unseen.{IsUnseen}
@@ -48,7 +48,7 @@ use Rattle.qcow2_alloc.specs.AsyncLruCache.{value_at}
 use Rattle.qcow2_alloc.specs.KeptTables.{cached_tables}
 use Rattle.qcow2_alloc.specs.ImageFile.{nothing_given, view_in, contents_in, known_in, stand_in, HasReftable}
 use Rattle.qcow2_alloc.specs.ImageStorage.{storage_of}
-use Rattle.qcow2_alloc.specs.MetadataCaches.{order_of, l2_tables, refblocks, known_of, AreSound}
+use Rattle.qcow2_alloc.specs.MetadataCaches.{order_of, l2_tables, refblocks, AreSound}
 use Rattle.qcow2_alloc.proofs.FileSteps.{one_here, pending_same}
 use Rattle.qcow2_alloc.proofs.KeptTables.Getting.{cluster_aligned}
 use Rattle.qcow2_alloc.proofs.KeptTables.Named.{AreCurrentIn, loaded_named}
@@ -78,9 +78,9 @@ away_in bits bytes is_modified base key [] none = tt
 away_in bits bytes is_modified base key (e ∷ es) none = elim (cases_eq key e.0) [
   | inl here ↦ absurd (let found = eq-eqb key e.0 here in let some = rw found at none in cc)
   | inr other ↦ (
-      (λ begins. absurd (other (sym begins ∙ own_cluster bits e.0))),
-      away_in bits bytes is_modified base key es (let past = ne_eqb key e.0 other in rw past at none),
-    )
+    (λ begins. absurd (other (sym begins ∙ own_cluster bits e.0))),
+    away_in bits bytes is_modified base key es (let past = ne_eqb key e.0 other in rw past at none),
+  )
 ]
 
 -- a table that begins in a cluster lies in this one alone

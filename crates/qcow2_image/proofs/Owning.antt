@@ -1,6 +1,6 @@
 -- The L2 table of an L1 entry is made its own: it is new, a copy, or was so before.
-use Rattle.std.proofs.Common.{◌≡◌, ◌≢◌, inl, inr, ℕ, ◌+◌, ◌*◌, ◌/◌, ◌%◌, ◌<◌, List, [], ◌∷◌, ◌++◌, Option, Some, None, Result, Ok, Err, true, refl, sym, ap, ◌∙◌, subst, arith}
-use Rattle.std.specs.Prelude.{◌==◌, IfSome, IsErr, IsSome}
+use Rattle.std.proofs.Common.{◌≡◌, inl, inr, ℕ, ◌*◌, ◌/◌, ◌%◌, ◌<◌, List, [], ◌∷◌, ◌++◌, Option, None, Result, Ok, Err, true, refl, sym, ap, ◌∙◌, subst, arith}
+use Rattle.std.specs.Prelude.{◌==◌, IsErr, IsSome}
 use Rattle.std.proofs.lemmas.Bool.{cond-true, eq-eqb}
 use Rattle.std.proofs.lemmas.Nat.{mod_below}
 use Rattle.image_access.specs.Backing.{BackingView}
@@ -8,8 +8,8 @@ use Rattle.image_access.specs.Moments.{StorageView}
 use Rattle.qcow2_metadata.specs.Bytes.{Bytes}
 use Rattle.qcow2_metadata.specs.declared.header.HeaderFields.{HeaderFields}
 use Rattle.qcow2_metadata.specs.Header.{cluster_size, entries_per_cluster, has_data_file}
-use Rattle.qcow2_metadata.specs.Entries.{l1_entry, l2_entry, host_offset, is_copied}
-use Rattle.qcow2_metadata.specs.Cover.{cover, entry_cover}
+use Rattle.qcow2_metadata.specs.Entries.{l2_entry, host_offset, is_copied}
+use Rattle.qcow2_metadata.specs.Cover.{entry_cover}
 use Rattle.qcow2_metadata.specs.L2Table.{L2TableView, l2_table}
 use Rattle.qcow2_metadata.specs.Named.{table_in}
 use Rattle.qcow2_metadata.specs.TableBytes.{entry_at}
@@ -28,7 +28,6 @@ use Rattle.qcow2_alloc.specs.CacheMarks.{l2_pins, HasRoom}
 use Rattle.qcow2_alloc.specs.ImageFile.{view_in, contents_in, known_in, stand_in}
 use Rattle.qcow2_alloc.specs.ImageStorage.{storage_of}
 use Rattle.qcow2_alloc.specs.MetadataCaches.{l2_at, IsEntryAt, ShowsKnown, StaySound}
-use Rattle.qcow2_alloc.specs.TableCaches.{IsTableOf}
 use Rattle.qcow2_alloc.proofs.FileSteps.{pending_same}
 use Rattle.qcow2_image.specs.declared.image.Qcow2.{Qcow2}
 use Rattle.qcow2_image.specs.declared.prepared.Prepared.{Prepared}
@@ -101,9 +100,9 @@ module _ {S F : Type 0} (view : S → StorageView) (backing : F → BackingView)
         let q = given_up view backing out p former in
         let first : Keeps view backing p q old new out = subst (λ (r : Pending). Keeps view backing p r old new out) replaces_former entered.0 in (
           subst (λ (r : Pending). Keeps view backing p r old final out)
-          (freed_table view backing out p former old final entry (ap (λ (e : ClustersToFreeEntry). e.first_cluster) is) (ap (λ (e : ClustersToFreeEntry). e.count) is) (ap (λ (e : ClustersToFreeEntry). e.kind) is) (longer ∙ ap (λ l. l ++ entry ∷ []) entered.2))
-          (keeps_then view backing out old new final p q q (λ k some. some) first
-          (keeps_listed view backing out q q new list (entry ∷ []) first.sound longer (leads_none (stand_in view new.file q) first.sound.file.caches.kept.kept.guarded))),
+              (freed_table view backing out p former old final entry (ap (λ (e : ClustersToFreeEntry). e.first_cluster) is) (ap (λ (e : ClustersToFreeEntry). e.count) is) (ap (λ (e : ClustersToFreeEntry). e.kind) is) (longer ∙ ap (λ l. l ++ entry ∷ []) entered.2))
+              (keeps_then view backing out old new final p q q (λ k some. some) first
+              (keeps_listed view backing out q q new list (entry ∷ []) first.sound longer (leads_none (stand_in view new.file q) first.sound.file.caches.kept.kept.guarded))),
           record { place = entered.1.place; own = entered.1.own },
         )
 

@@ -661,7 +661,7 @@ impl<S: Storage, F: WrappedFormat<S>> Qcow2<S, F> {
         self.name_l2(index, cluster)
     }
 
-    // Writes a table's bytes to a cluster, after all that is cached. A cluster that an older table is held for is refused.
+    // Writes a table's bytes to a cluster, after all that is cached. A cluster that an older table is held for is refused: the older one would be found there.
     fn place_l2(&mut self, cluster: HostCluster, mut table: L2Table) -> Result<(), ImageError>
         ensures stays { Stays self.old self.new }
         ensures keeps_rest { KeepsRest self.old self.new }

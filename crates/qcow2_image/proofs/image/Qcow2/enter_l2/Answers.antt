@@ -1,10 +1,10 @@
-use Rattle.std.proofs.Common.{◌≡◌, refl, sym, ap, ◌∙◌, subst}
+use Rattle.std.proofs.Common.{sym, ◌∙◌, subst}
 use Rattle.std.specs.Prelude.{IfSome, Some, false}
 use Rattle.qcow2_alloc.specs.Allocation.{run_at, taken_as, Becomes}
 use Rattle.qcow2_alloc.specs.ImageFile.{HasReftable}
 use Rattle.qcow2_alloc.proofs.AllocationSteps.{handed_on}
 use Rattle.qcow2_image.specs.NewTables.{EntersTable}
-use Rattle.qcow2_image.proofs.Entering.{none_taken, keeps_taken, table_entered, table_refused}
+use Rattle.qcow2_image.proofs.Entering.{none_taken, table_entered, table_refused}
 use Rattle.qcow2_image.proofs.image.Qcow2.enter_l2.Goals as goal
 
 pub returns-in_err-pending-clause-enters : goal.returns-in_err-pending-clause-enters

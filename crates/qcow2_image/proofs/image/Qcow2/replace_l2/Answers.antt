@@ -1,4 +1,4 @@
-use Rattle.std.proofs.Common.{◌≡◌, inl, refl}
+use Rattle.std.proofs.Common.{inl, refl}
 use Rattle.qcow2_image.specs.NewTables.{OwnsTable}
 use Rattle.qcow2_image.proofs.Entering.{as_following}
 use Rattle.qcow2_image.proofs.Loading.{caches_moved, with_caches}

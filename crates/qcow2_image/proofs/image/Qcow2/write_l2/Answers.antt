@@ -1,10 +1,10 @@
-use Rattle.std.proofs.Common.{◌≡◌, inl, ◌+◌, ap, arith}
+use Rattle.std.proofs.Common.{inl, ap, arith}
 use Rattle.qcow2_laws.specs.Changes.{one_at, with_fresh}
 use Rattle.qcow2_alloc.proofs.AllocationSteps.{handed_on}
 use Rattle.qcow2_alloc.proofs.FileSteps.{one_here}
 use Rattle.qcow2_image.specs.declared.image.Qcow2.{Qcow2}
 use Rattle.qcow2_image.specs.NewTables.{WritesNew}
-use Rattle.qcow2_image.proofs.Entering.{keeps_none, may_still, says_still, written_so}
+use Rattle.qcow2_image.proofs.Entering.{may_still, says_still, written_so}
 use Rattle.qcow2_image.proofs.image.Qcow2.write_l2.Goals as goal
 
 pub returns-in_err-place_l2-clause-writes : goal.returns-in_err-place_l2-clause-writes
