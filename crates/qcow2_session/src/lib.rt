@@ -2,5 +2,6 @@
 #![tactic(auto)]
 
 pub mod session;
+mod slots;
 
 pub use session::{Command, Reply, read, run, write};

@@ -1,13 +1,15 @@
 //! Commands, one after the other, on one image.
-ghost use Rattle.std.specs.Prelude.{◌≡◌, ◌+◌, ◌≤◌, ◌⊎◌, ◌<◌, ℕ, [], length, vec_len, IfSome, IfErr, IfOk, Option, Some, Err, slice_get};
+ghost use Rattle.std.specs.Prelude.{◌≡◌, ◌+◌, ◌≤◌, ◌⊎◌, ◌<◌, ◌++◌, ◌∷◌, ℕ, List, [], length, vec_len, IfSome, IfErr, IfOk, Option, Err};
 ghost use Rattle.qcow2_image.specs.Image.{number_of};
 ghost use Rattle.qcow2_image.specs.Prepared.{image_of};
+ghost use Rattle.qcow2_image.specs.Calls.{Discards};
+ghost use Rattle.qcow2_session.specs.Sessions.{Reads, ReadsFirst, Writes, WritesFirst, Steps, Finds, LetsGo, RunsThrough, TellsTheDisk};
 ghost use Rattle.qcow2_image.specs.declared.prepared.Prepared.{Prepared};
 
+use crate::slots::Slots;
 use image_access::{Storage, WrappedFormat};
 use qcow2_image::{CommitRefused, ImageError, Mapping, Prepared, Qcow2};
 use std::alloc::Global;
-use std::mem;
 
 /// A call on an image. Prepared mappings stand in slots, and so do mappings.
 #[derive(Debug, PartialEq, Drop)]
@@ -81,6 +83,7 @@ pub fn read<S: Storage, F: WrappedFormat<S>>(
     length: u64,
 ) -> Result<Vec<u8>, ImageError>
     ensures number { number_of image.new ≡ number_of image.old }
+    ensures sees { Reads S.view F.backing image.old image.new offset length result }
 {
     image.check_read(offset, length)?;
     let Ok(count) = usize::try_from(length) else {
@@ -89,7 +92,10 @@ pub fn read<S: Storage, F: WrappedFormat<S>>(
     let mut bytes = vec![in alloc; 0; count]?;
     let mut done = 0;
     while done < count {
-        done += read_some(image, offset.wrapping_add(done as u64), &mut bytes[done..])?;
+        let Some(at) = offset.checked_add(done as u64) else {
+            return Err(ImageError::BeyondSize);
+        };
+        done += read_some(image, at, &mut bytes[done..])?;
     }
     Ok(bytes)
 }
@@ -103,6 +109,7 @@ fn read_some<S: Storage, F: WrappedFormat<S>>(
     ensures number { number_of image.new ≡ number_of image.old }
     ensures some { IfOk result (λ n. 0 < n) }
     ensures within { IfOk result (λ n. n ≤ length bytes.old) }
+    ensures sees { ReadsFirst S.view F.backing image.old image.new offset bytes.new result }
 {
     let (mapping, found) = image.get_mapping(offset, bytes.len() as u64)?;
     let count = found as usize;
@@ -121,13 +128,17 @@ pub fn write<S: Storage, F: WrappedFormat<S>>(
 ) -> Result<(), (ImageError, u64)>
     ensures number { number_of image.new ≡ number_of image.old }
     ensures within { IfErr result (λ (e, n). n ≤ length bytes.now) }
+    ensures sees { Writes S.view F.backing image.old image.new offset bytes.now result }
 {
     let mut done = match write_some(image, offset, bytes) {
         Ok(count) => count,
         Err(refusal) => return Err((refusal, 0)),
     };
     while done < bytes.len() {
-        match write_some(image, offset.wrapping_add(done as u64), &bytes[done..]) {
+        let Some(at) = offset.checked_add(done as u64) else {
+            return Err((ImageError::BeyondSize, done as u64));
+        };
+        match write_some(image, at, &bytes[done..]) {
             Ok(count) => done += count,
             Err(refusal) => return Err((refusal, done as u64)),
         }
@@ -144,6 +155,7 @@ fn write_some<S: Storage, F: WrappedFormat<S>>(
     ensures number { number_of image.new ≡ number_of image.old }
     ensures some { IfOk result (λ n. 0 < length bytes.now → 0 < n) }
     ensures within { IfOk result (λ n. n ≤ length bytes.now) }
+    ensures sees { WritesFirst S.view F.backing image.old image.new offset bytes.now result }
 {
     let prepared = image.prepare_data_mapping(offset, bytes.len() as u64, true)?;
     let count = bytes.len().min(prepared.length() as usize);
@@ -164,56 +176,12 @@ fn write_some<S: Storage, F: WrappedFormat<S>>(
 // Discards a mapping of the image.
 fn let_go<S: Storage, F: WrappedFormat<S>>(image: &mut Qcow2<S, F>, prepared: Prepared)
     requires { image_of prepared ≡ number_of image.old }
-    ensures { number_of image.new ≡ number_of image.old }
+    ensures number { number_of image.new ≡ number_of image.old }
+    ensures sees { Discards S.view F.backing image.old image.new prepared }
 {
     match image.discard_data_mapping(prepared) {
         Ok(()) => {}
         Err((_, _kept)) => unreachable!(),
-    }
-}
-
-// The mappings of a run, by their slots. The prepared ones are of one image.
-struct Slots {
-    image: u64,
-    prepared: Vec<Option<Prepared>>,
-    mappings: Vec<Option<Mapping>>,
-    ghost all_prepared: { length prepared.items ≡ 256 },
-    ghost all_mappings: { length mappings.items ≡ 256 },
-    ghost own: { (k : ℕ) (p : Prepared) → slice_get prepared.items k ≡ Some (Some p) → image_of p ≡ image },
-}
-
-impl Slots {
-    fn new(alloc: Global, image: u64) -> Option<Slots>
-        ensures { IfSome result (λ s. s.image ≡ image) }
-    {
-        let Ok(mut mappings) = Vec::with_capacity(alloc, 256) else {
-            return None;
-        };
-        let Ok(mut prepared) = Vec::with_capacity(alloc, 256) else {
-            return None;
-        };
-        for _ in 0..256u16 {
-            mappings.push_reserved(None);
-            prepared.push_reserved(None);
-        }
-        Some(Slots {
-            image,
-            prepared,
-            mappings,
-        })
-    }
-
-    // Puts something into a slot, and answers what was there.
-    fn put(&mut self, slot: u8, prepared: Option<Prepared>) -> Option<Prepared>
-        requires { IfSome prepared (λ p. image_of p ≡ self.old.image) }
-        ensures own { IfSome result (λ p. image_of p ≡ self.new.image) }
-        ensures image { self.new.image ≡ self.old.image }
-    {
-        mem::replace(&mut self.prepared[usize::from(slot)], prepared)
-    }
-
-    fn get(&self, slot: u8) -> Option<&Prepared> {
-        self.prepared[usize::from(slot)].as_ref()
     }
 }
 
@@ -223,7 +191,9 @@ pub fn run<S: Storage, F: WrappedFormat<S>>(
     image: &mut Qcow2<S, F>,
     commands: &[Command],
 ) -> Vec<Reply>
-    ensures { (result.items ≡ []) ⊎ (vec_len result ≡ length commands.now) }
+    ensures count { (result.items ≡ []) ⊎ (vec_len result ≡ length commands.now) }
+    ensures runs { RunsThrough S.view F.backing image.old image.new commands.now result.items }
+    ensures means { TellsTheDisk S.view F.backing image.old image.new commands.now result.items }
 {
     let Ok(mut replies) = Vec::with_capacity(alloc, commands.len()) else {
         return Vec::new(alloc);
@@ -249,6 +219,8 @@ fn step<S: Storage, F: WrappedFormat<S>>(
     requires { slots.old.image ≡ number_of image.old }
     ensures number { number_of image.new ≡ number_of image.old }
     ensures slots { slots.new.image ≡ slots.old.image }
+    ensures goes { Steps S.view F.backing image.old image.new slots.old slots.new command.now result }
+    ensures finds { Finds slots.old slots.new command.now result }
 {
     match command {
         Command::Read { offset, length } => match read(alloc, image, *offset, *length) {
@@ -291,6 +263,8 @@ fn get_mapping<S: Storage, F: WrappedFormat<S>>(
 ) -> Reply
     ensures number { number_of image.new ≡ number_of image.old }
     ensures slots { slots.new.image ≡ slots.old.image }
+    ensures goes { Steps S.view F.backing image.old image.new slots.old slots.new (Command.GetMapping slot offset max) result }
+    ensures finds { Finds slots.old slots.new (Command.GetMapping slot offset max) result }
 {
     match image.get_mapping(offset, max) {
         Ok((mapping, _)) => {
@@ -304,13 +278,14 @@ fn get_mapping<S: Storage, F: WrappedFormat<S>>(
 fn read_mapped<S: Storage, F: WrappedFormat<S>>(
     alloc: Global,
     image: &mut Qcow2<S, F>,
-    slots: &mut Slots,
+    slots: &Slots,
     slot: u8,
     at: u64,
     length: u64,
 ) -> Reply
     ensures number { number_of image.new ≡ number_of image.old }
-    ensures slots { slots.new.image ≡ slots.old.image }
+    ensures goes { Steps S.view F.backing image.old image.new slots.now slots.now (Command.ReadMapped slot at length) result }
+    ensures finds { Finds slots.now slots.now (Command.ReadMapped slot at length) result }
 {
     let Some(mapping) = slots.mappings[usize::from(slot)] else {
         return Reply::Misuse;
@@ -334,6 +309,7 @@ fn read_range<S: Storage, F: WrappedFormat<S>>(
 ) -> Result<Vec<u8>, ImageError>
     requires { at + length ≤ mapping.now.length }
     ensures number { number_of image.new ≡ number_of image.old }
+    ensures sees { Reads S.view F.backing image.old image.new (mapping.now.offset + at) length result }
 {
     let mut bytes = vec![in alloc; 0; length as usize]?;
     image.read_mapped(mapping, at, &mut bytes)?;
@@ -351,6 +327,8 @@ fn prepare<S: Storage, F: WrappedFormat<S>>(
     requires { slots.old.image ≡ number_of image.old }
     ensures number { number_of image.new ≡ number_of image.old }
     ensures slots { slots.new.image ≡ slots.old.image }
+    ensures goes { Steps S.view F.backing image.old image.new slots.old slots.new (Command.PrepareDataMapping slot offset length overwrite) result }
+    ensures finds { Finds slots.old slots.new (Command.PrepareDataMapping slot offset length overwrite) result }
 {
     if slots.get(slot).is_some() {
         return Reply::Misuse;
@@ -363,26 +341,9 @@ fn prepare<S: Storage, F: WrappedFormat<S>>(
                 length: prepared.length(),
                 existing: prepared.is_nonblocking(),
             };
-            fill_slot(image, slots, slot, prepared);
+            slots.fill(slot, prepared);
             reply
         }
-    }
-}
-
-// Puts a mapping into a slot; what was there is discarded.
-fn fill_slot<S: Storage, F: WrappedFormat<S>>(
-    image: &mut Qcow2<S, F>,
-    slots: &mut Slots,
-    slot: u8,
-    prepared: Prepared,
-)
-    requires image { slots.old.image ≡ number_of image.old }
-    requires own { image_of prepared ≡ number_of image.old }
-    ensures number { number_of image.new ≡ number_of image.old }
-    ensures slots { slots.new.image ≡ slots.old.image }
-{
-    if let Some(other) = slots.put(slot, Some(prepared)) {
-        let_go(image, other);
     }
 }
 
@@ -391,9 +352,11 @@ fn write_mapped<S: Storage, F: WrappedFormat<S>>(
     slots: &Slots,
     slot: u8,
     at: u64,
-    bytes: &[u8],
+    bytes: &Vec<u8>,
 ) -> Reply
     ensures number { number_of image.new ≡ number_of image.old }
+    ensures goes { Steps S.view F.backing image.old image.new slots.now slots.now (Command.WriteMapped slot at bytes.now) result }
+    ensures finds { Finds slots.now slots.now (Command.WriteMapped slot at bytes.now) result }
 {
     let Some(prepared) = slots.get(slot) else {
         return Reply::Misuse;
@@ -416,6 +379,8 @@ fn commit<S: Storage, F: WrappedFormat<S>>(
     requires { slots.old.image ≡ number_of image.old }
     ensures number { number_of image.new ≡ number_of image.old }
     ensures slots { slots.new.image ≡ slots.old.image }
+    ensures goes { Steps S.view F.backing image.old image.new slots.old slots.new (Command.CommitDataMapping slot) result }
+    ensures finds { Finds slots.old slots.new (Command.CommitDataMapping slot) result }
 {
     let Some(prepared) = slots.put(slot, None) else {
         return Reply::Misuse;
@@ -424,7 +389,7 @@ fn commit<S: Storage, F: WrappedFormat<S>>(
         Ok(()) => Reply::Done,
         Err(CommitRefused::Spent(refusal)) => Reply::Refused(refusal),
         Err(CommitRefused::Kept(refusal, prepared)) => {
-            fill_slot(image, slots, slot, prepared);
+            slots.fill(slot, prepared);
             Reply::Refused(refusal)
         }
     }
@@ -438,6 +403,8 @@ fn discard<S: Storage, F: WrappedFormat<S>>(
     requires { slots.old.image ≡ number_of image.old }
     ensures number { number_of image.new ≡ number_of image.old }
     ensures slots { slots.new.image ≡ slots.old.image }
+    ensures goes { Steps S.view F.backing image.old image.new slots.old slots.new (Command.DiscardDataMapping slot) result }
+    ensures finds { Finds slots.old slots.new (Command.DiscardDataMapping slot) result }
 {
     match slots.put(slot, None) {
         None => Reply::Misuse,
@@ -448,9 +415,21 @@ fn discard<S: Storage, F: WrappedFormat<S>>(
     }
 }
 
+// Discards what stands in a slot.
+fn let_go_slot<S: Storage, F: WrappedFormat<S>>(image: &mut Qcow2<S, F>, slot: Option<Prepared>)
+    requires { IfSome slot (λ p. image_of p ≡ number_of image.old) }
+    ensures number { number_of image.new ≡ number_of image.old }
+    ensures sees { (out : List (Option Prepared)) → LetsGo S.view F.backing image.old image.new (out ++ slot ∷ []) out }
+{
+    if let Some(prepared) = slot {
+        let_go(image, prepared);
+    }
+}
+
 // Discards what is left.
 fn discard_all<S: Storage, F: WrappedFormat<S>>(image: &mut Qcow2<S, F>, slots: Slots)
     requires { slots.image ≡ number_of image.old }
+    ensures { LetsGo S.view F.backing image.old image.new slots.prepared.items [] }
 {
     let Slots {
         image: _,
@@ -458,9 +437,7 @@ fn discard_all<S: Storage, F: WrappedFormat<S>>(image: &mut Qcow2<S, F>, slots: 
         mappings: _,
     } = slots;
     while let Some(slot) = prepared.pop() {
-        if let Some(prepared) = slot {
-            let_go(image, prepared);
-        }
+        let_go_slot(image, slot);
     }
     prepared.destroy_empty();
 }

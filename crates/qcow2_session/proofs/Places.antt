@@ -1,0 +1,106 @@
+-- Places of prepared mappings.
+use Rattle.std.proofs.Common.{◌≡◌, ℕ, zero, suc, List, [], ◌∷◌, ◌++◌, false, refl, sym, ap, ◌∙◌, subst, Option, Some, None, length}
+use Rattle.std.specs.Prelude.{slice_get, slice_set, replicate}
+use Rattle.std.proofs.lemmas.List.{append-nil}
+use mathlib.Core.Path.{fun_ext}
+use Rattle.image_access.proofs.Passing.{passes_none}
+use Rattle.qcow2_laws.specs.Mappings.{PreparedMapping}
+use Rattle.qcow2_laws.specs.Views.{Spec, Guest, view, guest_of}
+use Rattle.qcow2_laws.specs.Calls.{Does, with_slot}
+use Rattle.qcow2_session.proofs.Turns.{none_within, does_if, does_then}
+
+pub set_found : {X : Type 0} (xs : List X) (k : ℕ) (v : X) → slice_get xs k ≡ Some v → slice_set xs k v ≡ xs
+set_found [] k v e = refl
+set_found (x ∷ xs) zero v e = ap (λ y. y ∷ xs) (cc)
+set_found (x ∷ xs) (suc k) v e = ap (λ ys. x ∷ ys) (set_found xs k v e)
+
+pub set_twice : {X : Type 0} (xs : List X) (k : ℕ) (a b : X) → slice_set (slice_set xs k a) k b ≡ slice_set xs k b
+set_twice [] k a b = refl
+set_twice (x ∷ xs) zero a b = refl
+set_twice (x ∷ xs) (suc k) a b = ap (λ ys. x ∷ ys) (set_twice xs k a b)
+
+pub get_set_same : {X : Type 0} (xs : List X) (k : ℕ) (a v : X) → slice_get xs k ≡ Some v → slice_get (slice_set xs k a) k ≡ Some a
+get_set_same [] k a v e = cc
+get_set_same (x ∷ xs) zero a v e = refl
+get_set_same (x ∷ xs) (suc k) a v e = get_set_same xs k a v e
+
+pub set_back : {X : Type 0} (xs : List X) (k : ℕ) (a b : X) → slice_get xs k ≡ Some b → slice_set (slice_set xs k a) k b ≡ xs
+set_back xs k a b e = set_twice xs k a b ∙ set_found xs k b e
+
+pub get_front : {X : Type 0} (xs ys : List X) (k : ℕ) (y : X) → slice_get xs k ≡ Some y → slice_get (xs ++ ys) k ≡ Some y
+get_front [] ys k y e = cc
+get_front (x ∷ xs) ys zero y e = e
+get_front (x ∷ xs) ys (suc k) y e = get_front xs ys k y e
+
+get_last : {X : Type 0} (xs : List X) (y : X) → slice_get (xs ++ y ∷ []) (length xs) ≡ Some y
+get_last [] y = refl
+get_last (x ∷ xs) y = get_last xs y
+
+set_last : {X : Type 0} (xs : List X) (y z : X) → slice_set (xs ++ y ∷ []) (length xs) z ≡ xs ++ z ∷ []
+set_last [] y z = refl
+set_last (x ∷ xs) y z = ap (λ ys. x ∷ ys) (set_last xs y z)
+
+-- what an image is to say of places without a mapping
+pub record HasFreePlaces {D P : Type 0} (spec : Spec D P) : Type 0 where
+  pub free : (d : D) (a b : List (Option P)) → spec.is_sound d (a ++ b) → spec.is_sound d (a ++ None ∷ b)
+  pub left : (d : D) (a b : List (Option P)) → spec.is_sound d (a ++ None ∷ b) → spec.is_sound d (a ++ b)
+  pub surplus : (d : D) (a b : List (Option P)) → spec.surplus d (a ++ None ∷ b) ≡ spec.surplus d (a ++ b)
+  pub works : (d : D) (out : List (Option P)) → spec.is_sound d out → spec.is_failed d ≡ false
+
+module _ {D P : Type 0} (spec : Spec D P) (has : HasFreePlaces spec) where
+  -- the same image with other places
+  pub does_none : (d : D) (out out' : List (Option P)) → (spec.is_sound d out → spec.is_sound d out') → spec.surplus d out' ≡ spec.surplus d out
+      → Does (view spec d out) (view spec d out') [] [] ((guest_of (view spec d out')).disk ≡ (guest_of (view spec d out)).disk)
+  does_none d out out' sound same = record {
+    acts = record {
+      number = refl;
+      works = λ h. record {
+        setting = refl;
+        surplus = λ _. same;
+        stops = λ m starts. record { moments = passes_none (spec.storage d) _; contents = starts.0; known = λ _. starts.1 };
+      };
+      rests = λ failed. record { setting = refl; failed = failed; contents = refl; moments = passes_none (spec.storage d) _ };
+    };
+    answer = λ h. (sound h, refl);
+  }
+
+  pub enters : (d : D) (out : List (Option P)) → Does (view spec d out) (view spec d (None ∷ out)) [] [] ((guest_of (view spec d (None ∷ out))).disk ≡ (guest_of (view spec d out)).disk)
+  enters d out = does_none d out (None ∷ out) (has.free d [] out) (has.surplus d [] out)
+
+  pub leaves : (d : D) (out : List (Option P)) → Does (view spec d (None ∷ out)) (view spec d out) [] [] ((guest_of (view spec d out)).disk ≡ (guest_of (view spec d (None ∷ out))).disk)
+  leaves d out = does_none d (None ∷ out) out (has.left d [] out) (sym (has.surplus d [] out))
+
+  -- ---- many free places
+
+  slots_none : (d : D) (n k : ℕ) → (view spec d []).slots k ≡ (view spec d (replicate n None)).slots k
+  slots_none d zero k = refl
+  slots_none d (suc n) zero = refl
+  slots_none d (suc n) (suc k) = slots_none d n k
+
+  pub guest_none : (d : D) (n : ℕ) → guest_of (view spec d []) ≡ guest_of (view spec d (replicate n None))
+  guest_none d n = ap (λ (f : ℕ → Option PreparedMapping). record (guest_of (view spec d [])) { slots = f }) (fun_ext (slots_none d n))
+
+  pub sound_none : (d : D) (n : ℕ) → spec.is_sound d [] → spec.is_sound d (replicate n None)
+  sound_none d zero sound = sound
+  sound_none d (suc n) sound = has.free d [] (replicate n None) (sound_none d n sound)
+
+  pub surplus_none : (d : D) (n : ℕ) → spec.surplus d (replicate n None) ≡ spec.surplus d []
+  surplus_none d zero = refl
+  surplus_none d (suc n) = has.surplus d [] (replicate n None) ∙ surplus_none d n
+
+  -- ---- the last place is let go
+
+  pub last_none : (d : D) (out : List (Option P)) → Does (view spec d (out ++ None ∷ [])) (view spec d out) [] [] ((guest_of (view spec d out)).disk ≡ (guest_of (view spec d (out ++ None ∷ []))).disk)
+  last_none d out =
+      let full = view spec d (out ++ None ∷ []) in
+      subst (λ (o : List (Option P)). Does full (view spec d o) [] [] ((guest_of (view spec d o)).disk ≡ (guest_of full).disk)) (append-nil out)
+      (does_none d (out ++ None ∷ []) (out ++ []) (has.left d out []) (sym (has.surplus d out [])))
+
+  pub last_let_go : (old new : D) (p : P) (out : List (Option P))
+      → ((o : List (Option P)) (k : ℕ) → slice_get o k ≡ Some (Some p) → Does (view spec old o) (view spec new (slice_set o k None)) [] [] (guest_of (view spec new (slice_set o k None)) ≡ with_slot (guest_of (view spec old o)) k None))
+      → Does (view spec old (out ++ Some p ∷ [])) (view spec new out) [] [] ((guest_of (view spec new out)).disk ≡ (guest_of (view spec old (out ++ Some p ∷ []))).disk)
+  last_let_go old new p out discards =
+      let full : List (Option P) = out ++ Some p ∷ [] in
+      let To = λ (o : List (Option P)). Does (view spec old full) (view spec new o) [] [] ((guest_of (view spec new o)).disk ≡ (guest_of (view spec old full)).disk) in
+      let first : To (out ++ None ∷ []) = subst To (set_last out (Some p) None) (does_if (λ e. ap (λ (h : Guest). h.disk) e) (discards full (length out) (get_last out (Some p)))) in
+      does_if (λ both. both.1 ∙ both.0) (does_then (λ _. none_within (view spec new (out ++ None ∷ [])) []) first (last_none new out))

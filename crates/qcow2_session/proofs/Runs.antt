@@ -1,0 +1,83 @@
+-- A run of commands on an image with as many free places as there are slots.
+use Rattle.std.proofs.Common.{◌≡◌, ℕ, zero, suc, ◌+◌, List, [], ◌∷◌, ◌++◌, false, refl, sym, ap, ◌∙◌, subst, Option, None, take, map}
+use Rattle.std.specs.Prelude.{replicate}
+use Rattle.std.proofs.lemmas.List.{map-append}
+use Rattle.qcow2_laws.specs.Views.{Setting, Spec, View, view}
+use Rattle.qcow2_laws.specs.Runs.{Found, Command, Reply, State, StandsAt, Step, Goes, Run, Ran, Completes, begun, found_after}
+use Rattle.qcow2_laws.proofs.RunSteps.{ran_none, ran_more}
+use Rattle.qcow2_image.specs.declared.mapping.Mapping.{Mapping}
+use Rattle.qcow2_session.specs.Sessions.{found_in}
+use Rattle.qcow2_session.proofs.Meanings.{step_found, found_same}
+use Rattle.qcow2_session.proofs.Places.{HasFreePlaces, guest_none, sound_none, surplus_none}
+
+-- the last step of a run
+run_last : (x : Setting) (s : State) (commands : List Command) (replies : List Reply) (command : Command) (reply : Reply) (end : State)
+    → Run x s (commands ++ command ∷ []) (replies ++ reply ∷ []) end → (mid : State) × Run x s commands replies mid × Step x mid command reply end
+run_last x s [] [] command reply end run = (s, refl, subst (λ t. Step x s command reply t) (sym run.2) run.1)
+run_last x s (c ∷ commands) (r ∷ replies) command reply end run = let rest = run_last x run.0 commands replies command reply end run.2 in (rest.0, (run.0, run.1, rest.1), rest.2)
+run_last x s [] (r ∷ []) command reply end run = absurd run.2
+run_last x s [] (r ∷ (q ∷ replies)) command reply end run = absurd run.2
+run_last x s (c ∷ []) [] command reply end run = absurd run.2
+run_last x s (c ∷ (d ∷ commands)) [] command reply end run = absurd run.2
+
+-- a run so far, with what was found so far
+pub record GoesOn (x : Setting) (old new : View) (s : State) (commands : List Command) (replies : List Reply) (mappings : List (Option Mapping)) : Type 0 where
+  pub ran : Ran x old new s commands replies
+  pub found : (end : State) → Run x s commands replies end → end.is_failed ≡ false → (k : ℕ) → end.found k ≡ found_in mappings k
+
+none_found : (n k : ℕ) → None ≡ found_in (replicate n None) k
+none_found zero k = refl
+none_found (suc n) zero = refl
+none_found (suc n) (suc k) = none_found n k
+
+module _ {D P : Type 0} (spec : Spec D P) (has : HasFreePlaces spec) (d : D) (n : ℕ) where
+  -- nothing was answered yet
+  pub first_of_all : (x : Setting) (s : State) (out : List (Option P)) (mappings : List (Option Mapping)) (replies : List Reply) → out ≡ replicate n None → mappings ≡ replicate n None → replies ≡ []
+      → StandsAt x (view spec d []) s → GoesOn x (view spec d (replicate n None)) (view spec d out) (begun s) [] replies mappings
+  first_of_all x s out mappings replies none nothing unanswered stands =
+      let first = view spec d (replicate n None) in
+      subst (λ (o : List (Option P)). GoesOn x first (view spec d o) (begun s) [] replies mappings) (sym none)
+      (subst (λ (m : List (Option Mapping)). GoesOn x first first (begun s) [] replies m) (sym nothing)
+      (subst (λ (r : List Reply). GoesOn x first first (begun s) [] r (replicate n None)) (sym unanswered)
+      (record {
+        ran = ran_none x first (begun s) (record {
+          setting = stands.setting;
+          works = λ ok. sound_none spec has d n (stands.works ok);
+          failed = stands.failed;
+          guest = λ ok. sym (guest_none spec has d n) ∙ stands.guest ok;
+          known = stands.known;
+          contents = stands.contents;
+          at_rest = stands.at_rest;
+        });
+        found = λ end same ok k. ap (λ (t : State). t.found k) same ∙ none_found n k;
+      })))
+
+  -- the places were free at the start
+  pub from_none : (x : Setting) (new : View) (s : State) (commands : List Command) (replies : List Reply) → Completes x (view spec d (replicate n None)) new s commands replies → Completes x (view spec d []) new s commands replies
+  from_none x new s commands replies all = record {
+    end = all.end;
+    run = all.run;
+    stands = all.stands;
+    moments = all.moments;
+    surplus = λ ok. all.surplus ok ∙ surplus_none spec has d n;
+    grows = all.grows;
+  }
+
+-- one command more
+pub goes_on : (x : Setting) (old mid new : View) (s : State) (commands : List Command) (replies : List Reply) (mappings mappings' : List (Option Mapping)) (command : Command) (reply : Reply)
+    → GoesOn x old mid s commands replies mappings
+    → ((s' : State) → StandsAt x mid s' → (s'.is_failed ≡ false → (k : ℕ) → s'.found k ≡ found_in mappings k) → Goes x mid new s' command reply)
+    → ((k : ℕ) → found_in mappings' k ≡ found_after (found_in mappings) command reply k)
+    → GoesOn x old new s (commands ++ command ∷ []) (replies ++ reply ∷ []) mappings'
+goes_on x old mid new s commands replies mappings mappings' command reply before steps finds =
+    record {
+      ran = ran_more x old mid new s commands replies command reply before.ran (steps before.ran.end before.ran.stands (before.found before.ran.end before.ran.run));
+      found = λ end run ok k.
+          let last = run_last x s commands replies command reply end run in
+          let so = step_found x last.0 end command reply last.2 ok in
+          ap (λ (f : ℕ → Option Found). f k) so.1 ∙ found_same last.0.found (found_in mappings) command reply (before.found last.0 last.1 so.0) k ∙ sym (finds k);
+    }
+
+-- the items up to the next
+pub map_more : {X Y : Type 0} (f : X → Y) (xs : List X) (i : ℕ) (item : X) → take (i + 1) xs ≡ take i xs ++ item ∷ [] → map f (take (i + 1) xs) ≡ map f (take i xs) ++ f item ∷ []
+map_more f xs i item e = ap (map f) e ∙ map-append f (take i xs) (item ∷ [])

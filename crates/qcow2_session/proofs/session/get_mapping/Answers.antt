@@ -1,0 +1,22 @@
+use Rattle.std.proofs.Common.{◌≡◌, refl, ap, subst, ◌∙◌, Some, arith}
+use Rattle.std.specs.Prelude.{slice_set}
+use Rattle.qcow2_laws.proofs.RunSteps.{done_as, refused_as}
+use Rattle.std.specs.Prelude.{◌==◌, if◌then◌else◌}
+use Rattle.qcow2_session.specs.Sessions.{found_in}
+use Rattle.qcow2_session.proofs.Turns.{does_if}
+use Rattle.qcow2_session.proofs.Meanings.{found_set}
+use Rattle.qcow2_session.proofs.session.get_mapping.Goals as goal
+
+pub returns-in-Ok-clause-goes : goal.returns-in-Ok-clause-goes
+returns-in-Ok-clause-goes g c = λ x s stands founds.
+    done_as x _ _ s _ _ _ refl stands (does_if (λ same. (omega (arith, c.in-Ok.ensures.own, c.in-Ok.ensures.within), same)) (c.in-Ok.ensures.sees c.args.slots.now.prepared.items)) (λ _ _. refl)
+
+pub returns-in-Ok-clause-finds : goal.returns-in-Ok-clause-finds
+returns-in-Ok-clause-finds g c = λ k.
+    let mappings = c.args.slots.now.mappings.items in
+    let found = found_set mappings c.args.slot c.in-Ok.mapping k (omega (arith, c.args.slots.now.all_mappings, c.ranges.slot)) in
+    ap (λ n. found_in (slice_set mappings n (Some c.in-Ok.mapping)) k) c.from.ensures
+    ∙ subst (λ n. found_in (slice_set mappings c.args.slot (Some c.in-Ok.mapping)) k ≡ (if k == c.args.slot then Some (record { from = n; length = c.in-Ok.mapping.length }) else found_in mappings k)) c.in-Ok.ensures.own.1 found
+
+pub returns-in-Err-clause-goes : goal.returns-in-Err-clause-goes
+returns-in-Err-clause-goes g c = λ x s stands founds. refused_as x _ _ s _ _ _ _ refl stands (c.in-Err.ensures.sees c.args.slots.now.prepared.items) (λ f. f) (λ _ _. refl)

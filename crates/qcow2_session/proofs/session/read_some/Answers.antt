@@ -1,0 +1,34 @@
+use Rattle.std.proofs.Common.{◌≡◌, ◌∙◌, ◌+◌, ◌++◌, sym, subst, ap, [], take, drop, arith}
+use Rattle.std.proofs.lemmas.Grind.{common_steps}
+use Rattle.qcow2_laws.specs.Calls.{another}
+use Rattle.qcow2_laws.specs.Views.{Guest}
+use Rattle.qcow2_image.specs.Views.{seen}
+use Rattle.qcow2_session.specs.Sessions.{ReadsFirst}
+use Rattle.qcow2_session.proofs.Bytes.{shows_as}
+use Rattle.qcow2_session.proofs.Turns.{refused_is, refuses_here, none_within, does_if, refuses_if, does_then, refuses_then}
+use Rattle.qcow2_session.proofs.session.read_some.Goals as goal
+
+pub returns-in_err-mapping-clause-sees : goal.returns-in_err-mapping-clause-sees
+returns-in_err-mapping-clause-sees g c =
+    subst (λ r. ReadsFirst g.S.Storage.view g.F.BackingDisk.backing c.args.image.now c.get_mapping.new.self c.args.offset c.args.bytes.now r)
+    (sym (refused_is _ c.in_err-mapping.field-0.0 c.from_residual.ensures)) c.in_err-mapping.ensures.sees
+
+pub returns-then-count-eq0-clause-sees : goal.returns-then-count-eq0-clause-sees
+returns-then-count-eq0-clause-sees g c = λ out. refuses_here (another 2) (λ is. absurd cc) (c.in_ok-mapping.ensures.sees out)
+
+pub returns-in_err-read_mapped-clause-sees : goal.returns-in_err-read_mapped-clause-sees
+returns-in_err-read_mapped-clause-sees g c =
+    let view = g.S.Storage.view in
+    let below = g.F.BackingDisk.backing in
+    subst (λ r. ReadsFirst view below c.args.image.now c.read_mapped.new.self c.args.offset (c.read_mapped.new.bytes ++ drop c.in_ok-mapping.found c.args.bytes.now) r)
+    (sym (refused_is _ c.in_err-read_mapped.field-0.0 c.from_residual-in_err-read_mapped.ensures))
+    (λ out. refuses_if (λ h. h.1 ∙ h.0) (refuses_then (λ _. none_within (seen view below c.get_mapping.new.self out) []) (c.in_ok-mapping.ensures.sees out) (c.in_err-read_mapped.ensures.sees out)))
+
+pub returns-clause-sees : goal.returns-clause-sees
+returns-clause-sees g c = λ out.
+    let view = g.S.Storage.view in
+    let below = g.F.BackingDisk.backing in
+    let first : c.read_mapped.new.bytes ≡ take c.in_ok-mapping.found (c.read_mapped.new.bytes ++ drop c.in_ok-mapping.found c.args.bytes.now) = grind (arith, common_steps) in
+    let place : c.in_ok-mapping.mapping.offset + 0 ≡ c.args.offset = omega (arith, c.in_ok-mapping.ensures.own.1) in
+    does_if (λ h. (shows_as (ap (λ (v : Guest). v.disk) h.0) place first h.1.1, h.1.0 ∙ h.0))
+    (does_then (λ _. none_within (seen view below c.get_mapping.new.self out) []) (c.in_ok-mapping.ensures.sees out) (c.in_ok-read_mapped.ensures.sees out))

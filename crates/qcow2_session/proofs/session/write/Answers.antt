@@ -1,0 +1,35 @@
+use Rattle.std.proofs.Common.{◌≡◌, ◌∙◌, subst, take, arith}
+use Rattle.std.proofs.lemmas.Grind.{common_steps}
+use Rattle.std.proofs.lemmas.List.{take_rest}
+use Rattle.qcow2_laws.specs.Calls.{another, with_disk}
+use Rattle.qcow2_laws.specs.Disk.{with_bytes}
+use Rattle.qcow2_laws.specs.Views.{guest_of}
+use Rattle.qcow2_image.specs.Views.{seen}
+use Rattle.qcow2_image.specs.Calls.{refusal_of}
+use Rattle.qcow2_session.proofs.Writing.{writes_more, write_refused}
+use Rattle.qcow2_session.proofs.Turns.{does_if, refuses_here, refuses_if}
+use Rattle.qcow2_session.proofs.session.write.Goals as goal
+
+pub returns-in_default-clause-sees : goal.returns-in_default-clause-sees
+returns-in_default-clause-sees g c = λ out. refuses_if (λ same. (c.loop-done.invariant.within, same)) (refuses_here (another 2) (λ is. absurd cc) (c.loop-done.invariant.written out))
+
+pub loop-done-preserved : goal.loop-done-preserved
+loop-done-preserved g c = record {
+  within = grind (arith, common_steps);
+  number = c.write_some-in-loop-done.ensures.number ∙ c.loop-done.invariant.number;
+  written = λ out. writes_more c.args.offset c.in-Some.at c.loop-done.done c.args.bytes.now c.loop-done.invariant.within c.in-Some.ensures.1
+      (seen g.S.Storage.view g.F.BackingDisk.backing c.args.image.now out) (seen g.S.Storage.view g.F.BackingDisk.backing c.loop-done.image out) (seen g.S.Storage.view g.F.BackingDisk.backing c.write_some-in-loop-done.new.image out)
+      (c.loop-done.invariant.written out) c.in-Ok-write_some.count (rw (take_rest c.args.bytes.now c.loop-done.done) at (c.in-Ok-write_some.ensures.sees out));
+}
+
+pub returns-in-Err-write_some-clause-sees : goal.returns-in-Err-write_some-clause-sees
+returns-in-Err-write_some-clause-sees g c = λ out. write_refused c.args.offset c.in-Some.at c.loop-done.done c.args.bytes.now c.loop-done.invariant.within c.in-Some.ensures.1
+    (seen g.S.Storage.view g.F.BackingDisk.backing c.args.image.now out) (seen g.S.Storage.view g.F.BackingDisk.backing c.loop-done.image out) (seen g.S.Storage.view g.F.BackingDisk.backing c.write_some-in-loop-done.new.image out)
+    (c.loop-done.invariant.written out) (refusal_of c.in-Err-write_some.refusal) (rw (take_rest c.args.bytes.now c.loop-done.done) at (c.in-Err-write_some.ensures.sees out))
+
+pub returns-clause-sees : goal.returns-clause-sees
+returns-clause-sees g c = λ out.
+    let view = g.S.Storage.view in
+    let below = g.F.BackingDisk.backing in
+    let all : take c.loop-done.done c.args.bytes.now ≡ c.args.bytes.now = grind (arith, common_steps) in
+    does_if (λ e. subst (λ b. guest_of (seen view below c.loop-done.image out) ≡ with_disk (guest_of (seen view below c.args.image.now out)) (with_bytes (guest_of (seen view below c.args.image.now out)).disk c.args.offset b)) all e) (c.loop-done.invariant.written out)

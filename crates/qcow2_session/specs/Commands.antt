@@ -1,0 +1,29 @@
+-- What commands and replies mean in words of a guest's disk.
+use Rattle.qcow2_laws.specs.Runs.{Command, Reply, read, write, get_mapping, read_mapped, prepare, put, commit, discard, flush, get_size, done, bytes_are, mapping_is, prepared_is, number_is, refused, write_refused, misuse}
+use Rattle.qcow2_image.specs.Calls.{refusal_of}
+use Rattle.qcow2_session.specs.declared.session.Command.{Command as SessionCommand}
+use Rattle.qcow2_session.specs.declared.session.Command.TheVariants as C
+use Rattle.qcow2_session.specs.declared.session.Reply.{Reply as SessionReply}
+use Rattle.qcow2_session.specs.declared.session.Reply.TheVariants as R
+
+abbrev pub command_of : SessionCommand → Command
+command_of (C.Read offset n) = read offset n
+command_of (C.Write offset bytes) = write offset bytes.items
+command_of (C.GetMapping slot offset max) = get_mapping slot offset max
+command_of (C.ReadMapped slot at n) = read_mapped slot at n
+command_of (C.PrepareDataMapping slot offset n overwrite) = prepare slot offset n overwrite
+command_of (C.WriteMapped slot at bytes) = put slot at bytes.items
+command_of (C.CommitDataMapping slot) = commit slot
+command_of (C.DiscardDataMapping slot) = discard slot
+command_of C.Flush = flush
+command_of C.Size = get_size
+
+abbrev pub reply_of : SessionReply → Reply
+reply_of R.Done = done
+reply_of (R.Bytes bytes) = bytes_are bytes.items
+reply_of (R.Mapping m) = mapping_is m.length
+reply_of (R.Prepared offset n existing) = prepared_is n
+reply_of (R.Size n) = number_is n
+reply_of (R.Refused e) = refused (refusal_of e)
+reply_of (R.WriteRefused e n) = write_refused (refusal_of e) n
+reply_of R.Misuse = misuse

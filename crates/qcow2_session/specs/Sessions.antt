@@ -1,0 +1,84 @@
+-- What a session does to an image: its reads and writes, and its runs of commands.
+use Rattle.std.specs.Prelude.{ℕ, ◌≡◌, ◌⊎◌, false, List, [], ◌∷◌, length, map, take, Vec, Option, Some, None, Result, Ok, Err, slice_get}
+use Rattle.std.specs.Global.{Global}
+use Rattle.image_access.specs.Backing.{BackingView}
+use Rattle.image_access.specs.Moments.{StorageView}
+use Rattle.qcow2_laws.specs.Disk.{with_bytes}
+use Rattle.qcow2_laws.specs.Mappings.{gift_of}
+use Rattle.qcow2_laws.specs.Views.{Setting, Guest, guest_of, IsOpened}
+use Rattle.qcow2_laws.specs.Calls.{Does, Refuses, Shows, with_disk, MayWrite}
+use Rattle.qcow2_laws.specs.Runs.{Found, State, StandsAt, Goes, Completes, MeansTheDisk, begun, found_after}
+use Rattle.qcow2_alloc.specs.declared.error.ImageError.{ImageError}
+use Rattle.qcow2_image.specs.declared.image.Qcow2.{Qcow2}
+use Rattle.qcow2_image.specs.declared.mapping.Mapping.{Mapping}
+use Rattle.qcow2_image.specs.declared.prepared.Prepared.{Prepared}
+use Rattle.qcow2_image.specs.Calls.{Answers, refusal_of}
+use Rattle.qcow2_image.specs.Views.{seen}
+use Rattle.qcow2_session.specs.Commands.{command_of, reply_of}
+use Rattle.qcow2_session.specs.declared.session.Command.{Command}
+use Rattle.qcow2_session.specs.declared.session.Reply.{Reply}
+use Rattle.qcow2_session.specs.declared.slots.Slots.{Slots}
+
+-- the range that a mapping was found for
+abbrev pub range_of : Option (Option Mapping) → Option Found
+range_of (Some (Some m)) = Some (record { from = m.offset; length = m.length })
+range_of (Some None) = None
+range_of None = None
+
+abbrev pub found_in : List (Option Mapping) → ℕ → Option Found
+found_in mappings k = range_of (slice_get mappings k)
+
+-- a run that didn't fail found what the slots hold
+abbrev pub HasFound : State → Slots → Type 0
+HasFound s slots = s.is_failed ≡ false → (k : ℕ) → s.found k ≡ found_in slots.mappings.items k
+
+-- the bytes are there, and nothing else changed
+abbrev pub HasWritten : ℕ → List ℕ → Guest → Guest → Type 0
+HasWritten offset bytes old new = new ≡ with_disk old (with_bytes old.disk offset bytes)
+
+module _ {S F : Type 0} (view : S → StorageView) (backing : F → BackingView) (old new : Qcow2 S F) where
+  -- the bytes that were read are the disk's
+  abbrev pub Reads : ℕ → ℕ → Result (Vec ℕ Global) ImageError → Type 0
+  Reads offset n result = Answers view backing old new [] (λ bytes old new. (length bytes.items ≡ n) × Shows old.disk offset bytes.items × (new ≡ old)) result
+
+  -- the bytes are there; or so many leading ones, where memory was refused perhaps more
+  abbrev pub Writes : ℕ → List ℕ → Result (Unit {0}) (ImageError × ℕ) → Type 0
+  Writes offset bytes (Ok done) = Answers view backing old new (gift_of offset bytes ∷ []) (λ _. HasWritten offset bytes) (Ok done)
+  Writes offset bytes (Err r) = (out : List (Option Prepared)) → let v = seen view backing old out in let w = seen view backing new out in Refuses v w (gift_of offset bytes ∷ []) [] (refusal_of r.0)
+      (MayWrite (refusal_of r.0) (guest_of v) offset bytes r.1 (guest_of w))
+
+  -- so many of the first bytes were read
+  abbrev pub ReadsFirst : ℕ → List ℕ → Result ℕ ImageError → Type 0
+  ReadsFirst offset bytes result = Answers view backing old new [] (λ n old new. Shows old.disk offset (take n bytes) × (new ≡ old)) result
+
+  -- so many of the first bytes were written
+  abbrev pub WritesFirst : ℕ → List ℕ → Result ℕ ImageError → Type 0
+  WritesFirst offset bytes (Ok n) = Answers view backing old new (gift_of offset bytes ∷ []) (λ n. HasWritten offset (take n bytes)) (Ok n)
+  WritesFirst offset bytes (Err e) = Writes offset bytes (Err (e, 0))
+
+  -- one command is one step of each run that the image stands at with these mappings
+  abbrev pub Steps : Slots → Slots → Command → Reply → Type 0
+  Steps slots slots' command reply = (x : Setting) (s : State) → let v = seen view backing old slots.prepared.items in let w = seen view backing new slots'.prepared.items in
+      StandsAt x v s → HasFound s slots → Goes x v w s (command_of command) (reply_of reply)
+
+  -- of the mappings that were out only these are left
+  abbrev pub LetsGo : List (Option Prepared) → List (Option Prepared) → Type 0
+  LetsGo out left = let v = seen view backing old out in let w = seen view backing new left in Does v w [] [] ((guest_of w).disk ≡ (guest_of v).disk)
+
+  -- there was no room for the replies or the slots, and nothing was called
+  abbrev pub IsUntouched : List Reply → Type 0
+  IsUntouched replies = (replies ≡ []) × (new ≡ old)
+
+  -- the replies go on with each run that the image stands at, and then all mappings are let go
+  abbrev pub RunsThrough : List Command → List Reply → Type 0
+  RunsThrough commands replies = (x : Setting) (s : State) → let v = seen view backing old [] in let w = seen view backing new [] in
+      StandsAt x v s → IsUntouched replies ⊎ Completes x v w (begun s) (map command_of commands) (map reply_of replies)
+
+  -- of an image that was just opened they mean the disk
+  abbrev pub TellsTheDisk : List Command → List Reply → Type 0
+  TellsTheDisk commands replies = let v = seen view backing old [] in let w = seen view backing new [] in
+      IsOpened v → IsUntouched replies ⊎ MeansTheDisk v w (map command_of commands) (map reply_of replies)
+
+-- the mappings that were found are those before, and what a command found
+abbrev pub Finds : Slots → Slots → Command → Reply → Type 0
+Finds slots slots' command reply = (k : ℕ) → found_in slots'.mappings.items k ≡ found_after (found_in slots.mappings.items) (command_of command) (reply_of reply) k
