@@ -1,13 +1,12 @@
 -- What is copied into a new cluster: all that isn't announced.
-use Rattle.std.proofs.Common.{◌≡◌, ◌≢◌, ◌⊎◌, inl, inr, ℕ, ◌+◌, ◌-◌, ◌*◌, ◌/◌, ◌%◌, ◌<◌, ◌≤◌, Bool, true, false, Option, Some, None, refl, sym, ap, ◌∙◌, subst, arith, min, cond, eqb}
-use Rattle.std.specs.Prelude.{nat_le, nat_lt, ◌&&◌, ◌==◌, if◌then◌else◌}
+use Rattle.std.proofs.Common.{◌≡◌, ◌⊎◌, inl, inr, ℕ, ◌+◌, ◌-◌, ◌*◌, ◌/◌, ◌%◌, ◌<◌, ◌≤◌, Bool, true, false, Some, sym, ◌∙◌, subst, arith, min}
+use Rattle.std.specs.Prelude.{nat_lt, ◌&&◌, ◌==◌}
 use Rattle.std.proofs.lemmas.Bool.{cases_lt, cases_eq, cond-true, cond-false, eq-eqb, ne_eqb, and_from, le-leb, lt-ltb}
 use Rattle.std.proofs.lemmas.Nat.{div-add-mod', mod_below}
 use Rattle.std.proofs.Math.Nat.{div-mul-le_self}
 use Rattle.qcow2_metadata.specs.Bytes.{is_within}
 use Rattle.qcow2_image.specs.declared.copy_range.CopyRange.{CopyRange}
 use Rattle.qcow2_image.specs.CopyRange.{announced_range_of, copy_range_of, uncut_copy_range}
-use Rattle.qcow2_image.specs.Steps.{is_announced}
 
 -- a byte lies in a range
 pub record IsInside (r : CopyRange) (i : ℕ) : Type 0 where
@@ -59,10 +58,11 @@ copied cs alignment start length i o some within lt none =
     let from = inside.from in
     let below = inside.below in
     let down = div-mul-le_self (uncut_copy_range cs (announced_range_of cs start length o)).start (min alignment cs) in
-    let up = rounds (uncut_copy_range cs (announced_range_of cs start length o)).end (min alignment cs) (omega arith) in
-    (record { start = u.start / step * step; end = min ((u.end + step - 1) / step * step) cs },
-    cond-true (nat_lt u.start u.end) _ _ (lt-ltb u.start u.end (omega arith)),
-    record { from = omega arith; below = omega arith })
+    let up = rounds (uncut_copy_range cs (announced_range_of cs start length o)).end (min alignment cs) (omega arith) in (
+      record { start = u.start / step * step; end = min ((u.end + step - 1) / step * step) cs },
+      cond-true (nat_lt u.start u.end) _ _ (lt-ltb u.start u.end (omega arith)),
+      record { from = omega arith; below = omega arith },
+    )
 
 pub same_range : (r s : CopyRange) (i : ℕ) → Some r ≡ Some s → IsInside s i → IsInside r i
 same_range r s i same inside = let is : r ≡ s = cc in subst (λ x. IsInside x i) (sym is) inside

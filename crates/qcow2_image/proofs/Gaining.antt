@@ -1,7 +1,6 @@
 -- A cluster is taken for data, and what is left where that is refused.
-use Rattle.std.proofs.Common.{◌≡◌, ◌⊎◌, ⊎_elim, inl, inr, ℕ, ◌+◌, ◌-◌, ◌*◌, ◌%◌, ◌<◌, ◌≤◌, Bool, false, List, [], ◌∷◌, ◌++◌, Option, Some, None, refl, sym, ap, ◌∙◌, subst, arith}
+use Rattle.std.proofs.Common.{◌≡◌, inl, inr, ℕ, ◌+◌, ◌-◌, ◌*◌, ◌%◌, ◌<◌, Bool, false, List, [], ◌∷◌, ◌++◌, Option, Some, None, refl, sym, ap, ◌∙◌, subst, arith}
 use Rattle.std.specs.Prelude.{Result, Ok, Err, IfSome}
-use Rattle.std.proofs.lemmas.List.{append-nil}
 use mathlib.Core.Path.{fun_ext}
 use Rattle.image_access.specs.Backing.{BackingView}
 use Rattle.image_access.specs.Moments.{StorageView}
@@ -10,17 +9,17 @@ use Rattle.qcow2_metadata.specs.declared.header.HeaderFields.{HeaderFields}
 use Rattle.qcow2_metadata.specs.Header.{cluster_size}
 use Rattle.qcow2_laws.specs.Changes.{with_held, held_to_dropped}
 use Rattle.qcow2_laws.specs.Guard.{Pending}
-use Rattle.qcow2_laws.specs.Leads.{Stand, Leads}
+use Rattle.qcow2_laws.specs.Leads.{Leads}
 use Rattle.qcow2_laws.proofs.Leads.{endures_none}
 use Rattle.qcow2_laws.proofs.Steps.{pending_is_changed}
 use Rattle.qcow2_alloc.specs.Allocation.{run_at, Allocates}
-use Rattle.qcow2_alloc.specs.CacheMarks.{l2_pins, KeepsMarks}
+use Rattle.qcow2_alloc.specs.CacheMarks.{KeepsMarks}
 use Rattle.qcow2_alloc.specs.declared.allocation.Allocator.{Allocator}
 use Rattle.qcow2_alloc.specs.declared.clusters_to_free.ClusterKind.TheVariants as Kind
 use Rattle.qcow2_alloc.specs.declared.clusters_to_free.ClustersToFreeEntry.{ClustersToFreeEntry}
 use Rattle.qcow2_alloc.specs.declared.error.ImageError.{ImageError}
 use Rattle.qcow2_alloc.specs.declared.image_file.ImageFile.{ImageFile}
-use Rattle.qcow2_alloc.specs.ImageFile.{stand_in, view_in, contents_in, known_in, nothing_given, Moves, Breaks, HasReftable, LeavesSound}
+use Rattle.qcow2_alloc.specs.ImageFile.{stand_in, view_in, contents_in, known_in, nothing_given, Moves, HasReftable, LeavesSound}
 use Rattle.qcow2_alloc.proofs.FileSteps.{pending_same}
 use Rattle.qcow2_alloc.proofs.Runs.{run_in}
 use Rattle.qcow2_image.specs.declared.image.Qcow2.{Qcow2}
@@ -56,10 +55,13 @@ module _ {S F : Type 0} (view : S → StorageView) (backing : F → BackingView)
     takes_data (Ok n) is =
         let count = is.0 in
         let run : run_at n.first_cluster 1 ≡ run_of n = ap (λ m. run_at n.first_cluster m) (sym count) in
-        let becomes = is.2 in
-        (count, is.1, subst (λ f. Goes view backing p (with_held p f) old taken out) run
-        (goes_moved (with_held p (run_at n.first_cluster 1)) (λ k. let h = holds k in omega arith)
-        becomes.moves becomes.reftable))
+        let becomes = is.2 in (
+          count,
+          is.1,
+          subst (λ f. Goes view backing p (with_held p f) old taken out) run
+              (goes_moved (with_held p (run_at n.first_cluster 1)) (λ k. let h = holds k in omega arith)
+              becomes.moves becomes.reftable),
+        )
     takes_data (Err e) is = goes_back e is
 
   -- ---- what was taken is handed back

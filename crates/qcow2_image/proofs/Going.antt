@@ -1,6 +1,6 @@
 -- Parts of a call that a guest doesn't see: what was pending may change, and clusters may be written that no mapping has.
-use Rattle.std.proofs.Common.{◌≡◌, ◌≢◌, ◌⊎◌, ⊎_elim, inl, inr, ℕ, ◌+◌, ◌-◌, ◌/◌, ◌<◌, ◌≤◌, Bool, true, List, length, [], ◌∷◌, ◌++◌, refl, sym, ap, ◌∙◌, subst, arith}
-use Rattle.std.specs.Prelude.{Option, Some, Result, Ok, Err, IfOk, slice_get}
+use Rattle.std.proofs.Common.{◌≡◌, ◌≢◌, ◌⊎◌, ⊎_elim, inl, inr, ℕ, ◌+◌, ◌-◌, ◌/◌, ◌<◌, ◌≤◌, List, length, [], ◌++◌, refl, sym, ap, ◌∙◌, subst, arith}
+use Rattle.std.specs.Prelude.{Option, Result, Ok, Err, IfOk, slice_get}
 use Rattle.std.proofs.lemmas.Bool.{cases_lt}
 use Rattle.std.proofs.lemmas.List.{append_assoc, append-nil}
 use mathlib.Core.Path.{fun_ext}
@@ -14,10 +14,9 @@ use Rattle.qcow2_metadata.specs.Header.{cluster_size}
 use Rattle.qcow2_metadata.specs.Named.{named_for_tables}
 use Rattle.qcow2_metadata.specs.Cover.{cover}
 use Rattle.qcow2_laws.specs.Disk.{disk}
-use Rattle.qcow2_laws.specs.Guard.{Pending, SameCovers}
+use Rattle.qcow2_laws.specs.Guard.{Pending}
 use Rattle.qcow2_laws.specs.Tops.{WritesAt}
 use Rattle.qcow2_laws.specs.Guests.{named_in_either}
-use Rattle.qcow2_laws.specs.Views.{guest_of}
 use Rattle.qcow2_laws.specs.Writes.{IsUnnamed}
 use Rattle.qcow2_laws.proofs.Leads.{leads_none, leads_then, endures_none, steps_endure}
 use Rattle.qcow2_laws.proofs.Shown.{Writes, private_written}
@@ -32,11 +31,11 @@ use Rattle.qcow2_image.specs.declared.image.Qcow2.{Qcow2}
 use Rattle.qcow2_image.specs.declared.prepared.Prepared.{Prepared}
 use Rattle.qcow2_image.specs.Parts.{IsWritten, WritesBytes}
 use Rattle.qcow2_image.specs.Steps.{AreThere, Keeps, Goes, HoldsAll, IsOwn, SameHeld}
-use Rattle.qcow2_image.specs.Views.{held_by, over_all, backing_bytes, seen, IsSoundAt}
+use Rattle.qcow2_image.specs.Views.{held_by, over_all, backing_bytes, IsSoundAt}
 use Rattle.qcow2_image.proofs.Answered.{same_guest, same_slot, still_seen}
 use Rattle.qcow2_image.proofs.Called.{copied_then}
 use Rattle.qcow2_image.proofs.Loading.{still_moved}
-use Rattle.qcow2_image.proofs.Written.{written, but, writes, sound_written, since_written, same_l1_written}
+use Rattle.qcow2_image.proofs.Written.{written, writes, sound_written, since_written, same_l1_written}
 
 module _ {S F : Type 0} (view : S → StorageView) (backing : F → BackingView) (out : List (Option Prepared)) where
   pub goes_kept : (a b : Qcow2 S F) (p p' : Pending) → IsSoundAt view backing p a out → HoldsAll view backing p out → HoldsAll view backing p' out → Keeps view backing p p' a b out → Goes view backing p p' a b out

@@ -1,5 +1,5 @@
 -- A range is prepared: by its L2 table, and then in that.
-use Rattle.std.proofs.Common.{◌≡◌, ◌⊎◌, ⊎_elim, inl, inr, ℕ, ◌+◌, ◌-◌, ◌/◌, ◌<◌, ◌≤◌, Bool, true, false, List, [], ◌∷◌, Option, Some, None, refl, sym, ap, ◌∙◌, subst, arith, is_some}
+use Rattle.std.proofs.Common.{◌≡◌, ⊎_elim, inl, inr, ℕ, ◌/◌, Bool, true, false, List, [], Option, Some, None, refl, sym, ap, ◌∙◌, subst, arith, is_some}
 use Rattle.std.specs.Prelude.{Result, Ok, Err, IsTrue, slice_get, slice_set, ◌&&◌, ◌==◌}
 use Rattle.std.specs.Option.{option_map_or}
 use mathlib.Core.Path.{fun_ext}
@@ -7,11 +7,11 @@ use Rattle.image_access.specs.Backing.{BackingView}
 use Rattle.image_access.specs.Moments.{StorageView}
 use Rattle.qcow2_metadata.specs.declared.header.HeaderFields.{HeaderFields}
 use Rattle.qcow2_metadata.specs.Header.{cluster_size}
-use Rattle.qcow2_laws.specs.Calls.{Works, IsSame, with_slot}
+use Rattle.qcow2_laws.specs.Calls.{with_slot}
 use Rattle.qcow2_laws.specs.Disk.{Disk}
 use Rattle.qcow2_laws.specs.Guard.{Pending}
 use Rattle.qcow2_laws.specs.Mappings.{IsPrepared}
-use Rattle.qcow2_laws.specs.Views.{Guest, View, guest_of}
+use Rattle.qcow2_laws.specs.Views.{Guest, guest_of}
 use Rattle.qcow2_laws.proofs.Compose.{works_then}
 use Rattle.qcow2_laws.proofs.Leads.{leads_none, endures_none, steps_endure}
 use Rattle.qcow2_alloc.specs.declared.error.ImageError.{ImageError}
@@ -22,7 +22,7 @@ use Rattle.qcow2_image.specs.declared.prepared.Prepared.{Prepared}
 use Rattle.qcow2_image.specs.declared.prepared.NewCluster.{NewCluster}
 use Rattle.qcow2_image.specs.Image.{number_of, KeepsRest}
 use Rattle.qcow2_image.specs.Parts.{IsExisting, IsReadied, Readies}
-use Rattle.qcow2_image.specs.Steps.{following, Broke, Goes, GoesBack, Keeps, Leaves, ListGrows}
+use Rattle.qcow2_image.specs.Steps.{following, Goes, GoesBack, Keeps, Leaves, ListGrows}
 use Rattle.qcow2_image.specs.Views.{of_data, of_tables, to_free, held_by, pins_by, pins_of, over_all, pending_in, seen, meaning, is_private, run_of, backing_bytes, IsReady, IsReadyWith, IsSoundAt}
 use Rattle.qcow2_image.proofs.Answered.{followed, same_guest, same_now, sound_now, works_now}
 use Rattle.qcow2_image.proofs.Going.{goes_kept, goes_then}

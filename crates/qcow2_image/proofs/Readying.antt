@@ -1,6 +1,6 @@
 -- A mapping of the rest of a cluster is made ready: its table is pinned, and it is put at a free place.
-use Rattle.std.proofs.Common.{◌≡◌, ◌⊎◌, ⊎_elim, inl, inr, ℕ, ◌+◌, ◌-◌, ◌*◌, ◌/◌, ◌%◌, ◌<◌, ◌≤◌, Bool, true, false, List, [], ◌∷◌, Option, Some, None, refl, sym, ap, ◌∙◌, subst, arith, is_some, cond}
-use Rattle.std.specs.Prelude.{IfSome, IsSome, IsTrue, min, slice_get, slice_set, ◌&&◌, ◌==◌}
+use Rattle.std.proofs.Common.{◌≡◌, ⊎_elim, inl, inr, ℕ, ◌+◌, ◌-◌, ◌*◌, ◌/◌, ◌%◌, ◌<◌, ◌≤◌, Bool, true, false, List, [], Option, Some, None, refl, sym, ap, ◌∙◌, subst, arith, is_some, cond}
+use Rattle.std.specs.Prelude.{IfSome, IsTrue, min, slice_get, slice_set, ◌&&◌, ◌==◌}
 use mathlib.Core.Path.{fun_ext}
 use Rattle.std.proofs.lemmas.Bool.{cases_eq, cond-false, eqb-true, ne_eqb}
 use Rattle.std.proofs.lemmas.Nat.{div-add-mod', mod_below, pow_pos}
@@ -8,31 +8,30 @@ use Rattle.image_access.specs.Backing.{BackingView}
 use Rattle.image_access.specs.Moments.{StorageView}
 use Rattle.qcow2_metadata.specs.Bytes.{Bytes, is_within}
 use Rattle.qcow2_metadata.specs.declared.header.HeaderFields.{HeaderFields}
-use Rattle.qcow2_metadata.specs.Header.{cluster_size, entries_per_cluster, rounded_down, rounded_up}
+use Rattle.qcow2_metadata.specs.Header.{cluster_size}
 use Rattle.qcow2_metadata.specs.Tables.{CachedTable}
 use Rattle.qcow2_laws.specs.Caches.{AreSettled}
 use Rattle.qcow2_laws.specs.Calls.{with_slot}
-use Rattle.qcow2_laws.specs.Disk.{Disk, disk}
+use Rattle.qcow2_laws.specs.Disk.{disk}
 use Rattle.qcow2_laws.specs.Guard.{Pending}
-use Rattle.qcow2_laws.specs.Leads.{Stand, Leads}
+use Rattle.qcow2_laws.specs.Leads.{Leads}
 use Rattle.qcow2_laws.specs.Mappings.{IsPrepared}
 use Rattle.qcow2_laws.specs.Views.{Guest, guest_of}
 use Rattle.qcow2_alloc.specs.CacheMarks.{l2_pins, SameTables}
 use Rattle.qcow2_alloc.specs.declared.allocation.Allocator.{Allocator}
 use Rattle.qcow2_alloc.specs.declared.cache.MetadataCaches.{MetadataCaches}
-use Rattle.qcow2_alloc.specs.ImageFile.{stand_in, view_in, contents_in, known_in, nothing_given, HasReftable}
+use Rattle.qcow2_alloc.specs.ImageFile.{stand_in, contents_in, known_in, nothing_given, HasReftable}
 use Rattle.qcow2_image.specs.declared.image.Qcow2.{Qcow2}
 use Rattle.qcow2_image.specs.declared.mapping.Place.TheVariants.{Image}
 use Rattle.qcow2_image.specs.declared.prepared.Prepared.{Prepared}
 use Rattle.qcow2_image.specs.declared.prepared.NewCluster.{NewCluster}
 use Rattle.qcow2_image.specs.Image.{number_of}
 use Rattle.qcow2_image.specs.Parts.{IsReadied}
-use Rattle.qcow2_image.specs.Steps.{Goes, HoldsTable, Pins}
-use Rattle.qcow2_image.specs.Views.{to_free, of_data, of_tables, held_by, pins_by, pins_of, over_all, pending_in, seen, meaning, is_private, cluster_of, begin_of, backing_bytes, HasCluster, IsPending, IsReadyWith, IsSoundAt}
+use Rattle.qcow2_image.specs.Steps.{Goes, HoldsTable}
+use Rattle.qcow2_image.specs.Views.{to_free, of_data, of_tables, held_by, pins_by, pins_of, over_all, pending_in, seen, meaning, is_private, backing_bytes, HasCluster, IsPending, IsReadyWith, IsSoundAt}
 use Rattle.qcow2_image.proofs.Answered.{same_guest}
 use Rattle.qcow2_image.proofs.Committing.{rounds_up}
 use Rattle.qcow2_image.proofs.Slots.{get_set, over_all_put, slot_set}
-use Rattle.qcow2_image.proofs.Sound.{IsOnly}
 use Rattle.qcow2_image.proofs.Stepped.{Steps, stepped_sound, stepped_works}
 
 -- the mapping of the rest of a guest cluster that stands at a place

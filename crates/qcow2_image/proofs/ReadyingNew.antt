@@ -1,15 +1,14 @@
 -- A mapping is made ready in a new cluster, or in place.
-use Rattle.std.proofs.Common.{◌≡◌, ◌⊎◌, inl, inr, ℕ, ◌+◌, ◌-◌, ◌*◌, ◌/◌, ◌%◌, ◌<◌, ◌≤◌, Bool, true, false, List, [], ◌∷◌, Option, Some, None, refl, sym, ap, ◌∙◌, subst, arith, is_some, cond}
+use Rattle.std.proofs.Common.{◌≡◌, inl, inr, ℕ, ◌+◌, ◌-◌, ◌*◌, ◌/◌, ◌%◌, ◌<◌, Bool, true, false, List, Option, Some, None, refl, sym, ap, ◌∙◌, subst, arith}
 use Rattle.qcow2_alloc.specs.declared.error.ImageError.{ImageError}
 use Rattle.qcow2_image.specs.declared.mappings.FirstCluster.{FirstCluster}
 use Rattle.qcow2_image.specs.FirstCluster.{IsFirst}
-use Rattle.std.specs.Prelude.{◌↔◌, IfSome, IsSome, IsTrue, min, nat_le, nat_lt, slice_get, slice_set, ◌&&◌, ◌==◌, if◌then◌else◌}
-use Rattle.std.specs.Option.{option_map_or}
+use Rattle.std.specs.Prelude.{◌↔◌, IsSome, IsTrue, min, nat_le, nat_lt, slice_get, ◌&&◌}
 use Rattle.std.proofs.lemmas.Bool.{cases_lt, cond-true, le-leb, lt-ltb, lt-leb, le-ltb}
 use Rattle.std.proofs.lemmas.Nat.{div-mul-add, div-add-mod', mod_below, pow_pos}
 use Rattle.image_access.specs.Backing.{BackingView}
 use Rattle.image_access.specs.Moments.{StorageView}
-use Rattle.qcow2_metadata.specs.Bytes.{Bytes, is_within}
+use Rattle.qcow2_metadata.specs.Bytes.{is_within}
 use Rattle.qcow2_metadata.specs.declared.header.HeaderFields.{HeaderFields}
 use Rattle.qcow2_metadata.specs.Header.{cluster_size, entries_per_cluster}
 use Rattle.qcow2_metadata.specs.Entries.{l1_entry, host_offset, is_copied}
@@ -24,7 +23,7 @@ use Rattle.qcow2_laws.specs.Views.{guest_of}
 use Rattle.qcow2_laws.proofs.Shown.{shown_uncovered}
 use Rattle.qcow2_alloc.specs.CacheMarks.{l2_pins}
 use Rattle.qcow2_alloc.specs.MetadataCaches.{IsEntryAt, l2_at}
-use Rattle.qcow2_alloc.specs.ImageFile.{stand_in, view_in, contents_in, known_in}
+use Rattle.qcow2_alloc.specs.ImageFile.{stand_in, contents_in, known_in}
 use Rattle.qcow2_image.specs.declared.image.Qcow2.{Qcow2}
 use Rattle.qcow2_image.specs.declared.prepared.Prepared.{Prepared}
 use Rattle.qcow2_image.specs.declared.prepared.NewCluster.{NewCluster}
@@ -32,7 +31,7 @@ use Rattle.qcow2_image.specs.Found.{l1_index_of, l2_index_of}
 use Rattle.qcow2_image.specs.Image.{number_of}
 use Rattle.qcow2_image.specs.Parts.{IsReadied}
 use Rattle.qcow2_image.specs.Steps.{is_announced, Goes, GoesBack, HoldsAll, HoldsTable, IsGained, Keeps, Pins, SameHeld}
-use Rattle.qcow2_image.specs.Views.{run_of, to_free, of_data, of_tables, held_by, pins_by, over_all, pending_in, seen, meaning, is_private, begin_of, backing_bytes, IsInPlace, IsNewFor, IsSoundAt}
+use Rattle.qcow2_image.specs.Views.{run_of, to_free, of_data, of_tables, pending_in, seen, meaning, is_private, begin_of, backing_bytes, IsInPlace, IsNewFor, IsSoundAt}
 use Rattle.qcow2_image.proofs.Gaining.{following_same, still_holds, taken_held}
 use Rattle.qcow2_image.proofs.Going.{goes_kept, goes_none, goes_then}
 use Rattle.qcow2_image.proofs.Readying.{mapping_at, IsNowPending, readied, prepared_by, private_inside}

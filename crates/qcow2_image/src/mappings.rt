@@ -432,13 +432,13 @@ impl<S: Storage, F: WrappedFormat<S>> Qcow2<S, F> {
         ensures own { image_of result ≡ number_of self.old }
         ensures some { 0 < length_of result }
         ensures value { result ≡ record {
-            image = self.old.number;
-            guest = offset;
-            place = Image;
-            offset = host + offset % cluster_size self.old.file.header.fields;
-            length = cluster_size self.old.file.header.fields - offset % cluster_size self.old.file.header.fields;
-            table = Some table;
-            new_cluster = new_cluster;
+          image = self.old.number;
+          guest = offset;
+          place = Image;
+          offset = host + offset % cluster_size self.old.file.header.fields;
+          length = cluster_size self.old.file.header.fields - offset % cluster_size self.old.file.header.fields;
+          table = Some table;
+          new_cluster = new_cluster;
         } }
     {
         let bits = self.file.header.cluster_bits();

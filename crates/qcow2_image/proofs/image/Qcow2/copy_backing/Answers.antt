@@ -1,10 +1,6 @@
-use Rattle.std.proofs.Common.{◌≡◌, ℕ, ◌+◌, ◌<◌, List, length, replicate, Option, refl, sym, ap, ◌∙◌, subst, arith, rules, is_some, false}
-use Rattle.std.specs.Prelude.{IfOk}
+use Rattle.std.proofs.Common.{◌≡◌, ℕ, ◌+◌, List, length, replicate, refl, sym, ◌∙◌, subst, arith, rules, is_some, false}
 use Rattle.std.proofs.lemmas.List.{length-replicate, get_or-replicate}
-use Rattle.qcow2_metadata.specs.Bytes.{byte_at}
 use Rattle.qcow2_alloc.specs.ImageFile.{view_in}
-use Rattle.qcow2_image.specs.Steps.{AreThere, IsOwn}
-use Rattle.qcow2_image.specs.Views.{backing_bytes}
 use Rattle.qcow2_image.proofs.Going.{goes_kept, goes_then, goes_data, own_of, there_written}
 use Rattle.qcow2_image.proofs.Loading.{if_ok}
 use Rattle.qcow2_image.proofs.Reading.{none_below}

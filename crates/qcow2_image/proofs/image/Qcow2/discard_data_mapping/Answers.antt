@@ -1,5 +1,3 @@
-use Rattle.qcow2_image.proofs.ReadyingNew.{readied_new, readied_in_place}
-use Rattle.qcow2_image.proofs.Moving.{file_moved}
 use Rattle.std.proofs.Common.{◌≡◌, ℕ, ◌-◌, sym, ap, ◌∙◌, subst}
 use Rattle.qcow2_alloc.specs.CacheMarks.{SameTables, l2_pins}
 use Rattle.qcow2_image.specs.declared.image.Qcow2.{Qcow2}

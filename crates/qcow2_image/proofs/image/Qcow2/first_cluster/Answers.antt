@@ -1,4 +1,4 @@
-use Rattle.std.proofs.Common.{◌≡◌, true, refl, sym, ap, ◌∙◌}
+use Rattle.std.proofs.Common.{◌≡◌, true, sym, ap, ◌∙◌}
 use Rattle.qcow2_metadata.specs.declared.l2_mapping.L2Mapping.TheVariants.{Data}
 use Rattle.qcow2_image.proofs.Looked.{held_says}
 use Rattle.qcow2_image.proofs.image.Qcow2.first_cluster.Goals as goal

@@ -1,7 +1,7 @@
-use Rattle.std.proofs.Common.{◌≡◌, ◌<◌, inl, refl, sym, ap, ◌∙◌, subst}
+use Rattle.std.proofs.Common.{◌≡◌, ◌<◌, inl, sym, ap, ◌∙◌, subst}
 use Rattle.qcow2_laws.specs.Changes.{with_held}
 use Rattle.qcow2_image.specs.declared.image.Qcow2.{Qcow2}
-use Rattle.qcow2_image.specs.Steps.{Goes, GoesBack, following}
+use Rattle.qcow2_image.specs.Steps.{Goes, GoesBack}
 use Rattle.qcow2_image.specs.Views.{run_of, held_by, over_all}
 use Rattle.qcow2_image.proofs.Gaining.{left, after_is, goes_handed_back, taken_held, taken_unused, still_holds, filled_as}
 use Rattle.qcow2_image.proofs.Going.{goes_then}
