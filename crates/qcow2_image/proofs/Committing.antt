@@ -51,6 +51,7 @@ use Rattle.qcow2_image.specs.Parts.{Committed}
 use Rattle.qcow2_image.specs.Views.{held_by, pins_by, pins_of, pending_in, seen, meaning, is_private, cluster_of, begin_of, backing_bytes, HasCluster, IsNewFor, IsPending, IsReadyWith, IsSoundAt}
 use Rattle.qcow2_image.proofs.Answered.{same_guest, holds_own}
 use Rattle.qcow2_image.proofs.Ready.{still_ready}
+use Rattle.qcow2_image.proofs.Reftables.{reftable_still}
 use Rattle.qcow2_image.proofs.Slots.{get_set_same, others_left, over_all_left, over_all_two, slot_set}
 use Rattle.qcow2_image.proofs.Stepped.{Steps, stepped_sound, stepped_works}
 
@@ -234,10 +235,6 @@ module _ {S F : Type 0} (view : S → StorageView) (backing : F → BackingView)
       still_ready h s.known s.base (known_in view final.file) s.base q (mapped.unseen.covers (cluster_of h q) (other_guest j q u there is ready) ∙ ap (λ b. cover h b (cluster_of h q)) (sym same_known))
       sound.file.caches.kept.kept.guarded.same_top.l1 leads.sound.same_top.l1 (λ l copied. refl) (Some u) ready
 
-  reftable_now : (a : Option Allocator) → IfSome a (λ x. HasReftable view old.file x.reftable) → IfSome a (λ x. HasReftable view final.file x.reftable)
-  reftable_now None has = tt
-  reftable_now (Some a) has = record { cluster = has.cluster; bits = has.bits; count = has.count; entries = has.entries }
-
   commit_sound : IsSoundAt view backing after final (slice_set out k None)
   commit_sound = record {
     works = sound.works;
@@ -248,7 +245,7 @@ module _ {S F : Type 0} (view : S → StorageView) (backing : F → BackingView)
       room = tables.room (marks.room sound.file.room);
     };
     l1_table = record { cluster = sound.l1_table.cluster; bits = sound.l1_table.bits; count = sound.l1_table.count; entries = sound.l1_table.entries };
-    reftable = reftable_now old.allocator sound.reftable;
+    reftable = reftable_still view old.file final.file refl refl old.allocator sound.reftable;
     below = sound.below;
     ready = λ j q there. let r = sound.ready j q (others_left out k j q there) in record { own = r.own; mapped = still_mapped j q there q.table refl r.mapped };
     pinned = λ table.

@@ -30,6 +30,7 @@ use Rattle.qcow2_image.proofs.Called.{same_freed}
 use Rattle.qcow2_image.proofs.Going.{goes_kept}
 use Rattle.qcow2_image.proofs.LetGo.{run_few, sound_while}
 use Rattle.qcow2_image.proofs.Moving.{file_moved}
+use Rattle.qcow2_image.proofs.Reftables.{reftable_still}
 use Rattle.qcow2_image.proofs.Sound.{free_more}
 
 module _ {S F : Type 0} (view : S → StorageView) (backing : F → BackingView) (out : List (Option Prepared)) where
@@ -89,7 +90,7 @@ module _ {S F : Type 0} (view : S → StorageView) (backing : F → BackingView)
           room = sound.file.room;
         };
         l1_table = record { cluster = sound.l1_table.cluster; bits = sound.l1_table.bits; count = sound.l1_table.count; entries = sound.l1_table.entries };
-        reftable = reftable_left old.allocator sound.reftable;
+        reftable = reftable_still view old.file left.file refl refl old.allocator sound.reftable;
         below = sound.below;
         ready = λ k q at. let r = sound.ready k q at in record { own = r.own; mapped = r.mapped };
         pinned = sound.pinned;
@@ -104,10 +105,6 @@ module _ {S F : Type 0} (view : S → StorageView) (backing : F → BackingView)
       list = record { more = n ∷ []; is = refl };
       seen = refl;
     }
-      where
-        reftable_left : (a : Option Allocator) → IfSome a (λ x. HasReftable view old.file x.reftable) → IfSome a (λ x. HasReftable view left.file x.reftable)
-        reftable_left None has = tt
-        reftable_left (Some a) has = record { cluster = has.cluster; bits = has.bits; count = has.count; entries = has.entries }
 
     -- what is pending then is what was before, with that
     pub after_is : (start : Qcow2 S F) → old.file.free_list ≡ start.file.free_list → after ≡ following p start left

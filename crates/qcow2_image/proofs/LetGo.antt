@@ -33,6 +33,7 @@ use Rattle.qcow2_image.specs.Views.{run_of, of_data, of_tables, to_free, held_by
 use Rattle.qcow2_alloc.specs.declared.allocation.Allocator.{Allocator}
 use Rattle.qcow2_image.proofs.Answered.{over_all_at, same_guest, ready_table}
 use Rattle.qcow2_image.proofs.Sound.{free_more}
+use Rattle.qcow2_image.proofs.Reftables.{reftable_still}
 use Rattle.qcow2_image.proofs.Slots.{others_left, over_all_left, slot_set}
 use Rattle.qcow2_image.proofs.Stepped.{Steps, stepped_sound, stepped_works}
 
@@ -76,10 +77,6 @@ module _ {S F : Type 0} (view : S → StorageView) (backing : F → BackingView)
   same_known : known_in view left.file ≡ known_in view old.file
   same_known = tables.known h (contents_in view old.file)
 
-  reftable_left : (a : Option Allocator) → IfSome a (λ x. HasReftable view old.file x.reftable) → IfSome a (λ x. HasReftable view left.file x.reftable)
-  reftable_left None has = tt
-  reftable_left (Some a) has = record { cluster = has.cluster; bits = has.bits; count = has.count; entries = has.entries }
-
   module _ (out : List (Option Prepared)) (k : ℕ) (at : slice_get out k ≡ Some (Some p)) where
     abbrev after : Pending
     after = held_to_dropped (pending_in view backing old out) (held_by p)
@@ -111,7 +108,7 @@ module _ {S F : Type 0} (view : S → StorageView) (backing : F → BackingView)
           room = tables.room sound.file.room;
         };
         l1_table = record { cluster = sound.l1_table.cluster; bits = sound.l1_table.bits; count = sound.l1_table.count; entries = sound.l1_table.entries };
-        reftable = reftable_left old.allocator sound.reftable;
+        reftable = reftable_still view old.file left.file refl refl old.allocator sound.reftable;
         below = sound.below;
         ready = λ j q there. let r = sound.ready j q (others_left out k j q there) in record { own = r.own; mapped = subst (λ (b : Bytes). IsReadyWith h b (contents_in view old.file) q q.table) (sym same_known) r.mapped };
         pinned = λ table. let all = over_all_left pins_by out k p at table in let was = sound.pinned table in let now = pins table in omega arith;

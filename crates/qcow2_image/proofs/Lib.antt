@@ -29,3 +29,4 @@ pub mod Entering
 pub mod Owning
 pub mod Preparing
 pub mod PrepareCalls
+pub mod Reftables

@@ -31,6 +31,7 @@ use Rattle.qcow2_image.specs.Steps.{Goes, HoldsTable}
 use Rattle.qcow2_image.specs.Views.{to_free, of_data, of_tables, held_by, pins_by, pins_of, over_all, pending_in, seen, meaning, is_private, backing_bytes, HasCluster, IsPending, IsReadyWith, IsSoundAt}
 use Rattle.qcow2_image.proofs.Answered.{same_guest}
 use Rattle.qcow2_image.proofs.Committing.{rounds_up}
+use Rattle.qcow2_image.proofs.Reftables.{reftable_still}
 use Rattle.qcow2_image.proofs.Slots.{get_set, over_all_put, slot_set}
 use Rattle.qcow2_image.proofs.Stepped.{Steps, stepped_sound, stepped_works}
 
@@ -94,10 +95,6 @@ module _ {S F : Type 0} (view : S → StorageView) (backing : F → BackingView)
       (λ (e : Some r ≡ Some p). let same : r ≡ p = cc in subst (λ (x : Prepared). IsReadyWith h (known_in view mid.file) (contents_in view mid.file) x x.table × (x.image ≡ number_of mid)) (sym same) (own_ready, refl))
       (λ there. let ready = goes.sound.ready j r there in (ready.mapped, ready.own)) (get_set out k j (Some p) (Some r) at)
 
-  reftable_now : (a : Option Allocator) → IfSome a (λ x. HasReftable view mid.file x.reftable) → IfSome a (λ x. HasReftable view new.file x.reftable)
-  reftable_now None has = tt
-  reftable_now (Some a) has = record { cluster = has.cluster; bits = has.bits; count = has.count; entries = has.entries }
-
   -- its table wasn't pinned
   no_pins : over_all pins_by out table ≡ 0
   no_pins = sym (goes.sound.pinned table) ∙ unpinned
@@ -125,7 +122,7 @@ module _ {S F : Type 0} (view : S → StorageView) (backing : F → BackingView)
       room = tables.room goes.sound.file.room;
     };
     l1_table = record { cluster = goes.sound.l1_table.cluster; bits = goes.sound.l1_table.bits; count = goes.sound.l1_table.count; entries = goes.sound.l1_table.entries };
-    reftable = reftable_now mid.allocator goes.sound.reftable;
+    reftable = reftable_still view mid.file new.file refl refl mid.allocator goes.sound.reftable;
     below = goes.sound.below;
     ready = λ j r at. let ready = ready_now j r at in record { own = ready.1; mapped = subst (λ (b : Bytes). IsReadyWith h b (contents_in view mid.file) r r.table) (sym same_known) ready.0 };
     pinned = λ c. let more = over_all_put pins_by out k p free c in let was = goes.sound.pinned c in let n = pins c in omega arith;

@@ -5,7 +5,7 @@ use Rattle.std.specs.List.{list_any}
 use Rattle.std.specs.Fmt.{option_append, with_newline}
 use Rattle.std.specs.Io.KnownBytes.{Appends}
 use Rattle.qcow2_session.specs.declared.session.Reply.{Reply}
-use Rattle.qimg.proofs.Known.{appends_nothing, appends_known}
+use Rattle.qimg.proofs.Known.{appends_known}
 use Rattle.qimg.specs.Printing.{line_of, text_of, is_refusal}
 use Rattle.qimg.specs.Program.{IsAnsweredOnce}
 

@@ -1,12 +1,11 @@
 -- Lines that are read one after the other, where the bytes are known.
-use Rattle.std.proofs.Common.{◌≡◌, ℕ, true, false, List, [], ◌∷◌, ◌++◌, map, Option, Some, None, IfSome, refl, sym, ap, ◌∙◌, subst}
+use Rattle.std.proofs.Common.{◌≡◌, ℕ, List, [], ◌∷◌, ◌++◌, map, Option, Some, None, IfSome, refl, sym, ap, ◌∙◌, subst}
 use Rattle.std.proofs.lemmas.List.{map-append}
 use Rattle.std.specs.Io.BufRead.{take_through, drop_through, strip_last}
-use Rattle.std.specs.Io.KnownBytes.{IsAtEnd}
 use Rattle.std.specs.Option.{MatchOption}
 use Rattle.qcow2_session.specs.declared.session.Command.{Command}
 use Rattle.qimg.specs.Lines.{Order, order, order_of_line}
-use Rattle.qimg.specs.Reading.{BeginsWith, Asks, nothing, and_then, IsScriptOf}
+use Rattle.qimg.specs.Reading.{BeginsWith, Asks, nothing, and_then}
 
 -- what a call that read a line leaves known
 abbrev pub ReadsOn : Option (List ℕ) → Order → Option (List ℕ) → Type 0

@@ -1,5 +1,5 @@
 -- A storage over a file: nothing is known of its bytes, so it isn't called honest. Its failures are counted.
-use Rattle.std.specs.Prelude.{◌≡◌, ℕ, List, [], codes}
+use Rattle.std.specs.Prelude.{◌≡◌, ℕ, [], codes}
 use Rattle.image_access.specs.Moments.{StorageView}
 
 abbrev pub view_of_file : ℕ → StorageView

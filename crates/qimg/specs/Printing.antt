@@ -2,7 +2,6 @@
 use Rattle.std.specs.Prelude.{ℕ, Bool, true, false, codes, List, [], ◌∷◌, ◌++◌, length, ◌==◌, Option, Some, None, if◌then◌else◌}
 use Rattle.std.specs.Fmt.{decimal, option_append, with_newline}
 use Rattle.hex.specs.Hex.{encode_lower}
-use Rattle.qcow2_image.specs.declared.mapping.Mapping.{Mapping}
 use Rattle.qcow2_image.specs.declared.mapping.MappingKind.{MappingKind}
 use Rattle.qcow2_image.specs.declared.mapping.MappingKind.TheVariants as K
 use Rattle.qcow2_image.specs.declared.mapping.Place.{Place}

@@ -1,5 +1,5 @@
 -- What the lines of an input ask for.
-use Rattle.std.specs.Prelude.{◌≡◌, ℕ, Bool, false, List, [], ◌∷◌, ◌++◌, Option, Some}
+use Rattle.std.specs.Prelude.{◌≡◌, ℕ, Bool, false, List, [], ◌∷◌, ◌++◌, Some}
 use Rattle.std.specs.Io.BufRead.{first_piece, drop_through}
 use Rattle.qimg.specs.Lines.{Order, order_of_line}
 
