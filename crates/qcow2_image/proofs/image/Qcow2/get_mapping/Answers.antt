@@ -8,7 +8,7 @@ use Rattle.qcow2_image.specs.Refusals.{Marks}
 use Rattle.qcow2_image.specs.Views.{seen, pending_in, IsSoundAt}
 use Rattle.qcow2_image.specs.Calls.{refusal_of}
 use Rattle.qcow2_image.proofs.Answers.{answers_err, usable_works}
-use Rattle.qcow2_image.proofs.Called.{Quietly, keeps_then, quiet_does, quiet_refuses}
+use Rattle.qcow2_image.proofs.Called.{quietly_then, quiet_does, quiet_refuses}
 use Rattle.qcow2_image.proofs.image.Qcow2.get_mapping.Goals as goal
 
 pub returns-in_err-kind-clause-sees : goal.returns-in_err-kind-clause-sees
@@ -21,10 +21,7 @@ returns-in_err-kind-clause-sees g c =
     let marks = subst (λ r. Marks r (is_failed new) (is_failed c.settled.new.self)) (sym c.settled.ensures.answer ∙ c.in_err-kind.was) c.settled.ensures.marks in
     answers_err view below old c.settled.new.self [] (λ found was is. is ≡ was) c.from_residual-in_err-kind.result e c.from_residual-in_err-kind.ensures
     (λ out.
-    let quiet : IsSoundAt view below (pending_in view below old out) old out → Quietly view below out old new = λ sound.
-    let p = pending_in view below old out in
-    let first = c.begin.ensures.keeps p out sound in
-    record { keeps = keeps_then view below out old c.begin.new.self new p p p (λ k h. h) first (c.look_up-found.ensures.keeps p out first.sound); list = c.look_up-found.ensures.list ∙ c.begin.ensures.list } in
+    let quiet = quietly_then view below out old c.begin.new.self new c.begin.ensures.keeps c.begin.ensures.list c.look_up-found.ensures.keeps c.look_up-found.ensures.list in
     subst (λ (image : Qcow2 _ _). Refuses (seen view below old out) (seen view below image out) [] [] (refusal_of e) (IsSame (seen view below old out) (seen view below image out))) (sym c.settled.ensures.rest)
     (quiet_refuses view below out old new quiet (is_failed c.settled.new.self) e marks (c.look_up-found.ensures.stays.image.number ∙ c.begin.ensures.stays.image.number)
     (usable_works old c.check_usable.result c.in_ok-check_usable.was c.check_usable.ensures)))
@@ -35,10 +32,7 @@ returns-clause-sees g c = λ out.
     let below = g.F.BackingDisk.backing in
     let old = c.args.self.now in
     let new = c.look_up-found.new.self in
-    let quiet : IsSoundAt view below (pending_in view below old out) old out → Quietly view below out old new = λ sound.
-    let p = pending_in view below old out in
-    let first = c.begin.ensures.keeps p out sound in
-    record { keeps = keeps_then view below out old c.begin.new.self new p p p (λ k h. h) first (c.look_up-found.ensures.keeps p out first.sound); list = c.look_up-found.ensures.list ∙ c.begin.ensures.list } in
+    let quiet = quietly_then view below out old c.begin.new.self new c.begin.ensures.keeps c.begin.ensures.list c.look_up-found.ensures.keeps c.look_up-found.ensures.list in
     let marks = subst (λ r. Marks r (is_failed new) (is_failed c.settled.new.self)) (sym c.settled.ensures.answer ∙ c.in_ok-kind.was) c.settled.ensures.marks in
     let same : c.settled.new.self ≡ new = c.settled.ensures.rest ∙ ap (λ f. record new { is_failed = f }) marks in
     subst (λ (image : Qcow2 _ _). Does (seen view below old out) (seen view below image out) [] [] (guest_of (seen view below image out) ≡ guest_of (seen view below old out))) (sym same)
