@@ -1,6 +1,6 @@
 -- A prepared mapping is committed: its private bytes become visible, and its place is free.
 use Rattle.std.proofs.Common.{◌≡◌, ◌≢◌, inl, inr, ℕ, ◌+◌, ◌-◌, ◌*◌, ◌/◌, ◌%◌, ◌<◌, ◌≤◌, Bool, true, false, List, [], ◌∷◌, refl, sym, ap, ◌∙◌, subst, arith, is_some}
-use Rattle.std.specs.Prelude.{Option, Some, None, IsSome, IfSome, slice_get, slice_set, ◌==◌, ◌&&◌}
+use Rattle.std.specs.Prelude.{Option, Some, None, IsSome, slice_get, slice_set, ◌==◌, ◌&&◌}
 use Rattle.std.specs.Option.{option_map_or}
 use Rattle.std.proofs.lemmas.Bool.{cases_lt, cases_eq, cond-true, cond-false, eq-eqb, ne_eqb}
 use Rattle.std.proofs.lemmas.Nat.{div-mul-add, mod-mul-add, div-add-mod', pow_pos}
@@ -39,11 +39,10 @@ use Rattle.qcow2_laws.proofs.Writes.{held_is_unnamed}
 use Rattle.qcow2_laws.proofs.Consistency.{in_own}
 use Rattle.qcow2_alloc.specs.Allocation.{run_at}
 use Rattle.qcow2_alloc.specs.CacheMarks.{l2_pins, KeepsMarks, SameTables}
-use Rattle.qcow2_alloc.specs.declared.allocation.Allocator.{Allocator}
 use Rattle.qcow2_alloc.specs.declared.cache.MetadataCaches.{MetadataCaches}
 use Rattle.qcow2_alloc.specs.MetadataCaches.{IsEntryAt, ChangesKnownEntry, MadeEntry, MapsEntry, l2_at, order_of, known_of}
 use Rattle.qcow2_alloc.proofs.Runs.{run_in, run_before, run_after}
-use Rattle.qcow2_alloc.specs.ImageFile.{stand_in, view_in, known_in, HasReftable}
+use Rattle.qcow2_alloc.specs.ImageFile.{stand_in, view_in, known_in}
 use Rattle.qcow2_image.specs.declared.image.Qcow2.{Qcow2}
 use Rattle.qcow2_image.specs.declared.prepared.Prepared.{Prepared}
 use Rattle.qcow2_image.specs.declared.prepared.NewCluster.{NewCluster}

@@ -1,6 +1,6 @@
 -- A mapping of the rest of a cluster is made ready: its table is pinned, and it is put at a free place.
 use Rattle.std.proofs.Common.{◌≡◌, ⊎_elim, inl, inr, ℕ, ◌+◌, ◌-◌, ◌*◌, ◌/◌, ◌%◌, ◌<◌, ◌≤◌, Bool, true, false, List, [], Option, Some, None, refl, sym, ap, ◌∙◌, subst, arith, is_some, cond}
-use Rattle.std.specs.Prelude.{IfSome, IsTrue, min, slice_get, slice_set, ◌&&◌, ◌==◌}
+use Rattle.std.specs.Prelude.{IsTrue, min, slice_get, slice_set, ◌&&◌, ◌==◌}
 use mathlib.Core.Path.{fun_ext}
 use Rattle.std.proofs.lemmas.Bool.{cases_eq, cond-false, eqb-true, ne_eqb}
 use Rattle.std.proofs.lemmas.Nat.{div-add-mod', mod_below, pow_pos}
@@ -18,9 +18,8 @@ use Rattle.qcow2_laws.specs.Leads.{Leads}
 use Rattle.qcow2_laws.specs.Mappings.{IsPrepared}
 use Rattle.qcow2_laws.specs.Views.{Guest, guest_of}
 use Rattle.qcow2_alloc.specs.CacheMarks.{l2_pins, SameTables}
-use Rattle.qcow2_alloc.specs.declared.allocation.Allocator.{Allocator}
 use Rattle.qcow2_alloc.specs.declared.cache.MetadataCaches.{MetadataCaches}
-use Rattle.qcow2_alloc.specs.ImageFile.{stand_in, contents_in, known_in, nothing_given, HasReftable}
+use Rattle.qcow2_alloc.specs.ImageFile.{stand_in, contents_in, known_in, nothing_given}
 use Rattle.qcow2_image.specs.declared.image.Qcow2.{Qcow2}
 use Rattle.qcow2_image.specs.declared.mapping.Place.TheVariants.{Image}
 use Rattle.qcow2_image.specs.declared.prepared.Prepared.{Prepared}

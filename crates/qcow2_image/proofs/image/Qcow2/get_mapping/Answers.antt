@@ -5,7 +5,7 @@ use Rattle.qcow2_image.specs.declared.image.Qcow2.{Qcow2}
 use Rattle.qcow2_image.specs.Found.{IsFound}
 use Rattle.qcow2_image.specs.Image.{is_failed}
 use Rattle.qcow2_image.specs.Refusals.{Marks}
-use Rattle.qcow2_image.specs.Views.{seen, pending_in, IsSoundAt}
+use Rattle.qcow2_image.specs.Views.{seen, pending_in}
 use Rattle.qcow2_image.specs.Calls.{refusal_of}
 use Rattle.qcow2_image.proofs.Answers.{answers_err, usable_works}
 use Rattle.qcow2_image.proofs.Called.{quietly_then, quiet_does, quiet_refuses}
