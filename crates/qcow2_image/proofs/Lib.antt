@@ -29,3 +29,5 @@ pub mod Entering
 pub mod Owning
 pub mod Preparing
 pub mod PrepareCalls
+pub mod Opening
+pub mod Clearing
