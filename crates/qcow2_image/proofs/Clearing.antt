@@ -1,5 +1,6 @@
 -- The autoclear bits are cleared beside caches that hold nothing modified: the file is as sound as before, and has the same tables.
 use Rattle.std.proofs.Common.{◌≡◌, ◌≢◌, inl, inr, ℕ, ◌+◌, ◌/◌, ◌<◌, ◌≤◌, List, refl, sym, ap, ◌∙◌, subst, arith}
+use Rattle.std.proofs.lemmas.Bool.{cases_eq}
 use Rattle.image_access.specs.Backing.{BackingView}
 use Rattle.image_access.specs.Moments.{StorageView}
 use Rattle.qcow2_metadata.specs.Bytes.{Bytes, byte_at}
@@ -133,3 +134,21 @@ module _ {S F : Type 0} (view : S → StorageView) (backing : F → BackingView)
         l1_table = λ t has. record { cluster = has.cluster; bits = has.bits; count = has.count; entries = λ i. has.entries i ∙ sym (l1_still base' writes i) };
         reftable = λ t has. record { cluster = has.cluster; bits = has.bits; count = has.count; entries = λ k. has.entries k ∙ sym (reftable_still base' writes k) };
       }
+
+  -- whether one was set or none
+  pub stays_after : (storage : ImageStorage S) (v : HeaderView) → v ≡ with_fields file.header (without_autoclear file.header.fields) → ((view_in view file).is_honest → (view (storage_of storage)).is_honest)
+      → (file.header.fields.autoclear ≢ 0 → (view_in view file).is_honest → (view (storage_of storage)).contents ≡ autoclear_cleared (view_in view file).contents)
+      → (file.header.fields.autoclear ≡ 0 → storage ≡ file.storage)
+      → header (byte_at (autoclear_cleared (view_in view file).contents)) ≡ without_autoclear (header (byte_at (view_in view file).contents))
+      → (file.header.fields.autoclear ≢ 0 → IsHeaderIn file.header (view_in view file).contents → IsHeaderIn (with_fields file.header (without_autoclear file.header.fields)) (autoclear_cleared (view_in view file).contents))
+      → StaysFresh view backing p file (record file { storage = storage; header = v })
+  stays_after storage v is honest written untouched fields reads =
+      subst (λ (w : HeaderView). StaysFresh view backing p file (record file { storage = storage; header = w })) (sym is)
+      (elim (cases_eq file.header.fields.autoclear 0) [
+        | inl none ↦
+          let same : record file { storage = storage; header = with_fields file.header (without_autoclear file.header.fields) } ≡ file =
+          ap (λ (s : ImageStorage S). record file { storage = s; header = with_fields file.header (without_autoclear file.header.fields) }) (untouched none)
+          ∙ ap (λ (n : ℕ). record file { header = with_fields file.header (record file.header.fields { autoclear = n }) }) (sym none) in
+          subst (StaysFresh view backing p file) (sym same) (record { fresh = fresh; l1_table = λ t has. has; reftable = λ t has. has })
+        | inr some ↦ stays_cleared storage (honest fresh.sound.honest) (written some fresh.sound.honest) fields (reads some fresh.header)
+      ])
