@@ -1,5 +1,5 @@
 -- The autoclear bits are cleared beside caches that hold nothing modified: the file is as sound as before, and has the same tables.
-use Rattle.std.proofs.Common.{◌≡◌, ◌≢◌, inl, inr, ℕ, ◌+◌, ◌/◌, ◌<◌, ◌≤◌, List, refl, sym, ap, ◌∙◌, subst, arith}
+use Rattle.std.proofs.Common.{◌≡◌, ◌≢◌, inl, inr, ℕ, ◌+◌, ◌/◌, ◌<◌, List, refl, sym, ap, ◌∙◌, subst, arith}
 use Rattle.std.proofs.lemmas.Bool.{cases_eq}
 use Rattle.image_access.specs.Backing.{BackingView}
 use Rattle.image_access.specs.Moments.{StorageView}
@@ -146,9 +146,9 @@ module _ {S F : Type 0} (view : S → StorageView) (backing : F → BackingView)
       subst (λ (w : HeaderView). StaysFresh view backing p file (record file { storage = storage; header = w })) (sym is)
       (elim (cases_eq file.header.fields.autoclear 0) [
         | inl none ↦
-          let same : record file { storage = storage; header = with_fields file.header (without_autoclear file.header.fields) } ≡ file =
-          ap (λ (s : ImageStorage S). record file { storage = s; header = with_fields file.header (without_autoclear file.header.fields) }) (untouched none)
-          ∙ ap (λ (n : ℕ). record file { header = with_fields file.header (record file.header.fields { autoclear = n }) }) (sym none) in
-          subst (StaysFresh view backing p file) (sym same) (record { fresh = fresh; l1_table = λ t has. has; reftable = λ t has. has })
+            let same : record file { storage = storage; header = with_fields file.header (without_autoclear file.header.fields) } ≡ file =
+            ap (λ (s : ImageStorage S). record file { storage = s; header = with_fields file.header (without_autoclear file.header.fields) }) (untouched none)
+            ∙ ap (λ (n : ℕ). record file { header = with_fields file.header (record file.header.fields { autoclear = n }) }) (sym none) in
+            subst (StaysFresh view backing p file) (sym same) (record { fresh = fresh; l1_table = λ t has. has; reftable = λ t has. has })
         | inr some ↦ stays_cleared storage (honest fresh.sound.honest) (written some fresh.sound.honest) fields (reads some fresh.header)
       ])

@@ -1,11 +1,10 @@
 -- The header and the tables are loaded as they stand on the storage, and the autoclear bits are cleared: the file is as sound as before.
-use Rattle.std.proofs.Common.{◌≡◌, ◌≢◌, ◌⊎◌, inl, inr, ℕ, ◌+◌, ◌*◌, ◌/◌, ◌^◌, ◌<◌, ◌≤◌, [], List, length, replicate, refl, sym, ap, ◌∙◌, subst, arith}
-use Rattle.std.specs.Prelude.{Option, Some, None, false}
+use Rattle.std.proofs.Common.{◌≡◌, ℕ, ◌*◌, ◌/◌, ◌^◌, [], List, length, refl, sym, ap, ◌∙◌, subst, arith}
+use Rattle.std.specs.Prelude.{Some, None, false}
 use Rattle.image_access.specs.Backing.{BackingView}
 use Rattle.image_access.specs.Moments.{StorageView}
 use Rattle.qcow2_metadata.specs.Bytes.{Bytes, byte_at}
-use Rattle.qcow2_metadata.specs.declared.header.HeaderFields.{HeaderFields}
-use Rattle.qcow2_metadata.specs.Header.{header, cluster_size}
+use Rattle.qcow2_metadata.specs.Header.{cluster_size}
 use Rattle.qcow2_metadata.specs.Consistent.{Consistent, IsConsistent}
 use Rattle.qcow2_metadata.specs.Entries.{l1_entry, reftable_entry}
 use Rattle.qcow2_metadata.specs.EntryTable.{EntryTableView, entry_table, NamesL1Table, IsL1TableOf}
@@ -20,7 +19,7 @@ use Rattle.qcow2_laws.proofs.Opened.{opened_guarded}
 use Rattle.qcow2_laws.proofs.Places.{l1_entry-past}
 use Rattle.qcow2_alloc.specs.declared.image_file.ImageFile.{ImageFile}
 use Rattle.qcow2_alloc.specs.declared.image_storage.ImageStorage.{ImageStorage}
-use Rattle.qcow2_alloc.specs.ImageFile.{l2_pins, HasRoom, view_in, contents_in, HasReftable}
+use Rattle.qcow2_alloc.specs.ImageFile.{l2_pins, HasRoom, view_in, contents_in}
 use Rattle.qcow2_alloc.specs.ImageStorage.{storage_of}
 use Rattle.qcow2_alloc.specs.MetadataCaches.{refblocks, known_of, AreSound}
 use Rattle.qcow2_alloc.proofs.KeptTables.Standing.{own_cluster}
