@@ -9,3 +9,4 @@ pub mod Steps
 pub mod NewTables
 pub mod Found
 pub mod Parts
+pub mod Opened

@@ -1,5 +1,3 @@
-ghost use Rattle.std.specs.Prelude.{◌≡◌, IfOk, is_some};
-
 use image_access::{BackingDisk, Format, Storage, WrappedFormat};
 use qcow2_alloc::{
     Allocator, ClustersToFreeList, ImageError, ImageFile, ImageStorage, MetadataCaches, WriteKind,
@@ -35,49 +33,6 @@ struct Tables {
     allocator: Option<Allocator>,
 }
 
-// A table without entries lies nowhere.
-fn load_l1_table<S: Storage>(
-    file: &mut ImageFile<S>,
-    cluster: HostCluster,
-) -> Result<L1Table, ImageError> {
-    let entries = file.header.l1_table_entries() as usize;
-    let table = if entries == 0 {
-        L1Table::new_cleared(file.alloc, &file.header, 0)?
-    } else {
-        L1Table::load(
-            file.alloc,
-            &mut file.storage,
-            &file.header,
-            cluster,
-            entries,
-        )?
-    };
-    Ok(table)
-}
-
-// Loads the L1 table and, for writing, the reftable; for writing the autoclear bits are cleared last.
-fn load_tables<S: Storage>(file: &mut ImageFile<S>, writable: bool) -> Result<Tables, ImageError>
-    ensures { IfOk result (λ tables. is_some tables.allocator ≡ writable) }
-{
-    let bits = file.header.cluster_bits();
-    let Some(cluster) = file.header.l1_table_offset().checked_cluster(bits) else {
-        return Err(ImageError::UnalignedTable);
-    };
-    let l1_table = load_l1_table(file, cluster)?;
-    let allocator = if writable {
-        let allocator = Allocator::new(file)?;
-        file.storage.will_write(WriteKind::Other);
-        file.header.clear_autoclear(&mut file.storage)?;
-        Some(allocator)
-    } else {
-        None
-    };
-    Ok(Tables {
-        l1_table,
-        allocator,
-    })
-}
-
 #[tactic(auto, using(crate::proofs::MetErrors::tables_met, crate::proofs::MetErrors::storage_met, crate::proofs::MetErrors::metadata_met))]
 impl<S: Storage, F: WrappedFormat<S>> Qcow2<S, F> {
     ghost use Rattle.std.specs.Prelude.{◌≡◌, IfOk, IfErr, IsTrue, MatchOption, Ok, Err, Some, None, false, nat_le, option_map, if◌then◌else◌};
@@ -94,6 +49,11 @@ impl<S: Storage, F: WrappedFormat<S>> Qcow2<S, F> {
     ghost use Rattle.qcow2_alloc.specs.ImageFile.{contents_in, known_in};
     ghost use Rattle.qcow2_image.specs.Steps.{Keeps};
     ghost use Rattle.qcow2_image.specs.Refusals.{unusable, IsMet, Marks, failed_after};
+    ghost use Rattle.image_access.specs.Moments.{Keeps as ContentsStay};
+    ghost use Rattle.qcow2_alloc.specs.ImageFile.{view_in, HasReftable};
+    ghost use Rattle.qcow2_image.specs.Views.{HasL1Table};
+    ghost use Rattle.qcow2_image.specs.Opened.{IsFresh, StaysFresh, IsLoaded, Opens};
+    ghost use Rattle.std.specs.Option.{is_some};
 
     /// Whether the first bytes of a storage are those of an image of version 2 or 3.
     pub fn probe(storage: &mut S) -> Result<bool, ImageError> {
@@ -111,6 +71,7 @@ impl<S: Storage, F: WrappedFormat<S>> Qcow2<S, F> {
         writable: bool,
         number: u64,
     ) -> Result<Qcow2<S, F>, (S, ImageError)>
+        ensures opens { IfOk result (Opens S.view F.backing (S.view metadata)) }
         ensures ok { IfOk result (λ image. (number_of image ≡ number) × (is_failed image ≡ false) × (is_writable image ≡ writable)) }
     {
         let mut storage = ImageStorage::new(metadata);
@@ -129,7 +90,7 @@ impl<S: Storage, F: WrappedFormat<S>> Qcow2<S, F> {
             caches,
             free_list: ClustersToFreeList::new(),
         };
-        match load_tables(&mut file, writable) {
+        match Self::load_tables(&mut file, writable) {
             Ok(
                 Tables {
                     l1_table,
@@ -145,6 +106,60 @@ impl<S: Storage, F: WrappedFormat<S>> Qcow2<S, F> {
             }),
             Err(e) => Err((file.into_storage(), e)),
         }
+    }
+
+    // A table without entries lies nowhere.
+    fn load_l1_table(file: &mut ImageFile<S>) -> Result<L1Table, ImageError>
+        ensures rest { file.new ≡ record file.old { storage = file.new.storage } }
+        ensures honest { (view_in S.view file.old).is_honest → (view_in S.view file.new).is_honest }
+        ensures same { ContentsStay (view_in S.view file.old) (view_in S.view file.new) }
+        ensures table { (view_in S.view file.old).is_honest → IfOk result (HasL1Table S.view F.backing file.new) }
+    {
+        let bits = file.header.cluster_bits();
+        let Some(cluster) = file.header.l1_table_offset().checked_cluster(bits) else {
+            return Err(ImageError::UnalignedTable);
+        };
+        let entries = file.header.l1_table_entries() as usize;
+        if entries == 0 {
+            return Ok(L1Table::new_cleared(file.alloc, &file.header, 0)?);
+        }
+        let table = L1Table::load(
+            file.alloc,
+            &mut file.storage,
+            &file.header,
+            cluster,
+            entries,
+        )?;
+        Ok(table)
+    }
+
+    // For writing the reftable is loaded, and the autoclear bits are cleared last.
+    fn load_allocator(file: &mut ImageFile<S>) -> Result<Allocator, ImageError>
+        ensures loaded { (p : Pending) → IsFresh S.view F.backing p file.old → IfOk result (λ allocator. StaysFresh S.view F.backing p file.old file.new × HasReftable S.view file.new allocator.reftable) }
+    {
+        let allocator = Allocator::new(file)?;
+        file.storage.will_write(WriteKind::Other);
+        file.header.clear_autoclear(&mut file.storage)?;
+        Ok(allocator)
+    }
+
+    // Loads the L1 table and, for writing, the reftable.
+    fn load_tables(file: &mut ImageFile<S>, writable: bool) -> Result<Tables, ImageError>
+        ensures allocator { IfOk result (λ tables. is_some tables.allocator ≡ writable) }
+        ensures loaded { (p : Pending) → IsFresh S.view F.backing p file.old → IfOk result (λ tables. IsLoaded S.view F.backing p file.new tables.l1_table tables.allocator) }
+    {
+        let l1_table = Self::load_l1_table(file)?;
+        if !writable {
+            return Ok(Tables {
+                l1_table,
+                allocator: None,
+            });
+        }
+        let allocator = Self::load_allocator(file)?;
+        Ok(Tables {
+            l1_table,
+            allocator: Some(allocator),
+        })
     }
 
     /// Closes the image and hands its storage back. What isn't flushed is forgotten.

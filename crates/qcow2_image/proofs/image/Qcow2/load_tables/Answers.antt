@@ -1,0 +1,15 @@
+use Rattle.qcow2_image.proofs.Opening.{fresh_then}
+use Rattle.qcow2_image.proofs.image.Qcow2.load_tables.Goals as goal
+
+pub returns-then-not-writable-clause-loaded : goal.returns-then-not-writable-clause-loaded
+returns-then-not-writable-clause-loaded g c = λ p fresh.
+    let l1 = c.load_l1_table.ensures in
+    let read = fresh_then g.S.Storage.view g.F.BackingDisk.backing p c.args.file.now c.load_l1_table.new.file fresh l1.rest l1.honest l1.same in
+    record { fresh = read.fresh; l1_table = c.in_ok-l1_table.ensures.table fresh.sound.honest; reftable = tt }
+
+pub returns-clause-loaded : goal.returns-clause-loaded
+returns-clause-loaded g c = λ p fresh.
+    let l1 = c.load_l1_table.ensures in
+    let read = fresh_then g.S.Storage.view g.F.BackingDisk.backing p c.args.file.now c.load_l1_table.new.file fresh l1.rest l1.honest l1.same in
+    let done = c.in_ok-allocator.ensures.loaded p read.fresh in
+    record { fresh = done.0.fresh; l1_table = done.0.l1_table _ (c.in_ok-l1_table.ensures.table fresh.sound.honest); reftable = done.1 }

@@ -1,0 +1,41 @@
+-- What opening an image gives: its header and its tables as they stand on the storage, and nothing modified.
+use Rattle.std.specs.Prelude.{ℕ, ◌≡◌, IfSome, [], Option}
+use Rattle.image_access.specs.Backing.{BackingView}
+use Rattle.image_access.specs.Moments.{StorageView}
+use Rattle.qcow2_metadata.specs.Bytes.{Bytes, byte_at}
+use Rattle.qcow2_metadata.specs.Consistent.{IsConsistent}
+use Rattle.qcow2_metadata.specs.EntryTable.{EntryTableView}
+use Rattle.qcow2_metadata.specs.HeaderLoad.{IsHeaderIn}
+use Rattle.qcow2_laws.specs.Guard.{Pending}
+use Rattle.qcow2_laws.specs.Views.{IsOpened}
+use Rattle.qcow2_alloc.specs.declared.allocation.Allocator.{Allocator}
+use Rattle.qcow2_alloc.specs.declared.image_file.ImageFile.{ImageFile}
+use Rattle.qcow2_alloc.specs.ImageFile.{l2_pins, view_in, IsSoundFile, HasReftable}
+use Rattle.qcow2_alloc.specs.MetadataCaches.{known_of}
+use Rattle.qcow2_image.specs.declared.image.Qcow2.{Qcow2}
+use Rattle.qcow2_image.specs.Views.{seen, HasL1Table}
+
+module _ {S F : Type 0} (view : S → StorageView) (backing : F → BackingView) where
+  -- a sound file with the header that stands there, whose caches hold nothing that is modified or pinned
+  pub record IsFresh (p : Pending) (file : ImageFile S) : Type 0 where
+    pub sound : IsSoundFile view p file
+    pub header : IsHeaderIn file.header (view_in view file).contents
+    pub clean : (base : Bytes) → known_of file.header.fields file.caches base ≡ base
+    pub unpinned : (cluster : ℕ) → l2_pins file.caches cluster ≡ 0
+    pub list : file.free_list ≡ []
+
+  -- so it still is, and tables that were those on the storage still are
+  pub record StaysFresh (p : Pending) (old new : ImageFile S) : Type 0 where
+    pub fresh : IsFresh p new
+    pub l1_table : (t : EntryTableView) → HasL1Table view backing old t → HasL1Table view backing new t
+    pub reftable : (t : EntryTableView) → HasReftable view old t → HasReftable view new t
+
+  -- its tables are loaded
+  pub record IsLoaded (p : Pending) (file : ImageFile S) (table : EntryTableView) (allocator : Option Allocator) : Type 0 where
+    pub fresh : IsFresh p file
+    pub l1_table : HasL1Table view backing file table
+    pub reftable : IfSome allocator (λ a. HasReftable view file a.reftable)
+
+  -- where a consistent image stands on an honest storage, it is sound as it is opened, and nothing is modified
+  abbrev pub Opens : StorageView → Qcow2 S F → Type 0
+  Opens storage image = storage.is_honest → IsConsistent (byte_at storage.contents) → IsOpened (seen view backing image [])
