@@ -29,9 +29,6 @@ pub mod Entering
 pub mod Owning
 pub mod Preparing
 pub mod PrepareCalls
-<<<<<<< HEAD
 pub mod Reftables
-=======
 pub mod Opening
 pub mod Clearing
->>>>>>> 7d50756345a2c35756d2960140f508488c1c80a2
