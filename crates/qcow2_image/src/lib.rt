@@ -6,6 +6,7 @@ mod copy_range;
 mod cow;
 mod image;
 mod io_func;
+mod l2_tables;
 mod mapping;
 mod mappings;
 mod prepared;

@@ -1,9 +1,8 @@
 //! What a guest range is mapped to, and making it writable.
-ghost use Rattle.std.specs.Prelude.{◌↔◌, ℕ, List, Option, is_some, ◌≡◌, ◌≢◌, ◌+◌, ◌*◌, ◌-◌, ◌/◌, ◌%◌, slice_get, true, Some, ◌^◌, ◌<◌, ◌≤◌, [], ◌∷◌, IfOk, IfErr, IfSome, OnOk, IsOk, IsNone, IsSome, IsTrue, MatchOption, Ok, Err, None, false, length};
+ghost use Rattle.std.specs.Prelude.{◌↔◌, ℕ, List, Option, is_some, ◌≡◌, ◌≢◌, ◌+◌, ◌*◌, ◌-◌, ◌/◌, ◌%◌, true, Some, ◌^◌, ◌<◌, ◌≤◌, [], ◌∷◌, IfOk, IfErr, IfSome, OnOk, IsOk, IsNone, IsSome, IsTrue, MatchOption, Ok, Err, None, false};
 ghost use Rattle.qcow2_metadata.specs.L2Mapping.{IsHostCluster, IsInReach};
-ghost use Rattle.qcow2_metadata.specs.EntryTable.{entry_count};
 ghost use Rattle.qcow2_image.specs.FirstCluster.{IsFirst, IsNear};
-ghost use Rattle.qcow2_image.specs.Image.{Stays, KeepsRest, IsSameImage, is_failed, is_writable, number_of};
+ghost use Rattle.qcow2_image.specs.Image.{Stays, IsSameImage, is_failed, is_writable, number_of};
 ghost use Rattle.qcow2_image.specs.Prepared.{image_of, length_of, table_of, IsKept};
 ghost use Rattle.qcow2_laws.specs.Guard.{Pending};
 ghost use Rattle.qcow2_alloc.specs.MetadataCaches.{IsEntryAt, l2_at};
@@ -14,15 +13,11 @@ ghost use Rattle.qcow2_image.specs.Parts.{Enters, IsExisting, Readies};
 ghost use Rattle.qcow2_alloc.specs.CacheMarks.{l2_pins};
 ghost use Rattle.qcow2_laws.specs.Alike.{IsAlike};
 ghost use Rattle.qcow2_image.specs.Found.{mapping_of, IsRunBehind, NamesTable, IsRunFrom, IsFound, kind_at, rest_of_table, l1_index_of, l2_index_of};
-ghost use Rattle.qcow2_image.specs.Steps.{Ensures, Gains, HoldsAll, HoldsTable, Pins, SameHeld, Keeps, TakesData, EntersCluster, EntersNew, FreesLater, Unpins, freed_by};
+ghost use Rattle.qcow2_image.specs.Steps.{Gains, HoldsAll, HoldsTable, Pins, SameHeld, Keeps, TakesData, EntersCluster, EntersNew, FreesLater, Unpins, freed_by};
 ghost use Rattle.qcow2_image.specs.Views.{HasL1Table, IsSoundAt, pending_in, seen};
 ghost use Rattle.qcow2_metadata.specs.Header.{cluster_size, entries_per_cluster};
 ghost use Rattle.qcow2_metadata.specs.Cover.{cover};
 ghost use Rattle.qcow2_image.specs.declared.mapping.Place.TheVariants.{Image};
-ghost use Rattle.qcow2_image.specs.NewTables.{SaysKnown, StandsReady, MayName, NamesShared, Places, NamesNew, WritesNew, EntersTable, OwnsTable};
-ghost use Rattle.qcow2_alloc.specs.TableCaches.{IsTableOf};
-ghost use Rattle.qcow2_laws.specs.Changes.{one_at, with_fresh};
-ghost use Rattle.qcow2_metadata.specs.L2Table.{L2TableView};
 ghost use Rattle.qcow2_image.specs.Refusals.{unusable, refuses_to_prepare, passes as passes_size, IsMet, Marks};
 ghost use Rattle.qcow2_image.specs.declared.prepared.CommitRefused.TheVariants.{Kept};
 ghost use Rattle.qcow2_alloc.specs.declared.error.ImageError.TheVariants.{Failed, ForeignState};
@@ -30,9 +25,7 @@ ghost use Rattle.qcow2_alloc.specs.declared.error.ImageError.TheVariants.{Failed
 use crate::prepared::NewCluster;
 use crate::{CommitRefused, Mapping, MappingKind, Place, Prepared, Qcow2};
 use image_access::{Storage, WrappedFormat};
-use qcow2_alloc::{
-    ClustersToFreeEntry, ClustersToFreeList, ImageError, PendingClusters, WriteKind,
-};
+use qcow2_alloc::{ImageError, PendingClusters};
 use qcow2_metadata::{ClusterCount, GuestCluster, GuestOffset, HostCluster, L2Mapping, L2Table};
 
 // Whether a guest cluster is mapped like an earlier one that lies so many bytes before it.
@@ -527,190 +520,6 @@ impl<S: Storage, F: WrappedFormat<S>> Qcow2<S, F> {
         ensures { FreesLater (pending ∷ []) self.old self.new }
     {
         pending.hand_back(&mut self.file.free_list);
-    }
-
-    // The L2 table that covers an offset, held in its cache and marked copied. Where there is none, or it isn't, one is made.
-    fn ensure_l2(&mut self, offset: u64) -> Result<HostCluster, ImageError>
-        requires writable { IsTrue (is_writable self.old) }
-        ensures stays { Stays self.old self.new }
-        ensures keeps_rest { KeepsRest self.old self.new }
-        ensures cause { IfErr result IsMet }
-        ensures ready { (p : Pending) (out : List (Option Prepared)) → IsSoundAt S.view F.backing p self.old out → Ensures S.view F.backing p self.old self.new out offset result }
-    {
-        let cluster = self.own_l2(offset)?;
-        self.file
-            .caches
-            .l2_get_or_insert(&mut self.file.storage, cluster)?;
-        Ok(cluster)
-    }
-
-    // Where the L2 table that covers an offset lies, which is marked copied then.
-    fn own_l2(&mut self, offset: u64) -> Result<HostCluster, ImageError>
-        requires writable { IsTrue (is_writable self.old) }
-        ensures stays { Stays self.old self.new }
-        ensures keeps_rest { KeepsRest self.old self.new }
-        ensures cause { IfErr result IsMet }
-        ensures owns { (p : Pending) (out : List (Option Prepared)) → IsSoundAt S.view F.backing p self.old out → OwnsTable S.view F.backing p self.old self.new out (l1_index_of self.old.file.header.fields offset) result }
-    {
-        let bits = self.file.header.cluster_bits();
-        let index = GuestOffset::new(offset).l1_index(bits);
-        if !self.l1_table.in_bounds(index) {
-            return Err(ImageError::Limit);
-        }
-        let Some(entry) = self.l1_table.get(index) else {
-            let table = L2Table::new_cleared(self.file.alloc, &self.file.header)?;
-            return self.enter_l2(index, table);
-        };
-        let Some(cluster) = entry.offset.checked_cluster(bits) else {
-            return Err(ImageError::UnalignedTable);
-        };
-        if entry.copied {
-            return Ok(cluster);
-        }
-        self.replace_l2(index, cluster)
-    }
-
-    // Puts a copy in the place of a table that others may name too.
-    fn replace_l2(&mut self, index: usize, old: HostCluster) -> Result<HostCluster, ImageError>
-        requires writable { IsTrue (is_writable self.old) }
-        ensures stays { Stays self.old self.new }
-        ensures keeps_rest { KeepsRest self.old self.new }
-        ensures cause { IfErr result IsMet }
-        ensures owns { (p : Pending) (out : List (Option Prepared)) → IsSoundAt S.view F.backing p self.old out → NamesShared S.view self.old index old → OwnsTable S.view F.backing p self.old self.new out index result }
-    {
-        self.file
-            .caches
-            .l2_get_or_insert(&mut self.file.storage, old)?;
-        let Some(held) = self.file.caches.l2_peek(old) else {
-            return Err(ImageError::InUse);
-        };
-        let table = held.clone()?;
-        self.swap_l2(index, old, table)
-    }
-
-    // Puts a table in the place of another one, which is to be freed.
-    fn swap_l2(
-        &mut self,
-        index: usize,
-        old: HostCluster,
-        table: L2Table,
-    ) -> Result<HostCluster, ImageError>
-        requires writable { IsTrue (is_writable self.old) }
-        ensures stays { Stays self.old self.new }
-        ensures keeps_rest { KeepsRest self.old self.new }
-        ensures cause { IfErr result IsMet }
-        ensures owns { (p : Pending) (out : List (Option Prepared)) → IsSoundAt S.view F.backing p self.old out → NamesShared S.view self.old index old → SaysKnown self.old.file.header.fields (known_in S.view self.old.file) index table → OwnsTable S.view F.backing p self.old self.new out index result }
-    {
-        let entry = ClustersToFreeEntry::metadata(old, ClusterCount::new(1));
-        let dropped = ClustersToFreeList::pending_guard(self.file.alloc, entry)?;
-        match self.enter_l2(index, table) {
-            Ok(cluster) => {
-                dropped.hand_back(&mut self.file.free_list);
-                Ok(cluster)
-            }
-            Err(refusal) => {
-                dropped.make_persistent();
-                Err(refusal)
-            }
-        }
-    }
-
-    // Gives a table a cluster, writes it there, and then the L1 entry that names it.
-    fn enter_l2(&mut self, index: usize, table: L2Table) -> Result<HostCluster, ImageError>
-        requires writable { IsTrue (is_writable self.old) }
-        ensures stays { Stays self.old self.new }
-        ensures keeps_rest { KeepsRest self.old self.new }
-        ensures cause { IfErr result IsMet }
-        ensures enters { (p : Pending) (out : List (Option Prepared)) → IsSoundAt S.view F.backing p self.old out → MayName S.view self.old index → SaysKnown self.old.file.header.fields (known_in S.view self.old.file) index table → EntersTable S.view F.backing p self.old self.new out index result }
-    {
-        let Some(allocator) = &mut self.allocator else {
-            unreachable!();
-        };
-        let pending = allocator.allocate_meta(&mut self.file, ClusterCount::new(1))?;
-        let cluster = pending.cluster();
-        match self.write_l2(index, cluster, table) {
-            Ok(()) => {
-                pending.make_persistent();
-                Ok(cluster)
-            }
-            Err(refusal) => {
-                pending.hand_back(&mut self.file.free_list);
-                Err(refusal)
-            }
-        }
-    }
-
-    // The table's bytes are written first, then the entry that names it.
-    fn write_l2(
-        &mut self,
-        index: usize,
-        cluster: HostCluster,
-        table: L2Table,
-    ) -> Result<(), ImageError>
-        ensures stays { Stays self.old self.new }
-        ensures keeps_rest { KeepsRest self.old self.new }
-        ensures cause { IfErr result IsMet }
-        ensures list { self.new.file.free_list ≡ self.old.file.free_list }
-        ensures writes { (p : Pending) (out : List (Option Prepared)) → IsSoundAt S.view F.backing (with_fresh p (one_at cluster)) self.old out → MayName S.view self.old index → IsTrue self.old.file.caches.is_changed
-            → SaysKnown self.old.file.header.fields (known_in S.view self.old.file) index table → WritesNew S.view F.backing p self.old self.new out index cluster result }
-    {
-        if !self.can_enter(index, cluster) {
-            return Err(ImageError::Limit);
-        }
-        self.place_l2(cluster, table)?;
-        self.name_l2(index, cluster)
-    }
-
-    // Writes a table's bytes to a cluster, after all that is cached. A cluster that an older table is held for is refused: the older one would be found there.
-    fn place_l2(&mut self, cluster: HostCluster, mut table: L2Table) -> Result<(), ImageError>
-        ensures stays { Stays self.old self.new }
-        ensures keeps_rest { KeepsRest self.old self.new }
-        ensures cause { IfErr result IsMet }
-        ensures rest { self.new ≡ record self.old { file = record self.old.file { storage = self.new.file.storage; caches = self.new.file.caches } } }
-        ensures noted { IsTrue self.old.file.caches.is_changed → IsTrue self.new.file.caches.is_changed }
-        ensures long { length table.bytes ≡ 2 ^ table.cluster_bits }
-        ensures places { (p : Pending) (out : List (Option Prepared)) → IsSoundAt S.view F.backing p self.old out → 0 < p.fresh cluster → IsTableOf self.old.file.header.fields table → Places S.view F.backing p self.old self.new out cluster table.bytes result }
-    {
-        if !cluster.is_nameable(table.cluster_bits()) {
-            return Err(ImageError::Limit);
-        }
-        table.set_cluster(cluster);
-        self.file.caches.flush_all(&mut self.file.storage)?;
-        if self.file.caches.l2_peek(cluster).is_some() {
-            return Err(ImageError::InUse);
-        }
-        self.file.storage.will_write(WriteKind::Other);
-        table.write(&mut self.file.storage)?;
-        Ok(())
-    }
-
-    // Writes the L1 entry that names the table in a cluster.
-    fn name_l2(&mut self, index: usize, cluster: HostCluster) -> Result<(), ImageError>
-        requires within { index < entry_count self.old.l1_table }
-        requires placed { IsSome self.old.l1_table.cluster }
-        requires nameable { IsHostCluster self.old.l1_table.cluster_bits cluster }
-        ensures stays { Stays self.old self.new }
-        ensures keeps_rest { KeepsRest self.old self.new }
-        ensures cause { IfErr result IsMet }
-        ensures list { self.new.file.free_list ≡ self.old.file.free_list }
-        ensures names { (p : Pending) (out : List (Option Prepared)) (table : L2TableView) → IsSoundAt S.view F.backing (with_fresh p (one_at cluster)) self.old out → MayName S.view self.old index → IsTrue self.old.file.caches.is_changed
-            → SaysKnown self.old.file.header.fields (known_in S.view self.old.file) index table → length table.bytes ≡ 2 ^ table.cluster_bits → StandsReady S.view self.old cluster table.bytes → NamesNew S.view F.backing p self.old self.new out index cluster result }
-    {
-        self.file.storage.will_write(WriteKind::Other);
-        self.l1_table.enter_l2_table(index, cluster);
-        self.l1_table.write_entry(&mut self.file.storage, index)?;
-        Ok(())
-    }
-
-    // Whether the L1 table has a place for an L2 table in a cluster.
-    fn can_enter(&self, index: usize, cluster: HostCluster) -> bool
-        ensures within { IsTrue result → index < entry_count self.now.l1_table }
-        ensures placed { IsTrue result → IsSome self.now.l1_table.cluster }
-        ensures nameable { IsTrue result → IsHostCluster self.now.l1_table.cluster_bits cluster }
-    {
-        self.l1_table.in_bounds(index)
-            && self.l1_table.get_cluster().is_some()
-            && cluster.is_nameable(self.l1_table.cluster_bits())
     }
 
     /// Makes a prepared mapping visible. A refusal that leaves the mapping as it is hands it back.
