@@ -1,11 +1,12 @@
 //! Taking clusters of the image's file.
-ghost use Rattle.std.specs.Prelude.{◌≡◌, ◌≢◌, ℕ, ◌+◌, ◌*◌, ◌^◌, ◌<◌, ◌≤◌, Bool, Some, IfSome, IfOk, IfErr, OnOk, IsSome, IsTrue};
+ghost use Rattle.std.specs.Prelude.{◌≡◌, ◌≢◌, ◌/◌, false, ℕ, ◌+◌, ◌*◌, ◌^◌, ◌<◌, ◌≤◌, Bool, Some, IfSome, IfOk, IfErr, OnOk, IsSome, IsTrue};
 ghost use Rattle.image_access.specs.Moments.{Keeps, Passing};
 ghost use Rattle.qcow2_laws.specs.Changes.{one_at};
 ghost use Rattle.qcow2_laws.specs.Clusters.{L2DependsOnRb};
 ghost use Rattle.qcow2_laws.specs.Guard.{Pending};
 ghost use Rattle.qcow2_alloc.specs.Allocation.{run_at, taken_as, placing, first_counts, HasPlaceFor, KeepsEntries, MayTake, LoadsBlock, WritesBlock, PlacesBlock, TakesOne, TakesRun, LowersOne, GivesBack, GivesBackRun, HasNone, GetsBlock, TakesLowest, TakesSomeRun, is_data, Allocates};
 ghost use Rattle.qcow2_alloc.specs.CacheMarks.{KeepsMarks};
+ghost use Rattle.qcow2_alloc.specs.LowestRuns.{HasHint, IsLowestRun, IsUsed, KeepsHint};
 ghost use Rattle.qcow2_alloc.specs.ImageError.{IsOfTables, IsFault};
 ghost use Rattle.qcow2_alloc.specs.ImageFile.{view_in, HasReftable, IsSoundWith};
 ghost use Rattle.qcow2_laws.specs.Caches.{AreClean, BlocksMayGo};
@@ -147,6 +148,8 @@ impl Allocator {
         ensures list { file.new.free_list ≡ file.old.free_list }
         ensures nameable { IfOk result (λ p. IsHostCluster file.old.header.fields.cluster_bits p.first_cluster) }
         ensures cause { IfErr result IsOfTables }
+        ensures lowest { (p : Pending) → IsSoundWith S.view self.old p file.old → HasHint S.view self.old file.old → IfOk result (λ run. IsLowestRun S.view file.new run.first_cluster count) }
+        ensures hint { (p : Pending) → IsSoundWith S.view self.old p file.old → HasHint S.view self.old file.old → KeepsHint S.view self.new file.new result }
     {
         self.allocate(file, count, ClusterKind::Metadata)
     }
@@ -165,6 +168,8 @@ impl Allocator {
         ensures list { file.new.free_list ≡ file.old.free_list }
         ensures nameable { IfOk result (λ p. IsHostCluster file.old.header.fields.cluster_bits p.first_cluster) }
         ensures cause { IfErr result IsOfTables }
+        ensures lowest { (p : Pending) → IsSoundWith S.view self.old p file.old → HasHint S.view self.old file.old → IfOk result (λ run. IsLowestRun S.view file.new run.first_cluster count) }
+        ensures hint { (p : Pending) → IsSoundWith S.view self.old p file.old → HasHint S.view self.old file.old → KeepsHint S.view self.new file.new result }
     {
         file.caches.l2_depends_on_rb(&mut file.storage)?;
         self.allocate(file, count, ClusterKind::Data)
@@ -185,6 +190,8 @@ impl Allocator {
         ensures list { file.new.free_list ≡ file.old.free_list }
         ensures nameable { IfOk result (λ p. IsHostCluster file.old.header.fields.cluster_bits p.first_cluster) }
         ensures cause { IfErr result IsOfTables }
+        ensures lowest { (p : Pending) → IsSoundWith S.view self.old p file.old → MayTake (is_data kind) file.old → HasHint S.view self.old file.old → IfOk result (λ run. IsLowestRun S.view file.new run.first_cluster count) }
+        ensures hint { (p : Pending) → IsSoundWith S.view self.old p file.old → MayTake (is_data kind) file.old → HasHint S.view self.old file.old → KeepsHint S.view self.new file.new result }
     {
         let entry = ClustersToFreeEntry {
             first_cluster: HostCluster::new(0),
@@ -213,6 +220,8 @@ impl Allocator {
         ensures list { file.new.free_list ≡ file.old.free_list }
         ensures nameable { IfOk result (λ first. IsHostCluster file.old.header.fields.cluster_bits first) }
         ensures cause { IfErr result IsOfTables }
+        ensures lowest { (p : Pending) (is_data : Bool) → IsSoundWith S.view self.old p file.old → MayTake is_data file.old → HasHint S.view self.old file.old → IfOk result (λ first. IsLowestRun S.view file.new first n) }
+        ensures hint { (p : Pending) (is_data : Bool) → IsSoundWith S.view self.old p file.old → MayTake is_data file.old → HasHint S.view self.old file.old → KeepsHint S.view self.new file.new result }
     {
         let limit = (MAX_HOST_OFFSET >> file.header.cluster_bits()) + 1;
         let mut first = self.first_free_cluster;
@@ -242,6 +251,8 @@ impl Allocator {
         ensures list { file.new.free_list ≡ file.old.free_list }
         ensures within { IfOk result (λ taken. taken ≤ n) }
         ensures cause { IfErr result IsOfTables }
+        ensures used { (p : Pending) (is_data : Bool) → IsSoundWith S.view self.old p file.old → MayTake is_data file.old → IfOk result (λ taken. taken ≢ n → IsUsed S.view file.new (first + taken)) }
+        ensures hint { (p : Pending) (is_data : Bool) → IsSoundWith S.view self.old p file.old → MayTake is_data file.old → HasHint S.view self.old file.old → KeepsHint S.view self.new file.new result }
     {
         'taking: for taken in 0..n {
             match self.take(file, first + taken) {
@@ -275,6 +286,8 @@ impl Allocator {
         ensures header { file.new.header ≡ file.old.header }
         ensures list { file.new.free_list ≡ file.old.free_list }
         ensures cause { IfErr result IsOfTables }
+        ensures used { (p : Pending) (is_data : Bool) → IsSoundWith S.view self.old p file.old → MayTake is_data file.old → IfOk result (λ taken. taken ≡ false → IsUsed S.view file.new cluster) }
+        ensures hint { (p : Pending) (is_data : Bool) → IsSoundWith S.view self.old p file.old → MayTake is_data file.old → HasHint S.view self.old file.old → KeepsHint S.view self.new file.new result }
     {
         self.ensure_block(file, cluster)?;
         let taken = self.raise(file, cluster)?;
@@ -299,6 +312,8 @@ impl Allocator {
         ensures header { file.new.header ≡ file.old.header }
         ensures list { file.new.free_list ≡ file.old.free_list }
         ensures cause { IfErr result IsOfTables }
+        ensures first { (self.new.first_free_cluster ≤ self.old.first_free_cluster) × (0 < n → self.new.first_free_cluster ≤ first) }
+        ensures kept { (p : Pending) (is_data : Bool) → IsSoundWith S.view self.old (taken_as is_data p (run_at first n)) file.old → OnOk result ((k : ℕ) → run_at first n k ≡ 0 → IsUsed S.view file.old k → IsUsed S.view file.new k) }
     {
         if n == 0 {
             return Ok(());
@@ -320,6 +335,7 @@ impl Allocator {
         ensures header { file.new.header ≡ file.old.header }
         ensures list { file.new.free_list ≡ file.old.free_list }
         ensures cause { IfErr result IsOfTables }
+        ensures first { self.new.first_free_cluster ≡ self.old.first_free_cluster }
     {
         match self.try_lower(file, cluster) {
             Ok(true) => return Ok(()),
@@ -371,6 +387,7 @@ impl Allocator {
         ensures header { file.new.header ≡ file.old.header }
         ensures list { file.new.free_list ≡ file.old.free_list }
         ensures cause { IfErr result IsOfTables }
+        ensures used { (p : Pending) → IsSoundWith S.view self.old p file.old → (HasNone self.old.reftable (cluster / counts_per_block file.old.header.fields) → ⊥) → IfOk result (λ taken. taken ≡ false → IsUsed S.view file.new cluster) }
     {
         let bits = file.header.rb_bits();
         let Some(block) = self.load_block(file, cluster >> bits)? else {
@@ -416,6 +433,8 @@ impl Allocator {
         ensures header { file.new.header ≡ file.old.header }
         ensures list { file.new.free_list ≡ file.old.free_list }
         ensures cause { IfErr result IsOfTables }
+        ensures has { (p : Pending) → IsSoundWith S.view self.old p file.old → OnOk result (HasNone self.new.reftable (cluster / counts_per_block file.old.header.fields) → ⊥) }
+        ensures hint { (p : Pending) → IsSoundWith S.view self.old p file.old → HasHint S.view self.old file.old → KeepsHint S.view self.new file.new result }
     {
         let bits = file.header.rb_bits();
         let range = cluster >> bits;
@@ -454,6 +473,7 @@ impl Allocator {
         ensures header { file.new.header ≡ file.old.header }
         ensures list { file.new.free_list ≡ file.old.free_list }
         ensures cause { IfErr result IsOfTables }
+        ensures hint { (p : Pending) → IsSoundWith S.view self.old p file.old → HasHint S.view self.old file.old → KeepsHint S.view self.new file.new result }
     {
         let bits = file.header.rb_bits();
         'search: while self.first_free_cluster < end {
@@ -482,6 +502,8 @@ impl Allocator {
         ensures header { file.new.header ≡ file.old.header }
         ensures list { file.new.free_list ≡ file.old.free_list }
         ensures cause { IfErr result IsOfTables }
+        ensures first { self.new.first_free_cluster ≡ self.old.first_free_cluster }
+        ensures has { (p : Pending) → IsSoundWith S.view self.old p file.old → OnOk result (HasNone self.new.reftable range → ⊥) }
     {
         if self.load_block(file, range)?.is_some() {
             return Ok(());
@@ -516,6 +538,7 @@ impl Allocator {
         ensures header { file.new.header ≡ file.old.header }
         ensures list { file.new.free_list ≡ file.old.free_list }
         ensures cause { IfErr result IsOfTables }
+        ensures first { self.new.first_free_cluster ≡ self.old.first_free_cluster }
     {
         let cluster = HostCluster::new(at);
         let block = new_block(file.alloc, &file.header, cluster, counts_itself)?;

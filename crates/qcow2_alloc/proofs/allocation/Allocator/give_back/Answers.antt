@@ -2,10 +2,11 @@ use Rattle.std.proofs.Common.{◌≡◌, ◌+◌, ◌-◌, ◌<◌, inr, refl, s
 use Rattle.qcow2_laws.specs.Changes.{one_at}
 use Rattle.qcow2_laws.specs.Guard.{Pending}
 use Rattle.qcow2_alloc.specs.Allocation.{run_at, taken_as, Becomes, GivesBack}
-use Rattle.qcow2_alloc.specs.ImageFile.{Moves}
+use Rattle.qcow2_alloc.specs.ImageFile.{IsSoundWith, Moves}
 use Rattle.qcow2_alloc.proofs.CacheMarks.{marks_none, marks_then}
 use Rattle.qcow2_alloc.proofs.FileSteps.{moves_then, breaks_after}
-use Rattle.qcow2_alloc.proofs.AllocationSteps.{handed_on}
+use Rattle.qcow2_alloc.proofs.AllocationSteps.{handed_on, is_sound_now}
+use Rattle.qcow2_alloc.proofs.Hints.{not_in_run, taken_pending, used_stays}
 use Rattle.qcow2_alloc.proofs.Runs.{taken_first, taken_none, held_more}
 use Rattle.qcow2_alloc.proofs.allocation.Allocator.give_back.Goals as goal
 
@@ -23,6 +24,10 @@ lowering-init g c = record {
       let whole : c.args.n ≡ c.args.first + c.args.n - c.args.first = omega arith in
       let moves = subst (λ m. Moves g.S.Storage.view p (taken_as d p (run_at c.args.first m)) start c.args.file.now) whole b.moves in
       record { moves = moves; reftable = b.reftable };
+  first = let is = c.min-self.ensures in (omega (arith, is), omega (arith, is));
+  kept = λ p d sound.
+      let whole : c.args.n ≡ c.args.first + c.args.n - c.args.first = omega arith in
+      (subst (λ m. IsSoundWith g.S.Storage.view (record c.args.self.now { first_free_cluster = c.min-self.result }) (taken_as d p (run_at c.args.first m)) c.args.file.now) whole (record { sound = sound.sound; reftable = sound.reftable }), λ k none used. used);
 }
 
 pub returns-in_err-lower-clause-sound : goal.returns-in_err-lower-clause-sound
@@ -56,9 +61,30 @@ lowering-preserved g c = record {
             (λ k some. subst (λ (r : Pending). 0 < r.held k) (sym same) (held_more d p (run_at c.lowering.cluster ((c.args.first + c.args.n) - c.lowering.cluster)) k some)) moved low.moves;
         reftable = low.reftable;
       };
+  first = let is = c.lower.ensures.first in (omega (arith, is, c.lowering.invariant.first.0), omega (arith, is, c.lowering.invariant.first.1));
+  kept = λ p d sound.
+      let one = c.lowering.invariant.kept p d sound in
+      let q : Pending = (taken_as d p (run_at (c.lowering.cluster + 1) ((c.args.first + c.args.n) - (c.lowering.cluster + 1)))) in
+      let same = taken_first d p c.lowering.cluster (c.args.first + c.args.n) c.lowering-test.true in
+      let low = c.in_ok-lower.ensures.sound q d (subst (λ (r : Pending). IsSoundWith g.S.Storage.view c.lowering.self r c.lowering.file) (sym same) one.0) in (
+        is_sound_now g.S.Storage.view (taken_as d q (one_at c.lowering.cluster)) q c.lowering.file c.lower.new.file c.lower.new.self low,
+        λ k none used.
+            let other = not_in_run c.args.first c.args.n c.lowering.cluster k c.lowering.auto.cluster c.lowering-test.true none in
+            let pending = taken_pending d q (one_at c.lowering.cluster) k in
+            used_stays g.S.Storage.view (taken_as d q (one_at c.lowering.cluster)) q c.lowering.file c.lower.new.file c.lower.new.self k low (omega (arith, other, pending)) (one.1 k none used),
+      );
 }
 
 pub returns-clause-sound : goal.returns-clause-sound
 returns-clause-sound g c = λ p d start b noted.
     subst (λ (r : Pending). Becomes g.S.Storage.view p start c.lowering.self c.lowering.file r)
     (taken_none d p c.lowering.cluster ((c.args.first + c.args.n) - c.lowering.cluster) (let past = c.lowering-test.false in omega arith)) (c.lowering.invariant.sound p d start b)
+
+pub returns-in_err-lower-clause-first : goal.returns-in_err-lower-clause-first
+returns-in_err-lower-clause-first g c = let is = c.lower.ensures.first in (omega (arith, is, c.lowering.invariant.first.0), λ some. omega (arith, is, c.lowering.invariant.first.1))
+
+pub returns-clause-first : goal.returns-clause-first
+returns-clause-first g c = (c.lowering.invariant.first.0, λ some. c.lowering.invariant.first.1)
+
+pub returns-clause-kept : goal.returns-clause-kept
+returns-clause-kept g c = λ p d sound. (c.lowering.invariant.kept p d sound).1
