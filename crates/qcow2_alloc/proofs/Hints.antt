@@ -1,8 +1,8 @@
 -- The first free cluster of an allocator over its steps: what is in use stays in use, but for what is given back.
-use Rattle.std.proofs.Common.{◌≡◌, ◌≢◌, inl, inr, ℕ, ◌+◌, ◌*◌, ◌/◌, ◌<◌, ◌≤◌, Bool, true, false, Option, Some, None, Result, Ok, Err, sym, ap, ◌∙◌, subst, refl, arith}
+use Rattle.std.proofs.Common.{◌≡◌, ◌≢◌, ◌⊎◌, inl, inr, ℕ, ◌+◌, ◌*◌, ◌/◌, ◌<◌, ◌≤◌, Bool, true, false, Option, Some, None, Result, Ok, Err, sym, ap, ◌∙◌, subst, refl, arith}
 use Rattle.std.specs.Option.{is_some}
 use Rattle.std.specs.Prelude.{OnOk}
-use Rattle.std.proofs.lemmas.Bool.{cases_eq}
+use Rattle.std.proofs.lemmas.Bool.{cases_eq, cases_lt}
 use Rattle.image_access.specs.Moments.{StorageView}
 use Rattle.qcow2_metadata.specs.Entries.{block_offset, reftable_entry, count}
 use Rattle.qcow2_metadata.specs.EntryTable.{EntryTableView}
@@ -16,11 +16,12 @@ use Rattle.qcow2_laws.specs.Guard.{Pending}
 use Rattle.qcow2_alloc.specs.declared.allocation.Allocator.{Allocator}
 use Rattle.qcow2_alloc.specs.declared.error.ImageError.{ImageError}
 use Rattle.qcow2_alloc.specs.declared.image_file.ImageFile.{ImageFile}
-use Rattle.qcow2_alloc.specs.Allocation.{run_at, taken_as, HasNone, StandsAt, Becomes, GetsBlock, PlacesBlock}
+use Rattle.qcow2_alloc.specs.Allocation.{run_at, taken_as, HasNone, StandsAt, Becomes, GetsBlock, PlacesBlock, TakesOne}
 use Rattle.qcow2_alloc.specs.ImageFile.{pending_at, contents_in, known_in, IsSoundFile, IsSoundWith, HasReftable, LeavesSound, IsFault}
-use Rattle.qcow2_alloc.specs.LowestRuns.{IsUsed, HasHint, KeepsHint}
+use Rattle.qcow2_alloc.specs.LowestRuns.{IsUsed, IsLowestRun, HasHint, KeepsHint}
 use Rattle.qcow2_alloc.proofs.AllocationSteps.{none_in_memory, still_sound}
-use Rattle.qcow2_alloc.proofs.Runs.{run_in, none_there}
+use Rattle.qcow2_alloc.proofs.FileSteps.{one_here}
+use Rattle.qcow2_alloc.proofs.Runs.{none_there, run_after, run_before, run_in}
 
 -- what is taken is pending
 pub taken_pending : (d : Bool) (p : Pending) (n : ℕ → ℕ) (k : ℕ) → pending_at (taken_as d p n) k ≡ pending_at p k + n k
@@ -118,3 +119,38 @@ module _ {S : Type 0} (view : S → StorageView) where
   pub hint_got : (p : Pending) (old new : ImageFile S) (t t' : Allocator) (result : Result (Unit {0}) ImageError) → t'.first_free_cluster ≡ t.first_free_cluster → GetsBlock view p old t' new result → HasHint view t old → KeepsHint view t' new result
   hint_got p old new t t' (Ok done) same gets hint = hint_stays p old new t t' gets same hint
   hint_got p old new t t' (Err e) same gets hint = hint_refused p old new t t' e same gets hint
+
+  -- a cluster was taken, or is in use
+  pub hint_raised : (p : Pending) (d : Bool) (cluster : ℕ) (old new : ImageFile S) (t t' : Allocator) (taken : Bool) → t'.first_free_cluster ≡ t.first_free_cluster → TakesOne view p old t' new d cluster (Ok taken) → HasHint view t old → HasHint view t' new
+  hint_raised p d cluster old new t t' true same takes hint = hint_taken p d (one_at cluster) old new t t' takes same hint
+  hint_raised p d cluster old new t t' false same takes hint = hint_stays p old new t t' takes same hint
+
+  pub raised_used : (p : Pending) (d : Bool) (cluster : ℕ) (old new : ImageFile S) (t : Allocator) (taken : Bool) → TakesOne view p old t new d cluster (Ok taken) → (taken ≡ false → IsUsed view new cluster) → IsUsed view new cluster
+  raised_used p d cluster old new t true takes used = taken_used p d (one_at cluster) old new t cluster takes (let own = one_here cluster in omega (arith, own))
+  raised_used p d cluster old new t false takes used = used refl
+
+  -- a run was given back
+  pub hint_given : (first n : ℕ) (old new : ImageFile S) (t t' : Allocator) → (t'.first_free_cluster ≤ t.first_free_cluster) × (0 < n → t'.first_free_cluster ≤ first)
+      → ((k : ℕ) → run_at first n k ≡ 0 → IsUsed view old k → IsUsed view new k) → HasHint view t old → HasHint view t' new
+  hint_given first n old new t t' lower kept hint k below = kept k (outside (cases_eq n 0)) (hint k (omega (arith, below, lower.0)))
+    where
+      outside : (n ≡ 0) ⊎ (n ≢ 0) → run_at first n k ≡ 0
+      outside (inl none) = elim (cases_lt k first) [ inl before ↦ run_before first n k before | inr above ↦ run_after first n k (omega (arith, none, above)) ]
+      outside (inr some) = run_before first n k (let le = lower.1 (omega (arith, some)) in omega (arith, below, le))
+
+  -- ---- the search for the lowest run
+
+  -- all below the first free cluster is in use
+  pub lowest_first : (file : ImageFile S) (t : Allocator) (n : ℕ) → HasHint view t file → 0 < n → IsLowestRun view file t.first_free_cluster n
+  lowest_first file t n hint some start below = (start, omega arith, omega (arith, some), below, hint start below)
+
+  -- what is in use stays in use
+  pub lowest_stays : (p p' : Pending) (a b : ImageFile S) (t : Allocator) (first n : ℕ) → Becomes view p a t b p' → ((k : ℕ) → pending_at p k ≤ pending_at p' k) → IsLowestRun view a first n → IsLowestRun view b first n
+  lowest_stays p p' a b t first n becomes more lowest start below = let at = lowest start below in (at.0, at.1, at.2, at.3, used_stays p p' a b t at.0 becomes (more at.0) at.4)
+
+  -- the search goes on behind a cluster that is in use
+  pub lowest_behind : (file : ImageFile S) (first n taken : ℕ) → taken ≤ n → taken ≢ n → IsUsed view file (first + taken) → IsLowestRun view file first n → IsLowestRun view file (first + (taken + 1)) n
+  lowest_behind file first n taken within some used lowest start below = elim (cases_lt start first) [
+    | inl before ↦ let at = lowest start before in (at.0, at.1, at.2, (let lt = at.3 in omega arith), at.4)
+    | inr above ↦ (first + taken, omega (arith, below), omega (arith, within, some, above), omega arith, used)
+  ]
