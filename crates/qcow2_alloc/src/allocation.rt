@@ -104,6 +104,7 @@ impl Allocator {
         ensures same { Keeps (view_in S.view file.old) (view_in S.view file.new) }
         ensures time { Passing (view_in S.view file.old) (view_in S.view file.new) (λ c. c ≡ (view_in S.view file.new).contents) }
         ensures reftable { (view_in S.view file.old).is_honest → IfOk result (λ allocator. HasReftable S.view file.new allocator.reftable) }
+        ensures first { IfOk result (λ allocator. allocator.first_free_cluster ≡ 0) }
     {
         let bits = file.header.cluster_bits();
         let Some(cluster) = file.header.reftable_offset().checked_cluster(bits) else {
@@ -125,12 +126,16 @@ impl Allocator {
     }
 
     /// How many clusters couldn't be freed, up to the greatest `u64`.
-    pub fn leaked_clusters(&self) -> u64 {
+    pub fn leaked_clusters(&self) -> u64
+        ensures { result ≡ self.now.leaked_clusters }
+    {
         self.leaked_clusters
     }
 
     /// No cluster below this one has count 0.
-    pub fn first_free_cluster(&self) -> HostCluster {
+    pub fn first_free_cluster(&self) -> HostCluster
+        ensures { result ≡ self.now.first_free_cluster }
+    {
         HostCluster::new(self.first_free_cluster)
     }
 

@@ -58,7 +58,7 @@ search-preserved g c = record {
       let may_now = may_still d c.args.file.now c.search.file c.search.invariant.order may in
       let one = (c.in_ok-taken.ensures.sound p d now may_now).1 c.if-taken-n.false in
       lowest_behind g.S.Storage.view c.take_run.new.file c.search.first c.args.n c.in_ok-taken.taken c.in_ok-taken.ensures.within c.if-taken-n.false (c.in_ok-taken.ensures.used p d now may_now c.if-taken-n.false)
-          (lowest_stays g.S.Storage.view p p c.search.file c.take_run.new.file c.take_run.new.self c.search.first c.args.n one (λ k. omega arith) (c.search.invariant.lowest p d sound may hint some));
+      (lowest_stays g.S.Storage.view p p c.search.file c.take_run.new.file c.take_run.new.self c.search.first c.args.n one (λ k. omega arith) (c.search.invariant.lowest p d sound may hint some));
 }
 
 pub returns-clause-sound : goal.returns-clause-sound

@@ -56,7 +56,7 @@ search-preserved g c = record {
       let taken = rw c.if-taken.false at (c.in_ok-taken.ensures.sound p false is_covered tt) in
       let two = hint_stays g.S.Storage.view p c.cover_range.new.file c.raise.new.file c.cover_range.new.self c.raise.new.self taken (ap (λ (t : Allocator). t.first_free_cluster) c.raise.ensures.same) one in
       let used = c.in_ok-taken.ensures.used p is_covered (range_as c.cover_range.new.self.reftable c.search.self.first_free_cluster (2 ^ c.rb_bits-bits.result) (counts_per_block c.cover_range.new.file.header.fields)
-          (ap (λ h. counts_per_block h.fields) (c.cover_range.ensures.header ∙ c.search.invariant.header) ∙ c.rb_bits-bits.ensures.counts) (c.in_ok-cover_range.ensures.has p now)) c.if-taken.false in
+      (ap (λ h. counts_per_block h.fields) (c.cover_range.ensures.header ∙ c.search.invariant.header) ∙ c.rb_bits-bits.ensures.counts) (c.in_ok-cover_range.ensures.has p now)) c.if-taken.false in
       hint_more g.S.Storage.view c.raise.new.file c.raise.new.self (record c.raise.new.self { first_free_cluster = c.search.self.first_free_cluster + 1 }) c.search.self.first_free_cluster two (ap (λ (t : Allocator). t.first_free_cluster) c.raise.ensures.same ∙ c.cover_range.ensures.first) refl used;
 }
 

@@ -95,7 +95,7 @@ taking-preserved g c = record {
   hint = λ p d sound may hint.
       let q : Pending = taken_as d p (run_at c.args.first c.taking.taken) in
       (c.in-Ok-true.ensures.hint q d (is_sound_now g.S.Storage.view p q c.args.file.now c.taking.file c.taking.self (c.taking.invariant.sound p d sound may))
-          (may_still d c.args.file.now c.taking.file c.taking.invariant.order may) (c.taking.invariant.hint p d sound may hint));
+      (may_still d c.args.file.now c.taking.file c.taking.invariant.order may) (c.taking.invariant.hint p d sound may hint));
 }
 
 pub returns-clause-sound : goal.returns-clause-sound
