@@ -4,7 +4,7 @@ ghost use Rattle.image_access.specs.Moments.{Keeps, Passing};
 ghost use Rattle.qcow2_laws.specs.Changes.{one_at};
 ghost use Rattle.qcow2_laws.specs.Clusters.{L2DependsOnRb};
 ghost use Rattle.qcow2_laws.specs.Guard.{Pending};
-ghost use Rattle.qcow2_alloc.specs.Allocation.{run_at, taken_as, placing, first_counts, HasPlaceFor, KeepsEntries, MayTake, LoadsBlock, WritesBlock, PlacesBlock, TakesOne, TakesRun, LowersOne, GivesBack, GivesBackRun, HasNone, GetsBlock, TakesLowest, TakesSomeRun, is_data, Allocates};
+ghost use Rattle.qcow2_alloc.specs.Allocation.{run_at, taken_as, placing, first_counts, HasPlaceFor, KeepsEntries, MayTake, Owed, owed_as, MayLower, LoadsBlock, WritesBlock, PlacesBlock, TakesOne, TakesRun, LowersOne, GivesBack, GivesBackRun, HasNone, GetsBlock, TakesLowest, TakesSomeRun, is_data, Allocates};
 ghost use Rattle.qcow2_alloc.specs.CacheMarks.{KeepsMarks};
 ghost use Rattle.qcow2_alloc.specs.ImageError.{IsOfTables, IsFault};
 ghost use Rattle.qcow2_alloc.specs.ImageFile.{view_in, HasReftable, IsSoundWith};
@@ -303,7 +303,6 @@ impl Allocator {
         if n == 0 {
             return Ok(());
         }
-        self.first_free_cluster = self.first_free_cluster.min(first);
         'lowering: for cluster in first..first + n {
             self.lower(file, cluster)?;
         }
@@ -315,8 +314,8 @@ impl Allocator {
         ensures marks { KeepsMarks file.old.caches file.new.caches }
         ensures order { order_of file.new.caches ≡ order_of file.old.caches }
         ensures reftable { self.new.reftable ≡ self.old.reftable }
-        ensures sound { (p : Pending) (is_data : Bool) → IsSoundWith S.view self.old (taken_as is_data p (one_at cluster)) file.old
-            → GivesBack S.view (taken_as is_data p (one_at cluster)) file.old self.new file.new p result }
+        ensures sound { (p : Pending) (owed : Owed) → IsSoundWith S.view self.old (owed_as owed p (one_at cluster)) file.old → MayLower owed file.old
+            → GivesBack S.view (owed_as owed p (one_at cluster)) file.old self.new file.new p result }
         ensures header { file.new.header ≡ file.old.header }
         ensures list { file.new.free_list ≡ file.old.free_list }
         ensures cause { IfErr result IsOfTables }
@@ -388,9 +387,9 @@ impl Allocator {
     ) -> Result<bool, ImageError>
         ensures marks { KeepsMarks file.old.caches file.new.caches }
         ensures order { order_of file.new.caches ≡ order_of file.old.caches }
-        ensures same { self.new ≡ self.old }
-        ensures sound { (p : Pending) (is_data : Bool) → IsSoundWith S.view self.old (taken_as is_data p (one_at cluster)) file.old
-            → LowersOne S.view (taken_as is_data p (one_at cluster)) file.old self.new file.new p result }
+        ensures reftable { self.new.reftable ≡ self.old.reftable }
+        ensures sound { (p : Pending) (owed : Owed) → IsSoundWith S.view self.old (owed_as owed p (one_at cluster)) file.old → MayLower owed file.old
+            → LowersOne S.view (owed_as owed p (one_at cluster)) file.old self.new file.new p result }
         ensures header { file.new.header ≡ file.old.header }
         ensures list { file.new.free_list ≡ file.old.free_list }
         ensures cause { IfErr result IsOfTables }
@@ -400,7 +399,19 @@ impl Allocator {
             return Ok(false);
         };
         let index = HostCluster::new(cluster).rb_index(bits);
-        Ok(file.caches.rb_decrement(block, index))
+        let lowered = file.caches.rb_decrement(block, index);
+        self.note_lowered(cluster, file.caches.rb_is_zero(block, index));
+        Ok(lowered)
+    }
+
+    // A cluster whose count is 0 now may be taken again.
+    fn note_lowered(&mut self, cluster: u64, is_free: bool)
+        ensures reftable { self.new.reftable ≡ self.old.reftable }
+        ensures leaked { self.new.leaked_clusters ≡ self.old.leaked_clusters }
+    {
+        if is_free {
+            self.first_free_cluster = self.first_free_cluster.min(cluster);
+        }
     }
 
     // Sees to it that the range of a cluster has a refblock. No cluster is taken for one that couldn't be named.
