@@ -1,5 +1,5 @@
 -- What the allocator's calls take, and what they leave of an image's file.
-use Rattle.std.specs.Prelude.{ℕ, ◌+◌, ◌*◌, ◌<◌, ◌≡◌, ◌≢◌, ◌&&◌, nat_le, nat_lt, Bool, true, false, List, length, Option, Some, None, Result, Ok, Err, IsSome, IsTrue, if◌then◌else◌}
+use Rattle.std.specs.Prelude.{ℕ, ◌+◌, ◌*◌, ◌<◌, ◌≡◌, ◌≢◌, ◌⊎◌, ◌&&◌, nat_le, nat_lt, Bool, true, false, List, length, Option, Some, None, Result, Ok, Err, IsSome, IsTrue, if◌then◌else◌}
 use Rattle.image_access.specs.Moments.{StorageView}
 use Rattle.qcow2_metadata.specs.declared.header.HeaderFields.{HeaderFields}
 use Rattle.qcow2_metadata.specs.Bytes.{Bytes, byte_at}
@@ -14,7 +14,7 @@ use Rattle.qcow2_laws.specs.Changes.{one_at, with_held, with_fresh}
 use Rattle.qcow2_laws.specs.Guard.{Pending}
 use Rattle.qcow2_alloc.specs.MetadataCaches.{order_of, rb_at}
 use Rattle.qcow2_alloc.specs.ImageError.{IsFault}
-use Rattle.qcow2_alloc.specs.ImageFile.{contents_in, known_in, HasReftable, Moves, LeavesSound}
+use Rattle.qcow2_alloc.specs.ImageFile.{contents_in, known_in, HasReftable, Moves, Breaks, LeavesSound}
 use Rattle.qcow2_alloc.specs.declared.allocation.Allocator.{Allocator}
 use Rattle.qcow2_alloc.specs.declared.clusters_to_free.ClusterKind.{ClusterKind}
 use Rattle.qcow2_alloc.specs.declared.clusters_to_free.ClusterKind.TheVariants.{Data, Metadata}
@@ -175,6 +175,11 @@ module _ {S : Type 0} where
       abbrev pub GivesBack : Pending → Result (Unit {0}) ImageError → Type 0
       GivesBack p' (Ok _) = Becomes p'
       GivesBack p' (Err e) = IsFault e × LeavesSound view p old allocator' new e
+
+      -- Clusters are freed, and so much is pending then. A fault ends it where it is, or breaks off.
+      abbrev pub Frees : Pending → Result (Unit {0}) ImageError → Type 0
+      Frees p' (Ok _) = Becomes p'
+      Frees p' (Err e) = IsFault e × (Becomes p' ⊎ Breaks view old new e)
 
     -- the run that was taken since a start is given back, after a change was noted
     abbrev pub GivesBackRun : Allocator → ImageFile S → Allocator → ImageFile S → ℕ → ℕ → Result (Unit {0}) ImageError → Type 0
