@@ -1,9 +1,10 @@
 -- Working off the list of clusters that are to be freed.
-use Rattle.std.proofs.Common.{◌≡◌, ◌≢◌, inl, inr, ℕ, ◌+◌, ◌-◌, ◌*◌, ◌/◌, ◌^◌, ◌<◌, ◌≤◌, Result, Ok, Err, refl, sym, ap, ◌∙◌, subst, arith}
+use Rattle.std.proofs.Common.{◌≡◌, ◌≢◌, inl, inr, ℕ, ◌+◌, ◌-◌, ◌*◌, ◌/◌, ◌^◌, ◌<◌, ◌≤◌, List, [], ◌∷◌, ◌++◌, Result, Ok, Err, refl, sym, ap, ◌∙◌, subst, arith}
 use Rattle.std.proofs.lemmas.Bool.{cases_lt}
 use Rattle.image_access.specs.Moments.{StorageView}
 use Rattle.qcow2_metadata.specs.declared.header.HeaderFields.{HeaderFields}
 use Rattle.qcow2_metadata.specs.Bytes.{Bytes}
+use Rattle.qcow2_metadata.specs.EntryTable.{EntryTableView}
 use Rattle.qcow2_metadata.specs.Header.{HeaderReads, cluster_size, counts_per_block, count_width, reftable_entries}
 use Rattle.qcow2_metadata.specs.Entries.{count, block_offset}
 use Rattle.qcow2_laws.specs.Changes.{one_at}
@@ -18,11 +19,11 @@ use Rattle.qcow2_alloc.specs.declared.clusters_to_free.ClustersToFreeEntry.{Clus
 use Rattle.qcow2_alloc.specs.declared.error.ImageError.{ImageError}
 use Rattle.qcow2_alloc.specs.declared.image_file.ImageFile.{ImageFile}
 use Rattle.qcow2_alloc.specs.Allocation.{run_at, Listed, listed_as, owed_as, Becomes, GivesBack, Frees}
-use Rattle.qcow2_alloc.specs.FreeList.{run_of}
-use Rattle.qcow2_alloc.specs.ImageFile.{contents_in, known_in, IsSoundFile, IsSoundWith, IsFault, LeavesSound}
+use Rattle.qcow2_alloc.specs.FreeList.{run_of, of_data, of_tables, to_free, with_listed}
+use Rattle.qcow2_alloc.specs.ImageFile.{contents_in, known_in, IsSoundFile, IsSoundWith, IsFault, HasReftable, LeavesSound}
 use Rattle.qcow2_alloc.proofs.AllocationSteps.{owed_counted}
 use Rattle.qcow2_alloc.proofs.FileSteps.{pending_same, moves_then, breaks_then}
-use Rattle.qcow2_alloc.proofs.Runs.{run_first}
+use Rattle.qcow2_alloc.proofs.Runs.{run_before, run_after, run_first}
 
 -- ---- what is listed
 
@@ -46,6 +47,34 @@ listed_first kind p run some =
 
 pub listed_rest : (kind : ClusterKind) (p : Pending) (run next : ClustersToFreeEntry) → next.first_cluster ≡ run.first_cluster + 1 → next.count ≡ run.count - 1 → behind_first run kind p ≡ listed_as kind p (run_of next)
 listed_rest kind p run next first count = ap (λ n. listed_as kind p (run_at n (run.count - 1))) (sym first) ∙ ap (λ n. listed_as kind p (run_at next.first_cluster n)) (sym count)
+
+run_empty : (first k : ℕ) → run_at first 0 k ≡ 0
+run_empty first k = elim (cases_lt k first) [ inl below ↦ run_before first 0 k below | inr above ↦ run_after first 0 k (omega arith) ]
+
+-- a run of none
+pub listed_none : (kind : ClusterKind) (p : Pending) (run : ClustersToFreeEntry) → run.count ≡ 0 → listed_as kind p (run_of run) ≡ p
+listed_none kind p run none = ap (λ n. listed_as kind p (run_at run.first_cluster n)) none ∙ nothing kind
+  where
+    nothing : (kind : ClusterKind) → listed_as kind p (run_at run.first_cluster 0) ≡ p
+    nothing Data = pending_same (listed_as Data p (run_at run.first_cluster 0)) p (λ k. refl) (λ k. refl) (λ k. refl) (λ k. let z = run_empty run.first_cluster k in omega arith) (λ k. refl)
+    nothing Metadata = pending_same (listed_as Metadata p (run_at run.first_cluster 0)) p (λ k. refl) (λ k. refl) (λ k. let z = run_empty run.first_cluster k in omega arith) (λ k. refl) (λ k. refl)
+
+-- ---- lists
+
+pub free_more : (kind : ClusterKind → ℕ → ℕ) (es fs : List ClustersToFreeEntry) (k : ℕ) → to_free kind (es ++ fs) k ≡ to_free kind es k + to_free kind fs k
+free_more kind [] fs k = sym (omega arith)
+free_more kind (e ∷ es) fs k = let rest = free_more kind es fs k in omega arith
+
+pub with_one : (p : Pending) (list : List ClustersToFreeEntry) (e : ClustersToFreeEntry) → with_listed p (list ++ e ∷ []) ≡ listed_as e.kind (with_listed p list) (run_of e)
+with_one p list e = of_kind e.kind refl
+  where
+    of_kind : (kind : ClusterKind) → e.kind ≡ kind → with_listed p (list ++ e ∷ []) ≡ listed_as kind (with_listed p list) (run_of e)
+    of_kind Data is = pending_same (with_listed p (list ++ e ∷ [])) (listed_as Data (with_listed p list) (run_of e)) (λ k. refl) (λ k. refl)
+        (λ k. let more = free_more of_tables list (e ∷ []) k in let one = ap (λ x. of_tables x (run_of e k)) is in omega (arith, more, one))
+        (λ k. let more = free_more of_data list (e ∷ []) k in let one = ap (λ x. of_data x (run_of e k)) is in omega (arith, more, one)) (λ k. refl)
+    of_kind Metadata is = pending_same (with_listed p (list ++ e ∷ [])) (listed_as Metadata (with_listed p list) (run_of e)) (λ k. refl) (λ k. refl)
+        (λ k. let more = free_more of_tables list (e ∷ []) k in let one = ap (λ x. of_tables x (run_of e k)) is in omega (arith, more, one))
+        (λ k. let more = free_more of_data list (e ∷ []) k in let one = ap (λ x. of_data x (run_of e k)) is in omega (arith, more, one)) (λ k. refl)
 
 -- ---- what is counted lies far below the greatest number
 
@@ -79,6 +108,39 @@ module _ {S : Type 0} (view : S → StorageView) where
   frees_refused p q a b c t t' e held first fault left = (fault, elim left [
     | inl sound ↦ inl (record { moves = moves_then view p q q a b c held first.moves sound.0; reftable = sound.1 })
     | inr breaks ↦ inr (breaks_then view p q a b c e first.moves breaks)
+  ])
+
+  -- ---- another list
+
+  sound_relisted : (p : Pending) (a : ImageFile S) (l : List ClustersToFreeEntry) → IsSoundFile view p a → IsSoundFile view p (record a { free_list = l })
+  sound_relisted p a l sound = record { honest = sound.honest; caches = sound.caches; settled = sound.settled; room = sound.room }
+
+  reftable_relisted : (a : ImageFile S) (l : List ClustersToFreeEntry) (t : EntryTableView) → HasReftable view a t → HasReftable view (record a { free_list = l }) t
+  reftable_relisted a l t has = record { cluster = has.cluster; bits = has.bits; count = has.count; entries = has.entries }
+
+  pub with_relisted : (p : Pending) (a : ImageFile S) (t : Allocator) (l : List ClustersToFreeEntry) → IsSoundWith view t p a → IsSoundWith view t p (record a { free_list = l })
+  with_relisted p a t l sound = record { sound = sound_relisted p a l sound.sound; reftable = reftable_relisted a l t.reftable sound.reftable }
+
+  pub becomes_to : (p q : Pending) (a b : ImageFile S) (t : Allocator) (l : List ClustersToFreeEntry) → Becomes view p a t b q → Becomes view p a t (record b { free_list = l }) q
+  becomes_to p q a b t l first = record {
+    moves = record { sound = sound_relisted q b l first.moves.sound; leads = first.moves.leads; since = first.moves.since; unseen = first.moves.unseen; l1_table = first.moves.l1_table };
+    reftable = reftable_relisted b l t.reftable first.reftable;
+  }
+
+  pub becomes_from : (p q : Pending) (a b : ImageFile S) (t : Allocator) (l : List ClustersToFreeEntry) → Becomes view p (record a { free_list = l }) t b q → Becomes view p a t b q
+  becomes_from p q a b t l first = record {
+    moves = record { sound = first.moves.sound; leads = first.moves.leads; since = first.moves.since; unseen = first.moves.unseen; l1_table = first.moves.l1_table };
+    reftable = first.reftable;
+  }
+
+  -- what is pending before and afterwards, said in another way, and with another list
+  pub frees_as : (p p' q q' : Pending) (a b : ImageFile S) (t : Allocator) (l m : List ClustersToFreeEntry) (result : Result (Unit {0}) ImageError) → p ≡ p' → q ≡ q' → Frees view p (record a { free_list = l }) t b q result
+      → Frees view p' a t (record b { free_list = m }) q' result
+  frees_as p p' q q' a b t l m (Ok _) before after frees =
+      subst (λ (r : Pending). Becomes view r a t (record b { free_list = m }) q') before (subst (λ (r : Pending). Becomes view p a t (record b { free_list = m }) r) after (becomes_to p q a b t m (becomes_from p q a b t l frees)))
+  frees_as p p' q q' a b t l m (Err e) before after frees = (frees.0, elim frees.1 [
+    | inl left ↦ inl (subst (λ (r : Pending). Becomes view r a t (record b { free_list = m }) q') before (subst (λ (r : Pending). Becomes view p a t (record b { free_list = m }) r) after (becomes_to p q a b t m (becomes_from p q a b t l left))))
+    | inr breaks ↦ inr (record { fault = breaks.fault; noted = breaks.noted; since = breaks.since })
   ])
 
   -- ---- a run
