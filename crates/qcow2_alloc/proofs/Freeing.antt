@@ -1,5 +1,5 @@
 -- Working off the list of clusters that are to be freed.
-use Rattle.std.proofs.Common.{◌≡◌, ◌≢◌, inl, inr, ℕ, ◌+◌, ◌-◌, ◌*◌, ◌/◌, ◌^◌, ◌<◌, ◌≤◌, List, [], ◌∷◌, ◌++◌, Result, Ok, Err, refl, sym, ap, ◌∙◌, subst, arith}
+use Rattle.std.proofs.Common.{◌≡◌, ◌≢◌, inl, inr, ℕ, ◌+◌, ◌-◌, ◌*◌, ◌/◌, ◌^◌, ◌<◌, ◌≤◌, Bool, true, false, cond, List, [], ◌∷◌, ◌++◌, append_assoc, Result, Ok, Err, refl, sym, ap, ◌∙◌, subst, arith}
 use Rattle.std.proofs.lemmas.Bool.{cases_lt}
 use Rattle.image_access.specs.Moments.{StorageView}
 use Rattle.qcow2_metadata.specs.declared.header.HeaderFields.{HeaderFields}
@@ -19,7 +19,7 @@ use Rattle.qcow2_alloc.specs.declared.clusters_to_free.ClustersToFreeEntry.{Clus
 use Rattle.qcow2_alloc.specs.declared.error.ImageError.{ImageError}
 use Rattle.qcow2_alloc.specs.declared.image_file.ImageFile.{ImageFile}
 use Rattle.qcow2_alloc.specs.Allocation.{run_at, Listed, listed_as, owed_as, Becomes, GivesBack, Frees}
-use Rattle.qcow2_alloc.specs.FreeList.{run_of, of_data, of_tables, to_free, with_listed}
+use Rattle.qcow2_alloc.specs.FreeList.{run_of, of_data, of_tables, to_free, is_same, with_listed, but}
 use Rattle.qcow2_alloc.specs.ImageFile.{contents_in, known_in, IsSoundFile, IsSoundWith, IsFault, HasReftable, LeavesSound}
 use Rattle.qcow2_alloc.proofs.AllocationSteps.{owed_counted}
 use Rattle.qcow2_alloc.proofs.FileSteps.{pending_same, moves_then, breaks_then}
@@ -75,6 +75,18 @@ with_one p list e = of_kind e.kind refl
     of_kind Metadata is = pending_same (with_listed p (list ++ e ∷ [])) (listed_as Metadata (with_listed p list) (run_of e)) (λ k. refl) (λ k. refl)
         (λ k. let more = free_more of_tables list (e ∷ []) k in let one = ap (λ x. of_tables x (run_of e k)) is in omega (arith, more, one))
         (λ k. let more = free_more of_data list (e ∷ []) k in let one = ap (λ x. of_data x (run_of e k)) is in omega (arith, more, one)) (λ k. refl)
+
+pub with_both : (p : Pending) (es fs : List ClustersToFreeEntry) → with_listed (with_listed p fs) es ≡ with_listed p (es ++ fs)
+with_both p es fs = pending_same (with_listed (with_listed p fs) es) (with_listed p (es ++ fs)) (λ k. refl) (λ k. refl)
+    (λ k. let more = free_more of_tables es fs k in omega (arith, more)) (λ k. let more = free_more of_data es fs k in omega (arith, more)) (λ k. refl)
+
+-- the first of those that are taken follows on what is listed, and the rest is pending beside
+pub with_first : (p : Pending) (list taken rest : List ClustersToFreeEntry) (e : ClustersToFreeEntry) → taken ≡ e ∷ rest → with_listed (with_listed p rest) (list ++ e ∷ []) ≡ with_listed p (list ++ taken)
+with_first p list taken rest e is =
+    with_both p (list ++ e ∷ []) rest ∙ ap (with_listed p) (append_assoc list (e ∷ []) rest ∙ ap (λ l. list ++ l) (sym is))
+
+pub but_first : (kind : ClusterKind) (e : ClustersToFreeEntry) (es : List ClustersToFreeEntry) → but kind (e ∷ []) ++ but kind es ≡ but kind (e ∷ es)
+but_first kind e es = elim (is_same e.kind kind) as (λ (b : Bool). (cond b [] (e ∷ [])) ++ but kind es ≡ cond b (but kind es) (e ∷ but kind es)) [ true ↦ refl | false ↦ refl ]
 
 -- ---- what is counted lies far below the greatest number
 
@@ -142,6 +154,25 @@ module _ {S : Type 0} (view : S → StorageView) where
     | inl left ↦ inl (subst (λ (r : Pending). Becomes view r a t (record b { free_list = m }) q') before (subst (λ (r : Pending). Becomes view p a t (record b { free_list = m }) r) after (becomes_to p q a b t m (becomes_from p q a b t l left))))
     | inr breaks ↦ inr (record { fault = breaks.fault; noted = breaks.noted; since = breaks.since })
   ])
+
+  pub frees_then : (p q r : Pending) (a b c : ImageFile S) (t t' : Allocator) (result : Result (Unit {0}) ImageError) → ((k : ℕ) → 0 < p.held k → 0 < q.held k) → Becomes view p a t b q → Frees view q b t' c r result → Frees view p a t' c r result
+  frees_then p q r a b c t t' (Ok _) held first second = becomes_on p q r a b c t t' held first second
+  frees_then p q r a b c t t' (Err e) held first second = (second.0, elim second.1 [
+    | inl left ↦ inl (becomes_on p q r a b c t t' held first left)
+    | inr breaks ↦ inr (breaks_then view p q a b c e first.moves breaks)
+  ])
+
+  -- ---- the first of the entries that are taken
+  module _ (p : Pending) (taken rest : List ClustersToFreeEntry) (e : ClustersToFreeEntry) (is : taken ≡ e ∷ rest) where
+    pub entry_sound : (b : ImageFile S) (t : Allocator) → IsSoundWith view t (with_listed p (b.free_list ++ taken)) b → IsSoundWith view t (with_listed (with_listed p rest) (b.free_list ++ e ∷ [])) b
+    entry_sound b t sound = subst (λ (r : Pending). IsSoundWith view t r b) (sym (with_first p b.free_list taken rest e is)) sound
+
+    pub entry_goes : (q : Pending) (a b c : ImageFile S) (t t' : Allocator) (result : Result (Unit {0}) ImageError) → ((k : ℕ) → 0 < q.held k → 0 < p.held k) → Becomes view q a t b (with_listed p (b.free_list ++ taken))
+        → Frees view (with_listed (with_listed p rest) (b.free_list ++ e ∷ [])) b t' c (with_listed (with_listed p rest) c.free_list) result → Frees view q a t' c (with_listed p (c.free_list ++ rest)) result
+    entry_goes q a b c t t' result held first second =
+        frees_then q (with_listed p (b.free_list ++ taken)) (with_listed p (c.free_list ++ rest)) a b c t t' result held first
+        (frees_as (with_listed (with_listed p rest) (b.free_list ++ e ∷ [])) (with_listed p (b.free_list ++ taken)) (with_listed (with_listed p rest) c.free_list) (with_listed p (c.free_list ++ rest))
+        b c t' b.free_list c.free_list result (with_first p b.free_list taken rest e is) (with_both p c.free_list rest) second)
 
   -- ---- a run
   module _ (kind : ClusterKind) (p : Pending) (run : ClustersToFreeEntry) (some : 0 < run.count) where
