@@ -1,5 +1,5 @@
 -- Working off the list of clusters that are to be freed.
-use Rattle.std.proofs.Common.{◌≡◌, ◌≢◌, inl, inr, ℕ, ◌+◌, ◌-◌, ◌*◌, ◌/◌, ◌^◌, ◌<◌, ◌≤◌, Bool, true, false, cond, List, [], ◌∷◌, ◌++◌, append_assoc, Result, Ok, Err, refl, sym, ap, ◌∙◌, subst, arith}
+use Rattle.std.proofs.Common.{◌≡◌, ◌≢◌, inl, inr, ℕ, ◌+◌, ◌-◌, ◌*◌, ◌/◌, ◌^◌, ◌<◌, ◌≤◌, Bool, true, false, cond, List, [], ◌∷◌, ◌++◌, append_assoc, Result, Ok, Err, OnOk, refl, sym, ap, ◌∙◌, subst, arith}
 use Rattle.std.proofs.lemmas.Bool.{cases_lt}
 use Rattle.image_access.specs.Moments.{StorageView}
 use Rattle.qcow2_metadata.specs.declared.header.HeaderFields.{HeaderFields}
@@ -88,6 +88,21 @@ with_first p list taken rest e is =
 pub but_first : (kind : ClusterKind) (e : ClustersToFreeEntry) (es : List ClustersToFreeEntry) → but kind (e ∷ []) ++ but kind es ≡ but kind (e ∷ es)
 but_first kind e es = elim (is_same e.kind kind) as (λ (b : Bool). (cond b [] (e ∷ [])) ++ but kind es ≡ cond b (but kind es) (e ∷ but kind es)) [ true ↦ refl | false ↦ refl ]
 
+-- without data and without metadata there is nothing left
+pub but_both : (es : List ClustersToFreeEntry) → but Data (but Metadata es) ≡ []
+but_both [] = refl
+but_both (e ∷ es) = of_kind (but_both es) e.kind refl
+  where
+    of_kind : but Data (but Metadata es) ≡ [] → (kind : ClusterKind) → e.kind ≡ kind → but Data (cond (is_same e.kind Metadata) (but Metadata es) (e ∷ but Metadata es)) ≡ []
+    of_kind rest Metadata is = ap (λ x. but Data (cond (is_same x Metadata) (but Metadata es) (e ∷ but Metadata es))) is ∙ rest
+    of_kind rest Data is =
+        ap (λ x. but Data (cond (is_same x Metadata) (but Metadata es) (e ∷ but Metadata es))) is
+        ∙ ap (λ x. cond (is_same x Data) (but Data (but Metadata es)) (e ∷ but Data (but Metadata es))) is ∙ rest
+
+pub on_ok : {A E P Q : Type 0} (r : Result A E) → (P → Q) → OnOk r P → OnOk r Q
+on_ok (Ok a) f holds = f holds
+on_ok (Err e) f holds = tt
+
 -- ---- what is counted lies far below the greatest number
 
 few_counts : (h : HeaderFields) (b : Bytes) → HeaderReads h b → counts_per_block h ≤ 2 ^ 24
@@ -117,10 +132,13 @@ module _ {S : Type 0} (view : S → StorageView) where
 
   -- a fault left it where it was, or it broke off
   pub frees_refused : (p q : Pending) (a b c : ImageFile S) (t t' : Allocator) (e : ImageError) → ((k : ℕ) → 0 < p.held k → 0 < q.held k) → Becomes view p a t b q → IsFault e → LeavesSound view q b t' c e → Frees view p a t' c q (Err e)
-  frees_refused p q a b c t t' e held first fault left = (fault, elim left [
-    | inl sound ↦ inl (record { moves = moves_then view p q q a b c held first.moves sound.0; reftable = sound.1 })
-    | inr breaks ↦ inr (breaks_then view p q a b c e first.moves breaks)
-  ])
+  frees_refused p q a b c t t' e held first fault left = (
+    fault,
+    elim left [
+      | inl sound ↦ inl (record { moves = moves_then view p q q a b c held first.moves sound.0; reftable = sound.1 })
+      | inr breaks ↦ inr (breaks_then view p q a b c e first.moves breaks)
+    ],
+  )
 
   -- ---- another list
 
@@ -150,17 +168,23 @@ module _ {S : Type 0} (view : S → StorageView) where
       → Frees view p' a t (record b { free_list = m }) q' result
   frees_as p p' q q' a b t l m (Ok _) before after frees =
       subst (λ (r : Pending). Becomes view r a t (record b { free_list = m }) q') before (subst (λ (r : Pending). Becomes view p a t (record b { free_list = m }) r) after (becomes_to p q a b t m (becomes_from p q a b t l frees)))
-  frees_as p p' q q' a b t l m (Err e) before after frees = (frees.0, elim frees.1 [
-    | inl left ↦ inl (subst (λ (r : Pending). Becomes view r a t (record b { free_list = m }) q') before (subst (λ (r : Pending). Becomes view p a t (record b { free_list = m }) r) after (becomes_to p q a b t m (becomes_from p q a b t l left))))
-    | inr breaks ↦ inr (record { fault = breaks.fault; noted = breaks.noted; since = breaks.since })
-  ])
+  frees_as p p' q q' a b t l m (Err e) before after frees = (
+    frees.0,
+    elim frees.1 [
+      | inl left ↦ inl (subst (λ (r : Pending). Becomes view r a t (record b { free_list = m }) q') before (subst (λ (r : Pending). Becomes view p a t (record b { free_list = m }) r) after (becomes_to p q a b t m (becomes_from p q a b t l left))))
+      | inr breaks ↦ inr (record { fault = breaks.fault; noted = breaks.noted; since = breaks.since })
+    ],
+  )
 
   pub frees_then : (p q r : Pending) (a b c : ImageFile S) (t t' : Allocator) (result : Result (Unit {0}) ImageError) → ((k : ℕ) → 0 < p.held k → 0 < q.held k) → Becomes view p a t b q → Frees view q b t' c r result → Frees view p a t' c r result
   frees_then p q r a b c t t' (Ok _) held first second = becomes_on p q r a b c t t' held first second
-  frees_then p q r a b c t t' (Err e) held first second = (second.0, elim second.1 [
-    | inl left ↦ inl (becomes_on p q r a b c t t' held first left)
-    | inr breaks ↦ inr (breaks_then view p q a b c e first.moves breaks)
-  ])
+  frees_then p q r a b c t t' (Err e) held first second = (
+    second.0,
+    elim second.1 [
+      | inl left ↦ inl (becomes_on p q r a b c t t' held first left)
+      | inr breaks ↦ inr (breaks_then view p q a b c e first.moves breaks)
+    ],
+  )
 
   -- ---- the first of the entries that are taken
   module _ (p : Pending) (taken rest : List ClustersToFreeEntry) (e : ClustersToFreeEntry) (is : taken ≡ e ∷ rest) where

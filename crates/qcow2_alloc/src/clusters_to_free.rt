@@ -261,8 +261,9 @@ impl PendingClusters {
         ensures kind { self.new.kind ≡ self.old.kind }
     {
         let entry = self.node.entry;
-        self.node.entry.first_cluster =
-            HostCluster::new(entry.first_cluster.value().saturating_add(1));
+        self.node.entry.first_cluster = HostCluster::new(
+            entry.first_cluster.value().saturating_add(1),
+        );
         self.node.entry.count = ClusterCount::new(entry.count.value().saturating_sub(1));
     }
 
