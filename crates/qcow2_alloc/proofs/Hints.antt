@@ -1,5 +1,5 @@
 -- The first free cluster of an allocator over its steps: what is in use stays in use, but for what is given back.
-use Rattle.std.proofs.Common.{◌≡◌, ◌≢◌, ◌⊎◌, inl, inr, ℕ, ◌+◌, ◌*◌, ◌/◌, ◌<◌, ◌≤◌, Bool, true, false, Option, Some, None, Result, Ok, Err, sym, ap, ◌∙◌, subst, refl, arith}
+use Rattle.std.proofs.Common.{◌≡◌, ◌≢◌, ◌⊎◌, inl, inr, ℕ, ◌==◌, IsTrue, IsSome, ◌+◌, ◌*◌, ◌/◌, ◌<◌, ◌≤◌, Bool, true, false, Option, Some, None, Result, Ok, Err, sym, ap, ◌∙◌, subst, refl, arith}
 use Rattle.std.specs.Option.{is_some}
 use Rattle.std.specs.Prelude.{OnOk}
 use Rattle.std.proofs.lemmas.Bool.{cases_eq, cases_lt}
@@ -14,14 +14,21 @@ use Rattle.qcow2_laws.proofs.Shares.{shares, block_has}
 use Rattle.qcow2_laws.specs.Changes.{one_at}
 use Rattle.qcow2_laws.specs.Guard.{Pending}
 use Rattle.qcow2_alloc.specs.declared.allocation.Allocator.{Allocator}
+use Rattle.qcow2_alloc.specs.declared.clusters_to_free.ClusterKind.TheVariants.{Data, Metadata}
 use Rattle.qcow2_alloc.specs.declared.error.ImageError.{ImageError}
 use Rattle.qcow2_alloc.specs.declared.image_file.ImageFile.{ImageFile}
-use Rattle.qcow2_alloc.specs.Allocation.{run_at, taken_as, HasNone, StandsAt, Becomes, GetsBlock, PlacesBlock, TakesOne}
+use Rattle.qcow2_alloc.specs.Allocation.{run_at, taken_as, Owed, Taken, Listed, owed_as, HasNone, StandsAt, Becomes, GetsBlock, LowersOne, PlacesBlock, TakesOne}
 use Rattle.qcow2_alloc.specs.ImageFile.{pending_at, contents_in, known_in, IsSoundFile, IsSoundWith, HasReftable, LeavesSound, IsFault}
+use Rattle.qcow2_alloc.specs.MetadataCaches.{rb_at}
+use Rattle.qcow2_alloc.specs.declared.cache.MetadataCaches.{MetadataCaches}
+use Rattle.std.proofs.lemmas.Bool.Decides.{nat_tests}
 use Rattle.qcow2_alloc.specs.LowestRuns.{IsUsed, IsLowestRun, HasHint, KeepsHint}
 use Rattle.qcow2_alloc.proofs.AllocationSteps.{none_in_memory, still_sound}
 use Rattle.qcow2_alloc.proofs.FileSteps.{one_here}
-use Rattle.qcow2_alloc.proofs.Runs.{none_there, run_after, run_before, run_in}
+use Rattle.qcow2_alloc.proofs.Runs.{none_there, run_in}
+
+pub is_zero : (n : ℕ) → n ≡ 0 → (n == 0) ≡ true
+is_zero n h = grind (arith, nat_tests)
 
 -- what is taken is pending
 pub taken_pending : (d : Bool) (p : Pending) (n : ℕ → ℕ) (k : ℕ) → pending_at (taken_as d p n) k ≡ pending_at p k + n k
@@ -43,6 +50,12 @@ not_in_run first n c k low high none = elim (cases_eq k c) [
   | inl same ↦ let one = run_in first n k (omega (arith, low, same)) (omega (arith, high, same)) in absurd (omega (arith, one, none))
   | inr other ↦ none_there c k other
 ]
+
+-- what is owed is pending
+pub owed_pending : (owed : Owed) (p : Pending) (n : ℕ → ℕ) (k : ℕ) → pending_at (owed_as owed p n) k ≡ pending_at p k + n k
+owed_pending (Taken d) p n k = taken_pending d p n k
+owed_pending (Listed Data) p n k = omega arith
+owed_pending (Listed Metadata) p n k = omega arith
 
 module _ {S : Type 0} (view : S → StorageView) where
   -- a cluster stays in use while no less is pending
@@ -129,14 +142,28 @@ module _ {S : Type 0} (view : S → StorageView) where
   raised_used p d cluster old new t true takes used = taken_used p d (one_at cluster) old new t cluster takes (let own = one_here cluster in omega (arith, own))
   raised_used p d cluster old new t false takes used = used refl
 
-  -- a run was given back
-  pub hint_given : (first n : ℕ) (old new : ImageFile S) (t t' : Allocator) → (t'.first_free_cluster ≤ t.first_free_cluster) × (0 < n → t'.first_free_cluster ≤ first)
-      → ((k : ℕ) → run_at first n k ≡ 0 → IsUsed view old k → IsUsed view new k) → HasHint view t old → HasHint view t' new
-  hint_given first n old new t t' lower kept hint k below = kept k (outside (cases_eq n 0)) (hint k (omega (arith, below, lower.0)))
-    where
-      outside : (n ≡ 0) ⊎ (n ≢ 0) → run_at first n k ≡ 0
-      outside (inl none) = elim (cases_lt k first) [ inl before ↦ run_before first n k before | inr above ↦ run_after first n k (omega (arith, none, above)) ]
-      outside (inr some) = run_before first n k (let le = lower.1 (omega (arith, some)) in omega (arith, below, le))
+  -- a count fell
+  pub lowered_so : (p p' : Pending) (old new : ImageFile S) (t : Allocator) (made : Bool) → IsTrue made → LowersOne view p old t new p' (Ok made) → Becomes view p old t new p'
+  lowered_so p p' old new t true so lowers = lowers
+  lowered_so p p' old new t false so lowers = absurd lowers
+
+  -- the refblock of a range stands where it stood, while nothing is written
+  pub stands_still : (p p' : Pending) (file : ImageFile S) (caches : MetadataCaches S) (range block : ℕ) → IsSoundFile view p file → IsSoundFile view p' (record file { caches = caches }) → IsSome (rb_at caches block)
+      → StandsAt view file range (Some block) → StandsAt view (record file { caches = caches }) range (Some block)
+  stands_still p p' file caches range block sound sound' held at =
+      let same : block_offset (reftable_entry file.header.fields (known_in view (record file { caches = caches })) range) ≡ block_offset (reftable_entry file.header.fields (known_in view file) range) =
+      ap block_offset (sym (sound'.caches.kept.kept.guarded.same_top.reftable range) ∙ sound.caches.kept.kept.guarded.same_top.reftable range) in ((λ none. at.0 (sym same ∙ none)), same ∙ at.1, held)
+
+  -- a count was lowered, which is noted where it came to 0
+  pub hint_lowered : (owed : Owed) (p : Pending) (cluster : ℕ) (old new : ImageFile S) (t t' : Allocator) → Becomes view (owed_as owed p (one_at cluster)) old t' new p → t'.first_free_cluster ≤ t.first_free_cluster
+      → (count new.header.fields (known_in view new) cluster ≡ 0 → t'.first_free_cluster ≤ cluster) → HasHint view t old → HasHint view t' new
+  hint_lowered owed p cluster old new t t' becomes lower noted hint k below = elim (cases_eq k cluster) [
+    | inl same ↦ λ zero. let le = noted (subst (λ n. count new.header.fields (known_in view new) n ≡ 0) same zero) in omega (arith, le, below, same)
+    | inr other ↦
+        let none = none_there cluster k other in
+        let pending = owed_pending owed p (one_at cluster) k in
+        used_stays (owed_as owed p (one_at cluster)) p old new t' k becomes (omega (arith, none, pending)) (hint k (omega (arith, below, lower)))
+  ]
 
   -- ---- the search for the lowest run
 

@@ -12,3 +12,4 @@ pub mod PlacedBlocks
 pub mod NamedBlocks
 pub mod CountsStay
 pub mod Hints
+pub mod Freeing

@@ -15,3 +15,4 @@ pub mod CacheMarks
 pub mod ImageFile
 pub mod Allocation
 pub mod LowestRuns
+pub mod FreeList

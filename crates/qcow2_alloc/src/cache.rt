@@ -435,6 +435,7 @@ impl<S: Storage> MetadataCaches<S> {
         ensures marks { KeepsMarks self.old self.new }
         ensures noted { IsTrue result → IsTrue self.new.is_changed }
         ensures made { LowersSome self.old cluster index result }
+        ensures held { IsTrue result → IsSome (rb_at self.new cluster) }
     {
         let Some(block) = self.rb.peek_mut(cluster) else {
             return false;

@@ -11,7 +11,6 @@ use Rattle.qcow2_alloc.proofs.CacheMarks.{marks_none, marks_then}
 use Rattle.qcow2_alloc.proofs.FileSteps.{leaves_then, breaks_after}
 use Rattle.qcow2_alloc.proofs.AllocationSteps.{handed_on, of_equal, may_still, becomes_none, becomes_more, is_sound_now, still_sound}
 use Rattle.qcow2_alloc.specs.LowestRuns.{HasHint, KeepsHint}
-use Rattle.qcow2_alloc.proofs.Hints.{hint_given}
 use Rattle.qcow2_alloc.proofs.Runs.{run_after, taken_last, taken_none}
 use Rattle.qcow2_alloc.proofs.allocation.Allocator.take_run.Goals.{then-not-ends_call+in_ok-give_back-in-Err, else-not-ends_call}
 use Rattle.qcow2_alloc.proofs.allocation.Allocator.take_run.Goals as goal
@@ -135,8 +134,7 @@ returns-in-Ok-false-clause-hint g c = λ p d sound may hint.
     let may_now = may_still d c.args.file.now c.taking.file c.taking.invariant.order may in
     let two = rw c.in-Ok-false.field-0-test at (c.in-Ok-false.ensures.sound q d now may_now) in
     let taken = c.in-Ok-false.ensures.hint q d now may_now (c.taking.invariant.hint p d sound may hint) in
-    hint_given g.S.Storage.view c.args.first c.taking.taken c.take.new.file c.give_back.new.file c.take.new.self c.give_back.new.self c.give_back.ensures.first
-    (c.in_ok-give_back-in-Ok-false.ensures.kept p d (is_sound_now g.S.Storage.view q q c.taking.file c.take.new.file c.take.new.self two)) taken
+    c.in_ok-give_back-in-Ok-false.ensures.hint p d (is_sound_now g.S.Storage.view q q c.taking.file c.take.new.file c.take.new.self two) taken
 
 pub returns-in_err-give_back-in-Err-clause-hint : goal.returns-in_err-give_back-in-Err-clause-hint
 returns-in_err-give_back-in-Err-clause-hint g c = λ p d sound may hint.
@@ -159,7 +157,6 @@ returns-in-Err-clause-hint g c = λ p d sound may hint other.
     elim c.if-not-ends_call.branch [
       | then-not-ends_call+in_ok-give_back-in-Err w ↦
           of_equal (λ t f. HasHint g.S.Storage.view t f) c.if-not-ends_call.self w.give_back-then-not-ends_call.new.self c.if-not-ends_call.file w.give_back-then-not-ends_call.new.file w.self-is w.file-is
-          (hint_given g.S.Storage.view c.args.first c.taking.taken c.take.new.file w.give_back-then-not-ends_call.new.file c.take.new.self w.give_back-then-not-ends_call.new.self w.give_back-then-not-ends_call.ensures.first
-          (w.in_ok-give_back-in-Err.ensures.kept p d (is_sound_now g.S.Storage.view q q c.taking.file c.take.new.file c.take.new.self two)) taken)
+          (w.in_ok-give_back-in-Err.ensures.hint p d (is_sound_now g.S.Storage.view q q c.taking.file c.take.new.file c.take.new.self two) taken)
       | else-not-ends_call w ↦ absurd (other (c.ends_call.ensures.fault w.if-not-ends_call.false))
     ]

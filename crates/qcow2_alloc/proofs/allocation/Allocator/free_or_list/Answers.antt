@@ -1,0 +1,9 @@
+use Rattle.std.proofs.Common.{◌≡◌, sym, ap, ◌∙◌, subst, refl, rules}
+use Rattle.qcow2_alloc.specs.declared.clusters_to_free.ClusterKind.{ClusterKind}
+use Rattle.qcow2_alloc.specs.Allocation.{MayFree}
+use Rattle.qcow2_alloc.proofs.allocation.Allocator.free_or_list.Goals as goal
+
+pub returns-then-eq-clause-sound : goal.returns-then-eq-clause-sound
+returns-then-eq-clause-sound g c = λ p sound may.
+    let same : c.args.pending.kind ≡ c.args.kind = search rules in
+    c.free_entry.ensures.sound p sound (subst (λ (x : ClusterKind). MayFree x c.args.file.now) (sym same) may)

@@ -1,0 +1,44 @@
+-- Clusters that are listed are freed: no guest sees it.
+use Rattle.std.proofs.Common.{◌≡◌, inl, inr, ℕ, ◌<◌, List, [], Option, Some, refl, sym, ap, ◌∙◌, subst, arith}
+use Rattle.std.specs.Prelude.{Result, Ok, Err}
+use Rattle.image_access.specs.Backing.{BackingView}
+use Rattle.image_access.specs.Moments.{StorageView}
+use Rattle.qcow2_laws.specs.Guard.{Pending}
+use Rattle.qcow2_laws.proofs.Leads.{leads_then, steps_endure}
+use Rattle.qcow2_laws.proofs.Unseen.{unseen_then}
+use Rattle.qcow2_metadata.specs.declared.header.HeaderFields.{HeaderFields}
+use Rattle.qcow2_alloc.specs.declared.allocation.Allocator.{Allocator}
+use Rattle.qcow2_alloc.specs.declared.error.ImageError.{ImageError}
+use Rattle.qcow2_alloc.specs.declared.image_file.ImageFile.{ImageFile}
+use Rattle.qcow2_alloc.specs.Allocation.{Frees}
+use Rattle.qcow2_alloc.specs.CacheMarks.{l2_pins}
+use Rattle.qcow2_alloc.specs.FreeList.{with_listed}
+use Rattle.qcow2_alloc.specs.ImageFile.{stand_in, view_in, nothing_given}
+use Rattle.qcow2_image.specs.declared.image.Qcow2.{Qcow2}
+use Rattle.qcow2_image.specs.declared.prepared.Prepared.{Prepared}
+use Rattle.qcow2_image.specs.Steps.{Tidies, Broke, FreesListed}
+use Rattle.qcow2_image.specs.Views.{IsSoundAt}
+use Rattle.qcow2_image.proofs.Answered.{tidies_kept}
+use Rattle.qcow2_image.proofs.Called.{copied_then}
+use Rattle.qcow2_image.proofs.Moving.{file_tidied}
+
+module _ {S F : Type 0} (view : S → StorageView) (backing : F → BackingView) (out : List (Option Prepared)) where
+  pub tidies_then : (a b c : Qcow2 S F) (p q r : Pending) → ((k : ℕ) → 0 < p.held k → 0 < q.held k) → Tidies view backing p q a b out → Tidies view backing q r b c out → Tidies view backing p r a c out
+  tidies_then a b c p q r held first then = record {
+    sound = then.sound;
+    leads = leads_then (stand_in view a.file p) (stand_in view b.file q) (stand_in view c.file r) nothing_given nothing_given [] [] first.leads then.leads;
+    since = steps_endure (view_in view a.file) (view_in view b.file) (view_in view c.file) (stand_in view a.file p) (stand_in view b.file q) nothing_given nothing_given [] [] refl first.since first.leads then.since;
+    unseen = unseen_then (stand_in view a.file p) (stand_in view b.file q) (stand_in view c.file r) first.unseen then.unseen held;
+    copied = copied_then view backing out a b c p q r first.unseen.header first.copied then.copied;
+    below = then.below ∙ first.below;
+  }
+
+  -- the allocator worked off the list
+  module _ (p : Pending) (old : Qcow2 S F) (sound : IsSoundAt view backing (with_listed p old.file.free_list) old out) (file : ImageFile S) (a : Allocator) (pins : (table : ℕ) → l2_pins file.caches table ≡ l2_pins old.file.caches table)
+      (header : file.header ≡ old.file.header) where
+    pub frees_listed : (r : Result (Unit {0}) ImageError) → Frees view (with_listed p old.file.free_list) old.file a file (with_listed p file.free_list) r → FreesListed view backing p old (record old { file = file; allocator = Some a }) out r
+    frees_listed (Ok _) frees = file_tidied view backing old out (with_listed p old.file.free_list) (with_listed p file.free_list) sound file (Some a) frees.moves frees.reftable pins
+    frees_listed (Err e) frees = elim frees.1 [
+      | inl left ↦ inl (file_tidied view backing old out (with_listed p old.file.free_list) (with_listed p file.free_list) sound file (Some a) left.moves left.reftable pins)
+      | inr breaks ↦ inr (record { breaks = breaks; header = ap (λ x. x.fields) header; below = refl })
+    ]
