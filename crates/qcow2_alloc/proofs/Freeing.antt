@@ -153,13 +153,13 @@ module _ {S : Type 0} (view : S → StorageView) where
 
   pub becomes_to : (p q : Pending) (a b : ImageFile S) (t : Allocator) (l : List ClustersToFreeEntry) → Becomes view p a t b q → Becomes view p a t (record b { free_list = l }) q
   becomes_to p q a b t l first = record {
-    moves = record { sound = sound_relisted q b l first.moves.sound; leads = first.moves.leads; since = first.moves.since; unseen = first.moves.unseen; l1_table = first.moves.l1_table };
+    moves = record { sound = sound_relisted q b l first.moves.sound; leads = first.moves.leads; since = first.moves.since; unseen = first.moves.unseen; l1_table = first.moves.l1_table; counts = first.moves.counts };
     reftable = reftable_relisted b l t.reftable first.reftable;
   }
 
   pub becomes_from : (p q : Pending) (a b : ImageFile S) (t : Allocator) (l : List ClustersToFreeEntry) → Becomes view p (record a { free_list = l }) t b q → Becomes view p a t b q
   becomes_from p q a b t l first = record {
-    moves = record { sound = first.moves.sound; leads = first.moves.leads; since = first.moves.since; unseen = first.moves.unseen; l1_table = first.moves.l1_table };
+    moves = record { sound = first.moves.sound; leads = first.moves.leads; since = first.moves.since; unseen = first.moves.unseen; l1_table = first.moves.l1_table; counts = first.moves.counts };
     reftable = first.reftable;
   }
 

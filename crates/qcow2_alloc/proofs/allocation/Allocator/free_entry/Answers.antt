@@ -26,3 +26,8 @@ returns-in-Err-clause-sound g c = λ p sound may.
     frees_as g.S.Storage.view (listed_as kind q (run_of c.args.pending)) (with_listed p (c.args.file.now.free_list ++ c.args.pending ∷ [])) (listed_as kind q (run_of c.free_run.new.run)) (with_listed p c.hand_back.new.list)
     c.args.file.now c.free_run.new.file c.free_run.new.self c.args.file.now.free_list c.hand_back.new.list (Err c.in-Err.refusal) (sym listed) left
     (c.in-Err.ensures.sound q (subst (λ (r : Pending). IsSoundWith g.S.Storage.view c.args.self.now r c.args.file.now) listed sound) may)
+
+pub returns-in-Ok-clause-hint : goal.returns-in-Ok-clause-hint
+returns-in-Ok-clause-hint g c = λ p sound may hint.
+    let q : Pending = with_listed p c.args.file.now.free_list in
+    c.in-Ok.ensures.hint q (subst (λ (r : Pending). IsSoundWith g.S.Storage.view c.args.self.now r c.args.file.now) (with_one p c.args.file.now.free_list c.args.pending) sound) may hint

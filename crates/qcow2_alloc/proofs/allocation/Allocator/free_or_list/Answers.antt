@@ -7,3 +7,11 @@ pub returns-then-eq-clause-sound : goal.returns-then-eq-clause-sound
 returns-then-eq-clause-sound g c = λ p sound may.
     let same : c.args.pending.kind ≡ c.args.kind = search rules in
     c.free_entry.ensures.sound p sound (subst (λ (x : ClusterKind). MayFree x c.args.file.now) (sym same) may)
+
+pub returns-then-eq-clause-hint : goal.returns-then-eq-clause-hint
+returns-then-eq-clause-hint g c = λ p sound may hint.
+    let same : c.args.pending.kind ≡ c.args.kind = search rules in
+    c.free_entry.ensures.hint p sound (subst (λ (x : ClusterKind). MayFree x c.args.file.now) (sym same) may) hint
+
+pub returns-clause-hint : goal.returns-clause-hint
+returns-clause-hint g c = λ p sound may hint. hint

@@ -4,6 +4,7 @@ use Rattle.qcow2_alloc.specs.Allocation.{listed_as, MayFree, Becomes}
 use Rattle.qcow2_alloc.specs.CacheMarks.{KeepsMarks}
 use Rattle.qcow2_alloc.specs.FreeList.{run_of}
 use Rattle.qcow2_alloc.specs.ImageFile.{IsSoundWith}
+use Rattle.qcow2_alloc.specs.LowestRuns.{HasHint}
 use Rattle.qcow2_alloc.specs.MetadataCaches.{order_of}
 use Rattle.qcow2_alloc.proofs.allocation.Allocator.free_run.Given as goal
 
@@ -17,6 +18,7 @@ invariant-freeing g l = record {
   kind : l.run.kind ≡ l.fn.run.kind;
   sound : (p : Pending) → IsSoundWith g.S.Storage.view l.fn.self (listed_as l.fn.run.kind p (run_of l.fn.run)) l.fn.file → MayFree l.fn.run.kind l.fn.file
       → Becomes g.S.Storage.view (listed_as l.fn.run.kind p (run_of l.fn.run)) l.fn.file l.self l.file (listed_as l.fn.run.kind p (run_of l.run));
+  hint : (p : Pending) → IsSoundWith g.S.Storage.view l.fn.self (listed_as l.fn.run.kind p (run_of l.fn.run)) l.fn.file → MayFree l.fn.run.kind l.fn.file → HasHint g.S.Storage.view l.fn.self l.fn.file → HasHint g.S.Storage.view l.self l.file;
 }
 
 abbrev pub decreases-freeing : goal.decreases-freeing

@@ -4,6 +4,7 @@ use Rattle.qcow2_alloc.specs.Allocation.{MayFree, Becomes}
 use Rattle.qcow2_alloc.specs.CacheMarks.{KeepsMarks}
 use Rattle.qcow2_alloc.specs.FreeList.{with_listed, but}
 use Rattle.qcow2_alloc.specs.ImageFile.{IsSoundWith}
+use Rattle.qcow2_alloc.specs.LowestRuns.{HasHint}
 use Rattle.qcow2_alloc.specs.MetadataCaches.{order_of}
 use Rattle.qcow2_alloc.proofs.allocation.Allocator.free_taken.Given as goal
 
@@ -16,6 +17,7 @@ invariant-freeing g l = record {
   left : l.file.free_list ++ but l.fn.kind l.taken ≡ l.fn.file.free_list ++ but l.fn.kind l.fn.taken;
   sound : (p : Pending) → IsSoundWith g.S.Storage.view l.fn.self (with_listed p (l.fn.file.free_list ++ l.fn.taken)) l.fn.file → MayFree l.fn.kind l.fn.file
       → Becomes g.S.Storage.view (with_listed p (l.fn.file.free_list ++ l.fn.taken)) l.fn.file l.self l.file (with_listed p (l.file.free_list ++ l.taken));
+  hint : (p : Pending) → IsSoundWith g.S.Storage.view l.fn.self (with_listed p (l.fn.file.free_list ++ l.fn.taken)) l.fn.file → MayFree l.fn.kind l.fn.file → HasHint g.S.Storage.view l.fn.self l.fn.file → HasHint g.S.Storage.view l.self l.file;
 }
 
 abbrev pub decreases-freeing : goal.decreases-freeing
