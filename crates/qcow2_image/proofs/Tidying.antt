@@ -16,7 +16,7 @@ use Rattle.qcow2_alloc.specs.FreeList.{with_listed}
 use Rattle.qcow2_alloc.specs.ImageFile.{stand_in, view_in, nothing_given}
 use Rattle.qcow2_image.specs.declared.image.Qcow2.{Qcow2}
 use Rattle.qcow2_image.specs.declared.prepared.Prepared.{Prepared}
-use Rattle.qcow2_image.specs.Steps.{Tidies, Broke, FreesListed}
+use Rattle.qcow2_image.specs.Steps.{Keeps, Tidies, Broke, FreesListed}
 use Rattle.qcow2_image.specs.Views.{IsSoundAt}
 use Rattle.qcow2_image.proofs.Answered.{tidies_kept}
 use Rattle.qcow2_image.proofs.Called.{copied_then}
@@ -42,3 +42,38 @@ module _ {S F : Type 0} (view : S → StorageView) (backing : F → BackingView)
       | inl left ↦ inl (file_tidied view backing old out (with_listed p old.file.free_list) (with_listed p file.free_list) sound file (Some a) left.moves left.reftable pins)
       | inr breaks ↦ inr (record { breaks = breaks; header = ap (λ x. x.fields) header; below = refl })
     ]
+
+  -- whatever is answered
+  pub frees_any : (p : Pending) (old new : Qcow2 S F) (r : Result (Unit {0}) ImageError) → Tidies view backing (with_listed p old.file.free_list) (with_listed p new.file.free_list) old new out → FreesListed view backing p old new out r
+  frees_any p old new (Ok _) tidies = tidies
+  frees_any p old new (Err e) tidies = inl tidies
+
+  -- a part that leaves the list follows
+  pub tidies_on : (a b c : Qcow2 S F) (p : Pending) → c.file.free_list ≡ b.file.free_list → Tidies view backing (with_listed p a.file.free_list) (with_listed p b.file.free_list) a b out
+      → Keeps view backing (with_listed p b.file.free_list) (with_listed p b.file.free_list) b c out → Tidies view backing (with_listed p a.file.free_list) (with_listed p c.file.free_list) a c out
+  tidies_on a b c p listed first then =
+      subst (λ l. Tidies view backing (with_listed p a.file.free_list) (with_listed p l) a c out) (sym listed)
+      (tidies_then a b c (with_listed p a.file.free_list) (with_listed p b.file.free_list) (with_listed p b.file.free_list) (λ k some. some) first (tidies_kept view backing b c out (with_listed p b.file.free_list) (with_listed p b.file.free_list) then))
+
+  before : (a b c : Qcow2 S F) (p : Pending) → b.file.free_list ≡ a.file.free_list → Keeps view backing (with_listed p a.file.free_list) (with_listed p a.file.free_list) a b out
+      → Tidies view backing (with_listed p b.file.free_list) (with_listed p c.file.free_list) b c out → Tidies view backing (with_listed p a.file.free_list) (with_listed p c.file.free_list) a c out
+  before a b c p listed first then =
+      tidies_then a b c (with_listed p a.file.free_list) (with_listed p a.file.free_list) (with_listed p c.file.free_list) (λ k some. some) (tidies_kept view backing a b out (with_listed p a.file.free_list) (with_listed p a.file.free_list) first)
+      (subst (λ l. Tidies view backing (with_listed p l) (with_listed p c.file.free_list) b c out) listed then)
+
+  -- and one goes before
+  pub frees_on : (a b c : Qcow2 S F) (p : Pending) (r : Result (Unit {0}) ImageError) → b.file.free_list ≡ a.file.free_list → Keeps view backing (with_listed p a.file.free_list) (with_listed p a.file.free_list) a b out
+      → FreesListed view backing p b c out r → FreesListed view backing p a c out r
+  frees_on a b c p (Ok _) listed first then = before a b c p listed first then
+  frees_on a b c p (Err e) listed first then = elim then [
+    | inl left ↦ inl (before a b c p listed first left)
+    | inr broke ↦ inr (record {
+        breaks = record {
+          fault = broke.breaks.fault;
+          noted = broke.breaks.noted;
+          since = steps_endure (view_in view a.file) (view_in view b.file) (view_in view c.file) (stand_in view a.file (with_listed p a.file.free_list)) (stand_in view b.file (with_listed p a.file.free_list)) nothing_given nothing_given [] [] refl first.since first.leads broke.breaks.since;
+        };
+        header = broke.header ∙ first.unseen.header;
+        below = broke.below ∙ first.below;
+      })
+  ]
