@@ -50,3 +50,6 @@ returns-clause-sound g c = λ p sound.
     let both = becomes_on view q now now c.args.file.now c.free_kind.new.file turned c.free_kind.new.self c.free_kind.new.self (λ k some. some) one two in
     frees_then view q now (with_listed p c.free_kind-2.new.file.free_list) c.args.file.now turned c.free_kind-2.new.file c.free_kind.new.self c.free_kind-2.new.self c.free_kind-2.result (λ k some. some) both
     (c.free_kind-2.ensures.sound p (is_sound_now view q now c.args.file.now turned c.free_kind.new.self both) c.in_ok-rb_depends_on_l2.ensures.order)
+
+pub returns-clause-in_order : goal.returns-clause-in_order
+returns-clause-in_order g c = inl (c.free_kind-2.ensures.others ∙ ap (but Data) c.in_ok-free_kind.ensures.left ∙ but_both c.args.file.now.free_list)
