@@ -1,5 +1,5 @@
 -- Working off the list of clusters that are to be freed.
-use Rattle.std.proofs.Common.{◌≡◌, ◌≢◌, inl, inr, ℕ, ◌+◌, ◌-◌, ◌*◌, ◌/◌, ◌^◌, ◌<◌, ◌≤◌, Bool, true, false, cond, List, [], ◌∷◌, ◌++◌, append_assoc, Result, Ok, Err, OnOk, refl, sym, ap, ◌∙◌, subst, arith}
+use Rattle.std.proofs.Common.{◌≡◌, ◌≢◌, inl, inr, ℕ, ◌+◌, ◌-◌, ◌*◌, ◌/◌, ◌^◌, ◌<◌, ◌≤◌, Bool, true, false, cond, List, [], ◌∷◌, ◌++◌, append_assoc, append-nil, Result, Ok, Err, OnOk, refl, sym, ap, ◌∙◌, subst, arith}
 use Rattle.std.proofs.lemmas.Bool.{cases_lt}
 use Rattle.image_access.specs.Moments.{StorageView}
 use Rattle.qcow2_metadata.specs.declared.header.HeaderFields.{HeaderFields}
@@ -87,6 +87,26 @@ with_first p list taken rest e is =
 
 pub but_first : (kind : ClusterKind) (e : ClustersToFreeEntry) (es : List ClustersToFreeEntry) → but kind (e ∷ []) ++ but kind es ≡ but kind (e ∷ es)
 but_first kind e es = elim (is_same e.kind kind) as (λ (b : Bool). (cond b [] (e ∷ [])) ++ but kind es ≡ cond b (but kind es) (e ∷ but kind es)) [ true ↦ refl | false ↦ refl ]
+
+pub but_more : (kind : ClusterKind) (es fs : List ClustersToFreeEntry) → but kind (es ++ fs) ≡ but kind es ++ but kind fs
+but_more kind [] fs = refl
+but_more kind (e ∷ es) fs = case (is_same e.kind kind) (but_more kind es fs)
+  where
+    case : (b : Bool) → but kind (es ++ fs) ≡ but kind es ++ but kind fs → cond b (but kind (es ++ fs)) (e ∷ but kind (es ++ fs)) ≡ cond b (but kind es) (e ∷ but kind es) ++ but kind fs
+    case true rest = rest
+    case false rest = ap (λ l. e ∷ l) rest
+
+-- an entry of the kind more
+pub but_same : (kind : ClusterKind) (es : List ClustersToFreeEntry) (e : ClustersToFreeEntry) → e.kind ≡ kind → but kind (es ++ e ∷ []) ≡ but kind es
+but_same kind es e is = but_more kind es (e ∷ []) ∙ ap (λ x. but kind es ++ cond (is_same x kind) [] (e ∷ [])) is ∙ gone kind
+  where
+    gone : (kind : ClusterKind) → but kind es ++ cond (is_same kind kind) [] (e ∷ []) ≡ but kind es
+    gone Data = append-nil (but Data es)
+    gone Metadata = append-nil (but Metadata es)
+
+pub but_step : (kind : ClusterKind) (new list taken rest : List ClustersToFreeEntry) (e : ClustersToFreeEntry) → taken ≡ e ∷ rest → but kind new ≡ but kind (list ++ e ∷ []) → but kind (new ++ rest) ≡ but kind (list ++ taken)
+but_step kind new list taken rest e is same =
+    but_more kind new rest ∙ ap (λ l. l ++ but kind rest) same ∙ sym (but_more kind (list ++ e ∷ []) rest) ∙ ap (but kind) (append_assoc list (e ∷ []) rest ∙ ap (λ l. list ++ l) (sym is))
 
 -- without data and without metadata there is nothing left
 pub but_both : (es : List ClustersToFreeEntry) → but Data (but Metadata es) ≡ []

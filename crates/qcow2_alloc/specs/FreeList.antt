@@ -1,5 +1,5 @@
 -- The clusters that are listed to be freed.
-use Rattle.std.specs.Prelude.{ℕ, ◌+◌, ◌==◌, Bool, true, false, List, [], ◌∷◌, if◌then◌else◌}
+use Rattle.std.specs.Prelude.{◌≡◌, ◌⊎◌, ℕ, ◌+◌, Bool, true, false, List, [], ◌∷◌, if◌then◌else◌}
 use Rattle.qcow2_laws.specs.Guard.{Pending}
 use Rattle.qcow2_alloc.specs.declared.clusters_to_free.ClusterKind.{ClusterKind}
 use Rattle.qcow2_alloc.specs.declared.clusters_to_free.ClusterKind.TheVariants as Kind
@@ -37,3 +37,7 @@ is_same Kind.Metadata Kind.Data = false
 abbrev pub but : ClusterKind → List ClustersToFreeEntry → List ClustersToFreeEntry
 but kind [] = []
 but kind (e ∷ es) = if is_same e.kind kind then but kind es else e ∷ but kind es
+
+-- data go off the list once no table is listed any more
+abbrev pub GoOffInOrder : List ClustersToFreeEntry → List ClustersToFreeEntry → Type 0
+GoOffInOrder old new = (but Kind.Data new ≡ []) ⊎ (but Kind.Metadata new ≡ but Kind.Metadata old)

@@ -5,7 +5,7 @@ ghost use Rattle.qcow2_laws.specs.Changes.{one_at};
 ghost use Rattle.qcow2_laws.specs.Clusters.{L2DependsOnRb};
 ghost use Rattle.qcow2_laws.specs.Guard.{Pending};
 ghost use Rattle.qcow2_alloc.specs.Allocation.{run_at, taken_as, placing, first_counts, HasPlaceFor, KeepsEntries, MayTake, MayFree, Owed, listed_as, owed_as, MayLower, Frees, LoadsBlock, WritesBlock, PlacesBlock, TakesOne, TakesRun, LowersOne, GivesBack, GivesBackRun, HasNone, GetsBlock, TakesLowest, TakesSomeRun, is_data, Allocates};
-ghost use Rattle.qcow2_alloc.specs.FreeList.{run_of, with_listed, but};
+ghost use Rattle.qcow2_alloc.specs.FreeList.{run_of, with_listed, but, GoOffInOrder};
 ghost use Rattle.qcow2_alloc.specs.CacheMarks.{KeepsMarks};
 ghost use Rattle.qcow2_alloc.specs.LowestRuns.{HasHint, IsLowestRun, IsUsed, KeepsHint};
 ghost use Rattle.qcow2_alloc.specs.ImageError.{IsOfTables, IsFault};
@@ -360,6 +360,7 @@ impl Allocator {
     pub fn free<S: Storage>(&mut self, file: &mut ImageFile<S>) -> Result<(), ImageError>
         ensures marks { KeepsMarks file.old.caches file.new.caches }
         ensures emptied { OnOk result (file.new.free_list ≡ []) }
+        ensures in_order { GoOffInOrder file.old.free_list file.new.free_list }
         ensures sound { (p : Pending) → IsSoundWith S.view self.old (with_listed p file.old.free_list) file.old
             → Frees S.view (with_listed p file.old.free_list) file.old self.new file.new (with_listed p file.new.free_list) result }
         ensures header { file.new.header ≡ file.old.header }
@@ -383,6 +384,7 @@ impl Allocator {
         ensures marks { KeepsMarks file.old.caches file.new.caches }
         ensures order { order_of file.new.caches ≡ order_of file.old.caches }
         ensures left { OnOk result (file.new.free_list ≡ but kind file.old.free_list) }
+        ensures others { but kind file.new.free_list ≡ but kind file.old.free_list }
         ensures sound { (p : Pending) → IsSoundWith S.view self.old (with_listed p file.old.free_list) file.old → MayFree kind file.old
             → Frees S.view (with_listed p file.old.free_list) file.old self.new file.new (with_listed p file.new.free_list) result }
         ensures header { file.new.header ≡ file.old.header }
@@ -406,6 +408,7 @@ impl Allocator {
         ensures order { order_of file.new.caches ≡ order_of file.old.caches }
         ensures all { OnOk result (taken.new ≡ []) }
         ensures left { OnOk result (file.new.free_list ≡ file.old.free_list ++ but kind taken.old) }
+        ensures others { but kind (file.new.free_list ++ taken.new) ≡ but kind (file.old.free_list ++ taken.old) }
         ensures sound { (p : Pending) → IsSoundWith S.view self.old (with_listed p (file.old.free_list ++ taken.old)) file.old → MayFree kind file.old
             → Frees S.view (with_listed p (file.old.free_list ++ taken.old)) file.old self.new file.new (with_listed p (file.new.free_list ++ taken.new)) result }
         ensures header { file.new.header ≡ file.old.header }
@@ -428,6 +431,7 @@ impl Allocator {
         ensures marks { KeepsMarks file.old.caches file.new.caches }
         ensures order { order_of file.new.caches ≡ order_of file.old.caches }
         ensures left { OnOk result (file.new.free_list ≡ file.old.free_list ++ but kind (pending ∷ [])) }
+        ensures others { but kind file.new.free_list ≡ but kind (file.old.free_list ++ pending ∷ []) }
         ensures sound { (p : Pending) → IsSoundWith S.view self.old (with_listed p (file.old.free_list ++ pending ∷ [])) file.old → MayFree kind file.old
             → Frees S.view (with_listed p (file.old.free_list ++ pending ∷ [])) file.old self.new file.new (with_listed p file.new.free_list) result }
         ensures header { file.new.header ≡ file.old.header }
@@ -450,6 +454,7 @@ impl Allocator {
         ensures marks { KeepsMarks file.old.caches file.new.caches }
         ensures order { order_of file.new.caches ≡ order_of file.old.caches }
         ensures left { OnOk result (file.new.free_list ≡ file.old.free_list) }
+        ensures others { but pending.kind file.new.free_list ≡ but pending.kind file.old.free_list }
         ensures sound { (p : Pending) → IsSoundWith S.view self.old (with_listed p (file.old.free_list ++ pending ∷ [])) file.old → MayFree pending.kind file.old
             → Frees S.view (with_listed p (file.old.free_list ++ pending ∷ [])) file.old self.new file.new (with_listed p file.new.free_list) result }
         ensures header { file.new.header ≡ file.old.header }

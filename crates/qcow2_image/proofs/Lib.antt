@@ -28,6 +28,7 @@ pub mod Naming
 pub mod Entering
 pub mod Owning
 pub mod Preparing
+pub mod Refused
 pub mod PrepareCalls
 pub mod Reftables
 pub mod Opening

@@ -69,3 +69,6 @@ returns-clause-hint g c = λ p sound hint.
     let both = becomes_on view q now now c.args.file.now c.free_kind.new.file turned c.free_kind.new.self c.free_kind.new.self (λ k some. some) one two in
     let kept = hint_stays view now c.free_kind.new.file turned c.free_kind.new.self c.free_kind.new.self two refl (c.in_ok-free_kind.ensures.hint p sound tt hint) in
     c.free_kind-2.ensures.hint p (is_sound_now view q now c.args.file.now turned c.free_kind.new.self both) c.in_ok-rb_depends_on_l2.ensures.order kept
+
+pub returns-clause-in_order : goal.returns-clause-in_order
+returns-clause-in_order g c = inl (c.free_kind-2.ensures.others ∙ ap (but Data) c.in_ok-free_kind.ensures.left ∙ but_both c.args.file.now.free_list)

@@ -1,9 +1,9 @@
 use Rattle.std.proofs.Common.{◌≡◌, ◌++◌, ◌∷◌, [], Ok, Err, sym, ap, ◌∙◌, subst, refl}
 use Rattle.qcow2_laws.specs.Guard.{Pending}
 use Rattle.qcow2_alloc.specs.Allocation.{listed_as}
-use Rattle.qcow2_alloc.specs.FreeList.{run_of, with_listed}
+use Rattle.qcow2_alloc.specs.FreeList.{run_of, with_listed, but}
 use Rattle.qcow2_alloc.specs.ImageFile.{IsSoundWith}
-use Rattle.qcow2_alloc.proofs.Freeing.{listed_none, with_one, frees_as}
+use Rattle.qcow2_alloc.proofs.Freeing.{listed_none, with_one, but_same, frees_as}
 use Rattle.qcow2_alloc.proofs.allocation.Allocator.free_entry.Goals as goal
 
 pub returns-in-Ok-clause-sound : goal.returns-in-Ok-clause-sound
@@ -31,3 +31,7 @@ pub returns-in-Ok-clause-hint : goal.returns-in-Ok-clause-hint
 returns-in-Ok-clause-hint g c = λ p sound may hint.
     let q : Pending = with_listed p c.args.file.now.free_list in
     c.in-Ok.ensures.hint q (subst (λ (r : Pending). IsSoundWith g.S.Storage.view c.args.self.now r c.args.file.now) (with_one p c.args.file.now.free_list c.args.pending) sound) may hint
+
+pub returns-in-Err-clause-others : goal.returns-in-Err-clause-others
+returns-in-Err-clause-others g c =
+    ap (but c.args.pending.kind) (c.hand_back.ensures ∙ ap (λ l. l ++ c.free_run.new.run ∷ []) c.free_run.ensures.list) ∙ but_same c.args.pending.kind c.args.file.now.free_list c.free_run.new.run c.free_run.ensures.kind

@@ -14,6 +14,7 @@ invariant-freeing g l = record {
   header : l.file.header ≡ l.fn.file.header;
   marks : KeepsMarks l.fn.file.caches l.file.caches;
   order : order_of l.file.caches ≡ order_of l.fn.file.caches;
+  others : but l.fn.kind (l.file.free_list ++ l.taken) ≡ but l.fn.kind (l.fn.file.free_list ++ l.fn.taken);
   left : l.file.free_list ++ but l.fn.kind l.taken ≡ l.fn.file.free_list ++ but l.fn.kind l.fn.taken;
   sound : (p : Pending) → IsSoundWith g.S.Storage.view l.fn.self (with_listed p (l.fn.file.free_list ++ l.fn.taken)) l.fn.file → MayFree l.fn.kind l.fn.file
       → Becomes g.S.Storage.view (with_listed p (l.fn.file.free_list ++ l.fn.taken)) l.fn.file l.self l.file (with_listed p (l.file.free_list ++ l.taken));
