@@ -1,5 +1,5 @@
 -- What contracts see of the caches of L2 tables and refblocks over the bytes of the storage.
-use Rattle.std.specs.Prelude.{ℕ, ◌+◌, ◌*◌, ◌/◌, ◌%◌, ◌≡◌, ◌≢◌, ◌<◌, ◌==◌, Bool, false, List, Option, Result, IfSome, IfErr, IsSome, IsTrue}
+use Rattle.std.specs.Prelude.{ℕ, ◌+◌, ◌*◌, ◌/◌, ◌%◌, ◌≡◌, ◌≢◌, ◌<◌, ◌==◌, Bool, false, List, Option, None, Result, IfSome, IfErr, IsSome, IsTrue, if◌then◌else◌}
 use Rattle.image_access.specs.Moments.{StorageView}
 use Rattle.qcow2_metadata.specs.Bytes.{Bytes, byte_at}
 use Rattle.qcow2_metadata.specs.declared.header.HeaderFields.{HeaderFields}
@@ -7,7 +7,7 @@ use Rattle.qcow2_metadata.specs.Header.{cluster_size, entries_per_cluster, count
 use Rattle.qcow2_metadata.specs.Entries.{count, l2_entry}
 use Rattle.qcow2_metadata.specs.Cover.{entry_cover}
 use Rattle.qcow2_metadata.specs.L2Mapping.{IsHostCluster, dropped_run}
-use Rattle.qcow2_metadata.specs.L2Table.{L2TableView, copied_entry}
+use Rattle.qcow2_metadata.specs.L2Table.{L2TableView, copied_entry, zero_entry, copied_host}
 use Rattle.qcow2_metadata.specs.RefBlock.{RefBlockView}
 use Rattle.qcow2_metadata.specs.TableBytes.{entry_at}
 use Rattle.qcow2_metadata.specs.Tables.{CachedTable}
@@ -194,7 +194,24 @@ module _ {S : Type 0} where
       (h : HeaderFields) (p : Pending) (base : Bytes) (i : ℕ) → AreSound h p caches base → IsEntryAt h (known_of h caches base) i table index → IsSome (l2_at caches table) → IsHostCluster h.cluster_bits host
       → MadeEntry h caches caches' base i index (copied_entry (host * cluster_size h)) answer
 
+  -- it becomes zero; where it is to keep its host cluster, and that is marked copied, it keeps it
+  abbrev pub ZeroesEntry : MetadataCaches S → MetadataCaches S → ℕ → ℕ → Bool → Option (ℕ × ℕ) → Type 0
+  ZeroesEntry caches caches' table index keep answer =
+      (h : HeaderFields) (p : Pending) (base : Bytes) (i : ℕ) → AreSound h p caches base → IsEntryAt h (known_of h caches base) i table index → IsSome (l2_at caches table)
+      → MadeEntry h caches caches' base i index (zero_entry (if keep then copied_host (entry_cover h (l2_entry (known_of h caches base) (table_at h (known_of h caches base) i) index)) else None)) answer
+
+  -- it becomes uncovered
+  abbrev pub DiscardsEntry : MetadataCaches S → MetadataCaches S → ℕ → ℕ → Option (ℕ × ℕ) → Type 0
+  DiscardsEntry caches caches' table index answer =
+      (h : HeaderFields) (p : Pending) (base : Bytes) (i : ℕ) → AreSound h p caches base → IsEntryAt h (known_of h caches base) i table index → IsSome (l2_at caches table)
+      → MadeEntry h caches caches' base i index 0 answer
+
   -- a change of it is noted
+  abbrev pub NotesHeld : MetadataCaches S → MetadataCaches S → ℕ → ℕ → Type 0
+  NotesHeld caches caches' table index =
+      (h : HeaderFields) (p : Pending) (base : Bytes) (i : ℕ) → AreSound h p caches base → IsEntryAt h (known_of h caches base) i table index → IsSome (l2_at caches table) → IsTrue caches'.is_changed
+
+  -- so where it is mapped
   abbrev pub NotesEntry : MetadataCaches S → MetadataCaches S → ℕ → ℕ → ℕ → Type 0
   NotesEntry caches caches' table index host =
       (h : HeaderFields) (p : Pending) (base : Bytes) (i : ℕ) → AreSound h p caches base → IsEntryAt h (known_of h caches base) i table index → IsSome (l2_at caches table) → IsHostCluster h.cluster_bits host

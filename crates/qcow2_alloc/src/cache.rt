@@ -9,7 +9,7 @@ ghost use Rattle.qcow2_laws.specs.Caches.{AreClean, AreSettled, BlocksMayGo, Tab
 ghost use Rattle.qcow2_alloc.specs.ImageError.{IsOfTables, IsFault};
 ghost use Rattle.qcow2_alloc.specs.ImageStorage.{storage_of};
 ghost use Rattle.qcow2_alloc.specs.TableCaches.{IsTableOf, IsBlockOf};
-ghost use Rattle.qcow2_alloc.specs.MetadataCaches.{order_of, l2_at, rb_at, l2_tables, refblocks, known_of, AreAllWritten, AreSound, KeepSound, PutSound, RefusesBy, PutRefusesBy, RaisesCount, LowersCount, TellsZero, RaisesZero, LowersSome, AreSame, MapsEntry, NotesEntry, ShowsKnown};
+ghost use Rattle.qcow2_alloc.specs.MetadataCaches.{order_of, l2_at, rb_at, l2_tables, refblocks, known_of, AreAllWritten, AreSound, KeepSound, PutSound, RefusesBy, PutRefusesBy, RaisesCount, LowersCount, TellsZero, RaisesZero, LowersSome, AreSame, MapsEntry, ZeroesEntry, DiscardsEntry, NotesEntry, NotesHeld, ShowsKnown};
 ghost use Rattle.qcow2_alloc.specs.CacheMarks.{l2_pins, HasRoom, KeepsMarks, SameTables, SetsPins, IsInUseOrFault};
 
 mod backends;
@@ -402,6 +402,45 @@ impl<S: Storage> MetadataCaches<S> {
         }
         self.is_changed = true;
         table.map_cluster(index, host)
+    }
+
+    /// Makes an entry of a held L2 table zero; where it is to keep its host cluster, and that is marked copied, it keeps it. Answers the host clusters that it names no longer.
+    pub fn l2_zero_cluster(
+        &mut self,
+        cluster: HostCluster,
+        index: usize,
+        keep: bool,
+    ) -> Option<(HostCluster, ClusterCount)>
+        ensures order { order_of self.new ≡ order_of self.old }
+        ensures marks { KeepsMarks self.old self.new }
+        ensures zeroed { ZeroesEntry self.old self.new cluster index keep result }
+        ensures noted { NotesHeld self.old self.new cluster index }
+    {
+        let table = self.l2.peek_mut(cluster)?;
+        if index >= table.entries() {
+            return None;
+        }
+        self.is_changed = true;
+        table.zero_cluster(index, keep)
+    }
+
+    /// Makes an entry of a held L2 table cover nothing. Answers the host clusters that it names no longer.
+    pub fn l2_discard_cluster(
+        &mut self,
+        cluster: HostCluster,
+        index: usize,
+    ) -> Option<(HostCluster, ClusterCount)>
+        ensures order { order_of self.new ≡ order_of self.old }
+        ensures marks { KeepsMarks self.old self.new }
+        ensures discarded { DiscardsEntry self.old self.new cluster index result }
+        ensures noted { NotesHeld self.old self.new cluster index }
+    {
+        let table = self.l2.peek_mut(cluster)?;
+        if index >= table.entries() {
+            return None;
+        }
+        self.is_changed = true;
+        table.discard_cluster(index)
     }
 
     /// Whether a count of a held refblock is 0.
