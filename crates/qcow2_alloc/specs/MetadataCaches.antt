@@ -12,7 +12,7 @@ use Rattle.qcow2_metadata.specs.RefBlock.{RefBlockView}
 use Rattle.qcow2_metadata.specs.TableBytes.{entry_at}
 use Rattle.qcow2_metadata.specs.Tables.{CachedTable}
 use Rattle.qcow2_laws.specs.Clusters as Order
-use Rattle.qcow2_laws.specs.Guard.{Pending, IsGuarded}
+use Rattle.qcow2_laws.specs.Guard.{Pending, IsGuarded, IsPartly}
 use Rattle.qcow2_laws.specs.Steps.{block_of, CountRises, CountFalls}
 use Rattle.qcow2_laws.specs.Caches.{known_bytes, AreClean, AreSettled}
 use Rattle.qcow2_laws.specs.Guests.{table_at}
@@ -221,3 +221,26 @@ module _ {S : Type 0} where
   abbrev pub ShowsKnown : MetadataCaches S → ℕ → L2TableView → Type 0
   ShowsKnown caches table t =
       (h : HeaderFields) (p : Pending) (base : Bytes) (i index : ℕ) → AreSound h p caches base → IsEntryAt h (known_of h caches base) i table index → ShowsEntry h (known_of h caches base) i index t
+
+  -- ---- tables that are taken off, unwritten
+
+  -- Each cluster is known as before, or as it stands on the storage, and as before where none of them was modified. No refblock is new that wasn't. The caches are sound again,
+  -- whatever is pending, where the order of writes is kept.
+  pub record TakenOff (Unmodified : Type 0) (h : HeaderFields) (caches caches' : MetadataCaches S) (base : Bytes) : Type 0 where
+    pub known : IsPartly (cluster_size h) base (known_of h caches base) (known_of h caches' base)
+    pub same : Unmodified → known_of h caches' base ≡ known_of h caches base
+    pub settled : AreSettled h (refblocks caches) base → AreSettled h (refblocks caches') base
+    pub sound : (p : Pending) → IsGuarded h (order_of caches') p base (known_of h caches' base) → AreSound h p caches' base
+
+  -- so on sound caches
+  abbrev pub TakesOff : Type 0 → MetadataCaches S → MetadataCaches S → Type 0
+  TakesOff Unmodified caches caches' = (h : HeaderFields) (p : Pending) (base : Bytes) → AreSound h p caches base → TakenOff Unmodified h caches caches' base
+
+  -- the refblock of a cluster is taken off: it is no longer held, and outside of its cluster nothing known changes
+  pub record TakenFrom (h : HeaderFields) (caches caches' : MetadataCaches S) (base : Bytes) (cluster : ℕ) : Type 0 where
+    pub off : TakenOff (IfSome (rb_at caches cluster) (λ b. b.is_modified ≡ false)) h caches caches' base
+    pub outside : IsSameOutside (cluster_size h) cluster (known_of h caches base) (known_of h caches' base)
+    pub gone : rb_at caches' cluster ≡ None
+
+  abbrev pub TakesBlock : MetadataCaches S → MetadataCaches S → ℕ → Type 0
+  TakesBlock caches caches' cluster = (h : HeaderFields) (p : Pending) (base : Bytes) → AreSound h p caches base → TakenFrom h caches caches' base cluster

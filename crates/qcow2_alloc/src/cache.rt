@@ -1,5 +1,5 @@
 //! The caches of L2 tables and of refblocks, and which of them has to be written first.
-ghost use Rattle.std.specs.Prelude.{◌≡◌, ◌⊎◌, ◌↔◌, ℕ, ◌+◌, ◌-◌, ◌^◌, ◌<◌, ◌≤◌, IsSome, IsNone, IfSome, IfOk, IfErr, OnOk, OnErr, IsTrue, IsFalse, Some, true, false, option_copied};
+ghost use Rattle.std.specs.Prelude.{◌≡◌, ◌⊎◌, ◌↔◌, ℕ, ◌+◌, ◌-◌, ◌^◌, ◌<◌, ◌≤◌, ◌==◌, IsSome, IsNone, IfSome, IfOk, IfErr, OnOk, OnErr, IsTrue, IsFalse, Some, true, false, option_copied};
 ghost use Rattle.qcow2_metadata.specs.Bytes.{Bytes};
 ghost use Rattle.qcow2_metadata.specs.declared.header.HeaderFields.{HeaderFields};
 ghost use Rattle.qcow2_metadata.specs.TableBytes.{HasPlace};
@@ -8,9 +8,10 @@ ghost use Rattle.qcow2_laws.specs.Clusters.{Neither, L2DependsOnRb, RbDependsOnL
 ghost use Rattle.qcow2_laws.specs.Caches.{AreClean, AreSettled, BlocksMayGo, TablesMayGo};
 ghost use Rattle.qcow2_alloc.specs.ImageError.{IsOfTables, IsFault};
 ghost use Rattle.qcow2_alloc.specs.ImageStorage.{storage_of};
+ghost use Rattle.qcow2_alloc.specs.AsyncLruCache.{can_remove};
 ghost use Rattle.qcow2_alloc.specs.TableCaches.{IsTableOf, IsBlockOf};
-ghost use Rattle.qcow2_alloc.specs.MetadataCaches.{order_of, l2_at, rb_at, l2_tables, refblocks, known_of, AreAllWritten, AreSound, KeepSound, PutSound, RefusesBy, PutRefusesBy, RaisesCount, LowersCount, TellsZero, RaisesZero, LowersSome, AreSame, MapsEntry, ZeroesEntry, DiscardsEntry, NotesEntry, NotesHeld, ShowsKnown};
-ghost use Rattle.qcow2_alloc.specs.CacheMarks.{l2_pins, HasRoom, KeepsMarks, SameTables, SetsPins, IsInUseOrFault};
+ghost use Rattle.qcow2_alloc.specs.MetadataCaches.{order_of, l2_at, rb_at, l2_tables, refblocks, known_of, AreAllWritten, AreSound, KeepSound, PutSound, RefusesBy, PutRefusesBy, RaisesCount, LowersCount, TellsZero, RaisesZero, LowersSome, AreSame, MapsEntry, ZeroesEntry, DiscardsEntry, NotesEntry, NotesHeld, ShowsKnown, TakesOff, TakesBlock};
+ghost use Rattle.qcow2_alloc.specs.CacheMarks.{l2_pins, HasRoom, KeepsMarks, SameTables, SetsPins, IsInUseOrFault, LeavesPinned};
 
 mod backends;
 
@@ -346,8 +347,42 @@ impl<S: Storage> MetadataCaches<S> {
     }
 
     /// Drops a refblock unwritten: false where it isn't there or is pinned.
-    pub fn rb_remove(&mut self, cluster: HostCluster) -> bool {
+    pub fn rb_remove(&mut self, cluster: HostCluster) -> bool
+        ensures order { order_of self.new ≡ order_of self.old }
+        ensures tables { l2_tables self.new ≡ l2_tables self.old }
+        ensures answer { result ≡ can_remove (λ k. cluster == k) self.old.rb.entries }
+        ensures same { IsFalse result → self.new ≡ self.old }
+        ensures others { (c : ℕ) → cluster == c ≡ false → rb_at self.new c ≡ rb_at self.old c }
+        ensures marks { KeepsMarks self.old self.new }
+        ensures taken { IsTrue result → TakesBlock self.old self.new cluster }
+    {
         self.rb.remove(cluster)
+    }
+
+    /// Drops the L2 tables without a pin, unwritten. The clusters of those that are pinned are answered.
+    pub fn invalidate_l2(&mut self) -> Result<(), ImageError>
+        ensures cause { IfErr result IsOfTables }
+        ensures order { order_of self.new ≡ order_of self.old }
+        ensures blocks { refblocks self.new ≡ refblocks self.old }
+        ensures left { LeavesPinned self.old.l2.entries result self.new.l2.entries }
+        ensures marks { KeepsMarks self.old self.new }
+        ensures taken { TakesOff (AreClean (l2_tables self.old)) self.old self.new }
+    {
+        self.l2.invalidate()?;
+        Ok(())
+    }
+
+    /// Drops the refblocks without a pin, unwritten. The clusters of those that are pinned are answered.
+    pub fn invalidate_rb(&mut self) -> Result<(), ImageError>
+        ensures cause { IfErr result IsOfTables }
+        ensures order { order_of self.new ≡ order_of self.old }
+        ensures tables { l2_tables self.new ≡ l2_tables self.old }
+        ensures left { LeavesPinned self.old.rb.entries result self.new.rb.entries }
+        ensures marks { KeepsMarks self.old self.new }
+        ensures taken { TakesOff (AreClean (refblocks self.old)) self.old self.new }
+    {
+        self.rb.invalidate()?;
+        Ok(())
     }
 
     /// Whether an L2 table is held and has a pin.
