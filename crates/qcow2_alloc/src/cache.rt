@@ -14,6 +14,8 @@ ghost use Rattle.qcow2_alloc.specs.MetadataCaches.{order_of, l2_at, rb_at, l2_ta
 ghost use Rattle.qcow2_alloc.specs.CacheMarks.{l2_pins, HasRoom, KeepsMarks, SameTables, SetsPins, IsInUseOrFault, LeavesPinned};
 
 mod backends;
+#[cfg(test)]
+mod tests;
 
 use crate::async_lru_cache::AsyncLruCache;
 use crate::{ImageError, ImageStorage};
