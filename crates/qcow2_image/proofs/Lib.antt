@@ -32,3 +32,5 @@ pub mod PrepareCalls
 pub mod Reftables
 pub mod Opening
 pub mod Clearing
+pub mod Writable
+pub mod PreparedAs

@@ -1,6 +1,12 @@
+use Rattle.std.proofs.Common.{ap, refl, subst}
 use Rattle.std.specs.Prelude.{Err}
+use Rattle.qcow2_alloc.specs.ImageFile.{known_in}
+use Rattle.qcow2_image.specs.Preparing.{IsPlaceOf}
+use Rattle.qcow2_image.proofs.Loading.{if_ok}
 use Rattle.qcow2_alloc.proofs.AllocationSteps.{handed_on}
 use Rattle.qcow2_image.specs.Parts.{Readies}
+use Rattle.qcow2_image.specs.Steps.{following}
+use Rattle.qcow2_image.proofs.PreparedAs.{answered_part, answered_whole}
 use Rattle.qcow2_image.specs.Views.{pending_in}
 use Rattle.qcow2_image.proofs.Preparing.{goes_left, mid_sound, readied_existing, readied_then, readies_then}
 use Rattle.qcow2_image.proofs.ReadyingNew.{back_none}
@@ -45,3 +51,28 @@ returns-in-None-clause-readies g c = λ some out sound.
     let ready = c.in_ok-table.ensures.ready (pending_in view below old out) out sound in
     readies_then view below out old mid c.prepare_in.new.self sound ready.0 c.args.offset c.args.length c.args.overwrite c.prepare_in.result
     (c.prepare_in.ensures.readies out (mid_sound view below out old mid c.prepare_in.new.self sound ready.0) ready.1)
+
+pub returns-in-Some-clause-answers : goal.returns-in-Some-clause-answers
+returns-in-Some-clause-answers g c = λ some p out sound.
+    let view = g.S.Storage.view in
+    let below = g.F.BackingDisk.backing in
+    let old = c.args.self.now in
+    let mid = c.ensure_l2.new.self in
+    let ready = c.in_ok-table.ensures.ready p out sound in
+    let place = c.in_ok-host.ensures.place (following p old mid) ready.0.sound.file ready.1.entry some in
+    answered_whole view below old mid mid c.existing_at.result c.args.offset c.args.length ready.0.unseen.header ready.0.unseen.covers refl mid.number c.in-Some.host some c.existing_at.ensures.existing c.existing_at.ensures.offset
+    (subst (IsPlaceOf mid.file.header.fields (known_in view mid.file) c.args.offset c.args.length) c.in-Some.is place)
+
+pub returns-in-None-clause-answers : goal.returns-in-None-clause-answers
+returns-in-None-clause-answers g c = λ some p out sound.
+    let view = g.S.Storage.view in
+    let below = g.F.BackingDisk.backing in
+    let old = c.args.self.now in
+    let mid = c.ensure_l2.new.self in
+    let new = c.prepare_in.new.self in
+    let ready = c.in_ok-table.ensures.ready p out sound in
+    let place = c.in_ok-host.ensures.place (following p old mid) ready.0.sound.file ready.1.entry some in
+    if_ok c.prepare_in.result
+    (λ q rest. answered_part view below old mid new q c.args.offset c.args.length ready.0.unseen.header ready.0.unseen.covers (ap (λ x. x.fields) c.prepare_in.ensures.header)
+    (subst (IsPlaceOf mid.file.header.fields (known_in view mid.file) c.args.offset c.args.length) c.in-None.is place) rest)
+    (c.prepare_in.ensures.rest (following p old mid) out ready.0.sound ready.1)
