@@ -1,7 +1,7 @@
 -- What is answered of a range that is to be written: all of it where it is, or the rest of its first cluster.
-use Rattle.std.proofs.Common.{◌≡◌, ⊎_elim, inl, inr, ℕ, ◌+◌, ◌-◌, ◌*◌, ◌/◌, ◌%◌, ◌<◌, ◌≤◌, Bool, true, false, Option, Some, None, refl, sym, ap, ◌∙◌, subst, arith, is_some}
-use Rattle.std.specs.Prelude.{IsNone, IsSome, IsTrue, ◌&&◌, ◌==◌, not}
-use Rattle.std.proofs.lemmas.Bool.{cases_lt, eq-eqb, eqb-true}
+use Rattle.std.proofs.Common.{◌≡◌, inl, inr, ℕ, ◌+◌, ◌-◌, ◌*◌, ◌/◌, ◌%◌, ◌<◌, ◌≤◌, Bool, true, false, Option, Some, None, refl, sym, ap, ◌∙◌, subst, arith, is_some}
+use Rattle.std.specs.Prelude.{◌&&◌, ◌==◌, not}
+use Rattle.std.proofs.lemmas.Bool.{cases_lt, eq-eqb}
 use Rattle.std.proofs.lemmas.Nat.{div-add-mod', div-mul-add, mod-mul-add, mod_below, pow_pos}
 use Rattle.image_access.specs.Backing.{BackingView}
 use Rattle.image_access.specs.Moments.{StorageView}
@@ -9,20 +9,18 @@ use Rattle.qcow2_metadata.specs.Bytes.{Bytes}
 use Rattle.qcow2_metadata.specs.declared.header.HeaderFields.{HeaderFields}
 use Rattle.qcow2_metadata.specs.Header.{cluster_size, rounded_down, rounded_up}
 use Rattle.qcow2_metadata.specs.Cover.{cover}
-use Rattle.qcow2_metadata.specs.declared.l2_mapping.L2Mapping.{L2Mapping}
-use Rattle.qcow2_metadata.specs.declared.l2_mapping.L2Mapping.TheVariants.{Data}
-use Rattle.qcow2_laws.specs.Alike.{IsDataAt, AreDataAt}
+use Rattle.qcow2_laws.specs.Alike.{IsDataAt}
 use Rattle.qcow2_laws.specs.Guard.{SameCovers}
-use Rattle.qcow2_laws.specs.Mappings.{is_copied_data}
+use Rattle.qcow2_laws.specs.Mappings.{PreparedMapping, is_copied_data}
 use Rattle.qcow2_laws.proofs.Alike.{are_still}
 use Rattle.qcow2_alloc.specs.ImageFile.{known_in}
 use Rattle.qcow2_image.specs.declared.image.Qcow2.{Qcow2}
 use Rattle.qcow2_image.specs.declared.prepared.Prepared.{Prepared}
 use Rattle.qcow2_image.specs.declared.prepared.NewCluster.{NewCluster}
 use Rattle.qcow2_image.specs.Parts.{IsExisting}
-use Rattle.qcow2_image.specs.Preparing.{IsAnswered, IsHostOf, IsPlaceOf, IsRest, IsWritableAt}
+use Rattle.qcow2_image.specs.Prepared.{offset_of}
+use Rattle.qcow2_image.specs.Preparing.{IsAnswered, IsHostOf, IsRest, IsWritableAt}
 use Rattle.qcow2_image.specs.Views.{is_private, meaning}
-use Rattle.qcow2_image.proofs.Committing.{rounds_up}
 
 -- ---- what stands for guest clusters stays
 module _ (h : HeaderFields) (b c : Bytes) (same : SameCovers h b c) (offset : ℕ) where
@@ -32,16 +30,18 @@ module _ (h : HeaderFields) (b c : Bytes) (same : SameCovers h b c) (offset : �
   writable_before : (n place : ℕ) → IsWritableAt h c offset n place → IsWritableAt h b offset n place
   writable_before n place is = (is.0, are_still h c b true offset place n (λ i lt. sym (same ((offset + i) / cluster_size h))) is.1)
 
-  pub place_still : (n : ℕ) (place : Option ℕ) → IsPlaceOf h b offset n place → IsPlaceOf h c offset n place
-  place_still n None is = λ place writable. is place (writable_before n place writable)
-  place_still n (Some place) is = writable_still n place is
+  data_still : (o place : ℕ) → IsDataAt h b true o place → IsDataAt h c true o place
+  data_still o place is = (is.0, sym (same (o / cluster_size h)) ∙ is.1, is.2)
 
-  host_still : (place : ℕ) (n : Option NewCluster) → IsHostOf h b offset place n → IsHostOf h c offset place n
-  host_still place None is = (is.0, sym (same (offset / cluster_size h)) ∙ is.1, is.2)
-  host_still place (Some n) is = (ap is_copied_data (sym (same (offset / cluster_size h))) ∙ is.0, is.1)
-
-  pub rest_still : (p : Prepared) → IsRest h b offset p → IsRest h c offset p
-  rest_still p is = record { guest = is.guest; table = is.table; length = is.length; host = host_still p.offset p.new_cluster is.host }
+  pub answered_still : (n : ℕ) (p : Prepared) (m : PreparedMapping) → IsAnswered h b offset n p m → IsAnswered h c offset n p m
+  answered_still n p m is = record {
+    existing = (λ none. let there = is.existing.0 none in (there.0, writable_still n there.0 there.1), λ there. is.existing.1 (there.0, writable_before n there.0 there.1));
+    whole = is.whole;
+    rest = is.rest;
+    private = λ o from to. is.private o from to ∙ ap (λ v. not (is_copied_data v)) (same (o / cluster_size h));
+    in_place = λ i lt isnt. data_still (offset + i) (offset_of p + i) (is.in_place i lt isnt);
+    in_new = is.in_new;
+  }
 
 -- each byte of the whole clusters of a range lies in the cluster of a byte of the range
 in_range : (size offset n o : ℕ) → 0 < size → 0 < n → rounded_down size offset ≤ o → o < rounded_up size (offset + n) → (i : ℕ) × (i < n) × ((offset + i) / size ≡ o / size)
@@ -138,27 +138,9 @@ module _ {S F : Type 0} (view : S → StorageView) (backing : F → BackingView)
           in_new = λ private. stands_in_new p.new_cluster (sym (private_is offset refl) ∙ private) is.host;
         }
 
--- the same by what was known before the L2 table was there
-module _ {S F : Type 0} (view : S → StorageView) (backing : F → BackingView) (old mid new : Qcow2 S F) (p : Prepared) (offset n : ℕ) (header : mid.file.header.fields ≡ old.file.header.fields)
-    (covers : SameCovers old.file.header.fields (known_in view old.file) (known_in view mid.file)) (still : new.file.header.fields ≡ mid.file.header.fields) where
-  place_before : (place : Option ℕ) → IsPlaceOf mid.file.header.fields (known_in view mid.file) offset n place → IsPlaceOf new.file.header.fields (known_in view old.file) offset n place
-  place_before place is =
-      subst (λ (x : HeaderFields). IsPlaceOf x (known_in view old.file) offset n place) (sym (still ∙ header))
-      (place_still old.file.header.fields (known_in view mid.file) (known_in view old.file) (λ g. sym (covers g)) offset n place (subst (λ (x : HeaderFields). IsPlaceOf x (known_in view mid.file) offset n place) header is))
-
-  rest_before : IsRest mid.file.header.fields (known_in view mid.file) offset p → IsRest new.file.header.fields (known_in view old.file) offset p
-  rest_before is =
-      subst (λ (x : HeaderFields). IsRest x (known_in view old.file) offset p) (sym (still ∙ header))
-      (rest_still old.file.header.fields (known_in view mid.file) (known_in view old.file) (λ g. sym (covers g)) offset p (subst (λ (x : HeaderFields). IsRest x (known_in view mid.file) offset p) header is))
-
-  answered_before : IsAnswered new.file.header.fields (known_in view old.file) offset n p (meaning view backing new p) → IsAnswered old.file.header.fields (known_in view old.file) offset n p (meaning view backing new p)
-  answered_before = subst (λ (x : HeaderFields). IsAnswered x (known_in view old.file) offset n p (meaning view backing new p)) (still ∙ header)
-
-  pub answered_whole : (number host : ℕ) → 0 < n → IsExisting p number offset n → p.offset ≡ host → IsPlaceOf mid.file.header.fields (known_in view mid.file) offset n (Some host)
-      → IsAnswered old.file.header.fields (known_in view old.file) offset n p (meaning view backing new p)
-  answered_whole number host some existing at is =
-      answered_before (answered_existing view backing new (known_in view old.file) offset n p number some existing (subst (λ o. IsWritableAt new.file.header.fields (known_in view old.file) offset n o) (sym at) (place_before (Some host) is)))
-
-  pub answered_part : IsPlaceOf mid.file.header.fields (known_in view mid.file) offset n None → IsRest mid.file.header.fields (known_in view mid.file) offset p
-      → IsAnswered old.file.header.fields (known_in view old.file) offset n p (meaning view backing new p)
-  answered_part never is = answered_before (answered_rest view backing new (known_in view old.file) offset n p (rest_before is) (place_before None never))
+-- the same by what was known before a part that no guest sees
+module _ {S F : Type 0} (view : S → StorageView) (old mid : Qcow2 S F) (offset n : ℕ) (p : Prepared) (m : PreparedMapping) (header : mid.file.header.fields ≡ old.file.header.fields)
+    (covers : SameCovers old.file.header.fields (known_in view old.file) (known_in view mid.file)) where
+  pub answered_before : IsAnswered mid.file.header.fields (known_in view mid.file) offset n p m → IsAnswered old.file.header.fields (known_in view old.file) offset n p m
+  answered_before is =
+      answered_still old.file.header.fields (known_in view mid.file) (known_in view old.file) (λ g. sym (covers g)) offset n p m (subst (λ (x : HeaderFields). IsAnswered x (known_in view mid.file) offset n p m) header is)

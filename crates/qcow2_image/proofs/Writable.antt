@@ -1,13 +1,12 @@
 -- Where a range may be written in place.
-use Rattle.std.proofs.Common.{◌≡◌, ℕ, ◌+◌, ◌*◌, ◌/◌, ◌%◌, ◌<◌, ◌≤◌, Bool, true, false, Option, Some, None, refl, sym, ap, ◌∙◌, subst, arith, min}
-use Rattle.image_access.specs.Moments.{StorageView}
+use Rattle.std.proofs.Common.{◌≡◌, ℕ, ◌+◌, ◌/◌, ◌<◌, ◌≤◌, Bool, true, false, refl, sym, ap, ◌∙◌, arith, min}
 use Rattle.qcow2_metadata.specs.Bytes.{Bytes}
 use Rattle.qcow2_metadata.specs.declared.header.HeaderFields.{HeaderFields}
 use Rattle.qcow2_metadata.specs.Header.{cluster_size}
 use Rattle.qcow2_metadata.specs.Cover.{cover}
 use Rattle.qcow2_metadata.specs.declared.l2_mapping.L2Mapping.{L2Mapping}
 use Rattle.qcow2_metadata.specs.declared.l2_mapping.L2Mapping.TheVariants.{Data, Zero, Compressed, Uncovered}
-use Rattle.qcow2_laws.specs.Alike.{IsAlikeRun, IsLongestRun}
+use Rattle.qcow2_laws.specs.Alike.{IsLongestRun}
 use Rattle.qcow2_laws.proofs.Alike.{are_alike, longest_is, run_data, run_less}
 use Rattle.qcow2_image.specs.Found.{kind_at, rest_of_table, writable_place}
 use Rattle.qcow2_image.specs.Preparing.{IsPlaceOf, IsWritableAt}
