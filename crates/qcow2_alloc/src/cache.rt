@@ -88,6 +88,7 @@ impl<S: Storage> MetadataCaches<S> {
         ensures marks { KeepsMarks self.old self.new }
         ensures faults { (h : HeaderFields) → RefusesBy IsFault S.view storage.old self.old h result }
         ensures keeps { BlocksMayGo (order_of self.old) (l2_tables self.old) → KeepSound S.view storage.old self.old storage.new self.new }
+        ensures clean { AreClean (refblocks self.old) → AreClean (refblocks self.new) }
     {
         self.rb.flush(storage)?;
         Ok(())
@@ -178,6 +179,7 @@ impl<S: Storage> MetadataCaches<S> {
         ensures cause { IfErr result IsOfTables }
         ensures order { order_of self.new ≡ order_of self.old }
         ensures tables { self.new.l2 ≡ self.old.l2 }
+        ensures blocks { AreClean (refblocks self.old) → AreClean (refblocks self.new) }
         ensures first { OnOk result (TablesMayGo (order_of self.new) (refblocks self.new)) }
         ensures marks { KeepsMarks self.old self.new }
         ensures faults { (h : HeaderFields) → RefusesBy IsFault S.view storage.old self.old h result }
@@ -260,6 +262,10 @@ impl<S: Storage> MetadataCaches<S> {
         ensures marks { KeepsMarks self.old self.new }
         ensures refusals { PutRefusesBy (IsInUseOrFault self.old) S.view storage.old self.old (λ h. IsTableOf h table) table.cluster table.bytes table.is_modified result }
         ensures keeps { PutSound S.view storage.old self.old storage.new self.new (λ h. IsTableOf h table) table.cluster table.bytes table.is_modified }
+        ensures clean { AreClean (l2_tables self.old) → IsFalse table.is_modified → AreClean (l2_tables self.new) }
+        ensures blocks { AreClean (refblocks self.old) → AreClean (refblocks self.new) }
+        ensures first { BlocksMayGo (order_of self.old) (l2_tables self.old) → IsFalse table.is_modified → BlocksMayGo (order_of self.new) (l2_tables self.new) }
+        ensures may_go { TablesMayGo (order_of self.old) (refblocks self.old) → TablesMayGo (order_of self.new) (refblocks self.new) }
     {
         let Some(cluster) = table.get_cluster() else {
             unreachable!();
