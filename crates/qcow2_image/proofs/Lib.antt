@@ -34,3 +34,4 @@ pub mod Opening
 pub mod Clearing
 pub mod Writable
 pub mod PreparedAs
+pub mod Storing
