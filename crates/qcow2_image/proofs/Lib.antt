@@ -34,3 +34,6 @@ pub mod Reftables
 pub mod Opening
 pub mod Clearing
 pub mod Tidying
+pub mod Writable
+pub mod PreparedAs
+pub mod Storing

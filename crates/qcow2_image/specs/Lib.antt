@@ -10,3 +10,4 @@ pub mod NewTables
 pub mod Found
 pub mod Parts
 pub mod Opened
+pub mod Preparing
