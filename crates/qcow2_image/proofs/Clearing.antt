@@ -1,8 +1,9 @@
 -- The autoclear bits are cleared beside caches that hold nothing modified: the file is as sound as before, and has the same tables.
-use Rattle.std.proofs.Common.{◌≡◌, ◌≢◌, inl, inr, ℕ, ◌+◌, ◌/◌, ◌<◌, List, refl, sym, ap, ◌∙◌, subst, arith}
+use Rattle.std.proofs.Common.{◌≡◌, ◌≢◌, inl, inr, ℕ, ◌+◌, ◌/◌, ◌<◌, List, [], Result, refl, sym, ap, ◌∙◌, subst, arith}
 use Rattle.std.proofs.lemmas.Bool.{cases_eq}
 use Rattle.image_access.specs.Backing.{BackingView}
-use Rattle.image_access.specs.Moments.{StorageView}
+use Rattle.image_access.specs.declared.error.StorageError.{StorageError}
+use Rattle.image_access.specs.Moments.{StorageView, Calls, Changes}
 use Rattle.qcow2_metadata.specs.Bytes.{Bytes, byte_at}
 use Rattle.qcow2_metadata.specs.declared.header.HeaderFields.{HeaderFields}
 use Rattle.qcow2_metadata.specs.Header.{HeaderView, header, cluster_size, with_fields, without_autoclear}
@@ -12,21 +13,23 @@ use Rattle.qcow2_metadata.specs.Entries.{l1_entry, reftable_entry, host_offset, 
 use Rattle.qcow2_metadata.specs.Named.{in_cluster, named_for_tables, named_by_l1_table, named_by_reftable}
 use Rattle.qcow2_laws.specs.Caches.{IsKept, HasL2, HasBlock, AreSettled}
 use Rattle.qcow2_laws.specs.Guard.{Pending, IsGuarded, SameIn}
+use Rattle.qcow2_laws.specs.Stops.{IsKeptAt}
 use Rattle.qcow2_laws.specs.Tops.{WritesHeader, resized}
 use Rattle.qcow2_laws.proofs.Blocks.{table_once}
 use Rattle.qcow2_laws.proofs.Consistency.{in_own}
 use Rattle.qcow2_laws.proofs.Headers.{header_sizes, header_fixed, header_same, header_reftable}
 use Rattle.qcow2_laws.proofs.HeaderWrites.{autoclear_beside}
 use Rattle.qcow2_laws.proofs.KeptSteps.{kept_beside}
+use Rattle.qcow2_laws.proofs.Leads.{endures_none, endures_write}
 use Rattle.qcow2_laws.proofs.Shares.{shares, first_l1, table_has, block_has}
 use Rattle.qcow2_laws.proofs.Steps.{header_is_written}
 use Rattle.qcow2_alloc.specs.declared.image_file.ImageFile.{ImageFile}
 use Rattle.qcow2_alloc.specs.declared.image_storage.ImageStorage.{ImageStorage}
-use Rattle.qcow2_alloc.specs.ImageFile.{view_in, contents_in, known_in, stand_in}
+use Rattle.qcow2_alloc.specs.ImageFile.{nothing_given, view_in, contents_in, known_in, stand_in}
 use Rattle.qcow2_alloc.specs.ImageStorage.{storage_of}
 use Rattle.qcow2_alloc.specs.MetadataCaches.{HasFormat, order_of, l2_tables, refblocks, known_of, AreSound}
 use Rattle.qcow2_alloc.proofs.KeptTables.Loaded.{loaded_beside}
-use Rattle.qcow2_image.specs.Opened.{IsFresh, StaysFresh}
+use Rattle.qcow2_image.specs.Opened.{IsFresh, StaysFresh, IsKeptSince}
 
 -- the format isn't told by the autoclear bits
 format_cleared : (g h : HeaderFields) → HasFormat g h → HasFormat g (without_autoclear h)
@@ -152,3 +155,19 @@ module _ {S F : Type 0} (view : S → StorageView) (backing : F → BackingView)
             subst (StaysFresh view backing p file) (sym same) (record { fresh = fresh; l1_table = λ t has. has; reftable = λ t has. has })
         | inr some ↦ stays_cleared storage (honest fresh.sound.honest) (written some fresh.sound.honest) fields (reads some fresh.header)
       ])
+
+  -- whatever the storage answers
+  pub kept_after : {T : Type 0} (result : Result T StorageError) (storage : ImageStorage S) → (file.header.fields.autoclear ≢ 0 → Changes (view_in view file) (view (storage_of storage)) result (autoclear_cleared (view_in view file).contents))
+      → (file.header.fields.autoclear ≡ 0 → storage ≡ file.storage) → Calls (view_in view file) (view (storage_of storage)) result
+      → header (byte_at (autoclear_cleared (view_in view file).contents)) ≡ without_autoclear (header (byte_at (view_in view file).contents))
+      → (file.header.fields.autoclear ≢ 0 → IsHeaderIn file.header (view_in view file).contents → IsHeaderIn (with_fields file.header (without_autoclear file.header.fields)) (autoclear_cleared (view_in view file).contents))
+      → IsKeptSince (view_in view file) (view (storage_of storage))
+  kept_after result storage written untouched call fields reads = elim (cases_eq file.header.fields.autoclear 0) [
+    | inl none ↦ subst (λ (s : ImageStorage S). IsKeptSince (view_in view file) (view (storage_of s))) (sym (untouched none)) (endures_none (view_in view file) base)
+    | inr some ↦
+        let new = autoclear_cleared (view_in view file).contents in
+        let writes = autoclear_beside h (order_of file.caches) p (l2_tables file.caches) (refblocks file.caches) (view_in view file).contents kept (with_fields file.header h') fields (reads some fresh.header) in
+        let leads = header_is_written.same_size (stand_in view file p) (byte_at new) (known_of h file.caches (byte_at new)) 0 kept.guarded writes in
+        endures_write (view_in view file) (view (storage_of storage)) base nothing_given [] new call (written some) fresh.sound.honest
+        (λ backing m ok known_ok. leads.base backing m ok (subst (IsKeptAt backing m) (sym (fresh.clean base)) ok))
+  ]

@@ -49,10 +49,12 @@ impl<S: Storage, F: WrappedFormat<S>> Qcow2<S, F> {
     ghost use Rattle.qcow2_alloc.specs.ImageFile.{contents_in, known_in};
     ghost use Rattle.qcow2_image.specs.Steps.{Keeps};
     ghost use Rattle.qcow2_image.specs.Refusals.{unusable, IsMet, Marks, failed_after};
-    ghost use Rattle.image_access.specs.Moments.{Keeps as ContentsStay};
+    ghost use Rattle.image_access.specs.Moments.{Keeps as ContentsStay, Passing};
+    ghost use Rattle.qcow2_metadata.specs.Bytes.{byte_at};
+    ghost use Rattle.qcow2_metadata.specs.Consistent.{IsConsistent};
     ghost use Rattle.qcow2_alloc.specs.ImageFile.{view_in, HasReftable};
     ghost use Rattle.qcow2_image.specs.Views.{HasL1Table};
-    ghost use Rattle.qcow2_image.specs.Opened.{IsFresh, StaysFresh, IsLoaded, Opens};
+    ghost use Rattle.qcow2_image.specs.Opened.{IsFresh, StaysFresh, IsLoaded, IsKeptSince, storage_after, Opens};
     ghost use Rattle.std.specs.Option.{is_some};
 
     /// Whether the first bytes of a storage are those of an image of version 2 or 3.
@@ -72,6 +74,7 @@ impl<S: Storage, F: WrappedFormat<S>> Qcow2<S, F> {
         number: u64,
     ) -> Result<Qcow2<S, F>, (S, ImageError)>
         ensures opens { IfOk result (Opens S.view F.backing (S.view metadata)) }
+        ensures since { (S.view metadata).is_honest → IsConsistent (byte_at (S.view metadata).contents) → IsKeptSince (S.view metadata) (S.view (storage_after result)) }
         ensures ok { IfOk result (λ image. (number_of image ≡ number) × (is_failed image ≡ false) × (is_writable image ≡ writable)) }
     {
         let mut storage = ImageStorage::new(metadata);
@@ -113,6 +116,7 @@ impl<S: Storage, F: WrappedFormat<S>> Qcow2<S, F> {
         ensures rest { file.new ≡ record file.old { storage = file.new.storage } }
         ensures honest { (view_in S.view file.old).is_honest → (view_in S.view file.new).is_honest }
         ensures same { ContentsStay (view_in S.view file.old) (view_in S.view file.new) }
+        ensures time { Passing (view_in S.view file.old) (view_in S.view file.new) (λ c. c ≡ (view_in S.view file.new).contents) }
         ensures table { (view_in S.view file.old).is_honest → IfOk result (HasL1Table S.view F.backing file.new) }
     {
         let bits = file.header.cluster_bits();
@@ -135,6 +139,7 @@ impl<S: Storage, F: WrappedFormat<S>> Qcow2<S, F> {
 
     // For writing the reftable is loaded, and the autoclear bits are cleared last.
     fn load_allocator(file: &mut ImageFile<S>) -> Result<Allocator, ImageError>
+        ensures since { (p : Pending) → IsFresh S.view F.backing p file.old → IsKeptSince (view_in S.view file.old) (view_in S.view file.new) }
         ensures loaded { (p : Pending) → IsFresh S.view F.backing p file.old → IfOk result (λ allocator. StaysFresh S.view F.backing p file.old file.new × HasReftable S.view file.new allocator.reftable) }
     {
         let allocator = Allocator::new(file)?;
@@ -146,6 +151,7 @@ impl<S: Storage, F: WrappedFormat<S>> Qcow2<S, F> {
     // Loads the L1 table and, for writing, the reftable.
     fn load_tables(file: &mut ImageFile<S>, writable: bool) -> Result<Tables, ImageError>
         ensures allocator { IfOk result (λ tables. is_some tables.allocator ≡ writable) }
+        ensures since { (p : Pending) → IsFresh S.view F.backing p file.old → IsKeptSince (view_in S.view file.old) (view_in S.view file.new) }
         ensures loaded { (p : Pending) → IsFresh S.view F.backing p file.old → IfOk result (λ tables. IsLoaded S.view F.backing p file.new tables.l1_table tables.allocator) }
     {
         let l1_table = Self::load_l1_table(file)?;
