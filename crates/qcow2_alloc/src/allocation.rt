@@ -124,12 +124,16 @@ impl Allocator {
     }
 
     /// How many clusters couldn't be freed, up to the greatest `u64`.
-    pub fn leaked_clusters(&self) -> u64 {
+    pub fn leaked_clusters(&self) -> u64
+        ensures { result ≡ self.now.leaked_clusters }
+    {
         self.leaked_clusters
     }
 
     /// No cluster below this one has count 0.
-    pub fn first_free_cluster(&self) -> HostCluster {
+    pub fn first_free_cluster(&self) -> HostCluster
+        ensures { result ≡ self.now.first_free_cluster }
+    {
         HostCluster::new(self.first_free_cluster)
     }
 

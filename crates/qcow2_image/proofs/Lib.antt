@@ -31,4 +31,9 @@ pub mod Preparing
 pub mod PrepareCalls
 pub mod Reftables
 pub mod Opening
+pub mod HeaderKept
+pub mod Numbers
+pub mod Resized
+pub mod LongerTables
 pub mod Clearing
+pub mod Probing

@@ -10,3 +10,5 @@ pub mod NewTables
 pub mod Found
 pub mod Parts
 pub mod Opened
+pub mod Created
+pub mod Growing

@@ -39,7 +39,7 @@ impl<S: Storage, F: WrappedFormat<S>> Qcow2<S, F> {
     ghost use Rattle.std.specs.String.{string_bytes};
     ghost use Rattle.qcow2_metadata.specs.Header.{cluster_size};
     ghost use Rattle.qcow2_alloc.specs.declared.error.ImageError.TheVariants.{Failed, Memory};
-    ghost use Rattle.qcow2_image.specs.Image.{storage_of_image, Stays, IsSameImage, is_failed, is_writable, is_external, number_of, size_of};
+    ghost use Rattle.qcow2_image.specs.Image.{storage_of_image, Stays, IsSameImage, is_failed, is_writable, is_external, leaked_in, number_of, size_of};
     ghost use Rattle.std.specs.Prelude.{List, Option};
     ghost use Rattle.qcow2_laws.specs.Views.{guest_of};
     ghost use Rattle.qcow2_image.specs.declared.prepared.Prepared.{Prepared};
@@ -54,11 +54,18 @@ impl<S: Storage, F: WrappedFormat<S>> Qcow2<S, F> {
     ghost use Rattle.qcow2_metadata.specs.Consistent.{IsConsistent};
     ghost use Rattle.qcow2_alloc.specs.ImageFile.{view_in, HasReftable};
     ghost use Rattle.qcow2_image.specs.Views.{HasL1Table};
+    ghost use Rattle.qcow2_image.specs.Created.{begins_image};
     ghost use Rattle.qcow2_image.specs.Opened.{IsFresh, StaysFresh, IsLoaded, IsKeptSince, storage_after, Opens};
     ghost use Rattle.std.specs.Option.{is_some};
 
     /// Whether the first bytes of a storage are those of an image of version 2 or 3.
-    pub fn probe(storage: &mut S) -> Result<bool, ImageError> {
+    pub fn probe(storage: &mut S) -> Result<bool, ImageError>
+        ensures answer { (S.view storage.old).is_honest → IfOk result (λ found. found ≡ begins_image (byte_at (S.view storage.old).contents)) }
+        ensures same { ContentsStay (S.view storage.old) (S.view storage.new) }
+        ensures honest { (S.view storage.old).is_honest → (S.view storage.new).is_honest }
+        ensures time { Passing (S.view storage.old) (S.view storage.new) (λ c. c ≡ (S.view storage.new).contents) }
+        ensures cause { IfErr result IsMet }
+    {
         let mut first = [0u8; 8];
         storage.read(0, &mut first)?;
         let magic = u32::from_be_bytes([first[0], first[1], first[2], first[3]]);
@@ -251,7 +258,9 @@ impl<S: Storage, F: WrappedFormat<S>> Qcow2<S, F> {
     }
 
     /// How many clusters couldn't be freed, up to the greatest `u64`.
-    pub fn leaked_clusters(&self) -> u64 {
+    pub fn leaked_clusters(&self) -> u64
+        ensures { result ≡ leaked_in self.now }
+    {
         match &self.allocator {
             Some(allocator) => allocator.leaked_clusters(),
             None => 0,
