@@ -35,5 +35,7 @@ pub mod HeaderKept
 pub mod Numbers
 pub mod Resized
 pub mod LongerTables
+pub mod NamedL1
+pub mod Grown
 pub mod Clearing
 pub mod Probing

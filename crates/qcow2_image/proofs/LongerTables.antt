@@ -16,8 +16,8 @@ use Rattle.qcow2_metadata.specs.Named.{in_run}
 use Rattle.qcow2_metadata.specs.TableBytes.{entry_at}
 use Rattle.qcow2_metadata.proofs.WrittenTables.{IsL1TableOf-written}
 use Rattle.qcow2_laws.specs.Caches.{AreClean, BlocksMayGo}
-use Rattle.qcow2_laws.specs.Guard.{Pending, SameIn}
-use Rattle.qcow2_laws.specs.Leads.{Endures}
+use Rattle.qcow2_laws.specs.Clusters.{RbDependsOnL2}
+use Rattle.qcow2_laws.specs.Guard.{Pending, SameCovers, SameIn}
 use Rattle.qcow2_laws.specs.Tops.{with_places, with_l1_at}
 use Rattle.qcow2_laws.specs.Writes.{IsUnnamed}
 use Rattle.qcow2_laws.proofs.Beside.{overwritten_but}
@@ -27,13 +27,13 @@ use Rattle.qcow2_laws.proofs.Steps.{data_is_written}
 use Rattle.qcow2_alloc.specs.declared.allocation.Allocator.{Allocator}
 use Rattle.qcow2_alloc.specs.declared.image_storage.ImageStorage.{ImageStorage}
 use Rattle.qcow2_alloc.specs.Allocation.{run_at}
-use Rattle.qcow2_alloc.specs.ImageFile.{nothing_given, view_in, contents_in, known_in, stand_in, HasReftable}
+use Rattle.qcow2_alloc.specs.ImageFile.{view_in, contents_in, known_in, stand_in, IsSoundFile, HasReftable}
 use Rattle.qcow2_alloc.specs.ImageStorage.{storage_of}
 use Rattle.qcow2_alloc.specs.MetadataCaches.{order_of, l2_tables, refblocks}
 use Rattle.qcow2_alloc.proofs.FileWrites.{moves_written, reftable_written}
 use Rattle.qcow2_alloc.proofs.KeptTables.Getting.{cluster_aligned}
 use Rattle.qcow2_alloc.proofs.KeptTables.Standing.{own_cluster}
-use Rattle.qcow2_alloc.proofs.PlacedBlocks.{covers_written, file_sizes}
+use Rattle.qcow2_alloc.proofs.PlacedBlocks.{IsFree, covers_written, file_sizes}
 use Rattle.qcow2_image.specs.declared.image.Qcow2.{Qcow2}
 use Rattle.qcow2_image.specs.Growing.{with_table, clusters_of, IsLonger, StandsWhole}
 use Rattle.qcow2_image.specs.Steps.{Keeps}
@@ -54,6 +54,19 @@ table_write_as view t cluster bits t' result asked after is same wrote =
     subst (λ n. Changes (view asked) (view after) result (overwritten (view asked).contents (cluster * 2 ^ n) t.bytes)) same
     (subst (λ (u : EntryTableView). IfSome u.cluster (λ k. Changes (view asked) (view after) result (overwritten (view asked).contents (k * 2 ^ u.cluster_bits) u.bytes))) is wrote)
 
+-- nothing names clusters that were taken for a table, and none is held for data
+pub run_free : {S F : Type 0} (view : S → StorageView) (p : Pending) (image : Qcow2 S F) (t : EntryTableView) (cluster : ℕ) → IsSoundFile view (with_table p t cluster) image.file → t.cluster_bits ≡ image.file.header.fields.cluster_bits
+    → (order_of image.file.caches ≡ RbDependsOnL2 → SameCovers image.file.header.fields (contents_in view image.file) (known_in view image.file))
+    → (c : ℕ) → 0 < in_run image.file.header.fields c (cluster * cluster_size image.file.header.fields) (length t.bytes) → IsFree view (with_table p t cluster) image.file c
+run_free view p image t cluster sound bits covers c some =
+    let h = image.file.header.fields in
+    let run = same_run h t cluster c bits in
+    let guarded = sound.caches.kept.kept.guarded in
+    let fresh : 0 < p.fresh c + run_at cluster (clusters_of t) c = omega (arith, run, some) in
+    let tally = (guarded.always c).tally in
+    let few = (guarded.always c).pending (omega (arith, fresh)) in
+    record { unnamed = data_is_written.fresh (stand_in view image.file (with_table p t cluster)) c guarded fresh covers; unheld = omega (arith, tally, few, fresh) }
+
 module _ {S F : Type 0} (view : S → StorageView) (backing : F → BackingView) (p : Pending) (image : Qcow2 S F) (t : EntryTableView) (cluster : ℕ) (sound : IsSoundAt view backing (with_table p t cluster) image [])
     (longer : IsLonger image t) (clean : AreClean (refblocks image.file.caches)) (may : BlocksMayGo (order_of image.file.caches) (l2_tables image.file.caches)) where
   abbrev h : HeaderFields
@@ -64,16 +77,6 @@ module _ {S F : Type 0} (view : S → StorageView) (backing : F → BackingView)
 
   abbrev place : ℕ
   place = cluster * cluster_size image.file.header.fields
-
-  -- nothing names its clusters, and none is held for data
-  pub run_free : (c : ℕ) → 0 < in_run h c place (length t.bytes) → IsUnnamed h (contents_in view image.file) (known_in view image.file) c × (q.held c ≡ 0)
-  run_free c some =
-      let run = same_run h t cluster c longer.bits in
-      let guarded = sound.file.caches.kept.kept.guarded in
-      let fresh : 0 < p.fresh c + run_at cluster (clusters_of t) c = omega (arith, run, some) in
-      let tally = (guarded.always c).tally in
-      let few = (guarded.always c).pending (omega (arith, fresh)) in
-      (data_is_written.fresh (stand_in view image.file q) c guarded fresh (covers_written view q image.file sound.file may), omega (arith, tally, few, fresh))
 
   module _ (asked after : S) (result : Result (Unit {0}) StorageError) (same : asked ≡ storage_of image.file.storage)
       (wrote : Changes (view asked) (view after) result (overwritten (view asked).contents (cluster * 2 ^ image.file.header.fields.cluster_bits) t.bytes)) (called : Calls (view asked) (view after) result) where
@@ -100,7 +103,7 @@ module _ {S F : Type 0} (view : S → StorageView) (backing : F → BackingView)
 
     each : (c : ℕ) → SameIn (cluster_size h) c (contents_in view image.file) (byte_at (view after).contents) ⊎ (IsUnnamed h (contents_in view image.file) (known_in view image.file) c × (q.held c ≡ 0))
     each c = elim (cases_lt 0 (in_run h c place (length t.bytes))) [
-      | inl some ↦ inr (run_free c some)
+      | inl some ↦ let free = run_free view p image t cluster sound.file longer.bits (λ ordered. covers_written view q image.file sound.file may ordered) c some in inr (free.unnamed, free.unheld)
       | inr none ↦ inl (elim (whole_or_nothing result (view_in view image.file).contents (overwritten (view_in view image.file).contents place t.bytes) (view after).contents (writes sound.file.honest)) [
         | inl still ↦ λ o in_c. ap (λ (l : List ℕ). byte_at l o) (sym still)
         | inr new ↦ λ o in_c. outside c none o in_c ∙ ap (λ (l : List ℕ). byte_at l o) (sym new)

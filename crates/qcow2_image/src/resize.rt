@@ -1,13 +1,10 @@
 //! A larger disk.
-ghost use Rattle.std.specs.Prelude.{◌≡◌, ◌+◌, ◌*◌, ◌/◌, ◌^◌, ◌<◌, ◌≤◌, ◌++◌, IfOk, OnOk, IsSome};
-ghost use Rattle.qcow2_metadata.specs.Header.{with_fields, with_size};
-ghost use Rattle.qcow2_metadata.specs.EntryTable.{entry_count};
+ghost use Rattle.std.specs.Prelude.{◌≡◌, ◌<◌, ◌++◌, Some, [], IfOk, OnOk};
 ghost use Rattle.qcow2_metadata.specs.L2Mapping.{IsHostCluster};
 ghost use Rattle.qcow2_laws.specs.Guard.{Pending};
 ghost use Rattle.qcow2_image.specs.Growing.{run_of_table, listed, with_table, IsLonger, StandsWhole, PlacesTable, NamesTable, TakesTable, Lengthens, Resizes, Grows};
-ghost use Rattle.qcow2_image.specs.Image.{size_of};
+ghost use Rattle.qcow2_image.specs.Steps.{ListGrows};
 ghost use Rattle.qcow2_image.specs.Views.{IsSoundAt, seen};
-ghost use Rattle.std.specs.Prelude.{[]};
 
 use crate::Qcow2;
 use image_access::{Storage, WrappedFormat};
@@ -38,6 +35,7 @@ impl<S: Storage, F: WrappedFormat<S>> Qcow2<S, F> {
     fn grow_to(&mut self, size: u64) -> Result<(), ImageError>
         requires { 0 < size }
         ensures resizes { (p : Pending) → IsSoundAt S.view F.backing p self.old [] → Resizes S.view F.backing p self.old self.new size result }
+        ensures list { OnOk result (ListGrows self.old self.new) }
     {
         let bits = self.file.header.cluster_bits();
         self.grow_l1_table(GuestOffset::new(size - 1).l1_index(bits))?;
@@ -57,6 +55,7 @@ impl<S: Storage, F: WrappedFormat<S>> Qcow2<S, F> {
     // Makes a new L1 table that has an entry of this index, with all old entries. The old one is to be freed.
     fn grow_l1_table(&mut self, index: usize) -> Result<(), ImageError>
         ensures lengthens { (p : Pending) → IsSoundAt S.view F.backing p self.old [] → Lengthens S.view F.backing p self.old self.new result }
+        ensures list { OnOk result (ListGrows self.old self.new) }
     {
         if index >= MAX_L1_ENTRIES {
             return Err(ImageError::Limit);
@@ -130,9 +129,9 @@ impl<S: Storage, F: WrappedFormat<S>> Qcow2<S, F> {
         cluster: HostCluster,
     ) -> Result<(), ImageError>
         ensures places { (p : Pending) → IsSoundAt S.view F.backing (with_table p table.old cluster) self.old [] → IsLonger self.old table.old → PlacesTable S.view F.backing (with_table p table.old cluster) self.old self.new table.new cluster result }
-        ensures bytes { OnOk result (table.new.bytes ≡ table.old.bytes) }
-        ensures list { self.new.file.free_list ≡ self.old.file.free_list }
+        ensures table { OnOk result (table.new ≡ record table.old { cluster = Some cluster }) }
         ensures header { self.new.file.header ≡ self.old.file.header }
+        ensures list { self.new.file.free_list ≡ self.old.file.free_list }
     {
         if !cluster.is_nameable(table.cluster_bits()) {
             return Err(ImageError::Limit);
