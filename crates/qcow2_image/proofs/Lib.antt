@@ -32,8 +32,15 @@ pub mod Refused
 pub mod PrepareCalls
 pub mod Reftables
 pub mod Opening
+pub mod HeaderKept
+pub mod Numbers
+pub mod Resized
+pub mod LongerTables
+pub mod NamedL1
+pub mod Grown
 pub mod Clearing
 pub mod Tidying
 pub mod Writable
 pub mod PreparedAs
 pub mod Storing
+pub mod Probing

@@ -11,3 +11,5 @@ pub mod Found
 pub mod Parts
 pub mod Opened
 pub mod Preparing
+pub mod Created
+pub mod Growing

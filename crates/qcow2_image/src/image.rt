@@ -39,7 +39,7 @@ impl<S: Storage, F: WrappedFormat<S>> Qcow2<S, F> {
     ghost use Rattle.std.specs.String.{string_bytes};
     ghost use Rattle.qcow2_metadata.specs.Header.{cluster_size};
     ghost use Rattle.qcow2_alloc.specs.declared.error.ImageError.TheVariants.{Failed, Memory};
-    ghost use Rattle.qcow2_image.specs.Image.{storage_of_image, HasNothingToFree, Stays, KeepsRest, IsSameImage, is_failed, is_writable, is_external, number_of, size_of};
+    ghost use Rattle.qcow2_image.specs.Image.{storage_of_image, HasNothingToFree, Stays, KeepsRest, IsSameImage, is_failed, is_writable, is_external, leaked_in, number_of, size_of};
     ghost use Rattle.std.specs.Prelude.{List, Option};
     ghost use Rattle.qcow2_laws.specs.Views.{guest_of};
     ghost use Rattle.qcow2_image.specs.declared.prepared.Prepared.{Prepared};
@@ -50,14 +50,23 @@ impl<S: Storage, F: WrappedFormat<S>> Qcow2<S, F> {
     ghost use Rattle.qcow2_image.specs.Steps.{Keeps, FreesListed};
     ghost use Rattle.qcow2_alloc.specs.FreeList.{with_listed};
     ghost use Rattle.qcow2_image.specs.Refusals.{unusable, IsMet, Marks, failed_after};
-    ghost use Rattle.image_access.specs.Moments.{Keeps as ContentsStay};
+    ghost use Rattle.image_access.specs.Moments.{Keeps as ContentsStay, Passing};
+    ghost use Rattle.qcow2_metadata.specs.Bytes.{byte_at};
+    ghost use Rattle.qcow2_metadata.specs.Consistent.{IsConsistent};
     ghost use Rattle.qcow2_alloc.specs.ImageFile.{view_in, HasReftable};
     ghost use Rattle.qcow2_image.specs.Views.{HasL1Table};
-    ghost use Rattle.qcow2_image.specs.Opened.{IsFresh, StaysFresh, IsLoaded, Opens};
+    ghost use Rattle.qcow2_image.specs.Created.{begins_image};
+    ghost use Rattle.qcow2_image.specs.Opened.{IsFresh, StaysFresh, IsLoaded, IsKeptSince, storage_after, Opens};
     ghost use Rattle.std.specs.Option.{is_some};
 
     /// Whether the first bytes of a storage are those of an image of version 2 or 3.
-    pub fn probe(storage: &mut S) -> Result<bool, ImageError> {
+    pub fn probe(storage: &mut S) -> Result<bool, ImageError>
+        ensures answer { (S.view storage.old).is_honest → IfOk result (λ found. found ≡ begins_image (byte_at (S.view storage.old).contents)) }
+        ensures same { ContentsStay (S.view storage.old) (S.view storage.new) }
+        ensures honest { (S.view storage.old).is_honest → (S.view storage.new).is_honest }
+        ensures time { Passing (S.view storage.old) (S.view storage.new) (λ c. c ≡ (S.view storage.new).contents) }
+        ensures cause { IfErr result IsMet }
+    {
         let mut first = [0u8; 8];
         storage.read(0, &mut first)?;
         let magic = u32::from_be_bytes([first[0], first[1], first[2], first[3]]);
@@ -73,6 +82,7 @@ impl<S: Storage, F: WrappedFormat<S>> Qcow2<S, F> {
         number: u64,
     ) -> Result<Qcow2<S, F>, (S, ImageError)>
         ensures opens { IfOk result (Opens S.view F.backing (S.view metadata)) }
+        ensures since { (S.view metadata).is_honest → IsConsistent (byte_at (S.view metadata).contents) → IsKeptSince (S.view metadata) (S.view (storage_after result)) }
         ensures ok { IfOk result (λ image. (number_of image ≡ number) × (is_failed image ≡ false) × (is_writable image ≡ writable)) }
     {
         let mut storage = ImageStorage::new(metadata);
@@ -114,6 +124,7 @@ impl<S: Storage, F: WrappedFormat<S>> Qcow2<S, F> {
         ensures rest { file.new ≡ record file.old { storage = file.new.storage } }
         ensures honest { (view_in S.view file.old).is_honest → (view_in S.view file.new).is_honest }
         ensures same { ContentsStay (view_in S.view file.old) (view_in S.view file.new) }
+        ensures time { Passing (view_in S.view file.old) (view_in S.view file.new) (λ c. c ≡ (view_in S.view file.new).contents) }
         ensures table { (view_in S.view file.old).is_honest → IfOk result (HasL1Table S.view F.backing file.new) }
     {
         let bits = file.header.cluster_bits();
@@ -136,6 +147,7 @@ impl<S: Storage, F: WrappedFormat<S>> Qcow2<S, F> {
 
     // For writing the reftable is loaded, and the autoclear bits are cleared last.
     fn load_allocator(file: &mut ImageFile<S>) -> Result<Allocator, ImageError>
+        ensures since { (p : Pending) → IsFresh S.view F.backing p file.old → IsKeptSince (view_in S.view file.old) (view_in S.view file.new) }
         ensures loaded { (p : Pending) → IsFresh S.view F.backing p file.old → IfOk result (λ allocator. StaysFresh S.view F.backing p file.old file.new × HasReftable S.view file.new allocator.reftable) }
     {
         let allocator = Allocator::new(file)?;
@@ -147,6 +159,7 @@ impl<S: Storage, F: WrappedFormat<S>> Qcow2<S, F> {
     // Loads the L1 table and, for writing, the reftable.
     fn load_tables(file: &mut ImageFile<S>, writable: bool) -> Result<Tables, ImageError>
         ensures allocator { IfOk result (λ tables. is_some tables.allocator ≡ writable) }
+        ensures since { (p : Pending) → IsFresh S.view F.backing p file.old → IsKeptSince (view_in S.view file.old) (view_in S.view file.new) }
         ensures loaded { (p : Pending) → IsFresh S.view F.backing p file.old → IfOk result (λ tables. IsLoaded S.view F.backing p file.new tables.l1_table tables.allocator) }
     {
         let l1_table = Self::load_l1_table(file)?;
@@ -246,7 +259,9 @@ impl<S: Storage, F: WrappedFormat<S>> Qcow2<S, F> {
     }
 
     /// How many clusters couldn't be freed, up to the greatest `u64`.
-    pub fn leaked_clusters(&self) -> u64 {
+    pub fn leaked_clusters(&self) -> u64
+        ensures { result ≡ leaked_in self.now }
+    {
         match &self.allocator {
             Some(allocator) => allocator.leaked_clusters(),
             None => 0,
