@@ -32,3 +32,4 @@ pub mod PrepareCalls
 pub mod Reftables
 pub mod Opening
 pub mod Clearing
+pub mod Free
