@@ -2,7 +2,7 @@ use Rattle.std.proofs.Common.{refl, ap, sym, subst}
 use Rattle.qcow2_laws.proofs.RunSteps.{done_as, refused_as, flushed_as, none_as}
 use Rattle.qcow2_session.specs.Commands.{command_of}
 use Rattle.qcow2_session.specs.Sessions.{Steps}
-use Rattle.qcow2_session.proofs.Free.{whole}
+use Rattle.qcow2_image.proofs.Free.{whole}
 use Rattle.qcow2_session.proofs.session.step.Goals as goal
 
 pub returns-in-Ok-clause-goes : goal.returns-in-Ok-clause-goes
