@@ -1,7 +1,7 @@
 -- One call is one step of a run.
 use Rattle.std.proofs.Common.{◌≡◌, ◌⊎◌, ⊎_elim, inl, inr, ℕ, List, [], ◌∷◌, ◌++◌, Bool, true, false, IsTrue, refl, sym, ap, ◌∙◌, subst, Option, None}
 use mathlib.Core.Path.{fun_ext}
-use Rattle.image_access.specs.Moments.{StorageView, Passing}
+use Rattle.image_access.specs.Moments.{Passing}
 use Rattle.image_access.proofs.Passing.{passes_none, passes_if, passes_more, passes_on, since_start as since_began}
 use Rattle.qcow2_metadata.specs.Bytes.{Bytes, byte_at}
 use Rattle.qcow2_metadata.specs.Consistent.{IsConsistent}
@@ -10,7 +10,7 @@ use Rattle.qcow2_laws.specs.Stops.{Gift, Mark, marked, more, IsKeptAt, IsStopAt}
 use Rattle.qcow2_laws.specs.Mappings.{PreparedMapping}
 use Rattle.qcow2_laws.specs.Views.{Setting, Guest, Spec, View, view, guest_of, contents_of, IsWhole}
 use Rattle.qcow2_laws.specs.Calls.{Refusal, Acts, Does, Refuses, IsFault, Works, Rests, Stops}
-use Rattle.qcow2_laws.specs.Runs.{Command, Reply, Found, Means, IsFaultReply, State, Step, Run, IsSafeWhile, IsSafeAlong, IsStopIn, StandsAt, Goes, Ran, Completes, MeansTheDisk, started, mark_in, mark_after, stepped, given_by, asked_by, flush, done}
+use Rattle.qcow2_laws.specs.Runs.{Command, Reply, Found, Means, IsFaultReply, State, Step, Run, IsSafeWhile, IsAsSaid, HoldsAlong, IsStopIn, StandsAt, Goes, Ran, Completes, MeansTheDisk, started, mark_in, mark_after, stepped, given_by, asked_by, flush, done}
 use Rattle.qcow2_laws.proofs.Stops.{stop_of_kept, stop_more, kept_more}
 
 bool_cases : (b : Bool) → (b ≡ true) ⊎ (b ≡ false)
@@ -231,34 +231,40 @@ Run-push x old mid new (c ∷ commands) (r ∷ replies) command reply run step =
 Run-push x old mid new [] (r ∷ replies) command reply run step = absurd run
 Run-push x old mid new (c ∷ commands) [] command reply run step = absurd run
 
-module _ {D : Type 0} (storage : D → StorageView) (x : Setting) where
-  -- so do its moments
-  stops_push : (old mid new : D) (s t end : State) (commands : List Command) (replies : List Reply) (command : Command) (reply : Reply) (run : Run x s commands replies t) (step : Step x t command reply end)
-      → IsSafeAlong storage x old mid s t commands replies run → IsSafeWhile x.backing (storage mid) (storage new) t.is_failed (mark_in x t command) end.mark
-      → IsSafeAlong storage x old new s end (commands ++ command ∷ []) (replies ++ reply ∷ []) (Run-push x s t end commands replies command reply run step)
+-- an image that stands at a place of a run is as the run says
+said_at : {x : Setting} {v : View} {s : State} (before : ℕ → ℕ) → StandsAt x v s → (s.is_failed ≡ false → v.surplus ≡ before) → IsAsSaid v s before
+said_at before stands same = record { guest = stands.guest; consistent = λ ok. (stands.known ok).consistent; surplus = same }
+
+module _ {D P : Type 0} (spec : Spec D P) (x : Setting) (before : ℕ → ℕ) where
+  -- so does the image along it
+  along_push : (old mid new : D) (out : List (Option P)) (s t end : State) (commands : List Command) (replies : List Reply) (command : Command) (reply : Reply) (run : Run x s commands replies t) (step : Step x t command reply end)
+      → HoldsAlong spec x before old mid s t commands replies run → IsAsSaid (view spec new out) end before → IsSafeWhile x.backing (spec.storage mid) (spec.storage new) t.is_failed (mark_in x t command) end.mark
+      → HoldsAlong spec x before old new s end (commands ++ command ∷ []) (replies ++ reply ∷ []) (Run-push x s t end commands replies command reply run step)
   unfolding Run-push
-  stops_push old mid new s t end [] [] command reply run step same safe = (
+  along_push old mid new out s t end [] [] command reply run step same said safe = (
     new,
-    subst (λ (d : D). IsSafeWhile x.backing (storage d) (storage new) s.is_failed (mark_in x s command) end.mark) same
-        (subst (λ (r : State). IsSafeWhile x.backing (storage mid) (storage new) r.is_failed (mark_in x r command) end.mark) run safe),
+    out,
+    said,
+    subst (λ (d : D). IsSafeWhile x.backing (spec.storage d) (spec.storage new) s.is_failed (mark_in x s command) end.mark) same
+        (subst (λ (r : State). IsSafeWhile x.backing (spec.storage mid) (spec.storage new) r.is_failed (mark_in x r command) end.mark) run safe),
     refl,
   )
-  stops_push old mid new s t end (c ∷ commands) (r ∷ replies) command reply run step so_far safe =
-      (so_far.0, so_far.1, stops_push so_far.0 mid new run.0 t end commands replies command reply run.2 step so_far.2 safe)
-  stops_push old mid new s t end [] (r ∷ replies) command reply run step so_far safe = absurd run
-  stops_push old mid new s t end (c ∷ commands) [] command reply run step so_far safe = absurd run
+  along_push old mid new out s t end (c ∷ commands) (r ∷ replies) command reply run step so_far said safe =
+      (so_far.0, so_far.1, so_far.2, so_far.3, along_push so_far.0 mid new out run.0 t end commands replies command reply run.2 step so_far.4 said safe)
+  along_push old mid new out s t end [] (r ∷ replies) command reply run step so_far said safe = absurd run
+  along_push old mid new out s t end (c ∷ commands) [] command reply run step so_far said safe = absurd run
 
   -- the moments of a run fall under its commands
-  within : (old new : D) (s end : State) (commands : List Command) (replies : List Reply) (run : Run x s commands replies end) → IsSafeAlong storage x old new s end commands replies run
-      → IsStopAt x.backing s.mark (byte_at (storage old).contents) → Passing (storage old) (storage new) (λ c. IsStopIn x s end commands replies run (byte_at c))
-  within old new s end [] [] run same at = subst (λ (d : D). Passing (storage old) (storage d) (λ c. IsStopAt x.backing end.mark (byte_at c))) (sym same) (passes_none (storage old) (λ c. IsStopAt x.backing end.mark (byte_at c)))
+  within : (old new : D) (s end : State) (commands : List Command) (replies : List Reply) (run : Run x s commands replies end) → HoldsAlong spec x before old new s end commands replies run
+      → IsStopAt x.backing s.mark (byte_at (spec.storage old).contents) → Passing (spec.storage old) (spec.storage new) (λ c. IsStopIn x s end commands replies run (byte_at c))
+  within old new s end [] [] run same at = subst (λ (d : D). Passing (spec.storage old) (spec.storage d) (λ c. IsStopAt x.backing end.mark (byte_at c))) (sym same) (passes_none (spec.storage old) (λ c. IsStopAt x.backing end.mark (byte_at c)))
   within old new s end (command ∷ commands) (reply ∷ replies) run safe at =
-      let here : Passing (storage old) (storage safe.0) (λ c. IsStopAt x.backing (mark_in x s command) (byte_at c)) = elim (bool_cases s.is_failed) [
+      let here : Passing (spec.storage old) (spec.storage safe.0) (λ c. IsStopAt x.backing (mark_in x s command) (byte_at c)) = elim (bool_cases s.is_failed) [
         | inl failed ↦ passes_if (λ c. IsStopAt x.backing (mark_in x s command) (byte_at c))
-            (λ c e. subst (λ k. IsStopAt x.backing (mark_in x s command) (byte_at k)) (sym e) (stop_more x.backing (given_by x s.guest command) (asked_by command) s.mark (byte_at (storage old).contents) at)) (safe.1.silent failed)
-        | inr ok ↦ safe.1.moments ok
+            (λ c e. subst (λ k. IsStopAt x.backing (mark_in x s command) (byte_at k)) (sym e) (stop_more x.backing (given_by x s.guest command) (asked_by command) s.mark (byte_at (spec.storage old).contents) at)) (safe.3.silent failed)
+        | inr ok ↦ safe.3.moments ok
       ] in
-      passes_more here (within safe.0 new run.0 end commands replies run.2 safe.2 safe.1.at_return)
+      passes_more here (within safe.0 new run.0 end commands replies run.2 safe.4 safe.3.at_return)
   within old new s end [] (reply ∷ replies) run safe at = absurd run
   within old new s end (command ∷ commands) [] run safe at = absurd run
 
@@ -268,38 +274,38 @@ module _ {D : Type 0} (storage : D → StorageView) (x : Setting) where
   stop_at_end s end [] (reply ∷ replies) run b at = absurd run
   stop_at_end s end (command ∷ commands) [] run b at = absurd run
 
-  rest_at_end : (old new : D) (s end : State) (commands : List Command) (replies : List Reply) (run : Run x s commands replies end) → IsSafeAlong storage x old new s end commands replies run
-      → IsStopAt x.backing s.mark (byte_at (storage old).contents) → IsStopAt x.backing end.mark (byte_at (storage new).contents)
-  rest_at_end old new s end [] [] run same at = subst (λ (d : D). IsStopAt x.backing end.mark (byte_at (storage d).contents)) (sym same) (subst (λ (t : State). IsStopAt x.backing t.mark (byte_at (storage old).contents)) (sym run) at)
-  rest_at_end old new s end (command ∷ commands) (reply ∷ replies) run safe at = rest_at_end safe.0 new run.0 end commands replies run.2 safe.2 safe.1.at_return
+  rest_at_end : (old new : D) (s end : State) (commands : List Command) (replies : List Reply) (run : Run x s commands replies end) → HoldsAlong spec x before old new s end commands replies run
+      → IsStopAt x.backing s.mark (byte_at (spec.storage old).contents) → IsStopAt x.backing end.mark (byte_at (spec.storage new).contents)
+  rest_at_end old new s end [] [] run same at = subst (λ (d : D). IsStopAt x.backing end.mark (byte_at (spec.storage d).contents)) (sym same) (subst (λ (t : State). IsStopAt x.backing t.mark (byte_at (spec.storage old).contents)) (sym run) at)
+  rest_at_end old new s end (command ∷ commands) (reply ∷ replies) run safe at = rest_at_end safe.0 new run.0 end commands replies run.2 safe.4 safe.3.at_return
   rest_at_end old new s end [] (reply ∷ replies) run safe at = absurd run
   rest_at_end old new s end (command ∷ commands) [] run safe at = absurd run
 
   -- what stood at its start falls under the first, or the end
-  first_in : (old new : D) (s end : State) (commands : List Command) (replies : List Reply) (run : Run x s commands replies end) → IsSafeAlong storage x old new s end commands replies run
-      → IsStopAt x.backing s.mark (byte_at (storage old).contents) → IsStopIn x s end commands replies run (byte_at (storage old).contents)
-  first_in old new s end [] [] run same at = subst (λ (t : State). IsStopAt x.backing t.mark (byte_at (storage old).contents)) (sym run) at
-  first_in old new s end (command ∷ commands) (reply ∷ replies) run safe at = inl (stop_more x.backing (given_by x s.guest command) (asked_by command) s.mark (byte_at (storage old).contents) at)
+  first_in : (old new : D) (s end : State) (commands : List Command) (replies : List Reply) (run : Run x s commands replies end) → HoldsAlong spec x before old new s end commands replies run
+      → IsStopAt x.backing s.mark (byte_at (spec.storage old).contents) → IsStopIn x s end commands replies run (byte_at (spec.storage old).contents)
+  first_in old new s end [] [] run same at = subst (λ (t : State). IsStopAt x.backing t.mark (byte_at (spec.storage old).contents)) (sym run) at
+  first_in old new s end (command ∷ commands) (reply ∷ replies) run safe at = inl (stop_more x.backing (given_by x s.guest command) (asked_by command) s.mark (byte_at (spec.storage old).contents) at)
   first_in old new s end [] (reply ∷ replies) run safe at = absurd run
   first_in old new s end (command ∷ commands) [] run safe at = absurd run
 
   -- and none but these since its start
-  pub since_start : (old last new : D) (s end : State) (commands : List Command) (replies : List Reply) (run : Run x s commands replies end) → ((c : List ℕ) → (storage old).had_since (storage old).moment c → c ≡ (storage old).contents)
-      → IsStopAt x.backing s.mark (byte_at (storage old).contents) → IsSafeAlong storage x old last s end commands replies run → IsSafeWhile x.backing (storage last) (storage new) end.is_failed end.mark end.mark
-      → (c : List ℕ) → (storage new).had_since (storage old).moment c → IsStopIn x s end commands replies run (byte_at c)
+  pub since_start : (old last new : D) (s end : State) (commands : List Command) (replies : List Reply) (run : Run x s commands replies end) → ((c : List ℕ) → (spec.storage old).had_since (spec.storage old).moment c → c ≡ (spec.storage old).contents)
+      → IsStopAt x.backing s.mark (byte_at (spec.storage old).contents) → HoldsAlong spec x before old last s end commands replies run → IsSafeWhile x.backing (spec.storage last) (spec.storage new) end.is_failed end.mark end.mark
+      → (c : List ℕ) → (spec.storage new).had_since (spec.storage old).moment c → IsStopIn x s end commands replies run (byte_at c)
   since_start old last new s end commands replies run only at stops leaves c had =
       let In = λ (k : List ℕ). IsStopIn x s end commands replies run (byte_at k) in
       let there = rest_at_end old last s end commands replies run stops at in
-      let ending : Passing (storage last) (storage new) In = elim (bool_cases end.is_failed) [
-        | inl failed ↦ passes_if In (λ k e. subst In (sym e) (stop_at_end s end commands replies run (byte_at (storage last).contents) there)) (leaves.silent failed)
+      let ending : Passing (spec.storage last) (spec.storage new) In = elim (bool_cases end.is_failed) [
+        | inl failed ↦ passes_if In (λ k e. subst In (sym e) (stop_at_end s end commands replies run (byte_at (spec.storage last).contents) there)) (leaves.silent failed)
         | inr ok ↦ passes_if In (λ k stop. stop_at_end s end commands replies run (byte_at k) stop) (leaves.moments ok)
       ] in
-      ⊎_elim (λ (e : c ≡ (storage old).contents). subst In (sym e) (first_in old last s end commands replies run stops at))
+      ⊎_elim (λ (e : c ≡ (spec.storage old).contents). subst In (sym e) (first_in old last s end commands replies run stops at))
       (λ (p : In c). p) (since_began only (passes_on In (within old last s end commands replies run stops at) ending (λ k h. h)) c had)
 
 module _ {D P : Type 0} (spec : Spec D P) where
   pub ran_none : (x : Setting) (d : D) (out : List (Option P)) (s : State) → StandsAt x (view spec d out) s → Ran spec x d out d out s [] []
-  ran_none x d out s stands = record { end = s; run = refl; stops = refl; stands = stands; surplus = λ _. refl }
+  ran_none x d out s stands = record { end = s; run = refl; along = refl; stands = stands; surplus = λ _. refl }
 
   pub ran_more : (x : Setting) (old mid new : D) (before out out' : List (Option P)) (s : State) (commands : List Command) (replies : List Reply) (command : Command) (reply : Reply)
       → (ran : Ran spec x old before mid out s commands replies) → Goes x (view spec mid out) (view spec new out') ran.end command reply
@@ -307,7 +313,8 @@ module _ {D P : Type 0} (spec : Spec D P) where
   ran_more x old mid new before out out' s commands replies command reply ran goes = record {
     end = goes.end;
     run = Run-push x s ran.end goes.end commands replies command reply ran.run goes.step;
-    stops = stops_push spec.storage x old mid new s ran.end goes.end commands replies command reply ran.run goes.step ran.stops goes.safe;
+    along = along_push spec x (spec.surplus old before) old mid new out' s ran.end goes.end commands replies command reply ran.run goes.step ran.along
+        (said_at (spec.surplus old before) goes.stands (λ e. goes.surplus e ∙ ran.surplus (goes.since e))) goes.safe;
     stands = goes.stands;
     surplus = λ e. goes.surplus e ∙ ran.surplus (goes.since e);
   }
@@ -343,7 +350,7 @@ module _ {D P : Type 0} (spec : Spec D P) where
       end = ran.end;
       run = ran.run;
       last = last;
-      stops = ran.stops;
+      along = subst (λ (k : ℕ → ℕ). HoldsAlong spec x k old last s ran.end commands replies ran.run) same ran.along;
       leaves = record {
         moments = λ ok. passes_if (λ c. IsStopAt x.backing ran.end.mark (byte_at c))
             (λ c k. stop_of_kept x.backing ran.end.mark (byte_at c) (subst (λ b. IsKeptAt b ran.end.mark (byte_at c)) backing_then k)) (at_end ok).moments;
@@ -366,18 +373,16 @@ module _ {D P : Type 0} (spec : Spec D P) where
     }
 
   -- a whole run of an image that was just opened
-  pub means_the_disk : (old new : D) (commands : List Command) (replies : List Reply) → ((c : List ℕ) → (spec.storage old).had_since (spec.storage old).moment c → c ≡ (spec.storage old).contents) → (spec.is_sound new [] → IsWhole (view spec new []))
+  pub means_the_disk : (old new : D) (commands : List Command) (replies : List Reply) → ((c : List ℕ) → (spec.storage old).had_since (spec.storage old).moment c → c ≡ (spec.storage old).contents)
       → StandsAt (spec.setting old) (view spec old []) (started (guest_of (view spec old [])))
       → Completes spec (spec.setting old) old new (started (guest_of (view spec old []))) commands replies → MeansTheDisk spec old new commands replies
-  means_the_disk old new commands replies only whole stands all = record {
+  means_the_disk old new commands replies only stands all = record {
     end = all.end;
     run = all.run;
-    disk = λ ok. ap (λ (g : Guest). g.disk) (all.stands.guest ok);
-    consistent = λ ok. (whole (all.stands.works ok)).consistent;
-    surplus = all.surplus;
     at_start = stands.at_rest;
     last = all.last;
-    stops = all.stops;
+    along = all.along;
     leaves = all.leaves;
-    since_start = since_start spec.storage (spec.setting old) old all.last new (started (guest_of (view spec old []))) all.end commands replies all.run only stands.at_rest all.stops all.leaves;
+    at_end = said_at (spec.surplus old []) all.stands all.surplus;
+    since_start = since_start spec (spec.setting old) (spec.surplus old []) old all.last new (started (guest_of (view spec old []))) all.end commands replies all.run only stands.at_rest all.along all.leaves;
   }

@@ -173,13 +173,21 @@ pub record IsSafeWhile (backing : Bytes) (old new : StorageView) (failed : Bool)
   pub silent : IsTrue failed → Passing old new (λ c. c ≡ old.contents)
   pub unchanged : IsTrue failed → new.contents ≡ old.contents
 
--- Along a run: for each command there is the image at its return, and the moments of each are safe at the mark of that command.
-abbrev pub IsSafeAlong : {D : Type 0} (storage : D → StorageView) (x : Setting) (old new : D) (s end : State) (commands : List Command) (replies : List Reply) → Run x s commands replies end → Type 0
-IsSafeAlong storage x old new s end [] [] run = new ≡ old
-IsSafeAlong {D = D} storage x old new s end (command ∷ commands) (reply ∷ replies) run =
-    (mid : D) × IsSafeWhile x.backing (storage old) (storage mid) s.is_failed (mark_in x s command) run.0.mark × IsSafeAlong storage x mid new run.0 end commands replies run.2
-IsSafeAlong storage x old new s end [] (reply ∷ replies) run = ⊥
-IsSafeAlong storage x old new s end (command ∷ commands) [] run = ⊥
+-- An image at the return of a command: the guest sees what the run says, the known image is consistent, and nothing was lost or gained since the start.
+pub record IsAsSaid (v : View) (s : State) (before : ℕ → ℕ) : Type 0 where
+  pub guest : s.is_failed ≡ false → guest_of v ≡ s.guest
+  pub consistent : s.is_failed ≡ false → IsConsistent v.known
+  pub surplus : s.is_failed ≡ false → v.surplus ≡ before
+
+-- Along a run: for each command there is the image at its return, with the mappings that are prepared then, and what its storage had meanwhile is safe at the mark of that command.
+abbrev pub HoldsAlong : {D P : Type 0} (spec : Spec D P) (x : Setting) (before : ℕ → ℕ) (old new : D) (s end : State) (commands : List Command) (replies : List Reply) → Run x s commands replies end → Type 0
+HoldsAlong spec x before old new s end [] [] run = new ≡ old
+HoldsAlong {D = D} {P = P} spec x before old new s end (command ∷ commands) (reply ∷ replies) run =
+    (mid : D) × (out : List (Option P)) × IsAsSaid (view spec mid out) run.0 before
+    × IsSafeWhile x.backing (spec.storage old) (spec.storage mid) s.is_failed (mark_in x s command) run.0.mark
+    × HoldsAlong spec x before mid new run.0 end commands replies run.2
+HoldsAlong spec x before old new s end [] (reply ∷ replies) run = ⊥
+HoldsAlong spec x before old new s end (command ∷ commands) [] run = ⊥
 
 -- the bytes are what a stop may leave at the mark of one of a run's commands, or at its end
 abbrev pub IsStopIn : (x : Setting) (s end : State) (commands : List Command) (replies : List Reply) → Run x s commands replies end → Bytes → Type 0
@@ -215,7 +223,7 @@ module _ {D P : Type 0} (spec : Spec D P) where
   pub record Ran (x : Setting) (old : D) (before : List (Option P)) (new : D) (out : List (Option P)) (s : State) (commands : List Command) (replies : List Reply) : Type 0 where
     pub end : State
     pub run : Run x s commands replies end
-    pub stops : IsSafeAlong spec.storage x old new s end commands replies run
+    pub along : HoldsAlong spec x (spec.surplus old before) old new s end commands replies run
     pub stands : StandsAt x (view spec new out) end
     pub surplus : end.is_failed ≡ false → spec.surplus new out ≡ spec.surplus old before
 
@@ -225,7 +233,7 @@ module _ {D P : Type 0} (spec : Spec D P) where
     pub run : Run x s commands replies end
     -- the image at the return of the last command
     pub last : D
-    pub stops : IsSafeAlong spec.storage x old last s end commands replies run
+    pub along : HoldsAlong spec x (spec.surplus old []) old last s end commands replies run
     pub leaves : IsSafeWhile x.backing (spec.storage last) (spec.storage new) end.is_failed end.mark end.mark
     pub stands : StandsAt x (view spec new []) (over end)
     pub surplus : end.is_failed ≡ false → spec.surplus new [] ≡ spec.surplus old []
@@ -235,17 +243,14 @@ module _ {D P : Type 0} (spec : Spec D P) where
     pub end : State
     -- the replies are a run of the disk
     pub run : Run (spec.setting old) (started (guest_of (view spec old []))) commands replies end
-    -- the guest sees what the run says, the known image is consistent, and nothing is lost or gained
-    pub disk : end.is_failed ≡ false → (guest_of (view spec new [])).disk ≡ end.guest.disk
-    pub consistent : end.is_failed ≡ false → IsConsistent (spec.known new)
-    pub surplus : end.is_failed ≡ false → spec.surplus new [] ≡ spec.surplus old []
-    -- At each moment while a command is under way a stop is safe, for the last flush before it, what was given since with that command, and the sizes asked;
+    -- Where it begins a stop is safe. Along it each moment is safe at the mark of the command under way, and at each return the guest sees what the run says.
     pub at_start : IsStopAt (spec.setting old).backing (marked (guest_of (view spec old [])).disk) (byte_at (spec.storage old).contents)
     pub last : D
-    pub stops : IsSafeAlong spec.storage (spec.setting old) old last (started (guest_of (view spec old []))) end commands replies run
-    -- then the mappings that are left are let go;
+    pub along : HoldsAlong spec (spec.setting old) (spec.surplus old []) old last (started (guest_of (view spec old []))) end commands replies run
+    -- Then the mappings that are left are let go, as safely, and the guest still sees it.
     pub leaves : IsSafeWhile (spec.setting old).backing (spec.storage last) (spec.storage new) end.is_failed end.mark end.mark
-    -- and there is no other moment since the start.
+    pub at_end : IsAsSaid (view spec new []) (over end) (spec.surplus old [])
+    -- There is no other moment since it began.
     pub since_start : (c : List ℕ) → (spec.storage new).had_since (spec.storage old).moment c → IsStopIn (spec.setting old) (started (guest_of (view spec old []))) end commands replies run (byte_at c)
 
 -- the prepared mappings are this image's own

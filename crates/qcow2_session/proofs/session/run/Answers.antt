@@ -66,6 +66,5 @@ returns-clause-means g c = λ opened.
     let before = seen view below old [] in
     let stands = begins before opened.sound (whole view below old [] opened.sound) opened.clean in
     ⊎_elim (λ h. inl h)
-    (λ all. inr (means_the_disk (image_spec view below) old new (map command_of c.args.commands.now) (map reply_of c.loop-command.replies.items) (g.S.Storage.only_now (storage_of old.file.storage))
-    (whole view below new []) stands all))
+    (λ all. inr (means_the_disk (image_spec view below) old new (map command_of c.args.commands.now) (map reply_of c.loop-command.replies.items) (g.S.Storage.only_now (storage_of old.file.storage)) stands all))
     (returns-clause-runs g c before.setting (started (guest_of before)) stands)
