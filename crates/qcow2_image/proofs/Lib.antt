@@ -44,3 +44,4 @@ pub mod Writable
 pub mod PreparedAs
 pub mod Storing
 pub mod Probing
+pub mod Free

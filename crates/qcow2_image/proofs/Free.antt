@@ -10,14 +10,13 @@ use Rattle.qcow2_metadata.specs.Header.{cluster_size}
 use Rattle.qcow2_metadata.specs.Named.{named}
 use Rattle.qcow2_metadata.specs.declared.header.HeaderFields.{HeaderFields}
 use Rattle.qcow2_laws.specs.Guard.{Pending}
-use Rattle.qcow2_laws.specs.Views.{IsWhole}
+use Rattle.qcow2_laws.specs.Views.{HasFreePlaces, IsWhole}
 use Rattle.qcow2_laws.proofs.Steps.{sound_is_consistent}
 use Rattle.qcow2_laws.proofs.Unseen.{known_header}
 use Rattle.qcow2_alloc.specs.ImageFile.{stand_in, known_in, IsSoundFile}
 use Rattle.qcow2_image.specs.declared.image.Qcow2.{Qcow2}
 use Rattle.qcow2_image.specs.declared.prepared.Prepared.{Prepared}
 use Rattle.qcow2_image.specs.Views.{over_all, held_by, pins_by, to_free, of_tables, of_data, pending_in, IsSoundAt, image_spec, seen}
-use Rattle.qcow2_session.proofs.Places.{HasFreePlaces}
 
 over_all_free : (f : Prepared → ℕ → ℕ) (a b : List (Option Prepared)) (k : ℕ) → over_all f (a ++ None ∷ b) k ≡ over_all f (a ++ b) k
 over_all_free f [] b k = omega arith
