@@ -1,6 +1,6 @@
 -- Parts of growing after one another, and the L1 table in the place of the former one.
-use Rattle.std.proofs.Common.{◌≡◌, ◌⊎◌, inl, inr, ⊎_elim, ℕ, ◌+◌, ◌-◌, ◌*◌, ◌/◌, ◌%◌, ◌^◌, ◌<◌, ◌≤◌, max, List, [], ◌∷◌, ◌++◌, length, replicate, Option, Some, None, Result, Ok, Err, false, refl, sym, ap, ◌∙◌, subst, arith}
-use Rattle.std.specs.Prelude.{IfSome}
+use Rattle.std.proofs.Common.{◌≡◌, ◌⊎◌, inl, inr, ⊎_elim, ℕ, ◌+◌, ◌-◌, ◌*◌, ◌/◌, ◌%◌, ◌^◌, ◌<◌, ◌≤◌, max, List, [], ◌∷◌, ◌++◌, length, replicate, Option, Some, None, Result, Ok, Err, Bool, false, refl, sym, ap, ◌∙◌, subst, arith}
+use Rattle.std.specs.Prelude.{OnOk}
 use Rattle.std.proofs.lemmas.Bool.{cases_lt}
 use Rattle.std.proofs.lemmas.Nat.{div-mul-add}
 use Rattle.image_access.specs.Backing.{BackingView}
@@ -30,13 +30,14 @@ use Rattle.qcow2_alloc.proofs.FileSteps.{pending_same}
 use Rattle.qcow2_alloc.proofs.PlacedBlocks.{file_sizes}
 use Rattle.qcow2_alloc.proofs.Runs.{run_before, run_after}
 use Rattle.qcow2_image.specs.declared.image.Qcow2.{Qcow2}
-use Rattle.qcow2_image.specs.Growing.{SameFormat, clusters_of, run_of_table, listed, with_table, without_l1, IsLonger, StandsWhole, Lasts, Extends, PlacesTable, NamesTable, TakesTable, Lengthens, Resizes}
-use Rattle.qcow2_image.specs.Image.{size_of}
+use Rattle.qcow2_image.specs.Growing.{SameFormat, clusters_of, run_of_table, listed, with_table, without_l1, IsLonger, StandsWhole, Lasts, Extends, PlacesTable, NamesTable, TakesTable, Resizes, Grows}
+use Rattle.qcow2_image.specs.Image.{size_of, is_failed}
+use Rattle.qcow2_image.specs.Refusals.{Marks}
 use Rattle.qcow2_image.specs.Steps.{Keeps, ListGrows, following}
-use Rattle.qcow2_image.specs.Views.{of_data, of_tables, to_free, IsSoundAt}
-use Rattle.qcow2_image.proofs.Entering.{keeps_listed}
+use Rattle.qcow2_image.specs.Views.{of_data, of_tables, to_free, pending_in, IsSoundAt}
+use Rattle.qcow2_image.proofs.Entering.{keeps_none, keeps_listed}
 use Rattle.qcow2_image.proofs.Moving.{file_moved}
-use Rattle.qcow2_image.proofs.Sound.{free_more}
+use Rattle.qcow2_image.proofs.Sound.{IsOnly, free_more, pending_is}
 
 module _ {S F : Type 0} (view : S → StorageView) (backing : F → BackingView) where
   -- ---- one part after another
@@ -208,3 +209,37 @@ module _ {S F : Type 0} (view : S → StorageView) (backing : F → BackingView)
       pending_same (following q b c) (following p a c) (λ k. refl) (λ k. refl) (λ k. let e = ap (λ l. to_free of_tables l k) same in omega (arith, e)) (λ k. let e = ap (λ l. to_free of_data l k) same in omega (arith, e)) (λ k. refl) in
       (subst (λ (r : Pending). Extends view backing p r a c (size ∷ [])) pending (extends_then p q (following q b c) a b c [] (size ∷ []) first then.0), then.1)
   resized_then p a b c size (Err e) first same then = lasts_then p (following p a b) a b c [] (size ∷ []) first then
+
+  -- ---- the call
+  module _ (old mid big : Qcow2 S F) (sound : IsSoundAt view backing (pending_in view backing old []) old []) (begun : Keeps view backing (pending_in view backing old []) (pending_in view backing old []) old mid [])
+      (same : mid.file.free_list ≡ old.file.free_list) (size : ℕ) (larger : size_of old < size) where
+    abbrev p : Pending
+    p = pending_in view backing old []
+
+    nothing_else : ListGrows mid big → IsOnly view backing big [] (following p mid big)
+    nothing_else grows = record {
+      held = λ k. refl;
+      fresh = λ k. refl;
+      spent = λ k. let more = ap (λ l. to_free of_tables l k) grows.is ∙ free_more of_tables mid.file.free_list grows.more k in let e = ap (λ l. to_free of_tables l k) same in omega (arith, more, e);
+      dropped = λ k. let more = ap (λ l. to_free of_data l k) grows.is ∙ free_more of_data mid.file.free_list grows.more k in let e = ap (λ l. to_free of_data l k) same in omega (arith, more, e);
+    }
+
+    grown : (r : Result (Unit {0}) ImageError) (failed : Bool) → Resizes view backing p mid big size r → OnOk r (ListGrows mid big) → Marks r (is_failed big) failed → Grows view backing old (record big { is_failed = failed }) size r
+    grown (Ok x) failed resizes grows marks =
+        let q = following p mid big in
+        let all = extends_then p p q old mid big [] (size ∷ []) (extends_keeping p p old mid begun) resizes.0 in
+        subst (λ (f : Bool). Grows view backing old (record big { is_failed = f }) size (Ok x)) (sym marks)
+        (subst (λ (r : Pending). Extends view backing p r old big (size ∷ [])) (pending_is view backing big [] q all.leads.sound (nothing_else grows)) all, resizes.1 ∙ sym (omega (arith, larger)))
+    grown (Err e) failed lasts grows marks = lasts_then p p old mid big [] (size ∷ []) (extends_keeping p p old mid begun) lasts
+
+    pub grown_so : (new : Qcow2 S F) (done r : Result (Unit {0}) ImageError) → r ≡ done → new ≡ record big { is_failed = is_failed new } → Marks done (is_failed big) (is_failed new) → Resizes view backing p mid big size done → OnOk done (ListGrows mid big)
+        → Grows view backing old new size r
+    grown_so new done r answer rest marks resizes grows =
+        subst (λ (s : Result (Unit {0}) ImageError). Grows view backing old new size s) (sym answer)
+        (subst (λ (i : Qcow2 S F). Grows view backing old i size done) (sym rest) (grown done (is_failed new) resizes grows marks))
+
+  -- a size that isn't larger changes nothing
+  pub grown_none : (image : Qcow2 S F) (size : ℕ) → IsSoundAt view backing (pending_in view backing image []) image [] → size ≤ size_of image → Grows view backing image image size (Ok tt)
+  grown_none image size sound less =
+      let p = pending_in view backing image [] in
+      (extends_more p p image image size (extends_keeping p p image image (keeps_none view backing [] p image sound)), omega (arith, less))
