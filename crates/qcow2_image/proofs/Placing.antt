@@ -6,14 +6,18 @@ use Rattle.image_access.specs.Contents.{overwritten}
 use Rattle.image_access.specs.Moments.{StorageView, Changes, Calls}
 use Rattle.image_access.specs.declared.error.StorageError.{StorageError}
 use Rattle.image_access.proofs.Bytes.{byte_at-overwritten}
+use Rattle.image_access.proofs.Passing.{passes_none}
 use Rattle.qcow2_metadata.specs.Bytes.{Bytes, byte_at}
 use Rattle.qcow2_metadata.specs.declared.header.HeaderFields.{HeaderFields}
 use Rattle.qcow2_metadata.specs.Header.{cluster_size}
 use Rattle.qcow2_metadata.specs.Cover.{cover}
 use Rattle.qcow2_metadata.specs.L2Table.{L2TableView}
+use Rattle.qcow2_laws.specs.Caches.{AreSettled}
 use Rattle.qcow2_laws.specs.Guard.{Pending}
 use Rattle.qcow2_laws.proofs.Steps.{data_is_written}
 use Rattle.qcow2_alloc.specs.declared.allocation.Allocator.{Allocator}
+use Rattle.qcow2_alloc.specs.CacheMarks.{HasRoom, Forgets}
+use Rattle.qcow2_alloc.specs.declared.cache.MetadataCaches.{MetadataCaches}
 use Rattle.qcow2_alloc.specs.declared.image_storage.ImageStorage.{ImageStorage}
 use Rattle.qcow2_alloc.specs.ImageFile.{view_in, contents_in, stand_in, HasReftable}
 use Rattle.qcow2_alloc.specs.ImageStorage.{storage_of}
@@ -24,8 +28,20 @@ use Rattle.qcow2_image.specs.declared.prepared.Prepared.{Prepared}
 use Rattle.qcow2_image.specs.NewTables.{StandsReady}
 use Rattle.qcow2_image.specs.Steps.{Keeps}
 use Rattle.qcow2_image.specs.Views.{IsSoundAt}
-use Rattle.qcow2_image.proofs.Loading.{all_known}
+use Rattle.qcow2_image.proofs.Loading.{with_caches, caches_moved, all_known}
 use Rattle.qcow2_image.proofs.Moving.{file_moved}
+
+-- a table that is written is dropped
+module _ {S F : Type 0} (view : S → StorageView) (backing : F → BackingView) (old : Qcow2 S F) (out : List (Option Prepared)) (p : Pending) (sound : IsSoundAt view backing p old out) (caches : MetadataCaches S)
+    (room : HasRoom old.file.caches → HasRoom caches) (forgets : Forgets old.file.header.fields p (contents_in view old.file) old.file.caches caches) where
+  pub keeps_forgotten : Keeps view backing p p old (with_caches view backing old out p sound old.file.storage caches) out
+  keeps_forgotten = caches_moved view backing old out p sound old.file.storage caches (record {
+    honest = sound.file.honest;
+    sound = forgets.sound;
+    known = forgets.known;
+    settled = λ settled. subst (λ ts. AreSettled old.file.header.fields ts (contents_in view old.file)) (sym forgets.refblocks) settled;
+    since = record { moments = passes_none (view_in view old.file) _; contents = λ bytes m kept known_kept. kept };
+  }) room forgets.pins
 
 module _ {S F : Type 0} (view : S → StorageView) (backing : F → BackingView) (old : Qcow2 S F) (out : List (Option Prepared)) (p : Pending) (sound : IsSoundAt view backing p old out)
     (written : AreAllWritten old.file.caches) (at : ℕ) (some : 0 < p.fresh at) where

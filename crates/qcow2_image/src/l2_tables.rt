@@ -157,7 +157,7 @@ impl<S: Storage, F: WrappedFormat<S>> Qcow2<S, F> {
         self.name_l2(index, cluster)
     }
 
-    // Writes a table's bytes to a cluster, after all that is cached. A cluster that an older table is held for is refused: the older one would be found there.
+    // Writes a table's bytes to a cluster, after all that is cached. An older table that is held for the cluster is dropped: it would be found there.
     fn place_l2(&mut self, cluster: HostCluster, mut table: L2Table) -> Result<(), ImageError>
         ensures stays { Stays self.old self.new }
         ensures keeps_rest { KeepsRest self.old self.new }
@@ -172,7 +172,7 @@ impl<S: Storage, F: WrappedFormat<S>> Qcow2<S, F> {
         }
         table.set_cluster(cluster);
         self.file.caches.flush_all(&mut self.file.storage)?;
-        if self.file.caches.l2_peek(cluster).is_some() {
+        if !self.file.caches.l2_forget(cluster) {
             return Err(ImageError::InUse);
         }
         self.file.storage.will_write(WriteKind::Other);
