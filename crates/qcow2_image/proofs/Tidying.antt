@@ -79,14 +79,14 @@ module _ {S F : Type 0} (view : S → StorageView) (backing : F → BackingView)
   frees_on a b c p (Err e) listed first then = elim then [
     | inl left ↦ inl (before a b c p listed first left)
     | inr broke ↦ inr (record {
-        breaks = record {
-          fault = broke.breaks.fault;
-          noted = broke.breaks.noted;
-          since = steps_endure (view_in view a.file) (view_in view b.file) (view_in view c.file) (stand_in view a.file (with_listed p a.file.free_list)) (stand_in view b.file (with_listed p a.file.free_list)) nothing_given nothing_given [] [] refl first.since first.leads broke.breaks.since;
-        };
-        header = broke.header ∙ first.unseen.header;
-        below = broke.below ∙ first.below;
-      })
+      breaks = record {
+        fault = broke.breaks.fault;
+        noted = broke.breaks.noted;
+        since = steps_endure (view_in view a.file) (view_in view b.file) (view_in view c.file) (stand_in view a.file (with_listed p a.file.free_list)) (stand_in view b.file (with_listed p a.file.free_list)) nothing_given nothing_given [] [] refl first.since first.leads broke.breaks.since;
+      };
+      header = broke.header ∙ first.unseen.header;
+      below = broke.below ∙ first.below;
+    })
   ]
 
 -- ---- a whole call
