@@ -1,6 +1,6 @@
 -- What is answered of a range that is to be written: all of it where it is, or the rest of its first cluster.
 use Rattle.std.proofs.Common.{◌≡◌, inl, inr, ℕ, ◌+◌, ◌-◌, ◌*◌, ◌/◌, ◌%◌, ◌<◌, ◌≤◌, Bool, true, false, Option, Some, None, refl, sym, ap, ◌∙◌, subst, arith, is_some}
-use Rattle.std.specs.Prelude.{◌&&◌, ◌==◌, not}
+use Rattle.std.specs.Prelude.{Err, IfOk, Ok, Result, ◌&&◌, ◌==◌, not}
 use Rattle.std.proofs.lemmas.Bool.{cases_lt, eq-eqb}
 use Rattle.std.proofs.lemmas.Nat.{div-add-mod', div-mul-add, mod-mul-add, mod_below, pow_pos}
 use Rattle.image_access.specs.Backing.{BackingView}
@@ -12,14 +12,18 @@ use Rattle.qcow2_metadata.specs.Cover.{cover}
 use Rattle.qcow2_laws.specs.Alike.{IsDataAt}
 use Rattle.qcow2_laws.specs.Guard.{SameCovers}
 use Rattle.qcow2_laws.specs.Mappings.{PreparedMapping, is_copied_data}
+use Rattle.qcow2_laws.specs.Leads.{Stand, IsSound}
 use Rattle.qcow2_laws.proofs.Alike.{are_still}
+use Rattle.qcow2_laws.proofs.Guests.{named-is}
+use Rattle.qcow2_laws.proofs.Places.{Sizes-from}
+use Rattle.qcow2_laws.proofs.Tops.{for_tables-top, IsTop-top}
 use Rattle.qcow2_alloc.specs.ImageFile.{known_in}
 use Rattle.qcow2_image.specs.declared.image.Qcow2.{Qcow2}
 use Rattle.qcow2_image.specs.declared.prepared.Prepared.{Prepared}
 use Rattle.qcow2_image.specs.declared.prepared.NewCluster.{NewCluster}
 use Rattle.qcow2_image.specs.Parts.{IsExisting}
 use Rattle.qcow2_image.specs.Prepared.{offset_of}
-use Rattle.qcow2_image.specs.Preparing.{IsAnswered, IsHostOf, IsRest, IsWritableAt}
+use Rattle.qcow2_image.specs.Preparing.{HasItsOwn, IsAnswered, IsHeldAlone, IsHostOf, IsRest, IsWritableAt}
 use Rattle.qcow2_image.specs.Views.{is_private, meaning}
 
 -- ---- what stands for guest clusters stays
@@ -33,8 +37,8 @@ module _ (h : HeaderFields) (b c : Bytes) (same : SameCovers h b c) (offset : �
   data_still : (o place : ℕ) → IsDataAt h b true o place → IsDataAt h c true o place
   data_still o place is = (is.0, sym (same (o / cluster_size h)) ∙ is.1, is.2)
 
-  pub answered_still : (n : ℕ) (p : Prepared) (m : PreparedMapping) → IsAnswered h b offset n p m → IsAnswered h c offset n p m
-  answered_still n p m is = record {
+  pub answered_still : (n : ℕ) (now : Bytes) (p : Prepared) (m : PreparedMapping) → IsAnswered h b offset n now p m → IsAnswered h c offset n now p m
+  answered_still n now p m is = record {
     existing = (λ none. let there = is.existing.0 none in (there.0, writable_still n there.0 there.1), λ there. is.existing.1 (there.0, writable_before n there.0 there.1));
     whole = is.whole;
     rest = is.rest;
@@ -67,12 +71,12 @@ in_range size offset n o some any from to =
       ]
     ]
 
-module _ {S F : Type 0} (view : S → StorageView) (backing : F → BackingView) (image : Qcow2 S F) (known : Bytes) (offset n : ℕ) (p : Prepared) where
+module _ {S F : Type 0} (view : S → StorageView) (backing : F → BackingView) (image : Qcow2 S F) (known now : Bytes) (offset n : ℕ) (p : Prepared) where
   abbrev h : HeaderFields
   h = image.file.header.fields
 
   -- all of the range is written where it is
-  pub answered_existing : (number : ℕ) → 0 < n → IsExisting p number offset n → IsWritableAt h known offset n p.offset → IsAnswered h known offset n p (meaning view backing image p)
+  pub answered_existing : (number : ℕ) → 0 < n → IsExisting p number offset n → IsWritableAt h known offset n p.offset → IsAnswered h known offset n now p (meaning view backing image p)
   answered_existing number any existing writable =
       let none : is_some p.table ≡ false = ap is_some existing.table in
       let never : (o : ℕ) → is_private view backing image p o ≡ false = λ o. ap (λ (m : Option NewCluster). is_some m && o / cluster_size h == p.guest / cluster_size h) existing.cluster in
@@ -115,12 +119,15 @@ module _ {S F : Type 0} (view : S → StorageView) (backing : F → BackingView)
     stands_in_place i lt None none host = let first = in_first i lt in (host.0, ap (cover h known) first.0 ∙ host.1, (let at = host.2 in let far = first.1 in omega arith))
     stands_in_place i lt (Some c) none host = absurd (let e : true ≡ false = none in cc)
 
-    stands_in_new : (c : Option NewCluster) → is_some c ≡ true → IsHostOf h known offset p.offset c → p.offset % cluster_size h ≡ offset % cluster_size h
-    stands_in_new None some host = absurd (let e : false ≡ true = some in cc)
-    stands_in_new (Some c) some host = ap (λ x. x % cluster_size h) host.1 ∙ mod-mul-add c.pending.first_cluster (cluster_size h) (offset % cluster_size h) (mod_below offset (cluster_size h) (pow_pos h.cluster_bits))
+    stands_in_new : (c : Option NewCluster) → is_some c ≡ true → IsHostOf h known offset p.offset c → HasItsOwn h now c → (p.offset % cluster_size h ≡ offset % cluster_size h) × IsHeldAlone h now (p.offset / cluster_size h)
+    stands_in_new None some host own = absurd (let e : false ≡ true = some in cc)
+    stands_in_new (Some c) some host own =
+        let below = mod_below offset (cluster_size h) (pow_pos h.cluster_bits) in
+        let there : p.offset / cluster_size h ≡ c.pending.first_cluster = ap (λ x. x / cluster_size h) host.1 ∙ div-mul-add c.pending.first_cluster (cluster_size h) (offset % cluster_size h) below in
+        (ap (λ x. x % cluster_size h) host.1 ∙ mod-mul-add c.pending.first_cluster (cluster_size h) (offset % cluster_size h) below, subst (IsHeldAlone h now) (sym there) own)
 
-    pub answered_rest : ((place : ℕ) → IsWritableAt h known offset n place → ⊥) → IsAnswered h known offset n p (meaning view backing image p)
-    answered_rest never =
+    pub answered_rest : HasItsOwn h now p.new_cluster → ((place : ℕ) → IsWritableAt h known offset n place → ⊥) → IsAnswered h known offset n now p (meaning view backing image p)
+    answered_rest own never =
         let some : is_some p.table ≡ true = is.table in
         let left : 0 < cluster_size h - offset % cluster_size h = let lt = mod_below offset (cluster_size h) (pow_pos h.cluster_bits) in omega arith in
         record {
@@ -135,12 +142,27 @@ module _ {S F : Type 0} (view : S → StorageView) (backing : F → BackingView)
           in_place = λ i lt isnt.
               let inside = subst (λ l. i < l) is.length lt in
               stands_in_place i inside p.new_cluster (sym (private_is (offset + i) (in_first i inside).0) ∙ isnt) is.host;
-          in_new = λ private. stands_in_new p.new_cluster (sym (private_is offset refl) ∙ private) is.host;
+          in_new = λ private. stands_in_new p.new_cluster (sym (private_is offset refl) ∙ private) is.host own;
         }
 
 -- the same by what was known before a part that no guest sees
-module _ {S F : Type 0} (view : S → StorageView) (old mid : Qcow2 S F) (offset n : ℕ) (p : Prepared) (m : PreparedMapping) (header : mid.file.header.fields ≡ old.file.header.fields)
+module _ {S F : Type 0} (view : S → StorageView) (old mid : Qcow2 S F) (offset n : ℕ) (now : Bytes) (p : Prepared) (m : PreparedMapping) (header : mid.file.header.fields ≡ old.file.header.fields)
     (covers : SameCovers old.file.header.fields (known_in view old.file) (known_in view mid.file)) where
-  pub answered_before : IsAnswered mid.file.header.fields (known_in view mid.file) offset n p m → IsAnswered old.file.header.fields (known_in view old.file) offset n p m
+  pub answered_before : IsAnswered mid.file.header.fields (known_in view mid.file) offset n now p m → IsAnswered old.file.header.fields (known_in view old.file) offset n now p m
   answered_before is =
-      answered_still old.file.header.fields (known_in view mid.file) (known_in view old.file) (λ g. sym (covers g)) offset n p m (subst (λ (x : HeaderFields). IsAnswered x (known_in view mid.file) offset n p m) header is)
+      answered_still old.file.header.fields (known_in view mid.file) (known_in view old.file) (λ g. sym (covers g)) offset n now p m (subst (λ (x : HeaderFields). IsAnswered x (known_in view mid.file) offset n now p m) header is)
+
+-- what is held is counted once, and nothing names it
+pub held_alone : (s : Stand) → IsSound s → (k : ℕ) → 0 < s.pending.held k → IsHeldAlone s.header s.known k
+held_alone s sound k some =
+    let sizes = Sizes-from s.header s.known (IsTop-top s.header s.base s.known sound.same_top sound.top).header_reads in
+    let named = named-is s.header s.known k sizes in
+    let fixed = for_tables-top s.header s.base s.known k sound.same_top in
+    let tally = (sound.always k).tally in
+    let few = (sound.always k).pending (omega arith) in
+    (omega arith, omega arith)
+
+-- what follows of two things that are so of an answer
+pub if_ok_both : {A E : Type 0} {P Q R : A → Type 0} (answer : Result A E) → ((x : A) → P x → Q x → R x) → IfOk answer P → IfOk answer Q → IfOk answer R
+if_ok_both (Ok x) follows is also = follows x is also
+if_ok_both (Err e) follows is also = tt

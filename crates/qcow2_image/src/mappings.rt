@@ -5,7 +5,7 @@ ghost use Rattle.qcow2_metadata.specs.L2Mapping.{IsHostCluster, IsInReach};
 ghost use Rattle.qcow2_image.specs.FirstCluster.{IsFirst, IsNear};
 ghost use Rattle.qcow2_image.specs.Image.{Stays, IsSameImage, is_failed, is_writable, number_of};
 ghost use Rattle.qcow2_image.specs.Prepared.{image_of, length_of, offset_of, table_of, IsKept};
-ghost use Rattle.qcow2_image.specs.Preparing.{IsAnswered, IsOfNothing, IsPlaceOf, IsRest};
+ghost use Rattle.qcow2_image.specs.Preparing.{HasItsOwn, IsAnswered, IsOfNothing, IsPlaceOf, IsRest};
 ghost use Rattle.qcow2_laws.specs.Guard.{Pending};
 ghost use Rattle.qcow2_alloc.specs.MetadataCaches.{IsEntryAt, l2_at};
 ghost use Rattle.qcow2_alloc.specs.ImageFile.{known_in, IsSoundFile};
@@ -263,7 +263,7 @@ impl<S: Storage, F: WrappedFormat<S>> Qcow2<S, F> {
         ensures some { IfOk result (λ p. 0 < length → 0 < length_of p) }
         ensures sees { Prepares S.view F.backing self.old self.new offset length overwrite result }
         ensures maps { 0 < length → (out : List (Option Prepared)) → (seen S.view F.backing self.old out).is_sound
-            → IfOk result (λ p. IsAnswered self.old.file.header.fields (known_in S.view self.old.file) offset length p (meaning S.view F.backing self.new p)) }
+            → IfOk result (λ p. IsAnswered self.old.file.header.fields (known_in S.view self.old.file) offset length (known_in S.view self.new.file) p (meaning S.view F.backing self.new p)) }
     {
         self.check_prepare(offset, length)?;
         if length == 0 {
@@ -314,8 +314,8 @@ impl<S: Storage, F: WrappedFormat<S>> Qcow2<S, F> {
         ensures some { IfOk result (λ p. 0 < length → 0 < length_of p) }
         ensures readies { 0 < length → (out : List (Option Prepared)) → IsSoundAt S.view F.backing (pending_in S.view F.backing self.old out) self.old out
             → Readies S.view F.backing self.old self.new out offset length overwrite result }
-        ensures answers { 0 < length → (p : Pending) (out : List (Option Prepared)) → IsSoundAt S.view F.backing p self.old out
-            → IfOk result (λ q. IsAnswered self.old.file.header.fields (known_in S.view self.old.file) offset length q (meaning S.view F.backing self.new q)) }
+        ensures answers { 0 < length → (p : Pending) (out : List (Option Prepared)) → IsSoundAt S.view F.backing p self.old out → HoldsAll S.view F.backing p out
+            → IfOk result (λ q. IsAnswered self.old.file.header.fields (known_in S.view self.old.file) offset length (known_in S.view self.new.file) q (meaning S.view F.backing self.new q)) }
     {
         let table = self.ensure_l2(offset)?;
         match self.existing_host(table, offset, length)? {
@@ -359,6 +359,8 @@ impl<S: Storage, F: WrappedFormat<S>> Qcow2<S, F> {
         ensures some { IfOk result (λ p. 0 < length_of p) }
         ensures readies { (out : List (Option Prepared)) → IsSoundAt S.view F.backing (pending_in S.view F.backing self.old out) self.old out
             → HoldsTable S.view F.backing self.old offset table → Readies S.view F.backing self.old self.new out offset length overwrite result }
+        ensures alone { (p : Pending) (out : List (Option Prepared)) → IsSoundAt S.view F.backing p self.old out → HoldsAll S.view F.backing p out
+            → IfOk result (λ q. HasItsOwn self.old.file.header.fields (known_in S.view self.new.file) q.new_cluster) }
         ensures rest { (p : Pending) (out : List (Option Prepared)) → IsSoundAt S.view F.backing p self.old out
             → HoldsTable S.view F.backing self.old offset table → IfOk result (IsRest self.old.file.header.fields (known_in S.view self.old.file) offset) }
         ensures header { self.new.file.header ≡ self.old.file.header }
@@ -389,6 +391,8 @@ impl<S: Storage, F: WrappedFormat<S>> Qcow2<S, F> {
         ensures readies { (out : List (Option Prepared)) → IsSoundAt S.view F.backing (pending_in S.view F.backing self.old out) self.old out
             → HoldsTable S.view F.backing self.old offset table → l2_pins self.old.file.caches table ≡ 0 → cover self.old.file.header.fields (known_in S.view self.old.file) (offset / cluster_size self.old.file.header.fields) ≡ L2Mapping.Uncovered
             → Readies S.view F.backing self.old self.new out offset length overwrite result }
+        ensures alone { (p : Pending) (out : List (Option Prepared)) → IsSoundAt S.view F.backing p self.old out → HoldsAll S.view F.backing p out
+            → IfOk result (λ q. HasItsOwn self.old.file.header.fields (known_in S.view self.new.file) q.new_cluster) }
         ensures rest { (known : Bytes) → cover self.old.file.header.fields known (offset / cluster_size self.old.file.header.fields) ≡ L2Mapping.Uncovered → IfOk result (IsRest self.old.file.header.fields known offset) }
         ensures header { self.new.file.header ≡ self.old.file.header }
     {

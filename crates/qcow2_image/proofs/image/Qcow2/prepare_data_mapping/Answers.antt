@@ -47,9 +47,10 @@ returns-clause-maps g c = λ some out sound.
     let old = c.args.self.now in
     let mid = c.begin.new.self in
     let new = c.prepare-prepared.new.self in
+    let now = known_in view new.file in
     let kept = c.begin.ensures.keeps (pending_in view below old out) out sound in
-    subst (λ (image : Qcow2 _ _). IfOk c.settled.result (λ p. IsAnswered old.file.header.fields (known_in view old.file) c.args.offset c.args.length p (meaning view below image p))) (sym c.settled.ensures.rest)
-    (subst (λ r. IfOk r (λ p. IsAnswered old.file.header.fields (known_in view old.file) c.args.offset c.args.length p (meaning view below new p))) (sym c.settled.ensures.answer)
+    subst (λ (image : Qcow2 _ _). IfOk c.settled.result (λ p. IsAnswered old.file.header.fields (known_in view old.file) c.args.offset c.args.length (known_in view image.file) p (meaning view below image p))) (sym c.settled.ensures.rest)
+    (subst (λ r. IfOk r (λ p. IsAnswered old.file.header.fields (known_in view old.file) c.args.offset c.args.length now p (meaning view below new p))) (sym c.settled.ensures.answer)
     (if_ok c.prepare-prepared.result
-    (λ p is. answered_before view old mid c.args.offset c.args.length p (meaning view below new p) kept.unseen.header kept.unseen.covers is)
-    (c.prepare-prepared.ensures.answers some (pending_in view below old out) out kept.sound)))
+    (λ p is. answered_before view old mid c.args.offset c.args.length now p (meaning view below new p) kept.unseen.header kept.unseen.covers is)
+    (c.prepare-prepared.ensures.answers some (pending_in view below old out) out kept.sound (λ k. omega arith))))
