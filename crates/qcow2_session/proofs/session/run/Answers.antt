@@ -6,9 +6,8 @@ use Rattle.qcow2_image.specs.Views.{seen, image_spec}
 use Rattle.qcow2_laws.specs.Runs.{Completes, begun, started}
 use Rattle.qcow2_laws.specs.Views.{guest_of}
 use Rattle.qcow2_laws.proofs.RunSteps.{begins, completes, means_the_disk}
-use Rattle.qcow2_alloc.specs.ImageStorage.{storage_of}
 use Rattle.qcow2_session.specs.Commands.{command_of, reply_of}
-use Rattle.qcow2_image.proofs.Free.{free_places, whole}
+use Rattle.qcow2_image.proofs.Free.{free_places, nothing_since, whole}
 use Rattle.qcow2_session.proofs.Places.{surplus_none}
 use Rattle.qcow2_session.proofs.Runs.{GoesOn, first_of_all, goes_on, map_more}
 use Rattle.qcow2_session.proofs.session.run.Goals as goal
@@ -66,5 +65,5 @@ returns-clause-means g c = λ opened.
     let before = seen view below old [] in
     let stands = begins before opened.sound (whole view below old [] opened.sound) opened.clean in
     ⊎_elim (λ h. inl h)
-    (λ all. inr (means_the_disk (image_spec view below) old new (map command_of c.args.commands.now) (map reply_of c.loop-command.replies.items) (g.S.Storage.only_now (storage_of old.file.storage)) stands all))
+    (λ all. inr (means_the_disk (image_spec view below) old new (map command_of c.args.commands.now) (map reply_of c.loop-command.replies.items) (nothing_since view below g.S.Storage.only_now old) stands all))
     (returns-clause-runs g c before.setting (started (guest_of before)) stands)
