@@ -38,8 +38,6 @@ pub mod Resized
 pub mod LongerTables
 pub mod NamedL1
 pub mod Grown
-pub mod Cleared
-pub mod FirstBlocks
 pub mod Clearing
 pub mod Tidying
 pub mod Writable

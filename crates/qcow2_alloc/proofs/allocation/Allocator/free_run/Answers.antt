@@ -48,8 +48,8 @@ freeing-preserved g c = record {
       let at = c.value-in-freeing.ensures ∙ c.cluster.ensures in
       let some : 0 < c.freeing.run.count = omega (arith, c.freeing-test.true, c.value.ensures, c.count.ensures) in
       c.in_ok-lower.ensures.hint (behind_first c.freeing.run kind p) (Listed kind)
-          (first_owed g.S.Storage.view kind p c.freeing.run some c.value-in-freeing.result at c.freeing.file c.freeing.self (is_sound_now g.S.Storage.view q now c.args.file.now c.freeing.file c.freeing.self before))
-          (may_lower_still (Listed kind) c.args.file.now c.freeing.file c.freeing.invariant.order may) (c.freeing.invariant.hint p sound may hint);
+      (first_owed g.S.Storage.view kind p c.freeing.run some c.value-in-freeing.result at c.freeing.file c.freeing.self (is_sound_now g.S.Storage.view q now c.args.file.now c.freeing.file c.freeing.self before))
+      (may_lower_still (Listed kind) c.args.file.now c.freeing.file c.freeing.invariant.order may) (c.freeing.invariant.hint p sound may hint);
 }
 
 pub returns-clause-hint : goal.returns-clause-hint
