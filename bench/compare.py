@@ -2,7 +2,8 @@
 """qimg and qemu-io side by side on the same work: time and peak memory of each, and their ratios.
 
 qemu-io runs with the cache mode `unsafe`: a flush hands the tables to the operating system, as qimg's does,
-and doesn't wait for the device. Each figure is the median of three runs, each on a new image."""
+and doesn't wait for the device. Then qimg alone on a small image and on a large one, with the same amount of work: its peak memory
+is to stay the same. Each figure is the median of three runs, each on a new image."""
 
 import os
 import random
@@ -17,6 +18,7 @@ ROOT = os.path.dirname(os.path.dirname(os.path.abspath(__file__)))
 QIMG = os.environ.get("QIMG", os.path.join(ROOT, "build", "qimg"))
 MIB = 1048576
 SIZE = 64 * MIB
+LARGE = 1024 * MIB
 RUNS = 3
 
 
@@ -25,12 +27,12 @@ def sequential():
     return [("write", at, MIB, at // MIB + 1) for at in range(0, SIZE, MIB)] + [("flush",)]
 
 
-def scattered(count, flush_each):
-    """Writes of 4 KiB at random places."""
+def scattered(count, flush_each, size=SIZE):
+    """Writes of 4 KiB at random places of an image of this size."""
     chosen = random.Random(count)
     steps = []
     for number in range(count):
-        steps.append(("write", chosen.randrange(SIZE // 4096) * 4096, 4096, number % 255 + 1))
+        steps.append(("write", chosen.randrange(size // 4096) * 4096, 4096, number % 255 + 1))
         if flush_each:
             steps.append(("flush",))
     return steps if flush_each else steps + [("flush",)]
@@ -70,8 +72,8 @@ def measured(words, lines, wanted):
         return seconds, int(it.read())
 
 
-def by_qimg(cluster, steps):
-    subprocess.run([QIMG, "create", "disk", str(SIZE), str(cluster), "16", "none"], check=True, stdout=subprocess.DEVNULL)
+def by_qimg(cluster, steps, size=SIZE):
+    subprocess.run([QIMG, "create", "disk", str(size), str(cluster), "16", "none"], check=True, stdout=subprocess.DEVNULL)
     return measured([QIMG, "run", "disk"], [qimg_line(step) for step in steps], lambda text: text == "ok\n" * len(steps))
 
 
@@ -99,6 +101,12 @@ def median_of(runner, cluster, steps):
     return [statistics.median(column) for column in zip(*results)]
 
 
+def of_two_sizes(cluster):
+    """Peak memory of qimg in KiB on an image of 64 MiB and on one of 1 GiB, for 2,000 random writes over the whole image, or None."""
+    results = [median_of(lambda cluster, steps: by_qimg(cluster, steps, size), cluster, scattered(2000, False, size)) for size in (SIZE, LARGE)]
+    return None if None in results else [memory for _, memory in results]
+
+
 def main():
     if not os.access("/usr/bin/time", os.X_OK):
         print("/usr/bin/time is missing: install the package time")
@@ -112,6 +120,13 @@ def main():
             continue
         for what, index, unit, scale in (("time", 0, "ms", 1000), ("memory", 1, "MiB", 1 / 1024)):
             print(f"  {what:7}qimg {own[index] * scale:8.1f} {unit}   qemu-io {other[index] * scale:8.1f} {unit}   ratio {own[index] / other[index]:.2f}")
+    for cluster in (4096, 65536):
+        print(f"2,000 random writes of 4 KiB over images of {SIZE // MIB} MiB and {LARGE // MIB} MiB, one flush, clusters of {cluster}")
+        memory = of_two_sizes(cluster)
+        if memory is None:
+            failed = True
+            continue
+        print(f"  memory qimg {memory[0] / 1024:8.1f} MiB   qimg    {memory[1] / 1024:8.1f} MiB   ratio {memory[1] / memory[0]:.2f}")
     return 1 if failed else 0
 
 

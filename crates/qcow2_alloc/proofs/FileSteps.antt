@@ -7,14 +7,15 @@ use Rattle.image_access.proofs.Passing.{passes_none, passes_on}
 use Rattle.qcow2_metadata.specs.Bytes.{Bytes}
 use Rattle.qcow2_metadata.specs.EntryTable.{EntryTableView}
 use Rattle.qcow2_metadata.specs.Header.{cluster_size}
-use Rattle.qcow2_metadata.specs.Entries.{l1_entry}
+use Rattle.qcow2_metadata.specs.Entries.{l1_entry, count}
 use Rattle.qcow2_metadata.specs.Named.{named_for_tables}
 use Rattle.qcow2_laws.specs.Stops.{Mark, IsKeptAt}
 use Rattle.qcow2_laws.specs.Clusters.{Direction}
 use Rattle.qcow2_laws.specs.Guard.{Pending}
-use Rattle.qcow2_laws.specs.Changes.{one_at, with_held, with_fresh, without_spent, held_to_spent, fresh_to_spent}
+use Rattle.qcow2_laws.specs.Changes.{one_at, with_held, with_fresh, without_spent, without_dropped, held_to_spent, fresh_to_spent}
 use Rattle.qcow2_laws.specs.Leads.{Stand, Leads, Endures}
 use Rattle.qcow2_laws.specs.Steps.{CountRises, CountFalls}
+use Rattle.qcow2_laws.specs.Unseen.{IsUnseen}
 use Rattle.qcow2_laws.proofs.Caches.{unnamed_free_l2, unnamed_free_rb}
 use Rattle.qcow2_laws.proofs.KeptSteps.{known_is_base}
 use Rattle.qcow2_laws.proofs.Steps.{count_is_changed, pending_is_changed}
@@ -24,11 +25,13 @@ use Rattle.qcow2_alloc.specs.declared.cache.MetadataCaches.{MetadataCaches}
 use Rattle.qcow2_alloc.specs.declared.error.ImageError.{ImageError}
 use Rattle.qcow2_alloc.specs.declared.image_file.ImageFile.{ImageFile}
 use Rattle.qcow2_alloc.specs.declared.image_storage.ImageStorage.{ImageStorage}
-use Rattle.qcow2_alloc.specs.Allocation.{taken_as, MayTake}
+use Rattle.qcow2_alloc.specs.Allocation.{taken_as, listed_as, Owed, Taken, Listed, owed_as, MayTake, MayLower}
+use Rattle.qcow2_alloc.specs.declared.clusters_to_free.ClusterKind.TheVariants.{Data, Metadata}
 use Rattle.qcow2_alloc.specs.CacheMarks.{KeepsMarks}
-use Rattle.qcow2_alloc.specs.ImageFile.{nothing_given, view_in, contents_in, known_in, stand_in, IsSoundFile, HasReftable, Moves, Breaks, LeavesSound, IsFault}
+use Rattle.qcow2_alloc.specs.ImageFile.{nothing_given, pending_at, view_in, contents_in, known_in, stand_in, IsSoundFile, HasReftable, Moves, Breaks, LeavesSound, IsFault}
 use Rattle.qcow2_alloc.specs.ImageStorage.{storage_of}
 use Rattle.qcow2_alloc.specs.MetadataCaches.{order_of, l2_tables, refblocks, known_of, StaySound, Made}
+use Rattle.qcow2_alloc.proofs.CountsStay.{counts_follow}
 use Rattle.qcow2_alloc.proofs.KeptTables.Settled.{top_still}
 
 -- ---- what is pending
@@ -67,6 +70,7 @@ module _ {S : Type 0} (view : S → StorageView) where
     since = record { moments = passes_none (view_in view file) _; contents = λ backing m ok known_ok. ok };
     unseen = unseen_none (stand_in view file p);
     l1_table = l1_same_none (stand_in view file p);
+    counts = λ k. omega arith;
   }
 
   pub endures_then : (a b c : ImageFile S) → Endures (view_in view a) (view_in view b) (known_in view a) nothing_given []
@@ -88,6 +92,7 @@ module _ {S : Type 0} (view : S → StorageView) where
     since = endures_then a b c first.since first.leads.known second.since;
     unseen = unseen_then (stand_in view a p) (stand_in view b q) (stand_in view c r) first.unseen second.unseen held;
     l1_table = l1_same_then (stand_in view a p) (stand_in view b q) (stand_in view c r) first.unseen.header first.l1_table second.l1_table;
+    counts = λ k. let one = first.counts k in let two = second.counts k in omega arith;
   }
 
   pub breaks_then : (p q : Pending) (a b c : ImageFile S) (e : ImageError) → Moved p q a b → Breaks view b c e → Breaks view a c e
@@ -128,6 +133,7 @@ module _ {S : Type 0} (view : S → StorageView) where
       since = record { moments = stays.since.moments; contents = stays.since.contents };
       unseen = unseen_known (stand_in view file p) (stand_in view called p) refl stays.known;
       l1_table = l1_same_known (stand_in view file p) (stand_in view called p) sound.caches.kept.kept.guarded stays.sound.kept.kept.guarded refl (λ i. ap (λ (b : Bytes). l1_entry file.header.fields b i) stays.known);
+      counts = λ k. let same = ap (λ (b : Bytes). count file.header.fields b k) stays.known in omega arith;
     }
 
     pub reftable_cached : (t : EntryTableView) → HasReftable view file t → HasReftable view called t
@@ -146,12 +152,18 @@ module _ {S : Type 0} (view : S → StorageView) where
     abbrev now_known : Bytes
     now_known = known_of file.header.fields caches (contents_in view file)
 
+    -- no entry of the storage changes
+    same_base : (q : Pending) → Leads (stand_in view file p) (stand_in view counted q) nothing_given [] → IsUnseen (stand_in view file p) (stand_in view counted q) → (k : ℕ) → q.surplus k ≡ p.surplus k
+        → count file.header.fields (known_in view file) k + pending_at q k ≤ count file.header.fields now_known k + pending_at p k
+    same_base q leads unseen k same =
+        counts_follow file.header.fields (order_of file.caches) (order_of caches) p q (contents_in view file) (contents_in view file) (known_in view file) now_known sound.caches.kept.kept.guarded leads.sound unseen.covers (λ i. omega arith) k same
+
     pub reftable_counted : (t : EntryTableView) → HasReftable view file t → HasReftable view counted t
     reftable_counted t has = record { cluster = has.cluster; bits = has.bits; count = has.count; entries = has.entries }
 
     module _ (made : Made (CountRises file.header.fields (known_in view file) now_known c) file.header.fields file.caches caches (contents_in view file)) where
-      raised_as : (q : Pending) → Leads (stand_in view file p) (record (stand_in view file p) { pending = q; known = now_known }) nothing_given [] → Moved p q file counted
-      raised_as q leads =
+      raised_as : (q : Pending) → ((k : ℕ) → q.surplus k ≡ p.surplus k) → Leads (stand_in view file p) (record (stand_in view file p) { pending = q; known = now_known }) nothing_given [] → Moved p q file counted
+      raised_as q same leads =
           let leads' : Leads (stand_in view file p) (stand_in view counted q) nothing_given [] =
           subst (λ (d : Direction). Leads (stand_in view file p) (record (stand_in view file p) { direction = d; pending = q; known = now_known }) nothing_given []) (sym turned) leads in record {
             sound = record { honest = sound.honest; caches = made.sound q leads'.sound; settled = made.settled sound.settled; room = marks.room sound.room };
@@ -159,6 +171,7 @@ module _ {S : Type 0} (view : S → StorageView) where
             since = record { moments = passes_none (view_in view file) _; contents = λ backing m ok known_ok. ok };
             unseen = unseen_count (stand_in view file p) (stand_in view counted q) sound.caches.kept.kept.guarded c refl made.change.real made.change.outside;
             l1_table = l1_same_base (stand_in view file p) (stand_in view counted q) refl;
+            counts = λ k. same_base q leads' (unseen_count (stand_in view file p) (stand_in view counted q) sound.caches.kept.kept.guarded c refl made.change.real made.change.outside) k (same k);
           }
 
       -- no table lies in a cluster that isn't counted
@@ -175,14 +188,13 @@ module _ {S : Type 0} (view : S → StorageView) where
 
       -- a cluster is taken
       pub moves_raised : (d : Bool) → MayTake d file → Moved p (taken_as d p (one_at c)) file counted
-      moves_raised true may = raised_as (with_held p (one_at c)) (count_is_changed.data_allocated (stand_in view file p) now_known c sound.caches.kept.kept.guarded may made.change unlaid)
-      moves_raised false may = raised_as (with_fresh p (one_at c)) (count_is_changed.table_allocated (stand_in view file p) now_known c sound.caches.kept.kept.guarded made.change)
+      moves_raised true may = raised_as (with_held p (one_at c)) (λ k. refl) (count_is_changed.data_allocated (stand_in view file p) now_known c sound.caches.kept.kept.guarded may made.change unlaid)
+      moves_raised false may = raised_as (with_fresh p (one_at c)) (λ k. refl) (count_is_changed.table_allocated (stand_in view file p) now_known c sound.caches.kept.kept.guarded made.change)
 
-    -- a cluster that was taken is given back
-    module _ (d : Bool) (q : Pending) (taken : p ≡ taken_as d q (one_at c))
-        (made : Made (CountFalls file.header.fields (known_in view file) now_known c) file.header.fields file.caches caches (contents_in view file)) where
-      lowered_as : Leads (stand_in view file p) (record (stand_in view file p) { pending = q; known = now_known }) nothing_given [] → Moved p q file counted
-      lowered_as leads =
+    -- a cluster that is owed is counted once less
+    module _ (q : Pending) (made : Made (CountFalls file.header.fields (known_in view file) now_known c) file.header.fields file.caches caches (contents_in view file)) where
+      lowered_as : ((k : ℕ) → q.surplus k ≡ p.surplus k) → Leads (stand_in view file p) (record (stand_in view file p) { pending = q; known = now_known }) nothing_given [] → Moved p q file counted
+      lowered_as same leads =
           let leads' : Leads (stand_in view file p) (stand_in view counted q) nothing_given [] =
           subst (λ (d : Direction). Leads (stand_in view file p) (record (stand_in view file p) { direction = d; pending = q; known = now_known }) nothing_given []) (sym turned) leads in record {
             sound = record { honest = sound.honest; caches = made.sound q leads'.sound; settled = made.settled sound.settled; room = marks.room sound.room };
@@ -190,6 +202,7 @@ module _ {S : Type 0} (view : S → StorageView) where
             since = record { moments = passes_none (view_in view file) _; contents = λ backing m ok known_ok. ok };
             unseen = unseen_count (stand_in view file p) (stand_in view counted q) sound.caches.kept.kept.guarded c refl made.change.real made.change.outside;
             l1_table = l1_same_base (stand_in view file p) (stand_in view counted q) refl;
+            counts = λ k. same_base q leads' (unseen_count (stand_in view file p) (stand_in view counted q) sound.caches.kept.kept.guarded c refl made.change.real made.change.outside) k (same k);
           }
 
       -- it is spent first, and then no longer counted
@@ -204,19 +217,32 @@ module _ {S : Type 0} (view : S → StorageView) where
             known = λ backing m ok known_ok. second.known backing m (first.base backing m ok known_ok) (first.known backing m ok known_ok);
           })
 
-    module _ (q : Pending) (made : Made (CountFalls file.header.fields (known_in view file) now_known c) file.header.fields file.caches caches (contents_in view file)) where
-      pub moves_lowered : (d : Bool) → p ≡ taken_as d q (one_at c) → Moved p q file counted
-      moves_lowered true taken =
+      pub moves_lowered : (owed : Owed) → MayLower owed file → p ≡ owed_as owed q (one_at c) → Moved p q file counted
+      moves_lowered (Taken true) may taken =
           let held : p.held c ≡ q.held c + one_at c c = ap (λ (r : Pending). r.held c) taken in
           let own = one_here c in
           let first = pending_is_changed.undone (stand_in view file p) (one_at c) sound.caches.kept.kept.guarded (one_few c) (λ k some. subst (λ n. 0 < p.held n) (sym (one_alone c k some)) (omega arith)) in
-          lowered_as true q taken made (freed true q taken made (held_to_spent p (one_at c)) first (omega arith)
+          lowered_as (λ k. sym (ap (λ (r : Pending). r.surplus k) taken)) (freed (held_to_spent p (one_at c)) first (omega arith)
           (ap (λ (r : Pending). without_spent (held_to_spent r (one_at c)) (one_at c)) taken
           ∙ pending_same (without_spent (held_to_spent (with_held q (one_at c)) (one_at c)) (one_at c)) q (λ k. omega arith) (λ k. refl) (λ k. omega arith) (λ k. refl) (λ k. refl)))
-      moves_lowered false taken =
+      moves_lowered (Taken false) may taken =
           let fresh : p.fresh c ≡ q.fresh c + one_at c c = ap (λ (r : Pending). r.fresh c) taken in
           let own = one_here c in
           let first = pending_is_changed.abandoned (stand_in view file p) (one_at c) sound.caches.kept.kept.guarded (one_few c) (λ k some. subst (λ n. 0 < p.fresh n) (sym (one_alone c k some)) (omega arith)) in
-          lowered_as false q taken made (freed false q taken made (fresh_to_spent p (one_at c)) first (omega arith)
+          lowered_as (λ k. sym (ap (λ (r : Pending). r.surplus k) taken)) (freed (fresh_to_spent p (one_at c)) first (omega arith)
           (ap (λ (r : Pending). without_spent (fresh_to_spent r (one_at c)) (one_at c)) taken
           ∙ pending_same (without_spent (fresh_to_spent (with_fresh q (one_at c)) (one_at c)) (one_at c)) q (λ k. refl) (λ k. omega arith) (λ k. omega arith) (λ k. refl) (λ k. refl)))
+      moves_lowered (Listed Metadata) may listed =
+          let spent : p.spent c ≡ q.spent c + one_at c c = ap (λ (r : Pending). r.spent c) listed in
+          let own = one_here c in
+          let s : Stand = stand_in view file p in
+          lowered_as (λ k. sym (ap (λ (r : Pending). r.surplus k) listed)) (subst (λ (r : Pending). Leads s (record s { pending = r; known = now_known }) nothing_given [])
+          (ap (λ (r : Pending). without_spent r (one_at c)) listed ∙ pending_same (without_spent (listed_as Metadata q (one_at c)) (one_at c)) q (λ k. refl) (λ k. refl) (λ k. omega arith) (λ k. refl) (λ k. refl))
+          (count_is_changed.table_freed s now_known c sound.caches.kept.kept.guarded made.change (omega arith)))
+      moves_lowered (Listed Data) may listed =
+          let dropped : p.dropped c ≡ q.dropped c + one_at c c = ap (λ (r : Pending). r.dropped c) listed in
+          let own = one_here c in
+          let s : Stand = stand_in view file p in
+          lowered_as (λ k. sym (ap (λ (r : Pending). r.surplus k) listed)) (subst (λ (r : Pending). Leads s (record s { pending = r; known = now_known }) nothing_given [])
+          (ap (λ (r : Pending). without_dropped r (one_at c)) listed ∙ pending_same (without_dropped (listed_as Data q (one_at c)) (one_at c)) q (λ k. refl) (λ k. refl) (λ k. refl) (λ k. omega arith) (λ k. refl))
+          (count_is_changed.data_freed s now_known c sound.caches.kept.kept.guarded may made.change (omega arith)))

@@ -18,6 +18,7 @@ use Rattle.qcow2_alloc.specs.declared.image_storage.ImageStorage.{ImageStorage}
 use Rattle.qcow2_alloc.specs.ImageFile.{nothing_given, view_in, contents_in, known_in, stand_in, IsSoundFile, HasReftable, Moves}
 use Rattle.qcow2_alloc.specs.ImageStorage.{storage_of}
 use Rattle.qcow2_alloc.specs.MetadataCaches.{order_of, l2_tables, refblocks}
+use Rattle.qcow2_alloc.proofs.CountsStay.{counts_follow, fixed_more}
 use Rattle.qcow2_alloc.proofs.KeptTables.Beside.{top_beside, settled_beside_write, sound_beside}
 
 module _ {S : Type 0} (view : S → StorageView) (p : Pending) (file : ImageFile S) (storage : ImageStorage S) (sound : IsSoundFile view p file) (honest : (view (storage_of storage)).is_honest)
@@ -67,6 +68,7 @@ module _ {S : Type 0} (view : S → StorageView) (p : Pending) (file : ImageFile
   -- no guest sees it
   pub moves_written : Passing (view_in view file) (view (storage_of storage)) (λ c. c ≡ (view (storage_of storage)).contents) → Moves view p p file written
   moves_written time =
+      let h = file.header.fields in
       let unseen = unseen_written (stand_in view file p) (stand_in view written p) sound.caches.kept.kept.guarded each_known refl in record {
         sound = record {
           honest = honest;
@@ -81,4 +83,6 @@ module _ {S : Type 0} (view : S → StorageView) (p : Pending) (file : ImageFile
         };
         unseen = unseen.0;
         l1_table = unseen.1;
+        counts = λ k. counts_follow h (order_of file.caches) (order_of file.caches) p p (contents_in view file) (contents_in view written) (known_in view file) (known_in view written) sound.caches.kept.kept.guarded leads_written.sound unseen.0.covers
+            (fixed_more h (contents_in view file) (contents_in view written) (λ i some. sym ((top_beside h p p file.caches (contents_in view file) (contents_in view written) sound.caches sound.settled tables_stay).reftable i)) unseen.1) k refl;
       }

@@ -10,3 +10,6 @@ pub mod Runs
 pub mod FileWrites
 pub mod PlacedBlocks
 pub mod NamedBlocks
+pub mod CountsStay
+pub mod Hints
+pub mod Freeing

@@ -44,6 +44,7 @@ use Rattle.qcow2_alloc.specs.ImageStorage.{storage_of}
 use Rattle.qcow2_alloc.specs.KeptTables.{AreLoaded}
 use Rattle.qcow2_alloc.specs.MetadataCaches.{order_of, l2_tables, refblocks, rb_at}
 use Rattle.qcow2_alloc.specs.TableCaches.{IsBlockOf}
+use Rattle.qcow2_alloc.proofs.CountsStay.{counts_follow, fixed_more}
 use Rattle.qcow2_alloc.proofs.FileSteps.{one_here, pending_same}
 use Rattle.qcow2_alloc.proofs.KeptTables.Getting.{cluster_aligned}
 use Rattle.qcow2_alloc.proofs.KeptTables.Named.{AreCurrentIn, current_entry, settled_named, sound_named}
@@ -59,6 +60,11 @@ entry_write_as view before asked after cluster k bits bits' place n bytes result
     (subst (λ b. Changes (view asked) (view after) result (overwritten (view asked).contents (k * 2 ^ b + n) bytes)) same_bits (rw is at written)))
 
 -- a table that stands in a cluster lies in this one alone
+-- what is counted beside
+surplus_placing : (d : Bool) (p : Pending) (at k : ℕ) → (placing d p at).surplus k ≡ p.surplus k
+surplus_placing true p at k = refl
+surplus_placing false p at k = refl
+
 table_in-one : (h : HeaderFields) (c place at : ℕ) → place ≢ 0 → place / cluster_size h ≡ at → table_in h c place ≡ one_at at c
 table_in-one h c place at real in_it =
     let inside : table_in h c place ≡ in_cluster h c place = cond-false _ _ _ (ne_eqb place 0 real) in
@@ -208,6 +214,10 @@ module _ {S : Type 0} (view : S → StorageView) (d : Bool) (p : Pending) (range
           (covers_written view q file sound may))
     ]
 
+    -- the others are named as they were
+    still_named : (k : ℕ) → block_offset (reftable_entry h base k) ≢ 0 → reftable_entry h base' k ≡ reftable_entry h base k
+    still_named k some = sym (other_reftable h base base' range k but (λ same. some (ap (λ n. block_offset (reftable_entry h base n)) same ∙ (has_none view q file t sound has range place.none).0)))
+
     -- ---- the caches
     abbrev unseen : IsUnseen (stand_in view file q) (stand_in view named p) × SameL1Table (stand_in view file q) (stand_in view named p)
     unseen = unseen_refblock (stand_in view file q) (stand_in view named p) sound.caches.kept.kept.guarded range entry refl writes
@@ -295,6 +305,7 @@ module _ {S : Type 0} (view : S → StorageView) (d : Bool) (p : Pending) (range
       };
       unseen = unseen.0;
       l1_table = unseen.1;
+      counts = λ k. counts_follow h (order_of file.caches) (order_of file.caches) q p base base' (known_in view file) (known_in view named) sound.caches.kept.kept.guarded leads.sound unseen.0.covers (fixed_more h base base' still_named unseen.1) k (sym (surplus_placing d p at k));
     }
 
   -- what is kept of the storage and of what is known is kept, whether the write is done or not; and where it is done, the refblock is named

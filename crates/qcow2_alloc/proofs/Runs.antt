@@ -23,7 +23,7 @@ run_after first n k above =
     past true = refl
     past false = refl
 
-none_there : (c k : ℕ) → (k ≡ c → ⊥) → one_at c k ≡ 0
+pub none_there : (c k : ℕ) → (k ≡ c → ⊥) → one_at c k ≡ 0
 none_there c k ne = cond-false {A = ℕ} (k == c) 1 0 (ne_eqb k c ne)
 
 -- the first cluster of a run, and the others

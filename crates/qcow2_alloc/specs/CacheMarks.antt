@@ -1,13 +1,15 @@
 -- The marks of the caches: pins, and whether a change was noted.
-use Rattle.std.specs.Prelude.{ℕ, ◌≡◌, ◌⊎◌, ◌<◌, ◌≤◌, ◌==◌, false, IsTrue, [], length}
+use Rattle.std.specs.Prelude.{ℕ, ◌≡◌, ◌⊎◌, ◌<◌, ◌≤◌, ◌==◌, false, IsTrue, List, [], length, Vec, Result, Ok, Err}
+use Rattle.std.specs.Global.{Global}
 use Rattle.std.specs.Option.{option_map_or}
-use Rattle.std.specs.Map.{lookup}
+use Rattle.std.specs.Map.{keys_of, lookup}
 use Rattle.qcow2_metadata.specs.Bytes.{Bytes}
 use Rattle.qcow2_metadata.specs.declared.header.HeaderFields.{HeaderFields}
 use Rattle.qcow2_laws.specs.Guard.{Pending}
 use Rattle.qcow2_alloc.specs.AsyncLruCache.{pinned}
 use Rattle.qcow2_alloc.specs.MetadataCaches.{order_of, l2_at, l2_tables, refblocks, known_of, AreSound}
 use Rattle.qcow2_alloc.specs.ImageError.{IsFault}
+use Rattle.qcow2_alloc.specs.declared.async_lru_cache.slot.Slot.{Slot}
 use Rattle.qcow2_alloc.specs.declared.cache.MetadataCaches.{MetadataCaches}
 use Rattle.qcow2_alloc.specs.declared.error.ImageError.{ImageError}
 use Rattle.qcow2_alloc.specs.declared.error.ImageError.TheVariants as I
@@ -50,3 +52,10 @@ module _ {S : Type 0} where
   -- no L2 table may go, or it is a fault
   abbrev pub IsInUseOrFault : MetadataCaches S → ImageError → Type 0
   IsInUseOrFault caches e = ((e ≡ I.InUse) × AreAllPinned caches) ⊎ IsFault e
+
+-- What invalidating a cache answers, and leaves of its entries: none has a pin, and none stays; or there was no memory for the answer, and all stay; or those with a pin stay, and
+-- their clusters are answered.
+abbrev pub LeavesPinned : {V : Type 0} → List (ℕ × Slot V) → Result (Unit {0}) ImageError → List (ℕ × Slot V) → Type 0
+LeavesPinned es (Ok _) fs = (pinned es ≡ []) × (fs ≡ [])
+LeavesPinned es (Err e) fs =
+    (0 < length (pinned es)) × (((e ≡ I.Memory) × (fs ≡ es)) ⊎ ((keys : Vec ℕ Global) × (e ≡ I.StillInUse keys) × (keys.items ≡ keys_of (pinned es)) × (fs ≡ pinned es)))

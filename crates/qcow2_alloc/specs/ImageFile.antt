@@ -1,8 +1,9 @@
 -- What contracts see of an image's file, and of the allocator beside it: where it stands, when it is sound, and steps that no guest sees.
-use Rattle.std.specs.Prelude.{◌/◌, ◌≡◌, ◌⊎◌, IsTrue, List, [], Some}
+use Rattle.std.specs.Prelude.{ℕ, ◌+◌, ◌/◌, ◌≡◌, ◌≤◌, ◌⊎◌, IsTrue, List, [], Some}
 use Rattle.image_access.specs.Moments.{StorageView}
 use Rattle.qcow2_metadata.specs.Bytes.{Bytes, byte_at}
 use Rattle.qcow2_metadata.specs.Header.{cluster_size, reftable_entries}
+use Rattle.qcow2_metadata.specs.Entries.{count}
 use Rattle.qcow2_metadata.specs.EntryTable.{EntryTableView, IsRefTableOf, entry_count}
 use Rattle.qcow2_laws.specs.Stops.{Gift}
 use Rattle.qcow2_laws.specs.Guard.{Pending}
@@ -20,6 +21,10 @@ use Rattle.qcow2_alloc.specs.declared.image_file.ImageFile.{ImageFile}
 
 abbrev pub nothing_given : Bytes → List Gift
 nothing_given backing = []
+
+-- how often a cluster is pending
+abbrev pub pending_at : Pending → ℕ → ℕ
+pending_at p k = p.held k + p.fresh k + p.spent k + p.dropped k
 
 module _ {S : Type 0} where
   module _ (view : S → StorageView) where
@@ -63,6 +68,8 @@ module _ {S : Type 0} where
       pub since : Endures (view_in old) (view_in new) (known_in old) nothing_given []
       pub unseen : IsUnseen (stand_in old p) (stand_in new p')
       pub l1_table : SameL1Table (stand_in old p) (stand_in new p')
+      -- each count changes with what is pending; where a refblock is named it may rise
+      pub counts : (k : ℕ) → count old.header.fields (known_in old) k + pending_at p' k ≤ count new.header.fields (known_in new) k + pending_at p k
 
     -- The storage failed, or memory was refused after a change, which is noted. At each moment what was kept is kept.
     pub record Breaks (old new : ImageFile S) (e : ImageError) : Type 0 where

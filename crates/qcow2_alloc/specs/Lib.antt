@@ -14,3 +14,5 @@ pub mod MetadataCaches
 pub mod CacheMarks
 pub mod ImageFile
 pub mod Allocation
+pub mod LowestRuns
+pub mod FreeList

@@ -1,5 +1,5 @@
 -- What contracts see of the caches of L2 tables and refblocks over the bytes of the storage.
-use Rattle.std.specs.Prelude.{ℕ, ◌+◌, ◌*◌, ◌/◌, ◌%◌, ◌≡◌, ◌≢◌, ◌<◌, ◌==◌, Bool, false, List, Option, Result, IfSome, IfErr, IsSome, IsTrue}
+use Rattle.std.specs.Prelude.{ℕ, ◌+◌, ◌*◌, ◌/◌, ◌%◌, ◌≡◌, ◌≢◌, ◌<◌, ◌==◌, Bool, false, List, Option, None, Result, IfSome, IfErr, IsSome, IsTrue, if◌then◌else◌}
 use Rattle.image_access.specs.Moments.{StorageView}
 use Rattle.qcow2_metadata.specs.Bytes.{Bytes, byte_at}
 use Rattle.qcow2_metadata.specs.declared.header.HeaderFields.{HeaderFields}
@@ -7,12 +7,12 @@ use Rattle.qcow2_metadata.specs.Header.{cluster_size, entries_per_cluster, count
 use Rattle.qcow2_metadata.specs.Entries.{count, l2_entry}
 use Rattle.qcow2_metadata.specs.Cover.{entry_cover}
 use Rattle.qcow2_metadata.specs.L2Mapping.{IsHostCluster, dropped_run}
-use Rattle.qcow2_metadata.specs.L2Table.{L2TableView, copied_entry}
+use Rattle.qcow2_metadata.specs.L2Table.{L2TableView, copied_entry, zero_entry, copied_host}
 use Rattle.qcow2_metadata.specs.RefBlock.{RefBlockView}
 use Rattle.qcow2_metadata.specs.TableBytes.{entry_at}
 use Rattle.qcow2_metadata.specs.Tables.{CachedTable}
 use Rattle.qcow2_laws.specs.Clusters as Order
-use Rattle.qcow2_laws.specs.Guard.{Pending, IsGuarded}
+use Rattle.qcow2_laws.specs.Guard.{Pending, IsGuarded, IsPartly}
 use Rattle.qcow2_laws.specs.Steps.{block_of, CountRises, CountFalls}
 use Rattle.qcow2_laws.specs.Caches.{known_bytes, AreClean, AreSettled}
 use Rattle.qcow2_laws.specs.Guests.{table_at}
@@ -194,7 +194,24 @@ module _ {S : Type 0} where
       (h : HeaderFields) (p : Pending) (base : Bytes) (i : ℕ) → AreSound h p caches base → IsEntryAt h (known_of h caches base) i table index → IsSome (l2_at caches table) → IsHostCluster h.cluster_bits host
       → MadeEntry h caches caches' base i index (copied_entry (host * cluster_size h)) answer
 
+  -- it becomes zero; where it is to keep its host cluster, and that is marked copied, it keeps it
+  abbrev pub ZeroesEntry : MetadataCaches S → MetadataCaches S → ℕ → ℕ → Bool → Option (ℕ × ℕ) → Type 0
+  ZeroesEntry caches caches' table index keep answer =
+      (h : HeaderFields) (p : Pending) (base : Bytes) (i : ℕ) → AreSound h p caches base → IsEntryAt h (known_of h caches base) i table index → IsSome (l2_at caches table)
+      → MadeEntry h caches caches' base i index (zero_entry (if keep then copied_host (entry_cover h (l2_entry (known_of h caches base) (table_at h (known_of h caches base) i) index)) else None)) answer
+
+  -- it becomes uncovered
+  abbrev pub DiscardsEntry : MetadataCaches S → MetadataCaches S → ℕ → ℕ → Option (ℕ × ℕ) → Type 0
+  DiscardsEntry caches caches' table index answer =
+      (h : HeaderFields) (p : Pending) (base : Bytes) (i : ℕ) → AreSound h p caches base → IsEntryAt h (known_of h caches base) i table index → IsSome (l2_at caches table)
+      → MadeEntry h caches caches' base i index 0 answer
+
   -- a change of it is noted
+  abbrev pub NotesHeld : MetadataCaches S → MetadataCaches S → ℕ → ℕ → Type 0
+  NotesHeld caches caches' table index =
+      (h : HeaderFields) (p : Pending) (base : Bytes) (i : ℕ) → AreSound h p caches base → IsEntryAt h (known_of h caches base) i table index → IsSome (l2_at caches table) → IsTrue caches'.is_changed
+
+  -- so where it is mapped
   abbrev pub NotesEntry : MetadataCaches S → MetadataCaches S → ℕ → ℕ → ℕ → Type 0
   NotesEntry caches caches' table index host =
       (h : HeaderFields) (p : Pending) (base : Bytes) (i : ℕ) → AreSound h p caches base → IsEntryAt h (known_of h caches base) i table index → IsSome (l2_at caches table) → IsHostCluster h.cluster_bits host
@@ -204,3 +221,26 @@ module _ {S : Type 0} where
   abbrev pub ShowsKnown : MetadataCaches S → ℕ → L2TableView → Type 0
   ShowsKnown caches table t =
       (h : HeaderFields) (p : Pending) (base : Bytes) (i index : ℕ) → AreSound h p caches base → IsEntryAt h (known_of h caches base) i table index → ShowsEntry h (known_of h caches base) i index t
+
+  -- ---- tables that are taken off, unwritten
+
+  -- Each cluster is known as before, or as it stands on the storage, and as before where none of them was modified. No refblock is new that wasn't. The caches are sound again,
+  -- whatever is pending, where the order of writes is kept.
+  pub record TakenOff (Unmodified : Type 0) (h : HeaderFields) (caches caches' : MetadataCaches S) (base : Bytes) : Type 0 where
+    pub known : IsPartly (cluster_size h) base (known_of h caches base) (known_of h caches' base)
+    pub same : Unmodified → known_of h caches' base ≡ known_of h caches base
+    pub settled : AreSettled h (refblocks caches) base → AreSettled h (refblocks caches') base
+    pub sound : (p : Pending) → IsGuarded h (order_of caches') p base (known_of h caches' base) → AreSound h p caches' base
+
+  -- so on sound caches
+  abbrev pub TakesOff : Type 0 → MetadataCaches S → MetadataCaches S → Type 0
+  TakesOff Unmodified caches caches' = (h : HeaderFields) (p : Pending) (base : Bytes) → AreSound h p caches base → TakenOff Unmodified h caches caches' base
+
+  -- the refblock of a cluster is taken off: it is no longer held, and outside of its cluster nothing known changes
+  pub record TakenFrom (h : HeaderFields) (caches caches' : MetadataCaches S) (base : Bytes) (cluster : ℕ) : Type 0 where
+    pub off : TakenOff (IfSome (rb_at caches cluster) (λ b. b.is_modified ≡ false)) h caches caches' base
+    pub outside : IsSameOutside (cluster_size h) cluster (known_of h caches base) (known_of h caches' base)
+    pub gone : rb_at caches' cluster ≡ None
+
+  abbrev pub TakesBlock : MetadataCaches S → MetadataCaches S → ℕ → Type 0
+  TakesBlock caches caches' cluster = (h : HeaderFields) (p : Pending) (base : Bytes) → AreSound h p caches base → TakenFrom h caches caches' base cluster

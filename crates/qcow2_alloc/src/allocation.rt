@@ -1,11 +1,13 @@
 //! Taking clusters of the image's file.
-ghost use Rattle.std.specs.Prelude.{◌≡◌, ◌≢◌, ℕ, ◌+◌, ◌*◌, ◌^◌, ◌<◌, ◌≤◌, Bool, Some, IfSome, IfOk, IfErr, OnOk, IsSome, IsTrue};
+ghost use Rattle.std.specs.Prelude.{◌≡◌, ◌≢◌, ◌/◌, false, ◌++◌, ◌∷◌, [], ℕ, ◌+◌, ◌*◌, ◌^◌, ◌<◌, ◌≤◌, Bool, Some, IfSome, IfOk, IfErr, OnOk, IsSome, IsTrue};
 ghost use Rattle.image_access.specs.Moments.{Keeps, Passing};
 ghost use Rattle.qcow2_laws.specs.Changes.{one_at};
 ghost use Rattle.qcow2_laws.specs.Clusters.{L2DependsOnRb};
 ghost use Rattle.qcow2_laws.specs.Guard.{Pending};
-ghost use Rattle.qcow2_alloc.specs.Allocation.{run_at, taken_as, placing, first_counts, HasPlaceFor, KeepsEntries, MayTake, LoadsBlock, WritesBlock, PlacesBlock, TakesOne, TakesRun, LowersOne, GivesBack, GivesBackRun, HasNone, GetsBlock, TakesLowest, TakesSomeRun, is_data, Allocates};
+ghost use Rattle.qcow2_alloc.specs.Allocation.{run_at, taken_as, placing, first_counts, HasPlaceFor, KeepsEntries, MayTake, MayFree, Owed, listed_as, owed_as, MayLower, Frees, LoadsBlock, WritesBlock, PlacesBlock, TakesOne, TakesRun, LowersOne, GivesBack, GivesBackRun, HasNone, GetsBlock, TakesLowest, TakesSomeRun, is_data, Allocates};
+ghost use Rattle.qcow2_alloc.specs.FreeList.{run_of, with_listed, but, GoOffInOrder};
 ghost use Rattle.qcow2_alloc.specs.CacheMarks.{KeepsMarks};
+ghost use Rattle.qcow2_alloc.specs.LowestRuns.{HasHint, IsLowestRun, IsUsed, KeepsHint};
 ghost use Rattle.qcow2_alloc.specs.ImageError.{IsOfTables, IsFault};
 ghost use Rattle.qcow2_alloc.specs.ImageFile.{view_in, HasReftable, IsSoundWith};
 ghost use Rattle.qcow2_laws.specs.Caches.{AreClean, BlocksMayGo};
@@ -19,7 +21,7 @@ ghost use Rattle.qcow2_alloc.specs.TableCaches.{IsBlockOf};
 
 use crate::{
     ClusterKind, ClustersToFreeEntry, ClustersToFreeList, ImageError, ImageFile, PendingClusters,
-    WriteKind,
+    TakenClusters, WriteKind,
 };
 use image_access::Storage;
 use qcow2_metadata::{ClusterCount, Header, HostCluster, RefBlock, RefTable};
@@ -103,6 +105,7 @@ impl Allocator {
         ensures same { Keeps (view_in S.view file.old) (view_in S.view file.new) }
         ensures time { Passing (view_in S.view file.old) (view_in S.view file.new) (λ c. c ≡ (view_in S.view file.new).contents) }
         ensures reftable { (view_in S.view file.old).is_honest → IfOk result (λ allocator. HasReftable S.view file.new allocator.reftable) }
+        ensures first { IfOk result (λ allocator. allocator.first_free_cluster ≡ 0) }
     {
         let bits = file.header.cluster_bits();
         let Some(cluster) = file.header.reftable_offset().checked_cluster(bits) else {
@@ -124,12 +127,16 @@ impl Allocator {
     }
 
     /// How many clusters couldn't be freed, up to the greatest `u64`.
-    pub fn leaked_clusters(&self) -> u64 {
+    pub fn leaked_clusters(&self) -> u64
+        ensures { result ≡ self.now.leaked_clusters }
+    {
         self.leaked_clusters
     }
 
     /// No cluster below this one has count 0.
-    pub fn first_free_cluster(&self) -> HostCluster {
+    pub fn first_free_cluster(&self) -> HostCluster
+        ensures { result ≡ self.now.first_free_cluster }
+    {
         HostCluster::new(self.first_free_cluster)
     }
 
@@ -147,6 +154,8 @@ impl Allocator {
         ensures list { file.new.free_list ≡ file.old.free_list }
         ensures nameable { IfOk result (λ p. IsHostCluster file.old.header.fields.cluster_bits p.first_cluster) }
         ensures cause { IfErr result IsOfTables }
+        ensures lowest { (p : Pending) → IsSoundWith S.view self.old p file.old → HasHint S.view self.old file.old → IfOk result (λ run. IsLowestRun S.view file.new run.first_cluster count) }
+        ensures hint { (p : Pending) → IsSoundWith S.view self.old p file.old → HasHint S.view self.old file.old → KeepsHint S.view self.new file.new result }
     {
         self.allocate(file, count, ClusterKind::Metadata)
     }
@@ -165,6 +174,8 @@ impl Allocator {
         ensures list { file.new.free_list ≡ file.old.free_list }
         ensures nameable { IfOk result (λ p. IsHostCluster file.old.header.fields.cluster_bits p.first_cluster) }
         ensures cause { IfErr result IsOfTables }
+        ensures lowest { (p : Pending) → IsSoundWith S.view self.old p file.old → HasHint S.view self.old file.old → IfOk result (λ run. IsLowestRun S.view file.new run.first_cluster count) }
+        ensures hint { (p : Pending) → IsSoundWith S.view self.old p file.old → HasHint S.view self.old file.old → KeepsHint S.view self.new file.new result }
     {
         file.caches.l2_depends_on_rb(&mut file.storage)?;
         self.allocate(file, count, ClusterKind::Data)
@@ -185,6 +196,8 @@ impl Allocator {
         ensures list { file.new.free_list ≡ file.old.free_list }
         ensures nameable { IfOk result (λ p. IsHostCluster file.old.header.fields.cluster_bits p.first_cluster) }
         ensures cause { IfErr result IsOfTables }
+        ensures lowest { (p : Pending) → IsSoundWith S.view self.old p file.old → MayTake (is_data kind) file.old → HasHint S.view self.old file.old → IfOk result (λ run. IsLowestRun S.view file.new run.first_cluster count) }
+        ensures hint { (p : Pending) → IsSoundWith S.view self.old p file.old → MayTake (is_data kind) file.old → HasHint S.view self.old file.old → KeepsHint S.view self.new file.new result }
     {
         let entry = ClustersToFreeEntry {
             first_cluster: HostCluster::new(0),
@@ -213,6 +226,8 @@ impl Allocator {
         ensures list { file.new.free_list ≡ file.old.free_list }
         ensures nameable { IfOk result (λ first. IsHostCluster file.old.header.fields.cluster_bits first) }
         ensures cause { IfErr result IsOfTables }
+        ensures lowest { (p : Pending) (is_data : Bool) → IsSoundWith S.view self.old p file.old → MayTake is_data file.old → HasHint S.view self.old file.old → IfOk result (λ first. IsLowestRun S.view file.new first n) }
+        ensures hint { (p : Pending) (is_data : Bool) → IsSoundWith S.view self.old p file.old → MayTake is_data file.old → HasHint S.view self.old file.old → KeepsHint S.view self.new file.new result }
     {
         let limit = (MAX_HOST_OFFSET >> file.header.cluster_bits()) + 1;
         let mut first = self.first_free_cluster;
@@ -242,6 +257,8 @@ impl Allocator {
         ensures list { file.new.free_list ≡ file.old.free_list }
         ensures within { IfOk result (λ taken. taken ≤ n) }
         ensures cause { IfErr result IsOfTables }
+        ensures used { (p : Pending) (is_data : Bool) → IsSoundWith S.view self.old p file.old → MayTake is_data file.old → IfOk result (λ taken. taken ≢ n → IsUsed S.view file.new (first + taken)) }
+        ensures hint { (p : Pending) (is_data : Bool) → IsSoundWith S.view self.old p file.old → MayTake is_data file.old → HasHint S.view self.old file.old → KeepsHint S.view self.new file.new result }
     {
         'taking: for taken in 0..n {
             match self.take(file, first + taken) {
@@ -275,6 +292,8 @@ impl Allocator {
         ensures header { file.new.header ≡ file.old.header }
         ensures list { file.new.free_list ≡ file.old.free_list }
         ensures cause { IfErr result IsOfTables }
+        ensures used { (p : Pending) (is_data : Bool) → IsSoundWith S.view self.old p file.old → MayTake is_data file.old → IfOk result (λ taken. taken ≡ false → IsUsed S.view file.new cluster) }
+        ensures hint { (p : Pending) (is_data : Bool) → IsSoundWith S.view self.old p file.old → MayTake is_data file.old → HasHint S.view self.old file.old → KeepsHint S.view self.new file.new result }
     {
         self.ensure_block(file, cluster)?;
         let taken = self.raise(file, cluster)?;
@@ -299,11 +318,12 @@ impl Allocator {
         ensures header { file.new.header ≡ file.old.header }
         ensures list { file.new.free_list ≡ file.old.free_list }
         ensures cause { IfErr result IsOfTables }
+        ensures hint { (p : Pending) (is_data : Bool) → IsSoundWith S.view self.old (taken_as is_data p (run_at first n)) file.old → HasHint S.view self.old file.old → OnOk result (HasHint S.view self.new file.new) }
+        ensures kept { (p : Pending) (is_data : Bool) → IsSoundWith S.view self.old (taken_as is_data p (run_at first n)) file.old → OnOk result ((k : ℕ) → run_at first n k ≡ 0 → IsUsed S.view file.old k → IsUsed S.view file.new k) }
     {
         if n == 0 {
             return Ok(());
         }
-        self.first_free_cluster = self.first_free_cluster.min(first);
         'lowering: for cluster in first..first + n {
             self.lower(file, cluster)?;
         }
@@ -315,11 +335,12 @@ impl Allocator {
         ensures marks { KeepsMarks file.old.caches file.new.caches }
         ensures order { order_of file.new.caches ≡ order_of file.old.caches }
         ensures reftable { self.new.reftable ≡ self.old.reftable }
-        ensures sound { (p : Pending) (is_data : Bool) → IsSoundWith S.view self.old (taken_as is_data p (one_at cluster)) file.old
-            → GivesBack S.view (taken_as is_data p (one_at cluster)) file.old self.new file.new p result }
+        ensures sound { (p : Pending) (owed : Owed) → IsSoundWith S.view self.old (owed_as owed p (one_at cluster)) file.old → MayLower owed file.old
+            → GivesBack S.view (owed_as owed p (one_at cluster)) file.old self.new file.new p result }
         ensures header { file.new.header ≡ file.old.header }
         ensures list { file.new.free_list ≡ file.old.free_list }
         ensures cause { IfErr result IsOfTables }
+        ensures hint { (p : Pending) (owed : Owed) → IsSoundWith S.view self.old (owed_as owed p (one_at cluster)) file.old → MayLower owed file.old → HasHint S.view self.old file.old → OnOk result (HasHint S.view self.new file.new) }
     {
         match self.try_lower(file, cluster) {
             Ok(true) => return Ok(()),
@@ -331,6 +352,149 @@ impl Allocator {
             }
         }
         self.leaked_clusters = self.leaked_clusters.saturating_add(1);
+        Ok(())
+    }
+
+    /// Works off the list of clusters that are to be freed: metadata first, then data. From then on L2 tables are written before refblocks.
+    /// Refused, the clusters that aren't freed yet stay listed.
+    pub fn free<S: Storage>(&mut self, file: &mut ImageFile<S>) -> Result<(), ImageError>
+        ensures marks { KeepsMarks file.old.caches file.new.caches }
+        ensures emptied { OnOk result (file.new.free_list ≡ []) }
+        ensures in_order { GoOffInOrder file.old.free_list file.new.free_list }
+        ensures sound { (p : Pending) → IsSoundWith S.view self.old (with_listed p file.old.free_list) file.old
+            → Frees S.view (with_listed p file.old.free_list) file.old self.new file.new (with_listed p file.new.free_list) result }
+        ensures header { file.new.header ≡ file.old.header }
+        ensures cause { IfErr result IsOfTables }
+        ensures hint { (p : Pending) → IsSoundWith S.view self.old (with_listed p file.old.free_list) file.old → HasHint S.view self.old file.old → OnOk result (HasHint S.view self.new file.new) }
+    {
+        self.free_kind(file, ClusterKind::Metadata)?;
+        if file.free_list.is_empty() {
+            return Ok(());
+        }
+        file.caches.rb_depends_on_l2(&mut file.storage)?;
+        self.free_kind(file, ClusterKind::Data)
+    }
+
+    // Frees the clusters of one kind that are listed. Those of the other kind stay listed, and so do those not freed yet where it is refused.
+    fn free_kind<S: Storage>(
+        &mut self,
+        file: &mut ImageFile<S>,
+        kind: ClusterKind,
+    ) -> Result<(), ImageError>
+        ensures marks { KeepsMarks file.old.caches file.new.caches }
+        ensures order { order_of file.new.caches ≡ order_of file.old.caches }
+        ensures left { OnOk result (file.new.free_list ≡ but kind file.old.free_list) }
+        ensures others { but kind file.new.free_list ≡ but kind file.old.free_list }
+        ensures sound { (p : Pending) → IsSoundWith S.view self.old (with_listed p file.old.free_list) file.old → MayFree kind file.old
+            → Frees S.view (with_listed p file.old.free_list) file.old self.new file.new (with_listed p file.new.free_list) result }
+        ensures header { file.new.header ≡ file.old.header }
+        ensures cause { IfErr result IsOfTables }
+        ensures hint { (p : Pending) → IsSoundWith S.view self.old (with_listed p file.old.free_list) file.old → MayFree kind file.old → HasHint S.view self.old file.old → OnOk result (HasHint S.view self.new file.new) }
+    {
+        let mut taken = file.free_list.take();
+        let done = self.free_taken(file, &mut taken, kind);
+        taken.hand_back(&mut file.free_list);
+        done
+    }
+
+    // Frees the entries of one kind, as far as it isn't refused, and lists those of the other kind.
+    fn free_taken<S: Storage>(
+        &mut self,
+        file: &mut ImageFile<S>,
+        taken: &mut TakenClusters,
+        kind: ClusterKind,
+    ) -> Result<(), ImageError>
+        ensures marks { KeepsMarks file.old.caches file.new.caches }
+        ensures order { order_of file.new.caches ≡ order_of file.old.caches }
+        ensures all { OnOk result (taken.new ≡ []) }
+        ensures left { OnOk result (file.new.free_list ≡ file.old.free_list ++ but kind taken.old) }
+        ensures others { but kind (file.new.free_list ++ taken.new) ≡ but kind (file.old.free_list ++ taken.old) }
+        ensures sound { (p : Pending) → IsSoundWith S.view self.old (with_listed p (file.old.free_list ++ taken.old)) file.old → MayFree kind file.old
+            → Frees S.view (with_listed p (file.old.free_list ++ taken.old)) file.old self.new file.new (with_listed p (file.new.free_list ++ taken.new)) result }
+        ensures header { file.new.header ≡ file.old.header }
+        ensures cause { IfErr result IsOfTables }
+        ensures hint { (p : Pending) → IsSoundWith S.view self.old (with_listed p (file.old.free_list ++ taken.old)) file.old → MayFree kind file.old → HasHint S.view self.old file.old → OnOk result (HasHint S.view self.new file.new) }
+    {
+        'freeing: while let Some(pending) = taken.next_pending() {
+            self.free_or_list(file, pending, kind)?;
+        }
+        Ok(())
+    }
+
+    // Frees an entry of one kind, and lists one of the other kind.
+    fn free_or_list<S: Storage>(
+        &mut self,
+        file: &mut ImageFile<S>,
+        pending: PendingClusters,
+        kind: ClusterKind,
+    ) -> Result<(), ImageError>
+        ensures marks { KeepsMarks file.old.caches file.new.caches }
+        ensures order { order_of file.new.caches ≡ order_of file.old.caches }
+        ensures left { OnOk result (file.new.free_list ≡ file.old.free_list ++ but kind (pending ∷ [])) }
+        ensures others { but kind file.new.free_list ≡ but kind (file.old.free_list ++ pending ∷ []) }
+        ensures sound { (p : Pending) → IsSoundWith S.view self.old (with_listed p (file.old.free_list ++ pending ∷ [])) file.old → MayFree kind file.old
+            → Frees S.view (with_listed p (file.old.free_list ++ pending ∷ [])) file.old self.new file.new (with_listed p file.new.free_list) result }
+        ensures header { file.new.header ≡ file.old.header }
+        ensures cause { IfErr result IsOfTables }
+        ensures hint { (p : Pending) → IsSoundWith S.view self.old (with_listed p (file.old.free_list ++ pending ∷ [])) file.old → MayFree kind file.old → HasHint S.view self.old file.old → OnOk result (HasHint S.view self.new file.new) }
+    {
+        if pending.kind() == kind {
+            return self.free_entry(file, pending);
+        }
+        pending.hand_back(&mut file.free_list);
+        Ok(())
+    }
+
+    // Frees an entry. Refused, what isn't freed yet of it is listed.
+    fn free_entry<S: Storage>(
+        &mut self,
+        file: &mut ImageFile<S>,
+        pending: PendingClusters,
+    ) -> Result<(), ImageError>
+        ensures marks { KeepsMarks file.old.caches file.new.caches }
+        ensures order { order_of file.new.caches ≡ order_of file.old.caches }
+        ensures left { OnOk result (file.new.free_list ≡ file.old.free_list) }
+        ensures others { but pending.kind file.new.free_list ≡ but pending.kind file.old.free_list }
+        ensures sound { (p : Pending) → IsSoundWith S.view self.old (with_listed p (file.old.free_list ++ pending ∷ [])) file.old → MayFree pending.kind file.old
+            → Frees S.view (with_listed p (file.old.free_list ++ pending ∷ [])) file.old self.new file.new (with_listed p file.new.free_list) result }
+        ensures header { file.new.header ≡ file.old.header }
+        ensures cause { IfErr result IsOfTables }
+        ensures hint { (p : Pending) → IsSoundWith S.view self.old (with_listed p (file.old.free_list ++ pending ∷ [])) file.old → MayFree pending.kind file.old → HasHint S.view self.old file.old → OnOk result (HasHint S.view self.new file.new) }
+    {
+        let mut run = pending;
+        match self.free_run(file, &mut run) {
+            Ok(()) => {
+                run.make_persistent();
+                Ok(())
+            }
+            Err(refusal) => {
+                run.hand_back(&mut file.free_list);
+                Err(refusal)
+            }
+        }
+    }
+
+    // Lowers the counts of a run's clusters, and leaves those of the run that aren't lowered yet.
+    fn free_run<S: Storage>(
+        &mut self,
+        file: &mut ImageFile<S>,
+        run: &mut PendingClusters,
+    ) -> Result<(), ImageError>
+        ensures marks { KeepsMarks file.old.caches file.new.caches }
+        ensures order { order_of file.new.caches ≡ order_of file.old.caches }
+        ensures kind { run.new.kind ≡ run.old.kind }
+        ensures all { OnOk result (run.new.count ≡ 0) }
+        ensures sound { (p : Pending) → IsSoundWith S.view self.old (listed_as run.old.kind p (run_of run.old)) file.old → MayFree run.old.kind file.old
+            → Frees S.view (listed_as run.old.kind p (run_of run.old)) file.old self.new file.new (listed_as run.old.kind p (run_of run.new)) result }
+        ensures header { file.new.header ≡ file.old.header }
+        ensures list { file.new.free_list ≡ file.old.free_list }
+        ensures cause { IfErr result IsOfTables }
+        ensures hint { (p : Pending) → IsSoundWith S.view self.old (listed_as run.old.kind p (run_of run.old)) file.old → MayFree run.old.kind file.old → HasHint S.view self.old file.old → OnOk result (HasHint S.view self.new file.new) }
+    {
+        'freeing: while run.count().value() > 0 {
+            self.lower(file, run.cluster().value())?;
+            run.drop_first();
+        }
         Ok(())
     }
 
@@ -371,6 +535,7 @@ impl Allocator {
         ensures header { file.new.header ≡ file.old.header }
         ensures list { file.new.free_list ≡ file.old.free_list }
         ensures cause { IfErr result IsOfTables }
+        ensures used { (p : Pending) → IsSoundWith S.view self.old p file.old → (HasNone self.old.reftable (cluster / counts_per_block file.old.header.fields) → ⊥) → IfOk result (λ taken. taken ≡ false → IsUsed S.view file.new cluster) }
     {
         let bits = file.header.rb_bits();
         let Some(block) = self.load_block(file, cluster >> bits)? else {
@@ -388,19 +553,34 @@ impl Allocator {
     ) -> Result<bool, ImageError>
         ensures marks { KeepsMarks file.old.caches file.new.caches }
         ensures order { order_of file.new.caches ≡ order_of file.old.caches }
-        ensures same { self.new ≡ self.old }
-        ensures sound { (p : Pending) (is_data : Bool) → IsSoundWith S.view self.old (taken_as is_data p (one_at cluster)) file.old
-            → LowersOne S.view (taken_as is_data p (one_at cluster)) file.old self.new file.new p result }
+        ensures reftable { self.new.reftable ≡ self.old.reftable }
+        ensures sound { (p : Pending) (owed : Owed) → IsSoundWith S.view self.old (owed_as owed p (one_at cluster)) file.old → MayLower owed file.old
+            → LowersOne S.view (owed_as owed p (one_at cluster)) file.old self.new file.new p result }
         ensures header { file.new.header ≡ file.old.header }
         ensures list { file.new.free_list ≡ file.old.free_list }
         ensures cause { IfErr result IsOfTables }
+        ensures hint { (p : Pending) (owed : Owed) → IsSoundWith S.view self.old (owed_as owed p (one_at cluster)) file.old → MayLower owed file.old → HasHint S.view self.old file.old → OnOk result (HasHint S.view self.new file.new) }
     {
         let bits = file.header.rb_bits();
         let Some(block) = self.load_block(file, cluster >> bits)? else {
             return Ok(false);
         };
         let index = HostCluster::new(cluster).rb_index(bits);
-        Ok(file.caches.rb_decrement(block, index))
+        let lowered = file.caches.rb_decrement(block, index);
+        self.note_lowered(cluster, file.caches.rb_is_zero(block, index));
+        Ok(lowered)
+    }
+
+    // A cluster whose count is 0 now may be taken again.
+    fn note_lowered(&mut self, cluster: u64, is_free: bool)
+        ensures reftable { self.new.reftable ≡ self.old.reftable }
+        ensures leaked { self.new.leaked_clusters ≡ self.old.leaked_clusters }
+        ensures first { self.new.first_free_cluster ≤ self.old.first_free_cluster }
+        ensures free { IsTrue is_free → self.new.first_free_cluster ≤ cluster }
+    {
+        if is_free {
+            self.first_free_cluster = self.first_free_cluster.min(cluster);
+        }
     }
 
     // Sees to it that the range of a cluster has a refblock. No cluster is taken for one that couldn't be named.
@@ -416,6 +596,8 @@ impl Allocator {
         ensures header { file.new.header ≡ file.old.header }
         ensures list { file.new.free_list ≡ file.old.free_list }
         ensures cause { IfErr result IsOfTables }
+        ensures has { (p : Pending) → IsSoundWith S.view self.old p file.old → OnOk result (HasNone self.new.reftable (cluster / counts_per_block file.old.header.fields) → ⊥) }
+        ensures hint { (p : Pending) → IsSoundWith S.view self.old p file.old → HasHint S.view self.old file.old → KeepsHint S.view self.new file.new result }
     {
         let bits = file.header.rb_bits();
         let range = cluster >> bits;
@@ -454,6 +636,7 @@ impl Allocator {
         ensures header { file.new.header ≡ file.old.header }
         ensures list { file.new.free_list ≡ file.old.free_list }
         ensures cause { IfErr result IsOfTables }
+        ensures hint { (p : Pending) → IsSoundWith S.view self.old p file.old → HasHint S.view self.old file.old → KeepsHint S.view self.new file.new result }
     {
         let bits = file.header.rb_bits();
         'search: while self.first_free_cluster < end {
@@ -482,6 +665,8 @@ impl Allocator {
         ensures header { file.new.header ≡ file.old.header }
         ensures list { file.new.free_list ≡ file.old.free_list }
         ensures cause { IfErr result IsOfTables }
+        ensures first { self.new.first_free_cluster ≡ self.old.first_free_cluster }
+        ensures has { (p : Pending) → IsSoundWith S.view self.old p file.old → OnOk result (HasNone self.new.reftable range → ⊥) }
     {
         if self.load_block(file, range)?.is_some() {
             return Ok(());
@@ -516,6 +701,7 @@ impl Allocator {
         ensures header { file.new.header ≡ file.old.header }
         ensures list { file.new.free_list ≡ file.old.free_list }
         ensures cause { IfErr result IsOfTables }
+        ensures first { self.new.first_free_cluster ≡ self.old.first_free_cluster }
     {
         let cluster = HostCluster::new(at);
         let block = new_block(file.alloc, &file.header, cluster, counts_itself)?;

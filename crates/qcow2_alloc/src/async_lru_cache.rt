@@ -251,6 +251,7 @@ impl<B: AsyncLruCacheBackend> AsyncLruCache<B> {
         ensures evicted { result ≢ Err CacheError.Memory
             → All (λ e. is_pinned e.1 ≡ false → B.evicted self.old.backend e.0 e.1.value) self.old.entries }
         ensures others { self.new ≡ with_entries self.old self.new.entries }
+        ensures pins { KeepsPins B.Key.eq self.old.entries self.new.entries }
     {
         let alloc = *self.entries.allocator();
         let Ok(keys) = pinned_keys(alloc, &self.entries) else {

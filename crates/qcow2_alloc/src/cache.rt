@@ -1,5 +1,5 @@
 //! The caches of L2 tables and of refblocks, and which of them has to be written first.
-ghost use Rattle.std.specs.Prelude.{◌≡◌, ◌⊎◌, ◌↔◌, ℕ, ◌+◌, ◌-◌, ◌^◌, ◌<◌, ◌≤◌, IsSome, IsNone, IfSome, IfOk, IfErr, OnOk, OnErr, IsTrue, IsFalse, Some, true, false, option_copied};
+ghost use Rattle.std.specs.Prelude.{◌≡◌, ◌⊎◌, ◌↔◌, ℕ, ◌+◌, ◌-◌, ◌^◌, ◌<◌, ◌≤◌, ◌==◌, IsSome, IsNone, IfSome, IfOk, IfErr, OnOk, OnErr, IsTrue, IsFalse, Some, true, false, option_copied};
 ghost use Rattle.qcow2_metadata.specs.Bytes.{Bytes};
 ghost use Rattle.qcow2_metadata.specs.declared.header.HeaderFields.{HeaderFields};
 ghost use Rattle.qcow2_metadata.specs.TableBytes.{HasPlace};
@@ -8,11 +8,14 @@ ghost use Rattle.qcow2_laws.specs.Clusters.{Neither, L2DependsOnRb, RbDependsOnL
 ghost use Rattle.qcow2_laws.specs.Caches.{AreClean, AreSettled, BlocksMayGo, TablesMayGo};
 ghost use Rattle.qcow2_alloc.specs.ImageError.{IsOfTables, IsFault};
 ghost use Rattle.qcow2_alloc.specs.ImageStorage.{storage_of};
+ghost use Rattle.qcow2_alloc.specs.AsyncLruCache.{can_remove};
 ghost use Rattle.qcow2_alloc.specs.TableCaches.{IsTableOf, IsBlockOf};
-ghost use Rattle.qcow2_alloc.specs.MetadataCaches.{order_of, l2_at, rb_at, l2_tables, refblocks, known_of, AreAllWritten, AreSound, KeepSound, PutSound, RefusesBy, PutRefusesBy, RaisesCount, LowersCount, TellsZero, RaisesZero, LowersSome, AreSame, MapsEntry, NotesEntry, ShowsKnown};
-ghost use Rattle.qcow2_alloc.specs.CacheMarks.{l2_pins, HasRoom, KeepsMarks, SameTables, SetsPins, IsInUseOrFault};
+ghost use Rattle.qcow2_alloc.specs.MetadataCaches.{order_of, l2_at, rb_at, l2_tables, refblocks, known_of, AreAllWritten, AreSound, KeepSound, PutSound, RefusesBy, PutRefusesBy, RaisesCount, LowersCount, TellsZero, RaisesZero, LowersSome, AreSame, MapsEntry, ZeroesEntry, DiscardsEntry, NotesEntry, NotesHeld, ShowsKnown, TakesOff, TakesBlock};
+ghost use Rattle.qcow2_alloc.specs.CacheMarks.{l2_pins, HasRoom, KeepsMarks, SameTables, SetsPins, IsInUseOrFault, LeavesPinned};
 
 mod backends;
+#[cfg(test)]
+mod tests;
 
 use crate::async_lru_cache::AsyncLruCache;
 use crate::{ImageError, ImageStorage};
@@ -88,6 +91,7 @@ impl<S: Storage> MetadataCaches<S> {
         ensures marks { KeepsMarks self.old self.new }
         ensures faults { (h : HeaderFields) → RefusesBy IsFault S.view storage.old self.old h result }
         ensures keeps { BlocksMayGo (order_of self.old) (l2_tables self.old) → KeepSound S.view storage.old self.old storage.new self.new }
+        ensures clean { AreClean (refblocks self.old) → AreClean (refblocks self.new) }
     {
         self.rb.flush(storage)?;
         Ok(())
@@ -178,6 +182,7 @@ impl<S: Storage> MetadataCaches<S> {
         ensures cause { IfErr result IsOfTables }
         ensures order { order_of self.new ≡ order_of self.old }
         ensures tables { self.new.l2 ≡ self.old.l2 }
+        ensures blocks { AreClean (refblocks self.old) → AreClean (refblocks self.new) }
         ensures first { OnOk result (TablesMayGo (order_of self.new) (refblocks self.new)) }
         ensures marks { KeepsMarks self.old self.new }
         ensures faults { (h : HeaderFields) → RefusesBy IsFault S.view storage.old self.old h result }
@@ -260,6 +265,10 @@ impl<S: Storage> MetadataCaches<S> {
         ensures marks { KeepsMarks self.old self.new }
         ensures refusals { PutRefusesBy (IsInUseOrFault self.old) S.view storage.old self.old (λ h. IsTableOf h table) table.cluster table.bytes table.is_modified result }
         ensures keeps { PutSound S.view storage.old self.old storage.new self.new (λ h. IsTableOf h table) table.cluster table.bytes table.is_modified }
+        ensures clean { AreClean (l2_tables self.old) → IsFalse table.is_modified → AreClean (l2_tables self.new) }
+        ensures blocks { AreClean (refblocks self.old) → AreClean (refblocks self.new) }
+        ensures first { BlocksMayGo (order_of self.old) (l2_tables self.old) → IsFalse table.is_modified → BlocksMayGo (order_of self.new) (l2_tables self.new) }
+        ensures may_go { TablesMayGo (order_of self.old) (refblocks self.old) → TablesMayGo (order_of self.new) (refblocks self.new) }
     {
         let Some(cluster) = table.get_cluster() else {
             unreachable!();
@@ -340,8 +349,42 @@ impl<S: Storage> MetadataCaches<S> {
     }
 
     /// Drops a refblock unwritten: false where it isn't there or is pinned.
-    pub fn rb_remove(&mut self, cluster: HostCluster) -> bool {
+    pub fn rb_remove(&mut self, cluster: HostCluster) -> bool
+        ensures order { order_of self.new ≡ order_of self.old }
+        ensures tables { l2_tables self.new ≡ l2_tables self.old }
+        ensures answer { result ≡ can_remove (λ k. cluster == k) self.old.rb.entries }
+        ensures same { IsFalse result → self.new ≡ self.old }
+        ensures others { (c : ℕ) → cluster == c ≡ false → rb_at self.new c ≡ rb_at self.old c }
+        ensures marks { KeepsMarks self.old self.new }
+        ensures taken { IsTrue result → TakesBlock self.old self.new cluster }
+    {
         self.rb.remove(cluster)
+    }
+
+    /// Drops the L2 tables without a pin, unwritten. The clusters of those that are pinned are answered.
+    pub fn invalidate_l2(&mut self) -> Result<(), ImageError>
+        ensures cause { IfErr result IsOfTables }
+        ensures order { order_of self.new ≡ order_of self.old }
+        ensures blocks { refblocks self.new ≡ refblocks self.old }
+        ensures left { LeavesPinned self.old.l2.entries result self.new.l2.entries }
+        ensures marks { KeepsMarks self.old self.new }
+        ensures taken { TakesOff (AreClean (l2_tables self.old)) self.old self.new }
+    {
+        self.l2.invalidate()?;
+        Ok(())
+    }
+
+    /// Drops the refblocks without a pin, unwritten. The clusters of those that are pinned are answered.
+    pub fn invalidate_rb(&mut self) -> Result<(), ImageError>
+        ensures cause { IfErr result IsOfTables }
+        ensures order { order_of self.new ≡ order_of self.old }
+        ensures tables { l2_tables self.new ≡ l2_tables self.old }
+        ensures left { LeavesPinned self.old.rb.entries result self.new.rb.entries }
+        ensures marks { KeepsMarks self.old self.new }
+        ensures taken { TakesOff (AreClean (refblocks self.old)) self.old self.new }
+    {
+        self.rb.invalidate()?;
+        Ok(())
     }
 
     /// Whether an L2 table is held and has a pin.
@@ -398,6 +441,45 @@ impl<S: Storage> MetadataCaches<S> {
         table.map_cluster(index, host)
     }
 
+    /// Makes an entry of a held L2 table zero; where it is to keep its host cluster, and that is marked copied, it keeps it. Answers the host clusters that it names no longer.
+    pub fn l2_zero_cluster(
+        &mut self,
+        cluster: HostCluster,
+        index: usize,
+        keep: bool,
+    ) -> Option<(HostCluster, ClusterCount)>
+        ensures order { order_of self.new ≡ order_of self.old }
+        ensures marks { KeepsMarks self.old self.new }
+        ensures zeroed { ZeroesEntry self.old self.new cluster index keep result }
+        ensures noted { NotesHeld self.old self.new cluster index }
+    {
+        let table = self.l2.peek_mut(cluster)?;
+        if index >= table.entries() {
+            return None;
+        }
+        self.is_changed = true;
+        table.zero_cluster(index, keep)
+    }
+
+    /// Makes an entry of a held L2 table cover nothing. Answers the host clusters that it names no longer.
+    pub fn l2_discard_cluster(
+        &mut self,
+        cluster: HostCluster,
+        index: usize,
+    ) -> Option<(HostCluster, ClusterCount)>
+        ensures order { order_of self.new ≡ order_of self.old }
+        ensures marks { KeepsMarks self.old self.new }
+        ensures discarded { DiscardsEntry self.old self.new cluster index result }
+        ensures noted { NotesHeld self.old self.new cluster index }
+    {
+        let table = self.l2.peek_mut(cluster)?;
+        if index >= table.entries() {
+            return None;
+        }
+        self.is_changed = true;
+        table.discard_cluster(index)
+    }
+
     /// Whether a count of a held refblock is 0.
     pub fn rb_is_zero(&self, cluster: HostCluster, index: usize) -> bool
         ensures { TellsZero self.now cluster index result }
@@ -435,6 +517,7 @@ impl<S: Storage> MetadataCaches<S> {
         ensures marks { KeepsMarks self.old self.new }
         ensures noted { IsTrue result → IsTrue self.new.is_changed }
         ensures made { LowersSome self.old cluster index result }
+        ensures held { IsTrue result → IsSome (rb_at self.new cluster) }
     {
         let Some(block) = self.rb.peek_mut(cluster) else {
             return false;

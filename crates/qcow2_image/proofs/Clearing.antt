@@ -1,8 +1,9 @@
 -- The autoclear bits are cleared beside caches that hold nothing modified: the file is as sound as before, and has the same tables.
-use Rattle.std.proofs.Common.{◌≡◌, ◌≢◌, inl, inr, ℕ, ◌+◌, ◌/◌, ◌<◌, List, refl, sym, ap, ◌∙◌, subst, arith}
+use Rattle.std.proofs.Common.{◌≡◌, ◌≢◌, inl, inr, ℕ, ◌+◌, ◌/◌, ◌<◌, List, [], Result, refl, sym, ap, ◌∙◌, subst, arith}
 use Rattle.std.proofs.lemmas.Bool.{cases_eq}
 use Rattle.image_access.specs.Backing.{BackingView}
-use Rattle.image_access.specs.Moments.{StorageView}
+use Rattle.image_access.specs.declared.error.StorageError.{StorageError}
+use Rattle.image_access.specs.Moments.{StorageView, Calls, Changes}
 use Rattle.qcow2_metadata.specs.Bytes.{Bytes, byte_at}
 use Rattle.qcow2_metadata.specs.declared.header.HeaderFields.{HeaderFields}
 use Rattle.qcow2_metadata.specs.Header.{HeaderView, header, cluster_size, with_fields, without_autoclear}
@@ -12,36 +13,24 @@ use Rattle.qcow2_metadata.specs.Entries.{l1_entry, reftable_entry, host_offset, 
 use Rattle.qcow2_metadata.specs.Named.{in_cluster, named_for_tables, named_by_l1_table, named_by_reftable}
 use Rattle.qcow2_laws.specs.Caches.{IsKept, HasL2, HasBlock, AreSettled}
 use Rattle.qcow2_laws.specs.Guard.{Pending, IsGuarded, SameIn}
+use Rattle.qcow2_laws.specs.Stops.{IsKeptAt}
 use Rattle.qcow2_laws.specs.Tops.{WritesHeader, resized}
 use Rattle.qcow2_laws.proofs.Blocks.{table_once}
 use Rattle.qcow2_laws.proofs.Consistency.{in_own}
 use Rattle.qcow2_laws.proofs.Headers.{header_sizes, header_fixed, header_same, header_reftable}
 use Rattle.qcow2_laws.proofs.HeaderWrites.{autoclear_beside}
 use Rattle.qcow2_laws.proofs.KeptSteps.{kept_beside}
+use Rattle.qcow2_laws.proofs.Leads.{endures_none, endures_write}
 use Rattle.qcow2_laws.proofs.Shares.{shares, first_l1, table_has, block_has}
 use Rattle.qcow2_laws.proofs.Steps.{header_is_written}
 use Rattle.qcow2_alloc.specs.declared.image_file.ImageFile.{ImageFile}
 use Rattle.qcow2_alloc.specs.declared.image_storage.ImageStorage.{ImageStorage}
-use Rattle.qcow2_alloc.specs.ImageFile.{view_in, contents_in, known_in, stand_in}
+use Rattle.qcow2_alloc.specs.ImageFile.{nothing_given, view_in, contents_in, known_in, stand_in}
 use Rattle.qcow2_alloc.specs.ImageStorage.{storage_of}
 use Rattle.qcow2_alloc.specs.MetadataCaches.{HasFormat, order_of, l2_tables, refblocks, known_of, AreSound}
 use Rattle.qcow2_alloc.proofs.KeptTables.Loaded.{loaded_beside}
-use Rattle.qcow2_image.specs.Opened.{IsFresh, StaysFresh}
-
--- the format isn't told by the autoclear bits
-format_cleared : (g h : HeaderFields) → HasFormat g h → HasFormat g (without_autoclear h)
-format_cleared g h has = record { bits = has.bits; order = has.order; zero_bit = has.zero_bit; external = has.external }
-
--- where the entries are the same, the same clusters have tables
-has_table : (h h' : HeaderFields) (b b' : Bytes) (c : ℕ) → cluster_size h' ≡ cluster_size h → ((i : ℕ) → l1_entry h' b' i ≡ l1_entry h b i) → HasL2 h b c → HasL2 h' b' c
-has_table h h' b b' c size same has =
-    let e = ap host_offset (same has.0) in
-    (has.0, (λ none. has.1 (sym e ∙ none)), ap (λ n. n / cluster_size h') e ∙ ap (λ n. host_offset (l1_entry h b has.0) / n) size ∙ has.2)
-
-has_block : (h h' : HeaderFields) (b b' : Bytes) (c : ℕ) → cluster_size h' ≡ cluster_size h → ((k : ℕ) → reftable_entry h' b' k ≡ reftable_entry h b k) → HasBlock h b c → HasBlock h' b' c
-has_block h h' b b' c size same has =
-    let e = ap block_offset (same has.0) in
-    (has.0, (λ none. has.1 (sym e ∙ none)), ap (λ n. n / cluster_size h') e ∙ ap (λ n. block_offset (reftable_entry h b has.0) / n) size ∙ has.2)
+use Rattle.qcow2_image.proofs.HeaderKept.{resized_l1, resized_reftable, placed_settled, placed_sound}
+use Rattle.qcow2_image.specs.Opened.{IsFresh, StaysFresh, IsKeptSince}
 
 module _ {S F : Type 0} (view : S → StorageView) (backing : F → BackingView) (p : Pending) (file : ImageFile S) (fresh : IsFresh view backing p file) where
   abbrev h : HeaderFields
@@ -60,60 +49,17 @@ module _ {S F : Type 0} (view : S → StorageView) (backing : F → BackingView)
     cleared_guarded : IsGuarded h' (order_of file.caches) p base' (known_of h file.caches base')
     cleared_guarded = (header_is_written.same_size (stand_in view file p) base' (known_of h file.caches base') 0 kept.guarded writes).sound
 
-    once : named_for_tables h base 0 ≡ 1
-    once = table_once h (order_of file.caches) p base (known_in view file) kept.guarded 0 (header_fixed h (resized h h.size 0) (order_of file.caches) p base (known_in view file) base' (known_of h file.caches base') kept.guarded writes)
-
-    same_there : (c : ℕ) → c ≢ 0 → SameIn (cluster_size h) c base base'
-    same_there = header_same h (resized h h.size 0) (order_of file.caches) p base (known_in view file) base' (known_of h file.caches base') kept.guarded writes
-
-    -- a cluster with a table is another one
-    table_elsewhere : (c : ℕ) → 0 < named_by_l1_table h base c + named_by_reftable h base c → c ≢ 0
-    table_elsewhere c some e =
-        let here : 0 < named_by_l1_table h base 0 + named_by_reftable h base 0 = subst (λ n. 0 < named_by_l1_table h base n + named_by_reftable h base n) e some in
-        let s = shares h base 0 in
-        let only = once in
-        let sizes = header_sizes h (resized h h.size 0) (order_of file.caches) p base (known_in view file) base' (known_of h file.caches base') kept.guarded writes in
-        let zero : 0 / cluster_size h ≡ 0 = let some_size = sizes.some in omega arith in
-        let one : in_cluster h 0 0 ≡ 1 = ap (λ n. in_cluster h n 0) (sym zero) ∙ in_own h 0 in
-        absurd (omega arith)
-
-    stays : (c : ℕ) → 0 < named_by_l1_table h base c + named_by_reftable h base c → SameIn (cluster_size h) c base' base
-    stays c some o in_c = sym (same_there c (table_elsewhere c some) o in_c)
-
     l1_still : (i : ℕ) → l1_entry h' base' i ≡ l1_entry h base i
-    unfolding l1_entry
-    l1_still i = sym (first_l1 h base base' kept.guarded.top (let only = once in omega arith) same_there i)
+    l1_still = resized_l1 view p file fresh.sound h.size 0 base' writes
 
     reftable_still : (k : ℕ) → reftable_entry h' base' k ≡ reftable_entry h base k
-    unfolding reftable_entry
-    reftable_still k = sym (header_reftable h (resized h h.size 0) (order_of file.caches) p base (known_in view file) base' (known_of h file.caches base') kept.guarded writes k)
+    reftable_still = resized_reftable view p file fresh.sound h.size 0 base' writes
 
     cleared_settled : AreSettled h' (refblocks file.caches) base'
-    cleared_settled c = elim (fresh.sound.settled c) [ inl free ↦ inl free | inr has ↦ inr (has_block h h' base base' c refl reftable_still has) ]
+    cleared_settled = placed_settled view p p file fresh.sound (resized h h.size 0) base' writes cleared_guarded l1_still reftable_still
 
     cleared_sound : AreSound h' p file.caches base'
-    cleared_sound = record {
-      l2_format = format_cleared _ h fresh.sound.caches.l2_format;
-      rb_format = format_cleared _ h fresh.sound.caches.rb_format;
-      l2_fit = fresh.sound.caches.l2_fit;
-      rb_fit = fresh.sound.caches.rb_fit;
-      kept = record {
-        kept =
-            kept_beside h h' (order_of file.caches) (order_of file.caches) p p (l2_tables file.caches) (refblocks file.caches) base base' kept refl cleared_guarded
-            (λ c has. inr (has_table h h' base base' c refl l1_still has))
-            (λ c either. elim (fresh.sound.settled c) [ inl free ↦ inl free | inr has ↦ inr (inl (has_block h h' base base' c refl reftable_still has)) ]);
-        l2_loaded = loaded_beside (cluster_size h) (HasL2 h base) (HasL2 h' base') base base' (l2_tables file.caches)
-            (λ c has. let was = has_table h' h base' base c refl (λ i. sym (l1_still i)) has in (was, table_stays c was)) fresh.sound.caches.kept.l2_loaded;
-        rb_loaded = loaded_beside (cluster_size h) (HasBlock h base) (HasBlock h' base') base base' (refblocks file.caches)
-            (λ c has. let was = has_block h' h base' base c refl (λ k. sym (reftable_still k)) has in (was, block_stays c was)) fresh.sound.caches.kept.rb_loaded;
-      };
-    }
-      where
-        table_stays : (c : ℕ) → HasL2 h base c → SameIn (cluster_size h) c base' base
-        table_stays c has = stays c (subst (λ n. 0 < named_by_l1_table h base n + named_by_reftable h base n) has.2 (let one = table_has h base has.0 has.1 in omega arith))
-
-        block_stays : (c : ℕ) → HasBlock h base c → SameIn (cluster_size h) c base' base
-        block_stays c has = stays c (subst (λ n. 0 < named_by_l1_table h base n + named_by_reftable h base n) has.2 (let one = block_has h base has.0 has.1 in omega arith))
+    cleared_sound = placed_sound view p p file fresh.sound (resized h h.size 0) base' writes cleared_guarded l1_still reftable_still
 
   pub stays_cleared : (storage : ImageStorage S) → (view (storage_of storage)).is_honest → (view (storage_of storage)).contents ≡ autoclear_cleared (view_in view file).contents
       → header (byte_at (autoclear_cleared (view_in view file).contents)) ≡ without_autoclear (header (byte_at (view_in view file).contents))
@@ -152,3 +98,19 @@ module _ {S F : Type 0} (view : S → StorageView) (backing : F → BackingView)
             subst (StaysFresh view backing p file) (sym same) (record { fresh = fresh; l1_table = λ t has. has; reftable = λ t has. has })
         | inr some ↦ stays_cleared storage (honest fresh.sound.honest) (written some fresh.sound.honest) fields (reads some fresh.header)
       ])
+
+  -- whatever the storage answers
+  pub kept_after : {T : Type 0} (result : Result T StorageError) (storage : ImageStorage S) → (file.header.fields.autoclear ≢ 0 → Changes (view_in view file) (view (storage_of storage)) result (autoclear_cleared (view_in view file).contents))
+      → (file.header.fields.autoclear ≡ 0 → storage ≡ file.storage) → Calls (view_in view file) (view (storage_of storage)) result
+      → header (byte_at (autoclear_cleared (view_in view file).contents)) ≡ without_autoclear (header (byte_at (view_in view file).contents))
+      → (file.header.fields.autoclear ≢ 0 → IsHeaderIn file.header (view_in view file).contents → IsHeaderIn (with_fields file.header (without_autoclear file.header.fields)) (autoclear_cleared (view_in view file).contents))
+      → IsKeptSince (view_in view file) (view (storage_of storage))
+  kept_after result storage written untouched call fields reads = elim (cases_eq file.header.fields.autoclear 0) [
+    | inl none ↦ subst (λ (s : ImageStorage S). IsKeptSince (view_in view file) (view (storage_of s))) (sym (untouched none)) (endures_none (view_in view file) base)
+    | inr some ↦
+        let new = autoclear_cleared (view_in view file).contents in
+        let writes = autoclear_beside h (order_of file.caches) p (l2_tables file.caches) (refblocks file.caches) (view_in view file).contents kept (with_fields file.header h') fields (reads some fresh.header) in
+        let leads = header_is_written.same_size (stand_in view file p) (byte_at new) (known_of h file.caches (byte_at new)) 0 kept.guarded writes in
+        endures_write (view_in view file) (view (storage_of storage)) base nothing_given [] new call (written some) fresh.sound.honest
+        (λ backing m ok known_ok. leads.base backing m ok (subst (IsKeptAt backing m) (sym (fresh.clean base)) ok))
+  ]

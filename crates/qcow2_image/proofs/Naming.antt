@@ -1,5 +1,5 @@
 -- An L1 entry is written that names a new L2 table, which stands in its cluster.
-use Rattle.std.proofs.Common.{◌≡◌, ◌≢◌, ◌⊎◌, inl, inr, ℕ, ◌+◌, ◌*◌, ◌/◌, ◌%◌, ◌^◌, ◌<◌, ◌≤◌, Bool, true, eqb, List, [], ◌∷◌, length, Option, Some, None, Result, Ok, refl, sym, ap, ◌∙◌, subst, arith}
+use Rattle.std.proofs.Common.{◌≡◌, ◌≢◌, ◌⊎◌, inl, inr, ℕ, ◌+◌, ◌*◌, ◌/◌, ◌%◌, ◌^◌, ◌<◌, ◌≤◌, true, List, [], ◌∷◌, length, Option, Some, None, Result, Ok, refl, sym, ap, ◌∙◌, subst, arith}
 use Rattle.std.proofs.lemmas.Bool.{cases_eq, eq-eqb, ne_eqb, cond-true, cond-false}
 use Rattle.std.proofs.lemmas.List.{append-nil}
 use Rattle.std.proofs.lemmas.Nat.{mod_below, div-add-mod'}
@@ -13,7 +13,7 @@ use Rattle.image_access.proofs.Passing.{passes_if, whole_or_nothing}
 use Rattle.qcow2_metadata.specs.Bytes.{Bytes, byte_at}
 use Rattle.qcow2_metadata.specs.declared.header.HeaderFields.{HeaderFields}
 use Rattle.qcow2_metadata.specs.Header.{cluster_size, entries_per_cluster}
-use Rattle.qcow2_metadata.specs.Entries.{l1_entry, l2_entry, reftable_entry, block_offset, host_offset, is_copied, count, L1EntryReads}
+use Rattle.qcow2_metadata.specs.Entries.{l1_entry, l2_entry, reftable_entry, block_offset, host_offset, is_copied, L1EntryReads}
 use Rattle.qcow2_metadata.specs.Cover.{cover, entry_cover}
 use Rattle.qcow2_metadata.specs.EntryTable.{EntryTableView, IsL1TableOf, entry_count}
 use Rattle.qcow2_metadata.specs.L2Table.{L2TableView, copied_entry}
@@ -36,31 +36,29 @@ use Rattle.qcow2_laws.proofs.Blocks.{table_once}
 use Rattle.qcow2_laws.proofs.KeptSteps.{kept_beside}
 use Rattle.qcow2_laws.proofs.Lists.{unmodified_over}
 use Rattle.qcow2_laws.proofs.NewTables.{outside_eight, other_l1}
-use Rattle.qcow2_laws.proofs.Places.{Sizes}
+use Rattle.qcow2_laws.proofs.Caches.{clean_counts, clean_covers}
+use Rattle.qcow2_laws.proofs.Places.{Sizes, cover_none}
 use Rattle.qcow2_laws.proofs.Shares.{shares, in_l1, l1_has, l1_reftable, table_has, block_has}
 use Rattle.qcow2_laws.proofs.Steps.{table_is_named}
 use Rattle.qcow2_laws.proofs.Unseen.{unseen_l2_table}
 use Rattle.qcow2_metadata.specs.Tables.{CachedTable}
 use Rattle.qcow2_alloc.specs.declared.allocation.Allocator.{Allocator}
-use Rattle.qcow2_alloc.specs.declared.async_lru_cache.slot.Slot.{Slot}
 use Rattle.qcow2_alloc.specs.declared.image_storage.ImageStorage.{ImageStorage}
-use Rattle.qcow2_alloc.specs.AsyncLruCache.{value_at}
-use Rattle.qcow2_alloc.specs.KeptTables.{cached_tables}
+use Rattle.qcow2_alloc.specs.KeptTables.{AreLoaded}
 use Rattle.qcow2_alloc.specs.ImageFile.{nothing_given, view_in, contents_in, known_in, stand_in, HasReftable}
 use Rattle.qcow2_alloc.specs.ImageStorage.{storage_of}
 use Rattle.qcow2_alloc.specs.MetadataCaches.{order_of, l2_tables, refblocks, AreSound}
 use Rattle.qcow2_alloc.proofs.FileSteps.{one_here, pending_same}
 use Rattle.qcow2_alloc.proofs.KeptTables.Getting.{cluster_aligned}
-use Rattle.qcow2_alloc.proofs.KeptTables.Named.{AreCurrentIn, loaded_named}
+use Rattle.qcow2_alloc.proofs.KeptTables.Named.{AreCurrentIn, current_entry, loaded_named}
 use Rattle.qcow2_alloc.proofs.KeptTables.Standing.{own_cluster}
 use Rattle.qcow2_alloc.proofs.NamedBlocks.{entry_write_as}
-use Rattle.qcow2_alloc.proofs.PlacedBlocks.{IsFree, file_sizes}
+use Rattle.qcow2_alloc.proofs.PlacedBlocks.{IsFree, covers_written, file_sizes, in_own, known_there}
 use Rattle.qcow2_image.specs.declared.image.Qcow2.{Qcow2}
 use Rattle.qcow2_image.specs.declared.prepared.Prepared.{Prepared}
 use Rattle.qcow2_image.specs.NewTables.{SaysKnown, StandsReady, MayName, NamesCopied, replacing}
 use Rattle.qcow2_image.specs.Steps.{NamesOwn, KeepsCopied, Keeps}
 use Rattle.qcow2_image.specs.Views.{cluster_of, IsReadyWith, IsSoundAt, HasL1Table}
-use Rattle.qcow2_image.proofs.Loading.{all_known}
 use Rattle.qcow2_image.proofs.Placing.{free_here}
 use Rattle.qcow2_image.proofs.Ready.{still_ready}
 
@@ -71,17 +69,6 @@ clean_free size ts clean c o in_c = each ts clean
     each : (ts : List CachedTable) → AreClean ts → IsFreeAt size ts o
     each [] clean = tt
     each (t ∷ ts) clean = (unmodified_over size t o clean.0, each ts clean.1)
-
--- where none is held for a cluster, none begins in it
-away_in : {V : Type 0} (bits : ℕ) (bytes : V → List ℕ) (is_modified : V → Bool) (base : Bytes) (key : ℕ) (es : List (ℕ × Slot V)) → value_at (eqb key) es ≡ None → AreCurrentIn (2 ^ bits) key (cached_tables bits bytes is_modified es) base
-away_in bits bytes is_modified base key [] none = tt
-away_in bits bytes is_modified base key (e ∷ es) none = elim (cases_eq key e.0) [
-  | inl here ↦ absurd (let found = eq-eqb key e.0 here in let some = rw found at none in cc)
-  | inr other ↦ (
-    (λ begins. absurd (other (sym begins ∙ own_cluster bits e.0))),
-    away_in bits bytes is_modified base key es (let past = ne_eqb key e.0 other in rw past at none),
-  )
-]
 
 -- a table that begins in a cluster lies in this one alone
 pub table_alone : (h : HeaderFields) (at c : ℕ) → at * cluster_size h ≢ 0 → table_in h c (at * cluster_size h) ≡ one_at at c
@@ -95,7 +82,7 @@ table_alone h at c real =
 
 module _ {S F : Type 0} (view : S → StorageView) (backing : F → BackingView) (old : Qcow2 S F) (out : List (Option Prepared)) (p : Pending) (index at : ℕ) (t' : EntryTableView) (table : L2TableView)
     (sound : IsSoundAt view backing (with_fresh p (one_at at)) old out) (may : MayName view old index) (says : SaysKnown old.file.header.fields (known_in view old.file) index table) (whole : length table.bytes ≡ 2 ^ table.cluster_bits)
-    (ready : StandsReady view old at table.bytes) (within : index < entry_count old.l1_table) (nameable : IsHostCluster old.l1_table.cluster_bits at) (same : t' ≡ record old.l1_table { bytes = t'.bytes })
+    (ready : StandsReady view old index at table.bytes) (within : index < entry_count old.l1_table) (nameable : IsHostCluster old.l1_table.cluster_bits at) (same : t' ≡ record old.l1_table { bytes = t'.bytes })
     (enters : ChangesEntry old.l1_table.bytes t'.bytes index (copied_entry (at * 2 ^ old.l1_table.cluster_bits))) (offset : host_offset (entry_at t'.bytes index) ≡ at * 2 ^ old.l1_table.cluster_bits)
     (copied : is_copied (entry_at t'.bytes index) ≡ true) (fits : entry_at t'.bytes index < 2 ^ 64) where
   abbrev h : HeaderFields
@@ -113,9 +100,6 @@ module _ {S F : Type 0} (view : S → StorageView) (backing : F → BackingView)
   abbrev entry : ℕ
   entry = entry_at t'.bytes index
 
-  all : known ≡ base
-  all = all_known h old.file.caches base ready.written
-
   sizes : Sizes h
   sizes = file_sizes view q old.file sound.file
 
@@ -123,7 +107,7 @@ module _ {S F : Type 0} (view : S → StorageView) (backing : F → BackingView)
   some = let own = one_here at in omega (arith, own)
 
   free : IsFree view q old.file at
-  free = free_here view backing old out q sound ready.written at some
+  free = free_here view backing old out q sound index ready.stored at some
 
   place : host_offset entry ≡ at * cluster_size h
   place = offset ∙ ap (λ n. at * 2 ^ n) sound.l1_table.bits
@@ -147,15 +131,35 @@ module _ {S F : Type 0} (view : S → StorageView) (backing : F → BackingView)
       let aligned = on_sector at h.cluster_bits sound.file.caches.kept.kept.guarded.top.header_reads.well_formed.in_range.cluster_bits.0 in
       (omega (arith, value, near, aligned), omega (arith, value, near, aligned))
 
-  -- what the new table says
-  stands : (j : ℕ) → j < entries_per_cluster h → entry_at table.bytes j ≡ l2_entry base (host_offset entry) j
-  stands j lt =
-      let long : length table.bytes ≡ cluster_size h = whole ∙ ap (λ n. 2 ^ n) says.format.bits in
+  -- what the new table says, on the storage and as known
+  long : length table.bytes ≡ cluster_size h
+  long = whole ∙ ap (λ n. 2 ^ n) says.format.bits
+
+  known_here : (i : ℕ) → i < length table.bytes → byte_at table.bytes i ≡ known (at * cluster_size h + i)
+  known_here i lt =
+      let there = known_there view q old.file at sound.file free in
+      ready.stands i lt ∙ sym (there (at * cluster_size h + i) (in_own h.cluster_bits at i (subst (λ n. i < n) long lt)))
+
+  stands : (b : Bytes) → ((i : ℕ) → i < length table.bytes → byte_at table.bytes i ≡ b (at * cluster_size h + i)) → (j : ℕ) → j < entries_per_cluster h → entry_at table.bytes j ≡ l2_entry b (host_offset entry) j
+  stands b there j lt =
       let eights = sizes.eights in
-      entry_stands base (at * cluster_size h) table.bytes j ready.stands (omega (arith, long, eights, lt)) ∙ ap (λ n. l2_entry base n j) (sym place)
+      entry_stands b (at * cluster_size h) table.bytes j there (omega (arith, long, eights, lt)) ∙ ap (λ n. l2_entry b n j) (sym place)
+
+  known_covers : (g : ℕ) → g / entries_per_cluster h ≡ index → cover h known g ≡ entry_cover h (l2_entry known (host_offset entry) (g % entries_per_cluster h))
+  known_covers g here = says.says g here ∙ ap (entry_cover h) (stands known known_here (g % entries_per_cluster h) (mod_below g (entries_per_cluster h) sizes.entries))
+
+  -- what is known of the guest clusters of the entry stands on the storage
+  stored : (g : ℕ) → g / entries_per_cluster h ≡ index → cover h base g ≡ cover h known g
+  stored g here = elim ready.stored.others [
+    | inl none ↦
+        let at_base : table_at h base (g / entries_per_cluster h) ≡ 0 = ap (table_at h base) here ∙ none in
+        let at_known = ap host_offset (sym (sound.file.caches.kept.kept.guarded.same_top.l1 (g / entries_per_cluster h))) ∙ at_base in
+        cover_none h base g at_base ∙ sym (cover_none h known g at_known)
+    | inr clean ↦ clean_covers h (order_of old.file.caches) q (l2_tables old.file.caches) (refblocks old.file.caches) base sound.file.caches.kept.kept clean g
+  ]
 
   covers : (g : ℕ) → g / entries_per_cluster h ≡ index → cover h base g ≡ entry_cover h (l2_entry base (host_offset entry) (g % entries_per_cluster h))
-  covers g here = ap (λ (b : Bytes). cover h b g) (sym all) ∙ says.says g here ∙ ap (entry_cover h) (stands (g % entries_per_cluster h) (mod_below g (entries_per_cluster h) sizes.entries))
+  covers g here = stored g here ∙ says.says g here ∙ ap (entry_cover h) (stands base ready.stands (g % entries_per_cluster h) (mod_below g (entries_per_cluster h) sizes.entries))
 
   new_table : IsNewTable h (order_of old.file.caches) q base known index entry
   new_table = record {
@@ -163,10 +167,10 @@ module _ {S F : Type 0} (view : S → StorageView) (backing : F → BackingView)
     real = λ none. real (sym place ∙ none);
     aligned = ap (λ n. n % cluster_size h) place ∙ cluster_aligned at h.cluster_bits;
     fresh = subst (λ n. 0 < q.fresh n) (sym in_at) some;
-    counted = ap (λ (b : Bytes). count h b (host_offset entry / cluster_size h)) (sym all);
-    written = λ is g. ap (λ (b : Bytes). cover h b g) (sym all);
+    counted = clean_counts h (order_of old.file.caches) q (l2_tables old.file.caches) (refblocks old.file.caches) base sound.file.caches.kept.kept ready.stored.counts (host_offset entry / cluster_size h);
+    written = covers_written view q old.file sound.file ready.stored.first;
     covers = covers;
-    known_covers = subst (λ (b : Bytes). (g : ℕ) → g / entries_per_cluster h ≡ index → cover h b g ≡ entry_cover h (l2_entry b (host_offset entry) (g % entries_per_cluster h))) (sym all) covers;
+    known_covers = known_covers;
   }
 
   module _ (storage : ImageStorage S) (is : (view (storage_of storage)).contents ≡ overwritten (view_in view old.file).contents (h.l1_offset + 8 * index) (to_be_bytes w64 entry)) where
@@ -234,14 +238,41 @@ module _ {S F : Type 0} (view : S → StorageView) (backing : F → BackingView)
     back_in : (c : ℕ) → 0 < named_by_l1_table h base c + named_by_reftable h base c → SameIn (cluster_size h) c base' base
     back_in c some o in_c = sym (stays_in c (apart c some) o in_c)
 
+    -- the new table lies apart from the L1 table, and is held as it stands
+    free_apart : at ≢ written_to
+    free_apart here =
+        let parts = shares h base written_to in
+        let one = part in
+        let none : named_for_tables h base written_to ≡ 0 = ap (named_for_tables h base) (sym here) ∙ free.unnamed.no_table in
+        absurd (omega (arith, parts, one, none))
+
+    current : AreCurrentIn (cluster_size h) at (l2_tables old.file.caches) base'
+    current =
+        let held = ready.held in
+        let bits = old.file.caches.l2.backend.header.fields.cluster_bits in
+        let same_bits = sound.file.caches.l2_format.bits in
+        let there : (i : ℕ) → i < cluster_size h → byte_at held.0.bytes i ≡ base' (at * cluster_size h + i) = λ i lt.
+        ap (λ l. byte_at l i) held.2 ∙ ready.stands i (subst (λ n. i < n) (sym long) lt)
+        ∙ outside (at * cluster_size h + i) (λ e. free_apart (sym (in_own h.cluster_bits at i lt) ∙ e)) in
+        subst (λ n. AreCurrentIn (2 ^ n) at (l2_tables old.file.caches) base') same_bits
+        (current_entry bits (λ (t : L2TableView). t.bytes) (λ t. t.is_modified) (HasL2 h base) base base' at old.file.caches.l2.entries held.0 held.1
+        (subst (λ n. (i : ℕ) → i < 2 ^ n → byte_at held.0.bytes i ≡ base' (at * 2 ^ n + i)) (sym same_bits) there)
+        (subst (λ n. AreLoaded (2 ^ n) (HasL2 h base) (l2_tables old.file.caches) base) (sym same_bits) sound.file.caches.kept.l2_loaded))
+
+    -- where a modified table stands, one is named still
+    still_named : (c : ℕ) → HasL2 h base c → IsFreeOf (cluster_size h) (l2_tables old.file.caches) c ⊎ HasL2 h base' c
+    still_named c has = elim ready.stored.others [
+      | inr clean ↦ inl (clean_free (cluster_size h) (l2_tables old.file.caches) clean c)
+      | inl none ↦
+          let e : table_at h base has.0 ≡ table_at h base' has.0 = ap host_offset (other_l1 h base base' index has.0 but (λ here. has.1 (ap (table_at h base) here ∙ none))) in
+          inr (has.0, (λ gone. has.1 (e ∙ gone)), ap (λ n. n / cluster_size h) (sym e) ∙ has.2)
+    ]
+
     l2_now : (c : ℕ) → HasL2 h base' c → (HasL2 h base c × SameIn (cluster_size h) c base' base) ⊎ AreCurrentIn (cluster_size h) c (l2_tables old.file.caches) base'
     l2_now c has = elim (cases_eq has.0 index) [
       | inl same ↦
           let here : at ≡ c = sym in_at ∙ ap (λ e. host_offset e / cluster_size h) (table_now index) ∙ ap (λ k. table_at h base' k / cluster_size h) (sym same) ∙ has.2 in
-          let bits = sound.file.caches.l2_format.bits in
-          inr (subst (λ k. AreCurrentIn (cluster_size h) k (l2_tables old.file.caches) base') here
-          (subst (λ n. AreCurrentIn (2 ^ n) at (l2_tables old.file.caches) base') bits
-          (away_in old.file.caches.l2.backend.header.fields.cluster_bits (λ (t : L2TableView). t.bytes) (λ t. t.is_modified) base' at old.file.caches.l2.entries ready.away)))
+          inr (subst (λ k. AreCurrentIn (cluster_size h) k (l2_tables old.file.caches) base') here current)
       | inr other ↦
           let e : table_at h base has.0 ≡ table_at h base' has.0 = ap host_offset (other_l1 h base base' index has.0 but other) in
           let was : HasL2 h base c = (has.0, (λ none. has.1 (sym e ∙ none)), ap (λ n. n / cluster_size h) e ∙ has.2) in
@@ -263,8 +294,7 @@ module _ {S F : Type 0} (view : S → StorageView) (backing : F → BackingView)
       kept = record {
         kept =
             kept_beside h h (order_of old.file.caches) (order_of old.file.caches) q (replacing view p old index) (l2_tables old.file.caches) (refblocks old.file.caches) base base' sound.file.caches.kept.kept refl leads.sound
-            (λ c has. inl (clean_free (cluster_size h) (l2_tables old.file.caches) ready.written.0 c))
-            (λ c either. inl (clean_free (cluster_size h) (refblocks old.file.caches) ready.written.1 c));
+            still_named (λ c either. inl (clean_free (cluster_size h) (refblocks old.file.caches) ready.stored.counts c));
         l2_loaded = loaded_named (cluster_size h) (HasL2 h base) (HasL2 h base') base base' (l2_tables old.file.caches) l2_now sound.file.caches.kept.l2_loaded;
         rb_loaded = loaded_named (cluster_size h) (HasBlock h base) (HasBlock h base') base base' (refblocks old.file.caches) rb_now sound.file.caches.kept.rb_loaded;
       };
@@ -294,7 +324,7 @@ module _ {S F : Type 0} (view : S → StorageView) (backing : F → BackingView)
     keeps_named honest time = record {
       sound = record {
         works = sound.works;
-        file = record { honest = honest; caches = caches_named; settled = λ c. inl (clean_free (cluster_size h) (refblocks old.file.caches) ready.written.1 c); room = sound.file.room };
+        file = record { honest = honest; caches = caches_named; settled = λ c. inl (clean_free (cluster_size h) (refblocks old.file.caches) ready.stored.counts c); room = sound.file.room };
         l1_table = l1_named;
         reftable = reftable_named old.allocator sound.reftable;
         below = sound.below;

@@ -1,8 +1,9 @@
 -- The header and the tables are loaded as they stand on the storage, and the autoclear bits are cleared: the file is as sound as before.
-use Rattle.std.proofs.Common.{◌≡◌, ℕ, ◌*◌, ◌/◌, ◌^◌, [], List, length, refl, sym, ap, ◌∙◌, subst, arith}
+use Rattle.std.proofs.Common.{◌≡◌, ℕ, ◌*◌, ◌/◌, ◌^◌, [], List, Result, length, refl, sym, ap, ◌∙◌, subst, arith}
 use Rattle.std.specs.Prelude.{Some, None, false}
 use Rattle.image_access.specs.Backing.{BackingView}
-use Rattle.image_access.specs.Moments.{StorageView}
+use Rattle.image_access.specs.Moments.{StorageView, Passing}
+use Rattle.image_access.proofs.Passing.{passes_if, passes_on}
 use Rattle.qcow2_metadata.specs.Bytes.{Bytes, byte_at}
 use Rattle.qcow2_metadata.specs.Header.{cluster_size}
 use Rattle.qcow2_metadata.specs.Consistent.{Consistent, IsConsistent}
@@ -10,10 +11,13 @@ use Rattle.qcow2_metadata.specs.Entries.{l1_entry, reftable_entry}
 use Rattle.qcow2_metadata.specs.EntryTable.{EntryTableView, entry_table, NamesL1Table, IsL1TableOf}
 use Rattle.qcow2_metadata.specs.HeaderLoad.{IsHeaderIn}
 use Rattle.qcow2_metadata.specs.TableBytes.{entry_at}
+use Rattle.qcow2_metadata.specs.MetadataError.{OnlyReads}
+use Rattle.qcow2_metadata.specs.declared.error.MetadataError.{MetadataError}
 use Rattle.qcow2_laws.specs.Caches.{AreSettled}
 use Rattle.qcow2_laws.specs.Clusters.{Neither}
 use Rattle.qcow2_laws.specs.Guard.{Pending, IsGuarded}
 use Rattle.qcow2_laws.specs.Opened.{nothing_pending, surplus_of}
+use Rattle.qcow2_laws.specs.Stops.{IsKeptAt}
 use Rattle.qcow2_laws.specs.Views.{IsOpened}
 use Rattle.qcow2_laws.proofs.Opened.{opened_guarded}
 use Rattle.qcow2_laws.proofs.Places.{l1_entry-past}
@@ -25,9 +29,25 @@ use Rattle.qcow2_alloc.specs.MetadataCaches.{refblocks, known_of, AreSound}
 use Rattle.qcow2_alloc.proofs.KeptTables.Standing.{own_cluster}
 use Rattle.qcow2_image.specs.declared.image.Qcow2.{Qcow2}
 use Rattle.qcow2_image.specs.Image.{is_failed}
-use Rattle.qcow2_image.specs.Opened.{IsFresh, StaysFresh, IsLoaded}
+use Rattle.qcow2_image.specs.Opened.{IsFresh, StaysFresh, IsLoaded, IsKeptSince}
 use Rattle.qcow2_image.specs.Views.{HasL1Table, IsHonestBacking, IsSoundAt, of_data, of_tables, to_free, pending_in, seen}
 use Rattle.qcow2_image.proofs.Sound.{pending_is}
+
+-- ---- what is kept
+pub kept_read : (old new : StorageView) → Passing old new (λ c. c ≡ new.contents) → new.contents ≡ old.contents → IsKeptSince old new
+kept_read old new time same = record {
+  moments = passes_if _ (λ c is backing m ok known_ok. subst (λ (l : List ℕ). IsKeptAt backing m (byte_at l)) (sym (is ∙ same)) ok) time;
+  contents = λ backing m ok known_ok. subst (λ (l : List ℕ). IsKeptAt backing m (byte_at l)) (sym same) ok;
+}
+
+pub kept_then : (old mid new : StorageView) → IsKeptSince old mid → IsKeptSince mid new → IsKeptSince old new
+kept_then old mid new first second = record {
+  moments = passes_on _ first.moments second.moments (λ l kept backing m ok known_ok. let here = first.contents backing m ok ok in kept backing m here here);
+  contents = λ backing m ok known_ok. let here = first.contents backing m ok ok in second.contents backing m here here;
+}
+
+pub kept_loaded : {T : Type 0} {result : Result T MetadataError} (old new : StorageView) → OnlyReads old new result → old.is_honest → IsKeptSince old new
+kept_loaded old new reads honest = kept_read old new (passes_if _ (λ c is. is ∙ sym (reads.same honest)) (reads.time honest)) (reads.same honest)
 
 module _ {S F : Type 0} (view : S → StorageView) (backing : F → BackingView) where
   -- ---- the L1 table
@@ -76,6 +96,24 @@ module _ {S F : Type 0} (view : S → StorageView) (backing : F → BackingView)
       → ((view_in view old).is_honest → (view_in view new).contents ≡ (view_in view old).contents) → StaysFresh view backing p old new
   fresh_then p old new fresh rest honest same =
       subst (StaysFresh view backing p old) (sym rest) (fresh_read p old new.storage fresh (honest fresh.sound.honest) (same fresh.sound.honest))
+
+  -- the storage is told what is written next
+  pub told_fresh : (p : Pending) (old file : ImageFile S) (told : ImageStorage S) → IsFresh view backing p old → file ≡ record old { storage = file.storage } → ((view_in view old).is_honest → (view_in view file).is_honest)
+      → ((view_in view old).is_honest → (view_in view file).contents ≡ (view_in view old).contents) → Passing (view_in view old) (view_in view file) (λ c. c ≡ (view_in view file).contents) → storage_of told ≡ storage_of file.storage
+      → IsFresh view backing p (record file { storage = told }) × IsKeptSince (view_in view old) (view (storage_of told))
+  told_fresh p old file told fresh rest honest same time is =
+      let read = fresh_then p old file fresh rest honest same in (
+        (fresh_read p file told read.fresh (subst (λ s. (view s).is_honest) (sym is) read.fresh.sound.honest) (ap (λ s. (view s).contents) is)).fresh,
+        subst (λ s. IsKeptSince (view_in view old) (view s)) (sym is) (kept_read (view_in view old) (view_in view file) time (same fresh.sound.honest)),
+      )
+
+  -- after the header the tables are loaded
+  pub kept_opened : {T : Type 0} (result : Result T MetadataError) (first old last : S) (file new : ImageFile S) → first ≡ old → last ≡ storage_of new.storage → OnlyReads (view first) (view_in view file) result
+      → ((view first).is_honest → IsConsistent (byte_at (view first).contents) → IsKeptSince (view_in view file) (view_in view new)) → (view old).is_honest → IsConsistent (byte_at (view old).contents) → IsKeptSince (view old) (view last)
+  kept_opened result first old last file new same_old same_last reads rest =
+      subst (λ s. (view s).is_honest → IsConsistent (byte_at (view s).contents) → IsKeptSince (view s) (view last)) same_old
+      (λ honest consistent. subst (λ s. IsKeptSince (view first) (view s)) (sym same_last)
+      (kept_then (view first) (view_in view file) (view_in view new) (kept_loaded {result = result} (view first) (view_in view file) reads honest) (rest honest consistent)))
 
   pub stays_then : (p : Pending) (a b c : ImageFile S) → StaysFresh view backing p a b → StaysFresh view backing p b c → StaysFresh view backing p a c
   stays_then p a b c first second = record {

@@ -24,6 +24,14 @@ kind_at h backed offset (Zero kept) = Kind.Zero true
 kind_at h backed offset (Compressed place sectors) = Kind.Special offset
 kind_at h backed offset Uncovered = if backed then Kind.Indirect offset else Kind.Zero false
 
+-- where it may be written in place
+abbrev pub writable_place : MappingKind → Option ℕ
+writable_place (Kind.Raw file offset writable) = if writable then Some offset else None
+writable_place (Kind.Zero explicit) = None
+writable_place (Kind.Special offset) = None
+writable_place (Kind.Indirect offset) = None
+writable_place Kind.Eof = None
+
 -- the L1 entry, and the entry of its L2 table, that cover an offset
 abbrev pub l1_index_of : HeaderFields → ℕ → ℕ
 l1_index_of h offset = offset / cluster_size h / entries_per_cluster h

@@ -1,6 +1,8 @@
 -- What a contract sees of an open image.
-use Rattle.std.specs.Prelude.{◌≡◌, ℕ, Bool, is_some}
+use Rattle.std.specs.Prelude.{◌≡◌, ℕ, Bool, [], is_some}
+use Rattle.std.specs.Option.{option_map_or}
 use Rattle.qcow2_metadata.specs.Header.{has_data_file}
+use Rattle.qcow2_alloc.specs.declared.allocation.Allocator.{Allocator}
 use Rattle.qcow2_alloc.specs.ImageStorage.{storage_of}
 use Rattle.qcow2_image.specs.declared.image.Qcow2.{Qcow2}
 
@@ -28,6 +30,14 @@ module _ {S F : Type 0} where
   -- its data stand in another file
   abbrev pub is_external : Qcow2 S F → Bool
   is_external image = has_data_file image.file.header.fields
+
+  -- no cluster is left to be freed
+  abbrev pub HasNothingToFree : Qcow2 S F → Type 0
+  HasNothingToFree image = image.file.free_list ≡ []
+
+  -- how many of its clusters couldn't be freed
+  abbrev pub leaked_in : Qcow2 S F → ℕ
+  leaked_in image = option_map_or (λ (a : Allocator). a.leaked_clusters) image.allocator 0
 
   -- it is the same image, with a disk of the same size
   pub record IsSameImage (old new : Qcow2 S F) : Type 0 where

@@ -10,3 +10,6 @@ pub mod NewTables
 pub mod Found
 pub mod Parts
 pub mod Opened
+pub mod Preparing
+pub mod Created
+pub mod Growing

@@ -1,5 +1,5 @@
--- An L2 table is made: its bytes are written to a new cluster, and then an L1 entry names it.
-use Rattle.std.specs.Prelude.{ℕ, ◌+◌, ◌*◌, ◌/◌, ◌%◌, ◌≡◌, ◌≢◌, ◌⊎◌, List, Option, None, Result, Ok, Err}
+-- An L2 table is made: its bytes are written to a new cluster, it is put into its cache, and then an L1 entry names it.
+use Rattle.std.specs.Prelude.{ℕ, ◌+◌, ◌*◌, ◌/◌, ◌%◌, ◌≡◌, ◌≢◌, ◌⊎◌, List, Option, Some, Result, Ok, Err}
 use Rattle.image_access.specs.Backing.{BackingView}
 use Rattle.image_access.specs.Moments.{StorageView}
 use Rattle.qcow2_metadata.specs.Bytes.{Bytes}
@@ -10,13 +10,14 @@ use Rattle.qcow2_metadata.specs.Cover.{cover, entry_cover}
 use Rattle.qcow2_metadata.specs.L2Table.{L2TableView}
 use Rattle.qcow2_metadata.specs.Named.{table_in}
 use Rattle.qcow2_metadata.specs.TableBytes.{entry_at}
+use Rattle.qcow2_laws.specs.Caches.{AreClean, BlocksMayGo}
 use Rattle.qcow2_laws.specs.Changes.{one_at, with_fresh}
 use Rattle.qcow2_laws.specs.Guard.{Pending}
 use Rattle.qcow2_laws.specs.Guests.{table_at}
 use Rattle.qcow2_alloc.specs.Allocation.{StandAt}
 use Rattle.qcow2_alloc.specs.declared.error.ImageError.{ImageError}
 use Rattle.qcow2_alloc.specs.ImageFile.{contents_in, Breaks}
-use Rattle.qcow2_alloc.specs.MetadataCaches.{l2_at, AreAllWritten}
+use Rattle.qcow2_alloc.specs.MetadataCaches.{order_of, l2_tables, refblocks, l2_at}
 use Rattle.qcow2_alloc.specs.TableCaches.{IsTableOf}
 use Rattle.qcow2_image.specs.declared.image.Qcow2.{Qcow2}
 use Rattle.qcow2_image.specs.declared.prepared.Prepared.{Prepared}
@@ -28,10 +29,16 @@ pub record SaysKnown (h : HeaderFields) (known : Bytes) (index : ℕ) (t : L2Tab
   pub says : (g : ℕ) → g / entries_per_cluster h ≡ index → cover h known g ≡ entry_cover h (entry_at t.bytes (g % entries_per_cluster h))
 
 module _ {S F : Type 0} (view : S → StorageView) where
-  -- bytes stand in a cluster that no table is held for, and all tables are written
-  pub record StandsReady (image : Qcow2 S F) (cluster : ℕ) (bytes : List ℕ) : Type 0 where
-    pub written : AreAllWritten image.file.caches
-    pub away : l2_at image.file.caches cluster ≡ None
+  -- What has to stand on the storage before an L1 entry names a new table: counts, what the order of writes asks for, and L2 tables where the entry names one already.
+  pub record IsStored (image : Qcow2 S F) (index : ℕ) : Type 0 where
+    pub counts : AreClean (refblocks image.file.caches)
+    pub first : BlocksMayGo (order_of image.file.caches) (l2_tables image.file.caches)
+    pub others : (table_at image.file.header.fields (contents_in view image.file) index ≡ 0) ⊎ AreClean (l2_tables image.file.caches)
+
+  -- then the table's bytes stand in a cluster, and are held for it
+  pub record StandsReady (image : Qcow2 S F) (index cluster : ℕ) (bytes : List ℕ) : Type 0 where
+    pub stored : IsStored image index
+    pub held : (t : L2TableView) × (l2_at image.file.caches cluster ≡ Some t) × (t.bytes ≡ bytes)
     pub stands : StandAt (contents_in view image.file) (cluster * cluster_size image.file.header.fields) bytes
 
   -- an L1 entry may be written: it names no table that is marked copied
@@ -54,10 +61,15 @@ module _ {S F : Type 0} (view : S → StorageView) where
   replacing p old index = record p { spent = λ k. p.spent k + table_in old.file.header.fields k (table_at old.file.header.fields (contents_in view old.file) index) }
 
   module _ (backing : F → BackingView) where
-    -- the bytes of a table are written to its cluster
-    abbrev pub Places : Pending → Qcow2 S F → Qcow2 S F → List (Option Prepared) → ℕ → List ℕ → Result (Unit {0}) ImageError → Type 0
-    Places p old new out cluster bytes (Ok _) = Keeps view backing p p old new out × StandsReady new cluster bytes
-    Places p old new out cluster bytes (Err e) = Keeps view backing p p old new out
+    -- all is written that has to stand before an L1 entry
+    abbrev pub Stores : Pending → Qcow2 S F → Qcow2 S F → List (Option Prepared) → ℕ → Result (Unit {0}) ImageError → Type 0
+    Stores p old new out index (Ok _) = Keeps view backing p p old new out × IsStored new index
+    Stores p old new out index (Err e) = Keeps view backing p p old new out
+
+    -- the bytes of a table are written to its cluster, and then it is put into its cache
+    abbrev pub Places : Pending → Qcow2 S F → Qcow2 S F → List (Option Prepared) → ℕ → ℕ → List ℕ → Result (Unit {0}) ImageError → Type 0
+    Places p old new out index cluster bytes (Ok _) = Keeps view backing p p old new out × StandsReady new index cluster bytes
+    Places p old new out index cluster bytes (Err e) = Keeps view backing p p old new out
 
     -- an L1 entry is written that names a new table
     abbrev pub NamesNew : Pending → Qcow2 S F → Qcow2 S F → List (Option Prepared) → ℕ → ℕ → Result (Unit {0}) ImageError → Type 0

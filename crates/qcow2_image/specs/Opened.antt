@@ -1,5 +1,5 @@
 -- What opening an image gives: its header and its tables as they stand on the storage, and nothing modified.
-use Rattle.std.specs.Prelude.{ℕ, ◌≡◌, IfSome, [], Option}
+use Rattle.std.specs.Prelude.{ℕ, ◌≡◌, IfSome, [], Option, Result, Ok, Err}
 use Rattle.image_access.specs.Backing.{BackingView}
 use Rattle.image_access.specs.Moments.{StorageView}
 use Rattle.qcow2_metadata.specs.Bytes.{Bytes, byte_at}
@@ -7,13 +7,25 @@ use Rattle.qcow2_metadata.specs.Consistent.{IsConsistent}
 use Rattle.qcow2_metadata.specs.EntryTable.{EntryTableView}
 use Rattle.qcow2_metadata.specs.HeaderLoad.{IsHeaderIn}
 use Rattle.qcow2_laws.specs.Guard.{Pending}
+use Rattle.qcow2_laws.specs.Leads.{Endures}
 use Rattle.qcow2_laws.specs.Views.{IsOpened}
 use Rattle.qcow2_alloc.specs.declared.allocation.Allocator.{Allocator}
+use Rattle.qcow2_alloc.specs.declared.error.ImageError.{ImageError}
 use Rattle.qcow2_alloc.specs.declared.image_file.ImageFile.{ImageFile}
-use Rattle.qcow2_alloc.specs.ImageFile.{l2_pins, view_in, IsSoundFile, HasReftable}
+use Rattle.qcow2_alloc.specs.ImageFile.{l2_pins, nothing_given, view_in, IsSoundFile, HasReftable}
 use Rattle.qcow2_alloc.specs.MetadataCaches.{known_of}
 use Rattle.qcow2_image.specs.declared.image.Qcow2.{Qcow2}
+use Rattle.qcow2_image.specs.Image.{storage_of_image}
 use Rattle.qcow2_image.specs.Views.{seen, HasL1Table}
+
+-- at each moment since, and now, what was kept of the contents is kept: a consistent image stays so, and shows the same disk
+abbrev pub IsKeptSince : StorageView → StorageView → Type 0
+IsKeptSince old new = Endures old new (byte_at old.contents) nothing_given []
+
+-- the storage that an opened image stands in, or that a refusal hands back
+abbrev pub storage_after : {S F : Type 0} → Result (Qcow2 S F) (S × ImageError) → S
+storage_after (Ok image) = storage_of_image image
+storage_after (Err refused) = refused.0
 
 module _ {S F : Type 0} (view : S → StorageView) (backing : F → BackingView) where
   -- a sound file with the header that stands there, whose caches hold nothing that is modified or pinned

@@ -53,8 +53,12 @@ fn power_of_two(number: u64) -> Option<u32> {
 }
 
 impl<S: Storage> Qcow2CreateBuilder<S> {
+    ghost use Rattle.std.specs.Prelude.{◌≡◌};
+
     /// A disk of no bytes, clusters of 65,536 bytes and counts of 16 bits.
-    pub fn new(image: S) -> Qcow2CreateBuilder<S> {
+    pub fn new(image: S) -> Qcow2CreateBuilder<S>
+        ensures { result ≡ record { image = image; size = 0; cluster_size = 65536; refcount_width = 16 } }
+    {
         Qcow2CreateBuilder {
             image,
             size: 0,
@@ -64,23 +68,31 @@ impl<S: Storage> Qcow2CreateBuilder<S> {
     }
 
     /// The size of the disk, in bytes.
-    pub fn size(mut self, size: u64) -> Qcow2CreateBuilder<S> {
+    pub fn size(mut self, size: u64) -> Qcow2CreateBuilder<S>
+        ensures { result ≡ record self { size = size } }
+    {
         self.size = size;
         self
     }
 
-    pub fn get_size(&self) -> u64 {
+    pub fn get_size(&self) -> u64
+        ensures { result ≡ self.now.size }
+    {
         self.size
     }
 
     /// The size of a cluster, in bytes: a power of two from 512 to 2,097,152.
-    pub fn cluster_size(mut self, cluster_size: u64) -> Qcow2CreateBuilder<S> {
+    pub fn cluster_size(mut self, cluster_size: u64) -> Qcow2CreateBuilder<S>
+        ensures { result ≡ record self { cluster_size = cluster_size } }
+    {
         self.cluster_size = cluster_size;
         self
     }
 
     /// The bits of a count: a power of two from 1 to 64.
-    pub fn refcount_width(mut self, refcount_width: u64) -> Qcow2CreateBuilder<S> {
+    pub fn refcount_width(mut self, refcount_width: u64) -> Qcow2CreateBuilder<S>
+        ensures { result ≡ record self { refcount_width = refcount_width } }
+    {
         self.refcount_width = refcount_width;
         self
     }

@@ -35,11 +35,11 @@ struct Tables {
 
 #[tactic(auto, using(crate::proofs::MetErrors::tables_met, crate::proofs::MetErrors::storage_met, crate::proofs::MetErrors::metadata_met))]
 impl<S: Storage, F: WrappedFormat<S>> Qcow2<S, F> {
-    ghost use Rattle.std.specs.Prelude.{◌≡◌, IfOk, IfErr, IsTrue, MatchOption, Ok, Err, Some, None, false, nat_le, option_map, if◌then◌else◌};
+    ghost use Rattle.std.specs.Prelude.{◌≡◌, IfOk, IfErr, OnOk, IsTrue, MatchOption, Ok, Err, Some, None, false, nat_le, option_map, if◌then◌else◌};
     ghost use Rattle.std.specs.String.{string_bytes};
     ghost use Rattle.qcow2_metadata.specs.Header.{cluster_size};
     ghost use Rattle.qcow2_alloc.specs.declared.error.ImageError.TheVariants.{Failed, Memory};
-    ghost use Rattle.qcow2_image.specs.Image.{storage_of_image, Stays, IsSameImage, is_failed, is_writable, is_external, number_of, size_of};
+    ghost use Rattle.qcow2_image.specs.Image.{storage_of_image, HasNothingToFree, Stays, KeepsRest, IsSameImage, is_failed, is_writable, is_external, leaked_in, number_of, size_of};
     ghost use Rattle.std.specs.Prelude.{List, Option};
     ghost use Rattle.qcow2_laws.specs.Views.{guest_of};
     ghost use Rattle.qcow2_image.specs.declared.prepared.Prepared.{Prepared};
@@ -47,16 +47,26 @@ impl<S: Storage, F: WrappedFormat<S>> Qcow2<S, F> {
     ghost use Rattle.qcow2_image.specs.Views.{seen, IsSoundAt};
     ghost use Rattle.qcow2_image.specs.Calls.{Flushes};
     ghost use Rattle.qcow2_alloc.specs.ImageFile.{contents_in, known_in};
-    ghost use Rattle.qcow2_image.specs.Steps.{Keeps};
+    ghost use Rattle.qcow2_image.specs.Steps.{Keeps, FreesListed};
+    ghost use Rattle.qcow2_alloc.specs.FreeList.{with_listed};
     ghost use Rattle.qcow2_image.specs.Refusals.{unusable, IsMet, Marks, failed_after};
-    ghost use Rattle.image_access.specs.Moments.{Keeps as ContentsStay};
+    ghost use Rattle.image_access.specs.Moments.{Keeps as ContentsStay, Passing};
+    ghost use Rattle.qcow2_metadata.specs.Bytes.{byte_at};
+    ghost use Rattle.qcow2_metadata.specs.Consistent.{IsConsistent};
     ghost use Rattle.qcow2_alloc.specs.ImageFile.{view_in, HasReftable};
     ghost use Rattle.qcow2_image.specs.Views.{HasL1Table};
-    ghost use Rattle.qcow2_image.specs.Opened.{IsFresh, StaysFresh, IsLoaded, Opens};
+    ghost use Rattle.qcow2_image.specs.Created.{begins_image};
+    ghost use Rattle.qcow2_image.specs.Opened.{IsFresh, StaysFresh, IsLoaded, IsKeptSince, storage_after, Opens};
     ghost use Rattle.std.specs.Option.{is_some};
 
     /// Whether the first bytes of a storage are those of an image of version 2 or 3.
-    pub fn probe(storage: &mut S) -> Result<bool, ImageError> {
+    pub fn probe(storage: &mut S) -> Result<bool, ImageError>
+        ensures answer { (S.view storage.old).is_honest → IfOk result (λ found. found ≡ begins_image (byte_at (S.view storage.old).contents)) }
+        ensures same { ContentsStay (S.view storage.old) (S.view storage.new) }
+        ensures honest { (S.view storage.old).is_honest → (S.view storage.new).is_honest }
+        ensures time { Passing (S.view storage.old) (S.view storage.new) (λ c. c ≡ (S.view storage.new).contents) }
+        ensures cause { IfErr result IsMet }
+    {
         let mut first = [0u8; 8];
         storage.read(0, &mut first)?;
         let magic = u32::from_be_bytes([first[0], first[1], first[2], first[3]]);
@@ -72,6 +82,7 @@ impl<S: Storage, F: WrappedFormat<S>> Qcow2<S, F> {
         number: u64,
     ) -> Result<Qcow2<S, F>, (S, ImageError)>
         ensures opens { IfOk result (Opens S.view F.backing (S.view metadata)) }
+        ensures since { (S.view metadata).is_honest → IsConsistent (byte_at (S.view metadata).contents) → IsKeptSince (S.view metadata) (S.view (storage_after result)) }
         ensures ok { IfOk result (λ image. (number_of image ≡ number) × (is_failed image ≡ false) × (is_writable image ≡ writable)) }
     {
         let mut storage = ImageStorage::new(metadata);
@@ -113,6 +124,7 @@ impl<S: Storage, F: WrappedFormat<S>> Qcow2<S, F> {
         ensures rest { file.new ≡ record file.old { storage = file.new.storage } }
         ensures honest { (view_in S.view file.old).is_honest → (view_in S.view file.new).is_honest }
         ensures same { ContentsStay (view_in S.view file.old) (view_in S.view file.new) }
+        ensures time { Passing (view_in S.view file.old) (view_in S.view file.new) (λ c. c ≡ (view_in S.view file.new).contents) }
         ensures table { (view_in S.view file.old).is_honest → IfOk result (HasL1Table S.view F.backing file.new) }
     {
         let bits = file.header.cluster_bits();
@@ -135,6 +147,7 @@ impl<S: Storage, F: WrappedFormat<S>> Qcow2<S, F> {
 
     // For writing the reftable is loaded, and the autoclear bits are cleared last.
     fn load_allocator(file: &mut ImageFile<S>) -> Result<Allocator, ImageError>
+        ensures since { (p : Pending) → IsFresh S.view F.backing p file.old → IsKeptSince (view_in S.view file.old) (view_in S.view file.new) }
         ensures loaded { (p : Pending) → IsFresh S.view F.backing p file.old → IfOk result (λ allocator. StaysFresh S.view F.backing p file.old file.new × HasReftable S.view file.new allocator.reftable) }
     {
         let allocator = Allocator::new(file)?;
@@ -146,6 +159,7 @@ impl<S: Storage, F: WrappedFormat<S>> Qcow2<S, F> {
     // Loads the L1 table and, for writing, the reftable.
     fn load_tables(file: &mut ImageFile<S>, writable: bool) -> Result<Tables, ImageError>
         ensures allocator { IfOk result (λ tables. is_some tables.allocator ≡ writable) }
+        ensures since { (p : Pending) → IsFresh S.view F.backing p file.old → IsKeptSince (view_in S.view file.old) (view_in S.view file.new) }
         ensures loaded { (p : Pending) → IsFresh S.view F.backing p file.old → IfOk result (λ tables. IsLoaded S.view F.backing p file.new tables.l1_table tables.allocator) }
     {
         let l1_table = Self::load_l1_table(file)?;
@@ -245,20 +259,23 @@ impl<S: Storage, F: WrappedFormat<S>> Qcow2<S, F> {
     }
 
     /// How many clusters couldn't be freed, up to the greatest `u64`.
-    pub fn leaked_clusters(&self) -> u64 {
+    pub fn leaked_clusters(&self) -> u64
+        ensures { result ≡ leaked_in self.now }
+    {
         match &self.allocator {
             Some(allocator) => allocator.leaked_clusters(),
             None => 0,
         }
     }
 
-    /// Writes what is cached, and hands all on to the device.
+    /// Frees the clusters that are to be freed, writes what is cached, and hands all on to the device.
     pub fn flush(&mut self) -> Result<(), ImageError>
         ensures early { IsTrue (is_failed self.old) → (result ≡ Err Failed) × (self.new ≡ self.old) }
         ensures late { is_failed self.old ≡ false → IfErr result IsMet }
         ensures marks { Marks result (is_failed self.old) (is_failed self.new) }
         ensures image { IsSameImage self.old self.new }
         ensures sees { Flushes S.view F.backing self.old self.new result }
+        ensures emptied { IsTrue (is_writable self.old) → OnOk result (HasNothingToFree self.new) }
     {
         if self.is_failed {
             return Err(ImageError::Failed);
@@ -271,13 +288,28 @@ impl<S: Storage, F: WrappedFormat<S>> Qcow2<S, F> {
     fn write_back(&mut self) -> Result<(), ImageError>
         ensures stays { Stays self.old self.new }
         ensures cause { IfErr result IsMet }
-        ensures list { self.new.file.free_list ≡ self.old.file.free_list }
-        ensures keeps { (p : Pending) (out : List (Option Prepared)) → IsSoundAt S.view F.backing p self.old out → Keeps S.view F.backing p p self.old self.new out }
+        ensures emptied { IsTrue (is_writable self.old) → OnOk result (HasNothingToFree self.new) }
+        ensures frees { (p : Pending) (out : List (Option Prepared)) → IsSoundAt S.view F.backing (with_listed p self.old.file.free_list) self.old out → FreesListed S.view F.backing p self.old self.new out result }
         ensures written { IfOk result (λ done. known_in S.view self.new.file ≡ contents_in S.view self.new.file) }
     {
+        self.free_listed()?;
         self.file.caches.flush_all(&mut self.file.storage)?;
         self.file.storage.flush()?;
         Ok(())
+    }
+
+    // Frees the clusters that are to be freed. Refused, those not freed yet are to be freed still.
+    pub(crate) fn free_listed(&mut self) -> Result<(), ImageError>
+        ensures stays { Stays self.old self.new }
+        ensures keeps_rest { KeepsRest self.old self.new }
+        ensures cause { IfErr result IsMet }
+        ensures emptied { IsTrue (is_writable self.old) → OnOk result (HasNothingToFree self.new) }
+        ensures frees { (p : Pending) (out : List (Option Prepared)) → IsSoundAt S.view F.backing (with_listed p self.old.file.free_list) self.old out → FreesListed S.view F.backing p self.old self.new out result }
+    {
+        let Some(allocator) = &mut self.allocator else {
+            return Ok(());
+        };
+        allocator.free(&mut self.file)
     }
 
     // From here on it is noted anew whether anything changes.

@@ -1,5 +1,5 @@
 //! The L2 table of a range: found, made, or put in the place of one that others may name too.
-ghost use Rattle.std.specs.Prelude.{List, Option, is_some, ◌≡◌, ◌-◌, ◌/◌, Some, ◌^◌, ◌<◌, IfErr, IsSome, IsTrue, Ok, Err, length};
+ghost use Rattle.std.specs.Prelude.{ℕ, List, Option, is_some, ◌≡◌, ◌-◌, ◌/◌, Some, ◌^◌, ◌<◌, IfErr, IsSome, IsTrue, Ok, Err, length};
 ghost use Rattle.qcow2_metadata.specs.L2Mapping.{IsHostCluster};
 ghost use Rattle.qcow2_metadata.specs.EntryTable.{entry_count};
 ghost use Rattle.qcow2_image.specs.Image.{Stays, KeepsRest, is_writable};
@@ -12,7 +12,7 @@ ghost use Rattle.qcow2_image.specs.Steps.{Ensures, Keeps};
 ghost use Rattle.qcow2_image.specs.Views.{IsSoundAt};
 ghost use Rattle.qcow2_metadata.specs.Cover.{cover};
 ghost use Rattle.qcow2_image.specs.declared.mapping.Place.TheVariants.{Image};
-ghost use Rattle.qcow2_image.specs.NewTables.{SaysKnown, StandsReady, MayName, NamesShared, Places, NamesNew, WritesNew, EntersTable, OwnsTable};
+ghost use Rattle.qcow2_image.specs.NewTables.{SaysKnown, IsStored, StandsReady, MayName, NamesShared, Places, Stores, NamesNew, WritesNew, EntersTable, OwnsTable};
 ghost use Rattle.qcow2_alloc.specs.TableCaches.{IsTableOf};
 ghost use Rattle.qcow2_laws.specs.Changes.{one_at, with_fresh};
 ghost use Rattle.qcow2_metadata.specs.L2Table.{L2TableView};
@@ -136,7 +136,7 @@ impl<S: Storage, F: WrappedFormat<S>> Qcow2<S, F> {
         }
     }
 
-    // The table's bytes are written first, then the entry that names it.
+    // What has to stand first is written, then the table's bytes, then the entry that names it.
     fn write_l2(
         &mut self,
         index: usize,
@@ -153,11 +153,28 @@ impl<S: Storage, F: WrappedFormat<S>> Qcow2<S, F> {
         if !self.can_enter(index, cluster) {
             return Err(ImageError::Limit);
         }
+        self.store_first(index)?;
         self.place_l2(cluster, table)?;
         self.name_l2(index, cluster)
     }
 
-    // Writes a table's bytes to a cluster, after all that is cached. A cluster that an older table is held for is refused: the older one would be found there.
+    // Writes what has to stand on the storage before an L1 entry names a new table: counts, and all tables where it names one already.
+    fn store_first(&mut self, index: usize) -> Result<(), ImageError>
+        ensures stays { Stays self.old self.new }
+        ensures keeps_rest { KeepsRest self.old self.new }
+        ensures cause { IfErr result IsMet }
+        ensures rest { self.new ≡ record self.old { file = record self.old.file { storage = self.new.file.storage; caches = self.new.file.caches } } }
+        ensures noted { IsTrue self.old.file.caches.is_changed → IsTrue self.new.file.caches.is_changed }
+        ensures stores { (p : Pending) (out : List (Option Prepared)) → IsSoundAt S.view F.backing p self.old out → Stores S.view F.backing p self.old self.new out index result }
+    {
+        if self.l1_table.get(index).is_some() {
+            self.file.caches.flush_all(&mut self.file.storage)
+        } else {
+            self.file.caches.flush_rb(&mut self.file.storage)
+        }
+    }
+
+    // Writes a table's bytes to a cluster, and puts the table into its cache.
     fn place_l2(&mut self, cluster: HostCluster, mut table: L2Table) -> Result<(), ImageError>
         ensures stays { Stays self.old self.new }
         ensures keeps_rest { KeepsRest self.old self.new }
@@ -165,19 +182,17 @@ impl<S: Storage, F: WrappedFormat<S>> Qcow2<S, F> {
         ensures rest { self.new ≡ record self.old { file = record self.old.file { storage = self.new.file.storage; caches = self.new.file.caches } } }
         ensures noted { IsTrue self.old.file.caches.is_changed → IsTrue self.new.file.caches.is_changed }
         ensures long { length table.bytes ≡ 2 ^ table.cluster_bits }
-        ensures places { (p : Pending) (out : List (Option Prepared)) → IsSoundAt S.view F.backing p self.old out → 0 < p.fresh cluster → IsTableOf self.old.file.header.fields table → Places S.view F.backing p self.old self.new out cluster table.bytes result }
+        ensures places { (p : Pending) (out : List (Option Prepared)) (index : ℕ) → IsSoundAt S.view F.backing p self.old out → 0 < p.fresh cluster → IsTableOf self.old.file.header.fields table
+            → IsStored S.view self.old index → Places S.view F.backing p self.old self.new out index cluster table.bytes result }
     {
         if !cluster.is_nameable(table.cluster_bits()) {
             return Err(ImageError::Limit);
         }
         table.set_cluster(cluster);
-        self.file.caches.flush_all(&mut self.file.storage)?;
-        if self.file.caches.l2_peek(cluster).is_some() {
-            return Err(ImageError::InUse);
-        }
         self.file.storage.will_write(WriteKind::Other);
         table.write(&mut self.file.storage)?;
-        Ok(())
+        table.clear_modified();
+        self.file.caches.l2_insert(&mut self.file.storage, table)
     }
 
     // Writes the L1 entry that names the table in a cluster.
@@ -190,7 +205,7 @@ impl<S: Storage, F: WrappedFormat<S>> Qcow2<S, F> {
         ensures cause { IfErr result IsMet }
         ensures list { self.new.file.free_list ≡ self.old.file.free_list }
         ensures names { (p : Pending) (out : List (Option Prepared)) (table : L2TableView) → IsSoundAt S.view F.backing (with_fresh p (one_at cluster)) self.old out → MayName S.view self.old index → IsTrue self.old.file.caches.is_changed
-            → SaysKnown self.old.file.header.fields (known_in S.view self.old.file) index table → length table.bytes ≡ 2 ^ table.cluster_bits → StandsReady S.view self.old cluster table.bytes → NamesNew S.view F.backing p self.old self.new out index cluster result }
+            → SaysKnown self.old.file.header.fields (known_in S.view self.old.file) index table → length table.bytes ≡ 2 ^ table.cluster_bits → StandsReady S.view self.old index cluster table.bytes → NamesNew S.view F.backing p self.old self.new out index cluster result }
     {
         self.file.storage.will_write(WriteKind::Other);
         self.l1_table.enter_l2_table(index, cluster);

@@ -1,4 +1,5 @@
 ghost use Rattle.std.specs.Prelude.{◌≡◌, IsTrue};
+ghost use Rattle.qcow2_image.specs.Found.{writable_place};
 
 /// Where mapped bytes stand.
 #[derive(Clone, Copy, Debug, PartialEq, Eq)]
@@ -52,6 +53,20 @@ impl MappingKind {
         ensures { IsTrue result → self.now ≡ other.now }
     {
         self == other
+    }
+
+    // Where it may be written in place, if it may.
+    pub(crate) fn writable_place(&self) -> Option<u64>
+        ensures { result ≡ writable_place self.now }
+    {
+        match self {
+            MappingKind::Raw {
+                place: _,
+                offset,
+                writable: true,
+            } => Some(*offset),
+            _ => None,
+        }
     }
 
     /// The same, so many bytes further on.

@@ -1,9 +1,11 @@
 //! What a guest range is mapped to, and making it writable.
 ghost use Rattle.std.specs.Prelude.{◌↔◌, ℕ, List, Option, is_some, ◌≡◌, ◌≢◌, ◌+◌, ◌*◌, ◌-◌, ◌/◌, ◌%◌, true, Some, ◌^◌, ◌<◌, ◌≤◌, [], ◌∷◌, IfOk, IfErr, IfSome, OnOk, IsOk, IsNone, IsSome, IsTrue, MatchOption, Ok, Err, None, false};
+ghost use Rattle.qcow2_metadata.specs.Bytes.{Bytes};
 ghost use Rattle.qcow2_metadata.specs.L2Mapping.{IsHostCluster, IsInReach};
 ghost use Rattle.qcow2_image.specs.FirstCluster.{IsFirst, IsNear};
 ghost use Rattle.qcow2_image.specs.Image.{Stays, IsSameImage, is_failed, is_writable, number_of};
-ghost use Rattle.qcow2_image.specs.Prepared.{image_of, length_of, table_of, IsKept};
+ghost use Rattle.qcow2_image.specs.Prepared.{image_of, length_of, offset_of, table_of, IsKept};
+ghost use Rattle.qcow2_image.specs.Preparing.{HasItsOwn, IsAnswered, IsOfNothing, IsPlaceOf, IsRest};
 ghost use Rattle.qcow2_laws.specs.Guard.{Pending};
 ghost use Rattle.qcow2_alloc.specs.MetadataCaches.{IsEntryAt, l2_at};
 ghost use Rattle.qcow2_alloc.specs.ImageFile.{known_in, IsSoundFile};
@@ -14,7 +16,7 @@ ghost use Rattle.qcow2_alloc.specs.CacheMarks.{l2_pins};
 ghost use Rattle.qcow2_laws.specs.Alike.{IsAlike};
 ghost use Rattle.qcow2_image.specs.Found.{mapping_of, IsRunBehind, NamesTable, IsRunFrom, IsFound, kind_at, rest_of_table, l1_index_of, l2_index_of};
 ghost use Rattle.qcow2_image.specs.Steps.{Gains, HoldsAll, HoldsTable, Pins, SameHeld, Keeps, TakesData, EntersCluster, EntersNew, FreesLater, Unpins, freed_by};
-ghost use Rattle.qcow2_image.specs.Views.{HasL1Table, IsSoundAt, pending_in, seen};
+ghost use Rattle.qcow2_image.specs.Views.{HasL1Table, IsSoundAt, meaning, pending_in, seen};
 ghost use Rattle.qcow2_metadata.specs.Header.{cluster_size, entries_per_cluster};
 ghost use Rattle.qcow2_metadata.specs.Cover.{cover};
 ghost use Rattle.qcow2_image.specs.declared.mapping.Place.TheVariants.{Image};
@@ -254,12 +256,14 @@ impl<S: Storage, F: WrappedFormat<S>> Qcow2<S, F> {
     ) -> Result<Prepared, ImageError>
         ensures early { IfSome (refuses_to_prepare self.old offset length) (λ e. (result ≡ Err e) × (self.new ≡ self.old)) }
         ensures late { refuses_to_prepare self.old offset length ≡ None → IfErr result IsMet }
-        ensures nothing { refuses_to_prepare self.old offset 0 ≡ None → length ≡ 0 → IsOk result × (self.new ≡ self.old) }
+        ensures nothing { refuses_to_prepare self.old offset 0 ≡ None → length ≡ 0 → IsOk result × IfOk result IsOfNothing × (self.new ≡ self.old) }
         ensures marks { Marks result (is_failed self.old) (is_failed self.new) }
         ensures image { IsSameImage self.old self.new }
         ensures own { IfOk result (λ p. image_of p ≡ number_of self.old) }
         ensures some { IfOk result (λ p. 0 < length → 0 < length_of p) }
         ensures sees { Prepares S.view F.backing self.old self.new offset length overwrite result }
+        ensures maps { 0 < length → (out : List (Option Prepared)) → (seen S.view F.backing self.old out).is_sound
+            → IfOk result (λ p. IsAnswered self.old.file.header.fields (known_in S.view self.old.file) offset length (known_in S.view self.new.file) p (meaning S.view F.backing self.new p)) }
     {
         self.check_prepare(offset, length)?;
         if length == 0 {
@@ -288,6 +292,7 @@ impl<S: Storage, F: WrappedFormat<S>> Qcow2<S, F> {
     fn existing_at(&self, guest: u64, offset: u64, length: u64) -> Prepared
         ensures own { image_of result ≡ number_of self.now }
         ensures length { length_of result ≡ length }
+        ensures offset { offset_of result ≡ offset }
         ensures existing { IsExisting result self.now.number guest length }
     {
         Prepared {
@@ -309,6 +314,8 @@ impl<S: Storage, F: WrappedFormat<S>> Qcow2<S, F> {
         ensures some { IfOk result (λ p. 0 < length → 0 < length_of p) }
         ensures readies { 0 < length → (out : List (Option Prepared)) → IsSoundAt S.view F.backing (pending_in S.view F.backing self.old out) self.old out
             → Readies S.view F.backing self.old self.new out offset length overwrite result }
+        ensures answers { 0 < length → (p : Pending) (out : List (Option Prepared)) → IsSoundAt S.view F.backing p self.old out → HoldsAll S.view F.backing p out
+            → IfOk result (λ q. IsAnswered self.old.file.header.fields (known_in S.view self.old.file) offset length (known_in S.view self.new.file) q (meaning S.view F.backing self.new q)) }
     {
         let table = self.ensure_l2(offset)?;
         match self.existing_host(table, offset, length)? {
@@ -325,17 +332,16 @@ impl<S: Storage, F: WrappedFormat<S>> Qcow2<S, F> {
         length: u64,
     ) -> Result<Option<u64>, ImageError>
         ensures cause { IfErr result IsMet }
+        ensures place { (p : Pending) → IsSoundFile S.view p self.now.file
+            → IsEntryAt self.now.file.header.fields (known_in S.view self.now.file) (l1_index_of self.now.file.header.fields offset) table (l2_index_of self.now.file.header.fields offset)
+            → 0 < length → IfOk result (IsPlaceOf self.now.file.header.fields (known_in S.view self.now.file) offset length) }
     {
         let max = length.min(self.rest_of_table(offset));
         let (kind, found) = self.run_in_table(table, offset, max)?;
-        match kind {
-            MappingKind::Raw {
-                place: _,
-                offset: host,
-                writable: true,
-            } if found >= length => Ok(Some(host)),
-            _ => Ok(None),
+        if found < length {
+            return Ok(None);
         }
+        Ok(kind.writable_place())
     }
 
     // Makes a range ready in a held table that no other mapping needs as it is.
@@ -353,6 +359,11 @@ impl<S: Storage, F: WrappedFormat<S>> Qcow2<S, F> {
         ensures some { IfOk result (λ p. 0 < length_of p) }
         ensures readies { (out : List (Option Prepared)) → IsSoundAt S.view F.backing (pending_in S.view F.backing self.old out) self.old out
             → HoldsTable S.view F.backing self.old offset table → Readies S.view F.backing self.old self.new out offset length overwrite result }
+        ensures alone { (p : Pending) (out : List (Option Prepared)) → IsSoundAt S.view F.backing p self.old out → HoldsAll S.view F.backing p out
+            → IfOk result (λ q. HasItsOwn self.old.file.header.fields (known_in S.view self.new.file) q.new_cluster) }
+        ensures rest { (p : Pending) (out : List (Option Prepared)) → IsSoundAt S.view F.backing p self.old out
+            → HoldsTable S.view F.backing self.old offset table → IfOk result (IsRest self.old.file.header.fields (known_in S.view self.old.file) offset) }
+        ensures header { self.new.file.header ≡ self.old.file.header }
     {
         if self.file.caches.l2_is_pinned(table) {
             return Err(ImageError::TablePrepared);
@@ -380,6 +391,10 @@ impl<S: Storage, F: WrappedFormat<S>> Qcow2<S, F> {
         ensures readies { (out : List (Option Prepared)) → IsSoundAt S.view F.backing (pending_in S.view F.backing self.old out) self.old out
             → HoldsTable S.view F.backing self.old offset table → l2_pins self.old.file.caches table ≡ 0 → cover self.old.file.header.fields (known_in S.view self.old.file) (offset / cluster_size self.old.file.header.fields) ≡ L2Mapping.Uncovered
             → Readies S.view F.backing self.old self.new out offset length overwrite result }
+        ensures alone { (p : Pending) (out : List (Option Prepared)) → IsSoundAt S.view F.backing p self.old out → HoldsAll S.view F.backing p out
+            → IfOk result (λ q. HasItsOwn self.old.file.header.fields (known_in S.view self.new.file) q.new_cluster) }
+        ensures rest { (known : Bytes) → cover self.old.file.header.fields known (offset / cluster_size self.old.file.header.fields) ≡ L2Mapping.Uncovered → IfOk result (IsRest self.old.file.header.fields known offset) }
+        ensures header { self.new.file.header ≡ self.old.file.header }
     {
         let pending = self.new_cluster(offset, length, overwrite)?;
         match self.load_l2(table) {

@@ -1,6 +1,10 @@
 //! A larger disk.
-ghost use Rattle.std.specs.Prelude.{◌<◌};
+ghost use Rattle.std.specs.Prelude.{◌≡◌, ◌<◌, ◌++◌, Some, [], IfOk, OnOk};
 ghost use Rattle.qcow2_metadata.specs.L2Mapping.{IsHostCluster};
+ghost use Rattle.qcow2_laws.specs.Guard.{Pending};
+ghost use Rattle.qcow2_image.specs.Growing.{run_of_table, listed, with_table, IsLonger, StandsWhole, PlacesTable, NamesTable, TakesTable, Lengthens, Resizes, Grows};
+ghost use Rattle.qcow2_image.specs.Steps.{ListGrows};
+ghost use Rattle.qcow2_image.specs.Views.{IsSoundAt, seen};
 
 use crate::Qcow2;
 use image_access::{Storage, WrappedFormat};
@@ -14,7 +18,9 @@ const MAX_L1_ENTRIES: usize = 4_194_304;
 
 impl<S: Storage, F: WrappedFormat<S>> Qcow2<S, F> {
     // Makes the disk larger: a new L1 table, then the size. A size that isn't larger changes nothing.
-    pub(crate) fn grow(&mut self, size: u64) -> Result<(), ImageError> {
+    pub(crate) fn grow(&mut self, size: u64) -> Result<(), ImageError>
+        ensures grows { (seen S.view F.backing self.old []).is_sound → Grows S.view F.backing self.old self.new size result }
+    {
         if self.is_failed {
             return Err(ImageError::Failed);
         }
@@ -28,9 +34,18 @@ impl<S: Storage, F: WrappedFormat<S>> Qcow2<S, F> {
 
     fn grow_to(&mut self, size: u64) -> Result<(), ImageError>
         requires { 0 < size }
+        ensures resizes { (p : Pending) → IsSoundAt S.view F.backing p self.old [] → Resizes S.view F.backing p self.old self.new size result }
+        ensures list { OnOk result (ListGrows self.old self.new) }
     {
         let bits = self.file.header.cluster_bits();
         self.grow_l1_table(GuestOffset::new(size - 1).l1_index(bits))?;
+        self.write_size(size)
+    }
+
+    fn write_size(&mut self, size: u64) -> Result<(), ImageError>
+        ensures resizes { (p : Pending) → IsSoundAt S.view F.backing p self.old [] → Resizes S.view F.backing p self.old self.new size result }
+        ensures list { self.new.file.free_list ≡ self.old.file.free_list }
+    {
         self.file.header.set_size(size);
         self.file.storage.will_write(WriteKind::Other);
         self.file.header.write_size(&mut self.file.storage)?;
@@ -38,22 +53,18 @@ impl<S: Storage, F: WrappedFormat<S>> Qcow2<S, F> {
     }
 
     // Makes a new L1 table that has an entry of this index, with all old entries. The old one is to be freed.
-    fn grow_l1_table(&mut self, index: usize) -> Result<(), ImageError> {
+    fn grow_l1_table(&mut self, index: usize) -> Result<(), ImageError>
+        ensures lengthens { (p : Pending) → IsSoundAt S.view F.backing p self.old [] → Lengthens S.view F.backing p self.old self.new result }
+        ensures list { OnOk result (ListGrows self.old self.new) }
+    {
         if index >= MAX_L1_ENTRIES {
             return Err(ImageError::Limit);
         }
         let entries = (index + 1).max(self.l1_table.len());
-        let mut table = self.l1_table.clone_and_grow(self.file.alloc, entries)?;
-        let old = match self.l1_table.get_cluster() {
-            Some(cluster) => {
-                let entry = ClustersToFreeEntry::metadata(cluster, self.l1_table.cluster_count());
-                Some(ClustersToFreeList::pending_guard(self.file.alloc, entry)?)
-            }
-            None => None,
-        };
-        match self.enter_l1_table(&mut table) {
+        let table = self.l1_table.clone_and_grow(self.file.alloc, entries)?;
+        let old = self.former_l1_table()?;
+        match self.enter_l1_table(table) {
             Ok(()) => {
-                self.l1_table = table;
                 hand_back(old, &mut self.file.free_list);
                 Ok(())
             }
@@ -64,8 +75,23 @@ impl<S: Storage, F: WrappedFormat<S>> Qcow2<S, F> {
         }
     }
 
+    // Room on the list of clusters to be freed for those of the L1 table.
+    fn former_l1_table(&self) -> Result<Option<PendingClusters>, ImageError>
+        ensures { IfOk result (λ former. former ≡ run_of_table self.now.l1_table self.now.l1_table.cluster) }
+    {
+        let Some(cluster) = self.l1_table.get_cluster() else {
+            return Ok(None);
+        };
+        let entry = ClustersToFreeEntry::metadata(cluster, self.l1_table.cluster_count());
+        let former = ClustersToFreeList::pending_guard(self.file.alloc, entry)?;
+        Ok(Some(former))
+    }
+
     // Gives an L1 table clusters, writes it there, and then the pointer that names it.
-    fn enter_l1_table(&mut self, table: &mut L1Table) -> Result<(), ImageError> {
+    fn enter_l1_table(&mut self, table: L1Table) -> Result<(), ImageError>
+        ensures takes { (p : Pending) → IsSoundAt S.view F.backing p self.old [] → IsLonger self.old table → TakesTable S.view F.backing p self.old self.new result }
+        ensures list { OnOk result (self.new.file.free_list ≡ self.old.file.free_list) }
+    {
         let Some(allocator) = &mut self.allocator else {
             return Err(ImageError::ReadOnly);
         };
@@ -82,12 +108,26 @@ impl<S: Storage, F: WrappedFormat<S>> Qcow2<S, F> {
         }
     }
 
-    fn write_l1_table(
+    // The table is written first, then the pointer that names it.
+    fn write_l1_table(&mut self, mut table: L1Table, cluster: HostCluster) -> Result<(), ImageError>
+        requires { IsHostCluster self.old.file.header.fields.cluster_bits cluster }
+        ensures names { (p : Pending) → IsSoundAt S.view F.backing (with_table p table cluster) self.old [] → IsLonger self.old table → NamesTable S.view F.backing p self.old self.new table cluster result }
+        ensures list { self.new.file.free_list ≡ self.old.file.free_list }
+    {
+        self.place_l1_table(&mut table, cluster)?;
+        self.name_l1_table(table, cluster)
+    }
+
+    // Writes an L1 table to its clusters, after all counts.
+    fn place_l1_table(
         &mut self,
         table: &mut L1Table,
         cluster: HostCluster,
     ) -> Result<(), ImageError>
-        requires { IsHostCluster self.old.file.header.fields.cluster_bits cluster }
+        ensures places { (p : Pending) → IsSoundAt S.view F.backing (with_table p table.old cluster) self.old [] → IsLonger self.old table.old → PlacesTable S.view F.backing (with_table p table.old cluster) self.old self.new table.new cluster result }
+        ensures table { OnOk result (table.new ≡ record table.old { cluster = Some cluster }) }
+        ensures header { self.new.file.header ≡ self.old.file.header }
+        ensures list { self.new.file.free_list ≡ self.old.file.free_list }
     {
         if !cluster.is_nameable(table.cluster_bits()) {
             return Err(ImageError::Limit);
@@ -96,16 +136,29 @@ impl<S: Storage, F: WrappedFormat<S>> Qcow2<S, F> {
         self.file.caches.flush_rb(&mut self.file.storage)?;
         self.file.storage.will_write(WriteKind::Other);
         table.write(&mut self.file.storage)?;
+        Ok(())
+    }
+
+    // Writes the pointer that names an L1 table, which is the image's own then.
+    fn name_l1_table(&mut self, table: L1Table, cluster: HostCluster) -> Result<(), ImageError>
+        requires { IsHostCluster self.old.file.header.fields.cluster_bits cluster }
+        ensures names { (p : Pending) → IsSoundAt S.view F.backing (with_table p table cluster) self.old [] → StandsWhole S.view self.old table cluster → NamesTable S.view F.backing p self.old self.new table cluster result }
+        ensures list { self.new.file.free_list ≡ self.old.file.free_list }
+    {
         let offset = cluster.offset(self.file.header.cluster_bits());
         self.file.header.set_l1_table(offset, table.len() as u32)?;
+        self.file.storage.will_write(WriteKind::Other);
         self.file
             .header
             .write_l1_table_pointer(&mut self.file.storage)?;
+        self.l1_table = table;
         Ok(())
     }
 }
 
-fn hand_back(pending: Option<PendingClusters>, list: &mut ClustersToFreeList) {
+fn hand_back(pending: Option<PendingClusters>, list: &mut ClustersToFreeList)
+    ensures { list.new ≡ list.old ++ listed pending }
+{
     if let Some(pending) = pending {
         pending.hand_back(list);
     }

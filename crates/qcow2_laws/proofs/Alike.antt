@@ -84,6 +84,20 @@ along size offset i some =
     let rows : (offset + i) / size * size ≡ (offset / size + ((offset + i) / size - offset / size)) * size = ap (λ n. n * size) apart in
     omega arith
 
+-- data that stand in a row are mapped alike
+pub are_alike : (h : HeaderFields) (b : Bytes) (copied : Bool) (offset place n : ℕ) → AreDataAt h b copied offset place n → IsAlikeRun h b offset n
+are_alike h b copied offset place n are i lt =
+    let distance = ((offset + i) / cluster_size h - offset / cluster_size h) * cluster_size h in
+    let on = along (cluster_size h) offset i (pow_pos h.cluster_bits) in
+    let first = are 0 (omega arith) in
+    let here = are i lt in
+    let none : offset + 0 ≡ offset = omega arith in
+    let starts : first.0 + offset % cluster_size h ≡ place = let e : (offset + 0) % cluster_size h ≡ offset % cluster_size h = ap (λ o. o % cluster_size h) none in let f = first.2 in omega arith in
+    let ends : here.0 + (offset + i) % cluster_size h ≡ place + i = here.2 in
+    let far : here.0 ≡ first.0 + distance = omega arith in
+    let begins : cover h b (offset / cluster_size h) ≡ Data first.0 copied = ap (λ o. cover h b (o / cluster_size h)) (sym none) ∙ first.1 in
+    subst (λ v. IsAlike distance v (cover h b ((offset + i) / cluster_size h))) (sym begins) (subst (IsAlike distance (Data first.0 copied)) (sym here.1) (far, refl))
+
 module _ (h : HeaderFields) (b : Bytes) (offset n : ℕ) (run : IsAlikeRun h b offset n) where
   pub run_data : (host : ℕ) (copied : Bool) → cover h b (offset / cluster_size h) ≡ Data host copied → AreDataAt h b copied offset (host + offset % cluster_size h) n
   run_data host copied is i lt =

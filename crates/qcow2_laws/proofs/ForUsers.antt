@@ -7,7 +7,7 @@ use Rattle.qcow2_metadata.specs.Guest.{known_byte}
 use Rattle.qcow2_laws.specs.Disk.{Disk, disk, with_bytes}
 use Rattle.qcow2_laws.specs.Views.{Guest}
 use Rattle.qcow2_laws.specs.Mappings.{PreparedMapping, put_disk, put_mapping, committed}
-use Rattle.qcow2_laws.specs.ForUsers.{PrivateBytesAreUnseen, CommittedIsReadBack, FlushedIsExact}
+use Rattle.qcow2_laws.specs.ForUsers.{PrivateBytesAreUnseen, CommittedIsReadBack, PutIsReadInPlace, FlushedIsExact}
 
 pub exact : FlushedIsExact
 exact backing b d stop =
@@ -67,3 +67,13 @@ read_back x found g0 g1 g2 g3 m slot at n i bytes answer there put commit read l
     let was : g2.disk.value (m.from + at + i) ≡ known_byte (byte_at bytes i) =
     subst (λ (k : PreparedMapping). g2.disk.value (k.from + at + i) ≡ known_byte (byte_at bytes i)) m-is (ap (λ (d : Disk). d.value (put.0.from + at + i)) disk-is ∙ there_at g0.disk put.0 at bytes i within) in
     byte_is (sym shown ∙ was)
+
+pub read_in_place : PutIsReadInPlace
+read_in_place x found g0 g1 g2 m slot at offset n i bytes answer there put read lt =
+    let o = offset + i in
+    let m-is : put.0 ≡ m = some_is (sym put.1 ∙ there) in
+    let disk-is : g1.disk ≡ put_disk g0.disk m at bytes = ap (λ (g : Guest). g.disk) put.3 ∙ ap (λ (k : PreparedMapping). put_disk g0.disk k at bytes) m-is in
+    let shown : known_byte (byte_at answer i) ≡ (put_disk g0.disk m at bytes).value o = sym (read.1 i lt) ∙ ap (λ (d : Disk). d.value o) disk-is in (
+      λ private. shown ∙ cond-true (m.is_private o) (g0.disk.value o) ((with_bytes g0.disk (m.from + at) bytes).value o) private,
+      λ plain. shown ∙ cond-false (m.is_private o) (g0.disk.value o) ((with_bytes g0.disk (m.from + at) bytes).value o) plain,
+    )

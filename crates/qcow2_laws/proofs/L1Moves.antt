@@ -41,13 +41,13 @@ module _ (h : HeaderFields) (offset entries : ℕ) (d : Direction) (p : Pending)
       (new.fresh ((offset + 8 * i) / cluster_size h) (let one = l1_has (with_places h (with_l1_at h offset entries)) i (Sizes-from (with_places h (with_l1_at h offset entries)) base' writes.reads) new.aligned lt in omega arith)).0
       new.written).no_table))
 
-  now_l1 : (i : ℕ) → l1_entry h base i ≡ l1_entry (with_places h (with_l1_at h offset entries)) base' i
+  pub now_l1 : (i : ℕ) → l1_entry h base i ≡ l1_entry (with_places h (with_l1_at h offset entries)) base' i
   now_l1 i = sym (new.same i) ∙ stays base base' (header_same h (with_l1_at h offset entries) d p base known base' known' guarded writes) i
 
   now_known_l1 : (i : ℕ) → l1_entry h known i ≡ l1_entry (with_places h (with_l1_at h offset entries)) known' i
   now_known_l1 i = sym (new.known_same i) ∙ stays known known' (header_known_same h (with_l1_at h offset entries) d p base known base' known' guarded writes) i
 
-  now_reftable : (k : ℕ) → reftable_entry h base k ≡ reftable_entry (with_places h (with_l1_at h offset entries)) base' k
+  pub now_reftable : (k : ℕ) → reftable_entry h base k ≡ reftable_entry (with_places h (with_l1_at h offset entries)) base' k
   now_reftable k = header_reftable h (with_l1_at h offset entries) d p base known base' known' guarded writes k ∙ sym (reftable_too base' k)
 
   -- an entry that is none reads, and is aligned

@@ -1,17 +1,17 @@
 -- One call is one step of a run.
-use Rattle.std.proofs.Common.{◌≡◌, ◌⊎◌, ⊎_elim, inl, inr, ℕ, List, [], ◌∷◌, ◌++◌, Bool, true, false, IsTrue, refl, sym, ap, ◌∙◌, subst, arith, Option, None}
+use Rattle.std.proofs.Common.{◌≡◌, ◌⊎◌, ⊎_elim, inl, inr, ℕ, List, [], ◌∷◌, ◌++◌, Bool, true, false, IsTrue, refl, sym, ap, ◌∙◌, subst, Option, None}
 use mathlib.Core.Path.{fun_ext}
 use Rattle.image_access.specs.Moments.{Passing}
-use Rattle.image_access.proofs.Passing.{passes_none, passes_if, passes_on}
+use Rattle.image_access.proofs.Passing.{passes_none, passes_if, passes_more, passes_on, since_start as since_began}
 use Rattle.qcow2_metadata.specs.Bytes.{Bytes, byte_at}
 use Rattle.qcow2_metadata.specs.Consistent.{IsConsistent}
 use Rattle.qcow2_laws.specs.Disk.{Disk, disk}
-use Rattle.qcow2_laws.specs.Stops.{Gift, marked, more, IsKeptAt}
+use Rattle.qcow2_laws.specs.Stops.{Gift, Mark, marked, more, IsKeptAt, IsStopAt}
 use Rattle.qcow2_laws.specs.Mappings.{PreparedMapping}
-use Rattle.qcow2_laws.specs.Views.{Setting, Guest, View, guest_of, contents_of, IsWhole}
+use Rattle.qcow2_laws.specs.Views.{Setting, Guest, Spec, View, view, guest_of, contents_of, IsWhole}
 use Rattle.qcow2_laws.specs.Calls.{Refusal, Acts, Does, Refuses, IsFault, Works, Rests, Stops}
-use Rattle.qcow2_laws.specs.Runs.{Command, Reply, Found, Means, IsFaultReply, State, Step, Run, StandsAt, Goes, Ran, Completes, MeansTheDisk, IsStopIn, started, over, mark_in, mark_after, stepped, given_by, asked_by}
-use Rattle.qcow2_laws.proofs.Stops.{stop_of_kept, kept_more}
+use Rattle.qcow2_laws.specs.Runs.{Command, Reply, Found, Means, IsFaultReply, State, Step, Run, IsSafeWhile, IsAsSaid, HoldsAlong, IsStopIn, StandsAt, Goes, Ran, Completes, MeansTheDisk, started, mark_in, mark_after, stepped, given_by, asked_by, flush, done}
+use Rattle.qcow2_laws.proofs.Stops.{stop_of_kept, stop_more, kept_more}
 
 bool_cases : (b : Bool) → (b ≡ true) ⊎ (b ≡ false)
 bool_cases true = inl refl
@@ -23,34 +23,36 @@ pub record Ends (found : ℕ → Option Found) (old new : View) (command : Comma
   pub mark : (x : Setting) (s : State) → new.is_sound → (mark_after x s command reply (guest_of new) ≡ mark_in x s command)
       ⊎ ((mark_after x s command reply (guest_of new) ≡ marked (guest_of new).disk) × (IsKeptAt new.setting.backing (marked (guest_of new).disk) new.known × IsKeptAt new.setting.backing (marked (guest_of new).disk) (contents_of new)))
 
+-- a fault isn't an answered flush
+mark_of_fault : (x : Setting) (s : State) (command : Command) (reply : Reply) (new : Guest) → IsFaultReply reply → mark_after x s command reply new ≡ mark_in x s command
+mark_of_fault x s flush done new fault = absurd fault
+mark_of_fault x s command reply new fault = refl
+
 module _ (x : Setting) (old new : View) (s : State) (command : Command) (reply : Reply) (stands : StandsAt x old s) where
   rested : IsTrue s.is_failed → Rests old new → Goes x old new s command reply
   rested failed rests =
-      let at : IsStopIn x.backing s.marks (contents_of new) = subst (λ c. IsStopIn x.backing s.marks (byte_at c)) (sym rests.contents) stands.at_rest in
+      let not_ok : s.is_failed ≡ false → ⊥ = λ e. let t : s.is_failed ≡ true = failed in cc in
+      let at : IsStopAt x.backing s.mark (contents_of new) = subst (λ c. IsStopAt x.backing s.mark (byte_at c)) (sym rests.contents) stands.at_rest in
       record {
         end = s;
         step = inl (failed, refl);
         stands = record {
           setting = rests.setting ∙ stands.setting;
-          works = λ e. absurd (let t : s.is_failed ≡ true = failed in cc);
+          works = λ e. absurd (not_ok e);
           failed = λ _. rests.failed;
-          guest = λ e. absurd (let t : s.is_failed ≡ true = failed in cc);
-          known = λ e. absurd (let t : s.is_failed ≡ true = failed in cc);
-          contents = λ e. absurd (let t : s.is_failed ≡ true = failed in cc);
+          guest = λ e. absurd (not_ok e);
+          known = λ e. absurd (not_ok e);
+          contents = λ e. absurd (not_ok e);
           at_rest = at;
         };
-        moments = passes_if (λ c. IsStopIn x.backing s.marks (byte_at c))
-            (λ c e. subst (λ d. IsStopIn x.backing s.marks (byte_at d)) (sym e) stands.at_rest) rests.moments;
-        surplus = λ e. absurd (let t : s.is_failed ≡ true = failed in cc);
-        grows = λ b h. h;
+        safe = record { moments = λ e. absurd (not_ok e); at_return = at; silent = λ _. rests.moments; unchanged = λ _. rests.contents };
+        surplus = λ e. absurd (not_ok e);
         since = λ e. e;
       }
 
   module _ (ok : s.is_failed ≡ false) (acts : Works old new (given_by x s.guest command) (asked_by command)) where
-    stops : Stops old new (given_by x s.guest command) (asked_by command) s.mark
-    stops =
-        let same : old.setting.backing ≡ x.backing = ap (λ (y : Setting). y.backing) stands.setting in
-        acts.stops s.mark (subst (λ b. IsKeptAt b s.mark (contents_of old)) (sym same) (stands.contents ok), subst (λ b. IsKeptAt b s.mark old.known) (sym same) (stands.known ok))
+    not_failed : IsTrue s.is_failed → ⊥
+    not_failed failed = let t : s.is_failed ≡ true = failed in cc
 
     backing-is : old.setting.backing ≡ x.backing
     backing-is = ap (λ (y : Setting). y.backing) stands.setting
@@ -58,64 +60,75 @@ module _ (x : Setting) (old new : View) (s : State) (command : Command) (reply :
     new_backing : new.setting.backing ≡ x.backing
     new_backing = ap (λ (y : Setting). y.backing) (acts.setting ∙ stands.setting)
 
+    stops : Stops old new (given_by x s.guest command) (asked_by command) s.mark
+    stops = acts.stops s.mark (subst (λ b. IsKeptAt b s.mark (contents_of old)) (sym backing-is) (stands.contents ok), subst (λ b. IsKeptAt b s.mark old.known) (sym backing-is) (stands.known ok))
+
     kept_contents : IsKeptAt x.backing (mark_in x s command) (contents_of new)
     kept_contents = subst (λ b. IsKeptAt b (mark_in x s command) (contents_of new)) backing-is stops.contents
 
     kept_known : new.is_sound → IsKeptAt x.backing (mark_in x s command) new.known
     kept_known sound = subst (λ b. IsKeptAt b (mark_in x s command) new.known) backing-is (stops.known sound)
 
-    moments : Passing old.storage new.storage (λ c. IsStopIn x.backing (mark_in x s command ∷ s.marks) (byte_at c))
+    moments : Passing old.storage new.storage (λ c. IsStopAt x.backing (mark_in x s command) (byte_at c))
     moments =
-        passes_if (λ c. IsStopIn x.backing (mark_in x s command ∷ s.marks) (byte_at c))
-        (λ c k. inl (stop_of_kept x.backing (mark_in x s command) (byte_at c) (subst (λ b. IsKeptAt b (mark_in x s command) (byte_at c)) backing-is k)))
-        stops.moments
+        passes_if (λ c. IsStopAt x.backing (mark_in x s command) (byte_at c))
+        (λ c k. stop_of_kept x.backing (mark_in x s command) (byte_at c) (subst (λ b. IsKeptAt b (mark_in x s command) (byte_at c)) backing-is k)) stops.moments
+
+    safe_to : (after : Mark) → IsStopAt x.backing after (contents_of new) → IsSafeWhile x.backing old.storage new.storage s.is_failed (mark_in x s command) after
+    safe_to after at = record { moments = λ _. moments; at_return = at; silent = λ f. absurd (not_failed f); unchanged = λ f. absurd (not_failed f) }
 
     failing : IsFaultReply reply → IsTrue new.is_failed → Goes x old new s command reply
-    failing fault failed = record {
-      end = stepped x s command reply s.guest true;
-      step = inr (inr (ok, fault, refl));
-      stands = record {
-        setting = acts.setting ∙ stands.setting;
-        works = λ e. absurd (cc);
-        failed = λ _. failed;
-        guest = λ e. absurd (cc);
-        known = λ e. absurd (cc);
-        contents = λ e. absurd (cc);
-        at_rest = inl (stop_of_kept x.backing (mark_in x s command) (contents_of new) kept_contents);
-      };
-      moments = moments;
-      surplus = λ e. absurd (cc);
-      grows = λ b h. inr h;
-      since = λ _. ok;
-    }
+    failing fault failed =
+        let at : IsStopAt x.backing (mark_after x s command reply s.guest) (contents_of new) =
+        subst (λ m. IsStopAt x.backing m (contents_of new)) (sym (mark_of_fault x s command reply s.guest fault)) (stop_of_kept x.backing (mark_in x s command) (contents_of new) kept_contents) in
+        record {
+          end = stepped x s command reply s.guest true;
+          step = inr (inr (ok, fault, refl));
+          stands = record {
+            setting = acts.setting ∙ stands.setting;
+            works = λ e. absurd (cc);
+            failed = λ _. failed;
+            guest = λ e. absurd (cc);
+            known = λ e. absurd (cc);
+            contents = λ e. absurd (cc);
+            at_rest = at;
+          };
+          safe = safe_to (mark_after x s command reply s.guest) at;
+          surplus = λ e. absurd (cc);
+          since = λ _. ok;
+        }
 
     going : new.is_sound → Means x s.found s.guest command reply (guest_of new)
         → ((mark_after x s command reply (guest_of new) ≡ mark_in x s command)
         ⊎ ((mark_after x s command reply (guest_of new) ≡ marked (guest_of new).disk) × (IsKeptAt new.setting.backing (marked (guest_of new).disk) new.known × IsKeptAt new.setting.backing (marked (guest_of new).disk) (contents_of new))))
         → Goes x old new s command reply
-    going sound means mark = record {
-      end = stepped x s command reply (guest_of new) false;
-      step = inr (inl (ok, ((guest_of new), means, refl)));
-      stands = record {
-        setting = acts.setting ∙ stands.setting;
-        works = λ _. sound;
-        failed = λ e. absurd (let t : false ≡ true = e in cc);
-        guest = λ _. refl;
-        known = λ _. ⊎_elim
-            (λ (e : mark_after x s command reply (guest_of new) ≡ mark_in x s command). subst (λ m. IsKeptAt x.backing m new.known) (sym e) (kept_known sound))
-            (λ (f : (mark_after x s command reply (guest_of new) ≡ marked (guest_of new).disk) × (IsKeptAt new.setting.backing (marked (guest_of new).disk) new.known × IsKeptAt new.setting.backing (marked (guest_of new).disk) (contents_of new))).
-            subst (λ m. IsKeptAt x.backing m new.known) (sym f.0) (subst (λ b. IsKeptAt b (marked (guest_of new).disk) new.known) new_backing f.1.0)) mark;
-        contents = λ _. ⊎_elim
-            (λ (e : mark_after x s command reply (guest_of new) ≡ mark_in x s command). subst (λ m. IsKeptAt x.backing m (contents_of new)) (sym e) kept_contents)
-            (λ (f : (mark_after x s command reply (guest_of new) ≡ marked (guest_of new).disk) × (IsKeptAt new.setting.backing (marked (guest_of new).disk) new.known × IsKeptAt new.setting.backing (marked (guest_of new).disk) (contents_of new))).
-            subst (λ m. IsKeptAt x.backing m (contents_of new)) (sym f.0) (subst (λ b. IsKeptAt b (marked (guest_of new).disk) (contents_of new)) new_backing f.1.1)) mark;
-        at_rest = inl (stop_of_kept x.backing (mark_in x s command) (contents_of new) kept_contents);
-      };
-      moments = moments;
-      surplus = λ _. acts.surplus sound;
-      grows = λ b h. inr h;
-      since = λ _. ok;
-    }
+    going sound means mark =
+        let after = mark_after x s command reply (guest_of new) in
+        let kept : IsKeptAt x.backing after (contents_of new) =
+        ⊎_elim
+        (λ (e : mark_after x s command reply (guest_of new) ≡ mark_in x s command). subst (λ m. IsKeptAt x.backing m (contents_of new)) (sym e) kept_contents)
+        (λ (f : (mark_after x s command reply (guest_of new) ≡ marked (guest_of new).disk) × (IsKeptAt new.setting.backing (marked (guest_of new).disk) new.known × IsKeptAt new.setting.backing (marked (guest_of new).disk) (contents_of new))).
+        subst (λ m. IsKeptAt x.backing m (contents_of new)) (sym f.0) (subst (λ b. IsKeptAt b (marked (guest_of new).disk) (contents_of new)) new_backing f.1.1)) mark in
+        let at = stop_of_kept x.backing after (contents_of new) kept in
+        record {
+          end = stepped x s command reply (guest_of new) false;
+          step = inr (inl (ok, ((guest_of new), means, refl)));
+          stands = record {
+            setting = acts.setting ∙ stands.setting;
+            works = λ _. sound;
+            failed = λ e. absurd (let t : false ≡ true = e in cc);
+            guest = λ _. refl;
+            known = λ _. ⊎_elim
+                (λ (e : mark_after x s command reply (guest_of new) ≡ mark_in x s command). subst (λ m. IsKeptAt x.backing m new.known) (sym e) (kept_known sound))
+                (λ (f : (mark_after x s command reply (guest_of new) ≡ marked (guest_of new).disk) × (IsKeptAt new.setting.backing (marked (guest_of new).disk) new.known × IsKeptAt new.setting.backing (marked (guest_of new).disk) (contents_of new))).
+                subst (λ m. IsKeptAt x.backing m new.known) (sym f.0) (subst (λ b. IsKeptAt b (marked (guest_of new).disk) new.known) new_backing f.1.0)) mark;
+            contents = λ _. kept;
+            at_rest = at;
+          };
+          safe = safe_to after at;
+          surplus = λ _. acts.surplus sound;
+          since = λ _. ok;
+        }
 
   -- the whole step, from what the call's contract says
   pub called : Acts old new (given_by old.setting (guest_of old) command) (asked_by command) → (old.is_sound → Ends s.found old new command reply) → Goes x old new s command reply
@@ -206,7 +219,7 @@ begins v sound whole same = record {
   guest = λ _. refl;
   known = λ _. kept_at_once v v.known whole refl;
   contents = λ _. kept_at_once v (contents_of v) whole (sym same);
-  at_rest = inl (stop_of_kept v.setting.backing (marked (guest_of v).disk) (contents_of v) (kept_at_once v (contents_of v) whole (sym same)));
+  at_rest = stop_of_kept v.setting.backing (marked (guest_of v).disk) (contents_of v) (kept_at_once v (contents_of v) whole (sym same));
 }
 
 -- a run goes on by one step
@@ -218,95 +231,158 @@ Run-push x old mid new (c ∷ commands) (r ∷ replies) command reply run step =
 Run-push x old mid new [] (r ∷ replies) command reply run step = absurd run
 Run-push x old mid new (c ∷ commands) [] command reply run step = absurd run
 
-pub ran_none : (x : Setting) (v : View) (s : State) → StandsAt x v s → Ran x v v s [] []
-ran_none x v s stands = record {
-  end = s;
-  run = refl;
-  stands = stands;
-  moments = passes_none v.storage (λ c. IsStopIn x.backing s.marks (byte_at c));
-  surplus = λ _. refl;
-  grows = λ b h. h;
-}
+-- an image that stands at a place of a run is as the run says
+said_at : {x : Setting} {v : View} {s : State} (before : ℕ → ℕ) → StandsAt x v s → (s.is_failed ≡ false → v.surplus ≡ before) → IsAsSaid v s before
+said_at before stands same = record { guest = stands.guest; consistent = λ ok. (stands.known ok).consistent; surplus = same }
 
-pub ran_more : (x : Setting) (old mid new : View) (s : State) (commands : List Command) (replies : List Reply) (command : Command) (reply : Reply)
-    → (ran : Ran x old mid s commands replies) → Goes x mid new ran.end command reply → Ran x old new s (commands ++ command ∷ []) (replies ++ reply ∷ [])
-ran_more x old mid new s commands replies command reply ran goes = record {
-  end = goes.end;
-  run = Run-push x s ran.end goes.end commands replies command reply ran.run goes.step;
-  stands = goes.stands;
-  moments = record {
-    later = omega (arith, ran.moments.later, goes.moments.later);
-    each = λ t c le had. ⊎_elim
-        (λ h. ⊎_elim (λ o. inl o) (λ (p : IsStopIn x.backing ran.end.marks (byte_at c)). inr (goes.grows (byte_at c) p)) (ran.moments.each t c le h))
-        (λ p. inr p)
-        (goes.moments.each t c (omega (arith, le, ran.moments.later)) had);
-  };
-  surplus = λ e. goes.surplus e ∙ ran.surplus (goes.since e);
-  grows = λ b h. goes.grows b (ran.grows b h);
-}
+module _ {D P : Type 0} (spec : Spec D P) (x : Setting) (before : ℕ → ℕ) where
+  -- so does the image along it
+  along_push : (old mid new : D) (out : List (Option P)) (s t end : State) (commands : List Command) (replies : List Reply) (command : Command) (reply : Reply) (run : Run x s commands replies t) (step : Step x t command reply end)
+      → HoldsAlong spec x before old mid s t commands replies run → IsAsSaid (view spec new out) end before → IsSafeWhile x.backing (spec.storage mid) (spec.storage new) t.is_failed (mark_in x t command) end.mark
+      → HoldsAlong spec x before old new s end (commands ++ command ∷ []) (replies ++ reply ∷ []) (Run-push x s t end commands replies command reply run step)
+  unfolding Run-push
+  along_push old mid new out s t end [] [] command reply run step same said safe = (
+    new,
+    out,
+    said,
+    subst (λ (d : D). IsSafeWhile x.backing (spec.storage d) (spec.storage new) s.is_failed (mark_in x s command) end.mark) same
+        (subst (λ (r : State). IsSafeWhile x.backing (spec.storage mid) (spec.storage new) r.is_failed (mark_in x r command) end.mark) run safe),
+    refl,
+  )
+  along_push old mid new out s t end (c ∷ commands) (r ∷ replies) command reply run step so_far said safe =
+      (so_far.0, so_far.1, so_far.2, so_far.3, along_push so_far.0 mid new out run.0 t end commands replies command reply run.2 step so_far.4 said safe)
+  along_push old mid new out s t end [] (r ∷ replies) command reply run step so_far said safe = absurd run
+  along_push old mid new out s t end (c ∷ commands) [] command reply run step so_far said safe = absurd run
 
--- a run whose mappings are let go at its end
-module _ (x : Setting) (old last new : View) (s : State) (commands : List Command) (replies : List Reply) (ran : Ran x old last s commands replies)
-    (does : Does last new [] [] ((guest_of new).disk ≡ (guest_of last).disk)) (empty : (k : ℕ) → new.slots k ≡ None) where
-  backing_then : last.setting.backing ≡ x.backing
-  backing_then = ap (λ (y : Setting). y.backing) ran.stands.setting
+  -- the moments of a run fall under its commands
+  within : (old new : D) (s end : State) (commands : List Command) (replies : List Reply) (run : Run x s commands replies end) → HoldsAlong spec x before old new s end commands replies run
+      → IsStopAt x.backing s.mark (byte_at (spec.storage old).contents) → Passing (spec.storage old) (spec.storage new) (λ c. IsStopIn x s end commands replies run (byte_at c))
+  within old new s end [] [] run same at = subst (λ (d : D). Passing (spec.storage old) (spec.storage d) (λ c. IsStopAt x.backing end.mark (byte_at c))) (sym same) (passes_none (spec.storage old) (λ c. IsStopAt x.backing end.mark (byte_at c)))
+  within old new s end (command ∷ commands) (reply ∷ replies) run safe at =
+      let here : Passing (spec.storage old) (spec.storage safe.0) (λ c. IsStopAt x.backing (mark_in x s command) (byte_at c)) = elim (bool_cases s.is_failed) [
+        | inl failed ↦ passes_if (λ c. IsStopAt x.backing (mark_in x s command) (byte_at c))
+            (λ c e. subst (λ k. IsStopAt x.backing (mark_in x s command) (byte_at k)) (sym e) (stop_more x.backing (given_by x s.guest command) (asked_by command) s.mark (byte_at (spec.storage old).contents) at)) (safe.3.silent failed)
+        | inr ok ↦ safe.3.moments ok
+      ] in
+      passes_more here (within safe.0 new run.0 end commands replies run.2 safe.4 safe.3.at_return)
+  within old new s end [] (reply ∷ replies) run safe at = absurd run
+  within old new s end (command ∷ commands) [] run safe at = absurd run
 
-  at_end : ran.end.is_failed ≡ false → Stops last new [] [] ran.end.mark
-  at_end ok =
-      (does.acts.works (ran.stands.works ok)).stops ran.end.mark
-      (subst (λ b. IsKeptAt b ran.end.mark (contents_of last)) (sym backing_then) (ran.stands.contents ok), subst (λ b. IsKeptAt b ran.end.mark last.known) (sym backing_then) (ran.stands.known ok))
+  stop_at_end : (s end : State) (commands : List Command) (replies : List Reply) (run : Run x s commands replies end) (b : Bytes) → IsStopAt x.backing end.mark b → IsStopIn x s end commands replies run b
+  stop_at_end s end [] [] run b at = at
+  stop_at_end s end (command ∷ commands) (reply ∷ replies) run b at = inr (stop_at_end run.0 end commands replies run.2 b at)
+  stop_at_end s end [] (reply ∷ replies) run b at = absurd run
+  stop_at_end s end (command ∷ commands) [] run b at = absurd run
 
-  setting_then : new.setting ≡ x
-  setting_then = elim (bool_cases ran.end.is_failed) [
-    | inl failed ↦ (does.acts.rests (ran.stands.failed failed)).setting ∙ ran.stands.setting
-    | inr ok ↦ (does.acts.works (ran.stands.works ok)).setting ∙ ran.stands.setting
-  ]
+  rest_at_end : (old new : D) (s end : State) (commands : List Command) (replies : List Reply) (run : Run x s commands replies end) → HoldsAlong spec x before old new s end commands replies run
+      → IsStopAt x.backing s.mark (byte_at (spec.storage old).contents) → IsStopAt x.backing end.mark (byte_at (spec.storage new).contents)
+  rest_at_end old new s end [] [] run same at = subst (λ (d : D). IsStopAt x.backing end.mark (byte_at (spec.storage d).contents)) (sym same) (subst (λ (t : State). IsStopAt x.backing t.mark (byte_at (spec.storage old).contents)) (sym run) at)
+  rest_at_end old new s end (command ∷ commands) (reply ∷ replies) run safe at = rest_at_end safe.0 new run.0 end commands replies run.2 safe.4 safe.3.at_return
+  rest_at_end old new s end [] (reply ∷ replies) run safe at = absurd run
+  rest_at_end old new s end (command ∷ commands) [] run safe at = absurd run
 
-  ending : Passing last.storage new.storage (λ c. IsStopIn x.backing (over ran.end).marks (byte_at c))
-  ending = elim (bool_cases ran.end.is_failed) [
-    | inl failed ↦ passes_if (λ c. IsStopIn x.backing (over ran.end).marks (byte_at c))
-        (λ c e. inr (subst (λ k. IsStopIn x.backing ran.end.marks (byte_at k)) (sym e) ran.stands.at_rest)) (does.acts.rests (ran.stands.failed failed)).moments
-    | inr ok ↦ passes_if (λ c. IsStopIn x.backing (over ran.end).marks (byte_at c))
-        (λ c k. inl (stop_of_kept x.backing ran.end.mark (byte_at c) (subst (λ b. IsKeptAt b ran.end.mark (byte_at c)) backing_then k))) (at_end ok).moments
-  ]
+  -- what stood at its start falls under the first, or the end
+  first_in : (old new : D) (s end : State) (commands : List Command) (replies : List Reply) (run : Run x s commands replies end) → HoldsAlong spec x before old new s end commands replies run
+      → IsStopAt x.backing s.mark (byte_at (spec.storage old).contents) → IsStopIn x s end commands replies run (byte_at (spec.storage old).contents)
+  first_in old new s end [] [] run same at = subst (λ (t : State). IsStopAt x.backing t.mark (byte_at (spec.storage old).contents)) (sym run) at
+  first_in old new s end (command ∷ commands) (reply ∷ replies) run safe at = inl (stop_more x.backing (given_by x s.guest command) (asked_by command) s.mark (byte_at (spec.storage old).contents) at)
+  first_in old new s end [] (reply ∷ replies) run safe at = absurd run
+  first_in old new s end (command ∷ commands) [] run safe at = absurd run
 
-  resting : IsStopIn x.backing (over ran.end).marks (contents_of new)
-  resting = elim (bool_cases ran.end.is_failed) [
-    | inl failed ↦ inr (subst (λ k. IsStopIn x.backing ran.end.marks (byte_at k)) (sym (does.acts.rests (ran.stands.failed failed)).contents) ran.stands.at_rest)
-    | inr ok ↦ inl (stop_of_kept x.backing ran.end.mark (contents_of new) (subst (λ b. IsKeptAt b ran.end.mark (contents_of new)) backing_then (at_end ok).contents))
-  ]
+  -- and none but these since its start
+  pub since_start : (old last new : D) (s end : State) (commands : List Command) (replies : List Reply) (run : Run x s commands replies end) → ((c : List ℕ) → (spec.storage old).had_since (spec.storage old).moment c → c ≡ (spec.storage old).contents)
+      → IsStopAt x.backing s.mark (byte_at (spec.storage old).contents) → HoldsAlong spec x before old last s end commands replies run → IsSafeWhile x.backing (spec.storage last) (spec.storage new) end.is_failed end.mark end.mark
+      → (c : List ℕ) → (spec.storage new).had_since (spec.storage old).moment c → IsStopIn x s end commands replies run (byte_at c)
+  since_start old last new s end commands replies run only at stops leaves c had =
+      let In = λ (k : List ℕ). IsStopIn x s end commands replies run (byte_at k) in
+      let there = rest_at_end old last s end commands replies run stops at in
+      let ending : Passing (spec.storage last) (spec.storage new) In = elim (bool_cases end.is_failed) [
+        | inl failed ↦ passes_if In (λ k e. subst In (sym e) (stop_at_end s end commands replies run (byte_at (spec.storage last).contents) there)) (leaves.silent failed)
+        | inr ok ↦ passes_if In (λ k stop. stop_at_end s end commands replies run (byte_at k) stop) (leaves.moments ok)
+      ] in
+      ⊎_elim (λ (e : c ≡ (spec.storage old).contents). subst In (sym e) (first_in old last s end commands replies run stops at))
+      (λ (p : In c). p) (since_began only (passes_on In (within old last s end commands replies run stops at) ending (λ k h. h)) c had)
 
-  pub completes : Completes x old new s commands replies
-  completes = record {
-    end = ran.end;
-    run = ran.run;
-    stands = record {
-      setting = setting_then;
-      works = λ ok. (does.answer (ran.stands.works ok)).0;
-      failed = λ failed. (does.acts.rests (ran.stands.failed failed)).failed;
-      guest = λ ok.
-          ap (λ (f : ℕ → Option PreparedMapping). record (guest_of new) { slots = f }) (fun_ext empty)
-          ∙ ap (λ (d : Disk). record { disk = d; slots = λ _. None }) ((does.answer (ran.stands.works ok)).1 ∙ ap (λ (g : Guest). g.disk) (ran.stands.guest ok));
-      known = λ ok. subst (λ b. IsKeptAt b ran.end.mark new.known) backing_then ((at_end ok).known (does.answer (ran.stands.works ok)).0);
-      contents = λ ok. subst (λ b. IsKeptAt b ran.end.mark (contents_of new)) backing_then (at_end ok).contents;
-      at_rest = resting;
-    };
-    moments = passes_on (λ c. IsStopIn x.backing (over ran.end).marks (byte_at c)) (passes_if (λ c. IsStopIn x.backing (over ran.end).marks (byte_at c)) (λ c h. inr h) ran.moments) ending (λ c h. h);
-    surplus = λ ok. (does.acts.works (ran.stands.works ok)).surplus (does.answer (ran.stands.works ok)).0 ∙ ran.surplus ok;
-    grows = λ b h. inr (ran.grows b h);
+module _ {D P : Type 0} (spec : Spec D P) where
+  pub ran_none : (x : Setting) (d : D) (out : List (Option P)) (s : State) → StandsAt x (view spec d out) s → Ran spec x d out d out s [] []
+  ran_none x d out s stands = record { end = s; run = refl; along = refl; stands = stands; surplus = λ _. refl }
+
+  pub ran_more : (x : Setting) (old mid new : D) (before out out' : List (Option P)) (s : State) (commands : List Command) (replies : List Reply) (command : Command) (reply : Reply)
+      → (ran : Ran spec x old before mid out s commands replies) → Goes x (view spec mid out) (view spec new out') ran.end command reply
+      → Ran spec x old before new out' s (commands ++ command ∷ []) (replies ++ reply ∷ [])
+  ran_more x old mid new before out out' s commands replies command reply ran goes = record {
+    end = goes.end;
+    run = Run-push x s ran.end goes.end commands replies command reply ran.run goes.step;
+    along = along_push spec x (spec.surplus old before) old mid new out' s ran.end goes.end commands replies command reply ran.run goes.step ran.along
+        (said_at (spec.surplus old before) goes.stands (λ e. goes.surplus e ∙ ran.surplus (goes.since e))) goes.safe;
+    stands = goes.stands;
+    surplus = λ e. goes.surplus e ∙ ran.surplus (goes.since e);
   }
 
--- a whole run of an image that was just opened
-pub means_the_disk : (old new : View) (commands : List Command) (replies : List Reply) → ((c : List ℕ) → old.storage.had_since old.storage.moment c → c ≡ old.storage.contents)
-    → (new.is_sound → IsWhole new) → StandsAt old.setting old (started (guest_of old)) → Completes old.setting old new (started (guest_of old)) commands replies → MeansTheDisk old new commands replies
-means_the_disk old new commands replies only whole stands all = record {
-  end = all.end;
-  run = all.run;
-  disk = λ ok. ap (λ (g : Guest). g.disk) (all.stands.guest ok);
-  consistent = λ ok. (whole (all.stands.works ok)).consistent;
-  surplus = all.surplus;
-  stops = λ c had. ⊎_elim
-      (λ h. all.grows (byte_at c) (subst (λ k. IsStopIn old.setting.backing (started (guest_of old)).marks (byte_at k)) (sym (only c h)) stands.at_rest))
-      (λ p. p)
-      (all.moments.each old.storage.moment c (omega arith) had);
-}
+  -- a run whose mappings are let go at its end
+  module _ (x : Setting) (old last new : D) (before out : List (Option P)) (s : State) (commands : List Command) (replies : List Reply) (ran : Ran spec x old before last out s commands replies)
+      (does : Does (view spec last out) (view spec new []) [] [] ((guest_of (view spec new [])).disk ≡ (guest_of (view spec last out)).disk)) where
+    backing_then : (spec.setting last).backing ≡ x.backing
+    backing_then = ap (λ (y : Setting). y.backing) ran.stands.setting
+
+    at_end : ran.end.is_failed ≡ false → Stops (view spec last out) (view spec new []) [] [] ran.end.mark
+    at_end ok =
+        (does.acts.works (ran.stands.works ok)).stops ran.end.mark
+        (subst (λ b. IsKeptAt b ran.end.mark (byte_at (spec.storage last).contents)) (sym backing_then) (ran.stands.contents ok), subst (λ b. IsKeptAt b ran.end.mark (spec.known last)) (sym backing_then) (ran.stands.known ok))
+
+    setting_then : spec.setting new ≡ x
+    setting_then = elim (bool_cases ran.end.is_failed) [
+      | inl failed ↦ (does.acts.rests (ran.stands.failed failed)).setting ∙ ran.stands.setting
+      | inr ok ↦ (does.acts.works (ran.stands.works ok)).setting ∙ ran.stands.setting
+    ]
+
+    kept_then : ran.end.is_failed ≡ false → IsKeptAt x.backing ran.end.mark (byte_at (spec.storage new).contents)
+    kept_then ok = subst (λ b. IsKeptAt b ran.end.mark (byte_at (spec.storage new).contents)) backing_then (at_end ok).contents
+
+    resting : IsStopAt x.backing ran.end.mark (byte_at (spec.storage new).contents)
+    resting = elim (bool_cases ran.end.is_failed) [
+      | inl failed ↦ subst (λ k. IsStopAt x.backing ran.end.mark (byte_at k)) (sym (does.acts.rests (ran.stands.failed failed)).contents) ran.stands.at_rest
+      | inr ok ↦ stop_of_kept x.backing ran.end.mark (byte_at (spec.storage new).contents) (kept_then ok)
+    ]
+
+    pub completes : ((k : ℕ) → (view spec new []).slots k ≡ None) → spec.surplus old before ≡ spec.surplus old [] → Completes spec x old new s commands replies
+    completes empty same = record {
+      end = ran.end;
+      run = ran.run;
+      last = last;
+      along = subst (λ (k : ℕ → ℕ). HoldsAlong spec x k old last s ran.end commands replies ran.run) same ran.along;
+      leaves = record {
+        moments = λ ok. passes_if (λ c. IsStopAt x.backing ran.end.mark (byte_at c))
+            (λ c k. stop_of_kept x.backing ran.end.mark (byte_at c) (subst (λ b. IsKeptAt b ran.end.mark (byte_at c)) backing_then k)) (at_end ok).moments;
+        at_return = resting;
+        silent = λ failed. (does.acts.rests (ran.stands.failed failed)).moments;
+        unchanged = λ failed. (does.acts.rests (ran.stands.failed failed)).contents;
+      };
+      stands = record {
+        setting = setting_then;
+        works = λ ok. (does.answer (ran.stands.works ok)).0;
+        failed = λ failed. (does.acts.rests (ran.stands.failed failed)).failed;
+        guest = λ ok.
+            ap (λ (f : ℕ → Option PreparedMapping). record (guest_of (view spec new [])) { slots = f }) (fun_ext empty)
+            ∙ ap (λ (d : Disk). record { disk = d; slots = λ _. None }) ((does.answer (ran.stands.works ok)).1 ∙ ap (λ (g : Guest). g.disk) (ran.stands.guest ok));
+        known = λ ok. subst (λ b. IsKeptAt b ran.end.mark (spec.known new)) backing_then ((at_end ok).known (does.answer (ran.stands.works ok)).0);
+        contents = kept_then;
+        at_rest = resting;
+      };
+      surplus = λ ok. (does.acts.works (ran.stands.works ok)).surplus (does.answer (ran.stands.works ok)).0 ∙ ran.surplus ok ∙ same;
+    }
+
+  -- a whole run of an image that was just opened
+  pub means_the_disk : (old new : D) (commands : List Command) (replies : List Reply) → ((c : List ℕ) → (spec.storage old).had_since (spec.storage old).moment c → c ≡ (spec.storage old).contents)
+      → StandsAt (spec.setting old) (view spec old []) (started (guest_of (view spec old [])))
+      → Completes spec (spec.setting old) old new (started (guest_of (view spec old []))) commands replies → MeansTheDisk spec old new commands replies
+  means_the_disk old new commands replies only stands all = record {
+    end = all.end;
+    run = all.run;
+    at_start = stands.at_rest;
+    last = all.last;
+    along = all.along;
+    leaves = all.leaves;
+    at_end = said_at (spec.surplus old []) all.stands all.surplus;
+    since_start = since_start spec (spec.setting old) (spec.surplus old []) old all.last new (started (guest_of (view spec old []))) all.end commands replies all.run only stands.at_rest all.along all.leaves;
+  }

@@ -42,6 +42,16 @@ asked_split (k ∷ ns) ms n (inr asked) = ⊎_elim (λ l. inl (inr l)) (λ r. in
 pub stop_of_kept : (backing : Bytes) (m : Mark) (b : Bytes) → IsKeptAt backing m b → IsStopAt backing m b
 stop_of_kept backing m b kept = record { consistent = kept.consistent; size = kept.size; values = λ o _ _. kept.values o }
 
+-- what is safe stays so with more given and asked
+pub stop_more : (backing : Bytes) (given : List Gift) (asked : List ℕ) (m : Mark) (b : Bytes) → IsStopAt backing m b → IsStopAt backing (more given asked m) b
+stop_more backing given asked m b stop = record {
+  consistent = stop.consistent;
+  size = ⊎_elim (λ (e : (disk b backing).size ≡ m.last.size). inl e) (λ (a : IsAsked m.asked (disk b backing).size). inr (asked_more asked m.asked _ a)) stop.size;
+  values = λ o lt below. ⊎_elim
+      (λ (e : (disk b backing).value o ≡ m.last.value o). inl e)
+      (λ (g : IsGiven m.given o ((disk b backing).value o)). inr (given_more given m.given o _ g)) (stop.values o lt below);
+}
+
 -- an image of which each value is that of a kept one, or given, and the size that of the kept one or asked
 pub kept_on : (backing : Bytes) (m : Mark) (given : List Gift) (asked : List ℕ) (b b' : Bytes) → IsConsistent b'
     → ((disk b' backing).size ≡ (disk b backing).size) ⊎ IsAsked asked (disk b' backing).size

@@ -1,7 +1,8 @@
 -- Laws that a user would quote.
-use Rattle.std.specs.Prelude.{ℕ, ◌+◌, ◌≡◌, ◌<◌, Bool, IsTrue, List, length, Option, Some}
+use Rattle.std.specs.Prelude.{ℕ, ◌+◌, ◌≡◌, ◌<◌, Bool, false, IsTrue, List, length, Option, Some}
 use Rattle.qcow2_metadata.specs.Bytes.{Bytes, byte_at}
-use Rattle.qcow2_laws.specs.Disk.{Disk, disk}
+use Rattle.qcow2_metadata.specs.Guest.{known_byte}
+use Rattle.qcow2_laws.specs.Disk.{Disk, disk, with_bytes}
 use Rattle.qcow2_laws.specs.Stops.{marked, IsStopAt}
 use Rattle.qcow2_laws.specs.Mappings.{PreparedMapping}
 use Rattle.qcow2_laws.specs.Views.{Setting, Guest}
@@ -23,6 +24,14 @@ CommittedIsReadBack =
     → g0.slots slot ≡ Some m → Means x found g0 (put slot at bytes) done g1 → Means x found g1 (commit slot) done g2
     → Means x found g2 (read (m.from + at) n) (bytes_are answer) g3
     → i < length answer → i < length bytes → byte_at answer i ≡ byte_at bytes i
+
+-- Before the commit the old bytes are read wherever the mapping is private, and the new ones at once wherever it is in place.
+abbrev pub PutIsReadInPlace : Type 0
+PutIsReadInPlace =
+    (x : Setting) (found : ℕ → Option Found) (g0 g1 g2 : Guest) (m : PreparedMapping) (slot at offset n i : ℕ) (bytes answer : List ℕ)
+    → g0.slots slot ≡ Some m → Means x found g0 (put slot at bytes) done g1 → Means x found g1 (read offset n) (bytes_are answer) g2 → i < length answer
+    → (IsTrue (m.is_private (offset + i)) → known_byte (byte_at answer i) ≡ g0.disk.value (offset + i))
+    × (m.is_private (offset + i) ≡ false → known_byte (byte_at answer i) ≡ (with_bytes g0.disk (m.from + at) bytes).value (offset + i))
 
 -- A stop right after a flush gives exactly the disk.
 abbrev pub FlushedIsExact : Type 0

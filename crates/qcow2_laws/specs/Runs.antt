@@ -1,6 +1,6 @@
 -- A run of commands with its replies.
 use Rattle.std.specs.Prelude.{ℕ, ◌+◌, ◌≡◌, ◌≢◌, ◌⊎◌, ◌≤◌, ◌<◌, ◌==◌, Bool, true, false, IsTrue, List, [], ◌∷◌, length, Option, Some, None, MatchOption, slice_get, if◌then◌else◌}
-use Rattle.image_access.specs.Moments.{Passing}
+use Rattle.image_access.specs.Moments.{StorageView, Passing}
 use Rattle.image_access.specs.declared.storage.PreallocateMode.{PreallocateMode}
 use Rattle.qcow2_metadata.specs.Bytes.{Bytes, byte_at}
 use Rattle.qcow2_metadata.specs.Consistent.{IsConsistent}
@@ -8,7 +8,7 @@ use Rattle.qcow2_laws.specs.Disk.{Disk, with_bytes}
 use Rattle.qcow2_laws.specs.Stops.{Gift, Mark, marked, more, IsKeptAt, IsStopAt}
 use Rattle.qcow2_laws.specs.Rules.{answered}
 use Rattle.qcow2_laws.specs.Mappings.{PreparedMapping, IsPrepared, put_mapping, put_disk, committed, gift_of, gift_of_commit}
-use Rattle.qcow2_laws.specs.Views.{Setting, Guest, Spec, View, guest_of, contents_of}
+use Rattle.qcow2_laws.specs.Views.{Setting, Guest, Spec, View, view, guest_of, contents_of}
 use Rattle.qcow2_laws.specs.Calls.{Refusal, IsFault, Shows, with_disk, with_slot, MayWrite, Clearing, cleared_at, gift_of_clear, grown_to, gift_of_grow, MayGrow, IsShrunk, gift_of_shrink}
 
 pub data Command : Type 0 where
@@ -116,16 +116,15 @@ abbrev pub found_after : (ℕ → Option Found) → Command → Reply → ℕ �
 found_after found (get_mapping place offset max) (mapping_is n) k = if k == place then Some (record { from = offset; length = n }) else found k
 found_after found command reply k = found k
 
--- A run so far: what the guest sees, what was found, what was flushed last with what was given and asked since, and the same for each call that was begun.
+-- A run so far: what the guest sees, what was found, and what was flushed last with what was given and asked since.
 pub record State : Type 0 where
   pub guest : Guest
   pub found : ℕ → Option Found
   pub is_failed : Bool
   pub mark : Mark
-  pub marks : List Mark
 
 abbrev pub started : Guest → State
-started g = record { guest = g; found = λ _. None; is_failed = false; mark = marked g.disk; marks = marked g.disk ∷ [] }
+started g = record { guest = g; found = λ _. None; is_failed = false; mark = marked g.disk }
 
 -- the same with nothing found yet
 abbrev pub begun : State → State
@@ -133,7 +132,7 @@ begun s = record s { found = λ _. None }
 
 -- a run that is over: its mappings are let go
 abbrev pub over : State → State
-over s = record s { guest = record s.guest { slots = λ _. None }; marks = s.mark ∷ s.marks }
+over s = record s { guest = record s.guest { slots = λ _. None } }
 
 -- the mark of the call under way
 abbrev pub mark_in : Setting → State → Command → Mark
@@ -150,7 +149,6 @@ stepped x old command reply new failed = record {
   found = found_after old.found command reply;
   is_failed = failed;
   mark = mark_after x old command reply new;
-  marks = mark_in x old command ∷ old.marks;
 }
 
 -- Once the image failed, which a fault or refused memory alone brings about, nothing more is said of replies.
@@ -166,10 +164,39 @@ Run x old (command ∷ commands) (reply ∷ replies) new = (mid : State) × Step
 Run x old [] (reply ∷ replies) new = ⊥
 Run x old (command ∷ commands) [] new = ⊥
 
--- the bytes are what a stop may leave at one of these places in a run
-abbrev pub IsStopIn : Bytes → List Mark → Bytes → Type 0
-IsStopIn backing [] b = ⊥
-IsStopIn backing (m ∷ marks) b = IsStopAt backing m b ⊎ IsStopIn backing marks b
+-- ---- what a stop leaves on the way
+
+-- While a call is under way, at each moment the bytes are what a stop may leave at its mark; at its return, at the mark then. An image that has failed writes nothing.
+pub record IsSafeWhile (backing : Bytes) (old new : StorageView) (failed : Bool) (under after : Mark) : Type 0 where
+  pub moments : failed ≡ false → Passing old new (λ c. IsStopAt backing under (byte_at c))
+  pub at_return : IsStopAt backing after (byte_at new.contents)
+  pub silent : IsTrue failed → Passing old new (λ c. c ≡ old.contents)
+  pub unchanged : IsTrue failed → new.contents ≡ old.contents
+
+-- An image at the return of a command: the guest sees what the run says, the known image is consistent, and nothing was lost or gained since the start.
+pub record IsAsSaid (v : View) (s : State) (before : ℕ → ℕ) : Type 0 where
+  pub guest : s.is_failed ≡ false → guest_of v ≡ s.guest
+  pub consistent : s.is_failed ≡ false → IsConsistent v.known
+  pub surplus : s.is_failed ≡ false → v.surplus ≡ before
+
+-- Along a run: for each command there is the image at its return, with the mappings that are prepared then, and what its storage had meanwhile is safe at the mark of that command.
+abbrev pub HoldsAlong : {D P : Type 0} (spec : Spec D P) (x : Setting) (before : ℕ → ℕ) (old new : D) (s end : State) (commands : List Command) (replies : List Reply) → Run x s commands replies end → Type 0
+HoldsAlong spec x before old new s end [] [] run = new ≡ old
+HoldsAlong {D = D} {P = P} spec x before old new s end (command ∷ commands) (reply ∷ replies) run =
+    (mid : D) × (out : List (Option P)) × IsAsSaid (view spec mid out) run.0 before
+    × IsSafeWhile x.backing (spec.storage old) (spec.storage mid) s.is_failed (mark_in x s command) run.0.mark
+    × HoldsAlong spec x before mid new run.0 end commands replies run.2
+HoldsAlong spec x before old new s end [] (reply ∷ replies) run = ⊥
+HoldsAlong spec x before old new s end (command ∷ commands) [] run = ⊥
+
+-- the bytes are what a stop may leave at the mark of one of a run's commands, or at its end
+abbrev pub IsStopIn : (x : Setting) (s end : State) (commands : List Command) (replies : List Reply) → Run x s commands replies end → Bytes → Type 0
+IsStopIn x s end [] [] run b = IsStopAt x.backing end.mark b
+IsStopIn x s end (command ∷ commands) (reply ∷ replies) run b = IsStopAt x.backing (mark_in x s command) b ⊎ IsStopIn x run.0 end commands replies run.2 b
+IsStopIn x s end [] (reply ∷ replies) run b = ⊥
+IsStopIn x s end (command ∷ commands) [] run b = ⊥
+
+-- ---- what is said of runs
 
 -- the image stands at this place of a run
 pub record StandsAt (x : Setting) (v : View) (s : State) : Type 0 where
@@ -179,48 +206,52 @@ pub record StandsAt (x : Setting) (v : View) (s : State) : Type 0 where
   pub guest : s.is_failed ≡ false → guest_of v ≡ s.guest
   pub known : s.is_failed ≡ false → IsKeptAt x.backing s.mark v.known
   pub contents : s.is_failed ≡ false → IsKeptAt x.backing s.mark (contents_of v)
-  -- where a stop now finds it
-  pub at_rest : IsStopIn x.backing s.marks (contents_of v)
+  -- what a stop now leaves
+  pub at_rest : IsStopAt x.backing s.mark (contents_of v)
 
 -- one step of a run, with the moments on the way
 pub record Goes (x : Setting) (old new : View) (s : State) (command : Command) (reply : Reply) : Type 0 where
   pub end : State
   pub step : Step x s command reply end
   pub stands : StandsAt x new end
-  pub moments : Passing old.storage new.storage (λ c. IsStopIn x.backing end.marks (byte_at c))
+  pub safe : IsSafeWhile x.backing old.storage new.storage s.is_failed (mark_in x s command) end.mark
   pub surplus : end.is_failed ≡ false → new.surplus ≡ old.surplus
-  pub grows : (b : Bytes) → IsStopIn x.backing s.marks b → IsStopIn x.backing end.marks b
   pub since : end.is_failed ≡ false → s.is_failed ≡ false
 
--- a whole run
-pub record Ran (x : Setting) (old new : View) (s : State) (commands : List Command) (replies : List Reply) : Type 0 where
-  pub end : State
-  pub run : Run x s commands replies end
-  pub stands : StandsAt x new end
-  pub moments : Passing old.storage new.storage (λ c. IsStopIn x.backing end.marks (byte_at c))
-  pub surplus : end.is_failed ≡ false → new.surplus ≡ old.surplus
-  pub grows : (b : Bytes) → IsStopIn x.backing s.marks b → IsStopIn x.backing end.marks b
+module _ {D P : Type 0} (spec : Spec D P) where
+  -- a whole run, from one image with its prepared mappings to another
+  pub record Ran (x : Setting) (old : D) (before : List (Option P)) (new : D) (out : List (Option P)) (s : State) (commands : List Command) (replies : List Reply) : Type 0 where
+    pub end : State
+    pub run : Run x s commands replies end
+    pub along : HoldsAlong spec x (spec.surplus old before) old new s end commands replies run
+    pub stands : StandsAt x (view spec new out) end
+    pub surplus : end.is_failed ≡ false → spec.surplus new out ≡ spec.surplus old before
 
--- a whole run, and then the mappings that are left are let go
-pub record Completes (x : Setting) (old new : View) (s : State) (commands : List Command) (replies : List Reply) : Type 0 where
-  pub end : State
-  pub run : Run x s commands replies end
-  pub stands : StandsAt x new (over end)
-  pub moments : Passing old.storage new.storage (λ c. IsStopIn x.backing (over end).marks (byte_at c))
-  pub surplus : end.is_failed ≡ false → new.surplus ≡ old.surplus
-  pub grows : (b : Bytes) → IsStopIn x.backing s.marks b → IsStopIn x.backing (over end).marks b
+  -- a whole run, and then the mappings that are left are let go
+  pub record Completes (x : Setting) (old new : D) (s : State) (commands : List Command) (replies : List Reply) : Type 0 where
+    pub end : State
+    pub run : Run x s commands replies end
+    -- the image at the return of the last command
+    pub last : D
+    pub along : HoldsAlong spec x (spec.surplus old []) old last s end commands replies run
+    pub leaves : IsSafeWhile x.backing (spec.storage last) (spec.storage new) end.is_failed end.mark end.mark
+    pub stands : StandsAt x (view spec new []) (over end)
+    pub surplus : end.is_failed ≡ false → spec.surplus new [] ≡ spec.surplus old []
 
--- what is said of any list of commands with its replies, of an image that was just opened
-pub record MeansTheDisk (old new : View) (commands : List Command) (replies : List Reply) : Type 0 where
-  pub end : State
-  -- the replies are a run of the disk
-  pub run : Run old.setting (started (guest_of old)) commands replies end
-  -- the guest sees what the run says, the known image is consistent, and nothing is lost or gained
-  pub disk : end.is_failed ≡ false → (guest_of new).disk ≡ end.guest.disk
-  pub consistent : end.is_failed ≡ false → IsConsistent new.known
-  pub surplus : end.is_failed ≡ false → new.surplus ≡ old.surplus
-  -- at each moment since the start a stop is safe, for the last flush before some place of the run, what was given since, and the sizes asked
-  pub stops : (c : List ℕ) → new.storage.had_since old.storage.moment c → IsStopIn old.setting.backing (end.mark ∷ end.marks) (byte_at c)
+  -- what is said of any list of commands with its replies, of an image that was just opened
+  pub record MeansTheDisk (old new : D) (commands : List Command) (replies : List Reply) : Type 0 where
+    pub end : State
+    -- the replies are a run of the disk
+    pub run : Run (spec.setting old) (started (guest_of (view spec old []))) commands replies end
+    -- Where it begins a stop is safe. Along it each moment is safe at the mark of the command under way, and at each return the guest sees what the run says.
+    pub at_start : IsStopAt (spec.setting old).backing (marked (guest_of (view spec old [])).disk) (byte_at (spec.storage old).contents)
+    pub last : D
+    pub along : HoldsAlong spec (spec.setting old) (spec.surplus old []) old last (started (guest_of (view spec old []))) end commands replies run
+    -- Then the mappings that are left are let go, as safely, and the guest still sees it.
+    pub leaves : IsSafeWhile (spec.setting old).backing (spec.storage last) (spec.storage new) end.is_failed end.mark end.mark
+    pub at_end : IsAsSaid (view spec new []) (over end) (spec.surplus old [])
+    -- There is no other moment since it began.
+    pub since_start : (c : List ℕ) → (spec.storage new).had_since (spec.storage old).moment c → IsStopIn (spec.setting old) (started (guest_of (view spec old []))) end commands replies run (byte_at c)
 
 -- the prepared mappings are this image's own
 abbrev pub AreOwn : {D P : Type 0} → Spec D P → D → List (Option P) → Type 0

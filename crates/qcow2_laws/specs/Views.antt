@@ -1,5 +1,5 @@
 -- What a contract sees of an image.
-use Rattle.std.specs.Prelude.{ℕ, ◌≡◌, Bool, List, Option, Some, None, slice_get}
+use Rattle.std.specs.Prelude.{ℕ, ◌≡◌, ◌++◌, ◌∷◌, Bool, false, List, Option, Some, None, slice_get}
 use Rattle.image_access.specs.Moments.{StorageView}
 use Rattle.qcow2_metadata.specs.Bytes.{Bytes, byte_at}
 use Rattle.qcow2_metadata.specs.Header.{header, cluster_size}
@@ -30,6 +30,13 @@ pub record Spec (D P : Type 0) : Type 1 where
   pub is_sound : D → List (Option P) → Type 0
   pub surplus : D → List (Option P) → ℕ → ℕ
   pub means : D → P → PreparedMapping
+
+-- Places without a mapping say nothing of an image.
+pub record HasFreePlaces {D P : Type 0} (spec : Spec D P) : Type 0 where
+  pub free : (d : D) (a b : List (Option P)) → spec.is_sound d (a ++ b) → spec.is_sound d (a ++ None ∷ b)
+  pub left : (d : D) (a b : List (Option P)) → spec.is_sound d (a ++ None ∷ b) → spec.is_sound d (a ++ b)
+  pub surplus : (d : D) (a b : List (Option P)) → spec.surplus d (a ++ None ∷ b) ≡ spec.surplus d (a ++ b)
+  pub works : (d : D) (out : List (Option P)) → spec.is_sound d out → spec.is_failed d ≡ false
 
 -- the same of one image
 pub record View : Type 1 where

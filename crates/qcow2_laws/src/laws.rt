@@ -1,6 +1,6 @@
 //! Laws: no function here does anything, its contract is the law.
 
-ghost use Rattle.qcow2_laws.specs.ForUsers.{PrivateBytesAreUnseen, CommittedIsReadBack, FlushedIsExact};
+ghost use Rattle.qcow2_laws.specs.ForUsers.{PrivateBytesAreUnseen, CommittedIsReadBack, PutIsReadInPlace, FlushedIsExact};
 ghost use Rattle.qcow2_metadata.specs.Bytes.{Bytes, byte_at};
 ghost use Rattle.qcow2_metadata.specs.Consistent.{IsConsistent};
 ghost use Rattle.qcow2_metadata.specs.declared.header.HeaderFields.{HeaderFields};
@@ -16,6 +16,11 @@ pub fn private_bytes_are_unseen()
 /// What was put into a mapping and committed is read back.
 pub fn committed_is_read_back()
     ensures { CommittedIsReadBack }
+{}
+
+/// Before the commit the old bytes are read wherever the mapping is private, and the new ones at once wherever it is in place.
+pub fn put_is_read_in_place()
+    ensures { PutIsReadInPlace }
 {}
 
 /// A stop right after a flush gives exactly the disk.

@@ -28,7 +28,7 @@ are_numbers b (Four n ∷ rest) place fit holds =
 are_numbers b (Eight n ∷ rest) place fit holds =
     (held_8 b place n fit.0 (holds_left b place (to_be_bytes w64 n) (bytes_of_numbers rest) holds), are_numbers b rest (place + 8) fit.1 (holds_right b place (to_be_bytes w64 n) (bytes_of_numbers rest) holds))
 
-length-numbers : (h : HeaderFields) → length (bytes_of_numbers (numbers_of h)) ≡ 104
+pub length-numbers : (h : HeaderFields) → length (bytes_of_numbers (numbers_of h)) ≡ 104
 unfolding bytes_of_numbers numbers_of
 length-numbers h = refl
 

@@ -9,11 +9,11 @@ use Rattle.qcow2_metadata.specs.Guest.{Value, known_byte}
 use Rattle.qcow2_laws.specs.Disk.{Disk, with_bytes}
 use Rattle.qcow2_laws.specs.Stops.{Gift, IsGiven}
 use Rattle.qcow2_laws.specs.Mappings.{PreparedMapping, IsPrepared, put_disk, put_mapping, committed, gift_of, gift_of_commit}
-use Rattle.qcow2_laws.specs.Views.{Spec, Guest, view, guest_of}
+use Rattle.qcow2_laws.specs.Views.{Spec, HasFreePlaces, Guest, view, guest_of}
 use Rattle.qcow2_laws.specs.Calls.{Refusal, memory, storage, another, IsFault, Does, Refuses, IsSame, MayWrite, WritesSome, with_disk, with_slot}
 use Rattle.qcow2_laws.proofs.Lists.{within_is}
 use Rattle.qcow2_session.proofs.Bytes.{cut_long, cut_short, cut_part, byte_in, laid_in, laid_out, no_bytes, same_values, part_within}
-use Rattle.qcow2_session.proofs.Places.{HasFreePlaces, enters, leaves}
+use Rattle.qcow2_session.proofs.Places.{enters, leaves}
 use Rattle.qcow2_session.proofs.Turns.{none_within, does_if, refuses_if, refuses_fault, refuses_why, does_less, does_then, refuses_then, refused_then, IsWithin}
 
 some_is : {X : Type 0} {a b : X} → Some a ≡ Some b → a ≡ b

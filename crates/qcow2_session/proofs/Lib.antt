@@ -1,6 +1,5 @@
 mod Turns
 mod Places
-mod Free
 mod Bytes
 mod Meanings
 mod Chunks

@@ -1,11 +1,11 @@
 -- Places of prepared mappings.
-use Rattle.std.proofs.Common.{◌≡◌, ℕ, zero, suc, List, [], ◌∷◌, ◌++◌, false, refl, sym, ap, ◌∙◌, subst, Option, Some, None, length}
+use Rattle.std.proofs.Common.{◌≡◌, ℕ, zero, suc, List, [], ◌∷◌, ◌++◌, refl, sym, ap, ◌∙◌, subst, Option, Some, None, length}
 use Rattle.std.specs.Prelude.{slice_get, slice_set, replicate}
 use Rattle.std.proofs.lemmas.List.{append-nil}
 use mathlib.Core.Path.{fun_ext}
 use Rattle.image_access.proofs.Passing.{passes_none}
 use Rattle.qcow2_laws.specs.Mappings.{PreparedMapping}
-use Rattle.qcow2_laws.specs.Views.{Spec, Guest, view, guest_of}
+use Rattle.qcow2_laws.specs.Views.{Spec, HasFreePlaces, Guest, view, guest_of}
 use Rattle.qcow2_laws.specs.Calls.{Does, with_slot}
 use Rattle.qcow2_session.proofs.Turns.{none_within, does_if, does_then}
 
@@ -39,13 +39,6 @@ get_last (x ∷ xs) y = get_last xs y
 set_last : {X : Type 0} (xs : List X) (y z : X) → slice_set (xs ++ y ∷ []) (length xs) z ≡ xs ++ z ∷ []
 set_last [] y z = refl
 set_last (x ∷ xs) y z = ap (λ ys. x ∷ ys) (set_last xs y z)
-
--- what an image is to say of places without a mapping
-pub record HasFreePlaces {D P : Type 0} (spec : Spec D P) : Type 0 where
-  pub free : (d : D) (a b : List (Option P)) → spec.is_sound d (a ++ b) → spec.is_sound d (a ++ None ∷ b)
-  pub left : (d : D) (a b : List (Option P)) → spec.is_sound d (a ++ None ∷ b) → spec.is_sound d (a ++ b)
-  pub surplus : (d : D) (a b : List (Option P)) → spec.surplus d (a ++ None ∷ b) ≡ spec.surplus d (a ++ b)
-  pub works : (d : D) (out : List (Option P)) → spec.is_sound d out → spec.is_failed d ≡ false
 
 module _ {D P : Type 0} (spec : Spec D P) (has : HasFreePlaces spec) where
   -- the same image with other places

@@ -2,13 +2,13 @@
 use Rattle.std.proofs.Common.{◌≡◌, ℕ, zero, suc, ◌+◌, List, [], ◌∷◌, ◌++◌, false, refl, sym, ap, ◌∙◌, subst, Option, None, take, map}
 use Rattle.std.specs.Prelude.{replicate}
 use Rattle.std.proofs.lemmas.List.{map-append}
-use Rattle.qcow2_laws.specs.Views.{Setting, Spec, View, view}
-use Rattle.qcow2_laws.specs.Runs.{Found, Command, Reply, State, StandsAt, Step, Goes, Run, Ran, Completes, begun, found_after}
+use Rattle.qcow2_laws.specs.Views.{Setting, Spec, HasFreePlaces, view}
+use Rattle.qcow2_laws.specs.Runs.{Found, Command, Reply, State, StandsAt, Step, Goes, Run, Ran, begun, found_after}
 use Rattle.qcow2_laws.proofs.RunSteps.{ran_none, ran_more}
 use Rattle.qcow2_image.specs.declared.mapping.Mapping.{Mapping}
 use Rattle.qcow2_session.specs.Sessions.{found_in}
 use Rattle.qcow2_session.proofs.Meanings.{step_found, found_same}
-use Rattle.qcow2_session.proofs.Places.{HasFreePlaces, guest_none, sound_none, surplus_none}
+use Rattle.qcow2_session.proofs.Places.{guest_none, sound_none}
 
 -- the last step of a run
 run_last : (x : Setting) (s : State) (commands : List Command) (replies : List Reply) (command : Command) (reply : Reply) (end : State)
@@ -20,27 +20,29 @@ run_last x s [] (r ∷ (q ∷ replies)) command reply end run = absurd run.2
 run_last x s (c ∷ []) [] command reply end run = absurd run.2
 run_last x s (c ∷ (d ∷ commands)) [] command reply end run = absurd run.2
 
--- a run so far, with what was found so far
-pub record GoesOn (x : Setting) (old new : View) (s : State) (commands : List Command) (replies : List Reply) (mappings : List (Option Mapping)) : Type 0 where
-  pub ran : Ran x old new s commands replies
-  pub found : (end : State) → Run x s commands replies end → end.is_failed ≡ false → (k : ℕ) → end.found k ≡ found_in mappings k
+module _ {D P : Type 0} (spec : Spec D P) where
+  -- a run so far, with what was found so far
+  pub record GoesOn (x : Setting) (old : D) (before : List (Option P)) (new : D) (out : List (Option P)) (s : State) (commands : List Command) (replies : List Reply) (mappings : List (Option Mapping)) : Type 0 where
+    pub ran : Ran spec x old before new out s commands replies
+    pub found : (end : State) → Run x s commands replies end → end.is_failed ≡ false → (k : ℕ) → end.found k ≡ found_in mappings k
 
 none_found : (n k : ℕ) → None ≡ found_in (replicate n None) k
 none_found zero k = refl
 none_found (suc n) zero = refl
 none_found (suc n) (suc k) = none_found n k
 
-module _ {D P : Type 0} (spec : Spec D P) (has : HasFreePlaces spec) (d : D) (n : ℕ) where
+module _ {D P : Type 0} (spec : Spec D P) where
   -- nothing was answered yet
-  pub first_of_all : (x : Setting) (s : State) (out : List (Option P)) (mappings : List (Option Mapping)) (replies : List Reply) → out ≡ replicate n None → mappings ≡ replicate n None → replies ≡ []
-      → StandsAt x (view spec d []) s → GoesOn x (view spec d (replicate n None)) (view spec d out) (begun s) [] replies mappings
-  first_of_all x s out mappings replies none nothing unanswered stands =
-      let first = view spec d (replicate n None) in
-      subst (λ (o : List (Option P)). GoesOn x first (view spec d o) (begun s) [] replies mappings) (sym none)
-      (subst (λ (m : List (Option Mapping)). GoesOn x first first (begun s) [] replies m) (sym nothing)
-      (subst (λ (r : List Reply). GoesOn x first first (begun s) [] r (replicate n None)) (sym unanswered)
+  pub first_of_all : HasFreePlaces spec → (d : D) (n : ℕ) (x : Setting) (s : State) (out : List (Option P)) (mappings : List (Option Mapping)) (replies : List Reply)
+      → out ≡ replicate n None → mappings ≡ replicate n None → replies ≡ []
+      → StandsAt x (view spec d []) s → GoesOn spec x d (replicate n None) d out (begun s) [] replies mappings
+  first_of_all has d n x s out mappings replies none nothing unanswered stands =
+      let free : List (Option P) = replicate n None in
+      subst (λ (o : List (Option P)). GoesOn spec x d free d o (begun s) [] replies mappings) (sym none)
+      (subst (λ (m : List (Option Mapping)). GoesOn spec x d free d free (begun s) [] replies m) (sym nothing)
+      (subst (λ (r : List Reply). GoesOn spec x d free d free (begun s) [] r (replicate n None)) (sym unanswered)
       (record {
-        ran = ran_none x first (begun s) (record {
+        ran = ran_none spec x d free (begun s) (record {
           setting = stands.setting;
           works = λ ok. sound_none spec has d n (stands.works ok);
           failed = stands.failed;
@@ -52,31 +54,20 @@ module _ {D P : Type 0} (spec : Spec D P) (has : HasFreePlaces spec) (d : D) (n 
         found = λ end same ok k. ap (λ (t : State). t.found k) same ∙ none_found n k;
       })))
 
-  -- the places were free at the start
-  pub from_none : (x : Setting) (new : View) (s : State) (commands : List Command) (replies : List Reply) → Completes x (view spec d (replicate n None)) new s commands replies → Completes x (view spec d []) new s commands replies
-  from_none x new s commands replies all = record {
-    end = all.end;
-    run = all.run;
-    stands = all.stands;
-    moments = all.moments;
-    surplus = λ ok. all.surplus ok ∙ surplus_none spec has d n;
-    grows = all.grows;
-  }
-
--- one command more
-pub goes_on : (x : Setting) (old mid new : View) (s : State) (commands : List Command) (replies : List Reply) (mappings mappings' : List (Option Mapping)) (command : Command) (reply : Reply)
-    → GoesOn x old mid s commands replies mappings
-    → ((s' : State) → StandsAt x mid s' → (s'.is_failed ≡ false → (k : ℕ) → s'.found k ≡ found_in mappings k) → Goes x mid new s' command reply)
-    → ((k : ℕ) → found_in mappings' k ≡ found_after (found_in mappings) command reply k)
-    → GoesOn x old new s (commands ++ command ∷ []) (replies ++ reply ∷ []) mappings'
-goes_on x old mid new s commands replies mappings mappings' command reply before steps finds =
-    record {
-      ran = ran_more x old mid new s commands replies command reply before.ran (steps before.ran.end before.ran.stands (before.found before.ran.end before.ran.run));
-      found = λ end run ok k.
-          let last = run_last x s commands replies command reply end run in
-          let so = step_found x last.0 end command reply last.2 ok in
-          ap (λ (f : ℕ → Option Found). f k) so.1 ∙ found_same last.0.found (found_in mappings) command reply (before.found last.0 last.1 so.0) k ∙ sym (finds k);
-    }
+  -- one command more
+  pub goes_on : (x : Setting) (old mid new : D) (before out out' : List (Option P)) (s : State) (commands : List Command) (replies : List Reply) (mappings mappings' : List (Option Mapping)) (command : Command) (reply : Reply)
+      → GoesOn spec x old before mid out s commands replies mappings
+      → ((s' : State) → StandsAt x (view spec mid out) s' → (s'.is_failed ≡ false → (k : ℕ) → s'.found k ≡ found_in mappings k) → Goes x (view spec mid out) (view spec new out') s' command reply)
+      → ((k : ℕ) → found_in mappings' k ≡ found_after (found_in mappings) command reply k)
+      → GoesOn spec x old before new out' s (commands ++ command ∷ []) (replies ++ reply ∷ []) mappings'
+  goes_on x old mid new before out out' s commands replies mappings mappings' command reply so_far steps finds =
+      record {
+        ran = ran_more spec x old mid new before out out' s commands replies command reply so_far.ran (steps so_far.ran.end so_far.ran.stands (so_far.found so_far.ran.end so_far.ran.run));
+        found = λ end run ok k.
+            let last = run_last x s commands replies command reply end run in
+            let so = step_found x last.0 end command reply last.2 ok in
+            ap (λ (f : ℕ → Option Found). f k) so.1 ∙ found_same last.0.found (found_in mappings) command reply (so_far.found last.0 last.1 so.0) k ∙ sym (finds k);
+      }
 
 -- the items up to the next
 pub map_more : {X Y : Type 0} (f : X → Y) (xs : List X) (i : ℕ) (item : X) → take (i + 1) xs ≡ take i xs ++ item ∷ [] → map f (take (i + 1) xs) ≡ map f (take i xs) ++ f item ∷ []

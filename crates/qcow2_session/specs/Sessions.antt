@@ -13,7 +13,7 @@ use Rattle.qcow2_image.specs.declared.image.Qcow2.{Qcow2}
 use Rattle.qcow2_image.specs.declared.mapping.Mapping.{Mapping}
 use Rattle.qcow2_image.specs.declared.prepared.Prepared.{Prepared}
 use Rattle.qcow2_image.specs.Calls.{Answers, refusal_of}
-use Rattle.qcow2_image.specs.Views.{seen}
+use Rattle.qcow2_image.specs.Views.{seen, image_spec}
 use Rattle.qcow2_session.specs.Commands.{command_of, reply_of}
 use Rattle.qcow2_session.specs.declared.session.Command.{Command}
 use Rattle.qcow2_session.specs.declared.session.Reply.{Reply}
@@ -71,13 +71,12 @@ module _ {S F : Type 0} (view : S → StorageView) (backing : F → BackingView)
 
   -- the replies go on with each run that the image stands at, and then all mappings are let go
   abbrev pub RunsThrough : List Command → List Reply → Type 0
-  RunsThrough commands replies = (x : Setting) (s : State) → let v = seen view backing old [] in let w = seen view backing new [] in
-      StandsAt x v s → IsUntouched replies ⊎ Completes x v w (begun s) (map command_of commands) (map reply_of replies)
+  RunsThrough commands replies = (x : Setting) (s : State) →
+      StandsAt x (seen view backing old []) s → IsUntouched replies ⊎ Completes (image_spec view backing) x old new (begun s) (map command_of commands) (map reply_of replies)
 
   -- of an image that was just opened they mean the disk
   abbrev pub TellsTheDisk : List Command → List Reply → Type 0
-  TellsTheDisk commands replies = let v = seen view backing old [] in let w = seen view backing new [] in
-      IsOpened v → IsUntouched replies ⊎ MeansTheDisk v w (map command_of commands) (map reply_of replies)
+  TellsTheDisk commands replies = IsOpened (seen view backing old []) → IsUntouched replies ⊎ MeansTheDisk (image_spec view backing) old new (map command_of commands) (map reply_of replies)
 
 -- the mappings that were found are those before, and what a command found
 abbrev pub Finds : Slots → Slots → Command → Reply → Type 0

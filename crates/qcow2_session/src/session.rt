@@ -246,10 +246,7 @@ fn step<S: Storage, F: WrappedFormat<S>>(
         Command::WriteMapped { slot, at, bytes } => write_mapped(image, slots, *slot, *at, bytes),
         Command::CommitDataMapping { slot } => commit(image, slots, *slot),
         Command::DiscardDataMapping { slot } => discard(image, slots, *slot),
-        Command::Flush => match image.flush() {
-            Ok(()) => Reply::Done,
-            Err(refusal) => Reply::Refused(refusal),
-        },
+        Command::Flush => flush(image),
         Command::Size => Reply::Size(image.size()),
     }
 }
@@ -413,6 +410,17 @@ fn discard<S: Storage, F: WrappedFormat<S>>(
             Reply::Done
         }
     }
+}
+
+fn flush<S: Storage, F: WrappedFormat<S>>(image: &mut Qcow2<S, F>) -> Reply
+    ensures number { number_of image.new ≡ number_of image.old }
+    ensures goes { (slots : Slots) → Steps S.view F.backing image.old image.new slots slots Command.Flush result }
+    ensures finds { (slots : Slots) → Finds slots slots Command.Flush result }
+{
+    if let Err(refusal) = image.flush() {
+        return Reply::Refused(refusal);
+    }
+    Reply::Done
 }
 
 // Discards what stands in a slot.

@@ -2,7 +2,7 @@
 use Rattle.std.proofs.Common.{◌≡◌, ℕ, ◌<◌, ◌≤◌, Bool, true, false, cond, inl, inr, List, [], ◌∷◌, length, Option, Some, None, Result, Ok, Err, refl, sym, ap, ◌∙◌, subst, arith, nat_lt}
 use Rattle.std.proofs.lemmas.Bool.Decides.{nat_tests}
 use Rattle.std.specs.Cmp.{IsEquivalence}
-use Rattle.std.specs.List.{IsDistinct}
+use Rattle.std.specs.List.{AllByRecursion, IsDistinct}
 use Rattle.std.specs.Option.{option_map, option_map_or, option_or, IfSome, IsSome}
 use Rattle.std.specs.Map.{keys_of, lookup, lookup_entry, remove_entry, set_value}
 use Rattle.std.proofs.lemmas.Map.{lookup-remove_entry}
@@ -67,6 +67,17 @@ module _ {K V : Type 0} where
 
   pub set_free : (test : K → Bool) (es : List (K × Slot V)) (s w : Slot V) → lookup test es ≡ Some s → w.pins ≡ s.pins → pinned es ≡ [] → pinned (set_value test es w) ≡ []
   set_free test es s w found same free = none_pinned (set_value test es w) (free_set test es s w found same (are_free es free))
+
+  pub removed_free : (test : K → Bool) (es : List (K × Slot V)) → pinned es ≡ [] → pinned (remove_entry test es) ≡ []
+  removed_free test es free = none_pinned (remove_entry test es) (free_removed test es (are_free es free))
+
+  -- the entries with a pin have one
+  pub pinned_twice : (es : List (K × Slot V)) → pinned (pinned es) ≡ pinned es
+  pinned_twice [] = refl
+  pinned_twice (e ∷ es) = (elim (is_pinned e.1) as (λ b. is_pinned e.1 ≡ b → pinned (pinned (e ∷ es)) ≡ pinned (e ∷ es)) [
+    | true ↦ λ is. ap pinned (pinned_kept e es is) ∙ pinned_kept e (pinned es) is ∙ ap (λ l. e ∷ l) (pinned_twice es) ∙ sym (pinned_kept e es is)
+    | false ↦ λ is. ap pinned (pinned_gone e es is) ∙ pinned_twice es ∙ sym (pinned_gone e es is)
+  ]) refl
 
   -- the oldest entry with no pin has none
   oldest_unpinned : (es : List (K × Slot V)) (e : K × Slot V) → oldest_free es ≡ Some e → is_pinned e.1 ≡ false
@@ -133,6 +144,29 @@ module _ {K V : Type 0} (eq : K → K → Bool) where
       pins = λ j. gone_case es e d goes j (eq e.0 j) refl;
       free = λ f. none_pinned (remove_entry (eq e.0) es) (free_removed (eq e.0) es (are_free es f));
     }
+
+    none_later : (es : List (K × Slot V)) (k j : K) → AllByRecursion (λ y. eq k y ≡ false) (keys_of es) → eq k j ≡ true → lookup (eq j) es ≡ None
+    none_later [] k j apart same = refl
+    none_later (e ∷ es) k j apart same = rw (sym (laws.congr k j e.0 same) ∙ apart.0) (none_later es k j apart.1 same)
+
+    pinned_pins : (es : List (K × Slot V)) → IsDistinct eq (keys_of es) → (j : K) → pins_at (eq j) (pinned es) ≡ pins_at (eq j) es
+    unfolding IsDistinct
+    pinned_pins [] d j = refl
+    pinned_pins (e ∷ es) d j = (elim (is_pinned e.1) as (λ b. is_pinned e.1 ≡ b → pins_at (eq j) (pinned (e ∷ es)) ≡ pins_at (eq j) (e ∷ es)) [
+      | true ↦ λ is. ap (λ l. pins_at (eq j) l) (pinned_kept e es is) ∙ (elim (eq j e.0) as (λ b. pins_of (cond b (Some e.1) (lookup (eq j) (pinned es))) ≡ pins_of (cond b (Some e.1) (lookup (eq j) es))) [
+        | true ↦ refl
+        | false ↦ pinned_pins es d.1 j
+      ])
+      | false ↦ λ is. ap (λ l. pins_at (eq j) l) (pinned_gone e es is) ∙ pinned_pins es d.1 j ∙ free_case_of (eq j e.0) refl is
+    ]) refl
+      where
+        free_case_of : (b : Bool) → eq j e.0 ≡ b → is_pinned e.1 ≡ false → pins_of (lookup (eq j) es) ≡ pins_of (cond b (Some e.1) (lookup (eq j) es))
+        free_case_of false same is = refl
+        free_case_of true same is = ap pins_of (none_later es e.0 j d.0 (laws.symm e.0 j ∙ same)) ∙ sym (no_pins e.1 is)
+
+    -- those without a pin go
+    pub pins_pinned : (es : List (K × Slot V)) → IsDistinct eq (keys_of es) → Kept es (pinned es)
+    pins_pinned es d = record { pins = pinned_pins es d; free = λ f. pinned_twice es ∙ f }
 
     new_case : (es : List (K × Slot V)) (k : K) (v : V) → lookup (eq k) es ≡ None → (j : K) (c : Bool) → eq j k ≡ c → pins_of (cond c (Some (slot_of v 0)) (lookup (eq j) es)) ≡ pins_at (eq j) es
     new_case es k v none j true same = sym (ap pins_of (lookup_alike laws es j k same ∙ none))

@@ -1,6 +1,6 @@
 -- A cached table is changed in its place.
-use Rattle.std.proofs.Common.{◌≡◌, inl, inr, ℕ, ◌+◌, ◌-◌, ◌/◌, ◌%◌, ◌<◌, ◌&&◌, Bool, true, false, eqb, List, [], ◌∷◌, ◌++◌, Option, Some, None, refl, sym, ap, ◌∙◌, subst, arith}
-use Rattle.std.proofs.lemmas.Bool.{cases_Bool}
+use Rattle.std.proofs.Common.{◌≡◌, inl, inr, ℕ, ◌+◌, ◌-◌, ◌/◌, ◌%◌, ◌<◌, ◌&&◌, Bool, true, false, eqb, List, [], ◌∷◌, ◌++◌, Option, Some, None, IsSome, refl, sym, ap, ◌∙◌, subst, arith}
+use Rattle.std.proofs.lemmas.Bool.{cases_Bool, eq-eqb}
 use Rattle.std.specs.Option.{option_map}
 use Rattle.std.specs.Map.{lookup, set_value}
 use Rattle.qcow2_metadata.specs.Bytes.{Bytes, is_within}
@@ -70,6 +70,18 @@ held {V = V} key es v h = of (lookup (eqb key) es) refl h
 -- the same value leaves the entries as they are
 pub set_same : {V : Type 0} (key : ℕ) (es : List (ℕ × Slot V)) (v : V) → value_at (eqb key) es ≡ Some v → set_at (eqb key) es v ≡ es
 set_same key es v found = let there = held key es v found in there.set v ∙ sym there.is
+
+-- an entry that is there is found, whatever stands before and behind it
+found_there : {V : Type 0} (key : ℕ) (front back : List (ℕ × Slot V)) (s : Slot V) → IsSome (value_at (eqb key) (front ++ (key, s) ∷ back))
+found_there key [] back s = rw (eq-eqb key key refl) refl
+found_there key (e ∷ front) back s = (elim (eqb key e.0) as (λ b. eqb key e.0 ≡ b → IsSome (value_at (eqb key) (e ∷ (front ++ (key, s) ∷ back)))) [
+  | true ↦ λ t. rw t refl
+  | false ↦ λ t. rw t (found_there key front back s)
+]) refl
+
+-- a key that is held is held with another value
+pub still_held : {V : Type 0} (key : ℕ) (es : List (ℕ × Slot V)) (v w : V) → value_at (eqb key) es ≡ Some v → IsSome (value_at (eqb key) (set_at (eqb key) es w))
+still_held key es v w found = let there = held key es v found in subst (λ (l : List (ℕ × Slot _)). IsSome (value_at (eqb key) l)) (sym (there.set w)) (found_there key there.front there.back (slot_of w there.pins))
 
 -- ---- lists of loaded tables
 

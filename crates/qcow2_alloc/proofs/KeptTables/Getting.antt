@@ -21,7 +21,7 @@ use Rattle.qcow2_alloc.specs.CacheAnswers.{Evicts, HasRoom, HasNoRoom, GetsNew, 
 use Rattle.qcow2_alloc.specs.TableLaws.{same_number}
 use Rattle.qcow2_alloc.specs.KeptTables.{cached_table, cached_tables, AreElsewhere, IsCurrent, IsSafeSince}
 use Rattle.qcow2_alloc.proofs.CachedEntries.Lists.{lookup_none-removed}
-use Rattle.qcow2_alloc.proofs.KeptTables.Writing.{WritesOne, Flushed, flushed_none, flushed_then, flushed_entry}
+use Rattle.qcow2_alloc.proofs.KeptTables.Writing.{WritesOne, Flushed, Ready, flushed_none, flushed_then, flushed_entry}
 use Rattle.qcow2_alloc.proofs.KeptTables.Entries.{AreDistinct, away_from, split_oldest, split_found, tables_at, tables_both, removed_at, elsewhere_of_none}
 
 pub cluster_aligned : (k bits : ℕ) → k * 2 ^ bits % 2 ^ bits ≡ 0
@@ -183,30 +183,27 @@ module _ {S V : Type 0} (view : S → StorageView) (bits : ℕ) (bytes : V → L
     ]
 
     -- ---- a table is put in
-    module _ (k : ℕ) (v : V) (clean : is_modified v ≡ false) where
-      abbrev Holds : S → List (ℕ × Slot V) → Type 0
-      Holds s es = (i : ℕ) → i < 2 ^ bits → byte_at (bytes v) i ≡ all (tables es) (contents s) (k * 2 ^ bits + i)
+    module _ (k : ℕ) (v : V) where
+      -- what an answer leaves: entries before which the value stands, or nothing new
+      abbrev pub Puts : S → S → List (ℕ × Slot V) → List (ℕ × Slot V) → Result Bool (CacheError ℕ MetadataError) → Type 0
+      Puts s t es fs (Ok true) = Ready view bits bytes is_modified cleared IsFit unmodified same_bytes P all k v s t es fs
+      Puts s t es fs (Ok false) = Done s t es fs
+      Puts s t es fs (Err e) = Done s t es fs
 
-      added : (t : S) (n : ℕ) (es : List (ℕ × Slot V)) → (view t).is_honest → P (tables es) (contents t) → AreElsewhere (k * 2 ^ bits) (tables es) → Holds t es → Done t t es ((k, slot_of v n) ∷ es)
-      added t n es honest kept away holds =
-          let aligned : k * 2 ^ bits % 2 ^ bits ≡ 0 = cluster_aligned k bits in
-          relisted t es ((k, slot_of v n) ∷ es) honest kept (add (table (k, slot_of v n)) (tables es) (contents t) kept aligned away clean (inr holds))
-
-      still_holds : (s t : S) (es fs : List (ℕ × Slot V)) → Done s t es fs → Holds s es → Holds t fs
-      still_holds s t es fs d holds i lt = holds i lt ∙ ap (λ (m : Bytes). m (k * 2 ^ bits + i)) (sym d.known)
-
-      pub insert_done : (s t : S) (es fs : List (ℕ × Slot V)) (r : Result Bool (CacheError ℕ MetadataError)) (left : Option V) → (view s).is_honest → P (tables es) (contents s) → lookup (eqb k) es ≡ None → Holds s es
-          → InsertsNew (table_steps view bits bytes is_modified cleared IsFit) eqb size may_flush k v s es r t fs left → Done s t es fs
-      insert_done s t es fs (Ok true) left honest kept missing holds h =
-          let gs : List (ℕ × Slot V) = h.0.0 in
-          let first = room_done s t es gs honest kept h.0.1 in
-          let away = elsewhere_of_none bits bytes is_modified k gs (still_missing s t k es gs missing h.0.1) in
-          subst (λ l. Done s t es l) (sym h.0.2) (done_then s t t es gs ((k, slot_of v 0) ∷ gs) first (added t 0 gs first.honest first.kept away (still_holds s t es gs first holds)))
-      insert_done s t es fs (Ok false) left honest kept missing holds h = no_room_done s t es fs (Ok false) honest kept h.0
-      insert_done s t es fs (Err Memory) left honest kept missing holds h = room_done s t es fs honest kept h.0
-      insert_done s t es fs (Err InUse) left honest kept missing holds h = no_room_done s t es fs (Err InUse) honest kept h.0
-      insert_done s t es fs (Err (StillInUse _)) left honest kept missing holds h = absurd h
-      insert_done s t es fs (Err (Backend x)) left honest kept missing holds h = no_room_done s t es fs (Err (Backend x)) honest kept h.0
+      pub insert_put : (s t : S) (es fs : List (ℕ × Slot V)) (r : Result Bool (CacheError ℕ MetadataError)) (left : Option V) → (view s).is_honest → P (tables es) (contents s) → lookup (eqb k) es ≡ None
+          → InsertsNew (table_steps view bits bytes is_modified cleared IsFit) eqb size may_flush k v s es r t fs left → Puts s t es fs r
+      insert_put s t es fs (Ok true) left honest kept missing h = record {
+        rest = h.0.0;
+        pins = 0;
+        done = room_done s t es h.0.0 honest kept h.0.1;
+        away = elsewhere_of_none bits bytes is_modified k h.0.0 (still_missing s t k es h.0.0 missing h.0.1);
+        is = h.0.2;
+      }
+      insert_put s t es fs (Ok false) left honest kept missing h = no_room_done s t es fs (Ok false) honest kept h.0
+      insert_put s t es fs (Err Memory) left honest kept missing h = room_done s t es fs honest kept h.0
+      insert_put s t es fs (Err InUse) left honest kept missing h = no_room_done s t es fs (Err InUse) honest kept h.0
+      insert_put s t es fs (Err (StillInUse _)) left honest kept missing h = absurd h
+      insert_put s t es fs (Err (Backend x)) left honest kept missing h = no_room_done s t es fs (Err (Backend x)) honest kept h.0
 
       -- in the place of another one
       module _ (s t : S) (es : List (ℕ × Slot V)) (e : ℕ × Slot V) (found : lookup_entry (eqb k) es ≡ Some e) (honest : (view s).is_honest) (kept : P (tables es) (contents s)) where
@@ -222,28 +219,30 @@ module _ {S V : Type 0} (view : S → StorageView) (bits : ℕ) (bytes : V → L
         rest_is : tables (remove_entry (eqb k) es) ≡ tables (split_found (eqb k) es e found).front ++ tables (split_found (eqb k) es e found).back
         rest_is = let f = split_found (eqb k) es e found in ap tables f.rest ∙ tables_both bits bytes is_modified f.front f.back
 
-        pub replace_done : (fs : List (ℕ × Slot V)) (r : Result Bool (CacheError ℕ MetadataError)) (left : Option V) → Holds s es
-            → Replaces (table_steps view bits bytes is_modified cleared IsFit) k e (remove_entry (eqb k) es) v may_flush s es r t fs left → Done s t es fs
-        replace_done fs (Ok true) left holds h =
+        pub replace_put : (fs : List (ℕ × Slot V)) (r : Result Bool (CacheError ℕ MetadataError)) (left : Option V)
+            → Replaces (table_steps view bits bytes is_modified cleared IsFit) k e (remove_entry (eqb k) es) v may_flush s es r t fs left → Puts s t es fs r
+        replace_put fs (Ok true) left h =
             let f = split_found (eqb k) es e found in
             let w : V = h.1.0 in
             let one = flushed_entry view bits bytes is_modified cleared IsFit unmodified same_bytes P all (step h.0) s t (tables f.front) (tables f.back) e None (record { value = w; pins = e.1.pins }) honest kept'
             (subst (λ n. FlushesTable view bits bytes is_modified cleared IsFit s n e.1.value w t) (sym own_key) h.1.1, refl) in
             let gone = drop_clean (tables f.front) (tables f.back) (table (e.0, record { value = w; pins = e.1.pins })) (contents t) one.kept (ap is_modified h.1.1.clean ∙ unmodified e.1.value) in
-            let without : Done s t es (remove_entry (eqb k) es) = record {
-              honest = one.honest;
-              kept = subst (λ l. P l (contents t)) (sym rest_is) gone.0;
-              known = ap (λ l. all l (contents t)) rest_is ∙ gone.1 ∙ one.known ∙ sym (ap (λ l. all l (contents s)) whole);
-              since = rw whole one.since;
-            } in
             let apart : AreDistinct (tables f.front ++ table e ∷ tables f.back) = distinct _ (contents s) kept' in
-            let away : AreElsewhere (k * 2 ^ bits) (tables (remove_entry (eqb k) es)) =
-            subst (λ l. AreElsewhere (k * 2 ^ bits) l) (sym rest_is) (subst (λ n. AreElsewhere (n * 2 ^ bits) (tables f.front ++ tables f.back)) own_key (away_from (tables f.front) (tables f.back) (table e) apart)) in
-            subst (λ l. Done s t es l) (sym (h.2 ∙ ap (λ n. (n, slot_of v e.1.pins) ∷ remove_entry (eqb k) es) own_key))
-            (done_then s t t es (remove_entry (eqb k) es) ((k, slot_of v e.1.pins) ∷ remove_entry (eqb k) es) without
-            (added t e.1.pins (remove_entry (eqb k) es) one.honest without.kept away (still_holds s t es (remove_entry (eqb k) es) without holds)))
-        replace_done fs (Ok false) left holds h = done_none s t es fs honest kept h.1 h.2
-        replace_done fs (Err (Backend x)) left holds h =
+            record {
+              rest = remove_entry (eqb k) es;
+              pins = e.1.pins;
+              done = record {
+                honest = one.honest;
+                kept = subst (λ l. P l (contents t)) (sym rest_is) gone.0;
+                known = ap (λ l. all l (contents t)) rest_is ∙ gone.1 ∙ one.known ∙ sym (ap (λ l. all l (contents s)) whole);
+                since = rw whole one.since;
+              };
+              away = subst (λ l. AreElsewhere (k * 2 ^ bits) l) (sym rest_is)
+                  (subst (λ n. AreElsewhere (n * 2 ^ bits) (tables f.front ++ tables f.back)) own_key (away_from (tables f.front) (tables f.back) (table e) apart));
+              is = h.2 ∙ ap (λ n. (n, slot_of v e.1.pins) ∷ remove_entry (eqb k) es) own_key;
+            }
+        replace_put fs (Ok false) left h = done_none s t es fs honest kept h.1 h.2
+        replace_put fs (Err (Backend x)) left h =
             let f = split_found (eqb k) es e found in
             let one = flushed_entry view bits bytes is_modified cleared IsFit unmodified same_bytes P all (step h.0) s t (tables f.front) (tables f.back) e (Some x) e.1 honest kept'
             (subst (λ n. FailsToFlush view bits bytes is_modified cleared IsFit s n e.1.value x t) (sym own_key) h.1, refl) in
@@ -255,6 +254,35 @@ module _ {S V : Type 0} (view : S → StorageView) (bits : ℕ) (bytes : V → L
               known = ap (λ l. all l (contents t)) fs_is ∙ front.1 ∙ one.known ∙ sym (ap (λ l. all l (contents s)) whole);
               since = rw whole one.since;
             }
-        replace_done fs (Err InUse) left holds h = absurd h
-        replace_done fs (Err (StillInUse _)) left holds h = absurd h
-        replace_done fs (Err Memory) left holds h = absurd h
+        replace_put fs (Err InUse) left h = absurd h
+        replace_put fs (Err (StillInUse _)) left h = absurd h
+        replace_put fs (Err Memory) left h = absurd h
+
+      -- ---- one that isn't modified
+      module _ (clean : is_modified v ≡ false) where
+        abbrev Holds : S → List (ℕ × Slot V) → Type 0
+        Holds s es = (i : ℕ) → i < 2 ^ bits → byte_at (bytes v) i ≡ all (tables es) (contents s) (k * 2 ^ bits + i)
+
+        added : (t : S) (n : ℕ) (es : List (ℕ × Slot V)) → (view t).is_honest → P (tables es) (contents t) → AreElsewhere (k * 2 ^ bits) (tables es) → Holds t es → Done t t es ((k, slot_of v n) ∷ es)
+        added t n es honest kept away holds =
+            let aligned : k * 2 ^ bits % 2 ^ bits ≡ 0 = cluster_aligned k bits in
+            relisted t es ((k, slot_of v n) ∷ es) honest kept (add (table (k, slot_of v n)) (tables es) (contents t) kept aligned away clean (inr holds))
+
+        still_holds : (s t : S) (es fs : List (ℕ × Slot V)) → Done s t es fs → Holds s es → Holds t fs
+        still_holds s t es fs d holds i lt = holds i lt ∙ ap (λ (m : Bytes). m (k * 2 ^ bits + i)) (sym d.known)
+
+        put_done : (s t : S) (es fs : List (ℕ × Slot V)) (r : Result Bool (CacheError ℕ MetadataError)) → Holds s es → Puts s t es fs r → Done s t es fs
+        put_done s t es fs (Ok true) holds ready =
+            subst (λ l. Done s t es l) (sym ready.is) (done_then s t t es ready.rest ((k, slot_of v ready.pins) ∷ ready.rest) ready.done
+            (added t ready.pins ready.rest ready.done.honest ready.done.kept ready.away (still_holds s t es ready.rest ready.done holds)))
+        put_done s t es fs (Ok false) holds done = done
+        put_done s t es fs (Err e) holds done = done
+
+        pub insert_done : (s t : S) (es fs : List (ℕ × Slot V)) (r : Result Bool (CacheError ℕ MetadataError)) (left : Option V) → (view s).is_honest → P (tables es) (contents s) → lookup (eqb k) es ≡ None → Holds s es
+            → InsertsNew (table_steps view bits bytes is_modified cleared IsFit) eqb size may_flush k v s es r t fs left → Done s t es fs
+        insert_done s t es fs r left honest kept missing holds h = put_done s t es fs r holds (insert_put s t es fs r left honest kept missing h)
+
+        pub replace_done : (s t : S) (es : List (ℕ × Slot V)) (e : ℕ × Slot V) (found : lookup_entry (eqb k) es ≡ Some e) (honest : (view s).is_honest) (kept : P (tables es) (contents s))
+            (fs : List (ℕ × Slot V)) (r : Result Bool (CacheError ℕ MetadataError)) (left : Option V) → Holds s es
+            → Replaces (table_steps view bits bytes is_modified cleared IsFit) k e (remove_entry (eqb k) es) v may_flush s es r t fs left → Done s t es fs
+        replace_done s t es e found honest kept fs r left holds h = put_done s t es fs r holds (replace_put s t es e found honest kept fs r left h)

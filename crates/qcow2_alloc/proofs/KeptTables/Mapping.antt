@@ -119,6 +119,10 @@ module _ {S : Type 0} (h : HeaderFields) (p : Pending) (base : Bytes) (caches : 
   cover_is : (w : L2TableView) → IsTableOf caches.l2.backend.header.fields w → cover_at w index ≡ entry_cover h (entry_at w.bytes index)
   cover_is w fit = rw (fit.bits ∙ sound.l2_format.bits, fit.zero_bit ∙ sound.l2_format.zero_bit, fit.external ∙ sound.l2_format.external) refl
 
+  -- what its entry covers is known
+  pub covers_known : cover_at v index ≡ entry_cover h (l2_entry (known_of h caches base) (table_at h (known_of h caches base) i) index)
+  covers_known = cover_is v own_fit ∙ ap (entry_cover h) (was index at.within)
+
   pub entry_shown : ShowsEntry h (known_of h caches base) i index v
   entry_shown = record {
     format = record { bits = bits_is; zero_bit = own_fit.zero_bit ∙ sound.l2_format.zero_bit; external = own_fit.external ∙ sound.l2_format.external };
@@ -179,7 +183,7 @@ module _ {S : Type 0} (h : HeaderFields) (p : Pending) (base : Bytes) (caches : 
       settled = rw rb_is (λ settled. settled);
       answered =
           answered ∙ ap (λ n. dropped_run n (cover_at v index) (cover_at w index)) bits_is
-          ∙ ap (λ c. dropped_run h.cluster_bits c (cover_at w index)) (cover_is v own_fit ∙ ap (entry_cover h) (was index at.within))
+          ∙ ap (λ c. dropped_run h.cluster_bits c (cover_at w index)) covers_known
           ∙ ap (dropped_run h.cluster_bits (entry_cover h (l2_entry (known_of h caches base) (table_at h (known_of h caches base) i) index))) (cover_is w fit' ∙ ap (entry_cover h) changes.entry_is);
       sound = sound_again;
     }

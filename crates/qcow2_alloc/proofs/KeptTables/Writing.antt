@@ -24,9 +24,10 @@ use Rattle.qcow2_laws.proofs.Caches.{rbs_free, l2s_free}
 use Rattle.qcow2_laws.proofs.Lists.{within_is, differs}
 use Rattle.qcow2_laws.proofs.Steps.{table_is_written}
 use Rattle.qcow2_alloc.specs.declared.async_lru_cache.slot.Slot.{Slot}
+use Rattle.qcow2_alloc.specs.AsyncLruCache.{slot_of}
 use Rattle.qcow2_alloc.specs.TableSteps.{FlushesTable, FailsToFlush, table_steps}
 use Rattle.qcow2_alloc.specs.CacheAnswers.{FlushesEntry, FlushesAll}
-use Rattle.qcow2_alloc.specs.KeptTables.{cached_table, cached_tables, AreKept, IsSafeSince}
+use Rattle.qcow2_alloc.specs.KeptTables.{cached_table, cached_tables, AreElsewhere, AreKept, IsSafeSince}
 use Rattle.qcow2_alloc.proofs.KeptTables.Loaded.{stays_free, loaded_written, loaded_beside}
 
 -- ---- one table of either cache is written
@@ -194,6 +195,14 @@ module _ {S V : Type 0} (view : S → StorageView) (bits : ℕ) (bytes : V → L
       pub kept : P after (contents t)
       pub known : all after (contents t) ≡ all before (contents s)
       pub since : IsSafeSince (view s) (view t) (all before (contents s))
+
+    -- entries before which a value of a key comes to stand
+    pub record Ready (k : ℕ) (v : V) (s t : S) (es fs : List (ℕ × Slot V)) : Type 0 where
+      pub rest : List (ℕ × Slot V)
+      pub pins : ℕ
+      pub done : Flushed s t (cached_tables bits bytes is_modified es) (cached_tables bits bytes is_modified rest)
+      pub away : AreElsewhere (k * 2 ^ bits) (cached_tables bits bytes is_modified rest)
+      pub is : fs ≡ (k, slot_of v pins) ∷ rest
 
     pub flushed_none : (s : S) (ts : List CachedTable) → (view s).is_honest → P ts (contents s) → Flushed s s ts ts
     flushed_none s ts honest kept = record {

@@ -222,6 +222,7 @@ pub(crate) fn evict_free<B: AsyncLruCacheBackend>(
     backend: &B,
     entries: &mut LruCache<B::Key, Slot<B::Value>>,
 )
+    ensures distinct { IsDistinct B.Key.eq (keys_of entries.old.entries) }
     ensures evicted { All (λ e. is_pinned e.1 ≡ false → B.evicted backend.now e.0 e.1.value) entries.old.entries }
     ensures entries { entries.new ≡ lru_cache (pinned entries.old.entries) entries.old.cap }
 {

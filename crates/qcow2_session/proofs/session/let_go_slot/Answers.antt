@@ -1,7 +1,7 @@
 use Rattle.std.proofs.Common.{sym, subst, [], ◌∷◌, ◌++◌, Option}
 use Rattle.qcow2_image.specs.Views.{image_spec}
 use Rattle.qcow2_session.specs.Sessions.{LetsGo}
-use Rattle.qcow2_session.proofs.Free.{free_places}
+use Rattle.qcow2_image.proofs.Free.{free_places}
 use Rattle.qcow2_session.proofs.Places.{last_none, last_let_go}
 use Rattle.qcow2_session.proofs.session.let_go_slot.Goals as goal
 

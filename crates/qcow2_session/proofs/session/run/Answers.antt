@@ -6,17 +6,20 @@ use Rattle.qcow2_image.specs.Views.{seen, image_spec}
 use Rattle.qcow2_laws.specs.Runs.{Completes, begun, started}
 use Rattle.qcow2_laws.specs.Views.{guest_of}
 use Rattle.qcow2_laws.proofs.RunSteps.{begins, completes, means_the_disk}
-use Rattle.qcow2_alloc.specs.ImageStorage.{storage_of}
 use Rattle.qcow2_session.specs.Commands.{command_of, reply_of}
-use Rattle.qcow2_session.proofs.Free.{free_places, whole}
-use Rattle.qcow2_session.proofs.Runs.{GoesOn, first_of_all, from_none, goes_on, map_more}
+use Rattle.qcow2_image.proofs.Free.{free_places, nothing_since, whole}
+use Rattle.qcow2_session.proofs.Places.{surplus_none}
+use Rattle.qcow2_session.proofs.Runs.{GoesOn, first_of_all, goes_on, map_more}
 use Rattle.qcow2_session.proofs.session.run.Goals as goal
 
 pub loop-command-init : goal.loop-command-init
 loop-command-init g c = record {
   own = grind (arith, common_steps);
   answered = c.in-Ok.ensures.len;
-  ran = λ x s stands. first_of_all (image_spec g.S.Storage.view g.F.BackingDisk.backing) (free_places g.S.Storage.view g.F.BackingDisk.backing) c.args.image.now 256 x s _ _ _ c.in-Some.ensures.prepared c.in-Some.ensures.mappings (ap (λ l. map reply_of l) c.in-Ok.ensures.items) stands;
+  ran = λ x s stands.
+      let view = g.S.Storage.view in
+      let below = g.F.BackingDisk.backing in
+      first_of_all (image_spec view below) (free_places view below) c.args.image.now 256 x s _ _ _ c.in-Some.ensures.prepared c.in-Some.ensures.mappings (ap (λ l. map reply_of l) c.in-Ok.ensures.items) stands;
 }
 
 pub loop-command-preserved : goal.loop-command-preserved
@@ -24,39 +27,43 @@ loop-command-preserved g c = record {
   own = c.step-reply.ensures.slots ∙ c.loop-command.invariant.own ∙ sym c.step-reply.ensures.number;
   answered = c.push_reserved.ensures.len ∙ ap (λ n. n + 1) c.loop-command.invariant.answered;
   ran = λ x s stands.
-      let view = g.S.Storage.view in
-      let below = g.F.BackingDisk.backing in
+      let spec = image_spec g.S.Storage.view g.F.BackingDisk.backing in
       let done = c.loop-command.command-index in
       let commands = c.args.commands.now in
       let replies = c.loop-command.replies.items in
-      let first = seen view below c.args.image.now (replicate 256 None) in
-      let next = seen view below c.step-reply.new.image c.step-reply.new.slots.prepared.items in
+      let first = c.args.image.now in
+      let free = replicate 256 None in
+      let next = c.step-reply.new.image in
+      let out = c.step-reply.new.slots.prepared.items in
+      let found = c.step-reply.new.slots.mappings.items in
       let split = take_more commands done c.command-item.result c.loop-command-test.true ∙ ap (λ q. take done commands ++ q ∷ []) (sym c.command-item.is) in
-      subst (λ l. GoesOn x first next (begun s) (map command_of (take (done + 1) commands)) l c.step-reply.new.slots.mappings.items) (sym (ap (λ l. map reply_of l) c.push_reserved.ensures.items ∙ map-append reply_of replies (c.step-reply.result ∷ [])))
-      (subst (λ k. GoesOn x first next (begun s) k (map reply_of replies ++ reply_of c.step-reply.result ∷ []) c.step-reply.new.slots.mappings.items) (sym (map_more command_of commands done c.command-item.result split))
-      (goes_on x first (seen view below c.loop-command.image c.loop-command.slots.prepared.items) next (begun s) (map command_of (take done commands)) (map reply_of replies)
-      c.loop-command.slots.mappings.items c.step-reply.new.slots.mappings.items (command_of c.command-item.result) (reply_of c.step-reply.result) (c.loop-command.invariant.ran x s stands) (c.step-reply.ensures.goes x) c.step-reply.ensures.finds));
+      subst (λ l. GoesOn spec x first free next out (begun s) (map command_of (take (done + 1) commands)) l found) (sym (ap (λ l. map reply_of l) c.push_reserved.ensures.items ∙ map-append reply_of replies (c.step-reply.result ∷ [])))
+      (subst (λ k. GoesOn spec x first free next out (begun s) k (map reply_of replies ++ reply_of c.step-reply.result ∷ []) found) (sym (map_more command_of commands done c.command-item.result split))
+      (goes_on spec x first c.loop-command.image next free c.loop-command.slots.prepared.items out (begun s) (map command_of (take done commands)) (map reply_of replies)
+      c.loop-command.slots.mappings.items found (command_of c.command-item.result) (reply_of c.step-reply.result) (c.loop-command.invariant.ran x s stands) (c.step-reply.ensures.goes x) c.step-reply.ensures.finds));
 }
 
 pub returns-clause-runs : goal.returns-clause-runs
 returns-clause-runs g c = λ x s stands.
     let view = g.S.Storage.view in
     let below = g.F.BackingDisk.backing in
+    let spec = image_spec view below in
+    let old = c.args.image.now in
+    let new = c.discard_all.new.image in
     let replies = map reply_of c.loop-command.replies.items in
     let all : take c.loop-command.command-index c.args.commands.now ≡ c.args.commands.now = take_all c.loop-command.command-index c.args.commands.now c.loop-command-test.false in
-    let first = seen view below c.args.image.now (replicate 256 None) in
-    let last = seen view below c.loop-command.image c.loop-command.slots.prepared.items in
-    let new = seen view below c.discard_all.new.image [] in
-    inr (from_none (image_spec view below) (free_places view below) c.args.image.now 256 x new (begun s) (map command_of c.args.commands.now) replies
-    (subst (λ k. Completes x first new (begun s) (map command_of k) replies) all
-    (completes x first last new (begun s) (map command_of (take c.loop-command.command-index c.args.commands.now)) replies (c.loop-command.invariant.ran x s stands).ran c.discard_all.ensures (λ k. refl))))
+    inr (subst (λ k. Completes spec x old new (begun s) (map command_of k) replies) all
+    (completes spec x old c.loop-command.image new (replicate 256 None) c.loop-command.slots.prepared.items (begun s) (map command_of (take c.loop-command.command-index c.args.commands.now)) replies
+    (c.loop-command.invariant.ran x s stands).ran c.discard_all.ensures (λ k. refl) (surplus_none spec (free_places view below) old 256)))
 
 pub returns-clause-means : goal.returns-clause-means
 returns-clause-means g c = λ opened.
-    let old = seen g.S.Storage.view g.F.BackingDisk.backing c.args.image.now [] in
-    let new = seen g.S.Storage.view g.F.BackingDisk.backing c.discard_all.new.image [] in
-    let stands = begins old opened.sound (whole g.S.Storage.view g.F.BackingDisk.backing c.args.image.now [] opened.sound) opened.clean in
+    let view = g.S.Storage.view in
+    let below = g.F.BackingDisk.backing in
+    let old = c.args.image.now in
+    let new = c.discard_all.new.image in
+    let before = seen view below old [] in
+    let stands = begins before opened.sound (whole view below old [] opened.sound) opened.clean in
     ⊎_elim (λ h. inl h)
-    (λ all. inr (means_the_disk old new (map command_of c.args.commands.now) (map reply_of c.loop-command.replies.items) (g.S.Storage.only_now (storage_of c.args.image.now.file.storage))
-    (whole g.S.Storage.view g.F.BackingDisk.backing c.discard_all.new.image []) stands all))
-    (returns-clause-runs g c old.setting (started (guest_of old)) stands)
+    (λ all. inr (means_the_disk (image_spec view below) old new (map command_of c.args.commands.now) (map reply_of c.loop-command.replies.items) (nothing_since view below g.S.Storage.only_now old) stands all))
+    (returns-clause-runs g c before.setting (started (guest_of before)) stands)

@@ -1,8 +1,7 @@
 use Rattle.std.proofs.Common.{refl, ap, sym, subst}
-use Rattle.qcow2_laws.proofs.RunSteps.{done_as, refused_as, flushed_as, none_as}
+use Rattle.qcow2_laws.proofs.RunSteps.{done_as, refused_as, none_as}
 use Rattle.qcow2_session.specs.Commands.{command_of}
 use Rattle.qcow2_session.specs.Sessions.{Steps}
-use Rattle.qcow2_session.proofs.Free.{whole}
 use Rattle.qcow2_session.proofs.session.step.Goals as goal
 
 pub returns-in-Ok-clause-goes : goal.returns-in-Ok-clause-goes
@@ -17,11 +16,8 @@ returns-in-Ok-write-clause-goes g c = λ x s stands founds. done_as x _ _ s _ _ 
 pub returns-in-Err-write-clause-goes : goal.returns-in-Err-write-clause-goes
 returns-in-Err-write-clause-goes g c = λ x s stands founds. refused_as x _ _ s _ _ _ _ (ap command_of c.in-Write.is) stands (rw c.deref.ensures.value at (c.in-Err-write.ensures.sees c.args.slots.now.prepared.items)) (λ f. f) (λ _ _. refl)
 
-pub returns-in-Ok-flush-clause-goes : goal.returns-in-Ok-flush-clause-goes
-returns-in-Ok-flush-clause-goes g c = λ x s stands founds. flushed_as x _ _ s _ _ _ (ap command_of c.in-Flush.is) stands (c.in-Ok-flush.ensures.sees c.args.slots.now.prepared.items) (whole g.S.Storage.view g.F.BackingDisk.backing c.flush.new.self c.args.slots.now.prepared.items) (λ _ _. refl)
-
-pub returns-in-Err-flush-clause-goes : goal.returns-in-Err-flush-clause-goes
-returns-in-Err-flush-clause-goes g c = λ x s stands founds. refused_as x _ _ s _ _ _ _ (ap command_of c.in-Flush.is) stands (c.in-Err-flush.ensures.sees c.args.slots.now.prepared.items) (λ f. f) (λ _ _. refl)
+pub returns-in-Flush-clause-goes : goal.returns-in-Flush-clause-goes
+returns-in-Flush-clause-goes g c = subst (λ q. Steps g.S.Storage.view g.F.BackingDisk.backing c.args.image.now c.flush.new.image c.args.slots.now c.args.slots.now q c.flush.result) (sym c.in-Flush.is) (c.flush.ensures.goes c.args.slots.now)
 
 pub returns-in-Size-clause-goes : goal.returns-in-Size-clause-goes
 returns-in-Size-clause-goes g c = λ x s stands founds. none_as x _ s _ _ _ (ap command_of c.in-Size.is) stands (λ sound. (c.size.ensures.sees c.args.slots.now.prepared.items sound, refl)) (λ _ _. refl)

@@ -7,7 +7,7 @@ use Rattle.qcow2_image.specs.declared.prepared.CommitRefused.TheVariants.{Kept}
 use Rattle.qcow2_image.specs.Views.{seen, image_spec}
 use Rattle.qcow2_session.specs.Sessions.{WritesFirst}
 use Rattle.qcow2_session.proofs.Chunks.{may_write_none, put_refused, written, commit_spent, commit_kept}
-use Rattle.qcow2_session.proofs.Free.{free_places}
+use Rattle.qcow2_image.proofs.Free.{free_places}
 use Rattle.qcow2_session.proofs.Turns.{refused_is, none_within, refuses_if, refuses_less}
 use Rattle.qcow2_session.proofs.session.write_some.Goals as goal
 

@@ -1,6 +1,7 @@
 use Rattle.std.proofs.Common.{sym, ap, ◌∙◌}
 use Rattle.qcow2_alloc.specs.declared.clusters_to_free.ClustersToFreeEntry.{ClustersToFreeEntry}
 use Rattle.qcow2_alloc.specs.Allocation.{run_at, taken_as, is_data, Becomes}
+use Rattle.qcow2_alloc.specs.LowestRuns.{IsLowestRun}
 use Rattle.qcow2_alloc.proofs.AllocationSteps.{of_equal}
 use Rattle.qcow2_alloc.proofs.allocation.Allocator.allocate.Goals as goal
 
@@ -15,3 +16,15 @@ returns-in-Ok-lowest_run-clause-sound g c = λ p sound may.
 
 pub returns-in-Err-clause-sound : goal.returns-in-Err-clause-sound
 returns-in-Err-clause-sound g c = λ p sound may. c.in-Err.ensures.sound p (is_data c.args.kind) sound may
+
+pub returns-in-Ok-lowest_run-clause-lowest : goal.returns-in-Ok-lowest_run-clause-lowest
+returns-in-Ok-lowest_run-clause-lowest g c = λ p sound may hint.
+    let first = ap (λ (r : ClustersToFreeEntry). r.first_cluster) c.placed_at.ensures ∙ c.new-in-Ok-lowest_run.ensures in
+    of_equal (λ f n. IsLowestRun g.S.Storage.view c.lowest_run.new.file f n) c.placed_at.result.first_cluster c.in-Ok-lowest_run.first c.args.count c.value.result first (sym c.value.ensures)
+    (c.in-Ok-lowest_run.ensures.lowest p (is_data c.args.kind) sound may hint)
+
+pub returns-in-Ok-lowest_run-clause-hint : goal.returns-in-Ok-lowest_run-clause-hint
+returns-in-Ok-lowest_run-clause-hint g c = λ p sound may hint. c.in-Ok-lowest_run.ensures.hint p (is_data c.args.kind) sound may hint
+
+pub returns-in-Err-clause-hint : goal.returns-in-Err-clause-hint
+returns-in-Err-clause-hint g c = λ p sound may hint. c.in-Err.ensures.hint p (is_data c.args.kind) sound may hint

@@ -1,4 +1,4 @@
-use Rattle.std.proofs.Common.{inl, ℕ, Result, Ok, Err}
+use Rattle.std.proofs.Common.{inl, refl, ℕ, Result, Ok, Err}
 use Rattle.image_access.specs.Moments.{StorageView}
 use Rattle.qcow2_laws.specs.Guard.{Pending}
 use Rattle.qcow2_alloc.specs.declared.allocation.Allocator.{Allocator}
@@ -8,7 +8,9 @@ use Rattle.qcow2_alloc.specs.declared.clusters_to_free.ClustersToFreeEntry.{Clus
 use Rattle.qcow2_alloc.specs.declared.error.ImageError.{ImageError}
 use Rattle.qcow2_alloc.specs.declared.image_file.ImageFile.{ImageFile}
 use Rattle.qcow2_alloc.specs.Allocation.{run_at, taken_as, is_data, Becomes, Allocates}
+use Rattle.qcow2_alloc.specs.LowestRuns.{KeepsHint}
 use Rattle.qcow2_alloc.proofs.FileSteps.{leaves_then}
+use Rattle.qcow2_alloc.proofs.Hints.{hint_stays}
 use Rattle.qcow2_alloc.proofs.AllocationSteps.{handed_on, becomes_then, becomes_cached, is_sound_now}
 use Rattle.qcow2_alloc.proofs.allocation.Allocator.allocate_data.Goals as goal
 
@@ -28,3 +30,21 @@ returns-clause-sound g c = λ p sound.
     let file : ImageFile g.row.S.Denot = record c.args.file.now { storage = c.l2_depends_on_rb.new.storage; caches = c.l2_depends_on_rb.new.self } in
     allocates_then g.S.Storage.view p c.args.file.now file c.allocate.new.file c.args.self.now c.allocate.new.self Data c.args.count c.allocate.result one
     (c.allocate.ensures.sound p (is_sound_now g.S.Storage.view p p c.args.file.now file c.args.self.now one) c.in_ok-l2_depends_on_rb.ensures.order)
+
+pub returns-in_err-l2_depends_on_rb-clause-hint : goal.returns-in_err-l2_depends_on_rb-clause-hint
+returns-in_err-l2_depends_on_rb-clause-hint g c = λ p sound hint.
+    let one = becomes_cached g.S.Storage.view p c.args.file.now c.args.self.now c.l2_depends_on_rb.new.storage c.l2_depends_on_rb.new.self sound (c.l2_depends_on_rb.ensures.keeps c.args.file.now.header.fields p sound.sound.honest sound.sound.caches) c.l2_depends_on_rb.ensures.marks in
+    let file : ImageFile g.row.S.Denot = record c.args.file.now { storage = c.l2_depends_on_rb.new.storage; caches = c.l2_depends_on_rb.new.self } in
+    handed_on (KeepsHint g.S.Storage.view c.args.self.now file) c.from_residual.result c.in_err-l2_depends_on_rb.field-0.0 c.from_residual.ensures (λ other. hint_stays g.S.Storage.view p c.args.file.now file c.args.self.now c.args.self.now one refl hint)
+
+pub returns-clause-lowest : goal.returns-clause-lowest
+returns-clause-lowest g c = λ p sound hint.
+    let one = becomes_cached g.S.Storage.view p c.args.file.now c.args.self.now c.l2_depends_on_rb.new.storage c.l2_depends_on_rb.new.self sound (c.l2_depends_on_rb.ensures.keeps c.args.file.now.header.fields p sound.sound.honest sound.sound.caches) c.l2_depends_on_rb.ensures.marks in
+    let file : ImageFile g.row.S.Denot = record c.args.file.now { storage = c.l2_depends_on_rb.new.storage; caches = c.l2_depends_on_rb.new.self } in
+    c.allocate.ensures.lowest p (is_sound_now g.S.Storage.view p p c.args.file.now file c.args.self.now one) c.in_ok-l2_depends_on_rb.ensures.order (hint_stays g.S.Storage.view p c.args.file.now file c.args.self.now c.args.self.now one refl hint)
+
+pub returns-clause-hint : goal.returns-clause-hint
+returns-clause-hint g c = λ p sound hint.
+    let one = becomes_cached g.S.Storage.view p c.args.file.now c.args.self.now c.l2_depends_on_rb.new.storage c.l2_depends_on_rb.new.self sound (c.l2_depends_on_rb.ensures.keeps c.args.file.now.header.fields p sound.sound.honest sound.sound.caches) c.l2_depends_on_rb.ensures.marks in
+    let file : ImageFile g.row.S.Denot = record c.args.file.now { storage = c.l2_depends_on_rb.new.storage; caches = c.l2_depends_on_rb.new.self } in
+    c.allocate.ensures.hint p (is_sound_now g.S.Storage.view p p c.args.file.now file c.args.self.now one) c.in_ok-l2_depends_on_rb.ensures.order (hint_stays g.S.Storage.view p c.args.file.now file c.args.self.now c.args.self.now one refl hint)

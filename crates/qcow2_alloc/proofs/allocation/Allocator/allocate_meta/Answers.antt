@@ -2,3 +2,9 @@ use Rattle.qcow2_alloc.proofs.allocation.Allocator.allocate_meta.Goals as goal
 
 pub returns-clause-sound : goal.returns-clause-sound
 returns-clause-sound g c = λ p sound. c.allocate.ensures.sound p sound tt
+
+pub returns-clause-lowest : goal.returns-clause-lowest
+returns-clause-lowest g c = λ p sound hint. c.allocate.ensures.lowest p sound tt hint
+
+pub returns-clause-hint : goal.returns-clause-hint
+returns-clause-hint g c = λ p sound hint. c.allocate.ensures.hint p sound tt hint

@@ -3,7 +3,10 @@ use Rattle.qcow2_metadata.specs.Entries.{block_offset}
 use Rattle.qcow2_metadata.specs.Header.{counts_per_block}
 use Rattle.qcow2_laws.specs.Changes.{one_at}
 use Rattle.qcow2_alloc.specs.Allocation.{taken_as, HasNone, GetsBlock}
+use Rattle.qcow2_alloc.specs.ImageFile.{IsFault}
+use Rattle.qcow2_alloc.specs.LowestRuns.{KeepsHint}
 use Rattle.qcow2_alloc.proofs.FileSteps.{leaves_then}
+use Rattle.qcow2_alloc.proofs.Hints.{has_block, hint_got, hint_placed, hint_refused, hint_stays, ok_as, placed_block, range_as}
 use Rattle.qcow2_alloc.proofs.AllocationSteps.{handed_on, becomes_then, gets_then, gets_taken, is_sound_now, none_in_memory, stands_none, still_sound}
 use Rattle.qcow2_alloc.proofs.allocation.Allocator.ensure_block.Goals as goal
 
@@ -52,3 +55,83 @@ returns-else-ends_call-clause-sound g c = λ p sound.
     let before = becomes_then g.S.Storage.view p p c.args.file.now c.load_block.new.file c.take_lowest_below.new.file c.args.self.now c.take_lowest_below.new.self one two in
     gets_then g.S.Storage.view p c.args.file.now c.take_lowest_below.new.file c.cover_range-in-Err.new.file c.take_lowest_below.new.self c.cover_range-in-Err.new.self c.cover_range-in-Err.result before
     (c.cover_range-in-Err.ensures.sound p (is_sound_now g.S.Storage.view p p c.args.file.now c.take_lowest_below.new.file c.take_lowest_below.new.self before))
+
+pub returns-in_err-load_block-clause-hint : goal.returns-in_err-load_block-clause-hint
+returns-in_err-load_block-clause-hint g c = λ p sound hint.
+    handed_on (KeepsHint g.S.Storage.view c.args.self.now c.load_block.new.file) c.from_residual.result c.in_err-load_block.field-0.0 c.from_residual.ensures
+    (hint_refused g.S.Storage.view p c.args.file.now c.load_block.new.file c.args.self.now c.args.self.now c.in_err-load_block.field-0.0 refl (c.in_err-load_block.ensures.sound p sound).1 hint)
+
+pub returns-then-is_some-clause-has : goal.returns-then-is_some-clause-has
+returns-then-is_some-clause-has g c = λ p sound.
+    let l = c.in_ok-load_block.ensures.sound p sound in
+    range_as c.args.self.now.reftable c.args.cluster (2 ^ c.rb_bits-bits.result) (counts_per_block c.args.file.now.header.fields) c.rb_bits-bits.ensures.counts
+    (has_block g.S.Storage.view p c.load_block.new.file c.args.self.now.reftable (c.args.cluster / 2 ^ c.rb_bits-bits.result) c.in_ok-load_block.field-0 l.0.moves.sound l.0.reftable (sym c.is_some.ensures ∙ c.if-is_some.true) l.1)
+
+pub returns-then-is_some-clause-hint : goal.returns-then-is_some-clause-hint
+returns-then-is_some-clause-hint g c = λ p sound hint. hint_stays g.S.Storage.view p c.args.file.now c.load_block.new.file c.args.self.now c.args.self.now (c.in_ok-load_block.ensures.sound p sound).0 refl hint
+
+pub returns-then-not-can_name-clause-hint : goal.returns-then-not-can_name-clause-hint
+returns-then-not-can_name-clause-hint g c = λ p sound hint other. hint_stays g.S.Storage.view p c.args.file.now c.load_block.new.file c.args.self.now c.args.self.now (c.in_ok-load_block.ensures.sound p sound).0 refl hint
+
+pub returns-in-Ok-None-clause-has : goal.returns-in-Ok-None-clause-has
+returns-in-Ok-None-clause-has g c = λ p sound.
+    let one = (c.in_ok-load_block.ensures.sound p sound).0 in
+    let two = rw c.in-Ok-None.field-0-is at (c.in-Ok-None.ensures.sound p (is_sound_now g.S.Storage.view p p c.args.file.now c.load_block.new.file c.args.self.now one)) in
+    ok_as _ _ c.cover_range.result (range_as c.cover_range.new.self.reftable c.args.cluster (2 ^ c.rb_bits-bits.result) (counts_per_block c.args.file.now.header.fields) c.rb_bits-bits.ensures.counts)
+    (c.cover_range.ensures.has p (is_sound_now g.S.Storage.view p p c.load_block.new.file c.take_lowest_below.new.file c.take_lowest_below.new.self two))
+
+pub returns-in-Ok-None-clause-hint : goal.returns-in-Ok-None-clause-hint
+returns-in-Ok-None-clause-hint g c = λ p sound hint.
+    let one = (c.in_ok-load_block.ensures.sound p sound).0 in
+    let now = is_sound_now g.S.Storage.view p p c.args.file.now c.load_block.new.file c.args.self.now one in
+    let two = rw c.in-Ok-None.field-0-is at (c.in-Ok-None.ensures.sound p now) in
+    let still = hint_stays g.S.Storage.view p c.args.file.now c.load_block.new.file c.args.self.now c.args.self.now one refl hint in
+    hint_got g.S.Storage.view p c.take_lowest_below.new.file c.cover_range.new.file c.take_lowest_below.new.self c.cover_range.new.self c.cover_range.result c.cover_range.ensures.first
+    (c.cover_range.ensures.sound p (is_sound_now g.S.Storage.view p p c.load_block.new.file c.take_lowest_below.new.file c.take_lowest_below.new.self two)) (c.in-Ok-None.ensures.hint p now still)
+
+pub returns-else-ends_call-clause-has : goal.returns-else-ends_call-clause-has
+returns-else-ends_call-clause-has g c = λ p sound.
+    let one = (c.in_ok-load_block.ensures.sound p sound).0 in
+    let two = still_sound g.S.Storage.view p c.load_block.new.file c.take_lowest_below.new.file c.take_lowest_below.new.self c.in-Err.refusal (λ fault. absurd (let yes_so = c.ends_call.ensures.ends fault in let none = c.if-ends_call.false in cc))
+    (c.in-Err.ensures.sound p (is_sound_now g.S.Storage.view p p c.args.file.now c.load_block.new.file c.args.self.now one)) in
+    ok_as _ _ c.cover_range-in-Err.result (range_as c.cover_range-in-Err.new.self.reftable c.args.cluster (2 ^ c.rb_bits-bits.result) (counts_per_block c.args.file.now.header.fields) c.rb_bits-bits.ensures.counts)
+    (c.cover_range-in-Err.ensures.has p (is_sound_now g.S.Storage.view p p c.load_block.new.file c.take_lowest_below.new.file c.take_lowest_below.new.self two))
+
+pub returns-else-ends_call-clause-hint : goal.returns-else-ends_call-clause-hint
+returns-else-ends_call-clause-hint g c = λ p sound hint.
+    let one = (c.in_ok-load_block.ensures.sound p sound).0 in
+    let now = is_sound_now g.S.Storage.view p p c.args.file.now c.load_block.new.file c.args.self.now one in
+    let no_fault : IsFault c.in-Err.refusal → ⊥ = λ fault. absurd (let yes_so = c.ends_call.ensures.ends fault in let none = c.if-ends_call.false in cc) in
+    let two = still_sound g.S.Storage.view p c.load_block.new.file c.take_lowest_below.new.file c.take_lowest_below.new.self c.in-Err.refusal no_fault (c.in-Err.ensures.sound p now) in
+    let still = hint_stays g.S.Storage.view p c.args.file.now c.load_block.new.file c.args.self.now c.args.self.now one refl hint in
+    hint_got g.S.Storage.view p c.take_lowest_below.new.file c.cover_range-in-Err.new.file c.take_lowest_below.new.self c.cover_range-in-Err.new.self c.cover_range-in-Err.result c.cover_range-in-Err.ensures.first
+    (c.cover_range-in-Err.ensures.sound p (is_sound_now g.S.Storage.view p p c.load_block.new.file c.take_lowest_below.new.file c.take_lowest_below.new.self two)) (c.in-Err.ensures.hint p now still no_fault)
+
+pub returns-in-Ok-Some-clause-has : goal.returns-in-Ok-Some-clause-has
+returns-in-Ok-Some-clause-has g c = λ p sound.
+    let l = c.in_ok-load_block.ensures.sound p sound in
+    let none = none_in_memory g.S.Storage.view p c.load_block.new.file c.args.self.now.reftable l.0.moves.sound l.0.reftable _ (stands_none g.S.Storage.view c.load_block.new.file _ c.in_ok-load_block.field-0 (sym c.is_some.ensures ∙ c.if-is_some.false) l.1) in
+    let two = rw c.in-Ok-Some.field-0-is at (c.in-Ok-Some.ensures.sound p (is_sound_now g.S.Storage.view p p c.args.file.now c.load_block.new.file c.args.self.now l.0)) in
+    let counts : counts_per_block c.load_block.new.file.header.fields ≡ 2 ^ c.rb_bits-bits.result = ap (λ h. counts_per_block h.fields) c.load_block.ensures.header ∙ c.rb_bits-bits.ensures.counts in
+    let e = ap (λ n. c.args.cluster / 2 ^ c.rb_bits-bits.result * n) counts in
+    let past : c.args.cluster / 2 ^ c.rb_bits-bits.result * 2 ^ c.rb_bits-bits.result % 18446744073709551616 ≤ c.args.cluster / 2 ^ c.rb_bits-bits.result * counts_per_block c.load_block.new.file.header.fields = omega (arith, e) in
+    let still : HasNone c.take_lowest_below.new.self.reftable (c.args.cluster / 2 ^ c.rb_bits-bits.result) = ap block_offset (c.in-Ok-Some.ensures.entries.others (c.args.cluster / 2 ^ c.rb_bits-bits.result) past) ∙ none in
+    let taken = becomes_then g.S.Storage.view p (taken_as false p (one_at c.in-Ok-Some.at)) c.args.file.now c.load_block.new.file c.take_lowest_below.new.file c.args.self.now c.take_lowest_below.new.self l.0 two in
+    ok_as _ _ c.place_block.result (range_as c.place_block.new.self.reftable c.args.cluster (2 ^ c.rb_bits-bits.result) (counts_per_block c.args.file.now.header.fields) c.rb_bits-bits.ensures.counts)
+    (placed_block g.S.Storage.view (taken_as false p (one_at c.in-Ok-Some.at)) p c.take_lowest_below.new.file c.place_block.new.file c.place_block.new.self (c.args.cluster / 2 ^ c.rb_bits-bits.result) c.in-Ok-Some.at c.place_block.result
+    (c.place_block.ensures.sound p (is_sound_now g.S.Storage.view p (taken_as false p (one_at c.in-Ok-Some.at)) c.args.file.now c.take_lowest_below.new.file c.take_lowest_below.new.self taken) (record { none = still; first = tt })))
+
+pub returns-in-Ok-Some-clause-hint : goal.returns-in-Ok-Some-clause-hint
+returns-in-Ok-Some-clause-hint g c = λ p sound hint.
+    let l = c.in_ok-load_block.ensures.sound p sound in
+    let none = none_in_memory g.S.Storage.view p c.load_block.new.file c.args.self.now.reftable l.0.moves.sound l.0.reftable _ (stands_none g.S.Storage.view c.load_block.new.file _ c.in_ok-load_block.field-0 (sym c.is_some.ensures ∙ c.if-is_some.false) l.1) in
+    let two = rw c.in-Ok-Some.field-0-is at (c.in-Ok-Some.ensures.sound p (is_sound_now g.S.Storage.view p p c.args.file.now c.load_block.new.file c.args.self.now l.0)) in
+    let counts : counts_per_block c.load_block.new.file.header.fields ≡ 2 ^ c.rb_bits-bits.result = ap (λ h. counts_per_block h.fields) c.load_block.ensures.header ∙ c.rb_bits-bits.ensures.counts in
+    let e = ap (λ n. c.args.cluster / 2 ^ c.rb_bits-bits.result * n) counts in
+    let past : c.args.cluster / 2 ^ c.rb_bits-bits.result * 2 ^ c.rb_bits-bits.result % 18446744073709551616 ≤ c.args.cluster / 2 ^ c.rb_bits-bits.result * counts_per_block c.load_block.new.file.header.fields = omega (arith, e) in
+    let still : HasNone c.take_lowest_below.new.self.reftable (c.args.cluster / 2 ^ c.rb_bits-bits.result) = ap block_offset (c.in-Ok-Some.ensures.entries.others (c.args.cluster / 2 ^ c.rb_bits-bits.result) past) ∙ none in
+    let taken = becomes_then g.S.Storage.view p (taken_as false p (one_at c.in-Ok-Some.at)) c.args.file.now c.load_block.new.file c.take_lowest_below.new.file c.args.self.now c.take_lowest_below.new.self l.0 two in
+    let here = hint_stays g.S.Storage.view p c.args.file.now c.load_block.new.file c.args.self.now c.args.self.now l.0 refl hint in
+    hint_placed g.S.Storage.view p c.take_lowest_below.new.file c.place_block.new.file c.take_lowest_below.new.self c.place_block.new.self (c.args.cluster / 2 ^ c.rb_bits-bits.result) c.in-Ok-Some.at c.place_block.result c.place_block.ensures.first
+    (c.place_block.ensures.sound p (is_sound_now g.S.Storage.view p (taken_as false p (one_at c.in-Ok-Some.at)) c.args.file.now c.take_lowest_below.new.file c.take_lowest_below.new.self taken) (record { none = still; first = tt }))
+    (c.in-Ok-Some.ensures.hint p (is_sound_now g.S.Storage.view p p c.args.file.now c.load_block.new.file c.args.self.now l.0) here)

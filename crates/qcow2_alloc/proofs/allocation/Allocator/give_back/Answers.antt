@@ -1,11 +1,12 @@
 use Rattle.std.proofs.Common.{◌≡◌, ◌+◌, ◌-◌, ◌<◌, inr, refl, sym, ◌∙◌, subst, arith}
 use Rattle.qcow2_laws.specs.Changes.{one_at}
 use Rattle.qcow2_laws.specs.Guard.{Pending}
-use Rattle.qcow2_alloc.specs.Allocation.{run_at, taken_as, Becomes, GivesBack}
-use Rattle.qcow2_alloc.specs.ImageFile.{Moves}
+use Rattle.qcow2_alloc.specs.Allocation.{run_at, taken_as, Taken, Becomes, GivesBack}
+use Rattle.qcow2_alloc.specs.ImageFile.{IsSoundWith, Moves}
 use Rattle.qcow2_alloc.proofs.CacheMarks.{marks_none, marks_then}
 use Rattle.qcow2_alloc.proofs.FileSteps.{moves_then, breaks_after}
-use Rattle.qcow2_alloc.proofs.AllocationSteps.{handed_on}
+use Rattle.qcow2_alloc.proofs.AllocationSteps.{handed_on, is_sound_now}
+use Rattle.qcow2_alloc.proofs.Hints.{not_in_run, taken_pending, used_stays}
 use Rattle.qcow2_alloc.proofs.Runs.{taken_first, taken_none, held_more}
 use Rattle.qcow2_alloc.proofs.allocation.Allocator.give_back.Goals as goal
 
@@ -23,6 +24,10 @@ lowering-init g c = record {
       let whole : c.args.n ≡ c.args.first + c.args.n - c.args.first = omega arith in
       let moves = subst (λ m. Moves g.S.Storage.view p (taken_as d p (run_at c.args.first m)) start c.args.file.now) whole b.moves in
       record { moves = moves; reftable = b.reftable };
+  hint = λ p d sound hint. hint;
+  kept = λ p d sound.
+      let whole : c.args.n ≡ c.args.first + c.args.n - c.args.first = omega arith in
+      (subst (λ m. IsSoundWith g.S.Storage.view c.args.self.now (taken_as d p (run_at c.args.first m)) c.args.file.now) whole sound, λ k none used. used);
 }
 
 pub returns-in_err-lower-clause-sound : goal.returns-in_err-lower-clause-sound
@@ -31,7 +36,7 @@ returns-in_err-lower-clause-sound g c = λ p d start b noted.
     let q : Pending = (taken_as d p (run_at (c.lowering.cluster + 1) ((c.args.first + c.args.n) - (c.lowering.cluster + 1)))) in
     let same = taken_first d p c.lowering.cluster (c.args.first + c.args.n) c.lowering-test.true in
     let moved = subst (λ (r : Pending). Moves g.S.Storage.view p r start c.lowering.file) (sym same) one.moves in
-    let low = c.in_err-lower.ensures.sound q d (record { sound = moved.sound; reftable = one.reftable }) in
+    let low = c.in_err-lower.ensures.sound q (Taken d) (record { sound = moved.sound; reftable = one.reftable }) tt in
     handed_on (GivesBack g.S.Storage.view p start c.lower.new.self c.lower.new.file p) c.from_residual.result c.in_err-lower.field-0.0 c.from_residual.ensures (
       low.0,
       inr (breaks_after g.S.Storage.view p (taken_as d q (one_at c.lowering.cluster)) start c.lowering.file c.lower.new.file c.lower.new.self c.in_err-lower.field-0.0 moved low.0
@@ -50,15 +55,37 @@ lowering-preserved g c = record {
       let q : Pending = (taken_as d p (run_at (c.lowering.cluster + 1) ((c.args.first + c.args.n) - (c.lowering.cluster + 1)))) in
       let same = taken_first d p c.lowering.cluster (c.args.first + c.args.n) c.lowering-test.true in
       let moved = subst (λ (r : Pending). Moves g.S.Storage.view p r start c.lowering.file) (sym same) one.moves in
-      let low = c.in_ok-lower.ensures.sound q d (record { sound = moved.sound; reftable = one.reftable }) in
+      let low = c.in_ok-lower.ensures.sound q (Taken d) (record { sound = moved.sound; reftable = one.reftable }) tt in
       record {
         moves = moves_then g.S.Storage.view p (taken_as d q (one_at c.lowering.cluster)) q start c.lowering.file c.lower.new.file
             (λ k some. subst (λ (r : Pending). 0 < r.held k) (sym same) (held_more d p (run_at c.lowering.cluster ((c.args.first + c.args.n) - c.lowering.cluster)) k some)) moved low.moves;
         reftable = low.reftable;
       };
+  hint = λ p d sound hint.
+      let one = c.lowering.invariant.kept p d sound in
+      let q : Pending = (taken_as d p (run_at (c.lowering.cluster + 1) ((c.args.first + c.args.n) - (c.lowering.cluster + 1)))) in
+      let same = taken_first d p c.lowering.cluster (c.args.first + c.args.n) c.lowering-test.true in
+      c.in_ok-lower.ensures.hint q (Taken d) (subst (λ (r : Pending). IsSoundWith g.S.Storage.view c.lowering.self r c.lowering.file) (sym same) one.0) tt (c.lowering.invariant.hint p d sound hint);
+  kept = λ p d sound.
+      let one = c.lowering.invariant.kept p d sound in
+      let q : Pending = (taken_as d p (run_at (c.lowering.cluster + 1) ((c.args.first + c.args.n) - (c.lowering.cluster + 1)))) in
+      let same = taken_first d p c.lowering.cluster (c.args.first + c.args.n) c.lowering-test.true in
+      let low = c.in_ok-lower.ensures.sound q (Taken d) (subst (λ (r : Pending). IsSoundWith g.S.Storage.view c.lowering.self r c.lowering.file) (sym same) one.0) tt in (
+        is_sound_now g.S.Storage.view (taken_as d q (one_at c.lowering.cluster)) q c.lowering.file c.lower.new.file c.lower.new.self low,
+        λ k none used.
+            let other = not_in_run c.args.first c.args.n c.lowering.cluster k c.lowering.auto.cluster c.lowering-test.true none in
+            let pending = taken_pending d q (one_at c.lowering.cluster) k in
+            used_stays g.S.Storage.view (taken_as d q (one_at c.lowering.cluster)) q c.lowering.file c.lower.new.file c.lower.new.self k low (omega (arith, other, pending)) (one.1 k none used),
+      );
 }
 
 pub returns-clause-sound : goal.returns-clause-sound
 returns-clause-sound g c = λ p d start b noted.
     subst (λ (r : Pending). Becomes g.S.Storage.view p start c.lowering.self c.lowering.file r)
     (taken_none d p c.lowering.cluster ((c.args.first + c.args.n) - c.lowering.cluster) (let past = c.lowering-test.false in omega arith)) (c.lowering.invariant.sound p d start b)
+
+pub returns-clause-hint : goal.returns-clause-hint
+returns-clause-hint g c = λ p d sound hint. c.lowering.invariant.hint p d sound hint
+
+pub returns-clause-kept : goal.returns-clause-kept
+returns-clause-kept g c = λ p d sound. (c.lowering.invariant.kept p d sound).1

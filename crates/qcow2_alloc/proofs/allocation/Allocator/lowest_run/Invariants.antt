@@ -1,9 +1,10 @@
-use Rattle.std.proofs.Common.{◌≡◌, ◌+◌, ◌-◌, ◌/◌, ◌^◌, ◌≤◌}
+use Rattle.std.proofs.Common.{◌≡◌, ◌+◌, ◌-◌, ◌/◌, ◌^◌, ◌<◌, ◌≤◌, Bool}
 use Rattle.qcow2_metadata.specs.L2Mapping.{greatest_offset}
 use Rattle.qcow2_laws.specs.Guard.{Pending}
-use Rattle.qcow2_alloc.specs.Allocation.{Becomes}
+use Rattle.qcow2_alloc.specs.Allocation.{Becomes, MayTake}
 use Rattle.qcow2_alloc.specs.CacheMarks.{KeepsMarks}
 use Rattle.qcow2_alloc.specs.ImageFile.{IsSoundWith}
+use Rattle.qcow2_alloc.specs.LowestRuns.{HasHint, IsLowestRun}
 use Rattle.qcow2_alloc.specs.MetadataCaches.{order_of}
 use Rattle.qcow2_alloc.proofs.allocation.Allocator.lowest_run.Given as goal
 
@@ -17,6 +18,8 @@ invariant-search g l = record {
   marks : KeepsMarks l.fn.file.caches l.file.caches;
   order : order_of l.file.caches ≡ order_of l.fn.file.caches;
   sound : (p : Pending) → IsSoundWith g.S.Storage.view l.fn.self p l.fn.file → Becomes g.S.Storage.view p l.fn.file l.self l.file p;
+  hint : (p : Pending) (d : Bool) → IsSoundWith g.S.Storage.view l.fn.self p l.fn.file → MayTake d l.fn.file → HasHint g.S.Storage.view l.fn.self l.fn.file → HasHint g.S.Storage.view l.self l.file;
+  lowest : (p : Pending) (d : Bool) → IsSoundWith g.S.Storage.view l.fn.self p l.fn.file → MayTake d l.fn.file → HasHint g.S.Storage.view l.fn.self l.fn.file → 0 < l.fn.n → IsLowestRun g.S.Storage.view l.file l.first l.fn.n;
 }
 
 abbrev pub decreases-search : goal.decreases-search

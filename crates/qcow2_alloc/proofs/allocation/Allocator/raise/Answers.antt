@@ -1,14 +1,22 @@
-use Rattle.std.proofs.Common.{◌≡◌, ◌==◌, ◌%◌, ◌^◌, true, false, Ok, refl, sym, ap, ◌∙◌, arith}
+use Rattle.std.proofs.Common.{◌≡◌, ℕ, Bool, ◌==◌, ◌/◌, ◌%◌, ◌^◌, true, false, Ok, refl, sym, ap, ◌∙◌, subst, arith}
 use Rattle.std.proofs.lemmas.Bool.Decides.{nat_tests}
-use Rattle.qcow2_metadata.specs.Entries.{count}
+use Rattle.qcow2_metadata.specs.Entries.{block_offset, count}
+use Rattle.qcow2_metadata.specs.TableBytes.{entry_at}
 use Rattle.qcow2_alloc.specs.Allocation.{TakesOne}
 use Rattle.qcow2_alloc.specs.ImageFile.{known_in, contents_in}
-use Rattle.qcow2_alloc.proofs.AllocationSteps.{handed_on, of_equal, counted_at, taken_one}
+use Rattle.qcow2_alloc.proofs.AllocationSteps.{handed_on, of_equal, counted_at, none_in_memory, taken_one}
+use Rattle.qcow2_alloc.specs.LowestRuns.{IsUsed}
 use Rattle.qcow2_alloc.proofs.allocation.Allocator.raise.Goals.{then-rb_is_zero, else-rb_is_zero}
 use Rattle.qcow2_alloc.proofs.allocation.Allocator.raise.Goals as goal
 
 zero_of : (n : _) → (n == 0) ≡ true → n ≡ 0
 zero_of n h = grind (arith, nat_tests)
+
+is_zero : (n : ℕ) → n ≡ 0 → (n == 0) ≡ true
+is_zero n h = grind (arith, nat_tests)
+
+not_both : (b : Bool) → b ≡ true → b ≡ false → ⊥
+not_both b yes_so no_so = let bad : true ≡ false = sym yes_so ∙ no_so in cc
 
 pub returns-in_err-block-clause-sound : goal.returns-in_err-block-clause-sound
 returns-in_err-block-clause-sound g c = λ p is_data sound may.
@@ -31,4 +39,25 @@ returns-clause-sound g c = λ p is_data sound may.
           (taken_one g.S.Storage.view p c.args.file.now c.load_block.new.file c.args.self.now l.0 c.args.cluster c.in-Some.block c.rb_index-index.result at w.rb_increment.new.self w.rb_increment.ensures.order w.rb_increment.ensures.marks
           is_data may c.load_block.ensures.order zero (w.rb_increment.ensures.counted raised))
       | else-rb_is_zero w ↦ of_equal (λ f r. TakesOne g.S.Storage.view p c.args.file.now c.args.self.now f is_data c.args.cluster (Ok r)) c.if-rb_is_zero.file c.load_block.new.file c.if-rb_is_zero.result false w.file-is (w.result-is ∙ w.if-rb_is_zero.false) l.0
+    ]
+
+pub returns-in_default-clause-used : goal.returns-in_default-clause-used
+returns-in_default-clause-used g c = λ p sound has none.
+    let l = rw c.in_default.is at (c.in_ok-block.ensures.sound p sound) in
+    absurd (has (ap (λ n. block_offset (entry_at c.args.self.now.reftable.bytes (c.args.cluster / n))) c.rb_bits-bits.ensures.counts
+    ∙ none_in_memory g.S.Storage.view p c.load_block.new.file c.args.self.now.reftable l.0.moves.sound l.0.reftable (c.args.cluster / 2 ^ c.rb_bits-bits.result) l.1))
+
+pub returns-clause-used : goal.returns-clause-used
+returns-clause-used g c = λ p sound has none.
+    let l = rw c.in-Some.is at (c.in_ok-block.ensures.sound p sound) in
+    let at = counted_at g.S.Storage.view c.load_block.new.file c.args.file.now.header.fields (ap (λ x. x.fields) c.load_block.ensures.header) c.args.cluster _ c.in-Some.block c.rb_index-index.result c.rb_bits-bits.result l.1 c.rb_bits-bits.ensures.counts refl (c.rb_index-index.ensures.value ∙ ap (λ n. n % 2 ^ c.rb_bits-bits.result) c.new.ensures) in
+    let tells = c.rb_is_zero.ensures c.load_block.new.file.header.fields p (contents_in g.S.Storage.view c.load_block.new.file) c.args.cluster l.0.moves.sound.caches at l.1.2 in
+    elim c.if-rb_is_zero.branch [
+      | then-rb_is_zero w ↦
+          let zero = zero_of (count c.load_block.new.file.header.fields (known_in g.S.Storage.view c.load_block.new.file) c.args.cluster) (sym tells ∙ w.if-rb_is_zero.true) in
+          let raised = w.rb_increment.ensures.made c.load_block.new.file.header.fields p (contents_in g.S.Storage.view c.load_block.new.file) c.args.cluster l.0.moves.sound.caches at l.1.2 zero in
+          absurd (not_both c.if-rb_is_zero.result (w.result-is ∙ raised) none)
+      | else-rb_is_zero w ↦
+          subst (λ f. IsUsed g.S.Storage.view f c.args.cluster) (sym w.file-is)
+          (λ zero. not_both c.rb_is_zero.result (tells ∙ is_zero (count c.load_block.new.file.header.fields (known_in g.S.Storage.view c.load_block.new.file) c.args.cluster) zero) w.if-rb_is_zero.false)
     ]

@@ -1,10 +1,12 @@
-use Rattle.std.proofs.Common.{ℕ, ◌*◌, ◌^◌, ◌≤◌, false, refl, sym, ◌∙◌, subst}
+use Rattle.std.proofs.Common.{ℕ, ap, ◌+◌, ◌<◌, arith, ◌*◌, ◌^◌, ◌≤◌, false, refl, sym, ◌∙◌, subst}
 use Rattle.qcow2_metadata.specs.Header.{counts_per_block}
 use Rattle.qcow2_laws.specs.Changes.{one_at}
 use Rattle.qcow2_alloc.specs.Allocation.{taken_as, KeepsEntries, TakesLowest}
 use Rattle.qcow2_alloc.specs.declared.allocation.Allocator.{Allocator}
 use Rattle.qcow2_alloc.proofs.CacheMarks.{marks_then}
-use Rattle.qcow2_alloc.proofs.FileSteps.{leaves_then}
+use Rattle.qcow2_alloc.specs.LowestRuns.{KeepsHint}
+use Rattle.qcow2_alloc.proofs.FileSteps.{one_here, leaves_then}
+use Rattle.qcow2_alloc.proofs.Hints.{hint_stays, hint_taken, hint_more, hint_refused, range_as, taken_used}
 use Rattle.qcow2_alloc.proofs.AllocationSteps.{handed_on, entries_then, entries_less, other_range, becomes_as, becomes_then, is_sound_now}
 use Rattle.qcow2_alloc.proofs.allocation.Allocator.take_lowest_below.Goals as goal
 
@@ -46,4 +48,43 @@ search-preserved g c = record {
       let taken = rw c.if-taken.false at (c.in_ok-taken.ensures.sound p false (is_sound_now g.S.Storage.view p p c.args.file.now c.cover_range.new.file c.cover_range.new.self covered) tt) in
       becomes_as g.S.Storage.view p p c.args.file.now c.raise.new.file c.raise.new.self _ refl
       (becomes_then g.S.Storage.view p p c.args.file.now c.cover_range.new.file c.raise.new.file c.cover_range.new.self c.raise.new.self covered taken);
+  hint = λ p sound hint.
+      let now = is_sound_now g.S.Storage.view p p c.args.file.now c.search.file c.search.self (c.search.invariant.sound p sound) in
+      let covered = c.in_ok-cover_range.ensures.sound p now in
+      let is_covered = is_sound_now g.S.Storage.view p p c.search.file c.cover_range.new.file c.cover_range.new.self covered in
+      let one = hint_stays g.S.Storage.view p c.search.file c.cover_range.new.file c.search.self c.cover_range.new.self covered c.cover_range.ensures.first (c.search.invariant.hint p sound hint) in
+      let taken = rw c.if-taken.false at (c.in_ok-taken.ensures.sound p false is_covered tt) in
+      let two = hint_stays g.S.Storage.view p c.cover_range.new.file c.raise.new.file c.cover_range.new.self c.raise.new.self taken (ap (λ (t : Allocator). t.first_free_cluster) c.raise.ensures.same) one in
+      let used = c.in_ok-taken.ensures.used p is_covered (range_as c.cover_range.new.self.reftable c.search.self.first_free_cluster (2 ^ c.rb_bits-bits.result) (counts_per_block c.cover_range.new.file.header.fields)
+      (ap (λ h. counts_per_block h.fields) (c.cover_range.ensures.header ∙ c.search.invariant.header) ∙ c.rb_bits-bits.ensures.counts) (c.in_ok-cover_range.ensures.has p now)) c.if-taken.false in
+      hint_more g.S.Storage.view c.raise.new.file c.raise.new.self (record c.raise.new.self { first_free_cluster = c.search.self.first_free_cluster + 1 }) c.search.self.first_free_cluster two (ap (λ (t : Allocator). t.first_free_cluster) c.raise.ensures.same ∙ c.cover_range.ensures.first) refl used;
 }
+
+pub returns-in_err-cover_range-clause-hint : goal.returns-in_err-cover_range-clause-hint
+returns-in_err-cover_range-clause-hint g c = λ p sound hint.
+    let now = is_sound_now g.S.Storage.view p p c.args.file.now c.search.file c.search.self (c.search.invariant.sound p sound) in
+    handed_on (KeepsHint g.S.Storage.view c.cover_range.new.self c.cover_range.new.file) c.from_residual.result c.in_err-cover_range.field-0.0 c.from_residual.ensures
+    (hint_refused g.S.Storage.view p c.search.file c.cover_range.new.file c.search.self c.cover_range.new.self c.in_err-cover_range.field-0.0 c.cover_range.ensures.first (c.in_err-cover_range.ensures.sound p now) (c.search.invariant.hint p sound hint))
+
+pub returns-in_err-taken-clause-hint : goal.returns-in_err-taken-clause-hint
+returns-in_err-taken-clause-hint g c = λ p sound hint.
+    let now = is_sound_now g.S.Storage.view p p c.args.file.now c.search.file c.search.self (c.search.invariant.sound p sound) in
+    let covered = c.in_ok-cover_range.ensures.sound p now in
+    let one = hint_stays g.S.Storage.view p c.search.file c.cover_range.new.file c.search.self c.cover_range.new.self covered c.cover_range.ensures.first (c.search.invariant.hint p sound hint) in
+    handed_on (KeepsHint g.S.Storage.view c.raise.new.self c.raise.new.file) c.from_residual-in_err-taken.result c.in_err-taken.field-0.0 c.from_residual-in_err-taken.ensures
+    (hint_refused g.S.Storage.view p c.cover_range.new.file c.raise.new.file c.cover_range.new.self c.raise.new.self c.in_err-taken.field-0.0 (ap (λ (t : Allocator). t.first_free_cluster) c.raise.ensures.same)
+    (c.in_err-taken.ensures.sound p false (is_sound_now g.S.Storage.view p p c.search.file c.cover_range.new.file c.cover_range.new.self covered) tt) one)
+
+pub returns-then-taken-clause-hint : goal.returns-then-taken-clause-hint
+returns-then-taken-clause-hint g c = λ p sound hint.
+    let now = is_sound_now g.S.Storage.view p p c.args.file.now c.search.file c.search.self (c.search.invariant.sound p sound) in
+    let covered = c.in_ok-cover_range.ensures.sound p now in
+    let one = hint_stays g.S.Storage.view p c.search.file c.cover_range.new.file c.search.self c.cover_range.new.self covered c.cover_range.ensures.first (c.search.invariant.hint p sound hint) in
+    let taken = rw c.if-taken.true at (c.in_ok-taken.ensures.sound p false (is_sound_now g.S.Storage.view p p c.search.file c.cover_range.new.file c.cover_range.new.self covered) tt) in
+    let cluster = c.search.self.first_free_cluster in
+    let two = hint_taken g.S.Storage.view p false (one_at cluster) c.cover_range.new.file c.raise.new.file c.cover_range.new.self c.raise.new.self taken (ap (λ (t : Allocator). t.first_free_cluster) c.raise.ensures.same) one in
+    hint_more g.S.Storage.view c.raise.new.file c.raise.new.self (record c.raise.new.self { first_free_cluster = cluster + 1 }) cluster two (ap (λ (t : Allocator). t.first_free_cluster) c.raise.ensures.same ∙ c.cover_range.ensures.first) refl
+    (taken_used g.S.Storage.view p false (one_at cluster) c.cover_range.new.file c.raise.new.file c.raise.new.self cluster taken (let own = one_here cluster in omega (arith, own)))
+
+pub returns-clause-hint : goal.returns-clause-hint
+returns-clause-hint g c = λ p sound hint. c.search.invariant.hint p sound hint

@@ -10,7 +10,8 @@ use Rattle.qcow2_alloc.specs.ImageFile.{IsFault, LeavesSound}
 use Rattle.qcow2_alloc.proofs.CacheMarks.{marks_none, marks_then}
 use Rattle.qcow2_alloc.proofs.FileSteps.{leaves_then, breaks_after}
 use Rattle.qcow2_alloc.proofs.AllocationSteps.{handed_on, of_equal, may_still, becomes_none, becomes_more, is_sound_now, still_sound}
-use Rattle.qcow2_alloc.proofs.Runs.{taken_last, taken_none}
+use Rattle.qcow2_alloc.specs.LowestRuns.{HasHint, KeepsHint}
+use Rattle.qcow2_alloc.proofs.Runs.{run_after, taken_last, taken_none}
 use Rattle.qcow2_alloc.proofs.allocation.Allocator.take_run.Goals.{then-not-ends_call+in_ok-give_back-in-Err, else-not-ends_call}
 use Rattle.qcow2_alloc.proofs.allocation.Allocator.take_run.Goals as goal
 
@@ -31,6 +32,7 @@ taking-init g c = record {
   marks = marks_none c.args.file.now.caches;
   order = refl;
   noted = λ some. absurd (omega (arith, some));
+  hint = λ p d sound may hint. hint;
   sound = λ p d sound may. subst (λ (r : Pending). Becomes g.S.Storage.view p c.args.file.now c.args.self.now c.args.file.now r) (sym (taken_none d p c.args.first 0 refl)) (becomes_none g.S.Storage.view p c.args.file.now c.args.self.now sound);
 }
 
@@ -89,6 +91,10 @@ taking-preserved g c = record {
       let two = rw c.in-Ok-true.field-0-test at (c.in-Ok-true.ensures.sound q d (is_sound_now g.S.Storage.view p q c.args.file.now c.taking.file c.taking.self before) (may_still d c.args.file.now c.taking.file c.taking.invariant.order may)) in
       becomes_more g.S.Storage.view d p (run_at c.args.first c.taking.taken) (taken_as d p (run_at c.args.first (c.taking.taken + 1))) c.args.file.now c.taking.file c.take.new.file c.taking.self c.take.new.self before
       (subst (λ (r : Pending). Becomes g.S.Storage.view q c.taking.file c.take.new.self c.take.new.file r) (taken_last d p c.args.first c.taking.taken) two);
+  hint = λ p d sound may hint.
+      let q : Pending = taken_as d p (run_at c.args.first c.taking.taken) in
+      (c.in-Ok-true.ensures.hint q d (is_sound_now g.S.Storage.view p q c.args.file.now c.taking.file c.taking.self (c.taking.invariant.sound p d sound may))
+      (may_still d c.args.file.now c.taking.file c.taking.invariant.order may) (c.taking.invariant.hint p d sound may hint));
 }
 
 pub returns-clause-sound : goal.returns-clause-sound
@@ -97,3 +103,60 @@ returns-clause-sound g c = λ p d sound may.
       (λ _. subst (λ n. Becomes g.S.Storage.view p c.args.file.now c.taking.self c.taking.file (taken_as d p (run_at c.args.first n))) all (c.taking.invariant.sound p d sound may)),
       (λ other. absurd (other refl)),
     )
+
+-- giving back is refused by a fault alone
+pub returns-in_err-give_back-in-Ok-false-clause-hint : goal.returns-in_err-give_back-in-Ok-false-clause-hint
+returns-in_err-give_back-in-Ok-false-clause-hint g c = λ p d sound may hint.
+    let before = c.taking.invariant.sound p d sound may in
+    let q : Pending = taken_as d p (run_at c.args.first c.taking.taken) in
+    let now = is_sound_now g.S.Storage.view p q c.args.file.now c.taking.file c.taking.self before in
+    let may_now = may_still d c.args.file.now c.taking.file c.taking.invariant.order may in
+    let two = rw c.in-Ok-false.field-0-test at (c.in-Ok-false.ensures.sound q d now may_now) in
+    let back = (c.in_err-give_back-in-Ok-false.ensures.sound p d c.args.file.now (becomes_more g.S.Storage.view d p (run_at c.args.first c.taking.taken) q c.args.file.now c.taking.file c.take.new.file c.taking.self c.take.new.self before two) (λ some. c.take.ensures.marks.changed (c.taking.invariant.noted some))) in
+    handed_on (KeepsHint g.S.Storage.view c.give_back.new.self c.give_back.new.file) c.from_residual.result c.in_err-give_back-in-Ok-false.field-0.0 c.from_residual.ensures (λ other. absurd (other back.0))
+
+pub returns-in-Ok-false-clause-used : goal.returns-in-Ok-false-clause-used
+returns-in-Ok-false-clause-used g c = λ p d sound may.
+    let before = c.taking.invariant.sound p d sound may in
+    let q : Pending = taken_as d p (run_at c.args.first c.taking.taken) in
+    let now = is_sound_now g.S.Storage.view p q c.args.file.now c.taking.file c.taking.self before in
+    let may_now = may_still d c.args.file.now c.taking.file c.taking.invariant.order may in
+    let two = rw c.in-Ok-false.field-0-test at (c.in-Ok-false.ensures.sound q d now may_now) in
+    let used = c.in-Ok-false.ensures.used q d now may_now c.in-Ok-false.field-0-test in
+    λ _. c.in_ok-give_back-in-Ok-false.ensures.kept p d (is_sound_now g.S.Storage.view q q c.taking.file c.take.new.file c.take.new.self two) (c.args.first + c.taking.taken)
+    (run_after c.args.first c.taking.taken (c.args.first + c.taking.taken) (omega arith)) used
+
+pub returns-in-Ok-false-clause-hint : goal.returns-in-Ok-false-clause-hint
+returns-in-Ok-false-clause-hint g c = λ p d sound may hint.
+    let before = c.taking.invariant.sound p d sound may in
+    let q : Pending = taken_as d p (run_at c.args.first c.taking.taken) in
+    let now = is_sound_now g.S.Storage.view p q c.args.file.now c.taking.file c.taking.self before in
+    let may_now = may_still d c.args.file.now c.taking.file c.taking.invariant.order may in
+    let two = rw c.in-Ok-false.field-0-test at (c.in-Ok-false.ensures.sound q d now may_now) in
+    let taken = c.in-Ok-false.ensures.hint q d now may_now (c.taking.invariant.hint p d sound may hint) in
+    c.in_ok-give_back-in-Ok-false.ensures.hint p d (is_sound_now g.S.Storage.view q q c.taking.file c.take.new.file c.take.new.self two) taken
+
+pub returns-in_err-give_back-in-Err-clause-hint : goal.returns-in_err-give_back-in-Err-clause-hint
+returns-in_err-give_back-in-Err-clause-hint g c = λ p d sound may hint.
+    let before = c.taking.invariant.sound p d sound may in
+    let q : Pending = taken_as d p (run_at c.args.first c.taking.taken) in
+    let now = is_sound_now g.S.Storage.view p q c.args.file.now c.taking.file c.taking.self before in
+    let may_now = may_still d c.args.file.now c.taking.file c.taking.invariant.order may in
+    let two = still_sound g.S.Storage.view q c.taking.file c.take.new.file c.take.new.self c.in-Err.refusal (λ fault. absurd (let yes_so = c.ends_call.ensures.ends fault in let none = c.if-not-ends_call.true in cc)) (c.in-Err.ensures.sound q d now may_now) in
+    let back = (c.in_err-give_back-in-Err.ensures.sound p d c.args.file.now (becomes_more g.S.Storage.view d p (run_at c.args.first c.taking.taken) q c.args.file.now c.taking.file c.take.new.file c.taking.self c.take.new.self before two) (λ some. c.take.ensures.marks.changed (c.taking.invariant.noted some))) in
+    handed_on (KeepsHint g.S.Storage.view c.give_back-then-not-ends_call.new.self c.give_back-then-not-ends_call.new.file) c.from_residual-in_err-give_back-in-Err.result c.in_err-give_back-in-Err.field-0.0 c.from_residual-in_err-give_back-in-Err.ensures (λ other. absurd (other back.0))
+
+pub returns-in-Err-clause-hint : goal.returns-in-Err-clause-hint
+returns-in-Err-clause-hint g c = λ p d sound may hint other.
+    let before = c.taking.invariant.sound p d sound may in
+    let q : Pending = taken_as d p (run_at c.args.first c.taking.taken) in
+    let now = is_sound_now g.S.Storage.view p q c.args.file.now c.taking.file c.taking.self before in
+    let may_now = may_still d c.args.file.now c.taking.file c.taking.invariant.order may in
+    let two = still_sound g.S.Storage.view q c.taking.file c.take.new.file c.take.new.self c.in-Err.refusal other (c.in-Err.ensures.sound q d now may_now) in
+    let taken = c.in-Err.ensures.hint q d now may_now (c.taking.invariant.hint p d sound may hint) other in
+    elim c.if-not-ends_call.branch [
+      | then-not-ends_call+in_ok-give_back-in-Err w ↦
+          of_equal (λ t f. HasHint g.S.Storage.view t f) c.if-not-ends_call.self w.give_back-then-not-ends_call.new.self c.if-not-ends_call.file w.give_back-then-not-ends_call.new.file w.self-is w.file-is
+          (w.in_ok-give_back-in-Err.ensures.hint p d (is_sound_now g.S.Storage.view q q c.taking.file c.take.new.file c.take.new.self two) taken)
+      | else-not-ends_call w ↦ absurd (other (c.ends_call.ensures.fault w.if-not-ends_call.false))
+    ]

@@ -1,4 +1,4 @@
-use Rattle.std.proofs.Common.{true, false, inr, Some, Ok, refl, sym, ap, ◌∙◌, ◌+◌, ◌*◌}
+use Rattle.std.proofs.Common.{true, false, inr, Some, Ok, refl, sym, ap, ◌∙◌, subst, ◌+◌, ◌*◌}
 use Rattle.qcow2_alloc.proofs.KeptTables.Inserting.{table_put, l2_taken, taken_at_last, if_some}
 use Rattle.qcow2_metadata.specs.Header.{cluster_size}
 use Rattle.qcow2_alloc.proofs.KeptTables.Turning.{stay_then}
@@ -10,6 +10,10 @@ use Rattle.qcow2_alloc.specs.ImageStorage.{storage_of}
 use Rattle.qcow2_alloc.specs.CacheMarks.{IsInUseOrFault}
 use Rattle.qcow2_alloc.specs.AsyncLruCache.{with_entries}
 use Rattle.qcow2_alloc.specs.TableCaches.{l2_steps}
+use Rattle.qcow2_laws.specs.Caches.{BlocksMayGo}
+use Rattle.qcow2_laws.specs.Clusters.{Direction}
+use Rattle.qcow2_alloc.specs.MetadataCaches.{order_of, l2_tables}
+use Rattle.qcow2_alloc.proofs.KeptTables.Clean.{blocks_go, tables_as, table_put_clean}
 use Rattle.qcow2_alloc.proofs.cache.MetadataCaches.l2_insert.Goals as goal
 
 pub returns-in_err-insert-clause-keeps : goal.returns-in_err-insert-clause-keeps
@@ -84,3 +88,43 @@ returns-in_err-insert-2-clause-refusals g c = λ h p honest sound settled fits c
     let same = c.insert.ensures.others ∙ ap (with_entries c.args.self.now.l2) (not_put (l2_steps (λ s. g.S.Storage.view (storage_of s)) c.args.self.now.l2.backend.header.fields) c.args.self.now.l2.size false c.in-Some.cluster c.args.storage.now c.insert.new.store c.args.self.now.l2.entries c.insert.new.self.entries c.insert.result (c.in_ok-insert.was ∙ ap Ok c.if-branch.false) c.args.table (Some c.args.table) c.insert.new.value refl c.insert.ensures.there c.insert.ensures.missing) in
     given_err c.from_residual-in_err-insert-2.result (of_cache c.in_err-insert-2.field-0.0) (IsInUseOrFault c.args.self.now) c.from_residual-in_err-insert-2.ensures
     (in_use_as c.args.self.now c.before_l2.new.self (of_cache c.in_err-insert-2.field-0.0) (c.before_l2.ensures.tables ∙ same) (table_put_refused g.S.Storage.view c.before_l2.new.storage c.insert-2.new.store c.before_l2.new.self h p (byte_at (g.S.Storage.view (storage_of c.before_l2.new.storage)).contents) two.sound true c.in-Some.cluster c.insert-2.result c.in_err-insert-2.field-0.0 c.in_err-insert-2.was c.insert-2.new.self c.args.table c.insert.new.value c.insert-2.new.value ((l2_taken g.S.Storage.view c.args.storage.now c.insert.new.store c.args.self.now false c.in-Some.cluster c.insert.new.self c.insert.ensures.others c.args.table (Some c.args.table) c.insert.new.value refl c.insert.result c.insert.ensures.there c.insert.ensures.missing).kept (c.in_ok-insert.was ∙ ap Ok c.if-branch.false)) c.insert-2.ensures.there c.insert-2.ensures.missing))
+
+pub returns-in_err-insert-clause-clean : goal.returns-in_err-insert-clause-clean
+returns-in_err-insert-clause-clean g c = λ all clean. table_put_clean g.S.Storage.view c.args.storage.now c.insert.new.store c.args.self.now false c.in-Some.cluster c.insert.new.self c.args.table (Some c.args.table) c.insert.new.value refl c.insert.result c.insert.ensures.there c.insert.ensures.missing all clean
+
+pub returns-then-branch-clause-clean : goal.returns-then-branch-clause-clean
+returns-then-branch-clause-clean g c = λ all clean. table_put_clean g.S.Storage.view c.args.storage.now c.insert.new.store c.args.self.now false c.in-Some.cluster c.insert.new.self c.args.table (Some c.args.table) c.insert.new.value refl c.insert.result c.insert.ensures.there c.insert.ensures.missing all clean
+
+pub returns-in_err-before_l2-clause-clean : goal.returns-in_err-before_l2-clause-clean
+returns-in_err-before_l2-clause-clean g c = λ all clean. tables_as (record c.args.self.now { l2 = c.insert.new.self }) c.before_l2.new.self c.before_l2.ensures.tables (table_put_clean g.S.Storage.view c.args.storage.now c.insert.new.store c.args.self.now false c.in-Some.cluster c.insert.new.self c.args.table (Some c.args.table) c.insert.new.value refl c.insert.result c.insert.ensures.there c.insert.ensures.missing all clean)
+
+pub returns-in_err-insert-2-clause-clean : goal.returns-in_err-insert-2-clause-clean
+returns-in_err-insert-2-clause-clean g c = λ all clean.
+    let before = tables_as (record c.args.self.now { l2 = c.insert.new.self }) c.before_l2.new.self c.before_l2.ensures.tables (table_put_clean g.S.Storage.view c.args.storage.now c.insert.new.store c.args.self.now false c.in-Some.cluster c.insert.new.self c.args.table (Some c.args.table) c.insert.new.value refl c.insert.result c.insert.ensures.there c.insert.ensures.missing all clean) in
+    table_put_clean g.S.Storage.view c.before_l2.new.storage c.insert-2.new.store c.before_l2.new.self true c.in-Some.cluster c.insert-2.new.self c.args.table c.insert.new.value c.insert-2.new.value ((l2_taken g.S.Storage.view c.args.storage.now c.insert.new.store c.args.self.now false c.in-Some.cluster c.insert.new.self c.insert.ensures.others c.args.table (Some c.args.table) c.insert.new.value refl c.insert.result c.insert.ensures.there c.insert.ensures.missing).kept (c.in_ok-insert.was ∙ ap Ok c.if-branch.false)) c.insert-2.result c.insert-2.ensures.there c.insert-2.ensures.missing before clean
+
+pub returns-clause-clean : goal.returns-clause-clean
+returns-clause-clean g c = λ all clean.
+    let before = tables_as (record c.args.self.now { l2 = c.insert.new.self }) c.before_l2.new.self c.before_l2.ensures.tables (table_put_clean g.S.Storage.view c.args.storage.now c.insert.new.store c.args.self.now false c.in-Some.cluster c.insert.new.self c.args.table (Some c.args.table) c.insert.new.value refl c.insert.result c.insert.ensures.there c.insert.ensures.missing all clean) in
+    table_put_clean g.S.Storage.view c.before_l2.new.storage c.insert-2.new.store c.before_l2.new.self true c.in-Some.cluster c.insert-2.new.self c.args.table c.insert.new.value c.insert-2.new.value ((l2_taken g.S.Storage.view c.args.storage.now c.insert.new.store c.args.self.now false c.in-Some.cluster c.insert.new.self c.insert.ensures.others c.args.table (Some c.args.table) c.insert.new.value refl c.insert.result c.insert.ensures.there c.insert.ensures.missing).kept (c.in_ok-insert.was ∙ ap Ok c.if-branch.false)) c.insert-2.result c.insert-2.ensures.there c.insert-2.ensures.missing before clean
+
+pub returns-in_err-insert-clause-first : goal.returns-in_err-insert-clause-first
+returns-in_err-insert-clause-first g c = λ may clean. blocks_go (order_of c.args.self.now) (l2_tables c.args.self.now) (l2_tables (record c.args.self.now { l2 = c.insert.new.self })) (λ all. table_put_clean g.S.Storage.view c.args.storage.now c.insert.new.store c.args.self.now false c.in-Some.cluster c.insert.new.self c.args.table (Some c.args.table) c.insert.new.value refl c.insert.result c.insert.ensures.there c.insert.ensures.missing all clean) may
+
+pub returns-then-branch-clause-first : goal.returns-then-branch-clause-first
+returns-then-branch-clause-first g c = λ may clean. blocks_go (order_of c.args.self.now) (l2_tables c.args.self.now) (l2_tables (record c.args.self.now { l2 = c.insert.new.self })) (λ all. table_put_clean g.S.Storage.view c.args.storage.now c.insert.new.store c.args.self.now false c.in-Some.cluster c.insert.new.self c.args.table (Some c.args.table) c.insert.new.value refl c.insert.result c.insert.ensures.there c.insert.ensures.missing all clean) may
+
+pub returns-in_err-before_l2-clause-first : goal.returns-in_err-before_l2-clause-first
+returns-in_err-before_l2-clause-first g c = λ may clean.
+    subst (λ (d : Direction). BlocksMayGo d (l2_tables c.before_l2.new.self)) (sym c.before_l2.ensures.order)
+    (blocks_go (order_of c.args.self.now) (l2_tables c.args.self.now) (l2_tables c.before_l2.new.self) (λ all. tables_as (record c.args.self.now { l2 = c.insert.new.self }) c.before_l2.new.self c.before_l2.ensures.tables (table_put_clean g.S.Storage.view c.args.storage.now c.insert.new.store c.args.self.now false c.in-Some.cluster c.insert.new.self c.args.table (Some c.args.table) c.insert.new.value refl c.insert.result c.insert.ensures.there c.insert.ensures.missing all clean)) may)
+
+pub returns-in_err-insert-2-clause-first : goal.returns-in_err-insert-2-clause-first
+returns-in_err-insert-2-clause-first g c = λ may clean.
+    subst (λ (d : Direction). BlocksMayGo d (l2_tables (record c.before_l2.new.self { l2 = c.insert-2.new.self }))) (sym c.before_l2.ensures.order)
+    (blocks_go (order_of c.args.self.now) (l2_tables c.args.self.now) (l2_tables (record c.before_l2.new.self { l2 = c.insert-2.new.self })) (λ all. let before = tables_as (record c.args.self.now { l2 = c.insert.new.self }) c.before_l2.new.self c.before_l2.ensures.tables (table_put_clean g.S.Storage.view c.args.storage.now c.insert.new.store c.args.self.now false c.in-Some.cluster c.insert.new.self c.args.table (Some c.args.table) c.insert.new.value refl c.insert.result c.insert.ensures.there c.insert.ensures.missing all clean) in table_put_clean g.S.Storage.view c.before_l2.new.storage c.insert-2.new.store c.before_l2.new.self true c.in-Some.cluster c.insert-2.new.self c.args.table c.insert.new.value c.insert-2.new.value ((l2_taken g.S.Storage.view c.args.storage.now c.insert.new.store c.args.self.now false c.in-Some.cluster c.insert.new.self c.insert.ensures.others c.args.table (Some c.args.table) c.insert.new.value refl c.insert.result c.insert.ensures.there c.insert.ensures.missing).kept (c.in_ok-insert.was ∙ ap Ok c.if-branch.false)) c.insert-2.result c.insert-2.ensures.there c.insert-2.ensures.missing before clean) may)
+
+pub returns-clause-first : goal.returns-clause-first
+returns-clause-first g c = λ may clean.
+    subst (λ (d : Direction). BlocksMayGo d (l2_tables (record c.before_l2.new.self { l2 = c.insert-2.new.self }))) (sym c.before_l2.ensures.order)
+    (blocks_go (order_of c.args.self.now) (l2_tables c.args.self.now) (l2_tables (record c.before_l2.new.self { l2 = c.insert-2.new.self })) (λ all. let before = tables_as (record c.args.self.now { l2 = c.insert.new.self }) c.before_l2.new.self c.before_l2.ensures.tables (table_put_clean g.S.Storage.view c.args.storage.now c.insert.new.store c.args.self.now false c.in-Some.cluster c.insert.new.self c.args.table (Some c.args.table) c.insert.new.value refl c.insert.result c.insert.ensures.there c.insert.ensures.missing all clean) in table_put_clean g.S.Storage.view c.before_l2.new.storage c.insert-2.new.store c.before_l2.new.self true c.in-Some.cluster c.insert-2.new.self c.args.table c.insert.new.value c.insert-2.new.value ((l2_taken g.S.Storage.view c.args.storage.now c.insert.new.store c.args.self.now false c.in-Some.cluster c.insert.new.self c.insert.ensures.others c.args.table (Some c.args.table) c.insert.new.value refl c.insert.result c.insert.ensures.there c.insert.ensures.missing).kept (c.in_ok-insert.was ∙ ap Ok c.if-branch.false)) c.insert-2.result c.insert-2.ensures.there c.insert-2.ensures.missing before clean) may)

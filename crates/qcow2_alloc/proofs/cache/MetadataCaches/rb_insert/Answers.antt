@@ -92,14 +92,14 @@ returns-in_err-insert-2-clause-faults g c = λ room h p honest sound settled fit
 pub returns-then-branch-clause-clean : goal.returns-then-branch-clause-clean
 returns-then-branch-clause-clean g c = λ all clean.
     put_clean (rb_steps (λ s. g.S.Storage.view (storage_of s)) c.args.self.now.rb.backend.header.fields) c.insert.new.self.backend.header.fields.cluster_bits (λ (b : RefBlockView). b.bytes) (λ b. b.is_modified) c.args.self.now.rb.size false c.in-Some.cluster c.args.storage.now c.insert.new.store c.args.self.now.rb.entries c.insert.new.self.entries
-    c.args.block c.insert.new.value clean (clean_as _ _ (λ (b : RefBlockView). b.bytes) (λ b. b.is_modified) c.args.self.now.rb.entries all) true c.insert.result (Some c.args.block) (c.in_ok-insert.was ∙ ap Ok c.if-branch.true) refl c.insert.ensures.there c.insert.ensures.missing
+    c.args.block c.insert.new.value clean (clean_as _ _ (λ (b : RefBlockView). b.bytes) (λ b. b.is_modified) c.args.self.now.rb.entries all) c.insert.result (Some c.args.block) refl c.insert.ensures.there c.insert.ensures.missing
 
 pub returns-clause-clean : goal.returns-clause-clean
 returns-clause-clean g c = λ all clean.
     let kept = (rb_taken g.S.Storage.view c.args.storage.now c.insert.new.store c.args.self.now false c.in-Some.cluster c.insert.new.self c.insert.ensures.others c.args.block (Some c.args.block) c.insert.new.value refl c.insert.result c.insert.ensures.there c.insert.ensures.missing).kept (c.in_ok-insert.was ∙ ap Ok c.if-branch.false) in
     let one =
     put_clean (rb_steps (λ s. g.S.Storage.view (storage_of s)) c.args.self.now.rb.backend.header.fields) c.insert.new.self.backend.header.fields.cluster_bits (λ (b : RefBlockView). b.bytes) (λ b. b.is_modified) c.args.self.now.rb.size false c.in-Some.cluster c.args.storage.now c.insert.new.store c.args.self.now.rb.entries c.insert.new.self.entries
-    c.args.block c.insert.new.value clean (clean_as _ _ (λ (b : RefBlockView). b.bytes) (λ b. b.is_modified) c.args.self.now.rb.entries all) false c.insert.result (Some c.args.block) (c.in_ok-insert.was ∙ ap Ok c.if-branch.false) refl c.insert.ensures.there c.insert.ensures.missing in
+    c.args.block c.insert.new.value clean (clean_as _ _ (λ (b : RefBlockView). b.bytes) (λ b. b.is_modified) c.args.self.now.rb.entries all) c.insert.result (Some c.args.block) refl c.insert.ensures.there c.insert.ensures.missing in
     let two = subst (λ (rb : Cache (RefBlockCacheBackend g.row.S.Denot) ℕ RefBlockView). AreClean (cached_tables rb.backend.header.fields.cluster_bits (λ (b : RefBlockView). b.bytes) (λ b. b.is_modified) rb.entries)) (sym c.before_rb.ensures.refblocks) one in
     put_clean (rb_steps (λ s. g.S.Storage.view (storage_of s)) c.before_rb.new.self.rb.backend.header.fields) c.insert-2.new.self.backend.header.fields.cluster_bits (λ (b : RefBlockView). b.bytes) (λ b. b.is_modified) c.before_rb.new.self.rb.size true c.in-Some.cluster c.before_rb.new.storage c.insert-2.new.store c.before_rb.new.self.rb.entries c.insert-2.new.self.entries
-    c.args.block c.insert-2.new.value clean (clean_as _ _ (λ (b : RefBlockView). b.bytes) (λ b. b.is_modified) c.before_rb.new.self.rb.entries two) c.in_ok-insert-2.field-0 c.insert-2.result c.insert.new.value c.in_ok-insert-2.was kept c.insert-2.ensures.there c.insert-2.ensures.missing
+    c.args.block c.insert-2.new.value clean (clean_as _ _ (λ (b : RefBlockView). b.bytes) (λ b. b.is_modified) c.before_rb.new.self.rb.entries two) c.insert-2.result c.insert.new.value kept c.insert-2.ensures.there c.insert-2.ensures.missing

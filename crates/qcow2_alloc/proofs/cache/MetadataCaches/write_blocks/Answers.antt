@@ -1,8 +1,12 @@
+use Rattle.std.proofs.Common.{ap}
 use Rattle.qcow2_alloc.proofs.KeptTables.Flushing.{blocks_flushed, blocks_written}
 use Rattle.qcow2_alloc.specs.ImageError.{of_cache, IsFault}
 use Rattle.qcow2_alloc.proofs.KeptTables.Causes.{given_err, blocks_flush_refused}
 use Rattle.qcow2_metadata.specs.Bytes.{byte_at}
 use Rattle.qcow2_alloc.specs.ImageStorage.{storage_of}
+use Rattle.qcow2_metadata.specs.RefBlock.{RefBlockView}
+use Rattle.qcow2_alloc.specs.TableCaches.{rb_steps}
+use Rattle.qcow2_alloc.proofs.KeptTables.Clean.{clean_as, flush_clean}
 use Rattle.qcow2_alloc.proofs.cache.MetadataCaches.write_blocks.Goals as goal
 
 pub returns-in_err-flush-clause-keeps : goal.returns-in_err-flush-clause-keeps
@@ -18,3 +22,15 @@ pub returns-in_err-flush-clause-faults : goal.returns-in_err-flush-clause-faults
 returns-in_err-flush-clause-faults g c = λ h p honest sound settled.
     given_err c.from_residual.result (of_cache c.in_err-flush.field-0.0) IsFault c.from_residual.ensures
     (blocks_flush_refused g.S.Storage.view c.args.storage.now c.flush.new.store c.args.self.now h p (byte_at (g.S.Storage.view (storage_of c.args.storage.now)).contents) sound settled c.flush.new.self c.flush.result c.flush.ensures.flushed c.in_err-flush.field-0.0 c.in_err-flush.was)
+
+pub returns-in_err-flush-clause-clean : goal.returns-in_err-flush-clause-clean
+returns-in_err-flush-clause-clean g c = λ all.
+    flush_clean (rb_steps (λ s. g.S.Storage.view (storage_of s)) c.args.self.now.rb.backend.header.fields) c.flush.new.self.backend.header.fields.cluster_bits (λ (b : RefBlockView). b.bytes) (λ b. b.is_modified)
+    (λ s t k v w h. ap (λ (b : RefBlockView). b.is_modified) h.clean) c.args.storage.now c.flush.new.store c.args.self.now.rb.entries c.flush.new.self.entries c.flush.result c.flush.ensures.flushed
+    (clean_as _ _ (λ (b : RefBlockView). b.bytes) (λ b. b.is_modified) c.args.self.now.rb.entries all)
+
+pub returns-clause-clean : goal.returns-clause-clean
+returns-clause-clean g c = λ all.
+    flush_clean (rb_steps (λ s. g.S.Storage.view (storage_of s)) c.args.self.now.rb.backend.header.fields) c.flush.new.self.backend.header.fields.cluster_bits (λ (b : RefBlockView). b.bytes) (λ b. b.is_modified)
+    (λ s t k v w h. ap (λ (b : RefBlockView). b.is_modified) h.clean) c.args.storage.now c.flush.new.store c.args.self.now.rb.entries c.flush.new.self.entries c.flush.result c.flush.ensures.flushed
+    (clean_as _ _ (λ (b : RefBlockView). b.bytes) (λ b. b.is_modified) c.args.self.now.rb.entries all)

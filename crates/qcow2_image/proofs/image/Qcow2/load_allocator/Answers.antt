@@ -1,22 +1,42 @@
 use Rattle.std.proofs.Common.{sym, ap, subst}
-use Rattle.qcow2_image.proofs.Opening.{fresh_read, fresh_then, stays_then}
-use Rattle.qcow2_image.proofs.Clearing.{stays_after}
+use Rattle.qcow2_image.proofs.Opening.{fresh_read, fresh_then, stays_then, told_fresh, kept_then}
+use Rattle.qcow2_image.proofs.Clearing.{stays_after, kept_after}
 use Rattle.qcow2_image.proofs.image.Qcow2.load_allocator.Goals as goal
 
-pub returns : goal.returns
-returns g c = record {
-  loaded = λ p fresh.
-      let view = g.S.Storage.view in
-      let below = g.F.BackingDisk.backing in
-      let old = c.args.file.now in
-      let file = c.new.new.file in
-      let told = record file { storage = c.will_write.new.self } in
-      let new = record file { storage = c.clear_autoclear.new.storage; header = c.clear_autoclear.new.self } in
-      let cleared = c.in_ok-clear_autoclear.ensures in
-      let read = fresh_then view below p old file fresh c.new.ensures.rest c.new.ensures.honest c.new.ensures.same in
-      let same = c.will_write.ensures.storage in
-      let first = fresh_read view below p file c.will_write.new.self read.fresh (subst (λ s. (view s).is_honest) (sym same) read.fresh.sound.honest) (ap (λ s. (view s).contents) same) in
-      let then = stays_then view below p file told new first
-      (stays_after view below p told first.fresh c.clear_autoclear.new.storage c.clear_autoclear.new.self cleared.ok cleared.calls.honest cleared.written (λ none. (cleared.untouched none).1) cleared.fields cleared.reads) in
-      (stays_then view below p old file new read then, then.reftable c.in_ok-allocator.allocator.reftable (c.in_ok-allocator.ensures.reftable fresh.sound.honest));
-}
+pub returns-clause-loaded : goal.returns-clause-loaded
+returns-clause-loaded g c = λ p fresh.
+    let view = g.S.Storage.view in
+    let below = g.F.BackingDisk.backing in
+    let old = c.args.file.now in
+    let file = c.new.new.file in
+    let told = record file { storage = c.will_write.new.self } in
+    let new = record file { storage = c.clear_autoclear.new.storage; header = c.clear_autoclear.new.self } in
+    let cleared = c.in_ok-clear_autoclear.ensures in
+    let read = fresh_then view below p old file fresh c.new.ensures.rest c.new.ensures.honest c.new.ensures.same in
+    let same = c.will_write.ensures.storage in
+    let first = fresh_read view below p file c.will_write.new.self read.fresh (subst (λ s. (view s).is_honest) (sym same) read.fresh.sound.honest) (ap (λ s. (view s).contents) same) in
+    let then = stays_then view below p file told new first
+    (stays_after view below p told first.fresh c.clear_autoclear.new.storage c.clear_autoclear.new.self cleared.ok cleared.calls.honest cleared.written (λ none. (cleared.untouched none).1) cleared.fields cleared.reads) in
+    (stays_then view below p old file new read then, then.reftable c.in_ok-allocator.allocator.reftable (c.in_ok-allocator.ensures.reftable fresh.sound.honest))
+
+pub returns-clause-since : goal.returns-clause-since
+returns-clause-since g c = λ p fresh.
+    let view = g.S.Storage.view in
+    let below = g.F.BackingDisk.backing in
+    let old = c.args.file.now in
+    let file = c.new.new.file in
+    let cleared = c.clear_autoclear.ensures in
+    let told = told_fresh view below p old file c.will_write.new.self fresh c.new.ensures.rest c.new.ensures.honest c.new.ensures.same c.new.ensures.time c.will_write.ensures.storage in
+    kept_then (view old.storage.storage) (view c.will_write.new.self.storage) (view c.clear_autoclear.new.storage.storage) told.1
+    (kept_after view below p (record file { storage = c.will_write.new.self }) told.0 c.clear_autoclear.result c.clear_autoclear.new.storage cleared.written (λ none. (cleared.untouched none).1) cleared.calls cleared.fields cleared.reads)
+
+pub returns-in_err-clear_autoclear-clause-since : goal.returns-in_err-clear_autoclear-clause-since
+returns-in_err-clear_autoclear-clause-since g c = λ p fresh.
+    let view = g.S.Storage.view in
+    let below = g.F.BackingDisk.backing in
+    let old = c.args.file.now in
+    let file = c.new.new.file in
+    let cleared = c.clear_autoclear.ensures in
+    let told = told_fresh view below p old file c.will_write.new.self fresh c.new.ensures.rest c.new.ensures.honest c.new.ensures.same c.new.ensures.time c.will_write.ensures.storage in
+    kept_then (view old.storage.storage) (view c.will_write.new.self.storage) (view c.clear_autoclear.new.storage.storage) told.1
+    (kept_after view below p (record file { storage = c.will_write.new.self }) told.0 c.clear_autoclear.result c.clear_autoclear.new.storage cleared.written (λ none. (cleared.untouched none).1) cleared.calls cleared.fields cleared.reads)

@@ -1,59 +1,52 @@
-use Rattle.std.proofs.Common.{◌≡◌, ◌^◌, false, length, sym, ◌∙◌, subst}
-use Rattle.std.specs.Option.{option_copied}
-use Rattle.std.specs.Borrow.{Bor}
-use Rattle.std.specs.Prelude.{Option, None, Some, is_some}
+use Rattle.std.proofs.Common.{◌≡◌, ◌^◌, false, length, refl, ap, ◌∙◌, subst}
+use Rattle.std.specs.Prelude.{Some, IfSome, OnOk}
 use Rattle.qcow2_metadata.specs.L2Table.{L2TableView}
 use Rattle.qcow2_alloc.specs.ImageError.{of_storage}
 use Rattle.qcow2_alloc.specs.ImageStorage.{storage_of}
-use Rattle.qcow2_alloc.specs.MetadataCaches.{l2_at}
+use Rattle.qcow2_alloc.specs.MetadataCaches.{l2_at, PutSound}
+use Rattle.qcow2_alloc.specs.TableCaches.{IsTableOf}
 use Rattle.qcow2_alloc.proofs.AllocationSteps.{handed_on}
 use Rattle.qcow2_image.specs.NewTables.{Places}
 use Rattle.qcow2_image.proofs.Called.{keeps_then}
-use Rattle.qcow2_image.proofs.Loading.{caches_moved, with_caches}
-use Rattle.qcow2_image.proofs.Placing.{keeps_placed, stands_ready}
+use Rattle.qcow2_image.proofs.Loading.{if_ok}
+use Rattle.qcow2_image.proofs.Placing.{holds, keeps_placed, keeps_put, keeps_stored, places_when, stands_ready, stands_there}
 use Rattle.qcow2_image.proofs.image.Qcow2.place_l2.Goals as goal
 
--- where none is seen, none is there
-absent : {A : Type 0} (r : Option (Bor A)) (o : Option A) → option_copied r ≡ o → is_some r ≡ false → o ≡ None
-absent None o is none = sym is
-absent (Some a) o is none = absurd cc
-
-pub returns-in_err-flush_all-clause-places : goal.returns-in_err-flush_all-clause-places
-returns-in_err-flush_all-clause-places g c = λ p out sound some format.
-    let old = c.args.self.now in
-    let stay = c.flush_all.ensures.keeps old.file.header.fields p sound.file.honest sound.file.caches in
-    handed_on (Places g.S.Storage.view g.F.BackingDisk.backing p old (with_caches g.S.Storage.view g.F.BackingDisk.backing old out p sound c.flush_all.new.storage c.flush_all.new.self) out c.args.cluster c.args.table.bytes)
-    c.from_residual.result c.in_err-flush_all.field-0.0 c.from_residual.ensures
-    (caches_moved g.S.Storage.view g.F.BackingDisk.backing old out p sound c.flush_all.new.storage c.flush_all.new.self stay c.flush_all.ensures.marks.room c.flush_all.ensures.marks.pins)
-
-pub returns-then-is_some-clause-places : goal.returns-then-is_some-clause-places
-returns-then-is_some-clause-places g c = λ p out sound some format.
-    caches_moved g.S.Storage.view g.F.BackingDisk.backing c.args.self.now out p sound c.flush_all.new.storage c.flush_all.new.self (c.flush_all.ensures.keeps c.args.self.now.file.header.fields p sound.file.honest sound.file.caches)
-    c.flush_all.ensures.marks.room c.flush_all.ensures.marks.pins
-
 pub returns-in_err-write-clause-places : goal.returns-in_err-write-clause-places
-returns-in_err-write-clause-places g c = λ p out sound some format.
+returns-in_err-write-clause-places g c = λ p out index sound some format stored.
+    let view = g.S.Storage.view in
+    let below = g.F.BackingDisk.backing in
     let old = c.args.self.now in
-    let stay = c.flush_all.ensures.keeps old.file.header.fields p sound.file.honest sound.file.caches in
-    let kept = caches_moved g.S.Storage.view g.F.BackingDisk.backing old out p sound c.flush_all.new.storage c.flush_all.new.self stay c.flush_all.ensures.marks.room c.flush_all.ensures.marks.pins in
-    let image = with_caches g.S.Storage.view g.F.BackingDisk.backing old out p sound c.flush_all.new.storage c.flush_all.new.self in
-    let new = record image { file = record image.file { storage = c.write.new.storage } } in
-    handed_on (Places g.S.Storage.view g.F.BackingDisk.backing p old new out c.args.cluster c.args.table.bytes)
-    c.from_residual-in_err-write.result (of_storage c.in_err-write.field-0.0) c.from_residual-in_err-write.ensures
-    (keeps_then g.S.Storage.view g.F.BackingDisk.backing out old image new p p p (λ k h. h) kept
-    (keeps_placed g.S.Storage.view g.F.BackingDisk.backing image out p kept.sound c.in_ok-flush_all.ensures.written c.args.cluster some c.write.new.storage (storage_of c.will_write.new.self) c.args.table c.set_cluster.new.self c.write.result c.will_write.ensures.storage c.set_cluster.ensures format.bits
-    (subst (λ (t : L2TableView). length t.bytes ≡ 2 ^ t.cluster_bits) c.table.view_is c.table.invariant.whole) c.write.ensures.written c.write.ensures.calls))
+    let whole = subst (λ (t : L2TableView). length t.bytes ≡ 2 ^ t.cluster_bits) c.table.view_is c.table.invariant.whole in
+    handed_on (Places view below p old (record old { file = record old.file { storage = c.write.new.storage } }) out index c.args.cluster c.args.table.bytes) c.from_residual.result (of_storage c.in_err-write.field-0.0) c.from_residual.ensures
+    (keeps_placed view below old out p sound index stored c.args.cluster some c.write.new.storage (storage_of c.will_write.new.self) c.args.table c.set_cluster.new.self c.write.result c.will_write.ensures.storage c.set_cluster.ensures format.bits whole
+    c.write.ensures.written c.write.ensures.calls)
 
 pub returns-clause-places : goal.returns-clause-places
-returns-clause-places g c = λ p out sound some format.
+returns-clause-places g c = λ p out index sound some format stored.
+    let view = g.S.Storage.view in
+    let below = g.F.BackingDisk.backing in
     let old = c.args.self.now in
-    let stay = c.flush_all.ensures.keeps old.file.header.fields p sound.file.honest sound.file.caches in
-    let kept = caches_moved g.S.Storage.view g.F.BackingDisk.backing old out p sound c.flush_all.new.storage c.flush_all.new.self stay c.flush_all.ensures.marks.room c.flush_all.ensures.marks.pins in
-    let image = with_caches g.S.Storage.view g.F.BackingDisk.backing old out p sound c.flush_all.new.storage c.flush_all.new.self in
-    let new = record image { file = record image.file { storage = c.write.new.storage } } in (
-      keeps_then g.S.Storage.view g.F.BackingDisk.backing out old image new p p p (λ k h. h) kept
-          (keeps_placed g.S.Storage.view g.F.BackingDisk.backing image out p kept.sound c.in_ok-flush_all.ensures.written c.args.cluster some c.write.new.storage (storage_of c.will_write.new.self) c.args.table c.set_cluster.new.self c.write.result c.will_write.ensures.storage c.set_cluster.ensures format.bits
-          (subst (λ (t : L2TableView). length t.bytes ≡ 2 ^ t.cluster_bits) c.table.view_is c.table.invariant.whole) c.write.ensures.written c.write.ensures.calls),
-      stands_ready g.S.Storage.view g.F.BackingDisk.backing image out p kept.sound c.in_ok-flush_all.ensures.written c.args.cluster some c.write.new.storage (storage_of c.will_write.new.self) c.args.table c.set_cluster.new.self c.write.result c.will_write.ensures.storage c.set_cluster.ensures format.bits
-          (subst (λ (t : L2TableView). length t.bytes ≡ 2 ^ t.cluster_bits) c.table.view_is c.table.invariant.whole) c.write.ensures.written c.write.ensures.calls c.in_ok-write.field-0 c.in_ok-write.was (absent c.l2_peek.result (l2_at c.flush_all.new.self c.args.cluster) c.l2_peek.ensures.value (sym c.is_some.ensures ∙ c.if-is_some.false)),
-    )
+    let h = old.file.header.fields in
+    let at = c.args.cluster in
+    let mid = record old { file = record old.file { storage = c.write.new.storage } } in
+    let new = record old { file = record old.file { storage = c.l2_insert.new.storage; caches = c.l2_insert.new.self } } in
+    let whole = subst (λ (t : L2TableView). length t.bytes ≡ 2 ^ t.cluster_bits) c.table.view_is c.table.invariant.whole in
+    let long = whole ∙ ap (λ n. 2 ^ n) format.bits in
+    let wrote = keeps_placed view below old out p sound index stored at some c.write.new.storage (storage_of c.will_write.new.self) c.args.table c.set_cluster.new.self c.write.result c.will_write.ensures.storage c.set_cluster.ensures format.bits whole
+    c.write.ensures.written c.write.ensures.calls in
+    let still = keeps_stored view below old out p sound index stored at some c.write.new.storage (storage_of c.will_write.new.self) c.args.table c.set_cluster.new.self c.write.result c.will_write.ensures.storage c.set_cluster.ensures format.bits whole
+    c.write.ensures.written c.write.ensures.calls in
+    let there = stands_there view below old out p sound index stored at some c.write.new.storage (storage_of c.will_write.new.self) c.args.table c.set_cluster.new.self c.write.result c.will_write.ensures.storage c.set_cluster.ensures format.bits whole
+    c.write.ensures.written c.write.ensures.calls c.in_ok-write.field-0 c.in_ok-write.was in
+    let is : c.clear_modified.new.self ≡ record c.args.table { cluster = Some at; is_modified = false } = c.clear_modified.ensures ∙ ap (λ (t : L2TableView). record t { is_modified = false }) c.set_cluster.ensures in
+    let puts = subst (λ (t : L2TableView). PutSound view c.write.new.storage old.file.caches c.l2_insert.new.storage c.l2_insert.new.self (λ h. IsTableOf h t) t.cluster t.bytes t.is_modified) is c.l2_insert.ensures.keeps in
+    let held = subst (λ (t : L2TableView). OnOk c.l2_insert.result (IfSome t.cluster (λ k. l2_at c.l2_insert.new.self k ≡ Some t))) is c.l2_insert.ensures.held in
+    let unmodified = ap (λ (t : L2TableView). t.is_modified) is in
+    let stays = puts h p wrote.sound.file.honest wrote.sound.file.caches (record { bits = format.bits; zero_bit = format.zero_bit; external = format.external }) refl (holds view below mid out p wrote.sound index still at some c.args.table.bytes long there) in
+    let put = keeps_put view below mid out p wrote.sound index still at some c.args.table.bytes long there c.l2_insert.new.storage c.l2_insert.new.self stays c.l2_insert.ensures.marks.room c.l2_insert.ensures.marks.pins c.l2_insert.ensures.blocks
+    (λ may. c.l2_insert.ensures.first may unmodified) (λ clean. c.l2_insert.ensures.clean clean unmodified) in
+    places_when view below old new out p index at c.args.table.bytes c.l2_insert.result (keeps_then view below out old mid new p p p (λ k h. h) wrote put)
+    (if_ok c.l2_insert.result
+    (λ x found. stands_ready view below mid out p wrote.sound index still at some c.args.table.bytes long there c.l2_insert.new.storage c.l2_insert.new.self stays c.l2_insert.ensures.marks.room c.l2_insert.ensures.marks.pins c.l2_insert.ensures.blocks
+    (λ may. c.l2_insert.ensures.first may unmodified) (λ clean. c.l2_insert.ensures.clean clean unmodified) (record c.args.table { cluster = Some at; is_modified = false }) found refl) held)

@@ -1,10 +1,14 @@
 use Rattle.std.proofs.Common.{◌≡◌, ◌<◌, sym, ◌∙◌, subst, arith}
-use Rattle.std.specs.Prelude.{Result}
+use Rattle.std.specs.Prelude.{IfOk, Result}
+use Rattle.qcow2_alloc.specs.ImageFile.{known_in}
+use Rattle.qcow2_image.specs.Preparing.{IsAnswered}
+use Rattle.qcow2_image.proofs.Loading.{if_ok}
+use Rattle.qcow2_image.proofs.PreparedAs.{answered_before}
 use Rattle.qcow2_image.specs.declared.image.Qcow2.{Qcow2}
 use Rattle.qcow2_image.specs.Calls.{Prepares}
 use Rattle.qcow2_image.specs.Image.{is_failed}
 use Rattle.qcow2_image.specs.Parts.{IsExisting}
-use Rattle.qcow2_image.specs.Views.{pending_in}
+use Rattle.qcow2_image.specs.Views.{meaning, pending_in}
 use Rattle.qcow2_image.proofs.Called.{Quietly, listed}
 use Rattle.qcow2_image.proofs.Answers.{prepare_usable}
 use Rattle.qcow2_image.proofs.PrepareCalls.{prepares_nothing, prepares_settled}
@@ -35,3 +39,18 @@ returns-clause-sees g c =
     (λ out sound.
     let kept = listed view below out old mid (quiet out) sound in
     readies_then view below out old mid new sound kept c.args.offset c.args.length c.args.overwrite r (c.prepare-prepared.ensures.readies some out (mid_sound view below out old mid new sound kept)))))
+
+pub returns-clause-maps : goal.returns-clause-maps
+returns-clause-maps g c = λ some out sound.
+    let view = g.S.Storage.view in
+    let below = g.F.BackingDisk.backing in
+    let old = c.args.self.now in
+    let mid = c.begin.new.self in
+    let new = c.prepare-prepared.new.self in
+    let now = known_in view new.file in
+    let kept = c.begin.ensures.keeps (pending_in view below old out) out sound in
+    subst (λ (image : Qcow2 _ _). IfOk c.settled.result (λ p. IsAnswered old.file.header.fields (known_in view old.file) c.args.offset c.args.length (known_in view image.file) p (meaning view below image p))) (sym c.settled.ensures.rest)
+    (subst (λ r. IfOk r (λ p. IsAnswered old.file.header.fields (known_in view old.file) c.args.offset c.args.length now p (meaning view below new p))) (sym c.settled.ensures.answer)
+    (if_ok c.prepare-prepared.result
+    (λ p is. answered_before view old mid c.args.offset c.args.length now p (meaning view below new p) kept.unseen.header kept.unseen.covers is)
+    (c.prepare-prepared.ensures.answers some (pending_in view below old out) out kept.sound (λ k. omega arith))))

@@ -1,4 +1,4 @@
-use Rattle.std.proofs.Common.{◌≡◌, ◌/◌, ◌^◌, sym, ap, ◌∙◌, subst}
+use Rattle.std.proofs.Common.{◌≡◌, refl, ◌/◌, ◌^◌, sym, ap, ◌∙◌, subst}
 use Rattle.qcow2_metadata.specs.Header.{cluster_size}
 use Rattle.qcow2_alloc.proofs.AllocationSteps.{handed_on}
 use Rattle.qcow2_alloc.specs.ImageFile.{known_in}
@@ -8,6 +8,7 @@ use Rattle.qcow2_image.specs.FirstCluster.{IsFirst}
 use Rattle.qcow2_image.specs.Found.{l1_index_of}
 use Rattle.qcow2_image.specs.Parts.{IsReadied, Readies}
 use Rattle.qcow2_image.specs.Views.{pending_in}
+use Rattle.qcow2_image.specs.Preparing.{IsRest}
 use Rattle.qcow2_image.proofs.ReadyingNew.{back_none, first_stands, not_pinned, readied_in_place}
 use Rattle.qcow2_image.proofs.image.Qcow2.prepare_in.Goals as goal
 
@@ -42,3 +43,23 @@ returns-in-Missing-clause-readies g c = λ out sound holds.
     let first = first_stands view below old (pending_in view below old out) c.args.offset c.args.table c.cluster-cluster.result c.in_ok-host.field-0 cluster holds (c.in_ok-host.ensures.stands (pending_in view below old out) (l1_index_of old.file.header.fields c.args.offset) sound.file) in
     c.prepare_new.ensures.readies out sound holds (not_pinned _ c.l2_is_pinned.result c.l2_is_pinned.ensures c.if-l2_is_pinned.false)
     (subst (λ (f : FirstCluster). IsFirst old.file.header.fields (known_in view old.file) (c.args.offset / cluster_size old.file.header.fields) f) c.in-Missing.is first)
+
+pub returns-in-InPlace-clause-rest : goal.returns-in-InPlace-clause-rest
+returns-in-InPlace-clause-rest g c = λ p out sound holds.
+    let view = g.S.Storage.view in
+    let below = g.F.BackingDisk.backing in
+    let old = c.args.self.now in
+    let cluster : c.cluster-cluster.result ≡ c.args.offset / cluster_size old.file.header.fields = c.cluster-cluster.ensures ∙ ap (λ o. o / 2 ^ c.cluster_bits.result) c.new.ensures ∙ ap (λ b. c.args.offset / 2 ^ b) c.cluster_bits.ensures.value in
+    let first = first_stands view below old p c.args.offset c.args.table c.cluster-cluster.result c.in_ok-host.field-0 cluster holds (c.in_ok-host.ensures.stands p (l1_index_of old.file.header.fields c.args.offset) sound.file) in
+    let stands = subst (λ (f : FirstCluster). IsFirst old.file.header.fields (known_in view old.file) (c.args.offset / cluster_size old.file.header.fields) f) c.in-InPlace.is first in
+    subst (λ (x : Prepared). IsRest old.file.header.fields (known_in view old.file) c.args.offset x) (sym c.prepare_at.ensures.value)
+    (record { guest = refl; table = refl; length = refl; host = (c.in-InPlace.host, stands, refl) })
+
+pub returns-in-Missing-clause-rest : goal.returns-in-Missing-clause-rest
+returns-in-Missing-clause-rest g c = λ p out sound holds.
+    let view = g.S.Storage.view in
+    let below = g.F.BackingDisk.backing in
+    let old = c.args.self.now in
+    let cluster : c.cluster-cluster.result ≡ c.args.offset / cluster_size old.file.header.fields = c.cluster-cluster.ensures ∙ ap (λ o. o / 2 ^ c.cluster_bits.result) c.new.ensures ∙ ap (λ b. c.args.offset / 2 ^ b) c.cluster_bits.ensures.value in
+    let first = first_stands view below old p c.args.offset c.args.table c.cluster-cluster.result c.in_ok-host.field-0 cluster holds (c.in_ok-host.ensures.stands p (l1_index_of old.file.header.fields c.args.offset) sound.file) in
+    c.prepare_new.ensures.rest (known_in view old.file) (subst (λ (f : FirstCluster). IsFirst old.file.header.fields (known_in view old.file) (c.args.offset / cluster_size old.file.header.fields) f) c.in-Missing.is first)

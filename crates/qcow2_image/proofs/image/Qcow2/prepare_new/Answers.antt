@@ -1,14 +1,18 @@
-use Rattle.std.proofs.Common.{◌*◌, ◌/◌, ◌%◌, ◌^◌, inl, sym, ap, ◌∙◌, subst, arith}
+use Rattle.std.proofs.Common.{◌≡◌, ◌*◌, ◌/◌, ◌%◌, ◌^◌, inl, sym, ap, ◌∙◌, subst, arith}
+use Rattle.qcow2_metadata.specs.declared.header.HeaderFields.{HeaderFields}
 use Rattle.qcow2_laws.specs.Changes.{with_held}
+use Rattle.qcow2_alloc.specs.ImageFile.{contents_in, known_in, stand_in}
 use Rattle.qcow2_alloc.proofs.AllocationSteps.{handed_on}
 use Rattle.qcow2_image.specs.declared.image.Qcow2.{Qcow2}
 use Rattle.qcow2_image.specs.declared.prepared.Prepared.{Prepared}
 use Rattle.qcow2_image.specs.declared.prepared.NewCluster.{NewCluster}
 use Rattle.qcow2_image.specs.Parts.{Readies, IsReadied}
+use Rattle.qcow2_image.specs.Preparing.{HasItsOwn, IsHeldAlone}
 use Rattle.qcow2_image.specs.Steps.{GoesBack, Goes, HoldsAll}
 use Rattle.qcow2_image.specs.Views.{run_of, pending_in}
-use Rattle.qcow2_image.proofs.Gaining.{left, after_is, goes_handed_back, still_holds}
+use Rattle.qcow2_image.proofs.Gaining.{left, after_is, goes_handed_back, still_holds, taken_held}
 use Rattle.qcow2_image.proofs.Going.{goes_kept, goes_then}
+use Rattle.qcow2_image.proofs.PreparedAs.{held_alone}
 use Rattle.qcow2_image.proofs.ReadyingNew.{readied_new}
 use Rattle.qcow2_image.proofs.image.Qcow2.prepare_new.Goals as goal
 
@@ -57,3 +61,23 @@ returns-in-Err-clause-readies g c = λ out sound holds unpinned uncovered.
     let end = left view below out mid p n gained.one gained.kind loaded.sound in
     subst (λ (image : Qcow2 _ _). GoesBack view below p old image out c.in-Err.refusal) (sym c.hand_back.ensures)
     (inl (subst (λ q. Goes view below p q old end out) (after_is view below out mid p n gained.one gained.kind loaded.sound old lists) (goes_then view below out old mid end p held _ loaded back)))
+
+pub returns-in-Ok-clause-alone : goal.returns-in-Ok-clause-alone
+returns-in-Ok-clause-alone g c = λ p out sound all.
+    let view = g.S.Storage.view in
+    let below = g.F.BackingDisk.backing in
+    let old = c.args.self.now in
+    let filled = c.new_cluster.new.self in
+    let mid = c.load_l2.new.self in
+    let new = c.prepare_at.new.self in
+    let n = c.in_ok-pending.pending in
+    let q = with_held p (run_of n) in
+    let gained = c.in_ok-pending.ensures.gains p out sound all in
+    let kept = c.in-Ok.ensures.keeps q out gained.goes.sound in
+    let h = mid.file.header.fields in
+    let header : h ≡ old.file.header.fields = kept.unseen.header ∙ gained.goes.header in
+    let alone : IsHeldAlone h (known_in view mid.file) n.first_cluster = held_alone (stand_in view mid.file q) kept.sound.file.caches.kept.kept.guarded n.first_cluster (taken_held view below out old filled p n gained.one all gained.goes) in
+    let same : known_in view (record mid.file { caches = new.file.caches }) ≡ known_in view mid.file = c.prepare_at.ensures.pins.tables.known h (contents_in view mid.file) in
+    subst (λ (x : Prepared). HasItsOwn old.file.header.fields (known_in view new.file) x.new_cluster) (sym c.prepare_at.ensures.value)
+    (subst (λ (image : Qcow2 _ _). IsHeldAlone old.file.header.fields (known_in view image.file) n.first_cluster) (sym c.prepare_at.ensures.pins.rest)
+    (subst (λ b. IsHeldAlone old.file.header.fields b n.first_cluster) (sym same) (subst (λ (x : HeaderFields). IsHeldAlone x (known_in view mid.file) n.first_cluster) header alone)))

@@ -1,4 +1,4 @@
--- Places without a mapping say nothing of an image, and a sound image is whole.
+-- Places without a mapping say nothing of an image, a sound image is whole, and since now its storage has but what it has now.
 use Rattle.std.proofs.Common.{◌≡◌, ℕ, zero, suc, ◌+◌, ◌-◌, ◌≤◌, List, [], ◌∷◌, ◌++◌, sym, ap, ◌∙◌, subst, Option, Some, None, arith}
 use Rattle.std.specs.Prelude.{slice_get}
 use Rattle.std.specs.Option.{option_map_or}
@@ -10,14 +10,14 @@ use Rattle.qcow2_metadata.specs.Header.{cluster_size}
 use Rattle.qcow2_metadata.specs.Named.{named}
 use Rattle.qcow2_metadata.specs.declared.header.HeaderFields.{HeaderFields}
 use Rattle.qcow2_laws.specs.Guard.{Pending}
-use Rattle.qcow2_laws.specs.Views.{IsWhole}
+use Rattle.qcow2_laws.specs.Views.{HasFreePlaces, IsWhole}
 use Rattle.qcow2_laws.proofs.Steps.{sound_is_consistent}
 use Rattle.qcow2_laws.proofs.Unseen.{known_header}
-use Rattle.qcow2_alloc.specs.ImageFile.{stand_in, known_in, IsSoundFile}
+use Rattle.qcow2_alloc.specs.ImageFile.{stand_in, view_in, known_in, IsSoundFile}
+use Rattle.qcow2_alloc.specs.ImageStorage.{storage_of}
 use Rattle.qcow2_image.specs.declared.image.Qcow2.{Qcow2}
 use Rattle.qcow2_image.specs.declared.prepared.Prepared.{Prepared}
 use Rattle.qcow2_image.specs.Views.{over_all, held_by, pins_by, to_free, of_tables, of_data, pending_in, IsSoundAt, image_spec, seen}
-use Rattle.qcow2_session.proofs.Places.{HasFreePlaces}
 
 over_all_free : (f : Prepared → ℕ → ℕ) (a b : List (Option Prepared)) (k : ℕ) → over_all f (a ++ None ∷ b) k ≡ over_all f (a ++ b) k
 over_all_free f [] b k = omega arith
@@ -76,3 +76,8 @@ module _ {S F : Type 0} (view : S → StorageView) (backing : F → BackingView)
         consistent = sound_is_consistent.known stand sound.file.caches.kept.kept.guarded;
         cluster_size = ap (λ (h : HeaderFields). cluster_size h) (sym (known_header stand sound.file.caches.kept.kept.guarded));
       }
+
+  -- the premise is the trait's `only_now`
+  pub nothing_since : ((s : S) (c : List ℕ) → (view s).had_since (view s).moment c → c ≡ (view s).contents) → (image : Qcow2 S F) (c : List ℕ)
+      → (view_in view image.file).had_since (view_in view image.file).moment c → c ≡ (view_in view image.file).contents
+  nothing_since only image = only (storage_of image.file.storage)

@@ -1,0 +1,183 @@
+-- The first free cluster of an allocator over its steps: what is in use stays in use, but for what is given back.
+use Rattle.std.proofs.Common.{◌≡◌, ◌≢◌, ◌⊎◌, inl, inr, ℕ, ◌==◌, IsTrue, IsSome, ◌+◌, ◌*◌, ◌/◌, ◌<◌, ◌≤◌, Bool, true, false, Option, Some, None, Result, Ok, Err, sym, ap, ◌∙◌, subst, refl, arith}
+use Rattle.std.specs.Option.{is_some}
+use Rattle.std.specs.Prelude.{OnOk}
+use Rattle.std.proofs.lemmas.Bool.{cases_eq, cases_lt}
+use Rattle.image_access.specs.Moments.{StorageView}
+use Rattle.qcow2_metadata.specs.Entries.{block_offset, reftable_entry, count}
+use Rattle.qcow2_metadata.specs.EntryTable.{EntryTableView}
+use Rattle.qcow2_metadata.specs.TableBytes.{entry_at}
+use Rattle.qcow2_metadata.specs.Header.{cluster_size}
+use Rattle.qcow2_metadata.specs.Named.{named_by_reftable}
+use Rattle.std.proofs.lemmas.Nat.{div-mul-add, pow_pos}
+use Rattle.qcow2_laws.proofs.Shares.{shares, block_has}
+use Rattle.qcow2_laws.specs.Changes.{one_at}
+use Rattle.qcow2_laws.specs.Guard.{Pending}
+use Rattle.qcow2_alloc.specs.declared.allocation.Allocator.{Allocator}
+use Rattle.qcow2_alloc.specs.declared.clusters_to_free.ClusterKind.TheVariants.{Data, Metadata}
+use Rattle.qcow2_alloc.specs.declared.error.ImageError.{ImageError}
+use Rattle.qcow2_alloc.specs.declared.image_file.ImageFile.{ImageFile}
+use Rattle.qcow2_alloc.specs.Allocation.{run_at, taken_as, Owed, Taken, Listed, owed_as, HasNone, StandsAt, Becomes, GetsBlock, LowersOne, PlacesBlock, TakesOne}
+use Rattle.qcow2_alloc.specs.ImageFile.{pending_at, contents_in, known_in, IsSoundFile, IsSoundWith, HasReftable, LeavesSound, IsFault}
+use Rattle.qcow2_alloc.specs.MetadataCaches.{rb_at}
+use Rattle.qcow2_alloc.specs.declared.cache.MetadataCaches.{MetadataCaches}
+use Rattle.std.proofs.lemmas.Bool.Decides.{nat_tests}
+use Rattle.qcow2_alloc.specs.LowestRuns.{IsUsed, IsLowestRun, HasHint, KeepsHint}
+use Rattle.qcow2_alloc.proofs.AllocationSteps.{none_in_memory, still_sound}
+use Rattle.qcow2_alloc.proofs.FileSteps.{one_here}
+use Rattle.qcow2_alloc.proofs.Runs.{none_there, run_in}
+
+pub is_zero : (n : ℕ) → n ≡ 0 → (n == 0) ≡ true
+is_zero n h = grind (arith, nat_tests)
+
+-- what is taken is pending
+pub taken_pending : (d : Bool) (p : Pending) (n : ℕ → ℕ) (k : ℕ) → pending_at (taken_as d p n) k ≡ pending_at p k + n k
+taken_pending true p n k = omega arith
+taken_pending false p n k = omega arith
+
+-- the range of a cluster, as two numbers of counts tell it
+pub range_as : (t : EntryTableView) (cluster per per' : ℕ) → per' ≡ per → (HasNone t (cluster / per) → ⊥) → HasNone t (cluster / per') → ⊥
+range_as t cluster per per' same has none = has (ap (λ n. block_offset (entry_at t.bytes (cluster / n))) (sym same) ∙ none)
+
+-- what holds where it was answered, as another word says it
+pub ok_as : (A B : Type 0) (result : Result (Unit {0}) ImageError) → (A → B) → OnOk result A → OnOk result B
+ok_as A B (Ok done) to so = to so
+ok_as A B (Err e) to so = tt
+
+-- a cluster outside of a run isn't one of it
+pub not_in_run : (first n c k : ℕ) → first ≤ c → c < first + n → run_at first n k ≡ 0 → one_at c k ≡ 0
+not_in_run first n c k low high none = elim (cases_eq k c) [
+  | inl same ↦ let one = run_in first n k (omega (arith, low, same)) (omega (arith, high, same)) in absurd (omega (arith, one, none))
+  | inr other ↦ none_there c k other
+]
+
+-- what is owed is pending
+pub owed_pending : (owed : Owed) (p : Pending) (n : ℕ → ℕ) (k : ℕ) → pending_at (owed_as owed p n) k ≡ pending_at p k + n k
+owed_pending (Taken d) p n k = taken_pending d p n k
+owed_pending (Listed Data) p n k = omega arith
+owed_pending (Listed Metadata) p n k = omega arith
+
+module _ {S : Type 0} (view : S → StorageView) where
+  -- a cluster stays in use while no less is pending
+  pub used_stays : (p p' : Pending) (a b : ImageFile S) (t : Allocator) (k : ℕ) → Becomes view p a t b p' → pending_at p k ≤ pending_at p' k → IsUsed view a k → IsUsed view b k
+  used_stays p p' a b t k becomes no_less used zero = used (let counts = becomes.moves.counts k in omega (arith, counts, no_less, zero))
+
+  -- what is taken is in use
+  pub taken_used : (p : Pending) (d : Bool) (n : ℕ → ℕ) (a b : ImageFile S) (t : Allocator) (k : ℕ) → Becomes view p a t b (taken_as d p n) → 0 < n k → IsUsed view b k
+  taken_used p d n a b t k becomes some zero = let counts = becomes.moves.counts k in let more = taken_pending d p n k in absurd (omega (arith, counts, more, some, zero))
+
+  pub hint_stays : (p : Pending) (a b : ImageFile S) (t t' : Allocator) → Becomes view p a t' b p → t'.first_free_cluster ≡ t.first_free_cluster → HasHint view t a → HasHint view t' b
+  hint_stays p a b t t' becomes same hint k below = used_stays p p a b t' k becomes (omega arith) (hint k (subst (λ n. k < n) same below))
+
+  -- after clusters were taken
+  pub hint_taken : (p : Pending) (d : Bool) (n : ℕ → ℕ) (a b : ImageFile S) (t t' : Allocator) → Becomes view p a t' b (taken_as d p n) → t'.first_free_cluster ≡ t.first_free_cluster → HasHint view t a → HasHint view t' b
+  hint_taken p d n a b t t' becomes same hint k below =
+      used_stays p (taken_as d p n) a b t' k becomes (let more = taken_pending d p n k in omega (arith, more)) (hint k (subst (λ m. k < m) same below))
+
+  -- one cluster more is in use
+  pub hint_more : (file : ImageFile S) (t t' : Allocator) (cluster : ℕ) → HasHint view t file → t.first_free_cluster ≡ cluster → t'.first_free_cluster ≡ cluster + 1 → IsUsed view file cluster → HasHint view t' file
+  hint_more file t t' cluster hint is more used k below = elim (cases_eq k cluster) [
+    | inl same ↦ subst (IsUsed view file) (sym same) used
+    | inr other ↦ hint k (omega (arith, is, more, below, other))
+  ]
+
+  -- another allocator with the same first free cluster
+  pub hint_as : (file : ImageFile S) (t t' : Allocator) → t'.first_free_cluster ≡ t.first_free_cluster → HasHint view t file → HasHint view t' file
+  hint_as file t t' same hint k below = hint k (subst (λ n. k < n) same below)
+
+  -- after a refusal that is no fault
+  pub hint_refused : (p : Pending) (a b : ImageFile S) (t t' : Allocator) (e : ImageError) → t'.first_free_cluster ≡ t.first_free_cluster → LeavesSound view p a t' b e → HasHint view t a → (IsFault e → ⊥) → HasHint view t' b
+  hint_refused p a b t t' e same leaves hint other = hint_stays p a b t t' (still_sound view p a b t' e other leaves) same hint
+
+  -- a range that has a refblock in the file has one in memory
+  pub block_in_memory : (p : Pending) (file : ImageFile S) (t : EntryTableView) (range block : ℕ) → IsSoundFile view p file → HasReftable view file t → StandsAt view file range (Some block) → HasNone t range → ⊥
+  block_in_memory p file t range block sound has at none = at.0 (ap block_offset (sym (sound.caches.kept.kept.guarded.same_top.reftable range) ∙ sym (has.entries range)) ∙ none)
+
+  pub has_block : (p : Pending) (file : ImageFile S) (t : EntryTableView) (range : ℕ) (o : Option ℕ) → IsSoundFile view p file → HasReftable view file t → is_some o ≡ true → StandsAt view file range o → HasNone t range → ⊥
+  has_block p file t range None sound has some at none = let bad : false ≡ true = some in cc
+  has_block p file t range (Some block) sound has some at none = block_in_memory p file t range block sound has at none
+
+  -- so has one where a refblock was placed
+  pub placed_block : (p p' : Pending) (old new : ImageFile S) (t : Allocator) (range at : ℕ) (result : Result (Unit {0}) ImageError) → PlacesBlock view p old t new p' range at result → OnOk result (HasNone t.reftable range → ⊥)
+  placed_block p p' old new t range at (Ok done) placed = λ none. block_in_memory p' new t.reftable range at placed.0.moves.sound placed.0.reftable placed.1 none
+  placed_block p p' old new t range at (Err e) placed = tt
+
+  -- the cluster of a refblock that is named is in use
+  pub named_used : (p : Pending) (file : ImageFile S) (range at : ℕ) → IsSoundFile view p file → StandsAt view file range (Some at) → IsUsed view file at
+  named_used p file range at sound stands zero =
+      let h = file.header.fields in
+      let guarded = sound.caches.kept.kept.guarded in
+      let same = guarded.same_top.reftable range in
+      let real : block_offset (reftable_entry h (contents_in view file) range) ≢ 0 = λ none. stands.0 (ap block_offset (sym same) ∙ none) in
+      let place : block_offset (reftable_entry h (contents_in view file) range) ≡ at * cluster_size h = ap block_offset same ∙ stands.1 in
+      let plus : at * cluster_size h ≡ at * cluster_size h + 0 = omega arith in
+      let here : block_offset (reftable_entry h (contents_in view file) range) / cluster_size h ≡ at = ap (λ n. n / cluster_size h) place ∙ ap (λ n. n / cluster_size h) plus ∙ div-mul-add at (cluster_size h) 0 (pow_pos h.cluster_bits) in
+      let one = subst (λ n. 1 ≤ named_by_reftable h (contents_in view file) n) here (block_has h (contents_in view file) range real) in
+      let parts = shares h (contents_in view file) at in
+      let tally = (guarded.always at).tally in
+      absurd (omega (arith, one, parts, tally, zero))
+
+  -- a refblock was placed in a cluster that was taken for it
+  pub hint_placed : (p : Pending) (mid new : ImageFile S) (t t' : Allocator) (range at : ℕ) (result : Result (Unit {0}) ImageError) → t'.first_free_cluster ≡ t.first_free_cluster
+      → PlacesBlock view (taken_as false p (one_at at)) mid t' new p range at result → HasHint view t mid → KeepsHint view t' new result
+  hint_placed p mid new t t' range at (Ok done) same placed hint = λ k below. elim (cases_eq k at) [
+    | inl here ↦ subst (IsUsed view new) (sym here) (named_used p new range at placed.0.moves.sound placed.1)
+    | inr other ↦
+        let none = none_there at k other in
+        used_stays (taken_as false p (one_at at)) p mid new t' k placed.0 (omega (arith, none)) (hint k (subst (λ n. k < n) same below))
+  ]
+  hint_placed p mid new t t' range at (Err e) same placed hint = λ other. absurd (other placed.0)
+
+  -- a range got its refblock
+  pub hint_got : (p : Pending) (old new : ImageFile S) (t t' : Allocator) (result : Result (Unit {0}) ImageError) → t'.first_free_cluster ≡ t.first_free_cluster → GetsBlock view p old t' new result → HasHint view t old → KeepsHint view t' new result
+  hint_got p old new t t' (Ok done) same gets hint = hint_stays p old new t t' gets same hint
+  hint_got p old new t t' (Err e) same gets hint = hint_refused p old new t t' e same gets hint
+
+  -- a cluster was taken, or is in use
+  pub hint_raised : (p : Pending) (d : Bool) (cluster : ℕ) (old new : ImageFile S) (t t' : Allocator) (taken : Bool) → t'.first_free_cluster ≡ t.first_free_cluster → TakesOne view p old t' new d cluster (Ok taken) → HasHint view t old → HasHint view t' new
+  hint_raised p d cluster old new t t' true same takes hint = hint_taken p d (one_at cluster) old new t t' takes same hint
+  hint_raised p d cluster old new t t' false same takes hint = hint_stays p old new t t' takes same hint
+
+  pub raised_used : (p : Pending) (d : Bool) (cluster : ℕ) (old new : ImageFile S) (t : Allocator) (taken : Bool) → TakesOne view p old t new d cluster (Ok taken) → (taken ≡ false → IsUsed view new cluster) → IsUsed view new cluster
+  raised_used p d cluster old new t true takes used = taken_used p d (one_at cluster) old new t cluster takes (let own = one_here cluster in omega (arith, own))
+  raised_used p d cluster old new t false takes used = used refl
+
+  -- a count fell
+  pub lowered_so : (p p' : Pending) (old new : ImageFile S) (t : Allocator) (made : Bool) → IsTrue made → LowersOne view p old t new p' (Ok made) → Becomes view p old t new p'
+  lowered_so p p' old new t true so lowers = lowers
+  lowered_so p p' old new t false so lowers = absurd lowers
+
+  -- the refblock of a range stands where it stood, while nothing is written
+  pub stands_still : (p p' : Pending) (file : ImageFile S) (caches : MetadataCaches S) (range block : ℕ) → IsSoundFile view p file → IsSoundFile view p' (record file { caches = caches }) → IsSome (rb_at caches block)
+      → StandsAt view file range (Some block) → StandsAt view (record file { caches = caches }) range (Some block)
+  stands_still p p' file caches range block sound sound' held at =
+      let same : block_offset (reftable_entry file.header.fields (known_in view (record file { caches = caches })) range) ≡ block_offset (reftable_entry file.header.fields (known_in view file) range) =
+      ap block_offset (sym (sound'.caches.kept.kept.guarded.same_top.reftable range) ∙ sound.caches.kept.kept.guarded.same_top.reftable range) in ((λ none. at.0 (sym same ∙ none)), same ∙ at.1, held)
+
+  -- a count was lowered, which is noted where it came to 0
+  pub hint_lowered : (owed : Owed) (p : Pending) (cluster : ℕ) (old new : ImageFile S) (t t' : Allocator) → Becomes view (owed_as owed p (one_at cluster)) old t' new p → t'.first_free_cluster ≤ t.first_free_cluster
+      → (count new.header.fields (known_in view new) cluster ≡ 0 → t'.first_free_cluster ≤ cluster) → HasHint view t old → HasHint view t' new
+  hint_lowered owed p cluster old new t t' becomes lower noted hint k below = elim (cases_eq k cluster) [
+    | inl same ↦ λ zero. let le = noted (subst (λ n. count new.header.fields (known_in view new) n ≡ 0) same zero) in omega (arith, le, below, same)
+    | inr other ↦
+        let none = none_there cluster k other in
+        let pending = owed_pending owed p (one_at cluster) k in
+        used_stays (owed_as owed p (one_at cluster)) p old new t' k becomes (omega (arith, none, pending)) (hint k (omega (arith, below, lower)))
+  ]
+
+  -- ---- the search for the lowest run
+
+  -- all below the first free cluster is in use
+  pub lowest_first : (file : ImageFile S) (t : Allocator) (n : ℕ) → HasHint view t file → 0 < n → IsLowestRun view file t.first_free_cluster n
+  lowest_first file t n hint some start below = (start, omega arith, omega (arith, some), below, hint start below)
+
+  -- what is in use stays in use
+  pub lowest_stays : (p p' : Pending) (a b : ImageFile S) (t : Allocator) (first n : ℕ) → Becomes view p a t b p' → ((k : ℕ) → pending_at p k ≤ pending_at p' k) → IsLowestRun view a first n → IsLowestRun view b first n
+  lowest_stays p p' a b t first n becomes more lowest start below = let at = lowest start below in (at.0, at.1, at.2, at.3, used_stays p p' a b t at.0 becomes (more at.0) at.4)
+
+  -- the search goes on behind a cluster that is in use
+  pub lowest_behind : (file : ImageFile S) (first n taken : ℕ) → taken ≤ n → taken ≢ n → IsUsed view file (first + taken) → IsLowestRun view file first n → IsLowestRun view file (first + (taken + 1)) n
+  lowest_behind file first n taken within some used lowest start below = elim (cases_lt start first) [
+    | inl before ↦ let at = lowest start before in (at.0, at.1, at.2, (let lt = at.3 in omega arith), at.4)
+    | inr above ↦ (first + taken, omega (arith, below), omega (arith, within, some, above), omega arith, used)
+  ]

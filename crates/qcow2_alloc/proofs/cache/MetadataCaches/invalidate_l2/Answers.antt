@@ -1,0 +1,14 @@
+use Rattle.qcow2_alloc.proofs.KeptTables.Off.{left_of, left_err, tables_taken}
+use Rattle.qcow2_alloc.proofs.cache.MetadataCaches.invalidate_l2.Goals as goal
+
+pub returns-in_err-invalidate-clause-left : goal.returns-in_err-invalidate-clause-left
+returns-in_err-invalidate-clause-left g c =
+    left_err c.args.self.now.l2.entries c.invalidate.new.self.entries c.invalidate.result c.in_err-invalidate.field-0.0 c.in_err-invalidate.was c.invalidate.ensures.answer c.from_residual.result c.from_residual.ensures
+
+pub returns-in_err-invalidate-clause-taken : goal.returns-in_err-invalidate-clause-taken
+returns-in_err-invalidate-clause-taken g c =
+    tables_taken c.args.self.now c.invalidate.new.self c.invalidate.ensures.others (left_of c.args.self.now.l2.entries c.invalidate.new.self.entries c.invalidate.result c.invalidate.ensures.answer)
+
+pub returns-clause-taken : goal.returns-clause-taken
+returns-clause-taken g c =
+    tables_taken c.args.self.now c.invalidate.new.self c.invalidate.ensures.others (left_of c.args.self.now.l2.entries c.invalidate.new.self.entries c.invalidate.result c.invalidate.ensures.answer)

@@ -1,0 +1,36 @@
+use Rattle.std.proofs.Common.{eqb, refl, sym, ap, ◌∙◌, arith}
+use Rattle.std.specs.Option.{option_copied_mut}
+use Rattle.qcow2_metadata.specs.L2Table.{L2TableView}
+use Rattle.qcow2_alloc.proofs.KeptTables.Mapping.{index_fits, entry_made}
+use Rattle.qcow2_alloc.proofs.CacheMarks.{marks_tables, marks_noted, set_keeps_pins}
+use Rattle.qcow2_alloc.specs.AsyncLruCache.{with_entries, set_at}
+use Rattle.qcow2_alloc.proofs.cache.MetadataCaches.l2_discard_cluster.Goals as goal
+
+pub returns-then-index-entries-clause-marks : goal.returns-then-index-entries-clause-marks
+returns-then-index-entries-clause-marks g c =
+    marks_tables c.args.self.now (with_entries c.args.self.now.l2 (set_at (eqb c.args.cluster) c.args.self.now.l2.entries c.in_ok-table.table.now)) (set_keeps_pins c.args.cluster c.args.self.now.l2.entries c.in_ok-table.table.now)
+
+pub returns-then-index-entries-clause-discarded : goal.returns-then-index-entries-clause-discarded
+returns-then-index-entries-clause-discarded g c = λ h p base i sound at there.
+    let found = sym c.peek_mut.ensures.value ∙ ap option_copied_mut c.in_ok-table.was in
+    let fits = index_fits h p base c.args.self.now sound c.args.cluster c.args.index c.in_ok-table.table.now found i at in
+    absurd (let count = c.entries.ensures.value in let past = c.if-index-entries.true in omega arith)
+
+pub returns-then-index-entries-clause-noted : goal.returns-then-index-entries-clause-noted
+returns-then-index-entries-clause-noted g c = λ h p base i sound at there.
+    let found = sym c.peek_mut.ensures.value ∙ ap option_copied_mut c.in_ok-table.was in
+    let fits = index_fits h p base c.args.self.now sound c.args.cluster c.args.index c.in_ok-table.table.now found i at in
+    absurd (let count = c.entries.ensures.value in let past = c.if-index-entries.true in omega arith)
+
+pub returns-clause-marks : goal.returns-clause-marks
+returns-clause-marks g c =
+    marks_noted c.args.self.now (record c.args.self.now { l2 = with_entries c.args.self.now.l2 (set_at (eqb c.args.cluster) c.args.self.now.l2.entries c.discard_cluster.new.self) })
+    (marks_tables c.args.self.now (with_entries c.args.self.now.l2 (set_at (eqb c.args.cluster) c.args.self.now.l2.entries c.discard_cluster.new.self)) (set_keeps_pins c.args.cluster c.args.self.now.l2.entries c.discard_cluster.new.self))
+
+pub returns-clause-discarded : goal.returns-clause-discarded
+returns-clause-discarded g c = λ h p base i sound at there.
+    let found = sym c.peek_mut.ensures.value ∙ ap option_copied_mut c.in_ok-table.was in
+    let same = c.discard_cluster.ensures.same in
+    entry_made h p base c.args.self.now sound c.args.cluster c.args.index c.in_ok-table.table.now found i at c.discard_cluster.new.self
+    (ap (λ (t : L2TableView). t.is_modified) same) (ap (λ (t : L2TableView). t.cluster_bits) same) (ap (λ (t : L2TableView). t.has_zero_bit) same) (ap (λ (t : L2TableView). t.data_is_external) same)
+    _ refl refl refl 0 c.discard_cluster.result c.discard_cluster.ensures.changed c.discard_cluster.ensures.dropped

@@ -1,0 +1,40 @@
+use Rattle.std.proofs.Common.{eqb, None, if◌then◌else◌, refl, sym, ap, ◌∙◌, subst, arith}
+use Rattle.std.specs.Option.{option_copied_mut}
+use Rattle.qcow2_metadata.specs.declared.l2_mapping.L2Mapping.{L2Mapping}
+use Rattle.qcow2_metadata.specs.L2Table.{L2TableView, zero_entry, copied_host}
+use Rattle.qcow2_metadata.specs.TableBytes.{ChangesEntry}
+use Rattle.qcow2_alloc.proofs.KeptTables.Mapping.{index_fits, covers_known, entry_made}
+use Rattle.qcow2_alloc.proofs.CacheMarks.{marks_tables, marks_noted, set_keeps_pins}
+use Rattle.qcow2_alloc.specs.AsyncLruCache.{with_entries, set_at}
+use Rattle.qcow2_alloc.proofs.cache.MetadataCaches.l2_zero_cluster.Goals as goal
+
+pub returns-then-index-entries-clause-marks : goal.returns-then-index-entries-clause-marks
+returns-then-index-entries-clause-marks g c =
+    marks_tables c.args.self.now (with_entries c.args.self.now.l2 (set_at (eqb c.args.cluster) c.args.self.now.l2.entries c.in_ok-table.table.now)) (set_keeps_pins c.args.cluster c.args.self.now.l2.entries c.in_ok-table.table.now)
+
+pub returns-then-index-entries-clause-zeroed : goal.returns-then-index-entries-clause-zeroed
+returns-then-index-entries-clause-zeroed g c = λ h p base i sound at there.
+    let found = sym c.peek_mut.ensures.value ∙ ap option_copied_mut c.in_ok-table.was in
+    let fits = index_fits h p base c.args.self.now sound c.args.cluster c.args.index c.in_ok-table.table.now found i at in
+    absurd (let count = c.entries.ensures.value in let past = c.if-index-entries.true in omega arith)
+
+pub returns-then-index-entries-clause-noted : goal.returns-then-index-entries-clause-noted
+returns-then-index-entries-clause-noted g c = λ h p base i sound at there.
+    let found = sym c.peek_mut.ensures.value ∙ ap option_copied_mut c.in_ok-table.was in
+    let fits = index_fits h p base c.args.self.now sound c.args.cluster c.args.index c.in_ok-table.table.now found i at in
+    absurd (let count = c.entries.ensures.value in let past = c.if-index-entries.true in omega arith)
+
+pub returns-clause-marks : goal.returns-clause-marks
+returns-clause-marks g c =
+    marks_noted c.args.self.now (record c.args.self.now { l2 = with_entries c.args.self.now.l2 (set_at (eqb c.args.cluster) c.args.self.now.l2.entries c.zero_cluster.new.self) })
+    (marks_tables c.args.self.now (with_entries c.args.self.now.l2 (set_at (eqb c.args.cluster) c.args.self.now.l2.entries c.zero_cluster.new.self)) (set_keeps_pins c.args.cluster c.args.self.now.l2.entries c.zero_cluster.new.self))
+
+pub returns-clause-zeroed : goal.returns-clause-zeroed
+returns-clause-zeroed g c = λ h p base i sound at there.
+    let found = sym c.peek_mut.ensures.value ∙ ap option_copied_mut c.in_ok-table.was in
+    let same = c.zero_cluster.ensures.same in
+    let covers = covers_known h p base c.args.self.now sound c.args.cluster c.args.index c.in_ok-table.table.now found i at in
+    entry_made h p base c.args.self.now sound c.args.cluster c.args.index c.in_ok-table.table.now found i at c.zero_cluster.new.self
+    (ap (λ (t : L2TableView). t.is_modified) same) (ap (λ (t : L2TableView). t.cluster_bits) same) (ap (λ (t : L2TableView). t.has_zero_bit) same) (ap (λ (t : L2TableView). t.data_is_external) same)
+    _ refl refl refl _ c.zero_cluster.result
+    (subst (λ (m : L2Mapping). ChangesEntry c.in_ok-table.table.now.bytes c.zero_cluster.new.self.bytes c.args.index (zero_entry (if c.args.keep then copied_host m else None))) covers c.zero_cluster.ensures.changed) c.zero_cluster.ensures.dropped

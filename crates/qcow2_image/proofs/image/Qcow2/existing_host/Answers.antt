@@ -1,0 +1,24 @@
+use Rattle.std.proofs.Common.{◌≡◌, sym, ap, ◌∙◌, subst, arith, min, is_some}
+use Rattle.qcow2_laws.specs.Alike.{IsLongestRun}
+use Rattle.qcow2_alloc.specs.ImageFile.{known_in}
+use Rattle.qcow2_image.specs.Found.{rest_of_table, writable_place}
+use Rattle.qcow2_image.specs.Preparing.{IsPlaceOf}
+use Rattle.qcow2_image.proofs.Writable.{place_found, short_of}
+use Rattle.qcow2_image.proofs.image.Qcow2.existing_host.Goals as goal
+
+pub returns-then-found-length-clause-place : goal.returns-then-found-length-clause-place
+returns-then-found-length-clause-place g c = λ p sound at some.
+    let h = c.args.self.now.file.header.fields in
+    let known = known_in g.S.Storage.view c.args.self.now.file in
+    let limit : c.min-max.result ≡ min c.args.length (rest_of_table h c.args.offset) = c.min-max.ensures ∙ ap (min c.args.length) c.rest_of_table.ensures.value in
+    let run = c.in_ok-kind.ensures.run p sound at (omega (arith, limit)) in
+    short_of h known c.args.offset c.args.length c.in_ok-kind.found some (subst (λ m. IsLongestRun h known c.args.offset m c.in_ok-kind.found) limit run.longest) c.if-found-length.true
+
+pub returns-clause-place : goal.returns-clause-place
+returns-clause-place g c = λ p sound at some.
+    let h = c.args.self.now.file.header.fields in
+    let known = known_in g.S.Storage.view c.args.self.now.file in
+    let limit : c.min-max.result ≡ min c.args.length (rest_of_table h c.args.offset) = c.min-max.ensures ∙ ap (min c.args.length) c.rest_of_table.ensures.value in
+    let run = c.in_ok-kind.ensures.run p sound at (omega (arith, limit)) in
+    subst (IsPlaceOf h known c.args.offset c.args.length) (sym (c.writable_place.ensures ∙ ap writable_place run.kind_is))
+    (place_found h known c.args.offset c.args.length c.in_ok-kind.found some (subst (λ m. IsLongestRun h known c.args.offset m c.in_ok-kind.found) limit run.longest) (is_some c.args.self.now.backing) (let l = c.if-found-length.false in omega arith))

@@ -1,0 +1,14 @@
+use Rattle.qcow2_alloc.proofs.AllocationSteps.{handed_on}
+use Rattle.qcow2_image.specs.Growing.{NamesTable}
+use Rattle.qcow2_image.proofs.Grown.{named_then}
+use Rattle.qcow2_image.proofs.image.Qcow2.write_l1_table.Goals as goal
+
+pub returns-in_err-place_l1_table-clause-names : goal.returns-in_err-place_l1_table-clause-names
+returns-in_err-place_l1_table-clause-names g c = λ p sound longer.
+    handed_on (NamesTable g.S.Storage.view g.F.BackingDisk.backing p c.args.self.now c.place_l1_table.new.self c.args.table c.args.cluster) c.from_residual.result c.in_err-place_l1_table.field-0.0 c.from_residual.ensures
+    (c.in_err-place_l1_table.ensures.places p sound longer)
+
+pub returns-clause-names : goal.returns-clause-names
+returns-clause-names g c = λ p sound longer.
+    named_then g.S.Storage.view g.F.BackingDisk.backing p c.args.self.now c.place_l1_table.new.self c.name_l1_table.new.self c.args.table c.place_l1_table.new.table c.args.cluster c.name_l1_table.result c.in_ok-place_l1_table.ensures.table
+    (c.in_ok-place_l1_table.ensures.places p sound longer) (c.name_l1_table.ensures.names p)
