@@ -39,5 +39,7 @@ pub mod NamedL1
 pub mod Grown
 pub mod Cleared
 pub mod FirstBlocks
+pub mod FirstImage
+pub mod ThreeWrites
 pub mod Clearing
 pub mod Probing
