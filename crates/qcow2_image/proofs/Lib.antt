@@ -41,5 +41,6 @@ pub mod Cleared
 pub mod FirstBlocks
 pub mod FirstImage
 pub mod ThreeWrites
+pub mod Creating
 pub mod Clearing
 pub mod Probing

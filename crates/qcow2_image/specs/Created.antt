@@ -12,6 +12,8 @@ use Rattle.qcow2_metadata.specs.RefBlock.{RefBlockView, ref_block, count_at}
 use Rattle.qcow2_metadata.specs.TableBytes.{entry_at}
 use Rattle.qcow2_laws.specs.Disk.{disk}
 use Rattle.qcow2_laws.specs.NewImages.{IsNewImage}
+use Rattle.qcow2_alloc.specs.declared.error.ImageError.{ImageError}
+use Rattle.qcow2_image.specs.Growing.{SameFormat}
 use Rattle.qcow2_image.specs.declared.builder.Qcow2CreateBuilder.{Qcow2CreateBuilder}
 
 -- the first eight bytes are the magic, and version 2 or 3
@@ -28,10 +30,14 @@ pub record IsUnwritten (n : ℕ) (b : Bytes) : Type 0 where
 abbrev pub IsStopOfCreating : ℕ → Bytes → Type 0
 IsStopOfCreating n b = (begins_image b ≡ false) ⊎ (IsUnwritten 0 b ⊎ IsUnwritten n b)
 
--- the same of each moment since, and it stays honest
-pub record StopsCreating (n : ℕ) (old new : StorageView) : Type 0 where
+-- so does one at each moment since
+abbrev pub StopsCreating : ℕ → StorageView → StorageView → Type 0
+StopsCreating n old new = Passing old new (λ c. IsStopOfCreating n (byte_at c))
+
+-- and the storage is still honest
+pub record StaysCreating (n : ℕ) (old new : StorageView) : Type 0 where
   pub honest : new.is_honest
-  pub moments : Passing old new (λ c. IsStopOfCreating n (byte_at c))
+  pub moments : StopsCreating n old new
 
 module _ {S : Type 0} where
   -- clusters and counts that images may have
@@ -74,11 +80,11 @@ pub record NamesOne (h : HeaderFields) (t : EntryTableView) : Type 0 where
   pub entries : (i : ℕ) → entry_at t.bytes i ≡ (if i == 0 then 2 * cluster_size h else 0)
 
 -- the three clusters are written, or a stop is as said above
-abbrev pub WritesThree : HeaderFields → StorageView → StorageView → {E : Type 0} → Result (Unit {0}) E → Type 0
-WritesThree h old new (Ok _) = StopsCreating 0 old new × IsNewImage h (byte_at new.contents)
-WritesThree h old new (Err _) = StopsCreating 0 old new
+abbrev pub WritesThree : HeaderFields → StorageView → StorageView → Result (Unit {0}) ImageError → Type 0
+WritesThree h old new (Ok _) = StaysCreating 0 old new × IsNewImage h (byte_at new.contents)
+WritesThree h old new (Err _) = StaysCreating 0 old new
 
 -- it is opened, made larger and flushed, or a stop is as said above
-abbrev pub Enlarges : ℕ → StorageView → StorageView → {E : Type 0} → Result (Unit {0}) E → Type 0
-Enlarges n old new (Ok _) = StopsCreating n old new × IsUnwritten n (byte_at new.contents)
+abbrev pub Enlarges : ℕ → StorageView → StorageView → Result (Unit {0}) ImageError → Type 0
+Enlarges n old new (Ok _) = StaysCreating n old new × IsUnwritten n (byte_at new.contents) × SameFormat (header (byte_at old.contents)) (header (byte_at new.contents))
 Enlarges n old new (Err _) = StopsCreating n old new

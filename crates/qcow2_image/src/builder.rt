@@ -3,6 +3,8 @@ ghost use Rattle.std.specs.Prelude.{◌≡◌, ◌^◌, [], IfSome, IfOk, OnOk, 
 ghost use Rattle.image_access.specs.Moments.{Passing};
 ghost use Rattle.qcow2_metadata.specs.Bytes.{byte_at};
 ghost use Rattle.qcow2_alloc.specs.ImageStorage.{storage_of};
+ghost use Rattle.qcow2_image.specs.Growing.{GrowsWhole};
+ghost use Rattle.qcow2_image.specs.Views.{seen};
 ghost use Rattle.qcow2_image.specs.Created.{IsUnwritten, IsNewHeader, CountsThree, NamesOne, WritesThree, Enlarges};
 
 use crate::Qcow2;
@@ -128,7 +130,7 @@ impl<S: Storage> Qcow2CreateBuilder<S> {
         if let Err(refusal) = write_new_image(alloc, &mut storage, &header) {
             return (storage.into_inner(), Err(refusal));
         }
-        grow_new_image(alloc, storage.into_inner(), size)
+        grow_new_image::<S, NoBacking>(alloc, storage.into_inner(), size)
     }
 }
 
@@ -202,10 +204,14 @@ fn write_new_image<S: Storage>(
     write_three(alloc, storage, header, &block, &reftable)
 }
 
-fn grow_new_image<S: Storage>(alloc: Global, storage: S, size: u64) -> (S, Result<(), ImageError>)
+fn grow_new_image<S: Storage, F: WrappedFormat<S>>(
+    alloc: Global,
+    storage: S,
+    size: u64,
+) -> (S, Result<(), ImageError>)
     ensures { (S.view storage).is_honest → IsUnwritten 0 (byte_at (S.view storage).contents) → Enlarges size (S.view storage) (S.view result.0) result.1 }
 {
-    match Qcow2::<S, NoBacking>::open_image(alloc, storage, true, 0) {
+    match Qcow2::<S, F>::open_image(alloc, storage, true, 0) {
         Err((storage, refusal)) => (storage, Err(refusal)),
         Ok(mut image) => {
             let done = grow_and_flush(&mut image, size);
@@ -214,10 +220,11 @@ fn grow_new_image<S: Storage>(alloc: Global, storage: S, size: u64) -> (S, Resul
     }
 }
 
-fn grow_and_flush<S: Storage>(
-    image: &mut Qcow2<S, NoBacking>,
+fn grow_and_flush<S: Storage, F: WrappedFormat<S>>(
+    image: &mut Qcow2<S, F>,
     size: u64,
 ) -> Result<(), ImageError>
+    ensures { (seen S.view F.backing image.old []).is_sound → GrowsWhole S.view F.backing image.old image.new size result }
 {
     image.grow(size)?;
     image.flush()

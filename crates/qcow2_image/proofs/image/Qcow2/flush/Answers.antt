@@ -1,4 +1,4 @@
-use Rattle.std.proofs.Common.{◌≡◌, sym, ◌∙◌, subst}
+use Rattle.std.proofs.Common.{◌≡◌, [], sym, ◌∙◌, subst}
 use Rattle.std.specs.Prelude.{Result}
 use Rattle.qcow2_laws.specs.Calls.{IsSame}
 use Rattle.qcow2_laws.specs.Views.{contents_of}
@@ -7,6 +7,7 @@ use Rattle.qcow2_image.specs.declared.image.Qcow2.{Qcow2}
 use Rattle.qcow2_image.specs.Image.{is_failed}
 use Rattle.qcow2_image.proofs.Called.{told_flushes, tells_quietly, quietly_then}
 use Rattle.qcow2_image.proofs.Loading.{if_ok}
+use Rattle.qcow2_image.proofs.Grown.{written_back}
 use Rattle.qcow2_image.proofs.image.Qcow2.flush.Goals as goal
 
 pub returns-clause-sees : goal.returns-clause-sees
@@ -22,3 +23,9 @@ returns-clause-sees g c =
     (is_failed c.settled.new.self) (λ done v w. (w.known ≡ contents_of w) × IsSame v w) c.write_back-done.result c.settled.ensures.marks (c.write_back-done.ensures.stays.image.number ∙ c.begin.ensures.stays.image.number)
     c.if-self.false
     (λ out sound same. if_ok c.write_back-done.result (λ done written. (written, same)) c.write_back-done.ensures.written))))
+
+pub returns-clause-writes : goal.returns-clause-writes
+returns-clause-writes g c = λ p sound.
+    let begun = c.begin.ensures.keeps p [] sound in
+    written_back g.S.Storage.view g.F.BackingDisk.backing p c.args.self.now c.begin.new.self c.write_back-done.new.self c.settled.new.self c.write_back-done.result c.settled.result begun (c.write_back-done.ensures.keeps p [] begun.sound)
+    c.settled.ensures.answer c.settled.ensures.rest c.settled.ensures.marks
