@@ -1,5 +1,6 @@
 -- An unwritten image is opened, made larger and flushed: what a stop leaves on the way, and what stands then.
-use Rattle.std.proofs.Common.{◌≡◌, ◌⊎◌, inl, inr, ⊎_elim, ℕ, ◌≤◌, max, List, [], ◌∷◌, ◌++◌, Result, Ok, Err, refl, sym, ap, ◌∙◌, subst, arith}
+use Rattle.std.proofs.Common.{◌≡◌, ◌⊎◌, inl, inr, ⊎_elim, ℕ, ◌^◌, max, List, [], ◌∷◌, ◌++◌, None, Result, Ok, Err, refl, sym, ap, ◌∙◌, subst, arith}
+use Rattle.std.specs.Prelude.{IfOk}
 use Rattle.image_access.specs.Backing.{BackingView}
 use Rattle.image_access.specs.Moments.{StorageView, Passing}
 use Rattle.image_access.proofs.Passing.{passes_on, passes_if}
@@ -7,20 +8,24 @@ use Rattle.qcow2_metadata.specs.Bytes.{Bytes, byte_at}
 use Rattle.qcow2_metadata.specs.Consistent.{IsConsistent}
 use Rattle.qcow2_metadata.specs.declared.header.HeaderFields.{HeaderFields}
 use Rattle.qcow2_metadata.specs.Guest.{known_byte}
-use Rattle.qcow2_metadata.specs.Header.{header}
+use Rattle.qcow2_metadata.specs.Header.{HeaderView, header}
+use Rattle.qcow2_metadata.specs.HeaderWrite.{new_header, new_fields, HasNewNames}
 use Rattle.qcow2_laws.specs.Disk.{disk}
 use Rattle.qcow2_laws.specs.Leads.{Endures}
+use Rattle.qcow2_laws.specs.NewImages.{IsNewImage}
 use Rattle.qcow2_laws.specs.Stops.{Mark, marked, more, IsAsked, IsKeptAt}
 use Rattle.qcow2_laws.specs.Tops.{places_of, with_places}
 use Rattle.qcow2_laws.specs.Views.{IsOpened}
 use Rattle.qcow2_alloc.specs.declared.error.ImageError.{ImageError}
 use Rattle.qcow2_alloc.specs.ImageFile.{nothing_given, view_in}
+use Rattle.qcow2_image.specs.declared.builder.Qcow2CreateBuilder.{Qcow2CreateBuilder}
 use Rattle.qcow2_image.specs.declared.image.Qcow2.{Qcow2}
-use Rattle.qcow2_image.specs.Created.{IsUnwritten, IsStopOfCreating, StopsCreating, Enlarges}
+use Rattle.qcow2_image.specs.Created.{IsUnwritten, IsStopOfCreating, StopsCreating, StaysCreating, IsNewHeader, IsCreated, Enlarges}
 use Rattle.qcow2_image.specs.Growing.{SameFormat, GrowsWhole}
 use Rattle.qcow2_image.specs.Image.{size_of, storage_of_image}
 use Rattle.qcow2_image.specs.Opened.{IsKeptSince}
 use Rattle.qcow2_image.specs.Views.{seen}
+use Rattle.qcow2_image.proofs.ThreeWrites.{new_unwritten}
 
 disk_size : (b backing : Bytes) → (disk b backing).size ≡ (header b).size
 unfolding disk
@@ -98,3 +103,44 @@ module _ {S F : Type 0} (view : S → StorageView) (backing : F → BackingView)
 
   pub enlarged_so : (last : S) (r : Result (Unit {0}) ImageError) → last ≡ storage_of_image new → GrowsWhole view backing mid new size r → Enlarges size (view start) (view last) r
   enlarged_so last r is grows = subst (λ (s : S). Enlarges size (view start) (view s) r) (sym is) (enlarged r grows)
+
+-- ---- the whole call
+
+-- a stop that may leave an image of no bytes
+pub stops_at_none : (n : ℕ) (old new : StorageView) → StopsCreating 0 old new → StopsCreating n old new
+stops_at_none n old new stops = passes_if (λ c. IsStopOfCreating n (byte_at c)) (λ c stop. ⊎_elim (λ none. inl none) (λ either. ⊎_elim (λ u. inr (inl u)) (λ u. inr (inl u)) either) stop) stops
+
+pub new_header_is : (v : HeaderView) (bits order : ℕ) → v ≡ new_header bits order None None None → HasNewNames v → IsNewHeader v
+new_header_is v bits order is names = record {
+  is = is ∙ ap (λ b. new_header b order None None None) (sym (ap (λ (w : HeaderView). w.fields.cluster_bits) is)) ∙ ap (λ o. new_header v.fields.cluster_bits o None None None) (sym (ap (λ (w : HeaderView). w.fields.refcount_order) is));
+  names = names;
+}
+
+module _ {S : Type 0} (view : S → StorageView) (builder : Qcow2CreateBuilder S) (bits order : ℕ) (v : HeaderView) (is : v ≡ new_header bits order None None None) (start mid last : S) (same : start ≡ builder.image)
+    (three : StaysCreating 0 (view start) (view mid) × IsNewImage v.fields (byte_at (view mid).contents)) where
+  pub unwritten : IsUnwritten 0 (byte_at (view mid).contents)
+  unwritten = new_unwritten v.fields (byte_at (view mid).contents) three.1 (ap (λ (w : HeaderView). w.fields.size) is)
+
+  pub creating_stops : (r : Result (Unit {0}) ImageError) → Enlarges builder.size (view mid) (view last) r → StopsCreating builder.size (view builder.image) (view last)
+  creating_stops r enlarges =
+      subst (λ (s : S). StopsCreating builder.size (view s) (view last)) same
+      (passes_on (λ c. IsStopOfCreating builder.size (byte_at c)) (stops_at_none builder.size (view start) (view mid) three.0.moments) (stops_of r enlarges) (λ c stop. stop))
+    where
+      stops_of : (r : Result (Unit {0}) ImageError) → Enlarges builder.size (view mid) (view last) r → StopsCreating builder.size (view mid) (view last)
+      stops_of (Ok x) done = done.0.moments
+      stops_of (Err e) stops = stops
+
+  -- the header keeps what it was made of
+  header_then : SameFormat (header (byte_at (view mid).contents)) (header (byte_at (view last).contents)) → header (byte_at (view last).contents) ≡ with_places (new_fields bits order None None None) (places_of (header (byte_at (view last).contents)))
+  header_then format = format ∙ ap (λ h. with_places h (places_of (header (byte_at (view last).contents)))) (three.1.header_is ∙ ap (λ (w : HeaderView). w.fields) is)
+
+  pub created_so : builder.cluster_size ≡ 2 ^ bits → builder.refcount_width ≡ 2 ^ order → (r : Result (Unit {0}) ImageError) → Enlarges builder.size (view mid) (view last) r → IfOk r (λ done. IsCreated builder (view last))
+  created_so clusters counts (Ok x) done = let h = header_then done.2 in record {
+    honest = done.0.honest;
+    unwritten = done.1;
+    version = ap (λ (k : HeaderFields). k.version) h;
+    clusters = ap (λ (k : HeaderFields). 2 ^ k.cluster_bits) h ∙ sym clusters;
+    counts = ap (λ (k : HeaderFields). 2 ^ k.refcount_order) h ∙ sym counts;
+    no_backing_file = ap (λ (k : HeaderFields). k.backing_offset) h;
+  }
+  created_so clusters counts (Err e) stops = tt

@@ -50,13 +50,14 @@ module _ {S : Type 0} where
     pub no_larger : cluster_bits ≤ 21
     pub no_wider : refcount_order ≤ 6
 
-  -- the image that was asked for
-  pub record IsCreated (builder : Qcow2CreateBuilder S) (b : Bytes) : Type 0 where
-    pub unwritten : IsUnwritten builder.size b
-    pub version : (header b).version ≡ 3
-    pub clusters : cluster_size (header b) ≡ builder.cluster_size
-    pub counts : count_width (header b) ≡ builder.refcount_width
-    pub no_backing_file : (header b).backing_offset ≡ 0
+  -- the image that was asked for stands on an honest storage
+  pub record IsCreated (builder : Qcow2CreateBuilder S) (storage : StorageView) : Type 0 where
+    pub honest : storage.is_honest
+    pub unwritten : IsUnwritten builder.size (byte_at storage.contents)
+    pub version : (header (byte_at storage.contents)).version ≡ 3
+    pub clusters : cluster_size (header (byte_at storage.contents)) ≡ builder.cluster_size
+    pub counts : count_width (header (byte_at storage.contents)) ≡ builder.refcount_width
+    pub no_backing_file : (header (byte_at storage.contents)).backing_offset ≡ 0
 
 -- ---- its parts
 

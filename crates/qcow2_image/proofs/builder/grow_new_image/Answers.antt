@@ -1,16 +1,13 @@
-use Rattle.std.proofs.Common.{rules, ◌≡◌, ◌^◌, [], IfSome, IfOk, OnOk, IsSome, ℕ, ◌+◌, ◌-◌, ◌*◌, ◌<◌, ◌≤◌, length, ◌/◌, ◌%◌, Bool, true, false, nat_eq, nat_lt, List, ◌∷◌, ◌++◌, slice_index_or, slice_set, bit_and, bit_or, Fits, w8, w32, w64, Bor, MutBor}
-use Rattle.image_access.specs.Moments.{Passing}
-use Rattle.qcow2_metadata.specs.Bytes.{byte_at}
-use Rattle.qcow2_alloc.specs.ImageStorage.{storage_of}
-use Rattle.qcow2_image.specs.Growing.{GrowsWhole}
-use Rattle.qcow2_image.specs.Views.{seen}
-use Rattle.qcow2_image.specs.Created.{IsUnwritten, IsNewHeader, CountsThree, NamesOne, WritesThree, Enlarges}
+use Rattle.qcow2_image.proofs.Creating.{opening_stops, enlarged_so}
 use Rattle.qcow2_image.proofs.builder.grow_new_image.Goals as goal
 
--- src/builder.rt:207:1
 pub returns-in-Err : goal.returns-in-Err
-returns-in-Err g c = ?
+returns-in-Err g c = λ honest unwritten. opening_stops c.args.size (g.S.Storage.view c.args.storage) (g.S.Storage.view c.in-Err.storage) unwritten (c.in-Err.ensures.since honest unwritten.consistent)
 
--- src/builder.rt:207:1
 pub returns-in-Ok : goal.returns-in-Ok
-returns-in-Ok g c = ?
+returns-in-Ok g c = λ honest unwritten.
+    let view = g.S.Storage.view in
+    let below = g.F.BackingDisk.backing in
+    let opened = c.in-Ok.ensures.opens honest unwritten.consistent in
+    enlarged_so view below c.args.size c.args.storage c.in-Ok.image c.grow_and_flush-done.new.image unwritten (c.in-Ok.ensures.since honest unwritten.consistent) opened (c.in-Ok.ensures.format honest) c.into_storage.result c.grow_and_flush-done.result
+    c.into_storage.ensures (c.grow_and_flush-done.ensures opened.sound)
