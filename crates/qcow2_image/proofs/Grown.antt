@@ -30,12 +30,12 @@ use Rattle.qcow2_alloc.proofs.FileSteps.{pending_same}
 use Rattle.qcow2_alloc.proofs.PlacedBlocks.{file_sizes}
 use Rattle.qcow2_alloc.proofs.Runs.{run_before, run_after}
 use Rattle.qcow2_image.specs.declared.image.Qcow2.{Qcow2}
-use Rattle.qcow2_image.specs.Growing.{SameFormat, clusters_of, run_of_table, listed, with_table, without_l1, IsLonger, StandsWhole, Lasts, Extends, PlacesTable, NamesTable, TakesTable, Resizes, Grows}
+use Rattle.qcow2_image.specs.Growing.{SameFormat, clusters_of, run_of_table, listed, with_table, without_l1, IsLonger, StandsWhole, Lasts, Extends, PlacesTable, NamesTable, TakesTable, Resizes, Grows, WritesBack, GrowsWhole}
 use Rattle.qcow2_image.specs.Image.{size_of, is_failed}
 use Rattle.qcow2_image.specs.Refusals.{Marks}
 use Rattle.qcow2_image.specs.Steps.{Keeps, ListGrows, following}
 use Rattle.qcow2_image.specs.Views.{of_data, of_tables, to_free, pending_in, IsSoundAt}
-use Rattle.qcow2_image.proofs.Entering.{keeps_none, keeps_listed}
+use Rattle.qcow2_image.proofs.Entering.{keeps_listed}
 use Rattle.qcow2_image.proofs.Moving.{file_moved}
 use Rattle.qcow2_image.proofs.Sound.{IsOnly, free_more, pending_is}
 
@@ -69,18 +69,6 @@ module _ {S F : Type 0} (view : S → StorageView) (backing : F → BackingView)
         moments = passes_if _ kept lasts.moments;
         contents = kept (view_in view b.file).contents lasts.contents;
       }
-
-  pub extends_more : (p q : Pending) (a b : Qcow2 S F) (size : ℕ) → Extends view backing p q a b [] → Extends view backing p q a b (size ∷ [])
-  extends_more p q a b size extends = record {
-    sound = extends.sound;
-    leads = record {
-      sound = extends.leads.sound;
-      base = λ below m ok known_ok. kept_more below [] (size ∷ []) m _ (extends.leads.base below m ok known_ok);
-      known = λ below m ok known_ok. kept_more below [] (size ∷ []) m _ (extends.leads.known below m ok known_ok);
-    };
-    since = lasts_more a b size extends.since;
-    format = extends.format;
-  }
 
   -- ---- the table is placed, and then named
   pub named_then : (p : Pending) (a b c : Qcow2 S F) (t t' : EntryTableView) (cluster : ℕ) (r : Result (Unit {0}) ImageError) → t' ≡ record t { cluster = Some cluster } → PlacesTable view backing (with_table p t cluster) a b t' cluster (Ok tt)
@@ -238,8 +226,24 @@ module _ {S F : Type 0} (view : S → StorageView) (backing : F → BackingView)
         subst (λ (s : Result (Unit {0}) ImageError). Grows view backing old new size s) (sym answer)
         (subst (λ (i : Qcow2 S F). Grows view backing old i size done) (sym rest) (grown done (is_failed new) resizes grows marks))
 
-  -- a size that isn't larger changes nothing
-  pub grown_none : (image : Qcow2 S F) (size : ℕ) → IsSoundAt view backing (pending_in view backing image []) image [] → size ≤ size_of image → Grows view backing image image size (Ok tt)
-  grown_none image size sound less =
-      let p = pending_in view backing image [] in
-      (extends_more p p image image size (extends_keeping p p image image (keeps_none view backing [] p image sound)), omega (arith, less))
+  -- ---- all tables are written
+  pub written_back : (p : Pending) (old mid big new : Qcow2 S F) (done r : Result (Unit {0}) ImageError) → Keeps view backing p p old mid [] → Keeps view backing p p mid big [] → r ≡ done → new ≡ record big { is_failed = is_failed new } → Marks done (is_failed big) (is_failed new)
+      → WritesBack view backing p old new r
+  written_back p old mid big new done r first then answer rest marks =
+      subst (λ (s : Result (Unit {0}) ImageError). WritesBack view backing p old new s) (sym answer) (subst (λ (i : Qcow2 S F). WritesBack view backing p old i done) (sym rest) (back done (is_failed new) marks))
+    where
+      all : Extends view backing p p old big []
+      all = extends_then p p p old mid big [] [] (extends_keeping p p old mid first) (extends_keeping p p mid big then)
+
+      back : (s : Result (Unit {0}) ImageError) (failed : Bool) → Marks s (is_failed big) failed → WritesBack view backing p old (record big { is_failed = failed }) s
+      back (Ok x) failed marks = subst (λ (f : Bool). WritesBack view backing p old (record big { is_failed = f }) (Ok x)) (sym marks) all
+      back (Err e) failed marks = all.since
+
+  -- after the disk was made larger
+  pub grown_whole : (old mid new : Qcow2 S F) (size : ℕ) (r : Result (Unit {0}) ImageError) → Grows view backing old mid size (Ok tt) → size_of new ≡ size_of mid → (IsSoundAt view backing (pending_in view backing mid []) mid [] → WritesBack view backing (pending_in view backing mid []) mid new r)
+      → GrowsWhole view backing old new size r
+  grown_whole old mid new size (Ok x) grown same writes =
+      let p = pending_in view backing old [] in
+      let q = pending_in view backing mid [] in
+      (q, extends_then p q q old mid new (size ∷ []) [] grown.0 (writes grown.0.sound), same ∙ grown.1)
+  grown_whole old mid new size (Err e) grown same writes = let q = pending_in view backing mid [] in lasts_then (pending_in view backing old []) q old mid new (size ∷ []) [] grown.0 (writes grown.0.sound)

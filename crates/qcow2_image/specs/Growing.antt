@@ -108,3 +108,13 @@ module _ {S F : Type 0} where
       abbrev pub Grows : Qcow2 S F → Qcow2 S F → ℕ → Result (Unit {0}) ImageError → Type 0
       Grows old new size (Ok _) = Extends (pending_in view backing old []) (pending_in view backing new []) old new (size ∷ []) × (size_of new ≡ max (size_of old) size)
       Grows old new size (Err e) = Lasts old new (size ∷ [])
+
+      -- all tables are written
+      abbrev pub WritesBack : Pending → Qcow2 S F → Qcow2 S F → Result (Unit {0}) ImageError → Type 0
+      WritesBack p old new (Ok _) = Extends p p old new []
+      WritesBack p old new (Err e) = Lasts old new []
+
+      -- so they are of a disk that was made larger
+      abbrev pub GrowsWhole : Qcow2 S F → Qcow2 S F → ℕ → Result (Unit {0}) ImageError → Type 0
+      GrowsWhole old new size (Ok _) = (p : Pending) × Extends (pending_in view backing old []) p old new (size ∷ []) × (size_of new ≡ max (size_of old) size)
+      GrowsWhole old new size (Err e) = Lasts old new (size ∷ [])

@@ -53,7 +53,9 @@ fn power_of_two(number: u64) -> Option<u32> {
 }
 
 impl<S: Storage> Qcow2CreateBuilder<S> {
-    ghost use Rattle.std.specs.Prelude.{◌≡◌};
+    ghost use Rattle.std.specs.Prelude.{Err};
+    ghost use Rattle.qcow2_alloc.specs.declared.error.ImageError.TheVariants.{InvalidOption};
+    ghost use Rattle.qcow2_image.specs.Created.{StopsCreating, IsCreated, IsAllowed};
 
     /// A disk of no bytes, clusters of 65,536 bytes and counts of 16 bits.
     pub fn new(image: S) -> Qcow2CreateBuilder<S>
@@ -97,8 +99,13 @@ impl<S: Storage> Qcow2CreateBuilder<S> {
         self
     }
 
-    /// Writes the new image, and hands its storage back.
-    pub fn create(self, alloc: Global) -> (S, Result<(), ImageError>) {
+    /// Writes the new image, and hands its storage back. Clusters or counts that images don't have are refused, and then
+    /// nothing was written.
+    pub fn create(self, alloc: Global) -> (S, Result<(), ImageError>)
+        ensures stops { (S.view self.image).is_honest → StopsCreating self.size (S.view self.image) (S.view result.0) }
+        ensures created { (S.view self.image).is_honest → IfOk result.1 (λ done. IsCreated self (S.view result.0)) }
+        ensures refused { ¬ IsAllowed self → (result.1 ≡ Err InvalidOption) × (result.0 ≡ self.image) }
+    {
         let Qcow2CreateBuilder {
             image,
             size,
@@ -119,7 +126,7 @@ impl<S: Storage> Qcow2CreateBuilder<S> {
         if let Err(refusal) = write_new_image(alloc, &mut storage, &header) {
             return (storage.into_inner(), Err(refusal));
         }
-        grow_new_image(alloc, storage.into_inner(), size)
+        grow_new_image::<S, NoBacking>(alloc, storage.into_inner(), size)
     }
 }
 
@@ -159,8 +166,8 @@ fn grow_new_image<S: Storage>(alloc: Global, storage: S, size: u64) -> (S, Resul
     }
 }
 
-fn grow_and_flush<S: Storage>(
-    image: &mut Qcow2<S, NoBacking>,
+fn grow_and_flush<S: Storage, F: WrappedFormat<S>>(
+    image: &mut Qcow2<S, F>,
     size: u64,
 ) -> Result<(), ImageError> {
     image.grow(size)?;
