@@ -1,4 +1,12 @@
 //! Making a new image.
+ghost use Rattle.std.specs.Prelude.{◌≡◌, ◌^◌, [], IfSome, IfOk, OnOk, IsSome};
+ghost use Rattle.image_access.specs.Moments.{Passing};
+ghost use Rattle.qcow2_metadata.specs.Bytes.{byte_at};
+ghost use Rattle.qcow2_alloc.specs.ImageStorage.{storage_of};
+ghost use Rattle.qcow2_image.specs.Growing.{GrowsWhole};
+ghost use Rattle.qcow2_image.specs.Views.{seen};
+ghost use Rattle.qcow2_image.specs.Created.{IsUnwritten, IsNewHeader, CountsThree, NamesOne, WritesThree, Enlarges};
+
 use crate::Qcow2;
 use image_access::{BackingDisk, Storage, StorageError, StoragePreallocate, WrappedFormat};
 use qcow2_alloc::{ImageError, ImageStorage, WriteKind};
@@ -44,9 +52,12 @@ impl<S> WrappedFormat<S> for NoBacking {
 }
 
 // The binary logarithm of a power of two.
-fn power_of_two(number: u64) -> Option<u32> {
-    if number.is_power_of_two() {
-        Some(number.trailing_zeros())
+fn power_of_two(number: u64) -> Option<u32>
+    ensures { IfSome result (λ bits. number ≡ 2 ^ bits) }
+{
+    let bits = number.trailing_zeros();
+    if bits < 64 && 1 << bits == number {
+        Some(bits)
     } else {
         None
     }
@@ -130,16 +141,23 @@ impl<S: Storage> Qcow2CreateBuilder<S> {
     }
 }
 
-// The header is cluster 0, the reftable 1, the refblock 2.
-fn write_new_image<S: Storage>(
-    alloc: Global,
-    storage: &mut ImageStorage<S>,
-    header: &Header,
-) -> Result<(), ImageError> {
-    if storage.size()? > 0 {
-        storage.resize(0, StoragePreallocate::None)?;
+// Nothing stands on the storage any more.
+fn clear<S: Storage>(storage: &mut ImageStorage<S>) -> Result<(), ImageError>
+    ensures honest { (S.view (storage_of storage.old)).is_honest → (S.view (storage_of storage.new)).is_honest }
+    ensures time { (S.view (storage_of storage.old)).is_honest → Passing (S.view (storage_of storage.old)) (S.view (storage_of storage.new)) (λ c. c ≡ []) }
+    ensures cleared { (S.view (storage_of storage.old)).is_honest → OnOk result ((S.view (storage_of storage.new)).contents ≡ []) }
+{
+    if storage.size()? == 0 {
+        return Ok(());
     }
-    storage.will_write(WriteKind::Other);
+    storage.resize(0, StoragePreallocate::None)?;
+    Ok(())
+}
+
+// The refblock of a new image, which counts its three clusters.
+fn first_refblock(alloc: Global, header: &Header) -> Result<RefBlock, ImageError>
+    ensures { IfOk result (CountsThree header.now.fields) }
+{
     let mut block = RefBlock::new_cleared(alloc, header)?;
     for index in 0..3 {
         if index < block.counts() {
@@ -147,17 +165,60 @@ fn write_new_image<S: Storage>(
         }
     }
     block.set_cluster(HostCluster::new(2));
+    Ok(block)
+}
+
+// The reftable of a new image, which names that refblock.
+fn first_reftable(alloc: Global, header: &Header) -> Result<RefTable, ImageError>
+    ensures { IfOk result (NamesOne header.now.fields) }
+{
     let mut reftable = RefTable::new_cleared(alloc, header, header.l2_entries())?;
     reftable.set_cluster(HostCluster::new(1));
     reftable.enter_refblock(0, HostCluster::new(2));
+    Ok(reftable)
+}
+
+// The header is cluster 0, the reftable 1, the refblock 2. The header is written last: before it, this is no image.
+fn write_three<S: Storage>(
+    alloc: Global,
+    storage: &mut ImageStorage<S>,
+    header: &Header,
+    block: &RefBlock,
+    reftable: &RefTable,
+) -> Result<(), ImageError>
+    requires block { IsSome block.now.cluster }
+    requires reftable { IsSome reftable.now.cluster }
+    ensures { (S.view (storage_of storage.old)).is_honest → (S.view (storage_of storage.old)).contents ≡ [] → IsNewHeader header.now → CountsThree header.now.fields block.now → NamesOne header.now.fields reftable.now
+        → WritesThree header.now.fields (S.view (storage_of storage.old)) (S.view (storage_of storage.new)) result }
+{
+    storage.will_write(WriteKind::Other);
     block.write(storage)?;
     reftable.write(storage)?;
     header.write(alloc, storage)?;
     Ok(())
 }
 
-fn grow_new_image<S: Storage>(alloc: Global, storage: S, size: u64) -> (S, Result<(), ImageError>) {
-    match Qcow2::<S, NoBacking>::open_image(alloc, storage, true, 0) {
+fn write_new_image<S: Storage>(
+    alloc: Global,
+    storage: &mut ImageStorage<S>,
+    header: &Header,
+) -> Result<(), ImageError>
+    ensures { (S.view (storage_of storage.old)).is_honest → IsNewHeader header.now → WritesThree header.now.fields (S.view (storage_of storage.old)) (S.view (storage_of storage.new)) result }
+{
+    clear(storage)?;
+    let block = first_refblock(alloc, header)?;
+    let reftable = first_reftable(alloc, header)?;
+    write_three(alloc, storage, header, &block, &reftable)
+}
+
+fn grow_new_image<S: Storage, F: WrappedFormat<S>>(
+    alloc: Global,
+    storage: S,
+    size: u64,
+) -> (S, Result<(), ImageError>)
+    ensures { (S.view storage).is_honest → IsUnwritten 0 (byte_at (S.view storage).contents) → Enlarges size (S.view storage) (S.view result.0) result.1 }
+{
+    match Qcow2::<S, F>::open_image(alloc, storage, true, 0) {
         Err((storage, refusal)) => (storage, Err(refusal)),
         Ok(mut image) => {
             let done = grow_and_flush(&mut image, size);
@@ -169,7 +230,9 @@ fn grow_new_image<S: Storage>(alloc: Global, storage: S, size: u64) -> (S, Resul
 fn grow_and_flush<S: Storage, F: WrappedFormat<S>>(
     image: &mut Qcow2<S, F>,
     size: u64,
-) -> Result<(), ImageError> {
+) -> Result<(), ImageError>
+    ensures { (seen S.view F.backing image.old []).is_sound → GrowsWhole S.view F.backing image.old image.new size result }
+{
     image.grow(size)?;
     image.flush()
 }
