@@ -109,11 +109,7 @@ impl<S: Storage, F: WrappedFormat<S>> Qcow2<S, F> {
     }
 
     // The table is written first, then the pointer that names it.
-    fn write_l1_table(
-        &mut self,
-        mut table: L1Table,
-        cluster: HostCluster,
-    ) -> Result<(), ImageError>
+    fn write_l1_table(&mut self, mut table: L1Table, cluster: HostCluster) -> Result<(), ImageError>
         requires { IsHostCluster self.old.file.header.fields.cluster_bits cluster }
         ensures names { (p : Pending) → IsSoundAt S.view F.backing (with_table p table cluster) self.old [] → IsLonger self.old table → NamesTable S.view F.backing p self.old self.new table cluster result }
         ensures list { self.new.file.free_list ≡ self.old.file.free_list }
