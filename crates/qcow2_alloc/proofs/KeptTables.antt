@@ -20,3 +20,6 @@ pub mod Causes
 pub mod Beside
 pub mod Named
 pub mod Off
+pub mod Laying
+pub mod Putting
+pub mod PuttingBlocks

@@ -1,5 +1,5 @@
 -- What contracts see of the caches of L2 tables and refblocks over the bytes of the storage.
-use Rattle.std.specs.Prelude.{ℕ, ◌+◌, ◌*◌, ◌/◌, ◌%◌, ◌≡◌, ◌≢◌, ◌<◌, ◌==◌, Bool, false, List, Option, None, Result, IfSome, IfErr, IsSome, IsTrue, if◌then◌else◌}
+use Rattle.std.specs.Prelude.{ℕ, ◌+◌, ◌*◌, ◌/◌, ◌%◌, ◌≡◌, ◌≢◌, ◌<◌, ◌==◌, ◌⊎◌, Bool, true, false, List, [], ◌∷◌, Option, None, Result, IfSome, IfErr, IsSome, IsTrue, if◌then◌else◌}
 use Rattle.image_access.specs.Moments.{StorageView}
 use Rattle.qcow2_metadata.specs.Bytes.{Bytes, byte_at}
 use Rattle.qcow2_metadata.specs.declared.header.HeaderFields.{HeaderFields}
@@ -10,11 +10,12 @@ use Rattle.qcow2_metadata.specs.L2Mapping.{IsHostCluster, dropped_run}
 use Rattle.qcow2_metadata.specs.L2Table.{L2TableView, copied_entry, zero_entry, copied_host}
 use Rattle.qcow2_metadata.specs.RefBlock.{RefBlockView}
 use Rattle.qcow2_metadata.specs.TableBytes.{entry_at}
-use Rattle.qcow2_metadata.specs.Tables.{CachedTable}
+use Rattle.qcow2_metadata.specs.Tables.{CachedTable, known}
 use Rattle.qcow2_laws.specs.Clusters as Order
 use Rattle.qcow2_laws.specs.Guard.{Pending, IsGuarded, IsPartly}
 use Rattle.qcow2_laws.specs.Steps.{block_of, CountRises, CountFalls}
-use Rattle.qcow2_laws.specs.Caches.{known_bytes, AreClean, AreSettled}
+use Rattle.qcow2_laws.specs.Writes.{IsUnnamed}
+use Rattle.qcow2_laws.specs.Caches.{known_bytes, IsFreeOf, AreClean, AreSettled, HasL2, HasBlock}
 use Rattle.qcow2_laws.specs.Guests.{table_at}
 use Rattle.qcow2_laws.specs.Tops.{IsSameOutside}
 use Rattle.qcow2_alloc.specs.AsyncLruCache.{value_at}
@@ -56,6 +57,10 @@ pub record ChangesKnownEntry (h : HeaderFields) (known known' : Bytes) (i j entr
 pub record ShowsEntry (h : HeaderFields) (known : Bytes) (i index : ℕ) (t : L2TableView) : Type 0 where
   pub format : IsTableOf h t
   pub entry : entry_at t.bytes index ≡ l2_entry known (table_at h known i) index
+
+-- a modified table of a cluster
+abbrev pub laid_at : HeaderFields → ℕ → List ℕ → CachedTable
+laid_at h cluster bytes = record { place = cluster * cluster_size h; bytes = byte_at bytes; is_modified = true }
 
 -- which tables are written first
 abbrev pub order : Direction → Order.Direction
@@ -244,3 +249,28 @@ module _ {S : Type 0} where
 
   abbrev pub TakesBlock : MetadataCaches S → MetadataCaches S → ℕ → Type 0
   TakesBlock caches caches' cluster = (h : HeaderFields) (p : Pending) (base : Bytes) → AreSound h p caches base → TakenFrom h caches caches' base cluster
+
+  -- ---- a modified table is put in
+
+  -- It is laid over what was known, and nothing else changes; at each moment on the way a stop is as safe as before. The caches are sound again, whatever is pending, where it stands so
+  -- and the order of writes is kept; and where it is named so, no refblock is new that wasn't.
+  pub record LaidOver (Stands : Bytes → Bytes → Type 0) (IsNamed : Bytes → Type 0) (h : HeaderFields) (old : StorageView) (caches : MetadataCaches S) (new : StorageView) (caches' : MetadataCaches S) (t : CachedTable) : Type 0 where
+    pub honest : new.is_honest
+    pub known : known_of h caches' (byte_at new.contents) ≡ known (cluster_size h) (t ∷ []) (known_of h caches (byte_at old.contents))
+    pub since : IsSafeSince old new (known_of h caches (byte_at old.contents))
+    pub settled : IsNamed (byte_at new.contents) → AreSettled h (refblocks caches) (byte_at old.contents) → AreSettled h (refblocks caches') (byte_at new.contents)
+    pub sound : (p : Pending) → Stands (byte_at new.contents) (known_of h caches' (byte_at new.contents)) → IsGuarded h (order_of caches') p (byte_at new.contents) (known_of h caches' (byte_at new.contents))
+        → AreSound h p caches' (byte_at new.contents)
+
+  -- an L2 table, whose cluster an L1 entry names, while no refblock is new
+  abbrev pub LaysTable : (S → StorageView) → ImageStorage S → MetadataCaches S → ImageStorage S → MetadataCaches S → L2TableView → Type 0
+  LaysTable view old caches new caches' t =
+      (h : HeaderFields) (p : Pending) → (view (storage_of old)).is_honest → AreSound h p caches (byte_at (view (storage_of old)).contents) → IsTableOf h t → t.is_modified ≡ true
+      → IfSome t.cluster (λ cluster. LaidOver (λ base known. AreSettled h (refblocks caches') base × HasL2 h base cluster) (λ base. Unit {0}) h (view (storage_of old)) caches (view (storage_of new)) caches' (laid_at h cluster t.bytes))
+
+  -- a refblock, whose cluster the reftable names, or nothing does, where no modified L2 table lies
+  abbrev pub LaysBlock : (S → StorageView) → ImageStorage S → MetadataCaches S → ImageStorage S → MetadataCaches S → RefBlockView → Type 0
+  LaysBlock view old caches new caches' b =
+      (h : HeaderFields) (p : Pending) → (view (storage_of old)).is_honest → AreSound h p caches (byte_at (view (storage_of old)).contents) → IsBlockOf h b → b.is_modified ≡ true
+      → IfSome b.cluster (λ cluster. IsFreeOf (cluster_size h) (l2_tables caches) cluster
+      → LaidOver (λ base known. HasBlock h base cluster ⊎ IsUnnamed h base known cluster) (λ base. HasBlock h base cluster) h (view (storage_of old)) caches (view (storage_of new)) caches' (laid_at h cluster b.bytes))

@@ -5,12 +5,12 @@ ghost use Rattle.qcow2_metadata.specs.declared.header.HeaderFields.{HeaderFields
 ghost use Rattle.qcow2_metadata.specs.TableBytes.{HasPlace};
 ghost use Rattle.qcow2_laws.specs.Guard.{Pending, IsGuarded};
 ghost use Rattle.qcow2_laws.specs.Clusters.{Neither, L2DependsOnRb, RbDependsOnL2};
-ghost use Rattle.qcow2_laws.specs.Caches.{AreClean, AreSettled, BlocksMayGo, TablesMayGo};
+ghost use Rattle.qcow2_laws.specs.Caches.{IsFreeOf, AreClean, AreSettled, BlocksMayGo, TablesMayGo};
 ghost use Rattle.qcow2_alloc.specs.ImageError.{IsOfTables, IsFault};
 ghost use Rattle.qcow2_alloc.specs.ImageStorage.{storage_of};
 ghost use Rattle.qcow2_alloc.specs.AsyncLruCache.{can_remove};
 ghost use Rattle.qcow2_alloc.specs.TableCaches.{IsTableOf, IsBlockOf};
-ghost use Rattle.qcow2_alloc.specs.MetadataCaches.{order_of, l2_at, rb_at, l2_tables, refblocks, known_of, AreAllWritten, AreSound, KeepSound, PutSound, RefusesBy, PutRefusesBy, RaisesCount, LowersCount, TellsZero, RaisesZero, LowersSome, AreSame, MapsEntry, ZeroesEntry, DiscardsEntry, NotesEntry, NotesHeld, ShowsKnown, TakesOff, TakesBlock};
+ghost use Rattle.qcow2_alloc.specs.MetadataCaches.{order_of, l2_at, rb_at, l2_tables, refblocks, known_of, AreAllWritten, AreSound, KeepSound, PutSound, RefusesBy, PutRefusesBy, RaisesCount, LowersCount, TellsZero, RaisesZero, LowersSome, AreSame, MapsEntry, ZeroesEntry, DiscardsEntry, NotesEntry, NotesHeld, ShowsKnown, TakesOff, TakesBlock, LaysTable, LaysBlock};
 ghost use Rattle.qcow2_alloc.specs.CacheMarks.{l2_pins, HasRoom, KeepsMarks, SameTables, SetsPins, IsInUseOrFault, LeavesPinned};
 
 mod backends;
@@ -77,6 +77,7 @@ impl<S: Storage> MetadataCaches<S> {
         ensures marks { KeepsMarks self.old self.new }
         ensures faults { (h : HeaderFields) → RefusesBy IsFault S.view storage.old self.old h result }
         ensures keeps { TablesMayGo (order_of self.old) (refblocks self.old) → KeepSound S.view storage.old self.old storage.new self.new }
+        ensures free { (size cluster : ℕ) → IsFreeOf size (l2_tables self.old) cluster → IsFreeOf size (l2_tables self.new) cluster }
     {
         self.l2.flush(storage)?;
         Ok(())
@@ -199,6 +200,7 @@ impl<S: Storage> MetadataCaches<S> {
         ensures cause { IfErr result IsOfTables }
         ensures order { order_of self.new ≡ order_of self.old }
         ensures refblocks { self.new.rb ≡ self.old.rb }
+        ensures free { (size cluster : ℕ) → IsFreeOf size (l2_tables self.old) cluster → IsFreeOf size (l2_tables self.new) cluster }
         ensures first { OnOk result (BlocksMayGo (order_of self.new) (l2_tables self.new)) }
         ensures marks { KeepsMarks self.old self.new }
         ensures faults { (h : HeaderFields) → RefusesBy IsFault S.view storage.old self.old h result }
@@ -265,6 +267,8 @@ impl<S: Storage> MetadataCaches<S> {
         ensures marks { KeepsMarks self.old self.new }
         ensures refusals { PutRefusesBy (IsInUseOrFault self.old) S.view storage.old self.old (λ h. IsTableOf h table) table.cluster table.bytes table.is_modified result }
         ensures keeps { PutSound S.view storage.old self.old storage.new self.new (λ h. IsTableOf h table) table.cluster table.bytes table.is_modified }
+        ensures laid { OnOk result (LaysTable S.view storage.old self.old storage.new self.new table) }
+        ensures refused { OnErr result (KeepSound S.view storage.old self.old storage.new self.new) }
         ensures clean { AreClean (l2_tables self.old) → IsFalse table.is_modified → AreClean (l2_tables self.new) }
         ensures blocks { AreClean (refblocks self.old) → AreClean (refblocks self.new) }
         ensures first { BlocksMayGo (order_of self.old) (l2_tables self.old) → IsFalse table.is_modified → BlocksMayGo (order_of self.new) (l2_tables self.new) }
@@ -295,6 +299,8 @@ impl<S: Storage> MetadataCaches<S> {
         ensures marks { KeepsMarks self.old self.new }
         ensures faults { HasRoom self.old → PutRefusesBy IsFault S.view storage.old self.old (λ h. IsBlockOf h block) block.cluster block.bytes block.is_modified result }
         ensures keeps { PutSound S.view storage.old self.old storage.new self.new (λ h. IsBlockOf h block) block.cluster block.bytes block.is_modified }
+        ensures laid { OnOk result (LaysBlock S.view storage.old self.old storage.new self.new block) }
+        ensures refused { OnErr result (KeepSound S.view storage.old self.old storage.new self.new) }
         ensures clean { AreClean (refblocks self.old) → IsFalse block.is_modified → OnOk result (AreClean (refblocks self.new)) }
         ensures first { BlocksMayGo (order_of self.old) (l2_tables self.old) → OnOk result (BlocksMayGo (order_of self.new) (l2_tables self.new)) }
     {

@@ -30,12 +30,14 @@ use Rattle.qcow2_alloc.proofs.FileSteps.{pending_same}
 use Rattle.qcow2_alloc.proofs.PlacedBlocks.{file_sizes}
 use Rattle.qcow2_alloc.proofs.Runs.{run_before, run_after}
 use Rattle.qcow2_image.specs.declared.image.Qcow2.{Qcow2}
-use Rattle.qcow2_image.specs.Growing.{SameFormat, clusters_of, run_of_table, listed, with_table, without_l1, IsLonger, StandsWhole, Lasts, Extends, PlacesTable, NamesTable, TakesTable, Resizes, Grows}
+use Rattle.qcow2_image.specs.Growing.{SameFormat, clusters_of, run_of_table, listed, with_table, without_l1, IsLonger, StandsWhole, Lasts, Extends, PlacesTable, NamesTable, TakesTable, Resizes, Grows, WritesBack, GrowsWhole}
 use Rattle.qcow2_image.specs.Image.{size_of, is_failed}
 use Rattle.qcow2_image.specs.Refusals.{Marks}
-use Rattle.qcow2_image.specs.Steps.{Keeps, ListGrows, following}
+use Rattle.qcow2_alloc.specs.FreeList.{with_listed}
+use Rattle.qcow2_image.proofs.Tidying.{all_listed, beside}
+use Rattle.qcow2_image.specs.Steps.{Tidies, FreesListed, Keeps, ListGrows, following}
 use Rattle.qcow2_image.specs.Views.{of_data, of_tables, to_free, pending_in, IsSoundAt}
-use Rattle.qcow2_image.proofs.Entering.{keeps_none, keeps_listed}
+use Rattle.qcow2_image.proofs.Entering.{keeps_listed}
 use Rattle.qcow2_image.proofs.Moving.{file_moved}
 use Rattle.qcow2_image.proofs.Sound.{IsOnly, free_more, pending_is}
 
@@ -69,18 +71,6 @@ module _ {S F : Type 0} (view : S → StorageView) (backing : F → BackingView)
         moments = passes_if _ kept lasts.moments;
         contents = kept (view_in view b.file).contents lasts.contents;
       }
-
-  pub extends_more : (p q : Pending) (a b : Qcow2 S F) (size : ℕ) → Extends view backing p q a b [] → Extends view backing p q a b (size ∷ [])
-  extends_more p q a b size extends = record {
-    sound = extends.sound;
-    leads = record {
-      sound = extends.leads.sound;
-      base = λ below m ok known_ok. kept_more below [] (size ∷ []) m _ (extends.leads.base below m ok known_ok);
-      known = λ below m ok known_ok. kept_more below [] (size ∷ []) m _ (extends.leads.known below m ok known_ok);
-    };
-    since = lasts_more a b size extends.since;
-    format = extends.format;
-  }
 
   -- ---- the table is placed, and then named
   pub named_then : (p : Pending) (a b c : Qcow2 S F) (t t' : EntryTableView) (cluster : ℕ) (r : Result (Unit {0}) ImageError) → t' ≡ record t { cluster = Some cluster } → PlacesTable view backing (with_table p t cluster) a b t' cluster (Ok tt)
@@ -238,8 +228,39 @@ module _ {S F : Type 0} (view : S → StorageView) (backing : F → BackingView)
         subst (λ (s : Result (Unit {0}) ImageError). Grows view backing old new size s) (sym answer)
         (subst (λ (i : Qcow2 S F). Grows view backing old i size done) (sym rest) (grown done (is_failed new) resizes grows marks))
 
-  -- a size that isn't larger changes nothing
-  pub grown_none : (image : Qcow2 S F) (size : ℕ) → IsSoundAt view backing (pending_in view backing image []) image [] → size ≤ size_of image → Grows view backing image image size (Ok tt)
-  grown_none image size sound less =
-      let p = pending_in view backing image [] in
-      (extends_more p p image image size (extends_keeping p p image image (keeps_none view backing [] p image sound)), omega (arith, less))
+  -- ---- what is listed is freed, and all tables are written
+  extends_tidying : (p q : Pending) (a b : Qcow2 S F) → Tidies view backing p q a b [] → Extends view backing p q a b []
+  extends_tidying p q a b tidies = record {
+    sound = tidies.sound;
+    leads = tidies.leads;
+    since = tidies.since;
+    format = subst (λ (h : HeaderFields). h ≡ with_places a.file.header.fields (places_of h)) (sym tidies.unseen.header) refl;
+  }
+
+  pub written_back : (p : Pending) (old big new : Qcow2 S F) (done r : Result (Unit {0}) ImageError) → FreesListed view backing p old big [] done → r ≡ done → new ≡ record big { is_failed = is_failed new } → Marks done (is_failed big) (is_failed new)
+      → WritesBack view backing p old new r
+  written_back p old big new done r frees answer rest marks =
+      subst (λ (s : Result (Unit {0}) ImageError). WritesBack view backing p old new s) (sym answer) (subst (λ (i : Qcow2 S F). WritesBack view backing p old i done) (sym rest) (back done (is_failed new) marks frees))
+    where
+      back : (s : Result (Unit {0}) ImageError) (failed : Bool) → Marks s (is_failed big) failed → FreesListed view backing p old big [] s → WritesBack view backing p old (record big { is_failed = failed }) s
+      back (Ok x) failed marks tidies =
+          subst (λ (f : Bool). WritesBack view backing p old (record big { is_failed = f }) (Ok x)) (sym marks)
+          (extends_tidying (with_listed p old.file.free_list) (with_listed p big.file.free_list) old big tidies)
+      back (Err e) failed marks frees = elim frees [ inl tidies ↦ tidies.since | inr broke ↦ broke.breaks.since ]
+
+  -- after the disk was made larger
+  pub grown_whole : (old mid new : Qcow2 S F) (size : ℕ) (r : Result (Unit {0}) ImageError) → Grows view backing old mid size (Ok tt) → size_of new ≡ size_of mid
+      → ((p : Pending) → IsSoundAt view backing (with_listed p mid.file.free_list) mid [] → WritesBack view backing p mid new r)
+      → GrowsWhole view backing old new size r
+  grown_whole old mid new size (Ok x) grown same writes =
+      let p = pending_in view backing old [] in
+      let rest : Pending = beside view backing mid [] in
+      let q : Pending = with_listed rest mid.file.free_list in
+      let one = subst (λ (x : Pending). Extends view backing p x old mid (size ∷ [])) (all_listed view backing mid []) grown.0 in
+      (with_listed rest new.file.free_list, extends_then p q (with_listed rest new.file.free_list) old mid new (size ∷ []) [] one (writes rest one.sound), same ∙ grown.1)
+  grown_whole old mid new size (Err e) grown same writes =
+      let p = pending_in view backing old [] in
+      let rest : Pending = beside view backing mid [] in
+      let q : Pending = with_listed rest mid.file.free_list in
+      let one = subst (λ (x : Pending). Extends view backing p x old mid (size ∷ [])) (all_listed view backing mid []) grown.0 in
+      lasts_then p q old mid new (size ∷ []) [] one (writes rest one.sound)

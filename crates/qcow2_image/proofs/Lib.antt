@@ -39,6 +39,11 @@ pub mod LongerTables
 pub mod NamedL1
 pub mod Grown
 pub mod Clearing
+pub mod Cleared
+pub mod FirstBlocks
+pub mod FirstImage
+pub mod ThreeWrites
+pub mod Creating
 pub mod Tidying
 pub mod Writable
 pub mod PreparedAs

@@ -1,7 +1,91 @@
 -- What creating an image makes of a storage, and what a stop may leave of it.
-use Rattle.std.specs.Prelude.{ℕ, ◌≡◌, ◌==◌, ◌&&◌, ◌||◌, ◌⊎◌, ◌+◌, ◌^◌, ◌≤◌, Bool, false}
-use Rattle.qcow2_metadata.specs.Bytes.{Bytes, number_at}
+use Rattle.std.specs.Prelude.{ℕ, ◌≡◌, ◌==◌, ◌&&◌, ◌||◌, ◌⊎◌, ◌*◌, ◌^◌, ◌≤◌, Bool, true, false, None, Some, Option, Result, Ok, Err, length, nat_lt, if◌then◌else◌}
+use Rattle.image_access.specs.Moments.{StorageView, Passing}
+use Rattle.qcow2_metadata.specs.Bytes.{Bytes, byte_at, number_at}
+use Rattle.qcow2_metadata.specs.Consistent.{IsConsistent}
+use Rattle.qcow2_metadata.specs.EntryTable.{EntryTableView, entry_table, entry_count}
+use Rattle.qcow2_metadata.specs.declared.header.HeaderFields.{HeaderFields}
+use Rattle.qcow2_metadata.specs.Guest.{known_byte}
+use Rattle.qcow2_metadata.specs.Header.{HeaderView, header, cluster_size, count_width, entries_per_cluster}
+use Rattle.qcow2_metadata.specs.HeaderWrite.{new_header, HasNewNames}
+use Rattle.qcow2_metadata.specs.RefBlock.{RefBlockView, ref_block, count_at}
+use Rattle.qcow2_metadata.specs.TableBytes.{entry_at}
+use Rattle.qcow2_laws.specs.Disk.{disk}
+use Rattle.qcow2_laws.specs.NewImages.{IsNewImage}
+use Rattle.qcow2_alloc.specs.declared.error.ImageError.{ImageError}
+use Rattle.qcow2_image.specs.Growing.{SameFormat}
+use Rattle.qcow2_image.specs.declared.builder.Qcow2CreateBuilder.{Qcow2CreateBuilder}
 
 -- the first eight bytes are the magic, and version 2 or 3
 abbrev pub begins_image : Bytes → Bool
 begins_image b = (number_at b 0 4 == 0x514649fb) && (number_at b 4 4 == 2 || number_at b 4 4 == 3)
+
+-- A consistent image of this size to which no guest wrote: at each place the disk below shows, whatever it holds, and zeros where there is none.
+pub record IsUnwritten (n : ℕ) (b : Bytes) : Type 0 where
+  pub consistent : IsConsistent b
+  pub size : (header b).size ≡ n
+  pub shows_below : (backing : Bytes) (o : ℕ) → (disk b backing).value o ≡ known_byte (backing o)
+
+-- what a stop may leave while an image of this size is created: nothing that is taken for an image, or an unwritten image of no bytes or of that size
+abbrev pub IsStopOfCreating : ℕ → Bytes → Type 0
+IsStopOfCreating n b = (begins_image b ≡ false) ⊎ (IsUnwritten 0 b ⊎ IsUnwritten n b)
+
+-- so does one at each moment since
+abbrev pub StopsCreating : ℕ → StorageView → StorageView → Type 0
+StopsCreating n old new = Passing old new (λ c. IsStopOfCreating n (byte_at c))
+
+-- and the storage is still honest
+pub record StaysCreating (n : ℕ) (old new : StorageView) : Type 0 where
+  pub honest : new.is_honest
+  pub moments : StopsCreating n old new
+
+module _ {S : Type 0} where
+  -- clusters and counts that images may have
+  pub record IsAllowed (builder : Qcow2CreateBuilder S) : Type 0 where
+    pub cluster_bits : ℕ
+    pub refcount_order : ℕ
+    pub cluster_size_is : builder.cluster_size ≡ 2 ^ cluster_bits
+    pub refcount_width_is : builder.refcount_width ≡ 2 ^ refcount_order
+    pub no_smaller : 9 ≤ cluster_bits
+    pub no_larger : cluster_bits ≤ 21
+    pub no_wider : refcount_order ≤ 6
+
+  -- the image that was asked for stands on an honest storage
+  pub record IsCreated (builder : Qcow2CreateBuilder S) (storage : StorageView) : Type 0 where
+    pub honest : storage.is_honest
+    pub unwritten : IsUnwritten builder.size (byte_at storage.contents)
+    pub version : (header (byte_at storage.contents)).version ≡ 3
+    pub clusters : cluster_size (header (byte_at storage.contents)) ≡ builder.cluster_size
+    pub counts : count_width (header (byte_at storage.contents)) ≡ builder.refcount_width
+    pub no_backing_file : (header (byte_at storage.contents)).backing_offset ≡ 0
+
+-- ---- its parts
+
+-- the header of a new image without names
+pub record IsNewHeader (v : HeaderView) : Type 0 where
+  pub is : v ≡ new_header v.fields.cluster_bits v.fields.refcount_order None None None
+  pub names : HasNewNames v
+
+-- a refblock in cluster 2 that counts clusters 0, 1 and 2
+pub record CountsThree (h : HeaderFields) (block : RefBlockView) : Type 0 where
+  pub bits : block.cluster_bits ≡ h.cluster_bits
+  pub order : block.refcount_order ≡ h.refcount_order
+  pub cluster_is : block.cluster ≡ Some 2
+  pub counts : (i : ℕ) → count_at block i ≡ (if nat_lt i 3 then 1 else 0)
+
+-- a reftable in cluster 1, as long as that, which names cluster 2 first and nothing else
+pub record NamesOne (h : HeaderFields) (t : EntryTableView) : Type 0 where
+  pub bits : t.cluster_bits ≡ h.cluster_bits
+  pub cluster_is : t.cluster ≡ Some 1
+  pub whole : length t.bytes ≡ 8 * entries_per_cluster h
+  pub entries : (i : ℕ) → entry_at t.bytes i ≡ (if i == 0 then 2 * cluster_size h else 0)
+
+-- the three clusters are written, or a stop is as said above
+abbrev pub WritesThree : HeaderFields → StorageView → StorageView → Result (Unit {0}) ImageError → Type 0
+WritesThree h old new (Ok _) = StaysCreating 0 old new × IsNewImage h (byte_at new.contents)
+WritesThree h old new (Err _) = StaysCreating 0 old new
+
+-- it is opened, made larger and flushed, or a stop is as said above
+abbrev pub Enlarges : ℕ → StorageView → StorageView → Result (Unit {0}) ImageError → Type 0
+Enlarges n old new (Ok _) = StaysCreating n old new × IsUnwritten n (byte_at new.contents) × SameFormat (header (byte_at old.contents)) (header (byte_at new.contents))
+Enlarges n old new (Err _) = StopsCreating n old new

@@ -14,6 +14,7 @@ use Rattle.qcow2_laws.specs.Guard.{Pending, SameCovers, SameCounts}
 use Rattle.qcow2_laws.specs.Leads.{Leads, Endures}
 use Rattle.qcow2_laws.specs.Tops.{places_of, with_places, with_l1_at}
 use Rattle.qcow2_alloc.specs.Allocation.{run_at}
+use Rattle.qcow2_alloc.specs.FreeList.{with_listed}
 use Rattle.qcow2_alloc.specs.MetadataCaches.{order_of}
 use Rattle.qcow2_alloc.specs.ClustersToFree.{metadata_entry}
 use Rattle.qcow2_alloc.specs.declared.clusters_to_free.ClustersToFreeEntry.{ClustersToFreeEntry}
@@ -108,3 +109,13 @@ module _ {S F : Type 0} where
       abbrev pub Grows : Qcow2 S F → Qcow2 S F → ℕ → Result (Unit {0}) ImageError → Type 0
       Grows old new size (Ok _) = Extends (pending_in view backing old []) (pending_in view backing new []) old new (size ∷ []) × (size_of new ≡ max (size_of old) size)
       Grows old new size (Err e) = Lasts old new (size ∷ [])
+
+      -- what is listed is freed, and all tables are written; what is listed then is pending still
+      abbrev pub WritesBack : Pending → Qcow2 S F → Qcow2 S F → Result (Unit {0}) ImageError → Type 0
+      WritesBack p old new (Ok _) = Extends (with_listed p old.file.free_list) (with_listed p new.file.free_list) old new []
+      WritesBack p old new (Err e) = Lasts old new []
+
+      -- so they are of a disk that was made larger
+      abbrev pub GrowsWhole : Qcow2 S F → Qcow2 S F → ℕ → Result (Unit {0}) ImageError → Type 0
+      GrowsWhole old new size (Ok _) = (p : Pending) × Extends (pending_in view backing old []) p old new (size ∷ []) × (size_of new ≡ max (size_of old) size)
+      GrowsWhole old new size (Err e) = Lasts old new (size ∷ [])

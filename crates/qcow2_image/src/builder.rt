@@ -1,4 +1,12 @@
 //! Making a new image.
+ghost use Rattle.std.specs.Prelude.{◌≡◌, ◌^◌, [], IfSome, IfOk, OnOk, IsSome};
+ghost use Rattle.image_access.specs.Moments.{Passing};
+ghost use Rattle.qcow2_metadata.specs.Bytes.{byte_at};
+ghost use Rattle.qcow2_alloc.specs.ImageStorage.{storage_of};
+ghost use Rattle.qcow2_image.specs.Growing.{GrowsWhole};
+ghost use Rattle.qcow2_image.specs.Views.{seen};
+ghost use Rattle.qcow2_image.specs.Created.{IsUnwritten, IsNewHeader, CountsThree, NamesOne, WritesThree, Enlarges};
+
 use crate::Qcow2;
 use image_access::{BackingDisk, Storage, StorageError, StoragePreallocate, WrappedFormat};
 use qcow2_alloc::{ImageError, ImageStorage, WriteKind};
@@ -44,16 +52,21 @@ impl<S> WrappedFormat<S> for NoBacking {
 }
 
 // The binary logarithm of a power of two.
-fn power_of_two(number: u64) -> Option<u32> {
-    if number.is_power_of_two() {
-        Some(number.trailing_zeros())
+fn power_of_two(number: u64) -> Option<u32>
+    ensures { IfSome result (λ bits. number ≡ 2 ^ bits) }
+{
+    let bits = number.trailing_zeros();
+    if bits < 64 && 1 << bits == number {
+        Some(bits)
     } else {
         None
     }
 }
 
 impl<S: Storage> Qcow2CreateBuilder<S> {
-    ghost use Rattle.std.specs.Prelude.{◌≡◌};
+    ghost use Rattle.std.specs.Prelude.{Err};
+    ghost use Rattle.qcow2_alloc.specs.declared.error.ImageError.TheVariants.{InvalidOption};
+    ghost use Rattle.qcow2_image.specs.Created.{StopsCreating, IsCreated, IsAllowed};
 
     /// A disk of no bytes, clusters of 65,536 bytes and counts of 16 bits.
     pub fn new(image: S) -> Qcow2CreateBuilder<S>
@@ -97,8 +110,13 @@ impl<S: Storage> Qcow2CreateBuilder<S> {
         self
     }
 
-    /// Writes the new image, and hands its storage back.
-    pub fn create(self, alloc: Global) -> (S, Result<(), ImageError>) {
+    /// Writes the new image, and hands its storage back. Clusters or counts that images don't have are refused, and then
+    /// nothing was written.
+    pub fn create(self, alloc: Global) -> (S, Result<(), ImageError>)
+        ensures stops { (S.view self.image).is_honest → StopsCreating self.size (S.view self.image) (S.view result.0) }
+        ensures created { (S.view self.image).is_honest → IfOk result.1 (λ done. IsCreated self (S.view result.0)) }
+        ensures refused { ¬ IsAllowed self → (result.1 ≡ Err InvalidOption) × (result.0 ≡ self.image) }
+    {
         let Qcow2CreateBuilder {
             image,
             size,
@@ -119,20 +137,27 @@ impl<S: Storage> Qcow2CreateBuilder<S> {
         if let Err(refusal) = write_new_image(alloc, &mut storage, &header) {
             return (storage.into_inner(), Err(refusal));
         }
-        grow_new_image(alloc, storage.into_inner(), size)
+        grow_new_image::<S, NoBacking>(alloc, storage.into_inner(), size)
     }
 }
 
-// The header is cluster 0, the reftable 1, the refblock 2.
-fn write_new_image<S: Storage>(
-    alloc: Global,
-    storage: &mut ImageStorage<S>,
-    header: &Header,
-) -> Result<(), ImageError> {
-    if storage.size()? > 0 {
-        storage.resize(0, StoragePreallocate::None)?;
+// Nothing stands on the storage any more.
+fn clear<S: Storage>(storage: &mut ImageStorage<S>) -> Result<(), ImageError>
+    ensures honest { (S.view (storage_of storage.old)).is_honest → (S.view (storage_of storage.new)).is_honest }
+    ensures time { (S.view (storage_of storage.old)).is_honest → Passing (S.view (storage_of storage.old)) (S.view (storage_of storage.new)) (λ c. c ≡ []) }
+    ensures cleared { (S.view (storage_of storage.old)).is_honest → OnOk result ((S.view (storage_of storage.new)).contents ≡ []) }
+{
+    if storage.size()? == 0 {
+        return Ok(());
     }
-    storage.will_write(WriteKind::Other);
+    storage.resize(0, StoragePreallocate::None)?;
+    Ok(())
+}
+
+// The refblock of a new image, which counts its three clusters.
+fn first_refblock(alloc: Global, header: &Header) -> Result<RefBlock, ImageError>
+    ensures { IfOk result (CountsThree header.now.fields) }
+{
     let mut block = RefBlock::new_cleared(alloc, header)?;
     for index in 0..3 {
         if index < block.counts() {
@@ -140,17 +165,60 @@ fn write_new_image<S: Storage>(
         }
     }
     block.set_cluster(HostCluster::new(2));
+    Ok(block)
+}
+
+// The reftable of a new image, which names that refblock.
+fn first_reftable(alloc: Global, header: &Header) -> Result<RefTable, ImageError>
+    ensures { IfOk result (NamesOne header.now.fields) }
+{
     let mut reftable = RefTable::new_cleared(alloc, header, header.l2_entries())?;
     reftable.set_cluster(HostCluster::new(1));
     reftable.enter_refblock(0, HostCluster::new(2));
+    Ok(reftable)
+}
+
+// The header is cluster 0, the reftable 1, the refblock 2. The header is written last: before it, this is no image.
+fn write_three<S: Storage>(
+    alloc: Global,
+    storage: &mut ImageStorage<S>,
+    header: &Header,
+    block: &RefBlock,
+    reftable: &RefTable,
+) -> Result<(), ImageError>
+    requires block { IsSome block.now.cluster }
+    requires reftable { IsSome reftable.now.cluster }
+    ensures { (S.view (storage_of storage.old)).is_honest → (S.view (storage_of storage.old)).contents ≡ [] → IsNewHeader header.now → CountsThree header.now.fields block.now → NamesOne header.now.fields reftable.now
+        → WritesThree header.now.fields (S.view (storage_of storage.old)) (S.view (storage_of storage.new)) result }
+{
+    storage.will_write(WriteKind::Other);
     block.write(storage)?;
     reftable.write(storage)?;
     header.write(alloc, storage)?;
     Ok(())
 }
 
-fn grow_new_image<S: Storage>(alloc: Global, storage: S, size: u64) -> (S, Result<(), ImageError>) {
-    match Qcow2::<S, NoBacking>::open_image(alloc, storage, true, 0) {
+fn write_new_image<S: Storage>(
+    alloc: Global,
+    storage: &mut ImageStorage<S>,
+    header: &Header,
+) -> Result<(), ImageError>
+    ensures { (S.view (storage_of storage.old)).is_honest → IsNewHeader header.now → WritesThree header.now.fields (S.view (storage_of storage.old)) (S.view (storage_of storage.new)) result }
+{
+    clear(storage)?;
+    let block = first_refblock(alloc, header)?;
+    let reftable = first_reftable(alloc, header)?;
+    write_three(alloc, storage, header, &block, &reftable)
+}
+
+fn grow_new_image<S: Storage, F: WrappedFormat<S>>(
+    alloc: Global,
+    storage: S,
+    size: u64,
+) -> (S, Result<(), ImageError>)
+    ensures { (S.view storage).is_honest → IsUnwritten 0 (byte_at (S.view storage).contents) → Enlarges size (S.view storage) (S.view result.0) result.1 }
+{
+    match Qcow2::<S, F>::open_image(alloc, storage, true, 0) {
         Err((storage, refusal)) => (storage, Err(refusal)),
         Ok(mut image) => {
             let done = grow_and_flush(&mut image, size);
@@ -159,10 +227,12 @@ fn grow_new_image<S: Storage>(alloc: Global, storage: S, size: u64) -> (S, Resul
     }
 }
 
-fn grow_and_flush<S: Storage>(
-    image: &mut Qcow2<S, NoBacking>,
+fn grow_and_flush<S: Storage, F: WrappedFormat<S>>(
+    image: &mut Qcow2<S, F>,
     size: u64,
-) -> Result<(), ImageError> {
+) -> Result<(), ImageError>
+    ensures { (seen S.view F.backing image.old []).is_sound → GrowsWhole S.view F.backing image.old image.new size result }
+{
     image.grow(size)?;
     image.flush()
 }

@@ -35,9 +35,9 @@ struct Tables {
 
 #[tactic(auto, using(crate::proofs::MetErrors::tables_met, crate::proofs::MetErrors::storage_met, crate::proofs::MetErrors::metadata_met))]
 impl<S: Storage, F: WrappedFormat<S>> Qcow2<S, F> {
-    ghost use Rattle.std.specs.Prelude.{◌≡◌, IfOk, IfErr, OnOk, IsTrue, MatchOption, Ok, Err, Some, None, false, nat_le, option_map, if◌then◌else◌};
+    ghost use Rattle.std.specs.Prelude.{◌≡◌, [], IfOk, IfErr, OnOk, IsTrue, MatchOption, Ok, Err, Some, None, false, nat_le, option_map, if◌then◌else◌};
     ghost use Rattle.std.specs.String.{string_bytes};
-    ghost use Rattle.qcow2_metadata.specs.Header.{cluster_size};
+    ghost use Rattle.qcow2_metadata.specs.Header.{header, cluster_size};
     ghost use Rattle.qcow2_alloc.specs.declared.error.ImageError.TheVariants.{Failed, Memory};
     ghost use Rattle.qcow2_image.specs.Image.{storage_of_image, HasNothingToFree, Stays, KeepsRest, IsSameImage, is_failed, is_writable, is_external, leaked_in, number_of, size_of};
     ghost use Rattle.std.specs.Prelude.{List, Option};
@@ -56,6 +56,7 @@ impl<S: Storage, F: WrappedFormat<S>> Qcow2<S, F> {
     ghost use Rattle.qcow2_alloc.specs.ImageFile.{view_in, HasReftable};
     ghost use Rattle.qcow2_image.specs.Views.{HasL1Table};
     ghost use Rattle.qcow2_image.specs.Created.{begins_image};
+    ghost use Rattle.qcow2_image.specs.Growing.{SameFormat, WritesBack};
     ghost use Rattle.qcow2_image.specs.Opened.{IsFresh, StaysFresh, IsLoaded, IsKeptSince, storage_after, Opens};
     ghost use Rattle.std.specs.Option.{is_some};
 
@@ -83,6 +84,7 @@ impl<S: Storage, F: WrappedFormat<S>> Qcow2<S, F> {
     ) -> Result<Qcow2<S, F>, (S, ImageError)>
         ensures opens { IfOk result (Opens S.view F.backing (S.view metadata)) }
         ensures since { (S.view metadata).is_honest → IsConsistent (byte_at (S.view metadata).contents) → IsKeptSince (S.view metadata) (S.view (storage_after result)) }
+        ensures format { (S.view metadata).is_honest → IfOk result (λ image. SameFormat (header (byte_at (S.view metadata).contents)) image.file.header.fields) }
         ensures ok { IfOk result (λ image. (number_of image ≡ number) × (is_failed image ≡ false) × (is_writable image ≡ writable)) }
     {
         let mut storage = ImageStorage::new(metadata);
@@ -147,6 +149,7 @@ impl<S: Storage, F: WrappedFormat<S>> Qcow2<S, F> {
 
     // For writing the reftable is loaded, and the autoclear bits are cleared last.
     fn load_allocator(file: &mut ImageFile<S>) -> Result<Allocator, ImageError>
+        ensures format { OnOk result (SameFormat file.old.header.fields file.new.header.fields) }
         ensures since { (p : Pending) → IsFresh S.view F.backing p file.old → IsKeptSince (view_in S.view file.old) (view_in S.view file.new) }
         ensures loaded { (p : Pending) → IsFresh S.view F.backing p file.old → IfOk result (λ allocator. StaysFresh S.view F.backing p file.old file.new × HasReftable S.view file.new allocator.reftable) }
     {
@@ -159,6 +162,7 @@ impl<S: Storage, F: WrappedFormat<S>> Qcow2<S, F> {
     // Loads the L1 table and, for writing, the reftable.
     fn load_tables(file: &mut ImageFile<S>, writable: bool) -> Result<Tables, ImageError>
         ensures allocator { IfOk result (λ tables. is_some tables.allocator ≡ writable) }
+        ensures format { OnOk result (SameFormat file.old.header.fields file.new.header.fields) }
         ensures since { (p : Pending) → IsFresh S.view F.backing p file.old → IsKeptSince (view_in S.view file.old) (view_in S.view file.new) }
         ensures loaded { (p : Pending) → IsFresh S.view F.backing p file.old → IfOk result (λ tables. IsLoaded S.view F.backing p file.new tables.l1_table tables.allocator) }
     {
@@ -276,6 +280,7 @@ impl<S: Storage, F: WrappedFormat<S>> Qcow2<S, F> {
         ensures image { IsSameImage self.old self.new }
         ensures sees { Flushes S.view F.backing self.old self.new result }
         ensures emptied { IsTrue (is_writable self.old) → OnOk result (HasNothingToFree self.new) }
+        ensures writes { (p : Pending) → IsSoundAt S.view F.backing (with_listed p self.old.file.free_list) self.old [] → WritesBack S.view F.backing p self.old self.new result }
     {
         if self.is_failed {
             return Err(ImageError::Failed);

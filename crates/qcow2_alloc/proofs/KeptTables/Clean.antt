@@ -5,9 +5,10 @@ use Rattle.std.specs.Map.{lookup, lookup_entry, remove_entry}
 use Rattle.image_access.specs.Moments.{StorageView}
 use Rattle.qcow2_metadata.specs.declared.error.MetadataError.{MetadataError}
 use Rattle.qcow2_metadata.specs.L2Table.{L2TableView}
-use Rattle.qcow2_metadata.specs.Tables.{CachedTable}
+use Rattle.qcow2_metadata.specs.Tables.{CachedTable, overlays}
 use Rattle.qcow2_laws.specs.Clusters.{Direction, Neither, L2DependsOnRb, RbDependsOnL2}
-use Rattle.qcow2_laws.specs.Caches.{AreClean, BlocksMayGo, TablesMayGo}
+use Rattle.qcow2_laws.specs.Caches.{IsFreeAt, AreClean, BlocksMayGo, TablesMayGo}
+use Rattle.qcow2_laws.proofs.Lists.{unmodified_over}
 use Rattle.qcow2_alloc.specs.declared.async_lru_cache.slot.Slot.{Slot}
 use Rattle.qcow2_alloc.specs.declared.async_lru_cache.error.CacheError.{CacheError}
 use Rattle.qcow2_alloc.specs.declared.async_lru_cache.error.CacheError.TheVariants.{InUse, StillInUse, Memory, Backend}
@@ -19,7 +20,7 @@ use Rattle.qcow2_alloc.specs.AsyncLruCacheBackend.{Steps}
 use Rattle.qcow2_alloc.specs.CacheAnswers.{Unit₀, HasRoom, InsertsNew, Replaces, FlushesEntry, FlushesAll, Flushes}
 use Rattle.qcow2_alloc.specs.ImageStorage.{storage_of}
 use Rattle.qcow2_alloc.specs.TableCaches.{l2_steps}
-use Rattle.qcow2_alloc.specs.KeptTables.{cached_tables}
+use Rattle.qcow2_alloc.specs.KeptTables.{cached_table, cached_tables}
 use Rattle.qcow2_alloc.specs.MetadataCaches.{l2_tables}
 use Rattle.qcow2_alloc.proofs.KeptTables.Inserting.{found_or_not, lookup_none}
 
@@ -94,6 +95,26 @@ module _ {S V E : Type 0} (steps : Steps S ℕ V E) (bits : ℕ) (bytes : V → 
     flush_clean s t es fs (Err InUse) h all = absurd h
     flush_clean s t es fs (Err Memory) h all = absurd h
     flush_clean s t es fs (Err (StillInUse keys)) h all = absurd h
+
+  -- nor does one come to lie where none did
+  module _ (cleans : (s t : S) (k : ℕ) (v w : V) → steps.flushed s k v w t → is_modified w ≡ false) (size o : ℕ) where
+    abbrev Free : List (ℕ × Slot V) → Type 0
+    Free es = IsFreeAt size (cached_tables bits bytes is_modified es) o
+
+    entry_free : (s t : S) (e : ℕ × Slot V) (x : Option E) (d : Slot V) → FlushesEntry steps s e x t d → overlays size (cached_table bits bytes is_modified e) o ≡ false → overlays size (cached_table bits bytes is_modified (e.0, d)) o ≡ false
+    entry_free s t e None d h free = unmodified_over size (cached_table bits bytes is_modified (e.0, d)) o (cleans s t e.0 e.1.value d.value h.0)
+    entry_free s t e (Some x) d h free = ap (λ (n : Slot V). overlays size (cached_table bits bytes is_modified (e.0, n)) o) h.1 ∙ free
+
+    all_free : (s t : S) (es fs : List (ℕ × Slot V)) (x : Option E) → FlushesAll steps s es x t fs → Free es → Free fs
+    all_free s t [] fs x h free = subst Free (sym h.2) tt
+    all_free s t (e ∷ es) fs x h free = subst Free (sym h.8) (entry_free s h.1 e h.0 h.2 h.5 free.0, all_free h.1 t es h.4 h.3 h.6 free.1)
+
+    pub flush_free : (s t : S) (es fs : List (ℕ × Slot V)) (r : Result Unit₀ (CacheError ℕ E)) → Flushes steps s es r t fs → Free es → Free fs
+    flush_free s t es fs (Ok u) h free = all_free s t es fs None h free
+    flush_free s t es fs (Err (Backend x)) h free = all_free s t es fs (Some x) h free
+    flush_free s t es fs (Err InUse) h free = absurd h
+    flush_free s t es fs (Err Memory) h free = absurd h
+    flush_free s t es fs (Err (StillInUse keys)) h free = absurd h
 
 -- what may be written stays so where no table is modified that wasn't
 pub blocks_go : (d : Direction) (ts ts' : List CachedTable) → (AreClean ts → AreClean ts') → BlocksMayGo d ts → BlocksMayGo d ts'

@@ -88,18 +88,18 @@ module _ {S V : Type 0} (view : S → StorageView) (bits : ℕ) (bytes : V → L
       | inr failed ↦ room_fits s failed.0 es fs all failed.1
     ]
 
-    pub insert_fits : (s t : S) (k : ℕ) (v : V) (es fs : List (ℕ × Slot V)) (r : Result Bool (CacheError ℕ MetadataError)) (left : Option V) → IsFit v → AllFit IsFit es
+    pub insert_fits : (s t : S) (k : ℕ) (v : V) (es fs : List (ℕ × Slot V)) (r : Result Bool (CacheError ℕ MetadataError)) (left : Option V) → (r ≡ Ok true → IsFit v) → AllFit IsFit es
         → InsertsNew (table_steps view bits bytes is_modified cleared IsFit) eqb size may_flush k v s es r t fs left → AllFit IsFit fs
-    insert_fits s t k v es fs (Ok true) left is all h = subst (AllFit IsFit) (sym h.0.2) (is, room_fits s t es h.0.0 all h.0.1)
+    insert_fits s t k v es fs (Ok true) left is all h = subst (AllFit IsFit) (sym h.0.2) (is refl, room_fits s t es h.0.0 all h.0.1)
     insert_fits s t k v es fs (Ok false) left is all h = no_room_fits s t es fs (Ok false) all h.0
     insert_fits s t k v es fs (Err Memory) left is all h = room_fits s t es fs all h.0
     insert_fits s t k v es fs (Err InUse) left is all h = no_room_fits s t es fs (Err InUse) all h.0
     insert_fits s t k v es fs (Err (StillInUse _)) left is all h = absurd h
     insert_fits s t k v es fs (Err (Backend x)) left is all h = no_room_fits s t es fs (Err (Backend x)) all h.0
 
-  pub replace_fits : (may_flush : Bool) (s t : S) (k : ℕ) (v : V) (es fs : List (ℕ × Slot V)) (e : ℕ × Slot V) (r : Result Bool (CacheError ℕ MetadataError)) (left : Option V) → lookup_entry (eqb k) es ≡ Some e → IsFit v → AllFit IsFit es
+  pub replace_fits : (may_flush : Bool) (s t : S) (k : ℕ) (v : V) (es fs : List (ℕ × Slot V)) (e : ℕ × Slot V) (r : Result Bool (CacheError ℕ MetadataError)) (left : Option V) → lookup_entry (eqb k) es ≡ Some e → (r ≡ Ok true → IsFit v) → AllFit IsFit es
       → Replaces (table_steps view bits bytes is_modified cleared IsFit) k e (remove_entry (eqb k) es) v may_flush s es r t fs left → AllFit IsFit fs
-  replace_fits may_flush s t k v es fs e (Ok true) left found is all h = subst (AllFit IsFit) (sym h.2) (is, fit_removed IsFit (eqb k) es all)
+  replace_fits may_flush s t k v es fs e (Ok true) left found is all h = subst (AllFit IsFit) (sym h.2) (is refl, fit_removed IsFit (eqb k) es all)
   replace_fits may_flush s t k v es fs e (Ok false) left found is all h = subst (AllFit IsFit) (sym h.2) all
   replace_fits may_flush s t k v es fs e (Err (Backend x)) left found is all h = subst (AllFit IsFit) (sym h.2) (fit_entry IsFit (eqb k) es e found all, fit_removed IsFit (eqb k) es all)
   replace_fits may_flush s t k v es fs e (Err InUse) left found is all h = absurd h

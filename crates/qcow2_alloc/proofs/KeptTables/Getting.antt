@@ -21,7 +21,7 @@ use Rattle.qcow2_alloc.specs.CacheAnswers.{Evicts, HasRoom, HasNoRoom, GetsNew, 
 use Rattle.qcow2_alloc.specs.TableLaws.{same_number}
 use Rattle.qcow2_alloc.specs.KeptTables.{cached_table, cached_tables, AreElsewhere, IsCurrent, IsSafeSince}
 use Rattle.qcow2_alloc.proofs.CachedEntries.Lists.{lookup_none-removed}
-use Rattle.qcow2_alloc.proofs.KeptTables.Writing.{WritesOne, Flushed, Ready, flushed_none, flushed_then, flushed_entry}
+use Rattle.qcow2_alloc.proofs.KeptTables.Writing.{WritesOne, Flushed, Puts, flushed_none, flushed_then, flushed_entry}
 use Rattle.qcow2_alloc.proofs.KeptTables.Entries.{AreDistinct, away_from, split_oldest, split_found, tables_at, tables_both, removed_at, elsewhere_of_none}
 
 pub cluster_aligned : (k bits : ℕ) → k * 2 ^ bits % 2 ^ bits ≡ 0
@@ -184,14 +184,8 @@ module _ {S V : Type 0} (view : S → StorageView) (bits : ℕ) (bytes : V → L
 
     -- ---- a table is put in
     module _ (k : ℕ) (v : V) where
-      -- what an answer leaves: entries before which the value stands, or nothing new
-      abbrev pub Puts : S → S → List (ℕ × Slot V) → List (ℕ × Slot V) → Result Bool (CacheError ℕ MetadataError) → Type 0
-      Puts s t es fs (Ok true) = Ready view bits bytes is_modified cleared IsFit unmodified same_bytes P all k v s t es fs
-      Puts s t es fs (Ok false) = Done s t es fs
-      Puts s t es fs (Err e) = Done s t es fs
-
       pub insert_put : (s t : S) (es fs : List (ℕ × Slot V)) (r : Result Bool (CacheError ℕ MetadataError)) (left : Option V) → (view s).is_honest → P (tables es) (contents s) → lookup (eqb k) es ≡ None
-          → InsertsNew (table_steps view bits bytes is_modified cleared IsFit) eqb size may_flush k v s es r t fs left → Puts s t es fs r
+          → InsertsNew (table_steps view bits bytes is_modified cleared IsFit) eqb size may_flush k v s es r t fs left → Puts view bits bytes is_modified cleared IsFit unmodified same_bytes P all k v s t es fs r
       insert_put s t es fs (Ok true) left honest kept missing h = record {
         rest = h.0.0;
         pins = 0;
@@ -220,7 +214,7 @@ module _ {S V : Type 0} (view : S → StorageView) (bits : ℕ) (bytes : V → L
         rest_is = let f = split_found (eqb k) es e found in ap tables f.rest ∙ tables_both bits bytes is_modified f.front f.back
 
         pub replace_put : (fs : List (ℕ × Slot V)) (r : Result Bool (CacheError ℕ MetadataError)) (left : Option V)
-            → Replaces (table_steps view bits bytes is_modified cleared IsFit) k e (remove_entry (eqb k) es) v may_flush s es r t fs left → Puts s t es fs r
+            → Replaces (table_steps view bits bytes is_modified cleared IsFit) k e (remove_entry (eqb k) es) v may_flush s es r t fs left → Puts view bits bytes is_modified cleared IsFit unmodified same_bytes P all k v s t es fs r
         replace_put fs (Ok true) left h =
             let f = split_found (eqb k) es e found in
             let w : V = h.1.0 in
@@ -271,7 +265,7 @@ module _ {S V : Type 0} (view : S → StorageView) (bits : ℕ) (bytes : V → L
         still_holds : (s t : S) (es fs : List (ℕ × Slot V)) → Done s t es fs → Holds s es → Holds t fs
         still_holds s t es fs d holds i lt = holds i lt ∙ ap (λ (m : Bytes). m (k * 2 ^ bits + i)) (sym d.known)
 
-        put_done : (s t : S) (es fs : List (ℕ × Slot V)) (r : Result Bool (CacheError ℕ MetadataError)) → Holds s es → Puts s t es fs r → Done s t es fs
+        put_done : (s t : S) (es fs : List (ℕ × Slot V)) (r : Result Bool (CacheError ℕ MetadataError)) → Holds s es → Puts view bits bytes is_modified cleared IsFit unmodified same_bytes P all k v s t es fs r → Done s t es fs
         put_done s t es fs (Ok true) holds ready =
             subst (λ l. Done s t es l) (sym ready.is) (done_then s t t es ready.rest ((k, slot_of v ready.pins) ∷ ready.rest) ready.done
             (added t ready.pins ready.rest ready.done.honest ready.done.kept ready.away (still_holds s t es ready.rest ready.done holds)))

@@ -29,7 +29,7 @@ use Rattle.qcow2_alloc.specs.KeptTables.{cached_tables, AllFit, AreElsewhere, Ar
 use Rattle.qcow2_alloc.specs.MetadataCaches.{HasFormat, order_of, l2_tables, refblocks, AreSound, StaySound, HoldsKnown}
 use Rattle.qcow2_alloc.proofs.CachedEntries.Lists.{lookup-from_entry}
 use Rattle.qcow2_alloc.proofs.KeptTables.Settled.{settled_beside, settled_anew, blocks_stand, block_place}
-use Rattle.qcow2_alloc.proofs.KeptTables.Standing.{insert_stands, replace_stands}
+use Rattle.qcow2_alloc.proofs.KeptTables.Standing.{clean_stands, insert_stands, replace_stands}
 use Rattle.qcow2_alloc.proofs.KeptTables.Writing.{Flushed}
 use Rattle.qcow2_alloc.proofs.KeptTables.Entries.{AreDistinct}
 use Rattle.qcow2_alloc.proofs.KeptTables.Fitting.{insert_fits, replace_fits}
@@ -45,10 +45,10 @@ pub lookup_none : {K X : Type 0} (test : K → Bool) (es : List (K × X)) → lo
 lookup_none test es none = lookup-from_entry test es ∙ ap (option_map (λ (e : _). e.1)) none
 
 -- headers that say the same of tables
-table_as : (g h : HeaderFields) (v : L2TableView) → HasFormat g h → IsTableOf h v → IsTableOf g v
+pub table_as : (g h : HeaderFields) (v : L2TableView) → HasFormat g h → IsTableOf h v → IsTableOf g v
 table_as g h v same is = record { bits = is.bits ∙ sym same.bits; zero_bit = is.zero_bit ∙ sym same.zero_bit; external = is.external ∙ sym same.external }
 
-block_as : (g h : HeaderFields) (v : RefBlockView) → HasFormat g h → IsBlockOf h v → IsBlockOf g v
+pub block_as : (g h : HeaderFields) (v : RefBlockView) → HasFormat g h → IsBlockOf h v → IsBlockOf g v
 block_as g h v same is = record { bits = is.bits ∙ sym same.bits; order = is.order ∙ sym same.order }
 
 -- what holds of what is there
@@ -132,8 +132,8 @@ module _ {S : Type 0} (view : S → StorageView) (old new : ImageStorage S) (cac
         (λ flush. l2_step h (order_of caches) p bits sound.l2_format.bits (refblocks caches) (may flush)) key v clean
         old new caches.l2.entries e some honest sound.kept l2.entries answer left holds' (rw is at (rw some at there))) in
         let fit : AllFit (IsTableOf caches.l2.backend.header.fields) l2.entries = found_or_not (lookup_entry (eqb key) caches.l2.entries)
-        (λ none. insert_fits seen caches.l2.backend.header.fields.cluster_bits (λ (t : L2TableView). t.bytes) (λ t. t.is_modified) cleared_l2 (IsTableOf caches.l2.backend.header.fields) (table_still caches.l2.backend.header.fields) caches.l2.size may_flush old new key v caches.l2.entries l2.entries answer left of_format sound.l2_fit (rw is at (missing (rw (lookup_none (eqb key) caches.l2.entries none) refl))))
-        (λ e some. replace_fits seen caches.l2.backend.header.fields.cluster_bits (λ (t : L2TableView). t.bytes) (λ t. t.is_modified) cleared_l2 (IsTableOf caches.l2.backend.header.fields) (table_still caches.l2.backend.header.fields) may_flush old new key v caches.l2.entries l2.entries e answer left some of_format sound.l2_fit (rw is at (rw some at there))) in
+        (λ none. insert_fits seen caches.l2.backend.header.fields.cluster_bits (λ (t : L2TableView). t.bytes) (λ t. t.is_modified) cleared_l2 (IsTableOf caches.l2.backend.header.fields) (table_still caches.l2.backend.header.fields) caches.l2.size may_flush old new key v caches.l2.entries l2.entries answer left (λ _. of_format) sound.l2_fit (rw is at (missing (rw (lookup_none (eqb key) caches.l2.entries none) refl))))
+        (λ e some. replace_fits seen caches.l2.backend.header.fields.cluster_bits (λ (t : L2TableView). t.bytes) (λ t. t.is_modified) cleared_l2 (IsTableOf caches.l2.backend.header.fields) (table_still caches.l2.backend.header.fields) may_flush old new key v caches.l2.entries l2.entries e answer left some (λ _. of_format) sound.l2_fit (rw is at (rw some at there))) in
         rw same_backend (record {
           honest = f.honest;
           sound = record { l2_format = sound.l2_format; rb_format = sound.rb_format; l2_fit = fit; rb_fit = sound.rb_fit; kept = f.kept };
@@ -183,8 +183,8 @@ module _ {S : Type 0} (view : S → StorageView) (old new : ImageStorage S) (cac
         (λ flush. rb_step h (order_of caches) p bits sound.rb_format.bits (l2_tables caches) (may flush)) key v clean
         old new caches.rb.entries e some honest sound.kept rb.entries answer left holds' (rw is at (rw some at there))) in
         let fit : AllFit (IsBlockOf caches.rb.backend.header.fields) rb.entries = found_or_not (lookup_entry (eqb key) caches.rb.entries)
-        (λ none. insert_fits seen caches.rb.backend.header.fields.cluster_bits (λ (b : RefBlockView). b.bytes) (λ b. b.is_modified) cleared_rb (IsBlockOf caches.rb.backend.header.fields) (block_still caches.rb.backend.header.fields) caches.rb.size may_flush old new key v caches.rb.entries rb.entries answer left of_format sound.rb_fit (rw is at (missing (rw (lookup_none (eqb key) caches.rb.entries none) refl))))
-        (λ e some. replace_fits seen caches.rb.backend.header.fields.cluster_bits (λ (b : RefBlockView). b.bytes) (λ b. b.is_modified) cleared_rb (IsBlockOf caches.rb.backend.header.fields) (block_still caches.rb.backend.header.fields) may_flush old new key v caches.rb.entries rb.entries e answer left some of_format sound.rb_fit (rw is at (rw some at there))) in
+        (λ none. insert_fits seen caches.rb.backend.header.fields.cluster_bits (λ (b : RefBlockView). b.bytes) (λ b. b.is_modified) cleared_rb (IsBlockOf caches.rb.backend.header.fields) (block_still caches.rb.backend.header.fields) caches.rb.size may_flush old new key v caches.rb.entries rb.entries answer left (λ _. of_format) sound.rb_fit (rw is at (missing (rw (lookup_none (eqb key) caches.rb.entries none) refl))))
+        (λ e some. replace_fits seen caches.rb.backend.header.fields.cluster_bits (λ (b : RefBlockView). b.bytes) (λ b. b.is_modified) cleared_rb (IsBlockOf caches.rb.backend.header.fields) (block_still caches.rb.backend.header.fields) may_flush old new key v caches.rb.entries rb.entries e answer left some (λ _. of_format) sound.rb_fit (rw is at (rw some at there))) in
         rw same_backend (record {
           honest = f.honest;
           sound = record { l2_format = sound.l2_format; rb_format = sound.rb_format; l2_fit = sound.l2_fit; rb_fit = fit; kept = f.kept };
@@ -192,7 +192,7 @@ module _ {S : Type 0} (view : S → StorageView) (old new : ImageStorage S) (cac
           settled = λ settled.
               settled_anew h (order_of caches) (order_of caches) p p (l2_tables caches) (refblocks caches) (l2_tables caches) (cached_tables bits (λ (b : RefBlockView). b.bytes) (λ b. b.is_modified) rb.entries) (byte_at (seen old).contents) (byte_at (seen new).contents) sound.kept f.kept f.known bits sound.rb_format.bits (IsBlockOf caches.rb.backend.header.fields) rb.entries
               (found_or_not (lookup_entry (eqb key) caches.rb.entries)
-              (λ none. insert_stands seen bits (λ (b : RefBlockView). b.bytes) (λ b. b.is_modified) cleared_rb (IsBlockOf caches.rb.backend.header.fields) (λ v. refl) (block_still caches.rb.backend.header.fields) (HasBlock h (byte_at (seen old).contents)) (block_place h (byte_at (seen old).contents) caches.rb.backend.header.fields.cluster_bits sound.rb_format.bits) caches.rb.size may_flush old new key v caches.rb.entries rb.entries answer left of_format clean (blocks_stand h p caches (byte_at (seen old).contents) sound settled) (rw is at (missing (rw (lookup_none (eqb key) caches.rb.entries none) refl))))
-              (λ e some. replace_stands seen bits (λ (b : RefBlockView). b.bytes) (λ b. b.is_modified) cleared_rb (IsBlockOf caches.rb.backend.header.fields) (λ v. refl) (block_still caches.rb.backend.header.fields) (HasBlock h (byte_at (seen old).contents)) (block_place h (byte_at (seen old).contents) caches.rb.backend.header.fields.cluster_bits sound.rb_format.bits) may_flush old new key v caches.rb.entries rb.entries e answer left some of_format clean (blocks_stand h p caches (byte_at (seen old).contents) sound settled) (rw is at (rw some at there))));
+              (λ none. insert_stands seen bits (λ (b : RefBlockView). b.bytes) (λ b. b.is_modified) cleared_rb (IsBlockOf caches.rb.backend.header.fields) (λ v. refl) (block_still caches.rb.backend.header.fields) (HasBlock h (byte_at (seen old).contents)) (block_place h (byte_at (seen old).contents) caches.rb.backend.header.fields.cluster_bits sound.rb_format.bits) caches.rb.size may_flush old new key v caches.rb.entries rb.entries answer left (λ _. clean_stands (λ (b : RefBlockView). b.is_modified) (IsBlockOf caches.rb.backend.header.fields) (HasBlock h (byte_at (seen old).contents)) key v of_format clean) (blocks_stand h p caches (byte_at (seen old).contents) sound settled) (rw is at (missing (rw (lookup_none (eqb key) caches.rb.entries none) refl))))
+              (λ e some. replace_stands seen bits (λ (b : RefBlockView). b.bytes) (λ b. b.is_modified) cleared_rb (IsBlockOf caches.rb.backend.header.fields) (λ v. refl) (block_still caches.rb.backend.header.fields) (HasBlock h (byte_at (seen old).contents)) (block_place h (byte_at (seen old).contents) caches.rb.backend.header.fields.cluster_bits sound.rb_format.bits) may_flush old new key v caches.rb.entries rb.entries e answer left some (λ _. clean_stands (λ (b : RefBlockView). b.is_modified) (IsBlockOf caches.rb.backend.header.fields) (HasBlock h (byte_at (seen old).contents)) e.0 v of_format clean) (blocks_stand h p caches (byte_at (seen old).contents) sound settled) (rw is at (rw some at there))));
           since = f.since;
         })

@@ -176,14 +176,14 @@ module _ {S V : Type 0} (view : S → StorageView) (bits : ℕ) (bytes : V → L
         | inr failed ↦ failed.2.cause here
       ]
 
-      pub insert_stands : (s t : S) (k : ℕ) (v : V) (es fs : List (ℕ × Slot V)) (r : Result Bool (CacheError ℕ MetadataError)) (left : Option V) → IsFit v → is_modified v ≡ false → All es
+      pub insert_stands : (s t : S) (k : ℕ) (v : V) (es fs : List (ℕ × Slot V)) (r : Result Bool (CacheError ℕ MetadataError)) (left : Option V) → (r ≡ Ok true → IsStanding is_modified IsFit Named k v) → All es
           → InsertsNew Steps₀ eqb size may_flush k v s es r t fs left → All fs
-      insert_stands s t k v es fs (Ok true) left is clean all h = subst All (sym h.0.2) (clean_stands is_modified IsFit Named k v is clean, room_stands s t es h.0.0 all h.0.1)
-      insert_stands s t k v es fs (Ok false) left is clean all h = no_room_stands s t es fs (Ok false) all h.0
-      insert_stands s t k v es fs (Err Memory) left is clean all h = room_stands s t es fs all h.0
-      insert_stands s t k v es fs (Err InUse) left is clean all h = no_room_stands s t es fs (Err InUse) all h.0
-      insert_stands s t k v es fs (Err (StillInUse _)) left is clean all h = absurd h
-      insert_stands s t k v es fs (Err (Backend x)) left is clean all h = no_room_stands s t es fs (Err (Backend x)) all h.0
+      insert_stands s t k v es fs (Ok true) left is all h = subst All (sym h.0.2) (is refl, room_stands s t es h.0.0 all h.0.1)
+      insert_stands s t k v es fs (Ok false) left is all h = no_room_stands s t es fs (Ok false) all h.0
+      insert_stands s t k v es fs (Err Memory) left is all h = room_stands s t es fs all h.0
+      insert_stands s t k v es fs (Err InUse) left is all h = no_room_stands s t es fs (Err InUse) all h.0
+      insert_stands s t k v es fs (Err (StillInUse _)) left is all h = absurd h
+      insert_stands s t k v es fs (Err (Backend x)) left is all h = no_room_stands s t es fs (Err (Backend x)) all h.0
 
       pub insert_cause : (s t : S) (k : ℕ) (v : V) (es fs : List (ℕ × Slot V)) (r : Result Bool (CacheError ℕ MetadataError)) (left : Option V) → All es
           → InsertsNew Steps₀ eqb size may_flush k v s es r t fs left → IfErr r (IsCause (IsFull size es))
@@ -194,14 +194,14 @@ module _ {S V : Type 0} (view : S → StorageView) (bits : ℕ) (bytes : V → L
       insert_cause s t k v es fs (Err (Backend x)) left all h = no_room_cause s t es fs (Err (Backend x)) all h.0
 
     module _ (may_flush : Bool) (s t : S) (k : ℕ) (v : V) (es fs : List (ℕ × Slot V)) (e : ℕ × Slot V) where
-      pub replace_stands : (r : Result Bool (CacheError ℕ MetadataError)) (left : Option V) → lookup_entry (eqb k) es ≡ Some e → IsFit v → is_modified v ≡ false → All es
+      pub replace_stands : (r : Result Bool (CacheError ℕ MetadataError)) (left : Option V) → lookup_entry (eqb k) es ≡ Some e → (r ≡ Ok true → IsStanding is_modified IsFit Named e.0 v) → All es
           → Replaces Steps₀ k e (remove_entry (eqb k) es) v may_flush s es r t fs left → All fs
-      replace_stands (Ok true) left found is clean all h = subst All (sym h.2) (clean_stands is_modified IsFit Named e.0 v is clean, stand_removed is_modified IsFit Named (eqb k) es all)
-      replace_stands (Ok false) left found is clean all h = subst All (sym h.2) all
-      replace_stands (Err (Backend x)) left found is clean all h = subst All (sym h.2) (stand_entry is_modified IsFit Named (eqb k) es e found all, stand_removed is_modified IsFit Named (eqb k) es all)
-      replace_stands (Err InUse) left found is clean all h = absurd h
-      replace_stands (Err (StillInUse _)) left found is clean all h = absurd h
-      replace_stands (Err Memory) left found is clean all h = absurd h
+      replace_stands (Ok true) left found is all h = subst All (sym h.2) (is refl, stand_removed is_modified IsFit Named (eqb k) es all)
+      replace_stands (Ok false) left found is all h = subst All (sym h.2) all
+      replace_stands (Err (Backend x)) left found is all h = subst All (sym h.2) (stand_entry is_modified IsFit Named (eqb k) es e found all, stand_removed is_modified IsFit Named (eqb k) es all)
+      replace_stands (Err InUse) left found is all h = absurd h
+      replace_stands (Err (StillInUse _)) left found is all h = absurd h
+      replace_stands (Err Memory) left found is all h = absurd h
 
       pub replace_cause : (r : Result Bool (CacheError ℕ MetadataError)) (left : Option V) → lookup_entry (eqb k) es ≡ Some e → All es
           → Replaces Steps₀ k e (remove_entry (eqb k) es) v may_flush s es r t fs left → IfErr r (IsCause ⊥)

@@ -1,5 +1,5 @@
 -- One cached table is written, and a whole cache is flushed: all is kept, nothing known changes, and a stop is as safe as before.
-use Rattle.std.proofs.Common.{◌≡◌, ℕ, ◌+◌, ◌-◌, ◌*◌, ◌/◌, ◌^◌, ◌<◌, ◌≤◌, ◌⊎◌, Bool, true, false, ◌&&◌, cond, inl, inr, List, [], ◌∷◌, ◌++◌, Option, Some, None, length, refl, sym, ap, ◌∙◌, subst, append_assoc, arith}
+use Rattle.std.proofs.Common.{◌≡◌, ℕ, ◌+◌, ◌-◌, ◌*◌, ◌/◌, ◌^◌, ◌<◌, ◌≤◌, ◌⊎◌, Bool, true, false, ◌&&◌, cond, inl, inr, List, [], ◌∷◌, ◌++◌, Option, Some, None, Result, Ok, Err, length, refl, sym, ap, ◌∙◌, subst, append_assoc, arith}
 use Rattle.std.proofs.lemmas.Bool.{cases_lt, and_from, le-leb, lt-ltb}
 use mathlib.Core.Path.{fun_ext}
 use Rattle.std.specs.Option.{option_or}
@@ -24,6 +24,7 @@ use Rattle.qcow2_laws.proofs.Caches.{rbs_free, l2s_free}
 use Rattle.qcow2_laws.proofs.Lists.{within_is, differs}
 use Rattle.qcow2_laws.proofs.Steps.{table_is_written}
 use Rattle.qcow2_alloc.specs.declared.async_lru_cache.slot.Slot.{Slot}
+use Rattle.qcow2_alloc.specs.declared.async_lru_cache.error.CacheError.{CacheError}
 use Rattle.qcow2_alloc.specs.AsyncLruCache.{slot_of}
 use Rattle.qcow2_alloc.specs.TableSteps.{FlushesTable, FailsToFlush, table_steps}
 use Rattle.qcow2_alloc.specs.CacheAnswers.{FlushesEntry, FlushesAll}
@@ -44,7 +45,7 @@ l2_named h base base' top c has =
     let e = ap host_offset (top.l1 has.0) in
     (has.0, (λ none. has.1 (e ∙ none)), ap (λ n. n / cluster_size h) (sym e) ∙ has.2)
 
-block_named : (h : HeaderFields) (base base' : Bytes) → SameTop h base' base → (c : ℕ) → HasBlock h base' c → HasBlock h base c
+pub block_named : (h : HeaderFields) (base base' : Bytes) → SameTop h base' base → (c : ℕ) → HasBlock h base' c → HasBlock h base c
 block_named h base base' top c has =
     let e = ap block_offset (top.reftable has.0) in
     (has.0, (λ none. has.1 (e ∙ none)), ap (λ n. n / cluster_size h) (sym e) ∙ has.2)
@@ -203,6 +204,12 @@ module _ {S V : Type 0} (view : S → StorageView) (bits : ℕ) (bytes : V → L
       pub done : Flushed s t (cached_tables bits bytes is_modified es) (cached_tables bits bytes is_modified rest)
       pub away : AreElsewhere (k * 2 ^ bits) (cached_tables bits bytes is_modified rest)
       pub is : fs ≡ (k, slot_of v pins) ∷ rest
+
+    -- what an answer leaves: entries before which the value stands, or nothing new
+    abbrev pub Puts : ℕ → V → S → S → List (ℕ × Slot V) → List (ℕ × Slot V) → Result Bool (CacheError ℕ MetadataError) → Type 0
+    Puts k v s t es fs (Ok true) = Ready k v s t es fs
+    Puts k v s t es fs (Ok false) = Flushed s t (cached_tables bits bytes is_modified es) (cached_tables bits bytes is_modified fs)
+    Puts k v s t es fs (Err e) = Flushed s t (cached_tables bits bytes is_modified es) (cached_tables bits bytes is_modified fs)
 
     pub flushed_none : (s : S) (ts : List CachedTable) → (view s).is_honest → P ts (contents s) → Flushed s s ts ts
     flushed_none s ts honest kept = record {

@@ -1,4 +1,4 @@
-use Rattle.std.proofs.Common.{true, false, inr, Some, Ok, refl, sym, ap, ◌∙◌, subst, ◌+◌, ◌*◌}
+use Rattle.std.proofs.Common.{◌≡◌, Bool, true, false, inr, Some, Result, Ok, Err, refl, sym, ap, ◌∙◌, subst, ◌+◌, ◌*◌}
 use Rattle.qcow2_alloc.proofs.KeptTables.Inserting.{table_put, l2_taken, taken_at_last, if_some}
 use Rattle.qcow2_metadata.specs.Header.{cluster_size}
 use Rattle.qcow2_alloc.proofs.KeptTables.Turning.{stay_then}
@@ -12,7 +12,8 @@ use Rattle.qcow2_alloc.specs.AsyncLruCache.{with_entries}
 use Rattle.qcow2_alloc.specs.TableCaches.{l2_steps}
 use Rattle.qcow2_laws.specs.Caches.{BlocksMayGo}
 use Rattle.qcow2_laws.specs.Clusters.{Direction}
-use Rattle.qcow2_alloc.specs.MetadataCaches.{order_of, l2_tables}
+use Rattle.qcow2_alloc.specs.MetadataCaches.{laid_at, order_of, l2_tables}
+use Rattle.qcow2_alloc.proofs.KeptTables.Putting.{on_err, put_at_last, laid_then, table_kept, table_laid}
 use Rattle.qcow2_alloc.proofs.KeptTables.Clean.{blocks_go, tables_as, table_put_clean}
 use Rattle.qcow2_alloc.proofs.cache.MetadataCaches.l2_insert.Goals as goal
 
@@ -128,3 +129,38 @@ pub returns-clause-first : goal.returns-clause-first
 returns-clause-first g c = λ may clean.
     subst (λ (d : Direction). BlocksMayGo d (l2_tables (record c.before_l2.new.self { l2 = c.insert-2.new.self }))) (sym c.before_l2.ensures.order)
     (blocks_go (order_of c.args.self.now) (l2_tables c.args.self.now) (l2_tables (record c.before_l2.new.self { l2 = c.insert-2.new.self })) (λ all. let before = tables_as (record c.args.self.now { l2 = c.insert.new.self }) c.before_l2.new.self c.before_l2.ensures.tables (table_put_clean g.S.Storage.view c.args.storage.now c.insert.new.store c.args.self.now false c.in-Some.cluster c.insert.new.self c.args.table (Some c.args.table) c.insert.new.value refl c.insert.result c.insert.ensures.there c.insert.ensures.missing all clean) in table_put_clean g.S.Storage.view c.before_l2.new.storage c.insert-2.new.store c.before_l2.new.self true c.in-Some.cluster c.insert-2.new.self c.args.table c.insert.new.value c.insert-2.new.value ((l2_taken g.S.Storage.view c.args.storage.now c.insert.new.store c.args.self.now false c.in-Some.cluster c.insert.new.self c.insert.ensures.others c.args.table (Some c.args.table) c.insert.new.value refl c.insert.result c.insert.ensures.there c.insert.ensures.missing).kept (c.in_ok-insert.was ∙ ap Ok c.if-branch.false)) c.insert-2.result c.insert-2.ensures.there c.insert-2.ensures.missing before clean) may)
+
+ok_false : {E : Type 0} {r : Result Bool E} → r ≡ Ok false → r ≡ Ok true → ⊥
+ok_false a b = let e = sym a ∙ b in cc
+
+err_ok : {E : Type 0} {r : Result Bool E} {x : E} → r ≡ Err x → r ≡ Ok true → ⊥
+err_ok a b = let e = sym a ∙ b in cc
+
+pub returns-in_err-insert-clause-refused : goal.returns-in_err-insert-clause-refused
+returns-in_err-insert-clause-refused g c = on_err c.from_residual.result (λ h p honest sound.
+    table_kept g.S.Storage.view c.args.storage.now c.insert.new.store c.args.self.now false c.in-Some.cluster c.insert.new.self c.insert.ensures.others c.args.table (Some c.args.table) c.insert.new.value refl c.insert.result c.insert.ensures.there c.insert.ensures.missing (λ flush. absurd (cc)) h p honest sound (λ went. err_ok c.in_err-insert.was went))
+
+pub returns-then-branch-clause-laid : goal.returns-then-branch-clause-laid
+returns-then-branch-clause-laid g c = λ h p honest sound fits marked.
+    if_some _ c.args.table.cluster c.in-Some.cluster (sym c.get_cluster.ensures.value ∙ c.in-Some.is)
+    (table_laid g.S.Storage.view c.args.storage.now c.insert.new.store c.args.self.now false c.in-Some.cluster c.insert.new.self c.insert.ensures.others c.args.table (Some c.args.table) c.insert.new.value refl c.insert.result c.insert.ensures.there c.insert.ensures.missing (λ flush. absurd (cc)) h p honest sound (c.in_ok-insert.was ∙ ap Ok c.if-branch.true) fits marked)
+
+pub returns-in_err-before_l2-clause-refused : goal.returns-in_err-before_l2-clause-refused
+returns-in_err-before_l2-clause-refused g c = on_err c.from_residual-in_err-before_l2.result (λ h p honest sound.
+    let one = table_kept g.S.Storage.view c.args.storage.now c.insert.new.store c.args.self.now false c.in-Some.cluster c.insert.new.self c.insert.ensures.others c.args.table (Some c.args.table) c.insert.new.value refl c.insert.result c.insert.ensures.there c.insert.ensures.missing (λ flush. absurd (cc)) h p honest sound (λ went. ok_false (c.in_ok-insert.was ∙ ap Ok c.if-branch.false) went) in
+    stay_then g.S.Storage.view h p c.args.storage.now c.insert.new.store c.before_l2.new.storage c.args.self.now (record c.args.self.now { l2 = c.insert.new.self }) c.before_l2.new.self one (c.before_l2.ensures.keeps h p one.honest one.sound))
+
+pub returns-in_err-insert-2-clause-refused : goal.returns-in_err-insert-2-clause-refused
+returns-in_err-insert-2-clause-refused g c = on_err c.from_residual-in_err-insert-2.result (λ h p honest sound.
+    let one = table_kept g.S.Storage.view c.args.storage.now c.insert.new.store c.args.self.now false c.in-Some.cluster c.insert.new.self c.insert.ensures.others c.args.table (Some c.args.table) c.insert.new.value refl c.insert.result c.insert.ensures.there c.insert.ensures.missing (λ flush. absurd (cc)) h p honest sound (λ went. ok_false (c.in_ok-insert.was ∙ ap Ok c.if-branch.false) went) in
+    let two = stay_then g.S.Storage.view h p c.args.storage.now c.insert.new.store c.before_l2.new.storage c.args.self.now (record c.args.self.now { l2 = c.insert.new.self }) c.before_l2.new.self one (c.before_l2.ensures.keeps h p one.honest one.sound) in
+    stay_then g.S.Storage.view h p c.args.storage.now c.before_l2.new.storage c.insert-2.new.store c.args.self.now c.before_l2.new.self (record c.before_l2.new.self { l2 = c.insert-2.new.self }) two
+    (table_kept g.S.Storage.view c.before_l2.new.storage c.insert-2.new.store c.before_l2.new.self true c.in-Some.cluster c.insert-2.new.self c.insert-2.ensures.others c.args.table c.insert.new.value c.insert-2.new.value ((l2_taken g.S.Storage.view c.args.storage.now c.insert.new.store c.args.self.now false c.in-Some.cluster c.insert.new.self c.insert.ensures.others c.args.table (Some c.args.table) c.insert.new.value refl c.insert.result c.insert.ensures.there c.insert.ensures.missing).kept (c.in_ok-insert.was ∙ ap Ok c.if-branch.false)) c.insert-2.result c.insert-2.ensures.there c.insert-2.ensures.missing (λ _. c.in_ok-before_l2.ensures.first) h p two.honest two.sound (λ went. err_ok c.in_err-insert-2.was went)))
+
+pub returns-clause-laid : goal.returns-clause-laid
+returns-clause-laid g c = λ h p honest sound fits marked.
+    let one = table_kept g.S.Storage.view c.args.storage.now c.insert.new.store c.args.self.now false c.in-Some.cluster c.insert.new.self c.insert.ensures.others c.args.table (Some c.args.table) c.insert.new.value refl c.insert.result c.insert.ensures.there c.insert.ensures.missing (λ flush. absurd (cc)) h p honest sound (λ went. ok_false (c.in_ok-insert.was ∙ ap Ok c.if-branch.false) went) in
+    let two = stay_then g.S.Storage.view h p c.args.storage.now c.insert.new.store c.before_l2.new.storage c.args.self.now (record c.args.self.now { l2 = c.insert.new.self }) c.before_l2.new.self one (c.before_l2.ensures.keeps h p one.honest one.sound) in
+    if_some _ c.args.table.cluster c.in-Some.cluster (sym c.get_cluster.ensures.value ∙ c.in-Some.is)
+    (laid_then g.S.Storage.view h p c.args.storage.now c.before_l2.new.storage c.insert-2.new.store c.args.self.now c.before_l2.new.self (record c.before_l2.new.self { l2 = c.insert-2.new.self }) (laid_at h c.in-Some.cluster c.args.table.bytes) _ _ two
+    (table_laid g.S.Storage.view c.before_l2.new.storage c.insert-2.new.store c.before_l2.new.self true c.in-Some.cluster c.insert-2.new.self c.insert-2.ensures.others c.args.table c.insert.new.value c.insert-2.new.value ((l2_taken g.S.Storage.view c.args.storage.now c.insert.new.store c.args.self.now false c.in-Some.cluster c.insert.new.self c.insert.ensures.others c.args.table (Some c.args.table) c.insert.new.value refl c.insert.result c.insert.ensures.there c.insert.ensures.missing).kept (c.in_ok-insert.was ∙ ap Ok c.if-branch.false)) c.insert-2.result c.insert-2.ensures.there c.insert-2.ensures.missing (λ _. c.in_ok-before_l2.ensures.first) h p two.honest two.sound (put_at_last c.in-Some.cluster c.args.table c.insert-2.new.self.entries c.insert-2.result c.insert-2.new.value c.in_ok-insert-2.field-0 c.in_ok-insert-2.was (l2_taken g.S.Storage.view c.before_l2.new.storage c.insert-2.new.store c.before_l2.new.self true c.in-Some.cluster c.insert-2.new.self c.insert-2.ensures.others c.args.table c.insert.new.value c.insert-2.new.value ((l2_taken g.S.Storage.view c.args.storage.now c.insert.new.store c.args.self.now false c.in-Some.cluster c.insert.new.self c.insert.ensures.others c.args.table (Some c.args.table) c.insert.new.value refl c.insert.result c.insert.ensures.there c.insert.ensures.missing).kept (c.in_ok-insert.was ∙ ap Ok c.if-branch.false)) c.insert-2.result c.insert-2.ensures.there c.insert-2.ensures.missing)) fits marked))

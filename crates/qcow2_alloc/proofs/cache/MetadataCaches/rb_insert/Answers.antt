@@ -1,4 +1,4 @@
-use Rattle.std.proofs.Common.{ℕ, true, false, Some, Ok, refl, sym, ap, ◌∙◌, subst, ◌+◌, ◌*◌}
+use Rattle.std.proofs.Common.{◌≡◌, ℕ, Bool, true, false, Some, Result, Ok, Err, refl, sym, ap, ◌∙◌, subst, ◌+◌, ◌*◌}
 use Rattle.qcow2_alloc.proofs.KeptTables.Inserting.{block_put, rb_taken, taken_at_last, if_some}
 use Rattle.qcow2_metadata.specs.Header.{cluster_size}
 use Rattle.qcow2_alloc.proofs.KeptTables.Turning.{stay_then}
@@ -14,6 +14,9 @@ use Rattle.qcow2_alloc.specs.KeptTables.{cached_tables}
 use Rattle.qcow2_alloc.specs.TableCaches.{rb_steps}
 use Rattle.qcow2_alloc.specs.declared.cache.backends.RefBlockCacheBackend.{RefBlockCacheBackend}
 use Rattle.qcow2_alloc.proofs.KeptTables.Clean.{clean_as, put_clean}
+use Rattle.qcow2_alloc.specs.MetadataCaches.{laid_at}
+use Rattle.qcow2_alloc.proofs.KeptTables.Putting.{on_err, put_at_last, laid_then}
+use Rattle.qcow2_alloc.proofs.KeptTables.PuttingBlocks.{block_kept, block_laid}
 use Rattle.qcow2_alloc.proofs.cache.MetadataCaches.rb_insert.Goals as goal
 
 pub returns-in_err-insert-clause-keeps : goal.returns-in_err-insert-clause-keeps
@@ -103,3 +106,38 @@ returns-clause-clean g c = λ all clean.
     let two = subst (λ (rb : Cache (RefBlockCacheBackend g.row.S.Denot) ℕ RefBlockView). AreClean (cached_tables rb.backend.header.fields.cluster_bits (λ (b : RefBlockView). b.bytes) (λ b. b.is_modified) rb.entries)) (sym c.before_rb.ensures.refblocks) one in
     put_clean (rb_steps (λ s. g.S.Storage.view (storage_of s)) c.before_rb.new.self.rb.backend.header.fields) c.insert-2.new.self.backend.header.fields.cluster_bits (λ (b : RefBlockView). b.bytes) (λ b. b.is_modified) c.before_rb.new.self.rb.size true c.in-Some.cluster c.before_rb.new.storage c.insert-2.new.store c.before_rb.new.self.rb.entries c.insert-2.new.self.entries
     c.args.block c.insert-2.new.value clean (clean_as _ _ (λ (b : RefBlockView). b.bytes) (λ b. b.is_modified) c.before_rb.new.self.rb.entries two) c.insert-2.result c.insert.new.value kept c.insert-2.ensures.there c.insert-2.ensures.missing
+
+ok_false : {E : Type 0} {r : Result Bool E} → r ≡ Ok false → r ≡ Ok true → ⊥
+ok_false a b = let e = sym a ∙ b in cc
+
+err_ok : {E : Type 0} {r : Result Bool E} {x : E} → r ≡ Err x → r ≡ Ok true → ⊥
+err_ok a b = let e = sym a ∙ b in cc
+
+pub returns-in_err-insert-clause-refused : goal.returns-in_err-insert-clause-refused
+returns-in_err-insert-clause-refused g c = on_err c.from_residual.result (λ h p honest sound.
+    block_kept g.S.Storage.view c.args.storage.now c.insert.new.store c.args.self.now false c.in-Some.cluster c.insert.new.self c.insert.ensures.others c.args.block (Some c.args.block) c.insert.new.value refl c.insert.result c.insert.ensures.there c.insert.ensures.missing (λ flush. absurd (cc)) h p honest sound (λ went. err_ok c.in_err-insert.was went))
+
+pub returns-then-branch-clause-laid : goal.returns-then-branch-clause-laid
+returns-then-branch-clause-laid g c = λ h p honest sound fits marked.
+    if_some _ c.args.block.cluster c.in-Some.cluster (sym c.get_cluster.ensures.value ∙ c.in-Some.is)
+    (λ free. block_laid g.S.Storage.view c.args.storage.now c.insert.new.store c.args.self.now false c.in-Some.cluster c.insert.new.self c.insert.ensures.others c.args.block (Some c.args.block) c.insert.new.value refl c.insert.result c.insert.ensures.there c.insert.ensures.missing (λ flush. absurd (cc)) h p honest sound (c.in_ok-insert.was ∙ ap Ok c.if-branch.true) fits marked free)
+
+pub returns-in_err-before_rb-clause-refused : goal.returns-in_err-before_rb-clause-refused
+returns-in_err-before_rb-clause-refused g c = on_err c.from_residual-in_err-before_rb.result (λ h p honest sound.
+    let one = block_kept g.S.Storage.view c.args.storage.now c.insert.new.store c.args.self.now false c.in-Some.cluster c.insert.new.self c.insert.ensures.others c.args.block (Some c.args.block) c.insert.new.value refl c.insert.result c.insert.ensures.there c.insert.ensures.missing (λ flush. absurd (cc)) h p honest sound (λ went. ok_false (c.in_ok-insert.was ∙ ap Ok c.if-branch.false) went) in
+    stay_then g.S.Storage.view h p c.args.storage.now c.insert.new.store c.before_rb.new.storage c.args.self.now (record c.args.self.now { rb = c.insert.new.self }) c.before_rb.new.self one (c.before_rb.ensures.keeps h p one.honest one.sound))
+
+pub returns-in_err-insert-2-clause-refused : goal.returns-in_err-insert-2-clause-refused
+returns-in_err-insert-2-clause-refused g c = on_err c.from_residual-in_err-insert-2.result (λ h p honest sound.
+    let one = block_kept g.S.Storage.view c.args.storage.now c.insert.new.store c.args.self.now false c.in-Some.cluster c.insert.new.self c.insert.ensures.others c.args.block (Some c.args.block) c.insert.new.value refl c.insert.result c.insert.ensures.there c.insert.ensures.missing (λ flush. absurd (cc)) h p honest sound (λ went. ok_false (c.in_ok-insert.was ∙ ap Ok c.if-branch.false) went) in
+    let two = stay_then g.S.Storage.view h p c.args.storage.now c.insert.new.store c.before_rb.new.storage c.args.self.now (record c.args.self.now { rb = c.insert.new.self }) c.before_rb.new.self one (c.before_rb.ensures.keeps h p one.honest one.sound) in
+    stay_then g.S.Storage.view h p c.args.storage.now c.before_rb.new.storage c.insert-2.new.store c.args.self.now c.before_rb.new.self (record c.before_rb.new.self { rb = c.insert-2.new.self }) two
+    (block_kept g.S.Storage.view c.before_rb.new.storage c.insert-2.new.store c.before_rb.new.self true c.in-Some.cluster c.insert-2.new.self c.insert-2.ensures.others c.args.block c.insert.new.value c.insert-2.new.value ((rb_taken g.S.Storage.view c.args.storage.now c.insert.new.store c.args.self.now false c.in-Some.cluster c.insert.new.self c.insert.ensures.others c.args.block (Some c.args.block) c.insert.new.value refl c.insert.result c.insert.ensures.there c.insert.ensures.missing).kept (c.in_ok-insert.was ∙ ap Ok c.if-branch.false)) c.insert-2.result c.insert-2.ensures.there c.insert-2.ensures.missing (λ _. c.in_ok-before_rb.ensures.first) h p two.honest two.sound (λ went. err_ok c.in_err-insert-2.was went)))
+
+pub returns-clause-laid : goal.returns-clause-laid
+returns-clause-laid g c = λ h p honest sound fits marked.
+    let one = block_kept g.S.Storage.view c.args.storage.now c.insert.new.store c.args.self.now false c.in-Some.cluster c.insert.new.self c.insert.ensures.others c.args.block (Some c.args.block) c.insert.new.value refl c.insert.result c.insert.ensures.there c.insert.ensures.missing (λ flush. absurd (cc)) h p honest sound (λ went. ok_false (c.in_ok-insert.was ∙ ap Ok c.if-branch.false) went) in
+    let two = stay_then g.S.Storage.view h p c.args.storage.now c.insert.new.store c.before_rb.new.storage c.args.self.now (record c.args.self.now { rb = c.insert.new.self }) c.before_rb.new.self one (c.before_rb.ensures.keeps h p one.honest one.sound) in
+    if_some _ c.args.block.cluster c.in-Some.cluster (sym c.get_cluster.ensures.value ∙ c.in-Some.is)
+    (λ free. laid_then g.S.Storage.view h p c.args.storage.now c.before_rb.new.storage c.insert-2.new.store c.args.self.now c.before_rb.new.self (record c.before_rb.new.self { rb = c.insert-2.new.self }) (laid_at h c.in-Some.cluster c.args.block.bytes) _ _ two
+    (block_laid g.S.Storage.view c.before_rb.new.storage c.insert-2.new.store c.before_rb.new.self true c.in-Some.cluster c.insert-2.new.self c.insert-2.ensures.others c.args.block c.insert.new.value c.insert-2.new.value ((rb_taken g.S.Storage.view c.args.storage.now c.insert.new.store c.args.self.now false c.in-Some.cluster c.insert.new.self c.insert.ensures.others c.args.block (Some c.args.block) c.insert.new.value refl c.insert.result c.insert.ensures.there c.insert.ensures.missing).kept (c.in_ok-insert.was ∙ ap Ok c.if-branch.false)) c.insert-2.result c.insert-2.ensures.there c.insert-2.ensures.missing (λ _. c.in_ok-before_rb.ensures.first) h p two.honest two.sound (put_at_last c.in-Some.cluster c.args.block c.insert-2.new.self.entries c.insert-2.result c.insert-2.new.value c.in_ok-insert-2.field-0 c.in_ok-insert-2.was (rb_taken g.S.Storage.view c.before_rb.new.storage c.insert-2.new.store c.before_rb.new.self true c.in-Some.cluster c.insert-2.new.self c.insert-2.ensures.others c.args.block c.insert.new.value c.insert-2.new.value ((rb_taken g.S.Storage.view c.args.storage.now c.insert.new.store c.args.self.now false c.in-Some.cluster c.insert.new.self c.insert.ensures.others c.args.block (Some c.args.block) c.insert.new.value refl c.insert.result c.insert.ensures.there c.insert.ensures.missing).kept (c.in_ok-insert.was ∙ ap Ok c.if-branch.false)) c.insert-2.result c.insert-2.ensures.there c.insert-2.ensures.missing)) fits marked (c.before_rb.ensures.free (cluster_size h) c.in-Some.cluster free)))

@@ -1,4 +1,4 @@
-use Rattle.std.proofs.Common.{◌≡◌, sym, ◌∙◌, subst}
+use Rattle.std.proofs.Common.{◌≡◌, [], sym, ◌∙◌, subst}
 use Rattle.std.specs.Prelude.{Result}
 use Rattle.qcow2_laws.specs.Guard.{Pending}
 use Rattle.qcow2_alloc.specs.FreeList.{with_listed}
@@ -6,6 +6,7 @@ use Rattle.qcow2_image.specs.Calls.{Flushes}
 use Rattle.qcow2_image.specs.declared.image.Qcow2.{Qcow2}
 use Rattle.qcow2_image.specs.Image.{is_failed}
 use Rattle.qcow2_image.specs.Views.{IsSoundAt}
+use Rattle.qcow2_image.proofs.Grown.{written_back}
 use Rattle.qcow2_image.proofs.Tidying.{all_listed, beside, flushes_settled, frees_on}
 use Rattle.qcow2_image.proofs.image.Qcow2.flush.Goals as goal
 
@@ -27,3 +28,15 @@ returns-clause-sees g c =
     frees_on view below out old mid new p r c.begin.ensures.list first
     (c.write_back-done.ensures.frees p out (subst (λ l. IsSoundAt view below (with_listed p l) mid out) (sym c.begin.ensures.list) first.sound)))
     c.write_back-done.ensures.written))
+
+pub returns-clause-writes : goal.returns-clause-writes
+returns-clause-writes g c = λ p sound.
+    let view = g.S.Storage.view in
+    let below = g.F.BackingDisk.backing in
+    let old = c.args.self.now in
+    let mid = c.begin.new.self in
+    let new = c.write_back-done.new.self in
+    let first = c.begin.ensures.keeps (with_listed p old.file.free_list) [] sound in
+    written_back view below p old new c.settled.new.self c.write_back-done.result c.settled.result
+    (frees_on view below [] old mid new p c.write_back-done.result c.begin.ensures.list first (c.write_back-done.ensures.frees p [] (subst (λ l. IsSoundAt view below (with_listed p l) mid []) (sym c.begin.ensures.list) first.sound)))
+    c.settled.ensures.answer c.settled.ensures.rest c.settled.ensures.marks

@@ -1,0 +1,131 @@
+-- A modified table is put into the caches: it is laid over what is known.
+use Rattle.std.proofs.Common.{◌≡◌, ◌≢◌, ◌⊎◌, inl, inr, ℕ, ◌-◌, ◌/◌, ◌%◌, ◌≤◌, max, true, false, cond, List, [], ◌∷◌, refl, sym, ap, ◌∙◌, subst, arith}
+use Rattle.std.proofs.lemmas.Bool.{cases_Bool, cases_eq, cond-true}
+use mathlib.Core.Path.{fun_ext}
+use Rattle.qcow2_metadata.specs.Bytes.{Bytes}
+use Rattle.qcow2_metadata.specs.declared.header.HeaderFields.{HeaderFields}
+use Rattle.qcow2_metadata.specs.declared.l2_mapping.L2Mapping.{L2Mapping}
+use Rattle.qcow2_metadata.specs.Header.{cluster_size, entries_per_cluster}
+use Rattle.qcow2_metadata.specs.Entries.{host_offset}
+use Rattle.qcow2_metadata.specs.Named.{named_by_l1_table, named_by_reftable, named_by_cover}
+use Rattle.qcow2_metadata.specs.Tables.{CachedTable, known, overlays}
+use Rattle.qcow2_laws.specs.Clusters.{Direction}
+use Rattle.qcow2_laws.specs.Guard.{Pending, IsGuarded, SameCovers, SameIn}
+use Rattle.qcow2_laws.specs.Guests.{names, table_at}
+use Rattle.qcow2_laws.specs.Writes.{IsUnnamed}
+use Rattle.qcow2_laws.specs.Caches.{known_bytes, IsFreeAt, AreSettled, HasL2, HasBlock}
+use Rattle.qcow2_laws.proofs.Blocks.{table_once}
+use Rattle.qcow2_laws.proofs.Guests.{over_guests-same}
+use Rattle.qcow2_laws.proofs.Lists.{known-at, known-none, known_elsewhere, no_overlay, overlays_within, within_cluster, differs}
+use Rattle.qcow2_laws.proofs.Shares.{shares, table_has, block_has, cover_stays}
+use Rattle.qcow2_laws.proofs.Tops.{IsTop-top}
+use Rattle.qcow2_alloc.specs.KeptTables.{AreElsewhere, AreKept}
+use Rattle.qcow2_alloc.proofs.KeptTables.Listing.{free_elsewhere}
+
+-- ---- what is known
+
+known_first : (size : ℕ) (t : CachedTable) (ts : List CachedTable) (b : Bytes) (o : ℕ) → known size (t ∷ ts) b o ≡ cond (overlays size t o) (t.bytes (o - t.place)) (known size ts b o)
+unfolding known
+known_first size t ts b o = refl
+
+-- over the other tables of its list
+pub laid_first : (size : ℕ) (t : CachedTable) (ts : List CachedTable) (b : Bytes) → known size (t ∷ ts) b ≡ known size (t ∷ []) (known size ts b)
+unfolding known
+laid_first size t ts b = fun_ext (λ o. refl)
+
+-- under a list of which none lies there
+pub laid_under : (size : ℕ) (t : CachedTable) (l2s rbs : List CachedTable) (base : Bytes) → ((o : ℕ) → overlays size t o ≡ true → IsFreeAt size l2s o)
+    → known size l2s (known size (t ∷ rbs) base) ≡ known size (t ∷ []) (known size l2s (known size rbs base))
+laid_under size t l2s rbs base free = fun_ext (λ o. elim (cases_Bool (overlays size t o)) [
+  | inl over ↦
+      known-none size l2s (known size (t ∷ rbs) base) o (free o over) ∙ known_first size t rbs base o ∙ cond-true _ _ _ over
+      ∙ sym (known_first size t [] (known size l2s (known size rbs base)) o ∙ cond-true _ _ _ over)
+  | inr past ↦
+      known-at size l2s (known size (t ∷ rbs) base) (known size rbs base) o (known_elsewhere size [] rbs t base o past)
+      ∙ sym (known_elsewhere size [] [] t (known size l2s (known size rbs base)) o past ∙ known-none size [] (known size l2s (known size rbs base)) o tt)
+])
+
+-- ---- what is kept
+module _ (h : HeaderFields) (d : Direction) (p : Pending) (l2s rbs : List CachedTable) (base : Bytes) (are : AreKept h d p l2s rbs base) (t : CachedTable) (aligned : t.place % cluster_size h ≡ 0) (marked : t.is_modified ≡ true) (p' : Pending) where
+  abbrev size : ℕ
+  size = cluster_size h
+
+  past_other : (c : ℕ) → c ≢ t.place / size → (o : ℕ) → o / size ≡ c → overlays size t o ≡ false
+  past_other c other o in_c = no_overlay size t o (λ over. other (sym in_c ∙ within_cluster t.place size o aligned (overlays_within size t o over)))
+
+  -- an L2 table that an L1 entry names
+  pub l2_laid : AreElsewhere t.place l2s → AreSettled h rbs base → HasL2 h base (t.place / size) → IsGuarded h d p' base (known_bytes size (t ∷ l2s) rbs base) → AreKept h d p' (t ∷ l2s) rbs base
+  l2_laid away settled has guarded = record {
+    kept = record {
+      guarded = guarded;
+      l2_apart = (
+        aligned,
+        (λ o over. free_elsewhere size (HasL2 h base) base l2s t.place o aligned away are.l2_loaded (within_cluster t.place size o aligned (overlays_within size t o over))),
+        are.kept.l2_apart,
+      );
+      rb_apart = are.kept.rb_apart;
+      l2_stand = λ c. elim (cases_eq c (t.place / size)) [
+        | inl here ↦ inr (subst (HasL2 h base) (sym here) has)
+        | inr other ↦ elim (are.kept.l2_stand c) [ inl free ↦ inl (λ o in_c. (past_other c other o in_c, free o in_c)) | inr named ↦ inr named ]
+      ];
+      rb_stand = λ c. elim (settled c) [ inl free ↦ inl free | inr named ↦ inr (inl named) ];
+    };
+    l2_loaded = (aligned, away, (λ clean. absurd (differs t.is_modified marked clean)), are.l2_loaded);
+    rb_loaded = are.rb_loaded;
+  }
+
+  -- a refblock that the reftable names, or one where nothing is named
+  module _ (stands : HasBlock h base (t.place / size) ⊎ IsUnnamed h base (known_bytes size l2s (t ∷ rbs) base) (t.place / size)) (guarded : IsGuarded h d p' base (known_bytes size l2s (t ∷ rbs) base)) where
+    no_l2 : HasL2 h base (t.place / size) → ⊥
+    no_l2 has =
+        let s = shares h base (t.place / size) in
+        let table : 1 ≤ named_by_l1_table h base (t.place / size) = subst (λ n. 1 ≤ named_by_l1_table h base n) has.2 (table_has h base has.0 has.1) in
+        elim stands [
+          | inl block ↦
+              let also : 1 ≤ named_by_reftable h base (t.place / size) = subst (λ n. 1 ≤ named_by_reftable h base n) block.2 (block_has h base block.0 block.1) in
+              let once = table_once h d p' base (known_bytes size l2s (t ∷ rbs) base) guarded (t.place / size) (omega arith) in
+              omega arith
+          | inr unnamed ↦ let none = unnamed.no_table in omega arith
+        ]
+
+    same_elsewhere : (c : ℕ) → c ≢ t.place / size → SameIn size c (known_bytes size l2s rbs base) (known_bytes size l2s (t ∷ rbs) base)
+    same_elsewhere c other o in_c = sym (known-at size l2s (known size (t ∷ rbs) base) (known size rbs base) o (known_elsewhere size [] rbs t base o (past_other c other o in_c)))
+
+    same_covers : SameCovers h (known_bytes size l2s rbs base) (known_bytes size l2s (t ∷ rbs) base)
+    same_covers g =
+        let i = g / entries_per_cluster h in
+        let top = are.kept.guarded.same_top in
+        cover_stays h (known_bytes size l2s rbs base) (known_bytes size l2s (t ∷ rbs) base) (IsTop-top h base (known_bytes size l2s rbs base) top are.kept.guarded.top) g (sym (top.l1 i) ∙ guarded.same_top.l1 i)
+        (λ real. same_elsewhere (table_at h (known_bytes size l2s rbs base) i / size) (λ here. no_l2 (named_base i real here)))
+      where
+        named_base : (i : ℕ) → table_at h (known_bytes size l2s rbs base) i ≢ 0 → table_at h (known_bytes size l2s rbs base) i / size ≡ t.place / size → HasL2 h base (t.place / size)
+        named_base i real here = let e : table_at h base i ≡ table_at h (known_bytes size l2s rbs base) i = ap host_offset (are.kept.guarded.same_top.l1 i) in (i, (λ none. real (sym e ∙ none)), ap (λ n. n / size) e ∙ here)
+
+    still_unnamed : (c : ℕ) → IsUnnamed h base (known_bytes size l2s rbs base) c → IsUnnamed h base (known_bytes size l2s (t ∷ rbs) base) c
+    still_unnamed c unnamed = record {
+      no_table = unnamed.no_table;
+      no_entry = over_guests-same h _ _ (λ g. ap (λ (m : L2Mapping). max (names h base c g) (named_by_cover h c m)) (sym (same_covers g))) ∙ unnamed.no_entry;
+    }
+
+    pub rb_laid : AreElsewhere t.place rbs → AreKept h d p' l2s (t ∷ rbs) base
+    rb_laid away = record {
+      kept = record {
+        guarded = guarded;
+        l2_apart = are.kept.l2_apart;
+        rb_apart = (
+          aligned,
+          (λ o over. free_elsewhere size (HasBlock h base) base rbs t.place o aligned away are.rb_loaded (within_cluster t.place size o aligned (overlays_within size t o over))),
+          are.kept.rb_apart,
+        );
+        l2_stand = are.kept.l2_stand;
+        rb_stand = λ c. elim (cases_eq c (t.place / size)) [
+          | inl here ↦ inr (subst (λ n. HasBlock h base n ⊎ IsUnnamed h base (known_bytes size l2s (t ∷ rbs) base) n) (sym here) stands)
+          | inr other ↦ elim (are.kept.rb_stand c) [
+            | inl free ↦ inl (λ o in_c. (past_other c other o in_c, free o in_c))
+            | inr more ↦ elim more [ inl has ↦ inr (inl has) | inr unnamed ↦ inr (inr (still_unnamed c unnamed)) ]
+          ]
+        ];
+      };
+      l2_loaded = are.l2_loaded;
+      rb_loaded = (aligned, away, (λ clean. absurd (differs t.is_modified marked clean)), are.rb_loaded);
+    }

@@ -1,0 +1,179 @@
+-- A modified table is put into the caches; or nothing is.
+use Rattle.std.proofs.Common.{◌≡◌, ℕ, ◌*◌, ◌%◌, ◌^◌, Bool, true, false, eqb, List, [], ◌∷◌, Option, Some, Result, Ok, Err, OnErr, refl, sym, ap, ◌∙◌, subst}
+use Rattle.std.proofs.Math.Nat.{mul-mod_left}
+use Rattle.std.specs.Option.{IfSome, IsNone}
+use Rattle.std.specs.Map.{lookup, lookup_entry, remove_entry}
+use Rattle.image_access.specs.Moments.{StorageView}
+use Rattle.image_access.proofs.Passing.{passes_on}
+use Rattle.qcow2_metadata.specs.Bytes.{Bytes, byte_at}
+use Rattle.qcow2_metadata.specs.declared.header.HeaderFields.{HeaderFields}
+use Rattle.qcow2_metadata.specs.declared.error.MetadataError.{MetadataError}
+use Rattle.qcow2_metadata.specs.Header.{cluster_size}
+use Rattle.qcow2_metadata.specs.L2Table.{L2TableView}
+use Rattle.qcow2_metadata.specs.Tables.{CachedTable, known}
+use Rattle.qcow2_laws.specs.Stops.{IsKeptAt}
+use Rattle.qcow2_laws.specs.Guard.{Pending, IsGuarded}
+use Rattle.qcow2_laws.specs.Caches.{known_bytes, TablesMayGo, AreSettled, HasL2}
+use Rattle.qcow2_alloc.specs.declared.async_lru_cache.slot.Slot.{Slot}
+use Rattle.qcow2_alloc.specs.declared.async_lru_cache.error.CacheError.{CacheError}
+use Rattle.qcow2_alloc.specs.declared.cache.backends.L2CacheBackend.{L2CacheBackend}
+use Rattle.qcow2_alloc.specs.declared.cache.MetadataCaches.{MetadataCaches}
+use Rattle.qcow2_alloc.specs.declared.image_storage.ImageStorage.{ImageStorage}
+use Rattle.qcow2_alloc.specs.AsyncLruCache.{Cache, slot_of, with_entries}
+use Rattle.qcow2_alloc.specs.CacheAnswers.{InsertsNew, Replaces}
+use Rattle.qcow2_alloc.specs.ImageStorage.{storage_of}
+use Rattle.qcow2_alloc.specs.TableCaches.{l2_steps, cleared_l2, IsTableOf}
+use Rattle.qcow2_alloc.specs.KeptTables.{cached_table, cached_tables, AllFit, AreElsewhere, AreKept}
+use Rattle.qcow2_alloc.specs.MetadataCaches.{laid_at, order_of, l2_tables, refblocks, AreSound, StaySound, LaidOver}
+use Rattle.qcow2_alloc.proofs.KeptTables.Settled.{settled_beside}
+use Rattle.qcow2_alloc.proofs.KeptTables.Standing.{own_cluster}
+use Rattle.qcow2_alloc.proofs.KeptTables.Writing.{Flushed, Ready, Puts}
+use Rattle.qcow2_alloc.proofs.KeptTables.Entries.{AreDistinct}
+use Rattle.qcow2_alloc.proofs.KeptTables.Fitting.{insert_fits, replace_fits}
+use Rattle.qcow2_alloc.proofs.KeptTables.Listing.{loaded_distinct, l2_drop, l2_add, l2_promote}
+use Rattle.qcow2_alloc.proofs.KeptTables.Getting.{HoldsWhatStands, insert_put, replace_put}
+use Rattle.qcow2_alloc.proofs.KeptTables.Flushing.{l2_step, table_still}
+use Rattle.qcow2_alloc.proofs.KeptTables.Inserting.{IsTakenOrKept, found_or_not, lookup_none, table_as}
+use Rattle.qcow2_alloc.proofs.KeptTables.Laying.{laid_first, l2_laid}
+
+pub on_err : {T E : Type 0} {P : Type 0} (r : Result T E) → P → OnErr r P
+on_err (Ok _) p = tt
+on_err (Err _) p = p
+
+-- where a value may be flushed for it, the value is put in
+pub put_at_last : {V E : Type 0} (key : ℕ) (v : V) (fs : List (ℕ × Slot V)) (answer : Result Bool (CacheError ℕ E)) (left : Option V) (b : Bool) → answer ≡ Ok b → IsTakenOrKept key v true fs answer left → answer ≡ Ok true
+put_at_last key v fs answer left true is taken = is
+put_at_last key v fs answer left false is taken = let e = taken.done is in absurd (cc)
+
+-- ---- an answer, with what it leaves
+module _ {S V : Type 0} (view : S → StorageView) (bits : ℕ) (bytes : V → List ℕ) (is_modified : V → Bool) (cleared : V → V) (IsFit : V → Type 0)
+    (unmodified : (v : V) → is_modified (cleared v) ≡ false) (same_bytes : (v : V) → bytes (cleared v) ≡ bytes v)
+    (P : List CachedTable → Bytes → Type 0) (all : List CachedTable → Bytes → Bytes) (k : ℕ) (v : V) (s t : S) (es fs : List (ℕ × Slot V)) where
+  abbrev Leaves : Result Bool (CacheError ℕ MetadataError) → Type 0
+  Leaves = Puts view bits bytes is_modified cleared IsFit unmodified same_bytes P all k v s t es fs
+
+  pub nothing_new : (r : Result Bool (CacheError ℕ MetadataError)) → (r ≡ Ok true → ⊥) → Leaves r
+      → Flushed view bits bytes is_modified cleared IsFit unmodified same_bytes P all s t (cached_tables bits bytes is_modified es) (cached_tables bits bytes is_modified fs)
+  nothing_new (Ok true) isnt h = absurd (isnt refl)
+  nothing_new (Ok false) isnt h = h
+  nothing_new (Err e) isnt h = h
+
+  pub made_ready : (r : Result Bool (CacheError ℕ MetadataError)) → r ≡ Ok true → Leaves r → Ready view bits bytes is_modified cleared IsFit unmodified same_bytes P all k v s t es fs
+  made_ready r is h = subst Leaves is h
+
+-- ---- nothing new, and then a table is laid over
+module _ {S : Type 0} (view : S → StorageView) (h : HeaderFields) (p : Pending) (r s t : ImageStorage S) (a b c : MetadataCaches S) (table : CachedTable) (Stands : Bytes → Bytes → Type 0) (IsNamed : Bytes → Type 0) where
+  pub laid_then : StaySound h p (view (storage_of r)) a (view (storage_of s)) b → LaidOver Stands IsNamed h (view (storage_of s)) b (view (storage_of t)) c table → LaidOver Stands IsNamed h (view (storage_of r)) a (view (storage_of t)) c table
+  laid_then first second = record {
+    honest = second.honest;
+    known = second.known ∙ ap (known (cluster_size h) (table ∷ [])) first.known;
+    since = record {
+      moments = passes_on _ first.since.moments second.since.moments
+          (λ l safe backing m ok known_ok. safe backing m (first.since.contents backing m ok known_ok) (subst (IsKeptAt backing m) (sym first.known) known_ok));
+      contents = λ backing m ok known_ok. second.since.contents backing m (first.since.contents backing m ok known_ok) (subst (IsKeptAt backing m) (sym first.known) known_ok);
+    };
+    settled = λ named settled. second.settled named (first.settled settled);
+    sound = second.sound;
+  }
+
+module _ {S : Type 0} (view : S → StorageView) (old new : ImageStorage S) (caches : MetadataCaches S) (may_flush : Bool) (key : ℕ) where
+  abbrev seen : ImageStorage S → StorageView
+  seen s = view (storage_of s)
+
+  -- ---- an L2 table
+  module _ (l2 : Cache (L2CacheBackend S) ℕ L2TableView) (others : l2 ≡ with_entries caches.l2 l2.entries) (v : L2TableView) (value left : Option L2TableView) (is : value ≡ Some v) (answer : Result Bool (CacheError ℕ MetadataError))
+      (there : IfSome (lookup_entry (eqb key) caches.l2.entries) (λ e. IfSome value (λ v.
+      Replaces (l2_steps seen caches.l2.backend.header.fields) key e (remove_entry (eqb key) caches.l2.entries) v may_flush old caches.l2.entries answer new l2.entries left)))
+      (missing : IsNone (lookup (eqb key) caches.l2.entries)
+      → IfSome value (λ v. InsertsNew (l2_steps seen caches.l2.backend.header.fields) eqb caches.l2.size may_flush key v old caches.l2.entries answer new l2.entries left))
+      (may : may_flush ≡ true → TablesMayGo (order_of caches) (refblocks caches)) (h : HeaderFields) (p : Pending) (honest : (seen old).is_honest) (sound : AreSound h p caches (byte_at (seen old).contents)) where
+    abbrev bits : ℕ
+    bits = caches.l2.backend.header.fields.cluster_bits
+
+    abbrev IsFit : L2TableView → Type 0
+    IsFit = IsTableOf caches.l2.backend.header.fields
+
+    abbrev P : List CachedTable → Bytes → Type 0
+    P ts base = AreKept h (order_of caches) p ts (refblocks caches) base
+
+    abbrev all : List CachedTable → Bytes → Bytes
+    all ts base = known_bytes (cluster_size h) ts (refblocks caches) base
+
+    abbrev tables : List (ℕ × Slot L2TableView) → List CachedTable
+    tables = cached_tables bits (λ (t : L2TableView). t.bytes) (λ t. t.is_modified)
+
+    distinct : (ts : List CachedTable) (base : Bytes) → P ts base → AreDistinct ts
+    distinct ts base are = loaded_distinct (cluster_size h) (HasL2 h base) base ts are.l2_loaded
+
+    add : (t : CachedTable) (ts : List CachedTable) (base : Bytes) → P ts base → t.place % 2 ^ bits ≡ 0 → AreElsewhere t.place ts → t.is_modified ≡ false → HoldsWhatStands all (2 ^ bits) t ts base
+        → P (t ∷ ts) base × (all (t ∷ ts) base ≡ all ts base)
+    add t ts base are aligned away clean current =
+        l2_add h (order_of caches) p (refblocks caches) t ts base are (subst (λ n. t.place % 2 ^ n ≡ 0) sound.l2_format.bits aligned) away clean (subst (λ n. HoldsWhatStands all (2 ^ n) t ts base) sound.l2_format.bits current)
+
+    puts : Puts seen bits (λ (t : L2TableView). t.bytes) (λ t. t.is_modified) cleared_l2 IsFit (λ v. refl) (λ v. refl) P all key v old new caches.l2.entries l2.entries answer
+    puts = found_or_not (lookup_entry (eqb key) caches.l2.entries)
+        (λ none. insert_put seen bits (λ (t : L2TableView). t.bytes) (λ t. t.is_modified) cleared_l2 IsFit (λ v. refl) (λ v. refl) P all distinct (l2_drop h (order_of caches) p (refblocks caches)) add (l2_promote h (order_of caches) p (refblocks caches)) caches.l2.size may_flush
+        (λ flush. l2_step h (order_of caches) p bits sound.l2_format.bits (refblocks caches) (may flush)) key v
+        old new caches.l2.entries l2.entries answer left honest sound.kept (lookup_none (eqb key) caches.l2.entries none)
+        (rw is at (missing (rw (lookup_none (eqb key) caches.l2.entries none) refl))))
+        (λ e some. replace_put seen bits (λ (t : L2TableView). t.bytes) (λ t. t.is_modified) cleared_l2 IsFit (λ v. refl) (λ v. refl) P all distinct (l2_drop h (order_of caches) p (refblocks caches)) add (l2_promote h (order_of caches) p (refblocks caches)) caches.l2.size may_flush
+        (λ flush. l2_step h (order_of caches) p bits sound.l2_format.bits (refblocks caches) (may flush)) key v
+        old new caches.l2.entries e some honest sound.kept l2.entries answer left (rw is at (rw some at there)))
+
+    fit : (answer ≡ Ok true → IsFit v) → AllFit IsFit l2.entries
+    fit fits = found_or_not (lookup_entry (eqb key) caches.l2.entries)
+        (λ none. insert_fits seen bits (λ (t : L2TableView). t.bytes) (λ t. t.is_modified) cleared_l2 IsFit (table_still caches.l2.backend.header.fields) caches.l2.size may_flush old new key v caches.l2.entries l2.entries answer left fits sound.l2_fit (rw is at (missing (rw (lookup_none (eqb key) caches.l2.entries none) refl))))
+        (λ e some. replace_fits seen bits (λ (t : L2TableView). t.bytes) (λ t. t.is_modified) cleared_l2 IsFit (table_still caches.l2.backend.header.fields) may_flush old new key v caches.l2.entries l2.entries e answer left some fits sound.l2_fit (rw is at (rw some at there)))
+
+    pub table_kept : (answer ≡ Ok true → ⊥) → StaySound h p (seen old) caches (seen new) (record caches { l2 = l2 })
+    table_kept isnt =
+        let same_backend : l2.backend ≡ caches.l2.backend = ap (λ c. c.backend) others in
+        let f = nothing_new seen bits (λ (t : L2TableView). t.bytes) (λ t. t.is_modified) cleared_l2 IsFit (λ v. refl) (λ v. refl) P all key v old new caches.l2.entries l2.entries answer isnt puts in
+        rw same_backend (record {
+          honest = f.honest;
+          sound = record { l2_format = sound.l2_format; rb_format = sound.rb_format; l2_fit = fit (λ went. absurd (isnt went)); rb_fit = sound.rb_fit; kept = f.kept };
+          known = f.known;
+          settled = settled_beside h (order_of caches) (order_of caches) p p (l2_tables caches) (refblocks caches) (tables l2.entries) (refblocks caches) (byte_at (seen old).contents) (byte_at (seen new).contents) sound.kept f.kept f.known;
+          since = f.since;
+        })
+
+    module _ (went : answer ≡ Ok true) (fits : IsTableOf h v) (marked : v.is_modified ≡ true) where
+      ready : Ready seen bits (λ (t : L2TableView). t.bytes) (λ t. t.is_modified) cleared_l2 IsFit (λ v. refl) (λ v. refl) P all key v old new caches.l2.entries l2.entries
+      ready = made_ready seen bits (λ (t : L2TableView). t.bytes) (λ t. t.is_modified) cleared_l2 IsFit (λ v. refl) (λ v. refl) P all key v old new caches.l2.entries l2.entries answer went puts
+
+      abbrev entries : List (ℕ × Slot L2TableView)
+      entries = (key, slot_of v ready.pins) ∷ ready.rest
+
+      laid_is : cached_table bits (λ (t : L2TableView). t.bytes) (λ t. t.is_modified) (key, slot_of v ready.pins) ≡ laid_at h key v.bytes
+      laid_is =
+          ap (λ n. record { place = key * 2 ^ n; bytes = byte_at v.bytes; is_modified = v.is_modified }) sound.l2_format.bits
+          ∙ ap (λ m. record { place = key * cluster_size h; bytes = byte_at v.bytes; is_modified = m }) marked
+
+      list_is : tables entries ≡ laid_at h key v.bytes ∷ tables ready.rest
+      list_is = ap (λ (t : CachedTable). t ∷ tables ready.rest) laid_is
+
+      away : AreElsewhere (key * cluster_size h) (tables ready.rest)
+      away = subst (λ n. AreElsewhere (key * 2 ^ n) (tables ready.rest)) sound.l2_format.bits ready.away
+
+      pub table_laid : LaidOver (λ base known. AreSettled h (refblocks caches) base × HasL2 h base key) (λ base. Unit {0}) h (seen old) caches (seen new) (record caches { l2 = l2 }) (laid_at h key v.bytes)
+      table_laid =
+          let whole : l2 ≡ with_entries caches.l2 entries = others ∙ ap (with_entries caches.l2) ready.is in
+          let base' = byte_at (seen new).contents in
+          subst (λ (c : Cache (L2CacheBackend S) ℕ L2TableView). LaidOver (λ base known. AreSettled h (refblocks caches) base × HasL2 h base key) (λ base. Unit {0}) h (seen old) caches (seen new) (record caches { l2 = c }) (laid_at h key v.bytes)) (sym whole)
+          (record {
+            honest = ready.done.honest;
+            known = ap (λ ts. known_bytes (cluster_size h) ts (refblocks caches) base') list_is ∙ laid_first (cluster_size h) (laid_at h key v.bytes) (tables ready.rest) (known (cluster_size h) (refblocks caches) base')
+                ∙ ap (known (cluster_size h) (laid_at h key v.bytes ∷ [])) ready.done.known;
+            since = ready.done.since;
+            settled = λ _. settled_beside h (order_of caches) (order_of caches) p p (l2_tables caches) (refblocks caches) (tables ready.rest) (refblocks caches) (byte_at (seen old).contents) base' sound.kept ready.done.kept ready.done.known;
+            sound = λ p' stands guarded. record {
+              l2_format = sound.l2_format;
+              rb_format = sound.rb_format;
+              l2_fit = subst (AllFit IsFit) ready.is (fit (λ _. table_as caches.l2.backend.header.fields h v sound.l2_format fits));
+              rb_fit = sound.rb_fit;
+              kept = subst (λ ts. AreKept h (order_of caches) p' ts (refblocks caches) base') (sym list_is)
+                  (l2_laid h (order_of caches) p (tables ready.rest) (refblocks caches) base' ready.done.kept (laid_at h key v.bytes) (mul-mod_left key (cluster_size h)) refl p' away stands.0
+                  (subst (HasL2 h base') (sym (own_cluster h.cluster_bits key)) stands.1)
+                  (subst (λ ts. IsGuarded h (order_of caches) p' base' (known_bytes (cluster_size h) ts (refblocks caches) base')) list_is guarded));
+            };
+          })

@@ -1,0 +1,178 @@
+-- A modified refblock is put into the caches; or nothing is.
+use Rattle.std.proofs.Common.{◌≡◌, ◌⊎◌, ℕ, ◌*◌, ◌/◌, ◌%◌, ◌^◌, Bool, true, false, eqb, List, [], ◌∷◌, Option, Some, Result, Ok, refl, sym, ap, ◌∙◌, subst}
+use Rattle.std.proofs.Math.Nat.{mul-mod_left}
+use Rattle.std.specs.Option.{IfSome, IsNone}
+use Rattle.std.specs.Map.{lookup, lookup_entry, remove_entry}
+use Rattle.lru.proofs.CallerLemmas.{Contains-lookup_entry}
+use Rattle.image_access.specs.Moments.{StorageView}
+use Rattle.qcow2_metadata.specs.Bytes.{Bytes, byte_at}
+use Rattle.qcow2_metadata.specs.declared.header.HeaderFields.{HeaderFields}
+use Rattle.qcow2_metadata.specs.declared.error.MetadataError.{MetadataError}
+use Rattle.qcow2_metadata.specs.Header.{cluster_size}
+use Rattle.qcow2_metadata.specs.RefBlock.{RefBlockView}
+use Rattle.qcow2_metadata.specs.Tables.{CachedTable, known}
+use Rattle.qcow2_laws.specs.Guard.{Pending, IsGuarded}
+use Rattle.qcow2_laws.specs.Writes.{IsUnnamed}
+use Rattle.qcow2_laws.specs.Caches.{known_bytes, BlocksMayGo, IsFreeOf, AreSettled, HasBlock}
+use Rattle.qcow2_laws.proofs.Tops.{SameTop-sym}
+use Rattle.qcow2_laws.proofs.Lists.{overlays_within, within_cluster}
+use Rattle.qcow2_alloc.specs.declared.async_lru_cache.slot.Slot.{Slot}
+use Rattle.qcow2_alloc.specs.declared.async_lru_cache.error.CacheError.{CacheError}
+use Rattle.qcow2_alloc.specs.declared.cache.backends.RefBlockCacheBackend.{RefBlockCacheBackend}
+use Rattle.qcow2_alloc.specs.declared.cache.MetadataCaches.{MetadataCaches}
+use Rattle.qcow2_alloc.specs.declared.image_storage.ImageStorage.{ImageStorage}
+use Rattle.qcow2_alloc.specs.AsyncLruCache.{Cache, slot_of, with_entries}
+use Rattle.qcow2_alloc.specs.CacheAnswers.{InsertsNew, Replaces}
+use Rattle.qcow2_alloc.specs.ImageStorage.{storage_of}
+use Rattle.qcow2_alloc.specs.TableLaws.{same_number}
+use Rattle.qcow2_alloc.specs.TableCaches.{rb_steps, cleared_rb, IsBlockOf}
+use Rattle.qcow2_alloc.specs.KeptTables.{cached_table, cached_tables, AllFit, AreElsewhere, AreKept}
+use Rattle.qcow2_alloc.specs.MetadataCaches.{laid_at, order_of, l2_tables, refblocks, AreSound, StaySound, LaidOver}
+use Rattle.qcow2_alloc.proofs.KeptTables.Settled.{top_still, settled_anew, blocks_stand, block_place}
+use Rattle.qcow2_alloc.proofs.KeptTables.Standing.{IsStanding, AreStanding, own_cluster, insert_stands, replace_stands}
+use Rattle.qcow2_alloc.proofs.KeptTables.Writing.{block_named, Ready, Puts}
+use Rattle.qcow2_alloc.proofs.KeptTables.Entries.{AreDistinct}
+use Rattle.qcow2_alloc.proofs.KeptTables.Fitting.{insert_fits, replace_fits}
+use Rattle.qcow2_alloc.proofs.KeptTables.Listing.{loaded_distinct, rb_drop, rb_add, rb_promote}
+use Rattle.qcow2_alloc.proofs.KeptTables.Getting.{HoldsWhatStands, insert_put, replace_put}
+use Rattle.qcow2_alloc.proofs.KeptTables.Flushing.{rb_step, block_still}
+use Rattle.qcow2_alloc.proofs.KeptTables.Inserting.{found_or_not, lookup_none, block_as}
+use Rattle.qcow2_alloc.proofs.KeptTables.Laying.{laid_under, rb_laid}
+use Rattle.qcow2_alloc.proofs.KeptTables.Putting.{nothing_new, made_ready}
+
+module _ {S : Type 0} (view : S → StorageView) (old new : ImageStorage S) (caches : MetadataCaches S) (may_flush : Bool) (key : ℕ) where
+  abbrev seen : ImageStorage S → StorageView
+  seen s = view (storage_of s)
+
+  -- ---- a refblock
+  module _ (rb : Cache (RefBlockCacheBackend S) ℕ RefBlockView) (others : rb ≡ with_entries caches.rb rb.entries) (v : RefBlockView) (value left : Option RefBlockView) (is : value ≡ Some v) (answer : Result Bool (CacheError ℕ MetadataError))
+      (there : IfSome (lookup_entry (eqb key) caches.rb.entries) (λ e. IfSome value (λ v.
+      Replaces (rb_steps seen caches.rb.backend.header.fields) key e (remove_entry (eqb key) caches.rb.entries) v may_flush old caches.rb.entries answer new rb.entries left)))
+      (missing : IsNone (lookup (eqb key) caches.rb.entries)
+      → IfSome value (λ v. InsertsNew (rb_steps seen caches.rb.backend.header.fields) eqb caches.rb.size may_flush key v old caches.rb.entries answer new rb.entries left))
+      (may : may_flush ≡ true → BlocksMayGo (order_of caches) (l2_tables caches)) (h : HeaderFields) (p : Pending) (honest : (seen old).is_honest) (sound : AreSound h p caches (byte_at (seen old).contents)) where
+    abbrev bits : ℕ
+    bits = caches.rb.backend.header.fields.cluster_bits
+
+    abbrev IsFit : RefBlockView → Type 0
+    IsFit = IsBlockOf caches.rb.backend.header.fields
+
+    abbrev P : List CachedTable → Bytes → Type 0
+    P ts base = AreKept h (order_of caches) p (l2_tables caches) ts base
+
+    abbrev all : List CachedTable → Bytes → Bytes
+    all ts base = known_bytes (cluster_size h) (l2_tables caches) ts base
+
+    abbrev blocks : List (ℕ × Slot RefBlockView) → List CachedTable
+    blocks = cached_tables bits (λ (b : RefBlockView). b.bytes) (λ b. b.is_modified)
+
+    abbrev Named : ℕ → Type 0
+    Named = HasBlock h (byte_at (seen old).contents)
+
+    abbrev Stand : List (ℕ × Slot RefBlockView) → Type 0
+    Stand = AreStanding (λ (b : RefBlockView). b.is_modified) IsFit Named
+
+    distinct : (ts : List CachedTable) (base : Bytes) → P ts base → AreDistinct ts
+    distinct ts base are = loaded_distinct (cluster_size h) (HasBlock h base) base ts are.rb_loaded
+
+    add : (t : CachedTable) (ts : List CachedTable) (base : Bytes) → P ts base → t.place % 2 ^ bits ≡ 0 → AreElsewhere t.place ts → t.is_modified ≡ false → HoldsWhatStands all (2 ^ bits) t ts base
+        → P (t ∷ ts) base × (all (t ∷ ts) base ≡ all ts base)
+    add t ts base are aligned away clean current =
+        rb_add h (order_of caches) p (l2_tables caches) t ts base are (subst (λ n. t.place % 2 ^ n ≡ 0) sound.rb_format.bits aligned) away clean (subst (λ n. HoldsWhatStands all (2 ^ n) t ts base) sound.rb_format.bits current)
+
+    puts : Puts seen bits (λ (b : RefBlockView). b.bytes) (λ b. b.is_modified) cleared_rb IsFit (λ v. refl) (λ v. refl) P all key v old new caches.rb.entries rb.entries answer
+    puts = found_or_not (lookup_entry (eqb key) caches.rb.entries)
+        (λ none. insert_put seen bits (λ (b : RefBlockView). b.bytes) (λ b. b.is_modified) cleared_rb IsFit (λ v. refl) (λ v. refl) P all distinct (rb_drop h (order_of caches) p (l2_tables caches)) add (rb_promote h (order_of caches) p (l2_tables caches)) caches.rb.size may_flush
+        (λ flush. rb_step h (order_of caches) p bits sound.rb_format.bits (l2_tables caches) (may flush)) key v
+        old new caches.rb.entries rb.entries answer left honest sound.kept (lookup_none (eqb key) caches.rb.entries none)
+        (rw is at (missing (rw (lookup_none (eqb key) caches.rb.entries none) refl))))
+        (λ e some. replace_put seen bits (λ (b : RefBlockView). b.bytes) (λ b. b.is_modified) cleared_rb IsFit (λ v. refl) (λ v. refl) P all distinct (rb_drop h (order_of caches) p (l2_tables caches)) add (rb_promote h (order_of caches) p (l2_tables caches)) caches.rb.size may_flush
+        (λ flush. rb_step h (order_of caches) p bits sound.rb_format.bits (l2_tables caches) (may flush)) key v
+        old new caches.rb.entries e some honest sound.kept rb.entries answer left (rw is at (rw some at there)))
+
+    fit : (answer ≡ Ok true → IsFit v) → AllFit IsFit rb.entries
+    fit fits = found_or_not (lookup_entry (eqb key) caches.rb.entries)
+        (λ none. insert_fits seen bits (λ (b : RefBlockView). b.bytes) (λ b. b.is_modified) cleared_rb IsFit (block_still caches.rb.backend.header.fields) caches.rb.size may_flush old new key v caches.rb.entries rb.entries answer left fits sound.rb_fit (rw is at (missing (rw (lookup_none (eqb key) caches.rb.entries none) refl))))
+        (λ e some. replace_fits seen bits (λ (b : RefBlockView). b.bytes) (λ b. b.is_modified) cleared_rb IsFit (block_still caches.rb.backend.header.fields) may_flush old new key v caches.rb.entries rb.entries e answer left some fits sound.rb_fit (rw is at (rw some at there)))
+
+    stand : AreSettled h (refblocks caches) (byte_at (seen old).contents) → (answer ≡ Ok true → IsStanding (λ (b : RefBlockView). b.is_modified) IsFit Named key v) → Stand rb.entries
+    stand settled stands = found_or_not (lookup_entry (eqb key) caches.rb.entries)
+        (λ none. insert_stands seen bits (λ (b : RefBlockView). b.bytes) (λ b. b.is_modified) cleared_rb IsFit (λ v. refl) (block_still caches.rb.backend.header.fields) Named (block_place h (byte_at (seen old).contents) bits sound.rb_format.bits) caches.rb.size may_flush old new key v caches.rb.entries rb.entries answer left stands
+        (blocks_stand h p caches (byte_at (seen old).contents) sound settled) (rw is at (missing (rw (lookup_none (eqb key) caches.rb.entries none) refl))))
+        (λ e some. replace_stands seen bits (λ (b : RefBlockView). b.bytes) (λ b. b.is_modified) cleared_rb IsFit (λ v. refl) (block_still caches.rb.backend.header.fields) Named (block_place h (byte_at (seen old).contents) bits sound.rb_format.bits) may_flush old new key v caches.rb.entries rb.entries e answer left some
+        (λ went. subst (λ n. IsStanding (λ (b : RefBlockView). b.is_modified) IsFit Named n v) (same_number key e.0 (Contains-lookup_entry (eqb key) caches.rb.entries e some).1) (stands went))
+        (blocks_stand h p caches (byte_at (seen old).contents) sound settled) (rw is at (rw some at there)))
+
+    pub block_kept : (answer ≡ Ok true → ⊥) → StaySound h p (seen old) caches (seen new) (record caches { rb = rb })
+    block_kept isnt =
+        let same_backend : rb.backend ≡ caches.rb.backend = ap (λ c. c.backend) others in
+        let f = nothing_new seen bits (λ (b : RefBlockView). b.bytes) (λ b. b.is_modified) cleared_rb IsFit (λ v. refl) (λ v. refl) P all key v old new caches.rb.entries rb.entries answer isnt puts in
+        rw same_backend (record {
+          honest = f.honest;
+          sound = record { l2_format = sound.l2_format; rb_format = sound.rb_format; l2_fit = sound.l2_fit; rb_fit = fit (λ went. absurd (isnt went)); kept = f.kept };
+          known = f.known;
+          settled = λ settled.
+              settled_anew h (order_of caches) (order_of caches) p p (l2_tables caches) (refblocks caches) (l2_tables caches) (blocks rb.entries) (byte_at (seen old).contents) (byte_at (seen new).contents) sound.kept f.kept f.known bits sound.rb_format.bits IsFit rb.entries
+              (stand settled (λ went. absurd (isnt went)));
+          since = f.since;
+        })
+
+    module _ (went : answer ≡ Ok true) (fits : IsBlockOf h v) (marked : v.is_modified ≡ true) where
+      ready : Ready seen bits (λ (b : RefBlockView). b.bytes) (λ b. b.is_modified) cleared_rb IsFit (λ v. refl) (λ v. refl) P all key v old new caches.rb.entries rb.entries
+      ready = made_ready seen bits (λ (b : RefBlockView). b.bytes) (λ b. b.is_modified) cleared_rb IsFit (λ v. refl) (λ v. refl) P all key v old new caches.rb.entries rb.entries answer went puts
+
+      abbrev entries : List (ℕ × Slot RefBlockView)
+      entries = (key, slot_of v ready.pins) ∷ ready.rest
+
+      laid_is : cached_table bits (λ (b : RefBlockView). b.bytes) (λ b. b.is_modified) (key, slot_of v ready.pins) ≡ laid_at h key v.bytes
+      laid_is =
+          ap (λ n. record { place = key * 2 ^ n; bytes = byte_at v.bytes; is_modified = v.is_modified }) sound.rb_format.bits
+          ∙ ap (λ m. record { place = key * cluster_size h; bytes = byte_at v.bytes; is_modified = m }) marked
+
+      list_is : blocks entries ≡ laid_at h key v.bytes ∷ blocks ready.rest
+      list_is = ap (λ (t : CachedTable). t ∷ blocks ready.rest) laid_is
+
+      away : AreElsewhere (key * cluster_size h) (blocks ready.rest)
+      away = subst (λ n. AreElsewhere (key * 2 ^ n) (blocks ready.rest)) sound.rb_format.bits ready.away
+
+      own_fit : IsFit v
+      own_fit = block_as caches.rb.backend.header.fields h v sound.rb_format fits
+
+      -- where the reftable names it, it named it before
+      named_before : HasBlock h (byte_at (seen new).contents) key → Named key
+      named_before has =
+          block_named h (byte_at (seen old).contents) (byte_at (seen new).contents)
+          (SameTop-sym h (byte_at (seen old).contents) (byte_at (seen new).contents)
+          (top_still h (order_of caches) (order_of caches) p p (l2_tables caches) (refblocks caches) (l2_tables caches) (blocks ready.rest) (byte_at (seen old).contents) (byte_at (seen new).contents) sound.kept ready.done.kept ready.done.known))
+          key has
+
+      pub block_laid : IsFreeOf (cluster_size h) (l2_tables caches) key
+          → LaidOver (λ base known. HasBlock h base key ⊎ IsUnnamed h base known key) (λ base. HasBlock h base key) h (seen old) caches (seen new) (record caches { rb = rb }) (laid_at h key v.bytes)
+      block_laid free =
+          let whole : rb ≡ with_entries caches.rb entries = others ∙ ap (with_entries caches.rb) ready.is in
+          let base' = byte_at (seen new).contents in
+          let own : key * cluster_size h / cluster_size h ≡ key = own_cluster h.cluster_bits key in
+          subst (λ (c : Cache (RefBlockCacheBackend S) ℕ RefBlockView). LaidOver (λ base known. HasBlock h base key ⊎ IsUnnamed h base known key) (λ base. HasBlock h base key) h (seen old) caches (seen new) (record caches { rb = c }) (laid_at h key v.bytes)) (sym whole)
+          (record {
+            honest = ready.done.honest;
+            known = ap (λ ts. known_bytes (cluster_size h) (l2_tables caches) ts base') list_is
+                ∙ laid_under (cluster_size h) (laid_at h key v.bytes) (l2_tables caches) (blocks ready.rest) base'
+                (λ o over. free o (within_cluster (key * cluster_size h) (cluster_size h) o (mul-mod_left key (cluster_size h)) (overlays_within (cluster_size h) (laid_at h key v.bytes) o over) ∙ own))
+                ∙ ap (known (cluster_size h) (laid_at h key v.bytes ∷ [])) ready.done.known;
+            since = ready.done.since;
+            settled = λ named settled.
+                subst (λ es. AreSettled h (blocks es) base') ready.is
+                (settled_anew h (order_of caches) (order_of caches) p p (l2_tables caches) (refblocks caches) (l2_tables caches) (blocks ready.rest) (byte_at (seen old).contents) base' sound.kept ready.done.kept ready.done.known bits sound.rb_format.bits IsFit rb.entries
+                (stand settled (λ _. record { fits = own_fit; named = λ _. named_before named })));
+            sound = λ p' stands guarded. record {
+              l2_format = sound.l2_format;
+              rb_format = sound.rb_format;
+              l2_fit = sound.l2_fit;
+              rb_fit = subst (AllFit IsFit) ready.is (fit (λ _. own_fit));
+              kept = subst (λ ts. AreKept h (order_of caches) p' (l2_tables caches) ts base') (sym list_is)
+                  (rb_laid h (order_of caches) p (l2_tables caches) (blocks ready.rest) base' ready.done.kept (laid_at h key v.bytes) (mul-mod_left key (cluster_size h)) refl p'
+                  (subst (λ n. HasBlock h base' n ⊎ IsUnnamed h base' (known_bytes (cluster_size h) (l2_tables caches) (laid_at h key v.bytes ∷ blocks ready.rest) base') n) (sym own)
+                  (subst (λ ts. HasBlock h base' key ⊎ IsUnnamed h base' (known_bytes (cluster_size h) (l2_tables caches) ts base') key) list_is stands))
+                  (subst (λ ts. IsGuarded h (order_of caches) p' base' (known_bytes (cluster_size h) (l2_tables caches) ts base')) list_is guarded) away);
+            };
+          })

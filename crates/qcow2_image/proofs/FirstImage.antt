@@ -1,0 +1,131 @@
+-- The three clusters of a new image: before the header is there it is no image, and then it is a new one.
+use Rattle.std.proofs.Common.{◌≡◌, ◌≢◌, ◌⊎◌, inl, inr, ⊎_elim, ℕ, ◌+◌, ◌-◌, ◌*◌, ◌/◌, ◌%◌, ◌^◌, ◌<◌, ◌≤◌, Bool, true, false, List, [], ◌++◌, length, replicate, Option, Some, None, Result, Ok, Err, refl, sym, ap, ◌∙◌, subst, arith, lit<, if◌then◌else◌}
+use Rattle.std.specs.Prelude.{IfSome, OnOk, ◌==◌, ◌&&◌, ◌||◌, nat_lt}
+use Rattle.std.proofs.lemmas.Bool.{cases_lt, cond-false, ne_eqb}
+use Rattle.std.proofs.lemmas.List.{length-append}
+use Rattle.std.proofs.lemmas.Nat.{le-div, div-mul-add, mod-mul-add}
+use Rattle.image_access.specs.Contents.{overwritten}
+use Rattle.image_access.specs.Moments.{StorageView, Passing, Changes, Calls}
+use Rattle.image_access.specs.declared.error.StorageError.{StorageError}
+use Rattle.image_access.proofs.Bytes.{byte_at-overwritten_below, byte_at-overwritten_behind}
+use Rattle.image_access.proofs.Passing.{passes_none, passes_change}
+use Rattle.qcow2_metadata.specs.Bytes.{Bytes, byte_at, number_at}
+use Rattle.qcow2_metadata.specs.declared.header.HeaderFields.{HeaderFields}
+use Rattle.qcow2_metadata.specs.Header.{HeaderView, HeaderReads, header, cluster_size, count_width, counts_per_block, entries_per_cluster, reftable_entries}
+use Rattle.qcow2_metadata.specs.HeaderLoad.{IsHeaderIn}
+use Rattle.qcow2_metadata.specs.HeaderWrite.{numbers_of, bytes_of_numbers, header_bytes, header_written, new_fields}
+use Rattle.qcow2_metadata.specs.Entries.{reftable_entry, block_count}
+use Rattle.qcow2_metadata.specs.EntryTable.{EntryTableView, entry_count}
+use Rattle.qcow2_metadata.specs.RefBlock.{RefBlockView, IsRefBlockAt, count_at, counts_of}
+use Rattle.qcow2_metadata.specs.TableBytes.{entry_at}
+use Rattle.qcow2_metadata.proofs.ReadBack.{length-numbers}
+use Rattle.qcow2_metadata.proofs.WrittenTables.{IsRefTableOf-written}
+use Rattle.qcow2_laws.specs.Guard.{SameIn}
+use Rattle.qcow2_laws.specs.NewImages.{IsNewImage}
+use Rattle.qcow2_laws.proofs.Places.{Sizes, Sizes-from, reftable-same, block_count-moved}
+use Rattle.qcow2_image.specs.Created.{begins_image, IsStopOfCreating, IsNewHeader, CountsThree, NamesOne}
+
+-- ---- before the header is there
+abbrev pub IsBlank : List ℕ → Type 0
+IsBlank c = (i : ℕ) → i < 4 → byte_at c i ≡ 0
+
+no_magic : (c : List ℕ) → IsBlank c → number_at (byte_at c) 0 4 ≡ 0
+unfolding number_at
+no_magic c blank = omega (arith, blank 0 (lit< tt), blank 1 (lit< tt), blank 2 (lit< tt), blank 3 (lit< tt))
+
+pub no_image : (c : List ℕ) → IsBlank c → begins_image (byte_at c) ≡ false
+no_image c blank = ap (λ n. (n == 0x514649fb) && (number_at (byte_at c) 4 4 == 2 || number_at (byte_at c) 4 4 == 3)) (no_magic c blank)
+
+pub blank_still : (c : List ℕ) (at : ℕ) (bytes : List ℕ) → 4 ≤ at → IsBlank c → IsBlank (overwritten c at bytes)
+blank_still c at bytes far blank i lt = byte_at-overwritten_below c at bytes i (omega (arith, far, lt)) ∙ blank i lt
+
+-- ---- with the header
+
+-- it has no names
+plain_length : (f : HeaderFields) → length (header_bytes (record { fields = f; backing_name = None; backing_format = None; data_file_name = None })) ≡ 112
+unfolding header_bytes
+plain_length f =
+    let front : List ℕ = bytes_of_numbers (numbers_of f) in
+    let zeros : List ℕ = replicate 8 0 in
+    omega (arith, length-numbers f, length-append front [], length-append (front ++ []) [], length-append ((front ++ []) ++ []) zeros, length-append (((front ++ []) ++ []) ++ zeros) [])
+
+module _ (v : HeaderView) (new : IsNewHeader v) where
+  abbrev h : HeaderFields
+  h = v.fields
+
+  fields : v.fields ≡ new_fields v.fields.cluster_bits v.fields.refcount_order None None None
+  fields = ap (λ (w : HeaderView). w.fields) new.is
+
+  header_length : length (header_bytes v) ≡ 112
+  header_length = ap (λ (w : HeaderView). length (header_bytes w)) new.is ∙ plain_length (new_fields v.fields.cluster_bits v.fields.refcount_order None None None)
+
+  module _ (block : RefBlockView) (counts : CountsThree v.fields block) (t : EntryTableView) (names : NamesOne v.fields t) (c1 c2 : List ℕ) (first : IsRefBlockAt (byte_at c1) (2 * cluster_size v.fields) block)
+      (second : c2 ≡ overwritten c1 (cluster_size v.fields) t.bytes) (there : IsHeaderIn v (header_written v c2)) where
+    abbrev c3 : List ℕ
+    c3 = header_written v c2
+
+    reads : HeaderReads h (byte_at c3)
+    reads = subst (λ (k : HeaderFields). HeaderReads k (byte_at c3)) (sym there.fields) there.reads
+
+    sizes : Sizes h
+    sizes = Sizes-from h (byte_at c3) reads
+
+    offset : h.reftable_offset ≡ cluster_size h
+    offset = ap (λ (f : HeaderFields). f.reftable_offset) fields
+
+    clusters : h.reftable_clusters ≡ 1
+    clusters = ap (λ (f : HeaderFields). f.reftable_clusters) fields
+
+    -- behind the header all stays
+    behind : (o : ℕ) → cluster_size h ≤ o → byte_at c3 o ≡ byte_at c2 o
+    behind o past = let long = header_length in let large = sizes.large in byte_at-overwritten_behind c2 0 (header_bytes v) o (omega (arith, long, large, past))
+
+    entries_are : reftable_entries h ≡ entry_count t
+    entries_are =
+        let whole = names.whole in
+        let one : h.reftable_clusters * entries_per_cluster h ≡ 1 * entries_per_cluster h = ap (λ n. n * entries_per_cluster h) clusters in
+        omega (arith, whole, one)
+
+    not_first : (o k : ℕ) → o / cluster_size h ≡ (h.reftable_offset + 8 * k) / cluster_size h → cluster_size h ≤ o
+    not_first o k in_c = elim (cases_lt o (cluster_size h)) [
+      | inl low ↦
+          let some = sizes.some in
+          let one : 1 ≤ (h.reftable_offset + 8 * k) / cluster_size h = le-div 1 (h.reftable_offset + 8 * k) (cluster_size h) some (omega (arith, offset)) in
+          let e : o ≡ 0 * cluster_size h + o = omega arith in
+          let none : o / cluster_size h ≡ 0 = ap (λ n. n / cluster_size h) e ∙ div-mul-add 0 (cluster_size h) o low in
+          absurd (omega (arith, one, none, in_c))
+      | inr past ↦ past
+    ]
+
+    entry_is : (k : ℕ) → reftable_entry h (byte_at c3) k ≡ entry_at t.bytes k
+    entry_is k =
+        let whole = names.whole in
+        let some = sizes.some in
+        let once : h.reftable_offset ≡ 1 * cluster_size h + 0 = omega (arith, offset) in
+        let aligned : h.reftable_offset % cluster_size h ≡ 0 = ap (λ n. n % cluster_size h) once ∙ mod-mul-add 1 (cluster_size h) 0 some in
+        reftable-same h (byte_at c3) (byte_at c2) k sizes aligned (λ lt o in_c. behind o (not_first o k in_c))
+        ∙ ap (λ (l : List ℕ). reftable_entry h (byte_at l) k) second
+        ∙ sym (IsRefTableOf-written h c1 (cluster_size h) t (omega (arith, whole)) (offset, entries_are) k)
+
+    count_is : (i : ℕ) → i < counts_per_block h → block_count (byte_at c3) (count_width h) (2 * cluster_size h) i ≡ count_at block i
+    count_is i lt =
+        let width : 2 ^ block.refcount_order ≡ count_width h = ap (λ n. 2 ^ n) counts.order in
+        let many : counts_of block ≡ counts_per_block h = ap (λ n. n * 8 / 2 ^ block.refcount_order) (ap (λ n. 2 ^ n) counts.bits) ∙ ap (λ n. cluster_size h * 8 / n) width in
+        block_count-moved h (byte_at c3) (byte_at c1) (2 * cluster_size h) (2 * cluster_size h) i sizes lt (λ k within.
+        behind (2 * cluster_size h + k) (omega arith) ∙ ap (λ (l : List ℕ). byte_at l (2 * cluster_size h + k)) second
+        ∙ byte_at-overwritten_behind c1 (cluster_size h) t.bytes (2 * cluster_size h + k) (let whole = names.whole in let eights = sizes.eights in omega (arith, whole, eights)))
+        ∙ ap (λ n. block_count (byte_at c1) n (2 * cluster_size h) i) (sym width) ∙ sym (first i (subst (λ n. i < n) (sym many) lt))
+
+    pub is_new_image : IsNewImage h (byte_at c3)
+    is_new_image = record {
+      header_is = sym there.fields;
+      reads = reads;
+      no_l1_table = (ap (λ (f : HeaderFields). f.l1_entries) fields, ap (λ (f : HeaderFields). f.l1_offset) fields);
+      reftable_offset = offset;
+      reftable_clusters = clusters;
+      no_snapshots = ap (λ (f : HeaderFields). f.snapshots) fields;
+      no_data_file = ap (λ (f : HeaderFields). f.incompatible) fields;
+      refblock = entry_is 0 ∙ names.entries 0;
+      no_other = λ k other. entry_is k ∙ names.entries k ∙ cond-false {A = ℕ} (k == 0) (2 * cluster_size h) 0 (ne_eqb k 0 other);
+      counts = λ i lt. count_is i lt ∙ counts.counts i;
+    }

@@ -1,0 +1,34 @@
+use Rattle.std.proofs.Common.{Ok, sym, subst}
+use Rattle.qcow2_alloc.specs.ImageStorage.{storage_of}
+use Rattle.qcow2_image.specs.Created.{WritesThree}
+use Rattle.qcow2_image.proofs.Creating.{new_header_is, unwritten, creating_stops, created_so}
+use Rattle.qcow2_image.proofs.builder.Qcow2CreateBuilder.create.Goals as goal
+
+pub returns-clause-stops : goal.returns-clause-stops
+returns-clause-stops g c = λ honest.
+    let view = g.S.Storage.view in
+    let builder = c.args.self in
+    let bits = c.in-Some.cluster_bits in
+    let order = c.in-Some-power_of_two.refcount_order in
+    let v = c.new-header.result in
+    let start = storage_of c.new-storage.result in
+    let three = c.in_default-write_new_image.ensures (subst (λ s. (view s).is_honest) (sym c.new-storage.ensures.storage) honest) (new_header_is v bits order c.new-header.ensures.value c.new-header.ensures.names) in
+    let mid = c.into_inner-2.result in
+    let there = subst (λ s. WritesThree v.fields (view start) (view s) (Ok c.in_default-write_new_image.field-0)) (sym c.into_inner-2.ensures) three in
+    let none = unwritten view builder bits order v c.new-header.ensures.value start mid c.grow_new_image.result.0 c.new-storage.ensures.storage there in
+    creating_stops view builder bits order v c.new-header.ensures.value start mid c.grow_new_image.result.0 c.new-storage.ensures.storage there c.grow_new_image.result.1 (c.grow_new_image.ensures there.0.honest none)
+
+pub returns-clause-created : goal.returns-clause-created
+returns-clause-created g c = λ honest.
+    let view = g.S.Storage.view in
+    let builder = c.args.self in
+    let bits = c.in-Some.cluster_bits in
+    let order = c.in-Some-power_of_two.refcount_order in
+    let v = c.new-header.result in
+    let start = storage_of c.new-storage.result in
+    let three = c.in_default-write_new_image.ensures (subst (λ s. (view s).is_honest) (sym c.new-storage.ensures.storage) honest) (new_header_is v bits order c.new-header.ensures.value c.new-header.ensures.names) in
+    let mid = c.into_inner-2.result in
+    let there = subst (λ s. WritesThree v.fields (view start) (view s) (Ok c.in_default-write_new_image.field-0)) (sym c.into_inner-2.ensures) three in
+    let none = unwritten view builder bits order v c.new-header.ensures.value start mid c.grow_new_image.result.0 c.new-storage.ensures.storage there in
+    created_so view builder bits order v c.new-header.ensures.value start mid c.grow_new_image.result.0 c.new-storage.ensures.storage there c.in-Some.ensures c.in-Some-power_of_two.ensures c.grow_new_image.result.1
+    (c.grow_new_image.ensures there.0.honest none)

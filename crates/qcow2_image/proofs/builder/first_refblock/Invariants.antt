@@ -1,0 +1,5 @@
+use Rattle.qcow2_image.proofs.FirstBlocks.{Counts}
+use Rattle.qcow2_image.proofs.builder.first_refblock.Given as goal
+
+abbrev pub invariant-loop-index : goal.invariant-loop-index
+invariant-loop-index l = Counts l.index l.initial.block l.block
