@@ -23,7 +23,7 @@ use Rattle.qcow2_image.specs.declared.image.Qcow2.{Qcow2}
 use Rattle.qcow2_image.specs.Created.{IsUnwritten, IsStopOfCreating, StopsCreating, StaysCreating, IsNewHeader, IsCreated, Enlarges}
 use Rattle.qcow2_image.specs.Growing.{SameFormat, GrowsWhole}
 use Rattle.qcow2_image.specs.Image.{size_of, storage_of_image}
-use Rattle.qcow2_image.specs.Opened.{IsKeptSince}
+use Rattle.qcow2_image.specs.Opened.{IsKeptSince, Opens, storage_after}
 use Rattle.qcow2_image.specs.Views.{seen}
 use Rattle.qcow2_image.proofs.ThreeWrites.{new_unwritten}
 
@@ -32,41 +32,41 @@ unfolding disk
 disk_size b backing = refl
 
 -- what is kept of an unwritten image is unwritten
-module _ (old c : Bytes) (asked : List ℕ) (unwritten : IsUnwritten 0 old) (kept : (backing : Bytes) (m : Mark) → IsKeptAt backing m old → IsKeptAt backing (more [] asked m) c) where
+module _ (n : ℕ) (old c : Bytes) (asked : List ℕ) (unwritten : IsUnwritten n old) (kept : (backing : Bytes) (m : Mark) → IsKeptAt backing m old → IsKeptAt backing (more [] asked m) c) where
   here : (backing : Bytes) → IsKeptAt backing (more [] asked (marked (disk old backing))) c
   here backing = kept backing (marked (disk old backing)) (record { consistent = unwritten.consistent; size = inl refl; values = λ o. inl refl })
 
-  pub unwritten_as : (n : ℕ) → (header c).size ≡ n → IsUnwritten n c
-  unwritten_as n is = record {
+  pub unwritten_as : (k : ℕ) → (header c).size ≡ k → IsUnwritten k c
+  unwritten_as k is = record {
     consistent = (here (λ o. 0)).consistent;
     size = is;
     shows_below = λ backing o. ⊎_elim (λ same. same ∙ unwritten.shows_below backing o) (λ none. absurd none) ((here backing).values o);
   }
 
-  pub size_then : ((header c).size ≡ 0) ⊎ IsAsked (asked ++ []) ((header c).size)
+  pub size_then : ((header c).size ≡ n) ⊎ IsAsked (asked ++ []) ((header c).size)
   size_then = ⊎_elim
       (λ same. inl (sym (disk_size c (λ o. 0)) ∙ same ∙ disk_size old (λ o. 0) ∙ unwritten.size))
       (λ a. inr (subst (IsAsked (asked ++ [])) (disk_size c (λ o. 0)) a))
       (here (λ o. 0)).size
 
 -- nothing is asked for
-pub unwritten_still : (old c : Bytes) → IsUnwritten 0 old → ((backing : Bytes) (m : Mark) → IsKeptAt backing m old → IsKeptAt backing (more [] [] m) c) → IsUnwritten 0 c
-unwritten_still old c unwritten kept = ⊎_elim (λ none. unwritten_as old c [] unwritten kept 0 none) (λ asked. absurd asked) (size_then old c [] unwritten kept)
+pub unwritten_still : (n : ℕ) (old c : Bytes) → IsUnwritten n old → ((backing : Bytes) (m : Mark) → IsKeptAt backing m old → IsKeptAt backing (more [] [] m) c) → IsUnwritten n c
+unwritten_still n old c unwritten kept = ⊎_elim (λ same. unwritten_as n old c [] unwritten kept n same) (λ asked. absurd asked) (size_then n old c [] unwritten kept)
 
 -- a size is
 pub unwritten_either : (size : ℕ) (old c : Bytes) → IsUnwritten 0 old → ((backing : Bytes) (m : Mark) → IsKeptAt backing m old → IsKeptAt backing (more [] (size ∷ []) m) c) → IsUnwritten 0 c ⊎ IsUnwritten size c
 unwritten_either size old c unwritten kept = ⊎_elim
-    (λ none. inl (unwritten_as old c (size ∷ []) unwritten kept 0 none))
-    (λ asked. ⊎_elim (λ is. inr (unwritten_as old c (size ∷ []) unwritten kept size is)) (λ none. absurd none) asked)
-    (size_then old c (size ∷ []) unwritten kept)
+    (λ none. inl (unwritten_as 0 old c (size ∷ []) unwritten kept 0 none))
+    (λ asked. ⊎_elim (λ is. inr (unwritten_as 0 old c (size ∷ []) unwritten kept size is)) (λ none. absurd none) asked)
+    (size_then 0 old c (size ∷ []) unwritten kept)
 
 -- ---- it is opened
-pub opens_unwritten : (old new : StorageView) → IsUnwritten 0 (byte_at old.contents) → IsKeptSince old new → IsUnwritten 0 (byte_at new.contents)
-opens_unwritten old new unwritten since = unwritten_still (byte_at old.contents) (byte_at new.contents) unwritten (λ backing m ok. since.contents backing m ok ok)
+pub opens_unwritten : (n : ℕ) (old new : StorageView) → IsUnwritten n (byte_at old.contents) → IsKeptSince old new → IsUnwritten n (byte_at new.contents)
+opens_unwritten n old new unwritten since = unwritten_still n (byte_at old.contents) (byte_at new.contents) unwritten (λ backing m ok. since.contents backing m ok ok)
 
 pub opening_stops : (size : ℕ) (old new : StorageView) → IsUnwritten 0 (byte_at old.contents) → IsKeptSince old new → StopsCreating size old new
 opening_stops size old new unwritten since =
-    passes_if (λ c. IsStopOfCreating size (byte_at c)) (λ c kept. inr (inl (unwritten_still (byte_at old.contents) (byte_at c) unwritten (λ backing m ok. kept backing m ok ok)))) since.moments
+    passes_if (λ c. IsStopOfCreating size (byte_at c)) (λ c kept. inr (inl (unwritten_still 0 (byte_at old.contents) (byte_at c) unwritten (λ backing m ok. kept backing m ok ok)))) since.moments
 
 -- ---- it is made larger and flushed
 module _ (size : ℕ) (old new : StorageView) (known : Bytes) (unwritten : IsUnwritten 0 (byte_at old.contents)) (clean : known ≡ byte_at old.contents) (since : Endures old new known nothing_given (size ∷ [])) where
@@ -78,12 +78,12 @@ module _ (size : ℕ) (old new : StorageView) (known : Bytes) (unwritten : IsUnw
       passes_if (λ c. IsStopOfCreating size (byte_at c)) (λ c kept. inr (unwritten_either size (byte_at old.contents) (byte_at c) unwritten (λ backing m ok. kept backing m ok (as_known backing m ok)))) since.moments
 
   pub grown_unwritten : (header (byte_at new.contents)).size ≡ size → IsUnwritten size (byte_at new.contents)
-  grown_unwritten is = unwritten_as (byte_at old.contents) (byte_at new.contents) (size ∷ []) unwritten (λ backing m ok. since.contents backing m ok (as_known backing m ok)) size is
+  grown_unwritten is = unwritten_as 0 (byte_at old.contents) (byte_at new.contents) (size ∷ []) unwritten (λ backing m ok. since.contents backing m ok (as_known backing m ok)) size is
 
 module _ {S F : Type 0} (view : S → StorageView) (backing : F → BackingView) (size : ℕ) (start : S) (mid new : Qcow2 S F) (unwritten : IsUnwritten 0 (byte_at (view start).contents)) (since : IsKeptSince (view start) (view (storage_of_image mid)))
     (opened : IsOpened (seen view backing mid [])) (format : SameFormat (header (byte_at (view start).contents)) mid.file.header.fields) where
   unwritten_mid : IsUnwritten 0 (byte_at (view_in view mid.file).contents)
-  unwritten_mid = opens_unwritten (view start) (view_in view mid.file) unwritten since
+  unwritten_mid = opens_unwritten 0 (view start) (view_in view mid.file) unwritten since
 
   all_stops : StopsCreating size (view_in view mid.file) (view_in view new.file) → StopsCreating size (view start) (view_in view new.file)
   all_stops then = passes_on (λ c. IsStopOfCreating size (byte_at c)) (opening_stops size (view start) (view_in view mid.file) unwritten since) then (λ c is. is)
@@ -144,3 +144,13 @@ module _ {S : Type 0} (view : S → StorageView) (builder : Qcow2CreateBuilder S
     no_backing_file = ap (λ (k : HeaderFields). k.backing_offset) h;
   }
   created_so clusters counts (Err e) stops = tt
+
+-- ---- and is opened then
+pub opened_unwritten : {S F : Type 0} (view : S → StorageView) (backing : F → BackingView) (builder : Qcow2CreateBuilder S) (storage : S) (done : Result (Unit {0}) ImageError) (x : Unit {0}) → done ≡ Ok x → IfOk done (λ d. IsCreated builder (view storage))
+    → (result : Result (Qcow2 S F) (S × ImageError)) → IfOk result (Opens view backing (view storage)) → ((view storage).is_honest → IsConsistent (byte_at (view storage).contents) → IsKeptSince (view storage) (view (storage_after result)))
+    → IfOk result (λ image. IsUnwritten builder.size (seen view backing image []).known)
+opened_unwritten view backing builder storage done x is created (Err e) opens since = tt
+opened_unwritten view backing builder storage done x is created (Ok image) opens since =
+    let made : IsCreated builder (view storage) = subst (λ (r : Result (Unit {0}) ImageError). IfOk r (λ d. IsCreated builder (view storage))) is created in
+    let opened = opens made.honest made.unwritten.consistent in
+    subst (IsUnwritten builder.size) (sym opened.clean) (opens_unwritten builder.size (view storage) (view_in view image.file) made.unwritten (since made.honest made.unwritten.consistent))

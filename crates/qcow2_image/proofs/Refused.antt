@@ -27,7 +27,7 @@ use Rattle.qcow2_image.proofs.Settled.{is_fault, outcome, settled_refuses}
 use Rattle.qcow2_image.proofs.Stepped.{Steps, stepped_sound, stepped_works}
 
 -- a fault, or want of memory that was noted, marks the image
-marks_fault : (e : ImageError) (before marked noted : Bool) → FaultOfTables e → (e ≡ I.Memory → IsTrue noted) → failed_after e before marked → (e ≡ I.Memory → IsTrue noted → IsTrue marked) → IsTrue marked × IsFault (refusal_of e)
+pub marks_fault : (e : ImageError) (before marked noted : Bool) → FaultOfTables e → (e ≡ I.Memory → IsTrue noted) → failed_after e before marked → (e ≡ I.Memory → IsTrue noted → IsTrue marked) → IsTrue marked × IsFault (refusal_of e)
 marks_fault e before marked noted fault is marks memory = ⊎_elim
     (λ (failed : e ≡ I.Storage). (subst (λ (x : ImageError). failed_after x before marked) failed marks, subst (λ (x : ImageError). IsFault (refusal_of x)) (sym failed) tt))
     (λ (want : e ≡ I.Memory). (memory want (is want), subst (λ (x : ImageError). IsFault (refusal_of x)) (sym want) tt)) fault

@@ -14,6 +14,7 @@ use Rattle.qcow2_alloc.specs.declared.allocation.Allocator.{Allocator}
 use Rattle.qcow2_alloc.specs.declared.error.ImageError.{ImageError}
 use Rattle.qcow2_alloc.specs.declared.image_file.ImageFile.{ImageFile}
 use Rattle.qcow2_alloc.specs.Allocation.{Frees}
+use Rattle.qcow2_alloc.specs.ImageError.{IsFault as FaultOfTables}
 use Rattle.qcow2_alloc.specs.CacheMarks.{l2_pins}
 use Rattle.qcow2_alloc.specs.FreeList.{with_listed}
 use Rattle.qcow2_alloc.specs.ImageFile.{stand_in, view_in, contents_in, known_in, nothing_given}
@@ -21,6 +22,7 @@ use Rattle.qcow2_alloc.specs.declared.error.ImageError.TheVariants as I
 use Rattle.qcow2_alloc.proofs.FileSteps.{pending_same}
 use Rattle.qcow2_image.specs.declared.image.Qcow2.{Qcow2}
 use Rattle.qcow2_image.specs.declared.prepared.Prepared.{Prepared}
+use Rattle.qcow2_image.specs.Parts.{EndsFreeing}
 use Rattle.qcow2_image.specs.Steps.{Keeps, Tidies, Broke, FreesListed}
 use Rattle.qcow2_image.specs.Calls.{Flushes}
 use Rattle.qcow2_image.specs.Image.{number_of, is_failed}
@@ -29,7 +31,7 @@ use Rattle.qcow2_image.specs.Views.{IsSoundAt, pending_in, seen}
 use Rattle.qcow2_image.proofs.Answered.{tidies_kept, still_seen}
 use Rattle.qcow2_image.proofs.Called.{copied_then}
 use Rattle.qcow2_image.proofs.Moving.{file_tidied}
-use Rattle.qcow2_image.proofs.Refused.{IsLeft, refuses_left}
+use Rattle.qcow2_image.proofs.Refused.{IsLeft, marks_fault, refuses_left}
 use Rattle.qcow2_image.proofs.Settled.{settled_does}
 use Rattle.qcow2_image.proofs.Stepped.{stepped_sound, stepped_works}
 
@@ -53,6 +55,10 @@ module _ {S F : Type 0} (view : S → StorageView) (backing : F → BackingView)
       | inl left ↦ inl (file_tidied view backing old out (with_listed p old.file.free_list) (with_listed p file.free_list) sound file (Some a) left.moves left.reftable pins)
       | inr breaks ↦ inr (record { breaks = breaks; header = ap (λ x. x.fields) header; below = refl })
     ]
+
+  pub frees_fault : (p q : Pending) (old file : ImageFile S) (a : Allocator) (r : Result (Unit {0}) ImageError) → Frees view p old a file q r → IfErr r FaultOfTables
+  frees_fault p q old file a (Ok _) frees = tt
+  frees_fault p q old file a (Err e) frees = frees.0
 
   -- whatever is answered
   pub frees_any : (p : Pending) (old new : Qcow2 S F) (r : Result (Unit {0}) ImageError) → Tidies view backing (with_listed p old.file.free_list) (with_listed p new.file.free_list) old new out → FreesListed view backing p old new out r
@@ -127,3 +133,19 @@ module _ {S F : Type 0} (view : S → StorageView) (backing : F → BackingView)
       (λ sound. stepped_sound view backing old new out out nothing_given (left sound).pending (left sound).steps) number usable (λ sound. (written, (left sound).same)))
   flushes_settled (Err e) marks memory frees written = λ out.
       refuses_left view backing old usable new marked number out e marks memory (λ sound. elim (frees out sound) [ inl tidies ↦ inl (tidy_left view backing old out new sound tidies) | inr broke ↦ inr broke ])
+
+  -- at the end of a call that changed an entry
+  module _ (out : List (Option Prepared)) (sound : IsSoundAt view backing (pending_in view backing old out) old out) where
+    pub ends_freeing : (r : Result (Unit {0}) ImageError) → Marks r (is_failed new) marked → IfErr r (λ e. e ≡ I.Memory → IsTrue new.file.caches.is_changed → IsTrue marked) → IsTrue new.file.caches.is_changed
+        → IfErr r FaultOfTables → FreesListed view backing (beside view backing old out) old new out r → EndsFreeing view backing old (record new { is_failed = marked }) out r
+    ends_freeing (Ok done) marks memory noted fault frees =
+        let left = tidy_left view backing old out new sound frees in
+        subst (λ (f : Bool). EndsFreeing view backing old (record new { is_failed = f }) out (Ok done)) (sym marks) (
+          stepped_works view backing old new out out nothing_given left.pending left.steps,
+          stepped_sound view backing old new out out nothing_given left.pending left.steps,
+          left.same,
+        )
+    ends_freeing (Err e) marks memory noted fault frees =
+        let is = marks_fault e (is_failed new) marked new.file.caches.is_changed fault (λ _. noted) marks memory in
+        let refuses = refuses_left view backing old usable new marked number out e marks memory (λ s. elim frees [ inl tidies ↦ inl (tidy_left view backing old out new s tidies) | inr broke ↦ inr broke ]) in
+        (refuses.acts.works sound, is.1, is.0)

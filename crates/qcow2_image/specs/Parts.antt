@@ -1,11 +1,11 @@
 -- What parts of calls do that a guest sees.
 use Rattle.qcow2_metadata.specs.Header.{cluster_size}
 use Rattle.qcow2_image.specs.Steps.{GoesBack}
-use Rattle.std.specs.Prelude.{Bool, ℕ, ◌+◌, ◌≡◌, ◌⊎◌, List, [], ◌∷◌, Option, Some, None, IfSome, IsSome, Result, Ok, Err, slice_get, slice_set}
+use Rattle.std.specs.Prelude.{Bool, ℕ, ◌+◌, ◌≡◌, ◌⊎◌, List, [], ◌∷◌, Option, Some, None, IfSome, IsSome, IsTrue, Result, Ok, Err, slice_get, slice_set}
 use Rattle.image_access.specs.Backing.{BackingView}
 use Rattle.image_access.specs.Contents.{overwritten}
 use Rattle.image_access.specs.Moments.{StorageView, Passing}
-use Rattle.qcow2_laws.specs.Calls.{Works, with_disk, with_slot}
+use Rattle.qcow2_laws.specs.Calls.{IsFault, IsSame, Works, with_disk, with_slot}
 use Rattle.qcow2_laws.specs.Mappings.{PreparedMapping, IsPrepared, gift_of, gift_of_commit, put_mapping, put_disk, committed}
 use Rattle.qcow2_laws.specs.Views.{Guest, guest_of}
 use Rattle.qcow2_alloc.specs.declared.error.ImageError.{ImageError}
@@ -14,6 +14,8 @@ use Rattle.qcow2_alloc.specs.ImageFile.{view_in}
 use Rattle.qcow2_alloc.specs.MetadataCaches.{l2_at}
 use Rattle.qcow2_image.specs.declared.image.Qcow2.{Qcow2}
 use Rattle.qcow2_image.specs.declared.prepared.Prepared.{Prepared}
+use Rattle.qcow2_image.specs.Calls.{refusal_of}
+use Rattle.qcow2_image.specs.Image.{is_failed}
 use Rattle.qcow2_image.specs.Views.{meaning, pending_in, seen, IsSoundAt}
 
 -- what a guest sees once bytes were put into the mapping at a place
@@ -64,6 +66,16 @@ module _ {S F : Type 0} (view : S → StorageView) where
     abbrev pub Enters : Qcow2 S F → Qcow2 S F → Prepared → Type 0
     Enters old new p = (out : List (Option Prepared)) (k : ℕ) → slice_get out k ≡ Some (Some p) → IfSome p.table (λ t. IsSome (l2_at old.file.caches t)) → IsSoundAt view backing (pending_in view backing old out) old out
         → Committed old new out k p
+
+    -- where it has a new cluster, a change is noted
+    abbrev pub NotesNew : Qcow2 S F → Qcow2 S F → Prepared → Type 0
+    NotesNew old new p = (out : List (Option Prepared)) (k : ℕ) → slice_get out k ≡ Some (Some p) → IfSome p.table (λ t. IsSome (l2_at old.file.caches t)) → IsSoundAt view backing (pending_in view backing old out) old out
+        → IsSome p.new_cluster → IsTrue new.file.caches.is_changed
+
+    -- At the end of a call that changed an entry clusters are freed, which no guest sees; or the image failed.
+    abbrev pub EndsFreeing : Qcow2 S F → Qcow2 S F → List (Option Prepared) → Result (Unit {0}) ImageError → Type 0
+    EndsFreeing old new out (Ok _) = Works (seen view backing old out) (seen view backing new out) [] [] × IsSoundAt view backing (pending_in view backing new out) new out × IsSame (seen view backing old out) (seen view backing new out)
+    EndsFreeing old new out (Err e) = Works (seen view backing old out) (seen view backing new out) [] [] × IsFault (refusal_of e) × IsTrue (is_failed new)
 
     -- a range is prepared, and put at a place that was free
     pub record IsReadied (old new : Qcow2 S F) (out : List (Option Prepared)) (k offset n : ℕ) (overwrite : Bool) (p : Prepared) : Type 0 where

@@ -67,6 +67,9 @@ impl<S: Storage> Qcow2CreateBuilder<S> {
     ghost use Rattle.std.specs.Prelude.{Err};
     ghost use Rattle.qcow2_alloc.specs.declared.error.ImageError.TheVariants.{InvalidOption};
     ghost use Rattle.qcow2_image.specs.Created.{StopsCreating, IsCreated, IsAllowed};
+    ghost use Rattle.std.specs.Prelude.{true, false};
+    ghost use Rattle.qcow2_laws.specs.Views.{IsOpened};
+    ghost use Rattle.qcow2_image.specs.Image.{number_of, is_failed, is_writable};
 
     /// A disk of no bytes, clusters of 65,536 bytes and counts of 16 bits.
     pub fn new(image: S) -> Qcow2CreateBuilder<S>
@@ -138,6 +141,23 @@ impl<S: Storage> Qcow2CreateBuilder<S> {
             return (storage.into_inner(), Err(refusal));
         }
         grow_new_image::<S, NoBacking>(alloc, storage.into_inner(), size)
+    }
+
+    /// Writes the new image and opens it for writing, with no disk below it. A refusal hands the storage back.
+    pub fn create_open<F: WrappedFormat<S>>(
+        self,
+        alloc: Global,
+        number: u64,
+    ) -> Result<Qcow2<S, F>, (S, ImageError)>
+        ensures opens { (S.view self.image).is_honest → IfOk result (λ image. IsOpened (seen S.view F.backing image [])) }
+        ensures unwritten { (S.view self.image).is_honest → IfOk result (λ image. IsUnwritten self.size (seen S.view F.backing image []).known) }
+        ensures ok { IfOk result (λ image. (number_of image ≡ number) × (is_failed image ≡ false) × (is_writable image ≡ true)) }
+    {
+        let (storage, done) = self.create(alloc);
+        if let Err(refusal) = done {
+            return Err((storage, refusal));
+        }
+        Qcow2::open_image(alloc, storage, true, number)
     }
 }
 

@@ -11,7 +11,7 @@ ghost use Rattle.qcow2_alloc.specs.MetadataCaches.{IsEntryAt, l2_at};
 ghost use Rattle.qcow2_alloc.specs.ImageFile.{known_in, IsSoundFile};
 ghost use Rattle.qcow2_image.specs.declared.prepared.Prepared.{Prepared};
 ghost use Rattle.qcow2_image.specs.Calls.{Answers, Commits, Discards, Prepares};
-ghost use Rattle.qcow2_image.specs.Parts.{Enters, IsExisting, Readies};
+ghost use Rattle.qcow2_image.specs.Parts.{Enters, NotesNew, IsExisting, Readies};
 ghost use Rattle.qcow2_alloc.specs.CacheMarks.{l2_pins};
 ghost use Rattle.qcow2_laws.specs.Alike.{IsAlike};
 ghost use Rattle.qcow2_image.specs.Found.{mapping_of, IsRunBehind, NamesTable, IsRunFrom, IsFound, kind_at, rest_of_table, l1_index_of, l2_index_of};
@@ -537,7 +537,8 @@ impl<S: Storage, F: WrappedFormat<S>> Qcow2<S, F> {
         pending.hand_back(&mut self.file.free_list);
     }
 
-    /// Makes a prepared mapping visible. A refusal that leaves the mapping as it is hands it back.
+    /// Makes a prepared mapping visible. Where it has a new cluster, the clusters that are to be freed are freed then.
+    /// A refusal that leaves the mapping as it is hands it back.
     pub fn commit_data_mapping(&mut self, prepared: Prepared) -> Result<(), CommitRefused>
         ensures foreign { image_of prepared ≢ number_of self.old → (result ≡ Err (Kept ForeignState prepared)) × (self.new ≡ self.old) }
         ensures failed { image_of prepared ≡ number_of self.old → IsTrue (is_failed self.old) → (result ≡ Err (Kept Failed prepared)) × (self.new ≡ self.old) }
@@ -556,8 +557,15 @@ impl<S: Storage, F: WrappedFormat<S>> Qcow2<S, F> {
             self.note(&refusal);
             return Err(CommitRefused::Kept(refusal, prepared));
         }
+        let is_new = prepared.has_new_cluster();
         self.enter_prepared(prepared);
-        Ok(())
+        if !is_new {
+            return Ok(());
+        }
+        match self.end_freeing() {
+            Ok(()) => Ok(()),
+            Err(refusal) => Err(CommitRefused::Spent(refusal)),
+        }
     }
 
     // Brings a table into its cache where it isn't there.
@@ -583,6 +591,7 @@ impl<S: Storage, F: WrappedFormat<S>> Qcow2<S, F> {
     fn enter_prepared(&mut self, prepared: Prepared)
         ensures stays { Stays self.old self.new }
         ensures commits { Enters S.view F.backing self.old self.new prepared }
+        ensures notes { NotesNew S.view F.backing self.old self.new prepared }
     {
         let Prepared {
             image: _,

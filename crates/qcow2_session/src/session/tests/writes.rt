@@ -226,3 +226,40 @@ fn a_new_refblock_counts_itself_first(rt: HostRuntime) -> Result<(), Fail> {
     );
     Ok(())
 }
+
+// Writes a cluster that the first L2 table covers, and one that the second does, and flushes after each.
+fn two_tables<S: Storage>(alloc: Global, storage: S) -> Result<S, ImageError> {
+    let mut image = opened(alloc, storage, true)?;
+    write_all(&mut image, 512, &[0x22; 512])?;
+    image.flush()?;
+    write_all(&mut image, 32768, &[0x33; 512])?;
+    image.flush()?;
+    Ok(image.into_storage())
+}
+
+#[test]
+fn a_former_tables_cluster_takes_a_new_table(rt: HostRuntime) -> Result<(), Fail> {
+    let alloc = rt.alloc();
+    let mut storage = written(alloc, fresh(alloc)?, 0, &[0x11; 512])?;
+    // The L1 entry isn't marked copied any more: its table is replaced.
+    storage.write(1536, &[0])?;
+    let mut storage = two_tables(alloc, storage)?;
+    assert_eq!(rt;
+        numbers(&mut storage, [1536, 1544, 1032, 1040])?,
+        [
+            0x8000_0000_0000_0c00,
+            0x8000_0000_0000_0800,
+            0x0001_0001_0001_0001,
+            0x0001_0000_0000_0000
+        ]
+    );
+    assert_eq!(rt;
+        guest_bytes(alloc, copied(alloc, &storage)?, 32768, 1)?.as_slice(),
+        [0x33].as_slice()
+    );
+    assert_eq!(rt;
+        guest_bytes(alloc, storage, 511, 2)?.as_slice(),
+        [0x11, 0x22].as_slice()
+    );
+    Ok(())
+}
