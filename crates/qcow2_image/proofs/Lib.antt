@@ -35,3 +35,4 @@ pub mod Clearing
 pub mod Writable
 pub mod PreparedAs
 pub mod Storing
+pub mod Taken
