@@ -50,3 +50,4 @@ pub mod PreparedAs
 pub mod Storing
 pub mod Probing
 pub mod Free
+pub mod Taken
