@@ -1,34 +1,27 @@
 -- The autoclear bits are cleared beside caches that hold nothing modified: the file is as sound as before, and has the same tables.
-use Rattle.std.proofs.Common.{◌≡◌, ◌≢◌, inl, inr, ℕ, ◌+◌, ◌/◌, ◌<◌, List, [], Result, refl, sym, ap, ◌∙◌, subst, arith}
+use Rattle.std.proofs.Common.{◌≡◌, ◌≢◌, inl, inr, ℕ, List, [], Result, sym, ap, ◌∙◌, subst}
 use Rattle.std.proofs.lemmas.Bool.{cases_eq}
 use Rattle.image_access.specs.Backing.{BackingView}
 use Rattle.image_access.specs.declared.error.StorageError.{StorageError}
 use Rattle.image_access.specs.Moments.{StorageView, Calls, Changes}
 use Rattle.qcow2_metadata.specs.Bytes.{Bytes, byte_at}
 use Rattle.qcow2_metadata.specs.declared.header.HeaderFields.{HeaderFields}
-use Rattle.qcow2_metadata.specs.Header.{HeaderView, header, cluster_size, with_fields, without_autoclear}
+use Rattle.qcow2_metadata.specs.Header.{HeaderView, header, with_fields, without_autoclear}
 use Rattle.qcow2_metadata.specs.HeaderLoad.{IsHeaderIn}
 use Rattle.qcow2_metadata.specs.HeaderWrite.{autoclear_cleared}
-use Rattle.qcow2_metadata.specs.Entries.{l1_entry, reftable_entry, host_offset, block_offset}
-use Rattle.qcow2_metadata.specs.Named.{in_cluster, named_for_tables, named_by_l1_table, named_by_reftable}
-use Rattle.qcow2_laws.specs.Caches.{IsKept, HasL2, HasBlock, AreSettled}
-use Rattle.qcow2_laws.specs.Guard.{Pending, IsGuarded, SameIn}
+use Rattle.qcow2_metadata.specs.Entries.{l1_entry, reftable_entry}
+use Rattle.qcow2_laws.specs.Caches.{IsKept, AreSettled}
+use Rattle.qcow2_laws.specs.Guard.{Pending, IsGuarded}
 use Rattle.qcow2_laws.specs.Stops.{IsKeptAt}
 use Rattle.qcow2_laws.specs.Tops.{WritesHeader, resized}
-use Rattle.qcow2_laws.proofs.Blocks.{table_once}
-use Rattle.qcow2_laws.proofs.Consistency.{in_own}
-use Rattle.qcow2_laws.proofs.Headers.{header_sizes, header_fixed, header_same, header_reftable}
 use Rattle.qcow2_laws.proofs.HeaderWrites.{autoclear_beside}
-use Rattle.qcow2_laws.proofs.KeptSteps.{kept_beside}
 use Rattle.qcow2_laws.proofs.Leads.{endures_none, endures_write}
-use Rattle.qcow2_laws.proofs.Shares.{shares, first_l1, table_has, block_has}
 use Rattle.qcow2_laws.proofs.Steps.{header_is_written}
 use Rattle.qcow2_alloc.specs.declared.image_file.ImageFile.{ImageFile}
 use Rattle.qcow2_alloc.specs.declared.image_storage.ImageStorage.{ImageStorage}
 use Rattle.qcow2_alloc.specs.ImageFile.{nothing_given, view_in, contents_in, known_in, stand_in}
 use Rattle.qcow2_alloc.specs.ImageStorage.{storage_of}
-use Rattle.qcow2_alloc.specs.MetadataCaches.{HasFormat, order_of, l2_tables, refblocks, known_of, AreSound}
-use Rattle.qcow2_alloc.proofs.KeptTables.Loaded.{loaded_beside}
+use Rattle.qcow2_alloc.specs.MetadataCaches.{order_of, l2_tables, refblocks, known_of, AreSound}
 use Rattle.qcow2_image.proofs.HeaderKept.{resized_l1, resized_reftable, placed_settled, placed_sound}
 use Rattle.qcow2_image.specs.Opened.{IsFresh, StaysFresh, IsKeptSince}
 

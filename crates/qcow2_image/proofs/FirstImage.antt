@@ -1,17 +1,14 @@
 -- The three clusters of a new image: before the header is there it is no image, and then it is a new one.
-use Rattle.std.proofs.Common.{◌≡◌, ◌≢◌, ◌⊎◌, inl, inr, ⊎_elim, ℕ, ◌+◌, ◌-◌, ◌*◌, ◌/◌, ◌%◌, ◌^◌, ◌<◌, ◌≤◌, Bool, true, false, List, [], ◌++◌, length, replicate, Option, Some, None, Result, Ok, Err, refl, sym, ap, ◌∙◌, subst, arith, lit<, if◌then◌else◌}
-use Rattle.std.specs.Prelude.{IfSome, OnOk, ◌==◌, ◌&&◌, ◌||◌, nat_lt}
+use Rattle.std.proofs.Common.{◌≡◌, inl, inr, ℕ, ◌+◌, ◌*◌, ◌/◌, ◌%◌, ◌^◌, ◌<◌, ◌≤◌, false, List, [], ◌++◌, length, replicate, None, sym, ap, ◌∙◌, subst, arith, lit<}
+use Rattle.std.specs.Prelude.{◌==◌, ◌&&◌, ◌||◌}
 use Rattle.std.proofs.lemmas.Bool.{cases_lt, cond-false, ne_eqb}
 use Rattle.std.proofs.lemmas.List.{length-append}
 use Rattle.std.proofs.lemmas.Nat.{le-div, div-mul-add, mod-mul-add}
 use Rattle.image_access.specs.Contents.{overwritten}
-use Rattle.image_access.specs.Moments.{StorageView, Passing, Changes, Calls}
-use Rattle.image_access.specs.declared.error.StorageError.{StorageError}
 use Rattle.image_access.proofs.Bytes.{byte_at-overwritten_below, byte_at-overwritten_behind}
-use Rattle.image_access.proofs.Passing.{passes_none, passes_change}
-use Rattle.qcow2_metadata.specs.Bytes.{Bytes, byte_at, number_at}
+use Rattle.qcow2_metadata.specs.Bytes.{byte_at, number_at}
 use Rattle.qcow2_metadata.specs.declared.header.HeaderFields.{HeaderFields}
-use Rattle.qcow2_metadata.specs.Header.{HeaderView, HeaderReads, header, cluster_size, count_width, counts_per_block, entries_per_cluster, reftable_entries}
+use Rattle.qcow2_metadata.specs.Header.{HeaderView, HeaderReads, cluster_size, count_width, counts_per_block, entries_per_cluster, reftable_entries}
 use Rattle.qcow2_metadata.specs.HeaderLoad.{IsHeaderIn}
 use Rattle.qcow2_metadata.specs.HeaderWrite.{numbers_of, bytes_of_numbers, header_bytes, header_written, new_fields}
 use Rattle.qcow2_metadata.specs.Entries.{reftable_entry, block_count}
@@ -20,10 +17,9 @@ use Rattle.qcow2_metadata.specs.RefBlock.{RefBlockView, IsRefBlockAt, count_at, 
 use Rattle.qcow2_metadata.specs.TableBytes.{entry_at}
 use Rattle.qcow2_metadata.proofs.ReadBack.{length-numbers}
 use Rattle.qcow2_metadata.proofs.WrittenTables.{IsRefTableOf-written}
-use Rattle.qcow2_laws.specs.Guard.{SameIn}
 use Rattle.qcow2_laws.specs.NewImages.{IsNewImage}
 use Rattle.qcow2_laws.proofs.Places.{Sizes, Sizes-from, reftable-same, block_count-moved}
-use Rattle.qcow2_image.specs.Created.{begins_image, IsStopOfCreating, IsNewHeader, CountsThree, NamesOne}
+use Rattle.qcow2_image.specs.Created.{begins_image, IsNewHeader, CountsThree, NamesOne}
 
 -- ---- before the header is there
 abbrev pub IsBlank : List ℕ → Type 0

@@ -1,5 +1,5 @@
 -- Parts of growing after one another, and the L1 table in the place of the former one.
-use Rattle.std.proofs.Common.{◌≡◌, ◌⊎◌, inl, inr, ⊎_elim, ℕ, ◌+◌, ◌-◌, ◌*◌, ◌/◌, ◌%◌, ◌^◌, ◌<◌, ◌≤◌, max, List, [], ◌∷◌, ◌++◌, length, replicate, Option, Some, None, Result, Ok, Err, Bool, false, refl, sym, ap, ◌∙◌, subst, arith}
+use Rattle.std.proofs.Common.{◌≡◌, inl, inr, ⊎_elim, ℕ, ◌+◌, ◌-◌, ◌*◌, ◌/◌, ◌%◌, ◌^◌, ◌<◌, ◌≤◌, List, [], ◌∷◌, ◌++◌, length, Option, Some, None, Result, Ok, Err, Bool, false, refl, sym, ap, ◌∙◌, subst, arith}
 use Rattle.std.specs.Prelude.{OnOk}
 use Rattle.std.proofs.lemmas.Bool.{cases_lt}
 use Rattle.std.proofs.lemmas.Nat.{div-mul-add}
@@ -13,14 +13,12 @@ use Rattle.qcow2_metadata.specs.EntryTable.{EntryTableView, entry_count}
 use Rattle.qcow2_metadata.specs.Named.{in_run}
 use Rattle.qcow2_metadata.specs.TableBytes.{entry_at}
 use Rattle.qcow2_laws.specs.Guard.{Pending}
-use Rattle.qcow2_laws.specs.Leads.{Stand, Leads, Endures}
-use Rattle.qcow2_laws.specs.Stops.{Mark, more, IsKeptAt}
+use Rattle.qcow2_laws.specs.Stops.{Mark, IsKeptAt}
 use Rattle.qcow2_laws.specs.Tops.{places_of, with_places}
-use Rattle.qcow2_laws.proofs.Leads.{leads_none, leads_then, endures_none, steps_endure}
+use Rattle.qcow2_laws.proofs.Leads.{leads_none, leads_then, steps_endure}
 use Rattle.qcow2_laws.proofs.Stops.{kept_more}
 use Rattle.qcow2_alloc.specs.Allocation.{run_at, taken_as, Becomes}
 use Rattle.qcow2_alloc.specs.CacheMarks.{KeepsMarks}
-use Rattle.qcow2_alloc.specs.ClustersToFree.{metadata_entry}
 use Rattle.qcow2_alloc.specs.declared.allocation.Allocator.{Allocator}
 use Rattle.qcow2_alloc.specs.declared.clusters_to_free.ClustersToFreeEntry.{ClustersToFreeEntry}
 use Rattle.qcow2_alloc.specs.declared.error.ImageError.{ImageError}
@@ -30,7 +28,7 @@ use Rattle.qcow2_alloc.proofs.FileSteps.{pending_same}
 use Rattle.qcow2_alloc.proofs.PlacedBlocks.{file_sizes}
 use Rattle.qcow2_alloc.proofs.Runs.{run_before, run_after}
 use Rattle.qcow2_image.specs.declared.image.Qcow2.{Qcow2}
-use Rattle.qcow2_image.specs.Growing.{SameFormat, clusters_of, run_of_table, listed, with_table, without_l1, IsLonger, StandsWhole, Lasts, Extends, PlacesTable, NamesTable, TakesTable, Resizes, Grows, WritesBack, GrowsWhole}
+use Rattle.qcow2_image.specs.Growing.{clusters_of, run_of_table, listed, with_table, without_l1, IsLonger, StandsWhole, Lasts, Extends, PlacesTable, NamesTable, TakesTable, Resizes, Grows, WritesBack, GrowsWhole}
 use Rattle.qcow2_image.specs.Image.{size_of, is_failed}
 use Rattle.qcow2_image.specs.Refusals.{Marks}
 use Rattle.qcow2_alloc.specs.FreeList.{with_listed}

@@ -1,7 +1,7 @@
 -- The size, and the place of the L1 table, are written over the header that stands on the storage, whatever its names are.
-use Rattle.std.proofs.Common.{◌≡◌, ℕ, ◌^◌, ◌<◌, ◌≤◌, List, refl, sym, subst, arith}
+use Rattle.std.proofs.Common.{ℕ, ◌^◌, ◌<◌, ◌≤◌, List, refl, sym, subst, arith}
 use Rattle.image_access.specs.Moments.{StorageView}
-use Rattle.qcow2_metadata.specs.Bytes.{Bytes, byte_at}
+use Rattle.qcow2_metadata.specs.Bytes.{byte_at}
 use Rattle.qcow2_metadata.specs.declared.header.HeaderFields.{HeaderFields}
 use Rattle.qcow2_metadata.specs.Header.{HeaderView, header, HeaderReads, backing_name, first_of_kind, backing_format_kind, data_file_kind, with_size, with_l1_table}
 use Rattle.qcow2_metadata.specs.HeaderLoad.{IsHeaderIn}
@@ -12,7 +12,7 @@ use Rattle.qcow2_laws.specs.Guard.{Pending}
 use Rattle.qcow2_laws.specs.Tops.{WritesHeader, resized, with_l1_at}
 use Rattle.qcow2_laws.proofs.HeaderWrites.{size_beside, l1_pointer_beside}
 use Rattle.qcow2_alloc.specs.declared.image_file.ImageFile.{ImageFile}
-use Rattle.qcow2_alloc.specs.ImageFile.{view_in, contents_in, known_in, IsSoundFile}
+use Rattle.qcow2_alloc.specs.ImageFile.{view_in, known_in, IsSoundFile}
 use Rattle.qcow2_alloc.specs.MetadataCaches.{order_of, l2_tables, refblocks, known_of}
 
 module _ {S : Type 0} (view : S → StorageView) (p : Pending) (file : ImageFile S) (sound : IsSoundFile view p file) where

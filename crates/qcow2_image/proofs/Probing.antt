@@ -1,5 +1,5 @@
 -- The first eight bytes of a storage, as two numbers.
-use Rattle.std.proofs.Common.{◌≡◌, ◌≢◌, ℕ, ◌+◌, ◌*◌, ◌<◌, Bool, List, get_or, refl, sym, ap, ◌∙◌, arith, lit<}
+use Rattle.std.proofs.Common.{◌≡◌, ◌≢◌, ℕ, ◌+◌, ◌*◌, ◌<◌, Bool, List, get_or, sym, ap, ◌∙◌, arith, lit<}
 use Rattle.std.proofs.lemmas.Bool.{eq-eqb, ne_eqb}
 use Rattle.std.specs.Prelude.{◌==◌, ◌&&◌, ◌||◌}
 use Rattle.image_access.specs.Contents.{bytes_at}

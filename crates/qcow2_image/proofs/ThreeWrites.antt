@@ -1,5 +1,5 @@
 -- The refblock, the reftable and the header of a new image are written one after another: what a stop may leave on the way.
-use Rattle.std.proofs.Common.{◌≡◌, inl, inr, ℕ, ◌+◌, ◌*◌, ◌/◌, ◌^◌, ◌<◌, ◌≤◌, List, [], Option, Some, Result, Ok, Err, refl, sym, ap, ◌∙◌, subst, arith}
+use Rattle.std.proofs.Common.{◌≡◌, inl, inr, ℕ, ◌*◌, ◌/◌, ◌^◌, ◌≤◌, List, [], Option, Result, Ok, Err, sym, ap, ◌∙◌, subst, arith}
 use Rattle.std.specs.Prelude.{IfSome, OnOk}
 use Rattle.image_access.specs.Contents.{overwritten}
 use Rattle.image_access.specs.Moments.{StorageView, Passing, Changes, Calls}
@@ -17,7 +17,6 @@ use Rattle.qcow2_metadata.specs.Guest.{guest_value, value_under, known_byte}
 use Rattle.qcow2_metadata.specs.RefBlock.{RefBlockView, IsRefBlockAt}
 use Rattle.qcow2_metadata.specs.declared.l2_mapping.L2Mapping.{L2Mapping}
 use Rattle.qcow2_metadata.specs.declared.l2_mapping.L2Mapping.TheVariants.{Uncovered}
-use Rattle.std.proofs.Math.Pow.{pow_mono}
 use Rattle.qcow2_laws.specs.Disk.{disk}
 use Rattle.qcow2_laws.specs.NewImages.{IsNewImage}
 use Rattle.qcow2_laws.proofs.NewImages.{new_image_consistent}

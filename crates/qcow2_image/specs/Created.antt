@@ -1,14 +1,14 @@
 -- What creating an image makes of a storage, and what a stop may leave of it.
-use Rattle.std.specs.Prelude.{ℕ, ◌≡◌, ◌==◌, ◌&&◌, ◌||◌, ◌⊎◌, ◌*◌, ◌^◌, ◌≤◌, Bool, true, false, None, Some, Option, Result, Ok, Err, length, nat_lt, if◌then◌else◌}
+use Rattle.std.specs.Prelude.{ℕ, ◌≡◌, ◌==◌, ◌&&◌, ◌||◌, ◌⊎◌, ◌*◌, ◌^◌, ◌≤◌, Bool, false, None, Some, Result, Ok, Err, length, nat_lt, if◌then◌else◌}
 use Rattle.image_access.specs.Moments.{StorageView, Passing}
 use Rattle.qcow2_metadata.specs.Bytes.{Bytes, byte_at, number_at}
 use Rattle.qcow2_metadata.specs.Consistent.{IsConsistent}
-use Rattle.qcow2_metadata.specs.EntryTable.{EntryTableView, entry_table, entry_count}
+use Rattle.qcow2_metadata.specs.EntryTable.{EntryTableView}
 use Rattle.qcow2_metadata.specs.declared.header.HeaderFields.{HeaderFields}
 use Rattle.qcow2_metadata.specs.Guest.{known_byte}
 use Rattle.qcow2_metadata.specs.Header.{HeaderView, header, cluster_size, count_width, entries_per_cluster}
 use Rattle.qcow2_metadata.specs.HeaderWrite.{new_header, HasNewNames}
-use Rattle.qcow2_metadata.specs.RefBlock.{RefBlockView, ref_block, count_at}
+use Rattle.qcow2_metadata.specs.RefBlock.{RefBlockView, count_at}
 use Rattle.qcow2_metadata.specs.TableBytes.{entry_at}
 use Rattle.qcow2_laws.specs.Disk.{disk}
 use Rattle.qcow2_laws.specs.NewImages.{IsNewImage}

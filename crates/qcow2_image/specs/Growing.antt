@@ -23,7 +23,7 @@ use Rattle.qcow2_alloc.specs.ImageFile.{view_in, contents_in, known_in, stand_in
 use Rattle.qcow2_image.specs.declared.image.Qcow2.{Qcow2}
 use Rattle.qcow2_image.specs.Image.{size_of}
 use Rattle.qcow2_image.specs.Steps.{Keeps, following}
-use Rattle.qcow2_image.specs.Views.{IsSoundAt, pending_in, seen}
+use Rattle.qcow2_image.specs.Views.{IsSoundAt, pending_in}
 
 -- the header differs only in numbers that are written again after it was created
 abbrev pub SameFormat : HeaderFields → HeaderFields → Type 0

@@ -1,4 +1,4 @@
-use Rattle.std.proofs.Common.{[], ◌<◌, ap, arith}
+use Rattle.std.proofs.Common.{[], ◌<◌, arith}
 use Rattle.qcow2_image.specs.Image.{size_of}
 use Rattle.qcow2_image.specs.Views.{pending_in}
 use Rattle.qcow2_image.proofs.Grown.{grown_so}

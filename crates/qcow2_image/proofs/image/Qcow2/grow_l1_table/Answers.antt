@@ -1,4 +1,4 @@
-use Rattle.std.proofs.Common.{◌≡◌, ◌+◌, ◌*◌, ◌%◌, ◌≤◌, length, replicate, ◌++◌, ◌-◌, arith}
+use Rattle.std.proofs.Common.{◌≤◌, arith}
 use Rattle.qcow2_metadata.specs.EntryTable.{entry_count}
 use Rattle.qcow2_image.proofs.Grown.{is_longer, lengthened}
 use Rattle.qcow2_image.proofs.image.Qcow2.grow_l1_table.Goals as goal

@@ -1,8 +1,4 @@
-use Rattle.std.proofs.Common.{◌≡◌, ◌*◌, ◌+◌, ◌^◌, refl, sym, ap, ◌∙◌, subst, []}
-use Rattle.std.specs.Prelude.{IfSome, Some}
-use Rattle.image_access.specs.Contents.{overwritten}
-use Rattle.image_access.specs.Moments.{Changes}
-use Rattle.qcow2_metadata.specs.EntryTable.{EntryTableView}
+use Rattle.std.proofs.Common.{refl, []}
 use Rattle.qcow2_alloc.specs.ImageError.{of_storage}
 use Rattle.qcow2_alloc.specs.ImageStorage.{storage_of}
 use Rattle.qcow2_alloc.proofs.AllocationSteps.{handed_on}

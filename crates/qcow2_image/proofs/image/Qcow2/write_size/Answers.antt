@@ -1,12 +1,7 @@
-use Rattle.std.proofs.Common.{◌≡◌, [], ◌∷◌, refl, sym, ap, ◌∙◌, subst}
-use Rattle.std.specs.Prelude.{Result, Err}
-use Rattle.qcow2_metadata.specs.Header.{HeaderView}
-use Rattle.qcow2_laws.specs.Guard.{Pending}
 use Rattle.qcow2_alloc.specs.ImageError.{of_storage}
 use Rattle.qcow2_alloc.specs.ImageStorage.{storage_of}
 use Rattle.qcow2_alloc.proofs.AllocationSteps.{handed_on}
-use Rattle.qcow2_image.specs.Growing.{Extends, Resizes}
-use Rattle.qcow2_image.proofs.Entering.{unlisted}
+use Rattle.qcow2_image.specs.Growing.{Resizes}
 use Rattle.qcow2_image.proofs.Resized.{written_as, lasts_resized, resized_so}
 use Rattle.qcow2_image.proofs.image.Qcow2.write_size.Goals as goal
 
