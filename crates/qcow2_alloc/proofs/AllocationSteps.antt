@@ -16,7 +16,8 @@ use Rattle.qcow2_alloc.specs.declared.allocation.Allocator.{Allocator}
 use Rattle.qcow2_alloc.specs.declared.cache.MetadataCaches.{MetadataCaches}
 use Rattle.qcow2_alloc.specs.declared.error.ImageError.{ImageError}
 use Rattle.qcow2_alloc.specs.declared.image_file.ImageFile.{ImageFile}
-use Rattle.qcow2_alloc.specs.Allocation.{taken_as, MayTake, HasNone, KeepsEntries, StandsAt, Becomes, PlacesBlock, GetsBlock, TakesOne}
+use Rattle.qcow2_alloc.specs.declared.clusters_to_free.ClusterKind.TheVariants.{Data, Metadata}
+use Rattle.qcow2_alloc.specs.Allocation.{taken_as, Owed, Taken, Listed, owed_as, MayTake, MayLower, HasNone, KeepsEntries, StandsAt, Becomes, PlacesBlock, GetsBlock, TakesOne}
 use Rattle.qcow2_laws.specs.Caches.{AreSettled}
 use Rattle.image_access.proofs.Passing.{passes_none}
 use Rattle.qcow2_alloc.specs.CacheMarks.{KeepsMarks, SameTables}
@@ -43,6 +44,11 @@ of_equal P a a' b b' same_a same_b holds = subst (λ x. P x b) (sym same_a) (sub
 pub may_still : {S : Type 0} (d : Bool) (a b : ImageFile S) → order_of b.caches ≡ order_of a.caches → MayTake d a → MayTake d b
 may_still true a b same may = same ∙ may
 may_still false a b same may = tt
+
+pub may_lower_still : {S : Type 0} (owed : Owed) (a b : ImageFile S) → order_of b.caches ≡ order_of a.caches → MayLower owed a → MayLower owed b
+may_lower_still (Taken d) a b same may = tt
+may_lower_still (Listed Data) a b same may = same ∙ may
+may_lower_still (Listed Metadata) a b same may = tt
 
 pub fault_of_storage : (e : StorageError) → IsFault (of_storage e)
 fault_of_storage Fault = inl refl
@@ -176,30 +182,32 @@ module _ {S : Type 0} (view : S → StorageView) where
           reftable = reftable_counted view p b caches cluster first.moves.sound marks turned t.reftable first.reftable;
         }
 
-    pub given_one : (d : Bool) (q : Pending) → p ≡ taken_as d q (one_at cluster) → LowersCount b.caches caches block index → Becomes view p a t (record b { caches = caches }) q
-    given_one d q taken lowers =
+    pub given_one : (owed : Owed) (q : Pending) → MayLower owed b → p ≡ owed_as owed q (one_at cluster) → LowersCount b.caches caches block index → Becomes view p a t (record b { caches = caches }) q
+    given_one owed q may owes lowers =
         let made = lowers b.header.fields p (contents_in view b) cluster first.moves.sound.caches at in record {
-          moves = moves_then view p p q a b (record b { caches = caches }) (λ k some. some) first.moves (moves_lowered view p b caches cluster first.moves.sound marks turned q made d taken);
+          moves = moves_then view p p q a b (record b { caches = caches }) (λ k some. some) first.moves (moves_lowered view p b caches cluster first.moves.sound marks turned q made owed may owes);
           reftable = reftable_counted view p b caches cluster first.moves.sound marks turned t.reftable first.reftable;
         }
 
-  -- what is taken is counted
-  pub taken_counted : (d : Bool) (q : Pending) (cluster : ℕ) (p : Pending) (file : ImageFile S) → p ≡ taken_as d q (one_at cluster) → IsSoundFile view p file → count file.header.fields (known_in view file) cluster ≢ 0
-  taken_counted d q cluster p file taken sound none =
+  -- what is owed is counted
+  pub owed_counted : (owed : Owed) (q : Pending) (cluster : ℕ) (p : Pending) (file : ImageFile S) → p ≡ owed_as owed q (one_at cluster) → IsSoundFile view p file → count file.header.fields (known_in view file) cluster ≢ 0
+  owed_counted owed q cluster p file owes sound none =
       let tally = (sound.caches.kept.kept.guarded.always cluster).tally in
-      let some = some_taken d taken in
+      let some = some_owed owed owes in
       absurd (omega (arith, tally, none, some))
     where
-      some_taken : (d : Bool) → p ≡ taken_as d q (one_at cluster) → 0 < p.held cluster + p.fresh cluster
-      some_taken true taken = let own = one_here cluster in let e : p.held cluster ≡ q.held cluster + one_at cluster cluster = ap (λ (r : Pending). r.held cluster) taken in omega arith
-      some_taken false taken = let own = one_here cluster in let e : p.fresh cluster ≡ q.fresh cluster + one_at cluster cluster = ap (λ (r : Pending). r.fresh cluster) taken in omega arith
+      some_owed : (owed : Owed) → p ≡ owed_as owed q (one_at cluster) → 0 < p.held cluster + p.fresh cluster + p.spent cluster + p.dropped cluster
+      some_owed (Taken true) owes = let own = one_here cluster in let e : p.held cluster ≡ q.held cluster + one_at cluster cluster = ap (λ (r : Pending). r.held cluster) owes in omega arith
+      some_owed (Taken false) owes = let own = one_here cluster in let e : p.fresh cluster ≡ q.fresh cluster + one_at cluster cluster = ap (λ (r : Pending). r.fresh cluster) owes in omega arith
+      some_owed (Listed Metadata) owes = let own = one_here cluster in let e : p.spent cluster ≡ q.spent cluster + one_at cluster cluster = ap (λ (r : Pending). r.spent cluster) owes in omega arith
+      some_owed (Listed Data) owes = let own = one_here cluster in let e : p.dropped cluster ≡ q.dropped cluster + one_at cluster cluster = ap (λ (r : Pending). r.dropped cluster) owes in omega arith
 
   -- so it has a refblock
-  pub taken_has_block : (d : Bool) (q : Pending) (cluster range bits : ℕ) (p : Pending) (file : ImageFile S) (header : HeaderFields) → file.header.fields ≡ header → p ≡ taken_as d q (one_at cluster) → IsSoundFile view p file
+  pub owed_has_block : (owed : Owed) (q : Pending) (cluster range bits : ℕ) (p : Pending) (file : ImageFile S) (header : HeaderFields) → file.header.fields ≡ header → p ≡ owed_as owed q (one_at cluster) → IsSoundFile view p file
       → counts_per_block header ≡ 2 ^ bits → range ≡ cluster / 2 ^ bits → StandsAt view file range None → ⊥
-  taken_has_block d q cluster range bits p file header is taken sound counts in_range none =
+  owed_has_block owed q cluster range bits p file header is owes sound counts in_range none =
       let same : cluster / counts_per_block file.header.fields ≡ range = ap (λ n. cluster / n) (ap counts_per_block is ∙ counts) ∙ sym in_range in
-      taken_counted d q cluster p file taken sound
+      owed_counted owed q cluster p file owes sound
       (count_none file.header.fields (known_in view file) cluster (ap (λ n. block_offset (reftable_entry file.header.fields (known_in view file) n)) same ∙ none))
 
   -- ---- the reftable that was loaded

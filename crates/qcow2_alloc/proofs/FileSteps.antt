@@ -12,7 +12,7 @@ use Rattle.qcow2_metadata.specs.Named.{named_for_tables}
 use Rattle.qcow2_laws.specs.Stops.{Mark, IsKeptAt}
 use Rattle.qcow2_laws.specs.Clusters.{Direction}
 use Rattle.qcow2_laws.specs.Guard.{Pending}
-use Rattle.qcow2_laws.specs.Changes.{one_at, with_held, with_fresh, without_spent, held_to_spent, fresh_to_spent}
+use Rattle.qcow2_laws.specs.Changes.{one_at, with_held, with_fresh, without_spent, without_dropped, held_to_spent, fresh_to_spent}
 use Rattle.qcow2_laws.specs.Leads.{Stand, Leads, Endures}
 use Rattle.qcow2_laws.specs.Steps.{CountRises, CountFalls}
 use Rattle.qcow2_laws.proofs.Caches.{unnamed_free_l2, unnamed_free_rb}
@@ -24,7 +24,8 @@ use Rattle.qcow2_alloc.specs.declared.cache.MetadataCaches.{MetadataCaches}
 use Rattle.qcow2_alloc.specs.declared.error.ImageError.{ImageError}
 use Rattle.qcow2_alloc.specs.declared.image_file.ImageFile.{ImageFile}
 use Rattle.qcow2_alloc.specs.declared.image_storage.ImageStorage.{ImageStorage}
-use Rattle.qcow2_alloc.specs.Allocation.{taken_as, MayTake}
+use Rattle.qcow2_alloc.specs.Allocation.{taken_as, listed_as, Owed, Taken, Listed, owed_as, MayTake, MayLower}
+use Rattle.qcow2_alloc.specs.declared.clusters_to_free.ClusterKind.TheVariants.{Data, Metadata}
 use Rattle.qcow2_alloc.specs.CacheMarks.{KeepsMarks}
 use Rattle.qcow2_alloc.specs.ImageFile.{nothing_given, view_in, contents_in, known_in, stand_in, IsSoundFile, HasReftable, Moves, Breaks, LeavesSound, IsFault}
 use Rattle.qcow2_alloc.specs.ImageStorage.{storage_of}
@@ -178,9 +179,8 @@ module _ {S : Type 0} (view : S → StorageView) where
       moves_raised true may = raised_as (with_held p (one_at c)) (count_is_changed.data_allocated (stand_in view file p) now_known c sound.caches.kept.kept.guarded may made.change unlaid)
       moves_raised false may = raised_as (with_fresh p (one_at c)) (count_is_changed.table_allocated (stand_in view file p) now_known c sound.caches.kept.kept.guarded made.change)
 
-    -- a cluster that was taken is given back
-    module _ (d : Bool) (q : Pending) (taken : p ≡ taken_as d q (one_at c))
-        (made : Made (CountFalls file.header.fields (known_in view file) now_known c) file.header.fields file.caches caches (contents_in view file)) where
+    -- a cluster that is owed is counted once less
+    module _ (q : Pending) (made : Made (CountFalls file.header.fields (known_in view file) now_known c) file.header.fields file.caches caches (contents_in view file)) where
       lowered_as : Leads (stand_in view file p) (record (stand_in view file p) { pending = q; known = now_known }) nothing_given [] → Moved p q file counted
       lowered_as leads =
           let leads' : Leads (stand_in view file p) (stand_in view counted q) nothing_given [] =
@@ -204,19 +204,32 @@ module _ {S : Type 0} (view : S → StorageView) where
             known = λ backing m ok known_ok. second.known backing m (first.base backing m ok known_ok) (first.known backing m ok known_ok);
           })
 
-    module _ (q : Pending) (made : Made (CountFalls file.header.fields (known_in view file) now_known c) file.header.fields file.caches caches (contents_in view file)) where
-      pub moves_lowered : (d : Bool) → p ≡ taken_as d q (one_at c) → Moved p q file counted
-      moves_lowered true taken =
+      pub moves_lowered : (owed : Owed) → MayLower owed file → p ≡ owed_as owed q (one_at c) → Moved p q file counted
+      moves_lowered (Taken true) may taken =
           let held : p.held c ≡ q.held c + one_at c c = ap (λ (r : Pending). r.held c) taken in
           let own = one_here c in
           let first = pending_is_changed.undone (stand_in view file p) (one_at c) sound.caches.kept.kept.guarded (one_few c) (λ k some. subst (λ n. 0 < p.held n) (sym (one_alone c k some)) (omega arith)) in
-          lowered_as true q taken made (freed true q taken made (held_to_spent p (one_at c)) first (omega arith)
+          lowered_as (freed (held_to_spent p (one_at c)) first (omega arith)
           (ap (λ (r : Pending). without_spent (held_to_spent r (one_at c)) (one_at c)) taken
           ∙ pending_same (without_spent (held_to_spent (with_held q (one_at c)) (one_at c)) (one_at c)) q (λ k. omega arith) (λ k. refl) (λ k. omega arith) (λ k. refl) (λ k. refl)))
-      moves_lowered false taken =
+      moves_lowered (Taken false) may taken =
           let fresh : p.fresh c ≡ q.fresh c + one_at c c = ap (λ (r : Pending). r.fresh c) taken in
           let own = one_here c in
           let first = pending_is_changed.abandoned (stand_in view file p) (one_at c) sound.caches.kept.kept.guarded (one_few c) (λ k some. subst (λ n. 0 < p.fresh n) (sym (one_alone c k some)) (omega arith)) in
-          lowered_as false q taken made (freed false q taken made (fresh_to_spent p (one_at c)) first (omega arith)
+          lowered_as (freed (fresh_to_spent p (one_at c)) first (omega arith)
           (ap (λ (r : Pending). without_spent (fresh_to_spent r (one_at c)) (one_at c)) taken
           ∙ pending_same (without_spent (fresh_to_spent (with_fresh q (one_at c)) (one_at c)) (one_at c)) q (λ k. refl) (λ k. omega arith) (λ k. omega arith) (λ k. refl) (λ k. refl)))
+      moves_lowered (Listed Metadata) may listed =
+          let spent : p.spent c ≡ q.spent c + one_at c c = ap (λ (r : Pending). r.spent c) listed in
+          let own = one_here c in
+          let s : Stand = stand_in view file p in
+          lowered_as (subst (λ (r : Pending). Leads s (record s { pending = r; known = now_known }) nothing_given [])
+          (ap (λ (r : Pending). without_spent r (one_at c)) listed ∙ pending_same (without_spent (listed_as Metadata q (one_at c)) (one_at c)) q (λ k. refl) (λ k. refl) (λ k. omega arith) (λ k. refl) (λ k. refl))
+          (count_is_changed.table_freed s now_known c sound.caches.kept.kept.guarded made.change (omega arith)))
+      moves_lowered (Listed Data) may listed =
+          let dropped : p.dropped c ≡ q.dropped c + one_at c c = ap (λ (r : Pending). r.dropped c) listed in
+          let own = one_here c in
+          let s : Stand = stand_in view file p in
+          lowered_as (subst (λ (r : Pending). Leads s (record s { pending = r; known = now_known }) nothing_given [])
+          (ap (λ (r : Pending). without_dropped r (one_at c)) listed ∙ pending_same (without_dropped (listed_as Data q (one_at c)) (one_at c)) q (λ k. refl) (λ k. refl) (λ k. refl) (λ k. omega arith) (λ k. refl))
+          (count_is_changed.data_freed s now_known c sound.caches.kept.kept.guarded may made.change (omega arith)))

@@ -19,3 +19,4 @@ pub mod Settled
 pub mod Causes
 pub mod Beside
 pub mod Named
+pub mod Forgetting

@@ -10,3 +10,4 @@ pub mod Runs
 pub mod FileWrites
 pub mod PlacedBlocks
 pub mod NamedBlocks
+pub mod Freeing

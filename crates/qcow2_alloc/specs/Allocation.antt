@@ -1,5 +1,5 @@
 -- What the allocator's calls take, and what they leave of an image's file.
-use Rattle.std.specs.Prelude.{ℕ, ◌+◌, ◌*◌, ◌<◌, ◌≡◌, ◌≢◌, ◌&&◌, nat_le, nat_lt, Bool, true, false, List, length, Option, Some, None, Result, Ok, Err, IsSome, IsTrue, if◌then◌else◌}
+use Rattle.std.specs.Prelude.{ℕ, ◌+◌, ◌*◌, ◌<◌, ◌≡◌, ◌≢◌, ◌⊎◌, ◌&&◌, nat_le, nat_lt, Bool, true, false, List, length, Option, Some, None, Result, Ok, Err, IsSome, IsTrue, if◌then◌else◌}
 use Rattle.image_access.specs.Moments.{StorageView}
 use Rattle.qcow2_metadata.specs.declared.header.HeaderFields.{HeaderFields}
 use Rattle.qcow2_metadata.specs.Bytes.{Bytes, byte_at}
@@ -9,12 +9,12 @@ use Rattle.qcow2_metadata.specs.RefBlock.{RefBlockView}
 use Rattle.qcow2_metadata.specs.TableBytes.{entry_at}
 use Rattle.qcow2_alloc.specs.TableCaches.{cleared_rb}
 use Rattle.qcow2_metadata.specs.Entries.{reftable_entry, block_offset}
-use Rattle.qcow2_laws.specs.Clusters.{L2DependsOnRb}
+use Rattle.qcow2_laws.specs.Clusters.{L2DependsOnRb, RbDependsOnL2}
 use Rattle.qcow2_laws.specs.Changes.{one_at, with_held, with_fresh}
 use Rattle.qcow2_laws.specs.Guard.{Pending}
 use Rattle.qcow2_alloc.specs.MetadataCaches.{order_of, rb_at}
 use Rattle.qcow2_alloc.specs.ImageError.{IsFault}
-use Rattle.qcow2_alloc.specs.ImageFile.{contents_in, known_in, HasReftable, Moves, LeavesSound}
+use Rattle.qcow2_alloc.specs.ImageFile.{contents_in, known_in, HasReftable, Moves, Breaks, LeavesSound}
 use Rattle.qcow2_alloc.specs.declared.allocation.Allocator.{Allocator}
 use Rattle.qcow2_alloc.specs.declared.clusters_to_free.ClusterKind.{ClusterKind}
 use Rattle.qcow2_alloc.specs.declared.clusters_to_free.ClusterKind.TheVariants.{Data, Metadata}
@@ -34,6 +34,20 @@ is_data Metadata = false
 abbrev pub taken_as : Bool → Pending → (ℕ → ℕ) → Pending
 taken_as true p n = with_held p n
 taken_as false p n = with_fresh p n
+
+-- clusters on the list of those to be freed were data, or tables
+abbrev pub listed_as : ClusterKind → Pending → (ℕ → ℕ) → Pending
+listed_as Data p n = record p { dropped = λ k. p.dropped k + n k }
+listed_as Metadata p n = record p { spent = λ k. p.spent k + n k }
+
+-- why a cluster is counted once less: it was taken in the same call, or it is on that list
+pub data Owed : Type 0 where
+  Taken : Bool → Owed
+  Listed : ClusterKind → Owed
+
+abbrev pub owed_as : Owed → Pending → (ℕ → ℕ) → Pending
+owed_as (Taken is_data) p n = taken_as is_data p n
+owed_as (Listed kind) p n = listed_as kind p n
 
 -- what is pending where a refblock is placed: its cluster was taken for it, or it counts itself
 abbrev pub placing : Bool → Pending → ℕ → Pending
@@ -75,6 +89,15 @@ module _ {S : Type 0} where
   abbrev pub MayTake : Bool → ImageFile S → Type 0
   MayTake true file = order_of file.caches ≡ L2DependsOnRb
   MayTake false file = Unit {0}
+
+  -- former data are freed where L2 tables are written before refblocks
+  abbrev pub MayFree : ClusterKind → ImageFile S → Type 0
+  MayFree Data file = order_of file.caches ≡ RbDependsOnL2
+  MayFree Metadata file = Unit {0}
+
+  abbrev pub MayLower : Owed → ImageFile S → Type 0
+  MayLower (Taken is_data) file = Unit {0}
+  MayLower (Listed kind) file = MayFree kind file
 
   module _ (view : S → StorageView) where
     -- where the refblock of a range stands, which is held; or it has none
@@ -142,16 +165,21 @@ module _ {S : Type 0} where
       Allocates kind n (Ok run) = (run.count ≡ n) × (run.kind ≡ kind) × Becomes (taken_as (is_data kind) p (run_at run.first_cluster n))
       Allocates kind n (Err e) = LeavesSound view p old allocator' new e
 
-      -- one that was taken is given back
+      -- one that is owed is counted once less
       abbrev pub LowersOne : Pending → Result Bool ImageError → Type 0
       LowersOne p' (Ok true) = Becomes p'
       LowersOne p' (Ok false) = ⊥
       LowersOne p' (Err e) = IsFault e × LeavesSound view p old allocator' new e
 
-      -- what was taken is given back
+      -- what is owed is given back
       abbrev pub GivesBack : Pending → Result (Unit {0}) ImageError → Type 0
       GivesBack p' (Ok _) = Becomes p'
       GivesBack p' (Err e) = IsFault e × LeavesSound view p old allocator' new e
+
+      -- Clusters are freed, and so much is pending then. A fault ends it where it is, or breaks off.
+      abbrev pub Frees : Pending → Result (Unit {0}) ImageError → Type 0
+      Frees p' (Ok _) = Becomes p'
+      Frees p' (Err e) = IsFault e × (Becomes p' ⊎ Breaks view old new e)
 
     -- the run that was taken since a start is given back, after a change was noted
     abbrev pub GivesBackRun : Allocator → ImageFile S → Allocator → ImageFile S → ℕ → ℕ → Result (Unit {0}) ImageError → Type 0

@@ -6,7 +6,7 @@ use Rattle.qcow2_metadata.specs.Bytes.{Bytes}
 use Rattle.qcow2_metadata.specs.declared.header.HeaderFields.{HeaderFields}
 use Rattle.qcow2_laws.specs.Guard.{Pending}
 use Rattle.qcow2_alloc.specs.AsyncLruCache.{pinned}
-use Rattle.qcow2_alloc.specs.MetadataCaches.{order_of, l2_at, l2_tables, refblocks, known_of, AreSound}
+use Rattle.qcow2_alloc.specs.MetadataCaches.{order_of, l2_at, l2_tables, refblocks, known_of, AreAllWritten, AreSound}
 use Rattle.qcow2_alloc.specs.ImageError.{IsFault}
 use Rattle.qcow2_alloc.specs.declared.cache.MetadataCaches.{MetadataCaches}
 use Rattle.qcow2_alloc.specs.declared.error.ImageError.{ImageError}
@@ -37,6 +37,17 @@ module _ {S : Type 0} where
     pub l2_at : (cluster : ℕ) → l2_at new cluster ≡ l2_at old cluster
     pub order : order_of new ≡ order_of old
     pub room : HasRoom old → HasRoom new
+
+  -- where no table is modified, one L2 table is no longer held, or none: nothing else changes that is known or pinned
+  pub record Forgets (h : HeaderFields) (p : Pending) (base : Bytes) (old new : MetadataCaches S) : Type 0 where
+    pub sound : AreSound h p new base
+    pub known : known_of h new base ≡ known_of h old base
+    pub refblocks : refblocks new ≡ refblocks old
+    pub written : AreAllWritten new
+    pub pins : (cluster : ℕ) → l2_pins new cluster ≡ l2_pins old cluster
+
+  abbrev pub ForgetsTable : MetadataCaches S → MetadataCaches S → Type 0
+  ForgetsTable old new = (h : HeaderFields) (p : Pending) (base : Bytes) → AreSound h p old base → AreAllWritten old → Forgets h p base old new
 
   -- the L2 table of a cluster has so many pins, and the others have as many as before
   pub record SetsPins (old new : MetadataCaches S) (cluster pins : ℕ) : Type 0 where

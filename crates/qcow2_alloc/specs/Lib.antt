@@ -14,3 +14,4 @@ pub mod MetadataCaches
 pub mod CacheMarks
 pub mod ImageFile
 pub mod Allocation
+pub mod FreeList

@@ -10,7 +10,7 @@ ghost use Rattle.qcow2_alloc.specs.ImageError.{IsOfTables, IsFault};
 ghost use Rattle.qcow2_alloc.specs.ImageStorage.{storage_of};
 ghost use Rattle.qcow2_alloc.specs.TableCaches.{IsTableOf, IsBlockOf};
 ghost use Rattle.qcow2_alloc.specs.MetadataCaches.{order_of, l2_at, rb_at, l2_tables, refblocks, known_of, AreAllWritten, AreSound, KeepSound, PutSound, RefusesBy, PutRefusesBy, RaisesCount, LowersCount, TellsZero, RaisesZero, LowersSome, AreSame, MapsEntry, NotesEntry, ShowsKnown};
-ghost use Rattle.qcow2_alloc.specs.CacheMarks.{l2_pins, HasRoom, KeepsMarks, SameTables, SetsPins, IsInUseOrFault};
+ghost use Rattle.qcow2_alloc.specs.CacheMarks.{l2_pins, HasRoom, KeepsMarks, SameTables, SetsPins, IsInUseOrFault, ForgetsTable};
 
 mod backends;
 
@@ -450,5 +450,17 @@ impl<S: Storage> MetadataCaches<S> {
         }
         self.is_changed = true;
         true
+    }
+
+    /// Drops the L2 table of a cluster unwritten, where one is held without a pin: whether none is held then.
+    pub fn l2_forget(&mut self, cluster: HostCluster) -> bool
+        ensures order { order_of self.new ≡ order_of self.old }
+        ensures changed { self.new.is_changed ≡ self.old.is_changed }
+        ensures room { HasRoom self.old → HasRoom self.new }
+        ensures gone { IsTrue result → IsNone (l2_at self.new cluster) }
+        ensures forgets { ForgetsTable self.old self.new }
+    {
+        self.l2.remove(cluster);
+        self.l2.peek(cluster).is_none()
     }
 }

@@ -1,5 +1,5 @@
 ghost use Rattle.std.specs.Iterator.{YieldsFirst, item_count};
-ghost use Rattle.std.specs.Prelude.{length, ◌==◌, ◌≡◌, ◌++◌, ◌∷◌, [], List, reverse, IfOk, OnOk, OnErr, IsTrue, ◌↔◌};
+ghost use Rattle.std.specs.Prelude.{length, ◌==◌, ◌≡◌, ◌+◌, ◌-◌, ◌^◌, ◌<◌, ◌++◌, ◌∷◌, [], List, reverse, IfOk, IfSome, IsNone, OnOk, OnErr, IsTrue, ◌↔◌};
 
 use qcow2_metadata::{ClusterCount, HostCluster};
 use std::alloc::{AllocError, Global};
@@ -209,11 +209,62 @@ impl Iterator for TakenClusters {
     }
 }
 
+impl TakenClusters {
+    /// The oldest entry, which may go back to any list.
+    pub fn next_pending(&mut self) -> Option<PendingClusters>
+        ensures none { IsNone result → (self.old ≡ []) × (self.new ≡ []) }
+        ensures some { IfSome result (λ p. self.old ≡ p ∷ self.new) }
+    {
+        match std::mem::replace(&mut self.oldest, None) {
+            None => None,
+            Some(mut node) => {
+                let_go(std::mem::replace(&mut self.oldest, node.next.take()));
+                Some(PendingClusters { node })
+            }
+        }
+    }
+
+    /// Puts all entries that are left behind those of a list. It takes no memory.
+    pub fn hand_back(self, list: &mut ClustersToFreeList)
+        ensures { list.new ≡ list.old ++ self }
+    {
+        let mut rest = self;
+        while let Some(pending) = rest.next_pending() {
+            pending.hand_back(list);
+        }
+    }
+}
+
 impl PendingClusters {
     pub fn cluster(&self) -> HostCluster
         ensures { result ≡ self.now.first_cluster }
     {
         self.node.entry.first_cluster
+    }
+
+    pub fn count(&self) -> ClusterCount
+        ensures { result ≡ self.now.count }
+    {
+        self.node.entry.count
+    }
+
+    pub fn kind(&self) -> ClusterKind
+        ensures { result ≡ self.now.kind }
+    {
+        self.node.entry.kind
+    }
+
+    // Takes the first cluster off the run.
+    pub(crate) fn drop_first(&mut self)
+        ensures first { self.old.first_cluster + 1 < 2 ^ 64 → self.new.first_cluster ≡ self.old.first_cluster + 1 }
+        ensures count { self.new.count ≡ self.old.count - 1 }
+        ensures kind { self.new.kind ≡ self.old.kind }
+    {
+        let entry = self.node.entry;
+        self.node.entry.first_cluster = HostCluster::new(
+            entry.first_cluster.value().saturating_add(1),
+        );
+        self.node.entry.count = ClusterCount::new(entry.count.value().saturating_sub(1));
     }
 
     /// The same run from another cluster on.

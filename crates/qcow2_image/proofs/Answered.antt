@@ -26,7 +26,7 @@ use Rattle.qcow2_image.specs.declared.image.Qcow2.{Qcow2}
 use Rattle.qcow2_image.specs.declared.prepared.Prepared.{Prepared}
 use Rattle.qcow2_image.specs.declared.prepared.NewCluster.{NewCluster}
 use Rattle.qcow2_image.specs.Views.{run_of, of_data, of_tables, to_free, held_by, over_all, pending_in, seen, meaning, is_private, begin_of, backing_bytes, HasCluster, IsNewFor, IsPending, IsReadyWith, IsSoundAt}
-use Rattle.qcow2_image.specs.Steps.{following, ListGrows, Keeps}
+use Rattle.qcow2_image.specs.Steps.{following, ListGrows, Keeps, Tidies}
 use Rattle.qcow2_image.proofs.Sound.{free_more, pending_is}
 
 pub same_guest : (a b : Guest) → a.disk ≡ b.disk → a.slots ≡ b.slots → a ≡ b
@@ -61,6 +61,10 @@ pub new_place : (h : HeaderFields) (known base : Bytes) (q : Prepared) (n : NewC
 new_place h known base q n ready o =
     let begins : begin_of h q ≡ n.pending.first_cluster * cluster_size h = let b = ready.begins in omega arith in
     ap (λ b. (b + o % cluster_size h) / cluster_size h) begins ∙ div-mul-add n.pending.first_cluster (cluster_size h) (o % cluster_size h) (mod_below o (cluster_size h) (pow_pos h.cluster_bits))
+
+-- where the list grows
+pub tidies_kept : {S F : Type 0} (view : S → StorageView) (backing : F → BackingView) (old new : Qcow2 S F) (out : List (Option Prepared)) (p p' : Pending) → Keeps view backing p p' old new out → Tidies view backing p p' old new out
+tidies_kept view backing old new out p p' keeps = record { sound = keeps.sound; leads = keeps.leads; since = keeps.since; unseen = keeps.unseen; copied = keeps.copied; below = keeps.below }
 
 module _ {S F : Type 0} (view : S → StorageView) (backing : F → BackingView) (old new : Qcow2 S F) (out : List (Option Prepared)) where
   -- with the clusters that are to be freed since, all that is pending is known
@@ -124,9 +128,9 @@ module _ {S F : Type 0} (view : S → StorageView) (backing : F → BackingView)
       same_slot k (Some (Some q)) at = ap Some (same_meaning k q at (λ n is o in_it. held_bytes o (subst (λ c. 0 < over_all held_by out c) (sym in_it) (holds_own k q at n is))))
 
   module _ (p : Pending) (p' : Pending) (sound : IsSoundAt view backing p old out) (holds : (k : ℕ) → over_all held_by out k ≤ p.held k) (holds_still : (k : ℕ) → over_all held_by out k ≤ p'.held k)
-      (keeps : Keeps view backing p p' old new out) where
+      (tidies : Tidies view backing p p' old new out) where
     same_header : new.file.header.fields ≡ old.file.header.fields
-    same_header = keeps.unseen.header
+    same_header = tidies.unseen.header
 
     -- in a cluster that is held the same bytes stand on the storage
     held_bytes : (o : ℕ) → 0 < over_all held_by out (o / cluster_size old.file.header.fields) → contents_in view new.file o ≡ contents_in view old.file o
@@ -134,13 +138,13 @@ module _ {S F : Type 0} (view : S → StorageView) (backing : F → BackingView)
         let some : 0 < p.held (o / cluster_size old.file.header.fields) = let l = holds (o / cluster_size old.file.header.fields) in omega arith in
         let still : 0 < p'.held (o / cluster_size old.file.header.fields) = let l = holds_still (o / cluster_size old.file.header.fields) in omega arith in
         let before : contents_in view old.file o ≡ known_in view old.file o = sound.file.caches.kept.kept.guarded.unlaid o (omega (arith, some)) in
-        let after : contents_in view new.file o ≡ known_in view new.file o = keeps.sound.file.caches.kept.kept.guarded.unlaid o (subst (λ (h : HeaderFields). 0 < named_in_either h (contents_in view new.file) (known_in view new.file) (o / cluster_size h) + p'.held (o / cluster_size h)) (sym same_header) (omega (arith, still))) in
-        after ∙ keeps.unseen.bytes o (omega (arith, some)) ∙ sym before
+        let after : contents_in view new.file o ≡ known_in view new.file o = tidies.sound.file.caches.kept.kept.guarded.unlaid o (subst (λ (h : HeaderFields). 0 < named_in_either h (contents_in view new.file) (known_in view new.file) (o / cluster_size h) + p'.held (o / cluster_size h)) (sym same_header) (omega (arith, still))) in
+        after ∙ tidies.unseen.bytes o (omega (arith, some)) ∙ sym before
 
     pub still_seen : guest_of (seen view backing new out) ≡ guest_of (seen view backing old out)
     still_seen = same_guest _ _
-        (unseen_disk (stand_in view old.file p) (stand_in view new.file p') sound.file.caches.kept.kept.guarded keeps.sound.file.caches.kept.kept.guarded keeps.unseen (backing_bytes view backing new.backing)
-        ∙ ap (λ (b : Bytes). disk (known_in view old.file) b) keeps.below)
+        (unseen_disk (stand_in view old.file p) (stand_in view new.file p') sound.file.caches.kept.kept.guarded tidies.sound.file.caches.kept.kept.guarded tidies.unseen (backing_bytes view backing new.backing)
+        ∙ ap (λ (b : Bytes). disk (known_in view old.file) b) tidies.below)
         (fun_ext (λ k. same_slot p sound same_header held_bytes k (slice_get out k) refl))
 
   -- ---- a whole call that no guest sees
@@ -154,7 +158,7 @@ module _ {S F : Type 0} (view : S → StorageView) (backing : F → BackingView)
     sound_now = subst (λ (q : Pending). IsSoundAt view backing q new out) pending_now keeps.sound
 
     pub same_now : guest_of (seen view backing new out) ≡ guest_of (seen view backing old out)
-    same_now = still_seen (pending_in view backing old out) (following (pending_in view backing old out) old new) sound (λ k. omega arith) (λ k. omega arith) keeps
+    same_now = still_seen (pending_in view backing old out) (following (pending_in view backing old out) old new) sound (λ k. omega arith) (λ k. omega arith) (tidies_kept view backing old new out _ _ keeps)
 
     pub works_now : Works (seen view backing old out) (seen view backing new out) [] []
     works_now = record {

@@ -32,7 +32,7 @@ use Rattle.qcow2_image.specs.declared.prepared.Prepared.{Prepared}
 use Rattle.qcow2_image.specs.Parts.{IsWritten, WritesBytes}
 use Rattle.qcow2_image.specs.Steps.{AreThere, Keeps, Goes, HoldsAll, IsOwn, SameHeld}
 use Rattle.qcow2_image.specs.Views.{held_by, over_all, backing_bytes, IsSoundAt}
-use Rattle.qcow2_image.proofs.Answered.{same_guest, same_slot, still_seen}
+use Rattle.qcow2_image.proofs.Answered.{same_guest, same_slot, tidies_kept, still_seen}
 use Rattle.qcow2_image.proofs.Called.{copied_then}
 use Rattle.qcow2_image.proofs.Loading.{still_moved}
 use Rattle.qcow2_image.proofs.Written.{written, writes, sound_written, since_written, same_l1_written}
@@ -48,7 +48,7 @@ module _ {S F : Type 0} (view : S → StorageView) (backing : F → BackingView)
     copied = keeps.copied;
     below = keeps.below;
     list = keeps.list;
-    seen = still_seen view backing a b out p p' sound holds still keeps;
+    seen = still_seen view backing a b out p p' sound holds still (tidies_kept view backing a b out p p' keeps);
   }
 
   pub goes_none : (a : Qcow2 S F) (p : Pending) → IsSoundAt view backing p a out → Goes view backing p p a a out

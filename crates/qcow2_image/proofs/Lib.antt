@@ -28,6 +28,7 @@ pub mod Naming
 pub mod Entering
 pub mod Owning
 pub mod Preparing
+pub mod Refused
 pub mod PrepareCalls
 pub mod Reftables
 pub mod Opening
@@ -35,3 +36,4 @@ pub mod Clearing
 pub mod Writable
 pub mod PreparedAs
 pub mod Storing
+pub mod Tidying

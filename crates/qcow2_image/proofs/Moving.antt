@@ -14,13 +14,13 @@ use Rattle.qcow2_alloc.specs.declared.image_file.ImageFile.{ImageFile}
 use Rattle.qcow2_alloc.specs.ImageFile.{contents_in, known_in, Moves, HasReftable}
 use Rattle.qcow2_image.specs.declared.image.Qcow2.{Qcow2}
 use Rattle.qcow2_image.specs.declared.prepared.Prepared.{Prepared}
-use Rattle.qcow2_image.specs.Steps.{Keeps}
+use Rattle.qcow2_image.specs.Steps.{Keeps, Tidies}
 use Rattle.qcow2_image.specs.Views.{cluster_of, HasL1Table, IsReadyWith, IsSoundAt}
 use Rattle.qcow2_image.proofs.Ready.{still_ready}
 
 module _ {S F : Type 0} (view : S → StorageView) (backing : F → BackingView) (old : Qcow2 S F) (out : List (Option Prepared)) (p p' : Pending) (sound : IsSoundAt view backing p old out)
     (file : ImageFile S) (allocator : Option Allocator) (moves : Moves view p p' old.file file) (reftable : IfSome allocator (λ a. HasReftable view file a.reftable))
-    (pins : (table : ℕ) → l2_pins file.caches table ≡ l2_pins old.file.caches table) (list : file.free_list ≡ old.file.free_list) where
+    (pins : (table : ℕ) → l2_pins file.caches table ≡ l2_pins old.file.caches table) where
   abbrev h : HeaderFields
   h = old.file.header.fields
 
@@ -41,8 +41,8 @@ module _ {S F : Type 0} (view : S → StorageView) (backing : F → BackingView)
       (still_ready h (known_in view old.file) (contents_in view old.file) (known_in view file) (contents_in view file) q (moves.unseen.covers (cluster_of h q)) sound.file.caches.kept.kept.guarded.same_top.l1
       (λ i. subst (λ x. l1_entry x (contents_in view file) i ≡ l1_entry x (known_in view file) i) header (moves.sound.caches.kept.kept.guarded.same_top.l1 i)) (λ i copied. moves.l1_table i) q.table ready)
 
-  pub file_moved : Keeps view backing p p' old (record old { file = file; allocator = allocator }) out
-  file_moved = record {
+  pub file_tidied : Tidies view backing p p' old (record old { file = file; allocator = allocator }) out
+  file_tidied = record {
     sound = record {
       works = sound.works;
       file = moves.sound;
@@ -58,5 +58,15 @@ module _ {S F : Type 0} (view : S → StorageView) (backing : F → BackingView)
     unseen = moves.unseen;
     copied = λ i copied. moves.l1_table i;
     below = refl;
+  }
+
+  pub file_moved : file.free_list ≡ old.file.free_list → Keeps view backing p p' old (record old { file = file; allocator = allocator }) out
+  file_moved list = record {
+    sound = file_tidied.sound;
+    leads = file_tidied.leads;
+    since = file_tidied.since;
+    unseen = file_tidied.unseen;
+    copied = file_tidied.copied;
+    below = file_tidied.below;
     list = record { more = []; is = list ∙ sym (append-nil old.file.free_list) };
   }

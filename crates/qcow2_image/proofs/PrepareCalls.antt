@@ -27,13 +27,8 @@ use Rattle.qcow2_image.proofs.Answered.{same_setting}
 use Rattle.qcow2_image.proofs.Preparing.{readied_existing}
 use Rattle.qcow2_image.proofs.Settled.{is_fault, outcome, settled_does, settled_refuses}
 use Rattle.qcow2_image.proofs.Sound.{free_more}
+use Rattle.qcow2_image.proofs.Refused.{IsLeft, refuses_left}
 use Rattle.qcow2_image.proofs.Stepped.{Steps, stepped_sound, stepped_works}
-
--- a fault, or want of memory that was noted, marks the image
-marks_fault : (e : ImageError) (before marked noted : Bool) → FaultOfTables e → (e ≡ I.Memory → IsTrue noted) → failed_after e before marked → (e ≡ I.Memory → IsTrue noted → IsTrue marked) → IsTrue marked × IsFault (refusal_of e)
-marks_fault e before marked noted fault is marks memory = ⊎_elim
-    (λ (failed : e ≡ I.Storage). (subst (λ (x : ImageError). failed_after x before marked) failed marks, subst (λ (x : ImageError). IsFault (refusal_of x)) (sym failed) tt))
-    (λ (want : e ≡ I.Memory). (memory want (is want), subst (λ (x : ImageError). IsFault (refusal_of x)) (sym want) tt)) fault
 
 module _ {S F : Type 0} (view : S → StorageView) (backing : F → BackingView) (old : Qcow2 S F) (usable : is_failed old ≡ false) where
   -- of nothing an existing mapping is made
@@ -48,58 +43,29 @@ module _ {S F : Type 0} (view : S → StorageView) (backing : F → BackingView)
 
     module _ (out : List (Option Prepared)) (e : ImageError) (marks : failed_after e (is_failed new) marked) where
       -- it is as before, but for what is to be freed
-      goes_steps : Goes view backing (pending_in view backing old out) (following (pending_in view backing old out) old new) old new out → Steps view backing old new out out nothing_given (following (pending_in view backing old out) old new)
-      goes_steps goes = record {
-        sound = goes.sound;
-        only = record {
-          held = λ k. refl;
-          fresh = λ k. refl;
-          spent = λ k. let x = ap (λ l. to_free of_tables l k) goes.list.is ∙ free_more of_tables old.file.free_list goes.list.more k in omega arith;
-          dropped = λ k. let x = ap (λ l. to_free of_data l k) goes.list.is ∙ free_more of_data old.file.free_list goes.list.more k in omega arith;
+      goes_left : Goes view backing (pending_in view backing old out) (following (pending_in view backing old out) old new) old new out → IsLeft view backing old new out
+      goes_left goes = record {
+        pending = following (pending_in view backing old out) old new;
+        steps = record {
+          sound = goes.sound;
+          only = record {
+            held = λ k. refl;
+            fresh = λ k. refl;
+            spent = λ k. let x = ap (λ l. to_free of_tables l k) goes.list.is ∙ free_more of_tables old.file.free_list goes.list.more k in omega arith;
+            dropped = λ k. let x = ap (λ l. to_free of_data l k) goes.list.is ∙ free_more of_data old.file.free_list goes.list.more k in omega arith;
+          };
+          leads = goes.leads;
+          since = goes.since;
+          header = goes.header;
+          below = goes.below;
+          surplus = refl;
         };
-        leads = goes.leads;
-        since = goes.since;
-        header = goes.header;
-        below = goes.below;
-        surplus = refl;
+        same = goes.seen;
       }
 
-      refuses_going : Goes view backing (pending_in view backing old out) (following (pending_in view backing old out) old new) old new out
+      refuses_back : (e ≡ I.Memory → IsTrue new.file.caches.is_changed → IsTrue marked) → (IsSoundAt view backing (pending_in view backing old out) old out → GoesBack view backing (pending_in view backing old out) old new out e)
           → Refuses (seen view backing old out) (seen view backing failed_now out) [] [] (refusal_of e) (IsSame (seen view backing old out) (seen view backing failed_now out))
-      refuses_going goes =
-          let steps = goes_steps goes in
-          settled_refuses view backing old new out out [] (λ sound. stepped_works view backing old new out out nothing_given (following (pending_in view backing old out) old new) steps)
-          (λ sound. stepped_sound view backing old new out out nothing_given (following (pending_in view backing old out) old new) steps) number usable marked e marks (λ sound. inl goes.seen)
-
-      -- or it broke off
-      broken_works : Broke view backing old new e → IsTrue marked → Works (seen view backing old out) (seen view backing failed_now out) [] []
-      broken_works broke failed = record {
-        setting = same_setting _ _ (ap (λ (h : HeaderFields). cluster_size h) broke.header) broke.below;
-        surplus = λ now. absurd (let f : true ≡ false = sym failed ∙ now.works in cc);
-        stops = λ m starts. record {
-          moments = passes_if (λ c. IsKeptAt (backing_bytes view backing old.backing) (more [] [] m) (byte_at c)) (λ c kept. kept (backing_bytes view backing old.backing) m starts.0 starts.1) broke.breaks.since.moments;
-          contents = broke.breaks.since.contents (backing_bytes view backing old.backing) m starts.0 starts.1;
-          known = λ now. absurd (let f : true ≡ false = sym failed ∙ now.works in cc);
-        };
-      }
-
-      module _ (memory : e ≡ I.Memory → IsTrue new.file.caches.is_changed → IsTrue marked) where
-        back_works : GoesBack view backing (pending_in view backing old out) old new out e → IsSoundAt view backing (pending_in view backing old out) old out → Works (seen view backing old out) (seen view backing failed_now out) [] []
-        back_works (inl goes) sound = (refuses_going goes).acts.works sound
-        back_works (inr broke) sound = broken_works broke (marks_fault e (is_failed new) marked new.file.caches.is_changed broke.breaks.fault broke.breaks.noted marks memory).0
-
-        back_answer : GoesBack view backing (pending_in view backing old out) old new out e → IsSoundAt view backing (pending_in view backing old out) old out
-            → ((seen view backing failed_now out).is_sound × IsSame (seen view backing old out) (seen view backing failed_now out)) ⊎ (IsFault (refusal_of e) × IsTrue marked)
-        back_answer (inl goes) sound = (refuses_going goes).answer sound
-        back_answer (inr broke) sound = let is = marks_fault e (is_failed new) marked new.file.caches.is_changed broke.breaks.fault broke.breaks.noted marks memory in inr (is.1, is.0)
-
-        refuses_back : (IsSoundAt view backing (pending_in view backing old out) old out → GoesBack view backing (pending_in view backing old out) old new out e)
-            → Refuses (seen view backing old out) (seen view backing failed_now out) [] [] (refusal_of e) (IsSame (seen view backing old out) (seen view backing failed_now out))
-        refuses_back back = record {
-          acts = record { number = number; works = λ sound. back_works (back sound) sound; rests = λ failed. absurd (let f : true ≡ false = sym failed ∙ usable in cc) };
-          answer = λ sound. back_answer (back sound) sound;
-          fault = is_fault e (is_failed new) marked (outcome e (is_failed new) marked marks);
-        }
+      refuses_back memory back = refuses_left view backing old usable new marked number out e marks memory (λ sound. elim (back sound) [ inl goes ↦ inl (goes_left goes) | inr broke ↦ inr broke ])
 
     pub prepares_settled : (offset n : ℕ) (overwrite : Bool) (r : Result Prepared ImageError) → Marks r (is_failed new) marked → IfErr r (λ e. e ≡ I.Memory → IsTrue new.file.caches.is_changed → IsTrue marked)
         → ((out : List (Option Prepared)) → IsSoundAt view backing (pending_in view backing old out) old out → Readies view backing old new out offset n overwrite r) → Prepares view backing old failed_now offset n overwrite r

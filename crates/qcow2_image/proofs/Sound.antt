@@ -11,18 +11,13 @@ use Rattle.qcow2_laws.specs.Leads.{Stand, IsSound}
 use Rattle.qcow2_laws.proofs.Guests.{named-is}
 use Rattle.qcow2_laws.proofs.Places.{Sizes-from}
 use Rattle.qcow2_laws.proofs.Tops.{for_tables-top, IsTop-top}
-use Rattle.qcow2_alloc.specs.declared.clusters_to_free.ClusterKind.{ClusterKind}
-use Rattle.qcow2_alloc.specs.declared.clusters_to_free.ClustersToFreeEntry.{ClustersToFreeEntry}
 use Rattle.qcow2_image.specs.declared.image.Qcow2.{Qcow2}
 use Rattle.qcow2_image.specs.declared.prepared.Prepared.{Prepared}
 use Rattle.qcow2_image.specs.Views.{of_data, of_tables, to_free, held_by, over_all, pending_in}
 use Rattle.qcow2_alloc.specs.ImageFile.{stand_in}
+pub use Rattle.qcow2_alloc.proofs.Freeing.{free_more}
 
 -- ---- what is pending
-
-pub free_more : (kind : ClusterKind → ℕ → ℕ) (es fs : List ClustersToFreeEntry) (k : ℕ) → to_free kind (es ++ fs) k ≡ to_free kind es k + to_free kind fs k
-free_more kind [] fs k = sym (omega arith)
-free_more kind (e ∷ es) fs k = let rest = free_more kind es fs k in omega arith
 
 -- what is counted more than named and pending is the surplus
 pub surplus_is : (s : Stand) → IsSound s → (k : ℕ)

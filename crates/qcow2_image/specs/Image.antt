@@ -1,5 +1,5 @@
 -- What a contract sees of an open image.
-use Rattle.std.specs.Prelude.{◌≡◌, ℕ, Bool, is_some}
+use Rattle.std.specs.Prelude.{◌≡◌, ℕ, Bool, [], is_some}
 use Rattle.qcow2_metadata.specs.Header.{has_data_file}
 use Rattle.qcow2_alloc.specs.ImageStorage.{storage_of}
 use Rattle.qcow2_image.specs.declared.image.Qcow2.{Qcow2}
@@ -28,6 +28,10 @@ module _ {S F : Type 0} where
   -- its data stand in another file
   abbrev pub is_external : Qcow2 S F → Bool
   is_external image = has_data_file image.file.header.fields
+
+  -- no cluster is left to be freed
+  abbrev pub HasNothingToFree : Qcow2 S F → Type 0
+  HasNothingToFree image = image.file.free_list ≡ []
 
   -- it is the same image, with a disk of the same size
   pub record IsSameImage (old new : Qcow2 S F) : Type 0 where

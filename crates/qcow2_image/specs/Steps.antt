@@ -15,6 +15,7 @@ use Rattle.qcow2_image.specs.Found.{l1_index_of, l2_index_of}
 use Rattle.qcow2_image.specs.declared.image.Qcow2.{Qcow2}
 use Rattle.qcow2_image.specs.declared.prepared.Prepared.{Prepared}
 use Rattle.qcow2_alloc.specs.CacheMarks.{l2_pins, KeepsMarks, SameTables}
+use Rattle.qcow2_alloc.specs.FreeList.{with_listed}
 use Rattle.qcow2_alloc.specs.MetadataCaches.{order_of, l2_at, IsEntryAt, MapsEntry}
 use Rattle.qcow2_image.specs.declared.prepared.NewCluster.{NewCluster}
 use Rattle.qcow2_laws.specs.Guard.{SameCovers}
@@ -97,6 +98,15 @@ module _ {S F : Type 0} where
       pub below : backing_bytes view backing new.backing ≡ backing_bytes view backing old.backing
       pub list : ListGrows old new
 
+    -- The same, whatever becomes of the list of clusters that are to be freed.
+    pub record Tidies (p p' : Pending) (old new : Qcow2 S F) (out : List (Option Prepared)) : Type 0 where
+      pub sound : IsSoundAt view backing p' new out
+      pub leads : Leads (stand_in view old.file p) (stand_in view new.file p') nothing_given []
+      pub since : Endures (view_in view old.file) (view_in view new.file) (known_in view old.file) nothing_given []
+      pub unseen : IsUnseen (stand_in view old.file p) (stand_in view new.file p')
+      pub copied : KeepsCopied (stand_in view old.file p) (stand_in view new.file p')
+      pub below : backing_bytes view backing new.backing ≡ backing_bytes view backing old.backing
+
     -- a part of a call that was refused: all is sound as before but for what is to be freed; or it broke off
     abbrev pub Leaves : Pending → Qcow2 S F → Qcow2 S F → List (Option Prepared) → ImageError → Type 0
     Leaves p old new out e = Keeps p (following p old new) old new out ⊎ Breaks view old.file new.file e
@@ -129,6 +139,11 @@ module _ {S F : Type 0} where
       pub breaks : Breaks view old.file new.file e
       pub header : new.file.header.fields ≡ old.file.header.fields
       pub below : backing_bytes view backing new.backing ≡ backing_bytes view backing old.backing
+
+    -- Clusters that are listed are freed. What is listed afterwards is pending still; or it broke off.
+    abbrev pub FreesListed : Pending → Qcow2 S F → Qcow2 S F → List (Option Prepared) → Result (Unit {0}) ImageError → Type 0
+    FreesListed p old new out (Ok _) = Tidies (with_listed p old.file.free_list) (with_listed p new.file.free_list) old new out
+    FreesListed p old new out (Err e) = Tidies (with_listed p old.file.free_list) (with_listed p new.file.free_list) old new out ⊎ Broke old new e
 
     -- so does a part that was refused, but for what is to be freed; or it broke off
     abbrev pub GoesBack : Pending → Qcow2 S F → Qcow2 S F → List (Option Prepared) → ImageError → Type 0

@@ -17,11 +17,9 @@ use Rattle.qcow2_laws.specs.Disk.{Disk, disk}
 use Rattle.qcow2_laws.specs.Guard.{Pending}
 use Rattle.qcow2_laws.specs.Mappings.{PreparedMapping}
 use Rattle.qcow2_laws.specs.Views.{Spec, View, view as view_of}
-use Rattle.qcow2_alloc.specs.declared.clusters_to_free.ClusterKind.{ClusterKind}
 use Rattle.qcow2_alloc.specs.declared.clusters_to_free.ClusterKind.TheVariants as Kind
-use Rattle.qcow2_alloc.specs.declared.clusters_to_free.ClustersToFreeEntry.{ClustersToFreeEntry}
 use Rattle.qcow2_alloc.specs.declared.image_file.ImageFile.{ImageFile}
-use Rattle.qcow2_alloc.specs.Allocation.{run_at}
+pub use Rattle.qcow2_alloc.specs.FreeList.{run_of, of_data, of_tables, to_free}
 use Rattle.qcow2_alloc.specs.MetadataCaches.{IsEntryAt}
 use Rattle.qcow2_alloc.specs.ImageFile.{l2_pins, view_in, contents_in, known_in, IsSoundFile, HasReftable}
 use Rattle.qcow2_image.specs.declared.image.Qcow2.{Qcow2}
@@ -31,10 +29,6 @@ use Rattle.qcow2_image.specs.Image.{number_of, is_failed}
 use Rattle.qcow2_image.specs.Prepared.{image_of}
 
 -- ---- what is pending
-
--- 1 for each cluster of a run
-abbrev pub run_of : ClustersToFreeEntry → ℕ → ℕ
-run_of e k = run_at e.first_cluster e.count k
 
 -- 1 for the cluster that is named
 abbrev pub pins_of : Option ℕ → ℕ → ℕ
@@ -51,19 +45,6 @@ pins_by p table = pins_of p.table table
 abbrev pub over_all : (Prepared → ℕ → ℕ) → List (Option Prepared) → ℕ → ℕ
 over_all f [] k = 0
 over_all f (p ∷ out) k = option_map_or (λ q. f q k) p 0 + over_all f out k
-
--- how often clusters are to be freed, as data or as tables
-abbrev pub of_data : ClusterKind → ℕ → ℕ
-of_data Kind.Data n = n
-of_data Kind.Metadata n = 0
-
-abbrev pub of_tables : ClusterKind → ℕ → ℕ
-of_tables Kind.Data n = 0
-of_tables Kind.Metadata n = n
-
-abbrev pub to_free : (ClusterKind → ℕ → ℕ) → List ClustersToFreeEntry → ℕ → ℕ
-to_free kind [] k = 0
-to_free kind (e ∷ es) k = kind e.kind (run_of e k) + to_free kind es k
 
 -- ---- prepared mappings over the bytes of an image: those on the storage, and those known
 

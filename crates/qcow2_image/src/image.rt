@@ -35,11 +35,11 @@ struct Tables {
 
 #[tactic(auto, using(crate::proofs::MetErrors::tables_met, crate::proofs::MetErrors::storage_met, crate::proofs::MetErrors::metadata_met))]
 impl<S: Storage, F: WrappedFormat<S>> Qcow2<S, F> {
-    ghost use Rattle.std.specs.Prelude.{◌≡◌, IfOk, IfErr, IsTrue, MatchOption, Ok, Err, Some, None, false, nat_le, option_map, if◌then◌else◌};
+    ghost use Rattle.std.specs.Prelude.{◌≡◌, IfOk, IfErr, OnOk, IsTrue, MatchOption, Ok, Err, Some, None, false, nat_le, option_map, if◌then◌else◌};
     ghost use Rattle.std.specs.String.{string_bytes};
     ghost use Rattle.qcow2_metadata.specs.Header.{cluster_size};
     ghost use Rattle.qcow2_alloc.specs.declared.error.ImageError.TheVariants.{Failed, Memory};
-    ghost use Rattle.qcow2_image.specs.Image.{storage_of_image, Stays, IsSameImage, is_failed, is_writable, is_external, number_of, size_of};
+    ghost use Rattle.qcow2_image.specs.Image.{storage_of_image, HasNothingToFree, Stays, KeepsRest, IsSameImage, is_failed, is_writable, is_external, number_of, size_of};
     ghost use Rattle.std.specs.Prelude.{List, Option};
     ghost use Rattle.qcow2_laws.specs.Views.{guest_of};
     ghost use Rattle.qcow2_image.specs.declared.prepared.Prepared.{Prepared};
@@ -47,7 +47,8 @@ impl<S: Storage, F: WrappedFormat<S>> Qcow2<S, F> {
     ghost use Rattle.qcow2_image.specs.Views.{seen, IsSoundAt};
     ghost use Rattle.qcow2_image.specs.Calls.{Flushes};
     ghost use Rattle.qcow2_alloc.specs.ImageFile.{contents_in, known_in};
-    ghost use Rattle.qcow2_image.specs.Steps.{Keeps};
+    ghost use Rattle.qcow2_image.specs.Steps.{Keeps, FreesListed};
+    ghost use Rattle.qcow2_alloc.specs.FreeList.{with_listed};
     ghost use Rattle.qcow2_image.specs.Refusals.{unusable, IsMet, Marks, failed_after};
     ghost use Rattle.image_access.specs.Moments.{Keeps as ContentsStay};
     ghost use Rattle.qcow2_alloc.specs.ImageFile.{view_in, HasReftable};
@@ -252,13 +253,14 @@ impl<S: Storage, F: WrappedFormat<S>> Qcow2<S, F> {
         }
     }
 
-    /// Writes what is cached, and hands all on to the device.
+    /// Frees the clusters that are to be freed, writes what is cached, and hands all on to the device.
     pub fn flush(&mut self) -> Result<(), ImageError>
         ensures early { IsTrue (is_failed self.old) → (result ≡ Err Failed) × (self.new ≡ self.old) }
         ensures late { is_failed self.old ≡ false → IfErr result IsMet }
         ensures marks { Marks result (is_failed self.old) (is_failed self.new) }
         ensures image { IsSameImage self.old self.new }
         ensures sees { Flushes S.view F.backing self.old self.new result }
+        ensures emptied { IsTrue (is_writable self.old) → OnOk result (HasNothingToFree self.new) }
     {
         if self.is_failed {
             return Err(ImageError::Failed);
@@ -271,13 +273,28 @@ impl<S: Storage, F: WrappedFormat<S>> Qcow2<S, F> {
     fn write_back(&mut self) -> Result<(), ImageError>
         ensures stays { Stays self.old self.new }
         ensures cause { IfErr result IsMet }
-        ensures list { self.new.file.free_list ≡ self.old.file.free_list }
-        ensures keeps { (p : Pending) (out : List (Option Prepared)) → IsSoundAt S.view F.backing p self.old out → Keeps S.view F.backing p p self.old self.new out }
+        ensures emptied { IsTrue (is_writable self.old) → OnOk result (HasNothingToFree self.new) }
+        ensures frees { (p : Pending) (out : List (Option Prepared)) → IsSoundAt S.view F.backing (with_listed p self.old.file.free_list) self.old out → FreesListed S.view F.backing p self.old self.new out result }
         ensures written { IfOk result (λ done. known_in S.view self.new.file ≡ contents_in S.view self.new.file) }
     {
+        self.free_listed()?;
         self.file.caches.flush_all(&mut self.file.storage)?;
         self.file.storage.flush()?;
         Ok(())
+    }
+
+    // Frees the clusters that are to be freed. Refused, those not freed yet are to be freed still.
+    pub(crate) fn free_listed(&mut self) -> Result<(), ImageError>
+        ensures stays { Stays self.old self.new }
+        ensures keeps_rest { KeepsRest self.old self.new }
+        ensures cause { IfErr result IsMet }
+        ensures emptied { IsTrue (is_writable self.old) → OnOk result (HasNothingToFree self.new) }
+        ensures frees { (p : Pending) (out : List (Option Prepared)) → IsSoundAt S.view F.backing (with_listed p self.old.file.free_list) self.old out → FreesListed S.view F.backing p self.old self.new out result }
+    {
+        let Some(allocator) = &mut self.allocator else {
+            return Ok(());
+        };
+        allocator.free(&mut self.file)
     }
 
     // From here on it is noted anew whether anything changes.

@@ -31,13 +31,17 @@ pub clean_as : {V : Type 0} (bits bits' : ℕ) (bytes : V → List ℕ) (is_modi
 clean_as bits bits' bytes is_modified [] all = tt
 clean_as bits bits' bytes is_modified (e ∷ es) all = (all.0, clean_as bits bits' bytes is_modified es all.1)
 
+module _ {V : Type 0} (bits : ℕ) (bytes : V → List ℕ) (is_modified : V → Bool) where
+  abbrev AllClean : List (ℕ × Slot V) → Type 0
+  AllClean es = AreClean (cached_tables bits bytes is_modified es)
+
+  pub clean_removed : (test : ℕ → Bool) (es : List (ℕ × Slot V)) → AllClean es → AllClean (remove_entry test es)
+  clean_removed test [] all = tt
+  clean_removed test (e ∷ es) all = elim (test e.0) as (λ b. AllClean (cond b es (e ∷ remove_entry test es))) [ true ↦ all.1 | false ↦ (all.0, clean_removed test es all.1) ]
+
 module _ {S V E : Type 0} (steps : Steps S ℕ V E) (bits : ℕ) (bytes : V → List ℕ) (is_modified : V → Bool) where
   abbrev Clean : List (ℕ × Slot V) → Type 0
   Clean es = AreClean (cached_tables bits bytes is_modified es)
-
-  clean_removed : (test : ℕ → Bool) (es : List (ℕ × Slot V)) → Clean es → Clean (remove_entry test es)
-  clean_removed test [] all = tt
-  clean_removed test (e ∷ es) all = elim (test e.0) as (λ b. Clean (cond b es (e ∷ remove_entry test es))) [ true ↦ all.1 | false ↦ (all.0, clean_removed test es all.1) ]
 
   clean_found : (test : ℕ → Bool) (es : List (ℕ × Slot V)) (e : ℕ × Slot V) → lookup_entry test es ≡ Some e → Clean es → is_modified e.1.value ≡ false
   clean_found test [] e found all = cc
@@ -50,7 +54,7 @@ module _ {S V E : Type 0} (steps : Steps S ℕ V E) (bits : ℕ) (bytes : V → 
     room_clean : (gs : List (ℕ × Slot V)) → HasRoom steps eqb size may_flush s es t gs → Clean gs
     room_clean gs room = elim room [
       | inl there ↦ subst Clean (sym there.2) all
-      | inr evicts ↦ subst Clean (sym evicts.rest) (clean_removed (eqb evicts.entry.0) es all)
+      | inr evicts ↦ subst Clean (sym evicts.rest) (clean_removed bits bytes is_modified (eqb evicts.entry.0) es all)
     ]
 
     new_clean : (answer : Result Bool (CacheError ℕ E)) → InsertsNew steps eqb size may_flush key v s es answer t fs left → Clean fs
@@ -63,9 +67,9 @@ module _ {S V E : Type 0} (steps : Steps S ℕ V E) (bits : ℕ) (bytes : V → 
 
     place_clean : (answer : Result Bool (CacheError ℕ E)) (e : ℕ × Slot V) → lookup_entry (eqb key) es ≡ Some e
         → Replaces steps key e (remove_entry (eqb key) es) v may_flush s es answer t fs left → Clean fs
-    place_clean (Ok true) e found h = subst Clean (sym h.2) (clean, clean_removed (eqb key) es all)
+    place_clean (Ok true) e found h = subst Clean (sym h.2) (clean, clean_removed bits bytes is_modified (eqb key) es all)
     place_clean (Ok false) e found h = subst Clean (sym h.2) all
-    place_clean (Err (Backend x)) e found h = subst Clean (sym h.2) (clean_found (eqb key) es e found all, clean_removed (eqb key) es all)
+    place_clean (Err (Backend x)) e found h = subst Clean (sym h.2) (clean_found (eqb key) es e found all, clean_removed bits bytes is_modified (eqb key) es all)
     place_clean (Err Memory) e found h = absurd h
     place_clean (Err InUse) e found h = absurd h
     place_clean (Err (StillInUse keys)) e found h = absurd h

@@ -3,7 +3,7 @@ ghost use Rattle.std.specs.Prelude.{◌≡◌};
 ghost use Rattle.qcow2_image.specs.Image.{number_of};
 ghost use Rattle.qcow2_image.specs.Prepared.{image_of};
 
-use super::{copied, fresh, opened, refusal};
+use super::{copied, fresh, number_at, opened, refusal};
 use crate::session::{let_go, read};
 use image_access::Storage;
 use qcow2_image::{CommitRefused, ImageError, MappingKind, Prepared, Qcow2};
@@ -50,6 +50,30 @@ fn a_prepared_range_ends_with_its_cluster(rt: HostRuntime) -> Result<(), Fail> {
         prepared_and_let_go(alloc, fresh(alloc)?, true, 100, 100)?,
         (2660, 412, false, true)
     );
+    Ok(())
+}
+
+// Where a range lies that is prepared, discarded and flushed.
+fn prepare_and_flush<S: Storage>(image: &mut Qcow2<S>, offset: u64) -> Result<u64, ImageError> {
+    let (at, _length, _existing, _own) = prepare_and_let_go(image, offset, 512)?;
+    image.flush()?;
+    Ok(at)
+}
+
+// The same for two ranges, and the storage afterwards.
+fn prepare_two<S: Storage>(alloc: Global, storage: S) -> Result<(u64, u64, S), ImageError> {
+    let mut image = opened(alloc, storage, true)?;
+    let first = prepare_and_flush(&mut image, 0)?;
+    let second = prepare_and_flush(&mut image, 512)?;
+    Ok((first, second, image.into_storage()))
+}
+
+#[test]
+fn a_discarded_cluster_is_free_after_a_flush(rt: HostRuntime) -> Result<(), Fail> {
+    let alloc = rt.alloc();
+    let (first, second, mut storage) = prepare_two(alloc, fresh(alloc)?)?;
+    assert_eq!(rt; [first, second], [2560, 2560]);
+    assert_eq!(rt; number_at(&mut storage, 1032)?, 0x0001_0000_0000_0000);
     Ok(())
 }
 

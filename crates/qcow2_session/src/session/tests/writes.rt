@@ -174,3 +174,92 @@ fn refblocks_are_made_on_the_way(rt: HostRuntime) -> Result<(), Fail> {
     assert_eq!(rt; mapped(alloc, storage, 30208, 512)?, (raw(33280), 512));
     Ok(())
 }
+
+// Writes the first 59 clusters, one by one, and flushes: with counts of 64 bits the first refblock is full then.
+fn full_refblock<S: Storage>(alloc: Global, storage: S) -> Result<S, ImageError> {
+    let mut image = opened(alloc, storage, true)?;
+    for cluster in 0..59u64 {
+        write_all(&mut image, cluster * 512, &[0x44; 512])?;
+    }
+    image.flush()?;
+    Ok(image.into_storage())
+}
+
+// Then the next cluster is written; what was written for it.
+fn behind_a_full_refblock(alloc: Global) -> Result<TraceStorage, Fail> {
+    let storage = full_refblock(alloc, created(alloc, 65536, 64)?)?;
+    Ok(written(alloc, copied(alloc, &storage)?, 30208, &[0x55; 512])?)
+}
+
+#[test]
+fn a_refblock_is_named_before_its_clusters_are_used(rt: HostRuntime) -> Result<(), Fail> {
+    let alloc = rt.alloc();
+    let storage = behind_a_full_refblock(alloc)?;
+    assert_eq!(rt;
+        storage.writes(alloc)?.as_slice(),
+        [32768, 520, 33280, 32768, 2048].as_slice()
+    );
+    for stop in 0..5usize {
+        assert_eq!(rt;
+            guest_bytes(alloc, stopped(alloc, &storage, stop)?, 30208, 1)?.as_slice(),
+            [0].as_slice()
+        );
+    }
+    assert_eq!(rt;
+        guest_bytes(alloc, copied(alloc, &storage)?, 30208, 1)?.as_slice(),
+        [0x55].as_slice()
+    );
+    Ok(())
+}
+
+#[test]
+fn a_new_refblock_counts_itself_first(rt: HostRuntime) -> Result<(), Fail> {
+    let alloc = rt.alloc();
+    let storage = behind_a_full_refblock(alloc)?;
+    assert_eq!(rt;
+        numbers(&mut stopped(alloc, &storage, 2)?, [520, 32768, 32776, 2520])?,
+        [32768, 1, 0, 0]
+    );
+    assert_eq!(rt;
+        numbers(&mut stopped(alloc, &storage, 4)?, [520, 32768, 32776, 2520])?,
+        [32768, 1, 1, 0]
+    );
+    Ok(())
+}
+
+// Writes a cluster that the first L2 table covers, and one that the second does, and flushes after each.
+fn two_tables<S: Storage>(alloc: Global, storage: S) -> Result<S, ImageError> {
+    let mut image = opened(alloc, storage, true)?;
+    write_all(&mut image, 512, &[0x22; 512])?;
+    image.flush()?;
+    write_all(&mut image, 32768, &[0x33; 512])?;
+    image.flush()?;
+    Ok(image.into_storage())
+}
+
+#[test]
+fn a_former_tables_cluster_takes_a_new_table(rt: HostRuntime) -> Result<(), Fail> {
+    let alloc = rt.alloc();
+    let mut storage = written(alloc, fresh(alloc)?, 0, &[0x11; 512])?;
+    // The L1 entry isn't marked copied any more: its table is replaced.
+    storage.write(1536, &[0])?;
+    let mut storage = two_tables(alloc, storage)?;
+    assert_eq!(rt;
+        numbers(&mut storage, [1536, 1544, 1032, 1040])?,
+        [
+            0x8000_0000_0000_0c00,
+            0x8000_0000_0000_0800,
+            0x0001_0001_0001_0001,
+            0x0001_0000_0000_0000
+        ]
+    );
+    assert_eq!(rt;
+        guest_bytes(alloc, copied(alloc, &storage)?, 32768, 1)?.as_slice(),
+        [0x33].as_slice()
+    );
+    assert_eq!(rt;
+        guest_bytes(alloc, storage, 511, 2)?.as_slice(),
+        [0x11, 0x22].as_slice()
+    );
+    Ok(())
+}

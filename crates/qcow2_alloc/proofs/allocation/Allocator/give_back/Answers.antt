@@ -1,7 +1,7 @@
 use Rattle.std.proofs.Common.{◌≡◌, ◌+◌, ◌-◌, ◌<◌, inr, refl, sym, ◌∙◌, subst, arith}
 use Rattle.qcow2_laws.specs.Changes.{one_at}
 use Rattle.qcow2_laws.specs.Guard.{Pending}
-use Rattle.qcow2_alloc.specs.Allocation.{run_at, taken_as, Becomes, GivesBack}
+use Rattle.qcow2_alloc.specs.Allocation.{run_at, taken_as, Taken, Becomes, GivesBack}
 use Rattle.qcow2_alloc.specs.ImageFile.{Moves}
 use Rattle.qcow2_alloc.proofs.CacheMarks.{marks_none, marks_then}
 use Rattle.qcow2_alloc.proofs.FileSteps.{moves_then, breaks_after}
@@ -31,7 +31,7 @@ returns-in_err-lower-clause-sound g c = λ p d start b noted.
     let q : Pending = (taken_as d p (run_at (c.lowering.cluster + 1) ((c.args.first + c.args.n) - (c.lowering.cluster + 1)))) in
     let same = taken_first d p c.lowering.cluster (c.args.first + c.args.n) c.lowering-test.true in
     let moved = subst (λ (r : Pending). Moves g.S.Storage.view p r start c.lowering.file) (sym same) one.moves in
-    let low = c.in_err-lower.ensures.sound q d (record { sound = moved.sound; reftable = one.reftable }) in
+    let low = c.in_err-lower.ensures.sound q (Taken d) (record { sound = moved.sound; reftable = one.reftable }) tt in
     handed_on (GivesBack g.S.Storage.view p start c.lower.new.self c.lower.new.file p) c.from_residual.result c.in_err-lower.field-0.0 c.from_residual.ensures (
       low.0,
       inr (breaks_after g.S.Storage.view p (taken_as d q (one_at c.lowering.cluster)) start c.lowering.file c.lower.new.file c.lower.new.self c.in_err-lower.field-0.0 moved low.0
@@ -50,7 +50,7 @@ lowering-preserved g c = record {
       let q : Pending = (taken_as d p (run_at (c.lowering.cluster + 1) ((c.args.first + c.args.n) - (c.lowering.cluster + 1)))) in
       let same = taken_first d p c.lowering.cluster (c.args.first + c.args.n) c.lowering-test.true in
       let moved = subst (λ (r : Pending). Moves g.S.Storage.view p r start c.lowering.file) (sym same) one.moves in
-      let low = c.in_ok-lower.ensures.sound q d (record { sound = moved.sound; reftable = one.reftable }) in
+      let low = c.in_ok-lower.ensures.sound q (Taken d) (record { sound = moved.sound; reftable = one.reftable }) tt in
       record {
         moves = moves_then g.S.Storage.view p (taken_as d q (one_at c.lowering.cluster)) q start c.lowering.file c.lower.new.file
             (λ k some. subst (λ (r : Pending). 0 < r.held k) (sym same) (held_more d p (run_at c.lowering.cluster ((c.args.first + c.args.n) - c.lowering.cluster)) k some)) moved low.moves;

@@ -2,11 +2,11 @@ use Rattle.qcow2_alloc.proofs.allocation.Allocator.lower.Goals.{in-Ok-false, in-
 use Rattle.qcow2_alloc.proofs.allocation.Allocator.lower.Goals as goal
 
 pub returns-in-Ok-true-clause-sound : goal.returns-in-Ok-true-clause-sound
-returns-in-Ok-true-clause-sound g c = λ p is_data sound. rw c.in-Ok-true.field-0-test at (c.in-Ok-true.ensures.sound p is_data sound)
+returns-in-Ok-true-clause-sound g c = λ p owed sound may. rw c.in-Ok-true.field-0-test at (c.in-Ok-true.ensures.sound p owed sound may)
 
 pub returns-clause-sound : goal.returns-clause-sound
-returns-clause-sound g c = λ p is_data sound. elim c.match-try_lower.branch [
-  | in-Ok-false w ↦ absurd (rw w.in-Ok-false.field-0-test at (w.in-Ok-false.ensures.sound p is_data sound))
-  | in-Err+else-ends_call+in-StillInUse-1 w ↦ absurd (let yes_so = w.ends_call.ensures.ends (w.in-Err.ensures.sound p is_data sound).0 in let none = w.if-ends_call.false in cc)
-  | in-Err+else-ends_call+in-ReadOnly-1 w ↦ absurd (let yes_so = w.ends_call.ensures.ends (w.in-Err.ensures.sound p is_data sound).0 in let none = w.if-ends_call.false in cc)
+returns-clause-sound g c = λ p owed sound may. elim c.match-try_lower.branch [
+  | in-Ok-false w ↦ absurd (rw w.in-Ok-false.field-0-test at (w.in-Ok-false.ensures.sound p owed sound may))
+  | in-Err+else-ends_call+in-StillInUse-1 w ↦ absurd (let yes_so = w.ends_call.ensures.ends (w.in-Err.ensures.sound p owed sound may).0 in let none = w.if-ends_call.false in cc)
+  | in-Err+else-ends_call+in-ReadOnly-1 w ↦ absurd (let yes_so = w.ends_call.ensures.ends (w.in-Err.ensures.sound p owed sound may).0 in let none = w.if-ends_call.false in cc)
 ]

@@ -1,27 +1,28 @@
 use Rattle.std.proofs.Common.{◌%◌, ◌^◌, true, Ok, refl, ap, ◌∙◌}
 use Rattle.qcow2_laws.specs.Changes.{one_at}
-use Rattle.qcow2_alloc.specs.Allocation.{taken_as, LowersOne}
+use Rattle.qcow2_alloc.specs.Allocation.{owed_as, Becomes, LowersOne}
 use Rattle.qcow2_alloc.specs.ImageFile.{contents_in}
-use Rattle.qcow2_alloc.proofs.AllocationSteps.{handed_on, of_equal, counted_at, given_one, taken_counted, taken_has_block}
+use Rattle.qcow2_alloc.proofs.AllocationSteps.{handed_on, of_equal, becomes_as, may_lower_still, counted_at, given_one, owed_counted, owed_has_block}
 use Rattle.qcow2_alloc.proofs.allocation.Allocator.try_lower.Goals as goal
 
 pub returns-in_err-block-clause-sound : goal.returns-in_err-block-clause-sound
-returns-in_err-block-clause-sound g c = λ p is_data sound.
-    handed_on (LowersOne g.S.Storage.view (taken_as is_data p (one_at c.args.cluster)) c.args.file.now c.args.self.now c.load_block.new.file p)
-    c.from_residual.result c.in_err-block.field-0.0 c.from_residual.ensures (c.in_err-block.ensures.sound (taken_as is_data p (one_at c.args.cluster)) sound)
+returns-in_err-block-clause-sound g c = λ p owed sound may.
+    handed_on (LowersOne g.S.Storage.view (owed_as owed p (one_at c.args.cluster)) c.args.file.now c.args.self.now c.load_block.new.file p)
+    c.from_residual.result c.in_err-block.field-0.0 c.from_residual.ensures (c.in_err-block.ensures.sound (owed_as owed p (one_at c.args.cluster)) sound)
 
 pub returns-in_default-clause-sound : goal.returns-in_default-clause-sound
-returns-in_default-clause-sound g c = λ p is_data sound.
-    let l = rw c.in_default.is at (c.in_ok-block.ensures.sound (taken_as is_data p (one_at c.args.cluster)) sound) in
-    taken_has_block g.S.Storage.view is_data p c.args.cluster _ c.rb_bits-bits.result (taken_as is_data p (one_at c.args.cluster)) c.load_block.new.file c.args.file.now.header.fields (ap (λ x. x.fields) c.load_block.ensures.header) refl l.0.moves.sound
+returns-in_default-clause-sound g c = λ p owed sound may.
+    let l = rw c.in_default.is at (c.in_ok-block.ensures.sound (owed_as owed p (one_at c.args.cluster)) sound) in
+    owed_has_block g.S.Storage.view owed p c.args.cluster _ c.rb_bits-bits.result (owed_as owed p (one_at c.args.cluster)) c.load_block.new.file c.args.file.now.header.fields (ap (λ x. x.fields) c.load_block.ensures.header) refl l.0.moves.sound
     c.rb_bits-bits.ensures.counts refl l.1
 
 pub returns-clause-sound : goal.returns-clause-sound
-returns-clause-sound g c = λ p is_data sound.
-    let l = rw c.in-Some.is at (c.in_ok-block.ensures.sound (taken_as is_data p (one_at c.args.cluster)) sound) in
+returns-clause-sound g c = λ p owed sound may.
+    let l = rw c.in-Some.is at (c.in_ok-block.ensures.sound (owed_as owed p (one_at c.args.cluster)) sound) in
     let at = counted_at g.S.Storage.view c.load_block.new.file c.args.file.now.header.fields (ap (λ x. x.fields) c.load_block.ensures.header) c.args.cluster _ c.in-Some.block c.rb_index-index.result c.rb_bits-bits.result l.1 c.rb_bits-bits.ensures.counts refl (c.rb_index-index.ensures.value ∙ ap (λ n. n % 2 ^ c.rb_bits-bits.result) c.new.ensures) in
-    let some = taken_counted g.S.Storage.view is_data p c.args.cluster (taken_as is_data p (one_at c.args.cluster)) c.load_block.new.file refl l.0.moves.sound in
-    let lowered = c.rb_decrement.ensures.made c.load_block.new.file.header.fields (taken_as is_data p (one_at c.args.cluster)) (contents_in g.S.Storage.view c.load_block.new.file) c.args.cluster l.0.moves.sound.caches at l.1.2 some in
-    of_equal (λ f r. LowersOne g.S.Storage.view (taken_as is_data p (one_at c.args.cluster)) c.args.file.now c.args.self.now f p (Ok r)) (record c.load_block.new.file { caches = c.rb_decrement.new.self }) (record c.load_block.new.file { caches = c.rb_decrement.new.self }) c.rb_decrement.result true refl lowered
-    (given_one g.S.Storage.view (taken_as is_data p (one_at c.args.cluster)) c.args.file.now c.load_block.new.file c.args.self.now l.0 c.args.cluster c.in-Some.block c.rb_index-index.result at c.rb_decrement.new.self c.rb_decrement.ensures.order c.rb_decrement.ensures.marks
-    is_data p refl (c.rb_decrement.ensures.counted lowered))
+    let some = owed_counted g.S.Storage.view owed p c.args.cluster (owed_as owed p (one_at c.args.cluster)) c.load_block.new.file refl l.0.moves.sound in
+    let lowered = c.rb_decrement-lowered.ensures.made c.load_block.new.file.header.fields (owed_as owed p (one_at c.args.cluster)) (contents_in g.S.Storage.view c.load_block.new.file) c.args.cluster l.0.moves.sound.caches at l.1.2 some in
+    of_equal (λ f r. LowersOne g.S.Storage.view (owed_as owed p (one_at c.args.cluster)) c.args.file.now c.note_lowered.new.self f p (Ok r)) (record c.load_block.new.file { caches = c.rb_decrement-lowered.new.self }) (record c.load_block.new.file { caches = c.rb_decrement-lowered.new.self }) c.rb_decrement-lowered.result true refl lowered
+    (becomes_as g.S.Storage.view (owed_as owed p (one_at c.args.cluster)) p c.args.file.now (record c.load_block.new.file { caches = c.rb_decrement-lowered.new.self }) c.args.self.now c.note_lowered.new.self c.note_lowered.ensures.reftable
+    (given_one g.S.Storage.view (owed_as owed p (one_at c.args.cluster)) c.args.file.now c.load_block.new.file c.args.self.now l.0 c.args.cluster c.in-Some.block c.rb_index-index.result at c.rb_decrement-lowered.new.self c.rb_decrement-lowered.ensures.order c.rb_decrement-lowered.ensures.marks
+    owed p (may_lower_still owed c.args.file.now c.load_block.new.file c.load_block.ensures.order may) refl (c.rb_decrement-lowered.ensures.counted lowered)))

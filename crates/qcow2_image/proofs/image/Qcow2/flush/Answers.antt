@@ -1,12 +1,12 @@
 use Rattle.std.proofs.Common.{◌≡◌, sym, ◌∙◌, subst}
 use Rattle.std.specs.Prelude.{Result}
-use Rattle.qcow2_laws.specs.Calls.{IsSame}
-use Rattle.qcow2_laws.specs.Views.{contents_of}
+use Rattle.qcow2_laws.specs.Guard.{Pending}
+use Rattle.qcow2_alloc.specs.FreeList.{with_listed}
 use Rattle.qcow2_image.specs.Calls.{Flushes}
 use Rattle.qcow2_image.specs.declared.image.Qcow2.{Qcow2}
 use Rattle.qcow2_image.specs.Image.{is_failed}
-use Rattle.qcow2_image.proofs.Called.{told_flushes, tells_quietly, quietly_then}
-use Rattle.qcow2_image.proofs.Loading.{if_ok}
+use Rattle.qcow2_image.specs.Views.{IsSoundAt}
+use Rattle.qcow2_image.proofs.Tidying.{all_listed, beside, flushes_settled, frees_on}
 use Rattle.qcow2_image.proofs.image.Qcow2.flush.Goals as goal
 
 pub returns-clause-sees : goal.returns-clause-sees
@@ -14,11 +14,16 @@ returns-clause-sees g c =
     let view = g.S.Storage.view in
     let below = g.F.BackingDisk.backing in
     let old = c.args.self.now in
+    let mid = c.begin.new.self in
     let new = c.write_back-done.new.self in
+    let r = c.write_back-done.result in
     subst (λ (image : Qcow2 _ _). Flushes view below old image c.settled.result) (sym c.settled.ensures.rest)
-    (subst (λ (r : Result _ _). Flushes view below old (record new { is_failed = is_failed c.settled.new.self }) r) (sym c.settled.ensures.answer)
-    (told_flushes view below old (record new { is_failed = is_failed c.settled.new.self }) c.write_back-done.result
-    (tells_quietly view below old new (λ out. quietly_then view below out old c.begin.new.self new c.begin.ensures.keeps c.begin.ensures.list c.write_back-done.ensures.keeps c.write_back-done.ensures.list)
-    (is_failed c.settled.new.self) (λ done v w. (w.known ≡ contents_of w) × IsSame v w) c.write_back-done.result c.settled.ensures.marks (c.write_back-done.ensures.stays.image.number ∙ c.begin.ensures.stays.image.number)
-    c.if-self.false
-    (λ out sound same. if_ok c.write_back-done.result (λ done written. (written, same)) c.write_back-done.ensures.written))))
+    (subst (λ (x : Result _ _). Flushes view below old (record new { is_failed = is_failed c.settled.new.self }) x) (sym c.settled.ensures.answer)
+    (flushes_settled view below old c.if-self.false new (is_failed c.settled.new.self) (c.write_back-done.ensures.stays.image.number ∙ c.begin.ensures.stays.image.number) r c.settled.ensures.marks c.settled.ensures.memory
+    (λ out sound.
+    let p : Pending = beside view below old out in
+    let q : Pending = with_listed p old.file.free_list in
+    let first = c.begin.ensures.keeps q out (subst (λ (x : Pending). IsSoundAt view below x old out) (all_listed view below old out) sound) in
+    frees_on view below out old mid new p r c.begin.ensures.list first
+    (c.write_back-done.ensures.frees p out (subst (λ l. IsSoundAt view below (with_listed p l) mid out) (sym c.begin.ensures.list) first.sound)))
+    c.write_back-done.ensures.written))

@@ -1,0 +1,55 @@
+use Rattle.std.proofs.Common.{◌≡◌, inl, [], Err, OnOk, sym, ap, ◌∙◌}
+use Rattle.qcow2_laws.specs.Guard.{Pending}
+use Rattle.qcow2_alloc.specs.declared.clusters_to_free.ClusterKind.TheVariants.{Data}
+use Rattle.qcow2_alloc.specs.declared.image_file.ImageFile.{ImageFile}
+use Rattle.qcow2_alloc.specs.Allocation.{Becomes, Frees}
+use Rattle.qcow2_alloc.specs.FreeList.{with_listed, but}
+use Rattle.qcow2_alloc.proofs.AllocationSteps.{handed_on, is_sound_now, becomes_cached}
+use Rattle.qcow2_alloc.proofs.Freeing.{but_both, on_ok, becomes_on, frees_then}
+use Rattle.qcow2_alloc.proofs.allocation.Allocator.free.Goals as goal
+
+pub returns-in_err-free_kind-clause-sound : goal.returns-in_err-free_kind-clause-sound
+returns-in_err-free_kind-clause-sound g c = λ p sound.
+    handed_on (Frees g.S.Storage.view (with_listed p c.args.file.now.free_list) c.args.file.now c.free_kind.new.self c.free_kind.new.file (with_listed p c.free_kind.new.file.free_list))
+    c.from_residual.result c.in_err-free_kind.field-0.0 c.from_residual.ensures (c.in_err-free_kind.ensures.sound p sound tt)
+
+pub returns-then-is_empty-clause-sound : goal.returns-then-is_empty-clause-sound
+returns-then-is_empty-clause-sound g c = λ p sound. c.in_ok-free_kind.ensures.sound p sound tt
+
+pub returns-in_err-rb_depends_on_l2-clause-sound : goal.returns-in_err-rb_depends_on_l2-clause-sound
+returns-in_err-rb_depends_on_l2-clause-sound g c = λ p sound.
+    let view = g.S.Storage.view in
+    let q : Pending = with_listed p c.args.file.now.free_list in
+    let now : Pending = with_listed p c.free_kind.new.file.free_list in
+    let one = c.in_ok-free_kind.ensures.sound p sound tt in
+    let h = c.free_kind.new.file.header.fields in
+    let s = one.moves.sound in
+    let turned : ImageFile g.row.S.Denot = record c.free_kind.new.file { storage = c.rb_depends_on_l2.new.storage; caches = c.rb_depends_on_l2.new.self } in
+    let two = becomes_cached view now c.free_kind.new.file c.free_kind.new.self c.rb_depends_on_l2.new.storage c.rb_depends_on_l2.new.self (is_sound_now view q now c.args.file.now c.free_kind.new.file c.free_kind.new.self one)
+    (c.rb_depends_on_l2.ensures.keeps h now s.honest s.caches) c.rb_depends_on_l2.ensures.marks in
+    handed_on (Frees view q c.args.file.now c.free_kind.new.self turned now) c.from_residual-in_err-rb_depends_on_l2.result c.in_err-rb_depends_on_l2.field-0.0 c.from_residual-in_err-rb_depends_on_l2.ensures (
+      c.in_err-rb_depends_on_l2.ensures.faults h now s.honest s.caches s.settled,
+      inl (becomes_on view q now now c.args.file.now c.free_kind.new.file turned c.free_kind.new.self c.free_kind.new.self (λ k some. some) one two),
+    )
+
+pub returns-clause-emptied : goal.returns-clause-emptied
+returns-clause-emptied g c =
+    on_ok c.free_kind-2.result (λ left. left ∙ ap (but Data) c.in_ok-free_kind.ensures.left ∙ but_both c.args.file.now.free_list) c.free_kind-2.ensures.left
+
+pub returns-clause-sound : goal.returns-clause-sound
+returns-clause-sound g c = λ p sound.
+    let view = g.S.Storage.view in
+    let q : Pending = with_listed p c.args.file.now.free_list in
+    let now : Pending = with_listed p c.free_kind.new.file.free_list in
+    let one = c.in_ok-free_kind.ensures.sound p sound tt in
+    let h = c.free_kind.new.file.header.fields in
+    let s = one.moves.sound in
+    let turned : ImageFile g.row.S.Denot = record c.free_kind.new.file { storage = c.rb_depends_on_l2.new.storage; caches = c.rb_depends_on_l2.new.self } in
+    let two = becomes_cached view now c.free_kind.new.file c.free_kind.new.self c.rb_depends_on_l2.new.storage c.rb_depends_on_l2.new.self (is_sound_now view q now c.args.file.now c.free_kind.new.file c.free_kind.new.self one)
+    (c.rb_depends_on_l2.ensures.keeps h now s.honest s.caches) c.rb_depends_on_l2.ensures.marks in
+    let both = becomes_on view q now now c.args.file.now c.free_kind.new.file turned c.free_kind.new.self c.free_kind.new.self (λ k some. some) one two in
+    frees_then view q now (with_listed p c.free_kind-2.new.file.free_list) c.args.file.now turned c.free_kind-2.new.file c.free_kind.new.self c.free_kind-2.new.self c.free_kind-2.result (λ k some. some) both
+    (c.free_kind-2.ensures.sound p (is_sound_now view q now c.args.file.now turned c.free_kind.new.self both) c.in_ok-rb_depends_on_l2.ensures.order)
+
+pub returns-clause-in_order : goal.returns-clause-in_order
+returns-clause-in_order g c = inl (c.free_kind-2.ensures.others ∙ ap (but Data) c.in_ok-free_kind.ensures.left ∙ but_both c.args.file.now.free_list)

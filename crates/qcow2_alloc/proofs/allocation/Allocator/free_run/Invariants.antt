@@ -1,0 +1,23 @@
+use Rattle.std.proofs.Common.{◌≡◌}
+use Rattle.qcow2_laws.specs.Guard.{Pending}
+use Rattle.qcow2_alloc.specs.Allocation.{listed_as, MayFree, Becomes}
+use Rattle.qcow2_alloc.specs.CacheMarks.{KeepsMarks}
+use Rattle.qcow2_alloc.specs.FreeList.{run_of}
+use Rattle.qcow2_alloc.specs.ImageFile.{IsSoundWith}
+use Rattle.qcow2_alloc.specs.MetadataCaches.{order_of}
+use Rattle.qcow2_alloc.proofs.allocation.Allocator.free_run.Given as goal
+
+-- what the run says is still pending
+abbrev pub invariant-freeing : goal.invariant-freeing
+invariant-freeing g l = record {
+  header : l.file.header ≡ l.fn.file.header;
+  list : l.file.free_list ≡ l.fn.file.free_list;
+  marks : KeepsMarks l.fn.file.caches l.file.caches;
+  order : order_of l.file.caches ≡ order_of l.fn.file.caches;
+  kind : l.run.kind ≡ l.fn.run.kind;
+  sound : (p : Pending) → IsSoundWith g.S.Storage.view l.fn.self (listed_as l.fn.run.kind p (run_of l.fn.run)) l.fn.file → MayFree l.fn.run.kind l.fn.file
+      → Becomes g.S.Storage.view (listed_as l.fn.run.kind p (run_of l.fn.run)) l.fn.file l.self l.file (listed_as l.fn.run.kind p (run_of l.run));
+}
+
+abbrev pub decreases-freeing : goal.decreases-freeing
+decreases-freeing g l = l.run.count

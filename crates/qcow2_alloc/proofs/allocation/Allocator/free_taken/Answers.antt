@@ -1,0 +1,51 @@
+use Rattle.std.proofs.Common.{◌≡◌, ◌++◌, ◌∷◌, [], Ok, Err, refl, sym, ap, ◌∙◌, subst, append_assoc}
+use Rattle.qcow2_laws.specs.Guard.{Pending}
+use Rattle.qcow2_alloc.specs.Allocation.{Listed, Becomes, Frees}
+use Rattle.qcow2_alloc.specs.FreeList.{with_listed, but}
+use Rattle.qcow2_alloc.proofs.AllocationSteps.{handed_on, may_lower_still, is_sound_now}
+use Rattle.qcow2_alloc.proofs.CacheMarks.{marks_then}
+use Rattle.qcow2_alloc.proofs.Freeing.{but_first, but_step, entry_sound, entry_goes}
+use Rattle.qcow2_alloc.proofs.allocation.Allocator.free_taken.Goals as goal
+
+pub freeing-preserved : goal.freeing-preserved
+freeing-preserved g c = record {
+  header = c.free_or_list.ensures.header ∙ c.freeing.invariant.header;
+  marks = marks_then c.args.file.now.caches c.freeing.file.caches c.free_or_list.new.file.caches c.freeing.invariant.marks c.free_or_list.ensures.marks;
+  order = c.free_or_list.ensures.order ∙ c.freeing.invariant.order;
+  others = but_step c.args.kind c.free_or_list.new.file.free_list c.freeing.file.free_list c.freeing.taken c.next_pending.new.self c.in-Some.pending c.in-Some.ensures.some c.free_or_list.ensures.others ∙ c.freeing.invariant.others;
+  left =
+      ap (λ l. l ++ but c.args.kind c.next_pending.new.self) c.in_ok-free_or_list.ensures.left
+      ∙ append_assoc c.freeing.file.free_list (but c.args.kind (c.in-Some.pending ∷ [])) (but c.args.kind c.next_pending.new.self)
+      ∙ ap (λ l. c.freeing.file.free_list ++ l) (but_first c.args.kind c.in-Some.pending c.next_pending.new.self ∙ ap (but c.args.kind) (sym c.in-Some.ensures.some))
+      ∙ c.freeing.invariant.left;
+  sound = λ p sound may.
+      let q : Pending = with_listed p (c.args.file.now.free_list ++ c.args.taken.now) in
+      let now : Pending = with_listed p (c.freeing.file.free_list ++ c.freeing.taken) in
+      let before = c.freeing.invariant.sound p sound may in
+      entry_goes g.S.Storage.view p c.freeing.taken c.next_pending.new.self c.in-Some.pending c.in-Some.ensures.some q c.args.file.now c.freeing.file c.free_or_list.new.file c.freeing.self c.free_or_list.new.self (Ok tt) (λ k some. some) before
+      (c.in_ok-free_or_list.ensures.sound (with_listed p c.next_pending.new.self)
+      (entry_sound g.S.Storage.view p c.freeing.taken c.next_pending.new.self c.in-Some.pending c.in-Some.ensures.some c.freeing.file c.freeing.self (is_sound_now g.S.Storage.view q now c.args.file.now c.freeing.file c.freeing.self before))
+      (may_lower_still (Listed c.args.kind) c.args.file.now c.freeing.file c.freeing.invariant.order may));
+}
+
+pub returns-in_err-free_or_list-clause-sound : goal.returns-in_err-free_or_list-clause-sound
+returns-in_err-free_or_list-clause-sound g c = λ p sound may.
+    let q : Pending = with_listed p (c.args.file.now.free_list ++ c.args.taken.now) in
+    let now : Pending = with_listed p (c.freeing.file.free_list ++ c.freeing.taken) in
+    let before = c.freeing.invariant.sound p sound may in
+    handed_on (Frees g.S.Storage.view q c.args.file.now c.free_or_list.new.self c.free_or_list.new.file (with_listed p (c.free_or_list.new.file.free_list ++ c.next_pending.new.self)))
+    c.from_residual.result c.in_err-free_or_list.field-0.0 c.from_residual.ensures
+    (entry_goes g.S.Storage.view p c.freeing.taken c.next_pending.new.self c.in-Some.pending c.in-Some.ensures.some q c.args.file.now c.freeing.file c.free_or_list.new.file c.freeing.self c.free_or_list.new.self (Err c.in_err-free_or_list.field-0.0) (λ k some. some) before
+    (c.in_err-free_or_list.ensures.sound (with_listed p c.next_pending.new.self)
+    (entry_sound g.S.Storage.view p c.freeing.taken c.next_pending.new.self c.in-Some.pending c.in-Some.ensures.some c.freeing.file c.freeing.self (is_sound_now g.S.Storage.view q now c.args.file.now c.freeing.file c.freeing.self before))
+    (may_lower_still (Listed c.args.kind) c.args.file.now c.freeing.file c.freeing.invariant.order may)))
+
+pub returns-in_err-free_or_list-clause-others : goal.returns-in_err-free_or_list-clause-others
+returns-in_err-free_or_list-clause-others g c =
+    but_step c.args.kind c.free_or_list.new.file.free_list c.freeing.file.free_list c.freeing.taken c.next_pending.new.self c.in-Some.pending c.in-Some.ensures.some c.free_or_list.ensures.others ∙ c.freeing.invariant.others
+
+pub returns-clause-sound : goal.returns-clause-sound
+returns-clause-sound g c = λ p sound may.
+    let q : Pending = with_listed p (c.args.file.now.free_list ++ c.args.taken.now) in
+    let same : c.freeing.taken ≡ c.next_pending.new.self = (c.in_default.ensures.none refl).0 ∙ sym (c.in_default.ensures.none refl).1 in
+    subst (λ l. Becomes g.S.Storage.view q c.args.file.now c.freeing.self c.freeing.file (with_listed p (c.freeing.file.free_list ++ l))) same (c.freeing.invariant.sound p sound may)

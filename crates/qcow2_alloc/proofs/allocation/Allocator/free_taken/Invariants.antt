@@ -1,0 +1,23 @@
+use Rattle.std.proofs.Common.{◌≡◌, ◌++◌, length}
+use Rattle.qcow2_laws.specs.Guard.{Pending}
+use Rattle.qcow2_alloc.specs.Allocation.{MayFree, Becomes}
+use Rattle.qcow2_alloc.specs.CacheMarks.{KeepsMarks}
+use Rattle.qcow2_alloc.specs.FreeList.{with_listed, but}
+use Rattle.qcow2_alloc.specs.ImageFile.{IsSoundWith}
+use Rattle.qcow2_alloc.specs.MetadataCaches.{order_of}
+use Rattle.qcow2_alloc.proofs.allocation.Allocator.free_taken.Given as goal
+
+-- what is listed, and what is taken and not looked at yet, is pending
+abbrev pub invariant-freeing : goal.invariant-freeing
+invariant-freeing g l = record {
+  header : l.file.header ≡ l.fn.file.header;
+  marks : KeepsMarks l.fn.file.caches l.file.caches;
+  order : order_of l.file.caches ≡ order_of l.fn.file.caches;
+  others : but l.fn.kind (l.file.free_list ++ l.taken) ≡ but l.fn.kind (l.fn.file.free_list ++ l.fn.taken);
+  left : l.file.free_list ++ but l.fn.kind l.taken ≡ l.fn.file.free_list ++ but l.fn.kind l.fn.taken;
+  sound : (p : Pending) → IsSoundWith g.S.Storage.view l.fn.self (with_listed p (l.fn.file.free_list ++ l.fn.taken)) l.fn.file → MayFree l.fn.kind l.fn.file
+      → Becomes g.S.Storage.view (with_listed p (l.fn.file.free_list ++ l.fn.taken)) l.fn.file l.self l.file (with_listed p (l.file.free_list ++ l.taken));
+}
+
+abbrev pub decreases-freeing : goal.decreases-freeing
+decreases-freeing g l = length l.taken

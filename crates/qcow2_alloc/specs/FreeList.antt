@@ -1,0 +1,43 @@
+-- The clusters that are listed to be freed.
+use Rattle.std.specs.Prelude.{◌≡◌, ◌⊎◌, ℕ, ◌+◌, Bool, true, false, List, [], ◌∷◌, if◌then◌else◌}
+use Rattle.qcow2_laws.specs.Guard.{Pending}
+use Rattle.qcow2_alloc.specs.declared.clusters_to_free.ClusterKind.{ClusterKind}
+use Rattle.qcow2_alloc.specs.declared.clusters_to_free.ClusterKind.TheVariants as Kind
+use Rattle.qcow2_alloc.specs.declared.clusters_to_free.ClustersToFreeEntry.{ClustersToFreeEntry}
+use Rattle.qcow2_alloc.specs.Allocation.{run_at}
+
+-- 1 for each cluster of a run
+abbrev pub run_of : ClustersToFreeEntry → ℕ → ℕ
+run_of e k = run_at e.first_cluster e.count k
+
+-- how often clusters are to be freed, as data or as tables
+abbrev pub of_data : ClusterKind → ℕ → ℕ
+of_data Kind.Data n = n
+of_data Kind.Metadata n = 0
+
+abbrev pub of_tables : ClusterKind → ℕ → ℕ
+of_tables Kind.Data n = 0
+of_tables Kind.Metadata n = n
+
+abbrev pub to_free : (ClusterKind → ℕ → ℕ) → List ClustersToFreeEntry → ℕ → ℕ
+to_free kind [] k = 0
+to_free kind (e ∷ es) k = kind e.kind (run_of e k) + to_free kind es k
+
+-- what is pending, with what is listed
+abbrev pub with_listed : Pending → List ClustersToFreeEntry → Pending
+with_listed p list = record p { spent = λ k. p.spent k + to_free of_tables list k; dropped = λ k. p.dropped k + to_free of_data list k }
+
+abbrev pub is_same : ClusterKind → ClusterKind → Bool
+is_same Kind.Data Kind.Data = true
+is_same Kind.Metadata Kind.Metadata = true
+is_same Kind.Data Kind.Metadata = false
+is_same Kind.Metadata Kind.Data = false
+
+-- the entries of the other kind
+abbrev pub but : ClusterKind → List ClustersToFreeEntry → List ClustersToFreeEntry
+but kind [] = []
+but kind (e ∷ es) = if is_same e.kind kind then but kind es else e ∷ but kind es
+
+-- data go off the list once no table is listed any more
+abbrev pub GoOffInOrder : List ClustersToFreeEntry → List ClustersToFreeEntry → Type 0
+GoOffInOrder old new = (but Kind.Data new ≡ []) ⊎ (but Kind.Metadata new ≡ but Kind.Metadata old)

@@ -1,0 +1,129 @@
+-- Clusters that are listed are freed: no guest sees it.
+use Rattle.std.proofs.Common.{◌≡◌, inl, inr, ℕ, ◌<◌, Bool, false, List, [], Option, Some, refl, sym, ap, ◌∙◌, subst, arith}
+use Rattle.std.specs.Prelude.{Result, Ok, Err, IfOk, IfErr, IsTrue}
+use Rattle.image_access.specs.Backing.{BackingView}
+use Rattle.image_access.specs.Moments.{StorageView}
+use Rattle.qcow2_laws.specs.Guard.{Pending}
+use Rattle.qcow2_laws.specs.Calls.{Does, IsSame}
+use Rattle.qcow2_laws.specs.Leads.{Leads}
+use Rattle.qcow2_laws.specs.Views.{contents_of}
+use Rattle.qcow2_laws.proofs.Leads.{leads_then, steps_endure}
+use Rattle.qcow2_laws.proofs.Unseen.{unseen_then}
+use Rattle.qcow2_metadata.specs.declared.header.HeaderFields.{HeaderFields}
+use Rattle.qcow2_alloc.specs.declared.allocation.Allocator.{Allocator}
+use Rattle.qcow2_alloc.specs.declared.error.ImageError.{ImageError}
+use Rattle.qcow2_alloc.specs.declared.image_file.ImageFile.{ImageFile}
+use Rattle.qcow2_alloc.specs.Allocation.{Frees}
+use Rattle.qcow2_alloc.specs.CacheMarks.{l2_pins}
+use Rattle.qcow2_alloc.specs.FreeList.{with_listed}
+use Rattle.qcow2_alloc.specs.ImageFile.{stand_in, view_in, contents_in, known_in, nothing_given}
+use Rattle.qcow2_alloc.specs.declared.error.ImageError.TheVariants as I
+use Rattle.qcow2_alloc.proofs.FileSteps.{pending_same}
+use Rattle.qcow2_image.specs.declared.image.Qcow2.{Qcow2}
+use Rattle.qcow2_image.specs.declared.prepared.Prepared.{Prepared}
+use Rattle.qcow2_image.specs.Steps.{Keeps, Tidies, Broke, FreesListed}
+use Rattle.qcow2_image.specs.Calls.{Flushes}
+use Rattle.qcow2_image.specs.Image.{number_of, is_failed}
+use Rattle.qcow2_image.specs.Refusals.{Marks}
+use Rattle.qcow2_image.specs.Views.{IsSoundAt, pending_in, seen}
+use Rattle.qcow2_image.proofs.Answered.{tidies_kept, still_seen}
+use Rattle.qcow2_image.proofs.Called.{copied_then}
+use Rattle.qcow2_image.proofs.Moving.{file_tidied}
+use Rattle.qcow2_image.proofs.Refused.{IsLeft, refuses_left}
+use Rattle.qcow2_image.proofs.Settled.{settled_does}
+use Rattle.qcow2_image.proofs.Stepped.{stepped_sound, stepped_works}
+
+module _ {S F : Type 0} (view : S → StorageView) (backing : F → BackingView) (out : List (Option Prepared)) where
+  pub tidies_then : (a b c : Qcow2 S F) (p q r : Pending) → ((k : ℕ) → 0 < p.held k → 0 < q.held k) → Tidies view backing p q a b out → Tidies view backing q r b c out → Tidies view backing p r a c out
+  tidies_then a b c p q r held first then = record {
+    sound = then.sound;
+    leads = leads_then (stand_in view a.file p) (stand_in view b.file q) (stand_in view c.file r) nothing_given nothing_given [] [] first.leads then.leads;
+    since = steps_endure (view_in view a.file) (view_in view b.file) (view_in view c.file) (stand_in view a.file p) (stand_in view b.file q) nothing_given nothing_given [] [] refl first.since first.leads then.since;
+    unseen = unseen_then (stand_in view a.file p) (stand_in view b.file q) (stand_in view c.file r) first.unseen then.unseen held;
+    copied = copied_then view backing out a b c p q r first.unseen.header first.copied then.copied;
+    below = then.below ∙ first.below;
+  }
+
+  -- the allocator worked off the list
+  module _ (p : Pending) (old : Qcow2 S F) (sound : IsSoundAt view backing (with_listed p old.file.free_list) old out) (file : ImageFile S) (a : Allocator) (pins : (table : ℕ) → l2_pins file.caches table ≡ l2_pins old.file.caches table)
+      (header : file.header ≡ old.file.header) where
+    pub frees_listed : (r : Result (Unit {0}) ImageError) → Frees view (with_listed p old.file.free_list) old.file a file (with_listed p file.free_list) r → FreesListed view backing p old (record old { file = file; allocator = Some a }) out r
+    frees_listed (Ok _) frees = file_tidied view backing old out (with_listed p old.file.free_list) (with_listed p file.free_list) sound file (Some a) frees.moves frees.reftable pins
+    frees_listed (Err e) frees = elim frees.1 [
+      | inl left ↦ inl (file_tidied view backing old out (with_listed p old.file.free_list) (with_listed p file.free_list) sound file (Some a) left.moves left.reftable pins)
+      | inr breaks ↦ inr (record { breaks = breaks; header = ap (λ x. x.fields) header; below = refl })
+    ]
+
+  -- whatever is answered
+  pub frees_any : (p : Pending) (old new : Qcow2 S F) (r : Result (Unit {0}) ImageError) → Tidies view backing (with_listed p old.file.free_list) (with_listed p new.file.free_list) old new out → FreesListed view backing p old new out r
+  frees_any p old new (Ok _) tidies = tidies
+  frees_any p old new (Err e) tidies = inl tidies
+
+  -- a part that leaves the list follows
+  pub tidies_on : (a b c : Qcow2 S F) (p : Pending) → c.file.free_list ≡ b.file.free_list → Tidies view backing (with_listed p a.file.free_list) (with_listed p b.file.free_list) a b out
+      → Keeps view backing (with_listed p b.file.free_list) (with_listed p b.file.free_list) b c out → Tidies view backing (with_listed p a.file.free_list) (with_listed p c.file.free_list) a c out
+  tidies_on a b c p listed first then =
+      subst (λ l. Tidies view backing (with_listed p a.file.free_list) (with_listed p l) a c out) (sym listed)
+      (tidies_then a b c (with_listed p a.file.free_list) (with_listed p b.file.free_list) (with_listed p b.file.free_list) (λ k some. some) first (tidies_kept view backing b c out (with_listed p b.file.free_list) (with_listed p b.file.free_list) then))
+
+  before : (a b c : Qcow2 S F) (p : Pending) → b.file.free_list ≡ a.file.free_list → Keeps view backing (with_listed p a.file.free_list) (with_listed p a.file.free_list) a b out
+      → Tidies view backing (with_listed p b.file.free_list) (with_listed p c.file.free_list) b c out → Tidies view backing (with_listed p a.file.free_list) (with_listed p c.file.free_list) a c out
+  before a b c p listed first then =
+      tidies_then a b c (with_listed p a.file.free_list) (with_listed p a.file.free_list) (with_listed p c.file.free_list) (λ k some. some) (tidies_kept view backing a b out (with_listed p a.file.free_list) (with_listed p a.file.free_list) first)
+      (subst (λ l. Tidies view backing (with_listed p l) (with_listed p c.file.free_list) b c out) listed then)
+
+  -- and one goes before
+  pub frees_on : (a b c : Qcow2 S F) (p : Pending) (r : Result (Unit {0}) ImageError) → b.file.free_list ≡ a.file.free_list → Keeps view backing (with_listed p a.file.free_list) (with_listed p a.file.free_list) a b out
+      → FreesListed view backing p b c out r → FreesListed view backing p a c out r
+  frees_on a b c p (Ok _) listed first then = before a b c p listed first then
+  frees_on a b c p (Err e) listed first then = elim then [
+    | inl left ↦ inl (before a b c p listed first left)
+    | inr broke ↦ inr (record {
+      breaks = record {
+        fault = broke.breaks.fault;
+        noted = broke.breaks.noted;
+        since = steps_endure (view_in view a.file) (view_in view b.file) (view_in view c.file) (stand_in view a.file (with_listed p a.file.free_list)) (stand_in view b.file (with_listed p a.file.free_list)) nothing_given nothing_given [] [] refl first.since first.leads broke.breaks.since;
+      };
+      header = broke.header ∙ first.unseen.header;
+      below = broke.below ∙ first.below;
+    })
+  ]
+
+-- ---- a whole call
+
+module _ {S F : Type 0} (view : S → StorageView) (backing : F → BackingView) (old : Qcow2 S F) (out : List (Option Prepared)) where
+  -- what is pending beside the list
+  abbrev pub beside : Pending
+  beside = record (pending_in view backing old out) { spent = λ k. 0; dropped = λ k. 0 }
+
+  pub all_listed : pending_in view backing old out ≡ with_listed beside old.file.free_list
+  all_listed = pending_same (pending_in view backing old out) (with_listed beside old.file.free_list) (λ k. refl) (λ k. refl) (λ k. sym (omega arith)) (λ k. sym (omega arith)) (λ k. refl)
+
+  module _ (new : Qcow2 S F) (sound : IsSoundAt view backing (pending_in view backing old out) old out) (tidies : Tidies view backing (with_listed beside old.file.free_list) (with_listed beside new.file.free_list) old new out) where
+    pub tidy_left : IsLeft view backing old new out
+    tidy_left = record {
+      pending = with_listed beside new.file.free_list;
+      steps = record {
+        sound = tidies.sound;
+        only = record { held = λ k. refl; fresh = λ k. refl; spent = λ k. omega arith; dropped = λ k. omega arith };
+        leads = subst (λ (p : Pending). Leads (stand_in view old.file p) (stand_in view new.file (with_listed beside new.file.free_list)) nothing_given []) (sym all_listed) tidies.leads;
+        since = tidies.since;
+        header = tidies.unseen.header;
+        below = tidies.below;
+        surplus = refl;
+      };
+      same = still_seen view backing old new out (with_listed beside old.file.free_list) (with_listed beside new.file.free_list) (subst (λ (p : Pending). IsSoundAt view backing p old out) all_listed sound) (λ k. omega arith) (λ k. omega arith) tidies;
+    }
+
+module _ {S F : Type 0} (view : S → StorageView) (backing : F → BackingView) (old : Qcow2 S F) (usable : is_failed old ≡ false) (new : Qcow2 S F) (marked : Bool) (number : number_of new ≡ number_of old) where
+  -- all that is known is written, and nothing is seen of it; or it was refused
+  pub flushes_settled : (r : Result (Unit {0}) ImageError) → Marks r (is_failed new) marked → IfErr r (λ e. e ≡ I.Memory → IsTrue new.file.caches.is_changed → IsTrue marked)
+      → ((out : List (Option Prepared)) → IsSoundAt view backing (pending_in view backing old out) old out → FreesListed view backing (beside view backing old out) old new out r)
+      → IfOk r (λ done. known_in view new.file ≡ contents_in view new.file) → Flushes view backing old (record new { is_failed = marked }) r
+  flushes_settled (Ok done) marks memory frees written = λ out.
+      let left : IsSoundAt view backing (pending_in view backing old out) old out → IsLeft view backing old new out = λ sound. tidy_left view backing old out new sound (frees out sound) in
+      subst (λ (f : Bool). let v = seen view backing old out in let w = seen view backing (record new { is_failed = f }) out in Does v w [] [] ((w.known ≡ contents_of w) × IsSame v w)) (sym marks)
+      (settled_does view backing old new out out [] (λ sound. stepped_works view backing old new out out nothing_given (left sound).pending (left sound).steps)
+      (λ sound. stepped_sound view backing old new out out nothing_given (left sound).pending (left sound).steps) number usable (λ sound. (written, (left sound).same)))
+  flushes_settled (Err e) marks memory frees written = λ out.
+      refuses_left view backing old usable new marked number out e marks memory (λ sound. elim (frees out sound) [ inl tidies ↦ inl (tidy_left view backing old out new sound tidies) | inr broke ↦ inr broke ])
