@@ -37,3 +37,4 @@ pub mod Writable
 pub mod PreparedAs
 pub mod Storing
 pub mod Tidying
+pub mod Taken

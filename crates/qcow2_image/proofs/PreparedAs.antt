@@ -1,5 +1,5 @@
 -- What is answered of a range that is to be written: all of it where it is, or the rest of its first cluster.
-use Rattle.std.proofs.Common.{◌≡◌, inl, inr, ℕ, ◌+◌, ◌-◌, ◌*◌, ◌/◌, ◌%◌, ◌<◌, ◌≤◌, Bool, true, false, Option, Some, None, refl, sym, ap, ◌∙◌, subst, arith, is_some}
+use Rattle.std.proofs.Common.{◌≡◌, inl, inr, List, ℕ, ◌+◌, ◌-◌, ◌*◌, ◌/◌, ◌%◌, ◌<◌, ◌≤◌, Bool, true, false, Option, Some, None, refl, sym, ap, ◌∙◌, subst, arith, is_some}
 use Rattle.std.specs.Prelude.{Err, IfOk, Ok, Result, ◌&&◌, ◌==◌, not}
 use Rattle.std.proofs.lemmas.Bool.{cases_lt, eq-eqb}
 use Rattle.std.proofs.lemmas.Nat.{div-add-mod', div-mul-add, mod-mul-add, mod_below, pow_pos}
@@ -23,7 +23,7 @@ use Rattle.qcow2_image.specs.declared.prepared.Prepared.{Prepared}
 use Rattle.qcow2_image.specs.declared.prepared.NewCluster.{NewCluster}
 use Rattle.qcow2_image.specs.Parts.{IsExisting}
 use Rattle.qcow2_image.specs.Prepared.{offset_of}
-use Rattle.qcow2_image.specs.Preparing.{HasItsOwn, IsAnswered, IsHeldAlone, IsHostOf, IsRest, IsWritableAt}
+use Rattle.qcow2_image.specs.Preparing.{HasItsOwn, IsAnswered, IsHeldAlone, IsHostOf, IsRest, IsTaken, IsWritableAt}
 use Rattle.qcow2_image.specs.Views.{is_private, meaning}
 
 -- ---- what stands for guest clusters stays
@@ -33,6 +33,9 @@ module _ (h : HeaderFields) (b c : Bytes) (same : SameCovers h b c) (offset : �
 
   writable_before : (n place : ℕ) → IsWritableAt h c offset n place → IsWritableAt h b offset n place
   writable_before n place is = (is.0, are_still h c b true offset place n (λ i lt. sym (same ((offset + i) / cluster_size h))) is.1)
+
+  pub taken_still : (n : ℕ) (out : List (Option Prepared)) → IsTaken h b offset n out → IsTaken h c offset n out
+  taken_still n out is = record { place = is.place; other = is.other; is_out = is.is_out; keeps_table = is.keeps_table; same_table = is.same_table; never = λ host writable. is.never host (writable_before n host writable) }
 
   data_still : (o place : ℕ) → IsDataAt h b true o place → IsDataAt h c true o place
   data_still o place is = (is.0, sym (same (o / cluster_size h)) ∙ is.1, is.2)
@@ -146,11 +149,15 @@ module _ {S F : Type 0} (view : S → StorageView) (backing : F → BackingView)
         }
 
 -- the same by what was known before a part that no guest sees
-module _ {S F : Type 0} (view : S → StorageView) (old mid : Qcow2 S F) (offset n : ℕ) (now : Bytes) (p : Prepared) (m : PreparedMapping) (header : mid.file.header.fields ≡ old.file.header.fields)
+module _ {S F : Type 0} (view : S → StorageView) (old mid : Qcow2 S F) (offset n : ℕ) (header : mid.file.header.fields ≡ old.file.header.fields)
     (covers : SameCovers old.file.header.fields (known_in view old.file) (known_in view mid.file)) where
-  pub answered_before : IsAnswered mid.file.header.fields (known_in view mid.file) offset n now p m → IsAnswered old.file.header.fields (known_in view old.file) offset n now p m
-  answered_before is =
+  pub answered_before : (now : Bytes) (p : Prepared) (m : PreparedMapping) → IsAnswered mid.file.header.fields (known_in view mid.file) offset n now p m → IsAnswered old.file.header.fields (known_in view old.file) offset n now p m
+  answered_before now p m is =
       answered_still old.file.header.fields (known_in view mid.file) (known_in view old.file) (λ g. sym (covers g)) offset n now p m (subst (λ (x : HeaderFields). IsAnswered x (known_in view mid.file) offset n now p m) header is)
+
+  pub taken_before : (out : List (Option Prepared)) → IsTaken mid.file.header.fields (known_in view mid.file) offset n out → IsTaken old.file.header.fields (known_in view old.file) offset n out
+  taken_before out is =
+      taken_still old.file.header.fields (known_in view mid.file) (known_in view old.file) (λ g. sym (covers g)) offset n out (subst (λ (x : HeaderFields). IsTaken x (known_in view mid.file) offset n out) header is)
 
 -- what is held is counted once, and nothing names it
 pub held_alone : (s : Stand) → IsSound s → (k : ℕ) → 0 < s.pending.held k → IsHeldAlone s.header s.known k

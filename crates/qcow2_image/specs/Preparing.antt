@@ -1,5 +1,5 @@
 -- What is answered of a range that is to be written, by what was known before.
-use Rattle.std.specs.Prelude.{ℕ, ◌+◌, ◌-◌, ◌*◌, ◌/◌, ◌%◌, ◌<◌, ◌≤◌, ◌≡◌, ◌↔◌, true, false, Option, Some, None, IfSome, IsNone, IsSome, IsTrue}
+use Rattle.std.specs.Prelude.{ℕ, ◌+◌, ◌-◌, ◌*◌, ◌/◌, ◌%◌, ◌<◌, ◌≤◌, ◌≡◌, ◌↔◌, true, false, List, slice_get, Option, Some, None, IfSome, IsNone, IsSome, IsTrue}
 use Rattle.qcow2_metadata.specs.Bytes.{Bytes}
 use Rattle.qcow2_metadata.specs.Header.{cluster_size}
 use Rattle.qcow2_metadata.specs.Cover.{cover}
@@ -10,7 +10,7 @@ use Rattle.qcow2_laws.specs.Alike.{IsDataAt, AreDataAt}
 use Rattle.qcow2_laws.specs.Mappings.{PreparedMapping, is_copied_data, IsPrivateIn}
 use Rattle.qcow2_image.specs.declared.prepared.NewCluster.{NewCluster}
 use Rattle.qcow2_image.specs.declared.prepared.Prepared.{Prepared}
-use Rattle.qcow2_image.specs.Found.{rest_of_table}
+use Rattle.qcow2_image.specs.Found.{l1_index_of, rest_of_table}
 use Rattle.qcow2_image.specs.Prepared.{length_of, offset_of, table_of}
 
 -- an existing mapping of no byte, at offset 0
@@ -39,6 +39,15 @@ module _ (h : HeaderFields) (known : Bytes) (offset : ℕ) where
     pub private : IsPrivateIn h known m
     pub in_place : (i : ℕ) → i < length_of p → m.is_private (offset + i) ≡ false → IsDataAt h known true (offset + i) (offset_of p + i)
     pub in_new : IsTrue (m.is_private offset) → (offset_of p % cluster_size h ≡ offset % cluster_size h) × IsHeldAlone h now (offset_of p / cluster_size h)
+
+  -- why the mapping may be refused as of a prepared table: one that is out, and isn't existing, lies in the same L2 table, and not all of the range may be written where it is
+  pub record IsTaken (n : ℕ) (out : List (Option Prepared)) : Type 0 where
+    pub place : ℕ
+    pub other : Prepared
+    pub is_out : slice_get out place ≡ Some (Some other)
+    pub keeps_table : IsSome (table_of other)
+    pub same_table : l1_index_of h other.guest ≡ l1_index_of h offset
+    pub never : (host : ℕ) → ¬ IsWritableAt n host
 
   -- ---- parts of the work
 

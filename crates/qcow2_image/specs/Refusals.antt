@@ -42,7 +42,7 @@ IsMet I.InvalidOption = ⊥
 IsMet I.Preallocation = ⊥
 IsMet I.Compressed = Unit {0}
 IsMet I.InUse = Unit {0}
-IsMet I.TablePrepared = Unit {0}
+IsMet I.TablePrepared = ⊥
 IsMet I.OutdatedMapping = Unit {0}
 IsMet I.ForeignState = ⊥
 IsMet I.Dependency = ⊥
@@ -55,6 +55,10 @@ IsMet (I.NotCompressed offset) = ⊥
 IsMet I.Metadata = Unit {0}
 IsMet I.Overflow = Unit {0}
 IsMet (I.StillInUse tables) = Unit {0}
+
+-- of preparing, also that the L2 table is kept as it is for another mapping
+abbrev pub IsMetPreparing : ImageError → Type 0
+IsMetPreparing e = IsMet e ⊎ (e ≡ I.TablePrepared)
 
 -- a failing storage marks the image as failed, want of memory may, and nothing else does
 abbrev pub failed_after : ImageError → Bool → Bool → Type 0

@@ -21,7 +21,7 @@ struct NoBacking;
 impl BackingDisk for NoBacking {
     ghost use Rattle.std.specs.Prelude.{[]};
 
-    ghost backing = { λ _. record { bytes = []; faults = 0; is_honest = ⊥ } };
+    ghost backing = { λ _. record { bytes = []; faults = 0; is_honest = Unit {0} } };
 
     fn size(&self) -> u64 {
         0

@@ -6,7 +6,8 @@ use Rattle.qcow2_image.specs.Preparing.{HasItsOwn, IsAnswered, IsPlaceOf, IsRest
 use Rattle.qcow2_alloc.proofs.AllocationSteps.{handed_on}
 use Rattle.qcow2_image.specs.Parts.{Readies}
 use Rattle.qcow2_image.specs.Steps.{following}
-use Rattle.qcow2_image.proofs.PreparedAs.{answered_before, answered_existing, answered_rest, if_ok_both}
+use Rattle.qcow2_image.proofs.PreparedAs.{answered_before, answered_existing, answered_rest, if_ok_both, taken_before}
+use Rattle.qcow2_image.proofs.Taken.{if_err, taken_by}
 use Rattle.qcow2_image.specs.Views.{meaning, pending_in}
 use Rattle.qcow2_image.proofs.Preparing.{goes_left, mid_sound, readied_existing, readied_then, readies_then}
 use Rattle.qcow2_image.proofs.ReadyingNew.{back_none}
@@ -63,7 +64,7 @@ returns-in-Some-clause-answers g c = λ some p out sound all.
     let q = c.existing_at.result in
     let ready = c.in_ok-table.ensures.ready p out sound in
     let place = subst (IsPlaceOf h known c.args.offset c.args.length) c.in-Some.is (c.in_ok-host.ensures.place (following p old mid) ready.0.sound.file ready.1.entry some) in
-    answered_before view old mid c.args.offset c.args.length known q (meaning view below mid q) ready.0.unseen.header ready.0.unseen.covers
+    answered_before view old mid c.args.offset c.args.length ready.0.unseen.header ready.0.unseen.covers known q (meaning view below mid q)
     (answered_existing view below mid known known c.args.offset c.args.length q mid.number some c.existing_at.ensures.existing (subst (IsWritableAt h known c.args.offset c.args.length) (sym c.existing_at.ensures.offset) place))
 
 pub returns-in-None-clause-answers : goal.returns-in-None-clause-answers
@@ -80,8 +81,21 @@ returns-in-None-clause-answers g c = λ some p out sound all.
     let place = subst (IsPlaceOf mid.file.header.fields known c.args.offset c.args.length) c.in-None.is (c.in_ok-host.ensures.place (following p old mid) ready.0.sound.file ready.1.entry some) in
     if_ok_both c.prepare_in.result
     (λ q rest own.
-    answered_before view old mid c.args.offset c.args.length now q (meaning view below new q) ready.0.unseen.header ready.0.unseen.covers
+    answered_before view old mid c.args.offset c.args.length ready.0.unseen.header ready.0.unseen.covers now q (meaning view below new q)
     (subst (λ (x : HeaderFields). (IsRest x known c.args.offset q → HasItsOwn x now q.new_cluster → ((o : ℕ) → IsWritableAt x known c.args.offset c.args.length o → ⊥)
     → IsAnswered x known c.args.offset c.args.length now q (meaning view below new q))) header
     (λ is alone never. answered_rest view below new known now c.args.offset c.args.length q is alone never) rest own place))
     (c.prepare_in.ensures.rest (following p old mid) out ready.0.sound ready.1) (c.prepare_in.ensures.alone (following p old mid) out ready.0.sound all)
+
+pub returns-in-None-clause-taken : goal.returns-in-None-clause-taken
+returns-in-None-clause-taken g c = λ some p out sound.
+    let view = g.S.Storage.view in
+    let below = g.F.BackingDisk.backing in
+    let old = c.args.self.now in
+    let mid = c.ensure_l2.new.self in
+    let ready = c.in_ok-table.ensures.ready p out sound in
+    let place = subst (IsPlaceOf mid.file.header.fields (known_in view mid.file) c.args.offset c.args.length) c.in-None.is (c.in_ok-host.ensures.place (following p old mid) ready.0.sound.file ready.1.entry some) in
+    if_err c.prepare_in.result
+    (λ e taken is.
+    taken_before view old mid c.args.offset c.args.length ready.0.unseen.header ready.0.unseen.covers out
+    (taken_by view below mid (following p old mid) out ready.0.sound c.args.offset c.in_ok-table.table ready.1 (known_in view mid.file) c.args.length (taken is) place)) c.prepare_in.ensures.taken

@@ -1,9 +1,11 @@
 use Rattle.std.proofs.Common.{◌≡◌, ◌<◌, sym, ◌∙◌, subst, arith}
-use Rattle.std.specs.Prelude.{IfOk, Result}
+use Rattle.std.specs.Prelude.{IfErr, IfOk, Result}
+use Rattle.qcow2_alloc.specs.declared.error.ImageError.TheVariants.{TablePrepared}
 use Rattle.qcow2_alloc.specs.ImageFile.{known_in}
-use Rattle.qcow2_image.specs.Preparing.{IsAnswered}
+use Rattle.qcow2_image.specs.Preparing.{IsAnswered, IsTaken}
 use Rattle.qcow2_image.proofs.Loading.{if_ok}
-use Rattle.qcow2_image.proofs.PreparedAs.{answered_before}
+use Rattle.qcow2_image.proofs.PreparedAs.{answered_before, taken_before}
+use Rattle.qcow2_image.proofs.Taken.{if_err}
 use Rattle.qcow2_image.specs.declared.image.Qcow2.{Qcow2}
 use Rattle.qcow2_image.specs.Calls.{Prepares}
 use Rattle.qcow2_image.specs.Image.{is_failed}
@@ -52,5 +54,19 @@ returns-clause-maps g c = λ some out sound.
     subst (λ (image : Qcow2 _ _). IfOk c.settled.result (λ p. IsAnswered old.file.header.fields (known_in view old.file) c.args.offset c.args.length (known_in view image.file) p (meaning view below image p))) (sym c.settled.ensures.rest)
     (subst (λ r. IfOk r (λ p. IsAnswered old.file.header.fields (known_in view old.file) c.args.offset c.args.length now p (meaning view below new p))) (sym c.settled.ensures.answer)
     (if_ok c.prepare-prepared.result
-    (λ p is. answered_before view old mid c.args.offset c.args.length now p (meaning view below new p) kept.unseen.header kept.unseen.covers is)
+    (λ p is. answered_before view old mid c.args.offset c.args.length kept.unseen.header kept.unseen.covers now p (meaning view below new p) is)
     (c.prepare-prepared.ensures.answers some (pending_in view below old out) out kept.sound (λ k. omega arith))))
+
+pub returns-clause-taken : goal.returns-clause-taken
+returns-clause-taken g c = λ may out sound.
+    let view = g.S.Storage.view in
+    let below = g.F.BackingDisk.backing in
+    let old = c.args.self.now in
+    let mid = c.begin.new.self in
+    let p = pending_in view below old out in
+    let kept = c.begin.ensures.keeps p out sound in
+    let some : 0 < c.args.length = let isnt = c.if-length-eq0.false in omega arith in
+    subst (λ r. IfErr r (λ e. e ≡ TablePrepared → IsTaken old.file.header.fields (known_in view old.file) c.args.offset c.args.length out)) (sym c.settled.ensures.answer)
+    (if_err c.prepare-prepared.result
+    (λ e taken is. taken_before view old mid c.args.offset c.args.length kept.unseen.header kept.unseen.covers out (taken is))
+    (c.prepare-prepared.ensures.taken some p out kept.sound))
