@@ -1,47 +1,30 @@
-use Rattle.std.specs.Prelude.{Err}
+use Rattle.std.proofs.Common.{Err, inl}
 use Rattle.qcow2_alloc.proofs.AllocationSteps.{handed_on}
-use Rattle.qcow2_image.specs.Parts.{Readies}
-use Rattle.qcow2_image.specs.Views.{pending_in}
-use Rattle.qcow2_image.proofs.Preparing.{goes_left, mid_sound, readied_existing, readied_then, readies_then}
-use Rattle.qcow2_image.proofs.ReadyingNew.{back_none}
+use Rattle.qcow2_image.specs.Parts.{PreparesRange}
+use Rattle.qcow2_image.proofs.Preparing.{readied_existing}
+use Rattle.qcow2_image.proofs.Refused.{prepares_after, readied_after}
 use Rattle.qcow2_image.proofs.image.Qcow2.prepare.Goals as goal
 
 pub returns-in_err-table-clause-readies : goal.returns-in_err-table-clause-readies
 returns-in_err-table-clause-readies g c = λ some out sound.
-    let view = g.S.Storage.view in
-    let below = g.F.BackingDisk.backing in
-    let old = c.args.self.now in
-    let e = c.in_err-table.field-0.0 in
-    handed_on (λ r. Readies view below old c.ensure_l2.new.self out c.args.offset c.args.length c.args.overwrite r) c.from_residual.result e c.from_residual.ensures
-    (goes_left view below out old c.ensure_l2.new.self e sound c.in_err-table.ensures.keeps_rest (c.in_err-table.ensures.ready (pending_in view below old out) out sound))
+    handed_on (λ r. PreparesRange g.S.Storage.view g.F.BackingDisk.backing c.args.self.now c.table_for.new.self out c.args.offset c.args.length c.args.overwrite r) c.from_residual.result c.in_err-table.field-0.0 c.from_residual.ensures
+    (c.in_err-table.ensures.finds out sound)
 
 pub returns-in_err-host-clause-readies : goal.returns-in_err-host-clause-readies
 returns-in_err-host-clause-readies g c = λ some out sound.
-    let view = g.S.Storage.view in
-    let below = g.F.BackingDisk.backing in
-    let old = c.args.self.now in
-    let mid = c.ensure_l2.new.self in
-    let e = c.in_err-host.field-0.0 in
-    let ready = c.in_ok-table.ensures.ready (pending_in view below old out) out sound in
-    handed_on (λ r. Readies view below old mid out c.args.offset c.args.length c.args.overwrite r) c.from_residual-in_err-host.result e c.from_residual-in_err-host.ensures
-    (readies_then view below out old mid mid sound ready.0 c.args.offset c.args.length c.args.overwrite (Err e) (back_none view below out mid (pending_in view below mid out) (mid_sound view below out old mid mid sound ready.0) e))
+    handed_on (λ r. PreparesRange g.S.Storage.view g.F.BackingDisk.backing c.args.self.now c.table_for.new.self out c.args.offset c.args.length c.args.overwrite r) c.from_residual-in_err-host.result c.in_err-host.field-0.0 c.from_residual-in_err-host.ensures
+    (inl (c.in_ok-table.ensures.finds out sound).0)
 
 pub returns-in-Some-clause-readies : goal.returns-in-Some-clause-readies
 returns-in-Some-clause-readies g c = λ some out sound k free.
     let view = g.S.Storage.view in
     let below = g.F.BackingDisk.backing in
-    let old = c.args.self.now in
-    let mid = c.ensure_l2.new.self in
-    let ready = c.in_ok-table.ensures.ready (pending_in view below old out) out sound in
-    readied_then view below out old mid mid sound ready.0 k c.args.offset c.args.length c.args.overwrite c.existing_at.result
-    (readied_existing view below out mid (mid_sound view below out old mid mid sound ready.0) c.existing_at.result c.args.offset c.args.length c.existing_at.ensures.existing k free c.args.overwrite)
+    let found = c.in_ok-table.ensures.finds out sound in
+    readied_after view below out c.args.self.now c.table_for.new.self c.table_for.new.self found.0 k c.args.offset c.args.length c.args.overwrite c.existing_at.result
+    (readied_existing view below out c.table_for.new.self found.0.sound c.existing_at.result c.args.offset c.args.length c.existing_at.ensures.existing k free c.args.overwrite)
 
 pub returns-in-None-clause-readies : goal.returns-in-None-clause-readies
 returns-in-None-clause-readies g c = λ some out sound.
-    let view = g.S.Storage.view in
-    let below = g.F.BackingDisk.backing in
-    let old = c.args.self.now in
-    let mid = c.ensure_l2.new.self in
-    let ready = c.in_ok-table.ensures.ready (pending_in view below old out) out sound in
-    readies_then view below out old mid c.prepare_in.new.self sound ready.0 c.args.offset c.args.length c.args.overwrite c.prepare_in.result
-    (c.prepare_in.ensures.readies out (mid_sound view below out old mid c.prepare_in.new.self sound ready.0) ready.1)
+    let found = c.in_ok-table.ensures.finds out sound in
+    prepares_after g.S.Storage.view g.F.BackingDisk.backing out c.args.self.now c.table_for.new.self c.prepare_or_free.new.self found.0 c.args.offset c.args.length c.args.overwrite c.prepare_or_free.result
+    (c.prepare_or_free.ensures.readies out found.0.sound found.1)
