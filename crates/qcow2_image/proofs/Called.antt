@@ -119,10 +119,6 @@ module _ {S F : Type 0} (view : S → StorageView) (backing : F → BackingView)
   told_answers old new Done (Ok a) told = told
   told_answers old new Done (Err e) told = told
 
-  pub told_flushes : (old new : Qcow2 S F) (r : Result (Unit {0}) ImageError) → Tells old new (λ a v w. (w.known ≡ contents_of w) × IsSame v w) r → Flushes view backing old new r
-  told_flushes old new (Ok a) told = told
-  told_flushes old new (Err e) told = told
-
   module _ (old new : Qcow2 S F) (quiet : (out : List (Option Prepared)) → IsSoundAt view backing (pending_in view backing old out) old out → Quietly view backing out old new) (marked : Bool) where
     -- it gives its answer, or is refused
     pub tells_quietly : {A : Type 0} (Done : A → View → View → Type 0) (done : Result A ImageError) → Marks done (is_failed new) marked → number_of new ≡ number_of old → is_failed old ≡ false
