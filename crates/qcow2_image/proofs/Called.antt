@@ -9,7 +9,7 @@ use Rattle.image_access.proofs.Passing.{passes_none}
 use Rattle.qcow2_metadata.specs.declared.header.HeaderFields.{HeaderFields}
 use Rattle.qcow2_metadata.specs.Entries.{l1_entry}
 use Rattle.qcow2_laws.specs.Guard.{Pending}
-use Rattle.qcow2_laws.specs.Views.{Guest, View, guest_of, contents_of}
+use Rattle.qcow2_laws.specs.Views.{Guest, View, guest_of}
 use Rattle.qcow2_laws.specs.Calls.{Refusal, storage, Works, Does, Refuses, IsSame}
 use Rattle.qcow2_laws.proofs.Leads.{leads_then, steps_endure}
 use Rattle.qcow2_laws.proofs.Unseen.{unseen_then}
@@ -17,7 +17,7 @@ use Rattle.qcow2_alloc.specs.declared.error.ImageError.{ImageError}
 use Rattle.qcow2_alloc.specs.ImageFile.{stand_in, view_in, nothing_given}
 use Rattle.qcow2_image.specs.declared.image.Qcow2.{Qcow2}
 use Rattle.qcow2_image.specs.declared.prepared.Prepared.{Prepared}
-use Rattle.qcow2_image.specs.Calls.{refusal_of, Answers, Flushes}
+use Rattle.qcow2_image.specs.Calls.{refusal_of, Answers}
 use Rattle.qcow2_image.specs.Image.{number_of, is_failed}
 use Rattle.qcow2_image.specs.Refusals.{failed_after, Marks}
 use Rattle.qcow2_image.specs.Views.{of_data, of_tables, to_free, IsSoundAt, pending_in, seen}

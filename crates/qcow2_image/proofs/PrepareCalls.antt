@@ -1,34 +1,23 @@
 -- Preparing as a call: it is answered, or refused and perhaps marked as failed.
-use Rattle.std.proofs.Common.{◌≡◌, ◌⊎◌, ⊎_elim, inl, inr, ℕ, Bool, true, false, List, [], Option, Some, refl, sym, ap, ◌∙◌, subst, arith}
+use Rattle.std.proofs.Common.{◌≡◌, ℕ, Bool, false, List, [], Option, Some, refl, sym, subst}
 use Rattle.std.specs.Prelude.{Result, Ok, Err, IfErr, IsTrue, slice_set}
 use Rattle.image_access.specs.Backing.{BackingView}
 use Rattle.image_access.specs.Moments.{StorageView}
-use Rattle.image_access.proofs.Passing.{passes_if}
-use Rattle.qcow2_metadata.specs.Bytes.{byte_at}
-use Rattle.qcow2_metadata.specs.declared.header.HeaderFields.{HeaderFields}
-use Rattle.qcow2_metadata.specs.Header.{cluster_size}
-use Rattle.qcow2_laws.specs.Calls.{Does, IsFault, IsSame, Refuses, Works, with_slot}
+use Rattle.qcow2_laws.specs.Calls.{Does, with_slot}
 use Rattle.qcow2_laws.specs.Mappings.{IsPrepared}
-use Rattle.qcow2_laws.specs.Stops.{IsKeptAt, more}
 use Rattle.qcow2_laws.specs.Views.{guest_of}
-use Rattle.qcow2_alloc.specs.ImageError.{IsFault as FaultOfTables}
 use Rattle.qcow2_alloc.specs.declared.error.ImageError.{ImageError}
 use Rattle.qcow2_alloc.specs.declared.error.ImageError.TheVariants as I
-use Rattle.qcow2_alloc.specs.ImageFile.{nothing_given}
 use Rattle.qcow2_image.specs.declared.image.Qcow2.{Qcow2}
 use Rattle.qcow2_image.specs.declared.prepared.Prepared.{Prepared}
-use Rattle.qcow2_image.specs.Calls.{refusal_of, Prepares}
+use Rattle.qcow2_image.specs.Calls.{Prepares}
 use Rattle.qcow2_image.specs.Image.{number_of, is_failed}
 use Rattle.qcow2_image.specs.Parts.{IsExisting, IsReadied, PreparesRange}
-use Rattle.qcow2_image.specs.Refusals.{failed_after, Marks}
-use Rattle.qcow2_image.specs.Steps.{following, Broke, Goes, GoesBack}
-use Rattle.qcow2_image.specs.Views.{of_data, of_tables, to_free, pending_in, seen, meaning, backing_bytes, IsSoundAt}
-use Rattle.qcow2_image.proofs.Answered.{same_setting}
+use Rattle.qcow2_image.specs.Refusals.{Marks}
+use Rattle.qcow2_image.specs.Views.{pending_in, seen, meaning, IsSoundAt}
 use Rattle.qcow2_image.proofs.Preparing.{readied_existing}
-use Rattle.qcow2_image.proofs.Settled.{is_fault, outcome, settled_does, settled_refuses}
-use Rattle.qcow2_image.proofs.Sound.{free_more}
+use Rattle.qcow2_image.proofs.Settled.{settled_does}
 use Rattle.qcow2_image.proofs.Refused.{refuses_left}
-use Rattle.qcow2_image.proofs.Stepped.{Steps, stepped_sound, stepped_works}
 
 module _ {S F : Type 0} (view : S → StorageView) (backing : F → BackingView) (old : Qcow2 S F) (usable : is_failed old ≡ false) where
   -- of nothing an existing mapping is made

@@ -1,33 +1,23 @@
 -- A range is prepared: by its L2 table, and then in that.
-use Rattle.std.proofs.Common.{◌≡◌, ⊎_elim, inl, inr, ℕ, ◌/◌, Bool, true, false, List, [], Option, Some, None, refl, sym, ap, ◌∙◌, subst, arith, is_some}
-use Rattle.std.specs.Prelude.{Result, Ok, Err, IsTrue, slice_get, slice_set, ◌&&◌, ◌==◌}
+use Rattle.std.proofs.Common.{◌≡◌, ⊎_elim, ℕ, ◌/◌, Bool, true, false, List, Option, Some, None, refl, sym, ap, ◌∙◌, subst, arith, is_some}
+use Rattle.std.specs.Prelude.{IsTrue, slice_get, slice_set, ◌&&◌, ◌==◌}
 use Rattle.std.specs.Option.{option_map_or}
 use mathlib.Core.Path.{fun_ext}
 use Rattle.image_access.specs.Backing.{BackingView}
 use Rattle.image_access.specs.Moments.{StorageView}
-use Rattle.qcow2_metadata.specs.declared.header.HeaderFields.{HeaderFields}
 use Rattle.qcow2_metadata.specs.Header.{cluster_size}
 use Rattle.qcow2_laws.specs.Calls.{with_slot}
-use Rattle.qcow2_laws.specs.Disk.{Disk}
-use Rattle.qcow2_laws.specs.Guard.{Pending}
-use Rattle.qcow2_laws.specs.Mappings.{IsPrepared}
-use Rattle.qcow2_laws.specs.Views.{Guest, guest_of}
-use Rattle.qcow2_laws.proofs.Compose.{works_then}
-use Rattle.qcow2_laws.proofs.Leads.{leads_none, endures_none, steps_endure}
-use Rattle.qcow2_alloc.specs.declared.error.ImageError.{ImageError}
+use Rattle.qcow2_laws.specs.Views.{guest_of}
+use Rattle.qcow2_laws.proofs.Leads.{leads_none, endures_none}
 use Rattle.qcow2_alloc.specs.ImageFile.{stand_in, view_in, contents_in, known_in, nothing_given}
-use Rattle.qcow2_alloc.proofs.FileSteps.{pending_same}
 use Rattle.qcow2_image.specs.declared.image.Qcow2.{Qcow2}
 use Rattle.qcow2_image.specs.declared.prepared.Prepared.{Prepared}
 use Rattle.qcow2_image.specs.declared.prepared.NewCluster.{NewCluster}
-use Rattle.qcow2_image.specs.Image.{number_of, KeepsRest}
-use Rattle.qcow2_image.specs.Parts.{IsExisting, IsReadied, Readies}
-use Rattle.qcow2_image.specs.Steps.{following, Goes, GoesBack, Keeps, Leaves, ListGrows}
-use Rattle.qcow2_image.specs.Views.{of_data, of_tables, to_free, held_by, pins_by, pins_of, over_all, pending_in, seen, meaning, is_private, run_of, backing_bytes, IsReady, IsReadyWith, IsSoundAt}
-use Rattle.qcow2_image.proofs.Answered.{followed, same_guest, same_now, sound_now, works_now}
-use Rattle.qcow2_image.proofs.Going.{goes_kept, goes_then}
+use Rattle.qcow2_image.specs.Image.{number_of}
+use Rattle.qcow2_image.specs.Parts.{IsExisting, IsReadied}
+use Rattle.qcow2_image.specs.Views.{held_by, pins_by, pins_of, over_all, pending_in, seen, meaning, is_private, run_of, IsReady, IsReadyWith, IsSoundAt}
+use Rattle.qcow2_image.proofs.Answered.{same_guest}
 use Rattle.qcow2_image.proofs.Slots.{get_set, over_all_put, slot_set}
-use Rattle.qcow2_image.proofs.Sound.{free_more}
 use Rattle.qcow2_image.proofs.Stepped.{Steps, stepped_sound, stepped_works}
 
 module _ {S F : Type 0} (view : S → StorageView) (backing : F → BackingView) (out : List (Option Prepared)) where

@@ -9,7 +9,6 @@ use Rattle.qcow2_laws.specs.Leads.{Leads}
 use Rattle.qcow2_laws.specs.Views.{contents_of}
 use Rattle.qcow2_laws.proofs.Leads.{leads_then, steps_endure}
 use Rattle.qcow2_laws.proofs.Unseen.{unseen_then}
-use Rattle.qcow2_metadata.specs.declared.header.HeaderFields.{HeaderFields}
 use Rattle.qcow2_alloc.specs.declared.allocation.Allocator.{Allocator}
 use Rattle.qcow2_alloc.specs.declared.error.ImageError.{ImageError}
 use Rattle.qcow2_alloc.specs.declared.image_file.ImageFile.{ImageFile}
@@ -23,7 +22,7 @@ use Rattle.qcow2_alloc.proofs.FileSteps.{pending_same}
 use Rattle.qcow2_image.specs.declared.image.Qcow2.{Qcow2}
 use Rattle.qcow2_image.specs.declared.prepared.Prepared.{Prepared}
 use Rattle.qcow2_image.specs.Parts.{EndsFreeing, IsRefused, StaysSound}
-use Rattle.qcow2_image.specs.Steps.{Keeps, Tidies, Broke, FreesListed}
+use Rattle.qcow2_image.specs.Steps.{Keeps, Tidies, FreesListed}
 use Rattle.qcow2_image.specs.Calls.{Flushes}
 use Rattle.qcow2_image.specs.Image.{number_of, is_failed}
 use Rattle.qcow2_image.specs.Refusals.{Marks}

@@ -1,4 +1,4 @@
-use Rattle.std.proofs.Common.{Err, inl}
+use Rattle.std.proofs.Common.{inl}
 use Rattle.qcow2_alloc.proofs.AllocationSteps.{handed_on}
 use Rattle.qcow2_image.specs.Parts.{PreparesRange}
 use Rattle.qcow2_image.proofs.Preparing.{readied_existing}
