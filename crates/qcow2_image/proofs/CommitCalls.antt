@@ -1,20 +1,22 @@
 -- A commit as a call: it is refused only where the image isn't sound.
-use Rattle.std.proofs.Common.{◌≡◌, ℕ, ◌<◌, false, List, [], ◌∷◌, refl, sym, ap, ◌∙◌, subst, arith}
-use Rattle.std.specs.Prelude.{Option, Some, None, IsTrue, IsSome, IfSome, Result, Ok, slice_get, slice_set}
+use Rattle.std.proofs.Common.{◌≡◌, inr, ℕ, ◌<◌, true, false, List, [], ◌∷◌, refl, sym, ap, ◌∙◌, subst, arith}
+use Rattle.std.specs.Prelude.{Option, Some, None, IsTrue, IsSome, IfSome, Result, Ok, Err, slice_get, slice_set}
 use Rattle.std.proofs.lemmas.Bool.{cond-true, eq-eqb}
 use Rattle.image_access.specs.Backing.{BackingView}
 use Rattle.image_access.specs.Moments.{StorageView}
-use Rattle.qcow2_laws.specs.Calls.{Refusal, storage, Rests, Does, Refuses, with_disk, with_slot}
+use Rattle.qcow2_laws.specs.Calls.{Refusal, storage, IsFault, IsSame, Works, Rests, Does, Refuses, with_disk, with_slot}
 use Rattle.qcow2_laws.specs.Mappings.{gift_of_commit, committed}
 use Rattle.qcow2_laws.specs.Stops.{Gift}
 use Rattle.qcow2_laws.specs.Views.{View, guest_of}
+use Rattle.qcow2_laws.proofs.Compose.{works_less, works_then}
 use Rattle.qcow2_alloc.specs.CacheMarks.{l2_pins}
 use Rattle.qcow2_alloc.specs.MetadataCaches.{l2_at}
 use Rattle.qcow2_alloc.specs.declared.error.ImageError.{ImageError}
 use Rattle.qcow2_image.specs.declared.image.Qcow2.{Qcow2}
 use Rattle.qcow2_image.specs.declared.prepared.Prepared.{Prepared}
 use Rattle.qcow2_image.specs.Image.{number_of, is_failed}
-use Rattle.qcow2_image.specs.Parts.{Committed, Enters}
+use Rattle.qcow2_image.specs.Calls.{refusal_of}
+use Rattle.qcow2_image.specs.Parts.{Committed, EndsFreeing, Enters, NotesNew}
 use Rattle.qcow2_image.specs.Views.{pins_by, pins_of, pending_in, seen, meaning, IsSoundAt}
 use Rattle.qcow2_image.proofs.Answered.{over_all_at}
 use Rattle.qcow2_image.proofs.Settled.{settled_does}
@@ -58,3 +60,48 @@ module _ {S F : Type 0} (view : S → StorageView) (backing : F → BackingView)
         let h = holds out k placed sound in subst (λ (image : Qcow2 S F). Enters view backing image new p) h.same enters out k placed h.found sound in
         settled_does view backing old new out (slice_set out k None) (gift_of_commit (seen view backing old out).setting.cluster_size (guest_of (seen view backing old out)).disk (meaning view backing old p) ∷ [])
         (λ sound. (done sound).works) (λ sound. (done sound).sound) number usable (λ sound. (done sound).is)
+
+    -- it is entered, and clusters are freed then
+    module _ (entered final : Qcow2 S F) (enters : Enters view backing mid entered p) (notes : NotesNew view backing mid entered p) (some : IsSome p.new_cluster) (number : number_of final ≡ number_of old) (usable : is_failed old ≡ false) (r : Result (Unit {0}) ImageError)
+        (ends : IsTrue entered.file.caches.is_changed → (out : List (Option Prepared)) → IsSoundAt view backing (pending_in view backing entered out) entered out → EndsFreeing view backing entered final out r)
+        (out : List (Option Prepared)) (k : ℕ) (placed : slice_get out k ≡ Some (Some p)) where
+      abbrev v : View
+      v = seen view backing old out
+
+      abbrev m : View
+      m = seen view backing entered (slice_set out k None)
+
+      abbrev w : View
+      w = seen view backing final (slice_set out k None)
+
+      abbrev gifts : List Gift
+      gifts = gift_of_commit v.setting.cluster_size (guest_of v).disk (meaning view backing old p) ∷ []
+
+      module _ (sound : IsSoundAt view backing (pending_in view backing old out) old out) where
+        is_entered : Committed view backing old entered out k p
+        is_entered = let h = holds out k placed sound in subst (λ (image : Qcow2 S F). Enters view backing image entered p) h.same enters out k placed h.found sound
+
+        is_noted : IsTrue entered.file.caches.is_changed
+        is_noted = let h = holds out k placed sound in subst (λ (image : Qcow2 S F). NotesNew view backing image entered p) h.same notes out k placed h.found sound some
+
+        is_ended : EndsFreeing view backing entered final (slice_set out k None) r
+        is_ended = ends is_noted (slice_set out k None) is_entered.sound
+
+        works_both : Works m w [] [] → Works v w gifts []
+        works_both then = works_then v m w gifts [] is_entered.sound is_entered.works (works_less m w [] gifts [] (λ o x never. absurd never) then)
+
+      pub commit_freed : r ≡ Ok tt → Does v w gifts [] (guest_of w ≡ with_slot (with_disk (guest_of v) (committed (guest_of v).disk (meaning view backing old p))) k None)
+      commit_freed ok =
+          let done : IsSoundAt view backing (pending_in view backing old out) old out → EndsFreeing view backing entered final (slice_set out k None) (Ok tt) = λ sound. subst (EndsFreeing view backing entered final (slice_set out k None)) ok (is_ended sound) in
+          settled_does view backing old final out (slice_set out k None) gifts (λ sound. works_both sound (done sound).works) (λ sound. (done sound).sound) number usable (λ sound. (done sound).same ∙ (is_entered sound).is)
+
+      pub commit_broke : (e : ImageError) → r ≡ Err e → (refusal_of e ≡ storage → IsTrue (is_failed final)) → (v.is_sound → IsFault (refusal_of e)) × Refuses v w gifts [] (refusal_of e) (IsSame v w)
+      commit_broke e refused marked =
+          let done : IsSoundAt view backing (pending_in view backing old out) old out → EndsFreeing view backing entered final (slice_set out k None) (Err e) = λ sound. subst (EndsFreeing view backing entered final (slice_set out k None)) refused (is_ended sound) in (
+            (λ sound. (done sound).1),
+            record {
+              acts = record { number = number; works = λ sound. works_both sound (done sound).0; rests = λ failed. absurd (let f : true ≡ false = sym failed ∙ usable in cc) };
+              answer = λ sound. inr ((done sound).1, (done sound).2);
+              fault = marked;
+            },
+          )

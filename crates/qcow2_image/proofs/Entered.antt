@@ -1,27 +1,27 @@
 -- A prepared mapping is committed, whatever stands for it: over data in place only its table is let go.
 use Rattle.std.proofs.Common.{◌≡◌, ℕ, ◌-◌, ◌/◌, false, List, [], ◌∷◌, ◌++◌, refl, sym, ap, ◌∙◌, subst, is_some}
-use Rattle.std.specs.Prelude.{Option, Some, None, IsSome, IfSome, slice_get, slice_set, ◌==◌, ◌&&◌}
+use Rattle.std.specs.Prelude.{Option, Some, None, IsSome, IsTrue, IfSome, slice_get, slice_set, ◌==◌, ◌&&◌}
 use Rattle.std.proofs.lemmas.Bool.{cond-false}
 use Rattle.std.proofs.lemmas.List.{append-nil}
 use mathlib.Core.Path.{fun_ext}
 use Rattle.image_access.specs.Backing.{BackingView}
 use Rattle.image_access.specs.Moments.{StorageView}
-use Rattle.qcow2_metadata.specs.Header.{cluster_size}
+use Rattle.qcow2_metadata.specs.Header.{cluster_size, entries_per_cluster}
 use Rattle.qcow2_laws.specs.Calls.{with_disk, with_slot}
 use Rattle.qcow2_laws.specs.Disk.{Disk}
 use Rattle.qcow2_laws.specs.Mappings.{gift_of_commit, committed}
 use Rattle.qcow2_laws.specs.Views.{guest_of}
 use Rattle.qcow2_laws.proofs.Compose.{works_less}
 use Rattle.qcow2_alloc.specs.CacheMarks.{l2_pins}
-use Rattle.qcow2_alloc.specs.MetadataCaches.{l2_at}
+use Rattle.qcow2_alloc.specs.MetadataCaches.{IsEntryAt, l2_at}
 use Rattle.qcow2_alloc.specs.ImageFile.{contents_in, known_in}
 use Rattle.qcow2_image.specs.declared.image.Qcow2.{Qcow2}
 use Rattle.qcow2_image.specs.declared.prepared.Prepared.{Prepared}
 use Rattle.qcow2_image.specs.declared.prepared.NewCluster.{NewCluster}
 use Rattle.qcow2_image.specs.Calls.{Discards}
-use Rattle.qcow2_image.specs.Parts.{Committed, Enters}
+use Rattle.qcow2_image.specs.Parts.{Committed, Enters, NotesNew}
 use Rattle.qcow2_image.specs.Steps.{EntersCluster, EntersNew, Unpins, freed_by}
-use Rattle.qcow2_image.specs.Views.{pins_of, pending_in, seen, meaning, is_private, IsReadyWith, IsSoundAt}
+use Rattle.qcow2_image.specs.Views.{cluster_of, HasCluster, IsNewFor, pins_of, pending_in, seen, meaning, is_private, IsReadyWith, IsSoundAt}
 use Rattle.qcow2_image.proofs.Committing.{commits_new}
 use Rattle.qcow2_image.proofs.LetGo.{discards}
 
@@ -70,3 +70,23 @@ module _ {S F : Type 0} (view : S → StorageView) (backing : F → BackingView)
   pub enters : (mid : Qcow2 S F) (x : Option NewCluster) → p.new_cluster ≡ x → EntersNew p.table x old mid → Unpins p.table mid new → Enters view backing old new p
   enters mid None none entered un = enters_nothing none (subst (λ (m : Qcow2 S F). Unpins p.table m new) entered un)
   enters mid (Some n) fresh entered un = enters_new mid n fresh entered un
+
+  -- ---- a change is noted where there is a new cluster
+
+  none_new : p.new_cluster ≡ None → IsSome p.new_cluster → ⊥
+  none_new none some = let no = subst (λ (x : Option NewCluster). IsSome x) none some in cc
+
+  notes_new : (mid : Qcow2 S F) (n : NewCluster) → p.new_cluster ≡ Some n → EntersCluster p.table n.index n.pending.first_cluster old mid → Unpins p.table mid new → NotesNew view backing old new p
+  notes_new mid n fresh entered un = λ out k placed found sound some. by_table out k sound p.table refl found (sound.ready k p placed).mapped where
+    by_table : (out : List (Option Prepared)) (k : ℕ) → IsSoundAt view backing (pending_in view backing old out) old out → (x : Option ℕ) → p.table ≡ x → IfSome x (λ t. IsSome (l2_at old.file.caches t))
+        → IsReadyWith old.file.header.fields (known_in view old.file) (contents_in view old.file) p x → IsTrue new.file.caches.is_changed
+    by_table out k sound None is found ready = absurd (let e : Some n ≡ None = sym fresh ∙ ready in cc)
+    by_table out k sound (Some t) is found ready =
+        let h = old.file.header.fields in
+        let new_for : IsNewFor h (known_in view old.file) (contents_in view old.file) p n = subst (HasCluster h (known_in view old.file) (contents_in view old.file) p) fresh ready.cluster in
+        let at : IsEntryAt h (known_in view old.file) (cluster_of h p / entries_per_cluster h) t n.index = subst (λ j. IsEntryAt h (known_in view old.file) (cluster_of h p / entries_per_cluster h) t j) (sym new_for.index) ready.named in
+        un.changed ∙ entered.noted t is h (pending_in view backing old out) (contents_in view old.file) (cluster_of h p / entries_per_cluster h) sound.file.caches at found new_for.nameable
+
+  pub notes : (mid : Qcow2 S F) (x : Option NewCluster) → p.new_cluster ≡ x → EntersNew p.table x old mid → Unpins p.table mid new → NotesNew view backing old new p
+  notes mid None none entered un = λ out k placed found sound some. absurd (none_new none some)
+  notes mid (Some n) fresh entered un = notes_new mid n fresh entered un

@@ -16,7 +16,7 @@ use Rattle.qcow2_image.specs.declared.image.Qcow2.{Qcow2}
 use Rattle.qcow2_image.specs.declared.prepared.Prepared.{Prepared}
 use Rattle.qcow2_alloc.specs.CacheMarks.{l2_pins, KeepsMarks, SameTables}
 use Rattle.qcow2_alloc.specs.FreeList.{with_listed}
-use Rattle.qcow2_alloc.specs.MetadataCaches.{order_of, l2_at, IsEntryAt, MapsEntry}
+use Rattle.qcow2_alloc.specs.MetadataCaches.{order_of, l2_at, IsEntryAt, MapsEntry, NotesEntry}
 use Rattle.qcow2_image.specs.declared.prepared.NewCluster.{NewCluster}
 use Rattle.qcow2_laws.specs.Guard.{SameCovers}
 use Rattle.qcow2_laws.specs.Views.{guest_of}
@@ -57,6 +57,7 @@ module _ {S F : Type 0} where
     pub order : order_of new.file.caches ≡ order_of old.file.caches
     pub marks : KeepsMarks old.file.caches new.file.caches
     pub entered : (t : ℕ) → table ≡ Some t → (answer : Option (ℕ × ℕ)) × MapsEntry old.file.caches new.file.caches t index host answer
+    pub noted : (t : ℕ) → table ≡ Some t → NotesEntry old.file.caches new.file.caches t index host
 
   -- so is that of a new cluster, where there is one
   abbrev pub EntersNew : Option ℕ → Option NewCluster → Qcow2 S F → Qcow2 S F → Type 0
@@ -68,6 +69,7 @@ module _ {S F : Type 0} where
     pub rest : new ≡ record old { file = record old.file { caches = new.file.caches } }
     pub tables : SameTables old.file.caches new.file.caches
     pub pins : (c : ℕ) → l2_pins new.file.caches c ≡ l2_pins old.file.caches c - pins_of table c
+    pub changed : new.file.caches.is_changed ≡ old.file.caches.is_changed
 
   -- an L2 table that is held has one pin more, and nothing else changes
   pub record Pins (table : ℕ) (old new : Qcow2 S F) : Type 0 where

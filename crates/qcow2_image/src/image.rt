@@ -44,7 +44,9 @@ impl<S: Storage, F: WrappedFormat<S>> Qcow2<S, F> {
     ghost use Rattle.qcow2_laws.specs.Views.{guest_of};
     ghost use Rattle.qcow2_image.specs.declared.prepared.Prepared.{Prepared};
     ghost use Rattle.qcow2_laws.specs.Guard.{Pending};
-    ghost use Rattle.qcow2_image.specs.Views.{seen, IsSoundAt};
+    ghost use Rattle.qcow2_image.specs.Views.{seen, pending_in, IsSoundAt};
+    ghost use Rattle.qcow2_image.specs.Parts.{EndsFreeing};
+    ghost use Rattle.qcow2_alloc.specs.ImageError.{IsFault};
     ghost use Rattle.qcow2_image.specs.Calls.{Flushes};
     ghost use Rattle.qcow2_alloc.specs.ImageFile.{contents_in, known_in};
     ghost use Rattle.qcow2_image.specs.Steps.{Keeps, FreesListed};
@@ -290,11 +292,24 @@ impl<S: Storage, F: WrappedFormat<S>> Qcow2<S, F> {
         ensures cause { IfErr result IsMet }
         ensures emptied { IsTrue (is_writable self.old) → OnOk result (HasNothingToFree self.new) }
         ensures frees { (p : Pending) (out : List (Option Prepared)) → IsSoundAt S.view F.backing (with_listed p self.old.file.free_list) self.old out → FreesListed S.view F.backing p self.old self.new out result }
+        ensures faults { (p : Pending) (out : List (Option Prepared)) → IsSoundAt S.view F.backing (with_listed p self.old.file.free_list) self.old out → IfErr result IsFault }
+        ensures noted { IsTrue self.old.file.caches.is_changed → IsTrue self.new.file.caches.is_changed }
     {
         let Some(allocator) = &mut self.allocator else {
             return Ok(());
         };
         allocator.free(&mut self.file)
+    }
+
+    // Frees the clusters that are to be freed, at the end of a call that changed an entry.
+    pub(crate) fn end_freeing(&mut self) -> Result<(), ImageError>
+        ensures image { IsSameImage self.old self.new }
+        ensures marks { Marks result (is_failed self.old) (is_failed self.new) }
+        ensures frees { IsTrue self.old.file.caches.is_changed → (out : List (Option Prepared)) → IsSoundAt S.view F.backing (pending_in S.view F.backing self.old out) self.old out
+            → EndsFreeing S.view F.backing self.old self.new out result }
+    {
+        let freed = self.free_listed();
+        self.settled(freed)
     }
 
     // From here on it is noted anew whether anything changes.

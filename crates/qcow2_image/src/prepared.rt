@@ -27,7 +27,7 @@ pub enum CommitRefused {
 }
 
 impl Prepared {
-    ghost use Rattle.std.specs.Prelude.{◌≡◌, ◌↔◌, IsTrue, is_none};
+    ghost use Rattle.std.specs.Prelude.{◌≡◌, ◌↔◌, IsTrue, IsFalse, IsSome, IsNone, is_none};
     ghost use Rattle.qcow2_image.specs.Prepared.{image_of, table_of, length_of, offset_of};
     ghost use Rattle.qcow2_image.specs.Image.{number_of};
 
@@ -50,6 +50,14 @@ impl Prepared {
         ensures { IsTrue result ↔ (image_of self.now ≡ number_of image.now) }
     {
         self.image == image.number
+    }
+
+    // Whether a new cluster is to be entered in a table.
+    pub(crate) fn has_new_cluster(&self) -> bool
+        ensures some { IsTrue result → IsSome self.now.new_cluster }
+        ensures table { IsNone (table_of self.now) → IsFalse result }
+    {
+        self.table.is_some() && self.new_cluster.is_some()
     }
 
     /// An existing mapping: nothing is to be committed.

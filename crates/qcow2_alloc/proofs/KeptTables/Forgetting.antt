@@ -1,6 +1,5 @@
 -- An L2 table that isn't modified is dropped: all is kept, and nothing known changes.
-use Rattle.std.proofs.Common.{◌≡◌, ◌≢◌, ℕ, ◌+◌, ◌*◌, ◌^◌, Bool, true, false, cond, not, eqb, nat_lt, List, [], ◌∷◌, ◌++◌, Option, Some, None, refl, sym, ap, ◌∙◌, subst, arith}
-use Rattle.std.proofs.lemmas.Bool.{cases_Bool}
+use Rattle.std.proofs.Common.{◌≡◌, ℕ, ◌*◌, ◌^◌, Bool, true, false, cond, not, eqb, nat_lt, List, [], ◌∷◌, ◌++◌, Option, Some, None, refl, sym, ap, ◌∙◌, subst, arith}
 use Rattle.std.proofs.lemmas.Bool.Decides.{nat_tests}
 use Rattle.std.specs.Cmp.{nat_eq_equiv}
 use Rattle.std.specs.Option.{option_map, option_map_or}
@@ -15,7 +14,7 @@ use Rattle.qcow2_laws.specs.Caches.{known_bytes, AreClean, HasL2}
 use Rattle.qcow2_alloc.specs.declared.async_lru_cache.slot.Slot.{Slot}
 use Rattle.qcow2_alloc.specs.declared.cache.backends.L2CacheBackend.{L2CacheBackend}
 use Rattle.qcow2_alloc.specs.declared.cache.MetadataCaches.{MetadataCaches}
-use Rattle.qcow2_alloc.specs.AsyncLruCache.{Cache, is_pinned, can_remove, pins_at, with_entries}
+use Rattle.qcow2_alloc.specs.AsyncLruCache.{Cache, is_pinned, can_remove, with_entries}
 use Rattle.qcow2_alloc.specs.CacheMarks.{l2_pins, Forgets, ForgetsTable}
 use Rattle.qcow2_alloc.specs.KeptTables.{cached_tables, AreElsewhere, AreKept}
 use Rattle.qcow2_alloc.specs.MetadataCaches.{order_of, l2_tables, refblocks, AreAllWritten, AreSound}

@@ -1,6 +1,6 @@
 use Rattle.std.proofs.Common.{◌%◌, ◌^◌, true, Ok, refl, ap, ◌∙◌}
 use Rattle.qcow2_laws.specs.Changes.{one_at}
-use Rattle.qcow2_alloc.specs.Allocation.{owed_as, Becomes, LowersOne}
+use Rattle.qcow2_alloc.specs.Allocation.{owed_as, LowersOne}
 use Rattle.qcow2_alloc.specs.ImageFile.{contents_in}
 use Rattle.qcow2_alloc.proofs.AllocationSteps.{handed_on, of_equal, becomes_as, may_lower_still, counted_at, given_one, owed_counted, owed_has_block}
 use Rattle.qcow2_alloc.proofs.allocation.Allocator.try_lower.Goals as goal

@@ -4,7 +4,7 @@ use Rattle.image_access.proofs.Passing.{passes_none}
 use Rattle.qcow2_alloc.specs.ImageFile.{view_in}
 use Rattle.qcow2_image.specs.Image.{is_failed}
 use Rattle.qcow2_image.specs.Views.{seen}
-use Rattle.qcow2_image.proofs.CommitCalls.{refuses_unsound, holds, commit_done}
+use Rattle.qcow2_image.proofs.CommitCalls.{refuses_unsound, holds, commit_done, commit_freed, commit_broke}
 use Rattle.qcow2_image.proofs.Settled.{is_fault, outcome}
 use Rattle.qcow2_image.proofs.image.Qcow2.commit_data_mapping.Goals as goal
 
@@ -24,7 +24,21 @@ returns-in-Err-clause-sees g c = λ out k placed.
           (is_fault e (is_failed c.hold_l2.new.self) (is_failed c.note.new.self) (outcome e (is_failed c.hold_l2.new.self) (is_failed c.note.new.self) c.note.ensures.marks)),
     )
 
-pub returns-clause-sees : goal.returns-clause-sees
-returns-clause-sees g c = λ out k placed.
+pub returns-then-not-is_new-clause-sees : goal.returns-then-not-is_new-clause-sees
+returns-then-not-is_new-clause-sees g c = λ out k placed.
     commit_done g.S.Storage.view g.F.BackingDisk.backing c.args.self.now c.args.prepared c.hold_l2.result c.hold_l2.new.self c.hold_l2.ensures.none c.hold_l2.ensures.pinned c.enter_prepared.new.self c.enter_prepared.ensures.commits
     (c.enter_prepared.ensures.stays.image.number ∙ c.hold_l2.ensures.stays.image.number) c.if-self.false out k placed
+
+pub returns-in-Ok-clause-sees : goal.returns-in-Ok-clause-sees
+returns-in-Ok-clause-sees g c = λ out k placed.
+    commit_freed g.S.Storage.view g.F.BackingDisk.backing c.args.self.now c.args.prepared c.hold_l2.result c.hold_l2.new.self c.hold_l2.ensures.none c.hold_l2.ensures.pinned c.enter_prepared.new.self c.end_freeing.new.self
+    c.enter_prepared.ensures.commits c.enter_prepared.ensures.notes (c.has_new_cluster-is_new.ensures.some c.if-not-is_new.false) (c.end_freeing.ensures.image.number ∙ c.enter_prepared.ensures.stays.image.number ∙ c.hold_l2.ensures.stays.image.number) c.if-self.false
+    c.end_freeing.result c.end_freeing.ensures.frees out k placed c.in-Ok.is
+
+pub returns-in-Err-end_freeing-clause-sees : goal.returns-in-Err-end_freeing-clause-sees
+returns-in-Err-end_freeing-clause-sees g c = λ out k placed.
+    let e = c.in-Err-end_freeing.refusal in
+    commit_broke g.S.Storage.view g.F.BackingDisk.backing c.args.self.now c.args.prepared c.hold_l2.result c.hold_l2.new.self c.hold_l2.ensures.none c.hold_l2.ensures.pinned c.enter_prepared.new.self c.end_freeing.new.self
+    c.enter_prepared.ensures.commits c.enter_prepared.ensures.notes (c.has_new_cluster-is_new.ensures.some c.if-not-is_new.false) (c.end_freeing.ensures.image.number ∙ c.enter_prepared.ensures.stays.image.number ∙ c.hold_l2.ensures.stays.image.number) c.if-self.false
+    c.end_freeing.result c.end_freeing.ensures.frees out k placed e c.in-Err-end_freeing.is
+    (is_fault e (is_failed c.enter_prepared.new.self) (is_failed c.end_freeing.new.self) (outcome e (is_failed c.enter_prepared.new.self) (is_failed c.end_freeing.new.self) c.in-Err-end_freeing.ensures.marks))

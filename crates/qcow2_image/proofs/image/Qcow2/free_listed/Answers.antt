@@ -1,14 +1,18 @@
-use Rattle.std.proofs.Common.{◌≡◌, Ok, subst}
+use Rattle.std.proofs.Common.{subst}
 use Rattle.std.specs.Prelude.{IfSome}
 use Rattle.qcow2_alloc.specs.FreeList.{with_listed}
 use Rattle.qcow2_alloc.specs.ImageFile.{HasReftable}
-use Rattle.qcow2_image.proofs.Answered.{tidies_kept}
-use Rattle.qcow2_image.proofs.Entering.{keeps_none}
-use Rattle.qcow2_image.proofs.Tidying.{frees_listed}
+use Rattle.qcow2_image.proofs.Tidying.{frees_listed, frees_fault}
 use Rattle.qcow2_image.proofs.image.Qcow2.free_listed.Goals as goal
 
 pub returns-clause-frees : goal.returns-clause-frees
 returns-clause-frees g c = λ p out sound.
     let view = g.S.Storage.view in
     frees_listed view g.F.BackingDisk.backing out p c.args.self.now sound c.free.new.file c.free.new.self c.free.ensures.marks.pins c.free.ensures.header c.free.result
+    (c.free.ensures.sound p (record { sound = sound.file; reftable = subst (λ x. IfSome x (λ a. HasReftable view c.args.self.now.file a.reftable)) c.in-Some.is sound.reftable }))
+
+pub returns-clause-faults : goal.returns-clause-faults
+returns-clause-faults g c = λ p out sound.
+    let view = g.S.Storage.view in
+    frees_fault view g.F.BackingDisk.backing out (with_listed p c.args.self.now.file.free_list) (with_listed p c.free.new.file.free_list) c.args.self.now.file c.free.new.file c.free.new.self c.free.result
     (c.free.ensures.sound p (record { sound = sound.file; reftable = subst (λ x. IfSome x (λ a. HasReftable view c.args.self.now.file a.reftable)) c.in-Some.is sound.reftable }))
