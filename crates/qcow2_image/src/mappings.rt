@@ -11,7 +11,8 @@ ghost use Rattle.qcow2_alloc.specs.MetadataCaches.{IsEntryAt, l2_at};
 ghost use Rattle.qcow2_alloc.specs.ImageFile.{known_in, IsSoundFile};
 ghost use Rattle.qcow2_image.specs.declared.prepared.Prepared.{Prepared};
 ghost use Rattle.qcow2_image.specs.Calls.{Answers, Commits, Discards, Prepares};
-ghost use Rattle.qcow2_image.specs.Parts.{Enters, NotesNew, IsExisting, Readies};
+ghost use Rattle.qcow2_image.specs.Parts.{Enters, NotesNew, IsExisting, Readies, IsRefused, PreparesRange};
+ghost use Rattle.qcow2_alloc.specs.ImageError.{IsFault};
 ghost use Rattle.qcow2_alloc.specs.CacheMarks.{l2_pins};
 ghost use Rattle.qcow2_laws.specs.Alike.{IsAlike};
 ghost use Rattle.qcow2_image.specs.Found.{mapping_of, IsRunBehind, NamesTable, IsRunFrom, IsFound, kind_at, rest_of_table, l1_index_of, l2_index_of};
@@ -64,6 +65,16 @@ pub(crate) fn passes(size: u64, offset: u64, length: u64) -> bool
     ensures { result ≡ passes_size size offset length }
 {
     length > 0 && (offset > size || length > size - offset)
+}
+
+// Whether nothing more is done after a refusal.
+fn is_last(refusal: &ImageError) -> bool
+    ensures fault { IsFault refusal.now → IsTrue result }
+{
+    matches!(
+        refusal,
+        ImageError::Memory | ImageError::Storage | ImageError::TablePrepared
+    )
 }
 
 // What the first cluster of a range that is to be written has.
@@ -312,19 +323,64 @@ impl<S: Storage, F: WrappedFormat<S>> Qcow2<S, F> {
         requires writable { IsTrue (is_writable self.old) }
         ensures stays { Stays self.old self.new }
         ensures cause { IfErr result IsMetPreparing }
-        ensures taken { 0 < length → (p : Pending) (out : List (Option Prepared)) → IsSoundAt S.view F.backing p self.old out
+        ensures taken { 0 < length → (out : List (Option Prepared)) → IsSoundAt S.view F.backing (pending_in S.view F.backing self.old out) self.old out
             → IfErr result (λ e. e ≡ TablePrepared → IsTaken self.old.file.header.fields (known_in S.view self.old.file) offset length out) }
         ensures own { IfOk result (λ p. image_of p ≡ number_of self.old) }
         ensures some { IfOk result (λ p. 0 < length → 0 < length_of p) }
         ensures readies { 0 < length → (out : List (Option Prepared)) → IsSoundAt S.view F.backing (pending_in S.view F.backing self.old out) self.old out
-            → Readies S.view F.backing self.old self.new out offset length overwrite result }
-        ensures answers { 0 < length → (p : Pending) (out : List (Option Prepared)) → IsSoundAt S.view F.backing p self.old out → HoldsAll S.view F.backing p out
+            → PreparesRange S.view F.backing self.old self.new out offset length overwrite result }
+        ensures answers { 0 < length → (out : List (Option Prepared)) → IsSoundAt S.view F.backing (pending_in S.view F.backing self.old out) self.old out
             → IfOk result (λ q. IsAnswered self.old.file.header.fields (known_in S.view self.old.file) offset length (known_in S.view self.new.file) q (meaning S.view F.backing self.new q)) }
     {
-        let table = self.ensure_l2(offset)?;
+        let table = self.table_for(offset)?;
         match self.existing_host(table, offset, length)? {
             Some(host) => Ok(self.existing_at(offset, host, length)),
-            None => self.prepare_in(table, offset, length, overwrite),
+            None => self.prepare_or_free(table, offset, length, overwrite),
+        }
+    }
+
+    // Makes a range ready in a held table. Where that is refused, the clusters that are to be freed are freed.
+    fn prepare_or_free(
+        &mut self,
+        table: HostCluster,
+        offset: u64,
+        length: u64,
+        overwrite: bool,
+    ) -> Result<Prepared, ImageError>
+        requires writable { IsTrue (is_writable self.old) }
+        ensures stays { Stays self.old self.new }
+        ensures cause { IfErr result IsMetPreparing }
+        ensures taken { IfErr result (λ e. e ≡ TablePrepared → 0 < l2_pins self.old.file.caches table) }
+        ensures own { IfOk result (λ p. image_of p ≡ number_of self.old) }
+        ensures some { IfOk result (λ p. 0 < length_of p) }
+        ensures readies { (out : List (Option Prepared)) → IsSoundAt S.view F.backing (pending_in S.view F.backing self.old out) self.old out
+            → HoldsTable S.view F.backing self.old offset table → PreparesRange S.view F.backing self.old self.new out offset length overwrite result }
+        ensures alone { (p : Pending) (out : List (Option Prepared)) → IsSoundAt S.view F.backing p self.old out → HoldsAll S.view F.backing p out
+            → IfOk result (λ q. HasItsOwn self.old.file.header.fields (known_in S.view self.new.file) q.new_cluster) }
+        ensures rest { (p : Pending) (out : List (Option Prepared)) → IsSoundAt S.view F.backing p self.old out
+            → HoldsTable S.view F.backing self.old offset table → IfOk result (IsRest self.old.file.header.fields (known_in S.view self.old.file) offset) }
+        ensures header { OnOk result (self.new.file.header ≡ self.old.file.header) }
+    {
+        match self.prepare_in(table, offset, length, overwrite) {
+            Ok(prepared) => Ok(prepared),
+            Err(refusal) => Err(self.free_after(refusal)),
+        }
+    }
+
+    // Frees the clusters that are to be freed after a refusal; the refusal that is answered. Nothing is freed after a fault, nor where a table is under another mapping.
+    fn free_after(&mut self, refusal: ImageError) -> ImageError
+        ensures stays { Stays self.old self.new }
+        ensures cause { IsMetPreparing refusal → IsMetPreparing result }
+        ensures taken { IsMetPreparing refusal → result ≡ TablePrepared → refusal ≡ TablePrepared }
+        ensures fault { IsFault refusal → (result ≡ refusal) × (self.new ≡ self.old) }
+        ensures frees { (out : List (Option Prepared)) → IsSoundAt S.view F.backing (pending_in S.view F.backing self.old out) self.old out → IsRefused S.view F.backing self.old self.new out result }
+    {
+        if is_last(&refusal) {
+            return refusal;
+        }
+        match self.free_listed() {
+            Ok(()) => refusal,
+            Err(fault) => fault,
         }
     }
 

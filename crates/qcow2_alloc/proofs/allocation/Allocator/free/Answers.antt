@@ -2,7 +2,7 @@ use Rattle.std.proofs.Common.{refl, ◌≡◌, inl, [], Err, OnOk, sym, ap, ◌�
 use Rattle.qcow2_laws.specs.Guard.{Pending}
 use Rattle.qcow2_alloc.specs.declared.clusters_to_free.ClusterKind.TheVariants.{Data}
 use Rattle.qcow2_alloc.specs.declared.image_file.ImageFile.{ImageFile}
-use Rattle.qcow2_alloc.specs.Allocation.{Becomes, Frees}
+use Rattle.qcow2_alloc.specs.Allocation.{Frees}
 use Rattle.qcow2_alloc.specs.FreeList.{with_listed, but}
 use Rattle.qcow2_alloc.proofs.AllocationSteps.{handed_on, is_sound_now, becomes_cached}
 use Rattle.qcow2_alloc.proofs.Hints.{hint_stays}

@@ -1,4 +1,4 @@
-use Rattle.std.proofs.Common.{◌≡◌, ◌++◌, ◌∷◌, [], Ok, Err, sym, ap, ◌∙◌, subst, refl}
+use Rattle.std.proofs.Common.{◌≡◌, ◌++◌, ◌∷◌, [], Ok, Err, sym, ap, ◌∙◌, subst}
 use Rattle.qcow2_laws.specs.Guard.{Pending}
 use Rattle.qcow2_alloc.specs.Allocation.{listed_as}
 use Rattle.qcow2_alloc.specs.FreeList.{run_of, with_listed, but}
