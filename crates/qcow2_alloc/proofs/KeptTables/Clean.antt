@@ -64,9 +64,9 @@ module _ {S V E : Type 0} (steps : Steps S ℕ V E) (bits : ℕ) (bytes : V → 
 
     place_clean : (answer : Result Bool (CacheError ℕ E)) (e : ℕ × Slot V) → lookup_entry (eqb key) es ≡ Some e
         → Replaces steps key e (remove_entry (eqb key) es) v may_flush s es answer t fs left → Clean fs
-    place_clean (Ok true) e found h = subst Clean (sym h.2) (clean, clean_removed bits bytes is_modified (eqb key) es all)
+    place_clean (Ok true) e found h = subst Clean (sym h.2) (clean, clean_removed (eqb key) es all)
     place_clean (Ok false) e found h = subst Clean (sym h.2) all
-    place_clean (Err (Backend x)) e found h = subst Clean (sym h.2) (clean_found (eqb key) es e found all, clean_removed bits bytes is_modified (eqb key) es all)
+    place_clean (Err (Backend x)) e found h = subst Clean (sym h.2) (clean_found (eqb key) es e found all, clean_removed (eqb key) es all)
     place_clean (Err Memory) e found h = absurd h
     place_clean (Err InUse) e found h = absurd h
     place_clean (Err (StillInUse keys)) e found h = absurd h
