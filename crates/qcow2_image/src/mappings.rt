@@ -3,14 +3,14 @@ ghost use Rattle.std.specs.Prelude.{◌↔◌, ℕ, List, Option, is_some, ◌�
 ghost use Rattle.qcow2_metadata.specs.Bytes.{Bytes};
 ghost use Rattle.qcow2_metadata.specs.L2Mapping.{IsHostCluster, IsInReach};
 ghost use Rattle.qcow2_image.specs.FirstCluster.{IsFirst, IsNear};
-ghost use Rattle.qcow2_image.specs.Image.{Stays, IsSameImage, is_failed, is_writable, number_of};
+ghost use Rattle.qcow2_image.specs.Image.{Stays, IsSameImage, is_failed, is_writable, number_of, size_of};
 ghost use Rattle.qcow2_image.specs.Prepared.{image_of, length_of, offset_of, table_of, IsKept};
 ghost use Rattle.qcow2_image.specs.Preparing.{HasItsOwn, IsAnswered, IsOfNothing, IsPlaceOf, IsRest};
 ghost use Rattle.qcow2_laws.specs.Guard.{Pending};
 ghost use Rattle.qcow2_alloc.specs.MetadataCaches.{IsEntryAt, l2_at};
 ghost use Rattle.qcow2_alloc.specs.ImageFile.{known_in, IsSoundFile};
 ghost use Rattle.qcow2_image.specs.declared.prepared.Prepared.{Prepared};
-ghost use Rattle.qcow2_image.specs.Calls.{Answers, Commits, Discards, Prepares};
+ghost use Rattle.qcow2_image.specs.Calls.{Answers, Commits, Discards, Prepares, reason_of};
 ghost use Rattle.qcow2_image.specs.Parts.{Enters, IsExisting, Readies};
 ghost use Rattle.qcow2_alloc.specs.CacheMarks.{l2_pins};
 ghost use Rattle.qcow2_laws.specs.Alike.{IsAlike};
@@ -84,6 +84,7 @@ impl<S: Storage, F: WrappedFormat<S>> Qcow2<S, F> {
         ensures image { IsSameImage self.old self.new }
         ensures own { IfOk result (λ (mapping, n). (mapping.image ≡ number_of self.old) × (mapping.offset ≡ offset) × (mapping.length ≡ n)) }
         ensures within { IfOk result (λ (mapping, n). n ≤ max) }
+        ensures some { IfOk result (λ (mapping, n). offset < size_of self.old → 0 < max → 0 < n) }
         ensures sees { Answers S.view F.backing self.old self.new [] (λ found old new. new ≡ old) result }
         ensures run { (out : List (Option Prepared)) → (seen S.view F.backing self.old out).is_sound → IfOk result (λ (mapping, n). IsFound S.view self.new offset max mapping.kind n) }
     {
@@ -110,6 +111,7 @@ impl<S: Storage, F: WrappedFormat<S>> Qcow2<S, F> {
         ensures keeps { (p : Pending) (out : List (Option Prepared)) → IsSoundAt S.view F.backing p self.old out → Keeps S.view F.backing p p self.old self.new out }
         ensures list { self.new.file.free_list ≡ self.old.file.free_list }
         ensures within { IfOk result (λ (kind, n). n ≤ max) }
+        ensures some { IfOk result (λ (kind, n). offset < size_of self.old → 0 < max → 0 < n) }
         ensures found { (p : Pending) (out : List (Option Prepared)) → IsSoundAt S.view F.backing p self.old out → IfOk result (λ (kind, n). IsFound S.view self.new offset max kind n) }
     {
         let size = self.file.header.size();
@@ -172,6 +174,7 @@ impl<S: Storage, F: WrappedFormat<S>> Qcow2<S, F> {
         requires { max ≤ 2 ^ 40 }
         ensures cause { IfErr result IsMet }
         ensures within { IfOk result (λ (kind, n). n ≤ max) }
+        ensures some { IfOk result (λ (kind, n). 0 < max → 0 < n) }
         ensures run { (p : Pending) → IsSoundFile S.view p self.now.file
             → IsEntryAt self.now.file.header.fields (known_in S.view self.now.file) (l1_index_of self.now.file.header.fields offset) table (l2_index_of self.now.file.header.fields offset)
             → max ≤ rest_of_table self.now.file.header.fields offset → IfOk result (λ (kind, n). IsRunFrom S.view self.now offset max kind n) }
@@ -542,6 +545,7 @@ impl<S: Storage, F: WrappedFormat<S>> Qcow2<S, F> {
         ensures foreign { image_of prepared ≢ number_of self.old → (result ≡ Err (Kept ForeignState prepared)) × (self.new ≡ self.old) }
         ensures failed { image_of prepared ≡ number_of self.old → IsTrue (is_failed self.old) → (result ≡ Err (Kept Failed prepared)) × (self.new ≡ self.old) }
         ensures kept { IfErr result (IsKept prepared) }
+        ensures late { image_of prepared ≡ number_of self.old → is_failed self.old ≡ false → IfErr result (λ r. IsMet (reason_of r)) }
         ensures existing { image_of prepared ≡ number_of self.old → is_failed self.old ≡ false → IsNone (table_of prepared) → result ≡ Ok tt }
         ensures image { IsSameImage self.old self.new }
         ensures sees { Commits S.view F.backing self.old self.new prepared result }
