@@ -1,5 +1,5 @@
 //! Reading and writing what is mapped.
-ghost use Rattle.std.specs.Prelude.{◌≡◌, ◌+◌, ◌<◌, ◌≤◌, ℕ, List, [], Option, length, slice_get, IfOk, IfErr, IfSome, IsTrue, MatchOption, Ok, Err, Some, None, true, false};
+ghost use Rattle.std.specs.Prelude.{◌≡◌, ◌+◌, ◌^◌, ◌<◌, ◌≤◌, ℕ, List, [], Option, length, slice_get, IfOk, IfErr, IfSome, IsTrue, MatchOption, Ok, Err, Some, None, true, false};
 ghost use Rattle.qcow2_laws.specs.Calls.{Shows};
 ghost use Rattle.qcow2_laws.specs.Guard.{Pending};
 ghost use Rattle.qcow2_image.specs.Calls.{Answers, Puts};
@@ -24,7 +24,8 @@ use qcow2_alloc::{ImageError, WriteKind};
 impl<S: Storage, F: WrappedFormat<S>> Qcow2<S, F> {
     /// Refuses a range that can't be read.
     pub fn check_read(&self, offset: u64, length: u64) -> Result<(), ImageError>
-        ensures { MatchOption (refuses_to_read self.now offset length) (result ≡ Ok tt) (λ e. result ≡ Err e) }
+        ensures refusal { MatchOption (refuses_to_read self.now offset length) (result ≡ Ok tt) (λ e. result ≡ Err e) }
+        ensures end { IfOk result (λ done. offset + length < 2 ^ 64) }
     {
         self.check_usable()?;
         if passes(self.size(), offset, length) {
@@ -43,6 +44,7 @@ impl<S: Storage, F: WrappedFormat<S>> Qcow2<S, F> {
         requires { at + length bytes.old ≤ mapping.now.length }
         ensures early { IfSome (refuses_mapping self.old mapping.now.image) (λ e. (result ≡ Err e) × (self.new ≡ self.old)) }
         ensures late { refuses_mapping self.old mapping.now.image ≡ None → IfErr result IsMet }
+        ensures nothing { refuses_mapping self.old mapping.now.image ≡ None → length bytes.old ≡ 0 → (result ≡ Ok tt) × (self.new ≡ self.old) }
         ensures marks { Marks result (is_failed self.old) (is_failed self.new) }
         ensures image { IsSameImage self.old self.new }
         ensures sees { Answers S.view F.backing self.old self.new [] (λ done old new. (new ≡ old) × Shows old.disk (mapping.now.offset + at) bytes.new) result }
@@ -159,6 +161,7 @@ impl<S: Storage, F: WrappedFormat<S>> Qcow2<S, F> {
         ensures early { IfSome (refuses_mapping self.old (image_of prepared.now)) (λ e. (result ≡ Err e) × (self.new ≡ self.old)) }
         ensures read_only { 0 < length bytes.now → refuses_mapping self.old (image_of prepared.now) ≡ None → is_writable self.old ≡ false → (result ≡ Err ReadOnly) × (self.new ≡ self.old) }
         ensures late { refuses_mapping self.old (image_of prepared.now) ≡ None → IsTrue (is_writable self.old) → IfErr result IsMet }
+        ensures nothing { refuses_mapping self.old (image_of prepared.now) ≡ None → length bytes.now ≡ 0 → (result ≡ Ok tt) × (self.new ≡ self.old) }
         ensures marks { Marks result (is_failed self.old) (is_failed self.new) }
         ensures image { IsSameImage self.old self.new }
         ensures sees { Puts S.view F.backing self.old self.new prepared.now at bytes.now result }

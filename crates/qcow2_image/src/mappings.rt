@@ -61,7 +61,8 @@ fn cluster_size(table: &L2Table) -> u64
 
 // Whether a range isn't empty and passes a size.
 pub(crate) fn passes(size: u64, offset: u64, length: u64) -> bool
-    ensures { result ≡ passes_size size offset length }
+    ensures answer { result ≡ passes_size size offset length }
+    ensures end { result ≡ false → offset + length < 2 ^ 64 }
 {
     length > 0 && (offset > size || length > size - offset)
 }
@@ -264,6 +265,7 @@ impl<S: Storage, F: WrappedFormat<S>> Qcow2<S, F> {
         ensures image { IsSameImage self.old self.new }
         ensures own { IfOk result (λ p. image_of p ≡ number_of self.old) }
         ensures some { IfOk result (λ p. 0 < length → 0 < length_of p) }
+        ensures end { IfOk result (λ p. offset + length < 2 ^ 64) }
         ensures sees { Prepares S.view F.backing self.old self.new offset length overwrite result }
         ensures maps { 0 < length → (out : List (Option Prepared)) → (seen S.view F.backing self.old out).is_sound
             → IfOk result (λ p. IsAnswered self.old.file.header.fields (known_in S.view self.old.file) offset length (known_in S.view self.new.file) p (meaning S.view F.backing self.new p)) }
@@ -281,6 +283,7 @@ impl<S: Storage, F: WrappedFormat<S>> Qcow2<S, F> {
     fn check_prepare(&self, offset: u64, length: u64) -> Result<(), ImageError>
         ensures refusal { MatchOption (refuses_to_prepare self.now offset length) (result ≡ Ok tt) (λ e. result ≡ Err e) }
         ensures writable { result ≡ Ok tt → 0 < length → IsTrue (is_writable self.now) }
+        ensures end { IfOk result (λ done. offset + length < 2 ^ 64) }
     {
         self.check_usable()?;
         if passes(self.file.header.size(), offset, length) {
