@@ -13,6 +13,7 @@ ghost use Rattle.qcow2_image.specs.declared.prepared.Prepared.{Prepared};
 ghost use Rattle.qcow2_image.specs.Calls.{Answers, Commits, Discards, Prepares, reason_of};
 ghost use Rattle.qcow2_image.specs.Parts.{Enters, IsExisting, Readies};
 ghost use Rattle.qcow2_alloc.specs.CacheMarks.{l2_pins};
+ghost use Rattle.qcow2_alloc.specs.ImageError.{IsOfTables};
 ghost use Rattle.qcow2_laws.specs.Alike.{IsAlike};
 ghost use Rattle.qcow2_image.specs.Found.{mapping_of, IsRunBehind, NamesTable, IsRunFrom, IsFound, kind_at, rest_of_table, l1_index_of, l2_index_of};
 ghost use Rattle.qcow2_image.specs.Steps.{Gains, HoldsAll, HoldsTable, Pins, SameHeld, Keeps, TakesData, EntersCluster, EntersNew, FreesLater, Unpins, freed_by};
@@ -74,7 +75,7 @@ enum FirstCluster {
     Missing,
 }
 
-#[tactic(auto, using(crate::proofs::MetErrors::tables_met, crate::proofs::MetErrors::storage_met, crate::proofs::MetErrors::metadata_met))]
+#[tactic(auto, using(crate::proofs::MetErrors::tables_met, crate::proofs::MetErrors::storage_met, crate::proofs::MetErrors::metadata_met, crate::proofs::MetErrors::metadata_of_tables))]
 impl<S: Storage, F: WrappedFormat<S>> Qcow2<S, F> {
     /// What stands at a guest offset, and for how many bytes, up to `max`, all is mapped alike: within one L2 table,
     /// and below the disk's size.
@@ -108,7 +109,7 @@ impl<S: Storage, F: WrappedFormat<S>> Qcow2<S, F> {
         max: u64,
     ) -> Result<(MappingKind, u64), ImageError>
         ensures stays { Stays self.old self.new }
-        ensures cause { IfErr result IsMet }
+        ensures cause { IfErr result IsOfTables }
         ensures keeps { (p : Pending) (out : List (Option Prepared)) → IsSoundAt S.view F.backing p self.old out → Keeps S.view F.backing p p self.old self.new out }
         ensures list { self.new.file.free_list ≡ self.old.file.free_list }
         ensures within { IfOk result (λ (kind, n). n ≤ max) }
@@ -143,7 +144,7 @@ impl<S: Storage, F: WrappedFormat<S>> Qcow2<S, F> {
 
     // Where the L2 table of an offset lies, or None where there is none.
     fn l2_cluster(&self, offset: u64) -> Result<Option<HostCluster>, ImageError>
-        ensures cause { IfErr result IsMet }
+        ensures cause { IfErr result IsOfTables }
         ensures names { HasL1Table S.view F.backing self.now.file self.now.l1_table → IfOk result (NamesTable S.view self.now offset) }
     {
         let bits = self.file.header.cluster_bits();
@@ -173,7 +174,7 @@ impl<S: Storage, F: WrappedFormat<S>> Qcow2<S, F> {
         max: u64,
     ) -> Result<(MappingKind, u64), ImageError>
         requires { max ≤ 2 ^ 40 }
-        ensures cause { IfErr result IsMet }
+        ensures cause { IfErr result IsOfTables }
         ensures within { IfOk result (λ (kind, n). n ≤ max) }
         ensures some { IfOk result (λ (kind, n). 0 < max → 0 < n) }
         ensures run { (p : Pending) → IsSoundFile S.view p self.now.file
@@ -201,7 +202,7 @@ impl<S: Storage, F: WrappedFormat<S>> Qcow2<S, F> {
     ) -> Result<bool, ImageError>
         requires near { distance ≤ 2 ^ 42 }
         ensures alike { IfOk result (λ alike. IsTrue alike ↔ IsAlike distance (mapping_of table.now first) (mapping_of table.now next)) }
-        ensures cause { IfErr result IsMet }
+        ensures cause { IfErr result IsOfTables }
     {
         let first = table.get_mapping(first)?;
         let next = table.get_mapping(next)?;
@@ -219,7 +220,7 @@ impl<S: Storage, F: WrappedFormat<S>> Qcow2<S, F> {
         requires near { cluster < 2 ^ 62 }
         ensures bounded { IfOk result (λ n. n ≤ 2 ^ 41) }
         ensures run { IfOk result (IsRunBehind table.now cluster max) }
-        ensures cause { IfErr result IsMet }
+        ensures cause { IfErr result IsOfTables }
     {
         let size = cluster_size(table);
         let mut count = 0;
