@@ -182,6 +182,8 @@ impl<S: Storage, F: WrappedFormat<S>> Qcow2<S, F> {
         ensures nothing { refuses_mapping self.old (image_of prepared.now) ≡ None → length bytes.now ≡ 0 → (result ≡ Ok tt) × (self.new ≡ self.old) }
         ensures marks { Marks result (is_failed self.old) (is_failed self.new) }
         ensures image { IsSameImage self.old self.new }
+        ensures outdated { table_of prepared.now ≡ None → (out : List (Option Prepared)) → (seen S.view F.backing self.old out).is_sound → result ≡ Err OutdatedMapping
+            → ¬ IsFoundWhole S.view self.new (prepared.now.guest + at) (Raw Image (prepared.now.offset + at) true) (length bytes.now) }
         ensures sees { Puts S.view F.backing self.old self.new prepared.now at bytes.now result }
     {
         self.check_usable()?;
@@ -207,13 +209,13 @@ impl<S: Storage, F: WrappedFormat<S>> Qcow2<S, F> {
     ) -> Result<(), ImageError>
         ensures stays { Stays self.old self.new }
         ensures cause { IfErr result IsMet }
+        ensures outdated { 0 < length bytes.now → table_of prepared.now ≡ None → (p : Pending) (out : List (Option Prepared)) → IsSoundAt S.view F.backing p self.old out → result ≡ Err OutdatedMapping
+            → ¬ IsFoundWhole S.view self.new (prepared.now.guest + at) (Raw Image (prepared.now.offset + at) true) (length bytes.now) }
         ensures puts { 0 < length bytes.now → at + length bytes.now ≤ prepared.now.length → (out : List (Option Prepared)) (k : ℕ) → slice_get out k ≡ Some (Some prepared.now)
             → IsSoundAt S.view F.backing (pending_in S.view F.backing self.old out) self.old out → PutsPart S.view F.backing self.old self.new out k prepared.now at bytes.now result }
     {
-        let (Some(guest), Some(host)) = (
-            prepared.guest.checked_add(at),
-            prepared.offset.checked_add(at),
-        ) else {
+        let guest = self.place_within(prepared.guest, at)?;
+        let Some(host) = prepared.offset.checked_add(at) else {
             return Err(ImageError::OutdatedMapping);
         };
         self.check_in_place(prepared, guest, host, bytes.len() as u64)?;
@@ -232,6 +234,7 @@ impl<S: Storage, F: WrappedFormat<S>> Qcow2<S, F> {
         ensures cause { IfErr result IsMet }
         ensures list { self.new.file.free_list ≡ self.old.file.free_list }
         ensures keeps { (p : Pending) (out : List (Option Prepared)) → IsSoundAt S.view F.backing p self.old out → Keeps S.view F.backing p p self.old self.new out }
+        ensures outdated { (p : Pending) (out : List (Option Prepared)) → IsSoundAt S.view F.backing p self.old out → result ≡ Err OutdatedMapping → ¬ IsFoundWhole S.view self.new guest (Raw Image host true) length }
         ensures mapped { table_of prepared.now ≡ None → 0 < length → (p : Pending) (out : List (Option Prepared)) → IsSoundAt S.view F.backing p self.old out
             → IfOk result (λ done. IsMappedAs S.view self.new guest (Raw Image host true) length) }
     {
@@ -249,6 +252,7 @@ impl<S: Storage, F: WrappedFormat<S>> Qcow2<S, F> {
     pub(crate) fn write_data(&mut self, host: u64, bytes: &[u8]) -> Result<(), ImageError>
         ensures stays { Stays self.old self.new }
         ensures cause { IfErr result IsMet }
+        ensures current { result ≢ Err OutdatedMapping }
         ensures written { WritesBytes S.view self.old self.new host bytes.now result }
     {
         self.file.storage.will_write(WriteKind::Data);
