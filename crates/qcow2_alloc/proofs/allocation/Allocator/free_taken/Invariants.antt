@@ -1,6 +1,6 @@
 use Rattle.std.proofs.Common.{◌≡◌, ◌++◌, length}
 use Rattle.qcow2_laws.specs.Guard.{Pending}
-use Rattle.qcow2_alloc.specs.Allocation.{MayFree, Becomes}
+use Rattle.qcow2_alloc.specs.Allocation.{MayFree, SameLeaks, Becomes}
 use Rattle.qcow2_alloc.specs.CacheMarks.{KeepsMarks}
 use Rattle.qcow2_alloc.specs.FreeList.{with_listed, but}
 use Rattle.qcow2_alloc.specs.ImageFile.{IsSoundWith}
@@ -17,6 +17,7 @@ invariant-freeing g l = record {
   left : l.file.free_list ++ but l.fn.kind l.taken ≡ l.fn.file.free_list ++ but l.fn.kind l.fn.taken;
   sound : (p : Pending) → IsSoundWith g.S.Storage.view l.fn.self (with_listed p (l.fn.file.free_list ++ l.fn.taken)) l.fn.file → MayFree l.fn.kind l.fn.file
       → Becomes g.S.Storage.view (with_listed p (l.fn.file.free_list ++ l.fn.taken)) l.fn.file l.self l.file (with_listed p (l.file.free_list ++ l.taken));
+  leaks : (p : Pending) → IsSoundWith g.S.Storage.view l.fn.self (with_listed p (l.fn.file.free_list ++ l.fn.taken)) l.fn.file → MayFree l.fn.kind l.fn.file → SameLeaks l.fn.self l.self;
 }
 
 abbrev pub decreases-freeing : goal.decreases-freeing
