@@ -3,8 +3,8 @@ ghost use Rattle.std.specs.Prelude.{◌↔◌, ℕ, List, Option, is_some, ◌�
 ghost use Rattle.qcow2_metadata.specs.Bytes.{Bytes};
 ghost use Rattle.qcow2_metadata.specs.L2Mapping.{IsHostCluster, IsInReach};
 ghost use Rattle.qcow2_image.specs.FirstCluster.{IsFirst, IsNear};
-ghost use Rattle.qcow2_image.specs.Image.{Stays, IsSameImage, is_failed, is_writable, number_of, size_of};
-ghost use Rattle.qcow2_image.specs.Prepared.{image_of, length_of, offset_of, table_of, IsKept};
+ghost use Rattle.qcow2_image.specs.Image.{HasNothingToFree, Stays, IsSameImage, is_failed, is_writable, number_of, size_of};
+ghost use Rattle.qcow2_image.specs.Prepared.{image_of, length_of, offset_of, table_of, HasNewCluster, IsKept};
 ghost use Rattle.qcow2_image.specs.Preparing.{HasItsOwn, IsAnswered, IsOfNothing, IsPlaceOf, IsRest, IsTaken};
 ghost use Rattle.qcow2_laws.specs.Guard.{Pending};
 ghost use Rattle.qcow2_alloc.specs.MetadataCaches.{IsEntryAt, l2_at};
@@ -614,6 +614,7 @@ impl<S: Storage, F: WrappedFormat<S>> Qcow2<S, F> {
         ensures existing { image_of prepared ≡ number_of self.old → is_failed self.old ≡ false → IsNone (table_of prepared) → result ≡ Ok tt }
         ensures image { IsSameImage self.old self.new }
         ensures sees { Commits S.view F.backing self.old self.new prepared result }
+        ensures emptied { image_of prepared ≡ number_of self.old → HasNewCluster prepared → IsTrue (is_writable self.old) → OnOk result (HasNothingToFree self.new) }
     {
         if prepared.image != self.number {
             return Err(CommitRefused::Kept(ImageError::ForeignState, prepared));
