@@ -1,12 +1,12 @@
 -- Data stand within the reach of an entry.
-use Rattle.std.proofs.Common.{◌≡◌, ⊎_elim, ◌+◌, ◌*◌, ◌/◌, ◌%◌, ◌^◌, ◌<◌, ◌≤◌, lit<, refl, is_some, ℕ, Bool, true, false, Option, if◌then◌else◌, sym, subst, arith}
+use Rattle.std.proofs.Common.{◌≡◌, ⊎_elim, ◌+◌, ◌/◌, ◌%◌, ◌^◌, ◌<◌, ◌≤◌, lit<, refl, is_some, ℕ, Bool, true, false, if◌then◌else◌, subst, arith}
 use Rattle.std.proofs.lemmas.Bool.{cases_lt}
 use Rattle.std.proofs.lemmas.Nat.{mod_below}
 use Rattle.std.proofs.Math.Pow.{pow_mono}
 use Rattle.image_access.specs.Moments.{StorageView}
 use Rattle.std.specs.Prelude.{◌==◌, ◌&&◌}
 use Rattle.qcow2_metadata.specs.Bytes.{Bytes, bits_of, has_bit}
-use Rattle.qcow2_metadata.specs.Cover.{cover, cover_under, cover_of, entry_cover, has_host}
+use Rattle.qcow2_metadata.specs.Cover.{cover, cover_under, cover_of, has_host}
 use Rattle.qcow2_metadata.specs.Entries.{host_offset, is_copied, l1_entry, l2_entry}
 use Rattle.qcow2_metadata.specs.Header.{cluster_size, entries_per_cluster, has_data_file}
 use Rattle.qcow2_metadata.specs.declared.header.HeaderFields.{HeaderFields}
