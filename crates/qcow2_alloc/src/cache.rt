@@ -54,6 +54,7 @@ impl<S: Storage> MetadataCaches<S> {
         ensures known { IfOk result (λ caches. (base : Bytes) → known_of header.now.fields caches base ≡ base) }
         ensures settled { IfOk result (λ caches. (base : Bytes) → AreSettled header.now.fields (refblocks caches) base) }
         ensures order { IfOk result (λ caches. order_of caches ≡ Neither) }
+        ensures sizes { IfOk result (λ caches. (caches.l2.size ≡ l2_entries) × (caches.rb.size ≡ rb_entries)) }
         ensures room { IfOk result (λ caches. 0 < rb_entries → HasRoom caches) }
         ensures pins { IfOk result (λ caches. (cluster : ℕ) → l2_pins caches cluster ≡ 0) }
         ensures unchanged { IfOk result (λ caches. IsFalse caches.is_changed) }
