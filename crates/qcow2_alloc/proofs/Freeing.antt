@@ -11,7 +11,7 @@ use Rattle.qcow2_laws.specs.Changes.{one_at}
 use Rattle.qcow2_laws.specs.Guard.{Pending}
 use Rattle.std.proofs.Math.Nat.{div-le_self, lt-div-mul-add, mul-le-mul_left}
 use Rattle.std.proofs.Math.Pow.{pow_mono}
-use Rattle.qcow2_laws.proofs.Places.{Sizes, Sizes-from, count_none, reftable_entry-past}
+use Rattle.qcow2_laws.proofs.Places.{Sizes-from, count_none, reftable_entry-past}
 use Rattle.qcow2_alloc.specs.declared.allocation.Allocator.{Allocator}
 use Rattle.qcow2_alloc.specs.declared.clusters_to_free.ClusterKind.{ClusterKind}
 use Rattle.qcow2_alloc.specs.declared.clusters_to_free.ClusterKind.TheVariants.{Data, Metadata}

@@ -23,3 +23,5 @@ pub mod Off
 pub mod Laying
 pub mod Putting
 pub mod PuttingBlocks
+pub mod Ordering
+pub mod InOrder

@@ -35,6 +35,10 @@ abbrev pub taken_as : Bool → Pending → (ℕ → ℕ) → Pending
 taken_as true p n = with_held p n
 taken_as false p n = with_fresh p n
 
+-- no cluster more couldn't be freed
+abbrev pub SameLeaks : Allocator → Allocator → Type 0
+SameLeaks old new = new.leaked_clusters ≡ old.leaked_clusters
+
 -- clusters on the list of those to be freed were data, or tables
 abbrev pub listed_as : ClusterKind → Pending → (ℕ → ℕ) → Pending
 listed_as Data p n = record p { dropped = λ k. p.dropped k + n k }

@@ -6,7 +6,7 @@ use Rattle.qcow2_metadata.specs.declared.header.HeaderFields.{HeaderFields}
 use Rattle.qcow2_metadata.specs.Header.{cluster_size}
 use Rattle.qcow2_metadata.specs.Tables.{CachedTable}
 use Rattle.qcow2_laws.specs.Clusters.{Direction}
-use Rattle.qcow2_laws.specs.Guard.{Pending}
+use Rattle.qcow2_laws.specs.Guard.{Pending, IsMixed}
 use Rattle.qcow2_laws.specs.Caches.{IsKept, IsSafeBetween, HasL2, HasBlock}
 use Rattle.qcow2_alloc.specs.declared.async_lru_cache.slot.Slot.{Slot}
 
@@ -47,3 +47,9 @@ pub record AreKept (h : HeaderFields) (d : Direction) (p : Pending) (l2s rbs : L
 pub record IsSafeSince (old new : StorageView) (known : Bytes) : Type 0 where
   pub moments : Passing old new (λ c. IsSafeBetween (byte_at old.contents) known (byte_at c))
   pub contents : IsSafeBetween (byte_at old.contents) known (byte_at new.contents)
+
+-- Since an earlier view of a storage, at each moment and now, each cluster is as it was then or as was known; and of the kind of tables that the direction has written last none is written
+-- before all of the other kind are.
+pub record IsInOrderSince (h : HeaderFields) (d : Direction) (old new : StorageView) (known : Bytes) : Type 0 where
+  pub moments : Passing old new (λ c. IsMixed h d (byte_at old.contents) known (byte_at c))
+  pub contents : IsMixed h d (byte_at old.contents) known (byte_at new.contents)

@@ -26,7 +26,7 @@ use Rattle.qcow2_alloc.specs.declared.error.ImageError.{ImageError}
 use Rattle.qcow2_alloc.specs.declared.image_storage.ImageStorage.{ImageStorage}
 use Rattle.qcow2_alloc.specs.ImageStorage.{storage_of}
 use Rattle.qcow2_alloc.specs.TableCaches.{IsTableOf, IsBlockOf}
-use Rattle.qcow2_alloc.specs.KeptTables.{cached_tables, AllFit, AreKept, IsSafeSince}
+use Rattle.qcow2_alloc.specs.KeptTables.{cached_tables, AllFit, AreKept, IsSafeSince, IsInOrderSince}
 
 -- the header says the same of tables
 pub record HasFormat (g h : HeaderFields) : Type 0 where
@@ -125,6 +125,12 @@ module _ {S : Type 0} where
   KeepSound view old caches new caches' =
       (h : HeaderFields) (p : Pending) → (view (storage_of old)).is_honest → AreSound h p caches (byte_at (view (storage_of old)).contents)
       → StaySound h p (view (storage_of old)) caches (view (storage_of new)) caches'
+
+  -- such a call writes tables in the order that the direction, as it was before, asks for
+  abbrev pub WritesInOrder : (S → StorageView) → ImageStorage S → MetadataCaches S → ImageStorage S → Type 0
+  WritesInOrder view old caches new =
+      (h : HeaderFields) (p : Pending) → (view (storage_of old)).is_honest → AreSound h p caches (byte_at (view (storage_of old)).contents)
+      → IsInOrderSince h (order_of caches) (view (storage_of old)) (view (storage_of new)) (known_of h caches (byte_at (view (storage_of old)).contents))
 
   -- ---- why calls are refused, over an honest storage, on sound caches of which no refblock is new
 

@@ -4,7 +4,7 @@ ghost use Rattle.image_access.specs.Moments.{Keeps, Passing};
 ghost use Rattle.qcow2_laws.specs.Changes.{one_at};
 ghost use Rattle.qcow2_laws.specs.Clusters.{L2DependsOnRb};
 ghost use Rattle.qcow2_laws.specs.Guard.{Pending};
-ghost use Rattle.qcow2_alloc.specs.Allocation.{run_at, taken_as, placing, first_counts, HasPlaceFor, KeepsEntries, MayTake, MayFree, Owed, listed_as, owed_as, MayLower, Frees, LoadsBlock, WritesBlock, PlacesBlock, TakesOne, TakesRun, LowersOne, GivesBack, GivesBackRun, HasNone, GetsBlock, TakesLowest, TakesSomeRun, is_data, Allocates};
+ghost use Rattle.qcow2_alloc.specs.Allocation.{run_at, taken_as, placing, first_counts, HasPlaceFor, KeepsEntries, MayTake, MayFree, Owed, listed_as, owed_as, MayLower, SameLeaks, Frees, LoadsBlock, WritesBlock, PlacesBlock, TakesOne, TakesRun, LowersOne, GivesBack, GivesBackRun, HasNone, GetsBlock, TakesLowest, TakesSomeRun, is_data, Allocates};
 ghost use Rattle.qcow2_alloc.specs.FreeList.{run_of, with_listed, but, GoOffInOrder};
 ghost use Rattle.qcow2_alloc.specs.CacheMarks.{KeepsMarks};
 ghost use Rattle.qcow2_alloc.specs.LowestRuns.{HasHint, IsLowestRun, IsUsed, KeepsHint};
@@ -337,6 +337,7 @@ impl Allocator {
         ensures reftable { self.new.reftable ≡ self.old.reftable }
         ensures sound { (p : Pending) (owed : Owed) → IsSoundWith S.view self.old (owed_as owed p (one_at cluster)) file.old → MayLower owed file.old
             → GivesBack S.view (owed_as owed p (one_at cluster)) file.old self.new file.new p result }
+        ensures leaks { (p : Pending) (owed : Owed) → IsSoundWith S.view self.old (owed_as owed p (one_at cluster)) file.old → MayLower owed file.old → SameLeaks self.old self.new }
         ensures header { file.new.header ≡ file.old.header }
         ensures list { file.new.free_list ≡ file.old.free_list }
         ensures cause { IfErr result IsOfTables }
@@ -363,6 +364,7 @@ impl Allocator {
         ensures in_order { GoOffInOrder file.old.free_list file.new.free_list }
         ensures sound { (p : Pending) → IsSoundWith S.view self.old (with_listed p file.old.free_list) file.old
             → Frees S.view (with_listed p file.old.free_list) file.old self.new file.new (with_listed p file.new.free_list) result }
+        ensures leaks { (p : Pending) → IsSoundWith S.view self.old (with_listed p file.old.free_list) file.old → SameLeaks self.old self.new }
         ensures header { file.new.header ≡ file.old.header }
         ensures cause { IfErr result IsOfTables }
         ensures hint { (p : Pending) → IsSoundWith S.view self.old (with_listed p file.old.free_list) file.old → HasHint S.view self.old file.old → OnOk result (HasHint S.view self.new file.new) }
@@ -387,6 +389,7 @@ impl Allocator {
         ensures others { but kind file.new.free_list ≡ but kind file.old.free_list }
         ensures sound { (p : Pending) → IsSoundWith S.view self.old (with_listed p file.old.free_list) file.old → MayFree kind file.old
             → Frees S.view (with_listed p file.old.free_list) file.old self.new file.new (with_listed p file.new.free_list) result }
+        ensures leaks { (p : Pending) → IsSoundWith S.view self.old (with_listed p file.old.free_list) file.old → MayFree kind file.old → SameLeaks self.old self.new }
         ensures header { file.new.header ≡ file.old.header }
         ensures cause { IfErr result IsOfTables }
         ensures hint { (p : Pending) → IsSoundWith S.view self.old (with_listed p file.old.free_list) file.old → MayFree kind file.old → HasHint S.view self.old file.old → OnOk result (HasHint S.view self.new file.new) }
@@ -411,6 +414,7 @@ impl Allocator {
         ensures others { but kind (file.new.free_list ++ taken.new) ≡ but kind (file.old.free_list ++ taken.old) }
         ensures sound { (p : Pending) → IsSoundWith S.view self.old (with_listed p (file.old.free_list ++ taken.old)) file.old → MayFree kind file.old
             → Frees S.view (with_listed p (file.old.free_list ++ taken.old)) file.old self.new file.new (with_listed p (file.new.free_list ++ taken.new)) result }
+        ensures leaks { (p : Pending) → IsSoundWith S.view self.old (with_listed p (file.old.free_list ++ taken.old)) file.old → MayFree kind file.old → SameLeaks self.old self.new }
         ensures header { file.new.header ≡ file.old.header }
         ensures cause { IfErr result IsOfTables }
         ensures hint { (p : Pending) → IsSoundWith S.view self.old (with_listed p (file.old.free_list ++ taken.old)) file.old → MayFree kind file.old → HasHint S.view self.old file.old → OnOk result (HasHint S.view self.new file.new) }
@@ -434,6 +438,7 @@ impl Allocator {
         ensures others { but kind file.new.free_list ≡ but kind (file.old.free_list ++ pending ∷ []) }
         ensures sound { (p : Pending) → IsSoundWith S.view self.old (with_listed p (file.old.free_list ++ pending ∷ [])) file.old → MayFree kind file.old
             → Frees S.view (with_listed p (file.old.free_list ++ pending ∷ [])) file.old self.new file.new (with_listed p file.new.free_list) result }
+        ensures leaks { (p : Pending) → IsSoundWith S.view self.old (with_listed p (file.old.free_list ++ pending ∷ [])) file.old → MayFree kind file.old → SameLeaks self.old self.new }
         ensures header { file.new.header ≡ file.old.header }
         ensures cause { IfErr result IsOfTables }
         ensures hint { (p : Pending) → IsSoundWith S.view self.old (with_listed p (file.old.free_list ++ pending ∷ [])) file.old → MayFree kind file.old → HasHint S.view self.old file.old → OnOk result (HasHint S.view self.new file.new) }
@@ -457,6 +462,7 @@ impl Allocator {
         ensures others { but pending.kind file.new.free_list ≡ but pending.kind file.old.free_list }
         ensures sound { (p : Pending) → IsSoundWith S.view self.old (with_listed p (file.old.free_list ++ pending ∷ [])) file.old → MayFree pending.kind file.old
             → Frees S.view (with_listed p (file.old.free_list ++ pending ∷ [])) file.old self.new file.new (with_listed p file.new.free_list) result }
+        ensures leaks { (p : Pending) → IsSoundWith S.view self.old (with_listed p (file.old.free_list ++ pending ∷ [])) file.old → MayFree pending.kind file.old → SameLeaks self.old self.new }
         ensures header { file.new.header ≡ file.old.header }
         ensures cause { IfErr result IsOfTables }
         ensures hint { (p : Pending) → IsSoundWith S.view self.old (with_listed p (file.old.free_list ++ pending ∷ [])) file.old → MayFree pending.kind file.old → HasHint S.view self.old file.old → OnOk result (HasHint S.view self.new file.new) }
@@ -486,6 +492,7 @@ impl Allocator {
         ensures all { OnOk result (run.new.count ≡ 0) }
         ensures sound { (p : Pending) → IsSoundWith S.view self.old (listed_as run.old.kind p (run_of run.old)) file.old → MayFree run.old.kind file.old
             → Frees S.view (listed_as run.old.kind p (run_of run.old)) file.old self.new file.new (listed_as run.old.kind p (run_of run.new)) result }
+        ensures leaks { (p : Pending) → IsSoundWith S.view self.old (listed_as run.old.kind p (run_of run.old)) file.old → MayFree run.old.kind file.old → SameLeaks self.old self.new }
         ensures header { file.new.header ≡ file.old.header }
         ensures list { file.new.free_list ≡ file.old.free_list }
         ensures cause { IfErr result IsOfTables }
@@ -554,6 +561,7 @@ impl Allocator {
         ensures marks { KeepsMarks file.old.caches file.new.caches }
         ensures order { order_of file.new.caches ≡ order_of file.old.caches }
         ensures reftable { self.new.reftable ≡ self.old.reftable }
+        ensures leaked { self.new.leaked_clusters ≡ self.old.leaked_clusters }
         ensures sound { (p : Pending) (owed : Owed) → IsSoundWith S.view self.old (owed_as owed p (one_at cluster)) file.old → MayLower owed file.old
             → LowersOne S.view (owed_as owed p (one_at cluster)) file.old self.new file.new p result }
         ensures header { file.new.header ≡ file.old.header }

@@ -10,7 +10,7 @@ ghost use Rattle.qcow2_alloc.specs.ImageError.{IsOfTables, IsFault};
 ghost use Rattle.qcow2_alloc.specs.ImageStorage.{storage_of};
 ghost use Rattle.qcow2_alloc.specs.AsyncLruCache.{can_remove};
 ghost use Rattle.qcow2_alloc.specs.TableCaches.{IsTableOf, IsBlockOf};
-ghost use Rattle.qcow2_alloc.specs.MetadataCaches.{order_of, l2_at, rb_at, l2_tables, refblocks, known_of, AreAllWritten, AreSound, KeepSound, PutSound, RefusesBy, PutRefusesBy, RaisesCount, LowersCount, TellsZero, RaisesZero, LowersSome, AreSame, MapsEntry, ZeroesEntry, DiscardsEntry, NotesEntry, NotesHeld, ShowsKnown, TakesOff, TakesBlock, LaysTable, LaysBlock};
+ghost use Rattle.qcow2_alloc.specs.MetadataCaches.{order_of, l2_at, rb_at, l2_tables, refblocks, known_of, AreAllWritten, AreSound, KeepSound, PutSound, RefusesBy, PutRefusesBy, RaisesCount, LowersCount, TellsZero, RaisesZero, LowersSome, AreSame, MapsEntry, ZeroesEntry, DiscardsEntry, NotesEntry, NotesHeld, ShowsKnown, TakesOff, TakesBlock, LaysTable, LaysBlock, WritesInOrder};
 ghost use Rattle.qcow2_alloc.specs.CacheMarks.{l2_pins, HasRoom, KeepsMarks, SameTables, SetsPins, IsInUseOrFault, LeavesPinned};
 
 mod backends;
@@ -54,6 +54,7 @@ impl<S: Storage> MetadataCaches<S> {
         ensures known { IfOk result (λ caches. (base : Bytes) → known_of header.now.fields caches base ≡ base) }
         ensures settled { IfOk result (λ caches. (base : Bytes) → AreSettled header.now.fields (refblocks caches) base) }
         ensures order { IfOk result (λ caches. order_of caches ≡ Neither) }
+        ensures sizes { IfOk result (λ caches. (caches.l2.size ≡ l2_entries) × (caches.rb.size ≡ rb_entries)) }
         ensures room { IfOk result (λ caches. 0 < rb_entries → HasRoom caches) }
         ensures pins { IfOk result (λ caches. (cluster : ℕ) → l2_pins caches cluster ≡ 0) }
         ensures unchanged { IfOk result (λ caches. IsFalse caches.is_changed) }
@@ -78,6 +79,7 @@ impl<S: Storage> MetadataCaches<S> {
         ensures faults { (h : HeaderFields) → RefusesBy IsFault S.view storage.old self.old h result }
         ensures keeps { TablesMayGo (order_of self.old) (refblocks self.old) → KeepSound S.view storage.old self.old storage.new self.new }
         ensures free { (size cluster : ℕ) → IsFreeOf size (l2_tables self.old) cluster → IsFreeOf size (l2_tables self.new) cluster }
+        ensures ordered { TablesMayGo (order_of self.old) (refblocks self.old) → WritesInOrder S.view storage.old self.old storage.new }
     {
         self.l2.flush(storage)?;
         Ok(())
@@ -93,6 +95,7 @@ impl<S: Storage> MetadataCaches<S> {
         ensures faults { (h : HeaderFields) → RefusesBy IsFault S.view storage.old self.old h result }
         ensures keeps { BlocksMayGo (order_of self.old) (l2_tables self.old) → KeepSound S.view storage.old self.old storage.new self.new }
         ensures clean { AreClean (refblocks self.old) → AreClean (refblocks self.new) }
+        ensures ordered { BlocksMayGo (order_of self.old) (l2_tables self.old) → WritesInOrder S.view storage.old self.old storage.new }
     {
         self.rb.flush(storage)?;
         Ok(())
@@ -106,6 +109,7 @@ impl<S: Storage> MetadataCaches<S> {
         ensures marks { KeepsMarks self.old self.new }
         ensures faults { (h : HeaderFields) → RefusesBy IsFault S.view storage.old self.old h result }
         ensures keeps { KeepSound S.view storage.old self.old storage.new self.new }
+        ensures ordered { WritesInOrder S.view storage.old self.old storage.new }
     {
         match self.direction {
             Direction::L2DependsOnRb => {}
@@ -126,6 +130,7 @@ impl<S: Storage> MetadataCaches<S> {
         ensures marks { KeepsMarks self.old self.new }
         ensures faults { (h : HeaderFields) → RefusesBy IsFault S.view storage.old self.old h result }
         ensures keeps { KeepSound S.view storage.old self.old storage.new self.new }
+        ensures ordered { WritesInOrder S.view storage.old self.old storage.new }
     {
         match self.direction {
             Direction::RbDependsOnL2 => {}
@@ -146,6 +151,7 @@ impl<S: Storage> MetadataCaches<S> {
         ensures marks { KeepsMarks self.old self.new }
         ensures faults { (h : HeaderFields) → RefusesBy IsFault S.view storage.old self.old h result }
         ensures keeps { KeepSound S.view storage.old self.old storage.new self.new }
+        ensures ordered { WritesInOrder S.view storage.old self.old storage.new }
     {
         match self.direction {
             Direction::L2DependsOnRb => {
@@ -168,6 +174,7 @@ impl<S: Storage> MetadataCaches<S> {
         ensures marks { KeepsMarks self.old self.new }
         ensures faults { (h : HeaderFields) → RefusesBy IsFault S.view storage.old self.old h result }
         ensures keeps { KeepSound S.view storage.old self.old storage.new self.new }
+        ensures ordered { WritesInOrder S.view storage.old self.old storage.new }
     {
         match self.direction {
             Direction::RbDependsOnL2 => {
@@ -188,6 +195,7 @@ impl<S: Storage> MetadataCaches<S> {
         ensures marks { KeepsMarks self.old self.new }
         ensures faults { (h : HeaderFields) → RefusesBy IsFault S.view storage.old self.old h result }
         ensures keeps { KeepSound S.view storage.old self.old storage.new self.new }
+        ensures ordered { WritesInOrder S.view storage.old self.old storage.new }
     {
         match self.direction {
             Direction::L2DependsOnRb => self.write_blocks(storage),
@@ -205,6 +213,7 @@ impl<S: Storage> MetadataCaches<S> {
         ensures marks { KeepsMarks self.old self.new }
         ensures faults { (h : HeaderFields) → RefusesBy IsFault S.view storage.old self.old h result }
         ensures keeps { KeepSound S.view storage.old self.old storage.new self.new }
+        ensures ordered { WritesInOrder S.view storage.old self.old storage.new }
     {
         match self.direction {
             Direction::RbDependsOnL2 => self.write_tables(storage),
@@ -224,6 +233,7 @@ impl<S: Storage> MetadataCaches<S> {
         ensures marks { KeepsMarks self.old self.new }
         ensures refusals { (h : HeaderFields) → HasPlace h.cluster_bits cluster → RefusesBy (IsInUseOrFault self.old) S.view storage.old self.old h result }
         ensures keeps { KeepSound S.view storage.old self.old storage.new self.new }
+        ensures ordered { WritesInOrder S.view storage.old self.old storage.new }
     {
         if self.l2.get_or_insert(storage, cluster, false)? {
             return Ok(());
@@ -245,6 +255,7 @@ impl<S: Storage> MetadataCaches<S> {
         ensures marks { KeepsMarks self.old self.new }
         ensures faults { HasRoom self.old → (h : HeaderFields) → HasPlace h.cluster_bits cluster → RefusesBy IsFault S.view storage.old self.old h result }
         ensures keeps { KeepSound S.view storage.old self.old storage.new self.new }
+        ensures ordered { WritesInOrder S.view storage.old self.old storage.new }
     {
         if self.rb.get_or_insert(storage, cluster, false)? {
             return Ok(());
@@ -269,6 +280,7 @@ impl<S: Storage> MetadataCaches<S> {
         ensures keeps { PutSound S.view storage.old self.old storage.new self.new (λ h. IsTableOf h table) table.cluster table.bytes table.is_modified }
         ensures laid { OnOk result (LaysTable S.view storage.old self.old storage.new self.new table) }
         ensures refused { OnErr result (KeepSound S.view storage.old self.old storage.new self.new) }
+        ensures ordered { WritesInOrder S.view storage.old self.old storage.new }
         ensures clean { AreClean (l2_tables self.old) → IsFalse table.is_modified → AreClean (l2_tables self.new) }
         ensures blocks { AreClean (refblocks self.old) → AreClean (refblocks self.new) }
         ensures first { BlocksMayGo (order_of self.old) (l2_tables self.old) → IsFalse table.is_modified → BlocksMayGo (order_of self.new) (l2_tables self.new) }
@@ -301,6 +313,7 @@ impl<S: Storage> MetadataCaches<S> {
         ensures keeps { PutSound S.view storage.old self.old storage.new self.new (λ h. IsBlockOf h block) block.cluster block.bytes block.is_modified }
         ensures laid { OnOk result (LaysBlock S.view storage.old self.old storage.new self.new block) }
         ensures refused { OnErr result (KeepSound S.view storage.old self.old storage.new self.new) }
+        ensures ordered { WritesInOrder S.view storage.old self.old storage.new }
         ensures clean { AreClean (refblocks self.old) → IsFalse block.is_modified → OnOk result (AreClean (refblocks self.new)) }
         ensures first { BlocksMayGo (order_of self.old) (l2_tables self.old) → OnOk result (BlocksMayGo (order_of self.new) (l2_tables self.new)) }
     {

@@ -260,11 +260,9 @@ impl PendingClusters {
         ensures count { self.new.count ≡ self.old.count - 1 }
         ensures kind { self.new.kind ≡ self.old.kind }
     {
-        let entry = self.node.entry;
-        self.node.entry.first_cluster = HostCluster::new(
-            entry.first_cluster.value().saturating_add(1),
-        );
-        self.node.entry.count = ClusterCount::new(entry.count.value().saturating_sub(1));
+        let entry = &mut self.node.entry;
+        entry.first_cluster = HostCluster::new(entry.first_cluster.value().saturating_add(1));
+        entry.count = ClusterCount::new(entry.count.value().saturating_sub(1));
     }
 
     /// The same run from another cluster on.

@@ -9,7 +9,7 @@ use Rattle.image_access.proofs.Passing.{passes_none}
 use Rattle.qcow2_metadata.specs.declared.header.HeaderFields.{HeaderFields}
 use Rattle.qcow2_metadata.specs.Entries.{l1_entry}
 use Rattle.qcow2_laws.specs.Guard.{Pending}
-use Rattle.qcow2_laws.specs.Views.{Guest, View, guest_of, contents_of}
+use Rattle.qcow2_laws.specs.Views.{Guest, View, guest_of}
 use Rattle.qcow2_laws.specs.Calls.{Refusal, storage, Works, Does, Refuses, IsSame}
 use Rattle.qcow2_laws.proofs.Leads.{leads_then, steps_endure}
 use Rattle.qcow2_laws.proofs.Unseen.{unseen_then}
@@ -17,7 +17,7 @@ use Rattle.qcow2_alloc.specs.declared.error.ImageError.{ImageError}
 use Rattle.qcow2_alloc.specs.ImageFile.{stand_in, view_in, nothing_given}
 use Rattle.qcow2_image.specs.declared.image.Qcow2.{Qcow2}
 use Rattle.qcow2_image.specs.declared.prepared.Prepared.{Prepared}
-use Rattle.qcow2_image.specs.Calls.{refusal_of, Answers, Flushes}
+use Rattle.qcow2_image.specs.Calls.{refusal_of, Answers}
 use Rattle.qcow2_image.specs.Image.{number_of, is_failed}
 use Rattle.qcow2_image.specs.Refusals.{failed_after, Marks}
 use Rattle.qcow2_image.specs.Views.{of_data, of_tables, to_free, IsSoundAt, pending_in, seen}
@@ -118,10 +118,6 @@ module _ {S F : Type 0} (view : S → StorageView) (backing : F → BackingView)
   pub told_answers : (old new : Qcow2 S F) {A : Type 0} (Done : A → Guest → Guest → Type 0) (r : Result A ImageError) → Tells old new (λ a v w. Done a (guest_of v) (guest_of w)) r → Answers view backing old new [] Done r
   told_answers old new Done (Ok a) told = told
   told_answers old new Done (Err e) told = told
-
-  pub told_flushes : (old new : Qcow2 S F) (r : Result (Unit {0}) ImageError) → Tells old new (λ a v w. (w.known ≡ contents_of w) × IsSame v w) r → Flushes view backing old new r
-  told_flushes old new (Ok a) told = told
-  told_flushes old new (Err e) told = told
 
   module _ (old new : Qcow2 S F) (quiet : (out : List (Option Prepared)) → IsSoundAt view backing (pending_in view backing old out) old out → Quietly view backing out old new) (marked : Bool) where
     -- it gives its answer, or is refused

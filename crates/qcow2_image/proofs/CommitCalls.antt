@@ -93,7 +93,7 @@ module _ {S F : Type 0} (view : S → StorageView) (backing : F → BackingView)
       pub commit_freed : r ≡ Ok tt → Does v w gifts [] (guest_of w ≡ with_slot (with_disk (guest_of v) (committed (guest_of v).disk (meaning view backing old p))) k None)
       commit_freed ok =
           let done : IsSoundAt view backing (pending_in view backing old out) old out → EndsFreeing view backing entered final (slice_set out k None) (Ok tt) = λ sound. subst (EndsFreeing view backing entered final (slice_set out k None)) ok (is_ended sound) in
-          settled_does view backing old final out (slice_set out k None) gifts (λ sound. works_both sound (done sound).0) (λ sound. (done sound).1) number usable (λ sound. (done sound).2 ∙ (is_entered sound).is)
+          settled_does view backing old final out (slice_set out k None) gifts (λ sound. works_both sound (done sound).works) (λ sound. (done sound).sound) number usable (λ sound. (done sound).same ∙ (is_entered sound).is)
 
       pub commit_broke : (e : ImageError) → r ≡ Err e → (refusal_of e ≡ storage → IsTrue (is_failed final)) → (v.is_sound → IsFault (refusal_of e)) × Refuses v w gifts [] (refusal_of e) (IsSame v w)
       commit_broke e refused marked =

@@ -5,6 +5,7 @@ pub mod Reading
 pub mod Called
 pub mod Answers
 pub mod Looked
+pub mod Near
 pub mod Answered
 pub mod MetErrors
 pub mod Slots

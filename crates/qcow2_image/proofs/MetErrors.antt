@@ -31,6 +31,19 @@ tables_met I.Metadata h = tt
 tables_met I.Overflow h = absurd h
 tables_met (I.StillInUse tables) h = tt
 
+-- what stands in the way of tables as they are loaded
+pub storage_of_tables : (e : StorageError) → IsOfTables (of_storage e)
+storage_of_tables S.Fault = tt
+storage_of_tables S.Memory = tt
+
+pub metadata_of_tables : (e : MetadataError) → IsOfTables (of_metadata e)
+metadata_of_tables (M.Storage e) = storage_of_tables e
+metadata_of_tables M.Memory = tt
+metadata_of_tables M.Version = tt
+metadata_of_tables M.Unaligned = tt
+metadata_of_tables M.Limit = tt
+metadata_of_tables M.Format = tt
+
 pub storage_met : (e : StorageError) → IsMet (of_storage e)
 storage_met S.Fault = tt
 storage_met S.Memory = tt

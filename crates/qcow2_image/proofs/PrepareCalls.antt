@@ -1,34 +1,23 @@
 -- Preparing as a call: it is answered, or refused and perhaps marked as failed.
-use Rattle.std.proofs.Common.{◌≡◌, ◌⊎◌, ⊎_elim, inl, inr, ℕ, Bool, true, false, List, [], Option, Some, refl, sym, ap, ◌∙◌, subst, arith}
+use Rattle.std.proofs.Common.{◌≡◌, ℕ, Bool, false, List, [], Option, Some, refl, sym, subst}
 use Rattle.std.specs.Prelude.{Result, Ok, Err, IfErr, IsTrue, slice_set}
 use Rattle.image_access.specs.Backing.{BackingView}
 use Rattle.image_access.specs.Moments.{StorageView}
-use Rattle.image_access.proofs.Passing.{passes_if}
-use Rattle.qcow2_metadata.specs.Bytes.{byte_at}
-use Rattle.qcow2_metadata.specs.declared.header.HeaderFields.{HeaderFields}
-use Rattle.qcow2_metadata.specs.Header.{cluster_size}
-use Rattle.qcow2_laws.specs.Calls.{Does, IsFault, IsSame, Refuses, Works, with_slot}
+use Rattle.qcow2_laws.specs.Calls.{Does, with_slot}
 use Rattle.qcow2_laws.specs.Mappings.{IsPrepared}
-use Rattle.qcow2_laws.specs.Stops.{IsKeptAt, more}
 use Rattle.qcow2_laws.specs.Views.{guest_of}
-use Rattle.qcow2_alloc.specs.ImageError.{IsFault as FaultOfTables}
 use Rattle.qcow2_alloc.specs.declared.error.ImageError.{ImageError}
 use Rattle.qcow2_alloc.specs.declared.error.ImageError.TheVariants as I
-use Rattle.qcow2_alloc.specs.ImageFile.{nothing_given}
 use Rattle.qcow2_image.specs.declared.image.Qcow2.{Qcow2}
 use Rattle.qcow2_image.specs.declared.prepared.Prepared.{Prepared}
-use Rattle.qcow2_image.specs.Calls.{refusal_of, Prepares}
+use Rattle.qcow2_image.specs.Calls.{Prepares}
 use Rattle.qcow2_image.specs.Image.{number_of, is_failed}
-use Rattle.qcow2_image.specs.Parts.{IsExisting, IsReadied, Readies}
-use Rattle.qcow2_image.specs.Refusals.{failed_after, Marks}
-use Rattle.qcow2_image.specs.Steps.{following, Broke, Goes, GoesBack}
-use Rattle.qcow2_image.specs.Views.{of_data, of_tables, to_free, pending_in, seen, meaning, backing_bytes, IsSoundAt}
-use Rattle.qcow2_image.proofs.Answered.{same_setting}
+use Rattle.qcow2_image.specs.Parts.{IsExisting, IsReadied, PreparesRange}
+use Rattle.qcow2_image.specs.Refusals.{Marks}
+use Rattle.qcow2_image.specs.Views.{pending_in, seen, meaning, IsSoundAt}
 use Rattle.qcow2_image.proofs.Preparing.{readied_existing}
-use Rattle.qcow2_image.proofs.Settled.{is_fault, outcome, settled_does, settled_refuses}
-use Rattle.qcow2_image.proofs.Sound.{free_more}
-use Rattle.qcow2_image.proofs.Refused.{IsLeft, refuses_left}
-use Rattle.qcow2_image.proofs.Stepped.{Steps, stepped_sound, stepped_works}
+use Rattle.qcow2_image.proofs.Settled.{settled_does}
+use Rattle.qcow2_image.proofs.Refused.{refuses_left}
 
 module _ {S F : Type 0} (view : S → StorageView) (backing : F → BackingView) (old : Qcow2 S F) (usable : is_failed old ≡ false) where
   -- of nothing an existing mapping is made
@@ -41,37 +30,11 @@ module _ {S F : Type 0} (view : S → StorageView) (backing : F → BackingView)
     abbrev failed_now : Qcow2 S F
     failed_now = record new { is_failed = marked }
 
-    module _ (out : List (Option Prepared)) (e : ImageError) (marks : failed_after e (is_failed new) marked) where
-      -- it is as before, but for what is to be freed
-      goes_left : Goes view backing (pending_in view backing old out) (following (pending_in view backing old out) old new) old new out → IsLeft view backing old new out
-      goes_left goes = record {
-        pending = following (pending_in view backing old out) old new;
-        steps = record {
-          sound = goes.sound;
-          only = record {
-            held = λ k. refl;
-            fresh = λ k. refl;
-            spent = λ k. let x = ap (λ l. to_free of_tables l k) goes.list.is ∙ free_more of_tables old.file.free_list goes.list.more k in omega arith;
-            dropped = λ k. let x = ap (λ l. to_free of_data l k) goes.list.is ∙ free_more of_data old.file.free_list goes.list.more k in omega arith;
-          };
-          leads = goes.leads;
-          since = goes.since;
-          header = goes.header;
-          below = goes.below;
-          surplus = refl;
-        };
-        same = goes.seen;
-      }
-
-      refuses_back : (e ≡ I.Memory → IsTrue new.file.caches.is_changed → IsTrue marked) → (IsSoundAt view backing (pending_in view backing old out) old out → GoesBack view backing (pending_in view backing old out) old new out e)
-          → Refuses (seen view backing old out) (seen view backing failed_now out) [] [] (refusal_of e) (IsSame (seen view backing old out) (seen view backing failed_now out))
-      refuses_back memory back = refuses_left view backing old usable new marked number out e marks memory (λ sound. elim (back sound) [ inl goes ↦ inl (goes_left goes) | inr broke ↦ inr broke ])
-
     pub prepares_settled : (offset n : ℕ) (overwrite : Bool) (r : Result Prepared ImageError) → Marks r (is_failed new) marked → IfErr r (λ e. e ≡ I.Memory → IsTrue new.file.caches.is_changed → IsTrue marked)
-        → ((out : List (Option Prepared)) → IsSoundAt view backing (pending_in view backing old out) old out → Readies view backing old new out offset n overwrite r) → Prepares view backing old failed_now offset n overwrite r
+        → ((out : List (Option Prepared)) → IsSoundAt view backing (pending_in view backing old out) old out → PreparesRange view backing old new out offset n overwrite r) → Prepares view backing old failed_now offset n overwrite r
     prepares_settled offset n overwrite (Ok p) marks memory readies = λ out k free.
         let ready : IsSoundAt view backing (pending_in view backing old out) old out → IsReadied view backing old new out k offset n overwrite p = λ sound. readies out sound k free in
         subst (λ (f : Bool). let v = seen view backing old out in let w = seen view backing (record new { is_failed = f }) (slice_set out k (Some p)) in
         Does v w [] [] (IsPrepared v.setting.cluster_size (guest_of v).disk offset n overwrite (meaning view backing (record new { is_failed = f }) p) × (guest_of w ≡ with_slot (guest_of v) k (Some (meaning view backing (record new { is_failed = f }) p))))) (sym marks)
         (settled_does view backing old new out (slice_set out k (Some p)) [] (λ sound. (ready sound).works) (λ sound. (ready sound).sound) number usable (λ sound. ((ready sound).prepared, (ready sound).is)))
-    prepares_settled offset n overwrite (Err e) marks memory readies = λ out. refuses_back out e marks memory (readies out)
+    prepares_settled offset n overwrite (Err e) marks memory readies = λ out. refuses_left view backing out old usable new marked number e marks memory (readies out)

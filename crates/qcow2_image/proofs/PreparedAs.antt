@@ -173,3 +173,7 @@ held_alone s sound k some =
 pub if_ok_both : {A E : Type 0} {P Q R : A → Type 0} (answer : Result A E) → ((x : A) → P x → Q x → R x) → IfOk answer P → IfOk answer Q → IfOk answer R
 if_ok_both (Ok x) follows is also = follows x is also
 if_ok_both (Err e) follows is also = tt
+
+pub if_ok_three : {A E : Type 0} {P Q R T : A → Type 0} (answer : Result A E) → ((x : A) → P x → Q x → R x → T x) → IfOk answer P → IfOk answer Q → IfOk answer R → IfOk answer T
+if_ok_three (Ok x) follows is also more = follows x is also more
+if_ok_three (Err e) follows is also more = tt

@@ -1,101 +1,26 @@
 -- A range is prepared: by its L2 table, and then in that.
-use Rattle.std.proofs.Common.{◌≡◌, ⊎_elim, inl, inr, ℕ, ◌/◌, Bool, true, false, List, [], Option, Some, None, refl, sym, ap, ◌∙◌, subst, arith, is_some}
-use Rattle.std.specs.Prelude.{Result, Ok, Err, IsTrue, slice_get, slice_set, ◌&&◌, ◌==◌}
+use Rattle.std.proofs.Common.{◌≡◌, ⊎_elim, ℕ, ◌/◌, Bool, true, false, List, Option, Some, None, refl, sym, ap, ◌∙◌, subst, arith, is_some}
+use Rattle.std.specs.Prelude.{IsTrue, slice_get, slice_set, ◌&&◌, ◌==◌}
 use Rattle.std.specs.Option.{option_map_or}
 use mathlib.Core.Path.{fun_ext}
 use Rattle.image_access.specs.Backing.{BackingView}
 use Rattle.image_access.specs.Moments.{StorageView}
-use Rattle.qcow2_metadata.specs.declared.header.HeaderFields.{HeaderFields}
 use Rattle.qcow2_metadata.specs.Header.{cluster_size}
 use Rattle.qcow2_laws.specs.Calls.{with_slot}
-use Rattle.qcow2_laws.specs.Disk.{Disk}
-use Rattle.qcow2_laws.specs.Guard.{Pending}
-use Rattle.qcow2_laws.specs.Mappings.{IsPrepared}
-use Rattle.qcow2_laws.specs.Views.{Guest, guest_of}
-use Rattle.qcow2_laws.proofs.Compose.{works_then}
-use Rattle.qcow2_laws.proofs.Leads.{leads_none, endures_none, steps_endure}
-use Rattle.qcow2_alloc.specs.declared.error.ImageError.{ImageError}
+use Rattle.qcow2_laws.specs.Views.{guest_of}
+use Rattle.qcow2_laws.proofs.Leads.{leads_none, endures_none}
 use Rattle.qcow2_alloc.specs.ImageFile.{stand_in, view_in, contents_in, known_in, nothing_given}
-use Rattle.qcow2_alloc.proofs.FileSteps.{pending_same}
 use Rattle.qcow2_image.specs.declared.image.Qcow2.{Qcow2}
 use Rattle.qcow2_image.specs.declared.prepared.Prepared.{Prepared}
 use Rattle.qcow2_image.specs.declared.prepared.NewCluster.{NewCluster}
-use Rattle.qcow2_image.specs.Image.{number_of, KeepsRest}
-use Rattle.qcow2_image.specs.Parts.{IsExisting, IsReadied, Readies}
-use Rattle.qcow2_image.specs.Steps.{following, Goes, GoesBack, Keeps, Leaves, ListGrows}
-use Rattle.qcow2_image.specs.Views.{of_data, of_tables, to_free, held_by, pins_by, pins_of, over_all, pending_in, seen, meaning, is_private, run_of, backing_bytes, IsReady, IsReadyWith, IsSoundAt}
-use Rattle.qcow2_image.proofs.Answered.{followed, same_guest, same_now, sound_now, works_now}
-use Rattle.qcow2_image.proofs.Going.{goes_kept, goes_then}
+use Rattle.qcow2_image.specs.Image.{number_of}
+use Rattle.qcow2_image.specs.Parts.{IsExisting, IsReadied}
+use Rattle.qcow2_image.specs.Views.{held_by, pins_by, pins_of, over_all, pending_in, seen, meaning, is_private, run_of, IsReady, IsReadyWith, IsSoundAt}
+use Rattle.qcow2_image.proofs.Answered.{same_guest}
 use Rattle.qcow2_image.proofs.Slots.{get_set, over_all_put, slot_set}
-use Rattle.qcow2_image.proofs.Sound.{free_more}
 use Rattle.qcow2_image.proofs.Stepped.{Steps, stepped_sound, stepped_works}
 
 module _ {S F : Type 0} (view : S → StorageView) (backing : F → BackingView) (out : List (Option Prepared)) where
-  -- what is to be freed after two parts
-  following_then : (p : Pending) (a b c : Qcow2 S F) → ListGrows a b → ListGrows b c → following (following p a b) b c ≡ following p a c
-  following_then p a b c first then =
-      pending_same (following (following p a b) b c) (following p a c) (λ k. refl) (λ k. refl)
-      (λ k.
-      let x = ap (λ l. to_free of_tables l k) first.is ∙ free_more of_tables a.file.free_list first.more k in
-      let y = ap (λ l. to_free of_tables l k) then.is ∙ free_more of_tables b.file.free_list then.more k in
-      omega arith)
-      (λ k.
-      let x = ap (λ l. to_free of_data l k) first.is ∙ free_more of_data a.file.free_list first.more k in
-      let y = ap (λ l. to_free of_data l k) then.is ∙ free_more of_data b.file.free_list then.more k in
-      omega arith)
-      (λ k. refl)
-
-  -- a part that no guest sees was refused
-  pub goes_left : (old new : Qcow2 S F) (e : ImageError) → IsSoundAt view backing (pending_in view backing old out) old out → KeepsRest old new → Leaves view backing (pending_in view backing old out) old new out e
-      → GoesBack view backing (pending_in view backing old out) old new out e
-  goes_left old new e sound rest (inl keeps) = inl (goes_kept view backing out old new (pending_in view backing old out) (following (pending_in view backing old out) old new) sound (λ k. omega arith) (λ k. omega arith) keeps)
-  goes_left old new e sound rest (inr breaks) = inr (record { breaks = breaks; header = ap (λ x. x.fields) rest.header; below = ap (backing_bytes view backing) rest.backing })
-
-  -- ---- one part, and then the rest
-  module _ (old mid new : Qcow2 S F) (sound : IsSoundAt view backing (pending_in view backing old out) old out) (keeps : Keeps view backing (pending_in view backing old out) (following (pending_in view backing old out) old mid) old mid out) where
-    abbrev before : Pending
-    before = pending_in view backing old out
-
-    pub mid_sound : IsSoundAt view backing (pending_in view backing mid out) mid out
-    mid_sound = sound_now view backing old mid out sound keeps
-
-    mid_pending : following before old mid ≡ pending_in view backing mid out
-    mid_pending = followed view backing old mid out sound keeps.list keeps.sound.file.caches.kept.kept.guarded
-
-    first : Goes view backing before (following before old mid) old mid out
-    first = goes_kept view backing out old mid before (following before old mid) sound (λ k. omega arith) (λ k. omega arith) keeps
-
-    back_then : (e : ImageError) → GoesBack view backing (pending_in view backing mid out) mid new out e → GoesBack view backing before old new out e
-    back_then e (inl goes) =
-        let moved : Goes view backing (following before old mid) (following (following before old mid) mid new) mid new out =
-        subst (λ q. Goes view backing q (following q mid new) mid new out) (sym mid_pending) goes in
-        inl (subst (λ q. Goes view backing before q old new out) (following_then before old mid new keeps.list moved.list)
-        (goes_then view backing out old mid new before (following before old mid) (following (following before old mid) mid new) first moved))
-    back_then e (inr broke) = inr (record {
-      breaks = record {
-        fault = broke.breaks.fault;
-        noted = broke.breaks.noted;
-        since = steps_endure (view_in view old.file) (view_in view mid.file) (view_in view new.file) (stand_in view old.file before) (stand_in view mid.file (following before old mid)) nothing_given nothing_given [] [] refl keeps.since keeps.leads broke.breaks.since;
-      };
-      header = broke.header ∙ keeps.unseen.header;
-      below = broke.below ∙ keeps.below;
-    })
-
-    pub readied_then : (k offset n : ℕ) (overwrite : Bool) (p : Prepared) → IsReadied view backing mid new out k offset n overwrite p → IsReadied view backing old new out k offset n overwrite p
-    readied_then k offset n overwrite p is =
-        let same = same_now view backing old mid out sound keeps in
-        record {
-          works = works_then (seen view backing old out) (seen view backing mid out) (seen view backing new (slice_set out k (Some p))) [] [] mid_sound (works_now view backing old mid out sound keeps) is.works;
-          sound = is.sound;
-          prepared = subst (λ (d : Disk). IsPrepared (cluster_size old.file.header.fields) d offset n overwrite (meaning view backing new p)) (ap (λ (g : Guest). g.disk) same)
-              (subst (λ (x : HeaderFields). IsPrepared (cluster_size x) (guest_of (seen view backing mid out)).disk offset n overwrite (meaning view backing new p)) keeps.unseen.header is.prepared);
-          is = is.is ∙ ap (λ (g : Guest). with_slot g k (Some (meaning view backing new p))) same;
-        }
-
-    pub readies_then : (offset n : ℕ) (overwrite : Bool) (r : Result Prepared ImageError) → Readies view backing mid new out offset n overwrite r → Readies view backing old new out offset n overwrite r
-    readies_then offset n overwrite (Ok p) is = λ k free. readied_then k offset n overwrite p (is k free)
-    readies_then offset n overwrite (Err e) is = back_then e is
-
   -- ---- a mapping of which nothing is kept
   module _ (image : Qcow2 S F) (sound : IsSoundAt view backing (pending_in view backing image out) image out) (p : Prepared) (offset n : ℕ) (existing : IsExisting p (number_of image) offset n) (k : ℕ) (free : slice_get out k ≡ Some None) where
     nothing_held : (c : ℕ) → held_by p c ≡ 0

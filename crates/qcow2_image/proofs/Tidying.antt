@@ -9,7 +9,6 @@ use Rattle.qcow2_laws.specs.Leads.{Leads}
 use Rattle.qcow2_laws.specs.Views.{contents_of}
 use Rattle.qcow2_laws.proofs.Leads.{leads_then, steps_endure}
 use Rattle.qcow2_laws.proofs.Unseen.{unseen_then}
-use Rattle.qcow2_metadata.specs.declared.header.HeaderFields.{HeaderFields}
 use Rattle.qcow2_alloc.specs.declared.allocation.Allocator.{Allocator}
 use Rattle.qcow2_alloc.specs.declared.error.ImageError.{ImageError}
 use Rattle.qcow2_alloc.specs.declared.image_file.ImageFile.{ImageFile}
@@ -22,8 +21,8 @@ use Rattle.qcow2_alloc.specs.declared.error.ImageError.TheVariants as I
 use Rattle.qcow2_alloc.proofs.FileSteps.{pending_same}
 use Rattle.qcow2_image.specs.declared.image.Qcow2.{Qcow2}
 use Rattle.qcow2_image.specs.declared.prepared.Prepared.{Prepared}
-use Rattle.qcow2_image.specs.Parts.{EndsFreeing}
-use Rattle.qcow2_image.specs.Steps.{Keeps, Tidies, Broke, FreesListed}
+use Rattle.qcow2_image.specs.Parts.{EndsFreeing, IsRefused, StaysSound}
+use Rattle.qcow2_image.specs.Steps.{Keeps, Tidies, FreesListed}
 use Rattle.qcow2_image.specs.Calls.{Flushes}
 use Rattle.qcow2_image.specs.Image.{number_of, is_failed}
 use Rattle.qcow2_image.specs.Refusals.{Marks}
@@ -31,9 +30,8 @@ use Rattle.qcow2_image.specs.Views.{IsSoundAt, pending_in, seen}
 use Rattle.qcow2_image.proofs.Answered.{tidies_kept, still_seen}
 use Rattle.qcow2_image.proofs.Called.{copied_then}
 use Rattle.qcow2_image.proofs.Moving.{file_tidied}
-use Rattle.qcow2_image.proofs.Refused.{IsLeft, marks_fault, refuses_left}
+use Rattle.qcow2_image.proofs.Refused.{broke_off, marks_fault, refuses_left, stays_stepped}
 use Rattle.qcow2_image.proofs.Settled.{settled_does}
-use Rattle.qcow2_image.proofs.Stepped.{stepped_sound, stepped_works}
 
 module _ {S F : Type 0} (view : S → StorageView) (backing : F → BackingView) (out : List (Option Prepared)) where
   pub tidies_then : (a b c : Qcow2 S F) (p q r : Pending) → ((k : ℕ) → 0 < p.held k → 0 < q.held k) → Tidies view backing p q a b out → Tidies view backing q r b c out → Tidies view backing p r a c out
@@ -106,20 +104,22 @@ module _ {S F : Type 0} (view : S → StorageView) (backing : F → BackingView)
   all_listed = pending_same (pending_in view backing old out) (with_listed beside old.file.free_list) (λ k. refl) (λ k. refl) (λ k. sym (omega arith)) (λ k. sym (omega arith)) (λ k. refl)
 
   module _ (new : Qcow2 S F) (sound : IsSoundAt view backing (pending_in view backing old out) old out) (tidies : Tidies view backing (with_listed beside old.file.free_list) (with_listed beside new.file.free_list) old new out) where
-    pub tidy_left : IsLeft view backing old new out
-    tidy_left = record {
-      pending = with_listed beside new.file.free_list;
-      steps = record {
-        sound = tidies.sound;
-        only = record { held = λ k. refl; fresh = λ k. refl; spent = λ k. omega arith; dropped = λ k. omega arith };
-        leads = subst (λ (p : Pending). Leads (stand_in view old.file p) (stand_in view new.file (with_listed beside new.file.free_list)) nothing_given []) (sym all_listed) tidies.leads;
-        since = tidies.since;
-        header = tidies.unseen.header;
-        below = tidies.below;
-        surplus = refl;
-      };
-      same = still_seen view backing old new out (with_listed beside old.file.free_list) (with_listed beside new.file.free_list) (subst (λ (p : Pending). IsSoundAt view backing p old out) all_listed sound) (λ k. omega arith) (λ k. omega arith) tidies;
-    }
+    pub tidy_stays : StaysSound view backing old new out
+    tidy_stays =
+        stays_stepped view backing out old new (with_listed beside new.file.free_list) (record {
+          sound = tidies.sound;
+          only = record { held = λ k. refl; fresh = λ k. refl; spent = λ k. omega arith; dropped = λ k. omega arith };
+          leads = subst (λ (p : Pending). Leads (stand_in view old.file p) (stand_in view new.file (with_listed beside new.file.free_list)) nothing_given []) (sym all_listed) tidies.leads;
+          since = tidies.since;
+          header = tidies.unseen.header;
+          below = tidies.below;
+          surplus = refl;
+        })
+        (still_seen view backing old new out (with_listed beside old.file.free_list) (with_listed beside new.file.free_list) (subst (λ (p : Pending). IsSoundAt view backing p old out) all_listed sound) (λ k. omega arith) (λ k. omega arith) tidies) tidies.unseen.covers
+
+  -- what is listed was freed, or that was refused
+  pub freed_refused : (new : Qcow2 S F) (e : ImageError) → IsSoundAt view backing (pending_in view backing old out) old out → FreesListed view backing beside old new out (Err e) → IsRefused view backing old new out e
+  freed_refused new e sound frees = elim frees [ inl tidies ↦ inl (tidy_stays new sound tidies) | inr broke ↦ inr (broke_off view backing out old new e broke) ]
 
 module _ {S F : Type 0} (view : S → StorageView) (backing : F → BackingView) (old : Qcow2 S F) (usable : is_failed old ≡ false) (new : Qcow2 S F) (marked : Bool) (number : number_of new ≡ number_of old) where
   -- all that is known is written, and nothing is seen of it; or it was refused
@@ -127,25 +127,18 @@ module _ {S F : Type 0} (view : S → StorageView) (backing : F → BackingView)
       → ((out : List (Option Prepared)) → IsSoundAt view backing (pending_in view backing old out) old out → FreesListed view backing (beside view backing old out) old new out r)
       → IfOk r (λ done. known_in view new.file ≡ contents_in view new.file) → Flushes view backing old (record new { is_failed = marked }) r
   flushes_settled (Ok done) marks memory frees written = λ out.
-      let left : IsSoundAt view backing (pending_in view backing old out) old out → IsLeft view backing old new out = λ sound. tidy_left view backing old out new sound (frees out sound) in
+      let stays : IsSoundAt view backing (pending_in view backing old out) old out → StaysSound view backing old new out = λ sound. tidy_stays view backing old out new sound (frees out sound) in
       subst (λ (f : Bool). let v = seen view backing old out in let w = seen view backing (record new { is_failed = f }) out in Does v w [] [] ((w.known ≡ contents_of w) × IsSame v w)) (sym marks)
-      (settled_does view backing old new out out [] (λ sound. stepped_works view backing old new out out nothing_given (left sound).pending (left sound).steps)
-      (λ sound. stepped_sound view backing old new out out nothing_given (left sound).pending (left sound).steps) number usable (λ sound. (written, (left sound).same)))
-  flushes_settled (Err e) marks memory frees written = λ out.
-      refuses_left view backing old usable new marked number out e marks memory (λ sound. elim (frees out sound) [ inl tidies ↦ inl (tidy_left view backing old out new sound tidies) | inr broke ↦ inr broke ])
+      (settled_does view backing old new out out [] (λ sound. (stays sound).works) (λ sound. (stays sound).sound) number usable (λ sound. (written, (stays sound).same)))
+  flushes_settled (Err e) marks memory frees written = λ out. refuses_left view backing out old usable new marked number e marks memory (λ sound. freed_refused view backing old out new e sound (frees out sound))
 
   -- at the end of a call that changed an entry
   module _ (out : List (Option Prepared)) (sound : IsSoundAt view backing (pending_in view backing old out) old out) where
     pub ends_freeing : (r : Result (Unit {0}) ImageError) → Marks r (is_failed new) marked → IfErr r (λ e. e ≡ I.Memory → IsTrue new.file.caches.is_changed → IsTrue marked) → IsTrue new.file.caches.is_changed
         → IfErr r FaultOfTables → FreesListed view backing (beside view backing old out) old new out r → EndsFreeing view backing old (record new { is_failed = marked }) out r
     ends_freeing (Ok done) marks memory noted fault frees =
-        let left = tidy_left view backing old out new sound frees in
-        subst (λ (f : Bool). EndsFreeing view backing old (record new { is_failed = f }) out (Ok done)) (sym marks) (
-          stepped_works view backing old new out out nothing_given left.pending left.steps,
-          stepped_sound view backing old new out out nothing_given left.pending left.steps,
-          left.same,
-        )
+        subst (λ (f : Bool). EndsFreeing view backing old (record new { is_failed = f }) out (Ok done)) (sym marks) (let stays = tidy_stays view backing old out new sound frees in record { works = stays.works; sound = stays.sound; same = stays.same; header = stays.header; covers = stays.covers })
     ends_freeing (Err e) marks memory noted fault frees =
         let is = marks_fault e (is_failed new) marked new.file.caches.is_changed fault (λ _. noted) marks memory in
-        let refuses = refuses_left view backing old usable new marked number out e marks memory (λ s. elim frees [ inl tidies ↦ inl (tidy_left view backing old out new s tidies) | inr broke ↦ inr broke ]) in
+        let refuses = refuses_left view backing out old usable new marked number e marks memory (λ s. freed_refused view backing old out new e s frees) in
         (refuses.acts.works sound, is.1, is.0)

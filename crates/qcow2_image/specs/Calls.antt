@@ -38,6 +38,11 @@ refusal_of I.Metadata = another 19
 refusal_of I.Overflow = another 20
 refusal_of (I.StillInUse tables) = another 21
 
+-- why a commit is refused
+abbrev pub reason_of : CommitRefused → ImageError
+reason_of (Kept e p) = e
+reason_of (Spent e) = e
+
 module _ {S F : Type 0} (view : S → StorageView) (backing : F → BackingView) (old new : Qcow2 S F) where
   -- a call that leaves the prepared mappings at their places, and gives these values: what it did, or the guest sees what it saw
   abbrev pub Answers : {A : Type 0} → List Gift → (A → Guest → Guest → Type 0) → Result A ImageError → Type 0
@@ -67,10 +72,6 @@ module _ {S F : Type 0} (view : S → StorageView) (backing : F → BackingView)
   abbrev pub handed_back : CommitRefused → Option Prepared
   handed_back (Kept e p) = Some p
   handed_back (Spent e) = None
-
-  abbrev pub reason_of : CommitRefused → ImageError
-  reason_of (Kept e p) = e
-  reason_of (Spent e) = e
 
   -- Its private bytes become visible, and its place is free. On a sound image a fault or want of memory alone refuses it, and then it is at its place again, or the image failed.
   abbrev pub Commits : Prepared → Result (Unit {0}) CommitRefused → Type 0

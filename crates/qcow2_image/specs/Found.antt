@@ -32,6 +32,14 @@ writable_place (Kind.Special offset) = None
 writable_place (Kind.Indirect offset) = None
 writable_place Kind.Eof = None
 
+-- the same kind, so many bytes further on, in numbers of 64 bits
+abbrev pub further_by : ℕ → MappingKind → MappingKind
+further_by n (Kind.Raw file offset writable) = Kind.Raw file ((offset + n) % 2 ^ 64) writable
+further_by n (Kind.Indirect offset) = Kind.Indirect ((offset + n) % 2 ^ 64)
+further_by n (Kind.Special offset) = Kind.Special ((offset + n) % 2 ^ 64)
+further_by n (Kind.Zero explicit) = Kind.Zero explicit
+further_by n Kind.Eof = Kind.Eof
+
 -- the L1 entry, and the entry of its L2 table, that cover an offset
 abbrev pub l1_index_of : HeaderFields → ℕ → ℕ
 l1_index_of h offset = offset / cluster_size h / entries_per_cluster h
@@ -89,3 +97,7 @@ module _ {S F : Type 0} (view : S → StorageView) (image : Qcow2 S F) (offset :
   pub record IsFound (max : ℕ) (kind : MappingKind) (n : ℕ) : Type 0 where
     pub past : size_of image ≤ offset → (kind ≡ Kind.Eof) × (n ≡ 0)
     pub run : offset < size_of image → IsRunFrom (min (min max (size_of image - offset)) (rest_of_table image.file.header.fields offset)) kind n
+
+  -- a range of so many bytes is found as a whole to be mapped so
+  abbrev pub IsFoundWhole : MappingKind → ℕ → Type 0
+  IsFoundWhole kind n = IsFound n kind n

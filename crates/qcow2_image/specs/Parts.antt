@@ -1,16 +1,18 @@
 -- What parts of calls do that a guest sees.
 use Rattle.qcow2_metadata.specs.Header.{cluster_size}
-use Rattle.qcow2_image.specs.Steps.{GoesBack}
-use Rattle.std.specs.Prelude.{Bool, ℕ, ◌+◌, ◌≡◌, ◌⊎◌, List, [], ◌∷◌, Option, Some, None, IfSome, IsSome, IsTrue, Result, Ok, Err, slice_get, slice_set}
+use Rattle.qcow2_image.specs.Steps.{GoesBack, HoldsTable}
+use Rattle.qcow2_alloc.specs.ImageError.{IsFault as IsFaultOfTables}
+use Rattle.std.specs.Prelude.{Bool, true, ℕ, ◌+◌, ◌≡◌, ◌⊎◌, List, [], ◌∷◌, Option, Some, None, IfSome, IsSome, IsTrue, Result, Ok, Err, slice_get, slice_set}
 use Rattle.image_access.specs.Backing.{BackingView}
 use Rattle.image_access.specs.Contents.{overwritten}
 use Rattle.image_access.specs.Moments.{StorageView, Passing}
+use Rattle.qcow2_laws.specs.Guard.{SameCovers}
 use Rattle.qcow2_laws.specs.Calls.{IsFault, IsSame, Works, with_disk, with_slot}
 use Rattle.qcow2_laws.specs.Mappings.{PreparedMapping, IsPrepared, gift_of, gift_of_commit, put_mapping, put_disk, committed}
 use Rattle.qcow2_laws.specs.Views.{Guest, guest_of}
 use Rattle.qcow2_alloc.specs.declared.error.ImageError.{ImageError}
 use Rattle.qcow2_alloc.specs.declared.error.ImageError.TheVariants as I
-use Rattle.qcow2_alloc.specs.ImageFile.{view_in}
+use Rattle.qcow2_alloc.specs.ImageFile.{view_in, known_in}
 use Rattle.qcow2_alloc.specs.MetadataCaches.{l2_at}
 use Rattle.qcow2_image.specs.declared.image.Qcow2.{Qcow2}
 use Rattle.qcow2_image.specs.declared.prepared.Prepared.{Prepared}
@@ -72,10 +74,33 @@ module _ {S F : Type 0} (view : S → StorageView) where
     NotesNew old new p = (out : List (Option Prepared)) (k : ℕ) → slice_get out k ≡ Some (Some p) → IfSome p.table (λ t. IsSome (l2_at old.file.caches t)) → IsSoundAt view backing (pending_in view backing old out) old out
         → IsSome p.new_cluster → IsTrue new.file.caches.is_changed
 
+    -- The image is sound, and the guest sees what it saw: the same stands for each guest cluster.
+    pub record StaysSound (old new : Qcow2 S F) (out : List (Option Prepared)) : Type 0 where
+      pub works : Works (seen view backing old out) (seen view backing new out) [] []
+      pub sound : IsSoundAt view backing (pending_in view backing new out) new out
+      pub same : IsSame (seen view backing old out) (seen view backing new out)
+      pub header : new.file.header.fields ≡ old.file.header.fields
+      pub covers : SameCovers old.file.header.fields (known_in view old.file) (known_in view new.file)
+
+    -- A fault, or want of memory after a change: once the image is marked as failed, a stop is as safe as before.
+    pub record BreaksOff (old new : Qcow2 S F) (out : List (Option Prepared)) (e : ImageError) : Type 0 where
+      pub fault : IsFaultOfTables e
+      pub noted : e ≡ I.Memory → IsTrue new.file.caches.is_changed
+      pub works : Works (seen view backing old out) (seen view backing (record new { is_failed = true }) out) [] []
+
+    -- what a refused part leaves
+    abbrev pub IsRefused : Qcow2 S F → Qcow2 S F → List (Option Prepared) → ImageError → Type 0
+    IsRefused old new out e = StaysSound old new out ⊎ BreaksOff old new out e
+
     -- At the end of a call that changed an entry clusters are freed, which no guest sees; or the image failed.
     abbrev pub EndsFreeing : Qcow2 S F → Qcow2 S F → List (Option Prepared) → Result (Unit {0}) ImageError → Type 0
-    EndsFreeing old new out (Ok _) = Works (seen view backing old out) (seen view backing new out) [] [] × IsSoundAt view backing (pending_in view backing new out) new out × IsSame (seen view backing old out) (seen view backing new out)
+    EndsFreeing old new out (Ok _) = StaysSound old new out
     EndsFreeing old new out (Err e) = Works (seen view backing old out) (seen view backing new out) [] [] × IsFault (refusal_of e) × IsTrue (is_failed new)
+
+    -- the L2 table of an offset is found or made
+    abbrev pub FindsTable : Qcow2 S F → Qcow2 S F → List (Option Prepared) → ℕ → Result ℕ ImageError → Type 0
+    FindsTable old new out offset (Ok table) = StaysSound old new out × HoldsTable view backing new offset table
+    FindsTable old new out offset (Err e) = IsRefused old new out e
 
     -- a range is prepared, and put at a place that was free
     pub record IsReadied (old new : Qcow2 S F) (out : List (Option Prepared)) (k offset n : ℕ) (overwrite : Bool) (p : Prepared) : Type 0 where
@@ -87,3 +112,8 @@ module _ {S F : Type 0} (view : S → StorageView) where
     abbrev pub Readies : Qcow2 S F → Qcow2 S F → List (Option Prepared) → ℕ → ℕ → Bool → Result Prepared ImageError → Type 0
     Readies old new out offset n overwrite (Ok p) = (k : ℕ) → slice_get out k ≡ Some None → IsReadied old new out k offset n overwrite p
     Readies old new out offset n overwrite (Err e) = GoesBack view backing (pending_in view backing old out) old new out e
+
+    -- so it is by a whole prepare, which frees clusters too
+    abbrev pub PreparesRange : Qcow2 S F → Qcow2 S F → List (Option Prepared) → ℕ → ℕ → Bool → Result Prepared ImageError → Type 0
+    PreparesRange old new out offset n overwrite (Ok p) = (k : ℕ) → slice_get out k ≡ Some None → IsReadied old new out k offset n overwrite p
+    PreparesRange old new out offset n overwrite (Err e) = IsRefused old new out e

@@ -1,19 +1,19 @@
 //! Reading and writing what is mapped.
-ghost use Rattle.std.specs.Prelude.{◌≡◌, ◌+◌, ◌<◌, ◌≤◌, ℕ, List, [], Option, length, slice_get, IfOk, IfErr, IfSome, IsTrue, MatchOption, Ok, Err, Some, None, true, false};
+ghost use Rattle.std.specs.Prelude.{◌≡◌, ◌≢◌, ◌+◌, ◌^◌, ◌<◌, ◌≤◌, ℕ, List, [], Option, length, slice_get, IfOk, IfErr, IfSome, IsTrue, MatchOption, Ok, Err, Some, None, true, false};
 ghost use Rattle.qcow2_laws.specs.Calls.{Shows};
 ghost use Rattle.qcow2_laws.specs.Guard.{Pending};
 ghost use Rattle.qcow2_image.specs.Calls.{Answers, Puts};
-ghost use Rattle.qcow2_image.specs.Found.{AreBytesOf, IsMappedAs};
+ghost use Rattle.qcow2_image.specs.Found.{AreBytesOf, IsFoundWhole, IsMappedAs, further_by};
 ghost use Rattle.qcow2_image.specs.Parts.{PutsPart, WritesBytes};
 ghost use Rattle.qcow2_image.specs.Steps.{Keeps};
-ghost use Rattle.qcow2_image.specs.Views.{IsHonestBacking, IsSoundAt, pending_in, backing_bytes, disk_of};
-ghost use Rattle.qcow2_image.specs.declared.mapping.MappingKind.TheVariants.{Raw};
+ghost use Rattle.qcow2_image.specs.Views.{IsHonestBacking, IsSoundAt, pending_in, backing_bytes, disk_of, seen};
+ghost use Rattle.qcow2_image.specs.declared.mapping.MappingKind.TheVariants.{Eof, Raw};
 ghost use Rattle.qcow2_image.specs.declared.mapping.Place.TheVariants.{Image};
 ghost use Rattle.qcow2_image.specs.declared.prepared.Prepared.{Prepared};
-ghost use Rattle.qcow2_image.specs.Image.{Stays, IsSameImage, is_failed, is_writable};
+ghost use Rattle.qcow2_image.specs.Image.{Stays, IsSameImage, is_failed, is_writable, size_of};
 ghost use Rattle.qcow2_image.specs.Prepared.{image_of, table_of};
 ghost use Rattle.qcow2_image.specs.Refusals.{refuses_mapping, refuses_to_read, IsMet, Marks};
-ghost use Rattle.qcow2_alloc.specs.declared.error.ImageError.TheVariants.{ReadOnly};
+ghost use Rattle.qcow2_alloc.specs.declared.error.ImageError.TheVariants.{OutdatedMapping, ReadOnly};
 
 use crate::mappings::passes;
 use crate::{Mapping, MappingKind, Place, Prepared, Qcow2};
@@ -24,7 +24,8 @@ use qcow2_alloc::{ImageError, WriteKind};
 impl<S: Storage, F: WrappedFormat<S>> Qcow2<S, F> {
     /// Refuses a range that can't be read.
     pub fn check_read(&self, offset: u64, length: u64) -> Result<(), ImageError>
-        ensures { MatchOption (refuses_to_read self.now offset length) (result ≡ Ok tt) (λ e. result ≡ Err e) }
+        ensures refusal { MatchOption (refuses_to_read self.now offset length) (result ≡ Ok tt) (λ e. result ≡ Err e) }
+        ensures end { IfOk result (λ done. offset + length < 2 ^ 64) }
     {
         self.check_usable()?;
         if passes(self.size(), offset, length) {
@@ -43,8 +44,11 @@ impl<S: Storage, F: WrappedFormat<S>> Qcow2<S, F> {
         requires { at + length bytes.old ≤ mapping.now.length }
         ensures early { IfSome (refuses_mapping self.old mapping.now.image) (λ e. (result ≡ Err e) × (self.new ≡ self.old)) }
         ensures late { refuses_mapping self.old mapping.now.image ≡ None → IfErr result IsMet }
+        ensures nothing { refuses_mapping self.old mapping.now.image ≡ None → length bytes.old ≡ 0 → (result ≡ Ok tt) × (self.new ≡ self.old) }
         ensures marks { Marks result (is_failed self.old) (is_failed self.new) }
         ensures image { IsSameImage self.old self.new }
+        ensures outdated { (out : List (Option Prepared)) → (seen S.view F.backing self.old out).is_sound → result ≡ Err OutdatedMapping
+            → ¬ IsFoundWhole S.view self.new (mapping.now.offset + at) (further_by at mapping.now.kind) (length bytes.old) }
         ensures sees { Answers S.view F.backing self.old self.new [] (λ done old new. (new ≡ old) × Shows old.disk (mapping.now.offset + at) bytes.new) result }
     {
         self.check_usable()?;
@@ -69,14 +73,27 @@ impl<S: Storage, F: WrappedFormat<S>> Qcow2<S, F> {
         ensures cause { IfErr result IsMet }
         ensures list { self.new.file.free_list ≡ self.old.file.free_list }
         ensures keeps { (p : Pending) (out : List (Option Prepared)) → IsSoundAt S.view F.backing p self.old out → Keeps S.view F.backing p p self.old self.new out }
+        ensures outdated { 0 < length bytes.old → (p : Pending) (out : List (Option Prepared)) → IsSoundAt S.view F.backing p self.old out → result ≡ Err OutdatedMapping
+            → ¬ IsFoundWhole S.view self.new (mapping.now.offset + at) (further_by at mapping.now.kind) (length bytes.old) }
         ensures shows { 0 < length bytes.old → (p : Pending) (out : List (Option Prepared)) → IsSoundAt S.view F.backing p self.old out → IfOk result (λ done. Shows (disk_of S.view F.backing self.new) (mapping.now.offset + at) bytes.new) }
     {
-        let Some(offset) = mapping.offset.checked_add(at) else {
-            return Err(ImageError::OutdatedMapping);
-        };
+        let offset = self.place_within(mapping.offset, at)?;
         let kind = mapping.kind.further(at);
         self.check_mapped(offset, bytes.len() as u64, &kind)?;
         self.read_as(offset, &kind, bytes)
+    }
+
+    // Where a byte of a range lies. Past the disk's end nothing is mapped any more.
+    fn place_within(&self, offset: u64, at: u64) -> Result<u64, ImageError>
+        ensures place { IfOk result (λ place. place ≡ offset + at) }
+        ensures cause { IfErr result IsMet }
+        ensures past { IfErr result (λ e. size_of self.now ≤ offset + at) }
+    {
+        let size = self.size();
+        if offset >= size || at >= size - offset {
+            return Err(ImageError::OutdatedMapping);
+        }
+        Ok(offset + at)
     }
 
     // Refuses a range that isn't mapped so any more.
@@ -90,6 +107,7 @@ impl<S: Storage, F: WrappedFormat<S>> Qcow2<S, F> {
         ensures cause { IfErr result IsMet }
         ensures list { self.new.file.free_list ≡ self.old.file.free_list }
         ensures keeps { (p : Pending) (out : List (Option Prepared)) → IsSoundAt S.view F.backing p self.old out → Keeps S.view F.backing p p self.old self.new out }
+        ensures outdated { (p : Pending) (out : List (Option Prepared)) → IsSoundAt S.view F.backing p self.old out → result ≡ Err OutdatedMapping → ¬ IsFoundWhole S.view self.new offset wanted.now length }
         ensures mapped { 0 < length → (p : Pending) (out : List (Option Prepared)) → IsSoundAt S.view F.backing p self.old out → IfOk result (λ done. IsMappedAs S.view self.new offset wanted.now length) }
     {
         let (kind, found) = self.look_up(offset, length)?;
@@ -110,6 +128,7 @@ impl<S: Storage, F: WrappedFormat<S>> Qcow2<S, F> {
         ensures cause { IfErr result IsMet }
         ensures list { self.new.file.free_list ≡ self.old.file.free_list }
         ensures keeps { (p : Pending) (out : List (Option Prepared)) → IsSoundAt S.view F.backing p self.old out → Keeps S.view F.backing p p self.old self.new out }
+        ensures outdated { result ≡ Err OutdatedMapping → (kind.now ≡ Eof) × (self.new ≡ self.old) }
         ensures shows { (p : Pending) (out : List (Option Prepared)) → IsSoundAt S.view F.backing p self.old out → IsMappedAs S.view self.old offset kind.now (length bytes.old)
             → IfOk result (λ done. Shows (disk_of S.view F.backing self.new) offset bytes.new) }
     {
@@ -135,6 +154,7 @@ impl<S: Storage, F: WrappedFormat<S>> Qcow2<S, F> {
     pub(crate) fn read_backing(&mut self, offset: u64, bytes: &mut [u8]) -> Result<(), ImageError>
         ensures stays { Stays self.old self.new }
         ensures cause { IfErr result IsMet }
+        ensures current { result ≢ Err OutdatedMapping }
         ensures file { self.new.file ≡ self.old.file }
         ensures keeps { (p : Pending) (out : List (Option Prepared)) → IsSoundAt S.view F.backing p self.old out → Keeps S.view F.backing p p self.old self.new out }
         ensures reads { IsHonestBacking S.view F.backing self.old.backing → IfOk result (λ done. (length bytes.new ≡ length bytes.old) × AreBytesOf (backing_bytes S.view F.backing self.old.backing) offset bytes.new) }
@@ -159,8 +179,11 @@ impl<S: Storage, F: WrappedFormat<S>> Qcow2<S, F> {
         ensures early { IfSome (refuses_mapping self.old (image_of prepared.now)) (λ e. (result ≡ Err e) × (self.new ≡ self.old)) }
         ensures read_only { 0 < length bytes.now → refuses_mapping self.old (image_of prepared.now) ≡ None → is_writable self.old ≡ false → (result ≡ Err ReadOnly) × (self.new ≡ self.old) }
         ensures late { refuses_mapping self.old (image_of prepared.now) ≡ None → IsTrue (is_writable self.old) → IfErr result IsMet }
+        ensures nothing { refuses_mapping self.old (image_of prepared.now) ≡ None → length bytes.now ≡ 0 → (result ≡ Ok tt) × (self.new ≡ self.old) }
         ensures marks { Marks result (is_failed self.old) (is_failed self.new) }
         ensures image { IsSameImage self.old self.new }
+        ensures outdated { table_of prepared.now ≡ None → (out : List (Option Prepared)) → (seen S.view F.backing self.old out).is_sound → result ≡ Err OutdatedMapping
+            → ¬ IsFoundWhole S.view self.new (prepared.now.guest + at) (Raw Image (prepared.now.offset + at) true) (length bytes.now) }
         ensures sees { Puts S.view F.backing self.old self.new prepared.now at bytes.now result }
     {
         self.check_usable()?;
@@ -186,13 +209,13 @@ impl<S: Storage, F: WrappedFormat<S>> Qcow2<S, F> {
     ) -> Result<(), ImageError>
         ensures stays { Stays self.old self.new }
         ensures cause { IfErr result IsMet }
+        ensures outdated { 0 < length bytes.now → table_of prepared.now ≡ None → (p : Pending) (out : List (Option Prepared)) → IsSoundAt S.view F.backing p self.old out → result ≡ Err OutdatedMapping
+            → ¬ IsFoundWhole S.view self.new (prepared.now.guest + at) (Raw Image (prepared.now.offset + at) true) (length bytes.now) }
         ensures puts { 0 < length bytes.now → at + length bytes.now ≤ prepared.now.length → (out : List (Option Prepared)) (k : ℕ) → slice_get out k ≡ Some (Some prepared.now)
             → IsSoundAt S.view F.backing (pending_in S.view F.backing self.old out) self.old out → PutsPart S.view F.backing self.old self.new out k prepared.now at bytes.now result }
     {
-        let (Some(guest), Some(host)) = (
-            prepared.guest.checked_add(at),
-            prepared.offset.checked_add(at),
-        ) else {
+        let guest = self.place_within(prepared.guest, at)?;
+        let Some(host) = prepared.offset.checked_add(at) else {
             return Err(ImageError::OutdatedMapping);
         };
         self.check_in_place(prepared, guest, host, bytes.len() as u64)?;
@@ -211,6 +234,7 @@ impl<S: Storage, F: WrappedFormat<S>> Qcow2<S, F> {
         ensures cause { IfErr result IsMet }
         ensures list { self.new.file.free_list ≡ self.old.file.free_list }
         ensures keeps { (p : Pending) (out : List (Option Prepared)) → IsSoundAt S.view F.backing p self.old out → Keeps S.view F.backing p p self.old self.new out }
+        ensures outdated { (p : Pending) (out : List (Option Prepared)) → IsSoundAt S.view F.backing p self.old out → result ≡ Err OutdatedMapping → ¬ IsFoundWhole S.view self.new guest (Raw Image host true) length }
         ensures mapped { table_of prepared.now ≡ None → 0 < length → (p : Pending) (out : List (Option Prepared)) → IsSoundAt S.view F.backing p self.old out
             → IfOk result (λ done. IsMappedAs S.view self.new guest (Raw Image host true) length) }
     {
@@ -228,6 +252,7 @@ impl<S: Storage, F: WrappedFormat<S>> Qcow2<S, F> {
     pub(crate) fn write_data(&mut self, host: u64, bytes: &[u8]) -> Result<(), ImageError>
         ensures stays { Stays self.old self.new }
         ensures cause { IfErr result IsMet }
+        ensures current { result ≢ Err OutdatedMapping }
         ensures written { WritesBytes S.view self.old self.new host bytes.now result }
     {
         self.file.storage.will_write(WriteKind::Data);

@@ -6,10 +6,10 @@ ghost use Rattle.qcow2_image.specs.Image.{Stays, KeepsRest, is_writable};
 ghost use Rattle.qcow2_laws.specs.Guard.{Pending};
 ghost use Rattle.qcow2_alloc.specs.ImageFile.{known_in};
 ghost use Rattle.qcow2_image.specs.declared.prepared.Prepared.{Prepared};
-ghost use Rattle.qcow2_image.specs.Parts.{Enters};
+ghost use Rattle.qcow2_image.specs.Parts.{Enters, FindsTable};
 ghost use Rattle.qcow2_image.specs.Found.{l1_index_of};
 ghost use Rattle.qcow2_image.specs.Steps.{Ensures, Keeps};
-ghost use Rattle.qcow2_image.specs.Views.{IsSoundAt};
+ghost use Rattle.qcow2_image.specs.Views.{IsSoundAt, pending_in};
 ghost use Rattle.qcow2_metadata.specs.Cover.{cover};
 ghost use Rattle.qcow2_image.specs.declared.mapping.Place.TheVariants.{Image};
 ghost use Rattle.qcow2_image.specs.NewTables.{SaysKnown, IsStored, StandsReady, MayName, NamesShared, Places, Stores, NamesNew, WritesNew, EntersTable, OwnsTable};
@@ -25,6 +25,30 @@ use qcow2_metadata::{ClusterCount, GuestOffset, HostCluster, L2Table};
 
 #[tactic(auto, using(crate::proofs::MetErrors::tables_met, crate::proofs::MetErrors::storage_met, crate::proofs::MetErrors::metadata_met))]
 impl<S: Storage, F: WrappedFormat<S>> Qcow2<S, F> {
+    // The L2 table that covers an offset, held in its cache and marked copied. Where one is made, the clusters that are to be freed are freed then.
+    pub(crate) fn table_for(&mut self, offset: u64) -> Result<HostCluster, ImageError>
+        requires writable { IsTrue (is_writable self.old) }
+        ensures stays { Stays self.old self.new }
+        ensures cause { IfErr result IsMet }
+        ensures finds { (out : List (Option Prepared)) → IsSoundAt S.view F.backing (pending_in S.view F.backing self.old out) self.old out → FindsTable S.view F.backing self.old self.new out offset result }
+    {
+        if self.has_own_l2(offset) {
+            return self.ensure_l2(offset);
+        }
+        self.own_l2(offset)?;
+        self.free_listed()?;
+        self.ensure_l2(offset)
+    }
+
+    // Whether there is an L2 table for an offset that is marked copied.
+    fn has_own_l2(&self, offset: u64) -> bool {
+        let index = GuestOffset::new(offset).l1_index(self.file.header.cluster_bits());
+        match self.l1_table.get(index) {
+            Some(entry) => entry.copied,
+            None => false,
+        }
+    }
+
     // The L2 table that covers an offset, held in its cache and marked copied. Where there is none, or it isn't, one is made.
     pub(crate) fn ensure_l2(&mut self, offset: u64) -> Result<HostCluster, ImageError>
         requires writable { IsTrue (is_writable self.old) }

@@ -1,5 +1,5 @@
-ghost use Rattle.std.specs.Prelude.{◌≡◌, IsTrue};
-ghost use Rattle.qcow2_image.specs.Found.{writable_place};
+ghost use Rattle.std.specs.Prelude.{◌≡◌, ◌↔◌, IsTrue};
+ghost use Rattle.qcow2_image.specs.Found.{further_by, writable_place};
 
 /// Where mapped bytes stand.
 #[derive(Clone, Copy, Debug, PartialEq, Eq)]
@@ -50,7 +50,7 @@ pub struct Mapping {
 impl MappingKind {
     // Whether it is the same kind, and at the same place.
     pub(crate) fn is(&self, other: &MappingKind) -> bool
-        ensures { IsTrue result → self.now ≡ other.now }
+        ensures { IsTrue result ↔ (self.now ≡ other.now) }
     {
         self == other
     }
@@ -70,7 +70,9 @@ impl MappingKind {
     }
 
     /// The same, so many bytes further on.
-    pub(crate) fn further(self, bytes: u64) -> MappingKind {
+    pub(crate) fn further(self, bytes: u64) -> MappingKind
+        ensures { result ≡ further_by bytes self }
+    {
         match self {
             MappingKind::Raw {
                 place,

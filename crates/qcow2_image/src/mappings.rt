@@ -3,16 +3,17 @@ ghost use Rattle.std.specs.Prelude.{◌↔◌, ℕ, List, Option, is_some, ◌�
 ghost use Rattle.qcow2_metadata.specs.Bytes.{Bytes};
 ghost use Rattle.qcow2_metadata.specs.L2Mapping.{IsHostCluster, IsInReach};
 ghost use Rattle.qcow2_image.specs.FirstCluster.{IsFirst, IsNear};
-ghost use Rattle.qcow2_image.specs.Image.{Stays, IsSameImage, is_failed, is_writable, number_of};
-ghost use Rattle.qcow2_image.specs.Prepared.{image_of, length_of, offset_of, table_of, IsKept};
+ghost use Rattle.qcow2_image.specs.Image.{HasNothingToFree, Stays, IsSameImage, is_failed, is_writable, number_of, size_of};
+ghost use Rattle.qcow2_image.specs.Prepared.{image_of, length_of, offset_of, table_of, HasNewCluster, IsKept};
 ghost use Rattle.qcow2_image.specs.Preparing.{HasItsOwn, IsAnswered, IsOfNothing, IsPlaceOf, IsRest, IsTaken};
 ghost use Rattle.qcow2_laws.specs.Guard.{Pending};
 ghost use Rattle.qcow2_alloc.specs.MetadataCaches.{IsEntryAt, l2_at};
 ghost use Rattle.qcow2_alloc.specs.ImageFile.{known_in, IsSoundFile};
 ghost use Rattle.qcow2_image.specs.declared.prepared.Prepared.{Prepared};
-ghost use Rattle.qcow2_image.specs.Calls.{Answers, Commits, Discards, Prepares};
-ghost use Rattle.qcow2_image.specs.Parts.{Enters, NotesNew, IsExisting, Readies};
+ghost use Rattle.qcow2_image.specs.Calls.{Answers, Commits, Discards, Prepares, reason_of};
+ghost use Rattle.qcow2_image.specs.Parts.{Enters, NotesNew, IsExisting, Readies, IsRefused, PreparesRange};
 ghost use Rattle.qcow2_alloc.specs.CacheMarks.{l2_pins};
+ghost use Rattle.qcow2_alloc.specs.ImageError.{IsFault, IsOfTables};
 ghost use Rattle.qcow2_laws.specs.Alike.{IsAlike};
 ghost use Rattle.qcow2_image.specs.Found.{mapping_of, IsRunBehind, NamesTable, IsRunFrom, IsFound, kind_at, rest_of_table, l1_index_of, l2_index_of};
 ghost use Rattle.qcow2_image.specs.Steps.{Gains, HoldsAll, HoldsTable, Pins, SameHeld, Keeps, TakesData, EntersCluster, EntersNew, FreesLater, Unpins, freed_by};
@@ -61,9 +62,20 @@ fn cluster_size(table: &L2Table) -> u64
 
 // Whether a range isn't empty and passes a size.
 pub(crate) fn passes(size: u64, offset: u64, length: u64) -> bool
-    ensures { result ≡ passes_size size offset length }
+    ensures answer { result ≡ passes_size size offset length }
+    ensures end { result ≡ false → offset + length < 2 ^ 64 }
 {
     length > 0 && (offset > size || length > size - offset)
+}
+
+// Whether nothing more is done after a refusal.
+fn is_last(refusal: &ImageError) -> bool
+    ensures fault { IsFault refusal.now → IsTrue result }
+{
+    matches!(
+        refusal,
+        ImageError::Memory | ImageError::Storage | ImageError::TablePrepared
+    )
 }
 
 // What the first cluster of a range that is to be written has.
@@ -73,7 +85,7 @@ enum FirstCluster {
     Missing,
 }
 
-#[tactic(auto, using(crate::proofs::MetErrors::tables_met, crate::proofs::MetErrors::storage_met, crate::proofs::MetErrors::metadata_met))]
+#[tactic(auto, using(crate::proofs::MetErrors::tables_met, crate::proofs::MetErrors::storage_met, crate::proofs::MetErrors::metadata_met, crate::proofs::MetErrors::metadata_of_tables))]
 impl<S: Storage, F: WrappedFormat<S>> Qcow2<S, F> {
     /// What stands at a guest offset, and for how many bytes, up to `max`, all is mapped alike: within one L2 table,
     /// and below the disk's size.
@@ -84,6 +96,7 @@ impl<S: Storage, F: WrappedFormat<S>> Qcow2<S, F> {
         ensures image { IsSameImage self.old self.new }
         ensures own { IfOk result (λ (mapping, n). (mapping.image ≡ number_of self.old) × (mapping.offset ≡ offset) × (mapping.length ≡ n)) }
         ensures within { IfOk result (λ (mapping, n). n ≤ max) }
+        ensures some { IfOk result (λ (mapping, n). offset < size_of self.old → 0 < max → 0 < n) }
         ensures sees { Answers S.view F.backing self.old self.new [] (λ found old new. new ≡ old) result }
         ensures run { (out : List (Option Prepared)) → (seen S.view F.backing self.old out).is_sound → IfOk result (λ (mapping, n). IsFound S.view self.new offset max mapping.kind n) }
     {
@@ -106,10 +119,11 @@ impl<S: Storage, F: WrappedFormat<S>> Qcow2<S, F> {
         max: u64,
     ) -> Result<(MappingKind, u64), ImageError>
         ensures stays { Stays self.old self.new }
-        ensures cause { IfErr result IsMet }
+        ensures cause { IfErr result IsOfTables }
         ensures keeps { (p : Pending) (out : List (Option Prepared)) → IsSoundAt S.view F.backing p self.old out → Keeps S.view F.backing p p self.old self.new out }
         ensures list { self.new.file.free_list ≡ self.old.file.free_list }
         ensures within { IfOk result (λ (kind, n). n ≤ max) }
+        ensures some { IfOk result (λ (kind, n). offset < size_of self.old → 0 < max → 0 < n) }
         ensures found { (p : Pending) (out : List (Option Prepared)) → IsSoundAt S.view F.backing p self.old out → IfOk result (λ (kind, n). IsFound S.view self.new offset max kind n) }
     {
         let size = self.file.header.size();
@@ -140,7 +154,7 @@ impl<S: Storage, F: WrappedFormat<S>> Qcow2<S, F> {
 
     // Where the L2 table of an offset lies, or None where there is none.
     fn l2_cluster(&self, offset: u64) -> Result<Option<HostCluster>, ImageError>
-        ensures cause { IfErr result IsMet }
+        ensures cause { IfErr result IsOfTables }
         ensures names { HasL1Table S.view F.backing self.now.file self.now.l1_table → IfOk result (NamesTable S.view self.now offset) }
     {
         let bits = self.file.header.cluster_bits();
@@ -170,8 +184,9 @@ impl<S: Storage, F: WrappedFormat<S>> Qcow2<S, F> {
         max: u64,
     ) -> Result<(MappingKind, u64), ImageError>
         requires { max ≤ 2 ^ 40 }
-        ensures cause { IfErr result IsMet }
+        ensures cause { IfErr result IsOfTables }
         ensures within { IfOk result (λ (kind, n). n ≤ max) }
+        ensures some { IfOk result (λ (kind, n). 0 < max → 0 < n) }
         ensures run { (p : Pending) → IsSoundFile S.view p self.now.file
             → IsEntryAt self.now.file.header.fields (known_in S.view self.now.file) (l1_index_of self.now.file.header.fields offset) table (l2_index_of self.now.file.header.fields offset)
             → max ≤ rest_of_table self.now.file.header.fields offset → IfOk result (λ (kind, n). IsRunFrom S.view self.now offset max kind n) }
@@ -197,7 +212,7 @@ impl<S: Storage, F: WrappedFormat<S>> Qcow2<S, F> {
     ) -> Result<bool, ImageError>
         requires near { distance ≤ 2 ^ 42 }
         ensures alike { IfOk result (λ alike. IsTrue alike ↔ IsAlike distance (mapping_of table.now first) (mapping_of table.now next)) }
-        ensures cause { IfErr result IsMet }
+        ensures cause { IfErr result IsOfTables }
     {
         let first = table.get_mapping(first)?;
         let next = table.get_mapping(next)?;
@@ -215,7 +230,7 @@ impl<S: Storage, F: WrappedFormat<S>> Qcow2<S, F> {
         requires near { cluster < 2 ^ 62 }
         ensures bounded { IfOk result (λ n. n ≤ 2 ^ 41) }
         ensures run { IfOk result (IsRunBehind table.now cluster max) }
-        ensures cause { IfErr result IsMet }
+        ensures cause { IfErr result IsOfTables }
     {
         let size = cluster_size(table);
         let mut count = 0;
@@ -263,6 +278,7 @@ impl<S: Storage, F: WrappedFormat<S>> Qcow2<S, F> {
             → IfErr result (λ e. e ≡ TablePrepared → IsTaken self.old.file.header.fields (known_in S.view self.old.file) offset length out) }
         ensures own { IfOk result (λ p. image_of p ≡ number_of self.old) }
         ensures some { IfOk result (λ p. 0 < length → 0 < length_of p) }
+        ensures end { IfOk result (λ p. offset + length < 2 ^ 64) }
         ensures sees { Prepares S.view F.backing self.old self.new offset length overwrite result }
         ensures maps { 0 < length → (out : List (Option Prepared)) → (seen S.view F.backing self.old out).is_sound
             → IfOk result (λ p. IsAnswered self.old.file.header.fields (known_in S.view self.old.file) offset length (known_in S.view self.new.file) p (meaning S.view F.backing self.new p)) }
@@ -280,6 +296,7 @@ impl<S: Storage, F: WrappedFormat<S>> Qcow2<S, F> {
     fn check_prepare(&self, offset: u64, length: u64) -> Result<(), ImageError>
         ensures refusal { MatchOption (refuses_to_prepare self.now offset length) (result ≡ Ok tt) (λ e. result ≡ Err e) }
         ensures writable { result ≡ Ok tt → 0 < length → IsTrue (is_writable self.now) }
+        ensures end { IfOk result (λ done. offset + length < 2 ^ 64) }
     {
         self.check_usable()?;
         if passes(self.file.header.size(), offset, length) {
@@ -312,19 +329,64 @@ impl<S: Storage, F: WrappedFormat<S>> Qcow2<S, F> {
         requires writable { IsTrue (is_writable self.old) }
         ensures stays { Stays self.old self.new }
         ensures cause { IfErr result IsMetPreparing }
-        ensures taken { 0 < length → (p : Pending) (out : List (Option Prepared)) → IsSoundAt S.view F.backing p self.old out
+        ensures taken { 0 < length → (out : List (Option Prepared)) → IsSoundAt S.view F.backing (pending_in S.view F.backing self.old out) self.old out
             → IfErr result (λ e. e ≡ TablePrepared → IsTaken self.old.file.header.fields (known_in S.view self.old.file) offset length out) }
         ensures own { IfOk result (λ p. image_of p ≡ number_of self.old) }
         ensures some { IfOk result (λ p. 0 < length → 0 < length_of p) }
         ensures readies { 0 < length → (out : List (Option Prepared)) → IsSoundAt S.view F.backing (pending_in S.view F.backing self.old out) self.old out
-            → Readies S.view F.backing self.old self.new out offset length overwrite result }
-        ensures answers { 0 < length → (p : Pending) (out : List (Option Prepared)) → IsSoundAt S.view F.backing p self.old out → HoldsAll S.view F.backing p out
+            → PreparesRange S.view F.backing self.old self.new out offset length overwrite result }
+        ensures answers { 0 < length → (out : List (Option Prepared)) → IsSoundAt S.view F.backing (pending_in S.view F.backing self.old out) self.old out
             → IfOk result (λ q. IsAnswered self.old.file.header.fields (known_in S.view self.old.file) offset length (known_in S.view self.new.file) q (meaning S.view F.backing self.new q)) }
     {
-        let table = self.ensure_l2(offset)?;
+        let table = self.table_for(offset)?;
         match self.existing_host(table, offset, length)? {
             Some(host) => Ok(self.existing_at(offset, host, length)),
-            None => self.prepare_in(table, offset, length, overwrite),
+            None => self.prepare_or_free(table, offset, length, overwrite),
+        }
+    }
+
+    // Makes a range ready in a held table. Where that is refused, the clusters that are to be freed are freed.
+    fn prepare_or_free(
+        &mut self,
+        table: HostCluster,
+        offset: u64,
+        length: u64,
+        overwrite: bool,
+    ) -> Result<Prepared, ImageError>
+        requires writable { IsTrue (is_writable self.old) }
+        ensures stays { Stays self.old self.new }
+        ensures cause { IfErr result IsMetPreparing }
+        ensures taken { IfErr result (λ e. e ≡ TablePrepared → 0 < l2_pins self.old.file.caches table) }
+        ensures own { IfOk result (λ p. image_of p ≡ number_of self.old) }
+        ensures some { IfOk result (λ p. 0 < length_of p) }
+        ensures readies { (out : List (Option Prepared)) → IsSoundAt S.view F.backing (pending_in S.view F.backing self.old out) self.old out
+            → HoldsTable S.view F.backing self.old offset table → PreparesRange S.view F.backing self.old self.new out offset length overwrite result }
+        ensures alone { (p : Pending) (out : List (Option Prepared)) → IsSoundAt S.view F.backing p self.old out → HoldsAll S.view F.backing p out
+            → IfOk result (λ q. HasItsOwn self.old.file.header.fields (known_in S.view self.new.file) q.new_cluster) }
+        ensures rest { (p : Pending) (out : List (Option Prepared)) → IsSoundAt S.view F.backing p self.old out
+            → HoldsTable S.view F.backing self.old offset table → IfOk result (IsRest self.old.file.header.fields (known_in S.view self.old.file) offset) }
+        ensures header { OnOk result (self.new.file.header ≡ self.old.file.header) }
+    {
+        match self.prepare_in(table, offset, length, overwrite) {
+            Ok(prepared) => Ok(prepared),
+            Err(refusal) => Err(self.free_after(refusal)),
+        }
+    }
+
+    // Frees the clusters that are to be freed after a refusal; the refusal that is answered. Nothing is freed after a fault, nor where a table is under another mapping.
+    fn free_after(&mut self, refusal: ImageError) -> ImageError
+        ensures stays { Stays self.old self.new }
+        ensures cause { IsMetPreparing refusal → IsMetPreparing result }
+        ensures taken { IsMetPreparing refusal → result ≡ TablePrepared → refusal ≡ TablePrepared }
+        ensures fault { IsFault refusal → (result ≡ refusal) × (self.new ≡ self.old) }
+        ensures frees { (out : List (Option Prepared)) → IsSoundAt S.view F.backing (pending_in S.view F.backing self.old out) self.old out → IsRefused S.view F.backing self.old self.new out result }
+    {
+        if is_last(&refusal) {
+            return refusal;
+        }
+        match self.free_listed() {
+            Ok(()) => refusal,
+            Err(fault) => fault,
         }
     }
 
@@ -548,9 +610,11 @@ impl<S: Storage, F: WrappedFormat<S>> Qcow2<S, F> {
         ensures foreign { image_of prepared ≢ number_of self.old → (result ≡ Err (Kept ForeignState prepared)) × (self.new ≡ self.old) }
         ensures failed { image_of prepared ≡ number_of self.old → IsTrue (is_failed self.old) → (result ≡ Err (Kept Failed prepared)) × (self.new ≡ self.old) }
         ensures kept { IfErr result (IsKept prepared) }
+        ensures late { image_of prepared ≡ number_of self.old → is_failed self.old ≡ false → IfErr result (λ r. IsMet (reason_of r)) }
         ensures existing { image_of prepared ≡ number_of self.old → is_failed self.old ≡ false → IsNone (table_of prepared) → result ≡ Ok tt }
         ensures image { IsSameImage self.old self.new }
         ensures sees { Commits S.view F.backing self.old self.new prepared result }
+        ensures emptied { image_of prepared ≡ number_of self.old → HasNewCluster prepared → IsTrue (is_writable self.old) → OnOk result (HasNothingToFree self.new) }
     {
         if prepared.image != self.number {
             return Err(CommitRefused::Kept(ImageError::ForeignState, prepared));

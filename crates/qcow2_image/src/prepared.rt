@@ -28,7 +28,7 @@ pub enum CommitRefused {
 
 impl Prepared {
     ghost use Rattle.std.specs.Prelude.{◌≡◌, ◌↔◌, IsTrue, IsFalse, IsSome, IsNone, is_none};
-    ghost use Rattle.qcow2_image.specs.Prepared.{image_of, table_of, length_of, offset_of};
+    ghost use Rattle.qcow2_image.specs.Prepared.{image_of, table_of, HasNewCluster, length_of, offset_of};
     ghost use Rattle.qcow2_image.specs.Image.{number_of};
 
     /// The offset in the file that is to be written, in bytes.
@@ -56,6 +56,7 @@ impl Prepared {
     pub(crate) fn has_new_cluster(&self) -> bool
         ensures some { IsTrue result → IsSome self.now.new_cluster }
         ensures table { IsNone (table_of self.now) → IsFalse result }
+        ensures all { HasNewCluster self.now → IsTrue result }
     {
         self.table.is_some() && self.new_cluster.is_some()
     }

@@ -178,7 +178,7 @@ module _ (h : HeaderFields) (d : Direction) (p : Pending) (l2s rbs : List Cached
     rb_partly = subst (λ ts. IsPartly (cluster_size h) base (known (cluster_size h) ts base) base') (sym are)
         (written_partly (cluster_size h) t t' base base' so front back kept_sizes.some rb_apart_at)
 
-    rb_mixed : IsMixed h d base (known_bytes (cluster_size h) l2s rbs base) base'
+    pub rb_mixed : IsMixed h d base (known_bytes (cluster_size h) l2s rbs base) base'
     rb_mixed = record { partly = blocks_partly base' rb_partly; ordered = blocks_order d may base' rb_partly }
 
     rb_known : known_bytes (cluster_size h) l2s (front ++ t' ∷ back) base' ≡ known_bytes (cluster_size h) l2s rbs base
@@ -215,7 +215,7 @@ module _ (h : HeaderFields) (d : Direction) (p : Pending) (l2s rbs : List Cached
     l2_partly = subst (λ ts. IsPartly (cluster_size h) base (known (cluster_size h) ts base) base') (sym are)
         (written_partly (cluster_size h) t t' base base' so front back kept_sizes.some l2_apart_at)
 
-    l2_mixed : IsMixed h d base (known_bytes (cluster_size h) l2s rbs base) base'
+    pub l2_mixed : IsMixed h d base (known_bytes (cluster_size h) l2s rbs base) base'
     l2_mixed = record { partly = tables_partly base' l2_partly; ordered = tables_order d may base' l2_partly }
 
     l2_free : (o : ℕ) → IsFreeAt (cluster_size h) l2s o → IsFreeAt (cluster_size h) (front ++ t' ∷ back) o

@@ -1,6 +1,7 @@
 mod Turns
 mod Places
 mod Bytes
+mod Beyond
 mod Meanings
 mod Chunks
 mod Writing

@@ -1,5 +1,5 @@
 -- What a session does to an image: its reads and writes, and its runs of commands.
-use Rattle.std.specs.Prelude.{ℕ, ◌≡◌, ◌⊎◌, false, List, [], ◌∷◌, length, map, take, Vec, Option, Some, None, Result, Ok, Err, slice_get}
+use Rattle.std.specs.Prelude.{ℕ, ◌≡◌, ◌⊎◌, IsTrue, false, List, [], ◌∷◌, length, map, take, Vec, Option, Some, None, Result, Ok, Err, slice_get}
 use Rattle.std.specs.Global.{Global}
 use Rattle.image_access.specs.Backing.{BackingView}
 use Rattle.image_access.specs.Moments.{StorageView}
@@ -9,10 +9,13 @@ use Rattle.qcow2_laws.specs.Views.{Setting, Guest, guest_of, IsOpened}
 use Rattle.qcow2_laws.specs.Calls.{Does, Refuses, Shows, with_disk, MayWrite}
 use Rattle.qcow2_laws.specs.Runs.{Found, State, StandsAt, Goes, Completes, MeansTheDisk, begun, found_after}
 use Rattle.qcow2_alloc.specs.declared.error.ImageError.{ImageError}
+use Rattle.qcow2_alloc.specs.declared.error.ImageError.TheVariants.{BeyondSize}
 use Rattle.qcow2_image.specs.declared.image.Qcow2.{Qcow2}
 use Rattle.qcow2_image.specs.declared.mapping.Mapping.{Mapping}
 use Rattle.qcow2_image.specs.declared.prepared.Prepared.{Prepared}
 use Rattle.qcow2_image.specs.Calls.{Answers, refusal_of}
+use Rattle.qcow2_image.specs.Image.{size_of}
+use Rattle.qcow2_image.specs.Refusals.{passes}
 use Rattle.qcow2_image.specs.Views.{seen, image_spec}
 use Rattle.qcow2_session.specs.Commands.{command_of, reply_of}
 use Rattle.qcow2_session.specs.declared.session.Command.{Command}
@@ -35,6 +38,10 @@ HasFound s slots = s.is_failed ≡ false → (k : ℕ) → s.found k ≡ found_i
 -- the bytes are there, and nothing else changed
 abbrev pub HasWritten : ℕ → List ℕ → Guest → Guest → Type 0
 HasWritten offset bytes old new = new ≡ with_disk old (with_bytes old.disk offset bytes)
+
+-- a range is refused as beyond the size only where it passes the size
+abbrev pub IsRightlyBeyond : {S F : Type 0} → Qcow2 S F → ℕ → ℕ → ImageError → Type 0
+IsRightlyBeyond image offset n e = e ≡ BeyondSize → IsTrue (passes (size_of image) offset n)
 
 module _ {S F : Type 0} (view : S → StorageView) (backing : F → BackingView) (old new : Qcow2 S F) where
   -- the bytes that were read are the disk's

@@ -1,9 +1,9 @@
 //! Commands, one after the other, on one image.
-ghost use Rattle.std.specs.Prelude.{◌≡◌, ◌+◌, ◌≤◌, ◌⊎◌, ◌<◌, ◌++◌, ◌∷◌, ℕ, List, [], length, vec_len, IfSome, IfErr, IfOk, Option, Err};
-ghost use Rattle.qcow2_image.specs.Image.{number_of};
+ghost use Rattle.std.specs.Prelude.{◌≡◌, ◌+◌, ◌^◌, ◌≤◌, ◌⊎◌, ◌<◌, ◌++◌, ◌∷◌, ℕ, List, [], length, vec_len, IfSome, IfErr, IfOk, Option, Err};
+ghost use Rattle.qcow2_image.specs.Image.{number_of, size_of};
 ghost use Rattle.qcow2_image.specs.Prepared.{image_of};
 ghost use Rattle.qcow2_image.specs.Calls.{Discards};
-ghost use Rattle.qcow2_session.specs.Sessions.{Reads, ReadsFirst, Writes, WritesFirst, Steps, Finds, LetsGo, RunsThrough, TellsTheDisk};
+ghost use Rattle.qcow2_session.specs.Sessions.{IsRightlyBeyond, Reads, ReadsFirst, Writes, WritesFirst, Steps, Finds, LetsGo, RunsThrough, TellsTheDisk};
 ghost use Rattle.qcow2_image.specs.declared.prepared.Prepared.{Prepared};
 
 use crate::slots::Slots;
@@ -83,6 +83,7 @@ pub fn read<S: Storage, F: WrappedFormat<S>>(
     length: u64,
 ) -> Result<Vec<u8>, ImageError>
     ensures number { number_of image.new ≡ number_of image.old }
+    ensures beyond { IfErr result (IsRightlyBeyond image.old offset length) }
     ensures sees { Reads S.view F.backing image.old image.new offset length result }
 {
     image.check_read(offset, length)?;
@@ -109,6 +110,8 @@ fn read_some<S: Storage, F: WrappedFormat<S>>(
     ensures number { number_of image.new ≡ number_of image.old }
     ensures some { IfOk result (λ n. 0 < n) }
     ensures within { IfOk result (λ n. n ≤ length bytes.old) }
+    ensures size { size_of image.new ≡ size_of image.old }
+    ensures beyond { 0 < length bytes.old → IfErr result (IsRightlyBeyond image.old offset (length bytes.old)) }
     ensures sees { ReadsFirst S.view F.backing image.old image.new offset bytes.new result }
 {
     let (mapping, found) = image.get_mapping(offset, bytes.len() as u64)?;
@@ -128,6 +131,7 @@ pub fn write<S: Storage, F: WrappedFormat<S>>(
 ) -> Result<(), (ImageError, u64)>
     ensures number { number_of image.new ≡ number_of image.old }
     ensures within { IfErr result (λ (e, n). n ≤ length bytes.now) }
+    ensures beyond { IfErr result (λ (e, n). IsRightlyBeyond image.old offset (length bytes.now) e) }
     ensures sees { Writes S.view F.backing image.old image.new offset bytes.now result }
 {
     let mut done = match write_some(image, offset, bytes) {
@@ -155,6 +159,9 @@ fn write_some<S: Storage, F: WrappedFormat<S>>(
     ensures number { number_of image.new ≡ number_of image.old }
     ensures some { IfOk result (λ n. 0 < length bytes.now → 0 < n) }
     ensures within { IfOk result (λ n. n ≤ length bytes.now) }
+    ensures size { size_of image.new ≡ size_of image.old }
+    ensures beyond { IfErr result (IsRightlyBeyond image.old offset (length bytes.now)) }
+    ensures end { IfOk result (λ n. offset + length bytes.now < 2 ^ 64) }
     ensures sees { WritesFirst S.view F.backing image.old image.new offset bytes.now result }
 {
     let prepared = image.prepare_data_mapping(offset, bytes.len() as u64, true)?;
@@ -177,6 +184,7 @@ fn write_some<S: Storage, F: WrappedFormat<S>>(
 fn let_go<S: Storage, F: WrappedFormat<S>>(image: &mut Qcow2<S, F>, prepared: Prepared)
     requires { image_of prepared ≡ number_of image.old }
     ensures number { number_of image.new ≡ number_of image.old }
+    ensures size { size_of image.new ≡ size_of image.old }
     ensures sees { Discards S.view F.backing image.old image.new prepared }
 {
     match image.discard_data_mapping(prepared) {

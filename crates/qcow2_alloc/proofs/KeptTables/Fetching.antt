@@ -35,7 +35,7 @@ pub none_or_some : {X : Type 0} (o : Option X) → IsSome o ⊎ IsNone o
 none_or_some None = inr refl
 none_or_some (Some x) = inl refl
 
-is_none : {X : Type 0} (o : Option X) → IsNone o → o ≡ None
+pub is_none : {X : Type 0} (o : Option X) → IsNone o → o ≡ None
 is_none None h = refl
 is_none (Some x) h = cc
 

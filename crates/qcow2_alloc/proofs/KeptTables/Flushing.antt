@@ -30,7 +30,7 @@ use Rattle.qcow2_alloc.proofs.KeptTables.Fitting.{flush_fits}
 use Rattle.qcow2_alloc.proofs.KeptTables.Writing.{l2_wrote, rb_wrote, flushed_all, flushed_clean}
 
 -- the flush of all behind an answer
-all_of : {S K V E : Type 0} (steps : _) (s t : S) (es fs : List (K × Slot V)) (r : Result Unit₀ (CacheError K E)) → Flushes steps s es r t fs → (x : Option E) × FlushesAll steps s es x t fs
+pub all_of : {S K V E : Type 0} (steps : _) (s t : S) (es fs : List (K × Slot V)) (r : Result Unit₀ (CacheError K E)) → Flushes steps s es r t fs → (x : Option E) × FlushesAll steps s es x t fs
 all_of steps s t es fs (Ok _) h = (None, h)
 all_of steps s t es fs (Err (Backend x)) h = (Some x, h)
 all_of steps s t es fs (Err InUse) h = absurd h

@@ -5,7 +5,7 @@ use Rattle.std.specs.Option.{option_map_or}
 use Rattle.std.specs.Map.{lookup, lookup_entry, remove_entry}
 use Rattle.lru.specs.LruCache.{promoted}
 use Rattle.lru.proofs.CallerLemmas.{Contains-lookup_entry}
-use Rattle.image_access.specs.Moments.{StorageView}
+use Rattle.image_access.specs.Moments.{StorageView, Passing}
 use Rattle.image_access.proofs.Bytes.{byte_at-bytes_at}
 use Rattle.image_access.proofs.Passing.{passes_if}
 use Rattle.qcow2_metadata.specs.Bytes.{Bytes, byte_at}
@@ -62,7 +62,7 @@ module _ {S V : Type 0} (view : S → StorageView) (bits : ℕ) (bytes : V → L
   relisted : (s : S) (es fs : List (ℕ × Slot V)) → (view s).is_honest → P (tables es) (contents s) → P (tables fs) (contents s) × (all (tables fs) (contents s) ≡ all (tables es) (contents s)) → Done s s es fs
   relisted s es fs honest kept new =
       let none = flushed_none view bits bytes is_modified cleared IsFit unmodified same_bytes P all s (tables es) honest kept in
-      record { honest = honest; kept = new.0; known = new.1; since = none.since }
+      record { honest = honest; kept = new.0; known = new.1; since = none.since; moments = none.moments }
 
   -- ---- a hit
   hit_of : (s : S) (k : ℕ) (es : List (ℕ × Slot V)) (o : Option (ℕ × Slot V)) → lookup_entry (eqb k) es ≡ o → (view s).is_honest → P (tables es) (contents s)
@@ -92,9 +92,10 @@ module _ {S V : Type 0} (view : S → StorageView) (bits : ℕ) (bytes : V → L
       (inl (λ i lt. ap (λ c. byte_at c i) (l.read honest) ∙ byte_at-bytes_at (view s).contents (k * 2 ^ bits) (2 ^ bits) i lt ∙ ap (λ (b : Bytes). b (k * 2 ^ bits + i)) (sym same))) in
       let stays : all (tables es) (contents t) ≡ all (tables es) (contents s) = ap (λ b. all (tables es) b) same in
       let still : IsSafeBetween (contents s) (all (tables es) (contents s)) (contents t) = λ backing m ok known_ok. rw same ok in
+      let moments : Passing (view s) (view t) (λ c. (ts : List CachedTable) × P ts (byte_at c)) = passes_if _ (λ c is. (tables es, subst (λ l'. P (tables es) (byte_at l')) (sym is) kept')) l.calls.time in
       let since : IsSafeSince (view s) (view t) (all (tables es) (contents s)) = record { moments = passes_if _ (λ c is. subst (λ l'. IsSafeBetween (contents s) (all (tables es) (contents s)) (byte_at l')) (sym is) still) l.calls.time; contents = still } in (
-        record { honest = l.calls.honest honest; kept = kept'; known = stays; since = since },
-        record { honest = l.calls.honest honest; kept = added.0; known = added.1 ∙ stays; since = since },
+        record { honest = l.calls.honest honest; kept = kept'; known = stays; since = since; moments = moments },
+        record { honest = l.calls.honest honest; kept = added.0; known = added.1 ∙ stays; since = since; moments = moments },
       )
 
   failed_load : (s t : S) (k : ℕ) (x : MetadataError) (es : List (ℕ × Slot V)) → (view s).is_honest → P (tables es) (contents s) → FailsToLoad view bits bytes is_modified cleared IsFit s k x t → Done s t es es
@@ -106,6 +107,7 @@ module _ {S V : Type 0} (view : S → StorageView) (bits : ℕ) (bytes : V → L
         kept = subst (λ b. P (tables es) b) (sym same) kept;
         known = ap (λ b. all (tables es) b) same;
         since = record { moments = passes_if _ (λ c is. subst (λ l'. IsSafeBetween (contents s) (all (tables es) (contents s)) (byte_at l')) (sym is) still) l.calls.time; contents = still };
+        moments = passes_if _ (λ c is. (tables es, subst (λ l'. P (tables es) (byte_at l')) (sym (is ∙ l.keeps honest)) kept)) l.calls.time;
       }
 
   -- ---- with room for one more, which an eviction may make
@@ -131,6 +133,7 @@ module _ {S V : Type 0} (view : S → StorageView) (bits : ℕ) (bytes : V → L
           kept = subst (λ l. P l (contents t)) (sym fs_is) dropped.0;
           known = ap (λ l. all l (contents t)) fs_is ∙ dropped.1 ∙ one.known ∙ sym (ap (λ l. all l (contents s)) whole);
           since = rw whole one.since;
+          moments = one.moments;
         }
 
     pub room_done : (s t : S) (es fs : List (ℕ × Slot V)) → (view s).is_honest → P (tables es) (contents s)
@@ -230,6 +233,7 @@ module _ {S V : Type 0} (view : S → StorageView) (bits : ℕ) (bytes : V → L
                 kept = subst (λ l. P l (contents t)) (sym rest_is) gone.0;
                 known = ap (λ l. all l (contents t)) rest_is ∙ gone.1 ∙ one.known ∙ sym (ap (λ l. all l (contents s)) whole);
                 since = rw whole one.since;
+                moments = one.moments;
               };
               away = subst (λ l. AreElsewhere (k * 2 ^ bits) l) (sym rest_is)
                   (subst (λ n. AreElsewhere (n * 2 ^ bits) (tables f.front ++ tables f.back)) own_key (away_from (tables f.front) (tables f.back) (table e) apart));
@@ -247,6 +251,7 @@ module _ {S V : Type 0} (view : S → StorageView) (bits : ℕ) (bytes : V → L
               kept = subst (λ l. P l (contents t)) (sym fs_is) front.0;
               known = ap (λ l. all l (contents t)) fs_is ∙ front.1 ∙ one.known ∙ sym (ap (λ l. all l (contents s)) whole);
               since = rw whole one.since;
+              moments = one.moments;
             }
         replace_put fs (Err InUse) left h = absurd h
         replace_put fs (Err (StillInUse _)) left h = absurd h

@@ -196,6 +196,8 @@ module _ {S V : Type 0} (view : S → StorageView) (bits : ℕ) (bytes : V → L
       pub kept : P after (contents t)
       pub known : all after (contents t) ≡ all before (contents s)
       pub since : IsSafeSince (view s) (view t) (all before (contents s))
+      -- at each moment it is so with some tables
+      pub moments : Passing (view s) (view t) (λ c. (ts : List CachedTable) × P ts (byte_at c))
 
     -- entries before which a value of a key comes to stand
     pub record Ready (k : ℕ) (v : V) (s t : S) (es fs : List (ℕ × Slot V)) : Type 0 where
@@ -217,6 +219,7 @@ module _ {S V : Type 0} (view : S → StorageView) (bits : ℕ) (bytes : V → L
       kept = kept;
       known = refl;
       since = record { moments = passes_none (view s) _; contents = λ backing m ok known_ok. ok };
+      moments = passes_none (view s) _;
     }
 
     pub flushed_then : (r s t : S) (xs ys zs : List CachedTable) → Flushed r s xs ys → Flushed s t ys zs → Flushed r t xs zs
@@ -228,6 +231,7 @@ module _ {S V : Type 0} (view : S → StorageView) (bits : ℕ) (bytes : V → L
         moments = passes_on _ f.since.moments g.since.moments (λ c safe backing m ok known_ok. safe backing m (f.since.contents backing m ok known_ok) (subst (IsKeptAt backing m) (sym f.known) known_ok));
         contents = λ backing m ok known_ok. g.since.contents backing m (f.since.contents backing m ok known_ok) (subst (IsKeptAt backing m) (sym f.known) known_ok);
       };
+      moments = passes_on _ f.moments g.moments (λ c now. now);
     }
 
     module _ (step : WritesOne) where
@@ -241,6 +245,7 @@ module _ {S V : Type 0} (view : S → StorageView) (bits : ℕ) (bytes : V → L
             kept = w.0;
             known = w.1;
             since = record { moments = passes_if _ (λ l is. subst (λ l'. IsSafeBetween (contents s) (all (front ++ table e ∷ back) (contents s)) (byte_at l')) (sym is) w.2) c.1; contents = w.2 };
+            moments = passes_if _ (λ l is. (front ++ table (e.0, d) ∷ back, subst (λ l'. P (front ++ table (e.0, d) ∷ back) (byte_at l')) (sym is) w.0)) c.1;
           }
 
       pub flushed_all : (s t : S) (front : List CachedTable) (es fs : List (ℕ × Slot V)) (x : Option MetadataError) → (view s).is_honest → P (front ++ cached_tables bits bytes is_modified es) (contents s)

@@ -1,10 +1,11 @@
-use Rattle.std.proofs.Common.{◌≡◌, ◌∙◌, ◌+◌, refl, length, sym, subst, ap, [], take, arith}
+use Rattle.std.proofs.Common.{◌≡◌, ◌∙◌, ◌+◌, ◌-◌, refl, length, IfErr, sym, subst, ap, [], take, drop, arith}
 use Rattle.std.proofs.lemmas.Grind.{common_steps}
 use Rattle.qcow2_laws.specs.Calls.{another, Shows}
 use Rattle.qcow2_laws.specs.Views.{Guest, guest_of}
 use Rattle.qcow2_image.specs.Views.{seen}
-use Rattle.qcow2_session.specs.Sessions.{Reads}
+use Rattle.qcow2_session.specs.Sessions.{IsRightlyBeyond, Reads}
 use Rattle.qcow2_session.proofs.Bytes.{shows_as, shows_both, first_two}
+use Rattle.qcow2_session.proofs.Beyond.{part_refused}
 use Rattle.qcow2_session.proofs.Turns.{refused_is, refuses_here, none_within, does_if, refuses_if, does_then, refuses_then}
 use Rattle.qcow2_session.proofs.session.read.Goals as goal
 
@@ -23,6 +24,7 @@ loop-done-preserved g c = record {
   long = c.loop-done.invariant.long;
   within = grind (arith, common_steps);
   number = c.read_some.ensures.number ∙ c.loop-done.invariant.number;
+  size = c.read_some.ensures.size ∙ c.loop-done.invariant.size;
   shown = λ out.
       let view = g.S.Storage.view in
       let below = g.F.BackingDisk.backing in
@@ -41,3 +43,15 @@ pub returns-clause-sees : goal.returns-clause-sees
 returns-clause-sees g c = λ out.
     let all : take c.loop-done.done c.loop-done.bytes.items ≡ c.loop-done.bytes.items = grind (arith, common_steps) in
     does_if (λ h. (grind (arith, common_steps), subst (λ b. Shows (guest_of (seen g.S.Storage.view g.F.BackingDisk.backing c.args.image.now out)).disk c.args.offset b) all h.0, h.1)) (c.loop-done.invariant.shown out)
+
+pub returns-in_default-checked_add-clause-beyond : goal.returns-in_default-checked_add-clause-beyond
+returns-in_default-checked_add-clause-beyond g c = λ is. absurd (c.in_default-checked_add.ensures (omega (arith, c.in_ok-check_read.ensures.end, c.loop-done-test.true, c.in-Ok.ensures)))
+
+pub returns-in_err-done-clause-beyond : goal.returns-in_err-done-clause-beyond
+returns-in_err-done-clause-beyond g c =
+    subst (λ r. IfErr r (IsRightlyBeyond c.args.image.now c.args.offset c.args.length)) (sym (refused_is _ c.in_err-done.field-0.0 c.from_residual-in_err-done.ensures))
+    (let whole : length c.deref_mut.result.now ≡ c.loop-done.bytes.len = grind (arith, common_steps) in
+    let part = take (length c.deref_mut.result.now - c.loop-done.done) (drop c.loop-done.done c.deref_mut.result.now) in
+    let rest : length part ≡ c.loop-done.bytes.len - c.loop-done.done = grind (arith, common_steps) in
+    part_refused c.args.image.now c.loop-done.image c.args.offset c.args.length c.in-Some.at (length part) c.in_err-done.field-0.0 c.loop-done.invariant.size (omega (arith, c.in-Some.ensures.1))
+    (omega (arith, rest, c.in-Some.ensures.1, c.loop-done.invariant.long, c.loop-done.invariant.within, c.in-Ok.ensures)) (c.in_err-done.ensures.beyond (omega (arith, rest, c.loop-done.invariant.long, c.loop-done-test.true))))

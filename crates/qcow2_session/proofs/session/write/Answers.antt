@@ -1,4 +1,4 @@
-use Rattle.std.proofs.Common.{◌≡◌, ◌∙◌, subst, take, arith}
+use Rattle.std.proofs.Common.{◌≡◌, ◌∙◌, subst, take, drop, length, arith}
 use Rattle.std.proofs.lemmas.Grind.{common_steps}
 use Rattle.std.proofs.lemmas.List.{take_rest}
 use Rattle.qcow2_laws.specs.Calls.{another, with_disk}
@@ -7,6 +7,7 @@ use Rattle.qcow2_laws.specs.Views.{guest_of}
 use Rattle.qcow2_image.specs.Views.{seen}
 use Rattle.qcow2_image.specs.Calls.{refusal_of}
 use Rattle.qcow2_session.proofs.Writing.{writes_more, write_refused}
+use Rattle.qcow2_session.proofs.Beyond.{part_refused}
 use Rattle.qcow2_session.proofs.Turns.{does_if, refuses_here, refuses_if}
 use Rattle.qcow2_session.proofs.session.write.Goals as goal
 
@@ -17,6 +18,8 @@ pub loop-done-preserved : goal.loop-done-preserved
 loop-done-preserved g c = record {
   within = grind (arith, common_steps);
   number = c.write_some-in-loop-done.ensures.number ∙ c.loop-done.invariant.number;
+  size = c.write_some-in-loop-done.ensures.size ∙ c.loop-done.invariant.size;
+  end = c.loop-done.invariant.end;
   written = λ out. writes_more c.args.offset c.in-Some.at c.loop-done.done c.args.bytes.now c.loop-done.invariant.within c.in-Some.ensures.1
       (seen g.S.Storage.view g.F.BackingDisk.backing c.args.image.now out) (seen g.S.Storage.view g.F.BackingDisk.backing c.loop-done.image out) (seen g.S.Storage.view g.F.BackingDisk.backing c.write_some-in-loop-done.new.image out)
       (c.loop-done.invariant.written out) c.in-Ok-write_some.count (rw (take_rest c.args.bytes.now c.loop-done.done) at (c.in-Ok-write_some.ensures.sees out));
@@ -33,3 +36,11 @@ returns-clause-sees g c = λ out.
     let below = g.F.BackingDisk.backing in
     let all : take c.loop-done.done c.args.bytes.now ≡ c.args.bytes.now = grind (arith, common_steps) in
     does_if (λ e. subst (λ b. guest_of (seen view below c.loop-done.image out) ≡ with_disk (guest_of (seen view below c.args.image.now out)) (with_bytes (guest_of (seen view below c.args.image.now out)).disk c.args.offset b)) all e) (c.loop-done.invariant.written out)
+
+pub returns-in_default-clause-beyond : goal.returns-in_default-clause-beyond
+returns-in_default-clause-beyond g c = λ is. absurd (c.in_default.ensures (omega (arith, c.loop-done.invariant.end, c.loop-done-test.true)))
+
+pub returns-in-Err-write_some-clause-beyond : goal.returns-in-Err-write_some-clause-beyond
+returns-in-Err-write_some-clause-beyond g c =
+    part_refused c.args.image.now c.loop-done.image c.args.offset (length c.args.bytes.now) c.in-Some.at (length (drop c.loop-done.done c.args.bytes.now)) c.in-Err-write_some.refusal c.loop-done.invariant.size (grind (arith, common_steps)) (grind (arith, common_steps))
+    (rw (take_rest c.args.bytes.now c.loop-done.done) at c.in-Err-write_some.ensures.beyond)

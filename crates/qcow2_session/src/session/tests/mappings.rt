@@ -3,7 +3,7 @@ ghost use Rattle.std.specs.Prelude.{◌≡◌};
 ghost use Rattle.qcow2_image.specs.Image.{number_of};
 ghost use Rattle.qcow2_image.specs.Prepared.{image_of};
 
-use super::{copied, fresh, number_at, opened, refusal};
+use super::{copied, fresh, number_at, opened, refusal, written};
 use crate::session::{let_go, read};
 use image_access::Storage;
 use qcow2_image::{CommitRefused, ImageError, MappingKind, Prepared, Qcow2};
@@ -217,5 +217,63 @@ fn another_images_mapping_comes_back(rt: HostRuntime) -> Result<(), Fail> {
         committed_elsewhere(alloc, copied(alloc, &storage)?, storage)?,
         (11, zero, zero)
     );
+    Ok(())
+}
+
+// Prepares a cluster and discards it; where it would be.
+fn dropped<S: Storage>(image: &mut Qcow2<S>, offset: u64) -> Result<u64, ImageError> {
+    let (at, _length, _existing, _own) = prepare_and_let_go(image, offset, 512)?;
+    Ok(at)
+}
+
+// Prepares a cluster and commits it; where it is.
+fn entered<S: Storage>(image: &mut Qcow2<S>, offset: u64) -> Result<u64, ImageError> {
+    let prepared = image.prepare_data_mapping(offset, 512, true)?;
+    let at = prepared.offset();
+    commit_own(image, prepared)?;
+    Ok(at)
+}
+
+fn around_a_commit<S: Storage>(alloc: Global, storage: S) -> Result<[u64; 3], ImageError> {
+    let mut image = opened(alloc, storage, true)?;
+    let first = dropped(&mut image, 0)?;
+    let second = entered(&mut image, 512)?;
+    Ok([first, second, dropped(&mut image, 1024)?])
+}
+
+#[test]
+fn a_discarded_cluster_is_free_after_a_commit(rt: HostRuntime) -> Result<(), Fail> {
+    let alloc = rt.alloc();
+    assert_eq!(rt; around_a_commit(alloc, fresh(alloc)?)?, [2560, 3072, 2560]);
+    Ok(())
+}
+
+fn around_a_new_table<S: Storage>(alloc: Global, storage: S) -> Result<[u64; 2], ImageError> {
+    let mut image = opened(alloc, storage, true)?;
+    let first = dropped(&mut image, 0)?;
+    Ok([first, dropped(&mut image, 32768)?])
+}
+
+#[test]
+fn a_discarded_cluster_is_free_after_a_new_table(rt: HostRuntime) -> Result<(), Fail> {
+    let alloc = rt.alloc();
+    assert_eq!(rt; around_a_new_table(alloc, fresh(alloc)?)?, [2560, 2560]);
+    Ok(())
+}
+
+fn around_a_refusal<S: Storage>(alloc: Global, storage: S) -> Result<(u64, u8, u64), ImageError> {
+    let mut image = opened(alloc, storage, true)?;
+    let first = dropped(&mut image, 512)?;
+    let number = refusal(dropped(&mut image, 0));
+    Ok((first, number, dropped(&mut image, 1024)?))
+}
+
+#[test]
+fn a_discarded_cluster_is_free_after_a_refusal(rt: HostRuntime) -> Result<(), Fail> {
+    let alloc = rt.alloc();
+    let mut storage = written(alloc, fresh(alloc)?, 0, &[0x11; 512])?;
+    // The data may be shared: their cluster can't be written in place, nor copied yet.
+    storage.write(2048, &[0])?;
+    assert_eq!(rt; around_a_refusal(alloc, storage)?, (3072, 13, 3072));
     Ok(())
 }

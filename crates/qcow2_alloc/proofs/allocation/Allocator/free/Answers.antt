@@ -2,7 +2,7 @@ use Rattle.std.proofs.Common.{refl, ◌≡◌, inl, [], Err, OnOk, sym, ap, ◌�
 use Rattle.qcow2_laws.specs.Guard.{Pending}
 use Rattle.qcow2_alloc.specs.declared.clusters_to_free.ClusterKind.TheVariants.{Data}
 use Rattle.qcow2_alloc.specs.declared.image_file.ImageFile.{ImageFile}
-use Rattle.qcow2_alloc.specs.Allocation.{Becomes, Frees}
+use Rattle.qcow2_alloc.specs.Allocation.{Frees}
 use Rattle.qcow2_alloc.specs.FreeList.{with_listed, but}
 use Rattle.qcow2_alloc.proofs.AllocationSteps.{handed_on, is_sound_now, becomes_cached}
 use Rattle.qcow2_alloc.proofs.Hints.{hint_stays}
@@ -72,3 +72,26 @@ returns-clause-hint g c = λ p sound hint.
 
 pub returns-clause-in_order : goal.returns-clause-in_order
 returns-clause-in_order g c = inl (c.free_kind-2.ensures.others ∙ ap (but Data) c.in_ok-free_kind.ensures.left ∙ but_both c.args.file.now.free_list)
+
+pub returns-clause-leaks : goal.returns-clause-leaks
+returns-clause-leaks g c = λ p sound.
+    let view = g.S.Storage.view in
+    let q : Pending = with_listed p c.args.file.now.free_list in
+    let now : Pending = with_listed p c.free_kind.new.file.free_list in
+    let one = c.in_ok-free_kind.ensures.sound p sound tt in
+    let h = c.free_kind.new.file.header.fields in
+    let s = one.moves.sound in
+    let turned : ImageFile g.row.S.Denot = record c.free_kind.new.file { storage = c.rb_depends_on_l2.new.storage; caches = c.rb_depends_on_l2.new.self } in
+    let two = becomes_cached view now c.free_kind.new.file c.free_kind.new.self c.rb_depends_on_l2.new.storage c.rb_depends_on_l2.new.self (is_sound_now view q now c.args.file.now c.free_kind.new.file c.free_kind.new.self one)
+    (c.rb_depends_on_l2.ensures.keeps h now s.honest s.caches) c.rb_depends_on_l2.ensures.marks in
+    let both = becomes_on view q now now c.args.file.now c.free_kind.new.file turned c.free_kind.new.self c.free_kind.new.self (λ k some. some) one two in
+    c.free_kind-2.ensures.leaks p (is_sound_now view q now c.args.file.now turned c.free_kind.new.self both) c.in_ok-rb_depends_on_l2.ensures.order ∙ c.free_kind.ensures.leaks p sound tt
+
+pub returns-in_err-free_kind-clause-leaks : goal.returns-in_err-free_kind-clause-leaks
+returns-in_err-free_kind-clause-leaks g c = λ p sound. c.free_kind.ensures.leaks p sound tt
+
+pub returns-then-is_empty-clause-leaks : goal.returns-then-is_empty-clause-leaks
+returns-then-is_empty-clause-leaks g c = λ p sound. c.free_kind.ensures.leaks p sound tt
+
+pub returns-in_err-rb_depends_on_l2-clause-leaks : goal.returns-in_err-rb_depends_on_l2-clause-leaks
+returns-in_err-rb_depends_on_l2-clause-leaks g c = λ p sound. c.free_kind.ensures.leaks p sound tt

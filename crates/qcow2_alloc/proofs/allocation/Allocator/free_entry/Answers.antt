@@ -1,4 +1,4 @@
-use Rattle.std.proofs.Common.{◌≡◌, ◌++◌, ◌∷◌, [], Ok, Err, sym, ap, ◌∙◌, subst, refl}
+use Rattle.std.proofs.Common.{◌≡◌, ◌++◌, ◌∷◌, [], Ok, Err, sym, ap, ◌∙◌, subst}
 use Rattle.qcow2_laws.specs.Guard.{Pending}
 use Rattle.qcow2_alloc.specs.Allocation.{listed_as}
 use Rattle.qcow2_alloc.specs.FreeList.{run_of, with_listed, but}
@@ -35,3 +35,11 @@ returns-in-Ok-clause-hint g c = λ p sound may hint.
 pub returns-in-Err-clause-others : goal.returns-in-Err-clause-others
 returns-in-Err-clause-others g c =
     ap (but c.args.pending.kind) (c.hand_back.ensures ∙ ap (λ l. l ++ c.free_run.new.run ∷ []) c.free_run.ensures.list) ∙ but_same c.args.pending.kind c.args.file.now.free_list c.free_run.new.run c.free_run.ensures.kind
+
+pub returns-in-Ok-clause-leaks : goal.returns-in-Ok-clause-leaks
+returns-in-Ok-clause-leaks g c = λ p sound may.
+    c.free_run.ensures.leaks (with_listed p c.args.file.now.free_list) (subst (λ (r : Pending). IsSoundWith g.S.Storage.view c.args.self.now r c.args.file.now) (with_one p c.args.file.now.free_list c.args.pending) sound) may
+
+pub returns-in-Err-clause-leaks : goal.returns-in-Err-clause-leaks
+returns-in-Err-clause-leaks g c = λ p sound may.
+    c.free_run.ensures.leaks (with_listed p c.args.file.now.free_list) (subst (λ (r : Pending). IsSoundWith g.S.Storage.view c.args.self.now r c.args.file.now) (with_one p c.args.file.now.free_list c.args.pending) sound) may

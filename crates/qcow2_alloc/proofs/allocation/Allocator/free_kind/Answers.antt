@@ -25,3 +25,11 @@ returns-clause-hint g c = λ p sound may hint.
     let before : with_listed p (c.take-taken.new.self ++ c.take-taken.result) ≡ with_listed p c.args.file.now.free_list = ap (with_listed p) all in
     (c.free_taken-done.ensures.hint p (subst (λ (r : Pending). IsSoundWith g.S.Storage.view c.args.self.now r file) (sym before) (with_relisted g.S.Storage.view (with_listed p c.args.file.now.free_list) c.args.file.now c.args.self.now c.take-taken.new.self sound))
     (may_lower_still (Listed c.args.kind) c.args.file.now file refl may) hint)
+
+pub returns-clause-leaks : goal.returns-clause-leaks
+returns-clause-leaks g c = λ p sound may.
+    let file : ImageFile g.row.S.Denot = record c.args.file.now { free_list = c.take-taken.new.self } in
+    let all : c.take-taken.new.self ++ c.take-taken.result ≡ c.args.file.now.free_list = ap (λ l. l ++ c.take-taken.result) c.take-taken.ensures.emptied ∙ c.take-taken.ensures.taken in
+    let before : with_listed p (c.take-taken.new.self ++ c.take-taken.result) ≡ with_listed p c.args.file.now.free_list = ap (with_listed p) all in
+    c.free_taken-done.ensures.leaks p (subst (λ (r : Pending). IsSoundWith g.S.Storage.view c.args.self.now r file) (sym before) (with_relisted g.S.Storage.view (with_listed p c.args.file.now.free_list) c.args.file.now c.args.self.now c.take-taken.new.self sound))
+    (may_lower_still (Listed c.args.kind) c.args.file.now file refl may)

@@ -1,4 +1,4 @@
-use Rattle.std.proofs.Common.{◌≡◌, sym, ap, ◌∙◌, subst, refl, rules}
+use Rattle.std.proofs.Common.{◌≡◌, sym, ◌∙◌, subst, rules}
 use Rattle.qcow2_alloc.specs.declared.clusters_to_free.ClusterKind.{ClusterKind}
 use Rattle.qcow2_alloc.specs.Allocation.{MayFree}
 use Rattle.qcow2_alloc.specs.FreeList.{but}
@@ -22,3 +22,8 @@ pub returns-then-eq-clause-others : goal.returns-then-eq-clause-others
 returns-then-eq-clause-others g c =
     let same : c.args.pending.kind ≡ c.args.kind = search rules in
     subst (λ (x : ClusterKind). but x c.free_entry.new.file.free_list ≡ but x c.args.file.now.free_list) same c.free_entry.ensures.others ∙ sym (but_same c.args.kind c.args.file.now.free_list c.args.pending same)
+
+pub returns-then-eq-clause-leaks : goal.returns-then-eq-clause-leaks
+returns-then-eq-clause-leaks g c = λ p sound may.
+    let same : c.args.pending.kind ≡ c.args.kind = search rules in
+    c.free_entry.ensures.leaks p sound (subst (λ (x : ClusterKind). MayFree x c.args.file.now) (sym same) may)

@@ -1,4 +1,4 @@
-use Rattle.std.proofs.Common.{Err, ◌<◌, ◌∙◌, arith}
+use Rattle.std.proofs.Common.{◌<◌, ◌∙◌, arith}
 use Rattle.qcow2_laws.specs.Guard.{Pending}
 use Rattle.qcow2_alloc.specs.Allocation.{Listed, listed_as, Frees}
 use Rattle.qcow2_alloc.specs.FreeList.{run_of}
@@ -50,7 +50,31 @@ freeing-preserved g c = record {
       c.in_ok-lower.ensures.hint (behind_first c.freeing.run kind p) (Listed kind)
       (first_owed g.S.Storage.view kind p c.freeing.run some c.value-in-freeing.result at c.freeing.file c.freeing.self (is_sound_now g.S.Storage.view q now c.args.file.now c.freeing.file c.freeing.self before))
       (may_lower_still (Listed kind) c.args.file.now c.freeing.file c.freeing.invariant.order may) (c.freeing.invariant.hint p sound may hint);
+  leaks = λ p sound may.
+      let kind = c.args.run.now.kind in
+      let q : Pending = listed_as kind p (run_of c.args.run.now) in
+      let now : Pending = listed_as kind p (run_of c.freeing.run) in
+      let before = c.freeing.invariant.sound p sound may in
+      let at = c.value-in-freeing.ensures ∙ c.cluster.ensures in
+      let some : 0 < c.freeing.run.count = omega (arith, c.freeing-test.true, c.value.ensures, c.count.ensures) in
+      c.lower.ensures.leaks (behind_first c.freeing.run kind p) (Listed kind)
+      (first_owed g.S.Storage.view kind p c.freeing.run some c.value-in-freeing.result at c.freeing.file c.freeing.self (is_sound_now g.S.Storage.view q now c.args.file.now c.freeing.file c.freeing.self before))
+      (may_lower_still (Listed kind) c.args.file.now c.freeing.file c.freeing.invariant.order may)
+      ∙ c.freeing.invariant.leaks p sound may;
 }
 
 pub returns-clause-hint : goal.returns-clause-hint
 returns-clause-hint g c = λ p sound may hint. c.freeing.invariant.hint p sound may hint
+
+pub returns-in_err-lower-clause-leaks : goal.returns-in_err-lower-clause-leaks
+returns-in_err-lower-clause-leaks g c = λ p sound may.
+    let kind = c.args.run.now.kind in
+    let q : Pending = listed_as kind p (run_of c.args.run.now) in
+    let now : Pending = listed_as kind p (run_of c.freeing.run) in
+    let before = c.freeing.invariant.sound p sound may in
+    let at = c.value-in-freeing.ensures ∙ c.cluster.ensures in
+    let some : 0 < c.freeing.run.count = omega (arith, c.freeing-test.true, c.value.ensures, c.count.ensures) in
+    c.lower.ensures.leaks (behind_first c.freeing.run kind p) (Listed kind)
+    (first_owed g.S.Storage.view kind p c.freeing.run some c.value-in-freeing.result at c.freeing.file c.freeing.self (is_sound_now g.S.Storage.view q now c.args.file.now c.freeing.file c.freeing.self before))
+    (may_lower_still (Listed kind) c.args.file.now c.freeing.file c.freeing.invariant.order may)
+    ∙ c.freeing.invariant.leaks p sound may

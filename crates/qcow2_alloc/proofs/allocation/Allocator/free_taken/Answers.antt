@@ -32,6 +32,14 @@ freeing-preserved g c = record {
       c.in_ok-free_or_list.ensures.hint (with_listed p c.next_pending.new.self)
       (entry_sound g.S.Storage.view p c.freeing.taken c.next_pending.new.self c.in-Some.pending c.in-Some.ensures.some c.freeing.file c.freeing.self (is_sound_now g.S.Storage.view q now c.args.file.now c.freeing.file c.freeing.self (c.freeing.invariant.sound p sound may)))
       (may_lower_still (Listed c.args.kind) c.args.file.now c.freeing.file c.freeing.invariant.order may) (c.freeing.invariant.hint p sound may hint);
+  leaks = λ p sound may.
+      let q : Pending = with_listed p (c.args.file.now.free_list ++ c.args.taken.now) in
+      let now : Pending = with_listed p (c.freeing.file.free_list ++ c.freeing.taken) in
+      let before = c.freeing.invariant.sound p sound may in
+      c.free_or_list.ensures.leaks (with_listed p c.next_pending.new.self)
+      (entry_sound g.S.Storage.view p c.freeing.taken c.next_pending.new.self c.in-Some.pending c.in-Some.ensures.some c.freeing.file c.freeing.self (is_sound_now g.S.Storage.view q now c.args.file.now c.freeing.file c.freeing.self before))
+      (may_lower_still (Listed c.args.kind) c.args.file.now c.freeing.file c.freeing.invariant.order may)
+      ∙ c.freeing.invariant.leaks p sound may;
 }
 
 pub returns-in_err-free_or_list-clause-sound : goal.returns-in_err-free_or_list-clause-sound
@@ -58,3 +66,13 @@ returns-clause-sound g c = λ p sound may.
 
 pub returns-clause-hint : goal.returns-clause-hint
 returns-clause-hint g c = λ p sound may hint. c.freeing.invariant.hint p sound may hint
+
+pub returns-in_err-free_or_list-clause-leaks : goal.returns-in_err-free_or_list-clause-leaks
+returns-in_err-free_or_list-clause-leaks g c = λ p sound may.
+    let q : Pending = with_listed p (c.args.file.now.free_list ++ c.args.taken.now) in
+    let now : Pending = with_listed p (c.freeing.file.free_list ++ c.freeing.taken) in
+    let before = c.freeing.invariant.sound p sound may in
+    c.free_or_list.ensures.leaks (with_listed p c.next_pending.new.self)
+    (entry_sound g.S.Storage.view p c.freeing.taken c.next_pending.new.self c.in-Some.pending c.in-Some.ensures.some c.freeing.file c.freeing.self (is_sound_now g.S.Storage.view q now c.args.file.now c.freeing.file c.freeing.self before))
+    (may_lower_still (Listed c.args.kind) c.args.file.now c.freeing.file c.freeing.invariant.order may)
+    ∙ c.freeing.invariant.leaks p sound may

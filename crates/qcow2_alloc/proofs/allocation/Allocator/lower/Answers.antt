@@ -20,3 +20,10 @@ returns-clause-hint g c = λ p owed sound may hint. elim c.match-try_lower.branc
   | in-Err+else-ends_call+in-StillInUse-1 w ↦ absurd (let yes_so = w.ends_call.ensures.ends (w.in-Err.ensures.sound p owed sound may).0 in let none = w.if-ends_call.false in cc)
   | in-Err+else-ends_call+in-ReadOnly-1 w ↦ absurd (let yes_so = w.ends_call.ensures.ends (w.in-Err.ensures.sound p owed sound may).0 in let none = w.if-ends_call.false in cc)
 ]
+
+pub returns-clause-leaks : goal.returns-clause-leaks
+returns-clause-leaks g c = λ p owed sound may. elim c.match-try_lower.branch [
+  | in-Ok-false w ↦ absurd (rw w.in-Ok-false.field-0-test at (w.in-Ok-false.ensures.sound p owed sound may))
+  | in-Err+else-ends_call+in-StillInUse-1 w ↦ absurd (let yes_so = w.ends_call.ensures.ends (w.in-Err.ensures.sound p owed sound may).0 in let none = w.if-ends_call.false in cc)
+  | in-Err+else-ends_call+in-ReadOnly-1 w ↦ absurd (let yes_so = w.ends_call.ensures.ends (w.in-Err.ensures.sound p owed sound may).0 in let none = w.if-ends_call.false in cc)
+]

@@ -4,3 +4,6 @@ use Rattle.qcow2_alloc.proofs.cache.MetadataCaches.before_l2.Goals as goal
 
 pub returns-in-L2DependsOnRb-clause-keeps : goal.returns-in-L2DependsOnRb-clause-keeps
 returns-in-L2DependsOnRb-clause-keeps g c = c.write_blocks.ensures.keeps (blocks_free c.args.self.now (inr c.in-L2DependsOnRb.is))
+
+pub returns-in-L2DependsOnRb-clause-ordered : goal.returns-in-L2DependsOnRb-clause-ordered
+returns-in-L2DependsOnRb-clause-ordered g c = c.write_blocks.ensures.ordered (blocks_free c.args.self.now (inr c.in-L2DependsOnRb.is))

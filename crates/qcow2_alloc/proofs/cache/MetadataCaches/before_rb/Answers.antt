@@ -4,3 +4,6 @@ use Rattle.qcow2_alloc.proofs.cache.MetadataCaches.before_rb.Goals as goal
 
 pub returns-in-RbDependsOnL2-clause-keeps : goal.returns-in-RbDependsOnL2-clause-keeps
 returns-in-RbDependsOnL2-clause-keeps g c = c.write_tables.ensures.keeps (tables_free c.args.self.now (inr c.in-RbDependsOnL2.is))
+
+pub returns-in-RbDependsOnL2-clause-ordered : goal.returns-in-RbDependsOnL2-clause-ordered
+returns-in-RbDependsOnL2-clause-ordered g c = c.write_tables.ensures.ordered (tables_free c.args.self.now (inr c.in-RbDependsOnL2.is))

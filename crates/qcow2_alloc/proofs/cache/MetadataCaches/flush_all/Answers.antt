@@ -1,8 +1,10 @@
-use Rattle.std.proofs.Common.{inr, rules, ◌∙◌}
+use Rattle.std.proofs.Common.{inr, rules, ap, ◌∙◌}
 use Rattle.qcow2_alloc.proofs.CacheMarks.{marks_then}
 use Rattle.qcow2_alloc.proofs.KeptTables.Turning.{tables_free, blocks_free, tables_clean, blocks_either, both_written, keep_then}
 use Rattle.qcow2_alloc.specs.ImageError.{IsFault}
 use Rattle.qcow2_alloc.proofs.KeptTables.Causes.{given_err}
+use Rattle.qcow2_alloc.specs.MetadataCaches.{order}
+use Rattle.qcow2_alloc.proofs.KeptTables.InOrder.{order_then}
 use Rattle.qcow2_alloc.proofs.cache.MetadataCaches.flush_all.Goals as goal
 
 pub returns-in_err-write_blocks-in-L2DependsOnRb-clause-keeps : goal.returns-in_err-write_blocks-in-L2DependsOnRb-clause-keeps
@@ -16,6 +18,7 @@ returns-in_err-write_tables-in-None g c = record {
   marks = search rules;
   faults = λ h p honest sound settled. given_err c.from_residual-in_err-write_tables-in-None.result c.in_err-write_tables-in-None.field-0.0 IsFault c.from_residual-in_err-write_tables-in-None.ensures (c.in_err-write_tables-in-None.ensures.faults h p honest sound settled);
   keeps = c.write_tables-in-None.ensures.keeps (tables_free c.args.self.now c.in-None.is);
+  ordered = c.write_tables-in-None.ensures.ordered (tables_free c.args.self.now c.in-None.is);
 }
 
 pub returns-in_ok-write_blocks-in-L2DependsOnRb-clause-keeps : goal.returns-in_ok-write_blocks-in-L2DependsOnRb-clause-keeps
@@ -37,6 +40,10 @@ returns-in_ok-write_tables-in-None g c = record {
       keep_then g.S.Storage.view c.args.storage.now c.write_tables-in-None.new.storage c.write_blocks-in-None.new.storage c.args.self.now c.write_tables-in-None.new.self c.write_blocks-in-None.new.self
       (c.write_tables-in-None.ensures.keeps (tables_free c.args.self.now c.in-None.is))
       (c.write_blocks-in-None.ensures.keeps (blocks_either c.write_tables-in-None.new.self c.args.self.now c.write_tables-in-None.ensures.direction c.in-None.is c.in_ok-write_tables-in-None.ensures.written));
+  ordered =
+      order_then g.S.Storage.view c.args.storage.now c.write_tables-in-None.new.storage c.write_blocks-in-None.new.storage c.args.self.now c.write_tables-in-None.new.self
+      (c.write_tables-in-None.ensures.keeps (tables_free c.args.self.now c.in-None.is)) (c.write_tables-in-None.ensures.ordered (tables_free c.args.self.now c.in-None.is)) (ap order c.write_tables-in-None.ensures.direction)
+      (c.write_blocks-in-None.ensures.ordered (blocks_either c.write_tables-in-None.new.self c.args.self.now c.write_tables-in-None.ensures.direction c.in-None.is c.in_ok-write_tables-in-None.ensures.written));
 }
 
 pub returns-in_err-write_blocks-in-L2DependsOnRb-clause-faults : goal.returns-in_err-write_blocks-in-L2DependsOnRb-clause-faults
@@ -46,3 +53,12 @@ pub returns-in_ok-write_blocks-in-L2DependsOnRb-clause-faults : goal.returns-in_
 returns-in_ok-write_blocks-in-L2DependsOnRb-clause-faults g c = λ h p honest sound settled.
     let one = c.write_blocks.ensures.keeps (blocks_free c.args.self.now (inr c.in-L2DependsOnRb.is)) h p honest sound in
     c.write_tables.ensures.faults h p one.honest one.sound (one.settled settled)
+
+pub returns-in_err-write_blocks-in-L2DependsOnRb-clause-ordered : goal.returns-in_err-write_blocks-in-L2DependsOnRb-clause-ordered
+returns-in_err-write_blocks-in-L2DependsOnRb-clause-ordered g c = c.write_blocks.ensures.ordered (blocks_free c.args.self.now (inr c.in-L2DependsOnRb.is))
+
+pub returns-in_ok-write_blocks-in-L2DependsOnRb-clause-ordered : goal.returns-in_ok-write_blocks-in-L2DependsOnRb-clause-ordered
+returns-in_ok-write_blocks-in-L2DependsOnRb-clause-ordered g c =
+    order_then g.S.Storage.view c.args.storage.now c.write_blocks.new.storage c.write_tables.new.storage c.args.self.now c.write_blocks.new.self
+    (c.write_blocks.ensures.keeps (blocks_free c.args.self.now (inr c.in-L2DependsOnRb.is))) (c.write_blocks.ensures.ordered (blocks_free c.args.self.now (inr c.in-L2DependsOnRb.is))) (ap order c.write_blocks.ensures.direction)
+    (c.write_tables.ensures.ordered (tables_clean c.write_blocks.new.self (c.write_blocks.ensures.direction ∙ c.in-L2DependsOnRb.is) c.in_ok-write_blocks-in-L2DependsOnRb.ensures.written))

@@ -1,7 +1,9 @@
-use Rattle.std.proofs.Common.{inr, rules, ◌∙◌}
+use Rattle.std.proofs.Common.{inr, rules, ap, ◌∙◌}
 use Rattle.qcow2_alloc.proofs.KeptTables.Turning.{tables_free, blocks_free, blocks_clean, blocks_still, always_ok, keep_then}
 use Rattle.qcow2_alloc.specs.ImageError.{IsFault}
 use Rattle.qcow2_alloc.proofs.KeptTables.Causes.{given_err}
+use Rattle.qcow2_alloc.specs.MetadataCaches.{order}
+use Rattle.qcow2_alloc.proofs.KeptTables.InOrder.{order_then}
 use Rattle.qcow2_alloc.proofs.cache.MetadataCaches.flush_rb.Goals as goal
 
 pub returns-in_err-write_tables-in-RbDependsOnL2-clause-keeps : goal.returns-in_err-write_tables-in-RbDependsOnL2-clause-keeps
@@ -22,6 +24,7 @@ returns-in-None g c = record {
   first = always_ok c.write_blocks-in-None.result (blocks_still c.write_blocks-in-None.new.self c.args.self.now c.write_blocks-in-None.ensures.direction c.in-None.is);
   faults = c.write_blocks-in-None.ensures.faults;
   keeps = c.write_blocks-in-None.ensures.keeps (blocks_free c.args.self.now c.in-None.is);
+  ordered = c.write_blocks-in-None.ensures.ordered (blocks_free c.args.self.now c.in-None.is);
 }
 
 pub returns-in_err-write_tables-in-RbDependsOnL2-clause-faults : goal.returns-in_err-write_tables-in-RbDependsOnL2-clause-faults
@@ -31,3 +34,12 @@ pub returns-in_ok-write_tables-in-RbDependsOnL2-clause-faults : goal.returns-in_
 returns-in_ok-write_tables-in-RbDependsOnL2-clause-faults g c = λ h p honest sound settled.
     let one = c.write_tables.ensures.keeps (tables_free c.args.self.now (inr c.in-RbDependsOnL2.is)) h p honest sound in
     c.write_blocks.ensures.faults h p one.honest one.sound (one.settled settled)
+
+pub returns-in_err-write_tables-in-RbDependsOnL2-clause-ordered : goal.returns-in_err-write_tables-in-RbDependsOnL2-clause-ordered
+returns-in_err-write_tables-in-RbDependsOnL2-clause-ordered g c = c.write_tables.ensures.ordered (tables_free c.args.self.now (inr c.in-RbDependsOnL2.is))
+
+pub returns-in_ok-write_tables-in-RbDependsOnL2-clause-ordered : goal.returns-in_ok-write_tables-in-RbDependsOnL2-clause-ordered
+returns-in_ok-write_tables-in-RbDependsOnL2-clause-ordered g c =
+    order_then g.S.Storage.view c.args.storage.now c.write_tables.new.storage c.write_blocks.new.storage c.args.self.now c.write_tables.new.self
+    (c.write_tables.ensures.keeps (tables_free c.args.self.now (inr c.in-RbDependsOnL2.is))) (c.write_tables.ensures.ordered (tables_free c.args.self.now (inr c.in-RbDependsOnL2.is))) (ap order c.write_tables.ensures.direction)
+    (c.write_blocks.ensures.ordered (blocks_clean c.write_tables.new.self (c.write_tables.ensures.direction ∙ c.in-RbDependsOnL2.is) c.in_ok-write_tables-in-RbDependsOnL2.ensures.written))

@@ -4,6 +4,7 @@ use Rattle.qcow2_alloc.specs.MetadataCaches.{order}
 use Rattle.qcow2_alloc.proofs.KeptTables.Turning.{tables_free, keep_none, keep_turned, may_l2_depend}
 use Rattle.qcow2_alloc.specs.ImageError.{IsFault}
 use Rattle.qcow2_alloc.proofs.KeptTables.Causes.{given_err}
+use Rattle.qcow2_alloc.proofs.KeptTables.InOrder.{order_none}
 use Rattle.qcow2_alloc.proofs.cache.MetadataCaches.l2_depends_on_rb.Goals as goal
 use Rattle.qcow2_alloc.proofs.cache.MetadataCaches.l2_depends_on_rb.Goals.{in-L2DependsOnRb, in-None, in-RbDependsOnL2+in_ok-write_tables-in-RbDependsOnL2}
 
@@ -22,3 +23,13 @@ returns-clause-keeps g c = elim c.match-self.branch [
 
 pub returns-in_err-write_tables-in-RbDependsOnL2-clause-faults : goal.returns-in_err-write_tables-in-RbDependsOnL2-clause-faults
 returns-in_err-write_tables-in-RbDependsOnL2-clause-faults g c = λ h p honest sound settled. given_err c.from_residual.result c.in_err-write_tables-in-RbDependsOnL2.field-0.0 IsFault c.from_residual.ensures (c.in_err-write_tables-in-RbDependsOnL2.ensures.faults h p honest sound settled)
+
+pub returns-in_err-write_tables-in-RbDependsOnL2-clause-ordered : goal.returns-in_err-write_tables-in-RbDependsOnL2-clause-ordered
+returns-in_err-write_tables-in-RbDependsOnL2-clause-ordered g c = c.write_tables.ensures.ordered (tables_free c.args.self.now (inr c.in-RbDependsOnL2.is))
+
+pub returns-clause-ordered : goal.returns-clause-ordered
+returns-clause-ordered g c = elim c.match-self.branch [
+  | in-L2DependsOnRb w ↦ rw w.storage-is (order_none g.S.Storage.view c.args.storage.now c.args.self.now)
+  | in-None w ↦ rw w.storage-is (order_none g.S.Storage.view c.args.storage.now c.args.self.now)
+  | in-RbDependsOnL2+in_ok-write_tables-in-RbDependsOnL2 w ↦ rw w.storage-is (w.write_tables.ensures.ordered (tables_free c.args.self.now (inr w.in-RbDependsOnL2.is)))
+]

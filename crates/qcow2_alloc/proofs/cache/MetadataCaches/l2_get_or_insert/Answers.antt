@@ -1,4 +1,4 @@
-use Rattle.std.proofs.Common.{true, false, inr, Ok, ap, ◌∙◌}
+use Rattle.std.proofs.Common.{refl, true, false, inr, Ok, ap, ◌∙◌}
 use Rattle.qcow2_alloc.proofs.KeptTables.Fetching.{table_got}
 use Rattle.qcow2_alloc.proofs.KeptTables.Turning.{keep_then}
 use Rattle.qcow2_alloc.proofs.CacheMarks.{marks_tables, marks_then}
@@ -9,6 +9,7 @@ use Rattle.qcow2_alloc.specs.ImageStorage.{storage_of}
 use Rattle.qcow2_alloc.specs.CacheMarks.{IsInUseOrFault}
 use Rattle.qcow2_alloc.specs.AsyncLruCache.{with_entries}
 use Rattle.qcow2_alloc.specs.TableCaches.{l2_steps}
+use Rattle.qcow2_alloc.proofs.KeptTables.InOrder.{order_then, table_got_in_order}
 use Rattle.qcow2_alloc.proofs.cache.MetadataCaches.l2_get_or_insert.Goals as goal
 
 pub returns-in_err-get_or_insert-clause-keeps : goal.returns-in_err-get_or_insert-clause-keeps
@@ -69,3 +70,27 @@ returns-in_err-get_or_insert-2-clause-refusals g c = λ h here p honest sound se
     let same = c.get_or_insert.ensures.others ∙ ap (with_entries c.args.self.now.l2) (not_fetched (l2_steps (λ s. g.S.Storage.view (storage_of s)) c.args.self.now.l2.backend.header.fields) c.args.self.now.l2.size false c.args.cluster c.args.storage.now c.get_or_insert.new.store c.args.self.now.l2.entries c.get_or_insert.new.self.entries c.get_or_insert.result (c.in_ok-get_or_insert.was ∙ ap Ok c.if-branch.false) c.get_or_insert.ensures.hit c.get_or_insert.ensures.miss) in
     given_err c.from_residual-in_err-get_or_insert-2.result (of_cache c.in_err-get_or_insert-2.field-0.0) (IsInUseOrFault c.args.self.now) c.from_residual-in_err-get_or_insert-2.ensures
     (in_use_as c.args.self.now c.before_l2.new.self (of_cache c.in_err-get_or_insert-2.field-0.0) (c.before_l2.ensures.tables ∙ same) (table_load_refused g.S.Storage.view c.before_l2.new.storage c.get_or_insert-2.new.store c.before_l2.new.self h p (byte_at (g.S.Storage.view (storage_of c.before_l2.new.storage)).contents) two.sound true c.args.cluster c.get_or_insert-2.result c.in_err-get_or_insert-2.field-0.0 c.in_err-get_or_insert-2.was c.get_or_insert-2.new.self here c.get_or_insert-2.ensures.hit c.get_or_insert-2.ensures.miss))
+
+pub returns-in_err-get_or_insert-clause-ordered : goal.returns-in_err-get_or_insert-clause-ordered
+returns-in_err-get_or_insert-clause-ordered g c = table_got_in_order g.S.Storage.view c.args.storage.now c.get_or_insert.new.store c.args.self.now false c.args.cluster c.get_or_insert.new.self c.get_or_insert.result c.get_or_insert.ensures.hit c.get_or_insert.ensures.miss (λ flush. absurd (cc))
+
+pub returns-then-branch-clause-ordered : goal.returns-then-branch-clause-ordered
+returns-then-branch-clause-ordered g c = table_got_in_order g.S.Storage.view c.args.storage.now c.get_or_insert.new.store c.args.self.now false c.args.cluster c.get_or_insert.new.self c.get_or_insert.result c.get_or_insert.ensures.hit c.get_or_insert.ensures.miss (λ flush. absurd (cc))
+
+pub returns-in_err-before_l2-clause-ordered : goal.returns-in_err-before_l2-clause-ordered
+returns-in_err-before_l2-clause-ordered g c =
+    order_then g.S.Storage.view c.args.storage.now c.get_or_insert.new.store c.before_l2.new.storage c.args.self.now (record c.args.self.now { l2 = c.get_or_insert.new.self }) (table_got g.S.Storage.view c.args.storage.now c.get_or_insert.new.store c.args.self.now false c.args.cluster c.get_or_insert.new.self c.get_or_insert.ensures.others c.get_or_insert.result c.get_or_insert.ensures.hit c.get_or_insert.ensures.miss (λ flush. absurd (cc))) (table_got_in_order g.S.Storage.view c.args.storage.now c.get_or_insert.new.store c.args.self.now false c.args.cluster c.get_or_insert.new.self c.get_or_insert.result c.get_or_insert.ensures.hit c.get_or_insert.ensures.miss (λ flush. absurd (cc))) refl c.before_l2.ensures.ordered
+
+pub returns-in_err-get_or_insert-2-clause-ordered : goal.returns-in_err-get_or_insert-2-clause-ordered
+returns-in_err-get_or_insert-2-clause-ordered g c =
+    order_then g.S.Storage.view c.args.storage.now c.before_l2.new.storage c.get_or_insert-2.new.store c.args.self.now c.before_l2.new.self
+    (keep_then g.S.Storage.view c.args.storage.now c.get_or_insert.new.store c.before_l2.new.storage c.args.self.now (record c.args.self.now { l2 = c.get_or_insert.new.self }) c.before_l2.new.self (table_got g.S.Storage.view c.args.storage.now c.get_or_insert.new.store c.args.self.now false c.args.cluster c.get_or_insert.new.self c.get_or_insert.ensures.others c.get_or_insert.result c.get_or_insert.ensures.hit c.get_or_insert.ensures.miss (λ flush. absurd (cc))) c.before_l2.ensures.keeps)
+    (order_then g.S.Storage.view c.args.storage.now c.get_or_insert.new.store c.before_l2.new.storage c.args.self.now (record c.args.self.now { l2 = c.get_or_insert.new.self }) (table_got g.S.Storage.view c.args.storage.now c.get_or_insert.new.store c.args.self.now false c.args.cluster c.get_or_insert.new.self c.get_or_insert.ensures.others c.get_or_insert.result c.get_or_insert.ensures.hit c.get_or_insert.ensures.miss (λ flush. absurd (cc))) (table_got_in_order g.S.Storage.view c.args.storage.now c.get_or_insert.new.store c.args.self.now false c.args.cluster c.get_or_insert.new.self c.get_or_insert.result c.get_or_insert.ensures.hit c.get_or_insert.ensures.miss (λ flush. absurd (cc))) refl c.before_l2.ensures.ordered) c.before_l2.ensures.order
+    (table_got_in_order g.S.Storage.view c.before_l2.new.storage c.get_or_insert-2.new.store c.before_l2.new.self true c.args.cluster c.get_or_insert-2.new.self c.get_or_insert-2.result c.get_or_insert-2.ensures.hit c.get_or_insert-2.ensures.miss (λ _. c.in_ok-before_l2.ensures.first))
+
+pub returns-clause-ordered : goal.returns-clause-ordered
+returns-clause-ordered g c =
+    order_then g.S.Storage.view c.args.storage.now c.before_l2.new.storage c.get_or_insert-2.new.store c.args.self.now c.before_l2.new.self
+    (keep_then g.S.Storage.view c.args.storage.now c.get_or_insert.new.store c.before_l2.new.storage c.args.self.now (record c.args.self.now { l2 = c.get_or_insert.new.self }) c.before_l2.new.self (table_got g.S.Storage.view c.args.storage.now c.get_or_insert.new.store c.args.self.now false c.args.cluster c.get_or_insert.new.self c.get_or_insert.ensures.others c.get_or_insert.result c.get_or_insert.ensures.hit c.get_or_insert.ensures.miss (λ flush. absurd (cc))) c.before_l2.ensures.keeps)
+    (order_then g.S.Storage.view c.args.storage.now c.get_or_insert.new.store c.before_l2.new.storage c.args.self.now (record c.args.self.now { l2 = c.get_or_insert.new.self }) (table_got g.S.Storage.view c.args.storage.now c.get_or_insert.new.store c.args.self.now false c.args.cluster c.get_or_insert.new.self c.get_or_insert.ensures.others c.get_or_insert.result c.get_or_insert.ensures.hit c.get_or_insert.ensures.miss (λ flush. absurd (cc))) (table_got_in_order g.S.Storage.view c.args.storage.now c.get_or_insert.new.store c.args.self.now false c.args.cluster c.get_or_insert.new.self c.get_or_insert.result c.get_or_insert.ensures.hit c.get_or_insert.ensures.miss (λ flush. absurd (cc))) refl c.before_l2.ensures.ordered) c.before_l2.ensures.order
+    (table_got_in_order g.S.Storage.view c.before_l2.new.storage c.get_or_insert-2.new.store c.before_l2.new.self true c.args.cluster c.get_or_insert-2.new.self c.get_or_insert-2.result c.get_or_insert-2.ensures.hit c.get_or_insert-2.ensures.miss (λ _. c.in_ok-before_l2.ensures.first))

@@ -1,7 +1,7 @@
 use Rattle.std.proofs.Common.{◌≡◌, Bool, true, false, inr, Some, Result, Ok, Err, refl, sym, ap, ◌∙◌, subst, ◌+◌, ◌*◌}
 use Rattle.qcow2_alloc.proofs.KeptTables.Inserting.{table_put, l2_taken, taken_at_last, if_some}
 use Rattle.qcow2_metadata.specs.Header.{cluster_size}
-use Rattle.qcow2_alloc.proofs.KeptTables.Turning.{stay_then}
+use Rattle.qcow2_alloc.proofs.KeptTables.Turning.{stay_then, keep_then}
 use Rattle.qcow2_alloc.proofs.CacheMarks.{marks_tables, marks_then}
 use Rattle.qcow2_alloc.specs.ImageError.{of_cache}
 use Rattle.qcow2_alloc.proofs.KeptTables.Causes.{given_err, in_use_as, not_put, table_put_refused}
@@ -15,6 +15,7 @@ use Rattle.qcow2_laws.specs.Clusters.{Direction}
 use Rattle.qcow2_alloc.specs.MetadataCaches.{laid_at, order_of, l2_tables}
 use Rattle.qcow2_alloc.proofs.KeptTables.Putting.{on_err, put_at_last, laid_then, table_kept, table_laid}
 use Rattle.qcow2_alloc.proofs.KeptTables.Clean.{blocks_go, tables_as, table_put_clean}
+use Rattle.qcow2_alloc.proofs.KeptTables.InOrder.{order_then, table_put_in_order}
 use Rattle.qcow2_alloc.proofs.cache.MetadataCaches.l2_insert.Goals as goal
 
 pub returns-in_err-insert-clause-keeps : goal.returns-in_err-insert-clause-keeps
@@ -164,3 +165,27 @@ returns-clause-laid g c = λ h p honest sound fits marked.
     if_some _ c.args.table.cluster c.in-Some.cluster (sym c.get_cluster.ensures.value ∙ c.in-Some.is)
     (laid_then g.S.Storage.view h p c.args.storage.now c.before_l2.new.storage c.insert-2.new.store c.args.self.now c.before_l2.new.self (record c.before_l2.new.self { l2 = c.insert-2.new.self }) (laid_at h c.in-Some.cluster c.args.table.bytes) _ _ two
     (table_laid g.S.Storage.view c.before_l2.new.storage c.insert-2.new.store c.before_l2.new.self true c.in-Some.cluster c.insert-2.new.self c.insert-2.ensures.others c.args.table c.insert.new.value c.insert-2.new.value ((l2_taken g.S.Storage.view c.args.storage.now c.insert.new.store c.args.self.now false c.in-Some.cluster c.insert.new.self c.insert.ensures.others c.args.table (Some c.args.table) c.insert.new.value refl c.insert.result c.insert.ensures.there c.insert.ensures.missing).kept (c.in_ok-insert.was ∙ ap Ok c.if-branch.false)) c.insert-2.result c.insert-2.ensures.there c.insert-2.ensures.missing (λ _. c.in_ok-before_l2.ensures.first) h p two.honest two.sound (put_at_last c.in-Some.cluster c.args.table c.insert-2.new.self.entries c.insert-2.result c.insert-2.new.value c.in_ok-insert-2.field-0 c.in_ok-insert-2.was (l2_taken g.S.Storage.view c.before_l2.new.storage c.insert-2.new.store c.before_l2.new.self true c.in-Some.cluster c.insert-2.new.self c.insert-2.ensures.others c.args.table c.insert.new.value c.insert-2.new.value ((l2_taken g.S.Storage.view c.args.storage.now c.insert.new.store c.args.self.now false c.in-Some.cluster c.insert.new.self c.insert.ensures.others c.args.table (Some c.args.table) c.insert.new.value refl c.insert.result c.insert.ensures.there c.insert.ensures.missing).kept (c.in_ok-insert.was ∙ ap Ok c.if-branch.false)) c.insert-2.result c.insert-2.ensures.there c.insert-2.ensures.missing)) fits marked))
+
+pub returns-in_err-insert-clause-ordered : goal.returns-in_err-insert-clause-ordered
+returns-in_err-insert-clause-ordered g c = table_put_in_order g.S.Storage.view c.args.storage.now c.insert.new.store c.args.self.now false c.in-Some.cluster c.insert.new.self c.args.table (Some c.args.table) c.insert.new.value refl c.insert.result c.insert.ensures.there c.insert.ensures.missing (λ flush. absurd (cc))
+
+pub returns-then-branch-clause-ordered : goal.returns-then-branch-clause-ordered
+returns-then-branch-clause-ordered g c = table_put_in_order g.S.Storage.view c.args.storage.now c.insert.new.store c.args.self.now false c.in-Some.cluster c.insert.new.self c.args.table (Some c.args.table) c.insert.new.value refl c.insert.result c.insert.ensures.there c.insert.ensures.missing (λ flush. absurd (cc))
+
+pub returns-in_err-before_l2-clause-ordered : goal.returns-in_err-before_l2-clause-ordered
+returns-in_err-before_l2-clause-ordered g c =
+    order_then g.S.Storage.view c.args.storage.now c.insert.new.store c.before_l2.new.storage c.args.self.now (record c.args.self.now { l2 = c.insert.new.self }) (λ h p honest sound. table_kept g.S.Storage.view c.args.storage.now c.insert.new.store c.args.self.now false c.in-Some.cluster c.insert.new.self c.insert.ensures.others c.args.table (Some c.args.table) c.insert.new.value refl c.insert.result c.insert.ensures.there c.insert.ensures.missing (λ flush. absurd (cc)) h p honest sound (λ went. ok_false (c.in_ok-insert.was ∙ ap Ok c.if-branch.false) went)) (table_put_in_order g.S.Storage.view c.args.storage.now c.insert.new.store c.args.self.now false c.in-Some.cluster c.insert.new.self c.args.table (Some c.args.table) c.insert.new.value refl c.insert.result c.insert.ensures.there c.insert.ensures.missing (λ flush. absurd (cc))) refl c.before_l2.ensures.ordered
+
+pub returns-in_err-insert-2-clause-ordered : goal.returns-in_err-insert-2-clause-ordered
+returns-in_err-insert-2-clause-ordered g c =
+    order_then g.S.Storage.view c.args.storage.now c.before_l2.new.storage c.insert-2.new.store c.args.self.now c.before_l2.new.self
+    (keep_then g.S.Storage.view c.args.storage.now c.insert.new.store c.before_l2.new.storage c.args.self.now (record c.args.self.now { l2 = c.insert.new.self }) c.before_l2.new.self (λ h p honest sound. table_kept g.S.Storage.view c.args.storage.now c.insert.new.store c.args.self.now false c.in-Some.cluster c.insert.new.self c.insert.ensures.others c.args.table (Some c.args.table) c.insert.new.value refl c.insert.result c.insert.ensures.there c.insert.ensures.missing (λ flush. absurd (cc)) h p honest sound (λ went. ok_false (c.in_ok-insert.was ∙ ap Ok c.if-branch.false) went)) c.before_l2.ensures.keeps)
+    (order_then g.S.Storage.view c.args.storage.now c.insert.new.store c.before_l2.new.storage c.args.self.now (record c.args.self.now { l2 = c.insert.new.self }) (λ h p honest sound. table_kept g.S.Storage.view c.args.storage.now c.insert.new.store c.args.self.now false c.in-Some.cluster c.insert.new.self c.insert.ensures.others c.args.table (Some c.args.table) c.insert.new.value refl c.insert.result c.insert.ensures.there c.insert.ensures.missing (λ flush. absurd (cc)) h p honest sound (λ went. ok_false (c.in_ok-insert.was ∙ ap Ok c.if-branch.false) went)) (table_put_in_order g.S.Storage.view c.args.storage.now c.insert.new.store c.args.self.now false c.in-Some.cluster c.insert.new.self c.args.table (Some c.args.table) c.insert.new.value refl c.insert.result c.insert.ensures.there c.insert.ensures.missing (λ flush. absurd (cc))) refl c.before_l2.ensures.ordered) c.before_l2.ensures.order
+    (table_put_in_order g.S.Storage.view c.before_l2.new.storage c.insert-2.new.store c.before_l2.new.self true c.in-Some.cluster c.insert-2.new.self c.args.table c.insert.new.value c.insert-2.new.value ((l2_taken g.S.Storage.view c.args.storage.now c.insert.new.store c.args.self.now false c.in-Some.cluster c.insert.new.self c.insert.ensures.others c.args.table (Some c.args.table) c.insert.new.value refl c.insert.result c.insert.ensures.there c.insert.ensures.missing).kept (c.in_ok-insert.was ∙ ap Ok c.if-branch.false)) c.insert-2.result c.insert-2.ensures.there c.insert-2.ensures.missing (λ _. c.in_ok-before_l2.ensures.first))
+
+pub returns-clause-ordered : goal.returns-clause-ordered
+returns-clause-ordered g c =
+    order_then g.S.Storage.view c.args.storage.now c.before_l2.new.storage c.insert-2.new.store c.args.self.now c.before_l2.new.self
+    (keep_then g.S.Storage.view c.args.storage.now c.insert.new.store c.before_l2.new.storage c.args.self.now (record c.args.self.now { l2 = c.insert.new.self }) c.before_l2.new.self (λ h p honest sound. table_kept g.S.Storage.view c.args.storage.now c.insert.new.store c.args.self.now false c.in-Some.cluster c.insert.new.self c.insert.ensures.others c.args.table (Some c.args.table) c.insert.new.value refl c.insert.result c.insert.ensures.there c.insert.ensures.missing (λ flush. absurd (cc)) h p honest sound (λ went. ok_false (c.in_ok-insert.was ∙ ap Ok c.if-branch.false) went)) c.before_l2.ensures.keeps)
+    (order_then g.S.Storage.view c.args.storage.now c.insert.new.store c.before_l2.new.storage c.args.self.now (record c.args.self.now { l2 = c.insert.new.self }) (λ h p honest sound. table_kept g.S.Storage.view c.args.storage.now c.insert.new.store c.args.self.now false c.in-Some.cluster c.insert.new.self c.insert.ensures.others c.args.table (Some c.args.table) c.insert.new.value refl c.insert.result c.insert.ensures.there c.insert.ensures.missing (λ flush. absurd (cc)) h p honest sound (λ went. ok_false (c.in_ok-insert.was ∙ ap Ok c.if-branch.false) went)) (table_put_in_order g.S.Storage.view c.args.storage.now c.insert.new.store c.args.self.now false c.in-Some.cluster c.insert.new.self c.args.table (Some c.args.table) c.insert.new.value refl c.insert.result c.insert.ensures.there c.insert.ensures.missing (λ flush. absurd (cc))) refl c.before_l2.ensures.ordered) c.before_l2.ensures.order
+    (table_put_in_order g.S.Storage.view c.before_l2.new.storage c.insert-2.new.store c.before_l2.new.self true c.in-Some.cluster c.insert-2.new.self c.args.table c.insert.new.value c.insert-2.new.value ((l2_taken g.S.Storage.view c.args.storage.now c.insert.new.store c.args.self.now false c.in-Some.cluster c.insert.new.self c.insert.ensures.others c.args.table (Some c.args.table) c.insert.new.value refl c.insert.result c.insert.ensures.there c.insert.ensures.missing).kept (c.in_ok-insert.was ∙ ap Ok c.if-branch.false)) c.insert-2.result c.insert-2.ensures.there c.insert-2.ensures.missing (λ _. c.in_ok-before_l2.ensures.first))

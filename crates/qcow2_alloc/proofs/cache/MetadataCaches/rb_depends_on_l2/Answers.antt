@@ -4,6 +4,7 @@ use Rattle.qcow2_alloc.specs.MetadataCaches.{order}
 use Rattle.qcow2_alloc.proofs.KeptTables.Turning.{blocks_free, keep_none, keep_turned, may_rb_depend}
 use Rattle.qcow2_alloc.specs.ImageError.{IsFault}
 use Rattle.qcow2_alloc.proofs.KeptTables.Causes.{given_err}
+use Rattle.qcow2_alloc.proofs.KeptTables.InOrder.{order_none}
 use Rattle.qcow2_alloc.proofs.cache.MetadataCaches.rb_depends_on_l2.Goals as goal
 use Rattle.qcow2_alloc.proofs.cache.MetadataCaches.rb_depends_on_l2.Goals.{in-RbDependsOnL2, in-None, in-L2DependsOnRb+in_ok-write_blocks-in-L2DependsOnRb}
 
@@ -22,3 +23,13 @@ returns-clause-keeps g c = elim c.match-self.branch [
 
 pub returns-in_err-write_blocks-in-L2DependsOnRb-clause-faults : goal.returns-in_err-write_blocks-in-L2DependsOnRb-clause-faults
 returns-in_err-write_blocks-in-L2DependsOnRb-clause-faults g c = λ h p honest sound settled. given_err c.from_residual.result c.in_err-write_blocks-in-L2DependsOnRb.field-0.0 IsFault c.from_residual.ensures (c.in_err-write_blocks-in-L2DependsOnRb.ensures.faults h p honest sound settled)
+
+pub returns-in_err-write_blocks-in-L2DependsOnRb-clause-ordered : goal.returns-in_err-write_blocks-in-L2DependsOnRb-clause-ordered
+returns-in_err-write_blocks-in-L2DependsOnRb-clause-ordered g c = c.write_blocks.ensures.ordered (blocks_free c.args.self.now (inr c.in-L2DependsOnRb.is))
+
+pub returns-clause-ordered : goal.returns-clause-ordered
+returns-clause-ordered g c = elim c.match-self.branch [
+  | in-RbDependsOnL2 w ↦ rw w.storage-is (order_none g.S.Storage.view c.args.storage.now c.args.self.now)
+  | in-None w ↦ rw w.storage-is (order_none g.S.Storage.view c.args.storage.now c.args.self.now)
+  | in-L2DependsOnRb+in_ok-write_blocks-in-L2DependsOnRb w ↦ rw w.storage-is (w.write_blocks.ensures.ordered (blocks_free c.args.self.now (inr w.in-L2DependsOnRb.is)))
+]

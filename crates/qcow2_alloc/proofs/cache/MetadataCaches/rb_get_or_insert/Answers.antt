@@ -1,4 +1,4 @@
-use Rattle.std.proofs.Common.{true, false}
+use Rattle.std.proofs.Common.{refl, true, false}
 use Rattle.qcow2_alloc.proofs.KeptTables.Fetching.{block_got}
 use Rattle.qcow2_alloc.proofs.KeptTables.Turning.{keep_then}
 use Rattle.qcow2_alloc.proofs.CacheMarks.{marks_blocks, marks_then}
@@ -6,6 +6,7 @@ use Rattle.qcow2_alloc.specs.ImageError.{of_cache, IsFault}
 use Rattle.qcow2_alloc.proofs.KeptTables.Causes.{given_err, block_load_refused}
 use Rattle.qcow2_metadata.specs.Bytes.{byte_at}
 use Rattle.qcow2_alloc.specs.ImageStorage.{storage_of}
+use Rattle.qcow2_alloc.proofs.KeptTables.InOrder.{order_then, block_got_in_order}
 use Rattle.qcow2_alloc.proofs.cache.MetadataCaches.rb_get_or_insert.Goals as goal
 
 pub returns-in_err-get_or_insert-clause-keeps : goal.returns-in_err-get_or_insert-clause-keeps
@@ -66,3 +67,27 @@ returns-in_err-get_or_insert-2-clause-faults g c = λ room h here p honest sound
     let marks = marks_then c.args.self.now (record c.args.self.now { rb = c.get_or_insert.new.self }) c.before_rb.new.self (marks_blocks c.args.self.now c.get_or_insert.new.self c.get_or_insert.ensures.others c.get_or_insert.ensures.pins) c.before_rb.ensures.marks in
     given_err c.from_residual-in_err-get_or_insert-2.result (of_cache c.in_err-get_or_insert-2.field-0.0) IsFault c.from_residual-in_err-get_or_insert-2.ensures
     (block_load_refused g.S.Storage.view c.before_rb.new.storage c.get_or_insert-2.new.store c.before_rb.new.self h p (byte_at (g.S.Storage.view (storage_of c.before_rb.new.storage)).contents) two.sound true c.args.cluster c.get_or_insert-2.result c.in_err-get_or_insert-2.field-0.0 c.in_err-get_or_insert-2.was (marks.room room) (two.settled (one.settled settled)) c.get_or_insert-2.new.self here c.get_or_insert-2.ensures.hit c.get_or_insert-2.ensures.miss)
+
+pub returns-in_err-get_or_insert-clause-ordered : goal.returns-in_err-get_or_insert-clause-ordered
+returns-in_err-get_or_insert-clause-ordered g c = block_got_in_order g.S.Storage.view c.args.storage.now c.get_or_insert.new.store c.args.self.now false c.args.cluster c.get_or_insert.new.self c.get_or_insert.result c.get_or_insert.ensures.hit c.get_or_insert.ensures.miss (λ flush. absurd (cc))
+
+pub returns-then-branch-clause-ordered : goal.returns-then-branch-clause-ordered
+returns-then-branch-clause-ordered g c = block_got_in_order g.S.Storage.view c.args.storage.now c.get_or_insert.new.store c.args.self.now false c.args.cluster c.get_or_insert.new.self c.get_or_insert.result c.get_or_insert.ensures.hit c.get_or_insert.ensures.miss (λ flush. absurd (cc))
+
+pub returns-in_err-before_rb-clause-ordered : goal.returns-in_err-before_rb-clause-ordered
+returns-in_err-before_rb-clause-ordered g c =
+    order_then g.S.Storage.view c.args.storage.now c.get_or_insert.new.store c.before_rb.new.storage c.args.self.now (record c.args.self.now { rb = c.get_or_insert.new.self }) (block_got g.S.Storage.view c.args.storage.now c.get_or_insert.new.store c.args.self.now false c.args.cluster c.get_or_insert.new.self c.get_or_insert.ensures.others c.get_or_insert.result c.get_or_insert.ensures.hit c.get_or_insert.ensures.miss (λ flush. absurd (cc))) (block_got_in_order g.S.Storage.view c.args.storage.now c.get_or_insert.new.store c.args.self.now false c.args.cluster c.get_or_insert.new.self c.get_or_insert.result c.get_or_insert.ensures.hit c.get_or_insert.ensures.miss (λ flush. absurd (cc))) refl c.before_rb.ensures.ordered
+
+pub returns-in_err-get_or_insert-2-clause-ordered : goal.returns-in_err-get_or_insert-2-clause-ordered
+returns-in_err-get_or_insert-2-clause-ordered g c =
+    order_then g.S.Storage.view c.args.storage.now c.before_rb.new.storage c.get_or_insert-2.new.store c.args.self.now c.before_rb.new.self
+    (keep_then g.S.Storage.view c.args.storage.now c.get_or_insert.new.store c.before_rb.new.storage c.args.self.now (record c.args.self.now { rb = c.get_or_insert.new.self }) c.before_rb.new.self (block_got g.S.Storage.view c.args.storage.now c.get_or_insert.new.store c.args.self.now false c.args.cluster c.get_or_insert.new.self c.get_or_insert.ensures.others c.get_or_insert.result c.get_or_insert.ensures.hit c.get_or_insert.ensures.miss (λ flush. absurd (cc))) c.before_rb.ensures.keeps)
+    (order_then g.S.Storage.view c.args.storage.now c.get_or_insert.new.store c.before_rb.new.storage c.args.self.now (record c.args.self.now { rb = c.get_or_insert.new.self }) (block_got g.S.Storage.view c.args.storage.now c.get_or_insert.new.store c.args.self.now false c.args.cluster c.get_or_insert.new.self c.get_or_insert.ensures.others c.get_or_insert.result c.get_or_insert.ensures.hit c.get_or_insert.ensures.miss (λ flush. absurd (cc))) (block_got_in_order g.S.Storage.view c.args.storage.now c.get_or_insert.new.store c.args.self.now false c.args.cluster c.get_or_insert.new.self c.get_or_insert.result c.get_or_insert.ensures.hit c.get_or_insert.ensures.miss (λ flush. absurd (cc))) refl c.before_rb.ensures.ordered) c.before_rb.ensures.order
+    (block_got_in_order g.S.Storage.view c.before_rb.new.storage c.get_or_insert-2.new.store c.before_rb.new.self true c.args.cluster c.get_or_insert-2.new.self c.get_or_insert-2.result c.get_or_insert-2.ensures.hit c.get_or_insert-2.ensures.miss (λ _. c.in_ok-before_rb.ensures.first))
+
+pub returns-clause-ordered : goal.returns-clause-ordered
+returns-clause-ordered g c =
+    order_then g.S.Storage.view c.args.storage.now c.before_rb.new.storage c.get_or_insert-2.new.store c.args.self.now c.before_rb.new.self
+    (keep_then g.S.Storage.view c.args.storage.now c.get_or_insert.new.store c.before_rb.new.storage c.args.self.now (record c.args.self.now { rb = c.get_or_insert.new.self }) c.before_rb.new.self (block_got g.S.Storage.view c.args.storage.now c.get_or_insert.new.store c.args.self.now false c.args.cluster c.get_or_insert.new.self c.get_or_insert.ensures.others c.get_or_insert.result c.get_or_insert.ensures.hit c.get_or_insert.ensures.miss (λ flush. absurd (cc))) c.before_rb.ensures.keeps)
+    (order_then g.S.Storage.view c.args.storage.now c.get_or_insert.new.store c.before_rb.new.storage c.args.self.now (record c.args.self.now { rb = c.get_or_insert.new.self }) (block_got g.S.Storage.view c.args.storage.now c.get_or_insert.new.store c.args.self.now false c.args.cluster c.get_or_insert.new.self c.get_or_insert.ensures.others c.get_or_insert.result c.get_or_insert.ensures.hit c.get_or_insert.ensures.miss (λ flush. absurd (cc))) (block_got_in_order g.S.Storage.view c.args.storage.now c.get_or_insert.new.store c.args.self.now false c.args.cluster c.get_or_insert.new.self c.get_or_insert.result c.get_or_insert.ensures.hit c.get_or_insert.ensures.miss (λ flush. absurd (cc))) refl c.before_rb.ensures.ordered) c.before_rb.ensures.order
+    (block_got_in_order g.S.Storage.view c.before_rb.new.storage c.get_or_insert-2.new.store c.before_rb.new.self true c.args.cluster c.get_or_insert-2.new.self c.get_or_insert-2.result c.get_or_insert-2.ensures.hit c.get_or_insert-2.ensures.miss (λ _. c.in_ok-before_rb.ensures.first))

@@ -1,7 +1,7 @@
 use Rattle.std.proofs.Common.{◌≡◌, ℕ, Bool, true, false, Some, Result, Ok, Err, refl, sym, ap, ◌∙◌, subst, ◌+◌, ◌*◌}
 use Rattle.qcow2_alloc.proofs.KeptTables.Inserting.{block_put, rb_taken, taken_at_last, if_some}
 use Rattle.qcow2_metadata.specs.Header.{cluster_size}
-use Rattle.qcow2_alloc.proofs.KeptTables.Turning.{stay_then}
+use Rattle.qcow2_alloc.proofs.KeptTables.Turning.{stay_then, keep_then}
 use Rattle.qcow2_alloc.proofs.CacheMarks.{marks_blocks, marks_then}
 use Rattle.qcow2_alloc.specs.ImageError.{of_cache, IsFault}
 use Rattle.qcow2_alloc.proofs.KeptTables.Causes.{given_err, block_put_refused}
@@ -17,6 +17,7 @@ use Rattle.qcow2_alloc.proofs.KeptTables.Clean.{clean_as, put_clean}
 use Rattle.qcow2_alloc.specs.MetadataCaches.{laid_at}
 use Rattle.qcow2_alloc.proofs.KeptTables.Putting.{on_err, put_at_last, laid_then}
 use Rattle.qcow2_alloc.proofs.KeptTables.PuttingBlocks.{block_kept, block_laid}
+use Rattle.qcow2_alloc.proofs.KeptTables.InOrder.{order_then, block_put_in_order}
 use Rattle.qcow2_alloc.proofs.cache.MetadataCaches.rb_insert.Goals as goal
 
 pub returns-in_err-insert-clause-keeps : goal.returns-in_err-insert-clause-keeps
@@ -141,3 +142,27 @@ returns-clause-laid g c = λ h p honest sound fits marked.
     if_some _ c.args.block.cluster c.in-Some.cluster (sym c.get_cluster.ensures.value ∙ c.in-Some.is)
     (λ free. laid_then g.S.Storage.view h p c.args.storage.now c.before_rb.new.storage c.insert-2.new.store c.args.self.now c.before_rb.new.self (record c.before_rb.new.self { rb = c.insert-2.new.self }) (laid_at h c.in-Some.cluster c.args.block.bytes) _ _ two
     (block_laid g.S.Storage.view c.before_rb.new.storage c.insert-2.new.store c.before_rb.new.self true c.in-Some.cluster c.insert-2.new.self c.insert-2.ensures.others c.args.block c.insert.new.value c.insert-2.new.value ((rb_taken g.S.Storage.view c.args.storage.now c.insert.new.store c.args.self.now false c.in-Some.cluster c.insert.new.self c.insert.ensures.others c.args.block (Some c.args.block) c.insert.new.value refl c.insert.result c.insert.ensures.there c.insert.ensures.missing).kept (c.in_ok-insert.was ∙ ap Ok c.if-branch.false)) c.insert-2.result c.insert-2.ensures.there c.insert-2.ensures.missing (λ _. c.in_ok-before_rb.ensures.first) h p two.honest two.sound (put_at_last c.in-Some.cluster c.args.block c.insert-2.new.self.entries c.insert-2.result c.insert-2.new.value c.in_ok-insert-2.field-0 c.in_ok-insert-2.was (rb_taken g.S.Storage.view c.before_rb.new.storage c.insert-2.new.store c.before_rb.new.self true c.in-Some.cluster c.insert-2.new.self c.insert-2.ensures.others c.args.block c.insert.new.value c.insert-2.new.value ((rb_taken g.S.Storage.view c.args.storage.now c.insert.new.store c.args.self.now false c.in-Some.cluster c.insert.new.self c.insert.ensures.others c.args.block (Some c.args.block) c.insert.new.value refl c.insert.result c.insert.ensures.there c.insert.ensures.missing).kept (c.in_ok-insert.was ∙ ap Ok c.if-branch.false)) c.insert-2.result c.insert-2.ensures.there c.insert-2.ensures.missing)) fits marked (c.before_rb.ensures.free (cluster_size h) c.in-Some.cluster free)))
+
+pub returns-in_err-insert-clause-ordered : goal.returns-in_err-insert-clause-ordered
+returns-in_err-insert-clause-ordered g c = block_put_in_order g.S.Storage.view c.args.storage.now c.insert.new.store c.args.self.now false c.in-Some.cluster c.insert.new.self c.args.block (Some c.args.block) c.insert.new.value refl c.insert.result c.insert.ensures.there c.insert.ensures.missing (λ flush. absurd (cc))
+
+pub returns-then-branch-clause-ordered : goal.returns-then-branch-clause-ordered
+returns-then-branch-clause-ordered g c = block_put_in_order g.S.Storage.view c.args.storage.now c.insert.new.store c.args.self.now false c.in-Some.cluster c.insert.new.self c.args.block (Some c.args.block) c.insert.new.value refl c.insert.result c.insert.ensures.there c.insert.ensures.missing (λ flush. absurd (cc))
+
+pub returns-in_err-before_rb-clause-ordered : goal.returns-in_err-before_rb-clause-ordered
+returns-in_err-before_rb-clause-ordered g c =
+    order_then g.S.Storage.view c.args.storage.now c.insert.new.store c.before_rb.new.storage c.args.self.now (record c.args.self.now { rb = c.insert.new.self }) (λ h p honest sound. block_kept g.S.Storage.view c.args.storage.now c.insert.new.store c.args.self.now false c.in-Some.cluster c.insert.new.self c.insert.ensures.others c.args.block (Some c.args.block) c.insert.new.value refl c.insert.result c.insert.ensures.there c.insert.ensures.missing (λ flush. absurd (cc)) h p honest sound (λ went. ok_false (c.in_ok-insert.was ∙ ap Ok c.if-branch.false) went)) (block_put_in_order g.S.Storage.view c.args.storage.now c.insert.new.store c.args.self.now false c.in-Some.cluster c.insert.new.self c.args.block (Some c.args.block) c.insert.new.value refl c.insert.result c.insert.ensures.there c.insert.ensures.missing (λ flush. absurd (cc))) refl c.before_rb.ensures.ordered
+
+pub returns-in_err-insert-2-clause-ordered : goal.returns-in_err-insert-2-clause-ordered
+returns-in_err-insert-2-clause-ordered g c =
+    order_then g.S.Storage.view c.args.storage.now c.before_rb.new.storage c.insert-2.new.store c.args.self.now c.before_rb.new.self
+    (keep_then g.S.Storage.view c.args.storage.now c.insert.new.store c.before_rb.new.storage c.args.self.now (record c.args.self.now { rb = c.insert.new.self }) c.before_rb.new.self (λ h p honest sound. block_kept g.S.Storage.view c.args.storage.now c.insert.new.store c.args.self.now false c.in-Some.cluster c.insert.new.self c.insert.ensures.others c.args.block (Some c.args.block) c.insert.new.value refl c.insert.result c.insert.ensures.there c.insert.ensures.missing (λ flush. absurd (cc)) h p honest sound (λ went. ok_false (c.in_ok-insert.was ∙ ap Ok c.if-branch.false) went)) c.before_rb.ensures.keeps)
+    (order_then g.S.Storage.view c.args.storage.now c.insert.new.store c.before_rb.new.storage c.args.self.now (record c.args.self.now { rb = c.insert.new.self }) (λ h p honest sound. block_kept g.S.Storage.view c.args.storage.now c.insert.new.store c.args.self.now false c.in-Some.cluster c.insert.new.self c.insert.ensures.others c.args.block (Some c.args.block) c.insert.new.value refl c.insert.result c.insert.ensures.there c.insert.ensures.missing (λ flush. absurd (cc)) h p honest sound (λ went. ok_false (c.in_ok-insert.was ∙ ap Ok c.if-branch.false) went)) (block_put_in_order g.S.Storage.view c.args.storage.now c.insert.new.store c.args.self.now false c.in-Some.cluster c.insert.new.self c.args.block (Some c.args.block) c.insert.new.value refl c.insert.result c.insert.ensures.there c.insert.ensures.missing (λ flush. absurd (cc))) refl c.before_rb.ensures.ordered) c.before_rb.ensures.order
+    (block_put_in_order g.S.Storage.view c.before_rb.new.storage c.insert-2.new.store c.before_rb.new.self true c.in-Some.cluster c.insert-2.new.self c.args.block c.insert.new.value c.insert-2.new.value ((rb_taken g.S.Storage.view c.args.storage.now c.insert.new.store c.args.self.now false c.in-Some.cluster c.insert.new.self c.insert.ensures.others c.args.block (Some c.args.block) c.insert.new.value refl c.insert.result c.insert.ensures.there c.insert.ensures.missing).kept (c.in_ok-insert.was ∙ ap Ok c.if-branch.false)) c.insert-2.result c.insert-2.ensures.there c.insert-2.ensures.missing (λ _. c.in_ok-before_rb.ensures.first))
+
+pub returns-clause-ordered : goal.returns-clause-ordered
+returns-clause-ordered g c =
+    order_then g.S.Storage.view c.args.storage.now c.before_rb.new.storage c.insert-2.new.store c.args.self.now c.before_rb.new.self
+    (keep_then g.S.Storage.view c.args.storage.now c.insert.new.store c.before_rb.new.storage c.args.self.now (record c.args.self.now { rb = c.insert.new.self }) c.before_rb.new.self (λ h p honest sound. block_kept g.S.Storage.view c.args.storage.now c.insert.new.store c.args.self.now false c.in-Some.cluster c.insert.new.self c.insert.ensures.others c.args.block (Some c.args.block) c.insert.new.value refl c.insert.result c.insert.ensures.there c.insert.ensures.missing (λ flush. absurd (cc)) h p honest sound (λ went. ok_false (c.in_ok-insert.was ∙ ap Ok c.if-branch.false) went)) c.before_rb.ensures.keeps)
+    (order_then g.S.Storage.view c.args.storage.now c.insert.new.store c.before_rb.new.storage c.args.self.now (record c.args.self.now { rb = c.insert.new.self }) (λ h p honest sound. block_kept g.S.Storage.view c.args.storage.now c.insert.new.store c.args.self.now false c.in-Some.cluster c.insert.new.self c.insert.ensures.others c.args.block (Some c.args.block) c.insert.new.value refl c.insert.result c.insert.ensures.there c.insert.ensures.missing (λ flush. absurd (cc)) h p honest sound (λ went. ok_false (c.in_ok-insert.was ∙ ap Ok c.if-branch.false) went)) (block_put_in_order g.S.Storage.view c.args.storage.now c.insert.new.store c.args.self.now false c.in-Some.cluster c.insert.new.self c.args.block (Some c.args.block) c.insert.new.value refl c.insert.result c.insert.ensures.there c.insert.ensures.missing (λ flush. absurd (cc))) refl c.before_rb.ensures.ordered) c.before_rb.ensures.order
+    (block_put_in_order g.S.Storage.view c.before_rb.new.storage c.insert-2.new.store c.before_rb.new.self true c.in-Some.cluster c.insert-2.new.self c.args.block c.insert.new.value c.insert-2.new.value ((rb_taken g.S.Storage.view c.args.storage.now c.insert.new.store c.args.self.now false c.in-Some.cluster c.insert.new.self c.insert.ensures.others c.args.block (Some c.args.block) c.insert.new.value refl c.insert.result c.insert.ensures.there c.insert.ensures.missing).kept (c.in_ok-insert.was ∙ ap Ok c.if-branch.false)) c.insert-2.result c.insert-2.ensures.there c.insert-2.ensures.missing (λ _. c.in_ok-before_rb.ensures.first))

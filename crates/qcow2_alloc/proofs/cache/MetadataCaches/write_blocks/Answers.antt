@@ -7,6 +7,7 @@ use Rattle.qcow2_alloc.specs.ImageStorage.{storage_of}
 use Rattle.qcow2_metadata.specs.RefBlock.{RefBlockView}
 use Rattle.qcow2_alloc.specs.TableCaches.{rb_steps}
 use Rattle.qcow2_alloc.proofs.KeptTables.Clean.{clean_as, flush_clean}
+use Rattle.qcow2_alloc.proofs.KeptTables.InOrder.{blocks_in_order}
 use Rattle.qcow2_alloc.proofs.cache.MetadataCaches.write_blocks.Goals as goal
 
 pub returns-in_err-flush-clause-keeps : goal.returns-in_err-flush-clause-keeps
@@ -34,3 +35,9 @@ returns-clause-clean g c = λ all.
     flush_clean (rb_steps (λ s. g.S.Storage.view (storage_of s)) c.args.self.now.rb.backend.header.fields) c.flush.new.self.backend.header.fields.cluster_bits (λ (b : RefBlockView). b.bytes) (λ b. b.is_modified)
     (λ s t k v w h. ap (λ (b : RefBlockView). b.is_modified) h.clean) c.args.storage.now c.flush.new.store c.args.self.now.rb.entries c.flush.new.self.entries c.flush.result c.flush.ensures.flushed
     (clean_as _ _ (λ (b : RefBlockView). b.bytes) (λ b. b.is_modified) c.args.self.now.rb.entries all)
+
+pub returns-in_err-flush-clause-ordered : goal.returns-in_err-flush-clause-ordered
+returns-in_err-flush-clause-ordered g c = blocks_in_order g.S.Storage.view c.args.storage.now c.flush.new.store c.args.self.now c.flush.new.self c.flush.result c.flush.ensures.flushed
+
+pub returns-clause-ordered : goal.returns-clause-ordered
+returns-clause-ordered g c = blocks_in_order g.S.Storage.view c.args.storage.now c.flush.new.store c.args.self.now c.flush.new.self c.flush.result c.flush.ensures.flushed

@@ -11,6 +11,7 @@ use Rattle.qcow2_alloc.specs.KeptTables.{cached_tables}
 use Rattle.qcow2_alloc.specs.declared.cache.backends.L2CacheBackend.{L2CacheBackend}
 use Rattle.qcow2_alloc.specs.TableCaches.{l2_steps}
 use Rattle.qcow2_alloc.proofs.KeptTables.Clean.{flush_free}
+use Rattle.qcow2_alloc.proofs.KeptTables.InOrder.{tables_in_order}
 use Rattle.qcow2_alloc.proofs.cache.MetadataCaches.write_tables.Goals as goal
 
 pub returns-in_err-flush-clause-keeps : goal.returns-in_err-flush-clause-keeps
@@ -40,3 +41,9 @@ returns-clause-free g c = λ size cluster free.
     (sym (ap (λ (l2 : Cache (L2CacheBackend g.row.S.Denot) ℕ L2TableView). l2.backend) c.flush.ensures.others))
     (λ o in_c. flush_free (l2_steps (λ s. g.S.Storage.view (storage_of s)) c.args.self.now.l2.backend.header.fields) c.args.self.now.l2.backend.header.fields.cluster_bits (λ (t : L2TableView). t.bytes) (λ t. t.is_modified)
     (λ s t k v w h. ap (λ (t : L2TableView). t.is_modified) h.clean) size o c.args.storage.now c.flush.new.store c.args.self.now.l2.entries c.flush.new.self.entries c.flush.result c.flush.ensures.flushed (free o in_c))
+
+pub returns-in_err-flush-clause-ordered : goal.returns-in_err-flush-clause-ordered
+returns-in_err-flush-clause-ordered g c = tables_in_order g.S.Storage.view c.args.storage.now c.flush.new.store c.args.self.now c.flush.new.self c.flush.result c.flush.ensures.flushed
+
+pub returns-clause-ordered : goal.returns-clause-ordered
+returns-clause-ordered g c = tables_in_order g.S.Storage.view c.args.storage.now c.flush.new.store c.args.self.now c.flush.new.self c.flush.result c.flush.ensures.flushed

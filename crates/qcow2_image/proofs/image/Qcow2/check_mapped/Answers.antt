@@ -1,10 +1,19 @@
-use Rattle.std.proofs.Common.{◌≡◌, sym, subst, arith}
+use Rattle.std.proofs.Common.{◌≡◌, IsTrue, true, false, sym, subst, arith}
 use Rattle.qcow2_image.specs.Found.{IsMappedAs}
-use Rattle.qcow2_image.proofs.Looked.{mapped_as}
+use Rattle.qcow2_image.proofs.Looked.{found_whole, mapped_as}
+use Rattle.qcow2_image.proofs.image.Qcow2.check_mapped.Goals.{else-found-length-via-then-found-length+else-is, else-found-length-via-else-found-length}
 use Rattle.qcow2_image.proofs.image.Qcow2.check_mapped.Goals as goal
 
 pub returns-then-is-clause-mapped : goal.returns-then-is-clause-mapped
 returns-then-is-clause-mapped g c = λ some p out sound.
-    let same : c.args.wanted.now ≡ c.in_ok-kind.kind = c.is.ensures c.if-is.true in
+    let same : c.args.wanted.now ≡ c.in_ok-kind.kind = c.is.ensures.0 c.if-is.true in
     subst (λ k. IsMappedAs g.S.Storage.view c.look_up.new.self c.args.offset k c.args.length) (sym same)
     (mapped_as g.S.Storage.view c.look_up.new.self c.args.offset c.args.length c.in_ok-kind.kind c.in_ok-kind.found some (let l = c.if-found-length.true in omega arith) (c.in_ok-kind.ensures.found p out sound))
+
+pub returns-clause-outdated : goal.returns-clause-outdated
+returns-clause-outdated g c = λ p out sound is whole.
+    let both = found_whole g.S.Storage.view c.look_up.new.self c.args.offset c.args.length c.in_ok-kind.kind c.args.wanted.now c.in_ok-kind.found (c.in_ok-kind.ensures.found p out sound) whole in
+    elim c.else-found-length.branch [
+      | else-found-length-via-then-found-length+else-is w ↦ absurd (let no : false ≡ true = subst IsTrue w.if-is.false (w.is.ensures.1 both.0) in cc)
+      | else-found-length-via-else-found-length w ↦ absurd (let short = w.if-found-length.false in omega (arith, both.1))
+    ]

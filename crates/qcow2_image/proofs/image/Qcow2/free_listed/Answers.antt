@@ -1,9 +1,7 @@
-use Rattle.std.proofs.Common.{◌≡◌, Ok, subst}
+use Rattle.std.proofs.Common.{subst}
 use Rattle.std.specs.Prelude.{IfSome}
 use Rattle.qcow2_alloc.specs.FreeList.{with_listed}
 use Rattle.qcow2_alloc.specs.ImageFile.{HasReftable}
-use Rattle.qcow2_image.proofs.Answered.{tidies_kept}
-use Rattle.qcow2_image.proofs.Entering.{keeps_none}
 use Rattle.qcow2_image.proofs.Tidying.{frees_listed, frees_fault}
 use Rattle.qcow2_image.proofs.image.Qcow2.free_listed.Goals as goal
 

@@ -11,10 +11,10 @@ use Rattle.qcow2_image.specs.Calls.{Prepares}
 use Rattle.qcow2_image.specs.Image.{is_failed}
 use Rattle.qcow2_image.specs.Parts.{IsExisting}
 use Rattle.qcow2_image.specs.Views.{meaning, pending_in}
-use Rattle.qcow2_image.proofs.Called.{Quietly, listed}
+use Rattle.qcow2_image.proofs.Called.{listed}
 use Rattle.qcow2_image.proofs.Answers.{prepare_usable}
 use Rattle.qcow2_image.proofs.PrepareCalls.{prepares_nothing, prepares_settled}
-use Rattle.qcow2_image.proofs.Preparing.{mid_sound, readies_then}
+use Rattle.qcow2_image.proofs.Refused.{prepares_after, stays_kept}
 use Rattle.qcow2_image.proofs.image.Qcow2.prepare_data_mapping.Goals as goal
 
 pub returns-then-length-eq0-clause-sees : goal.returns-then-length-eq0-clause-sees
@@ -33,14 +33,13 @@ returns-clause-sees g c =
     let new = c.prepare-prepared.new.self in
     let r = c.prepare-prepared.result in
     let some : 0 < c.args.length = let isnt = c.if-length-eq0.false in omega arith in
-    let quiet : (out : _) → _ → Quietly view below out old mid = λ out sound. record { keeps = c.begin.ensures.keeps (pending_in view below old out) out sound; list = c.begin.ensures.list } in
     subst (λ (image : Qcow2 _ _). Prepares view below old image c.args.offset c.args.length c.args.overwrite c.settled.result) (sym c.settled.ensures.rest)
     (subst (λ (x : Result _ _). Prepares view below old (record new { is_failed = is_failed c.settled.new.self }) c.args.offset c.args.length c.args.overwrite x) (sym c.settled.ensures.answer)
     (prepares_settled view below old (prepare_usable old c.args.offset c.args.length c.check_prepare.result c.in_ok-check_prepare.was c.check_prepare.ensures.refusal) new (is_failed c.settled.new.self)
     (c.prepare-prepared.ensures.stays.image.number ∙ c.begin.ensures.stays.image.number) c.args.offset c.args.length c.args.overwrite r c.settled.ensures.marks c.settled.ensures.memory
     (λ out sound.
-    let kept = listed view below out old mid (quiet out) sound in
-    readies_then view below out old mid new sound kept c.args.offset c.args.length c.args.overwrite r (c.prepare-prepared.ensures.readies some out (mid_sound view below out old mid new sound kept)))))
+    let kept = stays_kept view below out old mid sound (listed view below out old mid (λ s. record { keeps = c.begin.ensures.keeps (pending_in view below old out) out s; list = c.begin.ensures.list }) sound) in
+    prepares_after view below out old mid new kept c.args.offset c.args.length c.args.overwrite r (c.prepare-prepared.ensures.readies some out kept.sound))))
 
 pub returns-clause-maps : goal.returns-clause-maps
 returns-clause-maps g c = λ some out sound.
@@ -50,12 +49,12 @@ returns-clause-maps g c = λ some out sound.
     let mid = c.begin.new.self in
     let new = c.prepare-prepared.new.self in
     let now = known_in view new.file in
-    let kept = c.begin.ensures.keeps (pending_in view below old out) out sound in
+    let stays = stays_kept view below out old mid sound (listed view below out old mid (λ s. record { keeps = c.begin.ensures.keeps (pending_in view below old out) out s; list = c.begin.ensures.list }) sound) in
     subst (λ (image : Qcow2 _ _). IfOk c.settled.result (λ p. IsAnswered old.file.header.fields (known_in view old.file) c.args.offset c.args.length (known_in view image.file) p (meaning view below image p))) (sym c.settled.ensures.rest)
     (subst (λ r. IfOk r (λ p. IsAnswered old.file.header.fields (known_in view old.file) c.args.offset c.args.length now p (meaning view below new p))) (sym c.settled.ensures.answer)
     (if_ok c.prepare-prepared.result
-    (λ p is. answered_before view old mid c.args.offset c.args.length kept.unseen.header kept.unseen.covers now p (meaning view below new p) is)
-    (c.prepare-prepared.ensures.answers some (pending_in view below old out) out kept.sound (λ k. omega arith))))
+    (λ p is. answered_before view old mid c.args.offset c.args.length stays.header stays.covers now p (meaning view below new p) is)
+    (c.prepare-prepared.ensures.answers some out stays.sound)))
 
 pub returns-clause-taken : goal.returns-clause-taken
 returns-clause-taken g c = λ may out sound.
@@ -63,10 +62,9 @@ returns-clause-taken g c = λ may out sound.
     let below = g.F.BackingDisk.backing in
     let old = c.args.self.now in
     let mid = c.begin.new.self in
-    let p = pending_in view below old out in
-    let kept = c.begin.ensures.keeps p out sound in
+    let stays = stays_kept view below out old mid sound (listed view below out old mid (λ s. record { keeps = c.begin.ensures.keeps (pending_in view below old out) out s; list = c.begin.ensures.list }) sound) in
     let some : 0 < c.args.length = let isnt = c.if-length-eq0.false in omega arith in
     subst (λ r. IfErr r (λ e. e ≡ TablePrepared → IsTaken old.file.header.fields (known_in view old.file) c.args.offset c.args.length out)) (sym c.settled.ensures.answer)
     (if_err c.prepare-prepared.result
-    (λ e taken is. taken_before view old mid c.args.offset c.args.length kept.unseen.header kept.unseen.covers out (taken is))
-    (c.prepare-prepared.ensures.taken some p out kept.sound))
+    (λ e taken is. taken_before view old mid c.args.offset c.args.length stays.header stays.covers out (taken is))
+    (c.prepare-prepared.ensures.taken some out stays.sound))

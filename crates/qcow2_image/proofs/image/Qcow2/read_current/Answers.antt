@@ -1,7 +1,11 @@
-use Rattle.std.proofs.Common.{◌≡◌, ◌+◌, subst, IfOk}
+use Rattle.std.proofs.Common.{◌≡◌, ◌+◌, ◌∙◌, length, Err, subst, sym, arith, IfOk}
 use Rattle.qcow2_laws.specs.Calls.{Shows}
+use Rattle.qcow2_alloc.specs.declared.error.ImageError.TheVariants.{OutdatedMapping}
+use Rattle.qcow2_alloc.proofs.AllocationSteps.{handed_on}
+use Rattle.qcow2_image.specs.Found.{IsFoundWhole, further_by}
 use Rattle.qcow2_image.specs.Views.{disk_of}
 use Rattle.qcow2_image.proofs.Called.{keeps_then}
+use Rattle.qcow2_image.proofs.Looked.{none_past}
 use Rattle.qcow2_image.proofs.image.Qcow2.read_current.Goals as goal
 
 pub returns-clause-keeps : goal.returns-clause-keeps
@@ -11,6 +15,23 @@ returns-clause-keeps g c = λ p out sound.
 
 pub returns-clause-shows : goal.returns-clause-shows
 returns-clause-shows g c = λ some p out sound.
-    let at : c.in-Some.offset ≡ c.args.mapping.now.offset + c.args.at = c.in-Some.ensures.1 in
+    let at : c.in_ok-offset.offset ≡ c.args.mapping.now.offset + c.args.at = c.in_ok-offset.ensures.place in
     subst (λ o. IfOk c.read_as.result (λ done. Shows (disk_of g.S.Storage.view g.F.BackingDisk.backing c.read_as.new.self) o c.read_as.new.bytes)) at
     (c.read_as.ensures.shows p out (c.in_ok-check_mapped.ensures.keeps p out sound).sound (c.in_ok-check_mapped.ensures.mapped some p out sound))
+
+pub returns-in_err-offset-clause-outdated : goal.returns-in_err-offset-clause-outdated
+returns-in_err-offset-clause-outdated g c = λ some p out sound is whole. absurd (let none = (whole.past c.in_err-offset.ensures.past).1 in omega arith)
+
+pub returns-in_err-check_mapped-clause-outdated : goal.returns-in_err-check_mapped-clause-outdated
+returns-in_err-check_mapped-clause-outdated g c = λ some p out sound is whole.
+    let view = g.S.Storage.view in
+    let n = length c.args.bytes.now in
+    let here = subst (λ k. IsFoundWhole view c.check_mapped.new.self c.in_ok-offset.offset k n) (sym c.further-kind.ensures)
+    (subst (λ o. IsFoundWhole view c.check_mapped.new.self o (further_by c.args.at c.args.mapping.now.kind) n) (sym c.in_ok-offset.ensures.place) whole) in
+    let e = c.in_err-check_mapped.field-0.0 in
+    handed_on (λ r. r ≡ Err OutdatedMapping → ⊥) c.from_residual-in_err-check_mapped.result e c.from_residual-in_err-check_mapped.ensures (λ was. c.in_err-check_mapped.ensures.outdated p out sound was here) is
+
+pub returns-clause-outdated : goal.returns-clause-outdated
+returns-clause-outdated g c = λ some p out sound is whole.
+    none_past g.S.Storage.view c.read_as.new.self (c.args.mapping.now.offset + c.args.at) (length c.args.bytes.now) some
+    (subst (λ k. IsFoundWhole g.S.Storage.view c.read_as.new.self (c.args.mapping.now.offset + c.args.at) k (length c.args.bytes.now)) (sym c.further-kind.ensures ∙ (c.read_as.ensures.outdated is).0) whole)

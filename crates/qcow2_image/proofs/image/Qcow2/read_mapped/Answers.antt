@@ -1,10 +1,13 @@
-use Rattle.std.proofs.Common.{◌≡◌, ◌+◌, ◌<◌, [], sym, ◌∙◌, subst, rules, length}
+use Rattle.std.proofs.Common.{◌≡◌, ◌+◌, ◌<◌, [], Err, sym, ap, ◌∙◌, subst, rules, length}
 use Rattle.std.specs.Prelude.{Result}
 use Rattle.qcow2_laws.specs.Calls.{Shows, IsSame}
 use Rattle.qcow2_laws.specs.Views.{guest_of}
 use Rattle.qcow2_image.specs.Calls.{Answers}
 use Rattle.qcow2_image.specs.declared.image.Qcow2.{Qcow2}
+use Rattle.qcow2_alloc.specs.declared.error.ImageError.TheVariants.{OutdatedMapping}
+use Rattle.qcow2_image.specs.Found.{IsFoundWhole, further_by}
 use Rattle.qcow2_image.specs.Image.{is_failed}
+use Rattle.qcow2_image.specs.Refusals.{Marks}
 use Rattle.qcow2_image.specs.Views.{pending_in}
 use Rattle.qcow2_image.proofs.Answers.{usable_works}
 use Rattle.qcow2_image.proofs.Called.{told_answers, tells_quietly, quietly_then}
@@ -28,3 +31,15 @@ returns-clause-sees g c =
     (usable_works old c.check_usable.result c.in_ok-check_usable.was c.check_usable.ensures)
     (λ out sound same. if_ok c.read_current-done.result (λ done shows. (same, subst (λ g. Shows g.disk place shown) same shows))
     (c.read_current-done.ensures.shows some (pending_in view below old out) out (c.begin.ensures.keeps (pending_in view below old out) out sound).sound)))))
+
+pub returns-clause-outdated : goal.returns-clause-outdated
+returns-clause-outdated g c = λ out sound is whole.
+    let view = g.S.Storage.view in
+    let p = pending_in view g.F.BackingDisk.backing c.args.self.now out in
+    let new = c.read_current-done.new.self in
+    let some : 0 < length c.args.bytes.now = search rules in
+    let answer : c.read_current-done.result ≡ Err OutdatedMapping = sym c.settled.ensures.answer ∙ is in
+    let marks : is_failed c.settled.new.self ≡ is_failed new = subst (λ r. Marks r (is_failed new) (is_failed c.settled.new.self)) answer c.settled.ensures.marks in
+    let same : c.settled.new.self ≡ new = c.settled.ensures.rest ∙ ap (λ f. record new { is_failed = f }) marks in
+    c.read_current-done.ensures.outdated some p out (c.begin.ensures.keeps p out sound).sound answer
+    (subst (λ (image : Qcow2 _ _). IsFoundWhole view image (c.args.mapping.now.offset + c.args.at) (further_by c.args.at c.args.mapping.now.kind) (length c.args.bytes.now)) same whole)

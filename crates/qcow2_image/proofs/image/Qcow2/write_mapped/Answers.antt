@@ -1,9 +1,14 @@
-use Rattle.std.proofs.Common.{◌≡◌, ◌<◌, [], length, sym, ◌∙◌, subst, rules}
+use Rattle.std.proofs.Common.{◌≡◌, ◌+◌, ◌<◌, [], Err, true, ap, length, sym, ◌∙◌, subst, rules}
 use Rattle.std.specs.Prelude.{Result}
 use Rattle.std.proofs.lemmas.List.{nil_from_length}
 use Rattle.qcow2_image.specs.declared.image.Qcow2.{Qcow2}
 use Rattle.qcow2_image.specs.Calls.{Puts}
+use Rattle.qcow2_alloc.specs.declared.error.ImageError.TheVariants.{OutdatedMapping}
+use Rattle.qcow2_image.specs.declared.mapping.MappingKind.TheVariants.{Raw}
+use Rattle.qcow2_image.specs.declared.mapping.Place.TheVariants.{Image}
+use Rattle.qcow2_image.specs.Found.{IsFoundWhole}
 use Rattle.qcow2_image.specs.Image.{is_failed}
+use Rattle.qcow2_image.specs.Refusals.{Marks}
 use Rattle.qcow2_image.specs.Views.{pending_in}
 use Rattle.qcow2_image.proofs.Answers.{usable_works}
 use Rattle.qcow2_image.proofs.Called.{Quietly, quiet_sound}
@@ -32,3 +37,15 @@ returns-clause-sees g c =
     (c.write_current-done.ensures.stays.image.number ∙ c.begin.ensures.stays.image.number) r c.settled.ensures.marks
     (λ out k placed sound. puts_then view below out k p c.args.at bytes placed old c.begin.new.self new r (quiet out sound) sound
     (c.write_current-done.ensures.puts some c.requires out k placed (quiet_sound view below out old c.begin.new.self (quiet out) sound)))))
+
+pub returns-clause-outdated : goal.returns-clause-outdated
+returns-clause-outdated g c = λ none out sound is whole.
+    let view = g.S.Storage.view in
+    let p = pending_in view g.F.BackingDisk.backing c.args.self.now out in
+    let new = c.write_current-done.new.self in
+    let some : 0 < length c.args.bytes.now = search rules in
+    let answer : c.write_current-done.result ≡ Err OutdatedMapping = sym c.settled.ensures.answer ∙ is in
+    let marks : is_failed c.settled.new.self ≡ is_failed new = subst (λ r. Marks r (is_failed new) (is_failed c.settled.new.self)) answer c.settled.ensures.marks in
+    let same : c.settled.new.self ≡ new = c.settled.ensures.rest ∙ ap (λ f. record new { is_failed = f }) marks in
+    c.write_current-done.ensures.outdated some none p out (c.begin.ensures.keeps p out sound).sound answer
+    (subst (λ (image : Qcow2 _ _). IsFoundWhole view image (c.args.prepared.now.guest + c.args.at) (Raw Image (c.args.prepared.now.offset + c.args.at) true) (length c.args.bytes.now)) same whole)
