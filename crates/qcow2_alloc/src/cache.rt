@@ -154,13 +154,13 @@ impl<S: Storage> MetadataCaches<S> {
         ensures ordered { WritesInOrder S.view storage.old self.old storage.new }
     {
         match self.direction {
-            Direction::L2DependsOnRb => {
-                self.write_blocks(storage)?;
-                self.write_tables(storage)
-            }
             Direction::None | Direction::RbDependsOnL2 => {
                 self.write_tables(storage)?;
                 self.write_blocks(storage)
+            }
+            Direction::L2DependsOnRb => {
+                self.write_blocks(storage)?;
+                self.write_tables(storage)
             }
         }
     }

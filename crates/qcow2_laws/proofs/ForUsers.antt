@@ -1,7 +1,7 @@
 -- Laws that a user would quote: what was given, put and committed.
-use Rattle.std.proofs.Common.{◌≡◌, ◌⊎◌, ⊎_elim, inl, inr, ◌+◌, ◌-◌, ◌<◌, ◌≤◌, ltb, leb, ℕ, refl, sym, ap, ◌∙◌, subst, Bool, true, false, Some, List, length, eqb, arith}
+use Rattle.std.proofs.Common.{◌≡◌, IsTrue, ◌⊎◌, ⊎_elim, inl, inr, ◌+◌, ◌-◌, ◌<◌, ◌≤◌, ltb, leb, ℕ, refl, sym, ap, ◌∙◌, subst, Bool, true, false, Some, List, length, eqb, arith}
 use Rattle.std.specs.Prelude.{if◌then◌else◌}
-use Rattle.std.proofs.lemmas.Bool.{cond-true, cond-false, eq-eqb, le-leb, lt-ltb, lt-leb, le-ltb, and_from, and_left, and_right}
+use Rattle.std.proofs.lemmas.Bool.{cases_lt, cond-true, cond-false, eq-eqb, le-leb, lt-ltb, lt-leb, le-ltb, and_from, and_left, and_right}
 use Rattle.qcow2_metadata.specs.Bytes.{byte_at, laid_over, is_within}
 use Rattle.qcow2_metadata.specs.Guest.{known_byte}
 use Rattle.qcow2_laws.specs.Disk.{Disk, disk, with_bytes}
@@ -36,15 +36,29 @@ unfolding laid_over
 laid_outside place n top under o (inl below) = cond-false _ _ _ (and_left (leb place o) (ltb o (place + n)) (lt-leb place o below))
 laid_outside place n top under o (inr past) = cond-false _ _ _ (and_right (leb place o) (ltb o (place + n)) (le-ltb o (place + n) past))
 
+either : {X : Type 0} (test : Bool) (a b v : X) → a ≡ v → b ≡ v → (if test then a else b) ≡ v
+either true a b v e f = e
+either false a b v e f = f
+
+-- bytes that are put where a mapping is private leave the disk
+put_unseen : (d : Disk) (m : PreparedMapping) (at : ℕ) (bytes : List ℕ) → ((i : ℕ) → i < length bytes → IsTrue (m.is_private (m.from + at + i))) → (o : ℕ) → (put_disk d m at bytes).value o ≡ d.value o
+put_unseen d m at bytes private o = elim (cases_lt o (m.from + at)) [
+  | inl below ↦ either (m.is_private o) (d.value o) ((with_bytes d (m.from + at) bytes).value o) (d.value o) refl (laid_outside (m.from + at) (length bytes) (λ k. known_byte (byte_at bytes k)) d.value o (inl below))
+  | inr above ↦ elim (cases_lt o (m.from + at + length bytes)) [
+    | inl inside ↦
+        let here : m.from + at + (o - (m.from + at)) ≡ o = omega arith in
+        cond-true (m.is_private o) (d.value o) ((with_bytes d (m.from + at) bytes).value o) (subst (λ n. IsTrue (m.is_private n)) here (private (o - (m.from + at)) (omega arith)))
+    | inr past ↦ either (m.is_private o) (d.value o) ((with_bytes d (m.from + at) bytes).value o) (d.value o) refl (laid_outside (m.from + at) (length bytes) (λ k. known_byte (byte_at bytes k)) d.value o (inr past))
+  ]
+]
+
 pub unseen : PrivateBytesAreUnseen
-unseen x found g0 g1 g2 g3 slot offset n count at overwrite bytes prepared all_private put discard =
+unseen x found g0 g1 g2 g3 slot offset n count at overwrite bytes prepared private put discard =
     let same1 : g1.disk ≡ g0.disk = ap (λ (g : Guest). g.disk) prepared.1.3 in
     let same2 : g2.disk ≡ put_disk g1.disk put.0 at bytes = ap (λ (g : Guest). g.disk) put.3 in
     let same3 : g3.disk ≡ g2.disk = ap (λ (g : Guest). g.disk) discard.1 in (
       ap (λ (d : Disk). d.size) (same3 ∙ same2) ∙ ap (λ (d : Disk). d.size) same1,
-      (λ o. ap (λ (d : Disk). d.value o) (same3 ∙ same2)
-          ∙ cond-true (put.0.is_private o) (g1.disk.value o) ((with_bytes g1.disk (put.0.from + at) bytes).value o) (all_private put.0 o put.1)
-          ∙ ap (λ (d : Disk). d.value o) same1),
+      (λ o. ap (λ (d : Disk). d.value o) (same3 ∙ same2) ∙ put_unseen g1.disk put.0 at bytes (λ i lt. private put.0 i put.1 lt) o ∙ ap (λ (d : Disk). d.value o) same1),
     )
 
 -- what stands at a place of the bytes that were put, once they are committed

@@ -233,7 +233,7 @@ Run-push x old mid new (c ∷ commands) [] command reply run step = absurd run
 
 -- an image that stands at a place of a run is as the run says
 said_at : {x : Setting} {v : View} {s : State} (before : ℕ → ℕ) → StandsAt x v s → (s.is_failed ≡ false → v.surplus ≡ before) → IsAsSaid v s before
-said_at before stands same = record { guest = stands.guest; consistent = λ ok. (stands.known ok).consistent; surplus = same }
+said_at before stands same = record { works = stands.works; failed = stands.failed; guest = stands.guest; consistent = λ ok. (stands.known ok).consistent; surplus = same }
 
 module _ {D P : Type 0} (spec : Spec D P) (x : Setting) (before : ℕ → ℕ) where
   -- so does the image along it

@@ -13,7 +13,7 @@ abbrev pub PrivateBytesAreUnseen : Type 0
 PrivateBytesAreUnseen =
     (x : Setting) (found : ℕ → Option Found) (g0 g1 g2 g3 : Guest) (slot offset n count at : ℕ) (overwrite : Bool) (bytes : List ℕ)
     → Means x found g0 (prepare slot offset n overwrite) (prepared_is count) g1
-    → ((m : PreparedMapping) (o : ℕ) → g1.slots slot ≡ Some m → IsTrue (m.is_private o))
+    → ((m : PreparedMapping) (i : ℕ) → g1.slots slot ≡ Some m → i < length bytes → IsTrue (m.is_private (m.from + at + i)))
     → Means x found g1 (put slot at bytes) done g2 → Means x found g2 (discard slot) done g3
     → (g3.disk.size ≡ g0.disk.size) × ((o : ℕ) → g3.disk.value o ≡ g0.disk.value o)
 

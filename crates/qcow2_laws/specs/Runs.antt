@@ -173,8 +173,10 @@ pub record IsSafeWhile (backing : Bytes) (old new : StorageView) (failed : Bool)
   pub silent : IsTrue failed → Passing old new (λ c. c ≡ old.contents)
   pub unchanged : IsTrue failed → new.contents ≡ old.contents
 
--- An image at the return of a command: the guest sees what the run says, the known image is consistent, and nothing was lost or gained since the start.
+-- An image at the return of a command: it is sound unless it failed; the guest sees what the run says, the known image is consistent, and nothing was lost or gained since the start.
 pub record IsAsSaid (v : View) (s : State) (before : ℕ → ℕ) : Type 0 where
+  pub works : s.is_failed ≡ false → v.is_sound
+  pub failed : IsTrue s.is_failed → IsTrue v.is_failed
   pub guest : s.is_failed ≡ false → guest_of v ≡ s.guest
   pub consistent : s.is_failed ≡ false → IsConsistent v.known
   pub surplus : s.is_failed ≡ false → v.surplus ≡ before

@@ -8,7 +8,7 @@ use Rattle.qcow2_alloc.proofs.KeptTables.InOrder.{order_then}
 use Rattle.qcow2_alloc.proofs.cache.MetadataCaches.flush_all.Goals as goal
 
 pub returns-in_err-write_blocks-in-L2DependsOnRb-clause-keeps : goal.returns-in_err-write_blocks-in-L2DependsOnRb-clause-keeps
-returns-in_err-write_blocks-in-L2DependsOnRb-clause-keeps g c = c.write_blocks.ensures.keeps (blocks_free c.args.self.now (inr c.in-L2DependsOnRb.is))
+returns-in_err-write_blocks-in-L2DependsOnRb-clause-keeps g c = c.write_blocks-in-L2DependsOnRb.ensures.keeps (blocks_free c.args.self.now (inr c.in-L2DependsOnRb.is))
 
 pub returns-in_err-write_tables-in-None : goal.returns-in_err-write_tables-in-None
 returns-in_err-write_tables-in-None g c = record {
@@ -16,49 +16,49 @@ returns-in_err-write_tables-in-None g c = record {
   order = search rules;
   written = search rules;
   marks = search rules;
-  faults = λ h p honest sound settled. given_err c.from_residual-in_err-write_tables-in-None.result c.in_err-write_tables-in-None.field-0.0 IsFault c.from_residual-in_err-write_tables-in-None.ensures (c.in_err-write_tables-in-None.ensures.faults h p honest sound settled);
-  keeps = c.write_tables-in-None.ensures.keeps (tables_free c.args.self.now c.in-None.is);
-  ordered = c.write_tables-in-None.ensures.ordered (tables_free c.args.self.now c.in-None.is);
+  faults = λ h p honest sound settled. given_err c.from_residual.result c.in_err-write_tables-in-None.field-0.0 IsFault c.from_residual.ensures (c.in_err-write_tables-in-None.ensures.faults h p honest sound settled);
+  keeps = c.write_tables.ensures.keeps (tables_free c.args.self.now c.in-None.is);
+  ordered = c.write_tables.ensures.ordered (tables_free c.args.self.now c.in-None.is);
 }
 
 pub returns-in_ok-write_blocks-in-L2DependsOnRb-clause-keeps : goal.returns-in_ok-write_blocks-in-L2DependsOnRb-clause-keeps
 returns-in_ok-write_blocks-in-L2DependsOnRb-clause-keeps g c =
-    keep_then g.S.Storage.view c.args.storage.now c.write_blocks.new.storage c.write_tables.new.storage c.args.self.now c.write_blocks.new.self c.write_tables.new.self
-    (c.write_blocks.ensures.keeps (blocks_free c.args.self.now (inr c.in-L2DependsOnRb.is)))
-    (c.write_tables.ensures.keeps (tables_clean c.write_blocks.new.self (c.write_blocks.ensures.direction ∙ c.in-L2DependsOnRb.is) c.in_ok-write_blocks-in-L2DependsOnRb.ensures.written))
+    keep_then g.S.Storage.view c.args.storage.now c.write_blocks-in-L2DependsOnRb.new.storage c.write_tables-in-L2DependsOnRb.new.storage c.args.self.now c.write_blocks-in-L2DependsOnRb.new.self c.write_tables-in-L2DependsOnRb.new.self
+    (c.write_blocks-in-L2DependsOnRb.ensures.keeps (blocks_free c.args.self.now (inr c.in-L2DependsOnRb.is)))
+    (c.write_tables-in-L2DependsOnRb.ensures.keeps (tables_clean c.write_blocks-in-L2DependsOnRb.new.self (c.write_blocks-in-L2DependsOnRb.ensures.direction ∙ c.in-L2DependsOnRb.is) c.in_ok-write_blocks-in-L2DependsOnRb.ensures.written))
 
 pub returns-in_ok-write_tables-in-None : goal.returns-in_ok-write_tables-in-None
 returns-in_ok-write_tables-in-None g c = record {
   cause = search rules;
   order = search rules;
-  written = both_written c.write_tables-in-None.new.self c.write_blocks-in-None.new.self c.write_blocks-in-None.result c.write_blocks-in-None.ensures.tables c.in_ok-write_tables-in-None.ensures.written c.write_blocks-in-None.ensures.written;
-  marks = marks_then c.args.self.now c.write_tables-in-None.new.self c.write_blocks-in-None.new.self c.write_tables-in-None.ensures.marks c.write_blocks-in-None.ensures.marks;
+  written = both_written c.write_tables.new.self c.write_blocks.new.self c.write_blocks.result c.write_blocks.ensures.tables c.in_ok-write_tables-in-None.ensures.written c.write_blocks.ensures.written;
+  marks = marks_then c.args.self.now c.write_tables.new.self c.write_blocks.new.self c.write_tables.ensures.marks c.write_blocks.ensures.marks;
   faults = λ h p honest sound settled.
-      let one = c.write_tables-in-None.ensures.keeps (tables_free c.args.self.now c.in-None.is) h p honest sound in
-      c.write_blocks-in-None.ensures.faults h p one.honest one.sound (one.settled settled);
+      let one = c.write_tables.ensures.keeps (tables_free c.args.self.now c.in-None.is) h p honest sound in
+      c.write_blocks.ensures.faults h p one.honest one.sound (one.settled settled);
   keeps =
-      keep_then g.S.Storage.view c.args.storage.now c.write_tables-in-None.new.storage c.write_blocks-in-None.new.storage c.args.self.now c.write_tables-in-None.new.self c.write_blocks-in-None.new.self
-      (c.write_tables-in-None.ensures.keeps (tables_free c.args.self.now c.in-None.is))
-      (c.write_blocks-in-None.ensures.keeps (blocks_either c.write_tables-in-None.new.self c.args.self.now c.write_tables-in-None.ensures.direction c.in-None.is c.in_ok-write_tables-in-None.ensures.written));
+      keep_then g.S.Storage.view c.args.storage.now c.write_tables.new.storage c.write_blocks.new.storage c.args.self.now c.write_tables.new.self c.write_blocks.new.self
+      (c.write_tables.ensures.keeps (tables_free c.args.self.now c.in-None.is))
+      (c.write_blocks.ensures.keeps (blocks_either c.write_tables.new.self c.args.self.now c.write_tables.ensures.direction c.in-None.is c.in_ok-write_tables-in-None.ensures.written));
   ordered =
-      order_then g.S.Storage.view c.args.storage.now c.write_tables-in-None.new.storage c.write_blocks-in-None.new.storage c.args.self.now c.write_tables-in-None.new.self
-      (c.write_tables-in-None.ensures.keeps (tables_free c.args.self.now c.in-None.is)) (c.write_tables-in-None.ensures.ordered (tables_free c.args.self.now c.in-None.is)) (ap order c.write_tables-in-None.ensures.direction)
-      (c.write_blocks-in-None.ensures.ordered (blocks_either c.write_tables-in-None.new.self c.args.self.now c.write_tables-in-None.ensures.direction c.in-None.is c.in_ok-write_tables-in-None.ensures.written));
+      order_then g.S.Storage.view c.args.storage.now c.write_tables.new.storage c.write_blocks.new.storage c.args.self.now c.write_tables.new.self
+      (c.write_tables.ensures.keeps (tables_free c.args.self.now c.in-None.is)) (c.write_tables.ensures.ordered (tables_free c.args.self.now c.in-None.is)) (ap order c.write_tables.ensures.direction)
+      (c.write_blocks.ensures.ordered (blocks_either c.write_tables.new.self c.args.self.now c.write_tables.ensures.direction c.in-None.is c.in_ok-write_tables-in-None.ensures.written));
 }
 
 pub returns-in_err-write_blocks-in-L2DependsOnRb-clause-faults : goal.returns-in_err-write_blocks-in-L2DependsOnRb-clause-faults
-returns-in_err-write_blocks-in-L2DependsOnRb-clause-faults g c = λ h p honest sound settled. given_err c.from_residual.result c.in_err-write_blocks-in-L2DependsOnRb.field-0.0 IsFault c.from_residual.ensures (c.in_err-write_blocks-in-L2DependsOnRb.ensures.faults h p honest sound settled)
+returns-in_err-write_blocks-in-L2DependsOnRb-clause-faults g c = λ h p honest sound settled. given_err c.from_residual-in_err-write_blocks-in-L2DependsOnRb.result c.in_err-write_blocks-in-L2DependsOnRb.field-0.0 IsFault c.from_residual-in_err-write_blocks-in-L2DependsOnRb.ensures (c.in_err-write_blocks-in-L2DependsOnRb.ensures.faults h p honest sound settled)
 
 pub returns-in_ok-write_blocks-in-L2DependsOnRb-clause-faults : goal.returns-in_ok-write_blocks-in-L2DependsOnRb-clause-faults
 returns-in_ok-write_blocks-in-L2DependsOnRb-clause-faults g c = λ h p honest sound settled.
-    let one = c.write_blocks.ensures.keeps (blocks_free c.args.self.now (inr c.in-L2DependsOnRb.is)) h p honest sound in
-    c.write_tables.ensures.faults h p one.honest one.sound (one.settled settled)
+    let one = c.write_blocks-in-L2DependsOnRb.ensures.keeps (blocks_free c.args.self.now (inr c.in-L2DependsOnRb.is)) h p honest sound in
+    c.write_tables-in-L2DependsOnRb.ensures.faults h p one.honest one.sound (one.settled settled)
 
 pub returns-in_err-write_blocks-in-L2DependsOnRb-clause-ordered : goal.returns-in_err-write_blocks-in-L2DependsOnRb-clause-ordered
-returns-in_err-write_blocks-in-L2DependsOnRb-clause-ordered g c = c.write_blocks.ensures.ordered (blocks_free c.args.self.now (inr c.in-L2DependsOnRb.is))
+returns-in_err-write_blocks-in-L2DependsOnRb-clause-ordered g c = c.write_blocks-in-L2DependsOnRb.ensures.ordered (blocks_free c.args.self.now (inr c.in-L2DependsOnRb.is))
 
 pub returns-in_ok-write_blocks-in-L2DependsOnRb-clause-ordered : goal.returns-in_ok-write_blocks-in-L2DependsOnRb-clause-ordered
 returns-in_ok-write_blocks-in-L2DependsOnRb-clause-ordered g c =
-    order_then g.S.Storage.view c.args.storage.now c.write_blocks.new.storage c.write_tables.new.storage c.args.self.now c.write_blocks.new.self
-    (c.write_blocks.ensures.keeps (blocks_free c.args.self.now (inr c.in-L2DependsOnRb.is))) (c.write_blocks.ensures.ordered (blocks_free c.args.self.now (inr c.in-L2DependsOnRb.is))) (ap order c.write_blocks.ensures.direction)
-    (c.write_tables.ensures.ordered (tables_clean c.write_blocks.new.self (c.write_blocks.ensures.direction ∙ c.in-L2DependsOnRb.is) c.in_ok-write_blocks-in-L2DependsOnRb.ensures.written))
+    order_then g.S.Storage.view c.args.storage.now c.write_blocks-in-L2DependsOnRb.new.storage c.write_tables-in-L2DependsOnRb.new.storage c.args.self.now c.write_blocks-in-L2DependsOnRb.new.self
+    (c.write_blocks-in-L2DependsOnRb.ensures.keeps (blocks_free c.args.self.now (inr c.in-L2DependsOnRb.is))) (c.write_blocks-in-L2DependsOnRb.ensures.ordered (blocks_free c.args.self.now (inr c.in-L2DependsOnRb.is))) (ap order c.write_blocks-in-L2DependsOnRb.ensures.direction)
+    (c.write_tables-in-L2DependsOnRb.ensures.ordered (tables_clean c.write_blocks-in-L2DependsOnRb.new.self (c.write_blocks-in-L2DependsOnRb.ensures.direction ∙ c.in-L2DependsOnRb.is) c.in_ok-write_blocks-in-L2DependsOnRb.ensures.written))
