@@ -38,11 +38,13 @@ def scattered(count, flush_each, size=SIZE):
     return steps if flush_each else steps + [("flush",)]
 
 
+# Each with its clusters' size and the bits of a count. The one with small clusters and wide counts needs more than 2,000 refblocks: the reftable grows on the way.
 WORK = [
-    ("64 MiB in order, clusters of 65536", 65536, sequential()),
-    ("64 MiB in order, clusters of 4096", 4096, sequential()),
-    ("2,000 random writes of 4 KiB, one flush, clusters of 65536", 65536, scattered(2000, False)),
-    ("200 random writes of 4 KiB, a flush after each, clusters of 65536", 65536, scattered(200, True)),
+    ("64 MiB in order, clusters of 65536", (65536, 16), sequential()),
+    ("64 MiB in order, clusters of 4096", (4096, 16), sequential()),
+    ("64 MiB in order, clusters of 512, counts of 64 bits", (512, 64), sequential()),
+    ("2,000 random writes of 4 KiB, one flush, clusters of 65536", (65536, 16), scattered(2000, False)),
+    ("200 random writes of 4 KiB, a flush after each, clusters of 65536", (65536, 16), scattered(200, True)),
 ]
 
 
@@ -72,19 +74,21 @@ def measured(words, lines, wanted):
         return seconds, int(it.read())
 
 
-def by_qimg(cluster, steps, size=SIZE):
-    subprocess.run([QIMG, "create", "disk", str(size), str(cluster), "16", "none"], check=True, stdout=subprocess.DEVNULL)
+def by_qimg(shape, steps, size=SIZE):
+    cluster, width = shape
+    subprocess.run([QIMG, "create", "disk", str(size), str(cluster), str(width), "none"], check=True, stdout=subprocess.DEVNULL)
     return measured([QIMG, "run", "disk"], [qimg_line(step) for step in steps], lambda text: text == "ok\n" * len(steps))
 
 
-def by_qemu(cluster, steps):
-    words = ["qemu-img", "create", "-q", "-f", "qcow2", "-o", f"cluster_size={cluster}", "disk", str(SIZE)]
+def by_qemu(shape, steps):
+    cluster, width = shape
+    words = ["qemu-img", "create", "-q", "-f", "qcow2", "-o", f"cluster_size={cluster},refcount_bits={width}", "disk", str(SIZE)]
     subprocess.run(words, check=True)
     words = ["qemu-io", "-f", "qcow2", "-t", "unsafe", "disk"]
     return measured(words, [qemu_line(step) for step in steps], lambda text: "failed" not in text)
 
 
-def median_of(runner, cluster, steps):
+def median_of(runner, shape, steps):
     """The medians of some runs, each in a new folder, or None where one didn't do the work."""
     results = []
     here = os.getcwd()
@@ -92,7 +96,7 @@ def median_of(runner, cluster, steps):
         room = tempfile.mkdtemp(prefix="qimg-bench-")
         os.chdir(room)
         try:
-            results.append(runner(cluster, steps))
+            results.append(runner(shape, steps))
         finally:
             os.chdir(here)
             shutil.rmtree(room)
@@ -103,7 +107,7 @@ def median_of(runner, cluster, steps):
 
 def of_two_sizes(cluster):
     """Peak memory of qimg in KiB on an image of 64 MiB and on one of 1 GiB, for 2,000 random writes over the whole image, or None."""
-    results = [median_of(lambda cluster, steps: by_qimg(cluster, steps, size), cluster, scattered(2000, False, size)) for size in (SIZE, LARGE)]
+    results = [median_of(lambda shape, steps: by_qimg(shape, steps, size), (cluster, 16), scattered(2000, False, size)) for size in (SIZE, LARGE)]
     return None if None in results else [memory for _, memory in results]
 
 
@@ -112,9 +116,9 @@ def main():
         print("/usr/bin/time is missing: install the package time")
         return 1
     failed = False
-    for name, cluster, steps in WORK:
+    for name, shape, steps in WORK:
         print(name)
-        own, other = median_of(by_qimg, cluster, steps), median_of(by_qemu, cluster, steps)
+        own, other = median_of(by_qimg, shape, steps), median_of(by_qemu, shape, steps)
         if own is None or other is None:
             failed = True
             continue

@@ -3,13 +3,14 @@
 
 import os
 import re
+import shutil
 import subprocess
 import sys
 import time
 
 ROOT = os.path.dirname(os.path.dirname(os.path.abspath(__file__)))
 FAILURES = re.compile(r"NOT PROVED|NOT REFUSED|BAD EDIT|FAILED|: error")
-SCRIPTS = ["tests/program.py", "tests/writes.py", "tests/caches.py", "tests/stops.py", "tests/interop/write.py", "tests/interop/open.py"]
+SCRIPTS = ["tests/program.py", "tests/writes.py", "tests/caches.py", "tests/stops.py", "tests/interop/write.py", "tests/interop/growing.py", "tests/interop/open.py"]
 
 
 def counts(words, told):
@@ -39,12 +40,22 @@ def succeeds(words):
     return subprocess.run(words, cwd=ROOT).returncode == 0
 
 
+def has_program():
+    """Takes the program that the gate has proved and built, or builds it."""
+    built = f"{ROOT}/crates/qimg/out/qimg"
+    if not os.path.isfile(built):
+        return succeeds(["make", "-s", "qimg"])
+    os.makedirs(f"{ROOT}/build", exist_ok=True)
+    shutil.copy(built, f"{ROOT}/build/qimg")
+    return True
+
+
 def main():
     began = time.monotonic()
     told = []
     results = [counts(["rt", "ci"], told)]
     print(f"the gate took {(time.monotonic() - began) / 60:.0f} minutes", flush=True)
-    if not succeeds(["make", "-s", "qimg"]):
+    if not has_program():
         print("the program wasn't built", flush=True)
         results.append((0, len(SCRIPTS)))
     elif not succeeds(["tests/install.sh"]):

@@ -16,8 +16,10 @@ use Rattle.qcow2_alloc.specs.declared.allocation.Allocator.{Allocator}
 use Rattle.qcow2_alloc.specs.declared.cache.MetadataCaches.{MetadataCaches}
 use Rattle.qcow2_alloc.specs.declared.error.ImageError.{ImageError}
 use Rattle.qcow2_alloc.specs.declared.image_file.ImageFile.{ImageFile}
+use Rattle.qcow2_alloc.specs.declared.clusters_to_free.ClusterKind.{ClusterKind}
 use Rattle.qcow2_alloc.specs.declared.clusters_to_free.ClusterKind.TheVariants.{Data, Metadata}
-use Rattle.qcow2_alloc.specs.Allocation.{taken_as, Owed, Taken, Listed, owed_as, MayTake, MayLower, HasNone, KeepsEntries, StandsAt, Becomes, PlacesBlock, GetsBlock, TakesOne}
+use Rattle.qcow2_alloc.specs.declared.clusters_to_free.ClustersToFreeEntry.{ClustersToFreeEntry}
+use Rattle.qcow2_alloc.specs.Allocation.{run_at, is_data, taken_as, Owed, Taken, Listed, owed_as, MayTake, MayLower, HasNone, KeepsEntries, StandsAt, Becomes, BecomesOn, PlacesBlock, GetsBlock, LeavesAs, TakesOne, TakesCluster, Allocates}
 use Rattle.qcow2_laws.specs.Caches.{AreSettled}
 use Rattle.image_access.proofs.Passing.{passes_none}
 use Rattle.qcow2_alloc.specs.CacheMarks.{KeepsMarks, SameTables}
@@ -30,7 +32,7 @@ use Rattle.qcow2_alloc.specs.declared.image_storage.ImageStorage.{ImageStorage}
 use Rattle.qcow2_alloc.specs.ImageStorage.{storage_of}
 use Rattle.qcow2_alloc.proofs.KeptTables.Standing.{own_cluster}
 use Rattle.qcow2_alloc.proofs.Runs.{held_more}
-use Rattle.qcow2_alloc.proofs.FileSteps.{one_here, moves_none, moves_then, leaves_then, breaks_after, moves_cached, reftable_cached, reftable_counted, moves_raised, moves_lowered}
+use Rattle.qcow2_alloc.proofs.FileSteps.{one_here, moves_none, moves_then, moves_on, on_then, on_breaks, leaves_then, breaks_after, moves_cached, reftable_cached, reftable_counted, moves_raised, moves_lowered}
 
 -- what a `?` hands on
 pub handed_on : {A E : Type 0} (P : Result A E → Type 0) (r : Result A E) (e : E) → IsErr r × IsErrAnd r (λ x. x ≡ e) → P (Err e) → P r
@@ -88,6 +90,20 @@ module _ {S : Type 0} (view : S → StorageView) where
   pub is_sound_now : (p q : Pending) (a b : ImageFile S) (t : Allocator) → Becomes view p a t b q → IsSoundWith view t q b
   is_sound_now p q a b t first = record { sound = first.moves.sound; reftable = first.reftable }
 
+  -- the same where the reftable may move
+  pub on_of : (p q : Pending) (a b : ImageFile S) (t : Allocator) → Becomes view p a t b q → BecomesOn view p a t b q
+  on_of p q a b t becomes = record { moves = moves_on view p q a b becomes.moves; reftable = becomes.reftable }
+
+  pub on_none : (p : Pending) (file : ImageFile S) (t : Allocator) → IsSoundWith view t p file → BecomesOn view p file t file p
+  on_none p file t sound = on_of p p file file t (becomes_none p file t sound)
+
+  -- what is held for guests is held still
+  pub becomes_on : (p q r : Pending) (a b c : ImageFile S) (t t' : Allocator) → ((k : ℕ) → 0 < p.held k → 0 < q.held k) → BecomesOn view p a t b q → BecomesOn view q b t' c r → BecomesOn view p a t' c r
+  becomes_on p q r a b c t t' held first second = record { moves = on_then view p q r a b c held first.moves second.moves; reftable = second.reftable }
+
+  pub is_sound_on : (p q : Pending) (a b : ImageFile S) (t : Allocator) → BecomesOn view p a t b q → IsSoundWith view t q b
+  is_sound_on p q a b t first = record { sound = first.moves.sound; reftable = first.reftable }
+
   -- after clusters were taken
   pub becomes_more : (d : Bool) (p : Pending) (n : ℕ → ℕ) (r : Pending) (a b c : ImageFile S) (t t' : Allocator) → Becomes view p a t b (taken_as d p n) → Becomes view (taken_as d p n) b t' c r → Becomes view p a t' c r
   becomes_more d p n r a b c t t' first second = record { moves = moves_then view p (taken_as d p n) r a b c (held_more d p n) first.moves second.moves; reftable = second.reftable }
@@ -112,10 +128,36 @@ module _ {S : Type 0} (view : S → StorageView) where
   pub still_sound : (p : Pending) (a b : ImageFile S) (t : Allocator) (e : ImageError) → (IsFault e → ⊥) → LeavesSound view p a t b e → Becomes view p a t b p
   still_sound p a b t e other leaves = elim leaves [ inl sound ↦ record { moves = sound.0; reftable = sound.1 } | inr breaks ↦ absurd (other breaks.fault) ]
 
-  -- a cluster that is taken, or is in use, after a step that left the same pending
-  pub takes_then : (p : Pending) (a b c : ImageFile S) (t t' t'' : Allocator) (d : Bool) (cluster : ℕ) (taken : Bool) → t''.reftable ≡ t'.reftable → Becomes view p a t b p → TakesOne view p b t' c d cluster (Ok taken) → TakesOne view p a t'' c d cluster (Ok taken)
-  takes_then p a b c t t' t'' d cluster true same first second = becomes_as p (taken_as d p (one_at cluster)) a c t' t'' same (becomes_then p (taken_as d p (one_at cluster)) a b c t t' first second)
-  takes_then p a b c t t' t'' d cluster false same first second = becomes_as p p a c t' t'' same (becomes_then p p a b c t t' first second)
+  -- a refusal that left the same pending, as both words say it
+  pub leaves_as : (p : Pending) (a b : ImageFile S) (t : Allocator) (e : ImageError) → LeavesSound view p a t b e → LeavesAs view p a t b p e
+  leaves_as p a b t e leaves = elim leaves [ inl sound ↦ inl (on_of p p a b t (record { moves = sound.0; reftable = sound.1 })) | inr breaks ↦ inr breaks ]
+
+  -- a refusal after a step
+  pub leaves_on : (p q r : Pending) (a b c : ImageFile S) (t t' : Allocator) (e : ImageError) → ((k : ℕ) → 0 < p.held k → 0 < q.held k) → BecomesOn view p a t b q → LeavesAs view q b t' c r e → LeavesAs view p a t' c r e
+  leaves_on p q r a b c t t' e held first second = elim second [
+    | inl sound ↦ inl (becomes_on p q r a b c t t' held first sound)
+    | inr breaks ↦ inr (on_breaks view p q a b c e first.moves breaks)
+  ]
+
+  -- one that is no fault
+  pub still_as : (p q : Pending) (a b : ImageFile S) (t : Allocator) (e : ImageError) → (IsFault e → ⊥) → LeavesAs view p a t b q e → BecomesOn view p a t b q
+  still_as p q a b t e other leaves = elim leaves [ inl sound ↦ sound | inr breaks ↦ absurd (other breaks.fault) ]
+
+  -- another allocator with the same reftable
+  pub on_as : (p q : Pending) (a b : ImageFile S) (t t' : Allocator) → t'.reftable ≡ t.reftable → BecomesOn view p a t b q → BecomesOn view p a t' b q
+  on_as p q a b t t' same becomes = record { moves = becomes.moves; reftable = subst (HasReftable view b) (sym same) becomes.reftable }
+
+  -- a cluster that is taken, or is in use, after a step
+  pub takes_on : (p q : Pending) (a b c : ImageFile S) (t t' t'' : Allocator) (d : Bool) (cluster : ℕ) (taken : Bool) → ((k : ℕ) → 0 < p.held k → 0 < q.held k) → t''.reftable ≡ t'.reftable
+      → BecomesOn view p a t b q → TakesOne view q b t' c d cluster (Ok taken) → TakesCluster view p a t'' c q d cluster (Ok taken)
+  takes_on p q a b c t t' t'' d cluster true held same first second =
+      on_as p (taken_as d q (one_at cluster)) a c t' t'' same (becomes_on p q (taken_as d q (one_at cluster)) a b c t t' held first (on_of q (taken_as d q (one_at cluster)) b c t' second))
+  takes_on p q a b c t t' t'' d cluster false held same first second = on_as p q a c t' t'' same (becomes_on p q q a b c t t' held first (on_of q q b c t' second))
+
+  -- an allocation after a step that left the same pending
+  pub allocates_then : (p q : Pending) (a b c : ImageFile S) (t t' : Allocator) (kind : ClusterKind) (n : ℕ) (result : Result ClustersToFreeEntry ImageError) → BecomesOn view p a t b p → Allocates view p b t' c q kind n result → Allocates view p a t' c q kind n result
+  allocates_then p q a b c t t' kind n (Ok run) first second = (second.0, second.1, becomes_on p p (taken_as (is_data kind) q (run_at run.first_cluster n)) a b c t t' (λ k some. some) first second.2)
+  allocates_then p q a b c t t' kind n (Err e) first second = leaves_on p p q a b c t t' e (λ k some. some) first second
 
   -- a refblock that was placed in a cluster that was taken for it, and that was noted
   pub gets_taken : (p : Pending) (a b c : ImageFile S) (t t' : Allocator) (range at : ℕ) (result : Result (Unit {0}) ImageError) → Becomes view p a t b (taken_as false p (one_at at)) → IsTrue c.caches.is_changed

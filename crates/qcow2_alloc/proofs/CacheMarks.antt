@@ -122,7 +122,7 @@ module _ {V : Type 0} where
     pub here : pins_at (eqb k) fs ≡ n
     pub others : (c : ℕ) → eqb k c ≡ false → pins_at (eqb c) fs ≡ pins_at (eqb c) es
 
-  set_found : (k : ℕ) (es : List (ℕ × Slot V)) (s w : Slot V) → lookup (eqb k) es ≡ Some s → (c : ℕ) → lookup (eqb c) (set_value (eqb k) es w) ≡ cond (eqb k c) (Some w) (lookup (eqb c) es)
+  pub set_found : (k : ℕ) (es : List (ℕ × Slot V)) (s w : Slot V) → lookup (eqb k) es ≡ Some s → (c : ℕ) → lookup (eqb c) (set_value (eqb k) es w) ≡ cond (eqb k c) (Some w) (lookup (eqb c) es)
   set_found k es s w found c = lookup-set_value nat_eq_equiv (eqb k) (λ x y t. apart k x y t) c w es (rw found refl)
     where
       apart : (k x y : ℕ) → eqb k x ≡ true → eqb k y ≡ eqb x y

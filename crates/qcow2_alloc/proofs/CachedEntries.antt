@@ -7,3 +7,4 @@ pub mod Pins
 pub mod Putting
 pub mod Room
 pub mod Turns
+pub mod Staying

@@ -28,7 +28,7 @@ use Rattle.qcow2_alloc.specs.declared.image_storage.ImageStorage.{ImageStorage}
 use Rattle.qcow2_alloc.specs.Allocation.{taken_as, listed_as, Owed, Taken, Listed, owed_as, MayTake, MayLower}
 use Rattle.qcow2_alloc.specs.declared.clusters_to_free.ClusterKind.TheVariants.{Data, Metadata}
 use Rattle.qcow2_alloc.specs.CacheMarks.{KeepsMarks}
-use Rattle.qcow2_alloc.specs.ImageFile.{nothing_given, pending_at, view_in, contents_in, known_in, stand_in, IsSoundFile, HasReftable, Moves, Breaks, LeavesSound, IsFault}
+use Rattle.qcow2_alloc.specs.ImageFile.{nothing_given, pending_at, view_in, contents_in, known_in, stand_in, IsSoundFile, HasReftable, Moves, MovesOn, Breaks, LeavesSound, IsFault}
 use Rattle.qcow2_alloc.specs.ImageStorage.{storage_of}
 use Rattle.qcow2_alloc.specs.MetadataCaches.{order_of, l2_tables, refblocks, known_of, StaySound, Made}
 use Rattle.qcow2_alloc.proofs.CountsStay.{counts_follow}
@@ -95,12 +95,32 @@ module _ {S : Type 0} (view : S → StorageView) where
     counts = λ k. let one = first.counts k in let two = second.counts k in omega arith;
   }
 
+  -- the same where the reftable may move
+  pub moves_on : (p q : Pending) (a b : ImageFile S) → Moved p q a b → MovesOn view p q a b
+  moves_on p q a b moves = record { sound = moves.sound; leads = moves.leads; since = moves.since; unseen = moves.unseen; l1_table = moves.l1_table }
+
+  pub on_then : (p q r : Pending) (a b c : ImageFile S) → ((k : ℕ) → 0 < p.held k → 0 < q.held k) → MovesOn view p q a b → MovesOn view q r b c → MovesOn view p r a c
+  on_then p q r a b c held first second = record {
+    sound = second.sound;
+    leads = record {
+      sound = second.leads.sound;
+      base = λ backing m ok known_ok. second.leads.base backing m (first.leads.base backing m ok known_ok) (first.leads.known backing m ok known_ok);
+      known = λ backing m ok known_ok. second.leads.known backing m (first.leads.base backing m ok known_ok) (first.leads.known backing m ok known_ok);
+    };
+    since = endures_then a b c first.since first.leads.known second.since;
+    unseen = unseen_then (stand_in view a p) (stand_in view b q) (stand_in view c r) first.unseen second.unseen held;
+    l1_table = l1_same_then (stand_in view a p) (stand_in view b q) (stand_in view c r) first.unseen.header first.l1_table second.l1_table;
+  }
+
+  pub on_breaks : (p q : Pending) (a b c : ImageFile S) (e : ImageError) → MovesOn view p q a b → Breaks view b c e → Breaks view a c e
+  on_breaks p q a b c e first second = record { fault = second.fault; noted = second.noted; since = endures_then a b c first.since first.leads.known second.since }
+
   pub breaks_then : (p q : Pending) (a b c : ImageFile S) (e : ImageError) → Moved p q a b → Breaks view b c e → Breaks view a c e
   breaks_then p q a b c e first second = record { fault = second.fault; noted = second.noted; since = endures_then a b c first.since first.leads.known second.since }
 
   -- a fault after a change that was noted breaks off
-  pub breaks_after : (p q : Pending) (a b c : ImageFile S) (t : Allocator) (e : ImageError) → Moved p q a b → IsFault e → IsTrue c.caches.is_changed → LeavesSound view q b t c e → Breaks view a c e
-  breaks_after p q a b c t e first fault noted second = record {
+  pub on_breaks_after : (p q : Pending) (a b c : ImageFile S) (t : Allocator) (e : ImageError) → MovesOn view p q a b → IsFault e → IsTrue c.caches.is_changed → LeavesSound view q b t c e → Breaks view a c e
+  on_breaks_after p q a b c t e first fault noted second = record {
     fault = fault;
     noted = λ _. noted;
     since = elim second [
@@ -108,6 +128,9 @@ module _ {S : Type 0} (view : S → StorageView) where
       | inr breaks ↦ endures_then a b c first.since first.leads.known breaks.since
     ];
   }
+
+  pub breaks_after : (p q : Pending) (a b c : ImageFile S) (t : Allocator) (e : ImageError) → Moved p q a b → IsFault e → IsTrue c.caches.is_changed → LeavesSound view q b t c e → Breaks view a c e
+  breaks_after p q a b c t e first fault noted second = on_breaks_after p q a b c t e (moves_on p q a b first) fault noted second
 
   -- a refusal after a step that left the same pending
   pub leaves_then : (p : Pending) (a b c : ImageFile S) (t : Allocator) (e : ImageError) → Moved p p a b → LeavesSound view p b t c e → LeavesSound view p a t c e

@@ -1,5 +1,5 @@
 -- The first free cluster of an allocator over its steps: what is in use stays in use, but for what is given back.
-use Rattle.std.proofs.Common.{◌≡◌, ◌≢◌, ◌⊎◌, inl, inr, ℕ, ◌==◌, IsTrue, IsSome, ◌+◌, ◌*◌, ◌/◌, ◌<◌, ◌≤◌, Bool, true, false, Option, Some, None, Result, Ok, Err, sym, ap, ◌∙◌, subst, refl, arith}
+use Rattle.std.proofs.Common.{◌≡◌, ◌≢◌, inl, inr, ℕ, ◌==◌, IsTrue, IsSome, ◌+◌, ◌*◌, ◌/◌, ◌<◌, ◌≤◌, Bool, true, false, Option, Some, None, Result, Ok, Err, sym, ap, ◌∙◌, subst, refl, arith}
 use Rattle.std.specs.Option.{is_some}
 use Rattle.std.specs.Prelude.{OnOk}
 use Rattle.std.proofs.lemmas.Bool.{cases_eq, cases_lt}
@@ -18,12 +18,12 @@ use Rattle.qcow2_alloc.specs.declared.clusters_to_free.ClusterKind.TheVariants.{
 use Rattle.qcow2_alloc.specs.declared.error.ImageError.{ImageError}
 use Rattle.qcow2_alloc.specs.declared.image_file.ImageFile.{ImageFile}
 use Rattle.qcow2_alloc.specs.Allocation.{run_at, taken_as, Owed, Taken, Listed, owed_as, HasNone, StandsAt, Becomes, GetsBlock, LowersOne, PlacesBlock, TakesOne}
-use Rattle.qcow2_alloc.specs.ImageFile.{pending_at, contents_in, known_in, IsSoundFile, IsSoundWith, HasReftable, LeavesSound, IsFault}
+use Rattle.qcow2_alloc.specs.ImageFile.{pending_at, contents_in, known_in, IsSoundFile, HasReftable, LeavesSound, IsFault}
 use Rattle.qcow2_alloc.specs.MetadataCaches.{rb_at}
 use Rattle.qcow2_alloc.specs.declared.cache.MetadataCaches.{MetadataCaches}
 use Rattle.std.proofs.lemmas.Bool.Decides.{nat_tests}
-use Rattle.qcow2_alloc.specs.LowestRuns.{IsUsed, IsLowestRun, HasHint, KeepsHint}
-use Rattle.qcow2_alloc.proofs.AllocationSteps.{none_in_memory, still_sound}
+use Rattle.qcow2_alloc.specs.LowestRuns.{IsUsed, IsLowestRun, HasHint, KeepsHint, KeepsUsed}
+use Rattle.qcow2_alloc.proofs.AllocationSteps.{still_sound}
 use Rattle.qcow2_alloc.proofs.FileSteps.{one_here}
 use Rattle.qcow2_alloc.proofs.Runs.{none_there, run_in}
 
@@ -88,6 +88,25 @@ module _ {S : Type 0} (view : S → StorageView) where
   -- after a refusal that is no fault
   pub hint_refused : (p : Pending) (a b : ImageFile S) (t t' : Allocator) (e : ImageError) → t'.first_free_cluster ≡ t.first_free_cluster → LeavesSound view p a t' b e → HasHint view t a → (IsFault e → ⊥) → HasHint view t' b
   hint_refused p a b t t' e same leaves hint other = hint_stays p a b t t' (still_sound view p a b t' e other leaves) same hint
+
+  -- ---- what was in use is in use
+  pub uses_refused : (p : Pending) (a b : ImageFile S) (t : Allocator) (e : ImageError) → LeavesSound view p a t b e → (IsFault e → ⊥) → (k : ℕ) → IsUsed view a k → IsUsed view b k
+  uses_refused p a b t e leaves other k used = used_stays p p a b t k (still_sound view p a b t e other leaves) (omega arith) used
+
+  pub uses_got : (p : Pending) (a b : ImageFile S) (t : Allocator) (result : Result (Unit {0}) ImageError) → GetsBlock view p a t b result → KeepsUsed view a b result
+  uses_got p a b t (Ok done) gets = λ k used. used_stays p p a b t k gets (omega arith) used
+  uses_got p a b t (Err e) gets = uses_refused p a b t e gets
+
+  pub uses_then : {A : Type 0} (a b c : ImageFile S) (result : Result A ImageError) → ((k : ℕ) → IsUsed view a k → IsUsed view b k) → KeepsUsed view b c result → KeepsUsed view a c result
+  uses_then a b c (Ok done) first second = λ k used. second k (first k used)
+  uses_then a b c (Err e) first second = λ other k used. second other k (first k used)
+
+  pub uses_raised : (p : Pending) (d : Bool) (cluster : ℕ) (a b : ImageFile S) (t : Allocator) (taken : Bool) → TakesOne view p a t b d cluster (Ok taken) → (k : ℕ) → IsUsed view a k → IsUsed view b k
+  uses_raised p d cluster a b t true takes k used = used_stays p (taken_as d p (one_at cluster)) a b t k takes (let more = taken_pending d p (one_at cluster) k in omega (arith, more)) used
+  uses_raised p d cluster a b t false takes k used = used_stays p p a b t k takes (omega arith) used
+
+  pub hint_used : (a b : ImageFile S) (t t' : Allocator) → t'.first_free_cluster ≡ t.first_free_cluster → ((k : ℕ) → IsUsed view a k → IsUsed view b k) → HasHint view t a → HasHint view t' b
+  hint_used a b t t' same uses hint k below = uses k (hint k (subst (λ n. k < n) same below))
 
   -- a range that has a refblock in the file has one in memory
   pub block_in_memory : (p : Pending) (file : ImageFile S) (t : EntryTableView) (range block : ℕ) → IsSoundFile view p file → HasReftable view file t → StandsAt view file range (Some block) → HasNone t range → ⊥
@@ -172,8 +191,8 @@ module _ {S : Type 0} (view : S → StorageView) where
   lowest_first file t n hint some start below = (start, omega arith, omega (arith, some), below, hint start below)
 
   -- what is in use stays in use
-  pub lowest_stays : (p p' : Pending) (a b : ImageFile S) (t : Allocator) (first n : ℕ) → Becomes view p a t b p' → ((k : ℕ) → pending_at p k ≤ pending_at p' k) → IsLowestRun view a first n → IsLowestRun view b first n
-  lowest_stays p p' a b t first n becomes more lowest start below = let at = lowest start below in (at.0, at.1, at.2, at.3, used_stays p p' a b t at.0 becomes (more at.0) at.4)
+  pub lowest_stays : (a b : ImageFile S) (first n : ℕ) → ((k : ℕ) → IsUsed view a k → IsUsed view b k) → IsLowestRun view a first n → IsLowestRun view b first n
+  lowest_stays a b first n uses lowest start below = let at = lowest start below in (at.0, at.1, at.2, at.3, uses at.0 at.4)
 
   -- the search goes on behind a cluster that is in use
   pub lowest_behind : (file : ImageFile S) (first n taken : ℕ) → taken ≤ n → taken ≢ n → IsUsed view file (first + taken) → IsLowestRun view file first n → IsLowestRun view file (first + (taken + 1)) n

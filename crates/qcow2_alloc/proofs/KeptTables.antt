@@ -25,3 +25,5 @@ pub mod Putting
 pub mod PuttingBlocks
 pub mod Ordering
 pub mod InOrder
+pub mod Quiet
+pub mod OneChanged

@@ -65,7 +65,7 @@ surplus_placing : (d : Bool) (p : Pending) (at k : ℕ) → (placing d p at).sur
 surplus_placing true p at k = refl
 surplus_placing false p at k = refl
 
-table_in-one : (h : HeaderFields) (c place at : ℕ) → place ≢ 0 → place / cluster_size h ≡ at → table_in h c place ≡ one_at at c
+pub table_in-one : (h : HeaderFields) (c place at : ℕ) → place ≢ 0 → place / cluster_size h ≡ at → table_in h c place ≡ one_at at c
 table_in-one h c place at real in_it =
     let inside : table_in h c place ≡ in_cluster h c place = cond-false _ _ _ (ne_eqb place 0 real) in
     elim (cases_eq c at) [

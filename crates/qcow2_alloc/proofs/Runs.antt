@@ -1,5 +1,5 @@
 -- Runs of clusters that are taken, cluster by cluster.
-use Rattle.std.proofs.Common.{◌≡◌, inl, inr, ℕ, ◌+◌, ◌-◌, ◌<◌, ◌≤◌, ◌==◌, ◌&&◌, Bool, true, false, nat_le, nat_lt, refl, ap, ◌∙◌, arith}
+use Rattle.std.proofs.Common.{◌≡◌, inl, inr, ℕ, ◌+◌, ◌-◌, ◌<◌, ◌≤◌, ◌==◌, ◌&&◌, Bool, true, false, nat_le, nat_lt, refl, sym, ap, ◌∙◌, arith}
 use Rattle.std.proofs.lemmas.Bool.{cases_eq, cases_lt, cond-false, ne_eqb}
 use Rattle.std.proofs.lemmas.Bool.Decides.{nat_tests}
 use Rattle.qcow2_laws.specs.Changes.{one_at, with_held, with_fresh}
@@ -22,6 +22,10 @@ run_after first n k above =
     past : (b : Bool) → (b && false) ≡ false
     past true = refl
     past false = refl
+
+-- a run of none
+pub run_none : (first k : ℕ) → run_at first 0 k ≡ 0
+run_none first k = elim (cases_lt k first) [ inl low ↦ run_before first 0 k low | inr high ↦ run_after first 0 k (omega (arith, high)) ]
 
 pub none_there : (c k : ℕ) → (k ≡ c → ⊥) → one_at c k ≡ 0
 none_there c k ne = cond-false {A = ℕ} (k == c) 1 0 (ne_eqb k c ne)
@@ -92,3 +96,9 @@ taken_none d p first n is = nothing_taken d p (λ k. none first n k is)
     nothing_taken : (d : Bool) (p : Pending) → ((k : ℕ) → run_at first n k ≡ 0) → taken_as d p (run_at first n) ≡ p
     nothing_taken true p zero = pending_same (with_held p (run_at first n)) p (λ k. let z = zero k in omega arith) (λ k. refl) (λ k. refl) (λ k. refl) (λ k. refl)
     nothing_taken false p zero = pending_same (with_fresh p (run_at first n)) p (λ k. refl) (λ k. let z = zero k in omega arith) (λ k. refl) (λ k. refl) (λ k. refl)
+
+-- a run of one
+pub taken_alone : (d : Bool) (p : Pending) (c : ℕ) → taken_as d p (one_at c) ≡ taken_as d p (run_at c 1)
+taken_alone d p c =
+    let same : c + 0 ≡ c = omega arith in
+    ap (λ (q : Pending). taken_as d q (one_at c)) (sym (taken_none d p c 0 refl)) ∙ ap (λ n. taken_as d (taken_as d p (run_at c 0)) (one_at n)) (sym same) ∙ taken_last d p c 0

@@ -14,7 +14,7 @@ use Rattle.qcow2_laws.specs.Changes.{one_at, with_held, with_fresh}
 use Rattle.qcow2_laws.specs.Guard.{Pending}
 use Rattle.qcow2_alloc.specs.MetadataCaches.{order_of, rb_at}
 use Rattle.qcow2_alloc.specs.ImageError.{IsFault}
-use Rattle.qcow2_alloc.specs.ImageFile.{contents_in, known_in, HasReftable, Moves, Breaks, LeavesSound}
+use Rattle.qcow2_alloc.specs.ImageFile.{contents_in, known_in, HasReftable, Moves, MovesOn, Breaks, LeavesSound}
 use Rattle.qcow2_alloc.specs.declared.allocation.Allocator.{Allocator}
 use Rattle.qcow2_alloc.specs.declared.clusters_to_free.ClusterKind.{ClusterKind}
 use Rattle.qcow2_alloc.specs.declared.clusters_to_free.ClusterKind.TheVariants.{Data, Metadata}
@@ -117,6 +117,11 @@ module _ {S : Type 0} where
         pub moves : Moves view p p' old new
         pub reftable : HasReftable view new allocator'.reftable
 
+      -- so it is where the reftable may have moved
+      pub record BecomesOn (p' : Pending) : Type 0 where
+        pub moves : MovesOn view p p' old new
+        pub reftable : HasReftable view new allocator'.reftable
+
       -- the refblock of a range is loaded
       abbrev pub LoadsBlock : ℕ → Result (Option ℕ) ImageError → Type 0
       LoadsBlock range (Ok block) = Becomes p × StandsAt new range block
@@ -154,20 +159,50 @@ module _ {S : Type 0} where
       TakesOne is_data cluster (Ok false) = Becomes p
       TakesOne is_data cluster (Err e) = LeavesSound view p old allocator' new e
 
+      -- ---- where the reftable may grow on the way, and p' is what is pending then beside what is taken
+
+      -- what a refused part leaves: all is sound; or it broke off
+      abbrev pub LeavesAs : Pending → ImageError → Type 0
+      LeavesAs p' e = BecomesOn p' ⊎ Breaks view old new e
+
+      -- the reftable is longer then, or as it was
+      abbrev pub GrowsTable : Pending → Result (Unit {0}) ImageError → Type 0
+      GrowsTable p' (Ok _) = BecomesOn p'
+      GrowsTable p' (Err e) = LeavesAs p' e
+
+      -- a cluster is taken, or it is in use
+      abbrev pub TakesCluster : Pending → Bool → ℕ → Result Bool ImageError → Type 0
+      TakesCluster p' is_data cluster (Ok true) = BecomesOn (taken_as is_data p' (one_at cluster))
+      TakesCluster p' is_data cluster (Ok false) = BecomesOn p'
+      TakesCluster p' is_data cluster (Err e) = LeavesAs p' e
+
       -- so many clusters of the run are taken, or none where one is in use
-      abbrev pub TakesRun : Bool → ℕ → ℕ → Result ℕ ImageError → Type 0
-      TakesRun is_data first n (Ok taken) = (taken ≡ n → Becomes (taken_as is_data p (run_at first n))) × (taken ≢ n → Becomes p)
-      TakesRun is_data first n (Err e) = LeavesSound view p old allocator' new e
+      abbrev pub TakesRun : Pending → Bool → ℕ → ℕ → Result ℕ ImageError → Type 0
+      TakesRun p' is_data first n (Ok taken) = (taken ≡ n → BecomesOn (taken_as is_data p' (run_at first n))) × (taken ≢ n → BecomesOn p')
+      TakesRun p' is_data first n (Err e) = LeavesAs p' e
 
       -- n clusters from some one on are taken
-      abbrev pub TakesSomeRun : Bool → ℕ → Result ℕ ImageError → Type 0
-      TakesSomeRun is_data n (Ok first) = Becomes (taken_as is_data p (run_at first n))
-      TakesSomeRun is_data n (Err e) = LeavesSound view p old allocator' new e
+      abbrev pub TakesSomeRun : Pending → Bool → ℕ → Result ℕ ImageError → Type 0
+      TakesSomeRun p' is_data n (Ok first) = BecomesOn (taken_as is_data p' (run_at first n))
+      TakesSomeRun p' is_data n (Err e) = LeavesAs p' e
 
-      -- what an allocation answers: so many clusters of this kind from the first one on, which are taken now. Refused, it leaves nothing taken, or broke off.
-      abbrev pub Allocates : ClusterKind → ℕ → Result ClustersToFreeEntry ImageError → Type 0
-      Allocates kind n (Ok run) = (run.count ≡ n) × (run.kind ≡ kind) × Becomes (taken_as (is_data kind) p (run_at run.first_cluster n))
-      Allocates kind n (Err e) = LeavesSound view p old allocator' new e
+      -- what an allocation answers: so many clusters of this kind from the first one on, which are taken now. Refused, it leaves at most what is listed, or broke off.
+      abbrev pub Allocates : Pending → ClusterKind → ℕ → Result ClustersToFreeEntry ImageError → Type 0
+      Allocates p' kind n (Ok run) = (run.count ≡ n) × (run.kind ≡ kind) × BecomesOn (taken_as (is_data kind) p' (run_at run.first_cluster n))
+      Allocates p' kind n (Err e) = LeavesAs p' e
+
+      -- just the cluster asked for is taken for data, or it can't be taken
+      abbrev pub AllocatesAt : Pending → ℕ → Result (Option ClustersToFreeEntry) ImageError → Type 0
+      AllocatesAt p' cluster (Ok (Some run)) = (run.first_cluster ≡ cluster) × (run.count ≡ 1) × (run.kind ≡ Data) × BecomesOn (taken_as true p' (run_at cluster 1))
+      AllocatesAt p' cluster (Ok None) = BecomesOn p'
+      AllocatesAt p' cluster (Err e) = LeavesAs p' e
+
+      -- what was taken is given back
+      abbrev pub GivesBackAs : Pending → Result (Unit {0}) ImageError → Type 0
+      GivesBackAs p' (Ok _) = BecomesOn p'
+      GivesBackAs p' (Err e) = IsFault e × LeavesAs p' e
+
+      -- ----
 
       -- one that is owed is counted once less
       abbrev pub LowersOne : Pending → Result Bool ImageError → Type 0
@@ -185,8 +220,8 @@ module _ {S : Type 0} where
       Frees p' (Ok _) = Becomes p'
       Frees p' (Err e) = IsFault e × (Becomes p' ⊎ Breaks view old new e)
 
-    -- the run that was taken since a start is given back, after a change was noted
+    -- the run that was taken since a start is given back, after a change was noted; p' is what is pending beside it
     abbrev pub GivesBackRun : Allocator → ImageFile S → Allocator → ImageFile S → ℕ → ℕ → Result (Unit {0}) ImageError → Type 0
     GivesBackRun allocator old allocator' new first n result =
-        (p : Pending) (is_data : Bool) (start : ImageFile S) → Becomes p start allocator old (taken_as is_data p (run_at first n)) → (0 < n → IsTrue old.caches.is_changed)
-        → GivesBack p start allocator' new p result
+        (p p' : Pending) (is_data : Bool) (start : ImageFile S) → ((k : ℕ) → 0 < p.held k → 0 < p'.held k)
+        → BecomesOn p start allocator old (taken_as is_data p' (run_at first n)) → (0 < n → IsTrue old.caches.is_changed) → GivesBackAs p start allocator' new p' result

@@ -77,6 +77,10 @@ module _ {K V : Type 0} where
   OnlyOldestGoes eq P es fs = (k : K) → IsSome (lookup (eq k) es) → IsNone (lookup (eq k) fs)
       → IsSomeAnd (oldest_free es) (λ e. (eq k e.0 ≡ true) × P e)
 
+  -- the value of any other key, where it still has one, is the one it had
+  abbrev pub OthersStay : (K → K → Bool) → K → List (K × Slot V) → List (K × Slot V) → Type 0
+  OthersStay eq k es fs = (j : K) → eq k j ≡ false → IsSome (lookup (eq j) fs) → lookup (eq j) fs ≡ lookup (eq j) es
+
   -- each key keeps its pins, and where none was pinned none is
   pub record KeepsPins (eq : K → K → Bool) (es fs : List (K × Slot V)) : Type 0 where
     pub pins : (k : K) → pins_at (eq k) fs ≡ pins_at (eq k) es

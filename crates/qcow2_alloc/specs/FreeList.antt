@@ -1,5 +1,5 @@
 -- The clusters that are listed to be freed.
-use Rattle.std.specs.Prelude.{◌≡◌, ◌⊎◌, ℕ, ◌+◌, Bool, true, false, List, [], ◌∷◌, if◌then◌else◌}
+use Rattle.std.specs.Prelude.{◌≡◌, ◌⊎◌, ℕ, ◌+◌, ◌-◌, ◌++◌, Bool, true, false, List, [], ◌∷◌, if◌then◌else◌}
 use Rattle.qcow2_laws.specs.Guard.{Pending}
 use Rattle.qcow2_alloc.specs.declared.clusters_to_free.ClusterKind.{ClusterKind}
 use Rattle.qcow2_alloc.specs.declared.clusters_to_free.ClusterKind.TheVariants as Kind
@@ -27,6 +27,13 @@ to_free kind (e ∷ es) k = kind e.kind (run_of e k) + to_free kind es k
 abbrev pub with_listed : Pending → List ClustersToFreeEntry → Pending
 with_listed p list = record p { spent = λ k. p.spent k + to_free of_tables list k; dropped = λ k. p.dropped k + to_free of_data list k }
 
+-- what is pending, with what was listed since
+abbrev pub following : Pending → List ClustersToFreeEntry → List ClustersToFreeEntry → Pending
+following p old new = record p {
+  spent = λ k. p.spent k + (to_free of_tables new k - to_free of_tables old k);
+  dropped = λ k. p.dropped k + (to_free of_data new k - to_free of_data old k);
+}
+
 abbrev pub is_same : ClusterKind → ClusterKind → Bool
 is_same Kind.Data Kind.Data = true
 is_same Kind.Metadata Kind.Metadata = true
@@ -41,3 +48,9 @@ but kind (e ∷ es) = if is_same e.kind kind then but kind es else e ∷ but kin
 -- data go off the list once no table is listed any more
 abbrev pub GoOffInOrder : List ClustersToFreeEntry → List ClustersToFreeEntry → Type 0
 GoOffInOrder old new = (but Kind.Data new ≡ []) ⊎ (but Kind.Metadata new ≡ but Kind.Metadata old)
+
+-- what tables no longer need is listed behind what was listed, and nothing else
+pub record ListsTables (old new : List ClustersToFreeEntry) : Type 0 where
+  pub more : List ClustersToFreeEntry
+  pub is : new ≡ old ++ more
+  pub tables : but Kind.Metadata more ≡ []

@@ -2,7 +2,7 @@
 use Rattle.std.specs.Prelude.{ℕ, ◌+◌, ◌/◌, ◌≡◌, ◌≤◌, ◌⊎◌, IsTrue, List, [], Some}
 use Rattle.image_access.specs.Moments.{StorageView}
 use Rattle.qcow2_metadata.specs.Bytes.{Bytes, byte_at}
-use Rattle.qcow2_metadata.specs.Header.{cluster_size, reftable_entries}
+use Rattle.qcow2_metadata.specs.Header.{HeaderView, cluster_size, reftable_entries, with_fields, with_reftable}
 use Rattle.qcow2_metadata.specs.Entries.{count}
 use Rattle.qcow2_metadata.specs.EntryTable.{EntryTableView, IsRefTableOf, entry_count}
 use Rattle.qcow2_laws.specs.Stops.{Gift}
@@ -18,6 +18,10 @@ use Rattle.qcow2_alloc.specs.declared.allocation.Allocator.{Allocator}
 use Rattle.qcow2_alloc.specs.declared.error.ImageError.{ImageError}
 use Rattle.qcow2_alloc.specs.declared.error.ImageError.TheVariants as I
 use Rattle.qcow2_alloc.specs.declared.image_file.ImageFile.{ImageFile}
+
+-- the header stays, but perhaps for where the reftable stands
+abbrev pub KeepsHeader : HeaderView → HeaderView → Type 0
+KeepsHeader h h' = h' ≡ with_fields h (with_reftable h.fields h'.fields.reftable_offset h'.fields.reftable_clusters)
 
 abbrev pub nothing_given : Bytes → List Gift
 nothing_given backing = []
@@ -70,6 +74,14 @@ module _ {S : Type 0} where
       pub l1_table : SameL1Table (stand_in old p) (stand_in new p')
       -- each count changes with what is pending; where a refblock is named it may rise
       pub counts : (k : ℕ) → count old.header.fields (known_in old) k + pending_at p' k ≤ count new.header.fields (known_in new) k + pending_at p k
+
+    -- The same where the reftable may move: its former clusters are named no longer, and counted still.
+    pub record MovesOn (p p' : Pending) (old new : ImageFile S) : Type 0 where
+      pub sound : IsSoundFile p' new
+      pub leads : Leads (stand_in old p) (stand_in new p') nothing_given []
+      pub since : Endures (view_in old) (view_in new) (known_in old) nothing_given []
+      pub unseen : IsUnseen (stand_in old p) (stand_in new p')
+      pub l1_table : SameL1Table (stand_in old p) (stand_in new p')
 
     -- The storage failed, or memory was refused after a change, which is noted. At each moment what was kept is kept.
     pub record Breaks (old new : ImageFile S) (e : ImageError) : Type 0 where

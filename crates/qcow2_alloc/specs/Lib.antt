@@ -11,8 +11,15 @@ pub mod TableLaws
 pub mod TableCaches
 pub mod KeptTables
 pub mod MetadataCaches
+pub mod Quiet
+pub mod TableChanges
 pub mod CacheMarks
 pub mod ImageFile
 pub mod Allocation
 pub mod LowestRuns
 pub mod FreeList
+pub mod Growing
+pub mod Leaks
+pub mod GrownTables
+pub mod Rooms
+pub mod Limits

@@ -13,6 +13,11 @@ module _ {S : Type 0} (view : S → StorageView) where
   abbrev pub IsUsed : ImageFile S → ℕ → Type 0
   IsUsed file k = count file.header.fields (known_in view file) k ≢ 0
 
+  -- what was in use is in use, but perhaps after a fault or want of memory
+  abbrev pub KeepsUsed : {A : Type 0} → ImageFile S → ImageFile S → Result A ImageError → Type 0
+  KeepsUsed old new (Ok answer) = (k : ℕ) → IsUsed old k → IsUsed new k
+  KeepsUsed old new (Err e) = (IsFault e → ⊥) → (k : ℕ) → IsUsed old k → IsUsed new k
+
   -- no cluster below the allocator's first free one has count 0
   abbrev pub HasHint : Allocator → ImageFile S → Type 0
   HasHint allocator file = (k : ℕ) → k < allocator.first_free_cluster → IsUsed file k
@@ -22,6 +27,6 @@ module _ {S : Type 0} (view : S → StorageView) where
   KeepsHint allocator file (Ok answer) = HasHint allocator file
   KeepsHint allocator file (Err e) = (IsFault e → ⊥) → HasHint allocator file
 
-  -- A run of n clusters is the lowest that was free: of n clusters from each lower one on, one is in use that isn't of the run.
+  -- a run of n clusters is the lowest that can be taken: of n clusters from each lower one on, one is in use that lies below the run
   abbrev pub IsLowestRun : ImageFile S → ℕ → ℕ → Type 0
   IsLowestRun file first n = (start : ℕ) → start < first → (k : ℕ) × (start ≤ k) × (k < start + n) × (k < first) × IsUsed file k

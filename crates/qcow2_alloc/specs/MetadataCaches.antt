@@ -183,12 +183,6 @@ module _ {S : Type 0} where
       (h : HeaderFields) (p : Pending) (base : Bytes) (c : ℕ) → AreSound h p caches base → IsCountedAt h (known_of h caches base) c block index → IsSome (rb_at caches block)
       → count h (known_of h caches base) c ≢ 0 → IsTrue made
 
-  -- the same tables, in the same order
-  pub record AreSame (caches caches' : MetadataCaches S) : Type 0 where
-    pub l2 : caches'.l2 ≡ caches.l2
-    pub rb : caches'.rb ≡ caches.rb
-    pub direction : caches'.direction ≡ caches.direction
-
   -- ---- entries of held L2 tables
 
   -- Entry j of the table of L1 entry i becomes another one, and what the old one names that the new one doesn't is answered. The caches are sound again, whatever is

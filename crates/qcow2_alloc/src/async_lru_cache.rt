@@ -3,7 +3,7 @@ ghost use Rattle.std.specs.Prelude.{◌≡◌, ◌≢◌, ◌<◌, ◌≤◌, �
 ghost use Rattle.std.specs.List.{IsDistinct};
 ghost use Rattle.std.specs.Map.{keys_of, lookup, lookup_entry, remove_entry};
 ghost use Rattle.lru.specs.LruCache.{promoted};
-ghost use Rattle.qcow2_alloc.specs.AsyncLruCache.{cache_of, with_entries, value_at, is_pinned, can_pin, pin_at, can_unpin, unpin_at, can_remove, oldest_free, pins_at, IsInFront, OnlyOldestGoes, KeepsPins};
+ghost use Rattle.qcow2_alloc.specs.AsyncLruCache.{cache_of, with_entries, value_at, is_pinned, can_pin, pin_at, can_unpin, unpin_at, can_remove, oldest_free, pins_at, IsInFront, OnlyOldestGoes, OthersStay, KeepsPins};
 ghost use Rattle.qcow2_alloc.specs.AsyncLruCacheBackend.{KeepsKnown, LaysOver};
 ghost use Rattle.qcow2_alloc.specs.CacheAnswers.{Invalidates, Flushes, FlushesKey, GetsNew, InsertsNew, Replaces};
 
@@ -87,6 +87,7 @@ impl<B: AsyncLruCacheBackend> AsyncLruCache<B> {
         ensures front { result ≡ Ok true → IsInFront (B.Key.eq key) self.new.entries }
         ensures goes { OnlyOldestGoes B.Key.eq (λ e. (w : B.Value) × (t : B.Store) × (B.steps self.old.backend).flushed store.old e.0 e.1.value w t)
             self.old.entries self.new.entries }
+        ensures stays { OthersStay B.Key.eq key self.old.entries self.new.entries }
 
         // Pins stay.
         ensures pins { KeepsPins B.Key.eq self.old.entries self.new.entries }
@@ -123,6 +124,7 @@ impl<B: AsyncLruCacheBackend> AsyncLruCache<B> {
             InsertsNew (B.steps self.old.backend) B.Key.eq self.old.size may_flush key v store.old self.old.entries result store.new self.new.entries value.new) }
         ensures others { self.new ≡ with_entries self.old self.new.entries }
 
+        ensures stays { OthersStay B.Key.eq key self.old.entries self.new.entries }
         ensures pins { KeepsPins B.Key.eq self.old.entries self.new.entries }
 
         // The value is laid over the known bytes where it is taken, and else they stay.

@@ -1,5 +1,5 @@
 //! The caches of L2 tables and of refblocks, and which of them has to be written first.
-ghost use Rattle.std.specs.Prelude.{◌≡◌, ◌⊎◌, ◌↔◌, ℕ, ◌+◌, ◌-◌, ◌^◌, ◌<◌, ◌≤◌, ◌==◌, IsSome, IsNone, IfSome, IfOk, IfErr, OnOk, OnErr, IsTrue, IsFalse, Some, true, false, option_copied};
+ghost use Rattle.std.specs.Prelude.{◌≡◌, ◌≢◌, ◌⊎◌, ◌↔◌, ℕ, ◌+◌, ◌-◌, ◌*◌, ◌^◌, ◌<◌, ◌≤◌, ◌==◌, IsSome, IsNone, IfSome, IfOk, IfErr, OnOk, OnErr, IsTrue, IsFalse, Some, None, true, false, if◌then◌else◌, option_copied};
 ghost use Rattle.qcow2_metadata.specs.Bytes.{Bytes};
 ghost use Rattle.qcow2_metadata.specs.declared.header.HeaderFields.{HeaderFields};
 ghost use Rattle.qcow2_metadata.specs.TableBytes.{HasPlace};
@@ -10,7 +10,11 @@ ghost use Rattle.qcow2_alloc.specs.ImageError.{IsOfTables, IsFault};
 ghost use Rattle.qcow2_alloc.specs.ImageStorage.{storage_of};
 ghost use Rattle.qcow2_alloc.specs.AsyncLruCache.{can_remove};
 ghost use Rattle.qcow2_alloc.specs.TableCaches.{IsTableOf, IsBlockOf};
-ghost use Rattle.qcow2_alloc.specs.MetadataCaches.{order_of, l2_at, rb_at, l2_tables, refblocks, known_of, AreAllWritten, AreSound, KeepSound, PutSound, RefusesBy, PutRefusesBy, RaisesCount, LowersCount, TellsZero, RaisesZero, LowersSome, AreSame, MapsEntry, ZeroesEntry, DiscardsEntry, NotesEntry, NotesHeld, ShowsKnown, TakesOff, TakesBlock, LaysTable, LaysBlock, WritesInOrder};
+ghost use Rattle.qcow2_alloc.specs.MetadataCaches.{order_of, l2_at, rb_at, l2_tables, refblocks, known_of, AreAllWritten, AreSound, KeepSound, PutSound, RefusesBy, PutRefusesBy, RaisesCount, LowersCount, TellsZero, RaisesZero, LowersSome, MapsEntry, ZeroesEntry, DiscardsEntry, NotesEntry, NotesHeld, ShowsKnown, TakesOff, TakesBlock, LaysTable, LaysBlock, WritesInOrder};
+ghost use Rattle.qcow2_metadata.specs.L2Mapping.{IsHostCluster};
+ghost use Rattle.qcow2_metadata.specs.L2Table.{entries_of, cover_at, copied_entry, zero_entry, copied_host};
+ghost use Rattle.qcow2_alloc.specs.TableChanges.{CountsMore, CountsLess, SetsEntry};
+ghost use Rattle.qcow2_alloc.specs.Quiet.{WritesNothing, GetsTableQuietly, GetsBlockQuietly, PutsTableQuietly, PutsBlockQuietly, OtherTablesStay, OtherBlocksStay};
 ghost use Rattle.qcow2_alloc.specs.CacheMarks.{l2_pins, HasRoom, KeepsMarks, SameTables, SetsPins, IsInUseOrFault, LeavesPinned};
 
 mod backends;
@@ -80,6 +84,7 @@ impl<S: Storage> MetadataCaches<S> {
         ensures keeps { TablesMayGo (order_of self.old) (refblocks self.old) → KeepSound S.view storage.old self.old storage.new self.new }
         ensures free { (size cluster : ℕ) → IsFreeOf size (l2_tables self.old) cluster → IsFreeOf size (l2_tables self.new) cluster }
         ensures ordered { TablesMayGo (order_of self.old) (refblocks self.old) → WritesInOrder S.view storage.old self.old storage.new }
+        ensures quiet { AreClean (l2_tables self.old) → WritesNothing S.view storage.old storage.new }
     {
         self.l2.flush(storage)?;
         Ok(())
@@ -96,6 +101,7 @@ impl<S: Storage> MetadataCaches<S> {
         ensures keeps { BlocksMayGo (order_of self.old) (l2_tables self.old) → KeepSound S.view storage.old self.old storage.new self.new }
         ensures clean { AreClean (refblocks self.old) → AreClean (refblocks self.new) }
         ensures ordered { BlocksMayGo (order_of self.old) (l2_tables self.old) → WritesInOrder S.view storage.old self.old storage.new }
+        ensures quiet { AreClean (refblocks self.old) → WritesNothing S.view storage.old storage.new }
     {
         self.rb.flush(storage)?;
         Ok(())
@@ -110,6 +116,8 @@ impl<S: Storage> MetadataCaches<S> {
         ensures faults { (h : HeaderFields) → RefusesBy IsFault S.view storage.old self.old h result }
         ensures keeps { KeepSound S.view storage.old self.old storage.new self.new }
         ensures ordered { WritesInOrder S.view storage.old self.old storage.new }
+        ensures blocks { self.new.rb ≡ self.old.rb }
+        ensures quiet { BlocksMayGo (order_of self.old) (l2_tables self.old) → WritesNothing S.view storage.old storage.new }
     {
         match self.direction {
             Direction::L2DependsOnRb => {}
@@ -131,6 +139,8 @@ impl<S: Storage> MetadataCaches<S> {
         ensures faults { (h : HeaderFields) → RefusesBy IsFault S.view storage.old self.old h result }
         ensures keeps { KeepSound S.view storage.old self.old storage.new self.new }
         ensures ordered { WritesInOrder S.view storage.old self.old storage.new }
+        ensures tables { self.new.l2 ≡ self.old.l2 }
+        ensures quiet { TablesMayGo (order_of self.old) (refblocks self.old) → WritesNothing S.view storage.old storage.new }
     {
         match self.direction {
             Direction::RbDependsOnL2 => {}
@@ -152,6 +162,7 @@ impl<S: Storage> MetadataCaches<S> {
         ensures faults { (h : HeaderFields) → RefusesBy IsFault S.view storage.old self.old h result }
         ensures keeps { KeepSound S.view storage.old self.old storage.new self.new }
         ensures ordered { WritesInOrder S.view storage.old self.old storage.new }
+        ensures quiet { AreAllWritten self.old → WritesNothing S.view storage.old storage.new }
     {
         match self.direction {
             Direction::None | Direction::RbDependsOnL2 => {
@@ -175,6 +186,8 @@ impl<S: Storage> MetadataCaches<S> {
         ensures faults { (h : HeaderFields) → RefusesBy IsFault S.view storage.old self.old h result }
         ensures keeps { KeepSound S.view storage.old self.old storage.new self.new }
         ensures ordered { WritesInOrder S.view storage.old self.old storage.new }
+        ensures tables { order_of self.old ≢ RbDependsOnL2 → self.new.l2 ≡ self.old.l2 }
+        ensures quiet { AreClean (refblocks self.old) → BlocksMayGo (order_of self.old) (l2_tables self.old) → WritesNothing S.view storage.old storage.new }
     {
         match self.direction {
             Direction::RbDependsOnL2 => {
@@ -196,6 +209,8 @@ impl<S: Storage> MetadataCaches<S> {
         ensures faults { (h : HeaderFields) → RefusesBy IsFault S.view storage.old self.old h result }
         ensures keeps { KeepSound S.view storage.old self.old storage.new self.new }
         ensures ordered { WritesInOrder S.view storage.old self.old storage.new }
+        ensures quiet { TablesMayGo (order_of self.old) (refblocks self.old) → WritesNothing S.view storage.old storage.new }
+        ensures blocks_stay { order_of self.old ≢ L2DependsOnRb → self.new.rb ≡ self.old.rb }
     {
         match self.direction {
             Direction::L2DependsOnRb => self.write_blocks(storage),
@@ -214,6 +229,8 @@ impl<S: Storage> MetadataCaches<S> {
         ensures faults { (h : HeaderFields) → RefusesBy IsFault S.view storage.old self.old h result }
         ensures keeps { KeepSound S.view storage.old self.old storage.new self.new }
         ensures ordered { WritesInOrder S.view storage.old self.old storage.new }
+        ensures quiet { BlocksMayGo (order_of self.old) (l2_tables self.old) → WritesNothing S.view storage.old storage.new }
+        ensures tables_stay { order_of self.old ≢ RbDependsOnL2 → self.new.l2 ≡ self.old.l2 }
     {
         match self.direction {
             Direction::RbDependsOnL2 => self.write_tables(storage),
@@ -234,6 +251,9 @@ impl<S: Storage> MetadataCaches<S> {
         ensures refusals { (h : HeaderFields) → HasPlace h.cluster_bits cluster → RefusesBy (IsInUseOrFault self.old) S.view storage.old self.old h result }
         ensures keeps { KeepSound S.view storage.old self.old storage.new self.new }
         ensures ordered { WritesInOrder S.view storage.old self.old storage.new }
+        ensures quiet { GetsTableQuietly self.old cluster → WritesNothing S.view storage.old storage.new }
+        ensures tables_stay { OtherTablesStay self.old self.new cluster }
+        ensures blocks_stay { order_of self.old ≢ L2DependsOnRb → self.new.rb ≡ self.old.rb }
     {
         if self.l2.get_or_insert(storage, cluster, false)? {
             return Ok(());
@@ -256,6 +276,9 @@ impl<S: Storage> MetadataCaches<S> {
         ensures faults { HasRoom self.old → (h : HeaderFields) → HasPlace h.cluster_bits cluster → RefusesBy IsFault S.view storage.old self.old h result }
         ensures keeps { KeepSound S.view storage.old self.old storage.new self.new }
         ensures ordered { WritesInOrder S.view storage.old self.old storage.new }
+        ensures quiet { GetsBlockQuietly self.old cluster → WritesNothing S.view storage.old storage.new }
+        ensures blocks_stay { OtherBlocksStay self.old self.new cluster }
+        ensures tables_stay { order_of self.old ≢ RbDependsOnL2 → self.new.l2 ≡ self.old.l2 }
     {
         if self.rb.get_or_insert(storage, cluster, false)? {
             return Ok(());
@@ -281,6 +304,9 @@ impl<S: Storage> MetadataCaches<S> {
         ensures laid { OnOk result (LaysTable S.view storage.old self.old storage.new self.new table) }
         ensures refused { OnErr result (KeepSound S.view storage.old self.old storage.new self.new) }
         ensures ordered { WritesInOrder S.view storage.old self.old storage.new }
+        ensures quiet { IfSome table.cluster (λ cluster. PutsTableQuietly self.old cluster → WritesNothing S.view storage.old storage.new) }
+        ensures tables_stay { IfSome table.cluster (OtherTablesStay self.old self.new) }
+        ensures blocks_stay { order_of self.old ≢ L2DependsOnRb → self.new.rb ≡ self.old.rb }
         ensures clean { AreClean (l2_tables self.old) → IsFalse table.is_modified → AreClean (l2_tables self.new) }
         ensures blocks { AreClean (refblocks self.old) → AreClean (refblocks self.new) }
         ensures first { BlocksMayGo (order_of self.old) (l2_tables self.old) → IsFalse table.is_modified → BlocksMayGo (order_of self.new) (l2_tables self.new) }
@@ -314,6 +340,9 @@ impl<S: Storage> MetadataCaches<S> {
         ensures laid { OnOk result (LaysBlock S.view storage.old self.old storage.new self.new block) }
         ensures refused { OnErr result (KeepSound S.view storage.old self.old storage.new self.new) }
         ensures ordered { WritesInOrder S.view storage.old self.old storage.new }
+        ensures quiet { IfSome block.cluster (λ cluster. PutsBlockQuietly self.old cluster → WritesNothing S.view storage.old storage.new) }
+        ensures blocks_stay { IfSome block.cluster (OtherBlocksStay self.old self.new) }
+        ensures tables_stay { order_of self.old ≢ RbDependsOnL2 → self.new.l2 ≡ self.old.l2 }
         ensures clean { AreClean (refblocks self.old) → IsFalse block.is_modified → OnOk result (AreClean (refblocks self.new)) }
         ensures first { BlocksMayGo (order_of self.old) (l2_tables self.old) → OnOk result (BlocksMayGo (order_of self.new) (l2_tables self.new)) }
     {
@@ -376,6 +405,8 @@ impl<S: Storage> MetadataCaches<S> {
         ensures others { (c : ℕ) → cluster == c ≡ false → rb_at self.new c ≡ rb_at self.old c }
         ensures marks { KeepsMarks self.old self.new }
         ensures taken { IsTrue result → TakesBlock self.old self.new cluster }
+        ensures clean { AreClean (refblocks self.old) → AreClean (refblocks self.new) }
+        ensures gone { (h : HeaderFields) (p : Pending) (base : Bytes) → AreSound h p self.old base → HasRoom self.old → rb_at self.new cluster ≡ None }
     {
         self.rb.remove(cluster)
     }
@@ -450,6 +481,8 @@ impl<S: Storage> MetadataCaches<S> {
         ensures marks { KeepsMarks self.old self.new }
         ensures mapped { MapsEntry self.old self.new cluster index host result }
         ensures noted { NotesEntry self.old self.new cluster index host }
+        ensures entry { IfSome (l2_at self.old cluster) (λ t. index < entries_of t → IsHostCluster t.cluster_bits host → SetsEntry self.old self.new cluster index t (copied_entry (host * 2 ^ t.cluster_bits)) result) }
+        ensures refused { IfSome (l2_at self.old cluster) (λ t. index < entries_of t → IsHostCluster t.cluster_bits host → ⊥) → (result ≡ None) × (self.new ≡ self.old) }
     {
         let table = self.l2.peek_mut(cluster)?;
         let bits = table.cluster_bits();
@@ -471,6 +504,8 @@ impl<S: Storage> MetadataCaches<S> {
         ensures marks { KeepsMarks self.old self.new }
         ensures zeroed { ZeroesEntry self.old self.new cluster index keep result }
         ensures noted { NotesHeld self.old self.new cluster index }
+        ensures entry { IfSome (l2_at self.old cluster) (λ t. index < entries_of t → SetsEntry self.old self.new cluster index t (zero_entry (if keep then copied_host (cover_at t index) else None)) result) }
+        ensures refused { IfSome (l2_at self.old cluster) (λ t. entries_of t ≤ index) → (result ≡ None) × (self.new ≡ self.old) }
     {
         let table = self.l2.peek_mut(cluster)?;
         if index >= table.entries() {
@@ -490,6 +525,8 @@ impl<S: Storage> MetadataCaches<S> {
         ensures marks { KeepsMarks self.old self.new }
         ensures discarded { DiscardsEntry self.old self.new cluster index result }
         ensures noted { NotesHeld self.old self.new cluster index }
+        ensures entry { IfSome (l2_at self.old cluster) (λ t. index < entries_of t → SetsEntry self.old self.new cluster index t 0 result) }
+        ensures refused { IfSome (l2_at self.old cluster) (λ t. entries_of t ≤ index) → (result ≡ None) × (self.new ≡ self.old) }
     {
         let table = self.l2.peek_mut(cluster)?;
         if index >= table.entries() {
@@ -513,10 +550,12 @@ impl<S: Storage> MetadataCaches<S> {
     pub fn rb_increment(&mut self, cluster: HostCluster, index: usize) -> bool
         ensures order { order_of self.new ≡ order_of self.old }
         ensures counted { IsTrue result → RaisesCount self.old self.new cluster index }
-        ensures refused { IsFalse result → AreSame self.old self.new }
+        ensures refused { IsFalse result → self.new ≡ self.old }
         ensures marks { KeepsMarks self.old self.new }
         ensures noted { IsTrue result → IsTrue self.new.is_changed }
         ensures made { RaisesZero self.old cluster index result }
+        ensures counts { IfSome (rb_at self.old cluster) (λ b. CountsMore self.old self.new cluster index b result) }
+        ensures missing { IsNone (rb_at self.old cluster) → IsFalse result }
     {
         let Some(block) = self.rb.peek_mut(cluster) else {
             return false;
@@ -532,11 +571,13 @@ impl<S: Storage> MetadataCaches<S> {
     pub fn rb_decrement(&mut self, cluster: HostCluster, index: usize) -> bool
         ensures order { order_of self.new ≡ order_of self.old }
         ensures counted { IsTrue result → LowersCount self.old self.new cluster index }
-        ensures refused { IsFalse result → AreSame self.old self.new }
+        ensures refused { IsFalse result → self.new ≡ self.old }
         ensures marks { KeepsMarks self.old self.new }
         ensures noted { IsTrue result → IsTrue self.new.is_changed }
         ensures made { LowersSome self.old cluster index result }
         ensures held { IsTrue result → IsSome (rb_at self.new cluster) }
+        ensures counts { IfSome (rb_at self.old cluster) (λ b. CountsLess self.old self.new cluster index b result) }
+        ensures missing { IsNone (rb_at self.old cluster) → IsFalse result }
     {
         let Some(block) = self.rb.peek_mut(cluster) else {
             return false;

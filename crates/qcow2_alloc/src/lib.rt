@@ -6,8 +6,17 @@ pub mod async_lru_cache;
 mod cache;
 mod clusters_to_free;
 mod error;
+mod free_room;
+mod freed_clusters;
 mod image_file;
 mod image_storage;
+mod new_refblocks;
+mod refblocks;
+mod reftable_growth;
+mod reftable_length;
+mod reftable_naming;
+#[cfg(test)]
+mod test_files;
 
 pub use allocation::{Allocator, MAX_HOST_OFFSET};
 pub use cache::{Direction, L2CacheBackend, MetadataCaches, RefBlockCacheBackend};

@@ -16,11 +16,12 @@ use Rattle.qcow2_laws.specs.Guard.{Pending}
 use Rattle.qcow2_laws.specs.Leads.{IsSound}
 use Rattle.qcow2_laws.specs.Mappings.{PreparedMapping}
 use Rattle.qcow2_laws.specs.Stops.{IsKeptAt, more}
+use Rattle.qcow2_laws.specs.Unseen.{KeepsFormat}
 use Rattle.qcow2_laws.specs.Views.{Setting, Guest, guest_of, meaning_at}
 use Rattle.qcow2_laws.specs.Calls.{Works}
+use Rattle.qcow2_laws.proofs.Formats.{size_format}
 use Rattle.qcow2_laws.proofs.Unseen.{unseen_disk}
 use Rattle.qcow2_metadata.specs.declared.header.HeaderFields.{HeaderFields}
-use Rattle.qcow2_laws.specs.Guests.{named_in_either}
 use Rattle.qcow2_alloc.specs.ImageFile.{stand_in, contents_in, known_in}
 use Rattle.qcow2_image.specs.declared.image.Qcow2.{Qcow2}
 use Rattle.qcow2_image.specs.declared.prepared.Prepared.{Prepared}
@@ -36,8 +37,8 @@ pub same_mapping : (a b : PreparedMapping) → a.from ≡ b.from → a.length �
 same_mapping a b from length private shown =
     ap (λ n. record a { from = n }) from ∙ ap (λ n. record a { from = b.from; length = n }) length ∙ ap (λ f. record a { from = b.from; length = b.length; is_private = f }) private ∙ ap (λ f. record b { shown = f }) shown
 
-pub same_setting : (a b : Setting) → a.cluster_size ≡ b.cluster_size → a.backing ≡ b.backing → a ≡ b
-same_setting a b sizes below = ap (λ n. record a { cluster_size = n }) sizes ∙ ap (λ f. record b { backing = f }) below
+pub same_setting : (a b : Setting) → a.cluster_size ≡ b.cluster_size → ◌≡◌ {A = Bool × Bytes} (a.is_backed, a.backing) (b.is_backed, b.backing) → a ≡ b
+same_setting a b sizes below = ap (λ n. record a { cluster_size = n }) sizes ∙ ap (λ (f : Bool × Bytes). record b { is_backed = f.0; backing = f.1 }) below
 
 some_of : {X : Type 0} {m : Option X} {n : X} → m ≡ Some n → is_some m ≡ true
 some_of is = cc
@@ -84,8 +85,8 @@ module _ {S F : Type 0} (view : S → StorageView) (backing : F → BackingView)
     table_of None none = absurd cc
     table_of (Some t) pending = (t, pending)
 
-  -- where the header stays
-  module _ (p : Pending) (sound : IsSoundAt view backing p old out) (same_header : new.file.header.fields ≡ old.file.header.fields) where
+  -- where the header stays, but perhaps for where the reftable stands
+  module _ (p : Pending) (sound : IsSoundAt view backing p old out) (same_header : KeepsFormat old.file.header.fields new.file.header.fields) where
     -- a prepared mapping means what it meant, where the bytes of its own cluster stay
     module _ (k : ℕ) (q : Prepared) (at : slice_get out k ≡ Some (Some q))
         (own_bytes : (n : NewCluster) → q.new_cluster ≡ Some n → (o : ℕ) → o / cluster_size old.file.header.fields ≡ n.pending.first_cluster → contents_in view new.file o ≡ contents_in view old.file o) where
@@ -129,7 +130,7 @@ module _ {S F : Type 0} (view : S → StorageView) (backing : F → BackingView)
 
   module _ (p : Pending) (p' : Pending) (sound : IsSoundAt view backing p old out) (holds : (k : ℕ) → over_all held_by out k ≤ p.held k) (holds_still : (k : ℕ) → over_all held_by out k ≤ p'.held k)
       (tidies : Tidies view backing p p' old new out) where
-    same_header : new.file.header.fields ≡ old.file.header.fields
+    same_header : KeepsFormat old.file.header.fields new.file.header.fields
     same_header = tidies.unseen.header
 
     -- in a cluster that is held the same bytes stand on the storage
@@ -138,13 +139,14 @@ module _ {S F : Type 0} (view : S → StorageView) (backing : F → BackingView)
         let some : 0 < p.held (o / cluster_size old.file.header.fields) = let l = holds (o / cluster_size old.file.header.fields) in omega arith in
         let still : 0 < p'.held (o / cluster_size old.file.header.fields) = let l = holds_still (o / cluster_size old.file.header.fields) in omega arith in
         let before : contents_in view old.file o ≡ known_in view old.file o = sound.file.caches.kept.kept.guarded.unlaid o (omega (arith, some)) in
-        let after : contents_in view new.file o ≡ known_in view new.file o = tidies.sound.file.caches.kept.kept.guarded.unlaid o (subst (λ (h : HeaderFields). 0 < named_in_either h (contents_in view new.file) (known_in view new.file) (o / cluster_size h) + p'.held (o / cluster_size h)) (sym same_header) (omega (arith, still))) in
+        let here : 0 < p'.held (o / cluster_size new.file.header.fields) = subst (λ n. 0 < p'.held (o / n)) (sym (size_format old.file.header.fields new.file.header.fields same_header)) still in
+        let after : contents_in view new.file o ≡ known_in view new.file o = tidies.sound.file.caches.kept.kept.guarded.unlaid o (omega (arith, here)) in
         after ∙ tidies.unseen.bytes o (omega (arith, some)) ∙ sym before
 
     pub still_seen : guest_of (seen view backing new out) ≡ guest_of (seen view backing old out)
     still_seen = same_guest _ _
         (unseen_disk (stand_in view old.file p) (stand_in view new.file p') sound.file.caches.kept.kept.guarded tidies.sound.file.caches.kept.kept.guarded tidies.unseen (backing_bytes view backing new.backing)
-        ∙ ap (λ (b : Bytes). disk (known_in view old.file) b) tidies.below)
+        ∙ ap (λ (b : Bool × Bytes). disk (known_in view old.file) b.1) tidies.below)
         (fun_ext (λ k. same_slot p sound same_header held_bytes k (slice_get out k) refl))
 
   -- ---- a whole call that no guest sees

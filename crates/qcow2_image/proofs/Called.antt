@@ -6,11 +6,12 @@ use mathlib.Core.Path.{fun_ext}
 use Rattle.image_access.specs.Backing.{BackingView}
 use Rattle.image_access.specs.Moments.{StorageView}
 use Rattle.image_access.proofs.Passing.{passes_none}
-use Rattle.qcow2_metadata.specs.declared.header.HeaderFields.{HeaderFields}
 use Rattle.qcow2_metadata.specs.Entries.{l1_entry}
 use Rattle.qcow2_laws.specs.Guard.{Pending}
+use Rattle.qcow2_laws.specs.Unseen.{KeepsFormat}
 use Rattle.qcow2_laws.specs.Views.{Guest, View, guest_of}
 use Rattle.qcow2_laws.specs.Calls.{Refusal, storage, Works, Does, Refuses, IsSame}
+use Rattle.qcow2_laws.proofs.Formats.{l1_format}
 use Rattle.qcow2_laws.proofs.Leads.{leads_then, steps_endure}
 use Rattle.qcow2_laws.proofs.Unseen.{unseen_then}
 use Rattle.qcow2_alloc.specs.declared.error.ImageError.{ImageError}
@@ -47,12 +48,12 @@ same_freed p q rest spent dropped = ap (λ f. record p { spent = f }) spent ∙ 
 module _ {S F : Type 0} (view : S → StorageView) (backing : F → BackingView) (out : List (Option Prepared)) where
   -- one part after another
   module _ (a b c : Qcow2 S F) (p p' p'' : Pending) where
-    pub copied_then : b.file.header.fields ≡ a.file.header.fields → KeepsCopied (stand_in view a.file p) (stand_in view b.file p') → KeepsCopied (stand_in view b.file p') (stand_in view c.file p'')
+    pub copied_then : KeepsFormat a.file.header.fields b.file.header.fields → KeepsCopied (stand_in view a.file p) (stand_in view b.file p') → KeepsCopied (stand_in view b.file p') (stand_in view c.file p'')
         → KeepsCopied (stand_in view a.file p) (stand_in view c.file p'')
     copied_then header first then i is =
-        let one = first i is in
-        let moved : l1_entry b.file.header.fields (stand_in view b.file p').base i ≡ l1_entry a.file.header.fields (stand_in view a.file p).base i = ap (λ h. l1_entry h (stand_in view b.file p').base i) header ∙ one in
-        subst (λ (h : HeaderFields). l1_entry h (stand_in view c.file p'').base i ≡ l1_entry h (stand_in view b.file p').base i) header (then i (subst NamesOwn (sym moved) is)) ∙ one
+        let read = l1_format a.file.header.fields b.file.header.fields header in
+        let moved : l1_entry b.file.header.fields (stand_in view b.file p').base i ≡ l1_entry a.file.header.fields (stand_in view a.file p).base i = read (stand_in view b.file p').base i ∙ first i is in
+        sym (read (stand_in view c.file p'').base i) ∙ then i (subst NamesOwn (sym moved) is) ∙ moved
 
     pub keeps_then : ((k : ℕ) → 0 < p.held k → 0 < p'.held k) → Keeps view backing p p' a b out → Keeps view backing p' p'' b c out → Keeps view backing p p'' a c out
     keeps_then held first then = record {

@@ -14,10 +14,11 @@ use Rattle.qcow2_metadata.specs.TableBytes.{entry_at}
 use Rattle.qcow2_laws.specs.Changes.{one_at, with_fresh, fresh_to_spent}
 use Rattle.qcow2_laws.specs.Guard.{Pending}
 use Rattle.qcow2_laws.specs.Leads.{Leads}
+use Rattle.qcow2_laws.specs.Unseen.{KeepsFormat}
 use Rattle.qcow2_laws.proofs.Leads.{endures_none}
 use Rattle.qcow2_laws.proofs.Steps.{pending_is_changed}
 use Rattle.qcow2_laws.proofs.Unseen.{unseen_known}
-use Rattle.qcow2_alloc.specs.Allocation.{run_at, taken_as, Becomes}
+use Rattle.qcow2_alloc.specs.Allocation.{run_at, taken_as, BecomesOn, LeavesAs}
 use Rattle.qcow2_alloc.specs.declared.allocation.Allocator.{Allocator}
 use Rattle.qcow2_alloc.specs.CacheMarks.{KeepsMarks}
 use Rattle.qcow2_alloc.specs.declared.image_file.ImageFile.{ImageFile}
@@ -25,18 +26,21 @@ use Rattle.qcow2_alloc.specs.declared.clusters_to_free.ClustersToFreeEntry.{Clus
 use Rattle.qcow2_alloc.specs.declared.clusters_to_free.ClusterKind.{ClusterKind}
 use Rattle.qcow2_alloc.specs.declared.clusters_to_free.ClusterKind.TheVariants as Kind
 use Rattle.qcow2_alloc.specs.declared.error.ImageError.{ImageError}
-use Rattle.qcow2_alloc.specs.ImageFile.{nothing_given, view_in, contents_in, known_in, stand_in, HasReftable, Breaks, LeavesSound}
+use Rattle.qcow2_alloc.specs.FreeList.{ListsTables}
+use Rattle.qcow2_alloc.specs.ImageFile.{nothing_given, view_in, contents_in, known_in, stand_in, HasReftable, Breaks}
 use Rattle.qcow2_alloc.proofs.FileSteps.{endures_then, one_few, one_here, pending_same}
 use Rattle.qcow2_alloc.proofs.Runs.{run_before, run_after, run_last}
 use Rattle.qcow2_image.specs.declared.image.Qcow2.{Qcow2}
 use Rattle.qcow2_image.specs.declared.prepared.Prepared.{Prepared}
 use Rattle.qcow2_image.specs.NewTables.{SaysKnown, MayName, replacing, NamesNew, WritesNew, EntersTable}
-use Rattle.qcow2_image.specs.Steps.{NamesOwn, Keeps, Leaves, following}
+use Rattle.qcow2_image.specs.Steps.{NamesOwn, Keeps, Leaves, ListGrows, following}
 use Rattle.qcow2_image.specs.Views.{of_data, of_tables, to_free, IsSoundAt}
 use Rattle.qcow2_image.proofs.Called.{keeps_then}
+use Rattle.qcow2_image.proofs.Formats.{lists_grow, says_format}
+use Rattle.qcow2_image.proofs.Gaining.{following_on, following_same}
 use Rattle.qcow2_image.proofs.LetGo.{sound_while}
 use Rattle.qcow2_image.proofs.Loading.{still_moved}
-use Rattle.qcow2_image.proofs.Moving.{file_moved}
+use Rattle.qcow2_image.proofs.Moving.{file_moved_on}
 use Rattle.qcow2_image.proofs.Sound.{free_more}
 
 -- a run of one cluster
@@ -56,8 +60,7 @@ module _ {S F : Type 0} (view : S → StorageView) (backing : F → BackingView)
   keeps_none p image sound = still_moved view backing image out p sound image.file.storage sound.file.honest (passes_none (view_in view image.file) _) refl
 
   pub unlisted : (p : Pending) (old new : Qcow2 S F) → new.file.free_list ≡ old.file.free_list → p ≡ following p old new
-  unlisted p old new same =
-      pending_same p (following p old new) (λ k. refl) (λ k. refl) (λ k. let e = ap (λ l. to_free of_tables l k) same in omega arith) (λ k. let e = ap (λ l. to_free of_data l k) same in omega arith) (λ k. refl)
+  unlisted p old new same = sym (following_same view backing out p old new same)
 
   -- where nothing more is to be freed
   pub as_following : (p : Pending) (old new : Qcow2 S F) → new.file.free_list ≡ old.file.free_list → Keeps view backing p p old new out → Keeps view backing p (following p old new) old new out
@@ -74,14 +77,15 @@ module _ {S F : Type 0} (view : S → StorageView) (backing : F → BackingView)
     pub may_still : (index : ℕ) → MayName view a index → MayName view b index
     may_still index may own = may (subst NamesOwn (same_l1 index) own)
 
-    pub replacing_same : (r : Pending) (index : ℕ) → b.file.header.fields ≡ a.file.header.fields → replacing view r b index ≡ replacing view r a index
+    pub replacing_same : (r : Pending) (index : ℕ) → KeepsFormat a.file.header.fields b.file.header.fields → replacing view r b index ≡ replacing view r a index
     replacing_same r index header =
         pending_same (replacing view r b index) (replacing view r a index) (λ k. refl) (λ k. refl)
         (λ k. ap (λ (x : HeaderFields). r.spent k + table_in x k (host_offset (l1_entry b.file.header.fields (contents_in view b.file) index))) header ∙ ap (λ e. r.spent k + table_in a.file.header.fields k (host_offset e)) (same_l1 index))
         (λ k. refl) (λ k. refl)
 
   pub says_still : (p q : Pending) (a b : Qcow2 S F) (index : ℕ) (t : L2TableView) → Keeps view backing p q a b out → SaysKnown a.file.header.fields (known_in view a.file) index t → SaysKnown b.file.header.fields (known_in view b.file) index t
-  says_still p q a b index t keeps says = subst (λ (x : HeaderFields). SaysKnown x (known_in view b.file) index t) (sym keeps.unseen.header) (record { format = says.format; says = λ g here. sym (keeps.unseen.covers g) ∙ says.says g here })
+  says_still p q a b index t keeps says =
+      says_format a.file.header.fields b.file.header.fields keeps.unseen.header (known_in view b.file) (contents_in view b.file) index t (record { format = says.format; says = λ g here. sym (keeps.unseen.covers g) ∙ says.says g here })
 
   -- ---- the bytes stand there, and then the entry is written
   pub written_so : (p : Pending) (a b c : Qcow2 S F) (index at : ℕ) (r : Result (Unit {0}) ImageError) → IsSoundAt view backing (with_fresh p (one_at at)) a out → b.l1_table ≡ a.l1_table
@@ -138,65 +142,72 @@ module _ {S F : Type 0} (view : S → StorageView) (backing : F → BackingView)
       keeps_listed q (given_up p at) image list more sound is
       (subst (λ (r : Pending). Leads s (stand_in view image.file r) nothing_given []) (pending_same (fresh_to_spent q (one_at at)) (given_up p at) (λ k. refl) (λ k. omega arith) (λ k. refl) (λ k. refl) (λ k. refl)) first)
 
-  -- a table's cluster comes to the list of those to be freed
-  pub freed_table : (p : Pending) (at : ℕ) (old new : Qcow2 S F) (e : ClustersToFreeEntry) → e.first_cluster ≡ at → e.count ≡ 1 → e.kind ≡ Kind.Metadata → new.file.free_list ≡ old.file.free_list ++ e ∷ [] → given_up p at ≡ following p old new
-  freed_table p at old new e first one kind is =
-      pending_same (given_up p at) (following p old new) (λ k. refl) (λ k. refl)
+  -- a table's cluster comes to the list of those to be freed, behind what was listed since
+  pub freed_table : (p : Pending) (at : ℕ) (old mid new : Qcow2 S F) (e : ClustersToFreeEntry) → ListGrows old mid → e.first_cluster ≡ at → e.count ≡ 1 → e.kind ≡ Kind.Metadata → new.file.free_list ≡ mid.file.free_list ++ e ∷ []
+      → given_up (following p old mid) at ≡ following p old new
+  freed_table p at old mid new e grows first one kind is =
+      pending_same (given_up (following p old mid) at) (following p old new) (λ k. refl) (λ k. refl)
       (λ k.
-      let more = ap (λ l. to_free of_tables l k) is ∙ free_more of_tables old.file.free_list (e ∷ []) k in
+      let since = ap (λ l. to_free of_tables l k) grows.is ∙ free_more of_tables old.file.free_list grows.more k in
+      let more = ap (λ l. to_free of_tables l k) is ∙ free_more of_tables mid.file.free_list (e ∷ []) k in
       let tables = ap (λ (x : ClusterKind). of_tables x (run_at e.first_cluster e.count k)) kind ∙ ap (λ n. run_at n e.count k) first ∙ ap (λ n. run_at at n k) one in
       let one_there = run_one at k in
       omega arith)
       (λ k.
-      let more = ap (λ l. to_free of_data l k) is ∙ free_more of_data old.file.free_list (e ∷ []) k in
+      let since = ap (λ l. to_free of_data l k) grows.is ∙ free_more of_data old.file.free_list grows.more k in
+      let more = ap (λ l. to_free of_data l k) is ∙ free_more of_data mid.file.free_list (e ∷ []) k in
       let none_of_data = ap (λ (x : ClusterKind). of_data x (run_at e.first_cluster e.count k)) kind in
       omega arith)
       (λ k. refl)
 
   -- ---- a cluster is taken for the table, or isn't
-  module _ (p : Pending) (old : Qcow2 S F) (sound : IsSoundAt view backing p old out) (file : ImageFile S) (a : Allocator) (marks : KeepsMarks old.file.caches file.caches) (list : file.free_list ≡ old.file.free_list) where
+  module _ (p : Pending) (old : Qcow2 S F) (sound : IsSoundAt view backing p old out) (file : ImageFile S) (a : Allocator) (marks : KeepsMarks old.file.caches file.caches) (lists : ListsTables old.file.free_list file.free_list) where
     abbrev taken : Qcow2 S F
     taken = record old { file = file; allocator = Some a }
 
-    pub none_taken : (e : ImageError) → LeavesSound view p old.file a file e → Leaves view backing p old taken out e
+    -- what is pending then, beside what is taken
+    abbrev since : Pending
+    since = following p old taken
+
+    pub none_taken : (e : ImageError) → LeavesAs view p old.file a file since e → Leaves view backing p old taken out e
     none_taken e left = elim left [
-      | inl moved ↦ inl (as_following p old taken list (file_moved view backing old out p p sound file (Some a) moved.0 moved.1 marks.pins list))
+      | inl becomes ↦ inl (file_moved_on view backing old out p since sound file (Some a) becomes.moves becomes.reftable marks.pins (lists_grow old taken lists))
       | inr breaks ↦ inr breaks
     ]
 
-    module _ (first n : ℕ) (one : n ≡ 1) (becomes : Becomes view p old.file a file (taken_as false p (run_at first n))) where
-      pub keeps_taken : Keeps view backing p (with_fresh p (one_at first)) old taken out
-      keeps_taken = subst (λ (q : Pending). Keeps view backing p q old taken out) (ap (λ m. taken_as false p (run_at first m)) one ∙ one_taken p first)
-          (file_moved view backing old out p (taken_as false p (run_at first n)) sound file (Some a) becomes.moves becomes.reftable marks.pins list)
+    module _ (first n : ℕ) (one : n ≡ 1) (becomes : BecomesOn view p old.file a file (taken_as false since (run_at first n))) where
+      pub keeps_taken : Keeps view backing p (with_fresh since (one_at first)) old taken out
+      keeps_taken = subst (λ (q : Pending). Keeps view backing p q old taken out) (ap (λ m. taken_as false since (run_at first m)) one ∙ one_taken since first)
+          (file_moved_on view backing old out p (taken_as false since (run_at first n)) sound file (Some a) becomes.moves becomes.reftable marks.pins (lists_grow old taken lists))
 
       may_taken : (index : ℕ) → MayName view old index → MayName view taken index
-      may_taken = may_still p (with_fresh p (one_at first)) old taken sound keeps_taken.sound refl
+      may_taken = may_still p (with_fresh since (one_at first)) old taken sound keeps_taken.sound refl
 
       module _ (new : Qcow2 S F) (index : ℕ) (t : L2TableView) (may : MayName view old index) (says : SaysKnown old.file.header.fields (known_in view old.file) index t) (listed : new.file.free_list ≡ file.free_list) (r : Result (Unit {0}) ImageError)
-          (writes : IsSoundAt view backing (with_fresh p (one_at first)) taken out → MayName view taken index → SaysKnown file.header.fields (known_in view file) index t → WritesNew view backing p taken new out index first r) where
-        abbrev written : WritesNew view backing p taken new out index first r
-        written = writes keeps_taken.sound (may_taken index may) (says_still p (with_fresh p (one_at first)) old taken index t keeps_taken says)
+          (writes : IsSoundAt view backing (with_fresh since (one_at first)) taken out → MayName view taken index → SaysKnown file.header.fields (known_in view file) index t → WritesNew view backing since taken new out index first r) where
+        abbrev written : WritesNew view backing since taken new out index first r
+        written = writes keeps_taken.sound (may_taken index may) (says_still p (with_fresh since (one_at first)) old taken index t keeps_taken says)
 
         pub table_entered : (x : Unit {0}) → r ≡ Ok x → EntersTable view backing p old new out index (Ok first)
         table_entered x is =
-            let q = with_fresh p (one_at first) in
-            let named : WritesNew view backing p taken new out index first (Ok x) = subst (WritesNew view backing p taken new out index first) is written in (
-              subst (λ (s : Pending). Keeps view backing p s old new out) (replacing_same p q old taken sound keeps_taken.sound refl p index keeps_taken.unseen.header)
-                  (keeps_then view backing out old taken new p q (replacing view p taken index) (λ k h. h) keeps_taken named.0),
+            let q = with_fresh since (one_at first) in
+            let named : WritesNew view backing since taken new out index first (Ok x) = subst (WritesNew view backing since taken new out index first) is written in (
+              subst (λ (s : Pending). Keeps view backing p s old new out)
+                  (replacing_same p q old taken sound keeps_taken.sound refl since index keeps_taken.unseen.header ∙ ap (λ s. replacing view s old index) (following_on view backing out p old taken new listed))
+                  (keeps_then view backing out old taken new p q (replacing view since taken index) (λ k h. h) keeps_taken named.0),
               named.1,
-              listed ∙ list,
             )
 
         pub table_refused : (e : ImageError) (run : ClustersToFreeEntry) (more : List ClustersToFreeEntry) → r ≡ Err e → run.first_cluster ≡ first → run.count ≡ 1 → run.kind ≡ Kind.Metadata → more ≡ new.file.free_list ++ run ∷ []
             → Leaves view backing p old (record new { file = record new.file { free_list = more } }) out e
         table_refused e run more is at single kind longer =
-            let q = with_fresh p (one_at first) in
-            let refused : WritesNew view backing p taken new out index first (Err e) = subst (WritesNew view backing p taken new out index first) is written in
+            let q = with_fresh since (one_at first) in
+            let refused : WritesNew view backing since taken new out index first (Err e) = subst (WritesNew view backing since taken new out index first) is written in
             elim refused [
               | inl keeps ↦ inl (
                   subst (λ (s : Pending). Keeps view backing p s old (record new { file = record new.file { free_list = more } }) out)
-                  (freed_table p first old (record new { file = record new.file { free_list = more } }) run at single kind (longer ∙ ap (λ l. l ++ run ∷ []) (listed ∙ list)))
-                  (keeps_then view backing out old new (record new { file = record new.file { free_list = more } }) p q (given_up p first) (λ k h. h) (keeps_then view backing out old taken new p q q (λ k h. h) keeps_taken keeps)
-                  (abandoned p first new more (run ∷ []) keeps.sound longer)))
+                  (freed_table p first old taken (record new { file = record new.file { free_list = more } }) run (lists_grow old taken lists) at single kind (longer ∙ ap (λ l. l ++ run ∷ []) listed))
+                  (keeps_then view backing out old new (record new { file = record new.file { free_list = more } }) p q (given_up since first) (λ k h. h) (keeps_then view backing out old taken new p q q (λ k h. h) keeps_taken keeps)
+                  (abandoned since first new more (run ∷ []) keeps.sound longer)))
               | inr breaks ↦ let on = breaks_on p q old taken new e keeps_taken breaks in inr (record { fault = on.fault; noted = on.noted; since = on.since })
             ]

@@ -1,7 +1,6 @@
 -- A cluster is taken for data, and what is left where that is refused.
 use Rattle.std.proofs.Common.{◌≡◌, inl, inr, ℕ, ◌+◌, ◌-◌, ◌*◌, ◌%◌, ◌<◌, Bool, false, List, [], ◌∷◌, ◌++◌, Option, Some, refl, sym, ap, ◌∙◌, subst, arith}
 use Rattle.std.specs.Prelude.{Result, Ok, Err}
-use mathlib.Core.Path.{fun_ext}
 use Rattle.image_access.specs.Backing.{BackingView}
 use Rattle.image_access.specs.Moments.{StorageView}
 use Rattle.qcow2_metadata.specs.Bytes.{Bytes}
@@ -10,57 +9,67 @@ use Rattle.qcow2_metadata.specs.Header.{cluster_size}
 use Rattle.qcow2_laws.specs.Changes.{with_held, held_to_dropped}
 use Rattle.qcow2_laws.specs.Guard.{Pending}
 use Rattle.qcow2_laws.specs.Leads.{Leads}
+use Rattle.qcow2_laws.specs.Unseen.{KeepsFormat}
 use Rattle.qcow2_laws.proofs.Leads.{endures_none}
 use Rattle.qcow2_laws.proofs.Steps.{pending_is_changed}
-use Rattle.qcow2_alloc.specs.Allocation.{run_at, Allocates}
+use Rattle.qcow2_alloc.specs.Allocation.{run_at, Allocates, LeavesAs}
 use Rattle.qcow2_alloc.specs.CacheMarks.{KeepsMarks}
 use Rattle.qcow2_alloc.specs.declared.allocation.Allocator.{Allocator}
 use Rattle.qcow2_alloc.specs.declared.clusters_to_free.ClusterKind.TheVariants as Kind
 use Rattle.qcow2_alloc.specs.declared.clusters_to_free.ClustersToFreeEntry.{ClustersToFreeEntry}
 use Rattle.qcow2_alloc.specs.declared.error.ImageError.{ImageError}
 use Rattle.qcow2_alloc.specs.declared.image_file.ImageFile.{ImageFile}
-use Rattle.qcow2_alloc.specs.ImageFile.{stand_in, view_in, contents_in, known_in, nothing_given, Moves, HasReftable, LeavesSound}
+use Rattle.qcow2_alloc.specs.FreeList.{ListsTables, following as since_listed}
+use Rattle.qcow2_alloc.specs.ImageFile.{stand_in, view_in, contents_in, known_in, nothing_given, KeepsHeader, MovesOn, HasReftable}
 use Rattle.qcow2_alloc.proofs.FileSteps.{pending_same}
+use Rattle.qcow2_alloc.proofs.Following.{header_format, following_same as same_list}
 use Rattle.qcow2_alloc.proofs.Runs.{run_in}
 use Rattle.qcow2_image.specs.declared.image.Qcow2.{Qcow2}
 use Rattle.qcow2_image.specs.declared.prepared.Prepared.{Prepared}
-use Rattle.qcow2_image.specs.Steps.{following, is_announced, IsFilled, Goes, GoesBack, HoldsAll, TakesData}
-use Rattle.qcow2_image.specs.Views.{run_of, of_data, of_tables, to_free, held_by, over_all, backing_bytes, IsSoundAt}
-use Rattle.qcow2_image.proofs.Called.{same_freed}
-use Rattle.qcow2_image.proofs.Going.{goes_kept}
+use Rattle.qcow2_image.specs.Steps.{following, is_announced, IsFilled, Goes, GoesBack, HoldsAll, ListGrows, TakesData}
+use Rattle.qcow2_image.specs.Views.{run_of, of_data, of_tables, to_free, held_by, over_all, backing_bytes, below_of, IsSoundAt}
+use Rattle.qcow2_image.proofs.Formats.{lists_grow}
+use Rattle.qcow2_image.proofs.Going.{goes_kept, goes_then}
 use Rattle.qcow2_image.proofs.LetGo.{run_few, sound_while}
-use Rattle.qcow2_image.proofs.Moving.{file_moved}
+use Rattle.qcow2_image.proofs.Moving.{file_moved_on}
 use Rattle.qcow2_image.proofs.Reftables.{reftable_still}
 use Rattle.qcow2_image.proofs.Sound.{free_more}
 
 module _ {S F : Type 0} (view : S → StorageView) (backing : F → BackingView) (out : List (Option Prepared)) where
   -- with the same list all is pending that was
   pub following_same : (p : Pending) (old new : Qcow2 S F) → new.file.free_list ≡ old.file.free_list → following p old new ≡ p
-  following_same p old new list = sym (same_freed p (following p old new) refl
-      (fun_ext (λ k. let e = ap (λ l. to_free of_tables l k) list in omega arith)) (fun_ext (λ k. let e = ap (λ l. to_free of_data l k) list in omega arith)))
+  following_same p old new list = same_list p old.file.free_list new.file.free_list list
+
+  -- with the list of another image what is pending is the same
+  pub following_on : (p : Pending) (old mid new : Qcow2 S F) → new.file.free_list ≡ mid.file.free_list → following p old mid ≡ following p old new
+  following_on p old mid new list = ap (λ l. since_listed p old.file.free_list l) (sym list)
 
   -- ---- by the allocator
-  module _ (old : Qcow2 S F) (p : Pending) (sound : IsSoundAt view backing p old out) (holds : HoldsAll view backing p out) (file : ImageFile S) (a : Allocator) (marks : KeepsMarks old.file.caches file.caches) (list : file.free_list ≡ old.file.free_list) (header : file.header ≡ old.file.header) where
+  module _ (old : Qcow2 S F) (p : Pending) (sound : IsSoundAt view backing p old out) (holds : HoldsAll view backing p out) (file : ImageFile S) (a : Allocator) (marks : KeepsMarks old.file.caches file.caches) (lists : ListsTables old.file.free_list file.free_list) (header : KeepsHeader old.file.header file.header) where
     abbrev taken : Qcow2 S F
     taken = record old { file = file; allocator = Some a }
 
+    -- what is pending then, beside what is taken
+    abbrev since : Pending
+    since = following p old taken
+
     -- from what is pending to what is
-    goes_moved : (q : Pending) → HoldsAll view backing q out → Moves view p q old.file file → HasReftable view file a.reftable → Goes view backing p q old taken out
-    goes_moved q still moves reftable = goes_kept view backing out old taken p q sound holds still (file_moved view backing old out p q sound file (Some a) moves reftable marks.pins list)
+    goes_moved : (q : Pending) → HoldsAll view backing q out → MovesOn view p q old.file file → HasReftable view file a.reftable → Goes view backing p q old taken out
+    goes_moved q still moves reftable = goes_kept view backing out old taken p q sound holds still (file_moved_on view backing old out p q sound file (Some a) moves reftable marks.pins (lists_grow old taken lists))
 
-    goes_back : (e : ImageError) → LeavesSound view p old.file a file e → GoesBack view backing p old taken out e
-    goes_back e (inl kept) = inl (subst (λ q. Goes view backing p q old taken out) (sym (following_same p old taken list)) (goes_moved p holds kept.0 kept.1))
-    goes_back e (inr broken) = inr (record { breaks = broken; header = ap (λ x. x.fields) header; below = refl })
+    goes_back : (e : ImageError) → LeavesAs view p old.file a file since e → GoesBack view backing p old taken out e
+    goes_back e (inl kept) = inl (goes_moved since holds kept.moves kept.reftable)
+    goes_back e (inr broken) = inr (record { breaks = broken; header = header_format old.file.header file.header header; below = refl })
 
-    pub takes_data : (r : Result ClustersToFreeEntry ImageError) → Allocates view p old.file a file Kind.Data 1 r → TakesData view backing p old taken out r
+    pub takes_data : (r : Result ClustersToFreeEntry ImageError) → Allocates view p old.file a file since Kind.Data 1 r → TakesData view backing p old taken out r
     takes_data (Ok n) is =
         let count = is.0 in
         let run : run_at n.first_cluster 1 ≡ run_of n = ap (λ m. run_at n.first_cluster m) (sym count) in
         let becomes = is.2 in (
           count,
           is.1,
-          subst (λ f. Goes view backing p (with_held p f) old taken out) run
-              (goes_moved (with_held p (run_at n.first_cluster 1)) (λ k. let h = holds k in omega arith)
+          subst (λ f. Goes view backing p (with_held since f) old taken out) run
+              (goes_moved (with_held since (run_at n.first_cluster 1)) (λ k. let h = holds k in omega arith)
               becomes.moves becomes.reftable),
         )
     takes_data (Err e) is = goes_back e is
@@ -106,26 +115,38 @@ module _ {S F : Type 0} (view : S → StorageView) (backing : F → BackingView)
       seen = refl;
     }
 
-    -- what is pending then is what was before, with that
-    pub after_is : (start : Qcow2 S F) → old.file.free_list ≡ start.file.free_list → after ≡ following p start left
-    after_is start list =
-        let lists : left.file.free_list ≡ start.file.free_list ++ n ∷ [] = ap (λ l. l ++ n ∷ []) list in
-        pending_same after (following p start left)
-        (λ k. omega arith)
-        (λ k. refl)
-        (λ k.
-        let e = ap (λ l. to_free of_tables l k) lists ∙ free_more of_tables start.file.free_list (n ∷ []) k in
-        let none : of_tables n.kind (run_of n k) ≡ 0 = ap (λ x. of_tables x (run_of n k)) kind in
-        omega arith)
-        (λ k.
-        let e = ap (λ l. to_free of_data l k) lists ∙ free_more of_data start.file.free_list (n ∷ []) k in
-        let some : of_data n.kind (run_of n k) ≡ run_of n k = ap (λ x. of_data x (run_of n k)) kind in
-        omega arith)
-        (λ k. refl)
+  -- what is pending then is what was before, with that
+  after_is : (start old : Qcow2 S F) (p : Pending) (n : ClustersToFreeEntry) (one : n.count ≡ 1) (kind : n.kind ≡ Kind.Data) (sound : IsSoundAt view backing (with_held (following p start old) (run_of n)) old out) → ListGrows start old
+      → after old (following p start old) n one kind sound ≡ following p start (left old (following p start old) n one kind sound)
+  after_is start old p n one kind sound grows =
+      let final = left old (following p start old) n one kind sound in
+      pending_same (after old (following p start old) n one kind sound) (following p start final)
+      (λ k. omega arith)
+      (λ k. refl)
+      (λ k.
+      let since = ap (λ l. to_free of_tables l k) grows.is ∙ free_more of_tables start.file.free_list grows.more k in
+      let e = free_more of_tables old.file.free_list (n ∷ []) k in
+      let none : of_tables n.kind (run_of n k) ≡ 0 = ap (λ x. of_tables x (run_of n k)) kind in
+      omega arith)
+      (λ k.
+      let since = ap (λ l. to_free of_data l k) grows.is ∙ free_more of_data start.file.free_list grows.more k in
+      let e = free_more of_data old.file.free_list (n ∷ []) k in
+      let some : of_data n.kind (run_of n k) ≡ run_of n k = ap (λ x. of_data x (run_of n k)) kind in
+      omega arith)
+      (λ k. refl)
+
+  -- all of it
+  pub goes_left : (start old : Qcow2 S F) (p : Pending) (n : ClustersToFreeEntry) (one : n.count ≡ 1) (kind : n.kind ≡ Kind.Data) → (goes : Goes view backing p (with_held (following p start old) (run_of n)) start old out)
+      → let end = left old (following p start old) n one kind goes.sound in Goes view backing p (following p start end) start end out
+  goes_left start old p n one kind goes =
+      let q = following p start old in
+      let end = left old q n one kind goes.sound in
+      subst (λ r. Goes view backing p r start end out) (after_is start old p n one kind goes.sound goes.list)
+      (goes_then view backing out start old end p (with_held q (run_of n)) (after old q n one kind goes.sound) goes (goes_handed_back old q n one kind goes.sound))
 
   -- ---- a cluster that was taken is new
-  module _ (old mid : Qcow2 S F) (p : Pending) (n : ClustersToFreeEntry) (one : n.count ≡ 1) (holds : HoldsAll view backing p out) (goes : Goes view backing p (with_held p (run_of n)) old mid out) where
-    pub taken_held : 0 < (with_held p (run_of n)).held n.first_cluster
+  module _ (old mid : Qcow2 S F) (p : Pending) (n : ClustersToFreeEntry) (one : n.count ≡ 1) (holds : HoldsAll view backing p out) (goes : Goes view backing p (with_held (following p old mid) (run_of n)) old mid out) where
+    pub taken_held : 0 < (with_held (following p old mid) (run_of n)).held n.first_cluster
     taken_held = let once = run_in n.first_cluster n.count n.first_cluster (omega arith) (omega (arith, one)) in omega arith
 
     pub taken_unused : over_all held_by out n.first_cluster ≡ 0
@@ -137,13 +158,13 @@ module _ {S F : Type 0} (view : S → StorageView) (backing : F → BackingView)
         let all = holds n.first_cluster in
         omega arith
 
-    pub still_holds : HoldsAll view backing (with_held p (run_of n)) out
+    pub still_holds : HoldsAll view backing (with_held (following p old mid) (run_of n)) out
     still_holds k = let h = holds k in omega arith
 
--- what was filled in an image with the same header over the same disk
-pub filled_as : {S F : Type 0} (view : S → StorageView) (backing : F → BackingView) (mid old new : Qcow2 S F) (cluster first offset length : ℕ) (overwrite : Bool) → mid.file.header.fields ≡ old.file.header.fields
-    → backing_bytes view backing mid.backing ≡ backing_bytes view backing old.backing → cluster ≡ first → IsFilled view backing mid new cluster offset length overwrite → IsFilled view backing old new first offset length overwrite
+-- what was filled in an image of the same format over the same disk
+pub filled_as : {S F : Type 0} (view : S → StorageView) (backing : F → BackingView) (mid old new : Qcow2 S F) (cluster first offset length : ℕ) (overwrite : Bool) → KeepsFormat old.file.header.fields mid.file.header.fields
+    → below_of view backing mid.backing ≡ below_of view backing old.backing → cluster ≡ first → IsFilled view backing mid new cluster offset length overwrite → IsFilled view backing old new first offset length overwrite
 filled_as view backing mid old new cluster first offset length overwrite header below same filled =
     let Fills : HeaderFields → Bytes → ℕ → Type 0 = λ h b c. (i : ℕ) → i < cluster_size h → is_announced (cluster_size h) offset length overwrite i ≡ false → contents_in view new.file (c * cluster_size h + i) ≡ b (offset - offset % cluster_size h + i) in
     subst (λ c. Fills old.file.header.fields (backing_bytes view backing old.backing) c) same
-    (subst (λ b. Fills old.file.header.fields b cluster) below (subst (λ h. Fills h (backing_bytes view backing mid.backing) cluster) header filled))
+    (subst (λ b. Fills old.file.header.fields b.1 cluster) below (subst (λ h. Fills h (backing_bytes view backing mid.backing) cluster) header filled))

@@ -12,12 +12,11 @@ use Rattle.qcow2_metadata.specs.Bytes.{byte_at}
 use Rattle.qcow2_metadata.specs.declared.header.HeaderFields.{HeaderFields}
 use Rattle.qcow2_metadata.specs.Header.{cluster_size}
 use Rattle.qcow2_metadata.specs.Named.{named_for_tables}
-use Rattle.qcow2_metadata.specs.Cover.{cover}
 use Rattle.qcow2_laws.specs.Disk.{disk}
 use Rattle.qcow2_laws.specs.Guard.{Pending}
 use Rattle.qcow2_laws.specs.Tops.{WritesAt}
-use Rattle.qcow2_laws.specs.Guests.{named_in_either}
 use Rattle.qcow2_laws.specs.Writes.{IsUnnamed}
+use Rattle.qcow2_laws.proofs.Formats.{covers_format, format_then, size_format}
 use Rattle.qcow2_laws.proofs.Leads.{leads_none, leads_then, endures_none, steps_endure}
 use Rattle.qcow2_laws.proofs.Shown.{Writes, private_written}
 use Rattle.qcow2_laws.proofs.Writes.{held_is_unnamed}
@@ -69,8 +68,8 @@ module _ {S F : Type 0} (view : S → StorageView) (backing : F → BackingView)
     sound = then.sound;
     leads = leads_then (stand_in view a.file p) (stand_in view b.file q) (stand_in view c.file r) nothing_given nothing_given [] [] first.leads then.leads;
     since = steps_endure (view_in view a.file) (view_in view b.file) (view_in view c.file) (stand_in view a.file p) (stand_in view b.file q) nothing_given nothing_given [] [] refl first.since first.leads then.since;
-    header = then.header ∙ first.header;
-    covers = λ g. first.covers g ∙ subst (λ (h : HeaderFields). cover h (known_in view b.file) g ≡ cover h (known_in view c.file) g) first.header (then.covers g);
+    header = format_then a.file.header.fields b.file.header.fields c.file.header.fields first.header then.header;
+    covers = λ g. first.covers g ∙ covers_format a.file.header.fields b.file.header.fields first.header (known_in view b.file) (known_in view c.file) then.covers g;
     copied = copied_then view backing out a b c p q r first.header first.copied then.copied;
     below = then.below ∙ first.below;
     list = record { more = first.list.more ++ then.list.more; is = then.list.is ∙ ap (λ l. l ++ then.list.more) first.list.is ∙ append_assoc a.file.free_list first.list.more then.list.more };
@@ -81,8 +80,8 @@ module _ {S F : Type 0} (view : S → StorageView) (backing : F → BackingView)
   pub same_held : (a b : Qcow2 S F) (p : Pending) → IsSoundAt view backing p a out → Keeps view backing p p a b out → SameHeld view backing p a b
   same_held a b p sound keeps o some =
       let before : contents_in view a.file o ≡ known_in view a.file o = sound.file.caches.kept.kept.guarded.unlaid o (omega (arith, some)) in
-      let after : contents_in view b.file o ≡ known_in view b.file o = keeps.sound.file.caches.kept.kept.guarded.unlaid o
-      (subst (λ (h : HeaderFields). 0 < named_in_either h (contents_in view b.file) (known_in view b.file) (o / cluster_size h) + p.held (o / cluster_size h)) (sym keeps.unseen.header) (omega (arith, some))) in
+      let here : 0 < p.held (o / cluster_size b.file.header.fields) = subst (λ n. 0 < p.held (o / n)) (sym (size_format a.file.header.fields b.file.header.fields keeps.unseen.header)) some in
+      let after : contents_in view b.file o ≡ known_in view b.file o = keeps.sound.file.caches.kept.kept.guarded.unlaid o (omega (arith, here)) in
       after ∙ keeps.unseen.bytes o (omega (arith, some)) ∙ sym before
 
   -- bytes are written to a cluster that is held, and that no mapping has yet

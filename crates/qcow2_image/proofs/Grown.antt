@@ -2,6 +2,7 @@
 use Rattle.std.proofs.Common.{◌≡◌, inl, inr, ⊎_elim, ℕ, ◌+◌, ◌-◌, ◌*◌, ◌/◌, ◌%◌, ◌^◌, ◌<◌, ◌≤◌, List, [], ◌∷◌, ◌++◌, length, Option, Some, None, Result, Ok, Err, Bool, false, refl, sym, ap, ◌∙◌, subst, arith}
 use Rattle.std.specs.Prelude.{OnOk}
 use Rattle.std.proofs.lemmas.Bool.{cases_lt}
+use Rattle.std.proofs.lemmas.List.{append_assoc}
 use Rattle.std.proofs.lemmas.Nat.{div-mul-add}
 use Rattle.image_access.specs.Backing.{BackingView}
 use Rattle.image_access.specs.Moments.{StorageView}
@@ -17,13 +18,14 @@ use Rattle.qcow2_laws.specs.Stops.{Mark, IsKeptAt}
 use Rattle.qcow2_laws.specs.Tops.{places_of, with_places}
 use Rattle.qcow2_laws.proofs.Leads.{leads_none, leads_then, steps_endure}
 use Rattle.qcow2_laws.proofs.Stops.{kept_more}
-use Rattle.qcow2_alloc.specs.Allocation.{run_at, taken_as, Becomes}
+use Rattle.qcow2_alloc.specs.Allocation.{run_at, taken_as, BecomesOn, LeavesAs}
 use Rattle.qcow2_alloc.specs.CacheMarks.{KeepsMarks}
 use Rattle.qcow2_alloc.specs.declared.allocation.Allocator.{Allocator}
 use Rattle.qcow2_alloc.specs.declared.clusters_to_free.ClustersToFreeEntry.{ClustersToFreeEntry}
 use Rattle.qcow2_alloc.specs.declared.error.ImageError.{ImageError}
 use Rattle.qcow2_alloc.specs.declared.image_file.ImageFile.{ImageFile}
-use Rattle.qcow2_alloc.specs.ImageFile.{nothing_given, view_in, known_in, stand_in, LeavesSound}
+use Rattle.qcow2_alloc.specs.FreeList.{ListsTables}
+use Rattle.qcow2_alloc.specs.ImageFile.{nothing_given, view_in, known_in, stand_in, KeepsHeader}
 use Rattle.qcow2_alloc.proofs.FileSteps.{pending_same}
 use Rattle.qcow2_alloc.proofs.PlacedBlocks.{file_sizes}
 use Rattle.qcow2_alloc.proofs.Runs.{run_before, run_after}
@@ -36,7 +38,9 @@ use Rattle.qcow2_image.proofs.Tidying.{all_listed, beside}
 use Rattle.qcow2_image.specs.Steps.{Tidies, FreesListed, Keeps, ListGrows, following}
 use Rattle.qcow2_image.specs.Views.{of_data, of_tables, to_free, pending_in, IsSoundAt}
 use Rattle.qcow2_image.proofs.Entering.{keeps_listed}
-use Rattle.qcow2_image.proofs.Moving.{file_moved}
+use Rattle.qcow2_image.proofs.Formats.{lists_grow}
+use Rattle.qcow2_image.proofs.Gaining.{following_on}
+use Rattle.qcow2_image.proofs.Moving.{file_moved_on}
 use Rattle.qcow2_image.proofs.Sound.{IsOnly, free_more, pending_is}
 
 module _ {S F : Type 0} (view : S → StorageView) (backing : F → BackingView) where
@@ -82,18 +86,22 @@ module _ {S F : Type 0} (view : S → StorageView) (backing : F → BackingView)
       joined (Err e) lasts = let q = with_table p t cluster in lasts_then q q a b c [] [] (extends_keeping q q a b placed.0) lasts
 
   -- ---- clusters are taken for it, or aren't
-  module _ (p : Pending) (old : Qcow2 S F) (sound : IsSoundAt view backing p old []) (file : ImageFile S) (a : Allocator) (marks : KeepsMarks old.file.caches file.caches) (list : file.free_list ≡ old.file.free_list)
-      (header : file.header ≡ old.file.header) where
+  module _ (p : Pending) (old : Qcow2 S F) (sound : IsSoundAt view backing p old []) (file : ImageFile S) (a : Allocator) (marks : KeepsMarks old.file.caches file.caches) (lists : ListsTables old.file.free_list file.free_list)
+      (header : KeepsHeader old.file.header file.header) where
     abbrev taken : Qcow2 S F
     taken = record old { file = file; allocator = Some a }
 
-    pub lasts_untaken : (e : ImageError) → LeavesSound view p old.file a file e → Lasts view old taken []
-    lasts_untaken e left = ⊎_elim (λ moved. moved.0.since) (λ breaks. breaks.since) left
+    -- what is pending then, beside what is taken
+    abbrev since : Pending
+    since = following p old taken
 
-    module _ (t : EntryTableView) (cluster n : ℕ) (many : n ≡ clusters_of t) (becomes : Becomes view p old.file a file (taken_as false p (run_at cluster n))) (longer : IsLonger old t) where
-      keeps_taken : Keeps view backing p (with_table p t cluster) old taken []
-      keeps_taken = subst (λ m. Keeps view backing p (taken_as false p (run_at cluster m)) old taken []) many
-          (file_moved view backing old [] p (taken_as false p (run_at cluster n)) sound file (Some a) becomes.moves becomes.reftable marks.pins list)
+    pub lasts_untaken : (e : ImageError) → LeavesAs view p old.file a file since e → Lasts view old taken []
+    lasts_untaken e left = ⊎_elim (λ becomes. becomes.moves.since) (λ breaks. breaks.since) left
+
+    module _ (t : EntryTableView) (cluster n : ℕ) (many : n ≡ clusters_of t) (becomes : BecomesOn view p old.file a file (taken_as false since (run_at cluster n))) (longer : IsLonger old t) where
+      keeps_taken : Keeps view backing p (with_table since t cluster) old taken []
+      keeps_taken = subst (λ m. Keeps view backing p (taken_as false since (run_at cluster m)) old taken []) many
+          (file_moved_on view backing old [] p (taken_as false since (run_at cluster n)) sound file (Some a) becomes.moves becomes.reftable marks.pins (lists_grow old taken lists))
 
       longer_taken : IsLonger taken t
       longer_taken = record {
@@ -103,12 +111,14 @@ module _ {S F : Type 0} (view : S → StorageView) (backing : F → BackingView)
         entries = longer.entries;
       }
 
-      pub table_taken : (new : Qcow2 S F) (r : Result (Unit {0}) ImageError) → (IsSoundAt view backing (with_table p t cluster) taken [] → IsLonger taken t → NamesTable view backing p taken new t cluster r) → TakesTable view backing p old new r
-      table_taken new (Ok x) names =
-          let q = with_table p t cluster in
-          subst (λ (h : HeaderFields). Extends view backing p (without_l1 p h) old new []) (ap (λ (v : HeaderView). v.fields) header)
-          (extends_then p q (without_l1 p file.header.fields) old taken new [] [] (extends_keeping p q old taken keeps_taken) (names keeps_taken.sound longer_taken))
-      table_taken new (Err e) names = let q = with_table p t cluster in lasts_then p q old taken new [] [] (extends_keeping p q old taken keeps_taken) (names keeps_taken.sound longer_taken)
+      pub table_taken : (new : Qcow2 S F) (r : Result (Unit {0}) ImageError) → new.file.free_list ≡ file.free_list → (IsSoundAt view backing (with_table since t cluster) taken [] → IsLonger taken t → NamesTable view backing since taken new t cluster r)
+          → TakesTable view backing p old new r
+      table_taken new (Ok x) listed names =
+          let q = with_table since t cluster in
+          subst (λ s. Extends view backing p (without_l1 s old.file.header.fields) old new []) (following_on view backing [] p old taken new listed)
+          (subst (λ (h : HeaderFields). Extends view backing p (without_l1 since h) old new []) (ap (λ (v : HeaderView). v.fields) header)
+          (extends_then p q (without_l1 since file.header.fields) old taken new [] [] (extends_keeping p q old taken keeps_taken) (names keeps_taken.sound longer_taken)))
+      table_taken new (Err e) listed names = let q = with_table since t cluster in lasts_then p q old taken new [] [] (extends_keeping p q old taken keeps_taken) (names keeps_taken.sound longer_taken)
 
   -- ---- the former table's clusters are to be freed
 
@@ -164,30 +174,39 @@ module _ {S F : Type 0} (view : S → StorageView) (backing : F → BackingView)
     no_data None k = refl
     no_data (Some cluster) k = omega arith
 
-    module _ (mid : Qcow2 S F) (takes : Extends view backing p (without_l1 p h) old mid []) (list : List ClustersToFreeEntry) (former : Option ClustersToFreeEntry) (same : mid.file.free_list ≡ old.file.free_list)
+    module _ (mid : Qcow2 S F) (takes : Extends view backing p (without_l1 (following p old mid) h) old mid []) (list : List ClustersToFreeEntry) (former : Option ClustersToFreeEntry) (grows : ListGrows old mid)
         (is : former ≡ run_of_table old.l1_table old.l1_table.cluster) (longer : list ≡ mid.file.free_list ++ listed former) where
       abbrev final : Qcow2 S F
       final = record mid { file = record mid.file { free_list = list } }
 
-      list_is : list ≡ old.file.free_list ++ listed (run_of_table old.l1_table old.l1_table.cluster)
-      list_is = longer ∙ ap (λ l. l ++ listed former) same ∙ ap (λ f. old.file.free_list ++ listed f) is
+      list_is : list ≡ mid.file.free_list ++ listed (run_of_table old.l1_table old.l1_table.cluster)
+      list_is = longer ∙ ap (λ f. mid.file.free_list ++ listed f) is
 
-      to_be_freed : without_l1 p h ≡ following p old final
+      to_be_freed : without_l1 (following p old mid) h ≡ following p old final
       to_be_freed =
           let more = listed (run_of_table old.l1_table old.l1_table.cluster) in
-          pending_same (without_l1 p h) (following p old final) (λ k. refl) (λ k. refl)
-          (λ k. let sum = ap (λ l. to_free of_tables l k) list_is ∙ free_more of_tables old.file.free_list more k in let run = former_is old.l1_table.cluster refl k in omega (arith, sum, run))
-          (λ k. let sum = ap (λ l. to_free of_data l k) list_is ∙ free_more of_data old.file.free_list more k in let none = no_data old.l1_table.cluster k in omega (arith, sum, none)) (λ k. refl)
+          pending_same (without_l1 (following p old mid) h) (following p old final) (λ k. refl) (λ k. refl)
+          (λ k.
+          let since = ap (λ l. to_free of_tables l k) grows.is ∙ free_more of_tables old.file.free_list grows.more k in
+          let sum = ap (λ l. to_free of_tables l k) list_is ∙ free_more of_tables mid.file.free_list more k in
+          let run = former_is old.l1_table.cluster refl k in
+          omega (arith, since, sum, run))
+          (λ k.
+          let since = ap (λ l. to_free of_data l k) grows.is ∙ free_more of_data old.file.free_list grows.more k in
+          let sum = ap (λ l. to_free of_data l k) list_is ∙ free_more of_data mid.file.free_list more k in
+          let none = no_data old.l1_table.cluster k in
+          omega (arith, since, sum, none))
+          (λ k. refl)
 
       pub lengthened : Extends view backing p (following p old final) old final []
       lengthened =
-          let q = without_l1 p h in
+          let q = without_l1 (following p old mid) h in
           subst (λ (r : Pending). Extends view backing p r old final []) to_be_freed
           (extends_then p q q old mid final [] [] takes
           (extends_keeping q q mid final (keeps_listed view backing [] q q mid list (listed former) takes.sound longer (leads_none (stand_in view mid.file q) takes.sound.file.caches.kept.kept.guarded))))
 
       pub list_grows : ListGrows old final
-      list_grows = record { more = listed (run_of_table old.l1_table old.l1_table.cluster); is = list_is }
+      list_grows = record { more = grows.more ++ listed former; is = longer ∙ ap (λ l. l ++ listed former) grows.is ∙ append_assoc old.file.free_list grows.more (listed former) }
 
   -- ---- the table, then the size
   pub resized_then : (p : Pending) (a b c : Qcow2 S F) (size : ℕ) (r : Result (Unit {0}) ImageError) → Extends view backing p (following p a b) a b [] → c.file.free_list ≡ b.file.free_list → Resizes view backing (following p a b) b c size r → Resizes view backing p a c size r

@@ -1,4 +1,5 @@
 pub mod Sound
+pub mod Formats
 pub mod Ready
 pub mod Loading
 pub mod Reading
@@ -34,7 +35,6 @@ pub mod PrepareCalls
 pub mod Reftables
 pub mod Opening
 pub mod HeaderKept
-pub mod Numbers
 pub mod Resized
 pub mod LongerTables
 pub mod NamedL1

@@ -1,6 +1,6 @@
 -- Tables are loaded, written and evicted, and bytes are read: no guest sees it.
 use Rattle.std.proofs.Common.{◌≡◌, ℕ, List, [], refl, sym, ap, ◌∙◌, subst}
-use Rattle.std.specs.Prelude.{Option, Some, None, IfSome, Result, Ok, Err, IfOk}
+use Rattle.std.specs.Prelude.{Option, Some, None, IfSome, Result, Ok, Err, IfOk, true}
 use Rattle.image_access.specs.Backing.{BackingView}
 use Rattle.image_access.specs.Moments.{StorageView}
 use Rattle.qcow2_metadata.specs.Bytes.{Bytes, byte_at}
@@ -31,7 +31,7 @@ use Rattle.qcow2_alloc.specs.MetadataCaches.{l2_tables, refblocks, known_of, Are
 use Rattle.qcow2_alloc.specs.ImageFile.{stand_in, view_in, contents_in, known_in, HasReftable}
 use Rattle.qcow2_image.specs.declared.image.Qcow2.{Qcow2}
 use Rattle.qcow2_image.specs.declared.prepared.Prepared.{Prepared}
-use Rattle.qcow2_image.specs.Views.{cluster_of, IsHonestBacking, IsSoundAt, backing_bytes}
+use Rattle.qcow2_image.specs.Views.{cluster_of, IsHonestBacking, IsSoundAt, below_of}
 use Rattle.qcow2_image.specs.Steps.{Keeps}
 use Rattle.qcow2_image.proofs.Ready.{still_ready}
 
@@ -149,6 +149,6 @@ module _ {S F : Type 0} (view : S → StorageView) (backing : F → BackingView)
         since = endures_none (view_in view image.file) (known_in view image.file);
         unseen = unseen_none (stand_in view image.file p);
         copied = λ i copied. refl;
-        below = ap byte_at (stays.bytes honest) ∙ ap (backing_bytes view backing) (sym is);
+        below = ap (λ b. (true, byte_at b)) (stays.bytes honest) ∙ ap (below_of view backing) (sym is);
         list = record { more = []; is = sym (append-nil image.file.free_list) };
       }

@@ -1,7 +1,7 @@
 -- What a lookup finds: the longest run of clusters that are mapped alike, within one L2 table.
 use Rattle.std.proofs.Common.{◌≡◌, ⊎_elim, ℕ, zero, suc, ◌+◌, ◌-◌, ◌*◌, ◌/◌, ◌%◌, ◌^◌, ◌<◌, ◌≤◌, ◌≢◌, refl, sym, ap, ◌∙◌, arith, subst, min, Bool, true, false, is_some}
 use Rattle.std.proofs.lemmas.Nat.{div-add-mod', div-mul-add, mod_below}
-use Rattle.std.specs.Prelude.{◌==◌}
+use Rattle.std.specs.Prelude.{◌==◌, if◌then◌else◌}
 use Rattle.std.proofs.Math.Nat.{div-div-eq-div-mul, div-mul-le_self}
 use Rattle.std.proofs.Math.Pow.{pow_mono}
 use Rattle.qcow2_metadata.specs.Bytes.{Bytes}
@@ -28,9 +28,11 @@ use Rattle.qcow2_laws.proofs.Places.{Sizes-from}
 use Rattle.qcow2_laws.proofs.Tops.{IsTop-top}
 use Rattle.qcow2_image.specs.declared.image.Qcow2.{Qcow2}
 use Rattle.qcow2_image.specs.declared.mapping.MappingKind.{MappingKind}
-use Rattle.qcow2_image.specs.declared.mapping.MappingKind.TheVariants as Kind
+use Rattle.qcow2_image.specs.declared.mapping.MappingKind.TheVariants as M
 use Rattle.qcow2_image.specs.Image.{size_of}
-use Rattle.qcow2_image.specs.Found.{mapping_of, kind_at, rest_of_table, l1_index_of, AreAlikeBehind, IsAlikeTo, IsRunBehind, IsFound, IsFoundWhole, IsMappedAs}
+use Rattle.qcow2_laws.specs.Found.{Kind, raw, indirect, zeros, special, eof, kind_at, rest_of_table}
+use Rattle.qcow2_image.specs.declared.mapping.Place.TheVariants.{Image, DataFile}
+use Rattle.qcow2_image.specs.Found.{found_kind, mapping_of, l1_index_of, AreAlikeBehind, IsAlikeTo, IsRunBehind, IsFound, IsFoundWhole, IsMappedAs}
 
 pub product_le : (m n k : ℕ) → m ≤ n → m * k ≤ n * k
 product_le m n k le = let e : n ≡ m + (n - m) = omega (arith, le) in let f : n * k ≡ m * k + (n - m) * k = ap (λ x. x * k) e ∙ omega arith in omega arith
@@ -149,6 +151,26 @@ held_says view file p t table i cluster sound shows at here =
     let each = λ (index : ℕ) (lt : index < entries_per_cluster h). shows h p (contents_in view file) i index sound.caches (record { real = at.real; place = at.place; within = lt }) in
     says_known h (known_in view file) t i sizes at.real (each (cluster % entries_per_cluster h) at.within).format (λ index lt. (each index lt).entry) cluster here
 
+-- the mapping that is told so
+abbrev told_of : Kind → MappingKind
+told_of (raw external offset writable) = M.Raw (if external then DataFile else Image) offset writable
+told_of (indirect offset) = M.Indirect offset
+told_of (zeros explicit) = M.Zero explicit
+told_of (special offset) = M.Special offset
+told_of eof = M.Eof
+
+told_back : (k : MappingKind) → told_of (found_kind k) ≡ k
+told_back (M.Raw Image offset writable) = refl
+told_back (M.Raw DataFile offset writable) = refl
+told_back (M.Indirect offset) = refl
+told_back (M.Zero explicit) = refl
+told_back (M.Special offset) = refl
+told_back M.Eof = refl
+
+-- kinds that are told alike are the same
+pub same_kind : (a b : MappingKind) → found_kind a ≡ found_kind b → a ≡ b
+same_kind a b same = sym (told_back a) ∙ ap told_of same ∙ told_back b
+
 -- a whole range that was found as it is wanted is the longest run
 pub found_whole : {S F : Type 0} (view : S → StorageView) (image : Qcow2 S F) (offset n : ℕ) (kind wanted : MappingKind) (found : ℕ) → IsFound view image offset n kind found → IsFoundWhole view image offset wanted n
     → (wanted ≡ kind) × (n ≤ found)
@@ -156,11 +178,11 @@ found_whole view image offset n kind wanted found is whole = ⊎_elim
     (λ lt.
     let run = is.run lt in
     let all = whole.run lt in
-    (all.kind_is ∙ sym run.kind_is, ⊎_elim (λ (short : found < n). absurd (run.longest.longest (omega (arith, short, all.longest.within)) (all.longest.alike found short))) (λ le. le) (cases_lt found n)))
-    (λ past. ((whole.past past).0 ∙ sym (is.past past).0, let none = (whole.past past).1 in omega arith)) (cases_lt offset (size_of image))
+    (same_kind wanted kind (all.kind_is ∙ sym run.kind_is), ⊎_elim (λ (short : found < n). absurd (run.longest.longest (omega (arith, short, all.longest.within)) (all.longest.alike found short))) (λ le. le) (cases_lt found n)))
+    (λ past. (same_kind wanted kind ((whole.past past).0 ∙ sym (is.past past).0), let none = (whole.past past).1 in omega arith)) (cases_lt offset (size_of image))
 
 -- no cluster is mapped as what lies past the end
-kind_within : (h : HeaderFields) (backed : Bool) (offset : ℕ) (m : L2Mapping) → Kind.Eof ≡ kind_at h backed offset m → ⊥
+kind_within : (h : HeaderFields) (backed : Bool) (offset : ℕ) (m : L2Mapping) → eof ≡ kind_at h backed offset m → ⊥
 kind_within h backed offset (Data host copied) is = absurd cc
 kind_within h backed offset (Zero kept) is = absurd cc
 kind_within h backed offset (Compressed host sectors) is = absurd cc
@@ -168,7 +190,7 @@ kind_within h true offset Uncovered is = absurd cc
 kind_within h false offset Uncovered is = absurd cc
 
 -- so no range is found whole so
-pub none_past : {S F : Type 0} (view : S → StorageView) (image : Qcow2 S F) (offset n : ℕ) → 0 < n → IsFoundWhole view image offset Kind.Eof n → ⊥
+pub none_past : {S F : Type 0} (view : S → StorageView) (image : Qcow2 S F) (offset n : ℕ) → 0 < n → IsFoundWhole view image offset M.Eof n → ⊥
 none_past view image offset n some whole = ⊎_elim
     (λ lt. kind_within image.file.header.fields (is_some image.backing) offset (cover image.file.header.fields (known_in view image.file) (offset / cluster_size image.file.header.fields)) (whole.run lt).kind_is)
     (λ past. absurd (let none = (whole.past past).1 in omega arith)) (cases_lt offset (size_of image))

@@ -6,25 +6,28 @@ use Rattle.image_access.specs.Backing.{BackingView}
 use Rattle.image_access.specs.Moments.{StorageView}
 use Rattle.qcow2_metadata.specs.declared.header.HeaderFields.{HeaderFields}
 use Rattle.qcow2_metadata.specs.Header.{cluster_size}
-use Rattle.qcow2_metadata.specs.Entries.{l1_entry}
 use Rattle.qcow2_laws.specs.Guard.{Pending}
+use Rattle.qcow2_laws.specs.Unseen.{KeepsFormat}
+use Rattle.qcow2_laws.proofs.Formats.{l1_format}
 use Rattle.qcow2_alloc.specs.CacheMarks.{l2_pins}
 use Rattle.qcow2_alloc.specs.declared.allocation.Allocator.{Allocator}
 use Rattle.qcow2_alloc.specs.declared.image_file.ImageFile.{ImageFile}
-use Rattle.qcow2_alloc.specs.ImageFile.{contents_in, known_in, Moves, HasReftable}
+use Rattle.qcow2_alloc.specs.ImageFile.{contents_in, known_in, Moves, MovesOn, HasReftable}
+use Rattle.qcow2_alloc.proofs.FileSteps.{moves_on}
 use Rattle.qcow2_image.specs.declared.image.Qcow2.{Qcow2}
 use Rattle.qcow2_image.specs.declared.prepared.Prepared.{Prepared}
-use Rattle.qcow2_image.specs.Steps.{Keeps, Tidies}
+use Rattle.qcow2_image.specs.Steps.{Keeps, ListGrows, Tidies}
 use Rattle.qcow2_image.specs.Views.{cluster_of, HasL1Table, IsReadyWith, IsSoundAt}
+use Rattle.qcow2_image.proofs.Formats.{l1_shared, ready_format}
 use Rattle.qcow2_image.proofs.Ready.{still_ready}
 
 module _ {S F : Type 0} (view : S → StorageView) (backing : F → BackingView) (old : Qcow2 S F) (out : List (Option Prepared)) (p p' : Pending) (sound : IsSoundAt view backing p old out)
-    (file : ImageFile S) (allocator : Option Allocator) (moves : Moves view p p' old.file file) (reftable : IfSome allocator (λ a. HasReftable view file a.reftable))
+    (file : ImageFile S) (allocator : Option Allocator) (moves : MovesOn view p p' old.file file) (reftable : IfSome allocator (λ a. HasReftable view file a.reftable))
     (pins : (table : ℕ) → l2_pins file.caches table ≡ l2_pins old.file.caches table) where
   abbrev h : HeaderFields
   h = old.file.header.fields
 
-  header : file.header.fields ≡ h
+  header : KeepsFormat h file.header.fields
   header = moves.unseen.header
 
   l1_moved : HasL1Table view backing file old.l1_table
@@ -32,14 +35,14 @@ module _ {S F : Type 0} (view : S → StorageView) (backing : F → BackingView)
     cluster = λ some. sound.l1_table.cluster (subst (λ (x : HeaderFields). 0 < x.l1_entries) header some) ∙ ap (λ (x : HeaderFields). Some (x.l1_offset / cluster_size x)) (sym header);
     bits = sound.l1_table.bits ∙ ap (λ (x : HeaderFields). x.cluster_bits) (sym header);
     count = sound.l1_table.count ∙ ap (λ (x : HeaderFields). x.l1_entries) (sym header);
-    entries = λ i. sound.l1_table.entries i ∙ sym (moves.l1_table i) ∙ ap (λ x. l1_entry x (contents_in view file) i) (sym header);
+    entries = λ i. sound.l1_table.entries i ∙ sym (moves.l1_table i) ∙ sym (l1_format h file.header.fields header (contents_in view file) i);
   }
 
   ready_moved : (k : ℕ) (q : Prepared) → IsReadyWith h (known_in view old.file) (contents_in view old.file) q q.table → IsReadyWith file.header.fields (known_in view file) (contents_in view file) q q.table
   ready_moved k q ready =
-      subst (λ x. IsReadyWith x (known_in view file) (contents_in view file) q q.table) (sym header)
+      ready_format h file.header.fields header (known_in view file) (contents_in view file) q q.table
       (still_ready h (known_in view old.file) (contents_in view old.file) (known_in view file) (contents_in view file) q (moves.unseen.covers (cluster_of h q)) sound.file.caches.kept.kept.guarded.same_top.l1
-      (λ i. subst (λ x. l1_entry x (contents_in view file) i ≡ l1_entry x (known_in view file) i) header (moves.sound.caches.kept.kept.guarded.same_top.l1 i)) (λ i copied. moves.l1_table i) q.table ready)
+      (λ i. l1_shared h file.header.fields header (contents_in view file) (known_in view file) i (moves.sound.caches.kept.kept.guarded.same_top.l1 i)) (λ i copied. moves.l1_table i) q.table ready)
 
   pub file_tidied : Tidies view backing p p' old (record old { file = file; allocator = allocator }) out
   file_tidied = record {
@@ -60,13 +63,20 @@ module _ {S F : Type 0} (view : S → StorageView) (backing : F → BackingView)
     below = refl;
   }
 
-  pub file_moved : file.free_list ≡ old.file.free_list → Keeps view backing p p' old (record old { file = file; allocator = allocator }) out
-  file_moved list = record {
+  pub file_moved_on : ListGrows old (record old { file = file; allocator = allocator }) → Keeps view backing p p' old (record old { file = file; allocator = allocator }) out
+  file_moved_on list = record {
     sound = file_tidied.sound;
     leads = file_tidied.leads;
     since = file_tidied.since;
     unseen = file_tidied.unseen;
     copied = file_tidied.copied;
     below = file_tidied.below;
-    list = record { more = []; is = list ∙ sym (append-nil old.file.free_list) };
+    list = list;
   }
+
+-- the reftable stays, and so does the list
+module _ {S F : Type 0} (view : S → StorageView) (backing : F → BackingView) (old : Qcow2 S F) (out : List (Option Prepared)) (p p' : Pending) (sound : IsSoundAt view backing p old out)
+    (file : ImageFile S) (allocator : Option Allocator) (moves : Moves view p p' old.file file) (reftable : IfSome allocator (λ a. HasReftable view file a.reftable))
+    (pins : (table : ℕ) → l2_pins file.caches table ≡ l2_pins old.file.caches table) where
+  pub file_moved : file.free_list ≡ old.file.free_list → Keeps view backing p p' old (record old { file = file; allocator = allocator }) out
+  file_moved list = file_moved_on view backing old out p p' sound file allocator (moves_on view p p' old.file file moves) reftable pins (record { more = []; is = list ∙ sym (append-nil old.file.free_list) })

@@ -29,13 +29,13 @@ use Rattle.qcow2_alloc.specs.MetadataCaches.{order_of, known_of}
 use Rattle.qcow2_alloc.proofs.FileSteps.{pending_same}
 use Rattle.qcow2_alloc.proofs.KeptTables.Getting.{cluster_aligned}
 use Rattle.qcow2_alloc.proofs.KeptTables.Standing.{own_cluster}
+use Rattle.qcow2_alloc.proofs.Numbers.{l1_pointer_writes}
 use Rattle.qcow2_alloc.proofs.PlacedBlocks.{file_sizes, known_there}
 use Rattle.qcow2_image.specs.declared.image.Qcow2.{Qcow2}
 use Rattle.qcow2_image.specs.Growing.{with_table, without_l1, StandsWhole, Extends, NamesTable}
 use Rattle.qcow2_image.specs.Views.{IsSoundAt}
 use Rattle.qcow2_image.proofs.HeaderKept.{placed_settled, placed_sound}
 use Rattle.qcow2_image.proofs.LongerTables.{same_run, run_free}
-use Rattle.qcow2_image.proofs.Numbers.{l1_pointer_writes}
 
 -- the sizes aren't told by the place of the L1 table
 same_sizes : (h : HeaderFields) (offset entries : ℕ) → Sizes h → Sizes (with_places h (with_l1_at h offset entries))

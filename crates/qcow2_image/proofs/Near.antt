@@ -17,7 +17,8 @@ use Rattle.qcow2_image.specs.declared.image.Qcow2.{Qcow2}
 use Rattle.qcow2_image.specs.declared.mapping.MappingKind.TheVariants as Kind
 use Rattle.qcow2_image.specs.declared.mapping.Place.TheVariants.{Image}
 use Rattle.qcow2_image.specs.Image.{size_of}
-use Rattle.qcow2_image.specs.Found.{IsFoundWhole, kind_at}
+use Rattle.qcow2_laws.specs.Found.{raw, kind_at}
+use Rattle.qcow2_image.specs.Found.{IsFoundWhole}
 
 picked : (a z d : Bool) (v w : L2Mapping) (x host : ℕ) (m copied : Bool) → ((h : ℕ) (k : Bool) → v ≡ Data h k → ⊥) → ((h : ℕ) (k : Bool) → w ≡ Data h k → ⊥)
     → (if a then v else if z then w else if d then Data x m else Uncovered) ≡ Data host copied → x ≡ host
@@ -45,19 +46,19 @@ cover_near h b g host copied is =
     let entry = l2_entry b (host_offset (l1_entry h b (g / entries_per_cluster h))) (g % entries_per_cluster h) in
     subst (λ n. n < 2 ^ 56) (entry_host h.cluster_bits (h.version == 3) (has_data_file h) entry host copied (under (host_offset (l1_entry h b (g / entries_per_cluster h)) == 0) _ host copied is)) (host_near entry)
 
-raw_at : (h : HeaderFields) (known : Bytes) (g offset place : ℕ) (backed w : Bool) → h.cluster_bits ≤ 21 → (v : L2Mapping) → cover h known g ≡ v → Kind.Raw Image place w ≡ kind_at h backed offset v → place < 2 ^ 64
-raw_at h known g offset place backed w few (Data host copied) is raw =
+raw_at : (h : HeaderFields) (known : Bytes) (g offset place : ℕ) (backed w : Bool) → h.cluster_bits ≤ 21 → (v : L2Mapping) → cover h known g ≡ v → raw false place w ≡ kind_at h backed offset v → place < 2 ^ 64
+raw_at h known g offset place backed w few (Data host copied) is same =
     let near = cover_near h known g host copied is in
     let large : cluster_size h ≤ 2 ^ 21 = pow_mono few in
     let one : 2 ^ 0 ≤ 2 ^ h.cluster_bits = pow_mono {i = 0} (omega arith) in
     let some : 0 < cluster_size h = omega (arith, one) in
     let rest = mod_below offset (cluster_size h) some in
-    let same : place ≡ host + offset % cluster_size h = cc in
+    let at : place ≡ host + offset % cluster_size h = cc in
     omega (arith, near, large, rest)
-raw_at h known g offset place backed w few (Zero kept) is raw = absurd cc
-raw_at h known g offset place backed w few (Compressed p s) is raw = absurd cc
-raw_at h known g offset place true w few Uncovered is raw = absurd cc
-raw_at h known g offset place false w few Uncovered is raw = absurd cc
+raw_at h known g offset place backed w few (Zero kept) is same = absurd cc
+raw_at h known g offset place backed w few (Compressed p s) is same = absurd cc
+raw_at h known g offset place true w few Uncovered is same = absurd cc
+raw_at h known g offset place false w few Uncovered is same = absurd cc
 
 -- what is found as data stands at such a place
 pub found_near : {S F : Type 0} (view : S → StorageView) (image : Qcow2 S F) (offset n place : ℕ) (w : Bool) → image.file.header.fields.cluster_bits ≤ 21 → 0 < n → IsFoundWhole view image offset (Kind.Raw Image place w) n → place < 2 ^ 64

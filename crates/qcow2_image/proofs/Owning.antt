@@ -36,7 +36,7 @@ use Rattle.qcow2_image.specs.Steps.{NamesOwn, Keeps, Leaves, following, HoldsTab
 use Rattle.qcow2_image.specs.Found.{l1_index_of}
 use Rattle.qcow2_image.specs.Views.{IsSoundAt}
 use Rattle.qcow2_image.proofs.Called.{keeps_then}
-use Rattle.qcow2_image.proofs.Entering.{keeps_none, unlisted, as_following, breaks_on, same_l1, keeps_listed, given_up, freed_table}
+use Rattle.qcow2_image.proofs.Entering.{keeps_none, as_following, breaks_on, same_l1, keeps_listed, given_up, freed_table}
 use Rattle.qcow2_image.proofs.Loading.{caches_moved, with_caches}
 use Rattle.qcow2_image.proofs.Naming.{table_alone}
 
@@ -73,13 +73,13 @@ module _ {S F : Type 0} (view : S → StorageView) (backing : F → BackingView)
       says = λ g here. cover_none h known g (ap (table_at h known) here ∙ known_table ∙ none) ∙ sym (ap (entry_cover h) (zeros (g % entries_per_cluster h)) ∙ cover_of-0 h.cluster_bits (h.version == 3) (has_data_file h));
     }
 
-    replaces_none : replacing view p old index ≡ p
-    replaces_none =
-        pending_same (replacing view p old index) p (λ k. refl) (λ k. refl)
+    replaces_none : (r : Pending) → replacing view r old index ≡ r
+    replaces_none r =
+        pending_same (replacing view r old index) r (λ k. refl) (λ k. refl)
         (λ k. let e : table_in h k (table_at h (contents_in view old.file) index) ≡ 0 = cond-true _ _ _ (eq-eqb (table_at h (contents_in view old.file) index) 0 none) in omega (arith, e)) (λ k. refl) (λ k. refl)
 
     pub entered_owns : (new : Qcow2 S F) (r : Result ℕ ImageError) → EntersTable view backing p old new out index r → OwnsTable view backing p old new out index r
-    entered_owns new (Ok cluster) entered = (subst (λ (q : Pending). Keeps view backing p q old new out) (replaces_none ∙ unlisted view backing out p old new entered.2) entered.0, entered.1)
+    entered_owns new (Ok cluster) entered = (subst (λ (q : Pending). Keeps view backing p q old new out) (replaces_none (following p old new)) entered.0, entered.1)
     entered_owns new (Err e) left = left
 
   -- ---- where it is a table's own
@@ -88,19 +88,19 @@ module _ {S F : Type 0} (view : S → StorageView) (backing : F → BackingView)
 
   -- ---- where a copy takes the place of another
   module _ (former : ℕ) (shared : NamesShared view old index former) where
-    replaces_former : replacing view p old index ≡ given_up view backing out p former
-    replaces_former =
-        pending_same (replacing view p old index) (given_up view backing out p former) (λ k. refl) (λ k. refl)
+    replaces_former : (r : Pending) → replacing view r old index ≡ given_up view backing out r former
+    replaces_former r =
+        pending_same (replacing view r old index) (given_up view backing out r former) (λ k. refl) (λ k. refl)
         (λ k. let one = ap (table_in h k) shared.place ∙ table_alone h former k (λ none. shared.real (shared.place ∙ none)) in omega (arith, one)) (λ k. refl) (λ k. refl)
 
     pub swapped_owns : (new : Qcow2 S F) (cluster : ℕ) (entry : ClustersToFreeEntry) (list : List ClustersToFreeEntry) → entry ≡ metadata_entry former 1 → list ≡ new.file.free_list ++ entry ∷ [] → EntersTable view backing p old new out index (Ok cluster)
         → OwnsTable view backing p old (record new { file = record new.file { free_list = list } }) out index (Ok cluster)
     swapped_owns new cluster entry list is longer entered =
         let final : Qcow2 S F = record new { file = record new.file { free_list = list } } in
-        let q = given_up view backing out p former in
-        let first : Keeps view backing p q old new out = subst (λ (r : Pending). Keeps view backing p r old new out) replaces_former entered.0 in (
+        let q = given_up view backing out (following p old new) former in
+        let first : Keeps view backing p q old new out = subst (λ (r : Pending). Keeps view backing p r old new out) (replaces_former (following p old new)) entered.0 in (
           subst (λ (r : Pending). Keeps view backing p r old final out)
-              (freed_table view backing out p former old final entry (ap (λ (e : ClustersToFreeEntry). e.first_cluster) is) (ap (λ (e : ClustersToFreeEntry). e.count) is) (ap (λ (e : ClustersToFreeEntry). e.kind) is) (longer ∙ ap (λ l. l ++ entry ∷ []) entered.2))
+              (freed_table view backing out p former old new final entry entered.0.list (ap (λ (e : ClustersToFreeEntry). e.first_cluster) is) (ap (λ (e : ClustersToFreeEntry). e.count) is) (ap (λ (e : ClustersToFreeEntry). e.kind) is) longer)
               (keeps_then view backing out old new final p q q (λ k some. some) first
               (keeps_listed view backing out q q new list (entry ∷ []) first.sound longer (leads_none (stand_in view new.file q) first.sound.file.caches.kept.kept.guarded))),
           record { place = entered.1.place; own = entered.1.own },

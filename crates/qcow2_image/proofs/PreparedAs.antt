@@ -7,12 +7,14 @@ use Rattle.image_access.specs.Backing.{BackingView}
 use Rattle.image_access.specs.Moments.{StorageView}
 use Rattle.qcow2_metadata.specs.Bytes.{Bytes}
 use Rattle.qcow2_metadata.specs.declared.header.HeaderFields.{HeaderFields}
-use Rattle.qcow2_metadata.specs.Header.{cluster_size, rounded_down, rounded_up}
-use Rattle.qcow2_metadata.specs.Cover.{cover}
+use Rattle.qcow2_metadata.specs.Header.{cluster_size, rounded_down, rounded_up, with_reftable}
+use Rattle.qcow2_metadata.specs.Entries.{l1_entry}
+use Rattle.qcow2_metadata.specs.Cover.{cover, cover_under}
 use Rattle.qcow2_laws.specs.Alike.{IsDataAt}
 use Rattle.qcow2_laws.specs.Guard.{SameCovers}
 use Rattle.qcow2_laws.specs.Mappings.{PreparedMapping, is_copied_data}
 use Rattle.qcow2_laws.specs.Leads.{Stand, IsSound}
+use Rattle.qcow2_laws.specs.Unseen.{KeepsFormat}
 use Rattle.qcow2_laws.proofs.Alike.{are_still}
 use Rattle.qcow2_laws.proofs.Guests.{named-is}
 use Rattle.qcow2_laws.proofs.Places.{Sizes-from}
@@ -40,8 +42,8 @@ module _ (h : HeaderFields) (b c : Bytes) (same : SameCovers h b c) (offset : �
   data_still : (o place : ℕ) → IsDataAt h b true o place → IsDataAt h c true o place
   data_still o place is = (is.0, sym (same (o / cluster_size h)) ∙ is.1, is.2)
 
-  pub answered_still : (n : ℕ) (now : Bytes) (p : Prepared) (m : PreparedMapping) → IsAnswered h b offset n now p m → IsAnswered h c offset n now p m
-  answered_still n now p m is = record {
+  pub answered_still : (n : ℕ) (h' : HeaderFields) (now : Bytes) (p : Prepared) (m : PreparedMapping) → IsAnswered h b offset n h' now p m → IsAnswered h c offset n h' now p m
+  answered_still n h' now p m is = record {
     existing = (λ none. let there = is.existing.0 none in (there.0, writable_still n there.0 there.1), λ there. is.existing.1 (there.0, writable_before n there.0 there.1));
     whole = is.whole;
     rest = is.rest;
@@ -79,7 +81,7 @@ module _ {S F : Type 0} (view : S → StorageView) (backing : F → BackingView)
   h = image.file.header.fields
 
   -- all of the range is written where it is
-  pub answered_existing : (number : ℕ) → 0 < n → IsExisting p number offset n → IsWritableAt h known offset n p.offset → IsAnswered h known offset n now p (meaning view backing image p)
+  pub answered_existing : (number : ℕ) → 0 < n → IsExisting p number offset n → IsWritableAt h known offset n p.offset → IsAnswered h known offset n h now p (meaning view backing image p)
   answered_existing number any existing writable =
       let none : is_some p.table ≡ false = ap is_some existing.table in
       let never : (o : ℕ) → is_private view backing image p o ≡ false = λ o. ap (λ (m : Option NewCluster). is_some m && o / cluster_size h == p.guest / cluster_size h) existing.cluster in
@@ -129,7 +131,7 @@ module _ {S F : Type 0} (view : S → StorageView) (backing : F → BackingView)
         let there : p.offset / cluster_size h ≡ c.pending.first_cluster = ap (λ x. x / cluster_size h) host.1 ∙ div-mul-add c.pending.first_cluster (cluster_size h) (offset % cluster_size h) below in
         (ap (λ x. x % cluster_size h) host.1 ∙ mod-mul-add c.pending.first_cluster (cluster_size h) (offset % cluster_size h) below, subst (IsHeldAlone h now) (sym there) own)
 
-    pub answered_rest : HasItsOwn h now p.new_cluster → ((place : ℕ) → IsWritableAt h known offset n place → ⊥) → IsAnswered h known offset n now p (meaning view backing image p)
+    pub answered_rest : HasItsOwn h now p.new_cluster → ((place : ℕ) → IsWritableAt h known offset n place → ⊥) → IsAnswered h known offset n h now p (meaning view backing image p)
     answered_rest own never =
         let some : is_some p.table ≡ true = is.table in
         let left : 0 < cluster_size h - offset % cluster_size h = let lt = mod_below offset (cluster_size h) (pow_pos h.cluster_bits) in omega arith in
@@ -148,16 +150,51 @@ module _ {S F : Type 0} (view : S → StorageView) (backing : F → BackingView)
           in_new = λ private. stands_in_new p.new_cluster (sym (private_is offset refl) ∙ private) is.host own;
         }
 
+-- the same by a header that differs in where the reftable stands
+module _ (h : HeaderFields) (place clusters : ℕ) (known : Bytes) (offset : ℕ) where
+  answered_with : (n : ℕ) (h' : HeaderFields) (now : Bytes) (p : Prepared) (m : PreparedMapping) → IsAnswered (with_reftable h place clusters) known offset n h' now p m → IsAnswered h known offset n h' now p m
+  unfolding cover cover_under l1_entry
+  answered_with n h' now p m is = record { existing = is.existing; whole = is.whole; rest = is.rest; private = is.private; in_place = is.in_place; in_new = is.in_new }
+
+  taken_with : (n : ℕ) (out : List (Option Prepared)) → IsTaken (with_reftable h place clusters) known offset n out → IsTaken h known offset n out
+  unfolding cover cover_under l1_entry
+  taken_with n out is = record { place = is.place; other = is.other; is_out = is.is_out; keeps_table = is.keeps_table; same_table = is.same_table; never = is.never }
+
+  host_with : (at : ℕ) (c : Option NewCluster) → IsHostOf h known offset at c → IsHostOf (with_reftable h place clusters) known offset at c
+  unfolding cover cover_under l1_entry
+  host_with at None is = is
+  host_with at (Some n) is = is
+
+  rest_with : (p : Prepared) → IsRest h known offset p → IsRest (with_reftable h place clusters) known offset p
+  rest_with p is = record { guest = is.guest; table = is.table; length = is.length; host = host_with p.offset p.new_cluster is.host }
+
+  writable_with : (n at : ℕ) → IsWritableAt (with_reftable h place clusters) known offset n at → IsWritableAt h known offset n at
+  unfolding cover cover_under l1_entry
+  writable_with n at is = is
+
+module _ (h h' : HeaderFields) (e : KeepsFormat h h') (known : Bytes) (offset : ℕ) where
+  pub answered_format : (n : ℕ) (g : HeaderFields) (now : Bytes) (p : Prepared) (m : PreparedMapping) → IsAnswered h' known offset n g now p m → IsAnswered h known offset n g now p m
+  answered_format n g now p m is = answered_with h h'.reftable_offset h'.reftable_clusters known offset n g now p m (subst (λ (x : HeaderFields). IsAnswered x known offset n g now p m) e is)
+
+  pub taken_format : (n : ℕ) (out : List (Option Prepared)) → IsTaken h' known offset n out → IsTaken h known offset n out
+  taken_format n out is = taken_with h h'.reftable_offset h'.reftable_clusters known offset n out (subst (λ (x : HeaderFields). IsTaken x known offset n out) e is)
+
+  pub rest_format : (p : Prepared) → IsRest h known offset p → IsRest h' known offset p
+  rest_format p is = subst (λ (x : HeaderFields). IsRest x known offset p) (sym e) (rest_with h h'.reftable_offset h'.reftable_clusters known offset p is)
+
+  pub writable_format : (n at : ℕ) → IsWritableAt h' known offset n at → IsWritableAt h known offset n at
+  writable_format n at is = writable_with h h'.reftable_offset h'.reftable_clusters known offset n at (subst (λ (x : HeaderFields). IsWritableAt x known offset n at) e is)
+
 -- the same by what was known before a part that no guest sees
-module _ {S F : Type 0} (view : S → StorageView) (old mid : Qcow2 S F) (offset n : ℕ) (header : mid.file.header.fields ≡ old.file.header.fields)
+module _ {S F : Type 0} (view : S → StorageView) (old mid : Qcow2 S F) (offset n : ℕ) (header : KeepsFormat old.file.header.fields mid.file.header.fields)
     (covers : SameCovers old.file.header.fields (known_in view old.file) (known_in view mid.file)) where
-  pub answered_before : (now : Bytes) (p : Prepared) (m : PreparedMapping) → IsAnswered mid.file.header.fields (known_in view mid.file) offset n now p m → IsAnswered old.file.header.fields (known_in view old.file) offset n now p m
-  answered_before now p m is =
-      answered_still old.file.header.fields (known_in view mid.file) (known_in view old.file) (λ g. sym (covers g)) offset n now p m (subst (λ (x : HeaderFields). IsAnswered x (known_in view mid.file) offset n now p m) header is)
+  pub answered_before : (h' : HeaderFields) (now : Bytes) (p : Prepared) (m : PreparedMapping) → IsAnswered mid.file.header.fields (known_in view mid.file) offset n h' now p m → IsAnswered old.file.header.fields (known_in view old.file) offset n h' now p m
+  answered_before h' now p m is =
+      answered_still old.file.header.fields (known_in view mid.file) (known_in view old.file) (λ g. sym (covers g)) offset n h' now p m (answered_format old.file.header.fields mid.file.header.fields header (known_in view mid.file) offset n h' now p m is)
 
   pub taken_before : (out : List (Option Prepared)) → IsTaken mid.file.header.fields (known_in view mid.file) offset n out → IsTaken old.file.header.fields (known_in view old.file) offset n out
   taken_before out is =
-      taken_still old.file.header.fields (known_in view mid.file) (known_in view old.file) (λ g. sym (covers g)) offset n out (subst (λ (x : HeaderFields). IsTaken x (known_in view mid.file) offset n out) header is)
+      taken_still old.file.header.fields (known_in view mid.file) (known_in view old.file) (λ g. sym (covers g)) offset n out (taken_format old.file.header.fields mid.file.header.fields header (known_in view mid.file) offset n out is)
 
 -- what is held is counted once, and nothing names it
 pub held_alone : (s : Stand) → IsSound s → (k : ℕ) → 0 < s.pending.held k → IsHeldAlone s.header s.known k

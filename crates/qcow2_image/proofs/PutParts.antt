@@ -28,7 +28,8 @@ use Rattle.qcow2_image.specs.declared.mapping.MappingKind.TheVariants as Kind
 use Rattle.qcow2_image.specs.declared.mapping.Place.TheVariants.{Image}
 use Rattle.qcow2_image.specs.declared.prepared.Prepared.{Prepared}
 use Rattle.qcow2_image.specs.declared.prepared.NewCluster.{NewCluster}
-use Rattle.qcow2_image.specs.Found.{kind_at, IsMappedAs}
+use Rattle.qcow2_laws.specs.Found.{raw, kind_at}
+use Rattle.qcow2_image.specs.Found.{IsMappedAs}
 use Rattle.qcow2_image.specs.Parts.{put_guest, IsPut, IsWritten, PutsPart}
 use Rattle.qcow2_image.specs.Views.{begin_of, HasCluster, IsInPlace, IsPending, IsReadyWith, IsSoundAt, pending_in, seen, meaning}
 use Rattle.qcow2_image.proofs.Called.{Quietly, quiet_works, quiet_sound, quiet_same}
@@ -49,7 +50,7 @@ use mathlib.Core.Path.{fun_ext}
 use Rattle.qcow2_image.proofs.Put.{over_works, over_sound, put_in_place_seen, private_works, private_sound, private_seen}
 
 -- what is mapped in place stands in a row
-mapped_data : (h : HeaderFields) (known : Bytes) (offset n host : ℕ) (backed : Bool) (v : L2Mapping) → cover h known (offset / cluster_size h) ≡ v → Kind.Raw Image host true ≡ kind_at h backed offset v
+mapped_data : (h : HeaderFields) (known : Bytes) (offset n host : ℕ) (backed : Bool) (v : L2Mapping) → cover h known (offset / cluster_size h) ≡ v → raw false host true ≡ kind_at h backed offset v
     → ((w : L2Mapping) → cover h known (offset / cluster_size h) ≡ w → (start : ℕ) (copied : Bool) → w ≡ Data start copied → AreDataAt h known copied offset (start + offset % cluster_size h) n) → AreDataAt h known true offset host n
 mapped_data h known offset n host backed (Data start copied) is kind given =
     let marked : true ≡ copied = cc in

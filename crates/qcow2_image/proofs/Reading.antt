@@ -11,11 +11,9 @@ use Rattle.qcow2_metadata.specs.declared.l2_mapping.L2Mapping.{L2Mapping}
 use Rattle.qcow2_metadata.specs.declared.l2_mapping.L2Mapping.TheVariants.{Data, Zero, Compressed, Uncovered}
 use Rattle.qcow2_laws.specs.Disk.{disk}
 use Rattle.qcow2_laws.specs.Leads.{Stand, IsSound}
+use Rattle.qcow2_laws.specs.Found.{raw, indirect, zeros, kind_at}
 use Rattle.qcow2_laws.specs.Alike.{IsAlikeRun}
 use Rattle.qcow2_laws.proofs.Alike.{run_shows_data, run_shows_zero, run_shows_uncovered}
-use Rattle.qcow2_image.specs.declared.mapping.MappingKind.TheVariants as Kind
-use Rattle.qcow2_image.specs.declared.mapping.Place.{Place}
-use Rattle.qcow2_image.specs.Found.{kind_at}
 use Rattle.qcow2_image.specs.Views.{backing_bytes}
 
 -- without a disk below all is zero there
@@ -25,36 +23,36 @@ none_below view backing (Some f) none o = absurd cc
 
 module _ (s : Stand) (sound : IsSound s) (offset n : ℕ) (run : IsAlikeRun s.header s.known offset n) (backed : Bool) (backing : Bytes) where
   -- bytes in the file
-  pub raw_shown : (v : L2Mapping) → cover s.header s.known (offset / cluster_size s.header) ≡ v → (place : Place) (host : ℕ) (writable : Bool) → Kind.Raw place host writable ≡ kind_at s.header backed offset v
+  pub raw_shown : (v : L2Mapping) → cover s.header s.known (offset / cluster_size s.header) ≡ v → (external : Bool) (host : ℕ) (writable : Bool) → raw external host writable ≡ kind_at s.header backed offset v
       → (i : ℕ) → i < n → (disk s.known backing).value (offset + i) ≡ known_byte (s.base (host + i))
-  raw_shown (Data start copied) is place host writable kind i lt =
+  raw_shown (Data start copied) is external host writable kind i lt =
       let at : host ≡ start + offset % cluster_size s.header = cc in
       run_shows_data s sound offset n run backing start copied is i lt ∙ ap (λ k. known_byte (s.base (k + i))) (sym at)
-  raw_shown (Zero kept) is place host writable kind i lt = absurd cc
-  raw_shown (Compressed start sectors) is place host writable kind i lt = absurd cc
-  raw_shown Uncovered is place host writable kind i lt = no_raw backed kind where
-    no_raw : (b : Bool) → Kind.Raw place host writable ≡ (if b then Kind.Indirect offset else Kind.Zero false) → (disk s.known backing).value (offset + i) ≡ known_byte (s.base (host + i))
+  raw_shown (Zero kept) is external host writable kind i lt = absurd cc
+  raw_shown (Compressed start sectors) is external host writable kind i lt = absurd cc
+  raw_shown Uncovered is external host writable kind i lt = no_raw backed kind where
+    no_raw : (b : Bool) → raw external host writable ≡ (if b then indirect offset else zeros false) → (disk s.known backing).value (offset + i) ≡ known_byte (s.base (host + i))
     no_raw true e = absurd cc
     no_raw false e = absurd cc
 
   -- zeros, which an uncovered cluster without a backing disk shows too
-  pub zero_shown : (v : L2Mapping) → cover s.header s.known (offset / cluster_size s.header) ≡ v → (backed ≡ false → (o : ℕ) → backing o ≡ 0) → (explicit : Bool) → Kind.Zero explicit ≡ kind_at s.header backed offset v
+  pub zero_shown : (v : L2Mapping) → cover s.header s.known (offset / cluster_size s.header) ≡ v → (backed ≡ false → (o : ℕ) → backing o ≡ 0) → (explicit : Bool) → zeros explicit ≡ kind_at s.header backed offset v
       → (i : ℕ) → i < n → (disk s.known backing).value (offset + i) ≡ known_byte 0
   zero_shown (Data start copied) is none explicit kind i lt = absurd cc
   zero_shown (Zero kept) is none explicit kind i lt = run_shows_zero s sound offset n run backing kept is i lt
   zero_shown (Compressed start sectors) is none explicit kind i lt = absurd cc
   zero_shown Uncovered is none explicit kind i lt = by_backing backed refl kind where
-    by_backing : (b : Bool) → backed ≡ b → Kind.Zero explicit ≡ (if b then Kind.Indirect offset else Kind.Zero false) → (disk s.known backing).value (offset + i) ≡ known_byte 0
+    by_backing : (b : Bool) → backed ≡ b → zeros explicit ≡ (if b then indirect offset else zeros false) → (disk s.known backing).value (offset + i) ≡ known_byte 0
     by_backing true e k = absurd cc
     by_backing false e k = run_shows_uncovered s sound offset n run backing is i lt ∙ ap known_byte (none e (offset + i))
 
   -- the backing's bytes
-  pub indirect_shown : (v : L2Mapping) → cover s.header s.known (offset / cluster_size s.header) ≡ v → (at : ℕ) → Kind.Indirect at ≡ kind_at s.header backed offset v
+  pub indirect_shown : (v : L2Mapping) → cover s.header s.known (offset / cluster_size s.header) ≡ v → (at : ℕ) → indirect at ≡ kind_at s.header backed offset v
       → (i : ℕ) → i < n → (disk s.known backing).value (offset + i) ≡ known_byte (backing (at + i))
   indirect_shown (Data start copied) is at kind i lt = absurd cc
   indirect_shown (Zero kept) is at kind i lt = absurd cc
   indirect_shown (Compressed start sectors) is at kind i lt = absurd cc
   indirect_shown Uncovered is at kind i lt = by_backing backed kind where
-    by_backing : (b : Bool) → Kind.Indirect at ≡ (if b then Kind.Indirect offset else Kind.Zero false) → (disk s.known backing).value (offset + i) ≡ known_byte (backing (at + i))
+    by_backing : (b : Bool) → indirect at ≡ (if b then indirect offset else zeros false) → (disk s.known backing).value (offset + i) ≡ known_byte (backing (at + i))
     by_backing true k = let here : at ≡ offset = cc in run_shows_uncovered s sound offset n run backing is i lt ∙ ap (λ o. known_byte (backing (o + i))) (sym here)
     by_backing false k = absurd cc

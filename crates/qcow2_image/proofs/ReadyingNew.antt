@@ -20,6 +20,7 @@ use Rattle.qcow2_laws.specs.Changes.{with_held}
 use Rattle.qcow2_laws.specs.Guard.{Pending}
 use Rattle.qcow2_laws.specs.Guests.{table_at}
 use Rattle.qcow2_laws.specs.Views.{guest_of}
+use Rattle.qcow2_laws.proofs.Formats.{cover_format, l1_format, size_format}
 use Rattle.qcow2_laws.proofs.Shown.{shown_uncovered}
 use Rattle.qcow2_alloc.specs.CacheMarks.{l2_pins}
 use Rattle.qcow2_alloc.specs.MetadataCaches.{IsEntryAt, l2_at}
@@ -30,10 +31,12 @@ use Rattle.qcow2_image.specs.declared.prepared.NewCluster.{NewCluster}
 use Rattle.qcow2_image.specs.Found.{l1_index_of, l2_index_of}
 use Rattle.qcow2_image.specs.Image.{number_of}
 use Rattle.qcow2_image.specs.Parts.{IsReadied}
-use Rattle.qcow2_image.specs.Steps.{is_announced, Goes, GoesBack, HoldsAll, HoldsTable, IsGained, Keeps, Pins, SameHeld}
+use Rattle.qcow2_image.specs.Steps.{is_announced, Goes, GoesBack, HoldsAll, HoldsTable, IsGained, Keeps, Pins, SameHeld, following}
 use Rattle.qcow2_image.specs.Views.{run_of, to_free, of_data, of_tables, pending_in, seen, meaning, is_private, begin_of, backing_bytes, IsInPlace, IsNewFor, IsSoundAt}
+use Rattle.qcow2_image.proofs.Formats.{entry_at_format, l1_shared}
 use Rattle.qcow2_image.proofs.Gaining.{following_same, still_holds, taken_held}
 use Rattle.qcow2_image.proofs.Going.{goes_kept, goes_none, goes_then}
+use Rattle.qcow2_image.proofs.Sound.{free_more}
 use Rattle.qcow2_image.proofs.Readying.{mapping_at, IsNowPending, readied, prepared_by, private_inside}
 
 -- a place within a range, both so many bytes further on
@@ -90,13 +93,14 @@ module _ {S F : Type 0} (view : S → StorageView) (backing : F → BackingView)
       let moved : l1_entry h base (l1_index_of h offset) ≡ l1_entry h (contents_in view old.file) (l1_index_of h offset) =
       goes.copied (l1_index_of h offset) ((λ none. holds.entry.real (ap host_offset (sym (sound.file.caches.kept.kept.guarded.same_top.l1 (l1_index_of h offset))) ∙ none)), holds.copied) in
       let top : l1_entry h base (l1_index_of h offset) ≡ l1_entry h known (l1_index_of h offset) =
-      subst (λ (x : HeaderFields). l1_entry x base (l1_index_of h offset) ≡ l1_entry x known (l1_index_of h offset)) goes.header (goes.sound.file.caches.kept.kept.guarded.same_top.l1 (l1_index_of h offset)) in
+      l1_shared h new.file.header.fields goes.header base known (l1_index_of h offset) (goes.sound.file.caches.kept.kept.guarded.same_top.l1 (l1_index_of h offset)) in
       let there : table_at h known (l1_index_of h offset) ≡ table_at h (known_in view old.file) (l1_index_of h offset) =
       ap host_offset (sym top ∙ moved ∙ sound.file.caches.kept.kept.guarded.same_top.l1 (l1_index_of h offset)) in
       record {
-        entry = subst (λ (x : HeaderFields). IsEntryAt x known (l1_index_of x offset) table (l2_index_of x offset)) (sym goes.header)
-            (record { real = λ none. holds.entry.real (sym there ∙ none); place = there ∙ holds.entry.place; within = holds.entry.within });
-        copied = subst (λ (x : HeaderFields). is_copied (l1_entry x base (l1_index_of x offset)) ≡ true) (sym goes.header) (ap is_copied moved ∙ holds.copied);
+        entry = subst (λ (x : HeaderFields). IsEntryAt new.file.header.fields known (l1_index_of x offset) table (l2_index_of x offset)) (sym goes.header)
+            (entry_at_format h new.file.header.fields goes.header known base (l1_index_of h offset) table (l2_index_of h offset)
+            (record { real = λ none. holds.entry.real (sym there ∙ none); place = there ∙ holds.entry.place; within = holds.entry.within }));
+        copied = subst (λ (x : HeaderFields). is_copied (l1_entry new.file.header.fields base (l1_index_of x offset)) ≡ true) (sym goes.header) (ap is_copied (l1_format h new.file.header.fields goes.header base (l1_index_of h offset) ∙ moved) ∙ holds.copied);
         held = held;
       }
 
@@ -126,14 +130,14 @@ module _ {S F : Type 0} (view : S → StorageView) (backing : F → BackingView)
   module _ (old filled mid : Qcow2 S F) (n : NewCluster) (k offset length table host : ℕ) (overwrite : Bool) (free : slice_get out k ≡ Some None) (sound : IsSoundAt view backing (pending_in view backing old out) old out)
       (holds : HoldsTable view backing old offset table) (unpinned : l2_pins old.file.caches table ≡ 0) (uncovered : cover old.file.header.fields (known_in view old.file) (offset / cluster_size old.file.header.fields) ≡ Uncovered)
       (gained : IsGained view backing (pending_in view backing old out) old filled out offset length overwrite n.pending) (nameable : IsHostCluster old.file.header.fields.cluster_bits n.pending.first_cluster)
-      (keeps : Keeps view backing (with_held (pending_in view backing old out) (run_of n.pending)) (with_held (pending_in view backing old out) (run_of n.pending)) filled mid out)
+      (keeps : Keeps view backing (with_held (following (pending_in view backing old out) old filled) (run_of n.pending)) (with_held (following (pending_in view backing old out) old filled) (run_of n.pending)) filled mid out)
       (list : mid.file.free_list ≡ filled.file.free_list) (found : IsSome (l2_at mid.file.caches table)) (host_is : host ≡ n.pending.first_cluster * cluster_size mid.file.header.fields)
-      (index_is : n.index ≡ l2_index_of mid.file.header.fields offset) (same : SameHeld view backing (with_held (pending_in view backing old out) (run_of n.pending)) filled mid) where
+      (index_is : n.index ≡ l2_index_of mid.file.header.fields offset) (same : SameHeld view backing (with_held (following (pending_in view backing old out) old filled) (run_of n.pending)) filled mid) where
     abbrev before : Pending
     before = pending_in view backing old out
 
     abbrev q : Pending
-    q = with_held before (run_of n.pending)
+    q = with_held (following before old filled) (run_of n.pending)
 
     all_held : HoldsAll view backing before out
     all_held c = omega arith
@@ -161,14 +165,18 @@ module _ {S F : Type 0} (view : S → StorageView) (backing : F → BackingView)
       kind = gained.kind;
       nameable = subst (λ (x : HeaderFields). IsHostCluster x.cluster_bits n.pending.first_cluster) (sym goes_on.header) nameable;
       index = index_is;
-      entry = subst (λ (x : HeaderFields). cover x (known_in view mid.file) (offset / cluster_size x) ≡ Uncovered) (sym goes_on.header) (sym (goes_on.covers (offset / cluster_size old.file.header.fields)) ∙ uncovered);
+      entry = ap (λ size. cover hm (known_in view mid.file) (offset / size)) (size_format old.file.header.fields hm goes_on.header) ∙ cover_format old.file.header.fields hm goes_on.header (known_in view mid.file) (offset / cluster_size old.file.header.fields)
+          ∙ sym (goes_on.covers (offset / cluster_size old.file.header.fields)) ∙ uncovered;
     }
 
-    lists : mid.file.free_list ≡ old.file.free_list
-    lists = list ∙ gained.list
-
     now : IsNowPending mid out p q before.surplus
-    now = record { held = λ c. refl; fresh = λ c. refl; spent = λ c. ap (λ l. to_free of_tables l c) (sym lists); dropped = λ c. ap (λ l. to_free of_data l c) (sym lists); surplus = refl }
+    now = record {
+      held = λ c. refl;
+      fresh = λ c. refl;
+      spent = λ c. let same = ap (λ l. to_free of_tables l c) list in let more = ap (λ l. to_free of_tables l c) gained.goes.list.is ∙ free_more of_tables old.file.free_list gained.goes.list.more c in omega arith;
+      dropped = λ c. let same = ap (λ l. to_free of_data l c) list in let more = ap (λ l. to_free of_data l c) gained.goes.list.is ∙ free_more of_data old.file.free_list gained.goes.list.more c in omega arith;
+      surplus = refl;
+    }
 
     -- its bytes are those that the guest saw
     module _ (new : Qcow2 S F) (pins : Pins table mid new) where
@@ -193,7 +201,7 @@ module _ {S F : Type 0} (view : S → StorageView) (backing : F → BackingView)
 
       held_place : (o : ℕ) → 0 < q.held ((n.pending.first_cluster * cluster_size hm + o % cluster_size hm) / cluster_size filled.file.header.fields)
       held_place o =
-          let size : cluster_size filled.file.header.fields ≡ cluster_size hm = ap (λ (x : HeaderFields). cluster_size x) (gained.goes.header ∙ sym goes_on.header) in
+          let size : cluster_size filled.file.header.fields ≡ cluster_size hm = size_format old.file.header.fields filled.file.header.fields gained.goes.header ∙ sym (size_format old.file.header.fields hm goes_on.header) in
           let there = div-mul-add n.pending.first_cluster (cluster_size hm) (o % cluster_size hm) (mod_below o (cluster_size hm) (pow_pos hm.cluster_bits)) in
           subst (λ c. 0 < q.held c) (sym (ap (λ x. (n.pending.first_cluster * cluster_size hm + o % cluster_size hm) / x) size ∙ there)) (taken_held view backing out old filled before n.pending gained.one all_held gained.goes)
 

@@ -11,6 +11,7 @@ use Rattle.qcow2_laws.specs.Calls.{IsFault, IsSame, Refuses, Works, with_slot}
 use Rattle.qcow2_laws.specs.Disk.{Disk}
 use Rattle.qcow2_laws.specs.Mappings.{IsPrepared}
 use Rattle.qcow2_laws.proofs.Compose.{works_then}
+use Rattle.qcow2_laws.proofs.Formats.{covers_format, format_then}
 use Rattle.qcow2_laws.specs.Guard.{Pending, SameCovers}
 use Rattle.qcow2_laws.specs.Stops.{IsKeptAt, more}
 use Rattle.qcow2_laws.specs.Views.{Guest, Setting, guest_of}
@@ -21,11 +22,11 @@ use Rattle.qcow2_alloc.specs.ImageFile.{known_in, nothing_given}
 use Rattle.qcow2_image.specs.declared.image.Qcow2.{Qcow2}
 use Rattle.qcow2_image.specs.declared.prepared.Prepared.{Prepared}
 use Rattle.qcow2_image.specs.Calls.{refusal_of}
-use Rattle.qcow2_image.specs.Image.{number_of, is_failed, KeepsRest}
+use Rattle.qcow2_image.specs.Image.{number_of, is_failed, KeepsRestOn}
 use Rattle.qcow2_image.specs.Refusals.{failed_after}
 use Rattle.qcow2_image.specs.Parts.{StaysSound, BreaksOff, IsRefused, FindsTable, IsReadied, PreparesRange}
 use Rattle.qcow2_image.specs.Steps.{Broke, Ensures, Goes, GoesBack, Keeps, Leaves, following}
-use Rattle.qcow2_image.specs.Views.{of_data, of_tables, to_free, pending_in, seen, meaning, backing_bytes, IsSoundAt}
+use Rattle.qcow2_image.specs.Views.{of_data, of_tables, to_free, pending_in, seen, meaning, backing_bytes, below_of, IsSoundAt}
 use Rattle.qcow2_image.proofs.Sound.{free_more}
 use Rattle.qcow2_image.proofs.Answered.{same_setting, same_now, sound_now, works_now}
 use Rattle.qcow2_image.proofs.Settled.{is_fault, outcome, settled_refuses}
@@ -75,8 +76,8 @@ module _ {S F : Type 0} (view : S → StorageView) (backing : F → BackingView)
       works = works_then (seen view backing a out) (seen view backing b out) (seen view backing c out) [] [] first.sound first.works then.works;
       sound = then.sound;
       same = then.same ∙ first.same;
-      header = then.header ∙ first.header;
-      covers = λ g. first.covers g ∙ subst (λ (x : HeaderFields). SameCovers x (known_in view b.file) (known_in view c.file)) first.header then.covers g;
+      header = format_then a.file.header.fields b.file.header.fields c.file.header.fields first.header then.header;
+      covers = λ g. first.covers g ∙ covers_format a.file.header.fields b.file.header.fields first.header (known_in view b.file) (known_in view c.file) then.covers g;
     }
 
     pub refused_then : (e : ImageError) → IsRefused view backing b c out e → IsRefused view backing a c out e
@@ -105,14 +106,14 @@ module _ {S F : Type 0} (view : S → StorageView) (backing : F → BackingView)
     finds_after offset (Err e) then = refused_then e then
 
   -- a part that was refused
-  pub left_refused : (old new : Qcow2 S F) (e : ImageError) → IsSoundAt view backing (pending_in view backing old out) old out → KeepsRest old new → Leaves view backing (pending_in view backing old out) old new out e → IsRefused view backing old new out e
+  pub left_refused : (old new : Qcow2 S F) (e : ImageError) → IsSoundAt view backing (pending_in view backing old out) old out → KeepsRestOn old new → Leaves view backing (pending_in view backing old out) old new out e → IsRefused view backing old new out e
   left_refused old new e sound rest left = elim left [
     | inl keeps ↦ inl (stays_kept old new sound keeps)
-    | inr breaks ↦ inr (broke_off old new e (record { breaks = breaks; header = ap (λ x. x.fields) rest.header; below = ap (backing_bytes view backing) rest.backing }))
+    | inr breaks ↦ inr (broke_off old new e (record { breaks = breaks; header = ap (λ x. x.fields) rest.header; below = ap (below_of view backing) rest.backing }))
   ]
 
   -- the table of an offset is there
-  pub finds : (old new : Qcow2 S F) → IsSoundAt view backing (pending_in view backing old out) old out → KeepsRest old new → (offset : ℕ) (r : Result ℕ ImageError) → Ensures view backing (pending_in view backing old out) old new out offset r
+  pub finds : (old new : Qcow2 S F) → IsSoundAt view backing (pending_in view backing old out) old out → KeepsRestOn old new → (offset : ℕ) (r : Result ℕ ImageError) → Ensures view backing (pending_in view backing old out) old new out offset r
       → FindsTable view backing old new out offset r
   finds old new sound rest offset (Ok table) ready = (stays_kept old new sound ready.0, ready.1)
   finds old new sound rest offset (Err e) ready = left_refused old new e sound rest ready

@@ -18,12 +18,12 @@ use Rattle.qcow2_alloc.specs.declared.image_storage.ImageStorage.{ImageStorage}
 use Rattle.qcow2_alloc.specs.ImageFile.{nothing_given, view_in, contents_in, known_in, stand_in, HasReftable}
 use Rattle.qcow2_alloc.specs.ImageStorage.{storage_of}
 use Rattle.qcow2_alloc.specs.MetadataCaches.{known_of}
+use Rattle.qcow2_alloc.proofs.Numbers.{size_writes}
 use Rattle.qcow2_image.specs.declared.image.Qcow2.{Qcow2}
 use Rattle.qcow2_image.specs.Growing.{Extends, Resizes}
 use Rattle.qcow2_image.specs.Views.{IsSoundAt}
 use Rattle.qcow2_image.proofs.Entering.{unlisted}
 use Rattle.qcow2_image.proofs.HeaderKept.{resized_l1, resized_reftable, placed_settled, placed_sound}
-use Rattle.qcow2_image.proofs.Numbers.{size_writes}
 
 module _ {S F : Type 0} (view : S → StorageView) (backing : F → BackingView) (p : Pending) (old : Qcow2 S F) (sound : IsSoundAt view backing p old []) (size : ℕ) (fits : size < 2 ^ 64) where
   abbrev h : HeaderFields

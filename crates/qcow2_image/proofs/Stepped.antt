@@ -11,10 +11,11 @@ use Rattle.qcow2_laws.specs.Guard.{Pending}
 use Rattle.qcow2_laws.specs.Leads.{Leads, Endures}
 use Rattle.qcow2_laws.specs.Stops.{Gift, IsKeptAt, more}
 use Rattle.qcow2_laws.specs.Calls.{Works}
+use Rattle.qcow2_laws.specs.Unseen.{KeepsFormat}
 use Rattle.qcow2_alloc.specs.ImageFile.{stand_in, view_in, known_in}
 use Rattle.qcow2_image.specs.declared.image.Qcow2.{Qcow2}
 use Rattle.qcow2_image.specs.declared.prepared.Prepared.{Prepared}
-use Rattle.qcow2_image.specs.Views.{backing_bytes, IsSoundAt, pending_in, seen}
+use Rattle.qcow2_image.specs.Views.{backing_bytes, below_of, IsSoundAt, pending_in, seen}
 use Rattle.qcow2_image.proofs.Answered.{same_setting}
 use Rattle.qcow2_image.proofs.Sound.{IsOnly, pending_is}
 
@@ -25,8 +26,8 @@ module _ {S F : Type 0} (view : S → StorageView) (backing : F → BackingView)
     pub only : IsOnly view backing new out' p
     pub leads : Leads (stand_in view old.file (pending_in view backing old out)) (stand_in view new.file p) given []
     pub since : Endures (view_in view old.file) (view_in view new.file) (known_in view old.file) given []
-    pub header : new.file.header.fields ≡ old.file.header.fields
-    pub below : backing_bytes view backing new.backing ≡ backing_bytes view backing old.backing
+    pub header : KeepsFormat old.file.header.fields new.file.header.fields
+    pub below : below_of view backing new.backing ≡ below_of view backing old.backing
     pub surplus : p.surplus ≡ (pending_in view backing old out).surplus
 
   module _ (given : Bytes → List Gift) (p : Pending) (steps : Steps given p) where

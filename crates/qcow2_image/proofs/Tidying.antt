@@ -7,6 +7,7 @@ use Rattle.qcow2_laws.specs.Guard.{Pending}
 use Rattle.qcow2_laws.specs.Calls.{Does, IsSame}
 use Rattle.qcow2_laws.specs.Leads.{Leads}
 use Rattle.qcow2_laws.specs.Views.{contents_of}
+use Rattle.qcow2_laws.proofs.Formats.{format_same, format_then}
 use Rattle.qcow2_laws.proofs.Leads.{leads_then, steps_endure}
 use Rattle.qcow2_laws.proofs.Unseen.{unseen_then}
 use Rattle.qcow2_alloc.specs.declared.allocation.Allocator.{Allocator}
@@ -18,7 +19,7 @@ use Rattle.qcow2_alloc.specs.CacheMarks.{l2_pins}
 use Rattle.qcow2_alloc.specs.FreeList.{with_listed}
 use Rattle.qcow2_alloc.specs.ImageFile.{stand_in, view_in, contents_in, known_in, nothing_given}
 use Rattle.qcow2_alloc.specs.declared.error.ImageError.TheVariants as I
-use Rattle.qcow2_alloc.proofs.FileSteps.{pending_same}
+use Rattle.qcow2_alloc.proofs.FileSteps.{moves_on, pending_same}
 use Rattle.qcow2_image.specs.declared.image.Qcow2.{Qcow2}
 use Rattle.qcow2_image.specs.declared.prepared.Prepared.{Prepared}
 use Rattle.qcow2_image.specs.Parts.{EndsFreeing, IsRefused, StaysSound}
@@ -48,10 +49,10 @@ module _ {S F : Type 0} (view : S → StorageView) (backing : F → BackingView)
   module _ (p : Pending) (old : Qcow2 S F) (sound : IsSoundAt view backing (with_listed p old.file.free_list) old out) (file : ImageFile S) (a : Allocator) (pins : (table : ℕ) → l2_pins file.caches table ≡ l2_pins old.file.caches table)
       (header : file.header ≡ old.file.header) where
     pub frees_listed : (r : Result (Unit {0}) ImageError) → Frees view (with_listed p old.file.free_list) old.file a file (with_listed p file.free_list) r → FreesListed view backing p old (record old { file = file; allocator = Some a }) out r
-    frees_listed (Ok _) frees = file_tidied view backing old out (with_listed p old.file.free_list) (with_listed p file.free_list) sound file (Some a) frees.moves frees.reftable pins
+    frees_listed (Ok _) frees = file_tidied view backing old out (with_listed p old.file.free_list) (with_listed p file.free_list) sound file (Some a) (moves_on view (with_listed p old.file.free_list) (with_listed p file.free_list) old.file file frees.moves) frees.reftable pins
     frees_listed (Err e) frees = elim frees.1 [
-      | inl left ↦ inl (file_tidied view backing old out (with_listed p old.file.free_list) (with_listed p file.free_list) sound file (Some a) left.moves left.reftable pins)
-      | inr breaks ↦ inr (record { breaks = breaks; header = ap (λ x. x.fields) header; below = refl })
+      | inl left ↦ inl (file_tidied view backing old out (with_listed p old.file.free_list) (with_listed p file.free_list) sound file (Some a) (moves_on view (with_listed p old.file.free_list) (with_listed p file.free_list) old.file file left.moves) left.reftable pins)
+      | inr breaks ↦ inr (record { breaks = breaks; header = format_same old.file.header.fields file.header.fields (ap (λ x. x.fields) header); below = refl })
     ]
 
   pub frees_fault : (p q : Pending) (old file : ImageFile S) (a : Allocator) (r : Result (Unit {0}) ImageError) → Frees view p old a file q r → IfErr r FaultOfTables
@@ -88,7 +89,7 @@ module _ {S F : Type 0} (view : S → StorageView) (backing : F → BackingView)
         noted = broke.breaks.noted;
         since = steps_endure (view_in view a.file) (view_in view b.file) (view_in view c.file) (stand_in view a.file (with_listed p a.file.free_list)) (stand_in view b.file (with_listed p a.file.free_list)) nothing_given nothing_given [] [] refl first.since first.leads broke.breaks.since;
       };
-      header = broke.header ∙ first.unseen.header;
+      header = format_then a.file.header.fields b.file.header.fields c.file.header.fields first.unseen.header broke.header;
       below = broke.below ∙ first.below;
     })
   ]

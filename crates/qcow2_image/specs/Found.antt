@@ -1,44 +1,49 @@
 -- What a lookup finds: the kind of a mapping, and how far it goes.
-use Rattle.std.specs.Prelude.{ℕ, ◌+◌, ◌-◌, ◌*◌, ◌/◌, ◌%◌, ◌^◌, ◌≡◌, ◌<◌, ◌≤◌, ◌≢◌, Bool, true, false, is_some, List, length, Option, Some, None, min, if◌then◌else◌}
+use Rattle.std.specs.Prelude.{ℕ, ◌+◌, ◌*◌, ◌/◌, ◌%◌, ◌^◌, ◌≡◌, ◌<◌, ◌≤◌, ◌≢◌, Bool, true, false, is_some, List, length, Option, Some, None, if◌then◌else◌}
 use Rattle.image_access.specs.Moments.{StorageView}
 use Rattle.qcow2_metadata.specs.Bytes.{Bytes, byte_at}
 use Rattle.qcow2_metadata.specs.Header.{cluster_size, entries_per_cluster}
-use Rattle.qcow2_metadata.specs.Cover.{cover}
 use Rattle.qcow2_metadata.specs.L2Table.{L2TableView, entries_of, cover_at}
 use Rattle.qcow2_metadata.specs.declared.header.HeaderFields.{HeaderFields}
 use Rattle.qcow2_metadata.specs.declared.l2_mapping.L2Mapping.{L2Mapping}
-use Rattle.qcow2_metadata.specs.declared.l2_mapping.L2Mapping.TheVariants.{Data, Zero, Compressed, Uncovered}
-use Rattle.qcow2_laws.specs.Alike.{IsAlike, IsAlikeRun, IsLongestRun}
+use Rattle.qcow2_laws.specs.Alike.{IsAlike}
+use Rattle.qcow2_laws.specs.Found.{Kind, raw, indirect, zeros, special, eof, IsMapped, IsLongestOf, IsFound as IsFoundOf}
 use Rattle.qcow2_laws.specs.Guests.{table_at}
 use Rattle.qcow2_alloc.specs.ImageFile.{contents_in, known_in}
 use Rattle.qcow2_image.specs.declared.image.Qcow2.{Qcow2}
-use Rattle.qcow2_image.specs.Image.{size_of}
 use Rattle.qcow2_image.specs.declared.mapping.MappingKind.{MappingKind}
-use Rattle.qcow2_image.specs.declared.mapping.MappingKind.TheVariants as Kind
-use Rattle.qcow2_image.specs.declared.mapping.Place.TheVariants.{Image}
+use Rattle.qcow2_image.specs.declared.mapping.MappingKind.TheVariants as M
+use Rattle.qcow2_image.specs.declared.mapping.Place.{Place}
+use Rattle.qcow2_image.specs.declared.mapping.Place.TheVariants.{Image, DataFile}
 
--- what a cover means at a guest offset, with a backing disk or without
-abbrev pub kind_at : HeaderFields → Bool → ℕ → L2Mapping → MappingKind
-kind_at h backed offset (Data host copied) = Kind.Raw Image (host + offset % cluster_size h) copied
-kind_at h backed offset (Zero kept) = Kind.Zero true
-kind_at h backed offset (Compressed place sectors) = Kind.Special offset
-kind_at h backed offset Uncovered = if backed then Kind.Indirect offset else Kind.Zero false
+-- the external data file
+abbrev pub is_data_file : Place → Bool
+is_data_file Image = false
+is_data_file DataFile = true
+
+-- the kind of a mapping, as it is told
+abbrev pub found_kind : MappingKind → Kind
+found_kind (M.Raw file offset writable) = raw (is_data_file file) offset writable
+found_kind (M.Indirect offset) = indirect offset
+found_kind (M.Zero explicit) = zeros explicit
+found_kind (M.Special offset) = special offset
+found_kind M.Eof = eof
 
 -- where it may be written in place
-abbrev pub writable_place : MappingKind → Option ℕ
-writable_place (Kind.Raw file offset writable) = if writable then Some offset else None
-writable_place (Kind.Zero explicit) = None
-writable_place (Kind.Special offset) = None
-writable_place (Kind.Indirect offset) = None
-writable_place Kind.Eof = None
+abbrev pub writable_place : Kind → Option ℕ
+writable_place (raw external offset writable) = if writable then Some offset else None
+writable_place (indirect offset) = None
+writable_place (zeros explicit) = None
+writable_place (special offset) = None
+writable_place eof = None
 
 -- the same kind, so many bytes further on, in numbers of 64 bits
 abbrev pub further_by : ℕ → MappingKind → MappingKind
-further_by n (Kind.Raw file offset writable) = Kind.Raw file ((offset + n) % 2 ^ 64) writable
-further_by n (Kind.Indirect offset) = Kind.Indirect ((offset + n) % 2 ^ 64)
-further_by n (Kind.Special offset) = Kind.Special ((offset + n) % 2 ^ 64)
-further_by n (Kind.Zero explicit) = Kind.Zero explicit
-further_by n Kind.Eof = Kind.Eof
+further_by n (M.Raw file offset writable) = M.Raw file ((offset + n) % 2 ^ 64) writable
+further_by n (M.Indirect offset) = M.Indirect ((offset + n) % 2 ^ 64)
+further_by n (M.Special offset) = M.Special ((offset + n) % 2 ^ 64)
+further_by n (M.Zero explicit) = M.Zero explicit
+further_by n M.Eof = M.Eof
 
 -- the L1 entry, and the entry of its L2 table, that cover an offset
 abbrev pub l1_index_of : HeaderFields → ℕ → ℕ
@@ -46,10 +51,6 @@ l1_index_of h offset = offset / cluster_size h / entries_per_cluster h
 
 abbrev pub l2_index_of : HeaderFields → ℕ → ℕ
 l2_index_of h offset = offset / cluster_size h % entries_per_cluster h
-
--- how far the L2 table of an offset reaches behind it
-abbrev pub rest_of_table : HeaderFields → ℕ → ℕ
-rest_of_table h offset = cluster_size h * entries_per_cluster h - offset % (cluster_size h * entries_per_cluster h)
 
 -- these bytes stand at a place of a file
 abbrev pub AreBytesOf : Bytes → ℕ → List ℕ → Type 0
@@ -84,19 +85,16 @@ module _ {S F : Type 0} (view : S → StorageView) (image : Qcow2 S F) (offset :
       × (table_at image.file.header.fields (contents_in view image.file) (l1_index_of image.file.header.fields offset) ≢ 0)
 
   -- a range of so many bytes is mapped so
-  pub record IsMappedAs (kind : MappingKind) (n : ℕ) : Type 0 where
-    pub kind_is : kind ≡ kind_at image.file.header.fields (is_some image.backing) offset (cover image.file.header.fields (known_in view image.file) (offset / cluster_size image.file.header.fields))
-    pub alike : IsAlikeRun image.file.header.fields (known_in view image.file) offset n
+  abbrev pub IsMappedAs : MappingKind → ℕ → Type 0
+  IsMappedAs kind n = IsMapped image.file.header.fields (known_in view image.file) (is_some image.backing) offset (found_kind kind) n
 
-  -- The longest run of clusters that are mapped alike, up to a limit: its kind, and its length.
-  pub record IsRunFrom (limit : ℕ) (kind : MappingKind) (n : ℕ) : Type 0 where
-    pub kind_is : kind ≡ kind_at image.file.header.fields (is_some image.backing) offset (cover image.file.header.fields (known_in view image.file) (offset / cluster_size image.file.header.fields))
-    pub longest : IsLongestRun image.file.header.fields (known_in view image.file) offset limit n
+  -- the longest run of clusters that are mapped alike, up to a limit
+  abbrev pub IsRunFrom : ℕ → MappingKind → ℕ → Type 0
+  IsRunFrom limit kind n = IsLongestOf image.file.header.fields (known_in view image.file) (is_some image.backing) offset limit (found_kind kind) n
 
   -- nothing at or past the size; else such a run within one L2 table and below the size
-  pub record IsFound (max : ℕ) (kind : MappingKind) (n : ℕ) : Type 0 where
-    pub past : size_of image ≤ offset → (kind ≡ Kind.Eof) × (n ≡ 0)
-    pub run : offset < size_of image → IsRunFrom (min (min max (size_of image - offset)) (rest_of_table image.file.header.fields offset)) kind n
+  abbrev pub IsFound : ℕ → MappingKind → ℕ → Type 0
+  IsFound max kind n = IsFoundOf image.file.header.fields (known_in view image.file) (is_some image.backing) offset max (found_kind kind) n
 
   -- a range of so many bytes is found as a whole to be mapped so
   abbrev pub IsFoundWhole : MappingKind → ℕ → Type 0

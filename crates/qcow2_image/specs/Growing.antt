@@ -92,7 +92,7 @@ module _ {S F : Type 0} where
 
       -- it gets its clusters, and takes the place of the L1 table
       abbrev pub TakesTable : Pending → Qcow2 S F → Qcow2 S F → Result (Unit {0}) ImageError → Type 0
-      TakesTable p old new (Ok _) = Extends p (without_l1 p old.file.header.fields) old new []
+      TakesTable p old new (Ok _) = Extends p (without_l1 (following p old new) old.file.header.fields) old new []
       TakesTable p old new (Err e) = Lasts old new []
 
       -- and the clusters of that one are to be freed

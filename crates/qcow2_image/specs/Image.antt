@@ -3,6 +3,7 @@ use Rattle.std.specs.Prelude.{◌≡◌, ℕ, Bool, [], is_some}
 use Rattle.std.specs.Option.{option_map_or}
 use Rattle.qcow2_metadata.specs.Header.{has_data_file}
 use Rattle.qcow2_alloc.specs.declared.allocation.Allocator.{Allocator}
+use Rattle.qcow2_alloc.specs.ImageFile.{KeepsHeader}
 use Rattle.qcow2_alloc.specs.ImageStorage.{storage_of}
 use Rattle.qcow2_image.specs.declared.image.Qcow2.{Qcow2}
 
@@ -54,4 +55,9 @@ module _ {S F : Type 0} where
   -- its header and its backing disk stay as they are
   pub record KeepsRest (old new : Qcow2 S F) : Type 0 where
     pub header : new.file.header ≡ old.file.header
+    pub backing : new.backing ≡ old.backing
+
+  -- so they do, but that the reftable may have moved
+  pub record KeepsRestOn (old new : Qcow2 S F) : Type 0 where
+    pub header : KeepsHeader old.file.header new.file.header
     pub backing : new.backing ≡ old.backing

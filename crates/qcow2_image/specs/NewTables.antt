@@ -83,7 +83,7 @@ module _ {S F : Type 0} (view : S → StorageView) where
 
     -- a new table gets its cluster, and is named
     abbrev pub EntersTable : Pending → Qcow2 S F → Qcow2 S F → List (Option Prepared) → ℕ → Result ℕ ImageError → Type 0
-    EntersTable p old new out index (Ok cluster) = Keeps view backing p (replacing p old index) old new out × NamesCopied new index cluster × (new.file.free_list ≡ old.file.free_list)
+    EntersTable p old new out index (Ok cluster) = Keeps view backing p (replacing (following p old new) old index) old new out × NamesCopied new index cluster
     EntersTable p old new out index (Err e) = Leaves view backing p old new out e
 
     -- the table of an L1 entry lies in a cluster, and is marked copied

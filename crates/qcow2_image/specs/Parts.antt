@@ -9,6 +9,7 @@ use Rattle.image_access.specs.Moments.{StorageView, Passing}
 use Rattle.qcow2_laws.specs.Guard.{SameCovers}
 use Rattle.qcow2_laws.specs.Calls.{IsFault, IsSame, Works, with_disk, with_slot}
 use Rattle.qcow2_laws.specs.Mappings.{PreparedMapping, IsPrepared, gift_of, gift_of_commit, put_mapping, put_disk, committed}
+use Rattle.qcow2_laws.specs.Unseen.{KeepsFormat}
 use Rattle.qcow2_laws.specs.Views.{Guest, guest_of}
 use Rattle.qcow2_alloc.specs.declared.error.ImageError.{ImageError}
 use Rattle.qcow2_alloc.specs.declared.error.ImageError.TheVariants as I
@@ -79,7 +80,7 @@ module _ {S F : Type 0} (view : S → StorageView) where
       pub works : Works (seen view backing old out) (seen view backing new out) [] []
       pub sound : IsSoundAt view backing (pending_in view backing new out) new out
       pub same : IsSame (seen view backing old out) (seen view backing new out)
-      pub header : new.file.header.fields ≡ old.file.header.fields
+      pub header : KeepsFormat old.file.header.fields new.file.header.fields
       pub covers : SameCovers old.file.header.fields (known_in view old.file) (known_in view new.file)
 
     -- A fault, or want of memory after a change: once the image is marked as failed, a stop is as safe as before.

@@ -10,7 +10,8 @@ use Rattle.qcow2_laws.specs.Alike.{IsDataAt, AreDataAt}
 use Rattle.qcow2_laws.specs.Mappings.{PreparedMapping, is_copied_data, IsPrivateIn}
 use Rattle.qcow2_image.specs.declared.prepared.NewCluster.{NewCluster}
 use Rattle.qcow2_image.specs.declared.prepared.Prepared.{Prepared}
-use Rattle.qcow2_image.specs.Found.{l1_index_of, rest_of_table}
+use Rattle.qcow2_laws.specs.Found.{rest_of_table}
+use Rattle.qcow2_image.specs.Found.{l1_index_of}
 use Rattle.qcow2_image.specs.Prepared.{length_of, offset_of, table_of}
 
 -- an existing mapping of no byte, at offset 0
@@ -31,14 +32,14 @@ module _ (h : HeaderFields) (known : Bytes) (offset : ℕ) where
   IsWritableAt n place = (n ≤ rest_of_table h offset) × AreDataAt h known true offset place n
 
   -- The mapping p of n bytes, which means m. It is existing exactly where all of them may be written where they are, and is just that range then.
-  -- Else it is the rest of the first cluster. What is copied data is in place, where it is; all else is private, at the same byte of a cluster that is its own by what is known now.
-  pub record IsAnswered (n : ℕ) (now : Bytes) (p : Prepared) (m : PreparedMapping) : Type 0 where
+  -- Else it is the rest of the first cluster. What is copied data is in place, where it is; all else is private, at the same byte of a cluster that is its own by the header and what is known now.
+  pub record IsAnswered (n : ℕ) (h' : HeaderFields) (now : Bytes) (p : Prepared) (m : PreparedMapping) : Type 0 where
     pub existing : IsNone (table_of p) ↔ ((place : ℕ) × IsWritableAt n place)
     pub whole : IsNone (table_of p) → length_of p ≡ n
     pub rest : IsSome (table_of p) → length_of p ≡ cluster_size h - offset % cluster_size h
     pub private : IsPrivateIn h known m
     pub in_place : (i : ℕ) → i < length_of p → m.is_private (offset + i) ≡ false → IsDataAt h known true (offset + i) (offset_of p + i)
-    pub in_new : IsTrue (m.is_private offset) → (offset_of p % cluster_size h ≡ offset % cluster_size h) × IsHeldAlone h now (offset_of p / cluster_size h)
+    pub in_new : IsTrue (m.is_private offset) → (offset_of p % cluster_size h ≡ offset % cluster_size h) × IsHeldAlone h' now (offset_of p / cluster_size h)
 
   -- why the mapping may be refused as of a prepared table: one that is out, and isn't existing, lies in the same L2 table, and not all of the range may be written where it is
   pub record IsTaken (n : ℕ) (out : List (Option Prepared)) : Type 0 where

@@ -6,7 +6,7 @@ use Rattle.image_access.specs.Moments.{StorageView}
 use Rattle.qcow2_metadata.specs.Entries.{l1_entry, host_offset, is_copied}
 use Rattle.qcow2_laws.specs.Guard.{Pending}
 use Rattle.qcow2_laws.specs.Leads.{Stand, Leads, Endures}
-use Rattle.qcow2_laws.specs.Unseen.{IsUnseen}
+use Rattle.qcow2_laws.specs.Unseen.{KeepsFormat, IsUnseen}
 use Rattle.qcow2_alloc.specs.declared.clusters_to_free.ClustersToFreeEntry.{ClustersToFreeEntry}
 use Rattle.qcow2_alloc.specs.declared.error.ImageError.{ImageError}
 use Rattle.qcow2_alloc.specs.declared.image_file.ImageFile.{ImageFile}
@@ -15,7 +15,7 @@ use Rattle.qcow2_image.specs.Found.{l1_index_of, l2_index_of}
 use Rattle.qcow2_image.specs.declared.image.Qcow2.{Qcow2}
 use Rattle.qcow2_image.specs.declared.prepared.Prepared.{Prepared}
 use Rattle.qcow2_alloc.specs.CacheMarks.{l2_pins, KeepsMarks, SameTables}
-use Rattle.qcow2_alloc.specs.FreeList.{with_listed}
+use Rattle.qcow2_alloc.specs.FreeList.{with_listed, following as since_listed}
 use Rattle.qcow2_alloc.specs.MetadataCaches.{order_of, l2_at, IsEntryAt, MapsEntry, NotesEntry}
 use Rattle.qcow2_image.specs.declared.prepared.NewCluster.{NewCluster}
 use Rattle.qcow2_laws.specs.Guard.{SameCovers}
@@ -23,7 +23,7 @@ use Rattle.qcow2_laws.specs.Views.{guest_of}
 use Rattle.qcow2_metadata.specs.Header.{cluster_size}
 use Rattle.qcow2_laws.specs.Changes.{with_held}
 use Rattle.qcow2_alloc.specs.declared.clusters_to_free.ClusterKind.TheVariants as Kind
-use Rattle.qcow2_image.specs.Views.{run_of, of_data, of_tables, to_free, held_by, over_all, pins_of, backing_bytes, seen, IsSoundAt}
+use Rattle.qcow2_image.specs.Views.{run_of, held_by, over_all, pins_of, backing_bytes, below_of, seen, IsSoundAt}
 
 -- an L1 entry names a table and is marked copied
 abbrev pub NamesOwn : ℕ → Type 0
@@ -84,10 +84,7 @@ module _ {S F : Type 0} where
 
   -- what is pending, with those
   abbrev pub following : Pending → Qcow2 S F → Qcow2 S F → Pending
-  following p old new = record p {
-    spent = λ k. p.spent k + (to_free of_tables new.file.free_list k - to_free of_tables old.file.free_list k);
-    dropped = λ k. p.dropped k + (to_free of_data new.file.free_list k - to_free of_data old.file.free_list k);
-  }
+  following p old new = since_listed p old.file.free_list new.file.free_list
 
   module _ (view : S → StorageView) (backing : F → BackingView) where
     -- Nothing changes that a guest sees, and all is sound again, from what was pending to what is. At each moment what was kept is kept.
@@ -97,7 +94,7 @@ module _ {S F : Type 0} where
       pub since : Endures (view_in view old.file) (view_in view new.file) (known_in view old.file) nothing_given []
       pub unseen : IsUnseen (stand_in view old.file p) (stand_in view new.file p')
       pub copied : KeepsCopied (stand_in view old.file p) (stand_in view new.file p')
-      pub below : backing_bytes view backing new.backing ≡ backing_bytes view backing old.backing
+      pub below : below_of view backing new.backing ≡ below_of view backing old.backing
       pub list : ListGrows old new
 
     -- The same, whatever becomes of the list of clusters that are to be freed.
@@ -107,7 +104,7 @@ module _ {S F : Type 0} where
       pub since : Endures (view_in view old.file) (view_in view new.file) (known_in view old.file) nothing_given []
       pub unseen : IsUnseen (stand_in view old.file p) (stand_in view new.file p')
       pub copied : KeepsCopied (stand_in view old.file p) (stand_in view new.file p')
-      pub below : backing_bytes view backing new.backing ≡ backing_bytes view backing old.backing
+      pub below : below_of view backing new.backing ≡ below_of view backing old.backing
 
     -- a part of a call that was refused: all is sound as before but for what is to be freed; or it broke off
     abbrev pub Leaves : Pending → Qcow2 S F → Qcow2 S F → List (Option Prepared) → ImageError → Type 0
@@ -129,18 +126,18 @@ module _ {S F : Type 0} where
       pub sound : IsSoundAt view backing p' new out
       pub leads : Leads (stand_in view old.file p) (stand_in view new.file p') nothing_given []
       pub since : Endures (view_in view old.file) (view_in view new.file) (known_in view old.file) nothing_given []
-      pub header : new.file.header.fields ≡ old.file.header.fields
+      pub header : KeepsFormat old.file.header.fields new.file.header.fields
       pub covers : SameCovers old.file.header.fields (known_in view old.file) (known_in view new.file)
       pub copied : KeepsCopied (stand_in view old.file p) (stand_in view new.file p')
-      pub below : backing_bytes view backing new.backing ≡ backing_bytes view backing old.backing
+      pub below : below_of view backing new.backing ≡ below_of view backing old.backing
       pub list : ListGrows old new
       pub seen : guest_of (seen view backing new out) ≡ guest_of (seen view backing old out)
 
-    -- it broke off: the image keeps its header and its backing disk, and at each moment what was kept is kept
+    -- it broke off: the image keeps its header, but perhaps for where the reftable stands, and its backing disk, and at each moment what was kept is kept
     pub record Broke (old new : Qcow2 S F) (e : ImageError) : Type 0 where
       pub breaks : Breaks view old.file new.file e
-      pub header : new.file.header.fields ≡ old.file.header.fields
-      pub below : backing_bytes view backing new.backing ≡ backing_bytes view backing old.backing
+      pub header : KeepsFormat old.file.header.fields new.file.header.fields
+      pub below : below_of view backing new.backing ≡ below_of view backing old.backing
 
     -- Clusters that are listed are freed. What is listed afterwards is pending still; or it broke off.
     abbrev pub FreesListed : Pending → Qcow2 S F → Qcow2 S F → List (Option Prepared) → Result (Unit {0}) ImageError → Type 0
@@ -173,7 +170,7 @@ module _ {S F : Type 0} where
 
     -- a cluster is taken for data
     abbrev pub TakesData : Pending → Qcow2 S F → Qcow2 S F → List (Option Prepared) → Result ClustersToFreeEntry ImageError → Type 0
-    TakesData p old new out (Ok n) = (n.count ≡ 1) × (n.kind ≡ Kind.Data) × Goes p (with_held p (run_of n)) old new out
+    TakesData p old new out (Ok n) = (n.count ≡ 1) × (n.kind ≡ Kind.Data) × Goes p (with_held (following p old new) (run_of n)) old new out
     TakesData p old new out (Err e) = GoesBack p old new out e
 
     -- a new cluster that no mapping has yet
@@ -181,8 +178,7 @@ module _ {S F : Type 0} where
       pub one : n.count ≡ 1
       pub kind : n.kind ≡ Kind.Data
       pub unused : over_all held_by out n.first_cluster ≡ 0
-      pub goes : Goes p (with_held p (run_of n)) old new out
-      pub list : new.file.free_list ≡ old.file.free_list
+      pub goes : Goes p (with_held (following p old new) (run_of n)) old new out
       pub filled : IsFilled old new n.first_cluster offset length overwrite
 
     abbrev pub Gains : Pending → Qcow2 S F → Qcow2 S F → List (Option Prepared) → ℕ → ℕ → Bool → Result ClustersToFreeEntry ImageError → Type 0

@@ -93,6 +93,10 @@ module _ {S F : Type 0} (view : S → StorageView) (backing : F → BackingView)
   backing_bytes None = λ o. 0
   backing_bytes (Some f) = byte_at (backing f).bytes
 
+  -- whether there is one, and its bytes
+  abbrev pub below_of : Option F → Bool × Bytes
+  below_of disk = (is_some disk, backing_bytes disk)
+
   abbrev pub IsHonestBacking : Option F → Type 0
   IsHonestBacking None = Unit {0}
   IsHonestBacking (Some f) = (backing f).is_honest
@@ -157,7 +161,7 @@ module _ {S F : Type 0} (view : S → StorageView) (backing : F → BackingView)
   image_spec = record {
     number = number_of;
     number_of = image_of;
-    setting = λ image. record { cluster_size = cluster_size image.file.header.fields; backing = backing_bytes image.backing };
+    setting = λ image. record { cluster_size = cluster_size image.file.header.fields; is_backed = is_some image.backing; backing = backing_bytes image.backing };
     is_failed = is_failed;
     storage = λ image. view_in view image.file;
     known = λ image. known_in view image.file;

@@ -339,6 +339,7 @@ impl<S: Storage, F: WrappedFormat<S>> Qcow2<S, F> {
         ensures stays { Stays self.old self.new }
         ensures list { self.new.file.free_list ≡ self.old.file.free_list }
         ensures keeps { (p : Pending) (out : List (Option Prepared)) → IsSoundAt S.view F.backing p self.old out → Keeps S.view F.backing p p self.old self.new out }
+        ensures known { (p : Pending) (out : List (Option Prepared)) → IsSoundAt S.view F.backing p self.old out → known_in S.view self.new.file ≡ known_in S.view self.old.file }
     {
         self.file.storage.begin();
         self.file.caches.begin();

@@ -2,7 +2,7 @@
 ghost use Rattle.std.specs.Prelude.{ℕ, List, Option, is_some, ◌≡◌, ◌-◌, ◌/◌, Some, ◌^◌, ◌<◌, IfErr, IsSome, IsTrue, Ok, Err, length};
 ghost use Rattle.qcow2_metadata.specs.L2Mapping.{IsHostCluster};
 ghost use Rattle.qcow2_metadata.specs.EntryTable.{entry_count};
-ghost use Rattle.qcow2_image.specs.Image.{Stays, KeepsRest, is_writable};
+ghost use Rattle.qcow2_image.specs.Image.{Stays, KeepsRest, KeepsRestOn, is_writable};
 ghost use Rattle.qcow2_laws.specs.Guard.{Pending};
 ghost use Rattle.qcow2_alloc.specs.ImageFile.{known_in};
 ghost use Rattle.qcow2_image.specs.declared.prepared.Prepared.{Prepared};
@@ -53,7 +53,7 @@ impl<S: Storage, F: WrappedFormat<S>> Qcow2<S, F> {
     pub(crate) fn ensure_l2(&mut self, offset: u64) -> Result<HostCluster, ImageError>
         requires writable { IsTrue (is_writable self.old) }
         ensures stays { Stays self.old self.new }
-        ensures keeps_rest { KeepsRest self.old self.new }
+        ensures keeps_rest { KeepsRestOn self.old self.new }
         ensures cause { IfErr result IsMet }
         ensures ready { (p : Pending) (out : List (Option Prepared)) → IsSoundAt S.view F.backing p self.old out → Ensures S.view F.backing p self.old self.new out offset result }
     {
@@ -68,7 +68,7 @@ impl<S: Storage, F: WrappedFormat<S>> Qcow2<S, F> {
     fn own_l2(&mut self, offset: u64) -> Result<HostCluster, ImageError>
         requires writable { IsTrue (is_writable self.old) }
         ensures stays { Stays self.old self.new }
-        ensures keeps_rest { KeepsRest self.old self.new }
+        ensures keeps_rest { KeepsRestOn self.old self.new }
         ensures cause { IfErr result IsMet }
         ensures owns { (p : Pending) (out : List (Option Prepared)) → IsSoundAt S.view F.backing p self.old out → OwnsTable S.view F.backing p self.old self.new out (l1_index_of self.old.file.header.fields offset) result }
     {
@@ -94,7 +94,7 @@ impl<S: Storage, F: WrappedFormat<S>> Qcow2<S, F> {
     fn replace_l2(&mut self, index: usize, old: HostCluster) -> Result<HostCluster, ImageError>
         requires writable { IsTrue (is_writable self.old) }
         ensures stays { Stays self.old self.new }
-        ensures keeps_rest { KeepsRest self.old self.new }
+        ensures keeps_rest { KeepsRestOn self.old self.new }
         ensures cause { IfErr result IsMet }
         ensures owns { (p : Pending) (out : List (Option Prepared)) → IsSoundAt S.view F.backing p self.old out → NamesShared S.view self.old index old → OwnsTable S.view F.backing p self.old self.new out index result }
     {
@@ -117,7 +117,7 @@ impl<S: Storage, F: WrappedFormat<S>> Qcow2<S, F> {
     ) -> Result<HostCluster, ImageError>
         requires writable { IsTrue (is_writable self.old) }
         ensures stays { Stays self.old self.new }
-        ensures keeps_rest { KeepsRest self.old self.new }
+        ensures keeps_rest { KeepsRestOn self.old self.new }
         ensures cause { IfErr result IsMet }
         ensures owns { (p : Pending) (out : List (Option Prepared)) → IsSoundAt S.view F.backing p self.old out → NamesShared S.view self.old index old → SaysKnown self.old.file.header.fields (known_in S.view self.old.file) index table → OwnsTable S.view F.backing p self.old self.new out index result }
     {
@@ -139,7 +139,7 @@ impl<S: Storage, F: WrappedFormat<S>> Qcow2<S, F> {
     fn enter_l2(&mut self, index: usize, table: L2Table) -> Result<HostCluster, ImageError>
         requires writable { IsTrue (is_writable self.old) }
         ensures stays { Stays self.old self.new }
-        ensures keeps_rest { KeepsRest self.old self.new }
+        ensures keeps_rest { KeepsRestOn self.old self.new }
         ensures cause { IfErr result IsMet }
         ensures enters { (p : Pending) (out : List (Option Prepared)) → IsSoundAt S.view F.backing p self.old out → MayName S.view self.old index → SaysKnown self.old.file.header.fields (known_in S.view self.old.file) index table → EntersTable S.view F.backing p self.old self.new out index result }
     {

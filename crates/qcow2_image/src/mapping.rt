@@ -1,5 +1,5 @@
 ghost use Rattle.std.specs.Prelude.{◌≡◌, ◌↔◌, IsTrue};
-ghost use Rattle.qcow2_image.specs.Found.{further_by, writable_place};
+ghost use Rattle.qcow2_image.specs.Found.{found_kind, further_by, writable_place};
 
 /// Where mapped bytes stand.
 #[derive(Clone, Copy, Debug, PartialEq, Eq)]
@@ -57,7 +57,7 @@ impl MappingKind {
 
     // Where it may be written in place, if it may.
     pub(crate) fn writable_place(&self) -> Option<u64>
-        ensures { result ≡ writable_place self.now }
+        ensures { result ≡ writable_place (found_kind self.now) }
     {
         match self {
             MappingKind::Raw {

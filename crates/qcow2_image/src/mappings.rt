@@ -8,15 +8,16 @@ ghost use Rattle.qcow2_image.specs.Prepared.{image_of, length_of, offset_of, tab
 ghost use Rattle.qcow2_image.specs.Preparing.{HasItsOwn, IsAnswered, IsOfNothing, IsPlaceOf, IsRest, IsTaken};
 ghost use Rattle.qcow2_laws.specs.Guard.{Pending};
 ghost use Rattle.qcow2_alloc.specs.MetadataCaches.{IsEntryAt, l2_at};
-ghost use Rattle.qcow2_alloc.specs.ImageFile.{known_in, IsSoundFile};
+ghost use Rattle.qcow2_alloc.specs.ImageFile.{known_in, IsSoundFile, KeepsHeader};
 ghost use Rattle.qcow2_image.specs.declared.prepared.Prepared.{Prepared};
 ghost use Rattle.qcow2_image.specs.Calls.{Answers, Commits, Discards, Prepares, reason_of};
 ghost use Rattle.qcow2_image.specs.Parts.{Enters, NotesNew, IsExisting, Readies, IsRefused, PreparesRange};
 ghost use Rattle.qcow2_alloc.specs.CacheMarks.{l2_pins};
 ghost use Rattle.qcow2_alloc.specs.ImageError.{IsFault, IsOfTables};
 ghost use Rattle.qcow2_laws.specs.Alike.{IsAlike};
-ghost use Rattle.qcow2_image.specs.Found.{mapping_of, IsRunBehind, NamesTable, IsRunFrom, IsFound, kind_at, rest_of_table, l1_index_of, l2_index_of};
-ghost use Rattle.qcow2_image.specs.Steps.{Gains, HoldsAll, HoldsTable, Pins, SameHeld, Keeps, TakesData, EntersCluster, EntersNew, FreesLater, Unpins, freed_by};
+ghost use Rattle.qcow2_laws.specs.Found.{IsFoundIn, kind_at, rest_of_table};
+ghost use Rattle.qcow2_image.specs.Found.{found_kind, mapping_of, IsRunBehind, NamesTable, IsRunFrom, IsFound, l1_index_of, l2_index_of};
+ghost use Rattle.qcow2_image.specs.Steps.{Gains, HoldsAll, HoldsTable, Pins, SameHeld, Keeps, ListGrows, TakesData, EntersCluster, EntersNew, FreesLater, Unpins, freed_by};
 ghost use Rattle.qcow2_image.specs.Views.{HasL1Table, IsSoundAt, meaning, pending_in, seen};
 ghost use Rattle.qcow2_metadata.specs.Header.{cluster_size, entries_per_cluster};
 ghost use Rattle.qcow2_metadata.specs.Cover.{cover};
@@ -98,7 +99,8 @@ impl<S: Storage, F: WrappedFormat<S>> Qcow2<S, F> {
         ensures within { IfOk result (λ (mapping, n). n ≤ max) }
         ensures some { IfOk result (λ (mapping, n). offset < size_of self.old → 0 < max → 0 < n) }
         ensures sees { Answers S.view F.backing self.old self.new [] (λ found old new. new ≡ old) result }
-        ensures run { (out : List (Option Prepared)) → (seen S.view F.backing self.old out).is_sound → IfOk result (λ (mapping, n). IsFound S.view self.new offset max mapping.kind n) }
+        ensures known { (out : List (Option Prepared)) → (seen S.view F.backing self.old out).is_sound → known_in S.view self.new.file ≡ known_in S.view self.old.file }
+        ensures run { (out : List (Option Prepared)) → (seen S.view F.backing self.old out).is_sound → IfOk result (λ (mapping, n). IsFoundIn (known_in S.view self.new.file) (is_some self.new.backing) offset max (found_kind mapping.kind) n) }
     {
         self.check_usable()?;
         self.begin();
@@ -121,6 +123,7 @@ impl<S: Storage, F: WrappedFormat<S>> Qcow2<S, F> {
         ensures stays { Stays self.old self.new }
         ensures cause { IfErr result IsOfTables }
         ensures keeps { (p : Pending) (out : List (Option Prepared)) → IsSoundAt S.view F.backing p self.old out → Keeps S.view F.backing p p self.old self.new out }
+        ensures known { (p : Pending) (out : List (Option Prepared)) → IsSoundAt S.view F.backing p self.old out → known_in S.view self.new.file ≡ known_in S.view self.old.file }
         ensures list { self.new.file.free_list ≡ self.old.file.free_list }
         ensures within { IfOk result (λ (kind, n). n ≤ max) }
         ensures some { IfOk result (λ (kind, n). offset < size_of self.old → 0 < max → 0 < n) }
@@ -168,7 +171,7 @@ impl<S: Storage, F: WrappedFormat<S>> Qcow2<S, F> {
     }
 
     fn uncovered(&self, offset: u64) -> MappingKind
-        ensures value { result ≡ kind_at self.now.file.header.fields (is_some self.now.backing) offset L2Mapping.Uncovered }
+        ensures value { found_kind result ≡ kind_at self.now.file.header.fields (is_some self.now.backing) offset L2Mapping.Uncovered }
     {
         match &self.backing {
             Some(_) => MappingKind::Indirect { offset },
@@ -246,7 +249,7 @@ impl<S: Storage, F: WrappedFormat<S>> Qcow2<S, F> {
 
     fn kind_of(&self, mapping: L2Mapping, offset: u64) -> MappingKind
         requires { IsInReach mapping }
-        ensures value { result ≡ kind_at self.now.file.header.fields (is_some self.now.backing) offset mapping }
+        ensures value { found_kind result ≡ kind_at self.now.file.header.fields (is_some self.now.backing) offset mapping }
     {
         let within = GuestOffset::new(offset).in_cluster_offset(self.file.header.cluster_bits());
         match mapping {
@@ -281,7 +284,7 @@ impl<S: Storage, F: WrappedFormat<S>> Qcow2<S, F> {
         ensures end { IfOk result (λ p. offset + length < 2 ^ 64) }
         ensures sees { Prepares S.view F.backing self.old self.new offset length overwrite result }
         ensures maps { 0 < length → (out : List (Option Prepared)) → (seen S.view F.backing self.old out).is_sound
-            → IfOk result (λ p. IsAnswered self.old.file.header.fields (known_in S.view self.old.file) offset length (known_in S.view self.new.file) p (meaning S.view F.backing self.new p)) }
+            → IfOk result (λ p. IsAnswered self.old.file.header.fields (known_in S.view self.old.file) offset length self.new.file.header.fields (known_in S.view self.new.file) p (meaning S.view F.backing self.new p)) }
     {
         self.check_prepare(offset, length)?;
         if length == 0 {
@@ -336,7 +339,7 @@ impl<S: Storage, F: WrappedFormat<S>> Qcow2<S, F> {
         ensures readies { 0 < length → (out : List (Option Prepared)) → IsSoundAt S.view F.backing (pending_in S.view F.backing self.old out) self.old out
             → PreparesRange S.view F.backing self.old self.new out offset length overwrite result }
         ensures answers { 0 < length → (out : List (Option Prepared)) → IsSoundAt S.view F.backing (pending_in S.view F.backing self.old out) self.old out
-            → IfOk result (λ q. IsAnswered self.old.file.header.fields (known_in S.view self.old.file) offset length (known_in S.view self.new.file) q (meaning S.view F.backing self.new q)) }
+            → IfOk result (λ q. IsAnswered self.old.file.header.fields (known_in S.view self.old.file) offset length self.new.file.header.fields (known_in S.view self.new.file) q (meaning S.view F.backing self.new q)) }
     {
         let table = self.table_for(offset)?;
         match self.existing_host(table, offset, length)? {
@@ -362,10 +365,10 @@ impl<S: Storage, F: WrappedFormat<S>> Qcow2<S, F> {
         ensures readies { (out : List (Option Prepared)) → IsSoundAt S.view F.backing (pending_in S.view F.backing self.old out) self.old out
             → HoldsTable S.view F.backing self.old offset table → PreparesRange S.view F.backing self.old self.new out offset length overwrite result }
         ensures alone { (p : Pending) (out : List (Option Prepared)) → IsSoundAt S.view F.backing p self.old out → HoldsAll S.view F.backing p out
-            → IfOk result (λ q. HasItsOwn self.old.file.header.fields (known_in S.view self.new.file) q.new_cluster) }
+            → IfOk result (λ q. HasItsOwn self.new.file.header.fields (known_in S.view self.new.file) q.new_cluster) }
         ensures rest { (p : Pending) (out : List (Option Prepared)) → IsSoundAt S.view F.backing p self.old out
             → HoldsTable S.view F.backing self.old offset table → IfOk result (IsRest self.old.file.header.fields (known_in S.view self.old.file) offset) }
-        ensures header { OnOk result (self.new.file.header ≡ self.old.file.header) }
+        ensures header { OnOk result (KeepsHeader self.old.file.header self.new.file.header) }
     {
         match self.prepare_in(table, offset, length, overwrite) {
             Ok(prepared) => Ok(prepared),
@@ -427,10 +430,10 @@ impl<S: Storage, F: WrappedFormat<S>> Qcow2<S, F> {
         ensures readies { (out : List (Option Prepared)) → IsSoundAt S.view F.backing (pending_in S.view F.backing self.old out) self.old out
             → HoldsTable S.view F.backing self.old offset table → Readies S.view F.backing self.old self.new out offset length overwrite result }
         ensures alone { (p : Pending) (out : List (Option Prepared)) → IsSoundAt S.view F.backing p self.old out → HoldsAll S.view F.backing p out
-            → IfOk result (λ q. HasItsOwn self.old.file.header.fields (known_in S.view self.new.file) q.new_cluster) }
+            → IfOk result (λ q. HasItsOwn self.new.file.header.fields (known_in S.view self.new.file) q.new_cluster) }
         ensures rest { (p : Pending) (out : List (Option Prepared)) → IsSoundAt S.view F.backing p self.old out
             → HoldsTable S.view F.backing self.old offset table → IfOk result (IsRest self.old.file.header.fields (known_in S.view self.old.file) offset) }
-        ensures header { self.new.file.header ≡ self.old.file.header }
+        ensures header { KeepsHeader self.old.file.header self.new.file.header }
     {
         if self.file.caches.l2_is_pinned(table) {
             return Err(ImageError::TablePrepared);
@@ -459,9 +462,9 @@ impl<S: Storage, F: WrappedFormat<S>> Qcow2<S, F> {
             → HoldsTable S.view F.backing self.old offset table → l2_pins self.old.file.caches table ≡ 0 → cover self.old.file.header.fields (known_in S.view self.old.file) (offset / cluster_size self.old.file.header.fields) ≡ L2Mapping.Uncovered
             → Readies S.view F.backing self.old self.new out offset length overwrite result }
         ensures alone { (p : Pending) (out : List (Option Prepared)) → IsSoundAt S.view F.backing p self.old out → HoldsAll S.view F.backing p out
-            → IfOk result (λ q. HasItsOwn self.old.file.header.fields (known_in S.view self.new.file) q.new_cluster) }
+            → IfOk result (λ q. HasItsOwn self.new.file.header.fields (known_in S.view self.new.file) q.new_cluster) }
         ensures rest { (known : Bytes) → cover self.old.file.header.fields known (offset / cluster_size self.old.file.header.fields) ≡ L2Mapping.Uncovered → IfOk result (IsRest self.old.file.header.fields known offset) }
-        ensures header { self.new.file.header ≡ self.old.file.header }
+        ensures header { KeepsHeader self.old.file.header self.new.file.header }
     {
         let pending = self.new_cluster(offset, length, overwrite)?;
         match self.load_l2(table) {
@@ -566,7 +569,7 @@ impl<S: Storage, F: WrappedFormat<S>> Qcow2<S, F> {
     ) -> Result<PendingClusters, ImageError>
         requires writable { IsTrue (is_writable self.old) }
         ensures nameable { IfOk result (λ p. IsHostCluster self.old.file.header.fields.cluster_bits p.first_cluster) }
-        ensures header { self.new.file.header ≡ self.old.file.header }
+        ensures header { KeepsHeader self.old.file.header self.new.file.header }
         ensures stays { Stays self.old self.new }
         ensures cause { IfErr result IsMet }
         ensures gains { (p : Pending) (out : List (Option Prepared)) → IsSoundAt S.view F.backing p self.old out → HoldsAll S.view F.backing p out → Gains S.view F.backing p self.old self.new out offset length overwrite result }
@@ -585,8 +588,8 @@ impl<S: Storage, F: WrappedFormat<S>> Qcow2<S, F> {
     fn take_data(&mut self) -> Result<PendingClusters, ImageError>
         requires writable { IsTrue (is_writable self.old) }
         ensures nameable { IfOk result (λ p. IsHostCluster self.old.file.header.fields.cluster_bits p.first_cluster) }
-        ensures header { self.new.file.header ≡ self.old.file.header }
-        ensures list { self.new.file.free_list ≡ self.old.file.free_list }
+        ensures header { KeepsHeader self.old.file.header self.new.file.header }
+        ensures list { ListGrows self.old self.new }
         ensures stays { Stays self.old self.new }
         ensures cause { IfErr result IsMet }
         ensures takes { (p : Pending) (out : List (Option Prepared)) → IsSoundAt S.view F.backing p self.old out → HoldsAll S.view F.backing p out → TakesData S.view F.backing p self.old self.new out result }

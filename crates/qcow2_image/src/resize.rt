@@ -90,7 +90,7 @@ impl<S: Storage, F: WrappedFormat<S>> Qcow2<S, F> {
     // Gives an L1 table clusters, writes it there, and then the pointer that names it.
     fn enter_l1_table(&mut self, table: L1Table) -> Result<(), ImageError>
         ensures takes { (p : Pending) → IsSoundAt S.view F.backing p self.old [] → IsLonger self.old table → TakesTable S.view F.backing p self.old self.new result }
-        ensures list { OnOk result (self.new.file.free_list ≡ self.old.file.free_list) }
+        ensures list { OnOk result (ListGrows self.old self.new) }
     {
         let Some(allocator) = &mut self.allocator else {
             return Err(ImageError::ReadOnly);

@@ -3,6 +3,7 @@ pub mod Clusters
 pub mod Sums
 pub mod Places
 pub mod Guests
+pub mod Formats
 pub mod Tops
 pub mod Mixes
 pub mod Consistency

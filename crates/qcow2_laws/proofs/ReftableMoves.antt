@@ -63,7 +63,7 @@ module _ (h : HeaderFields) (offset clusters : ℕ) (blocks counted : ℕ → �
       reftable-same (with_places h (with_reftable_at h offset clusters)) b b' k now_sizes new.aligned (λ lt.
       alike _ (others _ (let one = reftable_has (with_places h (with_reftable_at h offset clusters)) k now_sizes new.aligned lt in omega arith)))
 
-  now_reftable : (k : ℕ) → reftable_entry (with_places h (with_reftable_at h offset clusters)) base k ≡ reftable_entry (with_places h (with_reftable_at h offset clusters)) base' k
+  pub now_reftable : (k : ℕ) → reftable_entry (with_places h (with_reftable_at h offset clusters)) base k ≡ reftable_entry (with_places h (with_reftable_at h offset clusters)) base' k
   now_reftable = stays base base' same
 
   now_known_reftable : (k : ℕ) → reftable_entry (with_places h (with_reftable_at h offset clusters)) base k ≡ reftable_entry (with_places h (with_reftable_at h offset clusters)) known' k
@@ -128,7 +128,7 @@ module _ (h : HeaderFields) (offset clusters : ℕ) (blocks counted : ℕ → �
             omega arith
       ]
 
-  known_counts : (c : ℕ) → count (with_places h (with_reftable_at h offset clusters)) known' c ≡ count h known c + counted c
+  pub known_counts : (c : ℕ) → count (with_places h (with_reftable_at h offset clusters)) known' c ≡ count h known c + counted c
   known_counts c =
       let k = c / counts_per_block h in
       elim (cases_eq (block_offset (reftable_entry h base (c / counts_per_block h))) 0) [
@@ -157,7 +157,7 @@ module _ (h : HeaderFields) (offset clusters : ℕ) (blocks counted : ℕ → �
   unfolding cover cover_under l1_entry
   covers_too b g = refl
 
-  now_l1 : (i : ℕ) → l1_entry h base i ≡ l1_entry (with_places h (with_reftable_at h offset clusters)) base' i
+  pub now_l1 : (i : ℕ) → l1_entry h base i ≡ l1_entry (with_places h (with_reftable_at h offset clusters)) base' i
   now_l1 i = header_l1 h (with_reftable_at h offset clusters) d p base known base' known' guarded writes i ∙ sym (l1_too base' i)
 
   top_now : IsTop (with_places h (with_reftable_at h offset clusters)) base'

@@ -10,7 +10,7 @@ use Rattle.qcow2_laws.specs.Stops.{Gift, Mark, marked, more, IsKeptAt, IsStopAt}
 use Rattle.qcow2_laws.specs.Mappings.{PreparedMapping}
 use Rattle.qcow2_laws.specs.Views.{Setting, Guest, Spec, View, view, guest_of, contents_of, IsWhole}
 use Rattle.qcow2_laws.specs.Calls.{Refusal, Acts, Does, Refuses, IsFault, Works, Rests, Stops}
-use Rattle.qcow2_laws.specs.Runs.{Command, Reply, Found, Means, IsFaultReply, State, Step, Run, IsSafeWhile, IsAsSaid, HoldsAlong, IsStopIn, StandsAt, Goes, Ran, Completes, MeansTheDisk, started, mark_in, mark_after, stepped, given_by, asked_by, flush, done}
+use Rattle.qcow2_laws.specs.Runs.{Command, Reply, Found, Means, IsFaultReply, IsRightlyFound, State, Step, Run, IsSafeWhile, IsAsSaid, HoldsAlong, IsStopIn, StandsAt, Goes, Ran, Completes, MeansTheDisk, started, mark_in, mark_after, stepped, given_by, asked_by, flush, done}
 use Rattle.qcow2_laws.proofs.Stops.{stop_of_kept, stop_more, kept_more}
 
 bool_cases : (b : Bool) → (b ≡ true) ⊎ (b ≡ false)
@@ -20,6 +20,7 @@ bool_cases false = inr refl
 -- how a call ends on an image that worked
 pub record Ends (found : ℕ → Option Found) (old new : View) (command : Command) (reply : Reply) : Type 0 where
   pub ends : (new.is_sound × Means old.setting found (guest_of old) command reply (guest_of new)) ⊎ (IsFaultReply reply × IsTrue new.is_failed)
+  pub finds : new.is_sound → IsRightlyFound new.setting old.known new.known command reply
   pub mark : (x : Setting) (s : State) → new.is_sound → (mark_after x s command reply (guest_of new) ≡ mark_in x s command)
       ⊎ ((mark_after x s command reply (guest_of new) ≡ marked (guest_of new).disk) × (IsKeptAt new.setting.backing (marked (guest_of new).disk) new.known × IsKeptAt new.setting.backing (marked (guest_of new).disk) (contents_of new)))
 
@@ -46,6 +47,7 @@ module _ (x : Setting) (old new : View) (s : State) (command : Command) (reply :
           at_rest = at;
         };
         safe = record { moments = λ e. absurd (not_ok e); at_return = at; silent = λ _. rests.moments; unchanged = λ _. rests.contents };
+        found = λ e. absurd (not_ok e);
         surplus = λ e. absurd (not_ok e);
         since = λ e. e;
       }
@@ -94,15 +96,16 @@ module _ (x : Setting) (old new : View) (s : State) (command : Command) (reply :
             at_rest = at;
           };
           safe = safe_to (mark_after x s command reply s.guest) at;
+          found = λ e. absurd (cc);
           surplus = λ e. absurd (cc);
           since = λ _. ok;
         }
 
-    going : new.is_sound → Means x s.found s.guest command reply (guest_of new)
+    going : new.is_sound → Means x s.found s.guest command reply (guest_of new) → IsRightlyFound new.setting old.known new.known command reply
         → ((mark_after x s command reply (guest_of new) ≡ mark_in x s command)
         ⊎ ((mark_after x s command reply (guest_of new) ≡ marked (guest_of new).disk) × (IsKeptAt new.setting.backing (marked (guest_of new).disk) new.known × IsKeptAt new.setting.backing (marked (guest_of new).disk) (contents_of new))))
         → Goes x old new s command reply
-    going sound means mark =
+    going sound means finds mark =
         let after = mark_after x s command reply (guest_of new) in
         let kept : IsKeptAt x.backing after (contents_of new) =
         ⊎_elim
@@ -126,6 +129,7 @@ module _ (x : Setting) (old new : View) (s : State) (command : Command) (reply :
             at_rest = at;
           };
           safe = safe_to after at;
+          found = λ _. subst (λ y. IsRightlyFound y old.known new.known command reply) (acts.setting ∙ stands.setting) finds;
           surplus = λ _. acts.surplus sound;
           since = λ _. ok;
         }
@@ -143,7 +147,7 @@ module _ (x : Setting) (old new : View) (s : State) (command : Command) (reply :
         (λ (done : new.is_sound × Means old.setting s.found (guest_of old) command reply (guest_of new)).
         going ok worked done.0
         (subst (λ y. Means y s.found s.guest command reply (guest_of new)) stands.setting (subst (λ h. Means old.setting s.found h command reply (guest_of new)) (stands.guest ok) done.1))
-        ((ends sound).mark x s done.0))
+        ((ends sound).finds done.0) ((ends sound).mark x s done.0))
         (λ (broke : IsFaultReply reply × IsTrue new.is_failed). failing ok worked broke.0 broke.1)
         (ends sound).ends
   ]
@@ -151,18 +155,19 @@ module _ (x : Setting) (old new : View) (s : State) (command : Command) (reply :
 -- a call that was answered, and one that was refused
 pub done_as : (x : Setting) (old new : View) (s : State) (command is : Command) (reply : Reply) → command ≡ is → StandsAt x old s
     → Does old new (given_by old.setting (guest_of old) is) (asked_by is) (Means old.setting s.found (guest_of old) is reply (guest_of new))
-    → ((x' : Setting) (s' : State) → mark_after x' s' is reply (guest_of new) ≡ mark_in x' s' is) → Goes x old new s command reply
-done_as x old new s command is reply e stands does mark =
+    → ((x' : Setting) (s' : State) → mark_after x' s' is reply (guest_of new) ≡ mark_in x' s' is) → (old.is_sound → IsRightlyFound new.setting old.known new.known is reply) → Goes x old new s command reply
+done_as x old new s command is reply e stands does mark finds =
     subst (λ q. Goes x old new s q reply) (sym e) (called x old new s is reply stands does.acts
-    (λ sound. record { ends = inl (does.answer sound); mark = λ x' s' _. inl (mark x' s') }))
+    (λ sound. record { ends = inl (does.answer sound); finds = λ _. finds sound; mark = λ x' s' _. inl (mark x' s') }))
 
 pub refused_as : (x : Setting) (old new : View) (s : State) (command is : Command) (reply : Reply) (error : Refusal) → command ≡ is → StandsAt x old s
     → Refuses old new (given_by old.setting (guest_of old) is) (asked_by is) error (Means old.setting s.found (guest_of old) is reply (guest_of new)) → (IsFault error → IsFaultReply reply)
-    → ((x' : Setting) (s' : State) → mark_after x' s' is reply (guest_of new) ≡ mark_in x' s' is) → Goes x old new s command reply
-refused_as x old new s command is reply error e stands refuses fault mark =
+    → ((x' : Setting) (s' : State) → mark_after x' s' is reply (guest_of new) ≡ mark_in x' s' is) → IsRightlyFound new.setting old.known new.known is reply → Goes x old new s command reply
+refused_as x old new s command is reply error e stands refuses fault mark finds =
     subst (λ q. Goes x old new s q reply) (sym e) (called x old new s is reply stands refuses.acts
     (λ sound. record {
       ends = ⊎_elim (λ h. inl h) (λ (b : IsFault error × IsTrue new.is_failed). inr (fault b.0, b.1)) (refuses.answer sound);
+      finds = λ _. finds;
       mark = λ x' s' _. inl (mark x' s');
     }))
 
@@ -193,22 +198,23 @@ kept_at_once v b whole same = record {
 pub flushed_as : (x : Setting) (old new : View) (s : State) (command is : Command) (reply : Reply) → command ≡ is → StandsAt x old s
     → Does old new (given_by old.setting (guest_of old) is) (asked_by is) ((new.known ≡ contents_of new) × Means old.setting s.found (guest_of old) is reply (guest_of new))
     → (new.is_sound → IsWhole new)
-    → ((x' : Setting) (s' : State) → mark_after x' s' is reply (guest_of new) ≡ marked (guest_of new).disk) → Goes x old new s command reply
-flushed_as x old new s command is reply e stands does whole mark =
+    → ((x' : Setting) (s' : State) → mark_after x' s' is reply (guest_of new) ≡ marked (guest_of new).disk) → IsRightlyFound new.setting old.known new.known is reply → Goes x old new s command reply
+flushed_as x old new s command is reply e stands does whole mark finds =
     subst (λ q. Goes x old new s q reply) (sym e) (called x old new s is reply stands does.acts
     (λ sound. let a = does.answer sound in record {
       ends = inl (a.0, a.1.1);
+      finds = λ _. finds;
       mark = λ x' s' _. inr (mark x' s', (kept_at_once new new.known (whole a.0) refl, kept_at_once new (contents_of new) (whole a.0) (sym a.1.0)));
     }))
 
 -- a command that was misused: nothing is called
 pub none_as : (x : Setting) (v : View) (s : State) (command is : Command) (reply : Reply) → command ≡ is → StandsAt x v s
     → (v.is_sound → Means v.setting s.found (guest_of v) is reply (guest_of v))
-    → ((x' : Setting) (s' : State) → mark_after x' s' is reply (guest_of v) ≡ mark_in x' s' is) → Goes x v v s command reply
-none_as x v s command is reply e stands means mark =
+    → ((x' : Setting) (s' : State) → mark_after x' s' is reply (guest_of v) ≡ mark_in x' s' is) → IsRightlyFound v.setting v.known v.known is reply → Goes x v v s command reply
+none_as x v s command is reply e stands means mark finds =
     subst (λ q. Goes x v v s q reply) (sym e) (called x v v s is reply stands
     (acts_none v (given_by v.setting (guest_of v) is) (asked_by is))
-    (λ sound. record { ends = inl (sound, means sound); mark = λ x' s' _. inl (mark x' s') }))
+    (λ sound. record { ends = inl (sound, means sound); finds = λ _. finds; mark = λ x' s' _. inl (mark x' s') }))
 
 -- where a run begins
 pub begins : (v : View) → v.is_sound → IsWhole v → v.known ≡ contents_of v → StandsAt v.setting v (started (guest_of v))
@@ -239,20 +245,22 @@ module _ {D P : Type 0} (spec : Spec D P) (x : Setting) (before : ℕ → ℕ) w
   -- so does the image along it
   along_push : (old mid new : D) (out : List (Option P)) (s t end : State) (commands : List Command) (replies : List Reply) (command : Command) (reply : Reply) (run : Run x s commands replies t) (step : Step x t command reply end)
       → HoldsAlong spec x before old mid s t commands replies run → IsAsSaid (view spec new out) end before → IsSafeWhile x.backing (spec.storage mid) (spec.storage new) t.is_failed (mark_in x t command) end.mark
+      → (end.is_failed ≡ false → IsRightlyFound x (spec.known mid) (spec.known new) command reply)
       → HoldsAlong spec x before old new s end (commands ++ command ∷ []) (replies ++ reply ∷ []) (Run-push x s t end commands replies command reply run step)
   unfolding Run-push
-  along_push old mid new out s t end [] [] command reply run step same said safe = (
+  along_push old mid new out s t end [] [] command reply run step same said safe finds = (
     new,
     out,
     said,
     subst (λ (d : D). IsSafeWhile x.backing (spec.storage d) (spec.storage new) s.is_failed (mark_in x s command) end.mark) same
         (subst (λ (r : State). IsSafeWhile x.backing (spec.storage mid) (spec.storage new) r.is_failed (mark_in x r command) end.mark) run safe),
+    λ ok. subst (λ (d : D). IsRightlyFound x (spec.known d) (spec.known new) command reply) same (finds ok),
     refl,
   )
-  along_push old mid new out s t end (c ∷ commands) (r ∷ replies) command reply run step so_far said safe =
-      (so_far.0, so_far.1, so_far.2, so_far.3, along_push so_far.0 mid new out run.0 t end commands replies command reply run.2 step so_far.4 said safe)
-  along_push old mid new out s t end [] (r ∷ replies) command reply run step so_far said safe = absurd run
-  along_push old mid new out s t end (c ∷ commands) [] command reply run step so_far said safe = absurd run
+  along_push old mid new out s t end (c ∷ commands) (r ∷ replies) command reply run step so_far said safe finds =
+      (so_far.0, so_far.1, so_far.2, so_far.3, so_far.4, along_push so_far.0 mid new out run.0 t end commands replies command reply run.2 step so_far.5 said safe finds)
+  along_push old mid new out s t end [] (r ∷ replies) command reply run step so_far said safe finds = absurd run
+  along_push old mid new out s t end (c ∷ commands) [] command reply run step so_far said safe finds = absurd run
 
   -- the moments of a run fall under its commands
   within : (old new : D) (s end : State) (commands : List Command) (replies : List Reply) (run : Run x s commands replies end) → HoldsAlong spec x before old new s end commands replies run
@@ -264,7 +272,7 @@ module _ {D P : Type 0} (spec : Spec D P) (x : Setting) (before : ℕ → ℕ) w
             (λ c e. subst (λ k. IsStopAt x.backing (mark_in x s command) (byte_at k)) (sym e) (stop_more x.backing (given_by x s.guest command) (asked_by command) s.mark (byte_at (spec.storage old).contents) at)) (safe.3.silent failed)
         | inr ok ↦ safe.3.moments ok
       ] in
-      passes_more here (within safe.0 new run.0 end commands replies run.2 safe.4 safe.3.at_return)
+      passes_more here (within safe.0 new run.0 end commands replies run.2 safe.5 safe.3.at_return)
   within old new s end [] (reply ∷ replies) run safe at = absurd run
   within old new s end (command ∷ commands) [] run safe at = absurd run
 
@@ -277,7 +285,7 @@ module _ {D P : Type 0} (spec : Spec D P) (x : Setting) (before : ℕ → ℕ) w
   rest_at_end : (old new : D) (s end : State) (commands : List Command) (replies : List Reply) (run : Run x s commands replies end) → HoldsAlong spec x before old new s end commands replies run
       → IsStopAt x.backing s.mark (byte_at (spec.storage old).contents) → IsStopAt x.backing end.mark (byte_at (spec.storage new).contents)
   rest_at_end old new s end [] [] run same at = subst (λ (d : D). IsStopAt x.backing end.mark (byte_at (spec.storage d).contents)) (sym same) (subst (λ (t : State). IsStopAt x.backing t.mark (byte_at (spec.storage old).contents)) (sym run) at)
-  rest_at_end old new s end (command ∷ commands) (reply ∷ replies) run safe at = rest_at_end safe.0 new run.0 end commands replies run.2 safe.4 safe.3.at_return
+  rest_at_end old new s end (command ∷ commands) (reply ∷ replies) run safe at = rest_at_end safe.0 new run.0 end commands replies run.2 safe.5 safe.3.at_return
   rest_at_end old new s end [] (reply ∷ replies) run safe at = absurd run
   rest_at_end old new s end (command ∷ commands) [] run safe at = absurd run
 
@@ -314,7 +322,7 @@ module _ {D P : Type 0} (spec : Spec D P) where
     end = goes.end;
     run = Run-push x s ran.end goes.end commands replies command reply ran.run goes.step;
     along = along_push spec x (spec.surplus old before) old mid new out' s ran.end goes.end commands replies command reply ran.run goes.step ran.along
-        (said_at (spec.surplus old before) goes.stands (λ e. goes.surplus e ∙ ran.surplus (goes.since e))) goes.safe;
+        (said_at (spec.surplus old before) goes.stands (λ e. goes.surplus e ∙ ran.surplus (goes.since e))) goes.safe goes.found;
     stands = goes.stands;
     surplus = λ e. goes.surplus e ∙ ran.surplus (goes.since e);
   }

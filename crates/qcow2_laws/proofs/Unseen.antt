@@ -14,9 +14,10 @@ use Rattle.qcow2_laws.specs.Tops.{IsSameOutside, WritesL1Entry, IsNewTable, Writ
 use Rattle.qcow2_laws.specs.Writes.{IsUnnamed}
 use Rattle.qcow2_laws.specs.Leads.{Stand, IsSound}
 use Rattle.qcow2_laws.specs.Steps.{block_of}
-use Rattle.qcow2_laws.specs.Unseen.{used_by_guests, SameUsedBytes, SameUsedBytesBut, IsUnseen, IsUnseenBut, SameL1Table}
+use Rattle.qcow2_laws.specs.Unseen.{used_by_guests, SameUsedBytes, SameUsedBytesBut, KeepsFormat, IsUnseen, IsUnseenBut, SameL1Table}
 use Rattle.qcow2_laws.proofs.Places.{Sizes-from}
 use Rattle.qcow2_laws.proofs.Guests.{over_guests-same, guest_le, names_within}
+use Rattle.qcow2_laws.proofs.Formats.{format_refl, format_same, format_then, size_format, l1_format, covers_format, guests_format, value_format}
 use Rattle.qcow2_laws.proofs.Tops.{for_tables-top, IsTop-top}
 use Rattle.qcow2_laws.proofs.Mixes.{tied}
 use Rattle.qcow2_laws.proofs.Values.{guest_value-same, value_is, size_is}
@@ -31,11 +32,11 @@ named_same : (h : HeaderFields) (known known' : Bytes) (c : ℕ) → SameCovers 
 named_same h known known' c covers = over_guests-same h (names h known c) (names h known' c) (λ g. ap (named_by_cover h c) (covers g))
 
 pub unseen_none : (s : Stand) → IsUnseen s s
-unseen_none s = record { header = refl; covers = λ g. refl; bytes = λ o some. refl }
+unseen_none s = record { header = format_refl s.header; covers = λ g. refl; bytes = λ o some. refl }
 
-module _ (a b : Stand) (header : b.header ≡ a.header) (covers : SameCovers a.header a.known b.known) where
+module _ (a b : Stand) (header : KeepsFormat a.header b.header) (covers : SameCovers a.header a.known b.known) where
   covers_then : (c : Stand) → SameCovers b.header b.known c.known → SameCovers a.header a.known c.known
-  covers_then c then g = covers g ∙ subst (λ h. cover h b.known g ≡ cover h c.known g) header (then g)
+  covers_then c then g = covers g ∙ covers_format a.header b.header header b.known c.known then g
 
   -- what guests used they still use
   used_still : ((k : ℕ) → 0 < a.pending.held k → 0 < b.pending.held k) → (o : ℕ) → 0 < used_by_guests a (o / cluster_size a.header) → 0 < used_by_guests b (o / cluster_size b.header)
@@ -43,11 +44,14 @@ module _ (a b : Stand) (header : b.header ≡ a.header) (covers : SameCovers a.h
       let same = named_same a.header a.known b.known (o / cluster_size a.header) covers in
       let still = held (o / cluster_size a.header) in
       let used : 0 < over_guests a.header (names a.header b.known (o / cluster_size a.header)) + b.pending.held (o / cluster_size a.header) = grind arith in
-      subst (λ (h : HeaderFields). 0 < over_guests h (names h b.known (o / cluster_size h)) + b.pending.held (o / cluster_size h)) (sym header) used
+      let size : cluster_size a.header ≡ cluster_size b.header = sym (size_format a.header b.header header) in
+      let is : over_guests b.header (names b.header b.known (o / cluster_size a.header)) ≡ over_guests a.header (names a.header b.known (o / cluster_size a.header)) =
+      guests_format a.header b.header header b.known (o / cluster_size a.header) in
+      subst (λ (n : ℕ). 0 < over_guests b.header (names b.header b.known (o / n)) + b.pending.held (o / n)) size (omega (arith, is, used))
 
 pub unseen_then : (a b c : Stand) → IsUnseen a b → IsUnseen b c → ((k : ℕ) → 0 < a.pending.held k → 0 < b.pending.held k) → IsUnseen a c
 unseen_then a b c first then held = record {
-  header = then.header ∙ first.header;
+  header = format_then a.header b.header c.header first.header then.header;
   covers = covers_then a b first.header first.covers c then.covers;
   bytes = λ o some. then.bytes o (used_still a b first.header first.covers held o some) ∙ first.bytes o some;
 }
@@ -58,23 +62,23 @@ unseen_but n old new unseen = record { header = unseen.header; covers = unseen.c
 
 pub unseen_but_then : (n : ℕ) (a b c : Stand) → IsUnseenBut n a b → IsUnseenBut n b c → ((k : ℕ) → 0 < a.pending.held k → 0 < b.pending.held k) → IsUnseenBut n a c
 unseen_but_then n a b c first then held = record {
-  header = then.header ∙ first.header;
+  header = format_then a.header b.header c.header first.header then.header;
   covers = covers_then a b first.header first.covers c then.covers;
   bytes = λ o other some.
-      then.bytes o (λ e. other (ap (λ h. o / cluster_size h) (sym first.header) ∙ e)) (used_still a b first.header first.covers held o some)
+      then.bytes o (λ e. other (ap (λ n. o / n) (sym (size_format a.header b.header first.header)) ∙ e)) (used_still a b first.header first.covers held o some)
       ∙ first.bytes o other some;
 }
 
 pub l1_same_none : (s : Stand) → SameL1Table s s
 l1_same_none s i = refl
 
-pub l1_same_then : (a b c : Stand) → b.header ≡ a.header → SameL1Table a b → SameL1Table b c → SameL1Table a c
-l1_same_then a b c header first then i = subst (λ h. l1_entry h c.base i ≡ l1_entry h b.base i) header (then i) ∙ first i
+pub l1_same_then : (a b c : Stand) → KeepsFormat a.header b.header → SameL1Table a b → SameL1Table b c → SameL1Table a c
+l1_same_then a b c header first then i = sym (l1_format a.header b.header header c.base i) ∙ then i ∙ l1_format a.header b.header header b.base i ∙ first i
 
 -- ---- the same is known
 pub unseen_known : (old new : Stand) → new.header ≡ old.header → new.known ≡ old.known → IsUnseen old new
 unseen_known old new header same = record {
-  header = header;
+  header = format_same old.header new.header header;
   covers = λ g. ap (λ (b : Bytes). cover old.header b g) (sym same);
   bytes = λ o some. ap (λ (b : Bytes). b o) same;
 }
@@ -83,9 +87,9 @@ pub l1_same_base : (old new : Stand) → new.base ≡ old.base → SameL1Table o
 l1_same_base old new same i = ap (λ (b : Bytes). l1_entry old.header b i) same
 
 -- the storage has the L1 table that is known
-pub l1_same_known : (old new : Stand) → IsSound old → IsSound new → new.header ≡ old.header → ((i : ℕ) → l1_entry old.header new.known i ≡ l1_entry old.header old.known i) → SameL1Table old new
+pub l1_same_known : (old new : Stand) → IsSound old → IsSound new → KeepsFormat old.header new.header → ((i : ℕ) → l1_entry old.header new.known i ≡ l1_entry old.header old.known i) → SameL1Table old new
 l1_same_known old new sound sound' header same i =
-    subst (λ h. l1_entry h new.base i ≡ l1_entry h new.known i) header (sound'.same_top.l1 i) ∙ same i ∙ sym (sound.same_top.l1 i)
+    sym (l1_format old.header new.header header new.base i) ∙ sound'.same_top.l1 i ∙ l1_format old.header new.header header new.known i ∙ same i ∙ sym (sound.same_top.l1 i)
 
 -- ---- bytes change where guests use none
 pub known_header : (s : Stand) → IsSound s → header s.known ≡ s.header
@@ -115,7 +119,7 @@ module _ (old new : Stand) (sound : IsSound old) where
       let one = block_has old.header old.known _ real in
       omega arith in
       record {
-        header = header;
+        header = format_same old.header new.header header;
         covers = counted_covers old.header old.direction old.pending old.base old.known new.known sound c real outside;
         bytes = table_bytes (block_of old.header old.known c / cluster_size old.header) fixed outside;
       }
@@ -142,7 +146,7 @@ module _ (old new : Stand) (sound : IsSound old) where
       let known_outside = outside_eight (cluster_size old.header) old.header.reftable_offset k old.known new.known sizes.whole sizes.some sound.top.reftable_aligned writes.known_others in
       let known_top = IsTop-top old.header old.base old.known sound.same_top sound.top in (
         record {
-          header = header;
+          header = format_same old.header new.header header;
           covers = reftable_covers old.header old.known new.known known_top c (omega arith) single.1 (outside_same c old.known new.known known_outside);
           bytes = table_bytes c fixed known_outside;
         },
@@ -156,7 +160,7 @@ module _ (old new : Stand) (sound : IsSound old) where
       let has = l1_has old.header i sizes sound.top.l1_aligned writes.within in
       let parts = shares old.header old.base ((old.header.l1_offset + 8 * i) / cluster_size old.header) in
       record {
-        header = header;
+        header = format_same old.header new.header header;
         covers = known_covers old.header old.direction old.pending old.base old.known new.base new.known sound i entry writes table;
         bytes = table_bytes ((old.header.l1_offset + 8 * i) / cluster_size old.header) (omega arith)
             (outside_eight (cluster_size old.header) old.header.l1_offset i old.known new.known sizes.whole sizes.some sound.top.l1_aligned writes.known_others);
@@ -172,7 +176,7 @@ module _ (old new : Stand) (sound : IsSound old) where
     unseen_written header =
         let known_top = IsTop-top old.header old.base old.known sound.same_top sound.top in (
           record {
-            header = header;
+            header = format_same old.header new.header header;
             covers = covers_stay old.header old.known new.known known_top (λ c fixed. (tables_stay c (let e = for_tables-top old.header old.base old.known c sound.same_top in omega arith)).1);
             bytes = λ o some. elim (each (o / cluster_size old.header)) [
               | inl same ↦ sym (same.1 o refl)
@@ -190,7 +194,7 @@ module _ (old new : Stand) (sound : IsSound old) where
       let apart : (k : ℕ) → 0 < named_for_tables old.header old.base k → k ≢ c = λ k some e. absurd (let here : named_for_tables old.header old.base k ≡ 0 = ap (named_for_tables old.header old.base) e ∙ none in omega arith) in
       let known_apart : (k : ℕ) → 0 < named_for_tables old.header old.known k → k ≢ c = λ k some. apart k (let e = for_tables-top old.header old.base old.known k sound.same_top in omega arith) in (
         record {
-          header = header;
+          header = format_same old.header new.header header;
           covers = covers_stay old.header old.known new.known known_top (λ k some. outside_same c old.known new.known known_outside k (known_apart k some));
           bytes = λ o other some. sym (known_outside o other);
         },
@@ -198,7 +202,7 @@ module _ (old new : Stand) (sound : IsSound old) where
       )
 
   -- ---- what is held for guests stays where only bytes of other clusters change, on the storage and as known
-  module _ (sound' : IsSound new) (header : new.header ≡ old.header) (k : ℕ) (held : 0 < old.pending.held k) (still : 0 < new.pending.held k) where
+  module _ (sound' : IsSound new) (header : KeepsFormat old.header new.header) (k : ℕ) (held : 0 < old.pending.held k) (still : 0 < new.pending.held k) where
     pub held_stays_but : (c : ℕ) → k ≢ c → SameUsedBytesBut c old new → SameIn (cluster_size old.header) k old.base new.base × SameIn (cluster_size old.header) k old.known new.known
     held_stays_but c other bytes =
         let known : SameIn (cluster_size old.header) k old.known new.known = λ o in_k.
@@ -206,7 +210,7 @@ module _ (old new : Stand) (sound : IsSound old) where
         sym (bytes o (λ e. other (sym in_k ∙ e)) (omega arith)) in (
           (λ o in_k.
               let held_here : 0 < old.pending.held (o / cluster_size old.header) = subst (λ n. 0 < old.pending.held n) (sym in_k) held in
-              let still_here : 0 < new.pending.held (o / cluster_size new.header) = subst (λ n. 0 < new.pending.held n) (sym (ap (λ h. o / cluster_size h) header ∙ in_k)) still in
+              let still_here : 0 < new.pending.held (o / cluster_size new.header) = subst (λ n. 0 < new.pending.held n) (sym (ap (λ n. o / n) (size_format old.header new.header header) ∙ in_k)) still in
               sound.unlaid o (omega arith) ∙ known o in_k ∙ sym (sound'.unlaid o (omega arith))),
           known,
         )
@@ -222,16 +226,17 @@ module _ (old new : Stand) (sound : IsSound old) where
       let le = guest_le old.header (names old.header old.known c) g within in
       omega arith
 
-  module _ (sound' : IsSound new) (header : new.header ≡ old.header) (backing : Bytes) where
+  module _ (sound' : IsSound new) (header : KeepsFormat old.header new.header) (backing : Bytes) where
     pub size_stays : (disk new.known backing).size ≡ (disk old.known backing).size
-    size_stays = size_is old.header new.known backing (known_header new sound' ∙ header) ∙ sym (size_is old.header old.known backing (known_header old sound))
+    size_stays = size_is new.header new.known backing (known_header new sound') ∙ ap (λ (h : HeaderFields). h.size) header ∙ sym (size_is old.header old.known backing (known_header old sound))
 
     -- a byte stays where its cover stays, and the bytes in each cluster that this names
     pub value_stays : (o : ℕ) → cover old.header old.known (o / cluster_size old.header) ≡ cover old.header new.known (o / cluster_size old.header)
         → ((place : ℕ) → 0 < names old.header old.known (place / cluster_size old.header) (o / cluster_size old.header) → new.known place ≡ old.known place)
         → (disk new.known backing).value o ≡ (disk old.known backing).value o
     value_stays o same bytes =
-        value_is old.header new.known backing o (known_header new sound' ∙ header)
+        value_is new.header new.known backing o (known_header new sound')
+        ∙ value_format old.header new.header header new.known backing o
         ∙ sym (guest_value-same old.header old.known new.known backing o same (sound.known_aligned (o / cluster_size old.header)) (λ place some. sym (bytes place some)))
         ∙ sym (value_is old.header old.known backing o (known_header old sound))
 

@@ -4,6 +4,7 @@ pub mod Rules
 pub mod Mappings
 pub mod Views
 pub mod Calls
+pub mod Found
 pub mod Runs
 pub mod ForUsers
 pub mod Clusters

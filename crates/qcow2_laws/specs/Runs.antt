@@ -8,6 +8,7 @@ use Rattle.qcow2_laws.specs.Disk.{Disk, with_bytes}
 use Rattle.qcow2_laws.specs.Stops.{Gift, Mark, marked, more, IsKeptAt, IsStopAt}
 use Rattle.qcow2_laws.specs.Rules.{answered}
 use Rattle.qcow2_laws.specs.Mappings.{PreparedMapping, IsPrepared, put_mapping, put_disk, committed, gift_of, gift_of_commit}
+use Rattle.qcow2_laws.specs.Found.{Kind, IsFoundIn}
 use Rattle.qcow2_laws.specs.Views.{Setting, Guest, Spec, View, view, guest_of, contents_of}
 use Rattle.qcow2_laws.specs.Calls.{Refusal, IsFault, Shows, with_disk, with_slot, MayWrite, Clearing, cleared_at, gift_of_clear, grown_to, gift_of_grow, MayGrow, IsShrunk, gift_of_shrink}
 
@@ -34,8 +35,8 @@ pub data Command : Type 0 where
 pub data Reply : Type 0 where
   done : Reply
   bytes_are : List ℕ → Reply
-  -- so much of the range asked for
-  mapping_is : (length : ℕ) → Reply
+  -- what so much of the range asked for is mapped to
+  mapping_is : (kind : Kind) → (length : ℕ) → Reply
   prepared_is : (length : ℕ) → Reply
   range_is : (offset length : ℕ) → Reply
   number_is : ℕ → Reply
@@ -81,7 +82,7 @@ abbrev pub Means : Setting → (ℕ → Option Found) → Guest → Command → 
 Means x found old (read offset n) (bytes_are bytes) new = (length bytes ≡ n) × Shows old.disk offset bytes × (new ≡ old)
 Means x found old (write offset bytes) done new = new ≡ with_disk old (with_bytes old.disk offset bytes)
 Means x found old (write offset bytes) (write_refused e n) new = MayWrite e old offset bytes n new
-Means x found old (get_mapping place offset max) (mapping_is n) new = (n ≤ max) × (new ≡ old)
+Means x found old (get_mapping place offset max) (mapping_is kind n) new = (n ≤ max) × (new ≡ old)
 Means x found old (read_mapped place at n) (bytes_are bytes) new =
     (f : Found) × (found place ≡ Some f) × (length bytes ≡ n) × Shows old.disk (f.from + at) bytes × (new ≡ old)
 Means x found old (prepare slot offset n overwrite) (prepared_is count) new =
@@ -113,7 +114,7 @@ IsFaultReply (write_refused e n) = IsFault e
 IsFaultReply reply = ⊥
 
 abbrev pub found_after : (ℕ → Option Found) → Command → Reply → ℕ → Option Found
-found_after found (get_mapping place offset max) (mapping_is n) k = if k == place then Some (record { from = offset; length = n }) else found k
+found_after found (get_mapping place offset max) (mapping_is kind n) k = if k == place then Some (record { from = offset; length = n }) else found k
 found_after found command reply k = found k
 
 -- A run so far: what the guest sees, what was found, and what was flushed last with what was given and asked since.
@@ -181,12 +182,18 @@ pub record IsAsSaid (v : View) (s : State) (before : ℕ → ℕ) : Type 0 where
   pub consistent : s.is_failed ≡ false → IsConsistent v.known
   pub surplus : s.is_failed ≡ false → v.surplus ≡ before
 
--- Along a run: for each command there is the image at its return, with the mappings that are prepared then, and what its storage had meanwhile is safe at the mark of that command.
+-- What a lookup answers is what is found in the known bytes, which it leaves as they were.
+abbrev pub IsRightlyFound : Setting → (before after : Bytes) → Command → Reply → Type 0
+IsRightlyFound x before after (get_mapping place offset max) (mapping_is kind n) = IsFoundIn after x.is_backed offset max kind n × (after ≡ before)
+IsRightlyFound x before after command reply = Unit {0}
+
+-- Along a run: for each command there is the image at its return, with the mappings that are prepared then, what its storage had meanwhile is safe at the mark of that command, and what a lookup answered is found in it.
 abbrev pub HoldsAlong : {D P : Type 0} (spec : Spec D P) (x : Setting) (before : ℕ → ℕ) (old new : D) (s end : State) (commands : List Command) (replies : List Reply) → Run x s commands replies end → Type 0
 HoldsAlong spec x before old new s end [] [] run = new ≡ old
 HoldsAlong {D = D} {P = P} spec x before old new s end (command ∷ commands) (reply ∷ replies) run =
     (mid : D) × (out : List (Option P)) × IsAsSaid (view spec mid out) run.0 before
     × IsSafeWhile x.backing (spec.storage old) (spec.storage mid) s.is_failed (mark_in x s command) run.0.mark
+    × (run.0.is_failed ≡ false → IsRightlyFound x (spec.known old) (spec.known mid) command reply)
     × HoldsAlong spec x before mid new run.0 end commands replies run.2
 HoldsAlong spec x before old new s end [] (reply ∷ replies) run = ⊥
 HoldsAlong spec x before old new s end (command ∷ commands) [] run = ⊥
@@ -217,6 +224,7 @@ pub record Goes (x : Setting) (old new : View) (s : State) (command : Command) (
   pub step : Step x s command reply end
   pub stands : StandsAt x new end
   pub safe : IsSafeWhile x.backing old.storage new.storage s.is_failed (mark_in x s command) end.mark
+  pub found : end.is_failed ≡ false → IsRightlyFound x old.known new.known command reply
   pub surplus : end.is_failed ≡ false → new.surplus ≡ old.surplus
   pub since : end.is_failed ≡ false → s.is_failed ≡ false
 

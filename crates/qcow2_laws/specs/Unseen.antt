@@ -1,6 +1,7 @@
 -- Steps of the driver that change nothing a guest sees, nor what is prepared for it; or nothing but one cluster of that.
 use Rattle.std.specs.Prelude.{ℕ, ◌+◌, ◌/◌, ◌<◌, ◌≡◌, ◌≢◌, ◌==◌, if◌then◌else◌}
-use Rattle.qcow2_metadata.specs.Header.{cluster_size}
+use Rattle.qcow2_metadata.specs.declared.header.HeaderFields.{HeaderFields}
+use Rattle.qcow2_metadata.specs.Header.{cluster_size, with_reftable}
 use Rattle.qcow2_metadata.specs.Entries.{l1_entry}
 use Rattle.qcow2_metadata.specs.Cover.{cover}
 use Rattle.qcow2_metadata.specs.Guest.{Value}
@@ -17,9 +18,13 @@ used_by_guests s c = over_guests s.header (names s.header s.known c) + s.pending
 abbrev pub SameUsedBytes : Stand → Stand → Type 0
 SameUsedBytes old new = (o : ℕ) → 0 < used_by_guests old (o / cluster_size old.header) → new.known o ≡ old.known o
 
--- the header stays, and what stands for each guest cluster, with its bytes
+-- the header stays, but perhaps for where the reftable stands
+abbrev pub KeepsFormat : HeaderFields → HeaderFields → Type 0
+KeepsFormat h h' = h' ≡ with_reftable h h'.reftable_offset h'.reftable_clusters
+
+-- so it does, and what stands for each guest cluster, with its bytes
 pub record IsUnseen (old new : Stand) : Type 0 where
-  pub header : new.header ≡ old.header
+  pub header : KeepsFormat old.header new.header
   pub covers : SameCovers old.header old.known new.known
   pub bytes : SameUsedBytes old new
 
@@ -32,7 +37,7 @@ abbrev pub SameUsedBytesBut : ℕ → Stand → Stand → Type 0
 SameUsedBytesBut c old new = (o : ℕ) → o / cluster_size old.header ≢ c → 0 < used_by_guests old (o / cluster_size old.header) → new.known o ≡ old.known o
 
 pub record IsUnseenBut (c : ℕ) (old new : Stand) : Type 0 where
-  pub header : new.header ≡ old.header
+  pub header : KeepsFormat old.header new.header
   pub covers : SameCovers old.header old.known new.known
   pub bytes : SameUsedBytesBut c old new
 

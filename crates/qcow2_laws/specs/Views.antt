@@ -10,6 +10,8 @@ use Rattle.qcow2_laws.specs.Mappings.{PreparedMapping}
 -- what doesn't change while commands run
 pub record Setting : Type 0 where
   pub cluster_size : ℕ
+  -- it has a backing disk, and this disk's bytes
+  pub is_backed : Bool
   pub backing : Bytes
 
 -- what a guest sees: the disk, and the prepared mappings by their places

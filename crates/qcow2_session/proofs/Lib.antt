@@ -6,3 +6,4 @@ mod Meanings
 mod Chunks
 mod Writing
 mod Runs
+mod LookingUp

@@ -1,6 +1,7 @@
 -- What commands and replies mean in words of a guest's disk.
 use Rattle.qcow2_laws.specs.Runs.{Command, Reply, read, write, get_mapping, read_mapped, prepare, put, commit, discard, flush, get_size, done, bytes_are, mapping_is, prepared_is, number_is, refused, write_refused, misuse}
 use Rattle.qcow2_image.specs.Calls.{refusal_of}
+use Rattle.qcow2_image.specs.Found.{found_kind}
 use Rattle.qcow2_session.specs.declared.session.Command.{Command as SessionCommand}
 use Rattle.qcow2_session.specs.declared.session.Command.TheVariants as C
 use Rattle.qcow2_session.specs.declared.session.Reply.{Reply as SessionReply}
@@ -21,7 +22,7 @@ command_of C.Size = get_size
 abbrev pub reply_of : SessionReply → Reply
 reply_of R.Done = done
 reply_of (R.Bytes bytes) = bytes_are bytes.items
-reply_of (R.Mapping m) = mapping_is m.length
+reply_of (R.Mapping m) = mapping_is (found_kind m.kind) m.length
 reply_of (R.Prepared offset n existing) = prepared_is n
 reply_of (R.Size n) = number_is n
 reply_of (R.Refused e) = refused (refusal_of e)

@@ -1,15 +1,18 @@
 -- What a session does to an image: its reads and writes, and its runs of commands.
-use Rattle.std.specs.Prelude.{ℕ, ◌≡◌, ◌⊎◌, IsTrue, false, List, [], ◌∷◌, length, map, take, Vec, Option, Some, None, Result, Ok, Err, slice_get}
+use Rattle.std.specs.Prelude.{ℕ, ◌≡◌, ◌⊎◌, IsTrue, false, List, [], ◌∷◌, length, map, take, Vec, Bool, Option, Some, None, is_some, Result, Ok, Err, slice_get}
 use Rattle.std.specs.Global.{Global}
 use Rattle.image_access.specs.Backing.{BackingView}
 use Rattle.image_access.specs.Moments.{StorageView}
+use Rattle.qcow2_metadata.specs.Bytes.{Bytes}
 use Rattle.qcow2_laws.specs.Disk.{with_bytes}
 use Rattle.qcow2_laws.specs.Mappings.{gift_of}
 use Rattle.qcow2_laws.specs.Views.{Setting, Guest, guest_of, IsOpened}
 use Rattle.qcow2_laws.specs.Calls.{Does, Refuses, Shows, with_disk, MayWrite}
-use Rattle.qcow2_laws.specs.Runs.{Found, State, StandsAt, Goes, Completes, MeansTheDisk, begun, found_after}
+use Rattle.qcow2_laws.specs.Found.{IsFoundIn}
+use Rattle.qcow2_laws.specs.Runs.{Command as RunCommand, Reply as RunReply, get_mapping, mapping_is, Found, State, StandsAt, Goes, Completes, MeansTheDisk, begun, found_after}
 use Rattle.qcow2_alloc.specs.declared.error.ImageError.{ImageError}
 use Rattle.qcow2_alloc.specs.declared.error.ImageError.TheVariants.{BeyondSize}
+use Rattle.qcow2_alloc.specs.ImageFile.{contents_in}
 use Rattle.qcow2_image.specs.declared.image.Qcow2.{Qcow2}
 use Rattle.qcow2_image.specs.declared.mapping.Mapping.{Mapping}
 use Rattle.qcow2_image.specs.declared.prepared.Prepared.{Prepared}
@@ -34,6 +37,11 @@ found_in mappings k = range_of (slice_get mappings k)
 -- a run that didn't fail found what the slots hold
 abbrev pub HasFound : State → Slots → Type 0
 HasFound s slots = s.is_failed ≡ false → (k : ℕ) → s.found k ≡ found_in slots.mappings.items k
+
+-- the lookups that a run begins with are answered by what is found in these bytes
+abbrev pub LooksUp : Bytes → Bool → List RunCommand → List RunReply → Type 0
+LooksUp b is_backed (get_mapping place offset max ∷ commands) (mapping_is kind n ∷ replies) = IsFoundIn b is_backed offset max kind n × LooksUp b is_backed commands replies
+LooksUp b is_backed commands replies = Unit {0}
 
 -- the bytes are there, and nothing else changed
 abbrev pub HasWritten : ℕ → List ℕ → Guest → Guest → Type 0
@@ -80,6 +88,10 @@ module _ {S F : Type 0} (view : S → StorageView) (backing : F → BackingView)
   abbrev pub RunsThrough : List Command → List Reply → Type 0
   RunsThrough commands replies = (x : Setting) (s : State) →
       StandsAt x (seen view backing old []) s → IsUntouched replies ⊎ Completes (image_spec view backing) x old new (begun s) (map command_of commands) (map reply_of replies)
+
+  -- of an image that was just opened, what it is asked to look up first is found in the bytes of its file
+  abbrev pub TellsTheFile : List Command → List Reply → Type 0
+  TellsTheFile commands replies = IsOpened (seen view backing old []) → LooksUp (contents_in view old.file) (is_some old.backing) (map command_of commands) (map reply_of replies)
 
   -- of an image that was just opened they mean the disk
   abbrev pub TellsTheDisk : List Command → List Reply → Type 0

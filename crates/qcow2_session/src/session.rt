@@ -3,7 +3,7 @@ ghost use Rattle.std.specs.Prelude.{◌≡◌, ◌+◌, ◌^◌, ◌≤◌, ◌�
 ghost use Rattle.qcow2_image.specs.Image.{number_of, size_of};
 ghost use Rattle.qcow2_image.specs.Prepared.{image_of};
 ghost use Rattle.qcow2_image.specs.Calls.{Discards};
-ghost use Rattle.qcow2_session.specs.Sessions.{IsRightlyBeyond, Reads, ReadsFirst, Writes, WritesFirst, Steps, Finds, LetsGo, RunsThrough, TellsTheDisk};
+ghost use Rattle.qcow2_session.specs.Sessions.{IsRightlyBeyond, Reads, ReadsFirst, Writes, WritesFirst, Steps, Finds, LetsGo, RunsThrough, TellsTheDisk, TellsTheFile};
 ghost use Rattle.qcow2_image.specs.declared.prepared.Prepared.{Prepared};
 
 use crate::slots::Slots;
@@ -202,6 +202,7 @@ pub fn run<S: Storage, F: WrappedFormat<S>>(
     ensures count { (result.items ≡ []) ⊎ (vec_len result ≡ length commands.now) }
     ensures runs { RunsThrough S.view F.backing image.old image.new commands.now result.items }
     ensures means { TellsTheDisk S.view F.backing image.old image.new commands.now result.items }
+    ensures maps { TellsTheFile S.view F.backing image.old image.new commands.now result.items }
 {
     let Ok(mut replies) = Vec::with_capacity(alloc, commands.len()) else {
         return Vec::new(alloc);

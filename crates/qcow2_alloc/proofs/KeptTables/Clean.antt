@@ -5,6 +5,7 @@ use Rattle.std.specs.Map.{lookup, lookup_entry, remove_entry}
 use Rattle.image_access.specs.Moments.{StorageView}
 use Rattle.qcow2_metadata.specs.declared.error.MetadataError.{MetadataError}
 use Rattle.qcow2_metadata.specs.L2Table.{L2TableView}
+use Rattle.qcow2_metadata.specs.RefBlock.{RefBlockView}
 use Rattle.qcow2_metadata.specs.Tables.{CachedTable, overlays}
 use Rattle.qcow2_laws.specs.Clusters.{Direction, Neither, L2DependsOnRb, RbDependsOnL2}
 use Rattle.qcow2_laws.specs.Caches.{IsFreeAt, AreClean, BlocksMayGo, TablesMayGo}
@@ -13,6 +14,7 @@ use Rattle.qcow2_alloc.specs.declared.async_lru_cache.slot.Slot.{Slot}
 use Rattle.qcow2_alloc.specs.declared.async_lru_cache.error.CacheError.{CacheError}
 use Rattle.qcow2_alloc.specs.declared.async_lru_cache.error.CacheError.TheVariants.{InUse, StillInUse, Memory, Backend}
 use Rattle.qcow2_alloc.specs.declared.cache.backends.L2CacheBackend.{L2CacheBackend}
+use Rattle.qcow2_alloc.specs.declared.cache.backends.RefBlockCacheBackend.{RefBlockCacheBackend}
 use Rattle.qcow2_alloc.specs.declared.cache.MetadataCaches.{MetadataCaches}
 use Rattle.qcow2_alloc.specs.declared.image_storage.ImageStorage.{ImageStorage}
 use Rattle.qcow2_alloc.specs.AsyncLruCache.{Cache}
@@ -21,7 +23,7 @@ use Rattle.qcow2_alloc.specs.CacheAnswers.{Unit₀, HasRoom, InsertsNew, Replace
 use Rattle.qcow2_alloc.specs.ImageStorage.{storage_of}
 use Rattle.qcow2_alloc.specs.TableCaches.{l2_steps}
 use Rattle.qcow2_alloc.specs.KeptTables.{cached_table, cached_tables}
-use Rattle.qcow2_alloc.specs.MetadataCaches.{l2_tables}
+use Rattle.qcow2_alloc.specs.MetadataCaches.{l2_tables, refblocks}
 use Rattle.qcow2_alloc.proofs.KeptTables.Inserting.{found_or_not, lookup_none}
 
 some_is : {A : Type 0} {a b : A} → Some a ≡ Some b → a ≡ b
@@ -143,3 +145,8 @@ module _ {S : Type 0} (view : S → StorageView) (old new : ImageStorage S) (cac
 pub tables_as : {S : Type 0} (a b : MetadataCaches S) → b.l2 ≡ a.l2 → AreClean (l2_tables a) → AreClean (l2_tables b)
 tables_as {S} a b same clean =
     subst (λ (l2 : Cache (L2CacheBackend S) ℕ L2TableView). AreClean (cached_tables l2.backend.header.fields.cluster_bits (λ (t : L2TableView). t.bytes) (λ t. t.is_modified) l2.entries)) (sym same) clean
+
+-- the same refblocks beside other L2 tables
+pub blocks_as : {S : Type 0} (a b : MetadataCaches S) → b.rb ≡ a.rb → AreClean (refblocks a) → AreClean (refblocks b)
+blocks_as {S} a b same clean =
+    subst (λ (rb : Cache (RefBlockCacheBackend S) ℕ RefBlockView). AreClean (cached_tables rb.backend.header.fields.cluster_bits (λ (b : RefBlockView). b.bytes) (λ b. b.is_modified) rb.entries)) (sym same) clean

@@ -1,5 +1,7 @@
 -- A table that is in its cache is named: what is kept of the caches is kept over the new bytes.
-use Rattle.std.proofs.Common.{◌≡◌, ◌≢◌, ◌⊎◌, inl, inr, ℕ, ◌+◌, ◌*◌, ◌/◌, ◌%◌, ◌^◌, ◌<◌, Bool, eqb, List, [], ◌∷◌, ◌++◌, Some, refl, sym, ap, ◌∙◌, subst}
+use Rattle.std.proofs.Common.{◌≡◌, ◌≢◌, ◌⊎◌, inl, inr, ℕ, ◌+◌, ◌*◌, ◌/◌, ◌%◌, ◌^◌, ◌<◌, Bool, eqb, List, [], ◌∷◌, ◌++◌, Option, Some, None, refl, sym, ap, ◌∙◌, subst}
+use Rattle.std.specs.Map.{lookup}
+use Rattle.std.specs.Option.{option_map}
 use Rattle.qcow2_metadata.specs.Bytes.{Bytes, byte_at}
 use Rattle.qcow2_metadata.specs.declared.header.HeaderFields.{HeaderFields}
 use Rattle.qcow2_metadata.specs.Header.{cluster_size}
@@ -13,7 +15,8 @@ use Rattle.qcow2_alloc.specs.AsyncLruCache.{slot_of, value_at}
 use Rattle.qcow2_alloc.specs.KeptTables.{cached_table, cached_tables, AreElsewhere, IsCurrent, AreLoaded}
 use Rattle.qcow2_alloc.specs.MetadataCaches.{order_of, l2_tables, refblocks, known_of, AreSound}
 use Rattle.qcow2_alloc.proofs.KeptTables.Changing.{held}
-use Rattle.qcow2_alloc.proofs.KeptTables.Entries.{tables_at}
+use Rattle.qcow2_alloc.proofs.KeptTables.Entries.{tables_at, elsewhere_of_none}
+use Rattle.qcow2_alloc.proofs.KeptTables.Getting.{cluster_aligned}
 use Rattle.qcow2_alloc.proofs.KeptTables.Loaded.{in_own_cluster, one_place}
 use Rattle.qcow2_alloc.proofs.KeptTables.Standing.{own_cluster}
 
@@ -68,6 +71,17 @@ current_entry bits bytes is_modified IsNamed base base' key es v found current l
     (subst (λ c. AreCurrentIn (2 ^ bits) c (cached_tables bits bytes is_modified there.front ++ cached_table bits bytes is_modified (key, slot_of v there.pins) ∷ cached_tables bits bytes is_modified there.back) base') (own_cluster bits key)
     (current_at (2 ^ bits) IsNamed base base' (cached_tables bits bytes is_modified there.front) (cached_tables bits bytes is_modified there.back) (cached_table bits bytes is_modified (key, slot_of v there.pins)) current
     (subst (λ ts. AreLoaded (2 ^ bits) IsNamed ts base) is loaded)))
+
+-- and where there is none of a key, none is out of date
+pub current_none : {V : Type 0} (bits : ℕ) (bytes : V → List ℕ) (is_modified : V → Bool) (IsNamed : ℕ → Type 0) (base base' : Bytes) (key : ℕ) (es : List (ℕ × Slot V)) → value_at (eqb key) es ≡ None
+    → AreLoaded (2 ^ bits) IsNamed (cached_tables bits bytes is_modified es) base → AreCurrentIn (2 ^ bits) key (cached_tables bits bytes is_modified es) base'
+current_none {V = V} bits bytes is_modified IsNamed base base' key es none loaded =
+    subst (λ c. AreCurrentIn (2 ^ bits) c (cached_tables bits bytes is_modified es) base') (own_cluster bits key)
+    (current_away (2 ^ bits) IsNamed base base' (key * 2 ^ bits) (cached_tables bits bytes is_modified es) (cluster_aligned key bits) (elsewhere_of_none bits bytes is_modified key es (no_slot (lookup (eqb key) es) none)) loaded)
+  where
+    no_slot : (o : Option (Slot V)) → option_map (λ s. s.value) o ≡ None → o ≡ None
+    no_slot None is = refl
+    no_slot (Some s) is = absurd (cc)
 
 -- ---- tables are named that are in their caches, and no other one is named or changed
 module _ {S : Type 0} (h : HeaderFields) (p p' : Pending) (caches : MetadataCaches S) (base base' : Bytes) (sound : AreSound h p caches base) (settled : AreSettled h (refblocks caches) base)

@@ -1,10 +1,10 @@
 -- Tables are taken off the caches, unwritten: each cluster is then known as before, or as it stands on the storage.
-use Rattle.std.proofs.Common.{◌≡◌, ◌⊎◌, inl, inr, ℕ, ◌+◌, ◌*◌, ◌/◌, ◌%◌, ◌^◌, ◌<◌, ◌≤◌, max, ◌&&◌, Bool, true, false, cond, eqb, List, [], ◌∷◌, ◌++◌, Option, Some, None, Result, Ok, Err, IsTrue, map, refl, sym, ap, ◌∙◌, subst, arith}
+use Rattle.std.proofs.Common.{◌≡◌, ◌⊎◌, inl, inr, ℕ, ◌+◌, ◌*◌, ◌/◌, ◌%◌, ◌^◌, ◌<◌, ◌≤◌, max, ◌&&◌, Bool, true, false, cond, not, nat_lt, eqb, List, [], ◌∷◌, ◌++◌, Option, Some, None, Result, Ok, Err, IsTrue, map, refl, sym, ap, ◌∙◌, subst, arith}
 use Rattle.std.proofs.lemmas.Bool.{cases_Bool, cases_eq}
 use Rattle.std.proofs.lemmas.Nat.{div-mul-add}
 use Rattle.std.proofs.Math.Nat.{mul-mod_left}
 use Rattle.std.specs.Cmp.{nat_eq_equiv}
-use Rattle.std.specs.Option.{IfSome, option_map}
+use Rattle.std.specs.Option.{IfSome, option_map, option_map_or}
 use Rattle.std.specs.Result.{IsErr, IsErrAnd}
 use Rattle.std.specs.Map.{lookup, lookup_entry, remove_entry}
 use Rattle.lru.proofs.CallerLemmas.{Contains-lookup_entry}
@@ -37,7 +37,7 @@ use Rattle.qcow2_alloc.specs.declared.error.ImageError.{ImageError}
 use Rattle.qcow2_alloc.specs.ImageError.{of_cache}
 use Rattle.qcow2_alloc.specs.AsyncLruCache.{Cache, value_at, can_remove, is_pinned, pinned, with_entries}
 use Rattle.qcow2_alloc.specs.CacheAnswers.{Unit₀, Invalidates}
-use Rattle.qcow2_alloc.specs.CacheMarks.{KeepsMarks, LeavesPinned}
+use Rattle.qcow2_alloc.specs.CacheMarks.{HasRoom, KeepsMarks, LeavesPinned}
 use Rattle.qcow2_alloc.specs.TableLaws.{same_number}
 use Rattle.qcow2_alloc.specs.TableCaches.{IsTableOf, IsBlockOf}
 use Rattle.qcow2_alloc.specs.KeptTables.{cached_table, cached_tables, AreElsewhere, AreLoaded, AreKept, AllFit}
@@ -406,3 +406,42 @@ module _ {S : Type 0} (caches : MetadataCaches S) where
   pub blocks_taken : (rb : Cache (RefBlockCacheBackend S) ℕ RefBlockView) → rb ≡ with_entries caches.rb rb.entries → SomeOf caches.rb.entries rb.entries → TakesOff (AreClean (refblocks caches)) caches (record caches { rb = rb })
   blocks_taken rb others some h p base sound =
       subst (λ (c : Cache (RefBlockCacheBackend S) ℕ RefBlockView). TakenOff (AreClean (refblocks caches)) h caches (record caches { rb = c }) base) (sym others) (blocks_off_clean h p base caches sound rb.entries some)
+
+-- an entry without a pin can be removed, so one that can't isn't there
+pub none_unremoved : {V : Type 0} (test : ℕ → Bool) (es : List (ℕ × Slot V)) → pinned es ≡ [] → can_remove test es ≡ false → value_at test es ≡ None
+none_unremoved test [] free can = refl
+none_unremoved {V} test (e ∷ es) free can =
+    (elim (nat_lt 0 e.1.pins) as (λ p. nat_lt 0 e.1.pins ≡ p → cond p (e ∷ pinned es) (pinned es) ≡ [] → value_at test (e ∷ es) ≡ None) [
+      | true ↦ λ _ bad. cc
+      | false ↦ λ unpinned rest. (elim (test e.0) as (λ b. test e.0 ≡ b → option_map_or (λ (s : Slot V). not (nat_lt 0 s.pins)) (cond b (Some e.1) (lookup test es)) false ≡ false
+          → option_map (λ (s : Slot V). s.value) (cond b (Some e.1) (lookup test es)) ≡ None) [
+            | true ↦ λ _ can. absurd (let bad : not (nat_lt 0 e.1.pins) ≡ false = can in (let no = rw unpinned at bad in cc))
+            | false ↦ λ _ can. none_unremoved test es rest can
+          ]) refl can
+    ]) refl free
+
+module _ {S : Type 0} (caches : MetadataCaches S) (key : ℕ) (b : Bool) (rb : Cache (RefBlockCacheBackend S) ℕ RefBlockView) (told : b ≡ can_remove (eqb key) caches.rb.entries)
+    (is : rb ≡ with_entries caches.rb (cond b (remove_entry (eqb key) caches.rb.entries) caches.rb.entries)) where
+  clean_case : (c : Bool) (bits : ℕ) (es : List (ℕ × Slot RefBlockView)) → AreClean (cached_tables bits (λ (b : RefBlockView). b.bytes) (λ b. b.is_modified) es)
+      → AreClean (cached_tables bits (λ (b : RefBlockView). b.bytes) (λ b. b.is_modified) (cond c (remove_entry (eqb key) es) es))
+  clean_case true bits es all = clean_without bits es all
+    where
+      clean_without : (bits : ℕ) (es : List (ℕ × Slot RefBlockView)) → AreClean (cached_tables bits (λ (b : RefBlockView). b.bytes) (λ b. b.is_modified) es)
+          → AreClean (cached_tables bits (λ (b : RefBlockView). b.bytes) (λ b. b.is_modified) (remove_entry (eqb key) es))
+      clean_without bits [] all = tt
+      clean_without bits (e ∷ es) all =
+          elim (eqb key e.0) as (λ t. AreClean (cached_tables bits (λ (b : RefBlockView). b.bytes) (λ b. b.is_modified) (cond t es (e ∷ remove_entry (eqb key) es)))) [ true ↦ all.1 | false ↦ (all.0, clean_without bits es all.1) ]
+  clean_case false bits es all = all
+
+  -- none that stays is modified, where none was
+  pub removed_clean : AreClean (refblocks caches) → AreClean (refblocks (record caches { rb = rb }))
+  removed_clean all = subst (λ (x : Cache (RefBlockCacheBackend S) ℕ RefBlockView). AreClean (refblocks (record caches { rb = x }))) (sym is) (clean_case b caches.rb.backend.header.fields.cluster_bits caches.rb.entries all)
+
+  -- it is no longer held
+  pub removed_gone : (h : HeaderFields) (p : Pending) (base : Bytes) → AreSound h p caches base → HasRoom caches → value_at (eqb key) rb.entries ≡ None
+  removed_gone h p base sound room = elim (cases_Bool b) [
+    | inl went ↦ (removed_takes caches key b rb told is went h p base sound).gone
+    | inr stayed ↦
+        ap (λ (x : Cache (RefBlockCacheBackend S) ℕ RefBlockView). value_at (eqb key) x.entries) is ∙ ap (λ c. value_at (eqb key) (cond c (remove_entry (eqb key) caches.rb.entries) caches.rb.entries)) stayed
+        ∙ none_unremoved (eqb key) caches.rb.entries room.free (sym told ∙ stayed)
+  ]

@@ -1,6 +1,9 @@
-use Rattle.std.proofs.Common.{◌≡◌, refl, ap, subst, ◌∙◌, Some, arith}
+use Rattle.std.proofs.Common.{◌≡◌, refl, sym, ap, subst, ◌∙◌, Some, is_some, arith}
 use Rattle.std.specs.Prelude.{slice_set}
+use Rattle.qcow2_laws.specs.Found.{IsFoundIn}
 use Rattle.qcow2_laws.proofs.RunSteps.{done_as, refused_as}
+use Rattle.qcow2_alloc.specs.ImageFile.{known_in}
+use Rattle.qcow2_image.specs.Found.{found_kind}
 use Rattle.std.specs.Prelude.{◌==◌, if◌then◌else◌}
 use Rattle.qcow2_session.specs.Sessions.{found_in}
 use Rattle.qcow2_session.proofs.Turns.{does_if}
@@ -10,6 +13,10 @@ use Rattle.qcow2_session.proofs.session.get_mapping.Goals as goal
 pub returns-in-Ok-clause-goes : goal.returns-in-Ok-clause-goes
 returns-in-Ok-clause-goes g c = λ x s stands founds.
     done_as x _ _ s _ _ _ refl stands (does_if (λ same. (omega (arith, c.in-Ok.ensures.own, c.in-Ok.ensures.within), same)) (c.in-Ok.ensures.sees c.args.slots.now.prepared.items)) (λ _ _. refl)
+    (λ sound. (
+      subst (λ n. IsFoundIn (known_in g.S.Storage.view c.get_mapping.new.self.file) (is_some c.get_mapping.new.self.backing) c.args.offset c.args.max (found_kind c.in-Ok.mapping.kind) n) (sym c.in-Ok.ensures.own.2) (c.in-Ok.ensures.run c.args.slots.now.prepared.items sound),
+      c.get_mapping.ensures.known c.args.slots.now.prepared.items sound,
+    ))
 
 pub returns-in-Ok-clause-finds : goal.returns-in-Ok-clause-finds
 returns-in-Ok-clause-finds g c = λ k.
@@ -19,4 +26,4 @@ returns-in-Ok-clause-finds g c = λ k.
     ∙ subst (λ n. found_in (slice_set mappings c.args.slot (Some c.in-Ok.mapping)) k ≡ (if k == c.args.slot then Some (record { from = n; length = c.in-Ok.mapping.length }) else found_in mappings k)) c.in-Ok.ensures.own.1 found
 
 pub returns-in-Err-clause-goes : goal.returns-in-Err-clause-goes
-returns-in-Err-clause-goes g c = λ x s stands founds. refused_as x _ _ s _ _ _ _ refl stands (c.in-Err.ensures.sees c.args.slots.now.prepared.items) (λ f. f) (λ _ _. refl)
+returns-in-Err-clause-goes g c = λ x s stands founds. refused_as x _ _ s _ _ _ _ refl stands (c.in-Err.ensures.sees c.args.slots.now.prepared.items) (λ f. f) (λ _ _. refl) tt

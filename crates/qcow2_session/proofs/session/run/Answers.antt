@@ -1,4 +1,4 @@
-use Rattle.std.proofs.Common.{◌≡◌, ◌+◌, ◌∙◌, refl, sym, ap, inl, inr, ⊎_elim, subst, arith, [], ◌∷◌, ◌++◌, None, take, map}
+use Rattle.std.proofs.Common.{◌≡◌, ◌+◌, ◌∙◌, refl, sym, ap, inl, inr, ⊎_elim, subst, arith, [], ◌∷◌, ◌++◌, None, take, map, is_some}
 use Rattle.std.specs.Prelude.{replicate}
 use Rattle.std.proofs.lemmas.Grind.{common_steps}
 use Rattle.std.proofs.lemmas.List.{take_more, take_all, map-append}
@@ -8,6 +8,8 @@ use Rattle.qcow2_laws.specs.Views.{guest_of}
 use Rattle.qcow2_laws.proofs.RunSteps.{begins, completes, means_the_disk}
 use Rattle.qcow2_session.specs.Commands.{command_of, reply_of}
 use Rattle.qcow2_image.proofs.Free.{free_places, nothing_since, whole}
+use Rattle.qcow2_alloc.specs.ImageFile.{contents_in}
+use Rattle.qcow2_session.proofs.LookingUp.{looked_up, none_said}
 use Rattle.qcow2_session.proofs.Places.{surplus_none}
 use Rattle.qcow2_session.proofs.Runs.{GoesOn, first_of_all, goes_on, map_more}
 use Rattle.qcow2_session.proofs.session.run.Goals as goal
@@ -67,3 +69,23 @@ returns-clause-means g c = λ opened.
     ⊎_elim (λ h. inl h)
     (λ all. inr (means_the_disk (image_spec view below) old new (map command_of c.args.commands.now) (map reply_of c.loop-command.replies.items) (nothing_since view below g.S.Storage.only_now old) stands all))
     (returns-clause-runs g c before.setting (started (guest_of before)) stands)
+
+pub returns-in_default-clause-maps : goal.returns-in_default-clause-maps
+returns-in_default-clause-maps g c = λ opened.
+    none_said (contents_in g.S.Storage.view c.args.image.now.file) (is_some c.args.image.now.backing) (map command_of c.args.commands.now) c.new.result.items c.new.ensures.items
+
+pub returns-in_default-new-clause-maps : goal.returns-in_default-new-clause-maps
+returns-in_default-new-clause-maps g c = λ opened.
+    none_said (contents_in g.S.Storage.view c.args.image.now.file) (is_some c.args.image.now.backing) (map command_of c.args.commands.now) c.new-in_default-new.result.items c.new-in_default-new.ensures.items
+
+pub returns-clause-maps : goal.returns-clause-maps
+returns-clause-maps g c = λ opened.
+    let view = g.S.Storage.view in
+    let old = c.args.image.now in
+    let spec = image_spec view g.F.BackingDisk.backing in
+    let b = contents_in view old.file in
+    let commands = map command_of c.args.commands.now in
+    let replies = c.loop-command.replies.items in
+    ⊎_elim (λ untouched. none_said b (is_some old.backing) commands replies untouched.0)
+    (λ means. looked_up spec (spec.setting old) (spec.surplus old []) b old means.last (started (guest_of (seen view g.F.BackingDisk.backing old []))) means.end commands (map reply_of replies) means.run means.along refl opened.clean)
+    (returns-clause-means g c opened)

@@ -8,3 +8,6 @@ returns-clause-lowest g c = λ p sound hint. c.allocate.ensures.lowest p sound t
 
 pub returns-clause-hint : goal.returns-clause-hint
 returns-clause-hint g c = λ p sound hint. c.allocate.ensures.hint p sound tt hint
+
+pub returns-clause-limit : goal.returns-clause-limit
+returns-clause-limit g c = λ p sound hint some. c.allocate.ensures.limit p sound tt hint some

@@ -1,4 +1,4 @@
-use Rattle.std.proofs.Common.{◌≡◌, ◌≤◌, inl, ◌*◌, ◌/◌, ◌%◌, ◌^◌, false, sym, ap, ◌∙◌, refl, arith}
+use Rattle.std.proofs.Common.{◌≡◌, ◌≤◌, inl, ◌*◌, ◌/◌, ◌%◌, ◌^◌, false, sym, ap, ◌∙◌, refl, arith, Result, IsTrue, true}
 use Rattle.qcow2_metadata.specs.Entries.{block_offset}
 use Rattle.qcow2_metadata.specs.Header.{counts_per_block}
 use Rattle.qcow2_laws.specs.Changes.{one_at}
@@ -8,6 +8,10 @@ use Rattle.qcow2_alloc.specs.LowestRuns.{KeepsHint}
 use Rattle.qcow2_alloc.proofs.FileSteps.{leaves_then}
 use Rattle.qcow2_alloc.proofs.Hints.{has_block, hint_got, hint_placed, hint_refused, hint_stays, ok_as, placed_block, range_as}
 use Rattle.qcow2_alloc.proofs.AllocationSteps.{handed_on, becomes_then, gets_then, gets_taken, is_sound_now, none_in_memory, stands_none, still_sound}
+use Rattle.std.specs.Prelude.{IfErr}
+use Rattle.std.proofs.Math.Nat.{div-mul-le_self}
+use Rattle.qcow2_alloc.specs.declared.error.ImageError.{ImageError}
+use Rattle.qcow2_alloc.proofs.Limits.{host_below, is_able, placed_fault, range_near}
 use Rattle.qcow2_alloc.proofs.allocation.Allocator.ensure_block.Goals as goal
 
 pub returns-in_err-load_block-clause-sound : goal.returns-in_err-load_block-clause-sound
@@ -135,3 +139,52 @@ returns-in-Ok-Some-clause-hint g c = λ p sound hint.
     hint_placed g.S.Storage.view p c.take_lowest_below.new.file c.place_block.new.file c.take_lowest_below.new.self c.place_block.new.self (c.args.cluster / 2 ^ c.rb_bits-bits.result) c.in-Ok-Some.at c.place_block.result c.place_block.ensures.first
     (c.place_block.ensures.sound p (is_sound_now g.S.Storage.view p (taken_as false p (one_at c.in-Ok-Some.at)) c.args.file.now c.take_lowest_below.new.file c.take_lowest_below.new.self taken) (record { none = still; first = tt }))
     (c.in-Ok-Some.ensures.hint p (is_sound_now g.S.Storage.view p p c.args.file.now c.load_block.new.file c.args.self.now l.0) here)
+
+pub returns-in_err-load_block-clause-fault : goal.returns-in_err-load_block-clause-fault
+returns-in_err-load_block-clause-fault g c = λ p sound within near. handed_on (λ (r : Result (Unit {0}) ImageError). IfErr r IsFault) c.from_residual.result c.in_err-load_block.field-0.0 c.from_residual.ensures (c.in_err-load_block.ensures.sound p sound).0
+
+pub returns-then-ends_call-clause-fault : goal.returns-then-ends_call-clause-fault
+returns-then-ends_call-clause-fault g c = λ p sound within near. c.ends_call.ensures.fault c.if-ends_call.true
+
+pub returns-then-not-can_name-clause-fault : goal.returns-then-not-can_name-clause-fault
+returns-then-not-can_name-clause-fault g c = λ p sound within near.
+    let here = host_below c.args.file.now.header.fields.cluster_bits c.new-first.result c.args.cluster (let is = c.new-first.ensures in let le = div-mul-le_self c.args.cluster (2 ^ c.rb_bits-bits.result) in omega (arith, is, le)) near in
+    let range = ap (λ n. c.args.cluster / n) c.rb_bits-bits.ensures.counts in
+    let able = is_able g.S.Storage.view p c.args.file.now c.args.self.now c.cluster_bits.result c.new-first.result (IsTrue c.can_name.result) sound
+    (c.cluster_bits.ensures.value ∙ ap (λ h. h.fields.cluster_bits) c.load_block.ensures.header) here (c.can_name.ensures.able (omega (arith, range, within))) in
+    let not = c.if-not-can_name.true in
+    absurd (let bad : true ≡ false = sym able ∙ not in cc)
+
+pub returns-in-Ok-None-clause-fault : goal.returns-in-Ok-None-clause-fault
+returns-in-Ok-None-clause-fault g c = λ p sound within near.
+    let one = (c.in_ok-load_block.ensures.sound p sound).0 in
+    let two = rw c.in-Ok-None.field-0-is at (c.in-Ok-None.ensures.sound p (is_sound_now g.S.Storage.view p p c.args.file.now c.load_block.new.file c.args.self.now one)) in
+    let count = c.in-Ok-None.ensures.entries.count in
+    let same = ap (λ x. x.fields) (c.take_lowest_below.ensures.header ∙ c.load_block.ensures.header) in
+    let here = range_near c.args.file.now.header.fields c.take_lowest_below.new.file.header.fields c.args.cluster c.rb_bits-bits.result same c.rb_bits-bits.ensures.counts near in
+    let range = ap (λ n. c.args.cluster / n) c.rb_bits-bits.ensures.counts in
+    c.cover_range.ensures.fault p (is_sound_now g.S.Storage.view p p c.load_block.new.file c.take_lowest_below.new.file c.take_lowest_below.new.self two) (omega (arith, range, count, within)) here
+
+pub returns-else-ends_call-clause-fault : goal.returns-else-ends_call-clause-fault
+returns-else-ends_call-clause-fault g c = λ p sound within near.
+    let one = (c.in_ok-load_block.ensures.sound p sound).0 in
+    let two = still_sound g.S.Storage.view p c.load_block.new.file c.take_lowest_below.new.file c.take_lowest_below.new.self c.in-Err.refusal (λ fault. absurd (let yes_so = c.ends_call.ensures.ends fault in let none = c.if-ends_call.false in cc))
+    (c.in-Err.ensures.sound p (is_sound_now g.S.Storage.view p p c.args.file.now c.load_block.new.file c.args.self.now one)) in
+    let count = c.in-Err.ensures.entries.count in
+    let same = ap (λ x. x.fields) (c.take_lowest_below.ensures.header ∙ c.load_block.ensures.header) in
+    let here = range_near c.args.file.now.header.fields c.take_lowest_below.new.file.header.fields c.args.cluster c.rb_bits-bits.result same c.rb_bits-bits.ensures.counts near in
+    let range = ap (λ n. c.args.cluster / n) c.rb_bits-bits.ensures.counts in
+    c.cover_range-in-Err.ensures.fault p (is_sound_now g.S.Storage.view p p c.load_block.new.file c.take_lowest_below.new.file c.take_lowest_below.new.self two) (omega (arith, range, count, within)) here
+
+pub returns-in-Ok-Some-clause-fault : goal.returns-in-Ok-Some-clause-fault
+returns-in-Ok-Some-clause-fault g c = λ p sound within near.
+    let l = c.in_ok-load_block.ensures.sound p sound in
+    let none = none_in_memory g.S.Storage.view p c.load_block.new.file c.args.self.now.reftable l.0.moves.sound l.0.reftable _ (stands_none g.S.Storage.view c.load_block.new.file _ c.in_ok-load_block.field-0 (sym c.is_some.ensures ∙ c.if-is_some.false) l.1) in
+    let two = rw c.in-Ok-Some.field-0-is at (c.in-Ok-Some.ensures.sound p (is_sound_now g.S.Storage.view p p c.args.file.now c.load_block.new.file c.args.self.now l.0)) in
+    let counts : counts_per_block c.load_block.new.file.header.fields ≡ 2 ^ c.rb_bits-bits.result = ap (λ h. counts_per_block h.fields) c.load_block.ensures.header ∙ c.rb_bits-bits.ensures.counts in
+    let e = ap (λ n. c.args.cluster / 2 ^ c.rb_bits-bits.result * n) counts in
+    let past : c.args.cluster / 2 ^ c.rb_bits-bits.result * 2 ^ c.rb_bits-bits.result % 18446744073709551616 ≤ c.args.cluster / 2 ^ c.rb_bits-bits.result * counts_per_block c.load_block.new.file.header.fields = omega (arith, e) in
+    let still : HasNone c.take_lowest_below.new.self.reftable (c.args.cluster / 2 ^ c.rb_bits-bits.result) = ap block_offset (c.in-Ok-Some.ensures.entries.others (c.args.cluster / 2 ^ c.rb_bits-bits.result) past) ∙ none in
+    let taken = becomes_then g.S.Storage.view p (taken_as false p (one_at c.in-Ok-Some.at)) c.args.file.now c.load_block.new.file c.take_lowest_below.new.file c.args.self.now c.take_lowest_below.new.self l.0 two in
+    placed_fault g.S.Storage.view (taken_as false p (one_at c.in-Ok-Some.at)) p c.take_lowest_below.new.file c.place_block.new.file c.place_block.new.self (c.args.cluster / 2 ^ c.rb_bits-bits.result) c.in-Ok-Some.at c.place_block.result
+    (c.place_block.ensures.sound p (is_sound_now g.S.Storage.view p (taken_as false p (one_at c.in-Ok-Some.at)) c.args.file.now c.take_lowest_below.new.file c.take_lowest_below.new.self taken) (record { none = still; first = tt }))

@@ -50,6 +50,7 @@ freeing-preserved g c = record {
       c.in_ok-lower.ensures.hint (behind_first c.freeing.run kind p) (Listed kind)
       (first_owed g.S.Storage.view kind p c.freeing.run some c.value-in-freeing.result at c.freeing.file c.freeing.self (is_sound_now g.S.Storage.view q now c.args.file.now c.freeing.file c.freeing.self before))
       (may_lower_still (Listed kind) c.args.file.now c.freeing.file c.freeing.invariant.order may) (c.freeing.invariant.hint p sound may hint);
+  grows = omega (arith, c.freeing.invariant.grows, c.lower.ensures.grows);
   leaks = λ p sound may.
       let kind = c.args.run.now.kind in
       let q : Pending = listed_as kind p (run_of c.args.run.now) in

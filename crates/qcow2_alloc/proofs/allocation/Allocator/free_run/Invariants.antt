@@ -1,4 +1,4 @@
-use Rattle.std.proofs.Common.{◌≡◌}
+use Rattle.std.proofs.Common.{◌≡◌, ◌≤◌}
 use Rattle.qcow2_laws.specs.Guard.{Pending}
 use Rattle.qcow2_alloc.specs.Allocation.{listed_as, MayFree, SameLeaks, Becomes}
 use Rattle.qcow2_alloc.specs.CacheMarks.{KeepsMarks}
@@ -19,6 +19,7 @@ invariant-freeing g l = record {
   sound : (p : Pending) → IsSoundWith g.S.Storage.view l.fn.self (listed_as l.fn.run.kind p (run_of l.fn.run)) l.fn.file → MayFree l.fn.run.kind l.fn.file
       → Becomes g.S.Storage.view (listed_as l.fn.run.kind p (run_of l.fn.run)) l.fn.file l.self l.file (listed_as l.fn.run.kind p (run_of l.run));
   hint : (p : Pending) → IsSoundWith g.S.Storage.view l.fn.self (listed_as l.fn.run.kind p (run_of l.fn.run)) l.fn.file → MayFree l.fn.run.kind l.fn.file → HasHint g.S.Storage.view l.fn.self l.fn.file → HasHint g.S.Storage.view l.self l.file;
+  grows : l.fn.self.leaked_clusters ≤ l.self.leaked_clusters;
   leaks : (p : Pending) → IsSoundWith g.S.Storage.view l.fn.self (listed_as l.fn.run.kind p (run_of l.fn.run)) l.fn.file → MayFree l.fn.run.kind l.fn.file → SameLeaks l.fn.self l.self;
 }
 

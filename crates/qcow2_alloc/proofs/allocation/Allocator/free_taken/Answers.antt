@@ -1,4 +1,4 @@
-use Rattle.std.proofs.Common.{◌≡◌, ◌++◌, ◌∷◌, [], Ok, Err, refl, sym, ap, ◌∙◌, subst, append_assoc}
+use Rattle.std.proofs.Common.{◌≡◌, ◌++◌, ◌∷◌, [], Ok, Err, refl, sym, ap, ◌∙◌, subst, append_assoc, arith}
 use Rattle.qcow2_laws.specs.Guard.{Pending}
 use Rattle.qcow2_alloc.specs.Allocation.{Listed, Becomes, Frees}
 use Rattle.qcow2_alloc.specs.FreeList.{with_listed, but}
@@ -32,6 +32,7 @@ freeing-preserved g c = record {
       c.in_ok-free_or_list.ensures.hint (with_listed p c.next_pending.new.self)
       (entry_sound g.S.Storage.view p c.freeing.taken c.next_pending.new.self c.in-Some.pending c.in-Some.ensures.some c.freeing.file c.freeing.self (is_sound_now g.S.Storage.view q now c.args.file.now c.freeing.file c.freeing.self (c.freeing.invariant.sound p sound may)))
       (may_lower_still (Listed c.args.kind) c.args.file.now c.freeing.file c.freeing.invariant.order may) (c.freeing.invariant.hint p sound may hint);
+  grows = omega (arith, c.freeing.invariant.grows, c.free_or_list.ensures.grows);
   leaks = λ p sound may.
       let q : Pending = with_listed p (c.args.file.now.free_list ++ c.args.taken.now) in
       let now : Pending = with_listed p (c.freeing.file.free_list ++ c.freeing.taken) in

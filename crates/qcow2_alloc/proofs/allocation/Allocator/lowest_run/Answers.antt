@@ -1,91 +1,142 @@
-use Rattle.std.proofs.Common.{inl, false, refl, ap, ◌+◌, ◌/◌, ◌^◌, ◌∙◌, arith}
+use Rattle.std.proofs.Common.{inl, false, refl, sym, ap, ◌+◌, ◌/◌, ◌^◌, ◌∙◌, subst, arith, inr, Result, ℕ, ◌≤◌, ◌<◌}
 use Rattle.qcow2_metadata.specs.L2Mapping.{greatest_offset}
 use Rattle.std.proofs.Math.Nat.{div-le_self}
+use Rattle.qcow2_laws.specs.Guard.{Pending}
 use Rattle.qcow2_alloc.specs.LowestRuns.{KeepsHint}
-use Rattle.qcow2_alloc.proofs.Hints.{lowest_behind, lowest_first, lowest_stays, taken_pending}
-use Rattle.qcow2_alloc.specs.Allocation.{run_at, taken_as, TakesSomeRun}
+use Rattle.qcow2_alloc.proofs.Hints.{lowest_behind, lowest_first, lowest_stays}
+use Rattle.qcow2_alloc.specs.Allocation.{run_at, BecomesOn, TakesSomeRun}
+use Rattle.qcow2_alloc.specs.FreeList.{following}
 use Rattle.qcow2_alloc.proofs.CacheMarks.{marks_none, marks_then}
-use Rattle.qcow2_alloc.proofs.FileSteps.{leaves_then}
-use Rattle.qcow2_alloc.proofs.AllocationSteps.{handed_on, may_still, becomes_none, becomes_then, is_sound_now}
+use Rattle.qcow2_alloc.proofs.AllocationSteps.{handed_on, may_still, on_none, is_sound_on}
+use Rattle.qcow2_alloc.proofs.Following.{header_same, header_then, lists_none, lists_then, following_same, then_none, then_taken, then_leaves, header_bits}
+use Rattle.std.specs.Prelude.{IfErr}
+use Rattle.qcow2_alloc.specs.declared.error.ImageError.{ImageError}
+use Rattle.qcow2_alloc.specs.Limits.{IsFaultOr, HasNoPlace, nameable_clusters}
+use Rattle.qcow2_alloc.proofs.Limits.{full_behind, limit_is_no_fault}
+use Rattle.qcow2_alloc.proofs.allocation.Allocator.lowest_run.Goals.{then-search-test+then-n-limit+else-first-limit, then-search-test+else-n-limit, else-search-test}
 use Rattle.qcow2_alloc.proofs.allocation.Allocator.lowest_run.Goals as goal
 
 pub returns-in_err-taken-clause-sound : goal.returns-in_err-taken-clause-sound
 returns-in_err-taken-clause-sound g c = λ p d sound may.
     let before = c.search.invariant.sound p sound in
-    handed_on (TakesSomeRun g.S.Storage.view p c.args.file.now c.take_run.new.self c.take_run.new.file d c.args.n) c.from_residual.result c.in_err-taken.field-0.0 c.from_residual.ensures
-    (leaves_then g.S.Storage.view p c.args.file.now c.search.file c.take_run.new.file c.take_run.new.self c.in_err-taken.field-0.0 before.moves
-    (c.in_err-taken.ensures.sound p d (is_sound_now g.S.Storage.view p p c.args.file.now c.search.file c.search.self before) (may_still d c.args.file.now c.search.file c.search.invariant.order may)))
+    let q : Pending = following p c.args.file.now.free_list c.search.file.free_list in
+    let now = is_sound_on g.S.Storage.view p q c.args.file.now c.search.file c.search.self before in
+    handed_on (TakesSomeRun g.S.Storage.view p c.args.file.now c.take_run.new.self c.take_run.new.file (following p c.args.file.now.free_list c.take_run.new.file.free_list) d c.args.n) c.from_residual.result c.in_err-taken.field-0.0 c.from_residual.ensures
+    (then_leaves g.S.Storage.view p c.args.file.now c.search.file c.take_run.new.file c.search.self c.take_run.new.self c.search.invariant.list c.take_run.ensures.list before c.in_err-taken.field-0.0 (c.in_err-taken.ensures.sound q d now (may_still d c.args.file.now c.search.file c.search.invariant.order may)))
 
 pub returns-then-taken-n-clause-sound : goal.returns-then-taken-n-clause-sound
 returns-then-taken-n-clause-sound g c = λ p d sound may.
     let before = c.search.invariant.sound p sound in
-    becomes_then g.S.Storage.view p (taken_as d p (run_at c.search.first c.args.n)) c.args.file.now c.search.file c.take_run.new.file c.search.self c.take_run.new.self before
-    ((c.in_ok-taken.ensures.sound p d (is_sound_now g.S.Storage.view p p c.args.file.now c.search.file c.search.self before) (may_still d c.args.file.now c.search.file c.search.invariant.order may)).0 c.if-taken-n.true)
+    let q : Pending = following p c.args.file.now.free_list c.search.file.free_list in
+    let now = is_sound_on g.S.Storage.view p q c.args.file.now c.search.file c.search.self before in
+    then_taken g.S.Storage.view p c.args.file.now c.search.file c.take_run.new.file c.search.self c.take_run.new.self c.search.invariant.list c.take_run.ensures.list before d (run_at c.search.first c.args.n)
+    ((c.in_ok-taken.ensures.sound q d now (may_still d c.args.file.now c.search.file c.search.invariant.order may)).0 c.if-taken-n.true)
 
 pub search-init : goal.search-init
 search-init g c = record {
-  header = refl;
-  list = refl;
+  header = header_same c.args.file.now.header c.args.file.now.header refl;
+  list = lists_none c.args.file.now.free_list;
   limit = ap (λ n. greatest_offset / 2 ^ n + 1) c.cluster_bits.ensures.value;
   near = let le = div-le_self greatest_offset (2 ^ c.cluster_bits.result) in omega (arith, le);
   marks = marks_none c.args.file.now.caches;
   order = refl;
-  sound = λ p sound. becomes_none g.S.Storage.view p c.args.file.now c.args.self.now sound;
+  sound = λ p sound.
+      subst (λ (r : Pending). BecomesOn g.S.Storage.view p c.args.file.now c.args.self.now c.args.file.now r) (sym (following_same p c.args.file.now.free_list c.args.file.now.free_list refl))
+      (on_none g.S.Storage.view p c.args.file.now c.args.self.now sound);
   hint = λ p d sound may hint. hint;
   lowest = λ p d sound may hint some. lowest_first g.S.Storage.view c.args.file.now c.args.self.now c.args.n hint some;
 }
 
 pub search-preserved : goal.search-preserved
 search-preserved g c = record {
-  header = c.take_run.ensures.header ∙ c.search.invariant.header;
-  list = c.take_run.ensures.list ∙ c.search.invariant.list;
+  header = header_then c.args.file.now.header c.search.file.header c.take_run.new.file.header c.search.invariant.header c.take_run.ensures.header;
+  list = lists_then c.args.file.now.free_list c.search.file.free_list c.take_run.new.file.free_list c.search.invariant.list c.take_run.ensures.list;
   limit = c.search.invariant.limit;
   near = c.search.invariant.near;
   marks = marks_then c.args.file.now.caches c.search.file.caches c.take_run.new.file.caches c.search.invariant.marks c.take_run.ensures.marks;
   order = c.take_run.ensures.order ∙ c.search.invariant.order;
   sound = λ p sound.
       let before = c.search.invariant.sound p sound in
-      becomes_then g.S.Storage.view p p c.args.file.now c.search.file c.take_run.new.file c.search.self c.take_run.new.self before
-      ((c.in_ok-taken.ensures.sound p false (is_sound_now g.S.Storage.view p p c.args.file.now c.search.file c.search.self before) tt).1 c.if-taken-n.false);
+      let q : Pending = following p c.args.file.now.free_list c.search.file.free_list in
+      let now = is_sound_on g.S.Storage.view p q c.args.file.now c.search.file c.search.self before in
+      then_none g.S.Storage.view p c.args.file.now c.search.file c.take_run.new.file c.search.self c.take_run.new.self c.search.invariant.list c.take_run.ensures.list before ((c.in_ok-taken.ensures.sound q false now tt).1 c.if-taken-n.false);
   hint = λ p d sound may hint.
       let before = c.search.invariant.sound p sound in
-      let now = is_sound_now g.S.Storage.view p p c.args.file.now c.search.file c.search.self before in
+      let q : Pending = following p c.args.file.now.free_list c.search.file.free_list in
+      let now = is_sound_on g.S.Storage.view p q c.args.file.now c.search.file c.search.self before in
       let may_now = may_still d c.args.file.now c.search.file c.search.invariant.order may in
-      c.in_ok-taken.ensures.hint p d now may_now (c.search.invariant.hint p d sound may hint);
+      c.in_ok-taken.ensures.hint q d now may_now (c.search.invariant.hint p d sound may hint);
   lowest = λ p d sound may hint some.
       let before = c.search.invariant.sound p sound in
-      let now = is_sound_now g.S.Storage.view p p c.args.file.now c.search.file c.search.self before in
+      let q : Pending = following p c.args.file.now.free_list c.search.file.free_list in
+      let now = is_sound_on g.S.Storage.view p q c.args.file.now c.search.file c.search.self before in
       let may_now = may_still d c.args.file.now c.search.file c.search.invariant.order may in
-      let one = (c.in_ok-taken.ensures.sound p d now may_now).1 c.if-taken-n.false in
-      lowest_behind g.S.Storage.view c.take_run.new.file c.search.first c.args.n c.in_ok-taken.taken c.in_ok-taken.ensures.within c.if-taken-n.false (c.in_ok-taken.ensures.used p d now may_now c.if-taken-n.false)
-      (lowest_stays g.S.Storage.view p p c.search.file c.take_run.new.file c.take_run.new.self c.search.first c.args.n one (λ k. omega arith) (c.search.invariant.lowest p d sound may hint some));
+      lowest_behind g.S.Storage.view c.take_run.new.file c.search.first c.args.n c.in_ok-taken.taken c.in_ok-taken.ensures.within c.if-taken-n.false (c.in_ok-taken.ensures.used q d now may_now c.if-taken-n.false)
+      (lowest_stays g.S.Storage.view c.search.file c.take_run.new.file c.search.first c.args.n (c.in_ok-taken.ensures.uses q d now may_now) (c.search.invariant.lowest p d sound may hint some));
 }
 
 pub returns-clause-sound : goal.returns-clause-sound
-returns-clause-sound g c = λ p d sound may. let before = c.search.invariant.sound p sound in inl (before.moves, before.reftable)
+returns-clause-sound g c = λ p d sound may. inl (c.search.invariant.sound p sound)
 
 pub returns-in_err-taken-clause-hint : goal.returns-in_err-taken-clause-hint
 returns-in_err-taken-clause-hint g c = λ p d sound may hint.
     let before = c.search.invariant.sound p sound in
-    let now = is_sound_now g.S.Storage.view p p c.args.file.now c.search.file c.search.self before in
+    let q : Pending = following p c.args.file.now.free_list c.search.file.free_list in
+    let now = is_sound_on g.S.Storage.view p q c.args.file.now c.search.file c.search.self before in
     let may_now = may_still d c.args.file.now c.search.file c.search.invariant.order may in
-    handed_on (KeepsHint g.S.Storage.view c.take_run.new.self c.take_run.new.file) c.from_residual.result c.in_err-taken.field-0.0 c.from_residual.ensures (c.in_err-taken.ensures.hint p d now may_now (c.search.invariant.hint p d sound may hint))
+    handed_on (KeepsHint g.S.Storage.view c.take_run.new.self c.take_run.new.file) c.from_residual.result c.in_err-taken.field-0.0 c.from_residual.ensures (c.in_err-taken.ensures.hint q d now may_now (c.search.invariant.hint p d sound may hint))
 
 pub returns-then-taken-n-clause-lowest : goal.returns-then-taken-n-clause-lowest
 returns-then-taken-n-clause-lowest g c = λ p d sound may hint.
     let before = c.search.invariant.sound p sound in
-    let now = is_sound_now g.S.Storage.view p p c.args.file.now c.search.file c.search.self before in
+    let q : Pending = following p c.args.file.now.free_list c.search.file.free_list in
+    let now = is_sound_on g.S.Storage.view p q c.args.file.now c.search.file c.search.self before in
     let may_now = may_still d c.args.file.now c.search.file c.search.invariant.order may in
-    let taken = (c.in_ok-taken.ensures.sound p d now may_now).0 c.if-taken-n.true in
-    lowest_stays g.S.Storage.view p (taken_as d p (run_at c.search.first c.args.n)) c.search.file c.take_run.new.file c.take_run.new.self c.search.first c.args.n taken
-    (λ k. let more = taken_pending d p (run_at c.search.first c.args.n) k in omega (arith, more)) (c.search.invariant.lowest p d sound may hint c.search-test.true)
+    lowest_stays g.S.Storage.view c.search.file c.take_run.new.file c.search.first c.args.n (c.in_ok-taken.ensures.uses q d now may_now) (c.search.invariant.lowest p d sound may hint c.search-test.true)
 
 pub returns-then-taken-n-clause-hint : goal.returns-then-taken-n-clause-hint
 returns-then-taken-n-clause-hint g c = λ p d sound may hint.
     let before = c.search.invariant.sound p sound in
-    let now = is_sound_now g.S.Storage.view p p c.args.file.now c.search.file c.search.self before in
+    let q : Pending = following p c.args.file.now.free_list c.search.file.free_list in
+    let now = is_sound_on g.S.Storage.view p q c.args.file.now c.search.file c.search.self before in
     let may_now = may_still d c.args.file.now c.search.file c.search.invariant.order may in
-    c.in_ok-taken.ensures.hint p d now may_now (c.search.invariant.hint p d sound may hint)
+    c.in_ok-taken.ensures.hint q d now may_now (c.search.invariant.hint p d sound may hint)
 
 pub returns-clause-hint : goal.returns-clause-hint
 returns-clause-hint g c = λ p d sound may hint other. c.search.invariant.hint p d sound may hint
+
+pub returns-in_err-taken-clause-list : goal.returns-in_err-taken-clause-list
+returns-in_err-taken-clause-list g c = lists_then c.args.file.now.free_list c.search.file.free_list c.take_run.new.file.free_list c.search.invariant.list c.take_run.ensures.list
+
+pub returns-then-taken-n-clause-list : goal.returns-then-taken-n-clause-list
+returns-then-taken-n-clause-list g c = lists_then c.args.file.now.free_list c.search.file.free_list c.take_run.new.file.free_list c.search.invariant.list c.take_run.ensures.list
+
+pub returns-in_err-taken-clause-limit : goal.returns-in_err-taken-clause-limit
+returns-in_err-taken-clause-limit g c = λ p d sound may hint some.
+    let before = c.search.invariant.sound p sound in
+    let q : Pending = following p c.args.file.now.free_list c.search.file.free_list in
+    let now = is_sound_on g.S.Storage.view p q c.args.file.now c.search.file c.search.self before in
+    let may_now = may_still d c.args.file.now c.search.file c.search.invariant.order may in
+    let bits = header_bits c.args.file.now.header c.search.file.header c.search.invariant.header in
+    let within : c.search.first + c.args.n ≤ nameable_clusters c.search.file.header.fields =
+    let few = c.if-n-limit.true in let below = c.if-first-limit.true in let limit = c.search.invariant.limit in let now = ap (λ n. greatest_offset / 2 ^ n + 1) bits in omega (arith, few, below, limit, now) in
+    let after = header_bits c.search.file.header c.take_run.new.file.header c.take_run.ensures.header in
+    let same = ap (λ n. greatest_offset / 2 ^ n + 1) after in
+    handed_on (λ (r : Result ℕ ImageError). IfErr r (IsFaultOr (HasNoPlace g.S.Storage.view c.take_run.new.file c.take_run.new.self c.args.n))) c.from_residual.result c.in_err-taken.field-0.0 c.from_residual.ensures
+    (elim (c.in_err-taken.ensures.limit q d now may_now (c.search.invariant.hint p d sound may hint) within) [
+      | inl fault ↦ inl fault
+      | inr why ↦
+          let uses = c.in_err-taken.ensures.uses q d now may_now (limit_is_no_fault c.in_err-taken.field-0.0 why.0) in
+          let lowest = lowest_stays g.S.Storage.view c.search.file c.take_run.new.file c.search.first c.args.n uses (c.search.invariant.lowest p d sound may hint some) in
+          inr (why.0, inr (c.search.first, omega (arith, within, same), lowest, why.1))
+    ])
+
+pub returns-clause-limit : goal.returns-clause-limit
+returns-clause-limit g c = λ p d sound may hint some.
+    let limit = c.search.invariant.limit ∙ ap (λ n. greatest_offset / 2 ^ n + 1) (sym (header_bits c.args.file.now.header c.search.file.header c.search.invariant.header)) in
+    let past : c.args.n ≤ greatest_offset / 2 ^ c.cluster_bits.result + 1 → greatest_offset / 2 ^ c.cluster_bits.result + 1 < c.search.first + c.args.n = λ few. elim c.search-test.branch [
+      | then-search-test+then-n-limit+else-first-limit w ↦ let past = w.if-first-limit.false in omega (arith, few, past)
+      | then-search-test+else-n-limit w ↦ let many = w.if-n-limit.false in omega (arith, few, many)
+      | else-search-test w ↦ let none = w.search-test.false in omega (arith, some, none)
+    ] in
+    inr (refl, inl (full_behind g.S.Storage.view c.search.file c.search.first c.args.n (greatest_offset / 2 ^ c.cluster_bits.result + 1) limit past (c.search.invariant.lowest p d sound may hint some)))

@@ -1,19 +1,19 @@
-use Rattle.std.proofs.Common.{◌≡◌, ℕ, Bool, ◌==◌, ◌/◌, ◌%◌, ◌^◌, true, false, Ok, refl, sym, ap, ◌∙◌, subst, arith}
+use Rattle.std.proofs.Common.{◌≡◌, Bool, ◌==◌, ◌/◌, ◌%◌, ◌^◌, true, false, Result, Ok, refl, sym, ap, ◌∙◌, subst, arith}
+use Rattle.std.specs.Prelude.{IfErr}
 use Rattle.std.proofs.lemmas.Bool.Decides.{nat_tests}
 use Rattle.qcow2_metadata.specs.Entries.{block_offset, count}
 use Rattle.qcow2_metadata.specs.TableBytes.{entry_at}
 use Rattle.qcow2_alloc.specs.Allocation.{TakesOne}
-use Rattle.qcow2_alloc.specs.ImageFile.{known_in, contents_in}
+use Rattle.qcow2_alloc.specs.declared.error.ImageError.{ImageError}
+use Rattle.qcow2_alloc.specs.ImageFile.{IsFault, known_in, contents_in}
 use Rattle.qcow2_alloc.proofs.AllocationSteps.{handed_on, of_equal, counted_at, none_in_memory, taken_one}
+use Rattle.qcow2_alloc.proofs.Hints.{is_zero, used_stays}
 use Rattle.qcow2_alloc.specs.LowestRuns.{IsUsed}
 use Rattle.qcow2_alloc.proofs.allocation.Allocator.raise.Goals.{then-rb_is_zero, else-rb_is_zero}
 use Rattle.qcow2_alloc.proofs.allocation.Allocator.raise.Goals as goal
 
 zero_of : (n : _) → (n == 0) ≡ true → n ≡ 0
 zero_of n h = grind (arith, nat_tests)
-
-is_zero : (n : ℕ) → n ≡ 0 → (n == 0) ≡ true
-is_zero n h = grind (arith, nat_tests)
 
 not_both : (b : Bool) → b ≡ true → b ≡ false → ⊥
 not_both b yes_so no_so = let bad : true ≡ false = sym yes_so ∙ no_so in cc
@@ -61,3 +61,18 @@ returns-clause-used g c = λ p sound has none.
           subst (λ f. IsUsed g.S.Storage.view f c.args.cluster) (sym w.file-is)
           (λ zero. not_both c.rb_is_zero.result (tells ∙ is_zero (count c.load_block.new.file.header.fields (known_in g.S.Storage.view c.load_block.new.file) c.args.cluster) zero) w.if-rb_is_zero.false)
     ]
+
+pub returns-clause-free : goal.returns-clause-free
+returns-clause-free g c = λ p sound taken used.
+    let l = rw c.in-Some.is at (c.in_ok-block.ensures.sound p sound) in
+    let at = counted_at g.S.Storage.view c.load_block.new.file c.args.file.now.header.fields (ap (λ x. x.fields) c.load_block.ensures.header) c.args.cluster _ c.in-Some.block c.rb_index-index.result c.rb_bits-bits.result l.1 c.rb_bits-bits.ensures.counts refl (c.rb_index-index.ensures.value ∙ ap (λ n. n % 2 ^ c.rb_bits-bits.result) c.new.ensures) in
+    let tells = c.rb_is_zero.ensures c.load_block.new.file.header.fields p (contents_in g.S.Storage.view c.load_block.new.file) c.args.cluster l.0.moves.sound.caches at l.1.2 in
+    elim c.if-rb_is_zero.branch [
+      | then-rb_is_zero w ↦
+          used_stays g.S.Storage.view p p c.args.file.now c.load_block.new.file c.args.self.now c.args.cluster l.0 (omega arith) used
+          (zero_of (count c.load_block.new.file.header.fields (known_in g.S.Storage.view c.load_block.new.file) c.args.cluster) (sym tells ∙ w.if-rb_is_zero.true))
+      | else-rb_is_zero w ↦ absurd (not_both c.if-rb_is_zero.result taken (w.result-is ∙ w.if-rb_is_zero.false))
+    ]
+
+pub returns-in_err-block-clause-fault : goal.returns-in_err-block-clause-fault
+returns-in_err-block-clause-fault g c = λ p sound. handed_on (λ (r : Result Bool ImageError). IfErr r IsFault) c.from_residual.result c.in_err-block.field-0.0 c.from_residual.ensures (c.in_err-block.ensures.sound p sound).0

@@ -1,4 +1,4 @@
-use Rattle.std.proofs.Common.{ℕ, ap, ◌+◌, ◌<◌, arith, ◌*◌, ◌^◌, ◌≤◌, false, refl, sym, ◌∙◌, subst}
+use Rattle.std.proofs.Common.{ℕ, ap, ◌+◌, arith, ◌*◌, ◌^◌, ◌≤◌, false, refl, sym, ◌∙◌, subst}
 use Rattle.qcow2_metadata.specs.Header.{counts_per_block}
 use Rattle.qcow2_laws.specs.Changes.{one_at}
 use Rattle.qcow2_alloc.specs.Allocation.{taken_as, KeepsEntries, TakesLowest}

@@ -1,10 +1,13 @@
 use Rattle.qcow2_metadata.specs.Entries.{count}
 use Rattle.std.proofs.Common.{◌/◌, ◌%◌, ◌^◌, true, Ok, refl, ap, ◌∙◌}
 use Rattle.qcow2_laws.specs.Changes.{one_at}
-use Rattle.qcow2_alloc.specs.Allocation.{owed_as, Becomes, LowersOne}
+use Rattle.qcow2_alloc.specs.Allocation.{owed_as, LowersOne}
 use Rattle.qcow2_alloc.specs.ImageFile.{contents_in, known_in}
 use Rattle.qcow2_alloc.proofs.Hints.{hint_lowered, is_zero, lowered_so, stands_still}
 use Rattle.qcow2_alloc.proofs.AllocationSteps.{handed_on, of_equal, becomes_as, may_lower_still, counted_at, given_one, owed_counted, owed_has_block}
+use Rattle.std.proofs.Common.{sym}
+use Rattle.qcow2_metadata.specs.Header.{counts_per_block}
+use Rattle.qcow2_alloc.proofs.Leaks.{tried}
 use Rattle.qcow2_alloc.proofs.allocation.Allocator.try_lower.Goals as goal
 
 pub returns-in_err-block-clause-sound : goal.returns-in_err-block-clause-sound
@@ -44,3 +47,10 @@ returns-clause-hint g c = λ p owed sound may hint.
     let at_now = counted_at g.S.Storage.view file c.args.file.now.header.fields (ap (λ x. x.fields) c.load_block.ensures.header) c.args.cluster _ c.in-Some.block c.rb_index-index.result c.rb_bits-bits.result stands c.rb_bits-bits.ensures.counts refl (c.rb_index-index.ensures.value ∙ ap (λ n. n % 2 ^ c.rb_bits-bits.result) c.new.ensures) in
     hint_lowered g.S.Storage.view owed p c.args.cluster c.args.file.now file c.args.self.now c.note_lowered.new.self now c.note_lowered.ensures.first
     (λ zero. c.note_lowered.ensures.free (c.rb_is_zero.ensures file.header.fields p (contents_in g.S.Storage.view file) c.args.cluster now.moves.sound.caches at_now (c.rb_decrement-lowered.ensures.held lowered) ∙ is_zero (count file.header.fields (known_in g.S.Storage.view file) c.args.cluster) zero)) hint
+
+pub returns-clause-tries : goal.returns-clause-tries
+returns-clause-tries g c =
+    let counts = ap (λ h. counts_per_block h.fields) c.load_block.ensures.header ∙ c.rb_bits-bits.ensures.counts in
+    let index = c.rb_index-index.ensures.value ∙ ap (λ n. n % 2 ^ c.rb_bits-bits.result) c.new.ensures ∙ sym (ap (λ n. c.args.cluster % n) counts) in
+    tried c.load_block.new.file.caches (record c.load_block.new.file { caches = c.rb_decrement-lowered.new.self }) c.in-Some.block c.rb_index-index.result c.args.cluster index c.rb_decrement-lowered.result
+    c.rb_decrement-lowered.ensures.counts c.rb_decrement-lowered.ensures.missing

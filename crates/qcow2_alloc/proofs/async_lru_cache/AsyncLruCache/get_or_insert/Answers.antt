@@ -6,6 +6,7 @@ use Rattle.qcow2_alloc.proofs.CachedEntries.Going.{front-promoted, hit_goes, get
 use Rattle.qcow2_alloc.proofs.CachedEntries.Knowing.{hit_keeps, gets_keeps}
 use Rattle.qcow2_alloc.proofs.CachedEntries.Lists.{length-promoted, none_of, promoted_none}
 use Rattle.qcow2_alloc.proofs.CachedEntries.Pins.{pins_promoted, gets_keep_pins}
+use Rattle.qcow2_alloc.proofs.CachedEntries.Staying.{stays_promoted, gets_stay}
 use Rattle.qcow2_alloc.proofs.async_lru_cache.AsyncLruCache.get_or_insert.Goals as goal
 
 pub invariant_of-self : goal.invariant_of-self
@@ -78,3 +79,17 @@ returns-clause-pins g c =
     let h = rw same at c.load_new.ensures.loads in
     let d = rw same at c.load_new.ensures.distinct in
     rw (← c.self.view_is) (gets_keep_pins g.B.Key.PartialEq.eq g.met.B.Key.Eq.laws (g.B.AsyncLruCacheBackend.steps c.self.inside.backend) c.self.inside.size c.args.may_flush c.args.store.now es c.args.key c.load_new.result c.load_new.new.store c.load_new.new.entries.entries d m h)
+
+pub returns-then-promote-clause-stays : goal.returns-then-promote-clause-stays
+returns-then-promote-clause-stays g c =
+    rw (← c.self.view_is, c.promote.ensures.entries) (stays_promoted g.B.Key.PartialEq.eq g.met.B.Key.Eq.laws c.args.key c.self.inside.entries.entries)
+
+pub returns-clause-stays : goal.returns-clause-stays
+returns-clause-stays g c =
+    let test = g.B.Key.PartialEq.eq c.args.key in
+    let es = c.self.inside.entries.entries in
+    let m : lookup test es ≡ None = none_of (sym (c.if-promote.false) ∙ c.promote.ensures.value) in
+    let same : c.promote.new.self.entries ≡ es = ap (λ (x : LruCache g.row.B-Key.Denot (Slot g.row.B-Value.Denot)). x.entries) c.promote.ensures.entries ∙ promoted_none test es m in
+    let h = rw same at c.load_new.ensures.loads in
+    let d = rw same at c.load_new.ensures.distinct in
+    rw (← c.self.view_is) (gets_stay g.B.Key.PartialEq.eq g.met.B.Key.Eq.laws (g.B.AsyncLruCacheBackend.steps c.self.inside.backend) c.self.inside.size c.args.may_flush c.args.store.now es c.args.key c.load_new.result c.load_new.new.store c.load_new.new.entries.entries d h)

@@ -3,6 +3,7 @@ use Rattle.std.specs.Map.{lookup}
 use Rattle.qcow2_alloc.proofs.CachedEntries.Knowing.{inserted, replaced}
 use Rattle.qcow2_alloc.proofs.CachedEntries.Lists.{none_of, entry_none}
 use Rattle.qcow2_alloc.proofs.CachedEntries.Pins.{pins_same, inserts_keep_pins, replaces_keep_pins}
+use Rattle.qcow2_alloc.proofs.CachedEntries.Staying.{stays_same, inserts_stay, replaces_stay}
 use Rattle.qcow2_alloc.proofs.async_lru_cache.AsyncLruCache.insert.Goals as goal
 
 pub returns-clause-there : goal.returns-clause-there
@@ -45,3 +46,14 @@ pub returns-clause-pins : goal.returns-clause-pins
 returns-clause-pins g c =
     let m = none_of (sym (c.if-contains.false) ∙ c.contains.ensures) in
     rw (← c.self.view_is) (inserts_keep_pins g.B.Key.PartialEq.eq g.met.B.Key.Eq.laws (g.B.AsyncLruCacheBackend.steps c.self.inside.backend) c.self.inside.size c.args.may_flush c.args.store.now c.self.inside.entries.entries c.args.key c.args.value.now c.insert_new.result c.insert_new.new.store c.insert_new.new.entries.entries c.insert_new.new.value c.insert_new.ensures.distinct m (c.is_none.ensures ∙ ap not c.if-is_none.false) c.insert_new.ensures.inserts)
+
+pub returns-then-is_none-clause-stays : goal.returns-then-is_none-clause-stays
+returns-then-is_none-clause-stays g c = stays_same g.B.Key.PartialEq.eq c.args.key _ _ refl
+
+pub returns-then-contains-clause-stays : goal.returns-then-contains-clause-stays
+returns-then-contains-clause-stays g c =
+    rw (← c.self.view_is) (replaces_stay g.B.Key.PartialEq.eq g.met.B.Key.Eq.laws (g.B.AsyncLruCacheBackend.steps c.self.inside.backend) c.args.may_flush c.args.store.now c.self.inside.entries.entries c.args.key c.replace_entry.new.store c.replace_entry.new.entries.entries c.replace_entry.new.value c.args.value.now c.replace_entry.result (sym c.contains.ensures ∙ c.if-contains.true) (c.is_none.ensures ∙ ap not c.if-is_none.false) c.replace_entry.ensures.replaces)
+
+pub returns-clause-stays : goal.returns-clause-stays
+returns-clause-stays g c =
+    rw (← c.self.view_is) (inserts_stay g.B.Key.PartialEq.eq g.met.B.Key.Eq.laws (g.B.AsyncLruCacheBackend.steps c.self.inside.backend) c.self.inside.size c.args.may_flush c.args.store.now c.self.inside.entries.entries c.args.key c.args.value.now c.insert_new.result c.insert_new.new.store c.insert_new.new.entries.entries c.insert_new.new.value c.insert_new.ensures.distinct (c.is_none.ensures ∙ ap not c.if-is_none.false) c.insert_new.ensures.inserts)

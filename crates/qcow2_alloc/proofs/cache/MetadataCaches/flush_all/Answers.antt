@@ -5,6 +5,9 @@ use Rattle.qcow2_alloc.specs.ImageError.{IsFault}
 use Rattle.qcow2_alloc.proofs.KeptTables.Causes.{given_err}
 use Rattle.qcow2_alloc.specs.MetadataCaches.{order}
 use Rattle.qcow2_alloc.proofs.KeptTables.InOrder.{order_then}
+use Rattle.qcow2_alloc.specs.ImageStorage.{storage_of}
+use Rattle.qcow2_alloc.proofs.KeptTables.Clean.{tables_as, blocks_as}
+use Rattle.qcow2_alloc.proofs.KeptTables.Quiet.{quiet_then}
 use Rattle.qcow2_alloc.proofs.cache.MetadataCaches.flush_all.Goals as goal
 
 pub returns-in_err-write_blocks-in-L2DependsOnRb-clause-keeps : goal.returns-in_err-write_blocks-in-L2DependsOnRb-clause-keeps
@@ -19,6 +22,7 @@ returns-in_err-write_tables-in-None g c = record {
   faults = λ h p honest sound settled. given_err c.from_residual.result c.in_err-write_tables-in-None.field-0.0 IsFault c.from_residual.ensures (c.in_err-write_tables-in-None.ensures.faults h p honest sound settled);
   keeps = c.write_tables.ensures.keeps (tables_free c.args.self.now c.in-None.is);
   ordered = c.write_tables.ensures.ordered (tables_free c.args.self.now c.in-None.is);
+  quiet = λ written. c.write_tables.ensures.quiet written.0;
 }
 
 pub returns-in_ok-write_blocks-in-L2DependsOnRb-clause-keeps : goal.returns-in_ok-write_blocks-in-L2DependsOnRb-clause-keeps
@@ -44,6 +48,10 @@ returns-in_ok-write_tables-in-None g c = record {
       order_then g.S.Storage.view c.args.storage.now c.write_tables.new.storage c.write_blocks.new.storage c.args.self.now c.write_tables.new.self
       (c.write_tables.ensures.keeps (tables_free c.args.self.now c.in-None.is)) (c.write_tables.ensures.ordered (tables_free c.args.self.now c.in-None.is)) (ap order c.write_tables.ensures.direction)
       (c.write_blocks.ensures.ordered (blocks_either c.write_tables.new.self c.args.self.now c.write_tables.ensures.direction c.in-None.is c.in_ok-write_tables-in-None.ensures.written));
+  quiet = λ written honest.
+      let one = c.write_tables.ensures.quiet written.0 honest in
+      quiet_then (g.S.Storage.view (storage_of c.args.storage.now)) (g.S.Storage.view (storage_of c.write_tables.new.storage)) (g.S.Storage.view (storage_of c.write_blocks.new.storage)) one
+      (c.write_blocks.ensures.quiet (blocks_as c.args.self.now c.write_tables.new.self c.write_tables.ensures.refblocks written.1) one.honest);
 }
 
 pub returns-in_err-write_blocks-in-L2DependsOnRb-clause-faults : goal.returns-in_err-write_blocks-in-L2DependsOnRb-clause-faults
@@ -62,3 +70,9 @@ returns-in_ok-write_blocks-in-L2DependsOnRb-clause-ordered g c =
     order_then g.S.Storage.view c.args.storage.now c.write_blocks-in-L2DependsOnRb.new.storage c.write_tables-in-L2DependsOnRb.new.storage c.args.self.now c.write_blocks-in-L2DependsOnRb.new.self
     (c.write_blocks-in-L2DependsOnRb.ensures.keeps (blocks_free c.args.self.now (inr c.in-L2DependsOnRb.is))) (c.write_blocks-in-L2DependsOnRb.ensures.ordered (blocks_free c.args.self.now (inr c.in-L2DependsOnRb.is))) (ap order c.write_blocks-in-L2DependsOnRb.ensures.direction)
     (c.write_tables-in-L2DependsOnRb.ensures.ordered (tables_clean c.write_blocks-in-L2DependsOnRb.new.self (c.write_blocks-in-L2DependsOnRb.ensures.direction ∙ c.in-L2DependsOnRb.is) c.in_ok-write_blocks-in-L2DependsOnRb.ensures.written))
+
+pub returns-in_ok-write_blocks-in-L2DependsOnRb-clause-quiet : goal.returns-in_ok-write_blocks-in-L2DependsOnRb-clause-quiet
+returns-in_ok-write_blocks-in-L2DependsOnRb-clause-quiet g c = λ written honest.
+    let one = c.write_blocks-in-L2DependsOnRb.ensures.quiet written.1 honest in
+    quiet_then (g.S.Storage.view (storage_of c.args.storage.now)) (g.S.Storage.view (storage_of c.write_blocks-in-L2DependsOnRb.new.storage)) (g.S.Storage.view (storage_of c.write_tables-in-L2DependsOnRb.new.storage)) one
+    (c.write_tables-in-L2DependsOnRb.ensures.quiet (tables_as c.args.self.now c.write_blocks-in-L2DependsOnRb.new.self c.write_blocks-in-L2DependsOnRb.ensures.tables written.0) one.honest)

@@ -4,6 +4,13 @@ use Rattle.qcow2_alloc.specs.ImageError.{IsFault}
 use Rattle.qcow2_alloc.proofs.KeptTables.Causes.{given_err}
 use Rattle.qcow2_alloc.specs.MetadataCaches.{order}
 use Rattle.qcow2_alloc.proofs.KeptTables.InOrder.{order_then}
+use Rattle.std.proofs.Common.{subst}
+use Rattle.qcow2_laws.specs.Clusters.{Direction}
+use Rattle.qcow2_laws.specs.Caches.{BlocksMayGo}
+use Rattle.qcow2_alloc.specs.MetadataCaches.{l2_tables}
+use Rattle.qcow2_alloc.specs.ImageStorage.{storage_of}
+use Rattle.qcow2_alloc.proofs.KeptTables.Clean.{blocks_as}
+use Rattle.qcow2_alloc.proofs.KeptTables.Quiet.{quiet_then}
 use Rattle.qcow2_alloc.proofs.cache.MetadataCaches.flush_rb.Goals as goal
 
 pub returns-in_err-write_tables-in-RbDependsOnL2-clause-keeps : goal.returns-in_err-write_tables-in-RbDependsOnL2-clause-keeps
@@ -25,6 +32,8 @@ returns-in-None g c = record {
   faults = c.write_blocks-in-None.ensures.faults;
   keeps = c.write_blocks-in-None.ensures.keeps (blocks_free c.args.self.now c.in-None.is);
   ordered = c.write_blocks-in-None.ensures.ordered (blocks_free c.args.self.now c.in-None.is);
+  tables = λ _. c.write_blocks-in-None.ensures.tables;
+  quiet = λ clean may. c.write_blocks-in-None.ensures.quiet clean;
 }
 
 pub returns-in_err-write_tables-in-RbDependsOnL2-clause-faults : goal.returns-in_err-write_tables-in-RbDependsOnL2-clause-faults
@@ -43,3 +52,13 @@ returns-in_ok-write_tables-in-RbDependsOnL2-clause-ordered g c =
     order_then g.S.Storage.view c.args.storage.now c.write_tables.new.storage c.write_blocks.new.storage c.args.self.now c.write_tables.new.self
     (c.write_tables.ensures.keeps (tables_free c.args.self.now (inr c.in-RbDependsOnL2.is))) (c.write_tables.ensures.ordered (tables_free c.args.self.now (inr c.in-RbDependsOnL2.is))) (ap order c.write_tables.ensures.direction)
     (c.write_blocks.ensures.ordered (blocks_clean c.write_tables.new.self (c.write_tables.ensures.direction ∙ c.in-RbDependsOnL2.is) c.in_ok-write_tables-in-RbDependsOnL2.ensures.written))
+
+pub returns-in_err-write_tables-in-RbDependsOnL2-clause-quiet : goal.returns-in_err-write_tables-in-RbDependsOnL2-clause-quiet
+returns-in_err-write_tables-in-RbDependsOnL2-clause-quiet g c = λ clean may.
+    c.write_tables.ensures.quiet (subst (λ (d : Direction). BlocksMayGo d (l2_tables c.args.self.now)) (ap order c.in-RbDependsOnL2.is) may)
+
+pub returns-in_ok-write_tables-in-RbDependsOnL2-clause-quiet : goal.returns-in_ok-write_tables-in-RbDependsOnL2-clause-quiet
+returns-in_ok-write_tables-in-RbDependsOnL2-clause-quiet g c = λ clean may honest.
+    let one = c.write_tables.ensures.quiet (subst (λ (d : Direction). BlocksMayGo d (l2_tables c.args.self.now)) (ap order c.in-RbDependsOnL2.is) may) honest in
+    quiet_then (g.S.Storage.view (storage_of c.args.storage.now)) (g.S.Storage.view (storage_of c.write_tables.new.storage)) (g.S.Storage.view (storage_of c.write_blocks.new.storage)) one
+    (c.write_blocks.ensures.quiet (blocks_as c.args.self.now c.write_tables.new.self c.write_tables.ensures.refblocks clean) one.honest)

@@ -4,6 +4,17 @@ use Rattle.qcow2_metadata.specs.L2Table.{L2TableView}
 use Rattle.qcow2_alloc.proofs.KeptTables.Mapping.{index_fits, entry_made}
 use Rattle.qcow2_alloc.proofs.CacheMarks.{marks_tables, marks_noted, set_keeps_pins}
 use Rattle.qcow2_alloc.specs.AsyncLruCache.{with_entries, set_at}
+use Rattle.std.proofs.Common.{◌≡◌, ℕ, ◌≤◌, List, Option, subst}
+use Rattle.std.specs.Option.{IfSome}
+use Rattle.qcow2_metadata.specs.L2Mapping.{dropped_run}
+use Rattle.qcow2_metadata.specs.L2Table.{cover_at, entries_of}
+use Rattle.qcow2_metadata.specs.TableBytes.{ChangesEntry}
+use Rattle.qcow2_alloc.specs.declared.async_lru_cache.slot.Slot.{Slot}
+use Rattle.qcow2_alloc.specs.AsyncLruCache.{value_at}
+use Rattle.qcow2_alloc.specs.TableChanges.{changed_table}
+use Rattle.qcow2_alloc.proofs.KeptTables.Inserting.{if_some}
+use Rattle.qcow2_alloc.proofs.KeptTables.Changing.{set_same}
+use Rattle.qcow2_alloc.proofs.KeptTables.OneChanged.{one_changed}
 use Rattle.qcow2_alloc.proofs.cache.MetadataCaches.l2_discard_cluster.Goals as goal
 
 pub returns-then-index-entries-clause-marks : goal.returns-then-index-entries-clause-marks
@@ -34,3 +45,34 @@ returns-clause-discarded g c = λ h p base i sound at there.
     entry_made h p base c.args.self.now sound c.args.cluster c.args.index c.in_ok-table.table.now found i at c.discard_cluster.new.self
     (ap (λ (t : L2TableView). t.is_modified) same) (ap (λ (t : L2TableView). t.cluster_bits) same) (ap (λ (t : L2TableView). t.has_zero_bit) same) (ap (λ (t : L2TableView). t.data_is_external) same)
     _ refl refl refl 0 c.discard_cluster.result c.discard_cluster.ensures.changed c.discard_cluster.ensures.dropped
+
+pub returns-clause-entry : goal.returns-clause-entry
+returns-clause-entry g c =
+    let found = sym c.peek_mut.ensures.value ∙ ap option_copied_mut c.in_ok-table.was in
+    let same = c.discard_cluster.ensures.same in
+    if_some _ (value_at (eqb c.args.cluster) c.args.self.now.l2.entries) c.in_ok-table.table.now found (λ inside. record {
+      change = one_changed c.args.cluster c.args.self.now.l2.entries c.discard_cluster.new.self c.in_ok-table.table.now found (changed_table c.in_ok-table.table.now)
+          (λ bytes. ChangesEntry c.in_ok-table.table.now.bytes bytes c.args.index _
+          × (c.discard_cluster.result ≡ dropped_run c.in_ok-table.table.now.cluster_bits (cover_at c.in_ok-table.table.now c.args.index) (cover_at (changed_table c.in_ok-table.table.now bytes) c.args.index)))
+          c.discard_cluster.new.self.bytes same
+          (c.discard_cluster.ensures.changed, c.discard_cluster.ensures.dropped ∙ ap (λ (t : L2TableView). dropped_run c.in_ok-table.table.now.cluster_bits (cover_at c.in_ok-table.table.now c.args.index) (cover_at t c.args.index)) same);
+      blocks = refl;
+      noted = refl;
+    })
+
+pub returns-then-index-entries-clause-entry : goal.returns-then-index-entries-clause-entry
+returns-then-index-entries-clause-entry g c =
+    let found = sym c.peek_mut.ensures.value ∙ ap option_copied_mut c.in_ok-table.was in
+    if_some _ (value_at (eqb c.args.cluster) c.args.self.now.l2.entries) c.in_ok-table.table.now found
+    (λ inside. absurd (let count = c.entries.ensures.value in let past = c.if-index-entries.true in omega arith))
+
+pub returns-then-index-entries-clause-refused : goal.returns-then-index-entries-clause-refused
+returns-then-index-entries-clause-refused g c = λ _.
+    let found = sym c.peek_mut.ensures.value ∙ ap option_copied_mut c.in_ok-table.was in
+    (refl, ap (λ (es : List (ℕ × Slot L2TableView)). record c.args.self.now { l2 = with_entries c.args.self.now.l2 es }) (set_same c.args.cluster c.args.self.now.l2.entries c.in_ok-table.table.now found))
+
+pub returns-clause-refused : goal.returns-clause-refused
+returns-clause-refused g c = λ past.
+    let found = sym c.peek_mut.ensures.value ∙ ap option_copied_mut c.in_ok-table.was in
+    let beyond = subst (λ (o : Option L2TableView). IfSome o (λ t. entries_of t ≤ c.args.index)) found past in
+    absurd (let count = c.entries.ensures.value in let inside = c.if-index-entries.false in omega arith)

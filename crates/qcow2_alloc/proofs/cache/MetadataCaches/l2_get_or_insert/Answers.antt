@@ -10,6 +10,9 @@ use Rattle.qcow2_alloc.specs.CacheMarks.{IsInUseOrFault}
 use Rattle.qcow2_alloc.specs.AsyncLruCache.{with_entries}
 use Rattle.qcow2_alloc.specs.TableCaches.{l2_steps}
 use Rattle.qcow2_alloc.proofs.KeptTables.InOrder.{order_then, table_got_in_order}
+use Rattle.qcow2_alloc.proofs.KeptTables.Quiet.{quiet_then, next_table, table_got_quietly, table_waits, table_got_same}
+use Rattle.std.proofs.Common.{eqb}
+use Rattle.qcow2_alloc.proofs.CachedEntries.Staying.{stays_same, stays_then, values_stay}
 use Rattle.qcow2_alloc.proofs.cache.MetadataCaches.l2_get_or_insert.Goals as goal
 
 pub returns-in_err-get_or_insert-clause-keeps : goal.returns-in_err-get_or_insert-clause-keeps
@@ -94,3 +97,48 @@ returns-clause-ordered g c =
     (keep_then g.S.Storage.view c.args.storage.now c.get_or_insert.new.store c.before_l2.new.storage c.args.self.now (record c.args.self.now { l2 = c.get_or_insert.new.self }) c.before_l2.new.self (table_got g.S.Storage.view c.args.storage.now c.get_or_insert.new.store c.args.self.now false c.args.cluster c.get_or_insert.new.self c.get_or_insert.ensures.others c.get_or_insert.result c.get_or_insert.ensures.hit c.get_or_insert.ensures.miss (λ flush. absurd (cc))) c.before_l2.ensures.keeps)
     (order_then g.S.Storage.view c.args.storage.now c.get_or_insert.new.store c.before_l2.new.storage c.args.self.now (record c.args.self.now { l2 = c.get_or_insert.new.self }) (table_got g.S.Storage.view c.args.storage.now c.get_or_insert.new.store c.args.self.now false c.args.cluster c.get_or_insert.new.self c.get_or_insert.ensures.others c.get_or_insert.result c.get_or_insert.ensures.hit c.get_or_insert.ensures.miss (λ flush. absurd (cc))) (table_got_in_order g.S.Storage.view c.args.storage.now c.get_or_insert.new.store c.args.self.now false c.args.cluster c.get_or_insert.new.self c.get_or_insert.result c.get_or_insert.ensures.hit c.get_or_insert.ensures.miss (λ flush. absurd (cc))) refl c.before_l2.ensures.ordered) c.before_l2.ensures.order
     (table_got_in_order g.S.Storage.view c.before_l2.new.storage c.get_or_insert-2.new.store c.before_l2.new.self true c.args.cluster c.get_or_insert-2.new.self c.get_or_insert-2.result c.get_or_insert-2.ensures.hit c.get_or_insert-2.ensures.miss (λ _. c.in_ok-before_l2.ensures.first))
+
+pub returns-in_err-get_or_insert-clause-quiet : goal.returns-in_err-get_or_insert-clause-quiet
+returns-in_err-get_or_insert-clause-quiet g c = λ may. table_got_quietly g.S.Storage.view c.args.storage.now c.get_or_insert.new.store c.args.self.now false c.args.cluster c.get_or_insert.new.self c.get_or_insert.result c.get_or_insert.ensures.hit c.get_or_insert.ensures.miss (λ flush. absurd (cc))
+
+pub returns-then-branch-clause-quiet : goal.returns-then-branch-clause-quiet
+returns-then-branch-clause-quiet g c = λ may. table_got_quietly g.S.Storage.view c.args.storage.now c.get_or_insert.new.store c.args.self.now false c.args.cluster c.get_or_insert.new.self c.get_or_insert.result c.get_or_insert.ensures.hit c.get_or_insert.ensures.miss (λ flush. absurd (cc))
+
+pub returns-in_err-before_l2-clause-quiet : goal.returns-in_err-before_l2-clause-quiet
+returns-in_err-before_l2-clause-quiet g c = λ may honest.
+    let goes = table_waits g.S.Storage.view c.args.storage.now c.get_or_insert.new.store c.args.self.now false c.args.cluster c.get_or_insert.new.self c.get_or_insert.result c.get_or_insert.ensures.hit c.get_or_insert.ensures.miss (c.in_ok-get_or_insert.was ∙ ap Ok c.if-branch.false) may in
+    let one = table_got_quietly g.S.Storage.view c.args.storage.now c.get_or_insert.new.store c.args.self.now false c.args.cluster c.get_or_insert.new.self c.get_or_insert.result c.get_or_insert.ensures.hit c.get_or_insert.ensures.miss (λ flush. absurd (cc)) honest in
+    quiet_then (g.S.Storage.view (storage_of c.args.storage.now)) (g.S.Storage.view (storage_of c.get_or_insert.new.store)) (g.S.Storage.view (storage_of c.before_l2.new.storage)) one (c.before_l2.ensures.quiet goes.0 one.honest)
+
+pub returns-in_err-get_or_insert-2-clause-quiet : goal.returns-in_err-get_or_insert-2-clause-quiet
+returns-in_err-get_or_insert-2-clause-quiet g c = λ may honest.
+    let goes = table_waits g.S.Storage.view c.args.storage.now c.get_or_insert.new.store c.args.self.now false c.args.cluster c.get_or_insert.new.self c.get_or_insert.result c.get_or_insert.ensures.hit c.get_or_insert.ensures.miss (c.in_ok-get_or_insert.was ∙ ap Ok c.if-branch.false) may in
+    let one = table_got_quietly g.S.Storage.view c.args.storage.now c.get_or_insert.new.store c.args.self.now false c.args.cluster c.get_or_insert.new.self c.get_or_insert.result c.get_or_insert.ensures.hit c.get_or_insert.ensures.miss (λ flush. absurd (cc)) honest in
+    let two = c.before_l2.ensures.quiet goes.0 one.honest in
+    let same = c.before_l2.ensures.tables ∙ table_got_same g.S.Storage.view c.args.storage.now c.get_or_insert.new.store c.args.self.now false c.args.cluster c.get_or_insert.new.self c.get_or_insert.result c.get_or_insert.ensures.hit c.get_or_insert.ensures.miss c.get_or_insert.ensures.others (c.in_ok-get_or_insert.was ∙ ap Ok c.if-branch.false) in
+    let next = next_table c.args.self.now.l2 c.before_l2.new.self.l2 same goes.1 in
+    quiet_then (g.S.Storage.view (storage_of c.args.storage.now)) (g.S.Storage.view (storage_of c.before_l2.new.storage)) (g.S.Storage.view (storage_of c.get_or_insert-2.new.store)) (quiet_then (g.S.Storage.view (storage_of c.args.storage.now)) (g.S.Storage.view (storage_of c.get_or_insert.new.store)) (g.S.Storage.view (storage_of c.before_l2.new.storage)) one two) (table_got_quietly g.S.Storage.view c.before_l2.new.storage c.get_or_insert-2.new.store c.before_l2.new.self true c.args.cluster c.get_or_insert-2.new.self c.get_or_insert-2.result c.get_or_insert-2.ensures.hit c.get_or_insert-2.ensures.miss (λ _. next) two.honest)
+
+pub returns-clause-quiet : goal.returns-clause-quiet
+returns-clause-quiet g c = λ may honest.
+    let goes = table_waits g.S.Storage.view c.args.storage.now c.get_or_insert.new.store c.args.self.now false c.args.cluster c.get_or_insert.new.self c.get_or_insert.result c.get_or_insert.ensures.hit c.get_or_insert.ensures.miss (c.in_ok-get_or_insert.was ∙ ap Ok c.if-branch.false) may in
+    let one = table_got_quietly g.S.Storage.view c.args.storage.now c.get_or_insert.new.store c.args.self.now false c.args.cluster c.get_or_insert.new.self c.get_or_insert.result c.get_or_insert.ensures.hit c.get_or_insert.ensures.miss (λ flush. absurd (cc)) honest in
+    let two = c.before_l2.ensures.quiet goes.0 one.honest in
+    let same = c.before_l2.ensures.tables ∙ table_got_same g.S.Storage.view c.args.storage.now c.get_or_insert.new.store c.args.self.now false c.args.cluster c.get_or_insert.new.self c.get_or_insert.result c.get_or_insert.ensures.hit c.get_or_insert.ensures.miss c.get_or_insert.ensures.others (c.in_ok-get_or_insert.was ∙ ap Ok c.if-branch.false) in
+    let next = next_table c.args.self.now.l2 c.before_l2.new.self.l2 same goes.1 in
+    quiet_then (g.S.Storage.view (storage_of c.args.storage.now)) (g.S.Storage.view (storage_of c.before_l2.new.storage)) (g.S.Storage.view (storage_of c.get_or_insert-2.new.store)) (quiet_then (g.S.Storage.view (storage_of c.args.storage.now)) (g.S.Storage.view (storage_of c.get_or_insert.new.store)) (g.S.Storage.view (storage_of c.before_l2.new.storage)) one two) (table_got_quietly g.S.Storage.view c.before_l2.new.storage c.get_or_insert-2.new.store c.before_l2.new.self true c.args.cluster c.get_or_insert-2.new.self c.get_or_insert-2.result c.get_or_insert-2.ensures.hit c.get_or_insert-2.ensures.miss (λ _. next) two.honest)
+
+pub returns-in_err-get_or_insert-clause-tables_stay : goal.returns-in_err-get_or_insert-clause-tables_stay
+returns-in_err-get_or_insert-clause-tables_stay g c = values_stay c.args.cluster c.args.self.now.l2.entries c.get_or_insert.new.self.entries c.get_or_insert.ensures.stays
+
+pub returns-then-branch-clause-tables_stay : goal.returns-then-branch-clause-tables_stay
+returns-then-branch-clause-tables_stay g c = values_stay c.args.cluster c.args.self.now.l2.entries c.get_or_insert.new.self.entries c.get_or_insert.ensures.stays
+
+pub returns-in_err-before_l2-clause-tables_stay : goal.returns-in_err-before_l2-clause-tables_stay
+returns-in_err-before_l2-clause-tables_stay g c = values_stay c.args.cluster c.args.self.now.l2.entries c.before_l2.new.self.l2.entries (stays_then eqb c.args.cluster c.args.self.now.l2.entries c.get_or_insert.new.self.entries c.before_l2.new.self.l2.entries c.get_or_insert.ensures.stays (stays_same eqb c.args.cluster c.get_or_insert.new.self.entries c.before_l2.new.self.l2.entries (ap (λ x. x.entries) c.before_l2.ensures.tables)))
+
+pub returns-in_err-get_or_insert-2-clause-tables_stay : goal.returns-in_err-get_or_insert-2-clause-tables_stay
+returns-in_err-get_or_insert-2-clause-tables_stay g c = values_stay c.args.cluster c.args.self.now.l2.entries c.get_or_insert-2.new.self.entries (stays_then eqb c.args.cluster c.args.self.now.l2.entries c.before_l2.new.self.l2.entries c.get_or_insert-2.new.self.entries (stays_then eqb c.args.cluster c.args.self.now.l2.entries c.get_or_insert.new.self.entries c.before_l2.new.self.l2.entries c.get_or_insert.ensures.stays (stays_same eqb c.args.cluster c.get_or_insert.new.self.entries c.before_l2.new.self.l2.entries (ap (λ x. x.entries) c.before_l2.ensures.tables))) c.get_or_insert-2.ensures.stays)
+
+pub returns-clause-tables_stay : goal.returns-clause-tables_stay
+returns-clause-tables_stay g c = values_stay c.args.cluster c.args.self.now.l2.entries c.get_or_insert-2.new.self.entries (stays_then eqb c.args.cluster c.args.self.now.l2.entries c.before_l2.new.self.l2.entries c.get_or_insert-2.new.self.entries (stays_then eqb c.args.cluster c.args.self.now.l2.entries c.get_or_insert.new.self.entries c.before_l2.new.self.l2.entries c.get_or_insert.ensures.stays (stays_same eqb c.args.cluster c.get_or_insert.new.self.entries c.before_l2.new.self.l2.entries (ap (λ x. x.entries) c.before_l2.ensures.tables))) c.get_or_insert-2.ensures.stays)

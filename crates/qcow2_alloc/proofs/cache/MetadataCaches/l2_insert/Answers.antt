@@ -16,6 +16,9 @@ use Rattle.qcow2_alloc.specs.MetadataCaches.{laid_at, order_of, l2_tables}
 use Rattle.qcow2_alloc.proofs.KeptTables.Putting.{on_err, put_at_last, laid_then, table_kept, table_laid}
 use Rattle.qcow2_alloc.proofs.KeptTables.Clean.{blocks_go, tables_as, table_put_clean}
 use Rattle.qcow2_alloc.proofs.KeptTables.InOrder.{order_then, table_put_in_order}
+use Rattle.qcow2_alloc.proofs.KeptTables.Quiet.{quiet_then, table_goes, table_put_quietly, table_put_waits, table_put_same}
+use Rattle.std.proofs.Common.{eqb}
+use Rattle.qcow2_alloc.proofs.CachedEntries.Staying.{stays_same, stays_then, values_stay}
 use Rattle.qcow2_alloc.proofs.cache.MetadataCaches.l2_insert.Goals as goal
 
 pub returns-in_err-insert-clause-keeps : goal.returns-in_err-insert-clause-keeps
@@ -189,3 +192,48 @@ returns-clause-ordered g c =
     (keep_then g.S.Storage.view c.args.storage.now c.insert.new.store c.before_l2.new.storage c.args.self.now (record c.args.self.now { l2 = c.insert.new.self }) c.before_l2.new.self (λ h p honest sound. table_kept g.S.Storage.view c.args.storage.now c.insert.new.store c.args.self.now false c.in-Some.cluster c.insert.new.self c.insert.ensures.others c.args.table (Some c.args.table) c.insert.new.value refl c.insert.result c.insert.ensures.there c.insert.ensures.missing (λ flush. absurd (cc)) h p honest sound (λ went. ok_false (c.in_ok-insert.was ∙ ap Ok c.if-branch.false) went)) c.before_l2.ensures.keeps)
     (order_then g.S.Storage.view c.args.storage.now c.insert.new.store c.before_l2.new.storage c.args.self.now (record c.args.self.now { l2 = c.insert.new.self }) (λ h p honest sound. table_kept g.S.Storage.view c.args.storage.now c.insert.new.store c.args.self.now false c.in-Some.cluster c.insert.new.self c.insert.ensures.others c.args.table (Some c.args.table) c.insert.new.value refl c.insert.result c.insert.ensures.there c.insert.ensures.missing (λ flush. absurd (cc)) h p honest sound (λ went. ok_false (c.in_ok-insert.was ∙ ap Ok c.if-branch.false) went)) (table_put_in_order g.S.Storage.view c.args.storage.now c.insert.new.store c.args.self.now false c.in-Some.cluster c.insert.new.self c.args.table (Some c.args.table) c.insert.new.value refl c.insert.result c.insert.ensures.there c.insert.ensures.missing (λ flush. absurd (cc))) refl c.before_l2.ensures.ordered) c.before_l2.ensures.order
     (table_put_in_order g.S.Storage.view c.before_l2.new.storage c.insert-2.new.store c.before_l2.new.self true c.in-Some.cluster c.insert-2.new.self c.args.table c.insert.new.value c.insert-2.new.value ((l2_taken g.S.Storage.view c.args.storage.now c.insert.new.store c.args.self.now false c.in-Some.cluster c.insert.new.self c.insert.ensures.others c.args.table (Some c.args.table) c.insert.new.value refl c.insert.result c.insert.ensures.there c.insert.ensures.missing).kept (c.in_ok-insert.was ∙ ap Ok c.if-branch.false)) c.insert-2.result c.insert-2.ensures.there c.insert-2.ensures.missing (λ _. c.in_ok-before_l2.ensures.first))
+
+pub returns-in_err-insert-clause-quiet : goal.returns-in_err-insert-clause-quiet
+returns-in_err-insert-clause-quiet g c = if_some _ c.args.table.cluster c.in-Some.cluster (sym c.get_cluster.ensures.value ∙ c.in-Some.is) (λ may. table_put_quietly g.S.Storage.view c.args.storage.now c.insert.new.store c.args.self.now false c.in-Some.cluster c.insert.new.self c.args.table (Some c.args.table) c.insert.new.value refl c.insert.result c.insert.ensures.there c.insert.ensures.missing (λ flush. absurd (cc)))
+
+pub returns-then-branch-clause-quiet : goal.returns-then-branch-clause-quiet
+returns-then-branch-clause-quiet g c = if_some _ c.args.table.cluster c.in-Some.cluster (sym c.get_cluster.ensures.value ∙ c.in-Some.is) (λ may. table_put_quietly g.S.Storage.view c.args.storage.now c.insert.new.store c.args.self.now false c.in-Some.cluster c.insert.new.self c.args.table (Some c.args.table) c.insert.new.value refl c.insert.result c.insert.ensures.there c.insert.ensures.missing (λ flush. absurd (cc)))
+
+pub returns-in_err-before_l2-clause-quiet : goal.returns-in_err-before_l2-clause-quiet
+returns-in_err-before_l2-clause-quiet g c = if_some _ c.args.table.cluster c.in-Some.cluster (sym c.get_cluster.ensures.value ∙ c.in-Some.is) (λ may honest.
+    let goes = table_put_waits g.S.Storage.view c.args.storage.now c.insert.new.store c.args.self.now false c.in-Some.cluster c.insert.new.self c.args.table (Some c.args.table) c.insert.new.value refl c.insert.result c.insert.ensures.there c.insert.ensures.missing (c.in_ok-insert.was ∙ ap Ok c.if-branch.false) may in
+    let one = table_put_quietly g.S.Storage.view c.args.storage.now c.insert.new.store c.args.self.now false c.in-Some.cluster c.insert.new.self c.args.table (Some c.args.table) c.insert.new.value refl c.insert.result c.insert.ensures.there c.insert.ensures.missing (λ flush. absurd (cc)) honest in
+    quiet_then (g.S.Storage.view (storage_of c.args.storage.now)) (g.S.Storage.view (storage_of c.insert.new.store)) (g.S.Storage.view (storage_of c.before_l2.new.storage)) one (c.before_l2.ensures.quiet goes.0 one.honest))
+
+pub returns-in_err-insert-2-clause-quiet : goal.returns-in_err-insert-2-clause-quiet
+returns-in_err-insert-2-clause-quiet g c = if_some _ c.args.table.cluster c.in-Some.cluster (sym c.get_cluster.ensures.value ∙ c.in-Some.is) (λ may honest.
+    let goes = table_put_waits g.S.Storage.view c.args.storage.now c.insert.new.store c.args.self.now false c.in-Some.cluster c.insert.new.self c.args.table (Some c.args.table) c.insert.new.value refl c.insert.result c.insert.ensures.there c.insert.ensures.missing (c.in_ok-insert.was ∙ ap Ok c.if-branch.false) may in
+    let one = table_put_quietly g.S.Storage.view c.args.storage.now c.insert.new.store c.args.self.now false c.in-Some.cluster c.insert.new.self c.args.table (Some c.args.table) c.insert.new.value refl c.insert.result c.insert.ensures.there c.insert.ensures.missing (λ flush. absurd (cc)) honest in
+    let two = c.before_l2.ensures.quiet goes.0 one.honest in
+    let same = c.before_l2.ensures.tables ∙ table_put_same g.S.Storage.view c.args.storage.now c.insert.new.store c.args.self.now false c.in-Some.cluster c.insert.new.self c.args.table (Some c.args.table) c.insert.new.value refl c.insert.result c.insert.ensures.there c.insert.ensures.missing c.insert.ensures.others (c.in_ok-insert.was ∙ ap Ok c.if-branch.false) in
+    let next = table_goes c.args.self.now.l2 c.before_l2.new.self.l2 c.in-Some.cluster same goes.1 in
+    quiet_then (g.S.Storage.view (storage_of c.args.storage.now)) (g.S.Storage.view (storage_of c.before_l2.new.storage)) (g.S.Storage.view (storage_of c.insert-2.new.store)) (quiet_then (g.S.Storage.view (storage_of c.args.storage.now)) (g.S.Storage.view (storage_of c.insert.new.store)) (g.S.Storage.view (storage_of c.before_l2.new.storage)) one two) (table_put_quietly g.S.Storage.view c.before_l2.new.storage c.insert-2.new.store c.before_l2.new.self true c.in-Some.cluster c.insert-2.new.self c.args.table c.insert.new.value c.insert-2.new.value ((l2_taken g.S.Storage.view c.args.storage.now c.insert.new.store c.args.self.now false c.in-Some.cluster c.insert.new.self c.insert.ensures.others c.args.table (Some c.args.table) c.insert.new.value refl c.insert.result c.insert.ensures.there c.insert.ensures.missing).kept (c.in_ok-insert.was ∙ ap Ok c.if-branch.false)) c.insert-2.result c.insert-2.ensures.there c.insert-2.ensures.missing (λ _. next) two.honest))
+
+pub returns-clause-quiet : goal.returns-clause-quiet
+returns-clause-quiet g c = if_some _ c.args.table.cluster c.in-Some.cluster (sym c.get_cluster.ensures.value ∙ c.in-Some.is) (λ may honest.
+    let goes = table_put_waits g.S.Storage.view c.args.storage.now c.insert.new.store c.args.self.now false c.in-Some.cluster c.insert.new.self c.args.table (Some c.args.table) c.insert.new.value refl c.insert.result c.insert.ensures.there c.insert.ensures.missing (c.in_ok-insert.was ∙ ap Ok c.if-branch.false) may in
+    let one = table_put_quietly g.S.Storage.view c.args.storage.now c.insert.new.store c.args.self.now false c.in-Some.cluster c.insert.new.self c.args.table (Some c.args.table) c.insert.new.value refl c.insert.result c.insert.ensures.there c.insert.ensures.missing (λ flush. absurd (cc)) honest in
+    let two = c.before_l2.ensures.quiet goes.0 one.honest in
+    let same = c.before_l2.ensures.tables ∙ table_put_same g.S.Storage.view c.args.storage.now c.insert.new.store c.args.self.now false c.in-Some.cluster c.insert.new.self c.args.table (Some c.args.table) c.insert.new.value refl c.insert.result c.insert.ensures.there c.insert.ensures.missing c.insert.ensures.others (c.in_ok-insert.was ∙ ap Ok c.if-branch.false) in
+    let next = table_goes c.args.self.now.l2 c.before_l2.new.self.l2 c.in-Some.cluster same goes.1 in
+    quiet_then (g.S.Storage.view (storage_of c.args.storage.now)) (g.S.Storage.view (storage_of c.before_l2.new.storage)) (g.S.Storage.view (storage_of c.insert-2.new.store)) (quiet_then (g.S.Storage.view (storage_of c.args.storage.now)) (g.S.Storage.view (storage_of c.insert.new.store)) (g.S.Storage.view (storage_of c.before_l2.new.storage)) one two) (table_put_quietly g.S.Storage.view c.before_l2.new.storage c.insert-2.new.store c.before_l2.new.self true c.in-Some.cluster c.insert-2.new.self c.args.table c.insert.new.value c.insert-2.new.value ((l2_taken g.S.Storage.view c.args.storage.now c.insert.new.store c.args.self.now false c.in-Some.cluster c.insert.new.self c.insert.ensures.others c.args.table (Some c.args.table) c.insert.new.value refl c.insert.result c.insert.ensures.there c.insert.ensures.missing).kept (c.in_ok-insert.was ∙ ap Ok c.if-branch.false)) c.insert-2.result c.insert-2.ensures.there c.insert-2.ensures.missing (λ _. next) two.honest))
+
+pub returns-in_err-insert-clause-tables_stay : goal.returns-in_err-insert-clause-tables_stay
+returns-in_err-insert-clause-tables_stay g c = if_some _ c.args.table.cluster c.in-Some.cluster (sym c.get_cluster.ensures.value ∙ c.in-Some.is) (values_stay c.in-Some.cluster c.args.self.now.l2.entries c.insert.new.self.entries c.insert.ensures.stays)
+
+pub returns-then-branch-clause-tables_stay : goal.returns-then-branch-clause-tables_stay
+returns-then-branch-clause-tables_stay g c = if_some _ c.args.table.cluster c.in-Some.cluster (sym c.get_cluster.ensures.value ∙ c.in-Some.is) (values_stay c.in-Some.cluster c.args.self.now.l2.entries c.insert.new.self.entries c.insert.ensures.stays)
+
+pub returns-in_err-before_l2-clause-tables_stay : goal.returns-in_err-before_l2-clause-tables_stay
+returns-in_err-before_l2-clause-tables_stay g c = if_some _ c.args.table.cluster c.in-Some.cluster (sym c.get_cluster.ensures.value ∙ c.in-Some.is) (values_stay c.in-Some.cluster c.args.self.now.l2.entries c.before_l2.new.self.l2.entries (stays_then eqb c.in-Some.cluster c.args.self.now.l2.entries c.insert.new.self.entries c.before_l2.new.self.l2.entries c.insert.ensures.stays (stays_same eqb c.in-Some.cluster c.insert.new.self.entries c.before_l2.new.self.l2.entries (ap (λ x. x.entries) c.before_l2.ensures.tables))))
+
+pub returns-in_err-insert-2-clause-tables_stay : goal.returns-in_err-insert-2-clause-tables_stay
+returns-in_err-insert-2-clause-tables_stay g c = if_some _ c.args.table.cluster c.in-Some.cluster (sym c.get_cluster.ensures.value ∙ c.in-Some.is) (values_stay c.in-Some.cluster c.args.self.now.l2.entries c.insert-2.new.self.entries (stays_then eqb c.in-Some.cluster c.args.self.now.l2.entries c.before_l2.new.self.l2.entries c.insert-2.new.self.entries (stays_then eqb c.in-Some.cluster c.args.self.now.l2.entries c.insert.new.self.entries c.before_l2.new.self.l2.entries c.insert.ensures.stays (stays_same eqb c.in-Some.cluster c.insert.new.self.entries c.before_l2.new.self.l2.entries (ap (λ x. x.entries) c.before_l2.ensures.tables))) c.insert-2.ensures.stays))
+
+pub returns-clause-tables_stay : goal.returns-clause-tables_stay
+returns-clause-tables_stay g c = if_some _ c.args.table.cluster c.in-Some.cluster (sym c.get_cluster.ensures.value ∙ c.in-Some.is) (values_stay c.in-Some.cluster c.args.self.now.l2.entries c.insert-2.new.self.entries (stays_then eqb c.in-Some.cluster c.args.self.now.l2.entries c.before_l2.new.self.l2.entries c.insert-2.new.self.entries (stays_then eqb c.in-Some.cluster c.args.self.now.l2.entries c.insert.new.self.entries c.before_l2.new.self.l2.entries c.insert.ensures.stays (stays_same eqb c.in-Some.cluster c.insert.new.self.entries c.before_l2.new.self.l2.entries (ap (λ x. x.entries) c.before_l2.ensures.tables))) c.insert-2.ensures.stays))

@@ -1,4 +1,4 @@
-use Rattle.std.proofs.Common.{◌≡◌, ◌*◌, ◌^◌, Bool, false, eqb, IsTrue, ◌↔◌, refl, sym, ap, ◌∙◌, subst, arith}
+use Rattle.std.proofs.Common.{◌≡◌, ◌*◌, ◌^◌, Bool, true, false, eqb, IsTrue, ◌↔◌, refl, sym, ap, ◌∙◌, subst, arith}
 use Rattle.std.specs.Option.{option_copied_mut}
 use Rattle.qcow2_metadata.specs.L2Mapping.{IsHostCluster}
 use Rattle.qcow2_metadata.specs.L2Table.{L2TableView, copied_entry}
@@ -6,12 +6,25 @@ use Rattle.qcow2_metadata.specs.TableBytes.{ChangesEntry}
 use Rattle.qcow2_alloc.proofs.KeptTables.Mapping.{bits_is, index_fits, entry_made}
 use Rattle.qcow2_alloc.proofs.CacheMarks.{marks_tables, marks_noted, set_keeps_pins}
 use Rattle.qcow2_alloc.specs.AsyncLruCache.{with_entries, set_at}
+use Rattle.std.proofs.Common.{ℕ, ◌<◌, List, Option}
+use Rattle.std.specs.Option.{IfSome}
+use Rattle.qcow2_metadata.specs.L2Mapping.{dropped_run}
+use Rattle.qcow2_metadata.specs.L2Table.{cover_at, entries_of}
+use Rattle.qcow2_alloc.specs.declared.async_lru_cache.slot.Slot.{Slot}
+use Rattle.qcow2_alloc.specs.AsyncLruCache.{value_at}
+use Rattle.qcow2_alloc.specs.TableChanges.{changed_table}
+use Rattle.qcow2_alloc.proofs.KeptTables.Inserting.{if_some}
+use Rattle.qcow2_alloc.proofs.KeptTables.Changing.{set_same}
+use Rattle.qcow2_alloc.proofs.KeptTables.OneChanged.{one_changed}
 use Rattle.qcow2_alloc.proofs.cache.MetadataCaches.l2_map_cluster.Goals as goal
 use Rattle.qcow2_alloc.proofs.cache.MetadataCaches.l2_map_cluster.Goals.{then-index-entries-via-then-index-entries, then-index-entries-via-else-index-entries+then-not-is_nameable}
 
 -- a host cluster that can be named isn't refused
 named : (b : Bool) {P : Type 0} → (IsTrue b ↔ P) → P → b ≡ false → ⊥
 named b iff p isnt = let is = iff.1 p in cc
+
+nameable : (b : Bool) {P : Type 0} → (IsTrue b ↔ P) → b ≡ true → P
+nameable b iff is = iff.0 is
 
 pub returns-then-index-entries-clause-mapped : goal.returns-then-index-entries-clause-mapped
 returns-then-index-entries-clause-mapped g c = λ h p base i sound at there host.
@@ -54,3 +67,42 @@ pub returns-clause-marks : goal.returns-clause-marks
 returns-clause-marks g c =
     marks_noted c.args.self.now (record c.args.self.now { l2 = with_entries c.args.self.now.l2 (set_at (eqb c.args.cluster) c.args.self.now.l2.entries c.map_cluster.new.self) })
     (marks_tables c.args.self.now (with_entries c.args.self.now.l2 (set_at (eqb c.args.cluster) c.args.self.now.l2.entries c.map_cluster.new.self)) (set_keeps_pins c.args.cluster c.args.self.now.l2.entries c.map_cluster.new.self))
+
+pub returns-clause-entry : goal.returns-clause-entry
+returns-clause-entry g c =
+    let found = sym c.peek_mut.ensures.value ∙ ap option_copied_mut c.in_ok-table.was in
+    let same = c.map_cluster.ensures.same in
+    if_some _ (value_at (eqb c.args.cluster) c.args.self.now.l2.entries) c.in_ok-table.table.now found (λ inside host. record {
+      change = one_changed c.args.cluster c.args.self.now.l2.entries c.map_cluster.new.self c.in_ok-table.table.now found (changed_table c.in_ok-table.table.now)
+          (λ bytes. ChangesEntry c.in_ok-table.table.now.bytes bytes c.args.index _
+          × (c.map_cluster.result ≡ dropped_run c.in_ok-table.table.now.cluster_bits (cover_at c.in_ok-table.table.now c.args.index) (cover_at (changed_table c.in_ok-table.table.now bytes) c.args.index)))
+          c.map_cluster.new.self.bytes same
+          (c.map_cluster.ensures.changed, c.map_cluster.ensures.dropped ∙ ap (λ (t : L2TableView). dropped_run c.in_ok-table.table.now.cluster_bits (cover_at c.in_ok-table.table.now c.args.index) (cover_at t c.args.index)) same);
+      blocks = refl;
+      noted = refl;
+    })
+
+pub returns-then-index-entries-clause-entry : goal.returns-then-index-entries-clause-entry
+returns-then-index-entries-clause-entry g c =
+    let found = sym c.peek_mut.ensures.value ∙ ap option_copied_mut c.in_ok-table.was in
+    if_some _ (value_at (eqb c.args.cluster) c.args.self.now.l2.entries) c.in_ok-table.table.now found
+    (λ inside host. absurd (elim c.then-index-entries.branch [
+      | then-index-entries-via-then-index-entries w ↦ let count = c.entries.ensures.value in let past = w.if-index-entries.true in omega arith
+      | then-index-entries-via-else-index-entries+then-not-is_nameable w ↦ named w.is_nameable.result w.is_nameable.ensures (subst (λ n. IsHostCluster n c.args.host) (sym c.cluster_bits-bits.ensures.value) host) w.if-not-is_nameable.true
+    ]))
+
+pub returns-then-index-entries-clause-refused : goal.returns-then-index-entries-clause-refused
+returns-then-index-entries-clause-refused g c = λ _.
+    let found = sym c.peek_mut.ensures.value ∙ ap option_copied_mut c.in_ok-table.was in
+    let same = ap (λ (es : List (ℕ × Slot L2TableView)). record c.args.self.now { l2 = with_entries c.args.self.now.l2 es }) (set_same c.args.cluster c.args.self.now.l2.entries c.in_ok-table.table.now found) in
+    elim c.then-index-entries.branch [
+      | then-index-entries-via-then-index-entries w ↦ (refl, w.self-is ∙ same)
+      | then-index-entries-via-else-index-entries+then-not-is_nameable w ↦ (refl, w.self-is ∙ same)
+    ]
+
+pub returns-clause-refused : goal.returns-clause-refused
+returns-clause-refused g c = λ none.
+    let found = sym c.peek_mut.ensures.value ∙ ap option_copied_mut c.in_ok-table.was in
+    let refused = subst (λ (o : Option L2TableView). IfSome o (λ t. c.args.index < entries_of t → IsHostCluster t.cluster_bits c.args.host → ⊥)) found none in
+    absurd (refused (let count = c.entries.ensures.value in let inside = c.if-index-entries.false in omega arith)
+    (subst (λ n. IsHostCluster n c.args.host) c.cluster_bits-bits.ensures.value (nameable c.is_nameable.result c.is_nameable.ensures c.if-not-is_nameable.false)))

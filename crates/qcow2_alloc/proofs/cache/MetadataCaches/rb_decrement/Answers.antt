@@ -1,10 +1,16 @@
-use Rattle.std.proofs.Common.{eqb, refl, sym, ap, ◌∙◌, arith}
+use Rattle.std.proofs.Common.{ℕ, List, eqb, refl, sym, ap, ◌∙◌, arith}
 use Rattle.std.specs.Option.{option_copied_mut}
 use Rattle.qcow2_metadata.specs.RefBlock.{RefBlockView}
+use Rattle.qcow2_alloc.specs.declared.async_lru_cache.slot.Slot.{Slot}
 use Rattle.qcow2_alloc.specs.AsyncLruCache.{with_entries, set_at}
 use Rattle.qcow2_alloc.proofs.KeptTables.Changing.{set_same, still_held}
 use Rattle.qcow2_alloc.proofs.KeptTables.Counting.{index_fits, count_is, lowered}
 use Rattle.qcow2_alloc.proofs.CacheMarks.{marks_blocks, marks_noted, set_keeps_pins}
+use Rattle.qcow2_metadata.specs.RefBlock.{ChangesCount}
+use Rattle.qcow2_alloc.specs.AsyncLruCache.{value_at}
+use Rattle.qcow2_alloc.specs.TableChanges.{changed_block}
+use Rattle.qcow2_alloc.proofs.KeptTables.Inserting.{if_some}
+use Rattle.qcow2_alloc.proofs.KeptTables.OneChanged.{one_changed}
 use Rattle.qcow2_alloc.proofs.cache.MetadataCaches.rb_decrement.Goals as goal
 use Rattle.qcow2_alloc.proofs.cache.MetadataCaches.rb_decrement.Goals.{then-index-counts-via-then-index-counts, then-index-counts-via-else-index-counts+then-not-decrement}
 
@@ -13,9 +19,10 @@ returns-then-index-counts-clause-refused g c = λ _.
     let found = sym c.peek_mut.ensures.value ∙ ap option_copied_mut c.in-Some.is in
     let same = set_same c.args.cluster c.args.self.now.rb.entries c.in-Some.block.now found in
     elim c.then-index-counts.branch [
-      | then-index-counts-via-then-index-counts w ↦ rw w.self-is (record { l2 = refl; rb = ap (with_entries c.args.self.now.rb) same; direction = refl })
+      | then-index-counts-via-then-index-counts w ↦ w.self-is ∙ ap (λ (es : List (ℕ × Slot RefBlockView)). record c.args.self.now { rb = with_entries c.args.self.now.rb es }) same
       | then-index-counts-via-else-index-counts+then-not-decrement w ↦
-          rw (w.self-is, w.decrement.ensures.unchanged w.if-not-decrement.true) (record { l2 = refl; rb = ap (with_entries c.args.self.now.rb) same; direction = refl })
+          w.self-is ∙ ap (λ (b : RefBlockView). record c.args.self.now { rb = with_entries c.args.self.now.rb (set_at (eqb c.args.cluster) c.args.self.now.rb.entries b) }) (w.decrement.ensures.unchanged w.if-not-decrement.true)
+          ∙ ap (λ (es : List (ℕ × Slot RefBlockView)). record c.args.self.now { rb = with_entries c.args.self.now.rb es }) same
     ]
 
 pub returns-clause-counted : goal.returns-clause-counted
@@ -50,3 +57,17 @@ returns-clause-marks g c =
 
 pub returns-clause-held : goal.returns-clause-held
 returns-clause-held g c = λ _. still_held c.args.cluster c.args.self.now.rb.entries c.in-Some.block.now c.decrement.new.self (sym c.peek_mut.ensures.value ∙ ap option_copied_mut c.in-Some.is)
+
+pub returns-clause-counts : goal.returns-clause-counts
+returns-clause-counts g c =
+    let found = sym c.peek_mut.ensures.value ∙ ap option_copied_mut c.in-Some.is in
+    let done = c.if-not-decrement.false in
+    if_some _ (value_at (eqb c.args.cluster) c.args.self.now.rb.entries) c.in-Some.block.now found (
+      (let counts = c.counts.ensures.value in let inside = c.if-index-counts.false in omega arith),
+      c.decrement.ensures.some done,
+      record {
+        count = one_changed c.args.cluster c.args.self.now.rb.entries c.decrement.new.self c.in-Some.block.now found (changed_block c.in-Some.block.now)
+            (λ bytes. ChangesCount c.in-Some.block.now.refcount_order c.in-Some.block.now.bytes bytes c.args.index _) c.decrement.new.self.bytes (c.decrement.ensures.same done) (c.decrement.ensures.counted done);
+        tables = refl;
+      },
+    )

@@ -1,4 +1,4 @@
-use Rattle.std.proofs.Common.{refl, true, false}
+use Rattle.std.proofs.Common.{refl, true, false, Ok, ap, ◌∙◌}
 use Rattle.qcow2_alloc.proofs.KeptTables.Fetching.{block_got}
 use Rattle.qcow2_alloc.proofs.KeptTables.Turning.{keep_then}
 use Rattle.qcow2_alloc.proofs.CacheMarks.{marks_blocks, marks_then}
@@ -7,6 +7,9 @@ use Rattle.qcow2_alloc.proofs.KeptTables.Causes.{given_err, block_load_refused}
 use Rattle.qcow2_metadata.specs.Bytes.{byte_at}
 use Rattle.qcow2_alloc.specs.ImageStorage.{storage_of}
 use Rattle.qcow2_alloc.proofs.KeptTables.InOrder.{order_then, block_got_in_order}
+use Rattle.qcow2_alloc.proofs.KeptTables.Quiet.{quiet_then, next_block, block_got_quietly, block_waits, block_got_same}
+use Rattle.std.proofs.Common.{eqb}
+use Rattle.qcow2_alloc.proofs.CachedEntries.Staying.{stays_same, stays_then, values_stay}
 use Rattle.qcow2_alloc.proofs.cache.MetadataCaches.rb_get_or_insert.Goals as goal
 
 pub returns-in_err-get_or_insert-clause-keeps : goal.returns-in_err-get_or_insert-clause-keeps
@@ -91,3 +94,48 @@ returns-clause-ordered g c =
     (keep_then g.S.Storage.view c.args.storage.now c.get_or_insert.new.store c.before_rb.new.storage c.args.self.now (record c.args.self.now { rb = c.get_or_insert.new.self }) c.before_rb.new.self (block_got g.S.Storage.view c.args.storage.now c.get_or_insert.new.store c.args.self.now false c.args.cluster c.get_or_insert.new.self c.get_or_insert.ensures.others c.get_or_insert.result c.get_or_insert.ensures.hit c.get_or_insert.ensures.miss (λ flush. absurd (cc))) c.before_rb.ensures.keeps)
     (order_then g.S.Storage.view c.args.storage.now c.get_or_insert.new.store c.before_rb.new.storage c.args.self.now (record c.args.self.now { rb = c.get_or_insert.new.self }) (block_got g.S.Storage.view c.args.storage.now c.get_or_insert.new.store c.args.self.now false c.args.cluster c.get_or_insert.new.self c.get_or_insert.ensures.others c.get_or_insert.result c.get_or_insert.ensures.hit c.get_or_insert.ensures.miss (λ flush. absurd (cc))) (block_got_in_order g.S.Storage.view c.args.storage.now c.get_or_insert.new.store c.args.self.now false c.args.cluster c.get_or_insert.new.self c.get_or_insert.result c.get_or_insert.ensures.hit c.get_or_insert.ensures.miss (λ flush. absurd (cc))) refl c.before_rb.ensures.ordered) c.before_rb.ensures.order
     (block_got_in_order g.S.Storage.view c.before_rb.new.storage c.get_or_insert-2.new.store c.before_rb.new.self true c.args.cluster c.get_or_insert-2.new.self c.get_or_insert-2.result c.get_or_insert-2.ensures.hit c.get_or_insert-2.ensures.miss (λ _. c.in_ok-before_rb.ensures.first))
+
+pub returns-in_err-get_or_insert-clause-quiet : goal.returns-in_err-get_or_insert-clause-quiet
+returns-in_err-get_or_insert-clause-quiet g c = λ may. block_got_quietly g.S.Storage.view c.args.storage.now c.get_or_insert.new.store c.args.self.now false c.args.cluster c.get_or_insert.new.self c.get_or_insert.result c.get_or_insert.ensures.hit c.get_or_insert.ensures.miss (λ flush. absurd (cc))
+
+pub returns-then-branch-clause-quiet : goal.returns-then-branch-clause-quiet
+returns-then-branch-clause-quiet g c = λ may. block_got_quietly g.S.Storage.view c.args.storage.now c.get_or_insert.new.store c.args.self.now false c.args.cluster c.get_or_insert.new.self c.get_or_insert.result c.get_or_insert.ensures.hit c.get_or_insert.ensures.miss (λ flush. absurd (cc))
+
+pub returns-in_err-before_rb-clause-quiet : goal.returns-in_err-before_rb-clause-quiet
+returns-in_err-before_rb-clause-quiet g c = λ may honest.
+    let goes = block_waits g.S.Storage.view c.args.storage.now c.get_or_insert.new.store c.args.self.now false c.args.cluster c.get_or_insert.new.self c.get_or_insert.result c.get_or_insert.ensures.hit c.get_or_insert.ensures.miss (c.in_ok-get_or_insert.was ∙ ap Ok c.if-branch.false) may in
+    let one = block_got_quietly g.S.Storage.view c.args.storage.now c.get_or_insert.new.store c.args.self.now false c.args.cluster c.get_or_insert.new.self c.get_or_insert.result c.get_or_insert.ensures.hit c.get_or_insert.ensures.miss (λ flush. absurd (cc)) honest in
+    quiet_then (g.S.Storage.view (storage_of c.args.storage.now)) (g.S.Storage.view (storage_of c.get_or_insert.new.store)) (g.S.Storage.view (storage_of c.before_rb.new.storage)) one (c.before_rb.ensures.quiet goes.0 one.honest)
+
+pub returns-in_err-get_or_insert-2-clause-quiet : goal.returns-in_err-get_or_insert-2-clause-quiet
+returns-in_err-get_or_insert-2-clause-quiet g c = λ may honest.
+    let goes = block_waits g.S.Storage.view c.args.storage.now c.get_or_insert.new.store c.args.self.now false c.args.cluster c.get_or_insert.new.self c.get_or_insert.result c.get_or_insert.ensures.hit c.get_or_insert.ensures.miss (c.in_ok-get_or_insert.was ∙ ap Ok c.if-branch.false) may in
+    let one = block_got_quietly g.S.Storage.view c.args.storage.now c.get_or_insert.new.store c.args.self.now false c.args.cluster c.get_or_insert.new.self c.get_or_insert.result c.get_or_insert.ensures.hit c.get_or_insert.ensures.miss (λ flush. absurd (cc)) honest in
+    let two = c.before_rb.ensures.quiet goes.0 one.honest in
+    let same = c.before_rb.ensures.refblocks ∙ block_got_same g.S.Storage.view c.args.storage.now c.get_or_insert.new.store c.args.self.now false c.args.cluster c.get_or_insert.new.self c.get_or_insert.result c.get_or_insert.ensures.hit c.get_or_insert.ensures.miss c.get_or_insert.ensures.others (c.in_ok-get_or_insert.was ∙ ap Ok c.if-branch.false) in
+    let next = next_block c.args.self.now.rb c.before_rb.new.self.rb same goes.1 in
+    quiet_then (g.S.Storage.view (storage_of c.args.storage.now)) (g.S.Storage.view (storage_of c.before_rb.new.storage)) (g.S.Storage.view (storage_of c.get_or_insert-2.new.store)) (quiet_then (g.S.Storage.view (storage_of c.args.storage.now)) (g.S.Storage.view (storage_of c.get_or_insert.new.store)) (g.S.Storage.view (storage_of c.before_rb.new.storage)) one two) (block_got_quietly g.S.Storage.view c.before_rb.new.storage c.get_or_insert-2.new.store c.before_rb.new.self true c.args.cluster c.get_or_insert-2.new.self c.get_or_insert-2.result c.get_or_insert-2.ensures.hit c.get_or_insert-2.ensures.miss (λ _. next) two.honest)
+
+pub returns-clause-quiet : goal.returns-clause-quiet
+returns-clause-quiet g c = λ may honest.
+    let goes = block_waits g.S.Storage.view c.args.storage.now c.get_or_insert.new.store c.args.self.now false c.args.cluster c.get_or_insert.new.self c.get_or_insert.result c.get_or_insert.ensures.hit c.get_or_insert.ensures.miss (c.in_ok-get_or_insert.was ∙ ap Ok c.if-branch.false) may in
+    let one = block_got_quietly g.S.Storage.view c.args.storage.now c.get_or_insert.new.store c.args.self.now false c.args.cluster c.get_or_insert.new.self c.get_or_insert.result c.get_or_insert.ensures.hit c.get_or_insert.ensures.miss (λ flush. absurd (cc)) honest in
+    let two = c.before_rb.ensures.quiet goes.0 one.honest in
+    let same = c.before_rb.ensures.refblocks ∙ block_got_same g.S.Storage.view c.args.storage.now c.get_or_insert.new.store c.args.self.now false c.args.cluster c.get_or_insert.new.self c.get_or_insert.result c.get_or_insert.ensures.hit c.get_or_insert.ensures.miss c.get_or_insert.ensures.others (c.in_ok-get_or_insert.was ∙ ap Ok c.if-branch.false) in
+    let next = next_block c.args.self.now.rb c.before_rb.new.self.rb same goes.1 in
+    quiet_then (g.S.Storage.view (storage_of c.args.storage.now)) (g.S.Storage.view (storage_of c.before_rb.new.storage)) (g.S.Storage.view (storage_of c.get_or_insert-2.new.store)) (quiet_then (g.S.Storage.view (storage_of c.args.storage.now)) (g.S.Storage.view (storage_of c.get_or_insert.new.store)) (g.S.Storage.view (storage_of c.before_rb.new.storage)) one two) (block_got_quietly g.S.Storage.view c.before_rb.new.storage c.get_or_insert-2.new.store c.before_rb.new.self true c.args.cluster c.get_or_insert-2.new.self c.get_or_insert-2.result c.get_or_insert-2.ensures.hit c.get_or_insert-2.ensures.miss (λ _. next) two.honest)
+
+pub returns-in_err-get_or_insert-clause-blocks_stay : goal.returns-in_err-get_or_insert-clause-blocks_stay
+returns-in_err-get_or_insert-clause-blocks_stay g c = values_stay c.args.cluster c.args.self.now.rb.entries c.get_or_insert.new.self.entries c.get_or_insert.ensures.stays
+
+pub returns-then-branch-clause-blocks_stay : goal.returns-then-branch-clause-blocks_stay
+returns-then-branch-clause-blocks_stay g c = values_stay c.args.cluster c.args.self.now.rb.entries c.get_or_insert.new.self.entries c.get_or_insert.ensures.stays
+
+pub returns-in_err-before_rb-clause-blocks_stay : goal.returns-in_err-before_rb-clause-blocks_stay
+returns-in_err-before_rb-clause-blocks_stay g c = values_stay c.args.cluster c.args.self.now.rb.entries c.before_rb.new.self.rb.entries (stays_then eqb c.args.cluster c.args.self.now.rb.entries c.get_or_insert.new.self.entries c.before_rb.new.self.rb.entries c.get_or_insert.ensures.stays (stays_same eqb c.args.cluster c.get_or_insert.new.self.entries c.before_rb.new.self.rb.entries (ap (λ x. x.entries) c.before_rb.ensures.refblocks)))
+
+pub returns-in_err-get_or_insert-2-clause-blocks_stay : goal.returns-in_err-get_or_insert-2-clause-blocks_stay
+returns-in_err-get_or_insert-2-clause-blocks_stay g c = values_stay c.args.cluster c.args.self.now.rb.entries c.get_or_insert-2.new.self.entries (stays_then eqb c.args.cluster c.args.self.now.rb.entries c.before_rb.new.self.rb.entries c.get_or_insert-2.new.self.entries (stays_then eqb c.args.cluster c.args.self.now.rb.entries c.get_or_insert.new.self.entries c.before_rb.new.self.rb.entries c.get_or_insert.ensures.stays (stays_same eqb c.args.cluster c.get_or_insert.new.self.entries c.before_rb.new.self.rb.entries (ap (λ x. x.entries) c.before_rb.ensures.refblocks))) c.get_or_insert-2.ensures.stays)
+
+pub returns-clause-blocks_stay : goal.returns-clause-blocks_stay
+returns-clause-blocks_stay g c = values_stay c.args.cluster c.args.self.now.rb.entries c.get_or_insert-2.new.self.entries (stays_then eqb c.args.cluster c.args.self.now.rb.entries c.before_rb.new.self.rb.entries c.get_or_insert-2.new.self.entries (stays_then eqb c.args.cluster c.args.self.now.rb.entries c.get_or_insert.new.self.entries c.before_rb.new.self.rb.entries c.get_or_insert.ensures.stays (stays_same eqb c.args.cluster c.get_or_insert.new.self.entries c.before_rb.new.self.rb.entries (ap (λ x. x.entries) c.before_rb.ensures.refblocks))) c.get_or_insert-2.ensures.stays)

@@ -1,11 +1,17 @@
-use Rattle.std.proofs.Common.{◌≡◌, ℕ, zero, suc, ◌+◌, ◌^◌, ◌<◌, pow-suc, eqb, refl, sym, ap, ◌∙◌, arith}
+use Rattle.std.proofs.Common.{◌≡◌, List, ℕ, zero, suc, ◌+◌, ◌^◌, ◌<◌, pow-suc, eqb, refl, sym, ap, ◌∙◌, arith}
 use Rattle.std.proofs.lemmas.Nat.{pow_pos}
 use Rattle.std.specs.Option.{option_copied_mut}
 use Rattle.qcow2_metadata.specs.RefBlock.{RefBlockView, count_at}
+use Rattle.qcow2_alloc.specs.declared.async_lru_cache.slot.Slot.{Slot}
 use Rattle.qcow2_alloc.specs.AsyncLruCache.{with_entries, set_at}
 use Rattle.qcow2_alloc.proofs.KeptTables.Changing.{set_same}
 use Rattle.qcow2_alloc.proofs.KeptTables.Counting.{index_fits, count_is, raised}
 use Rattle.qcow2_alloc.proofs.CacheMarks.{marks_blocks, marks_noted, set_keeps_pins}
+use Rattle.qcow2_metadata.specs.RefBlock.{ChangesCount}
+use Rattle.qcow2_alloc.specs.AsyncLruCache.{value_at}
+use Rattle.qcow2_alloc.specs.TableChanges.{changed_block}
+use Rattle.qcow2_alloc.proofs.KeptTables.Inserting.{if_some}
+use Rattle.qcow2_alloc.proofs.KeptTables.OneChanged.{one_changed}
 use Rattle.qcow2_alloc.proofs.cache.MetadataCaches.rb_increment.Goals as goal
 use Rattle.qcow2_alloc.proofs.cache.MetadataCaches.rb_increment.Goals.{then-index-counts-via-then-index-counts, then-index-counts-via-else-index-counts+then-not-increment}
 
@@ -22,9 +28,10 @@ returns-then-index-counts-clause-refused g c = λ _.
     let found = sym c.peek_mut.ensures.value ∙ ap option_copied_mut c.in-Some.is in
     let same = set_same c.args.cluster c.args.self.now.rb.entries c.in-Some.block.now found in
     elim c.then-index-counts.branch [
-      | then-index-counts-via-then-index-counts w ↦ rw w.self-is (record { l2 = refl; rb = ap (with_entries c.args.self.now.rb) same; direction = refl })
+      | then-index-counts-via-then-index-counts w ↦ w.self-is ∙ ap (λ (es : List (ℕ × Slot RefBlockView)). record c.args.self.now { rb = with_entries c.args.self.now.rb es }) same
       | then-index-counts-via-else-index-counts+then-not-increment w ↦
-          rw (w.self-is, w.increment.ensures.unchanged w.if-not-increment.true) (record { l2 = refl; rb = ap (with_entries c.args.self.now.rb) same; direction = refl })
+          w.self-is ∙ ap (λ (b : RefBlockView). record c.args.self.now { rb = with_entries c.args.self.now.rb (set_at (eqb c.args.cluster) c.args.self.now.rb.entries b) }) (w.increment.ensures.unchanged w.if-not-increment.true)
+          ∙ ap (λ (es : List (ℕ × Slot RefBlockView)). record c.args.self.now { rb = with_entries c.args.self.now.rb es }) same
     ]
 
 pub returns-clause-counted : goal.returns-clause-counted
@@ -57,3 +64,17 @@ pub returns-clause-marks : goal.returns-clause-marks
 returns-clause-marks g c =
     marks_noted c.args.self.now (record c.args.self.now { rb = with_entries c.args.self.now.rb (set_at (eqb c.args.cluster) c.args.self.now.rb.entries c.increment.new.self) })
     (marks_blocks c.args.self.now (with_entries c.args.self.now.rb (set_at (eqb c.args.cluster) c.args.self.now.rb.entries c.increment.new.self)) refl (set_keeps_pins c.args.cluster c.args.self.now.rb.entries c.increment.new.self))
+
+pub returns-clause-counts : goal.returns-clause-counts
+returns-clause-counts g c =
+    let found = sym c.peek_mut.ensures.value ∙ ap option_copied_mut c.in-Some.is in
+    let done = c.if-not-increment.false in
+    if_some _ (value_at (eqb c.args.cluster) c.args.self.now.rb.entries) c.in-Some.block.now found (
+      (let counts = c.counts.ensures.value in let inside = c.if-index-counts.false in omega arith),
+      c.increment.ensures.fits done,
+      record {
+        count = one_changed c.args.cluster c.args.self.now.rb.entries c.increment.new.self c.in-Some.block.now found (changed_block c.in-Some.block.now)
+            (λ bytes. ChangesCount c.in-Some.block.now.refcount_order c.in-Some.block.now.bytes bytes c.args.index _) c.increment.new.self.bytes (c.increment.ensures.same done) (c.increment.ensures.counted done);
+        tables = refl;
+      },
+    )

@@ -18,6 +18,9 @@ use Rattle.qcow2_alloc.specs.MetadataCaches.{laid_at}
 use Rattle.qcow2_alloc.proofs.KeptTables.Putting.{on_err, put_at_last, laid_then}
 use Rattle.qcow2_alloc.proofs.KeptTables.PuttingBlocks.{block_kept, block_laid}
 use Rattle.qcow2_alloc.proofs.KeptTables.InOrder.{order_then, block_put_in_order}
+use Rattle.qcow2_alloc.proofs.KeptTables.Quiet.{quiet_then, block_goes, block_put_quietly, block_put_waits, block_put_same}
+use Rattle.std.proofs.Common.{eqb}
+use Rattle.qcow2_alloc.proofs.CachedEntries.Staying.{stays_same, stays_then, values_stay}
 use Rattle.qcow2_alloc.proofs.cache.MetadataCaches.rb_insert.Goals as goal
 
 pub returns-in_err-insert-clause-keeps : goal.returns-in_err-insert-clause-keeps
@@ -166,3 +169,48 @@ returns-clause-ordered g c =
     (keep_then g.S.Storage.view c.args.storage.now c.insert.new.store c.before_rb.new.storage c.args.self.now (record c.args.self.now { rb = c.insert.new.self }) c.before_rb.new.self (λ h p honest sound. block_kept g.S.Storage.view c.args.storage.now c.insert.new.store c.args.self.now false c.in-Some.cluster c.insert.new.self c.insert.ensures.others c.args.block (Some c.args.block) c.insert.new.value refl c.insert.result c.insert.ensures.there c.insert.ensures.missing (λ flush. absurd (cc)) h p honest sound (λ went. ok_false (c.in_ok-insert.was ∙ ap Ok c.if-branch.false) went)) c.before_rb.ensures.keeps)
     (order_then g.S.Storage.view c.args.storage.now c.insert.new.store c.before_rb.new.storage c.args.self.now (record c.args.self.now { rb = c.insert.new.self }) (λ h p honest sound. block_kept g.S.Storage.view c.args.storage.now c.insert.new.store c.args.self.now false c.in-Some.cluster c.insert.new.self c.insert.ensures.others c.args.block (Some c.args.block) c.insert.new.value refl c.insert.result c.insert.ensures.there c.insert.ensures.missing (λ flush. absurd (cc)) h p honest sound (λ went. ok_false (c.in_ok-insert.was ∙ ap Ok c.if-branch.false) went)) (block_put_in_order g.S.Storage.view c.args.storage.now c.insert.new.store c.args.self.now false c.in-Some.cluster c.insert.new.self c.args.block (Some c.args.block) c.insert.new.value refl c.insert.result c.insert.ensures.there c.insert.ensures.missing (λ flush. absurd (cc))) refl c.before_rb.ensures.ordered) c.before_rb.ensures.order
     (block_put_in_order g.S.Storage.view c.before_rb.new.storage c.insert-2.new.store c.before_rb.new.self true c.in-Some.cluster c.insert-2.new.self c.args.block c.insert.new.value c.insert-2.new.value ((rb_taken g.S.Storage.view c.args.storage.now c.insert.new.store c.args.self.now false c.in-Some.cluster c.insert.new.self c.insert.ensures.others c.args.block (Some c.args.block) c.insert.new.value refl c.insert.result c.insert.ensures.there c.insert.ensures.missing).kept (c.in_ok-insert.was ∙ ap Ok c.if-branch.false)) c.insert-2.result c.insert-2.ensures.there c.insert-2.ensures.missing (λ _. c.in_ok-before_rb.ensures.first))
+
+pub returns-in_err-insert-clause-quiet : goal.returns-in_err-insert-clause-quiet
+returns-in_err-insert-clause-quiet g c = if_some _ c.args.block.cluster c.in-Some.cluster (sym c.get_cluster.ensures.value ∙ c.in-Some.is) (λ may. block_put_quietly g.S.Storage.view c.args.storage.now c.insert.new.store c.args.self.now false c.in-Some.cluster c.insert.new.self c.args.block (Some c.args.block) c.insert.new.value refl c.insert.result c.insert.ensures.there c.insert.ensures.missing (λ flush. absurd (cc)))
+
+pub returns-then-branch-clause-quiet : goal.returns-then-branch-clause-quiet
+returns-then-branch-clause-quiet g c = if_some _ c.args.block.cluster c.in-Some.cluster (sym c.get_cluster.ensures.value ∙ c.in-Some.is) (λ may. block_put_quietly g.S.Storage.view c.args.storage.now c.insert.new.store c.args.self.now false c.in-Some.cluster c.insert.new.self c.args.block (Some c.args.block) c.insert.new.value refl c.insert.result c.insert.ensures.there c.insert.ensures.missing (λ flush. absurd (cc)))
+
+pub returns-in_err-before_rb-clause-quiet : goal.returns-in_err-before_rb-clause-quiet
+returns-in_err-before_rb-clause-quiet g c = if_some _ c.args.block.cluster c.in-Some.cluster (sym c.get_cluster.ensures.value ∙ c.in-Some.is) (λ may honest.
+    let goes = block_put_waits g.S.Storage.view c.args.storage.now c.insert.new.store c.args.self.now false c.in-Some.cluster c.insert.new.self c.args.block (Some c.args.block) c.insert.new.value refl c.insert.result c.insert.ensures.there c.insert.ensures.missing (c.in_ok-insert.was ∙ ap Ok c.if-branch.false) may in
+    let one = block_put_quietly g.S.Storage.view c.args.storage.now c.insert.new.store c.args.self.now false c.in-Some.cluster c.insert.new.self c.args.block (Some c.args.block) c.insert.new.value refl c.insert.result c.insert.ensures.there c.insert.ensures.missing (λ flush. absurd (cc)) honest in
+    quiet_then (g.S.Storage.view (storage_of c.args.storage.now)) (g.S.Storage.view (storage_of c.insert.new.store)) (g.S.Storage.view (storage_of c.before_rb.new.storage)) one (c.before_rb.ensures.quiet goes.0 one.honest))
+
+pub returns-in_err-insert-2-clause-quiet : goal.returns-in_err-insert-2-clause-quiet
+returns-in_err-insert-2-clause-quiet g c = if_some _ c.args.block.cluster c.in-Some.cluster (sym c.get_cluster.ensures.value ∙ c.in-Some.is) (λ may honest.
+    let goes = block_put_waits g.S.Storage.view c.args.storage.now c.insert.new.store c.args.self.now false c.in-Some.cluster c.insert.new.self c.args.block (Some c.args.block) c.insert.new.value refl c.insert.result c.insert.ensures.there c.insert.ensures.missing (c.in_ok-insert.was ∙ ap Ok c.if-branch.false) may in
+    let one = block_put_quietly g.S.Storage.view c.args.storage.now c.insert.new.store c.args.self.now false c.in-Some.cluster c.insert.new.self c.args.block (Some c.args.block) c.insert.new.value refl c.insert.result c.insert.ensures.there c.insert.ensures.missing (λ flush. absurd (cc)) honest in
+    let two = c.before_rb.ensures.quiet goes.0 one.honest in
+    let same = c.before_rb.ensures.refblocks ∙ block_put_same g.S.Storage.view c.args.storage.now c.insert.new.store c.args.self.now false c.in-Some.cluster c.insert.new.self c.args.block (Some c.args.block) c.insert.new.value refl c.insert.result c.insert.ensures.there c.insert.ensures.missing c.insert.ensures.others (c.in_ok-insert.was ∙ ap Ok c.if-branch.false) in
+    let next = block_goes c.args.self.now.rb c.before_rb.new.self.rb c.in-Some.cluster same goes.1 in
+    quiet_then (g.S.Storage.view (storage_of c.args.storage.now)) (g.S.Storage.view (storage_of c.before_rb.new.storage)) (g.S.Storage.view (storage_of c.insert-2.new.store)) (quiet_then (g.S.Storage.view (storage_of c.args.storage.now)) (g.S.Storage.view (storage_of c.insert.new.store)) (g.S.Storage.view (storage_of c.before_rb.new.storage)) one two) (block_put_quietly g.S.Storage.view c.before_rb.new.storage c.insert-2.new.store c.before_rb.new.self true c.in-Some.cluster c.insert-2.new.self c.args.block c.insert.new.value c.insert-2.new.value ((rb_taken g.S.Storage.view c.args.storage.now c.insert.new.store c.args.self.now false c.in-Some.cluster c.insert.new.self c.insert.ensures.others c.args.block (Some c.args.block) c.insert.new.value refl c.insert.result c.insert.ensures.there c.insert.ensures.missing).kept (c.in_ok-insert.was ∙ ap Ok c.if-branch.false)) c.insert-2.result c.insert-2.ensures.there c.insert-2.ensures.missing (λ _. next) two.honest))
+
+pub returns-clause-quiet : goal.returns-clause-quiet
+returns-clause-quiet g c = if_some _ c.args.block.cluster c.in-Some.cluster (sym c.get_cluster.ensures.value ∙ c.in-Some.is) (λ may honest.
+    let goes = block_put_waits g.S.Storage.view c.args.storage.now c.insert.new.store c.args.self.now false c.in-Some.cluster c.insert.new.self c.args.block (Some c.args.block) c.insert.new.value refl c.insert.result c.insert.ensures.there c.insert.ensures.missing (c.in_ok-insert.was ∙ ap Ok c.if-branch.false) may in
+    let one = block_put_quietly g.S.Storage.view c.args.storage.now c.insert.new.store c.args.self.now false c.in-Some.cluster c.insert.new.self c.args.block (Some c.args.block) c.insert.new.value refl c.insert.result c.insert.ensures.there c.insert.ensures.missing (λ flush. absurd (cc)) honest in
+    let two = c.before_rb.ensures.quiet goes.0 one.honest in
+    let same = c.before_rb.ensures.refblocks ∙ block_put_same g.S.Storage.view c.args.storage.now c.insert.new.store c.args.self.now false c.in-Some.cluster c.insert.new.self c.args.block (Some c.args.block) c.insert.new.value refl c.insert.result c.insert.ensures.there c.insert.ensures.missing c.insert.ensures.others (c.in_ok-insert.was ∙ ap Ok c.if-branch.false) in
+    let next = block_goes c.args.self.now.rb c.before_rb.new.self.rb c.in-Some.cluster same goes.1 in
+    quiet_then (g.S.Storage.view (storage_of c.args.storage.now)) (g.S.Storage.view (storage_of c.before_rb.new.storage)) (g.S.Storage.view (storage_of c.insert-2.new.store)) (quiet_then (g.S.Storage.view (storage_of c.args.storage.now)) (g.S.Storage.view (storage_of c.insert.new.store)) (g.S.Storage.view (storage_of c.before_rb.new.storage)) one two) (block_put_quietly g.S.Storage.view c.before_rb.new.storage c.insert-2.new.store c.before_rb.new.self true c.in-Some.cluster c.insert-2.new.self c.args.block c.insert.new.value c.insert-2.new.value ((rb_taken g.S.Storage.view c.args.storage.now c.insert.new.store c.args.self.now false c.in-Some.cluster c.insert.new.self c.insert.ensures.others c.args.block (Some c.args.block) c.insert.new.value refl c.insert.result c.insert.ensures.there c.insert.ensures.missing).kept (c.in_ok-insert.was ∙ ap Ok c.if-branch.false)) c.insert-2.result c.insert-2.ensures.there c.insert-2.ensures.missing (λ _. next) two.honest))
+
+pub returns-in_err-insert-clause-blocks_stay : goal.returns-in_err-insert-clause-blocks_stay
+returns-in_err-insert-clause-blocks_stay g c = if_some _ c.args.block.cluster c.in-Some.cluster (sym c.get_cluster.ensures.value ∙ c.in-Some.is) (values_stay c.in-Some.cluster c.args.self.now.rb.entries c.insert.new.self.entries c.insert.ensures.stays)
+
+pub returns-then-branch-clause-blocks_stay : goal.returns-then-branch-clause-blocks_stay
+returns-then-branch-clause-blocks_stay g c = if_some _ c.args.block.cluster c.in-Some.cluster (sym c.get_cluster.ensures.value ∙ c.in-Some.is) (values_stay c.in-Some.cluster c.args.self.now.rb.entries c.insert.new.self.entries c.insert.ensures.stays)
+
+pub returns-in_err-before_rb-clause-blocks_stay : goal.returns-in_err-before_rb-clause-blocks_stay
+returns-in_err-before_rb-clause-blocks_stay g c = if_some _ c.args.block.cluster c.in-Some.cluster (sym c.get_cluster.ensures.value ∙ c.in-Some.is) (values_stay c.in-Some.cluster c.args.self.now.rb.entries c.before_rb.new.self.rb.entries (stays_then eqb c.in-Some.cluster c.args.self.now.rb.entries c.insert.new.self.entries c.before_rb.new.self.rb.entries c.insert.ensures.stays (stays_same eqb c.in-Some.cluster c.insert.new.self.entries c.before_rb.new.self.rb.entries (ap (λ x. x.entries) c.before_rb.ensures.refblocks))))
+
+pub returns-in_err-insert-2-clause-blocks_stay : goal.returns-in_err-insert-2-clause-blocks_stay
+returns-in_err-insert-2-clause-blocks_stay g c = if_some _ c.args.block.cluster c.in-Some.cluster (sym c.get_cluster.ensures.value ∙ c.in-Some.is) (values_stay c.in-Some.cluster c.args.self.now.rb.entries c.insert-2.new.self.entries (stays_then eqb c.in-Some.cluster c.args.self.now.rb.entries c.before_rb.new.self.rb.entries c.insert-2.new.self.entries (stays_then eqb c.in-Some.cluster c.args.self.now.rb.entries c.insert.new.self.entries c.before_rb.new.self.rb.entries c.insert.ensures.stays (stays_same eqb c.in-Some.cluster c.insert.new.self.entries c.before_rb.new.self.rb.entries (ap (λ x. x.entries) c.before_rb.ensures.refblocks))) c.insert-2.ensures.stays))
+
+pub returns-clause-blocks_stay : goal.returns-clause-blocks_stay
+returns-clause-blocks_stay g c = if_some _ c.args.block.cluster c.in-Some.cluster (sym c.get_cluster.ensures.value ∙ c.in-Some.is) (values_stay c.in-Some.cluster c.args.self.now.rb.entries c.insert-2.new.self.entries (stays_then eqb c.in-Some.cluster c.args.self.now.rb.entries c.before_rb.new.self.rb.entries c.insert-2.new.self.entries (stays_then eqb c.in-Some.cluster c.args.self.now.rb.entries c.insert.new.self.entries c.before_rb.new.self.rb.entries c.insert.ensures.stays (stays_same eqb c.in-Some.cluster c.insert.new.self.entries c.before_rb.new.self.rb.entries (ap (λ x. x.entries) c.before_rb.ensures.refblocks))) c.insert-2.ensures.stays))

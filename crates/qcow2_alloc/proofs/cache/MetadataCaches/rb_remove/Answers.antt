@@ -1,4 +1,4 @@
-use Rattle.qcow2_alloc.proofs.KeptTables.Off.{removed_others, removed_marks, removed_takes}
+use Rattle.qcow2_alloc.proofs.KeptTables.Off.{removed_others, removed_marks, removed_takes, removed_clean, removed_gone}
 use Rattle.qcow2_alloc.proofs.cache.MetadataCaches.rb_remove.Goals as goal
 
 pub returns-clause-others : goal.returns-clause-others
@@ -9,3 +9,9 @@ returns-clause-marks g c = removed_marks c.args.self.now c.args.cluster c.remove
 
 pub returns-clause-taken : goal.returns-clause-taken
 returns-clause-taken g c = removed_takes c.args.self.now c.args.cluster c.remove.result c.remove.new.self c.remove.ensures.value c.remove.ensures.entries
+
+pub returns-clause-clean : goal.returns-clause-clean
+returns-clause-clean g c = removed_clean c.args.self.now c.args.cluster c.remove.result c.remove.new.self c.remove.ensures.value c.remove.ensures.entries
+
+pub returns-clause-gone : goal.returns-clause-gone
+returns-clause-gone g c = removed_gone c.args.self.now c.args.cluster c.remove.result c.remove.new.self c.remove.ensures.value c.remove.ensures.entries

@@ -8,6 +8,7 @@ use Rattle.qcow2_metadata.specs.RefBlock.{RefBlockView}
 use Rattle.qcow2_alloc.specs.TableCaches.{rb_steps}
 use Rattle.qcow2_alloc.proofs.KeptTables.Clean.{clean_as, flush_clean}
 use Rattle.qcow2_alloc.proofs.KeptTables.InOrder.{blocks_in_order}
+use Rattle.qcow2_alloc.proofs.KeptTables.Quiet.{blocks_quiet}
 use Rattle.qcow2_alloc.proofs.cache.MetadataCaches.write_blocks.Goals as goal
 
 pub returns-in_err-flush-clause-keeps : goal.returns-in_err-flush-clause-keeps
@@ -41,3 +42,9 @@ returns-in_err-flush-clause-ordered g c = blocks_in_order g.S.Storage.view c.arg
 
 pub returns-clause-ordered : goal.returns-clause-ordered
 returns-clause-ordered g c = blocks_in_order g.S.Storage.view c.args.storage.now c.flush.new.store c.args.self.now c.flush.new.self c.flush.result c.flush.ensures.flushed
+
+pub returns-in_err-flush-clause-quiet : goal.returns-in_err-flush-clause-quiet
+returns-in_err-flush-clause-quiet g c = blocks_quiet g.S.Storage.view c.args.storage.now c.flush.new.store c.args.self.now c.flush.new.self c.flush.result c.flush.ensures.flushed
+
+pub returns-clause-quiet : goal.returns-clause-quiet
+returns-clause-quiet g c = blocks_quiet g.S.Storage.view c.args.storage.now c.flush.new.store c.args.self.now c.flush.new.self c.flush.result c.flush.ensures.flushed

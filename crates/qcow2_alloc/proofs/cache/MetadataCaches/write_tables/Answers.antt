@@ -12,6 +12,7 @@ use Rattle.qcow2_alloc.specs.declared.cache.backends.L2CacheBackend.{L2CacheBack
 use Rattle.qcow2_alloc.specs.TableCaches.{l2_steps}
 use Rattle.qcow2_alloc.proofs.KeptTables.Clean.{flush_free}
 use Rattle.qcow2_alloc.proofs.KeptTables.InOrder.{tables_in_order}
+use Rattle.qcow2_alloc.proofs.KeptTables.Quiet.{tables_quiet}
 use Rattle.qcow2_alloc.proofs.cache.MetadataCaches.write_tables.Goals as goal
 
 pub returns-in_err-flush-clause-keeps : goal.returns-in_err-flush-clause-keeps
@@ -47,3 +48,9 @@ returns-in_err-flush-clause-ordered g c = tables_in_order g.S.Storage.view c.arg
 
 pub returns-clause-ordered : goal.returns-clause-ordered
 returns-clause-ordered g c = tables_in_order g.S.Storage.view c.args.storage.now c.flush.new.store c.args.self.now c.flush.new.self c.flush.result c.flush.ensures.flushed
+
+pub returns-in_err-flush-clause-quiet : goal.returns-in_err-flush-clause-quiet
+returns-in_err-flush-clause-quiet g c = tables_quiet g.S.Storage.view c.args.storage.now c.flush.new.store c.args.self.now c.flush.new.self c.flush.result c.flush.ensures.flushed
+
+pub returns-clause-quiet : goal.returns-clause-quiet
+returns-clause-quiet g c = tables_quiet g.S.Storage.view c.args.storage.now c.flush.new.store c.args.self.now c.flush.new.self c.flush.result c.flush.ensures.flushed

@@ -11,3 +11,8 @@ returns-clause-keeps g c = λ p out sound.
     caches_moved g.S.Storage.view g.F.BackingDisk.backing c.args.self.now out p sound c.begin.new.self c.begin-2.new.self
     (stays h p c.args.self.now.file.caches c.begin-2.new.self tables (view_in g.S.Storage.view c.args.self.now.file) (g.S.Storage.view c.begin.new.self.storage) (ap g.S.Storage.view c.begin.ensures.storage) sound.file.honest sound.file.caches)
     tables.room (λ table. ap (λ caches. l2_pins caches table) c.begin-2.ensures.same)
+
+pub returns-clause-known : goal.returns-clause-known
+returns-clause-known g c = λ p out sound.
+    (stays c.args.self.now.file.header.fields p c.args.self.now.file.caches c.begin-2.new.self c.begin-2.ensures.tables (view_in g.S.Storage.view c.args.self.now.file) (g.S.Storage.view c.begin.new.self.storage)
+    (ap g.S.Storage.view c.begin.ensures.storage) sound.file.honest sound.file.caches).known

@@ -1,8 +1,11 @@
-use Rattle.std.proofs.Common.{◌≡◌, [], sym, ap, ◌∙◌, subst, IfOk}
+use Rattle.std.proofs.Common.{◌≡◌, [], sym, ap, ◌∙◌, subst, IfOk, is_some}
 use Rattle.qcow2_laws.specs.Calls.{Does, Refuses, IsSame}
 use Rattle.qcow2_laws.specs.Views.{guest_of}
 use Rattle.qcow2_image.specs.declared.image.Qcow2.{Qcow2}
-use Rattle.qcow2_image.specs.Found.{IsFound}
+use Rattle.qcow2_laws.specs.Found.{IsFoundIn, IsFound as IsFoundOf}
+use Rattle.qcow2_laws.proofs.Unseen.{known_header}
+use Rattle.qcow2_alloc.specs.ImageFile.{known_in, stand_in}
+use Rattle.qcow2_image.specs.Found.{IsFound, found_kind}
 use Rattle.qcow2_image.specs.Image.{is_failed}
 use Rattle.qcow2_image.specs.Refusals.{Marks}
 use Rattle.qcow2_image.specs.Views.{seen, pending_in}
@@ -46,6 +49,21 @@ returns-clause-run g c = λ out sound.
     let p = pending_in view below c.args.self.now out in
     let marks = subst (λ r. Marks r (is_failed new) (is_failed c.settled.new.self)) (sym c.settled.ensures.answer ∙ c.in_ok-kind.was) c.settled.ensures.marks in
     let same : c.settled.new.self ≡ new = c.settled.ensures.rest ∙ ap (λ f. record new { is_failed = f }) marks in
-    let found = c.look_up-found.ensures.found p out (c.begin.ensures.keeps p out sound).sound in
-    subst (λ (image : Qcow2 _ _). IsFound view image c.args.offset c.args.max c.in_ok-kind.kind c.in_ok-kind.length) (sym same)
-    (subst (λ r. IfOk r (λ x. IsFound view new c.args.offset c.args.max x.0 x.1)) (sym c.settled.ensures.answer ∙ c.in_ok-kind.was) found)
+    let begun = (c.begin.ensures.keeps p out sound).sound in
+    let guarded = (c.look_up-found.ensures.keeps p out begun).sound.file.caches.kept.kept.guarded in
+    let found : IsFound view new c.args.offset c.args.max c.in_ok-kind.kind c.in_ok-kind.length =
+    subst (λ r. IfOk r (λ x. IsFound view new c.args.offset c.args.max x.0 x.1)) (sym c.settled.ensures.answer ∙ c.in_ok-kind.was) (c.look_up-found.ensures.found p out begun) in
+    subst (λ (image : Qcow2 _ _). IsFoundIn (known_in view image.file) (is_some image.backing) c.args.offset c.args.max (found_kind c.in_ok-kind.kind) c.in_ok-kind.length) (sym same)
+    (subst (λ h. IsFoundOf h (known_in view new.file) (is_some new.backing) c.args.offset c.args.max (found_kind c.in_ok-kind.kind) c.in_ok-kind.length) (sym (known_header (stand_in view new.file p) guarded)) found)
+
+pub returns-in_err-kind-clause-known : goal.returns-in_err-kind-clause-known
+returns-in_err-kind-clause-known g c = λ out sound.
+    let view = g.S.Storage.view in
+    let p = pending_in view g.F.BackingDisk.backing c.args.self.now out in
+    ap (λ (image : Qcow2 _ _). known_in view image.file) c.settled.ensures.rest ∙ c.look_up-found.ensures.known p out (c.begin.ensures.keeps p out sound).sound ∙ c.begin.ensures.known p out sound
+
+pub returns-clause-known : goal.returns-clause-known
+returns-clause-known g c = λ out sound.
+    let view = g.S.Storage.view in
+    let p = pending_in view g.F.BackingDisk.backing c.args.self.now out in
+    ap (λ (image : Qcow2 _ _). known_in view image.file) c.settled.ensures.rest ∙ c.look_up-found.ensures.known p out (c.begin.ensures.keeps p out sound).sound ∙ c.begin.ensures.known p out sound

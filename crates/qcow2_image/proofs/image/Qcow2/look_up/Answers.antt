@@ -7,7 +7,8 @@ use Rattle.qcow2_laws.specs.Guests.{table_at}
 use Rattle.qcow2_laws.proofs.Places.{Sizes-from, cover_none}
 use Rattle.qcow2_laws.proofs.Tops.{IsTop-top}
 use Rattle.qcow2_alloc.specs.ImageFile.{contents_in, known_in}
-use Rattle.qcow2_image.specs.Found.{kind_at, l1_index_of, rest_of_table, NamesTable, IsRunFrom}
+use Rattle.qcow2_laws.specs.Found.{kind_at, rest_of_table}
+use Rattle.qcow2_image.specs.Found.{l1_index_of, NamesTable, IsRunFrom}
 use Rattle.qcow2_image.proofs.Loading.{caches_moved, with_caches, if_ok}
 use Rattle.qcow2_image.proofs.Looked.{none_found}
 use Rattle.qcow2_image.proofs.image.Qcow2.look_up.Goals as goal
@@ -23,6 +24,14 @@ pub returns-in_ok-l2_get_or_insert-in-Some-clause-keeps :
 returns-in_ok-l2_get_or_insert-in-Some-clause-keeps g c = λ p out sound.
     caches_moved g.S.Storage.view g.F.BackingDisk.backing c.args.self.now out p sound c.l2_get_or_insert.new.storage c.l2_get_or_insert.new.self
     (c.l2_get_or_insert.ensures.keeps c.args.self.now.file.header.fields p sound.file.honest sound.file.caches) c.l2_get_or_insert.ensures.marks.room c.l2_get_or_insert.ensures.marks.pins
+
+pub returns-in_err-l2_get_or_insert-in-Some-clause-known :
+    goal.returns-in_err-l2_get_or_insert-in-Some-clause-known
+returns-in_err-l2_get_or_insert-in-Some-clause-known g c = λ p out sound. (c.l2_get_or_insert.ensures.keeps c.args.self.now.file.header.fields p sound.file.honest sound.file.caches).known
+
+pub returns-in_ok-l2_get_or_insert-in-Some-clause-known :
+    goal.returns-in_ok-l2_get_or_insert-in-Some-clause-known
+returns-in_ok-l2_get_or_insert-in-Some-clause-known g c = λ p out sound. (c.l2_get_or_insert.ensures.keeps c.args.self.now.file.header.fields p sound.file.honest sound.file.caches).known
 
 pub returns-in-None-clause-found : goal.returns-in-None-clause-found
 returns-in-None-clause-found g c = λ p out sound.

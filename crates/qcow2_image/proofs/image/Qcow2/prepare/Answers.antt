@@ -1,12 +1,11 @@
-use Rattle.std.proofs.Common.{◌≡◌, ℕ, inl, ap, sym, subst, arith}
-use Rattle.std.specs.Prelude.{IfErr, IfOk}
-use Rattle.qcow2_metadata.specs.declared.header.HeaderFields.{HeaderFields}
+use Rattle.std.proofs.Common.{inl, sym, subst, arith}
 use Rattle.qcow2_alloc.specs.ImageFile.{known_in}
 use Rattle.qcow2_alloc.proofs.AllocationSteps.{handed_on}
 use Rattle.qcow2_image.specs.Parts.{PreparesRange}
-use Rattle.qcow2_image.specs.Preparing.{HasItsOwn, IsAnswered, IsPlaceOf, IsRest, IsWritableAt}
+use Rattle.qcow2_image.specs.Preparing.{IsPlaceOf, IsWritableAt}
 use Rattle.qcow2_image.specs.Views.{meaning, pending_in}
-use Rattle.qcow2_image.proofs.PreparedAs.{answered_before, answered_existing, answered_rest, if_ok_both, if_ok_three, taken_before}
+use Rattle.qcow2_alloc.proofs.Following.{header_format}
+use Rattle.qcow2_image.proofs.PreparedAs.{answered_before, answered_existing, answered_format, answered_rest, rest_format, writable_format, if_ok_three, taken_before}
 use Rattle.qcow2_image.proofs.Preparing.{readied_existing}
 use Rattle.qcow2_image.proofs.Refused.{prepares_after, readied_after}
 use Rattle.qcow2_image.proofs.Taken.{if_err, taken_by}
@@ -48,7 +47,7 @@ returns-in-Some-clause-answers g c = λ some out sound.
     let found = c.in_ok-table.ensures.finds out sound in
     let p = pending_in view below mid out in
     let place = subst (IsPlaceOf h known c.args.offset c.args.length) c.in-Some.is (c.in_ok-host.ensures.place p found.0.sound.file found.1.entry some) in
-    answered_before view old mid c.args.offset c.args.length found.0.header found.0.covers known q (meaning view below mid q)
+    answered_before view old mid c.args.offset c.args.length found.0.header found.0.covers mid.file.header.fields known q (meaning view below mid q)
     (answered_existing view below mid known known c.args.offset c.args.length q mid.number some c.existing_at.ensures.existing (subst (IsWritableAt h known c.args.offset c.args.length) (sym c.existing_at.ensures.offset) place))
 
 pub returns-in-None-clause-answers : goal.returns-in-None-clause-answers
@@ -65,11 +64,12 @@ returns-in-None-clause-answers g c = λ some out sound.
     let place = subst (IsPlaceOf mid.file.header.fields known c.args.offset c.args.length) c.in-None.is (c.in_ok-host.ensures.place p found.0.sound.file found.1.entry some) in
     if_ok_three c.prepare_or_free.result
     (λ q rest own same.
-    let header : new.file.header.fields ≡ mid.file.header.fields = ap (λ x. x.fields) same in
-    answered_before view old mid c.args.offset c.args.length found.0.header found.0.covers now q (meaning view below new q)
-    (subst (λ (x : HeaderFields). (IsRest x known c.args.offset q → HasItsOwn x now q.new_cluster → ((o : ℕ) → IsWritableAt x known c.args.offset c.args.length o → ⊥)
-    → IsAnswered x known c.args.offset c.args.length now q (meaning view below new q))) header
-    (λ is alone never. answered_rest view below new known now c.args.offset c.args.length q is alone never) rest own place))
+    let h = mid.file.header.fields in
+    let h' = new.file.header.fields in
+    let header = header_format mid.file.header new.file.header same in
+    answered_before view old mid c.args.offset c.args.length found.0.header found.0.covers h' now q (meaning view below new q)
+    (answered_format h h' header known c.args.offset c.args.length h' now q (meaning view below new q)
+    (answered_rest view below new known now c.args.offset c.args.length q (rest_format h h' header known c.args.offset q rest) own (λ o at. place o (writable_format h h' header known c.args.offset c.args.length o at)))))
     (c.prepare_or_free.ensures.rest p out found.0.sound found.1) (c.prepare_or_free.ensures.alone p out found.0.sound (λ k. omega arith)) c.prepare_or_free.ensures.header
 
 pub returns-in-None-clause-taken : goal.returns-in-None-clause-taken

@@ -50,10 +50,10 @@ returns-clause-maps g c = λ some out sound.
     let new = c.prepare-prepared.new.self in
     let now = known_in view new.file in
     let stays = stays_kept view below out old mid sound (listed view below out old mid (λ s. record { keeps = c.begin.ensures.keeps (pending_in view below old out) out s; list = c.begin.ensures.list }) sound) in
-    subst (λ (image : Qcow2 _ _). IfOk c.settled.result (λ p. IsAnswered old.file.header.fields (known_in view old.file) c.args.offset c.args.length (known_in view image.file) p (meaning view below image p))) (sym c.settled.ensures.rest)
-    (subst (λ r. IfOk r (λ p. IsAnswered old.file.header.fields (known_in view old.file) c.args.offset c.args.length now p (meaning view below new p))) (sym c.settled.ensures.answer)
+    subst (λ (image : Qcow2 _ _). IfOk c.settled.result (λ p. IsAnswered old.file.header.fields (known_in view old.file) c.args.offset c.args.length image.file.header.fields (known_in view image.file) p (meaning view below image p))) (sym c.settled.ensures.rest)
+    (subst (λ r. IfOk r (λ p. IsAnswered old.file.header.fields (known_in view old.file) c.args.offset c.args.length new.file.header.fields now p (meaning view below new p))) (sym c.settled.ensures.answer)
     (if_ok c.prepare-prepared.result
-    (λ p is. answered_before view old mid c.args.offset c.args.length stays.header stays.covers now p (meaning view below new p) is)
+    (λ p is. answered_before view old mid c.args.offset c.args.length stays.header stays.covers new.file.header.fields now p (meaning view below new p) is)
     (c.prepare-prepared.ensures.answers some out stays.sound)))
 
 pub returns-clause-taken : goal.returns-clause-taken

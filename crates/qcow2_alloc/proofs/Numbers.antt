@@ -1,16 +1,16 @@
--- The size, and the place of the L1 table, are written over the header that stands on the storage, whatever its names are.
-use Rattle.std.proofs.Common.{ℕ, ◌^◌, ◌<◌, ◌≤◌, List, refl, sym, subst, arith}
+-- The size, and the places of the L1 table and the reftable, are written over the header that stands on the storage, whatever its names are.
+use Rattle.std.proofs.Common.{ℕ, ◌*◌, ◌^◌, ◌<◌, ◌≤◌, List, refl, sym, subst, arith}
 use Rattle.image_access.specs.Moments.{StorageView}
 use Rattle.qcow2_metadata.specs.Bytes.{byte_at}
 use Rattle.qcow2_metadata.specs.declared.header.HeaderFields.{HeaderFields}
-use Rattle.qcow2_metadata.specs.Header.{HeaderView, header, HeaderReads, backing_name, first_of_kind, backing_format_kind, data_file_kind, with_size, with_l1_table}
+use Rattle.qcow2_metadata.specs.Header.{HeaderView, header, HeaderReads, entries_per_cluster, backing_name, first_of_kind, backing_format_kind, data_file_kind, with_size, with_l1_table, with_reftable}
 use Rattle.qcow2_metadata.specs.HeaderLoad.{IsHeaderIn}
-use Rattle.qcow2_metadata.specs.HeaderWrite.{size_written, l1_table_pointer_written}
-use Rattle.qcow2_metadata.proofs.StillHeader.{size_still, l1_table_still}
-use Rattle.qcow2_metadata.proofs.WrittenHeader.{size_after, l1_table_after}
+use Rattle.qcow2_metadata.specs.HeaderWrite.{size_written, l1_table_pointer_written, reftable_pointer_written}
+use Rattle.qcow2_metadata.proofs.StillHeader.{size_still, l1_table_still, reftable_still}
+use Rattle.qcow2_metadata.proofs.WrittenHeader.{size_after, l1_table_after, reftable_after}
 use Rattle.qcow2_laws.specs.Guard.{Pending}
-use Rattle.qcow2_laws.specs.Tops.{WritesHeader, resized, with_l1_at}
-use Rattle.qcow2_laws.proofs.HeaderWrites.{size_beside, l1_pointer_beside}
+use Rattle.qcow2_laws.specs.Tops.{WritesHeader, resized, with_l1_at, with_reftable_at}
+use Rattle.qcow2_laws.proofs.HeaderWrites.{size_beside, l1_pointer_beside, reftable_pointer_beside}
 use Rattle.qcow2_alloc.specs.declared.image_file.ImageFile.{ImageFile}
 use Rattle.qcow2_alloc.specs.ImageFile.{view_in, known_in, IsSoundFile}
 use Rattle.qcow2_alloc.specs.MetadataCaches.{order_of, l2_tables, refblocks, known_of}
@@ -53,3 +53,12 @@ module _ {S : Type 0} (view : S → StorageView) (p : Pending) (file : ImageFile
       let v : HeaderView = record there { fields = with_l1_table file.header.fields offset entries } in
       l1_pointer_beside h (order_of file.caches) p (l2_tables file.caches) (refblocks file.caches) contents sound.caches.kept.kept v (l1_table_after contents entries offset (omega (arith, few)) fits)
       (l1_table_still contents v h.l1_offset h.l1_entries (omega (arith, few)) fits (record { few_l1_entries = few; few_reftable_entries = limits.few_reftable_entries }) stands)
+
+  pub reftable_pointer_writes : (offset clusters : ℕ) → clusters < 2 ^ 32 → clusters * entries_per_cluster h ≤ 1048576 → offset < 2 ^ 64
+      → WritesHeader h (with_reftable_at h offset clusters) (byte_at contents) (known_in view file) (byte_at (reftable_pointer_written (with_reftable h offset clusters) contents))
+      (known_of h file.caches (byte_at (reftable_pointer_written (with_reftable h offset clusters) contents)))
+  reftable_pointer_writes offset clusters small few fits =
+      let limits = sound.caches.kept.kept.guarded.top.header_reads.within_limits in
+      let v : HeaderView = record there { fields = with_reftable file.header.fields offset clusters } in
+      reftable_pointer_beside h (order_of file.caches) p (l2_tables file.caches) (refblocks file.caches) contents sound.caches.kept.kept v (reftable_after contents offset clusters fits small)
+      (reftable_still contents v h.reftable_offset h.reftable_clusters fits small (record { few_l1_entries = limits.few_l1_entries; few_reftable_entries = few }) stands)

@@ -25,7 +25,7 @@ use Rattle.qcow2_alloc.specs.MetadataCaches.{order_of, l2_tables, rb_at, KeepSou
 use Rattle.qcow2_alloc.specs.TableCaches.{IsBlockOf, cleared_rb}
 use Rattle.qcow2_alloc.proofs.AllocationSteps.{handed_on, fault_of_storage, becomes_then, becomes_cached, is_sound_now}
 use Rattle.qcow2_alloc.proofs.PlacedBlocks.{IsFree, is_free, moves_rewritten, reftable_rewritten, write_as, holds_known, still_stands}
-use Rattle.qcow2_alloc.proofs.allocation.write_block.Goals as goal
+use Rattle.qcow2_alloc.proofs.refblocks.write_block.Goals as goal
 
 -- all counts are written, and then the block's bytes, or they are not
 module _ {S : Type 0} (view : S → StorageView) (d : Bool) (p : Pending) (range at : ℕ) (old : ImageFile S) (t : Allocator) (storage : ImageStorage S) (caches : MetadataCaches S) (sound : IsSoundWith view t (placing d p at) old)

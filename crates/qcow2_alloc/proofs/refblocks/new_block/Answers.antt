@@ -1,4 +1,4 @@
-use Rattle.std.proofs.Common.{◌≡◌, inl, inr, ℕ, zero, suc, ◌+◌, ◌-◌, ◌^◌, ◌<◌, ◌≤◌, Bool, true, false, IsTrue, IsFalse, refl, sym, ap, ◌∙◌, subst, arith}
+use Rattle.std.proofs.Common.{◌≡◌, inl, inr, ℕ, ◌+◌, ◌-◌, ◌^◌, ◌<◌, Bool, true, false, IsTrue, IsFalse, refl, sym, ap, ◌∙◌, subst, arith}
 use Rattle.std.proofs.lemmas.Bool.{cases_eq, cond-false, ne_eqb}
 use Rattle.std.proofs.lemmas.Nat.{pow_pos}
 use Rattle.qcow2_metadata.specs.RefBlock.{RefBlockView, IsRefBlock, ChangesCount, count_at, count_limit, counts_of}
@@ -6,13 +6,9 @@ use Rattle.qcow2_metadata.proofs.Sizes.{counts_in_block}
 use Rattle.qcow2_laws.specs.Changes.{one_at}
 use Rattle.qcow2_alloc.specs.Allocation.{first_counts}
 use Rattle.qcow2_alloc.proofs.FileSteps.{one_here}
-use Rattle.qcow2_alloc.proofs.allocation.new_block.Goals.{then-counts_itself+then-counts-gt0, else-counts_itself, else-counts_itself-via-then-counts_itself+else-counts-gt0, else-counts_itself-via-else-counts_itself}
-use Rattle.qcow2_alloc.proofs.allocation.new_block.Goals as goal
-
--- the greatest count is above 0
-limit_above : (n : ℕ) → 0 < n → 2 ≤ 2 ^ n
-limit_above zero some = absurd (omega arith)
-limit_above (suc n) some = let p = pow_pos n in omega arith
+use Rattle.qcow2_alloc.proofs.refblocks.new_block.Goals.{then-counts_itself+then-counts-gt0, else-counts_itself, else-counts_itself-via-then-counts_itself+else-counts-gt0, else-counts_itself-via-else-counts_itself}
+use Rattle.qcow2_alloc.proofs.RunBlocks.{limit_above}
+use Rattle.qcow2_alloc.proofs.refblocks.new_block.Goals as goal
 
 -- a first count that is 0 rises
 raised : (old new : RefBlockView) (done : Bool) → ((i : ℕ) → count_at old i ≡ 0) → (IsFalse done → count_at old 0 + 1 ≡ count_limit old)

@@ -1,0 +1,317 @@
+-- The header is written to name a longer reftable, which is the allocator's own then.
+use Rattle.std.proofs.Common.{◌≡◌, ◌≢◌, ◌⊎◌, inl, inr, ℕ, ◌+◌, ◌-◌, ◌*◌, ◌/◌, ◌^◌, ◌<◌, ◌≤◌, List, [], length, Option, Some, Result, Ok, true, IsTrue, refl, sym, ap, ◌∙◌, subst, arith}
+use Rattle.std.proofs.Math.Nat.{mul-le-mul_left}
+use Rattle.std.proofs.lemmas.Bool.{cases_eq}
+use Rattle.image_access.specs.Moments.{StorageView, Changes, Calls}
+use Rattle.image_access.specs.declared.error.StorageError.{StorageError}
+use Rattle.qcow2_metadata.specs.Bytes.{Bytes, byte_at}
+use Rattle.qcow2_metadata.specs.declared.header.HeaderFields.{HeaderFields}
+use Rattle.qcow2_metadata.specs.Header.{HeaderView, cluster_size, entries_per_cluster, with_fields, with_reftable}
+use Rattle.qcow2_metadata.specs.HeaderWrite.{reftable_pointer_written}
+use Rattle.qcow2_metadata.specs.Entries.{l1_entry, reftable_entry, block_offset}
+use Rattle.qcow2_metadata.specs.EntryTable.{EntryTableView, IsRefTable, HasRoomIfPlaced, entry_count}
+use Rattle.qcow2_metadata.specs.TableBytes.{entry_at}
+use Rattle.qcow2_laws.specs.Caches.{AreClean, BlocksMayGo, HasBlock}
+use Rattle.qcow2_laws.specs.Guard.{Pending}
+use Rattle.qcow2_laws.specs.Leads.{Leads, Endures}
+use Rattle.qcow2_laws.specs.Tops.{WritesHeader, with_reftable_at, IsNewReftable}
+use Rattle.qcow2_laws.specs.Unseen.{IsUnseen}
+use Rattle.qcow2_laws.proofs.Headers.{header_fixed, header_l1, header_known_covers}
+use Rattle.qcow2_laws.proofs.Leads.{endures_write}
+use Rattle.qcow2_laws.proofs.ReftableMoves.{now_l1, now_reftable, known_counts}
+use Rattle.qcow2_laws.proofs.Steps.{header_is_written}
+use Rattle.qcow2_laws.proofs.Unseen.{table_bytes}
+use Rattle.qcow2_alloc.specs.declared.allocation.Allocator.{Allocator}
+use Rattle.qcow2_alloc.specs.declared.cache.MetadataCaches.{MetadataCaches}
+use Rattle.qcow2_alloc.specs.declared.image_file.ImageFile.{ImageFile}
+use Rattle.qcow2_alloc.specs.declared.image_storage.ImageStorage.{ImageStorage}
+use Rattle.qcow2_alloc.specs.declared.error.ImageError.{ImageError}
+use Rattle.qcow2_alloc.specs.Allocation.{run_at, Becomes, BecomesOn}
+use Rattle.qcow2_alloc.specs.CacheMarks.{KeepsMarks, SameTables}
+use Rattle.qcow2_alloc.specs.GrownTables.{reftable_at, with_run, without_reftable, StandsGrown}
+use Rattle.qcow2_alloc.specs.ImageFile.{nothing_given, view_in, contents_in, known_in, stand_in, IsSoundFile, IsSoundWith, HasReftable, IsFault, MovesOn, Breaks}
+use Rattle.qcow2_alloc.specs.ImageStorage.{storage_of}
+use Rattle.qcow2_alloc.specs.KeptTables.{AreLoaded}
+use Rattle.qcow2_alloc.specs.LowestRuns.{IsUsed}
+use Rattle.qcow2_alloc.specs.MetadataCaches.{order_of, l2_tables, refblocks, rb_at, known_of}
+use Rattle.qcow2_alloc.proofs.AllocationSteps.{becomes_marked}
+use Rattle.qcow2_alloc.proofs.FileSteps.{pending_same, endures_then, moves_on, on_then}
+use Rattle.qcow2_alloc.proofs.GrownTables.{counted_anew, clusters_of_run, run_counted, whole_clusters, new_entries, few_entries, new_reftable}
+use Rattle.qcow2_alloc.proofs.HeaderKept.{same_block, header_settled, header_sound}
+use Rattle.qcow2_alloc.proofs.KeptTables.Named.{AreCurrentIn, current_none}
+use Rattle.qcow2_alloc.proofs.KeptTables.Standing.{own_cluster}
+use Rattle.qcow2_alloc.proofs.Numbers.{reftable_pointer_writes}
+use Rattle.qcow2_alloc.proofs.PlacedBlocks.{file_sizes}
+
+-- the clusters of the reftable in memory are those that the header names
+pub reftable_run : {S : Type 0} (view : S → StorageView) (q : Pending) (file : ImageFile S) (t : EntryTableView) (cluster : ℕ) → IsSoundFile view q file → HasReftable view file t → IsRefTable t → t.cluster ≡ Some cluster
+    → (c : ℕ) → reftable_at file.header.fields c ≡ run_at cluster ((length t.bytes + 2 ^ t.cluster_bits - 1) / 2 ^ t.cluster_bits) c
+reftable_run view q file t cluster sound has is_table some c =
+    let h = file.header.fields in
+    let sizes = file_sizes view q file sound in
+    let begins : h.reftable_offset / cluster_size h ≡ cluster = some_is (sym has.cluster ∙ some) in
+    let whole = is_table.table.whole in
+    let eights : h.reftable_clusters * cluster_size h ≡ 8 * (h.reftable_clusters * entries_per_cluster h) = ap (λ s. h.reftable_clusters * s) sizes.eights ∙ omega arith in
+    let long : length t.bytes ≡ h.reftable_clusters * cluster_size h = let many = has.count in omega (arith, whole, eights, many) in
+    ap (λ f. run_at f ((h.reftable_clusters * cluster_size h + cluster_size h - 1) / cluster_size h) c) begins
+    ∙ ap (λ n. run_at cluster ((n + 2 ^ h.cluster_bits - 1) / 2 ^ h.cluster_bits) c) (sym long)
+    ∙ ap (λ b. run_at cluster ((length t.bytes + 2 ^ b - 1) / 2 ^ b) c) (sym has.bits)
+  where
+    some_is : {A : Type 0} {a b : A} → Some a ≡ Some b → a ≡ b
+    some_is e = cc
+
+-- ---- it names a table that stands ready
+module _ {S : Type 0} (view : S → StorageView) (p : Pending) (first blocks clusters : ℕ) (file : ImageFile S) (old t : EntryTableView)
+    (sound : IsSoundFile view (with_run p file.header.fields old first (blocks + clusters)) file) (has : HasReftable view file old) (ready : StandsGrown view file old t first blocks clusters) (is_table : IsRefTable t) where
+  abbrev h : HeaderFields
+  h = file.header.fields
+
+  abbrev q : Pending
+  q = with_run p file.header.fields old first (blocks + clusters)
+
+  abbrev base : Bytes
+  base = contents_in view file
+
+  abbrev known : Bytes
+  known = known_in view file
+
+  abbrev place : ℕ
+  place = (first + blocks) * cluster_size file.header.fields
+
+  abbrev h' : HeaderFields
+  h' = with_reftable file.header.fields ((first + blocks) * cluster_size file.header.fields) clusters
+
+  abbrev anew : ℕ → ℕ
+  anew = counted_anew file.header.fields old first (blocks + clusters)
+
+  abbrev written : List ℕ
+  written = reftable_pointer_written (with_reftable file.header.fields ((first + blocks) * cluster_size file.header.fields) clusters) (view_in view file).contents
+
+  new : IsNewReftable h (order_of file.caches) q base known place clusters (run_at first blocks) anew
+  new = new_reftable view p first blocks clusters file old t sound has ready is_table
+
+  limit : clusters * entries_per_cluster h ≤ 1048576
+  limit = few_entries view p first blocks clusters file old t sound has ready is_table
+
+  few : clusters < 2 ^ 32
+  few =
+      let sizes = file_sizes view q file sound in
+      let one : clusters * 1 ≤ clusters * entries_per_cluster h = mul-le-mul_left clusters sizes.entries in
+      let most = limit in
+      omega (arith, one, most)
+
+  near : place < 2 ^ 64
+  near =
+      let room : HasRoomIfPlaced t.cluster_bits (length t.bytes) (Some (first + blocks)) = subst (λ (c : Option ℕ). HasRoomIfPlaced t.cluster_bits (length t.bytes) c) ready.grown.cluster is_table.table.placed in
+      let there : (first + blocks) * 2 ^ h.cluster_bits + length t.bytes < 2 ^ 64 = subst (λ b. (first + blocks) * 2 ^ b + length t.bytes < 2 ^ 64) ready.grown.bits room in
+      omega (arith, there)
+
+  writes : WritesHeader h (with_reftable_at h place clusters) base known (byte_at written) (known_of h file.caches (byte_at written))
+  writes = reftable_pointer_writes view q file sound place clusters few limit near
+
+  leads_at : (b : Bytes) → WritesHeader h (with_reftable_at h place clusters) base known b (known_of h file.caches b)
+      → Leads (stand_in view file q) (record (stand_in view file q) { header = h'; pending = without_reftable p h; base = b; known = known_of h file.caches b }) nothing_given []
+  leads_at b so =
+      let leads = header_is_written.reftable (stand_in view file q) b (known_of h file.caches b) place clusters (run_at first blocks) anew sound.caches.kept.kept.guarded so new in
+      subst (λ (r : Pending). Leads (stand_in view file q) (record (stand_in view file q) { header = h'; pending = r; base = b; known = known_of h file.caches b }) nothing_given [])
+      (pending_same _ (without_reftable p h) (λ k. refl)
+      (λ k.
+      let all = clusters_of_run view p first blocks clusters file old t sound has ready is_table k in
+      let split = run_counted h old first (blocks + clusters) k in
+      omega (arith, all, split))
+      (λ k. refl) (λ k. refl) (λ k. refl)) leads
+
+  -- whatever the storage answers
+  pub lasts_named : (result : Result (Unit {0}) StorageError) (after : S) → Changes (view_in view file) (view after) result written → Calls (view_in view file) (view after) result
+      → Endures (view_in view file) (view after) known nothing_given []
+  lasts_named result after wrote called = endures_write {result = result} (view_in view file) (view after) known nothing_given [] written called wrote sound.honest (leads_at (byte_at written) writes).base
+
+  module _ (storage : ImageStorage S) (is : (view (storage_of storage)).contents ≡ written) (honest : (view (storage_of storage)).is_honest) where
+    abbrev named : ImageFile S
+    named = record file { storage = storage; header = with_fields file.header (with_reftable file.header.fields ((first + blocks) * cluster_size file.header.fields) clusters) }
+
+    abbrev base' : Bytes
+    base' = contents_in view named
+
+    abbrev known' : Bytes
+    known' = known_of file.header.fields file.caches (contents_in view named)
+
+    writes_now : WritesHeader h (with_reftable_at h place clusters) base known base' known'
+    writes_now = subst (λ (c : List ℕ). WritesHeader h (with_reftable_at h place clusters) base known (byte_at c) (known_of h file.caches (byte_at c))) (sym is) writes
+
+    leads_now : Leads (stand_in view file q) (stand_in view named (without_reftable p h)) nothing_given []
+    leads_now = leads_at base' writes_now
+
+    l1_now : (i : ℕ) → l1_entry h' base' i ≡ l1_entry h base i
+    l1_now i = sym (now_l1 h place clusters (run_at first blocks) anew (order_of file.caches) q base known base' known' sound.caches.kept.kept.guarded writes_now new i)
+
+    entry_now : (k : ℕ) → reftable_entry h' base k ≡ reftable_entry h' base' k
+    entry_now = now_reftable h place clusters (run_at first blocks) anew (order_of file.caches) q base known base' known' sound.caches.kept.kept.guarded writes_now new
+
+    entries_now : (k : ℕ) → entry_at t.bytes k ≡ reftable_entry h' base' k
+    entries_now k = new_entries view p first blocks clusters file old t sound has ready is_table k ∙ entry_now k
+
+    block_same : (k : ℕ) → block_offset (reftable_entry h base k) ≢ 0 → reftable_entry h' base' k ≡ reftable_entry h base k
+    block_same k real = sym (entry_now k) ∙ new.same k real
+
+    rb_still : (c : ℕ) → HasBlock h base c → HasBlock h' base' c
+    rb_still c there = same_block h h' base base' c refl there (block_same there.0 there.1)
+
+    -- a refblock that is named anew isn't cached
+    uncached : (c : ℕ) → 0 < run_at first blocks c → AreCurrentIn (cluster_size h) c (refblocks file.caches) base'
+    uncached c some =
+        let bits = file.caches.rb.backend.header.fields.cluster_bits in
+        subst (λ n. AreCurrentIn (2 ^ n) c (refblocks file.caches) base') sound.caches.rb_format.bits
+        (current_none bits (λ b. b.bytes) (λ b. b.is_modified) (HasBlock h base) base base' c file.caches.rb.entries (ready.uncached c some)
+        (subst (λ n. AreLoaded (2 ^ n) (HasBlock h base) (refblocks file.caches) base) (sym sound.caches.rb_format.bits) sound.caches.kept.rb_loaded))
+
+    rb_now : (c : ℕ) → HasBlock h' base' c → HasBlock h base c ⊎ AreCurrentIn (cluster_size h) c (refblocks file.caches) base'
+    rb_now c now = elim (cases_eq (block_offset (reftable_entry h base now.0)) 0) [
+      | inl none ↦
+          let at = ap block_offset (entries_now now.0) in
+          let placed = ready.grown.placed now.0 (ap block_offset (has.entries now.0) ∙ none) (λ zero. now.1 (sym at ∙ zero)) in
+          inr (uncached c (subst (λ n. 0 < run_at first blocks n) (ap (λ n. n / cluster_size h) at ∙ now.2) placed))
+      | inr real ↦ inl (same_block h' h base' base c refl now (sym (block_same now.0 real)))
+    ]
+
+    unseen_now : IsUnseen (stand_in view file q) (stand_in view named (without_reftable p h))
+    unseen_now =
+        let guarded = sound.caches.kept.kept.guarded in record {
+          header = refl;
+          covers = header_known_covers h (with_reftable_at h place clusters) (order_of file.caches) q base known base' known' guarded writes_now;
+          bytes = table_bytes (stand_in view file q) (stand_in view named (without_reftable p h)) guarded 0 (header_fixed h (with_reftable_at h place clusters) (order_of file.caches) q base known base' known' guarded writes_now)
+              writes_now.known_others;
+        }
+
+    pub on_named : Endures (view_in view file) (view (storage_of storage)) known nothing_given [] → MovesOn view q (without_reftable p h) file named
+    on_named since = record {
+      sound = record {
+        honest = honest;
+        caches = header_sound view q (without_reftable p h) file sound (with_reftable_at h place clusters) base' writes_now leads_now.sound l1_now rb_still rb_now;
+        settled = header_settled view q (without_reftable p h) file sound (with_reftable_at h place clusters) base' writes_now leads_now.sound l1_now rb_still rb_now;
+        room = sound.room;
+      };
+      leads = leads_now;
+      since = since;
+      unseen = unseen_now;
+      l1_table = λ i. sym (header_l1 h (with_reftable_at h place clusters) (order_of file.caches) q base known base' known' sound.caches.kept.kept.guarded writes_now i);
+    }
+
+    pub reftable_named : HasReftable view named t
+    reftable_named = record {
+      cluster = ready.grown.cluster ∙ ap (λ n. Some n) (sym (own_cluster h.cluster_bits (first + blocks)));
+      bits = ready.grown.bits;
+      count = many_now;
+      entries = entries_now;
+    }
+      where
+        many_now : entry_count t ≡ clusters * entries_per_cluster h
+        many_now =
+            let whole = ready.grown.whole in
+            let sizes = file_sizes view q file sound in
+            let eights : clusters * cluster_size h ≡ 8 * (clusters * entries_per_cluster h) = ap (λ s. clusters * s) sizes.eights ∙ omega arith in
+            omega (arith, whole, eights)
+
+    -- no count falls
+    pub uses_named : (k : ℕ) → IsUsed view file k → IsUsed view named k
+    uses_named k used zero =
+        let counts = known_counts h place clusters (run_at first blocks) anew (order_of file.caches) q base known base' known' sound.caches.kept.kept.guarded writes_now new k in
+        used (omega (arith, counts, zero))
+
+-- ---- as the calls say it
+module _ {S : Type 0} (view : S → StorageView) (p : Pending) (first blocks clusters : ℕ) (file : ImageFile S) (allocator : Allocator) (t : EntryTableView) (cluster offset count : ℕ)
+    (sound : IsSoundWith view allocator (with_run p file.header.fields allocator.reftable first (blocks + clusters)) file) (ready : StandsGrown view file allocator.reftable t first blocks clusters) (is_table : IsRefTable t)
+    (some : t.cluster ≡ Some cluster) (at : offset ≡ cluster * 2 ^ t.cluster_bits) (many : count ≡ (length t.bytes + 2 ^ t.cluster_bits - 1) / 2 ^ t.cluster_bits) where
+  count_is : count ≡ clusters
+  count_is =
+      let h = file.header.fields in
+      let whole = is_table.table.whole in
+      let eights = ready.grown.whole in
+      let long : length t.bytes ≡ clusters * cluster_size h = omega (arith, whole, eights) in
+      many ∙ ap (λ b. (length t.bytes + 2 ^ b - 1) / 2 ^ b) ready.grown.bits ∙ ap (λ n. (n + 2 ^ h.cluster_bits - 1) / 2 ^ h.cluster_bits) long
+      ∙ whole_clusters clusters (cluster_size h) (file_sizes view (with_run p h allocator.reftable first (blocks + clusters)) file sound.sound).some
+
+  offset_is : offset ≡ (first + blocks) * cluster_size file.header.fields
+  offset_is =
+      let here : cluster ≡ first + blocks = some_is (sym some ∙ ready.grown.cluster) in
+      at ∙ ap (λ n. n * 2 ^ t.cluster_bits) here ∙ ap (λ b. (first + blocks) * 2 ^ b) ready.grown.bits
+    where
+      some_is : {A : Type 0} {a b : A} → Some a ≡ Some b → a ≡ b
+      some_is e = cc
+
+  -- so long a table may be named
+  pub within_limit : 1048576 < count * entries_per_cluster file.header.fields → ⊥
+  within_limit more =
+      let few = few_entries view p first blocks clusters file allocator.reftable t sound.sound sound.reftable ready is_table in
+      let same : count * entries_per_cluster file.header.fields ≡ clusters * entries_per_cluster file.header.fields = ap (λ n. n * entries_per_cluster file.header.fields) count_is in
+      absurd (omega (arith, few, same, more))
+
+  module _ (header : HeaderView) (caches : MetadataCaches S) (storage : ImageStorage S) (asked : S) (result : Result (Unit {0}) StorageError) (is_header : header ≡ with_fields file.header (with_reftable file.header.fields offset count))
+      (noted : caches ≡ record file.caches { is_changed = true }) (tables : SameTables file.caches caches) (marks : KeepsMarks file.caches caches) (same : asked ≡ storage_of file.storage)
+      (wrote : Changes (view asked) (view (storage_of storage)) result (reftable_pointer_written header.fields (view asked).contents)) (calls : Calls (view asked) (view (storage_of storage)) result) where
+    abbrev taken : Pending
+    taken = with_run p file.header.fields allocator.reftable first (blocks + clusters)
+
+    abbrev marked : ImageFile S
+    marked = record file { caches = caches }
+
+    abbrev written_file : ImageFile S
+    written_file = record marked { storage = storage; header = header }
+
+    abbrev new_fields : HeaderFields
+    new_fields = with_reftable file.header.fields ((first + blocks) * cluster_size file.header.fields) clusters
+
+    header_now : header ≡ with_fields file.header new_fields
+    header_now =
+        is_header ∙ ap (λ n. with_fields file.header (with_reftable file.header.fields n count)) offset_is
+        ∙ ap (λ n. with_fields file.header (with_reftable file.header.fields ((first + blocks) * cluster_size file.header.fields) n)) count_is
+
+    now : Becomes view taken file allocator marked taken
+    now = becomes_marked view taken file allocator caches sound tables marks
+
+    ready_now : StandsGrown view marked allocator.reftable t first blocks clusters
+    ready_now = record {
+      grown = ready.grown;
+      stands = ready.stands;
+      counts = ready.counts;
+      clean = subst AreClean (sym tables.refblocks) ready.clean;
+      may = subst (λ o. BlocksMayGo o (l2_tables caches)) (sym tables.order) (subst (BlocksMayGo (order_of file.caches)) (sym tables.l2_tables) ready.may);
+      uncached = λ c there. ap (λ (x : MetadataCaches S). rb_at x c) noted ∙ ready.uncached c there;
+    }
+
+    changes : Changes (view_in view marked) (view (storage_of storage)) result (reftable_pointer_written new_fields (view_in view marked).contents)
+    changes =
+        subst (λ (s : S). Changes (view s) (view (storage_of storage)) result (reftable_pointer_written new_fields (view s).contents)) same
+        (subst (λ (v : HeaderView). Changes (view asked) (view (storage_of storage)) result (reftable_pointer_written v.fields (view asked).contents)) header_now wrote)
+
+    calls_now : Calls (view_in view marked) (view (storage_of storage)) result
+    calls_now = subst (λ (s : S). Calls (view s) (view (storage_of storage)) result) same calls
+
+    lasts : Endures (view_in view marked) (view (storage_of storage)) (known_in view marked) nothing_given []
+    lasts = lasts_named view p first blocks clusters marked allocator.reftable t now.moves.sound now.reftable ready_now is_table result (storage_of storage) changes calls_now
+
+    pub breaks_named : IsTrue caches.is_changed → (e : ImageError) → IsFault e → Breaks view file written_file e
+    breaks_named changed e fault = record { fault = fault; noted = λ _. changed; since = endures_then view file marked written_file now.moves.since now.moves.leads.known lasts }
+
+    module _ (x : Unit {0}) (done : result ≡ Ok x) where
+      abbrev after : ImageFile S
+      after = record marked { storage = storage; header = with_fields file.header (with_reftable file.header.fields ((first + blocks) * cluster_size file.header.fields) clusters) }
+
+      is_written : (view (storage_of storage)).contents ≡ reftable_pointer_written new_fields (view_in view marked).contents
+      is_written = rw done at (changes sound.sound.honest)
+
+      becomes_after : BecomesOn view taken file (record allocator { reftable = t }) after (without_reftable p file.header.fields)
+      becomes_after = record {
+        moves = on_then view taken taken (without_reftable p file.header.fields) file marked after (λ k held. held) (moves_on view taken taken file marked now.moves)
+            (on_named view p first blocks clusters marked allocator.reftable t now.moves.sound now.reftable ready_now is_table storage is_written (calls_now.honest sound.sound.honest) lasts);
+        reftable = reftable_named view p first blocks clusters marked allocator.reftable t now.moves.sound now.reftable ready_now is_table storage is_written (calls_now.honest sound.sound.honest);
+      }
+
+      pub becomes_named : BecomesOn view taken file (record allocator { reftable = t }) written_file (without_reftable p file.header.fields)
+      becomes_named = subst (λ (v : HeaderView). BecomesOn view taken file (record allocator { reftable = t }) (record marked { storage = storage; header = v }) (without_reftable p file.header.fields)) (sym header_now) becomes_after
+
+      pub keeps_used : (k : ℕ) → IsUsed view file k → IsUsed view written_file k
+      keeps_used k used =
+          let still : IsUsed view marked k = λ zero. used (let counts = now.moves.counts k in omega (arith, counts, zero)) in
+          subst (λ (v : HeaderView). IsUsed view (record marked { storage = storage; header = v }) k) (sym header_now)
+          (uses_named view p first blocks clusters marked allocator.reftable t now.moves.sound now.reftable ready_now is_table storage is_written (calls_now.honest sound.sound.honest) k still)

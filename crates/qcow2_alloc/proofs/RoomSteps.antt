@@ -1,0 +1,156 @@
+-- One refblock more of a room is written and entered.
+use Rattle.std.proofs.Common.{◌≡◌, inl, inr, ℕ, ◌+◌, ◌-◌, ◌*◌, ◌/◌, ◌%◌, ◌^◌, ◌<◌, ◌≤◌, Bool, true, List, None, Ok, Err, refl, sym, ap, ◌∙◌, subst, arith}
+use Rattle.std.proofs.lemmas.Bool.{cases_eq, cases_lt, cond-false, le-ltb}
+use Rattle.std.proofs.Math.Nat.{mul-mod_left, mul-le-mul_left}
+use Rattle.std.proofs.lemmas.Nat.{div-add-mod'}
+use Rattle.image_access.specs.Moments.{StorageView}
+use Rattle.qcow2_metadata.specs.Bytes.{Bytes, one_if}
+use Rattle.qcow2_metadata.specs.Consistent.{IsAligned}
+use Rattle.qcow2_metadata.specs.declared.header.HeaderFields.{HeaderFields}
+use Rattle.qcow2_metadata.specs.Header.{cluster_size, counts_per_block, reftable_entries}
+use Rattle.qcow2_metadata.specs.Entries.{block_offset, reftable_entry}
+use Rattle.qcow2_metadata.specs.EntryTable.{EntryTableView, entry_count}
+use Rattle.qcow2_metadata.specs.RefBlock.{RefBlockView, IsRefBlock}
+use Rattle.qcow2_metadata.specs.TableBytes.{entry_at, ChangesEntry}
+use Rattle.qcow2_metadata.specs.Tables.{CachedTable}
+use Rattle.qcow2_laws.specs.Caches.{BlocksMayGo}
+use Rattle.qcow2_laws.specs.Clusters.{Direction}
+use Rattle.qcow2_laws.specs.Guard.{Pending}
+use Rattle.qcow2_laws.specs.Tops.{IsSameOutside}
+use Rattle.qcow2_alloc.specs.declared.allocation.Allocator.{Allocator}
+use Rattle.qcow2_alloc.specs.declared.error.ImageError.{ImageError}
+use Rattle.qcow2_alloc.specs.declared.image_file.ImageFile.{ImageFile}
+use Rattle.qcow2_alloc.specs.Allocation.{run_at, StandAt, Becomes}
+use Rattle.qcow2_alloc.specs.GrownTables.{with_run}
+use Rattle.qcow2_alloc.specs.ImageFile.{contents_in, IsFault, IsSoundFile, IsSoundWith, HasReftable, LeavesSound}
+use Rattle.qcow2_alloc.specs.MetadataCaches.{order_of, l2_tables, rb_at}
+use Rattle.qcow2_alloc.specs.Rooms.{opens, opened, CountsRun, WritesTo}
+use Rattle.qcow2_alloc.specs.TableCaches.{IsBlockOf}
+use Rattle.qcow2_laws.proofs.Places.{Sizes}
+use Rattle.qcow2_alloc.proofs.PlacedRooms.{EntersSo, Counting, enters_more, counting_more}
+use Rattle.qcow2_alloc.proofs.Rooms.{opened_more}
+use Rattle.qcow2_alloc.proofs.Runs.{run_before, run_after, run_last, none_there}
+
+-- no entry names a refblock off a cluster
+none_aligned : (h : HeaderFields) → IsAligned h (block_offset 0)
+none_aligned h = let zero : 0 ≡ 0 * cluster_size h = omega arith in ap (λ n. n % cluster_size h) zero ∙ mul-mod_left 0 (cluster_size h)
+
+reftable_past : (h : HeaderFields) (b : Bytes) (k : ℕ) → reftable_entries h ≤ k → reftable_entry h b k ≡ 0
+unfolding reftable_entry
+reftable_past h b k past = cond-false _ _ _ (le-ltb k (reftable_entries h) past)
+
+pub entries_aligned : {S : Type 0} (view : S → StorageView) (q : Pending) (file : ImageFile S) (t : EntryTableView) → IsSoundFile view q file → HasReftable view file t → (k : ℕ) → IsAligned file.header.fields (block_offset (entry_at t.bytes k))
+entries_aligned view q file t sound has k =
+    let h = file.header.fields in
+    elim (cases_lt k (reftable_entries h)) [
+      | inl within ↦ subst (λ e. IsAligned h (block_offset e)) (sym (has.entries k)) (sound.caches.kept.kept.guarded.top.refblocks_aligned k within)
+      | inr past ↦ subst (λ e. IsAligned h (block_offset e)) (sym (has.entries k ∙ reftable_past h (contents_in view file) k past)) (none_aligned h)
+    ]
+
+-- an entry, as equal numbers say it
+pub changes_as : (old new : List ℕ) (i i' e e' : ℕ) → i ≡ i' → e ≡ e' → ChangesEntry old new i e → ChangesEntry old new i' e'
+changes_as old new i i' e e' same_index same changes = subst (λ j. ChangesEntry old new j e') same_index (subst (λ x. ChangesEntry old new i x) same changes)
+
+pub offset_as : (bytes : List ℕ) (i i' e e' : ℕ) → i ≡ i' → e ≡ e' → block_offset (entry_at bytes i) ≡ e → block_offset (entry_at bytes i') ≡ e'
+offset_as bytes i i' e e' same_index same is = ap (λ j. block_offset (entry_at bytes j)) (sym same_index) ∙ is ∙ same
+
+pub counts_as : (h h' : HeaderFields) (block : RefBlockView) (begin begin' first n n' : ℕ) → h ≡ h' → begin ≡ begin' → n ≡ n' → CountsRun h block begin first n → CountsRun h' block begin' first n'
+counts_as h h' block begin begin' first n n' same_header same same_length counts =
+    subst (λ (k : HeaderFields). CountsRun k block begin' first n') same_header (subst (λ m. CountsRun h block m first n') same (subst (λ m. CountsRun h block begin first m) same_length counts))
+
+-- no refblock is cached for one cluster more
+pub uncached_more : {S : Type 0} (old new : ImageFile S) (first placed : ℕ) → ((c : ℕ) → (c ≡ first + placed → ⊥) → rb_at new.caches c ≡ rb_at old.caches c) → rb_at new.caches (first + placed) ≡ None
+    → ((c : ℕ) → 0 < run_at first placed c → rb_at old.caches c ≡ None) → (c : ℕ) → 0 < run_at first (placed + 1) c → rb_at new.caches c ≡ None
+uncached_more old new first placed others gone before c some = elim (cases_eq c (first + placed)) [
+  | inl here ↦ ap (λ k. rb_at new.caches k) here ∙ gone
+  | inr other ↦ others c other ∙ before c (let last = run_last first placed c in let none = none_there (first + placed) c other in omega (arith, some, last, none))
+]
+
+module _ {S : Type 0} (view : S → StorageView) (p : Pending) (first n : ℕ) (a : Allocator) (f f' : ImageFile S) (cluster : ℕ) (block : RefBlockView) where
+  -- what a write of a refblock says, with the header that the file has all along
+  module _ (h : HeaderFields) (same : f.header.fields ≡ h) where
+    pub wrote_err : (e : ImageError) → (IsSoundWith view a (with_run p f.header.fields a.reftable first n) f → IsBlockOf f.header.fields block → WritesTo view (with_run p f.header.fields a.reftable first n) f a f' cluster block.bytes (Err e))
+        → IsSoundWith view a (with_run p h a.reftable first n) f → IsBlockOf f.header.fields block → IsFault e × LeavesSound view (with_run p h a.reftable first n) f a f' e
+    wrote_err e clause sound fits =
+        subst (λ (k : HeaderFields). IsSoundWith view a (with_run p k a.reftable first n) f → IsFault e × LeavesSound view (with_run p k a.reftable first n) f a f' e) same (λ s. clause s fits) sound
+
+    pub wrote_ok : (x : Unit {0}) → (IsSoundWith view a (with_run p f.header.fields a.reftable first n) f → IsBlockOf f.header.fields block → WritesTo view (with_run p f.header.fields a.reftable first n) f a f' cluster block.bytes (Ok x))
+        → IsSoundWith view a (with_run p h a.reftable first n) f → IsBlockOf f.header.fields block
+        → Becomes view (with_run p h a.reftable first n) f a f' (with_run p h a.reftable first n) × StandAt (contents_in view f') (cluster * cluster_size h) block.bytes × IsSameOutside (cluster_size h) cluster (contents_in view f) (contents_in view f')
+        × (rb_at f'.caches cluster ≡ None)
+    wrote_ok x clause sound fits =
+        subst (λ (k : HeaderFields). IsSoundWith view a (with_run p k a.reftable first n) f
+        → Becomes view (with_run p k a.reftable first n) f a f' (with_run p k a.reftable first n) × StandAt (contents_in view f') (cluster * cluster_size k) block.bytes × IsSameOutside (cluster_size k) cluster (contents_in view f) (contents_in view f')
+        × (rb_at f'.caches cluster ≡ None)) same (λ s. let w = clause s fits in (w.becomes, w.stands, w.outside, w.gone)) sound
+
+-- what may be written still may
+pub may_go : {S : Type 0} (old new : ImageFile S) → order_of new.caches ≡ order_of old.caches → l2_tables new.caches ≡ l2_tables old.caches → BlocksMayGo (order_of old.caches) (l2_tables old.caches) → BlocksMayGo (order_of new.caches) (l2_tables new.caches)
+may_go old new order tables may = subst (λ (ts : List CachedTable). BlocksMayGo (order_of new.caches) ts) (sym tables) (subst (λ (d : Direction). BlocksMayGo d (l2_tables old.caches)) (sym order) may)
+
+pub of_three : {A B C : Type 0} (P : A → B → C → Type 0) (a a' : A) (b b' : B) (c c' : C) → a ≡ a' → b ≡ b' → c ≡ c' → P a' b' c' → P a b c
+of_three P a a' b b' c c' same_a same_b same_c holds = subst (λ x. P x b c) (sym same_a) (subst (λ y. P a' y c) (sym same_b) (subst (P a' b') (sym same_c) holds))
+
+pub rest_then : (t0 t t' u : EntryTableView) → u ≡ t' → t' ≡ record t { bytes = t'.bytes } → t ≡ record t0 { bytes = t.bytes } → u ≡ record t0 { bytes = u.bytes }
+rest_then t0 t t' u is then first = subst (λ (x : EntryTableView). x ≡ record t0 { bytes = x.bytes }) (sym is) (then ∙ ap (λ (x : EntryTableView). record x { bytes = t'.bytes }) first)
+
+pub placed_more : (t : EntryTableView) (per first at at' one cluster : ℕ) (b : Bool) → first ≤ at → first ≤ cluster → b ≡ opens t per first cluster → at' ≡ at + one → one ≡ one_if b → at - first ≡ opened t per first (cluster - first)
+    → at' - first ≡ opened t per first (cluster + 1 - first)
+placed_more t per first at at' one cluster b low from is next flag before =
+    let here : first + (cluster - first) ≡ cluster = omega (arith, from) in
+    let more = opened_more t per first (cluster - first) (at - first) one b (is ∙ ap (opens t per first) (sym here)) flag before in
+    let length_is : cluster - first + 1 ≡ cluster + 1 - first = omega (arith, from) in
+    let start : at' - first ≡ at - first + one = omega (arith, next, low) in
+    start ∙ more ∙ ap (opened t per first) length_is
+
+pub range_within : (cluster end count per : ℕ) → cluster < end → end ≤ count * per → cluster / per < count
+range_within cluster end count per below within = elim (cases_lt (cluster / per) count) [
+  | inl lt ↦ lt
+  | inr past ↦ absurd (let product : per * count ≤ per * (cluster / per) = mul-le-mul_left per past in let e = div-add-mod' cluster per in omega (arith, product, e, below, within))
+]
+
+pub run_within : (first n c : ℕ) → 0 < run_at first n c → (first ≤ c) × (c < first + n)
+run_within first n c some = elim (cases_lt c first) [
+  | inl below ↦ absurd (let none = run_before first n c below in omega (arith, some, none))
+  | inr from ↦ elim (cases_lt c (first + n)) [ inl lt ↦ (from, lt) | inr past ↦ absurd (let none = run_after first n c past in omega (arith, some, none)) ]
+]
+
+module _ {S : Type 0} (view : S → StorageView) (h : HeaderFields) (sizes : Sizes h) (old t0 t t' : EntryTableView) (f f' : ImageFile S) (first n at cluster bits : ℕ) (block : RefBlockView)
+    (first_some : 0 < first) (low : first ≤ at) (from : first ≤ cluster) (per : counts_per_block h ≡ 2 ^ bits) (t_bits : t.cluster_bits ≡ h.cluster_bits) (entries : (k : ℕ) → entry_at t0.bytes k ≡ entry_at old.bytes k)
+    (open_here : opens old (counts_per_block h) first cluster ≡ true) (within : cluster / counts_per_block h < entry_count t)
+    (enters : ChangesEntry t.bytes t'.bytes (cluster / 2 ^ bits) (at * 2 ^ t.cluster_bits)) (offset : block_offset (entry_at t'.bytes (cluster / 2 ^ bits)) ≡ at * 2 ^ t.cluster_bits)
+    (before : EntersSo h old t0 t first (at - first) cluster) (counting : Counting h (contents_in view f) old t first n) (uncached : (c : ℕ) → 0 < run_at first (at - first) c → rb_at f.caches c ≡ None)
+    (whole : IsRefBlock block) (format : IsBlockOf h block) (counts : CountsRun h block (cluster / 2 ^ bits * 2 ^ bits) first n)
+    (stands : StandAt (contents_in view f') (at * cluster_size h) block.bytes) (outside : IsSameOutside (cluster_size h) at (contents_in view f) (contents_in view f'))
+    (gone : rb_at f'.caches at ≡ None) (others : (c : ℕ) → (c ≡ at → ⊥) → rb_at f'.caches c ≡ rb_at f.caches c) where
+  at_is : at ≡ first + (at - first)
+  at_is = omega (arith, low)
+
+  next_is : at - first + 1 ≡ at + 1 - first
+  next_is = omega (arith, low)
+
+  range_is : cluster / 2 ^ bits ≡ cluster / counts_per_block h
+  range_is = ap (λ n. cluster / n) (sym per)
+
+  place_is : at * 2 ^ t.cluster_bits ≡ (first + (at - first)) * cluster_size h
+  place_is = ap (λ b. at * 2 ^ b) t_bits ∙ ap (λ k. k * cluster_size h) at_is
+
+  enters_here : ChangesEntry t.bytes t'.bytes (cluster / counts_per_block h) ((first + (at - first)) * cluster_size h)
+  enters_here = changes_as t.bytes t'.bytes (cluster / 2 ^ bits) (cluster / counts_per_block h) (at * 2 ^ t.cluster_bits) ((first + (at - first)) * cluster_size h) range_is place_is enters
+
+  offset_here : block_offset (entry_at t'.bytes (cluster / counts_per_block h)) ≡ (first + (at - first)) * cluster_size h
+  offset_here = offset_as t'.bytes (cluster / 2 ^ bits) (cluster / counts_per_block h) (at * 2 ^ t.cluster_bits) ((first + (at - first)) * cluster_size h) range_is place_is offset
+
+  pub room_enters : EntersSo h old t0 t' first (at + 1 - first) (cluster + 1)
+  room_enters = subst (λ m. EntersSo h old t0 t' first m (cluster + 1)) next_is (enters_more h old t0 t first (at - first) cluster from sizes.counts before t' first_some entries open_here within enters_here offset_here)
+
+  pub room_counts : Counting h (contents_in view f') old t' first n
+  room_counts =
+      counting_more h sizes (contents_in view f) (contents_in view f') old t0 t t' first (at - first) cluster n (cluster / counts_per_block h) before counting
+      (subst (λ k. IsSameOutside (cluster_size h) k (contents_in view f) (contents_in view f')) at_is outside) enters_here.others offset_here block whole format
+      (counts_as h h block (cluster / 2 ^ bits * 2 ^ bits) (cluster / counts_per_block h * counts_per_block h) first n n refl (ap (λ k. cluster / k * k) (sym per)) refl counts)
+      (subst (λ k. StandAt (contents_in view f') (k * cluster_size h) block.bytes) at_is stands)
+
+  pub room_uncached : (c : ℕ) → 0 < run_at first (at + 1 - first) c → rb_at f'.caches c ≡ None
+  room_uncached =
+      subst (λ m. (c : ℕ) → 0 < run_at first m c → rb_at f'.caches c ≡ None) next_is
+      (uncached_more f f' first (at - first) (λ c other. others c (λ e. other (e ∙ at_is))) (ap (λ k. rb_at f'.caches k) (sym at_is) ∙ gone) uncached)

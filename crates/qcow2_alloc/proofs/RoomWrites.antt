@@ -1,0 +1,263 @@
+-- Bytes are written to clusters of a run that nothing names.
+use Rattle.std.proofs.Common.{◌≡◌, ◌⊎◌, inl, inr, ℕ, ◌+◌, ◌*◌, ◌/◌, ◌<◌, ◌≤◌, Bool, true, false, IsTrue, IsFalse, List, length, Some, None, Result, Ok, Err, ◌^◌, refl, sym, ap, ◌∙◌, subst, arith}
+use mathlib.Core.Path.{fun_ext}
+use Rattle.std.proofs.lemmas.Bool.{cases_eq, cases_lt, ne_eqb, cond-false}
+use Rattle.std.proofs.lemmas.Nat.{div-add-mod', mod_below, pow_pos}
+use Rattle.std.proofs.Math.Nat.{mul-le-mul_left}
+use Rattle.std.specs.Option.{IfSome}
+use Rattle.image_access.specs.Contents.{overwritten}
+use Rattle.image_access.specs.Moments.{StorageView, Changes, Calls}
+use Rattle.image_access.specs.declared.error.StorageError.{StorageError}
+use Rattle.image_access.proofs.Bytes.{byte_at-overwritten}
+use Rattle.image_access.proofs.Passing.{passes_none, whole_or_nothing}
+use Rattle.qcow2_metadata.specs.Bytes.{Bytes, byte_at}
+use Rattle.qcow2_metadata.specs.declared.header.HeaderFields.{HeaderFields}
+use Rattle.qcow2_metadata.specs.EntryTable.{EntryTableView}
+use Rattle.qcow2_metadata.specs.RefBlock.{RefBlockView}
+use Rattle.qcow2_metadata.specs.TableBytes.{entry_at}
+use Rattle.qcow2_metadata.specs.Tables.{CachedTable}
+use Rattle.qcow2_metadata.specs.Header.{cluster_size, counts_per_block}
+use Rattle.qcow2_metadata.specs.Entries.{block_offset}
+use Rattle.qcow2_laws.specs.Caches.{BlocksMayGo}
+use Rattle.qcow2_laws.specs.Guard.{Pending, IsGuarded, SameIn}
+use Rattle.qcow2_laws.specs.Writes.{IsUnnamed}
+use Rattle.qcow2_laws.specs.Clusters.{Direction}
+use Rattle.qcow2_laws.specs.Tops.{IsSameOutside}
+use Rattle.qcow2_laws.proofs.Beside.{overwritten_but}
+use Rattle.qcow2_laws.proofs.Places.{count_none}
+use Rattle.qcow2_laws.proofs.Steps.{data_is_written}
+use Rattle.qcow2_alloc.specs.declared.allocation.Allocator.{Allocator}
+use Rattle.qcow2_alloc.specs.declared.cache.MetadataCaches.{MetadataCaches}
+use Rattle.qcow2_alloc.specs.declared.image_file.ImageFile.{ImageFile}
+use Rattle.qcow2_alloc.specs.declared.image_storage.ImageStorage.{ImageStorage}
+use Rattle.qcow2_alloc.specs.Allocation.{run_at, StandAt, Becomes}
+use Rattle.qcow2_alloc.specs.CacheMarks.{KeepsMarks}
+use Rattle.qcow2_alloc.specs.GrownTables.{counted_run, with_run}
+use Rattle.qcow2_alloc.specs.ImageFile.{view_in, contents_in, known_in, stand_in, IsSoundFile, IsSoundWith, HasReftable}
+use Rattle.qcow2_alloc.specs.ImageStorage.{storage_of}
+use Rattle.qcow2_alloc.specs.MetadataCaches.{order_of, l2_tables, rb_at, known_of, StaySound, TakesBlock}
+use Rattle.qcow2_alloc.specs.ImageError.{of_storage}
+use Rattle.qcow2_alloc.specs.Rooms.{WritesTo, WritesTable}
+use Rattle.qcow2_alloc.specs.TableCaches.{IsBlockOf}
+use Rattle.qcow2_alloc.proofs.AllocationSteps.{fault_of_storage, becomes_cached, becomes_then, is_sound_now}
+use Rattle.qcow2_alloc.proofs.FileWrites.{moves_written, reftable_written}
+use Rattle.qcow2_alloc.proofs.Runs.{run_in, run_before, run_after}
+use Rattle.qcow2_alloc.proofs.PlacedBlocks.{IsFree, has_none, covers_written, known_there, moves_rewritten, reftable_rewritten, write_as, outside_cluster}
+
+module _ {S : Type 0} (view : S → StorageView) where
+  -- nothing names a cluster of a run whose counted clusters are fresh
+  pub free_in_run : (p : Pending) (first n : ℕ) (file : ImageFile S) (t : EntryTableView) → IsSoundFile view (with_run p file.header.fields t first n) file → HasReftable view file t → BlocksMayGo (order_of file.caches) (l2_tables file.caches)
+      → (c : ℕ) → 0 < run_at first n c → IsFree view (with_run p file.header.fields t first n) file c
+  free_in_run p first n file t sound has may c some =
+      let h = file.header.fields in
+      let q : Pending = with_run p file.header.fields t first n in
+      let guarded = sound.caches.kept.kept.guarded in
+      let tally = (guarded.always c).tally in
+      elim (cases_eq (block_offset (entry_at t.bytes (c / counts_per_block file.header.fields))) 0) [
+        | inl none ↦
+            let none_there = has_none view q file t sound has (c / counts_per_block file.header.fields) none in
+            let known_none = count_none h (known_in view file) c none_there.1 in
+            record { unnamed = data_is_written.unused (stand_in view file q) c guarded known_none (count_none h (contents_in view file) c none_there.0); unheld = omega (arith, tally, known_none) }
+        | inr real ↦
+            let is : counted_run h t first n c ≡ run_at first n c = cond-false {A = ℕ} _ 0 (run_at first n c) (ne_eqb _ 0 real) in
+            let fresh : 0 < p.fresh c + counted_run h t first n c = omega (arith, is, some) in
+            let few = (guarded.always c).pending (omega (arith, fresh)) in
+            record { unnamed = data_is_written.fresh (stand_in view file q) c guarded fresh (covers_written view q file sound may); unheld = omega (arith, tally, few, fresh) }
+      ]
+
+  -- ---- a refblock is forgotten where nothing names its cluster
+  module _ (q : Pending) (file : ImageFile S) (caches : MetadataCaches S) (cluster : ℕ) (sound : IsSoundFile view q file) (free : IsFree view q file cluster) (order : order_of caches ≡ order_of file.caches) where
+    abbrev h : HeaderFields
+    h = file.header.fields
+
+    abbrev base : Bytes
+    base = contents_in view file
+
+    stays_as : (known : known_of h caches base ≡ known_in view file) → TakesBlock file.caches caches cluster → StaySound h q (view_in view file) file.caches (view_in view file) caches
+    stays_as known takes =
+        let off = takes h q base sound.caches in
+        let guarded = subst (λ (d : Direction). IsGuarded h d q base (known_in view file)) (sym order) sound.caches.kept.kept.guarded in
+        record {
+          honest = sound.honest;
+          sound = off.off.sound q (subst (λ (b : Bytes). IsGuarded h (order_of caches) q base b) (sym known) guarded);
+          known = known;
+          settled = off.off.settled;
+          since = record { moments = passes_none (view_in view file) _; contents = λ backing m ok known_ok. ok };
+        }
+
+    removed_stays : (taken : Bool) → (IsFalse taken → caches ≡ file.caches) → (IsTrue taken → TakesBlock file.caches caches cluster) → StaySound h q (view_in view file) file.caches (view_in view file) caches
+    removed_stays true same takes =
+        let off = takes refl h q base sound.caches in
+        let there = known_there view q file cluster sound free in
+        stays_as (fun_ext (λ o. elim (cases_eq (o / cluster_size h) cluster) [
+          | inl here ↦ elim (off.off.known cluster) [ inl as_base ↦ as_base o here ∙ sym (there o here) | inr as_known ↦ as_known o here ]
+          | inr other ↦ sym (off.outside o other)
+        ])) (takes refl)
+    removed_stays false same takes =
+        subst (λ (c : MetadataCaches S). StaySound h q (view_in view file) file.caches (view_in view file) c) (sym (same refl)) (record {
+          honest = sound.honest;
+          sound = sound.caches;
+          known = refl;
+          settled = λ settled. settled;
+          since = record { moments = passes_none (view_in view file) _; contents = λ backing m ok known_ok. ok };
+        })
+
+    pub becomes_removed : (a : Allocator) → HasReftable view file a.reftable → (taken : Bool) → (IsFalse taken → caches ≡ file.caches) → (IsTrue taken → TakesBlock file.caches caches cluster) → KeepsMarks file.caches caches
+        → Becomes view q file a (record file { caches = caches }) q
+    becomes_removed a has taken same takes marks = becomes_cached view q file a file.storage caches (record { sound = sound; reftable = has }) (removed_stays taken same takes) marks
+
+  -- ---- the bytes of a refblock are written to its cluster
+  module _ (q : Pending) (file : ImageFile S) (a : Allocator) (storage : ImageStorage S) (at : ℕ) (bytes : List ℕ) (result : Result (Unit {0}) StorageError) (sound : IsSoundWith view a q file) (free : IsFree view q file at)
+      (long : length bytes ≡ cluster_size file.header.fields)
+      (writes : Changes (view_in view file) (view (storage_of storage)) result (overwritten (view_in view file).contents (at * cluster_size file.header.fields) bytes))
+      (calls : Calls (view_in view file) (view (storage_of storage)) result) where
+    abbrev written : ImageFile S
+    written = record file { storage = storage }
+
+    pub becomes_rewritten : Becomes view q file a written q
+    becomes_rewritten = record { moves = moves_rewritten view q file storage at bytes result sound.sound free long writes calls; reftable = reftable_rewritten view q file storage at bytes result sound.sound free long writes calls a.reftable sound.reftable }
+
+    pub stands_written : (x : Unit {0}) → result ≡ Ok x → StandAt (contents_in view written) (at * cluster_size file.header.fields) bytes
+    stands_written x ok i lt =
+        let now = rw ok at (writes sound.sound.honest) in
+        sym (ap (λ (l : List ℕ). byte_at l (at * cluster_size file.header.fields + i)) now ∙ byte_at-overwritten (view_in view file).contents (at * cluster_size file.header.fields) bytes i lt)
+
+    pub outside_written : (x : Unit {0}) → result ≡ Ok x → IsSameOutside (cluster_size file.header.fields) at (contents_in view file) (contents_in view written)
+    outside_written x ok o other =
+        let now = rw ok at (writes sound.sound.honest) in
+        overwritten_but (view_in view file).contents (at * cluster_size file.header.fields) bytes o
+        (subst (λ n. (o < at * cluster_size file.header.fields) ⊎ (at * cluster_size file.header.fields + n ≤ o)) (sym long) (outside_cluster file.header.fields.cluster_bits at o other))
+        ∙ ap (λ (l : List ℕ). byte_at l o) (sym now)
+
+  -- ---- both, one after the other
+  module _ (p : Pending) (first n : ℕ) (file : ImageFile S) (a : Allocator) (caches : MetadataCaches S) (cluster : ℕ) (taken : Bool) (sound : IsSoundWith view a (with_run p file.header.fields a.reftable first n) file)
+      (may : BlocksMayGo (order_of file.caches) (l2_tables file.caches)) (some : 0 < run_at first n cluster) (order : order_of caches ≡ order_of file.caches) (tables : l2_tables caches ≡ l2_tables file.caches) (marks : KeepsMarks file.caches caches)
+      (same : IsFalse taken → caches ≡ file.caches) (takes : IsTrue taken → TakesBlock file.caches caches cluster)
+      (asked : S) (after : ImageStorage S) (block : RefBlockView) (result : Result (Unit {0}) StorageError) (fits : IsBlockOf file.header.fields block) (is : block.cluster ≡ Some cluster) (whole : length block.bytes ≡ 2 ^ block.cluster_bits)
+      (asked_same : asked ≡ storage_of file.storage)
+      (written : IfSome block.cluster (λ k. Changes (view asked) (view (storage_of after)) result (overwritten (view asked).contents (k * 2 ^ block.cluster_bits) block.bytes))) (calls : Calls (view asked) (view (storage_of after)) result) where
+    abbrev run_pending : Pending
+    run_pending = with_run p file.header.fields a.reftable first n
+
+    abbrev forgot : ImageFile S
+    forgot = record file { caches = caches }
+
+    abbrev block_written : ImageFile S
+    block_written = record forgot { storage = after }
+
+    one : Becomes view run_pending file a forgot run_pending
+    one = becomes_removed run_pending file caches cluster sound.sound (free_in_run p first n file a.reftable sound.sound sound.reftable may cluster some) order a sound.reftable taken same takes marks
+
+    may_still : BlocksMayGo (order_of caches) (l2_tables caches)
+    may_still = subst (λ (ts : List CachedTable). BlocksMayGo (order_of caches) ts) (sym tables) (subst (λ (d : Direction). BlocksMayGo d (l2_tables file.caches)) (sym order) may)
+
+    free_still : IsFree view run_pending forgot cluster
+    free_still = free_in_run p first n forgot a.reftable one.moves.sound one.reftable may_still cluster some
+
+    long : length block.bytes ≡ cluster_size file.header.fields
+    long = whole ∙ ap (λ b. 2 ^ b) fits.bits
+
+    writes : Changes (view_in view forgot) (view (storage_of after)) result (overwritten (view_in view forgot).contents (cluster * cluster_size file.header.fields) block.bytes)
+    writes = write_as view (storage_of file.storage) asked (storage_of after) cluster block.cluster block.cluster_bits file.header.fields.cluster_bits block.bytes result asked_same is fits.bits written
+
+    calls_now : Calls (view_in view forgot) (view (storage_of after)) result
+    calls_now = subst (λ (s : S). Calls (view s) (view (storage_of after)) result) asked_same calls
+
+    now : IsSoundWith view a run_pending forgot
+    now = is_sound_now view run_pending run_pending file forgot a one
+
+    pub becomes_block : Becomes view run_pending file a block_written run_pending
+    becomes_block = becomes_then view run_pending run_pending file forgot block_written a a one (becomes_rewritten run_pending forgot a after cluster block.bytes result now free_still long writes calls_now)
+
+    pub block_refused : (e : StorageError) → WritesTo view run_pending file a block_written cluster block.bytes (Err (of_storage e))
+    block_refused e = (fault_of_storage e, inl (becomes_block.moves, becomes_block.reftable))
+
+    pub block_stands : (x : Unit {0}) → result ≡ Ok x → rb_at caches cluster ≡ None → WritesTo view run_pending file a block_written cluster block.bytes (Ok x)
+    block_stands x ok gone = record {
+      becomes = becomes_block;
+      stands = stands_written run_pending forgot a after cluster block.bytes result now free_still long writes calls_now x ok;
+      outside = outside_written run_pending forgot a after cluster block.bytes result now free_still long writes calls_now x ok;
+      gone = gone;
+    }
+
+  -- ---- a table is written to clusters of a run
+  module _ (p : Pending) (first n : ℕ) (file : ImageFile S) (a : Allocator) (sound : IsSoundWith view a (with_run p file.header.fields a.reftable first n) file) (may : BlocksMayGo (order_of file.caches) (l2_tables file.caches))
+      (at m : ℕ) (low : first ≤ at) (high : at + m ≤ first + n) (t : EntryTableView) (t_bits : t.cluster_bits ≡ file.header.fields.cluster_bits) (long : length t.bytes ≡ m * cluster_size file.header.fields)
+      (asked : S) (after : ImageStorage S) (result : Result (Unit {0}) StorageError) (asked_same : asked ≡ storage_of file.storage)
+      (written : Changes (view asked) (view (storage_of after)) result (overwritten (view asked).contents (at * 2 ^ t.cluster_bits) t.bytes)) (calls : Calls (view asked) (view (storage_of after)) result) where
+    abbrev table_pending : Pending
+    table_pending = with_run p file.header.fields a.reftable first n
+
+    abbrev table_written : ImageFile S
+    table_written = record file { storage = after }
+
+    abbrev place : ℕ
+    place = at * cluster_size file.header.fields
+
+    table_writes : Changes (view_in view file) (view (storage_of after)) result (overwritten (view_in view file).contents (at * cluster_size file.header.fields) t.bytes)
+    table_writes =
+        subst (λ (s : S). Changes (view s) (view (storage_of after)) result (overwritten (view s).contents (at * cluster_size file.header.fields) t.bytes)) asked_same
+        (subst (λ b. Changes (view asked) (view (storage_of after)) result (overwritten (view asked).contents (at * 2 ^ b) t.bytes)) t_bits written)
+
+    table_calls : Calls (view_in view file) (view (storage_of after)) result
+    table_calls = subst (λ (s : S). Calls (view s) (view (storage_of after)) result) asked_same calls
+
+    -- a cluster of the table, or one outside of it
+    in_or_out : (c : ℕ) → (0 < run_at at m c) ⊎ ((o : ℕ) → o / cluster_size file.header.fields ≡ c → (o < place) ⊎ (place + length t.bytes ≤ o))
+    in_or_out c =
+        elim (cases_lt c at) [
+          | inl below ↦ inr (λ o in_c. inl (
+              let e = div-add-mod' o (cluster_size file.header.fields) in
+              let lt = mod_below o (cluster_size file.header.fields) (pow_pos file.header.fields.cluster_bits) in
+              let same : o / cluster_size file.header.fields * cluster_size file.header.fields ≡ c * cluster_size file.header.fields = ap (λ k. k * cluster_size file.header.fields) in_c in
+              let product : cluster_size file.header.fields * (c + 1) ≤ cluster_size file.header.fields * at = mul-le-mul_left (cluster_size file.header.fields) (omega (arith, below)) in
+              omega (arith, e, lt, same, product)))
+          | inr from ↦ elim (cases_lt c (at + m)) [
+            | inl within ↦ inl (let one = run_in at m c from within in omega (arith, one))
+            | inr past ↦ inr (λ o in_c. inr (
+                let e = div-add-mod' o (cluster_size file.header.fields) in
+                let same : o / cluster_size file.header.fields * cluster_size file.header.fields ≡ c * cluster_size file.header.fields = ap (λ k. k * cluster_size file.header.fields) in_c in
+                let product : cluster_size file.header.fields * (at + m) ≤ cluster_size file.header.fields * c = mul-le-mul_left (cluster_size file.header.fields) past in
+                omega (arith, e, same, product, long)))
+          ]
+        ]
+
+    in_run : (c : ℕ) → 0 < run_at at m c → 0 < run_at first n c
+    in_run c some = elim (cases_lt c at) [
+      | inl below ↦ absurd (let none = run_before at m c below in omega (arith, some, none))
+      | inr from ↦ elim (cases_lt c (at + m)) [
+        | inl within ↦ let one = run_in first n c (omega (arith, low, from)) (omega (arith, high, within)) in omega (arith, one)
+        | inr past ↦ absurd (let none = run_after at m c past in omega (arith, some, none))
+      ]
+    ]
+
+    each : (c : ℕ) → SameIn (cluster_size file.header.fields) c (contents_in view file) (byte_at (view (storage_of after)).contents)
+        ⊎ (IsUnnamed file.header.fields (contents_in view file) (known_in view file) c × (table_pending.held c ≡ 0))
+    each c = elim (whole_or_nothing result (view_in view file).contents (overwritten (view_in view file).contents (at * cluster_size file.header.fields) t.bytes) (view (storage_of after)).contents (table_writes sound.sound.honest)) [
+      | inl same ↦ inl (λ o in_c. ap (λ (l : List ℕ). byte_at l o) (sym same))
+      | inr new ↦ elim (in_or_out c) [
+        | inl inside ↦ inr (let free = free_in_run p first n file a.reftable sound.sound sound.reftable may c (in_run c inside) in (free.unnamed, free.unheld))
+        | inr out ↦ inl (λ o in_c. overwritten_but (view_in view file).contents (at * cluster_size file.header.fields) t.bytes o (out o in_c) ∙ ap (λ (l : List ℕ). byte_at l o) (sym new))
+      ]
+    ]
+
+    becomes_table : Becomes view table_pending file a table_written table_pending
+    becomes_table = record {
+      moves = moves_written view table_pending file after sound.sound (table_calls.honest sound.sound.honest) each table_calls.time;
+      reftable = reftable_written view table_pending file after sound.sound (table_calls.honest sound.sound.honest) each a.reftable sound.reftable;
+    }
+
+    pub table_refused : (e : StorageError) → WritesTable view table_pending file a table_written at m t.bytes (Err (of_storage e))
+    table_refused e = (fault_of_storage e, inl (becomes_table.moves, becomes_table.reftable))
+
+    pub table_stands : (x : Unit {0}) → result ≡ Ok x → WritesTable view table_pending file a table_written at m t.bytes (Ok x)
+    table_stands x ok =
+        let now = rw ok at (table_writes sound.sound.honest) in
+        record {
+          becomes = becomes_table;
+          stands = λ i lt. sym (ap (λ (l : List ℕ). byte_at l (at * cluster_size file.header.fields + i)) now ∙ byte_at-overwritten (view_in view file).contents (at * cluster_size file.header.fields) t.bytes i lt);
+          outside = λ c none o in_c. elim (in_or_out c) [
+            | inl inside ↦ absurd (omega (arith, inside, none))
+            | inr out ↦ overwritten_but (view_in view file).contents (at * cluster_size file.header.fields) t.bytes o (out o in_c) ∙ ap (λ (l : List ℕ). byte_at l o) (sym now)
+          ];
+        }

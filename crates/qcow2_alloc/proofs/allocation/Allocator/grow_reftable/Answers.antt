@@ -1,0 +1,78 @@
+use Rattle.std.proofs.Common.{◌≡◌, ℕ, ◌^◌, ◌≤◌, IsSome, inl, inr, Result, refl, ◌∙◌, ◌++◌, ◌∷◌, [], List, sym, ap, subst}
+use Rattle.std.specs.Prelude.{IfErr}
+use Rattle.qcow2_metadata.specs.EntryTable.{entry_count}
+use Rattle.qcow2_metadata.specs.Header.{HeaderView, counts_per_block, entries_per_cluster}
+use Rattle.qcow2_laws.specs.Guard.{Pending}
+use Rattle.qcow2_alloc.specs.declared.clusters_to_free.ClustersToFreeEntry.{ClustersToFreeEntry}
+use Rattle.qcow2_alloc.specs.Allocation.{BecomesOn, LeavesAs}
+use Rattle.qcow2_alloc.specs.declared.error.ImageError.{ImageError}
+use Rattle.qcow2_alloc.specs.FreeList.{following}
+use Rattle.qcow2_alloc.specs.Growing.{IsLongEnough}
+use Rattle.qcow2_alloc.specs.Limits.{IsFaultOr, HasNoRoomFor, CantGrow}
+use Rattle.qcow2_alloc.proofs.AllocationSteps.{handed_on}
+use Rattle.qcow2_alloc.proofs.FullRooms.{cant_grow}
+use Rattle.qcow2_alloc.proofs.Limits.{cause_as}
+use Rattle.qcow2_alloc.proofs.Following.{following_same}
+use Rattle.qcow2_alloc.proofs.GrownReftables.{grown}
+use Rattle.qcow2_alloc.proofs.allocation.Allocator.grow_reftable.Goals as goal
+
+pub returns-in-Ok-clause-sound : goal.returns-in-Ok-clause-sound
+returns-in-Ok-clause-sound g c = λ p sound.
+    let view = g.S.Storage.view in
+    let old = c.args.file.now in
+    let former = c.in_ok-former.former in
+    let becomes = c.in-Ok.ensures.enters p sound c.in_ok-table.ensures.entries c.in_ok-table.ensures.length.enough.whole in
+    let run = rw sound.reftable.cluster at c.in_ok-former.ensures.run in
+    let list = c.hand_back.ensures ∙ ap (λ (l : List ClustersToFreeEntry). l ++ former ∷ []) c.enter_reftable.ensures.list in
+    subst (λ (l : List ClustersToFreeEntry). BecomesOn view p old c.enter_reftable.new.self (record c.enter_reftable.new.file { free_list = l }) (following p old.free_list l)) (sym list)
+    (grown view p old c.enter_reftable.new.file c.enter_reftable.new.self c.args.self.now.reftable _ former sound.sound sound.reftable c.in_ok-former.ensures.is_table sound.reftable.cluster run becomes old.free_list)
+
+pub returns-in-Ok-clause-uses : goal.returns-in-Ok-clause-uses
+returns-in-Ok-clause-uses g c = λ p sound. c.in-Ok.ensures.uses p sound c.in_ok-table.ensures.entries c.in_ok-table.ensures.length.enough.whole
+
+pub returns-in-Err-clause-sound : goal.returns-in-Err-clause-sound
+returns-in-Err-clause-sound g c = λ p sound.
+    subst (λ (q : Pending). LeavesAs g.S.Storage.view p c.args.file.now c.enter_reftable.new.self c.enter_reftable.new.file q c.in-Err.refusal)
+    (sym (following_same p c.args.file.now.free_list c.enter_reftable.new.file.free_list c.enter_reftable.ensures.list))
+    (c.in-Err.ensures.enters p sound c.in_ok-table.ensures.entries c.in_ok-table.ensures.length.enough.whole)
+
+pub returns-in-Err-clause-uses : goal.returns-in-Err-clause-uses
+returns-in-Err-clause-uses g c = λ p sound. c.in-Err.ensures.uses p sound c.in_ok-table.ensures.entries c.in_ok-table.ensures.length.enough.whole
+
+pub returns-in_err-table-clause-limit : goal.returns-in_err-table-clause-limit
+returns-in_err-table-clause-limit g c = λ p sound hint.
+    let view = g.S.Storage.view in
+    let t = c.args.self.now.reftable in
+    let old = c.args.file.now in
+    let Enough : ℕ → Type 0 = IsLongEnough (entry_count t) c.args.index (entries_per_cluster old.header.fields) (counts_per_block old.header.fields) in
+    handed_on (λ (r : Result (Unit {0}) ImageError). IfErr r (IsFaultOr ((t ≡ t) × CantGrow view old (λ k. 0) t c.args.index))) c.from_residual.result c.in_err-table.field-0.0 c.from_residual.ensures
+    (cause_as ((n : ℕ) → n ≤ 2 ^ 20 → Enough n → ⊥) ((t ≡ t) × CantGrow view old (λ k. 0) t c.args.index) c.in_err-table.field-0.0
+    (λ none. (refl, λ n small least end low near. absurd (none n small least.enough))) c.in_err-table.ensures.limit)
+
+pub returns-in_err-former-clause-limit : goal.returns-in_err-former-clause-limit
+returns-in_err-former-clause-limit g c = λ p sound hint.
+    let t = c.args.self.now.reftable in
+    let some : IsSome t.cluster = rw sound.reftable.cluster refl in
+    handed_on (λ (r : Result (Unit {0}) ImageError). IfErr r (IsFaultOr ((t ≡ t) × CantGrow g.S.Storage.view c.args.file.now (λ k. 0) t c.args.index))) c.from_residual-in_err-former.result c.in_err-former.field-0.0 c.from_residual-in_err-former.ensures
+    (inl (inr (c.in_err-former.ensures.placed some)))
+
+pub returns-in-Err-clause-limit : goal.returns-in-Err-clause-limit
+returns-in-Err-clause-limit g c = λ p sound hint.
+    let view = g.S.Storage.view in
+    let t = c.args.self.now.reftable in
+    let old = c.args.file.now in
+    let new = c.enter_reftable.new.file in
+    let length : ℕ = entry_count c.in_ok-table.table in
+    let header = c.enter_reftable.ensures.header in
+    cause_as ((c.enter_reftable.new.self.reftable ≡ t) × HasNoRoomFor view new (λ k. 0) t length) ((c.enter_reftable.new.self.reftable ≡ t) × CantGrow view new (λ k. 0) t c.args.index) c.in-Err.refusal
+    (λ none. (
+      none.0,
+      cant_grow view new (λ k. 0) t c.args.index length (entries_per_cluster old.header.fields) (counts_per_block old.header.fields)
+          (ap (λ (h : HeaderView). entries_per_cluster h.fields) header) (ap (λ (h : HeaderView). counts_per_block h.fields) header) c.in_ok-table.ensures.length none.1,
+    ))
+    (c.in-Err.ensures.limit p sound hint c.in_ok-table.ensures.entries c.in_ok-table.ensures.length.enough.whole)
+
+pub returns-in-Ok-clause-lowest : goal.returns-in-Ok-clause-lowest
+returns-in-Ok-clause-lowest g c = λ p sound hint.
+    let lies = c.in-Ok.ensures.lowest p sound hint c.in_ok-table.ensures.entries c.in_ok-table.ensures.length.enough.whole in
+    record { first = lies.first; blocks = lies.blocks; above = lies.above; behind = lies.behind; lacked = lies.lacked; lowest = lies.lowest }

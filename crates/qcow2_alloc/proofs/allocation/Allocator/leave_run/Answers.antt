@@ -1,0 +1,109 @@
+use Rattle.std.proofs.Common.{◌≡◌, inl, inr, ◌+◌, ◌-◌, ◌/◌, ◌^◌, false, true, refl, sym, ap, ◌∙◌, subst, arith}
+use Rattle.qcow2_metadata.specs.Header.{counts_per_block}
+use Rattle.qcow2_laws.specs.Changes.{one_at}
+use Rattle.qcow2_laws.specs.Guard.{Pending}
+use Rattle.qcow2_alloc.specs.Allocation.{Taken, taken_as, Becomes, GivesBack}
+use Rattle.qcow2_alloc.specs.CacheMarks.{KeepsMarks}
+use Rattle.qcow2_alloc.specs.LowestRuns.{IsUsed}
+use Rattle.qcow2_alloc.specs.MetadataCaches.{order_of}
+use Rattle.qcow2_alloc.specs.GrownTables.{with_run}
+use Rattle.qcow2_alloc.specs.Rooms.{lacks}
+use Rattle.qcow2_alloc.proofs.CacheMarks.{marks_none, marks_then}
+use Rattle.qcow2_alloc.proofs.AllocationSteps.{handed_on, of_equal}
+use Rattle.qcow2_alloc.proofs.Hints.{not_in_run, taken_pending, used_stays}
+use Rattle.qcow2_alloc.proofs.Rooms.{run_past, left_none, left_one, left_fault, owed_now}
+use Rattle.qcow2_alloc.proofs.allocation.Allocator.leave_run.Goals.{then-not-lacks_block+in_ok-lower, else-not-lacks_block}
+use Rattle.qcow2_alloc.proofs.allocation.Allocator.leave_run.Goals as goal
+
+pub leaving-init : goal.leaving-init
+leaving-init g c = record {
+  header = refl;
+  list = refl;
+  marks = marks_none c.args.file.now.caches;
+  order = refl;
+  reftable = refl;
+  first = refl;
+  counts = c.rb_bits-bits.ensures.counts;
+  sound = λ p start same b.
+      let whole : c.args.n ≡ c.args.first + c.args.n - c.args.first = omega arith in
+      subst (λ m. Becomes g.S.Storage.view p start c.args.self.now c.args.file.now (with_run p start.header.fields c.args.self.now.reftable c.args.first m)) whole b;
+  kept = λ p start same b k none used. used;
+}
+
+pub returns-in_err-lower-clause-sound : goal.returns-in_err-lower-clause-sound
+returns-in_err-lower-clause-sound g c = λ p start same b noted.
+    let view = g.S.Storage.view in
+    let t = c.args.self.now.reftable in
+    let at = c.leaving.cluster in
+    let end = c.args.first + c.args.n in
+    let before = c.leaving.invariant.sound p start same b in
+    let has : lacks t (at / counts_per_block start.header.fields) ≡ false =
+    ap (λ x. lacks t (at / counts_per_block x.fields)) same ∙ ap (λ n. lacks t (at / n)) c.leaving.invariant.counts ∙ ap (λ x. lacks x (at / 2 ^ c.rb_bits-bits.result)) (sym c.leaving.invariant.reftable)
+    ∙ sym c.lacks_block.ensures ∙ c.if-not-lacks_block.true in
+    let low = c.in_err-lower.ensures.sound (with_run p start.header.fields t (at + 1) (end - (at + 1))) (Taken false) (owed_now view p t at end start c.leaving.file c.lower.new.file c.leaving.self c.lower.new.self c.leaving-test.true has before) tt in
+    handed_on (GivesBack view p start c.lower.new.self c.lower.new.file p) c.from_residual.result c.in_err-lower.field-0.0 c.from_residual.ensures
+    (left_fault view p t at end start c.leaving.file c.lower.new.file c.leaving.self c.lower.new.self c.leaving-test.true has before c.args.first c.args.n c.in_err-lower.field-0.0 c.leaving.auto.cluster c.leaving-test.true
+    (elim noted [ inl none ↦ inl none | inr changed ↦ inr (c.lower.ensures.marks.changed (c.leaving.invariant.marks.changed changed)) ]) low)
+
+pub leaving-preserved : goal.leaving-preserved
+leaving-preserved g c =
+    let view = g.S.Storage.view in
+    let t = c.args.self.now.reftable in
+    let at = c.leaving.cluster in
+    let end = c.args.first + c.args.n in
+    elim c.if-not-lacks_block.branch [
+      | then-not-lacks_block+in_ok-lower w ↦ record {
+        header = ap (λ f. f.header) w.file-is ∙ w.lower.ensures.header ∙ c.leaving.invariant.header;
+        list = ap (λ f. f.free_list) w.file-is ∙ w.lower.ensures.list ∙ c.leaving.invariant.list;
+        marks = subst (λ f. KeepsMarks c.args.file.now.caches f.caches) (sym w.file-is) (marks_then c.args.file.now.caches c.leaving.file.caches w.lower.new.file.caches c.leaving.invariant.marks w.lower.ensures.marks);
+        order = ap (λ f. order_of f.caches) w.file-is ∙ w.lower.ensures.order ∙ c.leaving.invariant.order;
+        reftable = ap (λ a. a.reftable) w.self-is ∙ w.lower.ensures.reftable ∙ c.leaving.invariant.reftable;
+        first = ap (λ a. a.first_free_cluster) w.self-is
+            ∙ w.lower.ensures.first (let low = c.requires.free in let is = c.leaving.invariant.first in let le = c.leaving.auto.cluster in omega (arith, low, is, le)) ∙ c.leaving.invariant.first;
+        counts = c.leaving.invariant.counts;
+        sound = λ p start same b.
+            let before = c.leaving.invariant.sound p start same b in
+            let has : lacks t (at / counts_per_block start.header.fields) ≡ false =
+            ap (λ x. lacks t (at / counts_per_block x.fields)) same ∙ ap (λ n. lacks t (at / n)) c.leaving.invariant.counts ∙ ap (λ x. lacks x (at / 2 ^ c.rb_bits-bits.result)) (sym c.leaving.invariant.reftable)
+            ∙ sym c.lacks_block.ensures ∙ w.if-not-lacks_block.true in
+            let low = w.in_ok-lower.ensures.sound (with_run p start.header.fields t (at + 1) (end - (at + 1))) (Taken false) (owed_now view p t at end start c.leaving.file w.lower.new.file c.leaving.self w.lower.new.self c.leaving-test.true has before) tt in
+            of_equal (λ a f. Becomes view p start a f (with_run p start.header.fields t (at + 1) (end - (at + 1)))) c.if-not-lacks_block.self w.lower.new.self c.if-not-lacks_block.file w.lower.new.file w.self-is w.file-is
+            (left_one view p t at end start c.leaving.file w.lower.new.file c.leaving.self w.lower.new.self c.leaving-test.true has before low);
+        kept = λ p start same b k none used.
+            let before = c.leaving.invariant.sound p start same b in
+            let has : lacks t (at / counts_per_block start.header.fields) ≡ false =
+            ap (λ x. lacks t (at / counts_per_block x.fields)) same ∙ ap (λ n. lacks t (at / n)) c.leaving.invariant.counts ∙ ap (λ x. lacks x (at / 2 ^ c.rb_bits-bits.result)) (sym c.leaving.invariant.reftable)
+            ∙ sym c.lacks_block.ensures ∙ w.if-not-lacks_block.true in
+            let q : Pending = with_run p start.header.fields t (at + 1) (end - (at + 1)) in
+            let low = w.in_ok-lower.ensures.sound q (Taken false) (owed_now view p t at end start c.leaving.file w.lower.new.file c.leaving.self w.lower.new.self c.leaving-test.true has before) tt in
+            let other = not_in_run c.args.first c.args.n at k c.leaving.auto.cluster c.leaving-test.true none in
+            let pending = taken_pending false q (one_at at) k in
+            subst (λ f. IsUsed view f k) (sym w.file-is)
+            (used_stays view (taken_as false q (one_at at)) q c.leaving.file w.lower.new.file w.lower.new.self k low (omega (arith, other, pending)) (c.leaving.invariant.kept p start same b k none used));
+      }
+      | else-not-lacks_block w ↦ record {
+        header = ap (λ f. f.header) w.file-is ∙ c.leaving.invariant.header;
+        list = ap (λ f. f.free_list) w.file-is ∙ c.leaving.invariant.list;
+        marks = subst (λ f. KeepsMarks c.args.file.now.caches f.caches) (sym w.file-is) c.leaving.invariant.marks;
+        order = ap (λ f. order_of f.caches) w.file-is ∙ c.leaving.invariant.order;
+        reftable = ap (λ a. a.reftable) w.self-is ∙ c.leaving.invariant.reftable;
+        first = ap (λ a. a.first_free_cluster) w.self-is ∙ c.leaving.invariant.first;
+        counts = c.leaving.invariant.counts;
+        sound = λ p start same b.
+            let before = c.leaving.invariant.sound p start same b in
+            let none : lacks t (at / counts_per_block start.header.fields) ≡ true =
+            ap (λ x. lacks t (at / counts_per_block x.fields)) same ∙ ap (λ n. lacks t (at / n)) c.leaving.invariant.counts ∙ ap (λ x. lacks x (at / 2 ^ c.rb_bits-bits.result)) (sym c.leaving.invariant.reftable)
+            ∙ sym c.lacks_block.ensures ∙ w.if-not-lacks_block.false in
+            of_equal (λ a f. Becomes view p start a f (with_run p start.header.fields t (at + 1) (end - (at + 1)))) c.if-not-lacks_block.self c.leaving.self c.if-not-lacks_block.file c.leaving.file w.self-is w.file-is
+            (left_none view p t at end start c.leaving.file c.leaving.self c.leaving-test.true none before);
+        kept = λ p start same b k none used. subst (λ f. IsUsed view f k) (sym w.file-is) (c.leaving.invariant.kept p start same b k none used);
+      }
+    ]
+
+pub returns-clause-sound : goal.returns-clause-sound
+returns-clause-sound g c = λ p start same b noted.
+    subst (λ (r : Pending). Becomes g.S.Storage.view p start c.leaving.self c.leaving.file r)
+    (run_past start.header.fields c.args.self.now.reftable p c.leaving.cluster (c.args.first + c.args.n) (let past = c.leaving-test.false in omega arith)) (c.leaving.invariant.sound p start same b)
+
+pub returns-clause-kept : goal.returns-clause-kept
+returns-clause-kept g c = λ p start same b. c.leaving.invariant.kept p start same b

@@ -1,0 +1,205 @@
+use Rattle.std.proofs.Common.{◌≡◌, inl, inr, ℕ, ◌+◌, ◌-◌, ◌*◌, ◌/◌, ◌%◌, ◌^◌, ◌<◌, ◌≤◌, length, None, refl, sym, ap, ◌∙◌, subst, arith}
+use Rattle.std.proofs.lemmas.Nat.{div-add-mod'}
+use Rattle.std.proofs.Math.Nat.{div-le_self}
+use Rattle.qcow2_metadata.specs.L2Mapping.{greatest_offset}
+use Rattle.qcow2_metadata.specs.EntryTable.{EntryTableView, entry_count}
+use Rattle.qcow2_metadata.specs.declared.header.HeaderFields.{HeaderFields}
+use Rattle.qcow2_metadata.specs.Header.{cluster_size, counts_per_block}
+use Rattle.qcow2_laws.specs.Caches.{AreClean}
+use Rattle.qcow2_laws.specs.Tops.{IsSameOutside}
+use Rattle.qcow2_metadata.specs.Bytes.{one_if}
+use Rattle.qcow2_metadata.specs.TableBytes.{ChangesEntry}
+use Rattle.qcow2_alloc.specs.Allocation.{run_at, StandAt, Becomes}
+use Rattle.qcow2_alloc.specs.CacheMarks.{KeepsMarks}
+use Rattle.qcow2_alloc.specs.GrownTables.{with_run}
+use Rattle.qcow2_alloc.specs.ImageFile.{contents_in}
+use Rattle.qcow2_alloc.specs.MetadataCaches.{order_of, l2_tables, refblocks, rb_at}
+use Rattle.qcow2_alloc.specs.Rooms.{opens, opened, length_of, PlacesBlocks}
+use Rattle.qcow2_alloc.specs.TableCaches.{IsBlockOf}
+use Rattle.qcow2_alloc.proofs.CacheMarks.{marks_none, marks_then}
+use Rattle.qcow2_alloc.proofs.AllocationSteps.{handed_on, becomes_none, becomes_then, is_sound_now}
+use Rattle.qcow2_alloc.proofs.FileSteps.{leaves_then}
+use Rattle.qcow2_alloc.proofs.Rooms.{opened_none, empty_run}
+use Rattle.qcow2_alloc.proofs.Runs.{run_in}
+use Rattle.qcow2_alloc.proofs.PlacedRooms.{EntersSo, Counting, enters_none, enters_first, counting_first}
+use Rattle.qcow2_alloc.proofs.RoomSteps.{entries_aligned, wrote_err, wrote_ok, may_go, of_three, rest_then, placed_more, range_within, run_within, counts_as, room_enters, room_counts, room_uncached}
+use Rattle.qcow2_alloc.proofs.PlacedBlocks.{file_sizes}
+use Rattle.qcow2_alloc.proofs.allocation.Allocator.place_blocks.Goals.{then-opens_range+in_ok-block+in_ok-write_new_block, else-opens_range}
+use Rattle.qcow2_alloc.proofs.allocation.Allocator.place_blocks.Goals as goal
+
+pub placing-init : goal.placing-init
+placing-init g c =
+    let view = g.S.Storage.view in
+    let h = c.args.file.now.header.fields in
+    let t = c.args.self.now.reftable in
+    let first = c.args.room.first in
+    let none : first - first ≡ 0 = omega arith in
+    record {
+      header = refl;
+      list = refl;
+      marks = marks_none c.args.file.now.caches;
+      order = refl;
+      tables = refl;
+      clean = λ all. all;
+      rest = refl;
+      as_long = refl;
+      counts = c.rb_bits-bits.ensures.counts;
+      bits = let high = c.rb_bits-bits.ensures.high in omega (arith, high);
+      end_is = omega arith;
+      low = omega arith;
+      high = omega arith;
+      placed = none ∙ sym (ap (λ m. opened t (counts_per_block h) first m) none ∙ opened_none t (counts_per_block h) first);
+      sound = λ p sound may longer. (
+        becomes_none view (with_run p h t first (length_of c.args.room)) c.args.file.now c.args.self.now sound,
+        subst (λ m. EntersSo h t c.args.table.now c.args.table.now first m first) (sym none)
+            (enters_first h t c.args.table.now first longer.entries (entries_aligned view (with_run p h t first (length_of c.args.room)) c.args.file.now t sound.sound sound.reftable)),
+        counting_first h (contents_in view c.args.file.now) t c.args.table.now first (length_of c.args.room) longer.entries,
+        λ k some. absurd (let empty = empty_run first (first - first) k none in omega (arith, some, empty)),
+      );
+    }
+
+pub returns-in_err-block-clause-sound : goal.returns-in_err-block-clause-sound
+returns-in_err-block-clause-sound g c = λ p sound may longer.
+    let view = g.S.Storage.view in
+    let q = with_run p c.args.file.now.header.fields c.args.self.now.reftable c.args.room.first (length_of c.args.room) in
+    let before = c.placing.invariant.sound p sound may longer in
+    handed_on (PlacesBlocks view q c.args.file.now c.args.self.now c.placing.file c.args.self.now.reftable c.placing.table c.args.room) c.from_residual.result c.in_err-block.field-0.0 c.from_residual.ensures
+    (inr c.in_err-block.ensures.memory, inl (before.0.moves, before.0.reftable))
+
+pub returns-in_err-write_new_block-clause-sound : goal.returns-in_err-write_new_block-clause-sound
+returns-in_err-write_new_block-clause-sound g c = λ p sound may longer.
+    let view = g.S.Storage.view in
+    let h = c.args.file.now.header.fields in
+    let a = c.args.self.now in
+    let n = length_of c.args.room in
+    let first = c.args.room.first in
+    let q = with_run p c.args.file.now.header.fields c.args.self.now.reftable c.args.room.first (length_of c.args.room) in
+    let before = c.placing.invariant.sound p sound may longer in
+    let may_now = may_go c.args.file.now c.placing.file c.placing.invariant.order c.placing.invariant.tables may in
+    let at_in : 0 < run_at first n c.new-place.result =
+    (let is = c.new-place.ensures in let low = c.placing.invariant.low in let high = c.placing.invariant.high in let lt = c.placing-test.true in let end = c.placing.invariant.end_is in
+    let one = run_in first n c.new-place.result (omega (arith, is, low)) (omega (arith, is, high, lt, end)) in omega (arith, one)) in
+    let back = wrote_err view p first n a c.placing.file c.write_new_block.new.file c.new-place.result c.in_ok-block.block h (ap (λ x. x.fields) c.placing.invariant.header) c.in_err-write_new_block.field-0.0
+    (λ s fits. c.in_err-write_new_block.ensures.sound p first n a s may_now at_in fits) (is_sound_now view q q c.args.file.now c.placing.file a before.0) c.in_ok-block.ensures.format in
+    handed_on (PlacesBlocks view q c.args.file.now a c.write_new_block.new.file a.reftable c.placing.table c.args.room) c.from_residual-in_err-write_new_block.result c.in_err-write_new_block.field-0.0 c.from_residual-in_err-write_new_block.ensures
+    (back.0, leaves_then view q c.args.file.now c.placing.file c.write_new_block.new.file a c.in_err-write_new_block.field-0.0 before.0.moves back.1)
+
+pub placing-preserved : goal.placing-preserved
+placing-preserved g c =
+    let view = g.S.Storage.view in
+    let old = c.args.file.now in
+    let h = c.args.file.now.header.fields in
+    let a = c.args.self.now in
+    let t = c.args.self.now.reftable in
+    let n = length_of c.args.room in
+    let first = c.args.room.first in
+    let inv = c.placing.invariant in
+    let from = c.placing.auto.cluster in
+    let opens_at = c.opens_range.ensures ∙ ap (λ m. opens t m first c.placing.cluster) (sym inv.counts) in
+    elim c.if-opens_range.branch [
+      | then-opens_range+in_ok-block+in_ok-write_new_block w ↦ record {
+        header = ap (λ f. f.header) w.file-is ∙ w.write_new_block.ensures.header ∙ inv.header;
+        list = ap (λ f. f.free_list) w.file-is ∙ w.write_new_block.ensures.list ∙ inv.list;
+        marks = subst (λ f. KeepsMarks old.caches f.caches) (sym w.file-is) (marks_then old.caches c.placing.file.caches w.write_new_block.new.file.caches inv.marks w.write_new_block.ensures.marks);
+        order = ap (λ f. order_of f.caches) w.file-is ∙ w.write_new_block.ensures.order ∙ inv.order;
+        tables = ap (λ f. l2_tables f.caches) w.file-is ∙ w.write_new_block.ensures.tables ∙ inv.tables;
+        clean = λ all. subst (λ f. AreClean (refblocks f.caches)) (sym w.file-is) (w.write_new_block.ensures.clean (inv.clean all));
+        rest = rest_then c.args.table.now c.placing.table w.enter_refblock.new.self c.if-opens_range.table w.table-is w.enter_refblock.ensures.rest inv.rest;
+        as_long = ap (λ x. length x.bytes) w.table-is ∙ w.enter_refblock.ensures.entry.as_long ∙ inv.as_long;
+        counts = inv.counts;
+        bits = inv.bits;
+        end_is = inv.end_is;
+        low = let is = w.at-is in let low = inv.low in omega (arith, is, low);
+        high = let is = w.at-is in let high = inv.high in omega (arith, is, high);
+        placed = placed_more t (counts_per_block h) first c.placing.at c.if-opens_range.at 1 c.placing.cluster c.opens_range.result inv.low from opens_at w.at-is (sym (ap one_if w.if-opens_range.true)) inv.placed;
+        sound = λ p sound may longer.
+            let q = with_run p c.args.file.now.header.fields c.args.self.now.reftable c.args.room.first (length_of c.args.room) in
+            let before = inv.sound p sound may longer in
+            let may_now = may_go old c.placing.file inv.order inv.tables may in
+            let at_same : w.new-place.result ≡ c.placing.at = w.new-place.ensures in
+            let at_in : 0 < run_at first n w.new-place.result =
+            (let low = inv.low in let high = inv.high in let lt = c.placing-test.true in let end = inv.end_is in
+            let one = run_in first n w.new-place.result (omega (arith, at_same, low)) (omega (arith, at_same, high, lt, end)) in omega (arith, one)) in
+            let wrote = wrote_ok view p first n a c.placing.file w.write_new_block.new.file w.new-place.result w.in_ok-block.block h (ap (λ x. x.fields) inv.header) w.in_ok-write_new_block.field-0
+            (λ s fits. w.in_ok-write_new_block.ensures.sound p first n a s may_now at_in fits) (is_sound_now view q q old c.placing.file a before.0) w.in_ok-block.ensures.format in
+            let header_same = ap (λ x. x.fields) inv.header in
+            let t_bits = ap (λ (x : EntryTableView). x.cluster_bits) inv.rest ∙ c.requires.bits in
+            let format = subst (λ (k : HeaderFields). IsBlockOf k w.in_ok-block.block) header_same w.in_ok-block.ensures.format in
+            let run_is : c.args.room.first + c.args.room.blocks + c.args.room.clusters - first ≡ n = omega arith in
+            let begin_is : (c.placing.cluster / 2 ^ c.rb_bits-bits.result * 2 ^ c.rb_bits-bits.result) % 18446744073709551616 ≡ (c.placing.cluster / 2 ^ c.rb_bits-bits.result * 2 ^ c.rb_bits-bits.result) =
+            (let e = div-add-mod' c.placing.cluster (2 ^ c.rb_bits-bits.result) in let lt = c.placing-test.true in let end = inv.end_is in let near = c.requires.near in let le = div-le_self greatest_offset (2 ^ c.args.file.now.header.fields.cluster_bits) in
+            omega (arith, e, lt, end, near, le)) in
+            let counts = counts_as c.placing.file.header.fields h w.in_ok-block.block ((c.placing.cluster / 2 ^ c.rb_bits-bits.result * 2 ^ c.rb_bits-bits.result) % 18446744073709551616) (c.placing.cluster / 2 ^ c.rb_bits-bits.result * 2 ^ c.rb_bits-bits.result) first _ n header_same begin_is run_is w.in_ok-block.ensures.counts in
+            let within = range_within c.placing.cluster (first + n) (entry_count c.placing.table) (counts_per_block h)
+            (let lt = c.placing-test.true in let end = inv.end_is in omega (arith, lt, end)) (subst (λ m. first + n ≤ m / 8 * counts_per_block h) (sym inv.as_long) c.requires.within) in
+            let sizes = file_sizes view q old sound.sound in
+            let enter = subst (λ m. ChangesEntry c.placing.table.bytes w.enter_refblock.new.self.bytes (c.placing.cluster / 2 ^ c.rb_bits-bits.result) (m * 2 ^ c.placing.table.cluster_bits)) at_same w.enter_refblock.ensures.entry in
+            let offset = w.enter_refblock.ensures.offset ∙ ap (λ m. m * 2 ^ c.placing.table.cluster_bits) at_same in
+            let stands = subst (λ m. StandAt (contents_in view w.write_new_block.new.file) (m * cluster_size h) w.in_ok-block.block.bytes) at_same wrote.1 in
+            let outside = subst (λ m. IsSameOutside (cluster_size h) m (contents_in view c.placing.file) (contents_in view w.write_new_block.new.file)) at_same wrote.2 in
+            let gone = ap (λ m. rb_at w.write_new_block.new.file.caches m) (sym at_same) ∙ wrote.3 in
+            let others = λ (k : ℕ) (other : k ≡ c.placing.at → ⊥). w.write_new_block.ensures.others k (λ e. other (e ∙ at_same)) in
+            let open_here = sym opens_at ∙ w.if-opens_range.true in
+            of_three (λ f x m. Becomes view q old a f q × EntersSo h t c.args.table.now x first (m - first) (c.placing.cluster + 1) × Counting h (contents_in view f) t x first n × ((k : ℕ) → 0 < run_at first (m - first) k → rb_at f.caches k ≡ None))
+            c.if-opens_range.file w.write_new_block.new.file c.if-opens_range.table w.enter_refblock.new.self c.if-opens_range.at (c.placing.at + 1) w.file-is w.table-is w.at-is (
+              becomes_then view q q old c.placing.file w.write_new_block.new.file a a before.0 wrote.0,
+              room_enters view h sizes t c.args.table.now c.placing.table w.enter_refblock.new.self c.placing.file w.write_new_block.new.file first n c.placing.at c.placing.cluster c.rb_bits-bits.result w.in_ok-block.block
+                  c.requires.above inv.low from inv.counts t_bits longer.entries open_here within enter offset before.1 before.2 before.3 w.in_ok-block.ensures.whole format counts stands outside gone others,
+              room_counts view h sizes t c.args.table.now c.placing.table w.enter_refblock.new.self c.placing.file w.write_new_block.new.file first n c.placing.at c.placing.cluster c.rb_bits-bits.result w.in_ok-block.block
+                  c.requires.above inv.low from inv.counts t_bits longer.entries open_here within enter offset before.1 before.2 before.3 w.in_ok-block.ensures.whole format counts stands outside gone others,
+              room_uncached view h sizes t c.args.table.now c.placing.table w.enter_refblock.new.self c.placing.file w.write_new_block.new.file first n c.placing.at c.placing.cluster c.rb_bits-bits.result w.in_ok-block.block
+                  c.requires.above inv.low from inv.counts t_bits longer.entries open_here within enter offset before.1 before.2 before.3 w.in_ok-block.ensures.whole format counts stands outside gone others,
+            );
+      }
+      | else-opens_range w ↦ record {
+        header = ap (λ f. f.header) w.file-is ∙ inv.header;
+        list = ap (λ f. f.free_list) w.file-is ∙ inv.list;
+        marks = subst (λ f. KeepsMarks old.caches f.caches) (sym w.file-is) inv.marks;
+        order = ap (λ f. order_of f.caches) w.file-is ∙ inv.order;
+        tables = ap (λ f. l2_tables f.caches) w.file-is ∙ inv.tables;
+        clean = λ all. subst (λ f. AreClean (refblocks f.caches)) (sym w.file-is) (inv.clean all);
+        rest = subst (λ (x : EntryTableView). x ≡ record c.args.table.now { bytes = x.bytes }) (sym w.table-is) inv.rest;
+        as_long = ap (λ x. length x.bytes) w.table-is ∙ inv.as_long;
+        counts = inv.counts;
+        bits = inv.bits;
+        end_is = inv.end_is;
+        low = let is = w.at-is in let low = inv.low in omega (arith, is, low);
+        high = let is = w.at-is in let high = inv.high in omega (arith, is, high);
+        placed = placed_more t (counts_per_block h) first c.placing.at c.if-opens_range.at 0 c.placing.cluster c.opens_range.result inv.low from opens_at (let is = w.at-is in omega (arith, is)) (sym (ap one_if w.if-opens_range.false)) inv.placed;
+        sound = λ p sound may longer.
+            let q = with_run p c.args.file.now.header.fields c.args.self.now.reftable c.args.room.first (length_of c.args.room) in
+            let before = inv.sound p sound may longer in
+            let sizes = file_sizes view q old sound.sound in
+            of_three (λ f x m. Becomes view q old a f q × EntersSo h t c.args.table.now x first (m - first) (c.placing.cluster + 1) × Counting h (contents_in view f) t x first n × ((k : ℕ) → 0 < run_at first (m - first) k → rb_at f.caches k ≡ None))
+            c.if-opens_range.file c.placing.file c.if-opens_range.table c.placing.table c.if-opens_range.at c.placing.at w.file-is w.table-is w.at-is
+            (before.0, enters_none h t c.args.table.now c.placing.table first (c.placing.at - first) c.placing.cluster from sizes.counts before.1 (sym opens_at ∙ w.if-opens_range.false), before.2, before.3);
+      }
+    ]
+
+pub returns-clause-sound : goal.returns-clause-sound
+returns-clause-sound g c = λ p sound may longer.
+    let view = g.S.Storage.view in
+    let h = c.args.file.now.header.fields in
+    let t = c.args.self.now.reftable in
+    let first = c.args.room.first in
+    let n = length_of c.args.room in
+    let inv = c.placing.invariant in
+    let before = inv.sound p sound may longer in
+    let at_end : c.placing.cluster ≡ first + n = (let past = c.placing-test.false in let le = c.placing.auto.cluster-end in let end = inv.end_is in omega (arith, past, le, end)) in
+    let blocks : c.placing.at - first ≡ c.args.room.blocks = inv.placed ∙ ap (opened t (counts_per_block h) first) (let e : c.placing.cluster - first ≡ n = omega (arith, at_end) in e) ∙ sym c.requires.blocks in
+    let enters = subst (λ m. EntersSo h t c.args.table.now c.placing.table first m c.placing.cluster) blocks before.1 in
+    record {
+      becomes = before.0;
+      grown = record {
+        cluster = refl;
+        bits = ap (λ (x : EntryTableView). x.cluster_bits) inv.rest ∙ c.requires.bits;
+        whole = ap (λ m. 8 * (m / 8)) inv.as_long ∙ longer.whole;
+        keeps = enters.keeps;
+        aligned = enters.aligned;
+        placed = enters.in_room;
+        named = λ k. enters.named k ∙ ap (λ m. m + run_at first c.args.room.blocks k) (longer.named k);
+        covered = λ k some. let in_run = run_within first n k some in enters.covered k in_run.0 (let lt = in_run.1 in omega (arith, at_end, lt));
+      };
+      counts = subst (λ (x : HeaderFields). Counting x (contents_in view c.placing.file) t c.placing.table first n) (sym (ap (λ x. x.fields) inv.header)) before.2;
+      uncached = λ k some. before.3 k (subst (λ m. 0 < run_at first m k) (sym blocks) some);
+    }

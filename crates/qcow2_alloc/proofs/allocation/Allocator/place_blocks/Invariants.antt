@@ -1,0 +1,37 @@
+use Rattle.std.proofs.Common.{◌≡◌, ℕ, ◌+◌, ◌-◌, ◌^◌, ◌<◌, ◌≤◌, None, length}
+use Rattle.qcow2_metadata.specs.Header.{counts_per_block}
+use Rattle.qcow2_laws.specs.Caches.{AreClean, BlocksMayGo}
+use Rattle.qcow2_laws.specs.Guard.{Pending}
+use Rattle.qcow2_alloc.specs.Allocation.{run_at, Becomes}
+use Rattle.qcow2_alloc.specs.CacheMarks.{KeepsMarks}
+use Rattle.qcow2_alloc.specs.GrownTables.{with_run}
+use Rattle.qcow2_alloc.specs.ImageFile.{contents_in, IsSoundWith}
+use Rattle.qcow2_alloc.specs.MetadataCaches.{order_of, l2_tables, refblocks, rb_at}
+use Rattle.qcow2_alloc.specs.Rooms.{opened, length_of, IsLonger}
+use Rattle.qcow2_alloc.proofs.PlacedRooms.{EntersSo, Counting}
+use Rattle.qcow2_alloc.proofs.allocation.Allocator.place_blocks.Given as goal
+
+-- the refblocks of the ranges that the clusters before this one enter are placed
+abbrev pub invariant-placing : goal.invariant-placing
+invariant-placing g l = record {
+  header : l.file.header ≡ l.fn.file.header;
+  list : l.file.free_list ≡ l.fn.file.free_list;
+  marks : KeepsMarks l.fn.file.caches l.file.caches;
+  order : order_of l.file.caches ≡ order_of l.fn.file.caches;
+  tables : l2_tables l.file.caches ≡ l2_tables l.fn.file.caches;
+  clean : AreClean (refblocks l.fn.file.caches) → AreClean (refblocks l.file.caches);
+  rest : l.table ≡ record l.fn.table { bytes = l.table.bytes };
+  as_long : length l.table.bytes ≡ length l.fn.table.bytes;
+  counts : counts_per_block l.fn.file.header.fields ≡ 2 ^ l.bits;
+  bits : l.bits < 64;
+  end_is : l.end ≡ l.fn.room.first + length_of l.fn.room;
+  low : l.fn.room.first ≤ l.at;
+  high : l.at ≤ l.cluster;
+  placed : l.at - l.fn.room.first ≡ opened l.fn.self.reftable (counts_per_block l.fn.file.header.fields) l.fn.room.first (l.cluster - l.fn.room.first);
+  sound : (p : Pending) → IsSoundWith g.S.Storage.view l.fn.self (with_run p l.fn.file.header.fields l.fn.self.reftable l.fn.room.first (length_of l.fn.room)) l.fn.file
+      → BlocksMayGo (order_of l.fn.file.caches) (l2_tables l.fn.file.caches) → IsLonger l.fn.file.header.fields l.fn.self.reftable l.fn.table l.fn.room.clusters
+      → Becomes g.S.Storage.view (with_run p l.fn.file.header.fields l.fn.self.reftable l.fn.room.first (length_of l.fn.room)) l.fn.file l.fn.self l.file (with_run p l.fn.file.header.fields l.fn.self.reftable l.fn.room.first (length_of l.fn.room))
+      × EntersSo l.fn.file.header.fields l.fn.self.reftable l.fn.table l.table l.fn.room.first (l.at - l.fn.room.first) l.cluster
+      × Counting l.fn.file.header.fields (contents_in g.S.Storage.view l.file) l.fn.self.reftable l.table l.fn.room.first (length_of l.fn.room)
+      × ((c : ℕ) → 0 < run_at l.fn.room.first (l.at - l.fn.room.first) c → rb_at l.file.caches c ≡ None);
+}

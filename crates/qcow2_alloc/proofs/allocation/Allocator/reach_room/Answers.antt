@@ -1,0 +1,104 @@
+use Rattle.std.proofs.Common.{◌≡◌, inl, ◌+◌, ◌/◌, ◌^◌, refl, sym, ap, ◌∙◌, subst, arith}
+use Rattle.qcow2_metadata.specs.Header.{counts_per_block}
+use Rattle.qcow2_laws.specs.Guard.{Pending}
+use Rattle.qcow2_alloc.specs.Allocation.{Becomes}
+use Rattle.qcow2_alloc.specs.GrownTables.{with_run}
+use Rattle.qcow2_alloc.specs.Rooms.{lacks, opens, ReachesRoom}
+use Rattle.qcow2_alloc.proofs.CacheMarks.{marks_none, marks_then}
+use Rattle.qcow2_alloc.proofs.AllocationSteps.{handed_on, becomes_none, is_sound_now}
+use Rattle.qcow2_alloc.proofs.Rooms.{counted_few, run_none, run_taken, run_not_taken, ends_room, opened_none, opened_more, more_short, is_flag, flag_few, noted_more, still_noted}
+use Rattle.qcow2_alloc.proofs.allocation.Allocator.reach_room.Goals.{then-reaching-test+else-taken-end, else-reaching-test}
+use Rattle.qcow2_alloc.proofs.allocation.Allocator.reach_room.Goals as goal
+
+pub reaching-init : goal.reaching-init
+reaching-init g c = record {
+  header = refl;
+  list = refl;
+  marks = marks_none c.args.file.now.caches;
+  order = refl;
+  same = refl;
+  counts = c.rb_bits-bits.ensures.counts;
+  bits = let high = c.rb_bits-bits.ensures.high in omega (arith, high);
+  sound = λ p sound.
+      subst (λ (r : Pending). Becomes g.S.Storage.view p c.args.file.now c.args.self.now c.args.file.now r)
+      (sym (run_none c.args.file.now.header.fields c.args.self.now.reftable p c.args.first 0 (λ k. counted_few c.args.file.now.header.fields c.args.self.now.reftable c.args.first 0 k refl)))
+      (becomes_none g.S.Storage.view p c.args.file.now c.args.self.now sound);
+  noted = inl (λ k. counted_few c.args.file.now.header.fields c.args.self.now.reftable c.args.first 0 k refl);
+  blocks = sym (opened_none c.args.self.now.reftable (counts_per_block c.args.file.now.header.fields) c.args.first);
+  within = let lt = c.requires.below in omega (arith, lt);
+  few = omega arith;
+  up_to = omega arith;
+  short = λ n below. absurd (omega (arith, below));
+}
+
+pub returns-in_err-take_if_free-clause-sound : goal.returns-in_err-take_if_free-clause-sound
+returns-in_err-take_if_free-clause-sound g c = λ p sound.
+    let before = c.reaching.invariant.sound p sound in
+    let q : Pending = with_run p c.args.file.now.header.fields c.args.self.now.reftable c.args.first c.reaching.taken in
+    let back = c.in_err-take_if_free.ensures.sound q (is_sound_now g.S.Storage.view p q c.args.file.now c.reaching.file c.reaching.self before) in
+    handed_on (ReachesRoom g.S.Storage.view p c.args.file.now c.take_if_free.new.self c.take_if_free.new.file c.args.self.now.reftable c.args.first) c.from_residual.result c.in_err-take_if_free.field-0.0 c.from_residual.ensures (
+      back.0,
+      ends_room g.S.Storage.view p c.args.self.now.reftable c.args.first c.reaching.taken c.args.file.now c.reaching.file c.take_if_free.new.file c.reaching.self c.take_if_free.new.self c.in_err-take_if_free.field-0.0 before
+          (still_noted c.args.file.now.header.fields c.args.self.now.reftable c.args.first c.reaching.taken c.reaching.file.caches.is_changed c.take_if_free.new.file.caches.is_changed c.take_if_free.ensures.marks.changed c.reaching.invariant.noted) back.0 back.1,
+    )
+
+pub returns-then-not-branch-clause-sound : goal.returns-then-not-branch-clause-sound
+returns-then-not-branch-clause-sound g c = λ p sound.
+    let before = c.reaching.invariant.sound p sound in
+    let q : Pending = with_run p c.args.file.now.header.fields c.args.self.now.reftable c.args.first c.reaching.taken in
+    run_not_taken g.S.Storage.view p c.args.self.now.reftable c.args.first c.reaching.taken (c.args.first + c.reaching.taken) c.args.file.now c.reaching.file c.take_if_free.new.file c.reaching.self c.take_if_free.new.self c.reaching.self.reftable
+    c.in_ok-take_if_free.field-0 before c.if-not-branch.true (c.in_ok-take_if_free.ensures.sound q (is_sound_now g.S.Storage.view p q c.args.file.now c.reaching.file c.reaching.self before))
+
+pub reaching-preserved : goal.reaching-preserved
+reaching-preserved g c =
+    let h = c.args.file.now.header.fields in
+    let t = c.args.self.now.reftable in
+    let same : c.reaching.self.reftable ≡ c.args.self.now.reftable = ap (λ a. a.reftable) c.reaching.invariant.same in
+    let opens_now : c.opens_range.result ≡ opens t (counts_per_block h) c.args.first (c.args.first + c.reaching.taken) =
+    c.opens_range.ensures ∙ ap (λ a. opens a.reftable (2 ^ c.rb_bits-bits.result) c.args.first (c.args.first + c.reaching.taken)) (c.take_if_free.ensures.same ∙ c.reaching.invariant.same)
+    ∙ ap (λ n. opens t n c.args.first (c.args.first + c.reaching.taken)) (sym c.reaching.invariant.counts) in
+    record {
+      header = c.take_if_free.ensures.header ∙ c.reaching.invariant.header;
+      list = c.take_if_free.ensures.list ∙ c.reaching.invariant.list;
+      marks = marks_then c.args.file.now.caches c.reaching.file.caches c.take_if_free.new.file.caches c.reaching.invariant.marks c.take_if_free.ensures.marks;
+      order = c.take_if_free.ensures.order ∙ c.reaching.invariant.order;
+      same = c.take_if_free.ensures.same ∙ c.reaching.invariant.same;
+      counts = c.reaching.invariant.counts;
+      bits = c.reaching.invariant.bits;
+      sound = λ p sound.
+          let before = c.reaching.invariant.sound p sound in
+          let q : Pending = with_run p h t c.args.first c.reaching.taken in
+          run_taken g.S.Storage.view p t c.reaching.self.reftable c.args.first c.reaching.taken c.args.file.now c.reaching.file c.take_if_free.new.file c.reaching.self c.take_if_free.new.self c.in_ok-take_if_free.field-0
+          (ap (λ x. x.fields) c.reaching.invariant.header) same before c.if-not-branch.false (c.in_ok-take_if_free.ensures.sound q (is_sound_now g.S.Storage.view p q c.args.file.now c.reaching.file c.reaching.self before));
+      noted = noted_more h t c.args.first c.reaching.taken c.reaching.file.caches.is_changed c.take_if_free.new.file.caches.is_changed c.take_if_free.ensures.marks.changed c.reaching.invariant.noted
+          (λ has. c.in_ok-take_if_free.ensures.noted c.if-not-branch.false
+          (ap (λ x. lacks x ((c.args.first + c.reaching.taken) / 2 ^ c.rb_bits-bits.result)) same ∙ ap (λ n. lacks t ((c.args.first + c.reaching.taken) / n)) (sym c.reaching.invariant.counts) ∙ has));
+      blocks = opened_more t (counts_per_block h) c.args.first c.reaching.taken c.reaching.blocks c.from.result c.opens_range.result opens_now (c.from.ensures ∙ is_flag c.opens_range.result) c.reaching.invariant.blocks;
+      within = let lt = c.if-taken-end.true in let below = c.requires.below in omega (arith, lt, below);
+      few = let le = c.reaching.invariant.few in let is = c.from.ensures ∙ is_flag c.opens_range.result in flag_few c.opens_range.result c.from.result c.reaching.blocks c.reaching.taken is le;
+      up_to = let lt = c.reaching-test.true in omega (arith, lt);
+      short = more_short t (counts_per_block h) c.args.first c.reaching.taken c.reaching.blocks c.args.clusters c.reaching.invariant.blocks c.reaching-test.true c.reaching.invariant.short;
+    }
+
+pub returns-then-not-branch-clause-short : goal.returns-then-not-branch-clause-short
+returns-then-not-branch-clause-short g c = λ some n le.
+    more_short c.args.self.now.reftable (counts_per_block c.args.file.now.header.fields) c.args.first c.reaching.taken c.reaching.blocks c.args.clusters c.reaching.invariant.blocks c.reaching-test.true c.reaching.invariant.short n (omega (arith, le))
+
+pub returns-then-not-branch-clause-stopped : goal.returns-then-not-branch-clause-stopped
+returns-then-not-branch-clause-stopped g c = λ p sound some within.
+    let before = c.reaching.invariant.sound p sound in
+    let q : Pending = with_run p c.args.file.now.header.fields c.args.self.now.reftable c.args.first c.reaching.taken in
+    c.in_ok-take_if_free.ensures.used q (is_sound_now g.S.Storage.view p q c.args.file.now c.reaching.file c.reaching.self before) c.if-not-branch.true
+
+pub returns-clause-short : goal.returns-clause-short
+returns-clause-short g c = λ some n le. elim c.reaching-test.branch [
+  | then-reaching-test+else-taken-end w ↦
+      more_short c.args.self.now.reftable (counts_per_block c.args.file.now.header.fields) c.args.first c.reaching.taken c.reaching.blocks c.args.clusters c.reaching.invariant.blocks w.reaching-test.true c.reaching.invariant.short n (omega (arith, le))
+  | else-reaching-test w ↦ absurd (some (let up_to = c.reaching.invariant.up_to in let past = w.reaching-test.false in omega (arith, up_to, past)))
+]
+
+pub returns-clause-stopped : goal.returns-clause-stopped
+returns-clause-stopped g c = λ p sound some within. elim c.reaching-test.branch [
+  | then-reaching-test+else-taken-end w ↦ absurd (let past = w.if-taken-end.false in omega (arith, past, within))
+  | else-reaching-test w ↦ absurd (some (let up_to = c.reaching.invariant.up_to in let past = w.reaching-test.false in omega (arith, up_to, past)))
+]

@@ -1,0 +1,156 @@
+use Rattle.std.proofs.Common.{◌≡◌, ℕ, Result, inl, inr, ◌+◌, refl, sym, ap, ◌∙◌, subst, arith}
+use Rattle.std.specs.Prelude.{IfErr}
+use Rattle.qcow2_metadata.specs.EntryTable.{EntryTableView}
+use Rattle.qcow2_metadata.specs.Header.{HeaderView, counts_per_block}
+use Rattle.qcow2_laws.specs.Guard.{Pending}
+use Rattle.qcow2_alloc.specs.Allocation.{Becomes}
+use Rattle.qcow2_alloc.specs.GrownTables.{with_run}
+use Rattle.qcow2_alloc.specs.declared.error.ImageError.{ImageError}
+use Rattle.qcow2_alloc.specs.declared.free_room.Room.{Room}
+use Rattle.qcow2_alloc.specs.Limits.{IsFaultOr, HasNoRoom}
+use Rattle.qcow2_alloc.specs.Rooms.{opened, TakesRoom}
+use Rattle.qcow2_alloc.proofs.CacheMarks.{marks_none, marks_then}
+use Rattle.qcow2_alloc.proofs.FileSteps.{leaves_then}
+use Rattle.qcow2_alloc.proofs.AllocationSteps.{handed_on, becomes_none, becomes_then, is_sound_now}
+use Rattle.qcow2_alloc.proofs.Runs.{run_after}
+use Rattle.qcow2_alloc.proofs.Hints.{used_stays}
+use Rattle.qcow2_alloc.proofs.FullRooms.{full_behind, full_stays, IsFullBelow}
+use Rattle.qcow2_alloc.proofs.Rooms.{run_of_same, noted_of_same}
+use Rattle.qcow2_alloc.proofs.allocation.Allocator.take_room.Goals as goal
+
+pub search-init : goal.search-init
+search-init g c = record {
+  header = refl;
+  list = refl;
+  marks = marks_none c.args.file.now.caches;
+  order = refl;
+  reftable = refl;
+  first_free = refl;
+  low = let first = c.max-first.ensures in omega (arith, first);
+  some = let first = c.max-first.ensures in omega (arith, first);
+  sound = λ p sound. becomes_none g.S.Storage.view p c.args.file.now c.args.self.now sound;
+  full = λ p sound hint start n above below is within.
+      let first = c.max-first.ensures in
+      let some = c.requires.some in
+      (start, omega arith, omega (arith, is, some), below, hint start (omega (arith, first, above, below)));
+}
+
+pub returns-in_err-reach-clause-sound : goal.returns-in_err-reach-clause-sound
+returns-in_err-reach-clause-sound g c = λ p sound.
+    let view = g.S.Storage.view in
+    let before = c.search.invariant.sound p sound in
+    handed_on (TakesRoom view p c.args.file.now c.reach_room.new.self c.reach_room.new.file c.args.self.now.reftable) c.from_residual.result c.in_err-reach.field-0.0 c.from_residual.ensures
+    (leaves_then view p c.args.file.now c.search.file c.reach_room.new.file c.reach_room.new.self c.in_err-reach.field-0.0 before.moves
+    (c.in_err-reach.ensures.sound p (is_sound_now view p p c.args.file.now c.search.file c.search.self before)).1)
+
+pub returns-then-reach-clusters-clause-sound : goal.returns-then-reach-clusters-clause-sound
+returns-then-reach-clusters-clause-sound g c = λ p sound.
+    let view = g.S.Storage.view in
+    let before = c.search.invariant.sound p sound in
+    let reached = c.in_ok-reach.ensures.sound p (is_sound_now view p p c.args.file.now c.search.file c.search.self before) in
+    let h = c.args.file.now.header.fields in
+    let t = c.args.self.now.reftable in
+    let same = run_of_same p c.search.file.header.fields h c.search.self.reftable t c.search.first c.in_ok-reach.reach.taken (c.in_ok-reach.reach.blocks + c.args.clusters) (ap (λ x. x.fields) c.search.invariant.header) c.search.invariant.reftable c.if-reach-clusters.true in
+    becomes_then view p (with_run p h t c.search.first (c.in_ok-reach.reach.blocks + c.args.clusters)) c.args.file.now c.search.file c.reach_room.new.file c.search.self c.reach_room.new.self before
+    (subst (λ (r : Pending). Becomes view p c.search.file c.reach_room.new.self c.reach_room.new.file r) same reached)
+
+pub returns-in_err-leave_run-clause-sound : goal.returns-in_err-leave_run-clause-sound
+returns-in_err-leave_run-clause-sound g c = λ p sound.
+    let view = g.S.Storage.view in
+    let before = c.search.invariant.sound p sound in
+    let reached = c.in_ok-reach.ensures.sound p (is_sound_now view p p c.args.file.now c.search.file c.search.self before) in
+    let t_same : c.search.self.reftable ≡ c.reach_room.new.self.reftable = ap (λ a. a.reftable) (sym c.reach_room.ensures.same) in
+    let same = run_of_same p c.search.file.header.fields c.search.file.header.fields c.search.self.reftable c.reach_room.new.self.reftable c.search.first c.in_ok-reach.reach.taken c.in_ok-reach.reach.taken refl t_same refl in
+    let noted = noted_of_same c.search.file.header.fields c.search.self.reftable c.reach_room.new.self.reftable c.search.first c.in_ok-reach.reach.taken c.reach_room.new.file.caches.is_changed t_same c.in_ok-reach.ensures.noted in
+    let back = c.in_err-leave_run.ensures.sound p c.search.file (sym c.reach_room.ensures.header) (subst (λ (r : Pending). Becomes view p c.search.file c.reach_room.new.self c.reach_room.new.file r) same reached) noted in
+    handed_on (TakesRoom view p c.args.file.now c.leave_run.new.self c.leave_run.new.file c.args.self.now.reftable) c.from_residual-in_err-leave_run.result c.in_err-leave_run.field-0.0 c.from_residual-in_err-leave_run.ensures
+    (leaves_then view p c.args.file.now c.search.file c.leave_run.new.file c.leave_run.new.self c.in_err-leave_run.field-0.0 before.moves back.1)
+
+pub search-preserved : goal.search-preserved
+search-preserved g c = record {
+  header = c.leave_run.ensures.header ∙ c.reach_room.ensures.header ∙ c.search.invariant.header;
+  list = c.leave_run.ensures.list ∙ c.reach_room.ensures.list ∙ c.search.invariant.list;
+  marks = marks_then c.args.file.now.caches c.reach_room.new.file.caches c.leave_run.new.file.caches (marks_then c.args.file.now.caches c.search.file.caches c.reach_room.new.file.caches c.search.invariant.marks c.reach_room.ensures.marks) c.leave_run.ensures.marks;
+  order = c.leave_run.ensures.order ∙ c.reach_room.ensures.order ∙ c.search.invariant.order;
+  reftable = c.leave_run.ensures.reftable ∙ ap (λ a. a.reftable) c.reach_room.ensures.same ∙ c.search.invariant.reftable;
+  first_free = c.leave_run.ensures.first ∙ ap (λ a. a.first_free_cluster) c.reach_room.ensures.same ∙ c.search.invariant.first_free;
+  low = let low = c.search.invariant.low in omega (arith, low);
+  some = omega arith;
+  sound = λ p sound.
+      let view = g.S.Storage.view in
+      let before = c.search.invariant.sound p sound in
+      let reached = c.in_ok-reach.ensures.sound p (is_sound_now view p p c.args.file.now c.search.file c.search.self before) in
+      let t_same : c.search.self.reftable ≡ c.reach_room.new.self.reftable = ap (λ a. a.reftable) (sym c.reach_room.ensures.same) in
+      let same = run_of_same p c.search.file.header.fields c.search.file.header.fields c.search.self.reftable c.reach_room.new.self.reftable c.search.first c.in_ok-reach.reach.taken c.in_ok-reach.reach.taken refl t_same refl in
+      let noted = noted_of_same c.search.file.header.fields c.search.self.reftable c.reach_room.new.self.reftable c.search.first c.in_ok-reach.reach.taken c.reach_room.new.file.caches.is_changed t_same c.in_ok-reach.ensures.noted in
+      let back = c.in_ok-leave_run.ensures.sound p c.search.file (sym c.reach_room.ensures.header) (subst (λ (r : Pending). Becomes view p c.search.file c.reach_room.new.self c.reach_room.new.file r) same reached) noted in
+      becomes_then view p p c.args.file.now c.search.file c.leave_run.new.file c.search.self c.leave_run.new.self before back;
+  full = λ p sound hint.
+      let view = g.S.Storage.view in
+      let t = c.args.self.now.reftable in
+      let per : ℕ = counts_per_block c.args.file.now.header.fields in
+      let first = c.search.first in
+      let taken = c.in_ok-reach.reach.taken in
+      let before = c.search.invariant.sound p sound in
+      let now = is_sound_now view p p c.args.file.now c.search.file c.search.self before in
+      let reached = c.in_ok-reach.ensures.sound p now in
+      let t_same : c.search.self.reftable ≡ c.reach_room.new.self.reftable = ap (λ a. a.reftable) (sym c.reach_room.ensures.same) in
+      let same = run_of_same p c.search.file.header.fields c.search.file.header.fields c.search.self.reftable c.reach_room.new.self.reftable first taken taken refl t_same refl in
+      let noted = noted_of_same c.search.file.header.fields c.search.self.reftable c.reach_room.new.self.reftable first taken c.reach_room.new.file.caches.is_changed t_same c.in_ok-reach.ensures.noted in
+      let run = subst (λ (r : Pending). Becomes view p c.search.file c.reach_room.new.self c.reach_room.new.file r) same reached in
+      let back = c.in_ok-leave_run.ensures.sound p c.search.file (sym c.reach_room.ensures.header) run noted in
+      let opened_same = λ (n : ℕ). ap (λ (h : HeaderView). opened c.search.self.reftable (counts_per_block h.fields) first n) c.search.invariant.header ∙ ap (λ (x : EntryTableView). opened x per first n) c.search.invariant.reftable in
+      full_behind view c.leave_run.new.file t per c.args.clusters c.args.end first taken
+      (λ n le. let lt = c.in_ok-reach.ensures.short c.if-reach-clusters.false n le in let e = opened_same n in omega (arith, lt, e))
+      (λ within. c.in_ok-leave_run.ensures.kept p c.search.file (sym c.reach_room.ensures.header) run (first + taken) (run_after first taken (first + taken) (omega arith))
+      (c.in_ok-reach.ensures.stopped p now c.if-reach-clusters.false within))
+      (full_stays view c.search.file c.leave_run.new.file t per c.args.clusters c.args.end first (λ k used. used_stays view p p c.search.file c.leave_run.new.file c.leave_run.new.self k back (omega arith) used)
+      (c.search.invariant.full p sound hint));
+}
+
+pub returns-clause-sound : goal.returns-clause-sound
+returns-clause-sound g c = λ p sound. let before = c.search.invariant.sound p sound in inl (before.moves, before.reftable)
+
+pub returns-in_err-reach-clause-room : goal.returns-in_err-reach-clause-room
+returns-in_err-reach-clause-room g c = λ p sound hint.
+    let view = g.S.Storage.view in
+    let before = c.search.invariant.sound p sound in
+    handed_on (λ (r : Result Room ImageError). IfErr r (IsFaultOr (HasNoRoom view c.reach_room.new.file (λ k. 0) c.args.self.now.reftable c.args.clusters c.args.end))) c.from_residual.result c.in_err-reach.field-0.0 c.from_residual.ensures
+    (inl (c.in_err-reach.ensures.sound p (is_sound_now view p p c.args.file.now c.search.file c.search.self before)).0)
+
+pub returns-in_err-leave_run-clause-room : goal.returns-in_err-leave_run-clause-room
+returns-in_err-leave_run-clause-room g c = λ p sound hint.
+    let view = g.S.Storage.view in
+    let before = c.search.invariant.sound p sound in
+    let reached = c.in_ok-reach.ensures.sound p (is_sound_now view p p c.args.file.now c.search.file c.search.self before) in
+    let t_same : c.search.self.reftable ≡ c.reach_room.new.self.reftable = ap (λ a. a.reftable) (sym c.reach_room.ensures.same) in
+    let same = run_of_same p c.search.file.header.fields c.search.file.header.fields c.search.self.reftable c.reach_room.new.self.reftable c.search.first c.in_ok-reach.reach.taken c.in_ok-reach.reach.taken refl t_same refl in
+    let noted = noted_of_same c.search.file.header.fields c.search.self.reftable c.reach_room.new.self.reftable c.search.first c.in_ok-reach.reach.taken c.reach_room.new.file.caches.is_changed t_same c.in_ok-reach.ensures.noted in
+    let back = c.in_err-leave_run.ensures.sound p c.search.file (sym c.reach_room.ensures.header) (subst (λ (r : Pending). Becomes view p c.search.file c.reach_room.new.self c.reach_room.new.file r) same reached) noted in
+    handed_on (λ (r : Result Room ImageError). IfErr r (IsFaultOr (HasNoRoom view c.leave_run.new.file (λ k. 0) c.args.self.now.reftable c.args.clusters c.args.end))) c.from_residual-in_err-leave_run.result c.in_err-leave_run.field-0.0 c.from_residual-in_err-leave_run.ensures
+    (inl back.0)
+
+pub returns-clause-room : goal.returns-clause-room
+returns-clause-room g c = λ p sound hint.
+    let t = c.args.self.now.reftable in
+    inr (
+      refl,
+      λ start n above is within.
+          let e : opened t (counts_per_block c.search.file.header.fields) start n ≡ opened t (counts_per_block c.args.file.now.header.fields) start n = ap (λ (h : HeaderView). opened t (counts_per_block h.fields) start n) c.search.invariant.header in
+          let past = c.search-test.false in
+          let some = c.requires.some in
+          let at = c.search.invariant.full p sound hint start n above (omega (arith, past, some, is, within)) (is ∙ ap (λ m. m + c.args.clusters) e) within in
+          (at.0, at.1, at.2, inl at.4),
+    )
+
+pub returns-then-reach-clusters-clause-lowest : goal.returns-then-reach-clusters-clause-lowest
+returns-then-reach-clusters-clause-lowest g c = λ p sound hint.
+    let view = g.S.Storage.view in
+    let t = c.args.self.now.reftable in
+    let before = c.search.invariant.sound p sound in
+    let now = is_sound_now view p p c.args.file.now c.search.file c.search.self before in
+    let reached = c.in_ok-reach.ensures.sound p now in
+    let per = ap (λ (h : HeaderView). counts_per_block h.fields) (c.reach_room.ensures.header ∙ c.search.invariant.header) in
+    let full = full_stays view c.search.file c.reach_room.new.file t (counts_per_block c.args.file.now.header.fields) c.args.clusters c.args.end c.search.first
+    (λ k used. used_stays view p (with_run p c.search.file.header.fields c.search.self.reftable c.search.first c.in_ok-reach.reach.taken) c.search.file c.reach_room.new.file c.reach_room.new.self k reached (omega arith) used) (c.search.invariant.full p sound hint) in
+    subst (λ n. IsFullBelow view c.reach_room.new.file t n c.args.clusters c.args.end c.search.first) (sym per) full

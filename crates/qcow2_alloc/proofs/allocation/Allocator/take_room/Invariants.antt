@@ -1,0 +1,29 @@
+use Rattle.std.proofs.Common.{◌≡◌, ◌-◌, ◌<◌, ◌≤◌}
+use Rattle.qcow2_metadata.specs.Header.{counts_per_block}
+use Rattle.qcow2_laws.specs.Guard.{Pending}
+use Rattle.qcow2_alloc.specs.Allocation.{Becomes}
+use Rattle.qcow2_alloc.specs.CacheMarks.{KeepsMarks}
+use Rattle.qcow2_alloc.specs.ImageFile.{IsSoundWith}
+use Rattle.qcow2_alloc.specs.LowestRuns.{HasHint}
+use Rattle.qcow2_alloc.specs.MetadataCaches.{order_of}
+use Rattle.qcow2_alloc.proofs.FullRooms.{IsFullBelow}
+use Rattle.qcow2_alloc.proofs.allocation.Allocator.take_room.Given as goal
+
+-- nothing is taken yet
+abbrev pub invariant-search : goal.invariant-search
+invariant-search g l = record {
+  header : l.file.header ≡ l.fn.file.header;
+  list : l.file.free_list ≡ l.fn.file.free_list;
+  marks : KeepsMarks l.fn.file.caches l.file.caches;
+  order : order_of l.file.caches ≡ order_of l.fn.file.caches;
+  reftable : l.self.reftable ≡ l.fn.self.reftable;
+  first_free : l.self.first_free_cluster ≡ l.fn.self.first_free_cluster;
+  low : l.fn.self.first_free_cluster ≤ l.first;
+  some : 0 < l.first;
+  sound : (p : Pending) → IsSoundWith g.S.Storage.view l.fn.self p l.fn.file → Becomes g.S.Storage.view p l.fn.file l.self l.file p;
+  full : (p : Pending) → IsSoundWith g.S.Storage.view l.fn.self p l.fn.file → HasHint g.S.Storage.view l.fn.self l.fn.file
+      → IsFullBelow g.S.Storage.view l.file l.fn.self.reftable (counts_per_block l.fn.file.header.fields) l.fn.clusters l.fn.end l.first;
+}
+
+abbrev pub decreases-search : goal.decreases-search
+decreases-search g l = l.end - l.first

@@ -1,0 +1,222 @@
+use Rattle.std.proofs.Common.{◌≡◌, ℕ, ◌+◌, ◌*◌, ◌<◌, ◌≤◌, IsTrue, sym, ap, ◌∙◌, subst, arith, Some}
+use Rattle.qcow2_metadata.specs.declared.header.HeaderFields.{HeaderFields}
+use Rattle.qcow2_metadata.specs.EntryTable.{EntryTableView}
+use Rattle.qcow2_metadata.specs.Header.{cluster_size}
+use Rattle.qcow2_laws.specs.Caches.{AreClean}
+use Rattle.qcow2_alloc.specs.declared.cache.MetadataCaches.{MetadataCaches}
+use Rattle.qcow2_alloc.specs.Allocation.{run_at, StandAt}
+use Rattle.qcow2_alloc.specs.GrownTables.{with_run, NamesReftable, StandsGrown}
+use Rattle.qcow2_alloc.specs.ImageFile.{contents_in, IsSoundWith}
+use Rattle.qcow2_alloc.specs.LowestRuns.{KeepsUsed}
+use Rattle.qcow2_alloc.specs.MetadataCaches.{order_of, l2_tables, refblocks, rb_at}
+use Rattle.qcow2_alloc.specs.Rooms.{length_of, placed_at}
+use Rattle.qcow2_alloc.proofs.AllocationSteps.{handed_on, becomes_cached, becomes_then, is_sound_now}
+use Rattle.qcow2_alloc.proofs.FileSteps.{breaks_after}
+use Rattle.qcow2_alloc.proofs.PlacedBlocks.{file_sizes}
+use Rattle.qcow2_alloc.proofs.PlacedRooms.{Counting}
+use Rattle.qcow2_alloc.proofs.RoomSteps.{may_go}
+use Rattle.qcow2_alloc.proofs.RoomTables.{counting_beside, table_err, table_ok, stands_ready, names_then, uses_after}
+use Rattle.qcow2_alloc.proofs.Hints.{ok_as}
+use Rattle.qcow2_alloc.proofs.allocation.Allocator.write_reftable.Goals as goal
+
+pub returns-in_err-flush_rb-clause-sound : goal.returns-in_err-flush_rb-clause-sound
+returns-in_err-flush_rb-clause-sound g c = λ p sound longer.
+    let view = g.S.Storage.view in
+    let old = c.args.file.now in
+    let a = c.args.self.now in
+    let h = c.args.file.now.header.fields in
+    let first = c.args.room.first in
+    let n = length_of c.args.room in
+    let q = with_run p c.args.file.now.header.fields c.args.self.now.reftable c.args.room.first (length_of c.args.room) in
+    let one = becomes_cached view q old a c.flush_rb.new.storage c.flush_rb.new.self sound (c.flush_rb.ensures.keeps h q sound.sound.honest sound.sound.caches) c.flush_rb.ensures.marks in
+    let f1 = record old { storage = c.flush_rb.new.storage; caches = c.flush_rb.new.self } in
+    handed_on (NamesReftable view q p old a f1) c.from_residual.result c.in_err-flush_rb.field-0.0 c.from_residual.ensures (record {
+      fault = c.in_err-flush_rb.ensures.faults h q sound.sound.honest sound.sound.caches sound.sound.settled;
+      noted = λ _. c.flush_rb.ensures.marks.changed c.requires.noted;
+      since = one.moves.since;
+    })
+
+pub returns-in_err-flush_rb-clause-uses : goal.returns-in_err-flush_rb-clause-uses
+returns-in_err-flush_rb-clause-uses g c = λ p sound longer.
+    let view = g.S.Storage.view in
+    let old = c.args.file.now in
+    let a = c.args.self.now in
+    let h = c.args.file.now.header.fields in
+    let first = c.args.room.first in
+    let n = length_of c.args.room in
+    let q = with_run p c.args.file.now.header.fields c.args.self.now.reftable c.args.room.first (length_of c.args.room) in
+    let one = becomes_cached view q old a c.flush_rb.new.storage c.flush_rb.new.self sound (c.flush_rb.ensures.keeps h q sound.sound.honest sound.sound.caches) c.flush_rb.ensures.marks in
+    let f1 = record old { storage = c.flush_rb.new.storage; caches = c.flush_rb.new.self } in
+    handed_on (KeepsUsed view old f1) c.from_residual.result c.in_err-flush_rb.field-0.0 c.from_residual.ensures
+    (λ other. absurd (other (c.in_err-flush_rb.ensures.faults h q sound.sound.honest sound.sound.caches sound.sound.settled)))
+
+pub returns-in_err-place_blocks-clause-sound : goal.returns-in_err-place_blocks-clause-sound
+returns-in_err-place_blocks-clause-sound g c = λ p sound longer.
+    let view = g.S.Storage.view in
+    let old = c.args.file.now in
+    let a = c.args.self.now in
+    let h = c.args.file.now.header.fields in
+    let first = c.args.room.first in
+    let n = length_of c.args.room in
+    let q = with_run p c.args.file.now.header.fields c.args.self.now.reftable c.args.room.first (length_of c.args.room) in
+    let one = becomes_cached view q old a c.flush_rb.new.storage c.flush_rb.new.self sound (c.flush_rb.ensures.keeps h q sound.sound.honest sound.sound.caches) c.flush_rb.ensures.marks in
+    let f1 = record old { storage = c.flush_rb.new.storage; caches = c.flush_rb.new.self } in
+    let noted = c.place_blocks.ensures.marks.changed (c.flush_rb.ensures.marks.changed c.requires.noted) in
+    let refused = c.in_err-place_blocks.ensures.sound p (is_sound_now view q q old f1 a one) c.in_ok-flush_rb.ensures.first longer in
+    handed_on (NamesReftable view q p old a c.place_blocks.new.file) c.from_residual-in_err-place_blocks.result c.in_err-place_blocks.field-0.0 c.from_residual-in_err-place_blocks.ensures
+    (breaks_after view q q old f1 c.place_blocks.new.file a c.in_err-place_blocks.field-0.0 one.moves refused.0 noted refused.1)
+
+pub returns-in_err-place_blocks-clause-uses : goal.returns-in_err-place_blocks-clause-uses
+returns-in_err-place_blocks-clause-uses g c = λ p sound longer.
+    let view = g.S.Storage.view in
+    let old = c.args.file.now in
+    let a = c.args.self.now in
+    let h = c.args.file.now.header.fields in
+    let first = c.args.room.first in
+    let n = length_of c.args.room in
+    let q = with_run p c.args.file.now.header.fields c.args.self.now.reftable c.args.room.first (length_of c.args.room) in
+    let one = becomes_cached view q old a c.flush_rb.new.storage c.flush_rb.new.self sound (c.flush_rb.ensures.keeps h q sound.sound.honest sound.sound.caches) c.flush_rb.ensures.marks in
+    let f1 = record old { storage = c.flush_rb.new.storage; caches = c.flush_rb.new.self } in
+    let refused = c.in_err-place_blocks.ensures.sound p (is_sound_now view q q old f1 a one) c.in_ok-flush_rb.ensures.first longer in
+    handed_on (KeepsUsed view old c.place_blocks.new.file) c.from_residual-in_err-place_blocks.result c.in_err-place_blocks.field-0.0 c.from_residual-in_err-place_blocks.ensures (λ other. absurd (other refused.0))
+
+pub returns-in_err-place_table-clause-sound : goal.returns-in_err-place_table-clause-sound
+returns-in_err-place_table-clause-sound g c = λ p sound longer.
+    let view = g.S.Storage.view in
+    let old = c.args.file.now in
+    let a = c.args.self.now in
+    let h = c.args.file.now.header.fields in
+    let first = c.args.room.first in
+    let n = length_of c.args.room in
+    let q = with_run p c.args.file.now.header.fields c.args.self.now.reftable c.args.room.first (length_of c.args.room) in
+    let one = becomes_cached view q old a c.flush_rb.new.storage c.flush_rb.new.self sound (c.flush_rb.ensures.keeps h q sound.sound.honest sound.sound.caches) c.flush_rb.ensures.marks in
+    let f1 = record old { storage = c.flush_rb.new.storage; caches = c.flush_rb.new.self } in
+    let noted = c.place_blocks.ensures.marks.changed (c.flush_rb.ensures.marks.changed c.requires.noted) in
+    let placed = c.in_ok-place_blocks.ensures.sound p (is_sound_now view q q old f1 a one) c.in_ok-flush_rb.ensures.first longer in
+    let f2 = c.place_blocks.new.file in
+    let two = becomes_then view q q old f1 f2 a a one placed.becomes in
+    let header_two = ap (λ x. x.fields) c.place_blocks.ensures.header in
+    let may_two = may_go f1 f2 c.place_blocks.ensures.order c.place_blocks.ensures.tables c.in_ok-flush_rb.ensures.first in
+    let at_is = c.new.ensures in
+    let low : c.args.room.first ≤ c.new.result = omega (arith, at_is) in
+    let high : c.new.result + c.args.room.clusters ≤ c.args.room.first + length_of c.args.room = omega (arith, at_is) in
+    let bits = ap (λ (x : EntryTableView). x.cluster_bits) c.place_blocks.ensures.rest ∙ c.requires.bits ∙ sym (ap (λ (k : HeaderFields). k.cluster_bits) header_two) in
+    let long = c.place_blocks.ensures.as_long ∙ longer.long ∙ sym (ap (λ (k : HeaderFields). c.args.room.clusters * cluster_size k) header_two) in
+    let refused = table_err view p first n a f2 c.place_table.new.file c.new.result c.args.room.clusters c.place_blocks.new.table.bytes h header_two c.in_err-place_table.field-0.0
+    (λ s. c.in_err-place_table.ensures.sound p first n c.args.room.clusters a s may_two low high bits long) (is_sound_now view q q old f2 a two) in
+    let still = subst (λ (x : MetadataCaches _). IsTrue x.is_changed) (sym c.place_table.ensures.caches) noted in
+    handed_on (NamesReftable view q p old a c.place_table.new.file) c.from_residual-in_err-place_table.result c.in_err-place_table.field-0.0 c.from_residual-in_err-place_table.ensures
+    (breaks_after view q q old f2 c.place_table.new.file a c.in_err-place_table.field-0.0 two.moves refused.0 still refused.1)
+
+pub returns-in_err-place_table-clause-uses : goal.returns-in_err-place_table-clause-uses
+returns-in_err-place_table-clause-uses g c = λ p sound longer.
+    let view = g.S.Storage.view in
+    let old = c.args.file.now in
+    let a = c.args.self.now in
+    let h = c.args.file.now.header.fields in
+    let first = c.args.room.first in
+    let n = length_of c.args.room in
+    let q = with_run p c.args.file.now.header.fields c.args.self.now.reftable c.args.room.first (length_of c.args.room) in
+    let one = becomes_cached view q old a c.flush_rb.new.storage c.flush_rb.new.self sound (c.flush_rb.ensures.keeps h q sound.sound.honest sound.sound.caches) c.flush_rb.ensures.marks in
+    let f1 = record old { storage = c.flush_rb.new.storage; caches = c.flush_rb.new.self } in
+    let placed = c.in_ok-place_blocks.ensures.sound p (is_sound_now view q q old f1 a one) c.in_ok-flush_rb.ensures.first longer in
+    let f2 = c.place_blocks.new.file in
+    let two = becomes_then view q q old f1 f2 a a one placed.becomes in
+    let header_two = ap (λ x. x.fields) c.place_blocks.ensures.header in
+    let may_two = may_go f1 f2 c.place_blocks.ensures.order c.place_blocks.ensures.tables c.in_ok-flush_rb.ensures.first in
+    let at_is = c.new.ensures in
+    let low : c.args.room.first ≤ c.new.result = omega (arith, at_is) in
+    let high : c.new.result + c.args.room.clusters ≤ c.args.room.first + length_of c.args.room = omega (arith, at_is) in
+    let bits = ap (λ (x : EntryTableView). x.cluster_bits) c.place_blocks.ensures.rest ∙ c.requires.bits ∙ sym (ap (λ (k : HeaderFields). k.cluster_bits) header_two) in
+    let long = c.place_blocks.ensures.as_long ∙ longer.long ∙ sym (ap (λ (k : HeaderFields). c.args.room.clusters * cluster_size k) header_two) in
+    let refused = table_err view p first n a f2 c.place_table.new.file c.new.result c.args.room.clusters c.place_blocks.new.table.bytes h header_two c.in_err-place_table.field-0.0
+    (λ s. c.in_err-place_table.ensures.sound p first n c.args.room.clusters a s may_two low high bits long) (is_sound_now view q q old f2 a two) in
+    handed_on (KeepsUsed view old c.place_table.new.file) c.from_residual-in_err-place_table.result c.in_err-place_table.field-0.0 c.from_residual-in_err-place_table.ensures (λ other. absurd (other refused.0))
+
+pub returns-clause-sound : goal.returns-clause-sound
+returns-clause-sound g c = λ p sound longer.
+    let view = g.S.Storage.view in
+    let old = c.args.file.now in
+    let a = c.args.self.now in
+    let h = c.args.file.now.header.fields in
+    let first = c.args.room.first in
+    let n = length_of c.args.room in
+    let q = with_run p c.args.file.now.header.fields c.args.self.now.reftable c.args.room.first (length_of c.args.room) in
+    let one = becomes_cached view q old a c.flush_rb.new.storage c.flush_rb.new.self sound (c.flush_rb.ensures.keeps h q sound.sound.honest sound.sound.caches) c.flush_rb.ensures.marks in
+    let f1 = record old { storage = c.flush_rb.new.storage; caches = c.flush_rb.new.self } in
+    let placed = c.in_ok-place_blocks.ensures.sound p (is_sound_now view q q old f1 a one) c.in_ok-flush_rb.ensures.first longer in
+    let f2 = c.place_blocks.new.file in
+    let two = becomes_then view q q old f1 f2 a a one placed.becomes in
+    let header_two = ap (λ x. x.fields) c.place_blocks.ensures.header in
+    let may_two = may_go f1 f2 c.place_blocks.ensures.order c.place_blocks.ensures.tables c.in_ok-flush_rb.ensures.first in
+    let at_is = c.new.ensures in
+    let low : c.args.room.first ≤ c.new.result = omega (arith, at_is) in
+    let high : c.new.result + c.args.room.clusters ≤ c.args.room.first + length_of c.args.room = omega (arith, at_is) in
+    let bits = ap (λ (x : EntryTableView). x.cluster_bits) c.place_blocks.ensures.rest ∙ c.requires.bits ∙ sym (ap (λ (k : HeaderFields). k.cluster_bits) header_two) in
+    let long = c.place_blocks.ensures.as_long ∙ longer.long ∙ sym (ap (λ (k : HeaderFields). c.args.room.clusters * cluster_size k) header_two) in
+    let wrote = table_ok view p first n a f2 c.place_table.new.file c.new.result c.args.room.clusters c.place_blocks.new.table.bytes h header_two c.in_ok-place_table.field-0
+    (λ s. c.in_ok-place_table.ensures.sound p first n c.args.room.clusters a s may_two low high bits long) (is_sound_now view q q old f2 a two) in
+    let f3 = c.place_table.new.file in
+    let three = becomes_then view q q old f2 f3 a a two wrote.0 in
+    let header_three = ap (λ x. x.fields) c.place_table.ensures.header ∙ header_two in
+    let sizes = file_sizes view q old sound.sound in
+    let t' = placed_at c.place_blocks.new.table (c.args.room.first + c.args.room.blocks) in
+    let outside = λ (k : ℕ) (none : run_at (c.args.room.first + c.args.room.blocks) c.args.room.clusters k ≡ 0). wrote.2 k (ap (λ m. run_at m c.args.room.clusters k) at_is ∙ none) in
+    let counts = counting_beside h sizes (contents_in view f2) (contents_in view f3) a.reftable t' first c.args.room.blocks c.args.room.clusters n placed.grown
+    (subst (λ (k : HeaderFields). Counting k (contents_in view f2) a.reftable c.place_blocks.new.table first n) header_two placed.counts) outside in
+    let clean = subst (λ (x : MetadataCaches _). AreClean (refblocks x)) (sym c.place_table.ensures.caches) (c.place_blocks.ensures.clean c.in_ok-flush_rb.ensures.written) in
+    let may_three = may_go f2 f3 (ap order_of c.place_table.ensures.caches) (ap l2_tables c.place_table.ensures.caches) may_two in
+    let uncached = λ (k : ℕ) (some : 0 < run_at c.args.room.first c.args.room.blocks k). ap (λ x. rb_at x k) c.place_table.ensures.caches ∙ placed.uncached k some in
+    let stands = subst (λ m. StandAt (contents_in view f3) (m * cluster_size h) c.place_blocks.new.table.bytes) at_is wrote.1 in
+    let table_is : c.place_table.new.table ≡ placed_at c.place_blocks.new.table (c.args.room.first + c.args.room.blocks) = c.place_table.ensures.table ∙ ap (placed_at c.place_blocks.new.table) at_is in
+    let ready = stands_ready view f3 h a.reftable t' first c.args.room.blocks c.args.room.clusters (sym header_three) placed.grown stands counts clean may_three uncached in
+    let ready_table = subst (λ (x : EntryTableView). StandsGrown view f3 a.reftable x first c.args.room.blocks c.args.room.clusters) (sym table_is) ready in
+    let sound_three = subst (λ (k : HeaderFields). IsSoundWith view a (with_run p k a.reftable first n) f3) (sym header_three) (is_sound_now view q q old f3 a three) in
+    names_then view p old f3 c.name_reftable.new.file a c.name_reftable.new.self a.reftable first n header_three c.name_reftable.result three
+    (c.name_reftable.ensures.names p first c.args.room.blocks c.args.room.clusters sound_three ready_table)
+
+pub returns-clause-uses : goal.returns-clause-uses
+returns-clause-uses g c = λ p sound longer.
+    let view = g.S.Storage.view in
+    let old = c.args.file.now in
+    let a = c.args.self.now in
+    let h = c.args.file.now.header.fields in
+    let first = c.args.room.first in
+    let n = length_of c.args.room in
+    let q = with_run p c.args.file.now.header.fields c.args.self.now.reftable c.args.room.first (length_of c.args.room) in
+    let one = becomes_cached view q old a c.flush_rb.new.storage c.flush_rb.new.self sound (c.flush_rb.ensures.keeps h q sound.sound.honest sound.sound.caches) c.flush_rb.ensures.marks in
+    let f1 = record old { storage = c.flush_rb.new.storage; caches = c.flush_rb.new.self } in
+    let placed = c.in_ok-place_blocks.ensures.sound p (is_sound_now view q q old f1 a one) c.in_ok-flush_rb.ensures.first longer in
+    let f2 = c.place_blocks.new.file in
+    let two = becomes_then view q q old f1 f2 a a one placed.becomes in
+    let header_two = ap (λ x. x.fields) c.place_blocks.ensures.header in
+    let may_two = may_go f1 f2 c.place_blocks.ensures.order c.place_blocks.ensures.tables c.in_ok-flush_rb.ensures.first in
+    let at_is = c.new.ensures in
+    let low : c.args.room.first ≤ c.new.result = omega (arith, at_is) in
+    let high : c.new.result + c.args.room.clusters ≤ c.args.room.first + length_of c.args.room = omega (arith, at_is) in
+    let bits = ap (λ (x : EntryTableView). x.cluster_bits) c.place_blocks.ensures.rest ∙ c.requires.bits ∙ sym (ap (λ (k : HeaderFields). k.cluster_bits) header_two) in
+    let long = c.place_blocks.ensures.as_long ∙ longer.long ∙ sym (ap (λ (k : HeaderFields). c.args.room.clusters * cluster_size k) header_two) in
+    let wrote = table_ok view p first n a f2 c.place_table.new.file c.new.result c.args.room.clusters c.place_blocks.new.table.bytes h header_two c.in_ok-place_table.field-0
+    (λ s. c.in_ok-place_table.ensures.sound p first n c.args.room.clusters a s may_two low high bits long) (is_sound_now view q q old f2 a two) in
+    let f3 = c.place_table.new.file in
+    let three = becomes_then view q q old f2 f3 a a two wrote.0 in
+    let header_three = ap (λ x. x.fields) c.place_table.ensures.header ∙ header_two in
+    let sizes = file_sizes view q old sound.sound in
+    let t' = placed_at c.place_blocks.new.table (c.args.room.first + c.args.room.blocks) in
+    let outside = λ (k : ℕ) (none : run_at (c.args.room.first + c.args.room.blocks) c.args.room.clusters k ≡ 0). wrote.2 k (ap (λ m. run_at m c.args.room.clusters k) at_is ∙ none) in
+    let counts = counting_beside h sizes (contents_in view f2) (contents_in view f3) a.reftable t' first c.args.room.blocks c.args.room.clusters n placed.grown
+    (subst (λ (k : HeaderFields). Counting k (contents_in view f2) a.reftable c.place_blocks.new.table first n) header_two placed.counts) outside in
+    let clean = subst (λ (x : MetadataCaches _). AreClean (refblocks x)) (sym c.place_table.ensures.caches) (c.place_blocks.ensures.clean c.in_ok-flush_rb.ensures.written) in
+    let may_three = may_go f2 f3 (ap order_of c.place_table.ensures.caches) (ap l2_tables c.place_table.ensures.caches) may_two in
+    let uncached = λ (k : ℕ) (some : 0 < run_at c.args.room.first c.args.room.blocks k). ap (λ x. rb_at x k) c.place_table.ensures.caches ∙ placed.uncached k some in
+    let stands = subst (λ m. StandAt (contents_in view f3) (m * cluster_size h) c.place_blocks.new.table.bytes) at_is wrote.1 in
+    let table_is : c.place_table.new.table ≡ placed_at c.place_blocks.new.table (c.args.room.first + c.args.room.blocks) = c.place_table.ensures.table ∙ ap (placed_at c.place_blocks.new.table) at_is in
+    let ready = stands_ready view f3 h a.reftable t' first c.args.room.blocks c.args.room.clusters (sym header_three) placed.grown stands counts clean may_three uncached in
+    let ready_table = subst (λ (x : EntryTableView). StandsGrown view f3 a.reftable x first c.args.room.blocks c.args.room.clusters) (sym table_is) ready in
+    let sound_three = subst (λ (k : HeaderFields). IsSoundWith view a (with_run p k a.reftable first n) f3) (sym header_three) (is_sound_now view q q old f3 a three) in
+    uses_after view q old f3 c.name_reftable.new.file a c.name_reftable.result three (c.name_reftable.ensures.uses p first c.args.room.blocks c.args.room.clusters sound_three ready_table)
+
+pub returns-clause-place : goal.returns-clause-place
+returns-clause-place g c =
+    ok_as (c.name_reftable.new.self.reftable ≡ c.place_table.new.table) (c.name_reftable.new.self.reftable.cluster ≡ Some (c.args.room.first + c.args.room.blocks)) c.name_reftable.result
+    (λ is. ap (λ (x : EntryTableView). x.cluster) (is ∙ c.place_table.ensures.table) ∙ ap Some c.new.ensures) c.name_reftable.ensures.table

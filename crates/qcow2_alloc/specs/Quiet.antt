@@ -1,0 +1,68 @@
+-- When nothing is written, and where the calls of the caches write nothing.
+use Rattle.std.specs.Prelude.{ℕ, ◌≡◌, ◌<◌, ◌==◌, ◌⊎◌, Bool, false, List, length, IfSome, IsSome, IsNone}
+use Rattle.image_access.specs.Moments.{StorageView, Passing}
+use Rattle.qcow2_metadata.specs.L2Table.{L2TableView}
+use Rattle.qcow2_metadata.specs.RefBlock.{RefBlockView}
+use Rattle.qcow2_laws.specs.Caches.{BlocksMayGo, TablesMayGo}
+use Rattle.qcow2_alloc.specs.AsyncLruCache.{Cache, oldest_free}
+use Rattle.qcow2_alloc.specs.ImageStorage.{storage_of}
+use Rattle.qcow2_alloc.specs.MetadataCaches.{order_of, l2_at, rb_at, l2_tables, refblocks}
+use Rattle.qcow2_alloc.specs.declared.async_lru_cache.slot.Slot.{Slot}
+use Rattle.qcow2_alloc.specs.declared.cache.MetadataCaches.{MetadataCaches}
+use Rattle.qcow2_alloc.specs.declared.image_storage.ImageStorage.{ImageStorage}
+
+-- Nothing is written: the contents stay, and each moment since has them, or was there before.
+pub record IsQuiet (old new : StorageView) : Type 0 where
+  pub honest : new.is_honest
+  pub contents : new.contents ≡ old.contents
+  pub moments : Passing old new (λ c. c ≡ old.contents)
+
+-- there is room for one entry more
+abbrev pub HasSpace : {B K V : Type 0} → Cache B K V → Type 0
+HasSpace cache = length cache.entries < cache.size
+
+-- the entry that goes next, if one may go, is unmodified
+abbrev pub NextIsClean : {K V : Type 0} → (V → Bool) → List (K × Slot V) → Type 0
+NextIsClean is_modified es = IfSome (oldest_free es) (λ e. is_modified e.1.value ≡ false)
+
+module _ {S : Type 0} where
+  -- so it is on an honest storage
+  abbrev pub WritesNothing : (S → StorageView) → ImageStorage S → ImageStorage S → Type 0
+  WritesNothing view old new = (view (storage_of old)).is_honest → IsQuiet (view (storage_of old)) (view (storage_of new))
+
+  module _ (caches : MetadataCaches S) where
+    -- an L2 table goes unwritten: it is unmodified, and no refblock has to be written before
+    abbrev pub TableGoesQuietly : Type 0
+    TableGoesQuietly = TablesMayGo (order_of caches) (refblocks caches) × NextIsClean (λ (t : L2TableView). t.is_modified) caches.l2.entries
+
+    -- a refblock goes so
+    abbrev pub BlockGoesQuietly : Type 0
+    BlockGoesQuietly = BlocksMayGo (order_of caches) (l2_tables caches) × NextIsClean (λ (b : RefBlockView). b.is_modified) caches.rb.entries
+
+    -- the L2 table of a cluster is held, or there is room for it, or another one goes unwritten
+    abbrev pub GetsTableQuietly : ℕ → Type 0
+    GetsTableQuietly cluster = IsSome (l2_at caches cluster) ⊎ (HasSpace caches.l2 ⊎ TableGoesQuietly)
+
+    -- the refblock of a cluster is so
+    abbrev pub GetsBlockQuietly : ℕ → Type 0
+    GetsBlockQuietly cluster = IsSome (rb_at caches cluster) ⊎ (HasSpace caches.rb ⊎ BlockGoesQuietly)
+
+    -- no L2 table of the cluster is held, and there is room for one or another one goes unwritten; or one is held, which goes unwritten
+    abbrev pub PutsTableQuietly : ℕ → Type 0
+    PutsTableQuietly cluster =
+        (IsNone (l2_at caches cluster) × (HasSpace caches.l2 ⊎ TableGoesQuietly))
+        ⊎ (TablesMayGo (order_of caches) (refblocks caches) × IfSome (l2_at caches cluster) (λ t. t.is_modified ≡ false) × IsSome (l2_at caches cluster))
+
+    -- so for the refblock of a cluster
+    abbrev pub PutsBlockQuietly : ℕ → Type 0
+    PutsBlockQuietly cluster =
+        (IsNone (rb_at caches cluster) × (HasSpace caches.rb ⊎ BlockGoesQuietly))
+        ⊎ (BlocksMayGo (order_of caches) (l2_tables caches) × IfSome (rb_at caches cluster) (λ b. b.is_modified ≡ false) × IsSome (rb_at caches cluster))
+
+  -- the other L2 tables that are still held are as they were, so none of them was written
+  abbrev pub OtherTablesStay : MetadataCaches S → MetadataCaches S → ℕ → Type 0
+  OtherTablesStay caches caches' cluster = (c : ℕ) → cluster == c ≡ false → IsSome (l2_at caches' c) → l2_at caches' c ≡ l2_at caches c
+
+  -- so are the other refblocks
+  abbrev pub OtherBlocksStay : MetadataCaches S → MetadataCaches S → ℕ → Type 0
+  OtherBlocksStay caches caches' cluster = (c : ℕ) → cluster == c ≡ false → IsSome (rb_at caches' c) → rb_at caches' c ≡ rb_at caches c

@@ -1,0 +1,115 @@
+-- A run of free clusters for a longer reftable and the refblocks that it lacks.
+use Rattle.std.specs.Prelude.{ℕ, ◌+◌, ◌*◌, ◌/◌, ◌%◌, ◌<◌, ◌≡◌, ◌≢◌, ◌==◌, ◌&&◌, ◌||◌, Bool, true, false, List, length, Some, None, Result, Ok, Err, if◌then◌else◌}
+use Rattle.image_access.specs.Moments.{StorageView}
+use Rattle.qcow2_metadata.specs.declared.header.HeaderFields.{HeaderFields}
+use Rattle.qcow2_metadata.specs.Bytes.{sum_below, one_if}
+use Rattle.qcow2_metadata.specs.Header.{cluster_size, counts_per_block, count_width}
+use Rattle.qcow2_metadata.specs.Entries.{block_offset, block_count}
+use Rattle.qcow2_metadata.specs.EntryTable.{EntryTableView, entry_count}
+use Rattle.qcow2_metadata.specs.RefBlock.{RefBlockView, count_at}
+use Rattle.qcow2_metadata.specs.TableBytes.{entry_at}
+use Rattle.qcow2_laws.specs.Changes.{one_at, with_fresh}
+use Rattle.qcow2_laws.specs.Guard.{Pending, SameIn}
+use Rattle.qcow2_laws.specs.Tops.{IsSameOutside}
+use Rattle.qcow2_alloc.specs.Allocation.{run_at, StandAt, HasNone, Becomes}
+use Rattle.qcow2_alloc.specs.GrownTables.{with_run, named_by_entries, IsGrown}
+use Rattle.qcow2_alloc.specs.ImageFile.{contents_in, IsFault, LeavesSound}
+use Rattle.qcow2_alloc.specs.MetadataCaches.{rb_at}
+use Rattle.qcow2_alloc.specs.declared.allocation.Allocator.{Allocator}
+use Rattle.qcow2_alloc.specs.declared.error.ImageError.{ImageError}
+use Rattle.qcow2_alloc.specs.declared.free_room.Reach.{Reach}
+use Rattle.qcow2_alloc.specs.declared.free_room.Room.{Room}
+use Rattle.qcow2_alloc.specs.declared.image_file.ImageFile.{ImageFile}
+
+-- the reftable names no refblock for the range
+abbrev pub lacks : EntryTableView → ℕ → Bool
+lacks t range = block_offset (entry_at t.bytes range) == 0
+
+-- once the cluster where its count lies in a refblock that the reftable names
+abbrev pub counted_one : HeaderFields → EntryTableView → ℕ → ℕ → ℕ
+counted_one h t c k = if lacks t (c / counts_per_block h) then 0 else one_at c k
+
+-- the cluster is the first of a run in a range that has no refblock
+abbrev pub opens : EntryTableView → ℕ → ℕ → ℕ → Bool
+opens t per first c = (c == first || c % per == 0) && lacks t (c / per)
+
+-- how many of the ranges that n clusters from first on enter have no refblock
+abbrev pub opened : EntryTableView → ℕ → ℕ → ℕ → ℕ
+opened t per first n = sum_below n (λ i. one_if (opens t per first (first + i)))
+
+-- how many clusters a room has
+abbrev pub length_of : Room → ℕ
+length_of room = room.blocks + room.clusters
+
+module _ {S : Type 0} (view : S → StorageView) (p : Pending) (old : ImageFile S) (allocator' : Allocator) (new : ImageFile S) where
+  -- a cluster is taken where it is counted anywhere, or it is in use
+  abbrev pub TakesFree : EntryTableView → ℕ → Result Bool ImageError → Type 0
+  TakesFree t cluster (Ok true) = Becomes view p old allocator' new (with_fresh p (counted_one old.header.fields t cluster))
+  TakesFree t cluster (Ok false) = Becomes view p old allocator' new p
+  TakesFree t cluster (Err e) = IsFault e × LeavesSound view p old allocator' new e
+
+  -- so many clusters from first on are taken
+  abbrev pub ReachesRoom : EntryTableView → ℕ → Result Reach ImageError → Type 0
+  ReachesRoom t first (Ok reach) = Becomes view p old allocator' new (with_run p old.header.fields t first reach.taken)
+  ReachesRoom t first (Err e) = IsFault e × LeavesSound view p old allocator' new e
+
+  -- the clusters of a room are
+  abbrev pub TakesRoom : EntryTableView → Result Room ImageError → Type 0
+  TakesRoom t (Ok room) = Becomes view p old allocator' new (with_run p old.header.fields t room.first (length_of room))
+  TakesRoom t (Err e) = LeavesSound view p old allocator' new e
+
+-- a longer reftable in memory has the same entries, and needs so many clusters
+pub record IsLonger (h : HeaderFields) (old t : EntryTableView) (clusters : ℕ) : Type 0 where
+  pub bits : t.cluster_bits ≡ h.cluster_bits
+  pub long : length t.bytes ≡ clusters * cluster_size h
+  pub whole : 8 * entry_count t ≡ clusters * cluster_size h
+  pub entries : (k : ℕ) → entry_at t.bytes k ≡ entry_at old.bytes k
+  pub named : (c : ℕ) → named_by_entries h t c ≡ named_by_entries h old c
+
+-- count i of the refblock is that of cluster begin + i: 1 for each one of n from first on
+abbrev pub CountsRun : HeaderFields → RefBlockView → ℕ → ℕ → ℕ → Type 0
+CountsRun h block begin first n = (i : ℕ) → i < counts_per_block h → count_at block i ≡ run_at first n (begin + i)
+
+-- where the reftable has it lie
+abbrev pub placed_at : EntryTableView → ℕ → EntryTableView
+placed_at t cluster = record t { cluster = Some cluster }
+
+module _ {S : Type 0} (view : S → StorageView) where
+  -- the refblocks that the old one doesn't name stand where it names them, and count just these clusters
+  abbrev pub StandCounting : ImageFile S → EntryTableView → EntryTableView → ℕ → ℕ → Type 0
+  StandCounting file old t first n =
+      (c : ℕ) → HasNone old (c / counts_per_block file.header.fields) → block_offset (entry_at t.bytes (c / counts_per_block file.header.fields)) ≢ 0
+      → block_count (contents_in view file) (count_width file.header.fields) (block_offset (entry_at t.bytes (c / counts_per_block file.header.fields))) (c % counts_per_block file.header.fields) ≡ run_at first n c
+
+  module _ (q : Pending) (old : ImageFile S) (allocator : Allocator) (new : ImageFile S) where
+    -- bytes stand in a cluster, which no cached refblock has; nothing else changes on the storage
+    pub record StandsIn (cluster : ℕ) (bytes : List ℕ) : Type 0 where
+      pub becomes : Becomes view q old allocator new q
+      pub stands : StandAt (contents_in view new) (cluster * cluster_size old.header.fields) bytes
+      pub outside : IsSameOutside (cluster_size old.header.fields) cluster (contents_in view old) (contents_in view new)
+      pub gone : rb_at new.caches cluster ≡ None
+
+    abbrev pub WritesTo : ℕ → List ℕ → Result (Unit {0}) ImageError → Type 0
+    WritesTo cluster bytes (Ok _) = StandsIn cluster bytes
+    WritesTo cluster bytes (Err e) = IsFault e × LeavesSound view q old allocator new e
+
+    -- the refblocks that a reftable lacks stand in the first clusters of a room, and a longer one names them
+    pub record HasPlaced (before after : EntryTableView) (room : Room) : Type 0 where
+      pub becomes : Becomes view q old allocator new q
+      pub grown : IsGrown old.header.fields before (placed_at after (room.first + room.blocks)) room.first room.blocks room.clusters
+      pub counts : StandCounting new before after room.first (length_of room)
+      pub uncached : (c : ℕ) → 0 < run_at room.first room.blocks c → rb_at new.caches c ≡ None
+
+    abbrev pub PlacesBlocks : EntryTableView → EntryTableView → Room → Result (Unit {0}) ImageError → Type 0
+    PlacesBlocks before after room (Ok _) = HasPlaced before after room
+    PlacesBlocks before after room (Err e) = IsFault e × LeavesSound view q old allocator new e
+
+    -- a table stands in so many clusters, and on the storage nothing else changes
+    pub record StandsFrom (cluster clusters : ℕ) (bytes : List ℕ) : Type 0 where
+      pub becomes : Becomes view q old allocator new q
+      pub stands : StandAt (contents_in view new) (cluster * cluster_size old.header.fields) bytes
+      pub outside : (c : ℕ) → run_at cluster clusters c ≡ 0 → SameIn (cluster_size old.header.fields) c (contents_in view old) (contents_in view new)
+
+    abbrev pub WritesTable : ℕ → ℕ → List ℕ → Result (Unit {0}) ImageError → Type 0
+    WritesTable cluster clusters bytes (Ok _) = StandsFrom cluster clusters bytes
+    WritesTable cluster clusters bytes (Err e) = IsFault e × LeavesSound view q old allocator new e

@@ -1,0 +1,192 @@
+//! A run of free clusters for a longer reftable and the refblocks that it lacks.
+ghost use Rattle.std.specs.Prelude.{◌≡◌, ◌≢◌, ◌⊎◌, ℕ, ◌+◌, ◌/◌, ◌^◌, ◌<◌, ◌≤◌, false, OnOk, IfOk, IfErr, IsTrue};
+ghost use Rattle.qcow2_metadata.specs.Header.{counts_per_block};
+ghost use Rattle.qcow2_laws.specs.Guard.{Pending};
+ghost use Rattle.qcow2_alloc.specs.Allocation.{run_at, Becomes, GivesBack};
+ghost use Rattle.qcow2_alloc.specs.CacheMarks.{KeepsMarks};
+ghost use Rattle.qcow2_alloc.specs.GrownTables.{counted_run, with_run};
+ghost use Rattle.qcow2_alloc.specs.ImageError.{IsOfTables};
+ghost use Rattle.qcow2_alloc.specs.ImageFile.{IsSoundWith};
+ghost use Rattle.qcow2_alloc.specs.Limits.{IsFaultOr, HasNoRoom, IsLowestRoom};
+ghost use Rattle.qcow2_alloc.specs.LowestRuns.{HasHint, IsUsed};
+ghost use Rattle.qcow2_alloc.specs.MetadataCaches.{order_of};
+ghost use Rattle.qcow2_alloc.specs.Rooms.{lacks, opens, opened, length_of, TakesFree, ReachesRoom, TakesRoom};
+
+use crate::allocation::ends_call;
+use crate::{Allocator, ImageError, ImageFile};
+use image_access::Storage;
+
+/// Clusters for new refblocks, and behind them those for a reftable.
+#[derive(Clone, Copy)]
+pub(crate) struct Room {
+    pub first: u64,
+    pub blocks: u64,
+    pub clusters: u64,
+}
+
+/// How many clusters of a run are taken, and how many of the ranges that it enters have no refblock.
+#[derive(Clone, Copy)]
+struct Reach {
+    taken: u64,
+    blocks: u64,
+}
+
+impl Allocator {
+    // Takes the first room for so many clusters of a reftable that lies below an end.
+    pub(crate) fn take_room<S: Storage>(
+        &mut self,
+        file: &mut ImageFile<S>,
+        clusters: u64,
+        end: u64,
+    ) -> Result<Room, ImageError>
+        requires some { 0 < clusters }
+        requires few { clusters ≤ 2 ^ 32 }
+        requires near { end ≤ 2 ^ 60 }
+        ensures marks { KeepsMarks file.old.caches file.new.caches }
+        ensures order { order_of file.new.caches ≡ order_of file.old.caches }
+        ensures reftable { self.new.reftable ≡ self.old.reftable }
+        ensures first { self.new.first_free_cluster ≡ self.old.first_free_cluster }
+        ensures sound { (p : Pending) → IsSoundWith S.view self.old p file.old → TakesRoom S.view p file.old self.new file.new self.old.reftable result }
+        ensures blocks { IfOk result (λ room. room.blocks ≡ opened self.old.reftable (counts_per_block file.old.header.fields) room.first (length_of room)) }
+        ensures clusters { IfOk result (λ room. room.clusters ≡ clusters) }
+        ensures above { IfOk result (λ room. 0 < room.first) }
+        ensures below { IfOk result (λ room. room.first + length_of room ≤ end) }
+        ensures lowest { (p : Pending) → IsSoundWith S.view self.old p file.old → HasHint S.view self.old file.old → IfOk result (λ room. IsLowestRoom S.view file.new self.old.reftable clusters end room.first) }
+        ensures header { file.new.header ≡ file.old.header }
+        ensures list { file.new.free_list ≡ file.old.free_list }
+        ensures cause { IfErr result IsOfTables }
+        ensures room { (p : Pending) → IsSoundWith S.view self.old p file.old → HasHint S.view self.old file.old → IfErr result (IsFaultOr (HasNoRoom S.view file.new (λ k. 0) self.old.reftable clusters end)) }
+    {
+        let mut first = self.first_free_cluster.max(1);
+        'search: while first < end {
+            let reach = self.reach_room(file, first, clusters, end)?;
+            if reach.taken == reach.blocks + clusters {
+                return Ok(Room {
+                    first,
+                    blocks: reach.blocks,
+                    clusters,
+                });
+            }
+            self.leave_run(file, first, reach.taken)?;
+            first += reach.taken + 1;
+        }
+        Err(ImageError::Limit)
+    }
+
+    // Takes clusters from first on until there is room, or one is in use, or the end comes.
+    fn reach_room<S: Storage>(
+        &mut self,
+        file: &mut ImageFile<S>,
+        first: u64,
+        clusters: u64,
+        end: u64,
+    ) -> Result<Reach, ImageError>
+        requires below { first < end }
+        requires few { clusters ≤ 2 ^ 32 }
+        requires near { end ≤ 2 ^ 60 }
+        ensures marks { KeepsMarks file.old.caches file.new.caches }
+        ensures order { order_of file.new.caches ≡ order_of file.old.caches }
+        ensures same { self.new ≡ self.old }
+        ensures sound { (p : Pending) → IsSoundWith S.view self.old p file.old → ReachesRoom S.view p file.old self.new file.new self.old.reftable first result }
+        ensures noted { IfOk result (λ reach. ((k : ℕ) → counted_run file.old.header.fields self.old.reftable first reach.taken k ≡ 0) ⊎ IsTrue file.new.caches.is_changed) }
+        ensures blocks { IfOk result (λ reach. reach.blocks ≡ opened self.old.reftable (counts_per_block file.old.header.fields) first reach.taken) }
+        ensures within { IfOk result (λ reach. first + reach.taken ≤ end) }
+        ensures few { IfOk result (λ reach. reach.blocks ≤ reach.taken) }
+        ensures header { file.new.header ≡ file.old.header }
+        ensures list { file.new.free_list ≡ file.old.free_list }
+        ensures cause { IfErr result IsOfTables }
+        ensures short { IfOk result (λ reach. reach.taken ≢ reach.blocks + clusters → (n : ℕ) → n ≤ reach.taken → n < opened self.old.reftable (counts_per_block file.old.header.fields) first n + clusters) }
+        ensures stopped { (p : Pending) → IsSoundWith S.view self.old p file.old → IfOk result (λ reach. reach.taken ≢ reach.blocks + clusters → first + reach.taken < end → IsUsed S.view file.new (first + reach.taken)) }
+    {
+        let bits = file.header.rb_bits();
+        let mut taken = 0;
+        let mut blocks = 0;
+        'reaching: while taken < blocks + clusters && taken < end - first {
+            let cluster = first + taken;
+            if !self.take_if_free(file, cluster, bits)? {
+                return Ok(Reach { taken, blocks });
+            }
+            blocks += u64::from(self.opens_range(first, cluster, bits));
+            taken += 1;
+        }
+        Ok(Reach { taken, blocks })
+    }
+
+    // Takes a cluster where it is free: false where it is in use. Where its range has no refblock there is nothing to count.
+    fn take_if_free<S: Storage>(
+        &mut self,
+        file: &mut ImageFile<S>,
+        cluster: u64,
+        bits: u32,
+    ) -> Result<bool, ImageError>
+        requires counts { counts_per_block file.old.header.fields ≡ 2 ^ bits }
+        requires few { bits < 64 }
+        ensures marks { KeepsMarks file.old.caches file.new.caches }
+        ensures order { order_of file.new.caches ≡ order_of file.old.caches }
+        ensures same { self.new ≡ self.old }
+        ensures sound { (p : Pending) → IsSoundWith S.view self.old p file.old → TakesFree S.view p file.old self.new file.new self.old.reftable cluster result }
+        ensures noted { IfOk result (λ taken. IsTrue taken → lacks self.old.reftable (cluster / 2 ^ bits) ≡ false → IsTrue file.new.caches.is_changed) }
+        ensures header { file.new.header ≡ file.old.header }
+        ensures list { file.new.free_list ≡ file.old.free_list }
+        ensures cause { IfErr result IsOfTables }
+        ensures used { (p : Pending) → IsSoundWith S.view self.old p file.old → IfOk result (λ taken. taken ≡ false → IsUsed S.view file.new cluster) }
+    {
+        if self.lacks_block(cluster >> bits) {
+            return Ok(true);
+        }
+        match self.raise(file, cluster) {
+            Ok(taken) => Ok(taken),
+            Err(refusal) => {
+                if ends_call(&refusal) {
+                    return Err(refusal);
+                }
+                Ok(false)
+            }
+        }
+    }
+
+    // Gives back the clusters of a run that are counted.
+    fn leave_run<S: Storage>(
+        &mut self,
+        file: &mut ImageFile<S>,
+        first: u64,
+        n: u64,
+    ) -> Result<(), ImageError>
+        requires near { first + n < 2 ^ 63 }
+        requires free { self.old.first_free_cluster ≤ first }
+        ensures marks { KeepsMarks file.old.caches file.new.caches }
+        ensures order { order_of file.new.caches ≡ order_of file.old.caches }
+        ensures reftable { self.new.reftable ≡ self.old.reftable }
+        ensures first { self.new.first_free_cluster ≡ self.old.first_free_cluster }
+        ensures sound { (p : Pending) (start : ImageFile S) → start.header ≡ file.old.header → Becomes S.view p start self.old file.old (with_run p start.header.fields self.old.reftable first n)
+            → ((k : ℕ) → counted_run start.header.fields self.old.reftable first n k ≡ 0) ⊎ IsTrue file.old.caches.is_changed → GivesBack S.view p start self.new file.new p result }
+        ensures header { file.new.header ≡ file.old.header }
+        ensures list { file.new.free_list ≡ file.old.free_list }
+        ensures cause { IfErr result IsOfTables }
+        ensures kept { (p : Pending) (start : ImageFile S) → start.header ≡ file.old.header → Becomes S.view p start self.old file.old (with_run p start.header.fields self.old.reftable first n)
+            → OnOk result ((k : ℕ) → run_at first n k ≡ 0 → IsUsed S.view file.old k → IsUsed S.view file.new k) }
+    {
+        let bits = file.header.rb_bits();
+        'leaving: for cluster in first..first + n {
+            if !self.lacks_block(cluster >> bits) {
+                self.lower(file, cluster)?;
+            }
+        }
+        Ok(())
+    }
+
+    // Whether a cluster is the first of a run in a range that has no refblock.
+    pub(crate) fn opens_range(&self, first: u64, cluster: u64, bits: u32) -> bool
+        requires { bits < 64 }
+        ensures { result ≡ opens self.now.reftable (2 ^ bits) first cluster }
+    {
+        (cluster == first || cluster % (1 << bits) == 0) && self.lacks_block(cluster >> bits)
+    }
+
+    // Whether a range has no refblock.
+    pub(crate) fn lacks_block(&self, range: u64) -> bool
+        ensures { result ≡ lacks self.now.reftable range }
+    {
+        self.reftable.get(range as usize).is_none()
+    }
+}

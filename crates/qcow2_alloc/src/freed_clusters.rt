@@ -1,0 +1,280 @@
+//! Freeing clusters: those that are listed to be freed, and those that are given back.
+ghost use Rattle.std.specs.Prelude.{◌≡◌, ◌++◌, ◌∷◌, [], ℕ, ◌+◌, ◌^◌, ◌<◌, ◌≤◌, Bool, IfErr, OnOk, IsTrue};
+ghost use Rattle.qcow2_laws.specs.Changes.{one_at};
+ghost use Rattle.qcow2_laws.specs.Guard.{Pending};
+ghost use Rattle.qcow2_alloc.specs.Allocation.{run_at, taken_as, MayFree, Owed, listed_as, owed_as, MayLower, SameLeaks, Frees, LowersOne, GivesBack, GivesBackRun};
+ghost use Rattle.qcow2_alloc.specs.FreeList.{run_of, with_listed, but, GoOffInOrder};
+ghost use Rattle.qcow2_alloc.specs.CacheMarks.{KeepsMarks};
+ghost use Rattle.qcow2_alloc.specs.Leaks.{TriesToLower, LowersOrLeaks};
+ghost use Rattle.qcow2_alloc.specs.LowestRuns.{HasHint, IsUsed};
+ghost use Rattle.qcow2_alloc.specs.ImageError.{IsOfTables};
+ghost use Rattle.qcow2_alloc.specs.ImageFile.{IsSoundWith};
+ghost use Rattle.qcow2_alloc.specs.MetadataCaches.{order_of};
+
+#[cfg(test)]
+mod tests;
+
+use crate::allocation::ends_call;
+use crate::{Allocator, ClusterKind, ImageError, ImageFile, PendingClusters, TakenClusters};
+use image_access::Storage;
+use qcow2_metadata::HostCluster;
+
+#[tactic(auto, using(crate::proofs::TableErrors::storage_of_tables, crate::proofs::TableErrors::metadata_of_tables, crate::proofs::TableErrors::cache_of_tables))]
+impl Allocator {
+    // Lowers the counts of a run. What can't be lowered is counted as leaked.
+    pub(crate) fn give_back<S: Storage>(
+        &mut self,
+        file: &mut ImageFile<S>,
+        first: u64,
+        n: u64,
+    ) -> Result<(), ImageError>
+        requires { first + n < 2 ^ 63 }
+        ensures marks { KeepsMarks file.old.caches file.new.caches }
+        ensures order { order_of file.new.caches ≡ order_of file.old.caches }
+        ensures reftable { self.new.reftable ≡ self.old.reftable }
+        ensures sound { GivesBackRun S.view self.old file.old self.new file.new first n result }
+        ensures header { file.new.header ≡ file.old.header }
+        ensures list { file.new.free_list ≡ file.old.free_list }
+        ensures cause { IfErr result IsOfTables }
+        ensures hint { (p : Pending) (is_data : Bool) → IsSoundWith S.view self.old (taken_as is_data p (run_at first n)) file.old → HasHint S.view self.old file.old → OnOk result (HasHint S.view self.new file.new) }
+        ensures kept { (p : Pending) (is_data : Bool) → IsSoundWith S.view self.old (taken_as is_data p (run_at first n)) file.old → OnOk result ((k : ℕ) → run_at first n k ≡ 0 → IsUsed S.view file.old k → IsUsed S.view file.new k) }
+    {
+        if n == 0 {
+            return Ok(());
+        }
+        'lowering: for cluster in first..first + n {
+            self.lower(file, cluster)?;
+        }
+        Ok(())
+    }
+
+    // Lowers the count of a cluster. One that can't be lowered is counted as leaked.
+    pub(crate) fn lower<S: Storage>(
+        &mut self,
+        file: &mut ImageFile<S>,
+        cluster: u64,
+    ) -> Result<(), ImageError>
+        ensures marks { KeepsMarks file.old.caches file.new.caches }
+        ensures order { order_of file.new.caches ≡ order_of file.old.caches }
+        ensures reftable { self.new.reftable ≡ self.old.reftable }
+        ensures first { self.old.first_free_cluster ≤ cluster → self.new.first_free_cluster ≡ self.old.first_free_cluster }
+        ensures sound { (p : Pending) (owed : Owed) → IsSoundWith S.view self.old (owed_as owed p (one_at cluster)) file.old → MayLower owed file.old
+            → GivesBack S.view (owed_as owed p (one_at cluster)) file.old self.new file.new p result }
+        ensures leaks { (p : Pending) (owed : Owed) → IsSoundWith S.view self.old (owed_as owed p (one_at cluster)) file.old → MayLower owed file.old → SameLeaks self.old self.new }
+        ensures or_leaks { LowersOrLeaks self.old self.new file.new cluster result }
+        ensures grows { self.old.leaked_clusters ≤ self.new.leaked_clusters }
+        ensures header { file.new.header ≡ file.old.header }
+        ensures list { file.new.free_list ≡ file.old.free_list }
+        ensures cause { IfErr result IsOfTables }
+        ensures hint { (p : Pending) (owed : Owed) → IsSoundWith S.view self.old (owed_as owed p (one_at cluster)) file.old → MayLower owed file.old → HasHint S.view self.old file.old → OnOk result (HasHint S.view self.new file.new) }
+    {
+        match self.try_lower(file, cluster) {
+            Ok(true) => return Ok(()),
+            Ok(false) => {}
+            Err(refusal) => {
+                if ends_call(&refusal) {
+                    return Err(refusal);
+                }
+            }
+        }
+        self.leaked_clusters = self.leaked_clusters.saturating_add(1);
+        Ok(())
+    }
+
+    /// Works off the list of clusters that are to be freed: metadata first, then data. From then on L2 tables are written before refblocks.
+    /// Refused, the clusters that aren't freed yet stay listed.
+    pub fn free<S: Storage>(&mut self, file: &mut ImageFile<S>) -> Result<(), ImageError>
+        ensures marks { KeepsMarks file.old.caches file.new.caches }
+        ensures emptied { OnOk result (file.new.free_list ≡ []) }
+        ensures in_order { GoOffInOrder file.old.free_list file.new.free_list }
+        ensures sound { (p : Pending) → IsSoundWith S.view self.old (with_listed p file.old.free_list) file.old
+            → Frees S.view (with_listed p file.old.free_list) file.old self.new file.new (with_listed p file.new.free_list) result }
+        ensures leaks { (p : Pending) → IsSoundWith S.view self.old (with_listed p file.old.free_list) file.old → SameLeaks self.old self.new }
+        ensures grows { self.old.leaked_clusters ≤ self.new.leaked_clusters }
+        ensures header { file.new.header ≡ file.old.header }
+        ensures cause { IfErr result IsOfTables }
+        ensures hint { (p : Pending) → IsSoundWith S.view self.old (with_listed p file.old.free_list) file.old → HasHint S.view self.old file.old → OnOk result (HasHint S.view self.new file.new) }
+    {
+        self.free_kind(file, ClusterKind::Metadata)?;
+        if file.free_list.is_empty() {
+            return Ok(());
+        }
+        file.caches.rb_depends_on_l2(&mut file.storage)?;
+        self.free_kind(file, ClusterKind::Data)
+    }
+
+    // Frees the clusters of one kind that are listed. Those of the other kind stay listed, and so do those not freed yet where it is refused.
+    fn free_kind<S: Storage>(
+        &mut self,
+        file: &mut ImageFile<S>,
+        kind: ClusterKind,
+    ) -> Result<(), ImageError>
+        ensures marks { KeepsMarks file.old.caches file.new.caches }
+        ensures order { order_of file.new.caches ≡ order_of file.old.caches }
+        ensures left { OnOk result (file.new.free_list ≡ but kind file.old.free_list) }
+        ensures others { but kind file.new.free_list ≡ but kind file.old.free_list }
+        ensures sound { (p : Pending) → IsSoundWith S.view self.old (with_listed p file.old.free_list) file.old → MayFree kind file.old
+            → Frees S.view (with_listed p file.old.free_list) file.old self.new file.new (with_listed p file.new.free_list) result }
+        ensures leaks { (p : Pending) → IsSoundWith S.view self.old (with_listed p file.old.free_list) file.old → MayFree kind file.old → SameLeaks self.old self.new }
+        ensures grows { self.old.leaked_clusters ≤ self.new.leaked_clusters }
+        ensures header { file.new.header ≡ file.old.header }
+        ensures cause { IfErr result IsOfTables }
+        ensures hint { (p : Pending) → IsSoundWith S.view self.old (with_listed p file.old.free_list) file.old → MayFree kind file.old → HasHint S.view self.old file.old → OnOk result (HasHint S.view self.new file.new) }
+    {
+        let mut taken = file.free_list.take();
+        let done = self.free_taken(file, &mut taken, kind);
+        taken.hand_back(&mut file.free_list);
+        done
+    }
+
+    // Frees the entries of one kind, as far as it isn't refused, and lists those of the other kind.
+    fn free_taken<S: Storage>(
+        &mut self,
+        file: &mut ImageFile<S>,
+        taken: &mut TakenClusters,
+        kind: ClusterKind,
+    ) -> Result<(), ImageError>
+        ensures marks { KeepsMarks file.old.caches file.new.caches }
+        ensures order { order_of file.new.caches ≡ order_of file.old.caches }
+        ensures all { OnOk result (taken.new ≡ []) }
+        ensures left { OnOk result (file.new.free_list ≡ file.old.free_list ++ but kind taken.old) }
+        ensures others { but kind (file.new.free_list ++ taken.new) ≡ but kind (file.old.free_list ++ taken.old) }
+        ensures sound { (p : Pending) → IsSoundWith S.view self.old (with_listed p (file.old.free_list ++ taken.old)) file.old → MayFree kind file.old
+            → Frees S.view (with_listed p (file.old.free_list ++ taken.old)) file.old self.new file.new (with_listed p (file.new.free_list ++ taken.new)) result }
+        ensures leaks { (p : Pending) → IsSoundWith S.view self.old (with_listed p (file.old.free_list ++ taken.old)) file.old → MayFree kind file.old → SameLeaks self.old self.new }
+        ensures grows { self.old.leaked_clusters ≤ self.new.leaked_clusters }
+        ensures header { file.new.header ≡ file.old.header }
+        ensures cause { IfErr result IsOfTables }
+        ensures hint { (p : Pending) → IsSoundWith S.view self.old (with_listed p (file.old.free_list ++ taken.old)) file.old → MayFree kind file.old → HasHint S.view self.old file.old → OnOk result (HasHint S.view self.new file.new) }
+    {
+        'freeing: while let Some(pending) = taken.next_pending() {
+            self.free_or_list(file, pending, kind)?;
+        }
+        Ok(())
+    }
+
+    // Frees an entry of one kind, and lists one of the other kind.
+    fn free_or_list<S: Storage>(
+        &mut self,
+        file: &mut ImageFile<S>,
+        pending: PendingClusters,
+        kind: ClusterKind,
+    ) -> Result<(), ImageError>
+        ensures marks { KeepsMarks file.old.caches file.new.caches }
+        ensures order { order_of file.new.caches ≡ order_of file.old.caches }
+        ensures left { OnOk result (file.new.free_list ≡ file.old.free_list ++ but kind (pending ∷ [])) }
+        ensures others { but kind file.new.free_list ≡ but kind (file.old.free_list ++ pending ∷ []) }
+        ensures sound { (p : Pending) → IsSoundWith S.view self.old (with_listed p (file.old.free_list ++ pending ∷ [])) file.old → MayFree kind file.old
+            → Frees S.view (with_listed p (file.old.free_list ++ pending ∷ [])) file.old self.new file.new (with_listed p file.new.free_list) result }
+        ensures leaks { (p : Pending) → IsSoundWith S.view self.old (with_listed p (file.old.free_list ++ pending ∷ [])) file.old → MayFree kind file.old → SameLeaks self.old self.new }
+        ensures grows { self.old.leaked_clusters ≤ self.new.leaked_clusters }
+        ensures header { file.new.header ≡ file.old.header }
+        ensures cause { IfErr result IsOfTables }
+        ensures hint { (p : Pending) → IsSoundWith S.view self.old (with_listed p (file.old.free_list ++ pending ∷ [])) file.old → MayFree kind file.old → HasHint S.view self.old file.old → OnOk result (HasHint S.view self.new file.new) }
+    {
+        if pending.kind() == kind {
+            return self.free_entry(file, pending);
+        }
+        pending.hand_back(&mut file.free_list);
+        Ok(())
+    }
+
+    // Frees an entry. Refused, what isn't freed yet of it is listed.
+    fn free_entry<S: Storage>(
+        &mut self,
+        file: &mut ImageFile<S>,
+        pending: PendingClusters,
+    ) -> Result<(), ImageError>
+        ensures marks { KeepsMarks file.old.caches file.new.caches }
+        ensures order { order_of file.new.caches ≡ order_of file.old.caches }
+        ensures left { OnOk result (file.new.free_list ≡ file.old.free_list) }
+        ensures others { but pending.kind file.new.free_list ≡ but pending.kind file.old.free_list }
+        ensures sound { (p : Pending) → IsSoundWith S.view self.old (with_listed p (file.old.free_list ++ pending ∷ [])) file.old → MayFree pending.kind file.old
+            → Frees S.view (with_listed p (file.old.free_list ++ pending ∷ [])) file.old self.new file.new (with_listed p file.new.free_list) result }
+        ensures leaks { (p : Pending) → IsSoundWith S.view self.old (with_listed p (file.old.free_list ++ pending ∷ [])) file.old → MayFree pending.kind file.old → SameLeaks self.old self.new }
+        ensures grows { self.old.leaked_clusters ≤ self.new.leaked_clusters }
+        ensures header { file.new.header ≡ file.old.header }
+        ensures cause { IfErr result IsOfTables }
+        ensures hint { (p : Pending) → IsSoundWith S.view self.old (with_listed p (file.old.free_list ++ pending ∷ [])) file.old → MayFree pending.kind file.old → HasHint S.view self.old file.old → OnOk result (HasHint S.view self.new file.new) }
+    {
+        let mut run = pending;
+        match self.free_run(file, &mut run) {
+            Ok(()) => {
+                run.make_persistent();
+                Ok(())
+            }
+            Err(refusal) => {
+                run.hand_back(&mut file.free_list);
+                Err(refusal)
+            }
+        }
+    }
+
+    // Lowers the counts of a run's clusters, and leaves those of the run that aren't lowered yet.
+    fn free_run<S: Storage>(
+        &mut self,
+        file: &mut ImageFile<S>,
+        run: &mut PendingClusters,
+    ) -> Result<(), ImageError>
+        ensures marks { KeepsMarks file.old.caches file.new.caches }
+        ensures order { order_of file.new.caches ≡ order_of file.old.caches }
+        ensures kind { run.new.kind ≡ run.old.kind }
+        ensures all { OnOk result (run.new.count ≡ 0) }
+        ensures sound { (p : Pending) → IsSoundWith S.view self.old (listed_as run.old.kind p (run_of run.old)) file.old → MayFree run.old.kind file.old
+            → Frees S.view (listed_as run.old.kind p (run_of run.old)) file.old self.new file.new (listed_as run.old.kind p (run_of run.new)) result }
+        ensures leaks { (p : Pending) → IsSoundWith S.view self.old (listed_as run.old.kind p (run_of run.old)) file.old → MayFree run.old.kind file.old → SameLeaks self.old self.new }
+        ensures grows { self.old.leaked_clusters ≤ self.new.leaked_clusters }
+        ensures header { file.new.header ≡ file.old.header }
+        ensures list { file.new.free_list ≡ file.old.free_list }
+        ensures cause { IfErr result IsOfTables }
+        ensures hint { (p : Pending) → IsSoundWith S.view self.old (listed_as run.old.kind p (run_of run.old)) file.old → MayFree run.old.kind file.old → HasHint S.view self.old file.old → OnOk result (HasHint S.view self.new file.new) }
+    {
+        'freeing: while run.count().value() > 0 {
+            self.lower(file, run.cluster().value())?;
+            run.drop_first();
+        }
+        Ok(())
+    }
+
+    // Counts a cluster once less: false where its count is 0 or it has no refblock.
+    fn try_lower<S: Storage>(
+        &mut self,
+        file: &mut ImageFile<S>,
+        cluster: u64,
+    ) -> Result<bool, ImageError>
+        ensures marks { KeepsMarks file.old.caches file.new.caches }
+        ensures order { order_of file.new.caches ≡ order_of file.old.caches }
+        ensures reftable { self.new.reftable ≡ self.old.reftable }
+        ensures leaked { self.new.leaked_clusters ≡ self.old.leaked_clusters }
+        ensures tries { TriesToLower file.new cluster result }
+        ensures first { self.old.first_free_cluster ≤ cluster → self.new.first_free_cluster ≡ self.old.first_free_cluster }
+        ensures sound { (p : Pending) (owed : Owed) → IsSoundWith S.view self.old (owed_as owed p (one_at cluster)) file.old → MayLower owed file.old
+            → LowersOne S.view (owed_as owed p (one_at cluster)) file.old self.new file.new p result }
+        ensures header { file.new.header ≡ file.old.header }
+        ensures list { file.new.free_list ≡ file.old.free_list }
+        ensures cause { IfErr result IsOfTables }
+        ensures hint { (p : Pending) (owed : Owed) → IsSoundWith S.view self.old (owed_as owed p (one_at cluster)) file.old → MayLower owed file.old → HasHint S.view self.old file.old → OnOk result (HasHint S.view self.new file.new) }
+    {
+        let bits = file.header.rb_bits();
+        let Some(block) = self.load_block(file, cluster >> bits)? else {
+            return Ok(false);
+        };
+        let index = HostCluster::new(cluster).rb_index(bits);
+        let lowered = file.caches.rb_decrement(block, index);
+        self.note_lowered(cluster, file.caches.rb_is_zero(block, index));
+        Ok(lowered)
+    }
+
+    // A cluster whose count is 0 now may be taken again.
+    fn note_lowered(&mut self, cluster: u64, is_free: bool)
+        ensures reftable { self.new.reftable ≡ self.old.reftable }
+        ensures leaked { self.new.leaked_clusters ≡ self.old.leaked_clusters }
+        ensures first { self.new.first_free_cluster ≤ self.old.first_free_cluster }
+        ensures free { IsTrue is_free → self.new.first_free_cluster ≤ cluster }
+        ensures lowest { self.old.first_free_cluster ≤ cluster → self.new.first_free_cluster ≡ self.old.first_free_cluster }
+    {
+        if is_free {
+            self.first_free_cluster = self.first_free_cluster.min(cluster);
+        }
+    }
+}

@@ -1,0 +1,191 @@
+//! The refblocks that a longer reftable needs.
+ghost use Rattle.std.specs.Prelude.{◌≡◌, ℕ, ◌+◌, ◌-◌, ◌*◌, ◌/◌, ◌^◌, ◌<◌, ◌≤◌, length, Some, IfOk, IfErr, OnOk, IsTrue};
+ghost use Rattle.qcow2_metadata.specs.EntryTable.{entry_count};
+ghost use Rattle.qcow2_metadata.specs.Header.{cluster_size, counts_per_block};
+ghost use Rattle.qcow2_metadata.specs.L2Mapping.{IsHostCluster, greatest_offset};
+ghost use Rattle.qcow2_metadata.specs.RefBlock.{IsRefBlock};
+ghost use Rattle.qcow2_metadata.specs.TableBytes.{HasPlace};
+ghost use Rattle.qcow2_laws.specs.Caches.{AreClean, BlocksMayGo};
+ghost use Rattle.qcow2_laws.specs.Guard.{Pending};
+ghost use Rattle.qcow2_alloc.specs.Allocation.{run_at};
+ghost use Rattle.qcow2_alloc.specs.CacheMarks.{KeepsMarks};
+ghost use Rattle.qcow2_alloc.specs.GrownTables.{with_run, NamesReftable};
+ghost use Rattle.qcow2_alloc.specs.ImageError.{IsOfTables};
+ghost use Rattle.qcow2_alloc.specs.ImageFile.{IsSoundWith, KeepsHeader};
+ghost use Rattle.qcow2_alloc.specs.LowestRuns.{KeepsUsed};
+ghost use Rattle.qcow2_alloc.specs.MetadataCaches.{order_of, l2_tables, refblocks, rb_at};
+ghost use Rattle.qcow2_alloc.specs.Rooms.{opened, length_of, placed_at, CountsRun, IsLonger, WritesTo, WritesTable, PlacesBlocks};
+ghost use Rattle.qcow2_alloc.specs.TableCaches.{IsBlockOf};
+ghost use Rattle.qcow2_alloc.specs.declared.allocation.Allocator.{Allocator as AllocatorView};
+
+use crate::free_room::Room;
+use crate::{Allocator, ImageError, ImageFile, WriteKind};
+use image_access::Storage;
+use qcow2_metadata::{Header, HostCluster, RefBlock, RefTable};
+use std::alloc::Global;
+
+// A refblock for a cluster, which counts those of a run that lie in its range.
+#[tactic(auto, using(crate::proofs::TableErrors::metadata_of_tables))]
+fn run_block(
+    alloc: Global,
+    header: &Header,
+    cluster: HostCluster,
+    begin: u64,
+    first: u64,
+    end: u64,
+) -> Result<RefBlock, ImageError>
+    requires place { HasPlace header.now.fields.cluster_bits cluster }
+    requires near { begin < 2 ^ 63 }
+    ensures cluster { IfOk result (λ block. block.cluster ≡ Some cluster) }
+    ensures format { IfOk result (IsBlockOf header.now.fields) }
+    ensures whole { IfOk result IsRefBlock }
+    ensures counts { IfOk result (λ block. CountsRun header.now.fields block begin first (end - first)) }
+    ensures memory { IfErr result (λ e. e ≡ ImageError.Memory) }
+    ensures cause { IfErr result IsOfTables }
+{
+    let mut block = RefBlock::new_cleared(alloc, header)?;
+    block.set_cluster(cluster);
+    let low = first.max(begin);
+    let high = end.min(begin + block.counts() as u64);
+    'counting: for counted in low..high {
+        block.increment((counted - begin) as usize);
+    }
+    Ok(block)
+}
+
+// Writes a new refblock to its cluster. Its cache forgets what it has of that cluster.
+#[tactic(auto, using(crate::proofs::TableErrors::storage_of_tables))]
+fn write_new_block<S: Storage>(
+    file: &mut ImageFile<S>,
+    block: &RefBlock,
+    cluster: HostCluster,
+) -> Result<(), ImageError>
+    requires place { block.now.cluster ≡ Some cluster }
+    requires whole { IsRefBlock block.now }
+    ensures marks { KeepsMarks file.old.caches file.new.caches }
+    ensures order { order_of file.new.caches ≡ order_of file.old.caches }
+    ensures tables { l2_tables file.new.caches ≡ l2_tables file.old.caches }
+    ensures clean { AreClean (refblocks file.old.caches) → AreClean (refblocks file.new.caches) }
+    ensures others { (c : ℕ) → (c ≡ cluster → ⊥) → rb_at file.new.caches c ≡ rb_at file.old.caches c }
+    ensures sound { (p : Pending) (first n : ℕ) (allocator : AllocatorView) → IsSoundWith S.view allocator (with_run p file.old.header.fields allocator.reftable first n) file.old
+        → BlocksMayGo (order_of file.old.caches) (l2_tables file.old.caches) → 0 < run_at first n cluster → IsBlockOf file.old.header.fields block.now
+        → WritesTo S.view (with_run p file.old.header.fields allocator.reftable first n) file.old allocator file.new cluster block.now.bytes result }
+    ensures header { file.new.header ≡ file.old.header }
+    ensures list { file.new.free_list ≡ file.old.free_list }
+    ensures cause { IfErr result IsOfTables }
+{
+    file.caches.rb_remove(cluster);
+    file.storage.will_write(WriteKind::Other);
+    block.write(&mut file.storage)?;
+    Ok(())
+}
+
+// Writes a longer reftable to the clusters that are taken for it.
+#[tactic(auto, using(crate::proofs::TableErrors::storage_of_tables))]
+pub(crate) fn place_table<S: Storage>(
+    file: &mut ImageFile<S>,
+    table: &mut RefTable,
+    cluster: HostCluster,
+) -> Result<(), ImageError>
+    requires { IsHostCluster table.old.cluster_bits cluster }
+    ensures caches { file.new.caches ≡ file.old.caches }
+    ensures table { table.new ≡ placed_at table.old cluster }
+    ensures sound { (p : Pending) (first n clusters : ℕ) (allocator : AllocatorView) → IsSoundWith S.view allocator (with_run p file.old.header.fields allocator.reftable first n) file.old
+        → BlocksMayGo (order_of file.old.caches) (l2_tables file.old.caches) → first ≤ cluster → cluster + clusters ≤ first + n → table.old.cluster_bits ≡ file.old.header.fields.cluster_bits
+        → length table.old.bytes ≡ clusters * cluster_size file.old.header.fields
+        → WritesTable S.view (with_run p file.old.header.fields allocator.reftable first n) file.old allocator file.new cluster clusters table.old.bytes result }
+    ensures header { file.new.header ≡ file.old.header }
+    ensures list { file.new.free_list ≡ file.old.free_list }
+    ensures cause { IfErr result IsOfTables }
+{
+    table.set_cluster(cluster);
+    file.storage.will_write(WriteKind::Other);
+    table.write(&mut file.storage)?;
+    Ok(())
+}
+
+#[tactic(auto, using(crate::proofs::TableErrors::storage_of_tables))]
+impl Allocator {
+    // Writes the refblocks that a room lacks to its first clusters, and enters them in a longer reftable.
+    pub(crate) fn place_blocks<S: Storage>(
+        &self,
+        file: &mut ImageFile<S>,
+        table: &mut RefTable,
+        room: Room,
+    ) -> Result<(), ImageError>
+        requires above { 0 < room.first }
+        requires within { room.first + length_of room ≤ entry_count table.old * counts_per_block file.old.header.fields }
+        requires near { room.first + length_of room ≤ greatest_offset / 2 ^ file.old.header.fields.cluster_bits + 1 }
+        requires bits { table.old.cluster_bits ≡ file.old.header.fields.cluster_bits }
+        requires blocks { room.blocks ≡ opened self.now.reftable (counts_per_block file.old.header.fields) room.first (length_of room) }
+        ensures marks { KeepsMarks file.old.caches file.new.caches }
+        ensures order { order_of file.new.caches ≡ order_of file.old.caches }
+        ensures tables { l2_tables file.new.caches ≡ l2_tables file.old.caches }
+        ensures clean { AreClean (refblocks file.old.caches) → AreClean (refblocks file.new.caches) }
+        ensures rest { table.new ≡ record table.old { bytes = table.new.bytes } }
+        ensures as_long { length table.new.bytes ≡ length table.old.bytes }
+        ensures sound { (p : Pending) → IsSoundWith S.view self.now (with_run p file.old.header.fields self.now.reftable room.first (length_of room)) file.old
+            → BlocksMayGo (order_of file.old.caches) (l2_tables file.old.caches) → IsLonger file.old.header.fields self.now.reftable table.old room.clusters
+            → PlacesBlocks S.view (with_run p file.old.header.fields self.now.reftable room.first (length_of room)) file.old self.now file.new self.now.reftable table.new room result }
+        ensures header { file.new.header ≡ file.old.header }
+        ensures list { file.new.free_list ≡ file.old.free_list }
+        ensures cause { IfErr result IsOfTables }
+    {
+        let bits = file.header.rb_bits();
+        let end = room.first + room.blocks + room.clusters;
+        let mut at = room.first;
+        'placing: for cluster in room.first..end {
+            if self.opens_range(room.first, cluster, bits) {
+                let range = cluster >> bits;
+                let place = HostCluster::new(at);
+                let block = run_block(
+                    file.alloc,
+                    &file.header,
+                    place,
+                    range << bits,
+                    room.first,
+                    end,
+                )?;
+                write_new_block(file, &block, place)?;
+                table.enter_refblock(range as usize, place);
+                at += 1;
+            }
+        }
+        Ok(())
+    }
+
+    // Writes the refblocks that a room lacks, the reftable that names them, and at last the pointer to it, after all counts.
+    pub(crate) fn write_reftable<S: Storage>(
+        &mut self,
+        file: &mut ImageFile<S>,
+        table: RefTable,
+        room: Room,
+    ) -> Result<(), ImageError>
+        requires above { 0 < room.first }
+        requires within { room.first + length_of room ≤ entry_count table * counts_per_block file.old.header.fields }
+        requires near { room.first + length_of room ≤ greatest_offset / 2 ^ file.old.header.fields.cluster_bits + 1 }
+        requires some { 0 < room.clusters }
+        requires bits { table.cluster_bits ≡ file.old.header.fields.cluster_bits }
+        requires blocks { room.blocks ≡ opened self.old.reftable (counts_per_block file.old.header.fields) room.first (length_of room) }
+        requires noted { IsTrue file.old.caches.is_changed }
+        ensures marks { KeepsMarks file.old.caches file.new.caches }
+        ensures order { order_of file.new.caches ≡ order_of file.old.caches }
+        ensures table { OnOk result (entry_count self.new.reftable ≡ entry_count table) }
+        ensures place { OnOk result (self.new.reftable.cluster ≡ Some (room.first + room.blocks)) }
+        ensures first { self.new.first_free_cluster ≡ self.old.first_free_cluster }
+        ensures sound { (p : Pending) → IsSoundWith S.view self.old (with_run p file.old.header.fields self.old.reftable room.first (length_of room)) file.old
+            → IsLonger file.old.header.fields self.old.reftable table room.clusters
+            → NamesReftable S.view (with_run p file.old.header.fields self.old.reftable room.first (length_of room)) p file.old self.new file.new result }
+        ensures uses { (p : Pending) → IsSoundWith S.view self.old (with_run p file.old.header.fields self.old.reftable room.first (length_of room)) file.old
+            → IsLonger file.old.header.fields self.old.reftable table room.clusters → KeepsUsed S.view file.old file.new result }
+        ensures header { KeepsHeader file.old.header file.new.header }
+        ensures list { file.new.free_list ≡ file.old.free_list }
+        ensures cause { IfErr result IsOfTables }
+    {
+        let mut table = table;
+        file.caches.flush_rb(&mut file.storage)?;
+        self.place_blocks(file, &mut table, room)?;
+        place_table(file, &mut table, HostCluster::new(room.first + room.blocks))?;
+        self.name_reftable(file, table)
+    }
+}

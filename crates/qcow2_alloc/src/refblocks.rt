@@ -1,0 +1,315 @@
+//! Refblocks: loading one, counting a cluster in it, and making one that is missing.
+ghost use Rattle.std.specs.Prelude.{◌≡◌, ◌≢◌, ◌/◌, false, ℕ, ◌*◌, ◌^◌, ◌<◌, ◌≤◌, Bool, Some, IfSome, IfOk, IfErr, OnOk, IsSome, IsTrue};
+ghost use Rattle.qcow2_laws.specs.Guard.{Pending};
+ghost use Rattle.qcow2_alloc.specs.Allocation.{placing, first_counts, HasPlaceFor, KeepsEntries, MayTake, LoadsBlock, WritesBlock, PlacesBlock, TakesOne, HasNone, GetsBlock, TakesLowest, GrowsTable};
+ghost use Rattle.qcow2_alloc.specs.FreeList.{following, ListsTables};
+ghost use Rattle.qcow2_alloc.specs.CacheMarks.{KeepsMarks, LeavesPinned};
+ghost use Rattle.qcow2_alloc.specs.Limits.{IsFaultOr, CantCount};
+ghost use Rattle.qcow2_alloc.specs.LowestRuns.{HasHint, IsUsed, KeepsHint, KeepsUsed};
+ghost use Rattle.qcow2_alloc.specs.ImageError.{IsOfTables, IsFault};
+ghost use Rattle.qcow2_alloc.specs.ImageFile.{IsSoundWith, KeepsHeader};
+ghost use Rattle.qcow2_laws.specs.Caches.{AreClean, BlocksMayGo};
+ghost use Rattle.qcow2_alloc.specs.MetadataCaches.{order_of, l2_tables, refblocks, TakesOff};
+ghost use Rattle.qcow2_metadata.specs.L2Mapping.{IsHostCluster};
+ghost use Rattle.qcow2_metadata.specs.Header.{counts_per_block};
+ghost use Rattle.qcow2_metadata.specs.EntryTable.{entry_count};
+ghost use Rattle.qcow2_metadata.specs.RefBlock.{count_at, IsRefBlock};
+ghost use Rattle.qcow2_metadata.specs.TableBytes.{HasPlace};
+ghost use Rattle.qcow2_alloc.specs.TableCaches.{IsBlockOf};
+
+use crate::allocation::ends_call;
+use crate::{Allocator, ImageError, ImageFile, WriteKind};
+use image_access::Storage;
+use qcow2_metadata::{Header, HostCluster, RefBlock};
+use std::alloc::Global;
+
+// A refblock whose counts are 0, but for its range's first cluster where it counts itself.
+#[tactic(auto, using(crate::proofs::TableErrors::metadata_of_tables))]
+fn new_block(
+    alloc: Global,
+    header: &Header,
+    cluster: HostCluster,
+    counts_itself: bool,
+) -> Result<RefBlock, ImageError>
+    requires { HasPlace header.now.fields.cluster_bits cluster }
+    ensures cluster { IfOk result (λ block. block.cluster ≡ Some cluster) }
+    ensures format { IfOk result (IsBlockOf header.now.fields) }
+    ensures whole { IfOk result IsRefBlock }
+    ensures counts { IfOk result (λ block. (i : ℕ) → count_at block i ≡ first_counts counts_itself i) }
+    ensures memory { IfErr result (λ e. e ≡ ImageError.Memory) }
+    ensures cause { IfErr result IsOfTables }
+{
+    let mut block = RefBlock::new_cleared(alloc, header)?;
+    block.set_cluster(cluster);
+    if counts_itself && block.counts() > 0 {
+        block.increment(0);
+    }
+    Ok(block)
+}
+
+// Writes a new refblock to its cluster, after all counts, and puts it into its cache.
+#[tactic(auto, using(crate::proofs::TableErrors::storage_of_tables))]
+fn write_block<S: Storage>(file: &mut ImageFile<S>, mut block: RefBlock) -> Result<(), ImageError>
+    requires { IsSome block.cluster }
+    ensures marks { KeepsMarks file.old.caches file.new.caches }
+    ensures order { order_of file.new.caches ≡ order_of file.old.caches }
+    ensures sound { (p : Pending) (counts_itself : Bool) (allocator : Allocator) (range at : ℕ) → IsSoundWith S.view allocator (placing counts_itself p at) file.old
+        → HasPlaceFor counts_itself file.old.header.fields allocator.reftable range at → IsBlockOf file.old.header.fields block → block.cluster ≡ Some at
+        → WritesBlock S.view (placing counts_itself p at) file.old allocator file.new block at result }
+    ensures counted { OnOk result (AreClean (refblocks file.new.caches)) }
+    ensures first { OnOk result (BlocksMayGo (order_of file.new.caches) (l2_tables file.new.caches)) }
+    ensures header { file.new.header ≡ file.old.header }
+    ensures list { file.new.free_list ≡ file.old.free_list }
+    ensures cause { IfErr result IsOfTables }
+{
+    file.caches.flush_rb(&mut file.storage)?;
+    file.storage.will_write(WriteKind::Other);
+    block.write(&mut file.storage)?;
+    block.clear_modified();
+    file.caches.rb_insert(&mut file.storage, block)
+}
+
+#[tactic(auto, using(crate::proofs::TableErrors::storage_of_tables, crate::proofs::TableErrors::metadata_of_tables, crate::proofs::TableErrors::cache_of_tables))]
+impl Allocator {
+    /// Drops the refblocks without a pin, unwritten. The clusters of those that are pinned are answered. Counts that weren't written are
+    /// forgotten so, and the search for free clusters begins anew.
+    pub fn invalidate_rb_cache<S: Storage>(
+        &mut self,
+        file: &mut ImageFile<S>,
+    ) -> Result<(), ImageError>
+        ensures cause { IfErr result IsOfTables }
+        ensures order { order_of file.new.caches ≡ order_of file.old.caches }
+        ensures tables { l2_tables file.new.caches ≡ l2_tables file.old.caches }
+        ensures left { LeavesPinned file.old.caches.rb.entries result file.new.caches.rb.entries }
+        ensures marks { KeepsMarks file.old.caches file.new.caches }
+        ensures taken { TakesOff (AreClean (refblocks file.old.caches)) file.old.caches file.new.caches }
+        ensures rest { file.new ≡ record file.old { caches = file.new.caches } }
+        ensures anew { self.new ≡ record self.old { first_free_cluster = 0 } }
+    {
+        self.first_free_cluster = 0;
+        file.caches.invalidate_rb()
+    }
+
+    // The refblock of a range, brought into its cache, or None where there is none.
+    pub(crate) fn load_block<S: Storage>(
+        &self,
+        file: &mut ImageFile<S>,
+        range: u64,
+    ) -> Result<Option<HostCluster>, ImageError>
+        ensures marks { KeepsMarks file.old.caches file.new.caches }
+        ensures order { order_of file.new.caches ≡ order_of file.old.caches }
+        ensures sound { (p : Pending) → IsSoundWith S.view self.now p file.old → LoadsBlock S.view p file.old self.now file.new range result }
+        ensures header { file.new.header ≡ file.old.header }
+        ensures list { file.new.free_list ≡ file.old.free_list }
+        ensures cause { IfErr result IsOfTables }
+    {
+        let Some(offset) = self.reftable.get(range as usize) else {
+            return Ok(None);
+        };
+        let Some(cluster) = offset.checked_cluster(file.header.cluster_bits()) else {
+            return Err(ImageError::UnalignedTable);
+        };
+        file.caches.rb_get_or_insert(&mut file.storage, cluster)?;
+        Ok(Some(cluster))
+    }
+
+    // Counts a cluster whose count is 0: false where it isn't.
+    pub(crate) fn raise<S: Storage>(
+        &mut self,
+        file: &mut ImageFile<S>,
+        cluster: u64,
+    ) -> Result<bool, ImageError>
+        ensures marks { KeepsMarks file.old.caches file.new.caches }
+        ensures order { order_of file.new.caches ≡ order_of file.old.caches }
+        ensures noted { IfOk result (λ taken. IsTrue taken → IsTrue file.new.caches.is_changed) }
+        ensures same { self.new ≡ self.old }
+        ensures sound { (p : Pending) (is_data : Bool) → IsSoundWith S.view self.old p file.old → MayTake is_data file.old → TakesOne S.view p file.old self.new file.new is_data cluster result }
+        ensures header { file.new.header ≡ file.old.header }
+        ensures list { file.new.free_list ≡ file.old.free_list }
+        ensures cause { IfErr result IsOfTables }
+        ensures fault { (p : Pending) → IsSoundWith S.view self.old p file.old → IfErr result IsFault }
+        ensures used { (p : Pending) → IsSoundWith S.view self.old p file.old → (HasNone self.old.reftable (cluster / counts_per_block file.old.header.fields) → ⊥) → IfOk result (λ taken. taken ≡ false → IsUsed S.view file.new cluster) }
+        ensures free { (p : Pending) → IsSoundWith S.view self.old p file.old → IfOk result (λ taken. IsTrue taken → ¬ IsUsed S.view file.old cluster) }
+    {
+        let bits = file.header.rb_bits();
+        let Some(block) = self.load_block(file, cluster >> bits)? else {
+            return Ok(false);
+        };
+        let index = HostCluster::new(cluster).rb_index(bits);
+        Ok(file.caches.rb_is_zero(block, index) && file.caches.rb_increment(block, index))
+    }
+
+    // Sees to it that the range of a cluster has a refblock, with a longer reftable where the range lies past its end.
+    pub(crate) fn reach_block<S: Storage>(
+        &mut self,
+        file: &mut ImageFile<S>,
+        cluster: u64,
+    ) -> Result<(), ImageError>
+        requires { cluster < 2 ^ 63 }
+        ensures marks { KeepsMarks file.old.caches file.new.caches }
+        ensures order { order_of file.new.caches ≡ order_of file.old.caches }
+        ensures sound { (p : Pending) → IsSoundWith S.view self.old p file.old → GrowsTable S.view p file.old self.new file.new (following p file.old.free_list file.new.free_list) result }
+        ensures header { KeepsHeader file.old.header file.new.header }
+        ensures list { ListsTables file.old.free_list file.new.free_list }
+        ensures cause { IfErr result IsOfTables }
+        ensures limit { (p : Pending) → IsSoundWith S.view self.old p file.old → HasHint S.view self.old file.old → IsHostCluster file.old.header.fields.cluster_bits cluster → IfErr result (IsFaultOr (CantCount S.view file.new (λ k. 0) self.new cluster)) }
+        ensures has { (p : Pending) → IsSoundWith S.view self.old p file.old → OnOk result (HasNone self.new.reftable (cluster / counts_per_block file.old.header.fields) → ⊥) }
+        ensures hint { (p : Pending) → IsSoundWith S.view self.old p file.old → HasHint S.view self.old file.old → KeepsHint S.view self.new file.new result }
+        ensures uses { (p : Pending) → IsSoundWith S.view self.old p file.old → KeepsUsed S.view file.old file.new result }
+    {
+        let range = (cluster >> file.header.rb_bits()) as usize;
+        if self.reftable.in_bounds(range) {
+            return self.ensure_block(file, cluster);
+        }
+        self.grow_reftable(file, range)?;
+        self.ensure_block(file, cluster)
+    }
+
+    // Sees to it that the range of a cluster has a refblock. No cluster is taken for one that couldn't be named.
+    fn ensure_block<S: Storage>(
+        &mut self,
+        file: &mut ImageFile<S>,
+        cluster: u64,
+    ) -> Result<(), ImageError>
+        requires { cluster < 2 ^ 63 }
+        ensures marks { KeepsMarks file.old.caches file.new.caches }
+        ensures order { order_of file.new.caches ≡ order_of file.old.caches }
+        ensures sound { (p : Pending) → IsSoundWith S.view self.old p file.old → GetsBlock S.view p file.old self.new file.new result }
+        ensures header { file.new.header ≡ file.old.header }
+        ensures list { file.new.free_list ≡ file.old.free_list }
+        ensures cause { IfErr result IsOfTables }
+        ensures fault { (p : Pending) → IsSoundWith S.view self.old p file.old → cluster / counts_per_block file.old.header.fields < entry_count self.old.reftable → IsHostCluster file.old.header.fields.cluster_bits cluster → IfErr result IsFault }
+        ensures has { (p : Pending) → IsSoundWith S.view self.old p file.old → OnOk result (HasNone self.new.reftable (cluster / counts_per_block file.old.header.fields) → ⊥) }
+        ensures hint { (p : Pending) → IsSoundWith S.view self.old p file.old → HasHint S.view self.old file.old → KeepsHint S.view self.new file.new result }
+    {
+        let bits = file.header.rb_bits();
+        let range = cluster >> bits;
+        if self.load_block(file, range)?.is_some() {
+            return Ok(());
+        }
+        let first = HostCluster::new(range << bits);
+        if !self.can_name(file.header.cluster_bits(), range as usize, first) {
+            return Err(ImageError::Limit);
+        }
+        match self.take_lowest_below(file, range << bits) {
+            Ok(Some(at)) => self.place_block(file, range, at, false),
+            Ok(None) => self.cover_range(file, range),
+            Err(refusal) => {
+                if ends_call(&refusal) {
+                    return Err(refusal);
+                }
+                self.cover_range(file, range)
+            }
+        }
+    }
+
+    // Takes the lowest free cluster below an end, on the way making refblocks that count themselves.
+    fn take_lowest_below<S: Storage>(
+        &mut self,
+        file: &mut ImageFile<S>,
+        end: u64,
+    ) -> Result<Option<u64>, ImageError>
+        requires { end < 2 ^ 63 }
+        ensures marks { KeepsMarks file.old.caches file.new.caches }
+        ensures order { order_of file.new.caches ≡ order_of file.old.caches }
+        ensures noted { IfOk result (λ at. IsSome at → IsTrue file.new.caches.is_changed) }
+        ensures below { IfOk result (λ at. IfSome at (λ at. at < end)) }
+        ensures entries { KeepsEntries (λ k. end ≤ k * counts_per_block file.old.header.fields) self.old.reftable self.new.reftable }
+        ensures sound { (p : Pending) → IsSoundWith S.view self.old p file.old → TakesLowest S.view p file.old self.new file.new result }
+        ensures header { file.new.header ≡ file.old.header }
+        ensures list { file.new.free_list ≡ file.old.free_list }
+        ensures cause { IfErr result IsOfTables }
+        ensures hint { (p : Pending) → IsSoundWith S.view self.old p file.old → HasHint S.view self.old file.old → KeepsHint S.view self.new file.new result }
+    {
+        let bits = file.header.rb_bits();
+        'search: while self.first_free_cluster < end {
+            let cluster = self.first_free_cluster;
+            self.cover_range(file, cluster >> bits)?;
+            let taken = self.raise(file, cluster)?;
+            self.first_free_cluster = cluster + 1;
+            if taken {
+                return Ok(Some(cluster));
+            }
+        }
+        Ok(None)
+    }
+
+    // Sees to it that a range has a refblock. A new one lies in the range's first cluster and counts itself.
+    fn cover_range<S: Storage>(
+        &mut self,
+        file: &mut ImageFile<S>,
+        range: u64,
+    ) -> Result<(), ImageError>
+        requires { range * counts_per_block file.old.header.fields < 2 ^ 63 }
+        ensures marks { KeepsMarks file.old.caches file.new.caches }
+        ensures order { order_of file.new.caches ≡ order_of file.old.caches }
+        ensures entries { KeepsEntries (λ k. k ≢ range) self.old.reftable self.new.reftable }
+        ensures sound { (p : Pending) → IsSoundWith S.view self.old p file.old → GetsBlock S.view p file.old self.new file.new result }
+        ensures header { file.new.header ≡ file.old.header }
+        ensures list { file.new.free_list ≡ file.old.free_list }
+        ensures cause { IfErr result IsOfTables }
+        ensures fault { (p : Pending) → IsSoundWith S.view self.old p file.old → range < entry_count self.old.reftable → IsHostCluster file.old.header.fields.cluster_bits (range * counts_per_block file.old.header.fields) → IfErr result IsFault }
+        ensures first { self.new.first_free_cluster ≡ self.old.first_free_cluster }
+        ensures has { (p : Pending) → IsSoundWith S.view self.old p file.old → OnOk result (HasNone self.new.reftable range → ⊥) }
+    {
+        if self.load_block(file, range)?.is_some() {
+            return Ok(());
+        }
+        let at = range << file.header.rb_bits();
+        let bits = file.header.cluster_bits();
+        if !self.can_name(bits, range as usize, HostCluster::new(at)) {
+            return Err(ImageError::Limit);
+        }
+        self.place_block(file, range, at, true)
+    }
+
+    // Makes the refblock of a range in a cluster that it may lie in: one that was taken for it, or the range's first one, where it counts itself.
+    // The entry that names it is written last.
+    fn place_block<S: Storage>(
+        &mut self,
+        file: &mut ImageFile<S>,
+        range: u64,
+        at: u64,
+        counts_itself: bool,
+    ) -> Result<(), ImageError>
+        requires within { range < entry_count self.old.reftable }
+        requires placed { IsSome self.old.reftable.cluster }
+        requires nameable { IsHostCluster self.old.reftable.cluster_bits at }
+        requires nameable_here { IsHostCluster file.old.header.fields.cluster_bits at }
+        ensures marks { KeepsMarks file.old.caches file.new.caches }
+        ensures order { order_of file.new.caches ≡ order_of file.old.caches }
+        ensures noted { OnOk result (IsTrue file.new.caches.is_changed) }
+        ensures entries { KeepsEntries (λ k. k ≢ range) self.old.reftable self.new.reftable }
+        ensures sound { (p : Pending) → IsSoundWith S.view self.old (placing counts_itself p at) file.old → HasPlaceFor counts_itself file.old.header.fields self.old.reftable range at
+            → PlacesBlock S.view (placing counts_itself p at) file.old self.new file.new p range at result }
+        ensures header { file.new.header ≡ file.old.header }
+        ensures list { file.new.free_list ≡ file.old.free_list }
+        ensures cause { IfErr result IsOfTables }
+        ensures first { self.new.first_free_cluster ≡ self.old.first_free_cluster }
+    {
+        let cluster = HostCluster::new(at);
+        let block = new_block(file.alloc, &file.header, cluster, counts_itself)?;
+        write_block(file, block)?;
+        file.caches.note_change();
+        self.reftable.enter_refblock(range as usize, cluster);
+        file.storage.will_write(WriteKind::Other);
+        self.reftable
+            .write_entry(&mut file.storage, range as usize)?;
+        Ok(())
+    }
+
+    // Whether the reftable has a place for the refblock of a range, and that may lie in a cluster.
+    fn can_name(&self, cluster_bits: u32, index: usize, cluster: HostCluster) -> bool
+        requires { cluster_bits < 64 }
+        ensures within { IsTrue result → index < entry_count self.now.reftable }
+        ensures placed { IsTrue result → IsSome self.now.reftable.cluster }
+        ensures nameable { IsTrue result → IsHostCluster self.now.reftable.cluster_bits cluster }
+        ensures nameable_here { IsTrue result → IsHostCluster cluster_bits cluster }
+        ensures able { index < entry_count self.now.reftable → IsSome self.now.reftable.cluster → IsHostCluster self.now.reftable.cluster_bits cluster → IsHostCluster cluster_bits cluster → IsTrue result }
+    {
+        self.reftable.in_bounds(index)
+            && self.reftable.get_cluster().is_some()
+            && cluster.is_nameable(self.reftable.cluster_bits())
+            && cluster.is_nameable(cluster_bits)
+    }
+}

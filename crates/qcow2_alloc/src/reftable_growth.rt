@@ -1,0 +1,143 @@
+//! A longer reftable.
+ghost use Rattle.std.specs.Prelude.{◌≡◌, ℕ, ◌+◌, ◌-◌, ◌*◌, ◌/◌, ◌%◌, ◌^◌, ◌<◌, ◌≤◌, length, IfOk, IfErr, IfSome, IsSome, OnOk, IsTrue};
+ghost use Rattle.qcow2_laws.specs.Guard.{Pending};
+ghost use Rattle.qcow2_metadata.specs.EntryTable.{entry_count, IsRefTable};
+ghost use Rattle.qcow2_metadata.specs.Header.{entries_per_cluster, counts_per_block};
+ghost use Rattle.qcow2_metadata.specs.TableBytes.{entry_at};
+ghost use Rattle.qcow2_alloc.specs.Allocation.{GrowsTable};
+ghost use Rattle.qcow2_alloc.specs.CacheMarks.{KeepsMarks};
+ghost use Rattle.qcow2_alloc.specs.ClustersToFree.{metadata_entry};
+ghost use Rattle.qcow2_alloc.specs.declared.clusters_to_free.ClusterKind.TheVariants.{Metadata};
+ghost use Rattle.qcow2_alloc.specs.FreeList.{following, ListsTables};
+ghost use Rattle.qcow2_alloc.specs.GrownTables.{EntersReftable};
+ghost use Rattle.qcow2_alloc.specs.Growing.{IsLongEnough, IsLeastLength, IsCloneOf};
+ghost use Rattle.qcow2_alloc.specs.ImageError.{IsOfTables};
+ghost use Rattle.qcow2_alloc.specs.ImageFile.{IsSoundWith, KeepsHeader};
+ghost use Rattle.qcow2_alloc.specs.Limits.{IsFaultOr, HasNoRoomFor, LiesLowest, CantGrow};
+ghost use Rattle.qcow2_alloc.specs.LowestRuns.{HasHint, KeepsUsed};
+ghost use Rattle.qcow2_alloc.specs.MetadataCaches.{order_of};
+
+use crate::reftable_length::{MAX_ENTRIES, grown_length};
+use crate::{
+    Allocator, ClustersToFreeEntry, ClustersToFreeList, ImageError, ImageFile, MAX_HOST_OFFSET,
+    PendingClusters,
+};
+use image_access::Storage;
+use qcow2_metadata::{Header, RefTable};
+use std::alloc::Global;
+
+#[cfg(test)]
+mod tests;
+
+#[tactic(auto, using(crate::proofs::TableErrors::metadata_of_tables))]
+impl Allocator {
+    /// Makes the reftable long enough to have an entry of an index. The new one, with the refblocks that it needs, lies in a run of
+    /// free clusters: first the refblocks, then the table. The old one is listed to be freed.
+    pub fn grow_reftable<S: Storage>(
+        &mut self,
+        file: &mut ImageFile<S>,
+        index: usize,
+    ) -> Result<(), ImageError>
+        ensures marks { KeepsMarks file.old.caches file.new.caches }
+        ensures order { order_of file.new.caches ≡ order_of file.old.caches }
+        ensures noted { OnOk result (IsTrue file.new.caches.is_changed) }
+        ensures sound { (p : Pending) → IsSoundWith S.view self.old p file.old → GrowsTable S.view p file.old self.new file.new (following p file.old.free_list file.new.free_list) result }
+        ensures header { KeepsHeader file.old.header file.new.header }
+        ensures list { ListsTables file.old.free_list file.new.free_list }
+        ensures length { OnOk result (IsLeastLength (entry_count self.old.reftable) index (entries_per_cluster file.old.header.fields) (counts_per_block file.old.header.fields) (entry_count self.new.reftable)) }
+        ensures lowest { (p : Pending) → IsSoundWith S.view self.old p file.old → HasHint S.view self.old file.old → OnOk result (LiesLowest S.view file.new self.old.reftable self.new.reftable) }
+        ensures cause { IfErr result IsOfTables }
+        ensures limit { (p : Pending) → IsSoundWith S.view self.old p file.old → HasHint S.view self.old file.old → IfErr result (IsFaultOr ((self.new.reftable ≡ self.old.reftable) × CantGrow S.view file.new (λ k. 0) self.old.reftable index)) }
+        ensures first { self.new.first_free_cluster ≡ self.old.first_free_cluster }
+        ensures uses { (p : Pending) → IsSoundWith S.view self.old p file.old → KeepsUsed S.view file.old file.new result }
+    {
+        let table = self.longer_reftable(file.alloc, &file.header, index)?;
+        let former = self.former_reftable(file.alloc)?;
+        match self.enter_reftable(file, table) {
+            Ok(()) => {
+                former.hand_back(&mut file.free_list);
+                Ok(())
+            }
+            Err(refusal) => {
+                former.make_persistent();
+                Err(refusal)
+            }
+        }
+    }
+
+    // The entries in a table that is long enough for an index. It has no place yet.
+    fn longer_reftable(
+        &self,
+        alloc: Global,
+        header: &Header,
+        index: usize,
+    ) -> Result<RefTable, ImageError>
+        ensures length { IfOk result (λ t. IsLeastLength (entry_count self.now.reftable) index (entries_per_cluster header.now.fields) (counts_per_block header.now.fields) (entry_count t)) }
+        ensures entries { IfOk result (IsCloneOf self.now.reftable) }
+        ensures cause { IfErr result IsOfTables }
+        ensures limit { IfErr result (IsFaultOr ((entries : ℕ) → entries ≤ 2 ^ 20 → IsLongEnough (entry_count self.now.reftable) index (entries_per_cluster header.now.fields) (counts_per_block header.now.fields) entries → ⊥)) }
+    {
+        let index = index as u64;
+        if index > MAX_ENTRIES {
+            return Err(ImageError::Limit);
+        }
+        let old = self.reftable.len() as u64;
+        let per_cluster = header.l2_entries() as u64;
+        let per_block = header.rb_entries() as u64;
+        let Some(entries) = grown_length(old, index, per_cluster, per_block) else {
+            return Err(ImageError::Limit);
+        };
+        let table = self.reftable.clone_and_grow(alloc, entries as usize)?;
+        Ok(table)
+    }
+
+    // Room on the list of clusters to be freed for those of the reftable.
+    fn former_reftable(&self, alloc: Global) -> Result<PendingClusters, ImageError>
+        ensures run { IfOk result (λ former. IfSome self.now.reftable.cluster (λ c. former ≡ metadata_entry c ((length self.now.reftable.bytes + 2 ^ self.now.reftable.cluster_bits - 1) / 2 ^ self.now.reftable.cluster_bits))) }
+        ensures kind { IfOk result (λ former. former.kind ≡ Metadata) }
+        ensures is_table { IsRefTable self.now.reftable }
+        ensures cause { IfErr result IsOfTables }
+        ensures placed { IsSome self.now.reftable.cluster → IfErr result (λ e. e ≡ ImageError.Memory) }
+    {
+        let Some(cluster) = self.reftable.get_cluster() else {
+            return Err(ImageError::UnalignedTable);
+        };
+        let entry = ClustersToFreeEntry::metadata(cluster, self.reftable.cluster_count());
+        let Ok(former) = ClustersToFreeList::pending_guard(alloc, entry) else {
+            return Err(ImageError::Memory);
+        };
+        Ok(former)
+    }
+
+    // Finds room for a longer reftable with the refblocks that it lacks, and writes it there. It has to name all of that room.
+    fn enter_reftable<S: Storage>(
+        &mut self,
+        file: &mut ImageFile<S>,
+        table: RefTable,
+    ) -> Result<(), ImageError>
+        requires some { 0 < entry_count table }
+        ensures marks { KeepsMarks file.old.caches file.new.caches }
+        ensures order { order_of file.new.caches ≡ order_of file.old.caches }
+        ensures noted { OnOk result (IsTrue file.new.caches.is_changed) }
+        ensures enters { (p : Pending) → IsSoundWith S.view self.old p file.old → IsCloneOf self.old.reftable table → entry_count table % entries_per_cluster file.old.header.fields ≡ 0 → EntersReftable S.view p file.old self.new file.new result }
+        ensures uses { (p : Pending) → IsSoundWith S.view self.old p file.old → IsCloneOf self.old.reftable table → entry_count table % entries_per_cluster file.old.header.fields ≡ 0 → KeepsUsed S.view file.old file.new result }
+        ensures lowest { (p : Pending) → IsSoundWith S.view self.old p file.old → HasHint S.view self.old file.old → IsCloneOf self.old.reftable table → entry_count table % entries_per_cluster file.old.header.fields ≡ 0 → OnOk result (LiesLowest S.view file.new self.old.reftable self.new.reftable) }
+        ensures header { KeepsHeader file.old.header file.new.header }
+        ensures list { file.new.free_list ≡ file.old.free_list }
+        ensures table { OnOk result (entry_count self.new.reftable ≡ entry_count table) }
+        ensures first { self.new.first_free_cluster ≡ self.old.first_free_cluster }
+        ensures cause { IfErr result IsOfTables }
+        ensures limit { (p : Pending) → IsSoundWith S.view self.old p file.old → HasHint S.view self.old file.old → IsCloneOf self.old.reftable table → entry_count table % entries_per_cluster file.old.header.fields ≡ 0
+            → IfErr result (IsFaultOr ((self.new.reftable ≡ self.old.reftable) × HasNoRoomFor S.view file.new (λ k. 0) self.old.reftable (entry_count table))) }
+    {
+        let bits = file.header.cluster_bits();
+        if table.cluster_bits() != bits {
+            return Err(ImageError::Limit);
+        }
+        let named = (table.len() as u64) << file.header.rb_bits();
+        let end = named.min((MAX_HOST_OFFSET >> bits) + 1);
+        let room = self.take_room(file, table.cluster_count().value(), end)?;
+        file.caches.note_change();
+        self.write_reftable(file, table, room)
+    }
+}

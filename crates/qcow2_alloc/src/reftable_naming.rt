@@ -1,0 +1,48 @@
+//! The header's pointer to a longer reftable.
+ghost use Rattle.std.specs.Prelude.{◌≡◌, ℕ, ◌+◌, OnOk, IfErr, IsTrue};
+ghost use Rattle.qcow2_laws.specs.Guard.{Pending};
+ghost use Rattle.qcow2_alloc.specs.CacheMarks.{KeepsMarks};
+ghost use Rattle.qcow2_alloc.specs.GrownTables.{with_run, StandsGrown, NamesReftable};
+ghost use Rattle.qcow2_alloc.specs.ImageError.{IsOfTables};
+ghost use Rattle.qcow2_alloc.specs.ImageFile.{IsSoundWith, KeepsHeader};
+ghost use Rattle.qcow2_alloc.specs.LowestRuns.{KeepsUsed};
+ghost use Rattle.qcow2_alloc.specs.MetadataCaches.{order_of};
+
+use crate::{Allocator, ImageError, ImageFile, WriteKind};
+use image_access::Storage;
+use qcow2_metadata::RefTable;
+
+impl Allocator {
+    // Writes the pointer that names a longer reftable, which stands ready with its refblocks, and is the allocator's then.
+    pub(crate) fn name_reftable<S: Storage>(
+        &mut self,
+        file: &mut ImageFile<S>,
+        table: RefTable,
+    ) -> Result<(), ImageError>
+        ensures marks { KeepsMarks file.old.caches file.new.caches }
+        ensures order { order_of file.new.caches ≡ order_of file.old.caches }
+        ensures noted { OnOk result (IsTrue file.new.caches.is_changed) }
+        ensures names { (p : Pending) (first blocks clusters : ℕ) → IsSoundWith S.view self.old (with_run p file.old.header.fields self.old.reftable first (blocks + clusters)) file.old
+            → StandsGrown S.view file.old self.old.reftable table first blocks clusters
+            → NamesReftable S.view (with_run p file.old.header.fields self.old.reftable first (blocks + clusters)) p file.old self.new file.new result }
+        ensures uses { (p : Pending) (first blocks clusters : ℕ) → IsSoundWith S.view self.old (with_run p file.old.header.fields self.old.reftable first (blocks + clusters)) file.old
+            → StandsGrown S.view file.old self.old.reftable table first blocks clusters → KeepsUsed S.view file.old file.new result }
+        ensures header { KeepsHeader file.old.header file.new.header }
+        ensures list { file.new.free_list ≡ file.old.free_list }
+        ensures table { OnOk result (self.new.reftable ≡ table) }
+        ensures first { self.new.first_free_cluster ≡ self.old.first_free_cluster }
+        ensures cause { IfErr result IsOfTables }
+    {
+        let Some(cluster) = table.get_cluster() else {
+            return Err(ImageError::Limit);
+        };
+        let offset = cluster.offset(table.cluster_bits());
+        let clusters = table.cluster_count().value() as u32;
+        file.header.set_reftable(offset, clusters)?;
+        file.caches.note_change();
+        file.storage.will_write(WriteKind::Other);
+        file.header.write_reftable_pointer(&mut file.storage)?;
+        self.reftable = table;
+        Ok(())
+    }
+}

@@ -1,0 +1,21 @@
+//! Files of images, for tests.
+use crate::{ClustersToFreeList, ImageFile, ImageStorage, MetadataCaches};
+use image_access::Storage;
+use qcow2_metadata::Header;
+use std::alloc::{AllocError, Global};
+
+// A file over a storage, with two cached tables of each kind at most.
+pub(crate) fn file_of<S: Storage>(
+    alloc: Global,
+    storage: S,
+    header: Header,
+) -> Result<ImageFile<S>, AllocError> {
+    let caches = MetadataCaches::new(alloc, &header, 2, 2)?;
+    Ok(ImageFile {
+        alloc,
+        storage: ImageStorage::new(storage),
+        header,
+        caches,
+        free_list: ClustersToFreeList::new(),
+    })
+}
