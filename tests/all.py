@@ -1,5 +1,5 @@
 #!/usr/bin/env python3
-"""Runs the merge gate, then the scripts on real files. The last line sums what passed and what failed."""
+"""Runs the merge gate, then the wrong bodies, then the scripts on real files. The last line sums what passed and what failed."""
 
 import os
 import re
@@ -55,6 +55,9 @@ def main():
     told = []
     results = [counts(["rt", "ci"], told)]
     print(f"the gate took {(time.monotonic() - began) / 60:.0f} minutes", flush=True)
+    began = time.monotonic()
+    results.append(counts(["tests/wrong_bodies.py"], told))
+    print(f"the wrong bodies took {(time.monotonic() - began) / 60:.0f} minutes", flush=True)
     if not has_program():
         print("the program wasn't built", flush=True)
         results.append((0, len(SCRIPTS)))
