@@ -1,6 +1,6 @@
 # qimg    proves and builds the program, and leaves it as build/qimg
 # demo    makes an image in a new folder, writes a cluster and reads it back
-# test    every proof, every edit that must fail, every test, and the scripts under tests/
+# test    every proof, every wrong body, every test, and the scripts under tests/
 # bench   qimg beside qemu-io on the same work
 
 .PHONY: qimg demo test bench
