@@ -2,7 +2,8 @@
 """Tries the wrong bodies of crates/NAME/must-fail/wrong_bodies.md: each changes one function, and the prover must refuse that function.
 
 A function is proved by its own body and the contracts of what it calls, so a wrong body in one function leaves the proof of each other one as it is. So one check tries wrong bodies
-in many functions at once, and each of these functions must be refused for itself, not only because of one that it calls. Crates can be named; the last line counts."""
+in many functions at once, and each of these functions must be refused for itself: not only because of one that it calls, and not only because a proof names what the wrong body took away.
+Crates can be named; the last line counts."""
 
 import os
 import re
@@ -16,6 +17,20 @@ ROOT = os.path.dirname(os.path.dirname(os.path.abspath(__file__)))
 PROGRAM = "qimg"
 LIST = "must-fail/wrong_bodies.md"
 HOW_MANY_LINES = 8
+START = re.compile(r"\s*(pub(\([^)]*\))? )?fn ")
+MISSING_NAME = re.compile(r"has no field|is not in scope|has no `|was not admitted|is no name")
+
+
+def read(path):
+    """The text of a file."""
+    with open(path, encoding="utf-8") as it:
+        return it.read()
+
+
+def write(path, text):
+    """Makes this the text of a file."""
+    with open(path, "w", encoding="utf-8") as it:
+        it.write(text)
 
 
 @dataclass
@@ -35,23 +50,32 @@ class WrongBody:
             text = text.replace(old, new)
         return text
 
+    def lines(self, text):
+        """The numbers of the lines of its function, from 1, with its attributes, in the file's text. They stay with every body, since each takes the place of part of a line."""
+        lines, changed = text.split("\n"), self.changed(text).split("\n")
+        at = max(i for i, (before, after) in enumerate(zip(lines, changed)) if before != after)
+        first = max(i for i in range(at + 1) if START.match(lines[i]))
+        above = next(i for i in range(first, 0, -1) if not lines[i - 1].lstrip().startswith(("#[", "//")))
+        indent = len(lines[first]) - len(lines[first].lstrip())
+        end = " " * indent + "}"
+        return range(above + 1, lines.index(end, at) + 2)
+
 
 def bodies_of(folder):
     """The wrong bodies of a crate, in the order of its list."""
     bodies = []
-    with open(f"{folder}/{LIST}", encoding="utf-8") as lines:
-        for line in lines.read().split("\n"):
-            word, _, rest = line.partition(" ")
-            if word == "###":
-                bodies.append(WrongBody(rest))
-            elif word == "fn:":
-                bodies[-1].function = rest
-            elif word == "file:":
-                bodies[-1].file = rest
-            elif word == "old:":
-                bodies[-1].pairs.append((rest, ""))
-            elif word == "new:":
-                bodies[-1].pairs[-1] = bodies[-1].pairs[-1][0], rest
+    for line in read(f"{folder}/{LIST}").split("\n"):
+        word, _, rest = line.partition(" ")
+        if word == "###":
+            bodies.append(WrongBody(rest))
+        elif word == "fn:":
+            bodies[-1].function = rest
+        elif word == "file:":
+            bodies[-1].file = rest
+        elif word == "old:":
+            bodies[-1].pairs.append((rest, ""))
+        elif word == "new:":
+            bodies[-1].pairs[-1] = bodies[-1].pairs[-1][0], rest
     return bodies
 
 
@@ -65,11 +89,7 @@ class Round:
         """Takes the body in, where its function has none in this round and its text is still there once."""
         if body.function in self.bodies:
             return False
-        text = self.texts.get(body.file)
-        if text is None:
-            with open(f"{folder}/{body.file}", encoding="utf-8") as it:
-                text = it.read()
-        changed = body.changed(text)
+        changed = body.changed(self.texts.get(body.file) or read(f"{folder}/{body.file}"))
         if changed is None:
             return False
         self.bodies[body.function], self.texts[body.file] = body, changed
@@ -94,24 +114,31 @@ def check(folder):
 
 
 def refused_of(crate, printed):
-    """The functions that the prover refused for themselves."""
+    """What is said of each function that the prover refused for itself."""
     lines = re.findall(rf"^fn {crate}::(\S+): (.*)$", printed, re.MULTILINE)
-    return {name for name, said in lines if said.startswith("not proved") or "did not prove" in said}
+    return {name: said for name, said in lines if said.startswith("not proved") or "did not prove" in said}
+
+
+def is_by_contract(body, said, printed, lines):
+    """Whether a function was refused by what its contract says: by an open goal, or by an answer to one that no longer fits, and not only since names are missing."""
+    notes = re.findall(rf"note: {re.escape(body.file)}:(\d+):", printed)
+    errors = re.findall(rf"proofs/{body.function.replace('::', '/')}/\S+: error.*", printed)
+    return "did not prove" in said or any(int(it) in lines for it in notes) or any(not MISSING_NAME.search(it) for it in errors)
 
 
 def try_round(crate, folder, it):
     """Checks the crate with the wrong bodies of a round, puts its files back, and answers what each body's function was found to be, and which others were refused."""
+    texts = {file: read(f"{folder}/{file}") for file in it.texts}
     for file, text in it.texts.items():
-        shutil.copy(f"{folder}/{file}", f"{folder}/{file}.kept")
-        with open(f"{folder}/{file}", "w", encoding="utf-8") as changed:
-            changed.write(text)
+        write(f"{folder}/{file}", text)
     status, printed = check(folder)
-    for file in it.texts:
-        os.replace(f"{folder}/{file}.kept", f"{folder}/{file}")
+    for file, text in texts.items():
+        write(f"{folder}/{file}", text)
     refused = refused_of(crate, printed)
     if not refused:
         print(f"a check of {crate} ended with status {status}:", *printed.split("\n")[:HOW_MANY_LINES], sep="\n")
-    return [(body, function in refused) for function, body in it.bodies.items()], refused - set(it.bodies)
+    tried = [(body, name in refused and is_by_contract(body, refused[name], printed, body.lines(texts[body.file]))) for name, body in it.bodies.items()]
+    return tried, set(refused) - set(it.bodies)
 
 
 def try_rounds(crate, folder, rounds):
