@@ -5,7 +5,7 @@ use Rattle.image_access.specs.Backing.{BackingView}
 use Rattle.image_access.specs.Moments.{StorageView, Passing}
 use Rattle.image_access.proofs.Passing.{passes_if, passes_on}
 use Rattle.qcow2_metadata.specs.Bytes.{Bytes, byte_at}
-use Rattle.qcow2_metadata.specs.Header.{cluster_size}
+use Rattle.qcow2_metadata.specs.Header.{HeaderView, cluster_size}
 use Rattle.qcow2_metadata.specs.Consistent.{Consistent, IsConsistent}
 use Rattle.qcow2_metadata.specs.Entries.{l1_entry, reftable_entry}
 use Rattle.qcow2_metadata.specs.EntryTable.{EntryTableView, entry_table, NamesL1Table, IsL1TableOf}
@@ -29,9 +29,13 @@ use Rattle.qcow2_alloc.specs.MetadataCaches.{refblocks, known_of, AreSound}
 use Rattle.qcow2_alloc.proofs.KeptTables.Standing.{own_cluster}
 use Rattle.qcow2_image.specs.declared.image.Qcow2.{Qcow2}
 use Rattle.qcow2_image.specs.Image.{is_failed}
-use Rattle.qcow2_image.specs.Opened.{IsFresh, StaysFresh, IsLoaded, IsKeptSince}
+use Rattle.qcow2_image.specs.Opened.{IsFresh, StaysFresh, IsLoaded, IsKeptSince, SameNames, HasNamesIn}
 use Rattle.qcow2_image.specs.Views.{HasL1Table, IsHonestBacking, IsSoundAt, of_data, of_tables, to_free, pending_in, seen}
 use Rattle.qcow2_image.proofs.Sound.{pending_is}
+
+-- names that stay are still those that stand there
+pub named_still : (old new : HeaderView) (contents : List ℕ) → IsHeaderIn old contents → SameNames old new → HasNamesIn new contents
+named_still old new contents is same = record { fields = refl; reads = is.reads; backing_name = same.0 ∙ is.backing_name; backing_format = same.1 ∙ is.backing_format; data_file_name = same.2 ∙ is.data_file_name }
 
 -- ---- what is kept
 pub kept_read : (old new : StorageView) → Passing old new (λ c. c ≡ new.contents) → new.contents ≡ old.contents → IsKeptSince old new

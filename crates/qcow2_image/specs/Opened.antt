@@ -1,10 +1,11 @@
 -- What opening an image gives: its header and its tables as they stand on the storage, and nothing modified.
-use Rattle.std.specs.Prelude.{ℕ, ◌≡◌, IfSome, [], Option, Result, Ok, Err}
+use Rattle.std.specs.Prelude.{ℕ, ◌≡◌, IfSome, List, [], Option, Result, Ok, Err}
 use Rattle.image_access.specs.Backing.{BackingView}
 use Rattle.image_access.specs.Moments.{StorageView}
 use Rattle.qcow2_metadata.specs.Bytes.{Bytes, byte_at}
 use Rattle.qcow2_metadata.specs.Consistent.{IsConsistent}
 use Rattle.qcow2_metadata.specs.EntryTable.{EntryTableView}
+use Rattle.qcow2_metadata.specs.Header.{HeaderView, header, with_fields}
 use Rattle.qcow2_metadata.specs.HeaderLoad.{IsHeaderIn}
 use Rattle.qcow2_laws.specs.Guard.{Pending}
 use Rattle.qcow2_laws.specs.Leads.{Endures}
@@ -21,6 +22,14 @@ use Rattle.qcow2_image.specs.Views.{seen, HasL1Table}
 -- at each moment since, and now, what was kept of the contents is kept: a consistent image stays so, and shows the same disk
 abbrev pub IsKeptSince : StorageView → StorageView → Type 0
 IsKeptSince old new = Endures old new (byte_at old.contents) nothing_given []
+
+-- the names behind a header's numbers are the same
+abbrev pub SameNames : HeaderView → HeaderView → Type 0
+SameNames old new = (new.backing_name ≡ old.backing_name) × (new.backing_format ≡ old.backing_format) × (new.data_file_name ≡ old.data_file_name)
+
+-- they are those that these contents hold
+abbrev pub HasNamesIn : HeaderView → List ℕ → Type 0
+HasNamesIn v contents = IsHeaderIn (with_fields v (header (byte_at contents))) contents
 
 -- the storage that an opened image stands in, or that a refusal hands back
 abbrev pub storage_after : {S F : Type 0} → Result (Qcow2 S F) (S × ImageError) → S

@@ -1,5 +1,5 @@
 //! Making a new image.
-ghost use Rattle.std.specs.Prelude.{◌≡◌, ◌^◌, [], IfSome, IfOk, OnOk, IsSome};
+ghost use Rattle.std.specs.Prelude.{◌≡◌, ◌^◌, [], IfSome, IfOk, OnOk, IsSome, is_some, false};
 ghost use Rattle.image_access.specs.Moments.{Passing};
 ghost use Rattle.qcow2_metadata.specs.Bytes.{byte_at};
 ghost use Rattle.qcow2_alloc.specs.ImageStorage.{storage_of};
@@ -152,6 +152,7 @@ impl<S: Storage> Qcow2CreateBuilder<S> {
         ensures opens { (S.view self.image).is_honest → IfOk result (λ image. IsOpened (seen S.view F.backing image [])) }
         ensures unwritten { (S.view self.image).is_honest → IfOk result (λ image. IsUnwritten self.size (seen S.view F.backing image []).known) }
         ensures ok { IfOk result (λ image. (number_of image ≡ number) × (is_failed image ≡ false) × (is_writable image ≡ true)) }
+        ensures below { IfOk result (λ image. is_some image.backing ≡ false) }
     {
         let (storage, done) = self.create(alloc);
         if let Err(refusal) = done {

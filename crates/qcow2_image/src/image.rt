@@ -59,7 +59,7 @@ impl<S: Storage, F: WrappedFormat<S>> Qcow2<S, F> {
     ghost use Rattle.qcow2_image.specs.Views.{HasL1Table};
     ghost use Rattle.qcow2_image.specs.Created.{begins_image};
     ghost use Rattle.qcow2_image.specs.Growing.{SameFormat, WritesBack};
-    ghost use Rattle.qcow2_image.specs.Opened.{IsFresh, StaysFresh, IsLoaded, IsKeptSince, storage_after, Opens};
+    ghost use Rattle.qcow2_image.specs.Opened.{IsFresh, StaysFresh, IsLoaded, IsKeptSince, SameNames, HasNamesIn, storage_after, Opens};
     ghost use Rattle.std.specs.Option.{is_some};
 
     /// Whether the first bytes of a storage are those of an image of version 2 or 3.
@@ -88,6 +88,9 @@ impl<S: Storage, F: WrappedFormat<S>> Qcow2<S, F> {
         ensures since { (S.view metadata).is_honest → IsConsistent (byte_at (S.view metadata).contents) → IsKeptSince (S.view metadata) (S.view (storage_after result)) }
         ensures format { (S.view metadata).is_honest → IfOk result (λ image. SameFormat (header (byte_at (S.view metadata).contents)) image.file.header.fields) }
         ensures ok { IfOk result (λ image. (number_of image ≡ number) × (is_failed image ≡ false) × (is_writable image ≡ writable)) }
+        ensures below { IfOk result (λ image. is_some image.backing ≡ false) }
+        ensures names { (S.view metadata).is_honest → IfOk result (λ image. HasNamesIn image.file.header (S.view metadata).contents) }
+        ensures reading { writable ≡ false → ContentsStay (S.view metadata) (S.view (storage_after result)) }
     {
         let mut storage = ImageStorage::new(metadata);
         let header = match Header::load(alloc, &mut storage, writable) {
@@ -152,6 +155,7 @@ impl<S: Storage, F: WrappedFormat<S>> Qcow2<S, F> {
     // For writing the reftable is loaded, and the autoclear bits are cleared last.
     fn load_allocator(file: &mut ImageFile<S>) -> Result<Allocator, ImageError>
         ensures format { OnOk result (SameFormat file.old.header.fields file.new.header.fields) }
+        ensures names { OnOk result (SameNames file.old.header file.new.header) }
         ensures since { (p : Pending) → IsFresh S.view F.backing p file.old → IsKeptSince (view_in S.view file.old) (view_in S.view file.new) }
         ensures loaded { (p : Pending) → IsFresh S.view F.backing p file.old → IfOk result (λ allocator. StaysFresh S.view F.backing p file.old file.new × HasReftable S.view file.new allocator.reftable) }
     {
@@ -164,7 +168,9 @@ impl<S: Storage, F: WrappedFormat<S>> Qcow2<S, F> {
     // Loads the L1 table and, for writing, the reftable.
     fn load_tables(file: &mut ImageFile<S>, writable: bool) -> Result<Tables, ImageError>
         ensures allocator { IfOk result (λ tables. is_some tables.allocator ≡ writable) }
+        ensures reading { writable ≡ false → ContentsStay (view_in S.view file.old) (view_in S.view file.new) }
         ensures format { OnOk result (SameFormat file.old.header.fields file.new.header.fields) }
+        ensures names { OnOk result (SameNames file.old.header file.new.header) }
         ensures since { (p : Pending) → IsFresh S.view F.backing p file.old → IsKeptSince (view_in S.view file.old) (view_in S.view file.new) }
         ensures loaded { (p : Pending) → IsFresh S.view F.backing p file.old → IfOk result (λ tables. IsLoaded S.view F.backing p file.new tables.l1_table tables.allocator) }
     {

@@ -1,5 +1,5 @@
 //! Reading and writing what is mapped.
-ghost use Rattle.std.specs.Prelude.{◌≡◌, ◌≢◌, ◌+◌, ◌^◌, ◌<◌, ◌≤◌, ℕ, List, [], Option, length, slice_get, IfOk, IfErr, IfSome, IsTrue, MatchOption, Ok, Err, Some, None, true, false};
+ghost use Rattle.std.specs.Prelude.{◌≡◌, ◌≢◌, ◌+◌, ◌^◌, ◌<◌, ◌≤◌, ℕ, List, [], Option, length, slice_get, ◌⊎◌, IfOk, IfErr, IfSome, IsSome, IsTrue, MatchOption, Ok, Err, Some, None, true, false};
 ghost use Rattle.qcow2_laws.specs.Calls.{Shows};
 ghost use Rattle.qcow2_laws.specs.Guard.{Pending};
 ghost use Rattle.qcow2_image.specs.Calls.{Answers, Puts};
@@ -184,6 +184,7 @@ impl<S: Storage, F: WrappedFormat<S>> Qcow2<S, F> {
         ensures image { IsSameImage self.old self.new }
         ensures outdated { table_of prepared.now ≡ None → (out : List (Option Prepared)) → (seen S.view F.backing self.old out).is_sound → result ≡ Err OutdatedMapping
             → ¬ IsFoundWhole S.view self.new (prepared.now.guest + at) (Raw Image (prepared.now.offset + at) true) (length bytes.now) }
+        ensures private { IsSome (table_of prepared.now) → result ≡ Err OutdatedMapping → (size_of self.old ≤ prepared.now.guest + at) ⊎ (2 ^ 64 ≤ prepared.now.offset + at) }
         ensures sees { Puts S.view F.backing self.old self.new prepared.now at bytes.now result }
     {
         self.check_usable()?;
@@ -211,6 +212,7 @@ impl<S: Storage, F: WrappedFormat<S>> Qcow2<S, F> {
         ensures cause { IfErr result IsMet }
         ensures outdated { 0 < length bytes.now → table_of prepared.now ≡ None → (p : Pending) (out : List (Option Prepared)) → IsSoundAt S.view F.backing p self.old out → result ≡ Err OutdatedMapping
             → ¬ IsFoundWhole S.view self.new (prepared.now.guest + at) (Raw Image (prepared.now.offset + at) true) (length bytes.now) }
+        ensures private { IsSome (table_of prepared.now) → result ≡ Err OutdatedMapping → (size_of self.old ≤ prepared.now.guest + at) ⊎ (2 ^ 64 ≤ prepared.now.offset + at) }
         ensures puts { 0 < length bytes.now → at + length bytes.now ≤ prepared.now.length → (out : List (Option Prepared)) (k : ℕ) → slice_get out k ≡ Some (Some prepared.now)
             → IsSoundAt S.view F.backing (pending_in S.view F.backing self.old out) self.old out → PutsPart S.view F.backing self.old self.new out k prepared.now at bytes.now result }
     {
@@ -237,6 +239,7 @@ impl<S: Storage, F: WrappedFormat<S>> Qcow2<S, F> {
         ensures outdated { (p : Pending) (out : List (Option Prepared)) → IsSoundAt S.view F.backing p self.old out → result ≡ Err OutdatedMapping → ¬ IsFoundWhole S.view self.new guest (Raw Image host true) length }
         ensures mapped { table_of prepared.now ≡ None → 0 < length → (p : Pending) (out : List (Option Prepared)) → IsSoundAt S.view F.backing p self.old out
             → IfOk result (λ done. IsMappedAs S.view self.new guest (Raw Image host true) length) }
+        ensures private { IsSome (table_of prepared.now) → result ≡ Ok tt }
     {
         if prepared.table.is_some() {
             return Ok(());

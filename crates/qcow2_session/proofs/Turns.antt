@@ -1,6 +1,6 @@
 -- Calls one after another, whatever they answer.
 use Rattle.std.proofs.Common.{◌≡◌, ◌⊎◌, ⊎_elim, inl, inr, ℕ, List, [], true, false, IsTrue, refl, sym, ap, ◌∙◌, subst}
-use Rattle.std.specs.Prelude.{Result, Ok, Err, IsErr, IsErrAnd}
+use Rattle.std.specs.Prelude.{Option, Some, None, IfSome, Result, Ok, Err, IsErr, IsErrAnd}
 use Rattle.image_access.proofs.Passing.{passes_on}
 use Rattle.qcow2_metadata.specs.Bytes.{byte_at}
 use Rattle.qcow2_metadata.specs.Guest.{Value}
@@ -13,6 +13,11 @@ use Rattle.qcow2_laws.proofs.Compose.{works_less, works_then, rests_then}
 pub refused_is : {A E : Type 0} (r : Result A E) (e : E) → IsErr r × IsErrAnd r (λ x. x ≡ e) → r ≡ Err e
 refused_is (Ok a) e is = absurd (let no : false ≡ true = is.0 in cc)
 refused_is (Err x) e is = ap Err is.1
+
+-- where a call that begins another one was answered, the other one had nothing to refuse before any work
+pub nothing_refused : {A E : Type 0} (S : Type 0) (X : E → Type 0) (o : Option E) (r : Result A E) (a : A) → IfSome o (λ x. (r ≡ Err x) × S) → r ≡ Ok a → IfSome o X
+nothing_refused S X None r a early was = tt
+nothing_refused S X (Some x) r a early was = absurd (let no : Ok a ≡ Err x = sym was ∙ early.0 in cc)
 
 -- what a call gives was there already, or is given anyway
 abbrev pub IsWithin : View → List Gift → List Gift → Type 0

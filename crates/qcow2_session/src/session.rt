@@ -3,6 +3,7 @@ ghost use Rattle.std.specs.Prelude.{◌≡◌, ◌+◌, ◌^◌, ◌≤◌, ◌�
 ghost use Rattle.qcow2_image.specs.Image.{number_of, size_of};
 ghost use Rattle.qcow2_image.specs.Prepared.{image_of};
 ghost use Rattle.qcow2_image.specs.Calls.{Discards};
+ghost use Rattle.qcow2_image.specs.Refusals.{refuses_to_read, refuses_to_prepare};
 ghost use Rattle.qcow2_session.specs.Sessions.{IsRightlyBeyond, Reads, ReadsFirst, Writes, WritesFirst, Steps, Finds, LetsGo, RunsThrough, TellsTheDisk, TellsTheFile};
 ghost use Rattle.qcow2_image.specs.declared.prepared.Prepared.{Prepared};
 
@@ -83,6 +84,7 @@ pub fn read<S: Storage, F: WrappedFormat<S>>(
     length: u64,
 ) -> Result<Vec<u8>, ImageError>
     ensures number { number_of image.new ≡ number_of image.old }
+    ensures early { IfSome (refuses_to_read image.old offset length) (λ e. (result ≡ Err e) × (image.new ≡ image.old)) }
     ensures beyond { IfErr result (IsRightlyBeyond image.old offset length) }
     ensures sees { Reads S.view F.backing image.old image.new offset length result }
 {
@@ -130,6 +132,7 @@ pub fn write<S: Storage, F: WrappedFormat<S>>(
     bytes: &[u8],
 ) -> Result<(), (ImageError, u64)>
     ensures number { number_of image.new ≡ number_of image.old }
+    ensures early { IfSome (refuses_to_prepare image.old offset (length bytes.now)) (λ e. (result ≡ Err (e, 0)) × (image.new ≡ image.old)) }
     ensures within { IfErr result (λ (e, n). n ≤ length bytes.now) }
     ensures beyond { IfErr result (λ (e, n). IsRightlyBeyond image.old offset (length bytes.now) e) }
     ensures sees { Writes S.view F.backing image.old image.new offset bytes.now result }
@@ -157,6 +160,7 @@ fn write_some<S: Storage, F: WrappedFormat<S>>(
     bytes: &[u8],
 ) -> Result<usize, ImageError>
     ensures number { number_of image.new ≡ number_of image.old }
+    ensures early { IfSome (refuses_to_prepare image.old offset (length bytes.now)) (λ e. (result ≡ Err e) × (image.new ≡ image.old)) }
     ensures some { IfOk result (λ n. 0 < length bytes.now → 0 < n) }
     ensures within { IfOk result (λ n. n ≤ length bytes.now) }
     ensures size { size_of image.new ≡ size_of image.old }

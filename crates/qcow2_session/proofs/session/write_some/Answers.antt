@@ -3,12 +3,13 @@ use Rattle.qcow2_laws.specs.Mappings.{gift_of}
 use Rattle.qcow2_laws.specs.Views.{guest_of}
 use Rattle.qcow2_image.specs.Calls.{refusal_of, Commits}
 use Rattle.qcow2_image.specs.Prepared.{IsKept}
+use Rattle.qcow2_image.specs.Refusals.{refuses_to_prepare}
 use Rattle.qcow2_image.specs.declared.prepared.CommitRefused.TheVariants.{Kept}
 use Rattle.qcow2_image.specs.Views.{seen, image_spec}
 use Rattle.qcow2_session.specs.Sessions.{WritesFirst}
 use Rattle.qcow2_session.proofs.Chunks.{may_write_none, put_refused, written, commit_spent, commit_kept}
 use Rattle.qcow2_image.proofs.Free.{free_places}
-use Rattle.qcow2_session.proofs.Turns.{refused_is, none_within, refuses_if, refuses_less}
+use Rattle.qcow2_session.proofs.Turns.{refused_is, none_within, refuses_if, refuses_less, nothing_refused}
 use Rattle.qcow2_session.proofs.session.write_some.Goals as goal
 
 pub returns-in_err-prepared-clause-sees : goal.returns-in_err-prepared-clause-sees
@@ -61,3 +62,7 @@ returns-in-Err-Kept-clause-sees g c = λ out.
     (c.min-count.ensures ∙ ap (λ k. min (length c.args.bytes.now) k) c.length.ensures) (c.in_ok-prepared.ensures.sees (None ∷ out) 0 refl)
     c.write_mapped.new.self (c.in_default.ensures.sees (Some p ∷ out) 0 refl) c.commit_data_mapping.new.self c.let_go-in-Err-Kept.new.image (refusal_of c.in-Err-Kept.refusal) refused.0 refused.1
     (c.let_go-in-Err-Kept.ensures.sees (Some p ∷ out) 0 (ap (λ q. Some (Some q)) (sym same)))
+
+pub returns-in-Err-clause-early : goal.returns-in-Err-clause-early
+returns-in-Err-clause-early g c =
+    nothing_refused _ _ (refuses_to_prepare c.args.image.now c.args.offset (length c.args.bytes.now)) c.prepare_data_mapping.result c.in_ok-prepared.prepared c.prepare_data_mapping.ensures.early c.in_ok-prepared.was

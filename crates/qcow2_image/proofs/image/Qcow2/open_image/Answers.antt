@@ -4,8 +4,8 @@ use Rattle.qcow2_metadata.specs.Bytes.{byte_at}
 use Rattle.qcow2_laws.specs.Opened.{nothing_pending, surplus_of}
 use Rattle.qcow2_alloc.specs.declared.image_file.ImageFile.{ImageFile}
 use Rattle.qcow2_image.specs.declared.image.Qcow2.{Qcow2}
-use Rattle.qcow2_image.specs.Opened.{Opens, IsKeptSince}
-use Rattle.qcow2_image.proofs.Opening.{fresh_new, opened, kept_loaded, kept_opened}
+use Rattle.qcow2_image.specs.Opened.{Opens, IsKeptSince, HasNamesIn}
+use Rattle.qcow2_image.proofs.Opening.{fresh_new, opened, kept_loaded, kept_opened, named_still}
 use Rattle.qcow2_image.proofs.image.Qcow2.open_image.Goals as goal
 
 pub returns-in-Ok-load_tables-clause-opens : goal.returns-in-Ok-load_tables-clause-opens
@@ -58,3 +58,9 @@ returns-in-Err-load_tables-clause-since g c =
     kept_opened view below c.load.result c.new-storage.result.storage c.args.metadata c.into_storage.result file c.load_tables.new.file c.new-storage.ensures.storage c.into_storage.ensures read
     (λ honest consistent. c.load_tables.ensures.since (nothing_pending (surplus_of c.in-Ok.header.fields (byte_at contents)))
     (fresh_new view below contents file consistent (read.honest honest) (read.same honest) (c.in-Ok.ensures.ok honest) new.sound new.known new.settled (new.room (omega arith)) new.pins c.new-2.ensures))
+
+pub returns-in-Ok-load_tables-clause-names : goal.returns-in-Ok-load_tables-clause-names
+returns-in-Ok-load_tables-clause-names g c =
+    let view = g.S.Storage.view in
+    subst (λ s. (view s).is_honest → HasNamesIn c.load_tables.new.file.header (view s).contents) c.new-storage.ensures.storage
+    (λ honest. named_still c.in-Ok.header c.load_tables.new.file.header (view c.new-storage.result.storage).contents (c.in-Ok.ensures.ok honest) c.in-Ok-load_tables.ensures.names)
