@@ -1,5 +1,5 @@
 # qimg    proves and builds the program, and leaves it as build/qimg
-# demo    makes an image in a new folder, writes a cluster and reads it back
+# demo    makes an image in a new folder, writes a cluster and reads it back, by the program as it stands in the source, before any proof
 # test    every proof, every wrong body, every test, and the scripts under tests/
 # bench   qimg beside qemu-io on the same work
 
@@ -11,10 +11,11 @@ qimg:
 	cd crates/qimg && rt run -- create "$$folder/disk.qcow2" 65536 512 16 none >&2
 	@cp crates/qimg/out/qimg build/qimg
 
-demo: qimg
-	@folder=$$(mktemp -d) && trap 'rm -r "$$folder"' EXIT && \
-	build/qimg create "$$folder/disk.qcow2" 65536 512 16 none && \
-	printf 'fill 0 512 11\nflush\nread 0 4\n' | build/qimg run "$$folder/disk.qcow2"
+demo:
+	@folder=$$(mktemp -d) && trap 'rm -r "$$folder"' EXIT && cd crates/qimg && \
+	try() { rt try -- "$$@" 2> "$$folder/told" || { cat "$$folder/told" >&2; false; }; } && \
+	try create "$$folder/disk.qcow2" 65536 512 16 none && \
+	printf 'fill 0 512 11\nflush\nread 0 4\n' | try run "$$folder/disk.qcow2"
 
 test:
 	@tests/all.py

@@ -1,5 +1,5 @@
 #!/usr/bin/env python3
-"""Runs the merge gate, then the wrong bodies, then the scripts on real files. The last line sums what passed and what failed."""
+"""Runs the merge gate, then the wrong bodies, then the scripts on real files. At the end stands how long each part took; the last line sums what passed and what failed."""
 
 import os
 import re
@@ -50,28 +50,53 @@ def has_program():
     return True
 
 
-def main():
-    began = time.monotonic()
-    told = []
-    results = [counts(["rt", "ci"], told)]
-    print(f"the gate took {(time.monotonic() - began) / 60:.0f} minutes", flush=True)
-    began = time.monotonic()
-    results.append(counts(["tests/wrong_bodies.py"], told))
-    print(f"the wrong bodies took {(time.monotonic() - began) / 60:.0f} minutes", flush=True)
+class Parts:
+    """The parts of a run: what each counted, how long it took, and the lines that tell of failures."""
+
+    def __init__(self):
+        self.results, self.times, self.told = [], [], []
+
+    def run(self, name, work):
+        """Does a part, which answers its counts."""
+        began = time.monotonic()
+        self.results.append(work())
+        self.times.append((name, time.monotonic() - began))
+
+    def command(self, name, words):
+        """Runs a part that is a command with a count."""
+        self.run(name, lambda: counts(words, self.told))
+
+    def tell(self):
+        """Prints what failed, the times and the sums, and answers whether anything failed."""
+        passed, failed = (sum(each) for each in zip(*self.results))
+        if failed:
+            print("what failed:", *self.told[-40:], sep="\n")
+        for name, seconds in [*self.times, ("all", sum(seconds for _, seconds in self.times))]:
+            print(f"{name}: {seconds / 60:.1f} minutes")
+        print(f"on {len(os.sched_getaffinity(0))} processors")
+        print(f"{passed} passed, {failed} failed")
+        return failed > 0
+
+
+def scripts(parts):
+    """Runs the scripts on real files, those that need QEMU's tools only where these are there."""
     if not has_program():
         print("the program wasn't built", flush=True)
-        results.append((0, len(SCRIPTS)))
+        parts.run("scripts", lambda: (0, len(SCRIPTS)))
     elif not succeeds(["tests/install.sh"]):
-        results.append(counts([SCRIPTS[0]], told))
-        results.append((0, len(SCRIPTS) - 1))
+        parts.command(SCRIPTS[0], [SCRIPTS[0]])
+        parts.run("scripts that need QEMU's tools", lambda: (0, len(SCRIPTS) - 1))
     else:
-        results += [counts([script], told) for script in SCRIPTS]
-    passed = sum(each[0] for each in results)
-    failed = sum(each[1] for each in results)
-    if failed:
-        print("what failed:", *told[-40:], sep="\n")
-    print(f"{passed} passed, {failed} failed")
-    return 1 if failed else 0
+        for script in SCRIPTS:
+            parts.command(script, [script])
+
+
+def main():
+    parts = Parts()
+    parts.command("the gate", ["rt", "ci"])
+    parts.command("the wrong bodies", ["tests/wrong_bodies.py"])
+    scripts(parts)
+    return int(parts.tell())
 
 
 sys.exit(main())

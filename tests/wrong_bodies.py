@@ -3,22 +3,26 @@
 
 A function is proved by its own body and the contracts of what it calls, so a wrong body in one function leaves the proof of each other one as it is. So one check tries wrong bodies
 in many functions at once, and each of these functions must be refused for itself: not only because of one that it calls, and not only because a proof names what the wrong body took away.
-Crates can be named; the last line counts."""
+A check proves only the functions that have a wrong body in it, with those that they call, by the toolchain's own words for its must-fail edits, over the libraries that the gate has just
+proved; where it hasn't run, they are proved first. Crates are tried side by side, one a processor. Crates can be named; the last line counts."""
 
+import importlib.machinery
+import importlib.util
 import os
 import re
 import shutil
-import subprocess
 import sys
 import tempfile
+import time
+from concurrent.futures import ThreadPoolExecutor
 from dataclasses import dataclass, field
 
 ROOT = os.path.dirname(os.path.dirname(os.path.abspath(__file__)))
-PROGRAM = "qimg"
 LIST = "must-fail/wrong_bodies.md"
 HOW_MANY_LINES = 8
 START = re.compile(r"\s*(pub(\([^)]*\))? )?fn ")
 MISSING_NAME = re.compile(r"has no field|is not in scope|has no `|was not admitted|is no name")
+SAID = re.compile(r"^fn (\w+)::(\S+): (.*)$", re.MULTILINE)
 
 
 def read(path):
@@ -27,10 +31,12 @@ def read(path):
         return it.read()
 
 
-def write(path, text):
-    """Makes this the text of a file."""
-    with open(path, "w", encoding="utf-8") as it:
-        it.write(text)
+def toolchain():
+    """The toolchain's program `rt` as a module: its call `checked` proves a crate with some files changed, over libraries that stand built."""
+    loader = importlib.machinery.SourceFileLoader("rt", os.path.realpath(shutil.which("rt")))
+    made = importlib.util.module_from_spec(importlib.util.spec_from_loader("rt", loader))
+    loader.exec_module(made)
+    return made
 
 
 @dataclass
@@ -96,27 +102,34 @@ class Round:
         return True
 
 
-def rounds_of(bodies, folder):
-    """The bodies in as few rounds as it takes, and those that fit into none, since their text isn't there once."""
-    rounds, left = [], []
-    for body in bodies:
-        if any(it.takes(body, folder) for it in rounds):
-            continue
-        new = Round()
-        (rounds if new.takes(body, folder) else left).append(new if new.bodies else body)
-    return rounds, left
+def next_round(bodies, folder, alone):
+    """A round of as many of these bodies as fit beside one another, or of the first alone, and the others."""
+    it, taken = Round(), bodies[:1] if alone else bodies
+    return it, [body for body in taken if not it.takes(body, folder)] + bodies[len(taken) :]
 
 
-def check(folder):
-    """Checks a crate over the work of the checks before, and answers the status and what was printed."""
-    ran = subprocess.run(["rt", "check"], cwd=folder, stdout=subprocess.PIPE, stderr=subprocess.STDOUT, text=True, errors="replace")
-    return ran.returncode, ran.stdout
+class Trial:
+    """A crate with what its checks keep for one another, which is gone in the end."""
+
+    def __init__(self, rt, crate, kept):
+        self.rt, self.crate, self.kept = rt, crate, kept
+        self.name, self.folder = crate.name, crate.folder
+
+    def check(self, it):
+        """Checks the functions of a round with their wrong bodies, and answers what was printed, and what is said of each function."""
+        only = [word for function in it.bodies for word in ("--only", function)]
+        printed = self.rt.checked(self.crate, it.texts, ["--jobs", "1", *only], self.kept).stdout
+        if self.rt.rtlib.STALE.search(printed):
+            printed = "the libraries of the crate are not those that the gate has proved; rt all check proves them"
+        said = {name: text for its_crate, name, text in SAID.findall(printed) if its_crate == self.name}
+        if not said:
+            print(f"a check of {self.name} said nothing of its functions:", *printed.split("\n")[:HOW_MANY_LINES], sep="\n", flush=True)
+        return printed, said
 
 
-def refused_of(crate, printed):
-    """What is said of each function that the prover refused for itself."""
-    lines = re.findall(rf"^fn {crate}::(\S+): (.*)$", printed, re.MULTILINE)
-    return {name: said for name, said in lines if said.startswith("not proved") or "did not prove" in said}
+def is_refusal(said):
+    """Whether what is said of a function is that it isn't proved for itself."""
+    return said.startswith("not proved") or "did not prove" in said
 
 
 def is_by_contract(body, said, printed, lines):
@@ -126,64 +139,102 @@ def is_by_contract(body, said, printed, lines):
     return "did not prove" in said or any(int(it) in lines for it in notes) or any(not MISSING_NAME.search(it) for it in errors)
 
 
-def try_round(crate, folder, it):
-    """Checks the crate with the wrong bodies of a round, puts its files back, and answers what each body's function was found to be, and which others were refused."""
-    texts = {file: read(f"{folder}/{file}") for file in it.texts}
-    for file, text in it.texts.items():
-        write(f"{folder}/{file}", text)
-    status, printed = check(folder)
-    for file, text in texts.items():
-        write(f"{folder}/{file}", text)
-    refused = refused_of(crate, printed)
-    if not refused:
-        print(f"a check of {crate} ended with status {status}:", *printed.split("\n")[:HOW_MANY_LINES], sep="\n")
-    tried = [(body, name in refused and is_by_contract(body, refused[name], printed, body.lines(texts[body.file]))) for name, body in it.bodies.items()]
-    return tried, set(refused) - set(it.bodies)
+@dataclass
+class Tried:
+    """What a round showed: the bodies that were refused, those that weren't, those that the check didn't come to, and the functions without one that were refused."""
+
+    refused: list = field(default_factory=list)
+    accepted: list = field(default_factory=list)
+    waiting: list = field(default_factory=list)
+    others: list = field(default_factory=list)
 
 
-def try_rounds(crate, folder, rounds):
-    """Tries rounds, says what was refused, and answers how many bodies were, which weren't, and how many functions without one were."""
-    refused, left, wrong = 0, [], 0
-    for it in rounds:
-        tried, others = try_round(crate, folder, it)
-        for body, is_refused in tried:
-            if is_refused:
-                print(f"wrong body {crate}/{body.name}: refused: {body.function}", flush=True)
-                refused += 1
-            else:
-                left.append(body)
-        for other in sorted(others):
-            print(f"wrong bodies of {crate}: FAILED: {other} has none, and was refused for itself", flush=True)
-            wrong += 1
-    return refused, left, wrong
+def try_round(trial, it):
+    """Checks the functions of a round with their wrong bodies, and answers what that showed."""
+    printed, said = trial.check(it)
+    tried = Tried(others=sorted(name for name, text in said.items() if is_refusal(text) and name not in it.bodies))
+    for name, body in it.bodies.items():
+        text = said.get(name, "")
+        if is_refusal(text) and is_by_contract(body, text, printed, body.lines(read(f"{trial.folder}/{body.file}"))):
+            tried.refused.append(body)
+        elif is_refusal(text) or text.startswith("proved"):
+            tried.accepted.append(body)
+        else:
+            tried.waiting.append(body)
+    return tried
 
 
-def try_crate(crate, folder):
-    """Tries the wrong bodies of a crate, and answers how many were refused and how many weren't."""
-    rounds, unfit = rounds_of(bodies_of(folder), folder)
-    for body in unfit:
-        print(f"wrong body {crate}/{body.name}: BAD EDIT: what it changes doesn't stand in {body.file} once", flush=True)
-    refused, left, wrong = try_rounds(crate, folder, rounds)
-    # the prover doesn't try a function that waits for the proof of one that it calls, so what is left gets a check of its own
-    alone, kept, more = try_rounds(crate, folder, [rounds_of([body], folder)[0][0] for body in left])
-    for body in kept:
+def fitting(crate, folder):
+    """The wrong bodies of a crate that change what stands in its files once, and how many don't, which are told."""
+    bodies = bodies_of(folder)
+    fits = [body for body in bodies if body.changed(read(f"{folder}/{body.file}")) is not None]
+    for body in bodies:
+        if body not in fits:
+            print(f"wrong body {crate}/{body.name}: BAD EDIT: what it changes doesn't stand in {body.file} once", flush=True)
+    return fits, len(bodies) - len(fits)
+
+
+def tell(crate, tried):
+    """Says what a round showed."""
+    for body in tried.refused:
+        print(f"wrong body {crate}/{body.name}: refused: {body.function}", flush=True)
+    for body in tried.accepted:
         print(f"wrong body {crate}/{body.name}: NOT REFUSED: {body.function}", flush=True)
-    return refused + alone, len(unfit) + len(kept) + wrong + more
+    for other in tried.others:
+        print(f"wrong bodies of {crate}: FAILED: {other} has none, and was refused for itself", flush=True)
+
+
+def try_crate(trial):
+    """Tries the wrong bodies of a crate, and answers how many were refused and how many weren't."""
+    began, checks, refused, alone = time.monotonic(), 0, 0, False
+    left, wrong = fitting(trial.name, trial.folder)
+    while left:
+        it, left = next_round(left, trial.folder, alone)
+        tried = try_round(trial, it)
+        # the prover doesn't come to a function that waits for the proof of one that it calls: it gets another round, at last one without any other body
+        if alone:
+            tried.accepted, tried.waiting = tried.accepted + tried.waiting, []
+        alone = not tried.refused and not tried.accepted
+        left += tried.waiting
+        tell(trial.name, tried)
+        checks, refused, wrong = checks + 1, refused + len(tried.refused), wrong + len(tried.accepted) + len(tried.others)
+    print(f"wrong bodies of {trial.name}: {refused} refused in {checks} checks, {time.monotonic() - began:.0f} seconds", flush=True)
+    return refused, wrong
+
+
+def in_a_folder_of_its_own(rt, crate):
+    """Tries the wrong bodies of a crate."""
+    with tempfile.TemporaryDirectory() as kept:
+        return try_crate(Trial(rt, crate, kept))
+
+
+def is_built(crate):
+    """Whether a library stands built: by the gate, whose builds have no stamp, or else it is built here where its text has changed."""
+    made_by_the_gate = os.path.isdir(crate.rlib) and not os.path.isfile(f"{os.path.dirname(crate.rlib)}/stamp")
+    return made_by_the_gate or not crate.build_rlib(["--jobs", "1"], anew=False)
+
+
+def length_of_proofs(crate):
+    """How many bytes a crate's proofs have: those with the longest ones are tried first."""
+    return sum(os.path.getsize(os.path.join(folder, it)) for folder, _, files in os.walk(f"{crate.folder}/proofs") for it in files)
 
 
 def main(names):
-    with tempfile.TemporaryDirectory() as room:
-        shutil.copytree(ROOT, f"{room}/tree", ignore=shutil.ignore_patterns(".git", "out", "build"))
-        crates = f"{room}/tree/crates"
-        status, printed = check(f"{crates}/{PROGRAM}")
-        if status:
-            print(f"nothing was tried, since the crates are not proved as they stand:\n{printed}\n0 passed, 1 failed")
+    os.chdir(ROOT)
+    rt = toolchain()
+    # its first call sets a signal's handler, which only the main thread may
+    rt.rtlib.guarded()
+    found = [it for it in rt.rtlib.crates_below(ROOT) if os.path.isfile(f"{it.folder}/{LIST}") and (not names or it.name in names)]
+    for library in [below for crate in found for below in crate.below()]:
+        if not is_built(library):
+            print(f"nothing was tried, since {library.name} is not proved as it stands\n0 passed, 1 failed")
             return 1
-        found = [it for it in sorted(os.listdir(crates)) if os.path.isfile(f"{crates}/{it}/{LIST}") and (not names or it in names)]
-        counts = [try_crate(it, f"{crates}/{it}") for it in found]
+    with ThreadPoolExecutor(len(os.sched_getaffinity(0))) as lanes:
+        counts = list(lanes.map(lambda it: in_a_folder_of_its_own(rt, it), sorted(found, key=length_of_proofs, reverse=True)))
     passed, failed = (sum(each) for each in zip(*counts)) if counts else (0, 0)
     print(f"{passed} passed, {failed} failed")
     return 1 if failed else 0
 
 
-sys.exit(main(sys.argv[1:]))
+if __name__ == "__main__":
+    sys.exit(main(sys.argv[1:]))
