@@ -186,10 +186,21 @@ def reads_the_longest_lengths():
     disk(2 ** 21, 65536)
     answers("disk", [
         ("fill 0 1048576 5a", "ok"),
-        ("fill 18446744073709551615 0 11", "refused 2 beyond size"),
         ("write 1048576 " + "00" * 200000 + "77", "ok"),
         ("read 524288 1048576", hex_of(b"\x5a" * 524288 + bytes(200000) + b"\x77" + bytes(324287))),
-    ][::2] + [("flush", "ok")])
+        ("flush", "ok"),
+    ])
+
+
+def takes_no_bytes_at_the_last_offset():
+    before = contents(disk())
+    answers("disk", [
+        ("fill 18446744073709551615 0 11", "ok"),
+        ("read 18446744073709551615 0", "data -"),
+        ("map 18446744073709551615 0", "eof"),
+        ("size", "size 65536"),
+    ])
+    equal(contents("disk"), before, "the file")
 
 
 # Lines that can't be read
@@ -371,6 +382,7 @@ def main():
         runs_nothing,
         runs_a_last_line_without_its_end,
         reads_the_longest_lengths,
+        takes_no_bytes_at_the_last_offset,
         stops_at_a_bad_line_without_its_end,
         a_bad_line_goes_before_a_refusal,
         a_read_that_fails_is_a_bad_line,
