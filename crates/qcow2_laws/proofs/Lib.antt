@@ -38,3 +38,4 @@ pub mod Shown
 pub mod Alike
 pub mod Overwritten
 pub mod MappedAnew
+pub mod MappedRanges

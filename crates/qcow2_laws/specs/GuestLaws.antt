@@ -1,15 +1,20 @@
 -- The laws of what guests see while steps are made: where tables move, and between flushes.
-use Rattle.std.specs.Prelude.{ℕ, ◌*◌, ◌≡◌, List, []}
+use Rattle.std.specs.Prelude.{ℕ, zero, suc, ◌+◌, ◌*◌, ◌≡◌, List, [], ◌∷◌}
 use Rattle.image_access.specs.Moments.{StorageView, Passing}
 use Rattle.qcow2_metadata.specs.Bytes.{Bytes, byte_at}
-use Rattle.qcow2_metadata.specs.Header.{header}
+use Rattle.qcow2_metadata.specs.Header.{header, cluster_size}
 use Rattle.qcow2_metadata.specs.Cover.{cover}
 use Rattle.qcow2_metadata.specs.Named.{in_run}
-use Rattle.qcow2_laws.specs.Disk.{disk}
+use Rattle.qcow2_metadata.specs.declared.l2_mapping.L2Mapping.{L2Mapping}
+use Rattle.qcow2_metadata.specs.declared.l2_mapping.L2Mapping.TheVariants.{Data, Zero, Compressed, Uncovered}
+use Rattle.qcow2_laws.specs.Disk.{Disk, disk, zeroed, uncovered}
 use Rattle.qcow2_laws.specs.Stops.{Gift, Mark, more, IsKeptAt}
-use Rattle.qcow2_laws.specs.Changes.{renamed}
+use Rattle.qcow2_laws.specs.Mappings.{gift_shown}
+use Rattle.qcow2_laws.specs.Guests.{names}
+use Rattle.qcow2_laws.specs.Steps.{guest_at, EntryChanges}
+use Rattle.qcow2_laws.specs.Changes.{renamed, remapped}
 use Rattle.qcow2_laws.specs.Tops.{with_places, with_l1_at, WritesHeader, IsNewL1}
-use Rattle.qcow2_laws.specs.Leads.{Stand, IsSound}
+use Rattle.qcow2_laws.specs.Leads.{Stand, IsSound, Leads}
 use Rattle.qcow2_laws.specs.Unseen.{used_by_guests, SameUsedBytes}
 
 -- where the image stands once its header names an L1 table at another place, of so many entries
@@ -46,3 +51,39 @@ SizeStaysUnlessAsked =
 -- each moment of a storage since has this size
 abbrev pub HasSizeSince : StorageView → StorageView → ℕ → Type 0
 HasSizeSince old new size = Passing old new (λ c. (header (byte_at c)).size ≡ size)
+
+-- ---- several guest clusters in turn
+
+-- The entry of a guest cluster changes to a mapping of a kind, and no other does.
+pub record MapsEntry (kind : L2Mapping → Type 0) (guest : ℕ) (old new : Stand) : Type 0 where
+  pub known : Bytes
+  pub row : ℕ
+  pub column : ℕ
+  pub here : guest_at old.header row column ≡ guest
+  pub changes : EntryChanges old known row column
+  pub maps : kind (cover old.header known (guest_at old.header row column))
+  pub is : new ≡ record old {
+    pending = remapped old.pending (λ c. names old.header old.known c (guest_at old.header row column)) (λ c. names old.header known c (guest_at old.header row column));
+    known = known;
+  }
+
+-- the entries of n guest clusters from one on change so, one after another
+abbrev pub MapsInTurn : (L2Mapping → Type 0) → (first n : ℕ) → Stand → Stand → Type 0
+MapsInTurn kind first zero old new = new ≡ old
+MapsInTurn kind first (suc n) old new = (mid : Stand) × MapsInTurn kind first n old mid × MapsEntry kind (first + n) mid new
+
+abbrev pub IsZeros : L2Mapping → Type 0
+IsZeros (Zero kept) = Unit {0}
+IsZeros (Data host copied) = ⊥
+IsZeros (Compressed host sectors) = ⊥
+IsZeros Uncovered = ⊥
+
+-- It gives what the range shows then, and this is what the disk shows there: nothing else of it changes.
+pub record ClearsRange (first n : ℕ) (old new : Stand) (now : Bytes → Disk → ℕ → ℕ → Disk) : Type 0 where
+  pub leads : Leads old new (λ backing. gift_shown (disk new.known backing) (first * cluster_size old.header) ((first + n) * cluster_size old.header) ∷ []) []
+  pub shows : (backing : Bytes) → disk new.known backing ≡ now backing (disk old.known backing) (first * cluster_size old.header) ((first + n) * cluster_size old.header)
+
+-- Guest clusters that are zeroed or uncovered in turn are a range of the disk that is.
+pub record ClustersInTurnAreARange : Type 0 where
+  pub zeroed : (s new : Stand) (first n : ℕ) → IsSound s → MapsInTurn IsZeros first n s new → ClearsRange first n s new (λ backing d from to. zeroed d from to)
+  pub uncovered : (s new : Stand) (first n : ℕ) → IsSound s → MapsInTurn (λ v. v ≡ Uncovered) first n s new → ClearsRange first n s new (λ backing d from to. uncovered d backing from to)
