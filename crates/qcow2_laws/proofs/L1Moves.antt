@@ -1,24 +1,31 @@
 -- The header is written to name a new, maybe longer, L1 table.
 use Rattle.std.proofs.Common.{◌≡◌, ℕ, ◌+◌, ◌-◌, ◌*◌, ◌/◌, ◌<◌, ◌≤◌, ◌≢◌, cond, [], refl, sym, ap, ◌∙◌, arith, inl, inr, subst}
+use mathlib.Core.Path.{fun_ext}
 use Rattle.std.proofs.lemmas.Bool.{cases_lt}
 use Rattle.qcow2_metadata.specs.Bytes.{Bytes, sum_below}
 use Rattle.qcow2_metadata.specs.declared.header.HeaderFields.{HeaderFields}
 use Rattle.qcow2_metadata.specs.Header.{cluster_size, entries_per_cluster}
 use Rattle.qcow2_metadata.specs.Entries.{l1_entry, reftable_entry, count, count_under, host_offset, block_offset, is_copied, L1EntryReads, ReftableEntryReads}
 use Rattle.qcow2_metadata.specs.Cover.{cover, cover_under}
-use Rattle.qcow2_metadata.specs.Named.{in_run, table_in, named_for_tables, named_by_reftable, named_by_l1_table}
+use Rattle.qcow2_metadata.specs.Named.{in_run, table_in, named_for_tables, named_by_reftable, named_by_l1_table, named_by_cover}
 use Rattle.qcow2_metadata.specs.Consistent.{IsAligned}
+use Rattle.qcow2_laws.specs.Disk.{disk}
 use Rattle.qcow2_laws.specs.Stops.{Mark, IsKeptAt}
 use Rattle.qcow2_laws.specs.Clusters.{Direction}
-use Rattle.qcow2_laws.specs.Guests.{named_in_either, marked_by_l1_table}
+use Rattle.qcow2_laws.specs.Guests.{over_guests, names, named_in_either, marked_by_l1_table}
 use Rattle.qcow2_laws.specs.Guard.{Pending, IsGuarded, IsTop, SameTop, SameIn}
 use Rattle.qcow2_laws.specs.Changes.{renamed}
 use Rattle.qcow2_laws.specs.Tops.{with_places, KeepsCovers, WritesHeader, with_l1_at, IsNewL1}
+use Rattle.qcow2_laws.specs.GuestLaws.{KeepsGuests, with_l1_table}
 use Rattle.qcow2_laws.proofs.Sums.{sum_below-same, sum_below-longer}
 use Rattle.qcow2_laws.proofs.Places.{Sizes-from, l1-same, l1_entry-past}
 use Rattle.qcow2_laws.proofs.Writes.{fresh_is_unnamed}
 use Rattle.qcow2_laws.proofs.Shares.{shares, in_l1, in_run-le, l1_has}
-use Rattle.qcow2_laws.proofs.Renaming.{tables_renamed, moved_kept, moved_known_kept}
+use Rattle.qcow2_laws.proofs.Guests.{guest_le, names_within}
+use Rattle.qcow2_laws.proofs.Tops.{IsTop-top}
+use Rattle.qcow2_laws.proofs.Mixes.{tied}
+use Rattle.qcow2_laws.proofs.Values.{value_is, size_is}
+use Rattle.qcow2_laws.proofs.Renaming.{tables_renamed, moved_kept, moved_known_kept, known_sum, same_value}
 use Rattle.qcow2_laws.proofs.Headers.{header_sizes, header_same, header_known_same, header_l1, header_known_l1, header_reftable, header_known_reftable, header_covers, header_known_covers, header_counts, header_known_counts, header_elsewhere, header_unlaid, unnamed_elsewhere}
 
 module _ (h : HeaderFields) (offset entries : ℕ) (d : Direction) (p : Pending) (base known base' known' : Bytes) (guarded : IsGuarded h d p base known)
@@ -89,12 +96,12 @@ module _ (h : HeaderFields) (offset entries : ℕ) (d : Direction) (p : Pending)
   unfolding cover cover_under
   cover_of b g e is is' = ap (λ x. cover_under h b x g) is ∙ sym (ap (λ x. cover_under h b x g) is')
 
-  covers : KeepsCovers h (with_l1_at h offset entries) base base'
+  pub covers : KeepsCovers h (with_l1_at h offset entries) base base'
   covers g =
       header_covers h (with_l1_at h offset entries) d p base known base' known' guarded writes g
       ∙ cover_of base' g _ refl (sym (now_l1 (g / entries_per_cluster h)) ∙ header_l1 h (with_l1_at h offset entries) d p base known base' known' guarded writes (g / entries_per_cluster h))
 
-  known_covers : KeepsCovers h (with_l1_at h offset entries) known known'
+  pub known_covers : KeepsCovers h (with_l1_at h offset entries) known known'
   known_covers g =
       header_known_covers h (with_l1_at h offset entries) d p base known base' known' guarded writes g
       ∙ cover_of known' g _ refl (sym (now_known_l1 (g / entries_per_cluster h)) ∙ header_known_l1 h (with_l1_at h offset entries) d p base known base' known' guarded writes (g / entries_per_cluster h))
@@ -157,3 +164,42 @@ module _ (h : HeaderFields) (offset entries : ℕ) (d : Direction) (p : Pending)
       moved_known_kept h (with_l1_at h offset entries) d p (renamed p (λ c. in_run h c offset (8 * entries)) (in_l1 h)) base known base' known' guarded
       top_now same_top_now new.longer covers known_covers unlaid l1_moved
       (λ o some. writes.others o (elsewhere o some)) (λ o some. writes.known_others o (elsewhere o some)) backing m [] (inl refl) kept
+
+  -- ---- what guests use
+  bytes_stay : (o : ℕ) → 0 < named_in_either h base known (o / cluster_size h) + p.held (o / cluster_size h) → known' o ≡ known o
+  bytes_stay o some = sym (writes.known_others o (header_elsewhere h (with_l1_at h offset entries) d p base known base' known' guarded writes o some))
+
+  used_same : (c : ℕ) → over_guests (with_places h (with_l1_at h offset entries)) (names (with_places h (with_l1_at h offset entries)) known' c) ≡ over_guests h (names h known c)
+  used_same c =
+      sym (known_sum h (with_l1_at h offset entries) d p (renamed p (λ k. in_run h k offset (8 * entries)) (in_l1 h)) base known base' known' guarded
+      top_now same_top_now new.longer covers known_covers unlaid (named_by_cover h c) refl)
+
+  disk_same : (backing : Bytes) → disk known' backing ≡ disk known backing
+  unfolding disk
+  disk_same backing =
+      let was = (IsTop-top h base known guarded.same_top guarded.top).header_is in
+      let is = (IsTop-top (with_places h (with_l1_at h offset entries)) base' known' same_top_now top_now).header_is in
+      let size : (disk known' backing).size ≡ (disk known backing).size = size_is (with_places h (with_l1_at h offset entries)) known' backing is ∙ sym (size_is h known backing was) in
+      let value : (disk known' backing).value ≡ (disk known backing).value = fun_ext (λ o.
+      value_is (with_places h (with_l1_at h offset entries)) known' backing o is
+      ∙ sym (same_value h (with_l1_at h offset entries) d p (renamed p (λ k. in_run h k offset (8 * entries)) (in_l1 h)) base known base' known' guarded
+      top_now same_top_now new.longer covers known_covers unlaid known known' backing known_covers guarded.known_aligned (λ g place some.
+      sym (bytes_stay place (let t = (tied h p base known (place / cluster_size h)).known in let n = named_once place g some in omega arith))) o)
+      ∙ sym (value_is h known backing o was)) in
+      λ j. record { size = size j; value = value j }
+    where
+      named_once : (place g : ℕ) → 0 < names h known (place / cluster_size h) g → 0 < over_guests h (names h known (place / cluster_size h))
+      named_once place g some =
+          let le = guest_le h (names h known (place / cluster_size h)) g (names_within h known (place / cluster_size h) g (Sizes-from h base guarded.top.header_reads) some) in
+          omega arith
+
+  pub guests_kept : KeepsGuests (record { header = h; direction = d; pending = p; base = base; known = known })
+      (with_l1_table (record { header = h; direction = d; pending = p; base = base; known = known }) offset entries base' known')
+  guests_kept = record {
+    base_covers = covers;
+    covers = known_covers;
+    bytes = λ o some. bytes_stay o (let t = (tied h p base known (o / cluster_size h)).known in omega arith);
+    used = λ c. ap (λ n. n + p.held c) (used_same c);
+    surplus = λ c. refl;
+    disk = disk_same;
+  }

@@ -24,6 +24,7 @@ pub mod Lists
 pub mod Caches
 pub mod Leads
 pub mod Steps
+pub mod GuestLaws
 pub mod RunSteps
 pub mod Compose
 pub mod Samples
@@ -37,3 +38,4 @@ pub mod Shown
 pub mod Alike
 pub mod Overwritten
 pub mod MappedAnew
+pub mod MappedRanges

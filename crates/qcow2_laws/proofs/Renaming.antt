@@ -51,7 +51,7 @@ module _ (h : HeaderFields) (a : Places) (d : Direction) (p p' : Pending) (base 
   base_sum : (f : L2Mapping → ℕ) → f Uncovered ≡ 0 → over_guests h (λ g. f (cover h base g)) ≡ over_guests (with_places h a) (λ g. f (cover (with_places h a) base' g))
   base_sum f none = over_guests-longer h a _ _ longer (λ g. ap f (covers g)) (λ g past. ap f (past_guests h base g sizes past) ∙ none)
 
-  known_sum : (f : L2Mapping → ℕ) → f Uncovered ≡ 0 → over_guests h (λ g. f (cover h known g)) ≡ over_guests (with_places h a) (λ g. f (cover (with_places h a) known' g))
+  pub known_sum : (f : L2Mapping → ℕ) → f Uncovered ≡ 0 → over_guests h (λ g. f (cover h known g)) ≡ over_guests (with_places h a) (λ g. f (cover (with_places h a) known' g))
   known_sum f none = over_guests-longer h a _ _ longer (λ g. ap f (known_covers g)) (λ g past. ap f (past_guests h known g sizes past) ∙ none)
 
   either_sum : (f : L2Mapping → ℕ) → f Uncovered ≡ 0 → over_guests h (λ g. max (f (cover h base g)) (f (cover h known g)))
@@ -147,7 +147,7 @@ module _ (h : HeaderFields) (a : Places) (d : Direction) (p p' : Pending) (base 
       }) next))
 
   -- ---- what guests see
-  same_value : (b b' backing : Bytes) → KeepsCovers h a b b' → ((g : ℕ) → CoverIsAligned h (cover h b g)) → ((g o : ℕ) → 0 < names h b (o / cluster_size h) g → b o ≡ b' o)
+  pub same_value : (b b' backing : Bytes) → KeepsCovers h a b b' → ((g : ℕ) → CoverIsAligned h (cover h b g)) → ((g o : ℕ) → 0 < names h b (o / cluster_size h) g → b o ≡ b' o)
       → (o : ℕ) → guest_value h b b backing o ≡ guest_value (with_places h a) b' b' backing o
   unfolding guest_value
   same_value b b' backing keeps aligned bytes o =

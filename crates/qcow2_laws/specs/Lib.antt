@@ -21,4 +21,5 @@ pub mod Leads
 pub mod Steps
 pub mod NewImages
 pub mod Laws
+pub mod GuestLaws
 pub mod Samples

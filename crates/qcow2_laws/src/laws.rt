@@ -6,6 +6,7 @@ ghost use Rattle.qcow2_metadata.specs.Consistent.{IsConsistent};
 ghost use Rattle.qcow2_metadata.specs.declared.header.HeaderFields.{HeaderFields};
 ghost use Rattle.qcow2_laws.specs.Samples.{empty_image};
 ghost use Rattle.qcow2_laws.specs.NewImages.{IsNewImage};
+ghost use Rattle.qcow2_laws.specs.GuestLaws.{ClustersInTurnAreARange, LongerL1TableKeepsGuests, SizeStaysUnlessAsked};
 ghost use Rattle.qcow2_laws.specs.Laws.{SoundIsConsistent, MixIsSafe, TableIsWritten, CountIsChanged, PendingIsChanged, EntryIsChanged, DataIsWritten, TableIsNamed, HeaderIsWritten, StepsCompose};
 
 /// Preparing, writing to private clusters and discarding leaves every guest byte.
@@ -76,6 +77,21 @@ pub fn header_is_written()
 /// Steps go together, and what they keep is what a stop may leave.
 pub fn steps_compose()
     ensures { StepsCompose }
+{}
+
+/// An L1 table that takes the place of a shorter one keeps what guests see.
+pub fn longer_l1_table_keeps_guests()
+    ensures { LongerL1TableKeepsGuests }
+{}
+
+/// Where no other size is asked for, a stop leaves the old size.
+pub fn size_stays_unless_asked()
+    ensures { SizeStaysUnlessAsked }
+{}
+
+/// Guest clusters that are zeroed or uncovered in turn are a range of the disk that is.
+pub fn clusters_in_turn_are_a_range()
+    ensures { ClustersInTurnAreARange }
 {}
 
 /// The image of three clusters that creating begins with is consistent, of whatever size clusters and counts are.

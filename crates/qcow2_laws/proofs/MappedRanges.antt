@@ -1,0 +1,195 @@
+-- Guest clusters that are mapped anew in turn are a range.
+use Rattle.std.proofs.Common.{◌≡◌, ℕ, zero, suc, ◌+◌, ◌-◌, ◌*◌, ◌/◌, ◌%◌, ◌<◌, ◌≤◌, ◌⊎◌, [], ◌∷◌, refl, sym, ap, ◌∙◌, arith, inl, inr, subst}
+use mathlib.Core.Path.{fun_ext}
+use Rattle.std.proofs.lemmas.Bool.{cases_lt, cond-true, cond-false, eq-eqb, ne_eqb}
+use Rattle.std.proofs.lemmas.Nat.{div-add-mod', div-mul-add, mod_below, pow_pos}
+use Rattle.qcow2_metadata.specs.Bytes.{Bytes, laid_over}
+use Rattle.qcow2_metadata.specs.Header.{cluster_size}
+use Rattle.qcow2_metadata.specs.Cover.{cover}
+use Rattle.qcow2_metadata.specs.Named.{named_by_cover}
+use Rattle.qcow2_metadata.specs.Guest.{Value, known_byte}
+use Rattle.qcow2_metadata.specs.declared.l2_mapping.L2Mapping.{L2Mapping}
+use Rattle.qcow2_metadata.specs.declared.l2_mapping.L2Mapping.TheVariants.{Data, Zero, Compressed, Uncovered}
+use Rattle.qcow2_laws.specs.Disk.{Disk, disk, with_values}
+use Rattle.qcow2_laws.specs.Stops.{IsIn, IsGiven}
+use Rattle.qcow2_laws.specs.Mappings.{gift_shown}
+use Rattle.qcow2_laws.specs.Guests.{names}
+use Rattle.qcow2_laws.specs.Steps.{guest_at, EntryChanges}
+use Rattle.qcow2_laws.specs.Leads.{Stand, IsSound, Leads}
+use Rattle.qcow2_laws.specs.Unseen.{used_by_guests, with_cluster}
+use Rattle.qcow2_laws.specs.GuestLaws.{MapsEntry, MapsInTurn, IsZeros, ClustersInTurnAreARange}
+use Rattle.qcow2_laws.proofs.Guests.{over_guests-change}
+use Rattle.qcow2_laws.proofs.Blocks.{guest_within}
+use Rattle.qcow2_laws.proofs.Leads.{leads_none, leads_then, leads_less}
+use Rattle.qcow2_laws.proofs.ForUsers.{laid_inside, laid_outside}
+use Rattle.qcow2_laws.proofs.MappedAnew.{Maps, pending_after, entry_unseen, entry_zeroed, entry_uncovered}
+
+-- what they do together: the range shows these values over each backing disk
+pub record MapsRange (first n : ℕ) (old new : Stand) (values : Bytes → ℕ → Value) : Type 0 where
+  pub leads : Leads old new (λ backing. gift_shown (disk new.known backing) (first * cluster_size old.header) ((first + n) * cluster_size old.header) ∷ []) []
+  pub header : new.header ≡ old.header
+  pub covers : (g : ℕ) → (g < first) ⊎ (first + n ≤ g) → cover old.header old.known g ≡ cover old.header new.known g
+  pub used : (c : ℕ) → 0 < used_by_guests new c → 0 < used_by_guests old c
+  pub bytes : (o : ℕ) → 0 < used_by_guests new (o / cluster_size old.header) → new.known o ≡ old.known o
+  pub shows : (backing : Bytes) → disk new.known backing
+      ≡ with_values (disk old.known backing) (first * cluster_size old.header) ((first + n) * cluster_size old.header - first * cluster_size old.header) (λ i. values backing (first * cluster_size old.header + i))
+
+-- ---- numbers
+module _ (values : ℕ → Value) (under : ℕ → Value) (from : ℕ) where
+  abbrev laid : ℕ → ℕ → Value
+  laid n = laid_over from n (λ i. values (from + i)) under
+
+  laid_in : (n o : ℕ) → from ≤ o → o < from + n → laid n o ≡ values o
+  laid_in n o above below =
+      let e : from + (o - from) ≡ o = omega arith in
+      ap (laid n) (sym e) ∙ laid_inside from n (λ i. values (from + i)) under (o - from) (omega arith) ∙ ap values e
+
+  laid_out : (n o : ℕ) → (o < from) ⊎ (from + n ≤ o) → laid n o ≡ under o
+  laid_out n o out = laid_outside from n (λ i. values (from + i)) under o out
+
+within : (o g size : ℕ) → 0 < size → o / size ≡ g → (g * size ≤ o) × (o < g * size + size)
+within o g size some here =
+    let is : o / size * size + o % size ≡ o = div-add-mod' o size in
+    let below = mod_below o size some in
+    let q : o / size * size ≡ g * size = ap (λ n. n * size) here in
+    (omega arith, omega arith)
+
+here_at : (o g size : ℕ) → g * size ≤ o → o < g * size + size → o / size ≡ g
+here_at o g size above below =
+    let e : o ≡ g * size + (o - g * size) = omega arith in
+    ap (λ n. n / size) e ∙ div-mul-add g size (o - g * size) (omega arith)
+
+-- a disk with one more cluster behind a range of it
+module _ (size first n : ℕ) (some : 0 < size) (values : ℕ → Value) (d : Disk) where
+  abbrev range : ℕ → Disk
+  range k = with_values d (first * size) ((first + k) * size - first * size) (λ i. values (first * size + i))
+
+  one_more_at : (o : ℕ) → (with_cluster size (range n) (first + n) values).value o ≡ (range (suc n)).value o
+  one_more_at o =
+      let e : (first + n) * size ≡ first * size + n * size = omega arith in
+      let e' : (first + suc n) * size ≡ first * size + n * size + size = omega arith in
+      elim (cases_lt o (first * size + n * size)) [
+        | inl before ↦
+            cond-false _ _ _ (ne_eqb _ _ (λ here. let w = within o (first + n) size some here in absurd (omega (arith, w.0))))
+            ∙ elim (cases_lt o (first * size)) [
+              | inl below ↦ laid_out values d.value (first * size) _ o (inl below) ∙ sym (laid_out values d.value (first * size) _ o (inl below))
+              | inr above ↦ laid_in values d.value (first * size) _ o above (omega arith) ∙ sym (laid_in values d.value (first * size) _ o above (omega arith))
+            ]
+        | inr behind ↦ elim (cases_lt o (first * size + n * size + size)) [
+          | inl inside ↦ cond-true _ _ _ (eq-eqb _ _ (here_at o (first + n) size (omega arith) (omega arith))) ∙ sym (laid_in values d.value (first * size) _ o (omega arith) (omega arith))
+          | inr past ↦
+              cond-false _ _ _ (ne_eqb _ _ (λ here. let w = within o (first + n) size some here in absurd (omega (arith, w.1))))
+              ∙ laid_out values d.value (first * size) _ o (inr (omega arith)) ∙ sym (laid_out values d.value (first * size) _ o (inr (omega arith)))
+        ]
+      ]
+
+-- ---- none, and one more
+pub maps_none : (s : Stand) (first : ℕ) (values : Bytes → ℕ → Value) → IsSound s → MapsRange first 0 s s values
+maps_none s first values sound = record {
+  leads = leads_less s s (λ _. []) _ [] (λ backing o v given. absurd given) (leads_none s sound);
+  header = refl;
+  covers = λ g out. refl;
+  used = λ c some. some;
+  bytes = λ o some. refl;
+  shows = λ backing.
+      let e : (first + 0) * cluster_size s.header - first * cluster_size s.header ≡ 0 = omega arith in
+      let value : (o : ℕ) → (disk s.known backing).value o ≡ laid (values backing) (disk s.known backing).value (first * cluster_size s.header) ((first + 0) * cluster_size s.header - first * cluster_size s.header) o =
+      λ o. sym (laid_out (values backing) (disk s.known backing).value (first * cluster_size s.header) _ o (nowhere o (first * cluster_size s.header) _ e)) in
+      same_values backing (fun_ext value);
+}
+  where
+    nowhere : (o from n : ℕ) → n ≡ 0 → (o < from) ⊎ (from + n ≤ o)
+    nowhere o from n none = elim (cases_lt o from) [ inl below ↦ inl below | inr above ↦ inr (omega arith) ]
+
+    same_values : (backing : Bytes) → (disk s.known backing).value ≡ laid (values backing) (disk s.known backing).value (first * cluster_size s.header) ((first + 0) * cluster_size s.header - first * cluster_size s.header)
+        → disk s.known backing ≡ with_values (disk s.known backing) (first * cluster_size s.header) ((first + 0) * cluster_size s.header - first * cluster_size s.header) (λ i. values backing (first * cluster_size s.header + i))
+    same_values backing value = λ j. record (disk s.known backing) { value = value j }
+
+module _ (first n : ℕ) (a b c : Stand) (values : Bytes → ℕ → Value) (one : MapsRange first n a b values) (two : Maps (first + n) b c values)
+    (less : (k : ℕ) → 0 < used_by_guests c k → 0 < used_by_guests b k) where
+  then_shows : (backing : Bytes) → disk c.known backing ≡ with_cluster (cluster_size a.header) (disk b.known backing) (first + n) (values backing)
+  then_shows backing = subst (λ h. disk c.known backing ≡ with_cluster (cluster_size h) (disk b.known backing) (first + n) (values backing)) one.header (two.shows backing)
+
+  then_leads : Leads b c (λ backing. gift_shown (disk c.known backing) ((first + n) * cluster_size a.header) ((first + n) * cluster_size a.header + cluster_size a.header) ∷ []) []
+  then_leads =
+      subst (λ h. Leads b c (λ backing. gift_shown (disk c.known backing) ((first + n) * cluster_size h) ((first + n) * cluster_size h + cluster_size h) ∷ []) []) one.header two.leads
+
+  before : (backing : Bytes) (o : ℕ) → o < (first + n) * cluster_size a.header → (disk c.known backing).value o ≡ (disk b.known backing).value o
+  before backing o lt =
+      ap (λ (d : Disk). d.value o) (then_shows backing)
+      ∙ cond-false _ _ _ (ne_eqb _ _ (λ here. let w = within o (first + n) (cluster_size a.header) (pow_pos a.header.cluster_bits) here in absurd (omega (arith, w.0))))
+
+  both_shown : (backing : Bytes) (o : ℕ) (v : Value)
+      → IsGiven (gift_shown (disk c.known backing) ((first + n) * cluster_size a.header) ((first + n) * cluster_size a.header + cluster_size a.header)
+      ∷ gift_shown (disk b.known backing) (first * cluster_size a.header) ((first + n) * cluster_size a.header) ∷ []) o v
+      → IsIn (gift_shown (disk c.known backing) (first * cluster_size a.header) ((first + suc n) * cluster_size a.header)) o v
+  both_shown backing o v (inl (above, below, is)) =
+      let e : (first + n) * cluster_size a.header ≡ first * cluster_size a.header + n * cluster_size a.header = omega arith in
+      let e' : (first + suc n) * cluster_size a.header ≡ first * cluster_size a.header + n * cluster_size a.header + cluster_size a.header = omega arith in
+      let at : (first + n) * cluster_size a.header + (o - (first + n) * cluster_size a.header) ≡ first * cluster_size a.header + (o - first * cluster_size a.header) = omega arith in
+      (omega arith, omega arith, is ∙ ap (disk c.known backing).value at)
+  both_shown backing o v (inr (inl (above, below, is))) =
+      let e : (first + n) * cluster_size a.header ≡ first * cluster_size a.header + n * cluster_size a.header = omega arith in
+      let e' : (first + suc n) * cluster_size a.header ≡ first * cluster_size a.header + n * cluster_size a.header + cluster_size a.header = omega arith in
+      (omega arith, omega arith, is ∙ sym (before backing (first * cluster_size a.header + (o - first * cluster_size a.header)) (omega arith)))
+  both_shown backing o v (inr (inr none)) = absurd none
+
+  pub maps_next : MapsRange first (suc n) a c values
+  maps_next = record {
+    leads = leads_less a c _ _ [] (λ backing o v given. inr (inl (both_shown backing o v given))) (leads_then a b c _ _ [] [] one.leads then_leads);
+    header = two.unseen.header ∙ one.header;
+    covers = λ g out.
+        one.covers g (elim out [ inl below ↦ inl below | inr past ↦ inr (omega arith) ])
+        ∙ subst (λ h. cover h b.known g ≡ cover h c.known g) one.header (two.unseen.covers g (λ e. elim out [ inl below ↦ absurd (omega arith) | inr past ↦ absurd (omega arith) ]));
+    used = λ k some. one.used k (less k some);
+    bytes = λ o some.
+        let in_b : 0 < used_by_guests b (o / cluster_size a.header) = less (o / cluster_size a.header) some in
+        two.unseen.bytes o (subst (λ h. 0 < used_by_guests b (o / cluster_size h)) (sym one.header) in_b) ∙ one.bytes o in_b;
+    shows = λ backing.
+        let value = fun_ext (one_more_at (cluster_size a.header) first n (pow_pos a.header.cluster_bits) (values backing) (disk a.known backing)) in
+        then_shows backing
+        ∙ ap (λ d. with_cluster (cluster_size a.header) d (first + n) (values backing)) (one.shows backing)
+        ∙ (λ j. record (disk a.known backing) { value = value j });
+  }
+
+-- ---- entries that change in turn
+-- guests use no cluster that they didn't use, or that wasn't held for them
+entry_used : (s : Stand) (known' : Bytes) (i j : ℕ) (c : ℕ) → IsSound s → EntryChanges s known' i j
+    → used_by_guests (record s { pending = pending_after s known' (guest_at s.header i j); known = known' }) c ≤ used_by_guests s c
+entry_used s known' i j c sound changes =
+    let others = (entry_unseen s known' i j sound changes s.pending).covers in
+    let in_guests = guest_within s.header s.direction s.pending s.base s.known known' sound i j changes.real changes.within changes.outside changes.entries in
+    let sum = over_guests-change s.header (names s.header known' c) (names s.header s.known c) (guest_at s.header i j) in_guests (λ g ne. ap (named_by_cover s.header c) (sym (others g ne))) in
+    let held = changes.held c in
+    omega (arith, sum, held)
+
+module _ (kind : L2Mapping → Type 0) (values : Bytes → ℕ → Value) (first : ℕ)
+    (are : (s : Stand) (known' : Bytes) (i j : ℕ) → IsSound s → EntryChanges s known' i j → kind (cover s.header known' (guest_at s.header i j))
+    → Maps (guest_at s.header i j) s (record s { pending = pending_after s known' (guest_at s.header i j); known = known' }) values) where
+  entry_then : (n : ℕ) (a b c : Stand) → MapsRange first n a b values → MapsEntry kind (first + n) b c → MapsRange first (suc n) a c values
+  entry_then n a b c one entry =
+      subst (λ c. MapsRange first (suc n) a c values) (sym entry.is)
+      (maps_next first n a b _ values one (subst (λ g. Maps g b (record b { pending = pending_after b entry.known (guest_at b.header entry.row entry.column); known = entry.known }) values) entry.here
+      (are b entry.known entry.row entry.column one.leads.sound entry.changes entry.maps))
+      (λ k some. let le = entry_used b entry.known entry.row entry.column k one.leads.sound entry.changes in omega arith))
+
+  pub maps_in_turn : (n : ℕ) (s new : Stand) → IsSound s → MapsInTurn kind first n s new → MapsRange first n s new values
+  maps_in_turn zero s new sound same = subst (λ (b : Stand). MapsRange first 0 s b values) (sym same) (maps_none s first values sound)
+  maps_in_turn (suc n) s new sound turn = entry_then n s turn.0 new (maps_in_turn n s turn.0 sound turn.1) turn.2
+
+zeros_map : (s : Stand) (known' : Bytes) (i j : ℕ) → IsSound s → EntryChanges s known' i j → (v : L2Mapping) → cover s.header known' (guest_at s.header i j) ≡ v → IsZeros v
+    → Maps (guest_at s.header i j) s (record s { pending = pending_after s known' (guest_at s.header i j); known = known' }) (λ backing o. known_byte 0)
+zeros_map s known' i j sound changes (Zero kept) is zeros = entry_zeroed s known' i j sound changes kept is
+zeros_map s known' i j sound changes (Data host copied) is zeros = absurd zeros
+zeros_map s known' i j sound changes (Compressed host sectors) is zeros = absurd zeros
+zeros_map s known' i j sound changes Uncovered is zeros = absurd zeros
+
+pub clusters_in_turn_are_a_range : ClustersInTurnAreARange
+clusters_in_turn_are_a_range = record {
+  zeroed = λ s new first n sound turn.
+      let r = maps_in_turn IsZeros (λ backing o. known_byte 0) first (λ s known' i j sound changes zeros. zeros_map s known' i j sound changes _ refl zeros) n s new sound turn in
+      record { leads = r.leads; shows = r.shows };
+  uncovered = λ s new first n sound turn.
+      let r = maps_in_turn (λ v. v ≡ Uncovered) (λ backing o. known_byte (backing o)) first (λ s known' i j sound changes none. entry_uncovered s known' i j sound changes none) n s new sound turn in
+      record { leads = r.leads; shows = r.shows };
+}

@@ -1,0 +1,89 @@
+-- The laws of what guests see while steps are made: where tables move, and between flushes.
+use Rattle.std.specs.Prelude.{ℕ, zero, suc, ◌+◌, ◌*◌, ◌≡◌, List, [], ◌∷◌}
+use Rattle.image_access.specs.Moments.{StorageView, Passing}
+use Rattle.qcow2_metadata.specs.Bytes.{Bytes, byte_at}
+use Rattle.qcow2_metadata.specs.Header.{header, cluster_size}
+use Rattle.qcow2_metadata.specs.Cover.{cover}
+use Rattle.qcow2_metadata.specs.Named.{in_run}
+use Rattle.qcow2_metadata.specs.declared.l2_mapping.L2Mapping.{L2Mapping}
+use Rattle.qcow2_metadata.specs.declared.l2_mapping.L2Mapping.TheVariants.{Data, Zero, Compressed, Uncovered}
+use Rattle.qcow2_laws.specs.Disk.{Disk, disk, zeroed, uncovered}
+use Rattle.qcow2_laws.specs.Stops.{Gift, Mark, more, IsKeptAt}
+use Rattle.qcow2_laws.specs.Mappings.{gift_shown}
+use Rattle.qcow2_laws.specs.Guests.{names}
+use Rattle.qcow2_laws.specs.Steps.{guest_at, EntryChanges}
+use Rattle.qcow2_laws.specs.Changes.{renamed, remapped}
+use Rattle.qcow2_laws.specs.Tops.{with_places, with_l1_at, WritesHeader, IsNewL1}
+use Rattle.qcow2_laws.specs.Leads.{Stand, IsSound, Leads}
+use Rattle.qcow2_laws.specs.Unseen.{used_by_guests, SameUsedBytes}
+
+-- where the image stands once its header names an L1 table at another place, of so many entries
+abbrev pub with_l1_table : Stand → (offset entries : ℕ) → (base' known' : Bytes) → Stand
+with_l1_table s offset entries base' known' = record {
+  header = with_places s.header (with_l1_at s.header offset entries);
+  direction = s.direction;
+  pending = renamed s.pending (λ c. in_run s.header c offset (8 * entries)) (λ c. in_run s.header c s.header.l1_offset (8 * s.header.l1_entries));
+  base = base';
+  known = known';
+}
+
+-- What stands for each guest cluster stays, on the storage and as known, though the header changes; so do the bytes that guests use, how often they use each cluster, how much more often it is counted, and the disk.
+pub record KeepsGuests (old new : Stand) : Type 0 where
+  pub base_covers : (g : ℕ) → cover old.header old.base g ≡ cover new.header new.base g
+  pub covers : (g : ℕ) → cover old.header old.known g ≡ cover new.header new.known g
+  pub bytes : SameUsedBytes old new
+  pub used : (c : ℕ) → used_by_guests new c ≡ used_by_guests old c
+  pub surplus : (c : ℕ) → new.pending.surplus c ≡ old.pending.surplus c
+  pub disk : (backing : Bytes) → disk new.known backing ≡ disk old.known backing
+
+-- A longer L1 table keeps what guests see.
+abbrev pub LongerL1TableKeepsGuests : Type 0
+LongerL1TableKeepsGuests =
+    (s : Stand) (base' known' : Bytes) (offset entries : ℕ) → IsSound s → WritesHeader s.header (with_l1_at s.header offset entries) s.base s.known base' known'
+    → IsNewL1 s.header s.direction s.pending s.base s.known offset entries → KeepsGuests s (with_l1_table s offset entries base' known')
+
+-- Where no other size is asked for, whatever is kept of the storage and of what is known has the old size.
+abbrev pub SizeStaysUnlessAsked : Type 0
+SizeStaysUnlessAsked =
+    (s : Stand) (backing image : Bytes) (given : List Gift) → IsSound s
+    → ((m : Mark) → IsKeptAt backing m s.base → IsKeptAt backing m s.known → IsKeptAt backing (more given [] m) image) → (header image).size ≡ s.header.size
+
+-- each moment of a storage since has this size
+abbrev pub HasSizeSince : StorageView → StorageView → ℕ → Type 0
+HasSizeSince old new size = Passing old new (λ c. (header (byte_at c)).size ≡ size)
+
+-- ---- several guest clusters in turn
+
+-- The entry of a guest cluster changes to a mapping of a kind, and no other does.
+pub record MapsEntry (kind : L2Mapping → Type 0) (guest : ℕ) (old new : Stand) : Type 0 where
+  pub known : Bytes
+  pub row : ℕ
+  pub column : ℕ
+  pub here : guest_at old.header row column ≡ guest
+  pub changes : EntryChanges old known row column
+  pub maps : kind (cover old.header known (guest_at old.header row column))
+  pub is : new ≡ record old {
+    pending = remapped old.pending (λ c. names old.header old.known c (guest_at old.header row column)) (λ c. names old.header known c (guest_at old.header row column));
+    known = known;
+  }
+
+-- the entries of n guest clusters from one on change so, one after another
+abbrev pub MapsInTurn : (L2Mapping → Type 0) → (first n : ℕ) → Stand → Stand → Type 0
+MapsInTurn kind first zero old new = new ≡ old
+MapsInTurn kind first (suc n) old new = (mid : Stand) × MapsInTurn kind first n old mid × MapsEntry kind (first + n) mid new
+
+abbrev pub IsZeros : L2Mapping → Type 0
+IsZeros (Zero kept) = Unit {0}
+IsZeros (Data host copied) = ⊥
+IsZeros (Compressed host sectors) = ⊥
+IsZeros Uncovered = ⊥
+
+-- It gives what the range shows then, and this is what the disk shows there: nothing else of it changes.
+pub record ClearsRange (first n : ℕ) (old new : Stand) (now : Bytes → Disk → ℕ → ℕ → Disk) : Type 0 where
+  pub leads : Leads old new (λ backing. gift_shown (disk new.known backing) (first * cluster_size old.header) ((first + n) * cluster_size old.header) ∷ []) []
+  pub shows : (backing : Bytes) → disk new.known backing ≡ now backing (disk old.known backing) (first * cluster_size old.header) ((first + n) * cluster_size old.header)
+
+-- Guest clusters that are zeroed or uncovered in turn are a range of the disk that is.
+pub record ClustersInTurnAreARange : Type 0 where
+  pub zeroed : (s new : Stand) (first n : ℕ) → IsSound s → MapsInTurn IsZeros first n s new → ClearsRange first n s new (λ backing d from to. zeroed d from to)
+  pub uncovered : (s new : Stand) (first n : ℕ) → IsSound s → MapsInTurn (λ v. v ≡ Uncovered) first n s new → ClearsRange first n s new (λ backing d from to. uncovered d backing from to)
