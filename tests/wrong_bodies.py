@@ -141,7 +141,7 @@ def is_by_contract(body, said, printed, lines):
 
 @dataclass
 class Tried:
-    """What a round showed: the bodies that were refused, those that weren't, those that the check didn't come to, and the functions without one that were refused."""
+    """What a round showed: the bodies that were refused, those that weren't, those of which it says too little, and the functions without one that were refused."""
 
     refused: list = field(default_factory=list)
     accepted: list = field(default_factory=list)
@@ -157,7 +157,7 @@ def try_round(trial, it):
         text = said.get(name, "")
         if is_refusal(text) and is_by_contract(body, text, printed, body.lines(read(f"{trial.folder}/{body.file}"))):
             tried.refused.append(body)
-        elif is_refusal(text) or text.startswith("proved"):
+        elif text.startswith("proved"):
             tried.accepted.append(body)
         else:
             tried.waiting.append(body)
@@ -191,7 +191,7 @@ def try_crate(trial):
     while left:
         it, left = next_round(left, trial.folder, alone)
         tried = try_round(trial, it)
-        # the prover doesn't come to a function that waits for the proof of one that it calls: it gets another round, at last one without any other body
+        # the prover doesn't come to a function that waits for the proof of one that it calls: its body gets another round, at last one alone, which has to say why it is refused
         if alone:
             tried.accepted, tried.waiting = tried.accepted + tried.waiting, []
         alone = not tried.refused and not tried.accepted
