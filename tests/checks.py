@@ -49,7 +49,7 @@ def shown(value):
 
 def qimg(*words, given=b"", **how):
     """Runs the program, and answers its status and the text that it printed."""
-    how = {"input": given, "stdout": subprocess.PIPE, "timeout": 600, **how}
+    how = {"input": given, "stdout": subprocess.PIPE, "stderr": subprocess.DEVNULL, "timeout": 600, **how}
     if "stdin" in how:
         del how["input"]
     done = subprocess.run([QIMG, *words], **how)

@@ -1,4 +1,3 @@
-pub mod FileStorage
 pub mod Lines
 pub mod Numbers
 pub mod Printing

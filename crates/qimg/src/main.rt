@@ -1,16 +1,18 @@
 //! Makes qcow2 images, and runs commands on them.
 #![tactic(auto)]
 
-mod file_storage;
 mod lines;
+mod messages;
 mod numbers;
 mod printing;
 mod program;
 mod reading;
 mod words;
 
-use crate::program::{create, print_usage, refuse, script};
+use crate::messages::report_cause;
+use crate::program::{DONE, create, print_usage, refuse, script};
 use crate::words::{Invocation, words};
+use file_storage::FileStorage;
 use qcow2_image::ImageError;
 use std::io;
 use std::io::{BufReader, BufWriter, Write};
@@ -31,22 +33,45 @@ fn given_words(rt: &HostRuntime) -> io::Result<Vec<String>> {
     Ok(given)
 }
 
+// Tells why a file couldn't be opened, and refuses.
+fn refuse_file(rt: &HostRuntime, file: &str, cause: &io::Error, output: &mut impl Write) -> u8 {
+    report_cause(&mut rt.stderr(), file, cause);
+    refuse(output, &ImageError::Storage)
+}
+
+// Tells why a call of the storage last failed, where the run didn't end well.
+fn tell(rt: &HostRuntime, file: &str, ended: &(u8, FileStorage)) -> u8 {
+    let (status, storage) = ended;
+    if *status != DONE {
+        if let Some(cause) = storage.last_error() {
+            report_cause(&mut rt.stderr(), file, &cause);
+        }
+    }
+    *status
+}
+
+fn run_file(rt: &HostRuntime, file: &str, output: &mut impl Write) -> u8 {
+    let storage = match file_storage::open(rt, file) {
+        Ok(storage) => storage,
+        Err(e) => return refuse_file(rt, file, &e, output),
+    };
+    let Ok(mut input) = BufReader::new(rt.alloc(), rt.reader()) else {
+        return refuse(output, &ImageError::Memory);
+    };
+    let ended = script(rt.alloc(), storage, &mut input, output, &mut rt.stderr());
+    tell(rt, file, &ended)
+}
+
 fn run_words(rt: &HostRuntime, given: &[String], output: &mut impl Write) -> u8 {
     let Some(invocation) = words(given) else {
         return print_usage(output);
     };
     match invocation {
-        Invocation::Create { file, .. } => match file_storage::open(rt, file, true) {
-            Ok(storage) => create(rt.alloc(), storage, &invocation, output),
-            Err(_) => refuse(output, &ImageError::Storage),
+        Invocation::Create { file, .. } => match file_storage::create(rt, file) {
+            Ok(storage) => tell(rt, file, &create(rt.alloc(), storage, &invocation, output)),
+            Err(e) => refuse_file(rt, file, &e, output),
         },
-        Invocation::Run { file } => match file_storage::open(rt, file, false) {
-            Ok(storage) => match BufReader::new(rt.alloc(), rt.reader()) {
-                Ok(mut input) => script(rt.alloc(), storage, &mut input, output),
-                Err(_) => refuse(output, &ImageError::Memory),
-            },
-            Err(_) => refuse(output, &ImageError::Storage),
-        },
+        Invocation::Run { file } => run_file(rt, file, output),
     }
 }
 

@@ -39,12 +39,17 @@ pub fn print_reply<W: Write>(output: &mut W, reply: &Reply) -> io::Result<()>
 pub fn any_refused(replies: &[Reply]) -> bool
     ensures { result ≡ list_any is_refusal replies.now }
 {
-    replies.iter().any(|reply| {
-        matches!(
-            reply,
-            Reply::Refused(_) | Reply::WriteRefused(_, _) | Reply::Misuse
-        )
-    })
+    replies.iter().any(|reply| is_refused(reply))
+}
+
+/// Whether a reply is a refusal, in whole or in part, or a misuse.
+pub fn is_refused(reply: &Reply) -> bool
+    ensures { result ≡ is_refusal reply.now }
+{
+    matches!(
+        reply,
+        Reply::Refused(_) | Reply::WriteRefused(_, _) | Reply::Misuse
+    )
 }
 
 /// Prints the lines of replies.

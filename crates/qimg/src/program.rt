@@ -2,6 +2,7 @@ ghost use Rattle.std.specs.Prelude.{◌≡◌, ◌≤◌, ◌∷◌, ◌++◌, [
 ghost use Rattle.std.specs.Io.KnownBytes.{Appends, Keeps};
 ghost use Rattle.qimg.specs.Program.{IsAnswered, IsAnsweredOnce};
 
+use crate::messages::{report_bad_line, report_refused};
 use crate::printing::{any_refused, print_refusal, print_replies};
 use crate::reading::{Script, read_script};
 use crate::words::{Invocation, USAGE};
@@ -21,15 +22,15 @@ pub const REFUSED: u8 = 1;
 /// The exit status where the words, or a line of the input, couldn't be read.
 pub const UNREADABLE: u8 = 2;
 
-/// Makes an image in the storage, as the words ask for, and answers the exit status.
+/// Makes an image in the storage, as the words ask for, and answers the exit status, with the storage.
 pub fn create<S: Storage, W: Write>(
     alloc: Global,
     storage: S,
     invocation: &Invocation<'_>,
     output: &mut W,
-) -> u8
-    ensures bound { result ≤ 2 }
-    ensures created { result ≡ 0 → Appends (W.contents output.old) (W.contents output.new) (codes "created" ++ 10 ∷ []) }
+) -> (u8, S)
+    ensures bound { result.0 ≤ 2 }
+    ensures created { result.0 ≡ 0 → Appends (W.contents output.old) (W.contents output.new) (codes "created" ++ 10 ∷ []) }
 {
     let Invocation::Create {
         file: _,
@@ -38,39 +39,43 @@ pub fn create<S: Storage, W: Write>(
         width,
     } = *invocation
     else {
-        return print_usage(output);
+        return (print_usage(output), storage);
     };
-    let (_storage, made) = Qcow2CreateBuilder::new(storage)
+    let (storage, made) = Qcow2CreateBuilder::new(storage)
         .size(size)
         .cluster_size(cluster)
         .refcount_width(width)
         .create(alloc);
-    match made {
+    let status = match made {
         Ok(()) => end(writeln!(output, "created"), output),
         Err(e) => refuse(output, &e),
-    }
+    };
+    (status, storage)
 }
 
-/// Reads commands from the input, runs them on the image in the storage, prints their answers, and answers the exit status.
-pub fn script<S: Storage, R: BufRead, W: Write>(
+/// Reads commands from the input, runs them on the image in the storage, prints their answers, and answers the exit status,
+/// with the storage. Messages name the lines that were refused or couldn't be read.
+pub fn script<S: Storage, R: BufRead, W: Write, M: Write>(
     alloc: Global,
     storage: S,
     input: &mut R,
     output: &mut W,
-) -> u8
-    ensures bound { result ≤ 2 }
-    ensures done { result ≡ 0 → IfSome (R.remaining input.old) (λ text. IsAnswered text (W.contents output.old) (W.contents output.new)) }
+    messages: &mut M,
+) -> (u8, S)
+    ensures bound { result.0 ≤ 2 }
+    ensures done { result.0 ≡ 0 → IfSome (R.remaining input.old) (λ text. IsAnswered text (W.contents output.old) (W.contents output.new)) }
 {
     let Ok(script) = read_script(alloc, input) else {
-        return refuse(output, &ImageError::Memory);
+        return (refuse(output, &ImageError::Memory), storage);
     };
-    let printed = run_script(alloc, storage, &script, output);
+    let (printed, storage) = run_script(alloc, storage, &script, output, messages);
     let flushed = output.flush();
-    match (script.is_cut, printed, flushed) {
+    let status = match (script.is_cut, printed, flushed) {
         (true, _, _) => UNREADABLE,
         (false, Ok(true), Ok(())) => DONE,
         (false, _, _) => REFUSED,
-    }
+    };
+    (status, storage)
 }
 
 /// Prints the usage line, and answers the exit status.
@@ -105,56 +110,62 @@ fn end<W: Write>(printed: io::Result<()>, output: &mut W) -> u8
     }
 }
 
-// Prints what comes of a script. Whether nothing was refused; an error where a line couldn't be written.
-fn run_script<S: Storage, W: Write>(
+// Prints what comes of a script, and hands the storage back. Whether nothing was refused; an error where a line couldn't be
+// written.
+fn run_script<S: Storage, W: Write, M: Write>(
     alloc: Global,
     storage: S,
     script: &Script,
     output: &mut W,
-) -> io::Result<bool>
-    ensures { result ≡ Ok true → (script.now.is_cut ≡ false) × IsAnsweredOnce (vec_len script.now.commands) (W.contents output.old) (W.contents output.new) }
+    messages: &mut M,
+) -> (io::Result<bool>, S)
+    ensures { result.0 ≡ Ok true → (script.now.is_cut ≡ false) × IsAnsweredOnce (vec_len script.now.commands) (W.contents output.old) (W.contents output.new) }
 {
-    let is_accepted = open_and_run(alloc, storage, &script.commands, output)?;
-    if script.is_cut {
-        let number = script.commands.len() + 1;
-        writeln!(output, "bad line {number}")?;
-        return Ok(false);
+    let (printed, storage) = open_and_run(alloc, storage, &script.commands, output, messages);
+    if !script.is_cut {
+        return (printed, storage);
     }
-    Ok(is_accepted)
+    let number = script.commands.len() + 1;
+    report_bad_line(messages, number);
+    let ended = printed.and_then(|_| writeln!(output, "bad line {number}"));
+    (ended.map(|_| false), storage)
 }
 
 // The same of commands alone.
-fn open_and_run<S: Storage, W: Write>(
+fn open_and_run<S: Storage, W: Write, M: Write>(
     alloc: Global,
     storage: S,
     commands: &[Command],
     output: &mut W,
-) -> io::Result<bool>
-    ensures { result ≡ Ok true → IsAnsweredOnce (length commands.now) (W.contents output.old) (W.contents output.new) }
+    messages: &mut M,
+) -> (io::Result<bool>, S)
+    ensures { result.0 ≡ Ok true → IsAnsweredOnce (length commands.now) (W.contents output.old) (W.contents output.new) }
 {
     match Qcow2::<S>::open_image(alloc, storage, true, 1) {
-        Ok(image) => run_on(alloc, image, commands, output),
-        Err((_storage, e)) => {
-            print_refusal(output, &e)?;
-            Ok(false)
+        Ok(mut image) => {
+            let printed = run_on(alloc, &mut image, commands, output, messages);
+            (printed, image.into_storage())
         }
+        Err((storage, e)) => (print_refusal(output, &e).map(|_| false), storage),
     }
 }
 
 // The same of an image, which is flushed whatever could be printed.
-fn run_on<S: Storage, W: Write>(
+fn run_on<S: Storage, W: Write, M: Write>(
     alloc: Global,
-    mut image: Qcow2<S>,
+    image: &mut Qcow2<S>,
     commands: &[Command],
     output: &mut W,
+    messages: &mut M,
 ) -> io::Result<bool>
     ensures { result ≡ Ok true → IsAnsweredOnce (length commands.now) (W.contents output.old) (W.contents output.new) }
 {
-    if needs_a_file(&image) {
+    if needs_a_file(image) {
         print_refusal(output, &ImageError::Dependency)?;
         return Ok(false);
     }
-    let replies = run(alloc, &mut image, commands);
+    let replies = run(alloc, image, commands);
+    report_refused(messages, &replies);
     let printed = print_answers(output, commands, &replies);
     let flushed = image.flush();
     let is_accepted = printed?;

@@ -68,7 +68,8 @@ fn status<S: Storage, R: BufRead, W: Write>(
     input: &mut R,
     output: &mut W,
 ) -> u8 {
-    script(alloc, storage, input, output)
+    let (status, _storage) = script(alloc, storage, input, output, &mut Vec::new(alloc));
+    status
 }
 
 // The status of a script, and what it prints.
@@ -125,7 +126,7 @@ fn creation<S: Storage>(alloc: Global, storage: S, cluster: u64, width: u64) -> 
         width,
     };
     let mut output = Vec::new(alloc);
-    let status = create(alloc, storage, &asked, &mut output);
+    let (status, _storage) = create(alloc, storage, &asked, &mut output);
     (status, output)
 }
 

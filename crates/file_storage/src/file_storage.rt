@@ -1,0 +1,169 @@
+ghost use Rattle.std.specs.Prelude.{◌≡◌, None};
+
+use crate::zeros::{end_of, fill_from, size_of, write_or_grow, write_zeros};
+use image_access::{Storage, StorageError, StoragePreallocate};
+use std::fs::File;
+use std::io;
+use std::marker::Model;
+use std::os::unix::fs::FileExt;
+
+/// A storage over an open file or block device. Of what it holds nothing is known. Each call that fails is counted, and the
+/// system's error is kept.
+#[derive(Drop)]
+pub struct FileStorage {
+    file: File,
+    is_block_device: bool,
+    faults: u64,
+    last_error: Option<io::Error>,
+    ghost kept: { last_error ≡ None → faults ≡ 0 },
+}
+
+impl Model for FileStorage {
+    ghost use Rattle.file_storage.specs.FileStorage.{Failures};
+
+    ghost Value = { Failures };
+
+    ghost view = { λ s. record { faults = s.faults; last_error = s.last_error; kept = s.kept } };
+}
+
+impl FileStorage {
+    ghost use Rattle.std.specs.Prelude.{◌≡◌, None, Some, IfErr, IsOk, IfOk};
+    ghost use Rattle.image_access.specs.Moments.{HasCause};
+    ghost use Rattle.file_storage.specs.FileStorage.{Tells};
+
+    pub(crate) fn new(file: File, is_block_device: bool) -> Self
+        ensures faults { result.faults ≡ 0 }
+        ensures no_error { result.last_error ≡ None }
+    {
+        FileStorage {
+            file,
+            is_block_device,
+            faults: 0,
+            last_error: None,
+        }
+    }
+
+    /// Why the last call that failed did so; None where none has failed. Calls that succeed leave it as it is.
+    pub fn last_error(&self) -> Option<io::Error>
+        ensures last { result ≡ self.now.last_error }
+        ensures each { result ≡ None → self.now.faults ≡ 0 }
+    {
+        self.last_error
+    }
+
+    // Counts a failed call, and keeps its error.
+    fn told<T>(&mut self, answer: io::Result<T>) -> Result<T, StorageError>
+        ensures cause { HasCause self.old.faults self.new.faults result }
+        ensures kept { Tells answer result self.old.last_error self.new.last_error }
+    {
+        match answer {
+            Ok(value) => Ok(value),
+            Err(e) => {
+                self.last_error = Some(e);
+                self.faults = self.faults.saturating_add(1);
+                Err(StorageError::Fault)
+            }
+        }
+    }
+}
+
+// Past the end of the file it reads zeros, also where no file can reach.
+fn read_all(file: &File, at: u64, buf: &mut [u8]) -> io::Result<()> {
+    let reachable = (i64::MAX as u64).saturating_sub(at);
+    let within = usize::try_from(reachable)
+        .unwrap_or(usize::MAX)
+        .min(buf.len());
+    let (within, beyond) = buf.split_at_mut(within);
+    beyond.fill(0);
+    read_within(file, at, within)
+}
+
+fn read_within(file: &File, at: u64, buf: &mut [u8]) -> io::Result<()> {
+    let mut done = 0;
+    for _ in 0..u64::MAX {
+        if done >= buf.len() {
+            return Ok(());
+        }
+        match file.read_at(&mut buf[done..], at.wrapping_add(done as u64)) {
+            Ok(0) => {
+                buf[done..].fill(0);
+                return Ok(());
+            }
+            Ok(count) => done += count,
+            Err(e) if e.kind() == io::ErrorKind::Interrupted => {}
+            Err(e) => return Err(e),
+        }
+    }
+    Err(io::Error::from(io::ErrorKind::Other))
+}
+
+impl Storage for FileStorage {
+    ghost use Rattle.file_storage.specs.FileStorage.{view_of_file};
+
+    ghost view = { λ s. view_of_file s };
+
+    ghost counts_now = { λ s t honest le. absurd honest };
+
+    ghost only_now = { λ s c had. had };
+
+    fn name(&self) -> &str {
+        "file"
+    }
+
+    fn size(&mut self) -> Result<u64, StorageError> {
+        let answer = size_of(&self.file);
+        self.told(answer)
+    }
+
+    fn read(&mut self, at: u64, buf: &mut [u8]) -> Result<(), StorageError> {
+        let answer = read_all(&self.file, at, buf);
+        self.told(answer)
+    }
+
+    fn write(&mut self, at: u64, bytes: &[u8]) -> Result<(), StorageError> {
+        let answer = self.file.write_all_at(bytes, at);
+        self.told(answer)
+    }
+
+    fn write_zeroes(&mut self, at: u64, length: u64) -> Result<(), StorageError> {
+        let end = self.told(end_of(at, length))?;
+        let answer = write_or_grow(&self.file, at, end);
+        self.told(answer)
+    }
+
+    fn write_allocated_zeroes(&mut self, at: u64, length: u64) -> Result<(), StorageError> {
+        let end = self.told(end_of(at, length))?;
+        let answer = write_zeros(&self.file, at, end);
+        self.told(answer)
+    }
+
+    fn resize(&mut self, size: u64, _how: StoragePreallocate) -> Result<(), StorageError> {
+        let answer = if self.is_block_device {
+            fill_from(&self.file, size)
+        } else {
+            self.file.set_len(size)
+        };
+        self.told(answer)
+    }
+
+    fn flush(&mut self) -> Result<(), StorageError> {
+        Ok(())
+    }
+
+    fn sync(&mut self) -> Result<(), StorageError> {
+        let answer = self.file.sync_all();
+        self.told(answer)
+    }
+
+    fn invalidate_cache(&mut self) -> Result<(), StorageError> {
+        Ok(())
+    }
+
+    fn req_align(&self) -> usize {
+        1
+    }
+
+    fn mem_align(&self) -> usize {
+        1
+    }
+}

@@ -1,0 +1,9 @@
+//! A storage over a file or a block device, which keeps the system's last refusal.
+#![tactic(auto)]
+
+mod file_storage;
+mod opening;
+mod zeros;
+
+pub use file_storage::FileStorage;
+pub use opening::{create, open, open_read_only};

@@ -1,0 +1,47 @@
+use std::fs::File;
+use std::io;
+use std::io::{Seek, SeekFrom};
+use std::os::unix::fs::FileExt;
+
+/// Zeros that are written at a time.
+static ZEROS: [u8; 65536] = [0; 65536];
+
+// The number of bytes. A block device has one by its end alone.
+pub(crate) fn size_of(mut file: &File) -> io::Result<u64> {
+    file.seek(SeekFrom::End(0))
+}
+
+// Writes zeros from one offset to another.
+pub(crate) fn write_zeros(file: &File, from: u64, to: u64) -> io::Result<()> {
+    let mut place = from;
+    while place < to {
+        let count = (to - place).min(65536);
+        file.write_all_at(&ZEROS[..count as usize], place)?;
+        place += count;
+    }
+    Ok(())
+}
+
+// Zeros that lie within the file are written. Past its end the file grows, and is zero there; a block device can't grow.
+pub(crate) fn write_or_grow(file: &File, from: u64, to: u64) -> io::Result<()> {
+    let size = size_of(file)?;
+    write_zeros(file, from, to.min(size))?;
+    if from < to && size < to {
+        file.set_len(to)?;
+    }
+    Ok(())
+}
+
+// What a resize of a block device does: its end stays, and what lies past the size asked is zero.
+pub(crate) fn fill_from(file: &File, size: u64) -> io::Result<()> {
+    let end = size_of(file)?;
+    if size > end {
+        return Err(io::Error::new(io::ErrorKind::InvalidInput, "a block device can't grow"));
+    }
+    write_zeros(file, size, end)
+}
+
+pub(crate) fn end_of(at: u64, length: u64) -> io::Result<u64> {
+    at.checked_add(length)
+        .ok_or(io::Error::from(io::ErrorKind::InvalidInput))
+}

@@ -1,0 +1,135 @@
+#!/usr/bin/env -S python3 -B
+"""What the program says on standard error: why the system refused, and which line of a script failed. Devices too."""
+
+import fcntl
+import os
+import subprocess
+
+from checks import QIMG, Checks, answers, contents, create, equal, run
+
+STORAGE = "refused 15 storage\n"
+
+
+def said(*words, given=b""):
+    """The status of the program, what it printed, and what it said on standard error."""
+    done = subprocess.run([QIMG, *words], input=given, capture_output=True, timeout=600)
+    return done.returncode, done.stdout.decode(), done.stderr.decode()
+
+
+def says(want, *words, given=b""):
+    """Compares status, output and messages; each message is one line that begins as is wanted."""
+    status, output, messages = said(*words, given=given)
+    equal((status, output), want[:2], f"{words}")
+    lines = messages.splitlines()
+    equal(len(lines), len(want[2]), f"the messages {lines}")
+    for line, start in zip(lines, want[2]):
+        equal(line[:len(start)], start, "a message")
+
+
+def makes(file, size="65536"):
+    return "create", file, size, "512", "16", "none"
+
+
+def a_missing_file():
+    says((1, STORAGE, ["qimg: missing: No such file or directory"]), "run", "missing")
+    says((1, STORAGE, ["qimg: no/disk: No such file or directory"]), *makes("no/disk"))
+    equal(os.listdir("."), [], "the files")
+
+
+def a_folder():
+    says((1, STORAGE, ["qimg: .: Is a directory"]), "run", ".")
+    says((1, STORAGE, ["qimg: .: Is a directory"]), *makes("."))
+
+
+def a_file_below_a_file():
+    create("disk", 65536, 512)
+    says((1, STORAGE, ["qimg: disk/more: Not a directory"]), "run", "disk/more")
+
+
+def a_full_device():
+    says((1, STORAGE, ["qimg: /dev/full: No space left on device"]), *makes("/dev/full"))
+
+
+def a_file_that_is_open():
+    create("disk", 65536, 512)
+    held = (1, STORAGE, ["qimg: disk: another program has it open"])
+    for how in (fcntl.LOCK_EX, fcntl.LOCK_SH):
+        with open("disk", "rb") as it:
+            fcntl.flock(it, how)
+            says(held, "run", "disk", given=b"size\n")
+            says(held, *makes("disk"))
+    answers("disk", [("size", "size 65536")])
+
+
+def the_line_of_a_refusal():
+    create("disk", 65536, 512)
+    refused = "refused 2 beyond size\n"
+    says((1, "size 65536\n" + refused + refused, ["qimg: line 2: refused 2 beyond size"]),
+         "run", "disk", given=b"size\nread 65536 1\nread 65537 1\n")
+
+
+def the_line_that_is_bad():
+    create("disk", 65536, 512)
+    says((2, "size 65536\nbad line 2\n", ["qimg: line 2: bad line"]), "run", "disk", given=b"size\nno\n")
+    says((2, "refused 2 beyond size\nbad line 2\n", ["qimg: line 1: refused 2 beyond size", "qimg: line 2: bad line"]),
+         "run", "disk", given=b"read 65536 1\nno\n")
+
+
+def nothing_where_all_is_well():
+    says((0, "created\n", []), *makes("disk"))
+    says((0, "size 65536\n", []), "run", "disk", given=b"size\n")
+
+
+def a_file_that_may_not_grow():
+    create("disk", 65536, 512)
+    limited = ["bash", "-c", 'trap "" XFSZ; ulimit -f 4; exec "$0" run disk', QIMG]
+    done = subprocess.run(limited, input=b"size\nfill 0 32768 11\n", capture_output=True, timeout=600)
+    output, messages = done.stdout.decode().splitlines(), done.stderr.decode().splitlines()
+    equal(done.returncode, 1, "the status")
+    equal((output[0], output[1][:18]), ("size 65536", "refused 15 storage"), "the output")
+    equal(messages[0][:32], "qimg: line 2: refused 15 storage", "the line")
+    equal(messages[1][:26], "qimg: disk: File too large", "the cause")
+
+
+def loop_device(size):
+    """A block device of so many bytes, none of them zero; None where there can't be one."""
+    with open("device", "wb") as it:
+        it.write(b"\xff" * size)
+    done = subprocess.run(["losetup", "--find", "--show", "device"], capture_output=True, check=False)
+    return done.stdout.decode().strip() or None
+
+
+def a_block_device():
+    device = loop_device(1 << 20)
+    if device is None:
+        print("no block device can be made here: not tried", flush=True)
+        return
+    try:
+        create(device, 65536, 512)
+        run(device, "fill 100 100 22", "flush")
+        answers(device, [("size", "size 65536"), ("read 99 2", "data 0022"), ("read 199 2", "data 2200"), ("read 65535 1", "data 00")])
+        says((1, STORAGE, [f"qimg: {device}: No space left on device"]), *makes(device, str(1 << 34)))
+    finally:
+        subprocess.run(["losetup", "--detach", device], check=True)
+    equal(len(contents("device")), 1 << 20, "the size of the device")
+
+
+def main():
+    checks = Checks()
+    for check in (
+        a_missing_file,
+        a_folder,
+        a_file_below_a_file,
+        a_full_device,
+        a_file_that_is_open,
+        the_line_of_a_refusal,
+        the_line_that_is_bad,
+        nothing_where_all_is_well,
+        a_file_that_may_not_grow,
+        a_block_device,
+    ):
+        checks.run(check.__name__, check)
+    checks.done()
+
+
+main()
