@@ -39,3 +39,4 @@ pub mod Alike
 pub mod Overwritten
 pub mod MappedAnew
 pub mod MappedRanges
+pub mod KeptClusters

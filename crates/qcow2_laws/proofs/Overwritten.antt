@@ -40,7 +40,7 @@ pub record WritesOver (old new : Stand) (given : Bytes → List Gift) (now : Byt
   pub shows : (backing : Bytes) → disk new.known backing ≡ now backing
 
 -- ---- a place lies outside of a range, or is one of its places
-in_range : (o from n : ℕ) → ((o < from) ⊎ (from + n ≤ o)) ⊎ ((i : ℕ) × (i < n) × (from + i ≡ o))
+pub in_range : (o from n : ℕ) → ((o < from) ⊎ (from + n ≤ o)) ⊎ ((i : ℕ) × (i < n) × (from + i ≡ o))
 in_range o from n = elim (cases_lt o from) [
   | inl below ↦ inl (inl below)
   | inr above ↦ elim (cases_lt o (from + n)) [ inl inside ↦ inr (o - from, omega arith, omega arith) | inr past ↦ inl (inr past) ]

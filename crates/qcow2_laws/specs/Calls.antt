@@ -1,5 +1,5 @@
 -- What each call does to an image.
-use Rattle.std.specs.Prelude.{ℕ, ◌+◌, ◌≡◌, ◌⊎◌, ◌≤◌, ◌<◌, ◌==◌, Bool, true, false, IsTrue, List, [], ◌∷◌, length, take, Option, nat_le, if◌then◌else◌}
+use Rattle.std.specs.Prelude.{ℕ, ◌+◌, ◌≡◌, ◌⊎◌, ◌≤◌, ◌<◌, ◌==◌, ◌||◌, Bool, true, false, IsTrue, List, [], ◌∷◌, length, take, Option, nat_le, if◌then◌else◌}
 use Rattle.image_access.specs.Moments.{Passing}
 use Rattle.image_access.specs.declared.storage.PreallocateMode.{PreallocateMode}
 use Rattle.image_access.specs.declared.storage.PreallocateMode.TheVariants as Mode
@@ -112,19 +112,25 @@ shows_old mode = false
 abbrev pub grown_to : Setting → Disk → ℕ → PreallocateMode → Disk
 grown_to x d size mode = if nat_le size d.size then d else grown x.cluster_size d size (shows_old mode)
 
--- a refused grow: bytes past the size may be zero
-pub record MayGrow (x : Setting) (old : Disk) (size : ℕ) (new : Disk) : Type 0 where
+-- A refused grow: where bytes are to be zeros past the size, they may be; else none changes.
+pub record MayGrow (x : Setting) (old : Disk) (size : ℕ) (mode : PreallocateMode) (new : Disk) : Type 0 where
   pub same_size : new.size ≡ old.size
-  pub values : (o : ℕ) → (new.value o ≡ old.value o) ⊎ ((old.size ≤ o) × (o < rounded_up x.cluster_size size) × (new.value o ≡ known_byte 0))
+  pub values : (o : ℕ) → (new.value o ≡ old.value o)
+      ⊎ ((shows_old mode ≡ false) × (old.size < size) × (old.size ≤ o) × (o < rounded_up x.cluster_size size) × (new.value o ≡ known_byte 0))
 
+-- a size that isn't larger gives nothing
 abbrev pub gift_of_grow : Setting → Disk → ℕ → PreallocateMode → List Gift
-gift_of_grow x d size Mode.None = []
-gift_of_grow x d size mode = gift_shown (zeroed d d.size (rounded_up x.cluster_size size)) d.size (rounded_up x.cluster_size size) ∷ []
+gift_of_grow x d size mode =
+    if nat_le size d.size || shows_old mode then [] else gift_shown (zeroed d d.size (rounded_up x.cluster_size size)) d.size (rounded_up x.cluster_size size) ∷ []
 
--- the new size, or the end of the disk, and what lies between
+-- where a shrink may end: at the old size, or earlier, at a boundary of clusters past the new size
+abbrev pub IsShrinkEnd : ℕ → (old size answer : ℕ) → Type 0
+IsShrinkEnd cluster_size old size answer = (answer ≡ old) ⊎ ((rounded_up cluster_size answer ≡ answer) × (rounded_up cluster_size size ≤ answer) × (answer < old))
+
+-- the new size, and the backing's bytes on whole clusters up to where it ends
 pub record IsShrunk (x : Setting) (old : Disk) (size answer : ℕ) (new : Disk) : Type 0 where
   pub no_smaller : old.size ≤ size → (answer ≡ old.size) × (new ≡ old)
-  pub smaller : size < old.size → (size ≤ answer) × (answer ≤ old.size) × (new ≡ shrunk x.cluster_size old x.backing size answer)
+  pub smaller : size < old.size → IsShrinkEnd x.cluster_size old.size size answer × (new ≡ shrunk x.cluster_size old x.backing size answer)
 
 abbrev pub gift_of_shrink : Setting → Disk → ℕ → Gift
 gift_of_shrink x d size = gift_shown (uncovered d x.backing (rounded_up x.cluster_size size) (rounded_up x.cluster_size d.size)) (rounded_up x.cluster_size size) (rounded_up x.cluster_size d.size)

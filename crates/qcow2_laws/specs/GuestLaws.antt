@@ -1,21 +1,22 @@
 -- The laws of what guests see while steps are made: where tables move, and between flushes.
-use Rattle.std.specs.Prelude.{ℕ, zero, suc, ◌+◌, ◌*◌, ◌≡◌, List, [], ◌∷◌}
+use Rattle.std.specs.Prelude.{ℕ, zero, suc, ◌+◌, ◌*◌, ◌%◌, ◌<◌, ◌≤◌, ◌≡◌, true, List, [], ◌∷◌, length, Some}
 use Rattle.image_access.specs.Moments.{StorageView, Passing}
 use Rattle.qcow2_metadata.specs.Bytes.{Bytes, byte_at}
 use Rattle.qcow2_metadata.specs.Header.{header, cluster_size}
 use Rattle.qcow2_metadata.specs.Cover.{cover}
+use Rattle.qcow2_metadata.specs.Guest.{known_byte}
 use Rattle.qcow2_metadata.specs.Named.{in_run}
 use Rattle.qcow2_metadata.specs.declared.l2_mapping.L2Mapping.{L2Mapping}
 use Rattle.qcow2_metadata.specs.declared.l2_mapping.L2Mapping.TheVariants.{Data, Zero, Compressed, Uncovered}
 use Rattle.qcow2_laws.specs.Disk.{Disk, disk, zeroed, uncovered}
 use Rattle.qcow2_laws.specs.Stops.{Gift, Mark, more, IsKeptAt}
-use Rattle.qcow2_laws.specs.Mappings.{gift_shown}
+use Rattle.qcow2_laws.specs.Mappings.{gift_of, gift_shown}
 use Rattle.qcow2_laws.specs.Guests.{names}
 use Rattle.qcow2_laws.specs.Steps.{guest_at, EntryChanges}
 use Rattle.qcow2_laws.specs.Changes.{renamed, remapped}
-use Rattle.qcow2_laws.specs.Tops.{with_places, with_l1_at, WritesHeader, IsNewL1}
+use Rattle.qcow2_laws.specs.Tops.{with_places, with_l1_at, WritesHeader, IsNewL1, WritesAt}
 use Rattle.qcow2_laws.specs.Leads.{Stand, IsSound, Leads}
-use Rattle.qcow2_laws.specs.Unseen.{used_by_guests, SameUsedBytes}
+use Rattle.qcow2_laws.specs.Unseen.{used_by_guests, SameUsedBytes, with_cluster}
 
 -- where the image stands once its header names an L1 table at another place, of so many entries
 abbrev pub with_l1_table : Stand → (offset entries : ℕ) → (base' known' : Bytes) → Stand
@@ -87,3 +88,23 @@ pub record ClearsRange (first n : ℕ) (old new : Stand) (now : Bytes → Disk �
 pub record ClustersInTurnAreARange : Type 0 where
   pub zeroed : (s new : Stand) (first n : ℕ) → IsSound s → MapsInTurn IsZeros first n s new → ClearsRange first n s new (λ backing d from to. zeroed d from to)
   pub uncovered : (s new : Stand) (first n : ℕ) → IsSound s → MapsInTurn (λ v. v ≡ Uncovered) first n s new → ClearsRange first n s new (λ backing d from to. uncovered d backing from to)
+
+-- ---- a cluster that a zero entry keeps
+
+-- Bytes are written into it, where they stand once the guest cluster has it as data: this gives them at their guest offsets, and zeros give nothing. The disk stays.
+pub record KeptClusterIsWritten : Type 0 where
+  pub bytes : (s : Stand) (base' known' : Bytes) (g host at : ℕ) (bytes : List ℕ) → IsSound s → cover s.header s.known g ≡ Zero (Some (host, true)) → at + length bytes ≤ cluster_size s.header
+      → WritesAt (host + at) (length bytes) s.base s.known base' known' → ((i : ℕ) → i < length bytes → base' (host + at + i) ≡ byte_at bytes i)
+      → Leads s (record s { base = base'; known = known' }) (λ _. gift_of (g * cluster_size s.header + at) bytes ∷ []) [] × ((backing : Bytes) → disk known' backing ≡ disk s.known backing)
+  pub zeros : (s : Stand) (base' known' : Bytes) (g host at : ℕ) (bytes : List ℕ) → IsSound s → cover s.header s.known g ≡ Zero (Some (host, true)) → at + length bytes ≤ cluster_size s.header
+      → WritesAt (host + at) (length bytes) s.base s.known base' known' → ((i : ℕ) → i < length bytes → base' (host + at + i) ≡ byte_at bytes i) → ((i : ℕ) → i < length bytes → byte_at bytes i ≡ 0)
+      → Leads s (record s { base = base'; known = known' }) (λ _. []) []
+
+-- It becomes data: the guest cluster shows its bytes, and what is pending stays.
+abbrev pub KeptClusterIsCommitted : Type 0
+KeptClusterIsCommitted =
+    (s : Stand) (known' : Bytes) (i j host : ℕ) → IsSound s → EntryChanges s known' i j → cover s.header s.known (guest_at s.header i j) ≡ Zero (Some (host, true))
+    → cover s.header known' (guest_at s.header i j) ≡ Data host true
+    → Leads s (record s { known = known' })
+    (λ backing. gift_shown (disk known' backing) (guest_at s.header i j * cluster_size s.header) (guest_at s.header i j * cluster_size s.header + cluster_size s.header) ∷ []) []
+    × ((backing : Bytes) → disk known' backing ≡ with_cluster (cluster_size s.header) (disk s.known backing) (guest_at s.header i j) (λ o. known_byte (s.base (host + o % cluster_size s.header))))

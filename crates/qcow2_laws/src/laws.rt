@@ -6,7 +6,7 @@ ghost use Rattle.qcow2_metadata.specs.Consistent.{IsConsistent};
 ghost use Rattle.qcow2_metadata.specs.declared.header.HeaderFields.{HeaderFields};
 ghost use Rattle.qcow2_laws.specs.Samples.{empty_image};
 ghost use Rattle.qcow2_laws.specs.NewImages.{IsNewImage};
-ghost use Rattle.qcow2_laws.specs.GuestLaws.{ClustersInTurnAreARange, LongerL1TableKeepsGuests, SizeStaysUnlessAsked};
+ghost use Rattle.qcow2_laws.specs.GuestLaws.{ClustersInTurnAreARange, KeptClusterIsCommitted, KeptClusterIsWritten, LongerL1TableKeepsGuests, SizeStaysUnlessAsked};
 ghost use Rattle.qcow2_laws.specs.Laws.{SoundIsConsistent, MixIsSafe, TableIsWritten, CountIsChanged, PendingIsChanged, EntryIsChanged, DataIsWritten, TableIsNamed, HeaderIsWritten, StepsCompose};
 
 /// Preparing, writing to private clusters and discarding leaves every guest byte.
@@ -92,6 +92,16 @@ pub fn size_stays_unless_asked()
 /// Guest clusters that are zeroed or uncovered in turn are a range of the disk that is.
 pub fn clusters_in_turn_are_a_range()
     ensures { ClustersInTurnAreARange }
+{}
+
+/// Bytes written to a cluster that a zero entry keeps aren't seen until it is committed; a stop may leave them.
+pub fn kept_cluster_is_written()
+    ensures { KeptClusterIsWritten }
+{}
+
+/// A cluster that a zero entry keeps becomes data.
+pub fn kept_cluster_is_committed()
+    ensures { KeptClusterIsCommitted }
 {}
 
 /// The image of three clusters that creating begins with is consistent, of whatever size clusters and counts are.
