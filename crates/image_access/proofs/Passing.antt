@@ -2,10 +2,10 @@
 use Rattle.std.proofs.Common.{◌≡◌, ◌⊎◌, inl, inr, ⊎_elim, ℕ, ◌≤◌, List, Result, Ok, Err, sym, ◌∙◌, subst, arith}
 use Rattle.image_access.specs.declared.error.StorageError.{StorageError}
 use Rattle.image_access.specs.declared.error.StorageError.TheVariants.{Fault, Memory}
-use Rattle.image_access.specs.Moments.{StorageView, Becomes, Rose, HasCause, Passing, Calls, Keeps, Changes}
+use Rattle.image_access.specs.Moments.{StorageView, ContentsBecome, Rose, HasCause, Passing, Calls, ContentsStay, Changes}
 
 -- whatever the answer, the change is whole or nothing
-pub whole_or_nothing : {T : Type 0} (result : Result T StorageError) (old changed new : List ℕ) → Becomes result old changed new → (new ≡ old) ⊎ (new ≡ changed)
+pub whole_or_nothing : {T : Type 0} (result : Result T StorageError) (old changed new : List ℕ) → ContentsBecome result old changed new → (new ≡ old) ⊎ (new ≡ changed)
 whole_or_nothing (Ok _) old changed new is = inr is
 whole_or_nothing (Err Memory) old changed new is = inl is
 whole_or_nothing (Err Fault) old changed new either = either
@@ -34,7 +34,7 @@ module _ {old mid new : StorageView} where
 
   module _ {T : Type 0} {result : Result T StorageError} where
     -- one call more that changes nothing
-    pub passes_keep : (P : List ℕ → Type 0) → Passing old mid P → Calls mid new result → Keeps mid new → mid.is_honest → P mid.contents → Passing old new P
+    pub passes_keep : (P : List ℕ → Type 0) → Passing old mid P → Calls mid new result → ContentsStay mid new → mid.is_honest → P mid.contents → Passing old new P
     passes_keep P so_far call keeps honest at_mid = passes_on P so_far call.time (λ c is. subst P (sym (is ∙ keeps honest)) at_mid)
 
     -- one call more, which makes a whole change or none

@@ -22,10 +22,10 @@ pub record StorageView : Type 1 where
   pub mem_align : ℕ
 
 -- a change is there at Ok; at a want of memory nothing changed; at a fault the whole change is there or nothing of it
-abbrev pub Becomes : {T : Type 0} → Result T StorageError → List ℕ → List ℕ → List ℕ → Type 0
-Becomes (Ok _) old changed new = new ≡ changed
-Becomes (Err Memory) old changed new = new ≡ old
-Becomes (Err Fault) old changed new = (new ≡ old) ⊎ (new ≡ changed)
+abbrev pub ContentsBecome : {T : Type 0} → Result T StorageError → List ℕ → List ℕ → List ℕ → Type 0
+ContentsBecome (Ok _) old changed new = new ≡ changed
+ContentsBecome (Err Memory) old changed new = new ≡ old
+ContentsBecome (Err Fault) old changed new = (new ≡ old) ⊎ (new ≡ changed)
 
 -- the number of faults rose, or stood at the greatest u64
 abbrev pub Rose : ℕ → ℕ → Type 0
@@ -48,9 +48,9 @@ pub record Calls {T : Type 0} (old new : StorageView) (result : Result T Storage
   pub cause : HasCause old.faults new.faults result
 
 -- the same contents
-abbrev pub Keeps : StorageView → StorageView → Type 0
-Keeps old new = old.is_honest → new.contents ≡ old.contents
+abbrev pub ContentsStay : StorageView → StorageView → Type 0
+ContentsStay old new = old.is_honest → new.contents ≡ old.contents
 
 -- the contents become these, or at a refusal may stay
 abbrev pub Changes : {T : Type 0} → StorageView → StorageView → Result T StorageError → List ℕ → Type 0
-Changes old new result changed = old.is_honest → Becomes result old.contents changed new.contents
+Changes old new result changed = old.is_honest → ContentsBecome result old.contents changed new.contents

@@ -10,7 +10,7 @@ use Rattle.qcow2_metadata.specs.TableBytes.{entry_at, HasPlace}
 use Rattle.qcow2_metadata.specs.Header.{cluster_size, counts_per_block, reftable_entries}
 use Rattle.qcow2_metadata.specs.Entries.{reftable_entry, block_offset, count}
 use Rattle.qcow2_laws.specs.Changes.{one_at}
-use Rattle.qcow2_laws.specs.Guard.{Pending}
+use Rattle.qcow2_laws.specs.CrashInvariant.{Pending}
 use Rattle.qcow2_laws.proofs.Places.{count_none}
 use Rattle.qcow2_alloc.specs.declared.allocation.Allocator.{Allocator}
 use Rattle.qcow2_alloc.specs.declared.cache.MetadataCaches.{MetadataCaches}
@@ -19,15 +19,15 @@ use Rattle.qcow2_alloc.specs.declared.image_file.ImageFile.{ImageFile}
 use Rattle.qcow2_alloc.specs.declared.clusters_to_free.ClusterKind.{ClusterKind}
 use Rattle.qcow2_alloc.specs.declared.clusters_to_free.ClusterKind.TheVariants.{Data, Metadata}
 use Rattle.qcow2_alloc.specs.declared.clusters_to_free.ClustersToFreeEntry.{ClustersToFreeEntry}
-use Rattle.qcow2_alloc.specs.Allocation.{run_at, is_data, taken_as, Owed, Taken, Listed, owed_as, MayTake, MayLower, HasNone, KeepsEntries, StandsAt, Becomes, BecomesOn, PlacesBlock, GetsBlock, LeavesAs, TakesOne, TakesCluster, Allocates}
+use Rattle.qcow2_alloc.specs.Allocation.{run_at, is_data, taken_as, Owed, Taken, Listed, owed_as, MayTake, MayLower, HasNone, KeepsEntries, RefblockAt, UnseenAllocatorStep, UnseenAllocatorGrowth, PlacesBlock, GetsBlock, RefusedGrowth, TakesOne, TakesCluster, Allocates}
 use Rattle.qcow2_laws.specs.Caches.{AreSettled}
 use Rattle.image_access.proofs.Passing.{passes_none}
 use Rattle.qcow2_alloc.specs.CacheMarks.{KeepsMarks, SameTables}
-use Rattle.qcow2_alloc.specs.ImageFile.{view_in, contents_in, known_in, IsSoundFile, IsSoundWith, HasReftable, LeavesSound}
+use Rattle.qcow2_alloc.specs.ImageFile.{view_in, contents_in, known_in, FileInvariant, AllocatorInvariant, HasReftable, RefusedFileStep}
 use Rattle.image_access.specs.declared.error.StorageError.{StorageError}
 use Rattle.image_access.specs.declared.error.StorageError.TheVariants.{Fault, Memory}
 use Rattle.qcow2_alloc.specs.ImageError.{of_storage, IsFault}
-use Rattle.qcow2_alloc.specs.MetadataCaches.{order_of, rb_at, IsCountedAt, RaisesCount, LowersCount, StaySound}
+use Rattle.qcow2_alloc.specs.MetadataCaches.{order_of, rb_at, IsCountedAt, RaisesCount, LowersCount, UnseenCacheStep}
 use Rattle.qcow2_alloc.specs.declared.image_storage.ImageStorage.{ImageStorage}
 use Rattle.qcow2_alloc.specs.ImageStorage.{storage_of}
 use Rattle.qcow2_alloc.proofs.KeptTables.Standing.{own_cluster}
@@ -78,42 +78,42 @@ other_range cluster end per per' k below same past is =
 module _ {S : Type 0} (view : S → StorageView) where
   -- ---- one step after another
   -- an allocator with the same reftable
-  pub becomes_as : (p r : Pending) (a b : ImageFile S) (t t' : Allocator) → t'.reftable ≡ t.reftable → Becomes view p a t b r → Becomes view p a t' b r
+  pub becomes_as : (p r : Pending) (a b : ImageFile S) (t t' : Allocator) → t'.reftable ≡ t.reftable → UnseenAllocatorStep view p a t b r → UnseenAllocatorStep view p a t' b r
   becomes_as p r a b t t' same first = record { moves = first.moves; reftable = subst (HasReftable view b) (sym same) first.reftable }
 
-  pub becomes_none : (p : Pending) (file : ImageFile S) (t : Allocator) → IsSoundWith view t p file → Becomes view p file t file p
+  pub becomes_none : (p : Pending) (file : ImageFile S) (t : Allocator) → AllocatorInvariant view t p file → UnseenAllocatorStep view p file t file p
   becomes_none p file t sound = record { moves = moves_none view p file sound.sound; reftable = sound.reftable }
 
-  pub becomes_then : (p r : Pending) (a b c : ImageFile S) (t t' : Allocator) → Becomes view p a t b p → Becomes view p b t' c r → Becomes view p a t' c r
+  pub becomes_then : (p r : Pending) (a b c : ImageFile S) (t t' : Allocator) → UnseenAllocatorStep view p a t b p → UnseenAllocatorStep view p b t' c r → UnseenAllocatorStep view p a t' c r
   becomes_then p r a b c t t' first second = record { moves = moves_then view p p r a b c (λ k some. some) first.moves second.moves; reftable = second.reftable }
 
-  pub is_sound_now : (p q : Pending) (a b : ImageFile S) (t : Allocator) → Becomes view p a t b q → IsSoundWith view t q b
+  pub is_sound_now : (p q : Pending) (a b : ImageFile S) (t : Allocator) → UnseenAllocatorStep view p a t b q → AllocatorInvariant view t q b
   is_sound_now p q a b t first = record { sound = first.moves.sound; reftable = first.reftable }
 
   -- the same where the reftable may move
-  pub on_of : (p q : Pending) (a b : ImageFile S) (t : Allocator) → Becomes view p a t b q → BecomesOn view p a t b q
+  pub on_of : (p q : Pending) (a b : ImageFile S) (t : Allocator) → UnseenAllocatorStep view p a t b q → UnseenAllocatorGrowth view p a t b q
   on_of p q a b t becomes = record { moves = moves_on view p q a b becomes.moves; reftable = becomes.reftable }
 
-  pub on_none : (p : Pending) (file : ImageFile S) (t : Allocator) → IsSoundWith view t p file → BecomesOn view p file t file p
+  pub on_none : (p : Pending) (file : ImageFile S) (t : Allocator) → AllocatorInvariant view t p file → UnseenAllocatorGrowth view p file t file p
   on_none p file t sound = on_of p p file file t (becomes_none p file t sound)
 
   -- what is held for guests is held still
-  pub becomes_on : (p q r : Pending) (a b c : ImageFile S) (t t' : Allocator) → ((k : ℕ) → 0 < p.held k → 0 < q.held k) → BecomesOn view p a t b q → BecomesOn view q b t' c r → BecomesOn view p a t' c r
+  pub becomes_on : (p q r : Pending) (a b c : ImageFile S) (t t' : Allocator) → ((k : ℕ) → 0 < p.held k → 0 < q.held k) → UnseenAllocatorGrowth view p a t b q → UnseenAllocatorGrowth view q b t' c r → UnseenAllocatorGrowth view p a t' c r
   becomes_on p q r a b c t t' held first second = record { moves = on_then view p q r a b c held first.moves second.moves; reftable = second.reftable }
 
-  pub is_sound_on : (p q : Pending) (a b : ImageFile S) (t : Allocator) → BecomesOn view p a t b q → IsSoundWith view t q b
+  pub is_sound_on : (p q : Pending) (a b : ImageFile S) (t : Allocator) → UnseenAllocatorGrowth view p a t b q → AllocatorInvariant view t q b
   is_sound_on p q a b t first = record { sound = first.moves.sound; reftable = first.reftable }
 
   -- after clusters were taken
-  pub becomes_more : (d : Bool) (p : Pending) (n : ℕ → ℕ) (r : Pending) (a b c : ImageFile S) (t t' : Allocator) → Becomes view p a t b (taken_as d p n) → Becomes view (taken_as d p n) b t' c r → Becomes view p a t' c r
+  pub becomes_more : (d : Bool) (p : Pending) (n : ℕ → ℕ) (r : Pending) (a b c : ImageFile S) (t t' : Allocator) → UnseenAllocatorStep view p a t b (taken_as d p n) → UnseenAllocatorStep view (taken_as d p n) b t' c r → UnseenAllocatorStep view p a t' c r
   becomes_more d p n r a b c t t' first second = record { moves = moves_then view p (taken_as d p n) r a b c (held_more d p n) first.moves second.moves; reftable = second.reftable }
 
-  pub becomes_cached : (p : Pending) (file : ImageFile S) (t : Allocator) (storage : ImageStorage S) (caches : MetadataCaches S) → IsSoundWith view t p file
-      → StaySound file.header.fields p (view_in view file) file.caches (view (storage_of storage)) caches → KeepsMarks file.caches caches → Becomes view p file t (record file { storage = storage; caches = caches }) p
+  pub becomes_cached : (p : Pending) (file : ImageFile S) (t : Allocator) (storage : ImageStorage S) (caches : MetadataCaches S) → AllocatorInvariant view t p file
+      → UnseenCacheStep file.header.fields p (view_in view file) file.caches (view (storage_of storage)) caches → KeepsMarks file.caches caches → UnseenAllocatorStep view p file t (record file { storage = storage; caches = caches }) p
   becomes_cached p file t storage caches sound stays marks = record { moves = moves_cached view p file storage caches sound.sound stays marks; reftable = reftable_cached view p file storage caches sound.sound stays t.reftable sound.reftable }
 
   -- nothing but marks of the caches changes
-  pub becomes_marked : (p : Pending) (file : ImageFile S) (t : Allocator) (caches : MetadataCaches S) → IsSoundWith view t p file → SameTables file.caches caches → KeepsMarks file.caches caches → Becomes view p file t (record file { caches = caches }) p
+  pub becomes_marked : (p : Pending) (file : ImageFile S) (t : Allocator) (caches : MetadataCaches S) → AllocatorInvariant view t p file → SameTables file.caches caches → KeepsMarks file.caches caches → UnseenAllocatorStep view p file t (record file { caches = caches }) p
   becomes_marked p file t caches sound tables marks =
       let h = file.header.fields in
       becomes_cached p file t file.storage caches sound (record {
@@ -125,42 +125,42 @@ module _ {S : Type 0} (view : S → StorageView) where
       }) marks
 
   -- a refusal that is no fault left all sound
-  pub still_sound : (p : Pending) (a b : ImageFile S) (t : Allocator) (e : ImageError) → (IsFault e → ⊥) → LeavesSound view p a t b e → Becomes view p a t b p
+  pub still_sound : (p : Pending) (a b : ImageFile S) (t : Allocator) (e : ImageError) → (IsFault e → ⊥) → RefusedFileStep view p a t b e → UnseenAllocatorStep view p a t b p
   still_sound p a b t e other leaves = elim leaves [ inl sound ↦ record { moves = sound.0; reftable = sound.1 } | inr breaks ↦ absurd (other breaks.fault) ]
 
   -- a refusal that left the same pending, as both words say it
-  pub leaves_as : (p : Pending) (a b : ImageFile S) (t : Allocator) (e : ImageError) → LeavesSound view p a t b e → LeavesAs view p a t b p e
+  pub leaves_as : (p : Pending) (a b : ImageFile S) (t : Allocator) (e : ImageError) → RefusedFileStep view p a t b e → RefusedGrowth view p a t b p e
   leaves_as p a b t e leaves = elim leaves [ inl sound ↦ inl (on_of p p a b t (record { moves = sound.0; reftable = sound.1 })) | inr breaks ↦ inr breaks ]
 
   -- a refusal after a step
-  pub leaves_on : (p q r : Pending) (a b c : ImageFile S) (t t' : Allocator) (e : ImageError) → ((k : ℕ) → 0 < p.held k → 0 < q.held k) → BecomesOn view p a t b q → LeavesAs view q b t' c r e → LeavesAs view p a t' c r e
+  pub leaves_on : (p q r : Pending) (a b c : ImageFile S) (t t' : Allocator) (e : ImageError) → ((k : ℕ) → 0 < p.held k → 0 < q.held k) → UnseenAllocatorGrowth view p a t b q → RefusedGrowth view q b t' c r e → RefusedGrowth view p a t' c r e
   leaves_on p q r a b c t t' e held first second = elim second [
     | inl sound ↦ inl (becomes_on p q r a b c t t' held first sound)
     | inr breaks ↦ inr (on_breaks view p q a b c e first.moves breaks)
   ]
 
   -- one that is no fault
-  pub still_as : (p q : Pending) (a b : ImageFile S) (t : Allocator) (e : ImageError) → (IsFault e → ⊥) → LeavesAs view p a t b q e → BecomesOn view p a t b q
+  pub still_as : (p q : Pending) (a b : ImageFile S) (t : Allocator) (e : ImageError) → (IsFault e → ⊥) → RefusedGrowth view p a t b q e → UnseenAllocatorGrowth view p a t b q
   still_as p q a b t e other leaves = elim leaves [ inl sound ↦ sound | inr breaks ↦ absurd (other breaks.fault) ]
 
   -- another allocator with the same reftable
-  pub on_as : (p q : Pending) (a b : ImageFile S) (t t' : Allocator) → t'.reftable ≡ t.reftable → BecomesOn view p a t b q → BecomesOn view p a t' b q
+  pub on_as : (p q : Pending) (a b : ImageFile S) (t t' : Allocator) → t'.reftable ≡ t.reftable → UnseenAllocatorGrowth view p a t b q → UnseenAllocatorGrowth view p a t' b q
   on_as p q a b t t' same becomes = record { moves = becomes.moves; reftable = subst (HasReftable view b) (sym same) becomes.reftable }
 
   -- a cluster that is taken, or is in use, after a step
   pub takes_on : (p q : Pending) (a b c : ImageFile S) (t t' t'' : Allocator) (d : Bool) (cluster : ℕ) (taken : Bool) → ((k : ℕ) → 0 < p.held k → 0 < q.held k) → t''.reftable ≡ t'.reftable
-      → BecomesOn view p a t b q → TakesOne view q b t' c d cluster (Ok taken) → TakesCluster view p a t'' c q d cluster (Ok taken)
+      → UnseenAllocatorGrowth view p a t b q → TakesOne view q b t' c d cluster (Ok taken) → TakesCluster view p a t'' c q d cluster (Ok taken)
   takes_on p q a b c t t' t'' d cluster true held same first second =
       on_as p (taken_as d q (one_at cluster)) a c t' t'' same (becomes_on p q (taken_as d q (one_at cluster)) a b c t t' held first (on_of q (taken_as d q (one_at cluster)) b c t' second))
   takes_on p q a b c t t' t'' d cluster false held same first second = on_as p q a c t' t'' same (becomes_on p q q a b c t t' held first (on_of q q b c t' second))
 
   -- an allocation after a step that left the same pending
-  pub allocates_then : (p q : Pending) (a b c : ImageFile S) (t t' : Allocator) (kind : ClusterKind) (n : ℕ) (result : Result ClustersToFreeEntry ImageError) → BecomesOn view p a t b p → Allocates view p b t' c q kind n result → Allocates view p a t' c q kind n result
+  pub allocates_then : (p q : Pending) (a b c : ImageFile S) (t t' : Allocator) (kind : ClusterKind) (n : ℕ) (result : Result ClustersToFreeEntry ImageError) → UnseenAllocatorGrowth view p a t b p → Allocates view p b t' c q kind n result → Allocates view p a t' c q kind n result
   allocates_then p q a b c t t' kind n (Ok run) first second = (second.0, second.1, becomes_on p p (taken_as (is_data kind) q (run_at run.first_cluster n)) a b c t t' (λ k some. some) first second.2)
   allocates_then p q a b c t t' kind n (Err e) first second = leaves_on p p q a b c t t' e (λ k some. some) first second
 
   -- a refblock that was placed in a cluster that was taken for it, and that was noted
-  pub gets_taken : (p : Pending) (a b c : ImageFile S) (t t' : Allocator) (range at : ℕ) (result : Result (Unit {0}) ImageError) → Becomes view p a t b (taken_as false p (one_at at)) → IsTrue c.caches.is_changed
+  pub gets_taken : (p : Pending) (a b c : ImageFile S) (t t' : Allocator) (range at : ℕ) (result : Result (Unit {0}) ImageError) → UnseenAllocatorStep view p a t b (taken_as false p (one_at at)) → IsTrue c.caches.is_changed
       → PlacesBlock view (taken_as false p (one_at at)) b t' c p range at result → GetsBlock view p a t' c result
   gets_taken p a b c t t' range at (Ok _) first noted placed = record { moves = moves_then view p (taken_as false p (one_at at)) p a b c (λ k some. some) first.moves placed.0.moves; reftable = placed.0.reftable }
   gets_taken p a b c t t' range at (Err e) first noted placed = inr (breaks_after view p (taken_as false p (one_at at)) a b c t' e first.moves placed.0 noted placed.1)
@@ -171,13 +171,13 @@ module _ {S : Type 0} (view : S → StorageView) where
   gets_placed p old new t range at (Err e) placed = placed.1
 
   -- a refusal after a step that left the same pending, as the errors of answers say it
-  pub gets_then : (p : Pending) (a b c : ImageFile S) (t t' : Allocator) (result : Result (Unit {0}) ImageError) → Becomes view p a t b p → GetsBlock view p b t' c result → GetsBlock view p a t' c result
+  pub gets_then : (p : Pending) (a b c : ImageFile S) (t t' : Allocator) (result : Result (Unit {0}) ImageError) → UnseenAllocatorStep view p a t b p → GetsBlock view p b t' c result → GetsBlock view p a t' c result
   gets_then p a b c t t' (Ok _) first second = becomes_then p p a b c t t' first second
   gets_then p a b c t t' (Err e) first second = leaves_then view p a b c t' e first.moves second
 
   -- ---- the refblock of a range
-  pub stands : (p : Pending) (file : ImageFile S) (t : EntryTableView) → IsSoundFile view p file → HasReftable view file t → (range offset cluster bits : ℕ) → offset ≡ block_offset (entry_at t.bytes range) → 0 < offset
-      → cluster * 2 ^ bits ≡ offset → bits ≡ file.header.fields.cluster_bits → IsSome (rb_at file.caches cluster) → StandsAt view file range (Some cluster)
+  pub stands : (p : Pending) (file : ImageFile S) (t : EntryTableView) → FileInvariant view p file → HasReftable view file t → (range offset cluster bits : ℕ) → offset ≡ block_offset (entry_at t.bytes range) → 0 < offset
+      → cluster * 2 ^ bits ≡ offset → bits ≡ file.header.fields.cluster_bits → IsSome (rb_at file.caches cluster) → RefblockAt view file range (Some cluster)
   stands p file t sound has range offset cluster bits is some at same there =
       let known : offset ≡ block_offset (reftable_entry file.header.fields (known_in view file) range) =
       is ∙ ap block_offset (has.entries range ∙ sound.caches.kept.kept.guarded.same_top.reftable range) in (
@@ -186,12 +186,12 @@ module _ {S : Type 0} (view : S → StorageView) where
         there,
       )
 
-  pub stands_none : (file : ImageFile S) (range : ℕ) (o : Option ℕ) → is_some o ≡ false → StandsAt view file range o → StandsAt view file range None
+  pub stands_none : (file : ImageFile S) (range : ℕ) (o : Option ℕ) → is_some o ≡ false → RefblockAt view file range o → RefblockAt view file range None
   stands_none file range None none at = at
   stands_none file range (Some block) none at = absurd (let no : true ≡ false = none in cc)
 
   -- where it has none, the reftable in memory names none
-  pub none_in_memory : (p : Pending) (file : ImageFile S) (t : EntryTableView) → IsSoundFile view p file → HasReftable view file t → (range : ℕ) → StandsAt view file range None → HasNone t range
+  pub none_in_memory : (p : Pending) (file : ImageFile S) (t : EntryTableView) → FileInvariant view p file → HasReftable view file t → (range : ℕ) → RefblockAt view file range None → HasNone t range
   none_in_memory p file t sound has range none = ap block_offset (has.entries range ∙ sound.caches.kept.kept.guarded.same_top.reftable range) ∙ none
 
   -- 64 bits hold where it stands
@@ -201,7 +201,7 @@ module _ {S : Type 0} (view : S → StorageView) where
       subst (λ n. HasPlace n cluster) same (omega arith)
 
   -- a cluster's count stands there
-  pub counted_at : (file : ImageFile S) (header : HeaderFields) → file.header.fields ≡ header → (cluster range block index bits : ℕ) → StandsAt view file range (Some block) → counts_per_block header ≡ 2 ^ bits
+  pub counted_at : (file : ImageFile S) (header : HeaderFields) → file.header.fields ≡ header → (cluster range block index bits : ℕ) → RefblockAt view file range (Some block) → counts_per_block header ≡ 2 ^ bits
       → range ≡ cluster / 2 ^ bits → index ≡ cluster % 2 ^ bits → IsCountedAt file.header.fields (known_in view file) cluster block index
   counted_at file header is cluster range block index bits at counts in_range in_block =
       let per : counts_per_block file.header.fields ≡ 2 ^ bits = ap counts_per_block is ∙ counts in
@@ -213,10 +213,10 @@ module _ {S : Type 0} (view : S → StorageView) where
       }
 
   -- ---- one cluster
-  module _ (p : Pending) (a b : ImageFile S) (t : Allocator) (first : Becomes view p a t b p) (cluster block index : ℕ) (at : IsCountedAt b.header.fields (known_in view b) cluster block index)
+  module _ (p : Pending) (a b : ImageFile S) (t : Allocator) (first : UnseenAllocatorStep view p a t b p) (cluster block index : ℕ) (at : IsCountedAt b.header.fields (known_in view b) cluster block index)
       (caches : MetadataCaches S) (turned : order_of caches ≡ order_of b.caches) (marks : KeepsMarks b.caches caches) where
     pub taken_one : (d : Bool) → MayTake d a → order_of b.caches ≡ order_of a.caches → count b.header.fields (known_in view b) cluster ≡ 0 → RaisesCount b.caches caches block index
-        → Becomes view p a t (record b { caches = caches }) (taken_as d p (one_at cluster))
+        → UnseenAllocatorStep view p a t (record b { caches = caches }) (taken_as d p (one_at cluster))
     taken_one d may same free raises =
         let made = raises b.header.fields p (contents_in view b) cluster first.moves.sound.caches at free in record {
           moves = moves_then view p p (taken_as d p (one_at cluster)) a b (record b { caches = caches }) (λ k some. some) first.moves
@@ -224,7 +224,7 @@ module _ {S : Type 0} (view : S → StorageView) where
           reftable = reftable_counted view p b caches cluster first.moves.sound marks turned t.reftable first.reftable;
         }
 
-    pub given_one : (owed : Owed) (q : Pending) → MayLower owed b → p ≡ owed_as owed q (one_at cluster) → LowersCount b.caches caches block index → Becomes view p a t (record b { caches = caches }) q
+    pub given_one : (owed : Owed) (q : Pending) → MayLower owed b → p ≡ owed_as owed q (one_at cluster) → LowersCount b.caches caches block index → UnseenAllocatorStep view p a t (record b { caches = caches }) q
     given_one owed q may owes lowers =
         let made = lowers b.header.fields p (contents_in view b) cluster first.moves.sound.caches at in record {
           moves = moves_then view p p q a b (record b { caches = caches }) (λ k some. some) first.moves (moves_lowered view p b caches cluster first.moves.sound marks turned q made owed may owes);
@@ -232,7 +232,7 @@ module _ {S : Type 0} (view : S → StorageView) where
         }
 
   -- what is owed is counted
-  pub owed_counted : (owed : Owed) (q : Pending) (cluster : ℕ) (p : Pending) (file : ImageFile S) → p ≡ owed_as owed q (one_at cluster) → IsSoundFile view p file → count file.header.fields (known_in view file) cluster ≢ 0
+  pub owed_counted : (owed : Owed) (q : Pending) (cluster : ℕ) (p : Pending) (file : ImageFile S) → p ≡ owed_as owed q (one_at cluster) → FileInvariant view p file → count file.header.fields (known_in view file) cluster ≢ 0
   owed_counted owed q cluster p file owes sound none =
       let tally = (sound.caches.kept.kept.guarded.always cluster).tally in
       let some = some_owed owed owes in
@@ -245,8 +245,8 @@ module _ {S : Type 0} (view : S → StorageView) where
       some_owed (Listed Data) owes = let own = one_here cluster in let e : p.dropped cluster ≡ q.dropped cluster + one_at cluster cluster = ap (λ (r : Pending). r.dropped cluster) owes in omega arith
 
   -- so it has a refblock
-  pub owed_has_block : (owed : Owed) (q : Pending) (cluster range bits : ℕ) (p : Pending) (file : ImageFile S) (header : HeaderFields) → file.header.fields ≡ header → p ≡ owed_as owed q (one_at cluster) → IsSoundFile view p file
-      → counts_per_block header ≡ 2 ^ bits → range ≡ cluster / 2 ^ bits → StandsAt view file range None → ⊥
+  pub owed_has_block : (owed : Owed) (q : Pending) (cluster range bits : ℕ) (p : Pending) (file : ImageFile S) (header : HeaderFields) → file.header.fields ≡ header → p ≡ owed_as owed q (one_at cluster) → FileInvariant view p file
+      → counts_per_block header ≡ 2 ^ bits → range ≡ cluster / 2 ^ bits → RefblockAt view file range None → ⊥
   owed_has_block owed q cluster range bits p file header is owes sound counts in_range none =
       let same : cluster / counts_per_block file.header.fields ≡ range = ap (λ n. cluster / n) (ap counts_per_block is ∙ counts) ∙ sym in_range in
       owed_counted owed q cluster p file owes sound

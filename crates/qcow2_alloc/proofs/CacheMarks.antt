@@ -157,14 +157,14 @@ module _ {S : Type 0} (c : MetadataCaches S) (k : ℕ) (l2 : Cache (L2CacheBacke
       let entries : l2.entries ≡ es = ap (λ (x : Cache (L2CacheBackend S) ℕ L2TableView). x.entries) is in
       let tables : l2_tables (record c { l2 = with_entries c.l2 es }) ≡ l2_tables c = same_tables c.l2.backend.header.fields.cluster_bits (λ (t : L2TableView). t.bytes) (λ t. t.is_modified) c.l2.entries es same in
       subst (λ (x : Cache (L2CacheBackend S) ℕ L2TableView). SameTables c (record c { l2 = x })) (sym is) (record {
-        sound = λ h p base sound. record {
+        sound = λ h p on_storage sound. record {
           l2_format = sound.l2_format;
           rb_format = sound.rb_format;
           l2_fit = same_fit (IsTableOf c.l2.backend.header.fields) c.l2.entries es same sound.l2_fit;
           rb_fit = sound.rb_fit;
           kept = rw tables sound.kept;
         };
-        known = λ h base. rw tables refl;
+        known = λ h on_storage. rw tables refl;
         l2_tables = tables;
         refblocks = refl;
         l2_at = λ cluster. same_values (eqb cluster) c.l2.entries es same;
@@ -210,8 +210,8 @@ module _ {S : Type 0} (c : MetadataCaches S) (k : ℕ) (l2 : Cache (L2CacheBacke
 module _ {S : Type 0} (c : MetadataCaches S) (m : Bool) where
   pub tables_marked : SameTables c (record c { is_changed = m })
   tables_marked = record {
-    sound = λ h p base sound. record { l2_format = sound.l2_format; rb_format = sound.rb_format; l2_fit = sound.l2_fit; rb_fit = sound.rb_fit; kept = sound.kept };
-    known = λ h base. refl;
+    sound = λ h p on_storage sound. record { l2_format = sound.l2_format; rb_format = sound.rb_format; l2_fit = sound.l2_fit; rb_fit = sound.rb_fit; kept = sound.kept };
+    known = λ h on_storage. refl;
     l2_tables = refl;
     refblocks = refl;
     l2_at = λ cluster. refl;

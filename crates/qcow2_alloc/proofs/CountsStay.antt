@@ -7,7 +7,7 @@ use Rattle.qcow2_metadata.specs.Header.{reftable_entries}
 use Rattle.qcow2_metadata.specs.Entries.{l1_entry, reftable_entry, block_offset, count}
 use Rattle.qcow2_metadata.specs.Named.{in_cluster, table_in, named_by_cover, named_by_reftable, named_for_tables}
 use Rattle.qcow2_laws.specs.Clusters.{Direction}
-use Rattle.qcow2_laws.specs.Guard.{Pending, IsGuarded, SameCovers}
+use Rattle.qcow2_laws.specs.CrashInvariant.{Pending, CrashInvariant, SameCovers}
 use Rattle.qcow2_laws.specs.Guests.{names}
 use Rattle.qcow2_laws.proofs.Guests.{over_guests-same}
 use Rattle.qcow2_laws.proofs.Sums.{sum_below-le}
@@ -15,27 +15,27 @@ use Rattle.qcow2_laws.proofs.Tops.{l1_names-same}
 use Rattle.qcow2_alloc.specs.ImageFile.{pending_at}
 
 -- no refblock is named less
-module _ (h : HeaderFields) (base base' : Bytes) (kept : (k : ℕ) → block_offset (reftable_entry h base k) ≢ 0 → reftable_entry h base' k ≡ reftable_entry h base k) where
-  named_more : (c k : ℕ) → table_in h c (block_offset (reftable_entry h base k)) ≤ table_in h c (block_offset (reftable_entry h base' k))
-  named_more c k = elim (cases_eq (block_offset (reftable_entry h base k)) 0) [
+module _ (h : HeaderFields) (on_storage on_storage' : Bytes) (kept : (k : ℕ) → block_offset (reftable_entry h on_storage k) ≢ 0 → reftable_entry h on_storage' k ≡ reftable_entry h on_storage k) where
+  named_more : (c k : ℕ) → table_in h c (block_offset (reftable_entry h on_storage k)) ≤ table_in h c (block_offset (reftable_entry h on_storage' k))
+  named_more c k = elim (cases_eq (block_offset (reftable_entry h on_storage k)) 0) [
     | inl none ↦
-        let zero : table_in h c (block_offset (reftable_entry h base k)) ≡ 0 = cond-true {A = ℕ} (block_offset (reftable_entry h base k) == 0) 0 (in_cluster h c (block_offset (reftable_entry h base k))) (eq-eqb _ 0 none) in
+        let zero : table_in h c (block_offset (reftable_entry h on_storage k)) ≡ 0 = cond-true {A = ℕ} (block_offset (reftable_entry h on_storage k) == 0) 0 (in_cluster h c (block_offset (reftable_entry h on_storage k))) (eq-eqb _ 0 none) in
         omega arith
     | inr some ↦ let same = ap (λ e. table_in h c (block_offset e)) (kept k some) in omega arith
   ]
 
-  blocks_more : (c : ℕ) → named_by_reftable h base c ≤ named_by_reftable h base' c
+  blocks_more : (c : ℕ) → named_by_reftable h on_storage c ≤ named_by_reftable h on_storage' c
   unfolding named_by_reftable
   blocks_more c = sum_below-le (reftable_entries h) _ _ (λ k _. named_more c k)
 
-  pub fixed_more : ((i : ℕ) → l1_entry h base' i ≡ l1_entry h base i) → (c : ℕ) → named_for_tables h base c ≤ named_for_tables h base' c
+  pub fixed_more : ((i : ℕ) → l1_entry h on_storage' i ≡ l1_entry h on_storage i) → (c : ℕ) → named_for_tables h on_storage c ≤ named_for_tables h on_storage' c
   unfolding named_for_tables
-  fixed_more same c = let blocks = blocks_more c in let l1 = l1_names-same h base' base c same in omega arith
+  fixed_more same c = let blocks = blocks_more c in let l1 = l1_names-same h on_storage' on_storage c same in omega arith
 
-pub counts_follow : (h : HeaderFields) (d d' : Direction) (p p' : Pending) (base base' known known' : Bytes) → IsGuarded h d p base known → IsGuarded h d' p' base' known' → SameCovers h known known'
-    → ((c : ℕ) → named_for_tables h base c ≤ named_for_tables h base' c)
+pub counts_follow : (h : HeaderFields) (d d' : Direction) (p p' : Pending) (on_storage on_storage' known known' : Bytes) → CrashInvariant h d p on_storage known → CrashInvariant h d' p' on_storage' known' → SameCovers h known known'
+    → ((c : ℕ) → named_for_tables h on_storage c ≤ named_for_tables h on_storage' c)
     → (c : ℕ) → p'.surplus c ≡ p.surplus c → count h known c + pending_at p' c ≤ count h known' c + pending_at p c
-counts_follow h d d' p p' base base' known known' old new covers fixed c same =
+counts_follow h d d' p p' on_storage on_storage' known known' old new covers fixed c same =
     let before = (old.always c).tally in
     let after = (new.always c).tally in
     let used = over_guests-same h (names h known c) (names h known' c) (λ g. ap (named_by_cover h c) (covers g)) in

@@ -9,17 +9,17 @@ use Rattle.qcow2_metadata.specs.EntryTable.{EntryTableView}
 use Rattle.qcow2_metadata.specs.Header.{cluster_size}
 use Rattle.qcow2_metadata.specs.Entries.{l1_entry, count}
 use Rattle.qcow2_metadata.specs.Named.{named_for_tables}
-use Rattle.qcow2_laws.specs.Stops.{Mark, IsKeptAt}
+use Rattle.qcow2_laws.specs.Stops.{Checkpoint, StopOkEverywhere}
 use Rattle.qcow2_laws.specs.Clusters.{Direction}
-use Rattle.qcow2_laws.specs.Guard.{Pending}
+use Rattle.qcow2_laws.specs.CrashInvariant.{Pending}
 use Rattle.qcow2_laws.specs.Changes.{one_at, with_held, with_fresh, without_spent, without_dropped, held_to_spent, fresh_to_spent}
-use Rattle.qcow2_laws.specs.Leads.{Stand, Leads, Endures}
+use Rattle.qcow2_laws.specs.SafeSteps.{DriverState, SafeStep, SafeThroughout}
 use Rattle.qcow2_laws.specs.Steps.{CountRises, CountFalls}
 use Rattle.qcow2_laws.specs.Unseen.{IsUnseen}
 use Rattle.qcow2_laws.proofs.Caches.{unnamed_free_l2, unnamed_free_rb}
-use Rattle.qcow2_laws.proofs.KeptSteps.{known_is_base}
+use Rattle.qcow2_laws.proofs.KeptSteps.{known_is_on_storage}
 use Rattle.qcow2_laws.proofs.Steps.{count_is_changed, pending_is_changed}
-use Rattle.qcow2_laws.proofs.Unseen.{unseen_none, unseen_then, unseen_known, unseen_count, l1_same_none, l1_same_then, l1_same_base, l1_same_known}
+use Rattle.qcow2_laws.proofs.Unseen.{unseen_none, unseen_then, unseen_known, unseen_count, l1_same_none, l1_same_then, l1_same_storage, l1_same_known}
 use Rattle.qcow2_alloc.specs.declared.allocation.Allocator.{Allocator}
 use Rattle.qcow2_alloc.specs.declared.cache.MetadataCaches.{MetadataCaches}
 use Rattle.qcow2_alloc.specs.declared.error.ImageError.{ImageError}
@@ -28,9 +28,9 @@ use Rattle.qcow2_alloc.specs.declared.image_storage.ImageStorage.{ImageStorage}
 use Rattle.qcow2_alloc.specs.Allocation.{taken_as, listed_as, Owed, Taken, Listed, owed_as, MayTake, MayLower}
 use Rattle.qcow2_alloc.specs.declared.clusters_to_free.ClusterKind.TheVariants.{Data, Metadata}
 use Rattle.qcow2_alloc.specs.CacheMarks.{KeepsMarks}
-use Rattle.qcow2_alloc.specs.ImageFile.{nothing_given, pending_at, view_in, contents_in, known_in, stand_in, IsSoundFile, HasReftable, Moves, MovesOn, Breaks, LeavesSound, IsFault}
+use Rattle.qcow2_alloc.specs.ImageFile.{nothing_given, pending_at, view_in, contents_in, known_in, state_in, FileInvariant, HasReftable, UnseenFileStep, UnseenFileGrowth, InterruptedFileStep, RefusedFileStep, IsFault}
 use Rattle.qcow2_alloc.specs.ImageStorage.{storage_of}
-use Rattle.qcow2_alloc.specs.MetadataCaches.{order_of, l2_tables, refblocks, known_of, StaySound, Made}
+use Rattle.qcow2_alloc.specs.MetadataCaches.{order_of, l2_tables, refblocks, known_of, UnseenCacheStep, Made}
 use Rattle.qcow2_alloc.proofs.CountsStay.{counts_follow}
 use Rattle.qcow2_alloc.proofs.KeptTables.Settled.{top_still}
 
@@ -59,23 +59,23 @@ one_few c k = elim (k == c) as (λ (b : Bool). cond b 1 0 ≤ 1) [ true ↦ omeg
 
 module _ {S : Type 0} (view : S → StorageView) where
   abbrev Moved : Pending → Pending → ImageFile S → ImageFile S → Type 0
-  Moved = Moves view
+  Moved = UnseenFileStep view
 
   -- ---- one step after another
 
-  pub moves_none : (p : Pending) (file : ImageFile S) → IsSoundFile view p file → Moved p p file file
+  pub moves_none : (p : Pending) (file : ImageFile S) → FileInvariant view p file → Moved p p file file
   moves_none p file sound = record {
     sound = sound;
-    leads = record { sound = sound.caches.kept.kept.guarded; base = λ backing m ok known_ok. ok; known = λ backing m ok known_ok. known_ok };
+    leads = record { sound = sound.caches.kept.kept.guarded; on_storage = λ backing m ok known_ok. ok; known = λ backing m ok known_ok. known_ok };
     since = record { moments = passes_none (view_in view file) _; contents = λ backing m ok known_ok. ok };
-    unseen = unseen_none (stand_in view file p);
-    l1_table = l1_same_none (stand_in view file p);
+    unseen = unseen_none (state_in view file p);
+    l1_table = l1_same_none (state_in view file p);
     counts = λ k. omega arith;
   }
 
-  pub endures_then : (a b c : ImageFile S) → Endures (view_in view a) (view_in view b) (known_in view a) nothing_given []
-      → ((backing : Bytes) (m : Mark) → IsKeptAt backing m (contents_in view a) → IsKeptAt backing m (known_in view a) → IsKeptAt backing m (known_in view b))
-      → Endures (view_in view b) (view_in view c) (known_in view b) nothing_given [] → Endures (view_in view a) (view_in view c) (known_in view a) nothing_given []
+  pub endures_then : (a b c : ImageFile S) → SafeThroughout (view_in view a) (view_in view b) (known_in view a) nothing_given []
+      → ((backing : Bytes) (m : Checkpoint) → StopOkEverywhere backing m (contents_in view a) → StopOkEverywhere backing m (known_in view a) → StopOkEverywhere backing m (known_in view b))
+      → SafeThroughout (view_in view b) (view_in view c) (known_in view b) nothing_given [] → SafeThroughout (view_in view a) (view_in view c) (known_in view a) nothing_given []
   endures_then a b c first known second = record {
     moments = passes_on _ first.moments second.moments (λ l q backing m ok known_ok. q backing m (first.contents backing m ok known_ok) (known backing m ok known_ok));
     contents = λ backing m ok known_ok. second.contents backing m (first.contents backing m ok known_ok) (known backing m ok known_ok);
@@ -86,40 +86,40 @@ module _ {S : Type 0} (view : S → StorageView) where
     sound = second.sound;
     leads = record {
       sound = second.leads.sound;
-      base = λ backing m ok known_ok. second.leads.base backing m (first.leads.base backing m ok known_ok) (first.leads.known backing m ok known_ok);
-      known = λ backing m ok known_ok. second.leads.known backing m (first.leads.base backing m ok known_ok) (first.leads.known backing m ok known_ok);
+      on_storage = λ backing m ok known_ok. second.leads.on_storage backing m (first.leads.on_storage backing m ok known_ok) (first.leads.known backing m ok known_ok);
+      known = λ backing m ok known_ok. second.leads.known backing m (first.leads.on_storage backing m ok known_ok) (first.leads.known backing m ok known_ok);
     };
     since = endures_then a b c first.since first.leads.known second.since;
-    unseen = unseen_then (stand_in view a p) (stand_in view b q) (stand_in view c r) first.unseen second.unseen held;
-    l1_table = l1_same_then (stand_in view a p) (stand_in view b q) (stand_in view c r) first.unseen.header first.l1_table second.l1_table;
+    unseen = unseen_then (state_in view a p) (state_in view b q) (state_in view c r) first.unseen second.unseen held;
+    l1_table = l1_same_then (state_in view a p) (state_in view b q) (state_in view c r) first.unseen.header first.l1_table second.l1_table;
     counts = λ k. let one = first.counts k in let two = second.counts k in omega arith;
   }
 
   -- the same where the reftable may move
-  pub moves_on : (p q : Pending) (a b : ImageFile S) → Moved p q a b → MovesOn view p q a b
+  pub moves_on : (p q : Pending) (a b : ImageFile S) → Moved p q a b → UnseenFileGrowth view p q a b
   moves_on p q a b moves = record { sound = moves.sound; leads = moves.leads; since = moves.since; unseen = moves.unseen; l1_table = moves.l1_table }
 
-  pub on_then : (p q r : Pending) (a b c : ImageFile S) → ((k : ℕ) → 0 < p.held k → 0 < q.held k) → MovesOn view p q a b → MovesOn view q r b c → MovesOn view p r a c
+  pub on_then : (p q r : Pending) (a b c : ImageFile S) → ((k : ℕ) → 0 < p.held k → 0 < q.held k) → UnseenFileGrowth view p q a b → UnseenFileGrowth view q r b c → UnseenFileGrowth view p r a c
   on_then p q r a b c held first second = record {
     sound = second.sound;
     leads = record {
       sound = second.leads.sound;
-      base = λ backing m ok known_ok. second.leads.base backing m (first.leads.base backing m ok known_ok) (first.leads.known backing m ok known_ok);
-      known = λ backing m ok known_ok. second.leads.known backing m (first.leads.base backing m ok known_ok) (first.leads.known backing m ok known_ok);
+      on_storage = λ backing m ok known_ok. second.leads.on_storage backing m (first.leads.on_storage backing m ok known_ok) (first.leads.known backing m ok known_ok);
+      known = λ backing m ok known_ok. second.leads.known backing m (first.leads.on_storage backing m ok known_ok) (first.leads.known backing m ok known_ok);
     };
     since = endures_then a b c first.since first.leads.known second.since;
-    unseen = unseen_then (stand_in view a p) (stand_in view b q) (stand_in view c r) first.unseen second.unseen held;
-    l1_table = l1_same_then (stand_in view a p) (stand_in view b q) (stand_in view c r) first.unseen.header first.l1_table second.l1_table;
+    unseen = unseen_then (state_in view a p) (state_in view b q) (state_in view c r) first.unseen second.unseen held;
+    l1_table = l1_same_then (state_in view a p) (state_in view b q) (state_in view c r) first.unseen.header first.l1_table second.l1_table;
   }
 
-  pub on_breaks : (p q : Pending) (a b c : ImageFile S) (e : ImageError) → MovesOn view p q a b → Breaks view b c e → Breaks view a c e
+  pub on_breaks : (p q : Pending) (a b c : ImageFile S) (e : ImageError) → UnseenFileGrowth view p q a b → InterruptedFileStep view b c e → InterruptedFileStep view a c e
   on_breaks p q a b c e first second = record { fault = second.fault; noted = second.noted; since = endures_then a b c first.since first.leads.known second.since }
 
-  pub breaks_then : (p q : Pending) (a b c : ImageFile S) (e : ImageError) → Moved p q a b → Breaks view b c e → Breaks view a c e
+  pub breaks_then : (p q : Pending) (a b c : ImageFile S) (e : ImageError) → Moved p q a b → InterruptedFileStep view b c e → InterruptedFileStep view a c e
   breaks_then p q a b c e first second = record { fault = second.fault; noted = second.noted; since = endures_then a b c first.since first.leads.known second.since }
 
   -- a fault after a change that was noted breaks off
-  pub on_breaks_after : (p q : Pending) (a b c : ImageFile S) (t : Allocator) (e : ImageError) → MovesOn view p q a b → IsFault e → IsTrue c.caches.is_changed → LeavesSound view q b t c e → Breaks view a c e
+  pub on_breaks_after : (p q : Pending) (a b c : ImageFile S) (t : Allocator) (e : ImageError) → UnseenFileGrowth view p q a b → IsFault e → IsTrue c.caches.is_changed → RefusedFileStep view q b t c e → InterruptedFileStep view a c e
   on_breaks_after p q a b c t e first fault noted second = record {
     fault = fault;
     noted = λ _. noted;
@@ -129,19 +129,19 @@ module _ {S : Type 0} (view : S → StorageView) where
     ];
   }
 
-  pub breaks_after : (p q : Pending) (a b c : ImageFile S) (t : Allocator) (e : ImageError) → Moved p q a b → IsFault e → IsTrue c.caches.is_changed → LeavesSound view q b t c e → Breaks view a c e
+  pub breaks_after : (p q : Pending) (a b c : ImageFile S) (t : Allocator) (e : ImageError) → Moved p q a b → IsFault e → IsTrue c.caches.is_changed → RefusedFileStep view q b t c e → InterruptedFileStep view a c e
   breaks_after p q a b c t e first fault noted second = on_breaks_after p q a b c t e (moves_on p q a b first) fault noted second
 
   -- a refusal after a step that left the same pending
-  pub leaves_then : (p : Pending) (a b c : ImageFile S) (t : Allocator) (e : ImageError) → Moved p p a b → LeavesSound view p b t c e → LeavesSound view p a t c e
+  pub leaves_then : (p : Pending) (a b c : ImageFile S) (t : Allocator) (e : ImageError) → Moved p p a b → RefusedFileStep view p b t c e → RefusedFileStep view p a t c e
   leaves_then p a b c t e first second = elim second [
     | inl sound ↦ inl (moves_then p p p a b c (λ k some. some) first sound.0, sound.1)
     | inr breaks ↦ inr (breaks_then p p a b c e first breaks)
   ]
 
   -- ---- a call of the caches
-  module _ (p : Pending) (file : ImageFile S) (storage : ImageStorage S) (caches : MetadataCaches S) (sound : IsSoundFile view p file)
-      (stays : StaySound file.header.fields p (view_in view file) file.caches (view (storage_of storage)) caches) where
+  module _ (p : Pending) (file : ImageFile S) (storage : ImageStorage S) (caches : MetadataCaches S) (sound : FileInvariant view p file)
+      (stays : UnseenCacheStep file.header.fields p (view_in view file) file.caches (view (storage_of storage)) caches) where
     abbrev called : ImageFile S
     called = record file { storage = storage; caches = caches }
 
@@ -150,12 +150,12 @@ module _ {S : Type 0} (view : S → StorageView) where
       sound = record { honest = stays.honest; caches = stays.sound; settled = stays.settled sound.settled; room = marks.room sound.room };
       leads = record {
         sound = stays.sound.kept.kept.guarded;
-        base = λ backing m ok known_ok. stays.since.contents backing m ok known_ok;
-        known = λ backing m ok known_ok. subst (IsKeptAt backing m) (sym stays.known) known_ok;
+        on_storage = λ backing m ok known_ok. stays.since.contents backing m ok known_ok;
+        known = λ backing m ok known_ok. subst (StopOkEverywhere backing m) (sym stays.known) known_ok;
       };
       since = record { moments = stays.since.moments; contents = stays.since.contents };
-      unseen = unseen_known (stand_in view file p) (stand_in view called p) refl stays.known;
-      l1_table = l1_same_known (stand_in view file p) (stand_in view called p) sound.caches.kept.kept.guarded stays.sound.kept.kept.guarded refl (λ i. ap (λ (b : Bytes). l1_entry file.header.fields b i) stays.known);
+      unseen = unseen_known (state_in view file p) (state_in view called p) refl stays.known;
+      l1_table = l1_same_known (state_in view file p) (state_in view called p) sound.caches.kept.kept.guarded stays.sound.kept.kept.guarded refl (λ i. ap (λ (b : Bytes). l1_entry file.header.fields b i) stays.known);
       counts = λ k. let same = ap (λ (b : Bytes). count file.header.fields b k) stays.known in omega arith;
     }
 
@@ -168,7 +168,7 @@ module _ {S : Type 0} (view : S → StorageView) where
     }
 
   -- ---- a count changes
-  module _ (p : Pending) (file : ImageFile S) (caches : MetadataCaches S) (c : ℕ) (sound : IsSoundFile view p file) (marks : KeepsMarks file.caches caches) (turned : order_of caches ≡ order_of file.caches) where
+  module _ (p : Pending) (file : ImageFile S) (caches : MetadataCaches S) (c : ℕ) (sound : FileInvariant view p file) (marks : KeepsMarks file.caches caches) (turned : order_of caches ≡ order_of file.caches) where
     abbrev counted : ImageFile S
     counted = record file { caches = caches }
 
@@ -176,25 +176,25 @@ module _ {S : Type 0} (view : S → StorageView) where
     now_known = known_of file.header.fields caches (contents_in view file)
 
     -- no entry of the storage changes
-    same_base : (q : Pending) → Leads (stand_in view file p) (stand_in view counted q) nothing_given [] → IsUnseen (stand_in view file p) (stand_in view counted q) → (k : ℕ) → q.surplus k ≡ p.surplus k
+    same_storage_bytes : (q : Pending) → SafeStep (state_in view file p) (state_in view counted q) nothing_given [] → IsUnseen (state_in view file p) (state_in view counted q) → (k : ℕ) → q.surplus k ≡ p.surplus k
         → count file.header.fields (known_in view file) k + pending_at q k ≤ count file.header.fields now_known k + pending_at p k
-    same_base q leads unseen k same =
+    same_storage_bytes q leads unseen k same =
         counts_follow file.header.fields (order_of file.caches) (order_of caches) p q (contents_in view file) (contents_in view file) (known_in view file) now_known sound.caches.kept.kept.guarded leads.sound unseen.covers (λ i. omega arith) k same
 
     pub reftable_counted : (t : EntryTableView) → HasReftable view file t → HasReftable view counted t
     reftable_counted t has = record { cluster = has.cluster; bits = has.bits; count = has.count; entries = has.entries }
 
     module _ (made : Made (CountRises file.header.fields (known_in view file) now_known c) file.header.fields file.caches caches (contents_in view file)) where
-      raised_as : (q : Pending) → ((k : ℕ) → q.surplus k ≡ p.surplus k) → Leads (stand_in view file p) (record (stand_in view file p) { pending = q; known = now_known }) nothing_given [] → Moved p q file counted
+      raised_as : (q : Pending) → ((k : ℕ) → q.surplus k ≡ p.surplus k) → SafeStep (state_in view file p) (record (state_in view file p) { pending = q; known = now_known }) nothing_given [] → Moved p q file counted
       raised_as q same leads =
-          let leads' : Leads (stand_in view file p) (stand_in view counted q) nothing_given [] =
-          subst (λ (d : Direction). Leads (stand_in view file p) (record (stand_in view file p) { direction = d; pending = q; known = now_known }) nothing_given []) (sym turned) leads in record {
+          let leads' : SafeStep (state_in view file p) (state_in view counted q) nothing_given [] =
+          subst (λ (d : Direction). SafeStep (state_in view file p) (record (state_in view file p) { direction = d; pending = q; known = now_known }) nothing_given []) (sym turned) leads in record {
             sound = record { honest = sound.honest; caches = made.sound q leads'.sound; settled = made.settled sound.settled; room = marks.room sound.room };
             leads = leads';
             since = record { moments = passes_none (view_in view file) _; contents = λ backing m ok known_ok. ok };
-            unseen = unseen_count (stand_in view file p) (stand_in view counted q) sound.caches.kept.kept.guarded c refl made.change.real made.change.outside;
-            l1_table = l1_same_base (stand_in view file p) (stand_in view counted q) refl;
-            counts = λ k. same_base q leads' (unseen_count (stand_in view file p) (stand_in view counted q) sound.caches.kept.kept.guarded c refl made.change.real made.change.outside) k (same k);
+            unseen = unseen_count (state_in view file p) (state_in view counted q) sound.caches.kept.kept.guarded c refl made.change.real made.change.outside;
+            l1_table = l1_same_storage (state_in view file p) (state_in view counted q) refl;
+            counts = λ k. same_storage_bytes q leads' (unseen_count (state_in view file p) (state_in view counted q) sound.caches.kept.kept.guarded c refl made.change.real made.change.outside) k (same k);
           }
 
       -- no table lies in a cluster that isn't counted
@@ -205,67 +205,67 @@ module _ {S : Type 0} (view : S → StorageView) where
           let tally = (kept.guarded.always c).tally in
           let free = made.change.free in
           let none : named_for_tables file.header.fields (contents_in view file) c ≡ 0 = omega (arith, tally, free) in
-          sym (known_is_base (cluster_size h) (l2_tables file.caches) (refblocks file.caches) (contents_in view file) o
+          sym (known_is_on_storage (cluster_size h) (l2_tables file.caches) (refblocks file.caches) (contents_in view file) o
           (unnamed_free_l2 h (order_of file.caches) p (l2_tables file.caches) (refblocks file.caches) (contents_in view file) kept c none o in_c)
           (unnamed_free_rb h (order_of file.caches) p (l2_tables file.caches) (refblocks file.caches) (contents_in view file) kept sound.settled c none o in_c))
 
       -- a cluster is taken
       pub moves_raised : (d : Bool) → MayTake d file → Moved p (taken_as d p (one_at c)) file counted
-      moves_raised true may = raised_as (with_held p (one_at c)) (λ k. refl) (count_is_changed.data_allocated (stand_in view file p) now_known c sound.caches.kept.kept.guarded may made.change unlaid)
-      moves_raised false may = raised_as (with_fresh p (one_at c)) (λ k. refl) (count_is_changed.table_allocated (stand_in view file p) now_known c sound.caches.kept.kept.guarded made.change)
+      moves_raised true may = raised_as (with_held p (one_at c)) (λ k. refl) (count_is_changed.data_allocated (state_in view file p) now_known c sound.caches.kept.kept.guarded may made.change unlaid)
+      moves_raised false may = raised_as (with_fresh p (one_at c)) (λ k. refl) (count_is_changed.table_allocated (state_in view file p) now_known c sound.caches.kept.kept.guarded made.change)
 
     -- a cluster that is owed is counted once less
     module _ (q : Pending) (made : Made (CountFalls file.header.fields (known_in view file) now_known c) file.header.fields file.caches caches (contents_in view file)) where
-      lowered_as : ((k : ℕ) → q.surplus k ≡ p.surplus k) → Leads (stand_in view file p) (record (stand_in view file p) { pending = q; known = now_known }) nothing_given [] → Moved p q file counted
+      lowered_as : ((k : ℕ) → q.surplus k ≡ p.surplus k) → SafeStep (state_in view file p) (record (state_in view file p) { pending = q; known = now_known }) nothing_given [] → Moved p q file counted
       lowered_as same leads =
-          let leads' : Leads (stand_in view file p) (stand_in view counted q) nothing_given [] =
-          subst (λ (d : Direction). Leads (stand_in view file p) (record (stand_in view file p) { direction = d; pending = q; known = now_known }) nothing_given []) (sym turned) leads in record {
+          let leads' : SafeStep (state_in view file p) (state_in view counted q) nothing_given [] =
+          subst (λ (d : Direction). SafeStep (state_in view file p) (record (state_in view file p) { direction = d; pending = q; known = now_known }) nothing_given []) (sym turned) leads in record {
             sound = record { honest = sound.honest; caches = made.sound q leads'.sound; settled = made.settled sound.settled; room = marks.room sound.room };
             leads = leads';
             since = record { moments = passes_none (view_in view file) _; contents = λ backing m ok known_ok. ok };
-            unseen = unseen_count (stand_in view file p) (stand_in view counted q) sound.caches.kept.kept.guarded c refl made.change.real made.change.outside;
-            l1_table = l1_same_base (stand_in view file p) (stand_in view counted q) refl;
-            counts = λ k. same_base q leads' (unseen_count (stand_in view file p) (stand_in view counted q) sound.caches.kept.kept.guarded c refl made.change.real made.change.outside) k (same k);
+            unseen = unseen_count (state_in view file p) (state_in view counted q) sound.caches.kept.kept.guarded c refl made.change.real made.change.outside;
+            l1_table = l1_same_storage (state_in view file p) (state_in view counted q) refl;
+            counts = λ k. same_storage_bytes q leads' (unseen_count (state_in view file p) (state_in view counted q) sound.caches.kept.kept.guarded c refl made.change.real made.change.outside) k (same k);
           }
 
       -- it is spent first, and then no longer counted
-      freed : (spent : Pending) → Leads (stand_in view file p) (record (stand_in view file p) { pending = spent }) nothing_given [] → 0 < spent.spent c → without_spent spent (one_at c) ≡ q
-          → Leads (stand_in view file p) (record (stand_in view file p) { pending = q; known = now_known }) nothing_given []
+      freed : (spent : Pending) → SafeStep (state_in view file p) (record (state_in view file p) { pending = spent }) nothing_given [] → 0 < spent.spent c → without_spent spent (one_at c) ≡ q
+          → SafeStep (state_in view file p) (record (state_in view file p) { pending = q; known = now_known }) nothing_given []
       freed spent first some same =
-          let s : Stand = stand_in view file p in
+          let s : DriverState = state_in view file p in
           let second = count_is_changed.table_freed (record s { pending = spent }) now_known c first.sound made.change some in
-          subst (λ (r : Pending). Leads s (record s { pending = r; known = now_known }) nothing_given []) same (record {
+          subst (λ (r : Pending). SafeStep s (record s { pending = r; known = now_known }) nothing_given []) same (record {
             sound = second.sound;
-            base = λ backing m ok known_ok. second.base backing m (first.base backing m ok known_ok) (first.known backing m ok known_ok);
-            known = λ backing m ok known_ok. second.known backing m (first.base backing m ok known_ok) (first.known backing m ok known_ok);
+            on_storage = λ backing m ok known_ok. second.on_storage backing m (first.on_storage backing m ok known_ok) (first.known backing m ok known_ok);
+            known = λ backing m ok known_ok. second.known backing m (first.on_storage backing m ok known_ok) (first.known backing m ok known_ok);
           })
 
       pub moves_lowered : (owed : Owed) → MayLower owed file → p ≡ owed_as owed q (one_at c) → Moved p q file counted
       moves_lowered (Taken true) may taken =
           let held : p.held c ≡ q.held c + one_at c c = ap (λ (r : Pending). r.held c) taken in
           let own = one_here c in
-          let first = pending_is_changed.undone (stand_in view file p) (one_at c) sound.caches.kept.kept.guarded (one_few c) (λ k some. subst (λ n. 0 < p.held n) (sym (one_alone c k some)) (omega arith)) in
+          let first = pending_is_changed.undone (state_in view file p) (one_at c) sound.caches.kept.kept.guarded (one_few c) (λ k some. subst (λ n. 0 < p.held n) (sym (one_alone c k some)) (omega arith)) in
           lowered_as (λ k. sym (ap (λ (r : Pending). r.surplus k) taken)) (freed (held_to_spent p (one_at c)) first (omega arith)
           (ap (λ (r : Pending). without_spent (held_to_spent r (one_at c)) (one_at c)) taken
           ∙ pending_same (without_spent (held_to_spent (with_held q (one_at c)) (one_at c)) (one_at c)) q (λ k. omega arith) (λ k. refl) (λ k. omega arith) (λ k. refl) (λ k. refl)))
       moves_lowered (Taken false) may taken =
           let fresh : p.fresh c ≡ q.fresh c + one_at c c = ap (λ (r : Pending). r.fresh c) taken in
           let own = one_here c in
-          let first = pending_is_changed.abandoned (stand_in view file p) (one_at c) sound.caches.kept.kept.guarded (one_few c) (λ k some. subst (λ n. 0 < p.fresh n) (sym (one_alone c k some)) (omega arith)) in
+          let first = pending_is_changed.abandoned (state_in view file p) (one_at c) sound.caches.kept.kept.guarded (one_few c) (λ k some. subst (λ n. 0 < p.fresh n) (sym (one_alone c k some)) (omega arith)) in
           lowered_as (λ k. sym (ap (λ (r : Pending). r.surplus k) taken)) (freed (fresh_to_spent p (one_at c)) first (omega arith)
           (ap (λ (r : Pending). without_spent (fresh_to_spent r (one_at c)) (one_at c)) taken
           ∙ pending_same (without_spent (fresh_to_spent (with_fresh q (one_at c)) (one_at c)) (one_at c)) q (λ k. refl) (λ k. omega arith) (λ k. omega arith) (λ k. refl) (λ k. refl)))
       moves_lowered (Listed Metadata) may listed =
           let spent : p.spent c ≡ q.spent c + one_at c c = ap (λ (r : Pending). r.spent c) listed in
           let own = one_here c in
-          let s : Stand = stand_in view file p in
-          lowered_as (λ k. sym (ap (λ (r : Pending). r.surplus k) listed)) (subst (λ (r : Pending). Leads s (record s { pending = r; known = now_known }) nothing_given [])
+          let s : DriverState = state_in view file p in
+          lowered_as (λ k. sym (ap (λ (r : Pending). r.surplus k) listed)) (subst (λ (r : Pending). SafeStep s (record s { pending = r; known = now_known }) nothing_given [])
           (ap (λ (r : Pending). without_spent r (one_at c)) listed ∙ pending_same (without_spent (listed_as Metadata q (one_at c)) (one_at c)) q (λ k. refl) (λ k. refl) (λ k. omega arith) (λ k. refl) (λ k. refl))
           (count_is_changed.table_freed s now_known c sound.caches.kept.kept.guarded made.change (omega arith)))
       moves_lowered (Listed Data) may listed =
           let dropped : p.dropped c ≡ q.dropped c + one_at c c = ap (λ (r : Pending). r.dropped c) listed in
           let own = one_here c in
-          let s : Stand = stand_in view file p in
-          lowered_as (λ k. sym (ap (λ (r : Pending). r.surplus k) listed)) (subst (λ (r : Pending). Leads s (record s { pending = r; known = now_known }) nothing_given [])
+          let s : DriverState = state_in view file p in
+          lowered_as (λ k. sym (ap (λ (r : Pending). r.surplus k) listed)) (subst (λ (r : Pending). SafeStep s (record s { pending = r; known = now_known }) nothing_given [])
           (ap (λ (r : Pending). without_dropped r (one_at c)) listed ∙ pending_same (without_dropped (listed_as Data q (one_at c)) (one_at c)) q (λ k. refl) (λ k. refl) (λ k. refl) (λ k. omega arith) (λ k. refl))
           (count_is_changed.data_freed s now_known c sound.caches.kept.kept.guarded may made.change (omega arith)))

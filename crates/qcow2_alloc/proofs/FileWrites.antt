@@ -6,22 +6,22 @@ use Rattle.qcow2_metadata.specs.Bytes.{byte_at}
 use Rattle.qcow2_metadata.specs.EntryTable.{EntryTableView}
 use Rattle.qcow2_metadata.specs.Header.{cluster_size}
 use Rattle.qcow2_metadata.specs.Named.{named_for_tables}
-use Rattle.qcow2_laws.specs.Stops.{IsKeptAt}
-use Rattle.qcow2_laws.specs.Guard.{Pending, SameIn}
-use Rattle.qcow2_laws.specs.Leads.{Leads}
+use Rattle.qcow2_laws.specs.Stops.{StopOkEverywhere}
+use Rattle.qcow2_laws.specs.CrashInvariant.{Pending, SameIn}
+use Rattle.qcow2_laws.specs.SafeSteps.{SafeStep}
 use Rattle.qcow2_laws.specs.Writes.{IsUnnamed, IsWritten}
 use Rattle.qcow2_laws.proofs.Beside.{data_beside, same_beside, unnamed_free}
 use Rattle.qcow2_laws.proofs.Steps.{data_is_written}
 use Rattle.qcow2_laws.proofs.Unseen.{unseen_written}
 use Rattle.qcow2_alloc.specs.declared.image_file.ImageFile.{ImageFile}
 use Rattle.qcow2_alloc.specs.declared.image_storage.ImageStorage.{ImageStorage}
-use Rattle.qcow2_alloc.specs.ImageFile.{nothing_given, view_in, contents_in, known_in, stand_in, IsSoundFile, HasReftable, Moves}
+use Rattle.qcow2_alloc.specs.ImageFile.{nothing_given, view_in, contents_in, known_in, state_in, FileInvariant, HasReftable, UnseenFileStep}
 use Rattle.qcow2_alloc.specs.ImageStorage.{storage_of}
 use Rattle.qcow2_alloc.specs.MetadataCaches.{order_of, l2_tables, refblocks}
 use Rattle.qcow2_alloc.proofs.CountsStay.{counts_follow, fixed_more}
 use Rattle.qcow2_alloc.proofs.KeptTables.Beside.{top_beside, settled_beside_write, sound_beside}
 
-module _ {S : Type 0} (view : S → StorageView) (p : Pending) (file : ImageFile S) (storage : ImageStorage S) (sound : IsSoundFile view p file) (honest : (view (storage_of storage)).is_honest)
+module _ {S : Type 0} (view : S → StorageView) (p : Pending) (file : ImageFile S) (storage : ImageStorage S) (sound : FileInvariant view p file) (honest : (view (storage_of storage)).is_honest)
     (each : (c : ℕ) → SameIn (cluster_size file.header.fields) c (contents_in view file) (byte_at (view (storage_of storage)).contents)
     ⊎ (IsUnnamed file.header.fields (contents_in view file) (known_in view file) c × (p.held c ≡ 0))) where
   abbrev written : ImageFile S
@@ -47,8 +47,8 @@ module _ {S : Type 0} (view : S → StorageView) (p : Pending) (file : ImageFile
         | inr free ↦ inr (inl free.0)
       ])
 
-  leads_written : Leads (stand_in view file p) (stand_in view written p) nothing_given []
-  leads_written = data_is_written.written (stand_in view file p) (contents_in view written) (known_in view written) [] sound.caches.kept.kept.guarded is_written
+  leads_written : SafeStep (state_in view file p) (state_in view written p) nothing_given []
+  leads_written = data_is_written.written (state_in view file p) (contents_in view written) (known_in view written) [] sound.caches.kept.kept.guarded is_written
 
   each_known : (c : ℕ) → (SameIn (cluster_size file.header.fields) c (contents_in view file) (contents_in view written) × SameIn (cluster_size file.header.fields) c (known_in view file) (known_in view written))
       ⊎ (IsUnnamed file.header.fields (contents_in view file) (known_in view file) c × (p.held c ≡ 0))
@@ -66,10 +66,10 @@ module _ {S : Type 0} (view : S → StorageView) (p : Pending) (file : ImageFile
   }
 
   -- no guest sees it
-  pub moves_written : Passing (view_in view file) (view (storage_of storage)) (λ c. c ≡ (view (storage_of storage)).contents) → Moves view p p file written
+  pub moves_written : Passing (view_in view file) (view (storage_of storage)) (λ c. c ≡ (view (storage_of storage)).contents) → UnseenFileStep view p p file written
   moves_written time =
       let h = file.header.fields in
-      let unseen = unseen_written (stand_in view file p) (stand_in view written p) sound.caches.kept.kept.guarded each_known refl in record {
+      let unseen = unseen_written (state_in view file p) (state_in view written p) sound.caches.kept.kept.guarded each_known refl in record {
         sound = record {
           honest = honest;
           caches = sound_beside file.header.fields p p file.caches (contents_in view file) (contents_in view written) sound.caches sound.settled tables_stay leads_written.sound;
@@ -78,8 +78,8 @@ module _ {S : Type 0} (view : S → StorageView) (p : Pending) (file : ImageFile
         };
         leads = leads_written;
         since = record {
-          moments = passes_if _ (λ c is backing m ok known_ok. subst (λ l. IsKeptAt backing m (byte_at l)) (sym is) (leads_written.base backing m ok known_ok)) time;
-          contents = λ backing m ok known_ok. leads_written.base backing m ok known_ok;
+          moments = passes_if _ (λ c is backing m ok known_ok. subst (λ l. StopOkEverywhere backing m (byte_at l)) (sym is) (leads_written.on_storage backing m ok known_ok)) time;
+          contents = λ backing m ok known_ok. leads_written.on_storage backing m ok known_ok;
         };
         unseen = unseen.0;
         l1_table = unseen.1;

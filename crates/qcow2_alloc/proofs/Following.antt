@@ -2,7 +2,7 @@
 use Rattle.std.proofs.Common.{◌≡◌, ℕ, ◌+◌, ◌<◌, ◌≤◌, Bool, true, false, List, [], ◌++◌, append_assoc, append-nil, Result, Ok, Err, IsTrue, inl, inr, refl, sym, ap, ◌∙◌, subst, arith}
 use Rattle.qcow2_metadata.specs.Header.{HeaderView, counts_per_block, with_fields, with_reftable}
 use Rattle.qcow2_laws.specs.Changes.{one_at}
-use Rattle.qcow2_laws.specs.Guard.{Pending}
+use Rattle.qcow2_laws.specs.CrashInvariant.{Pending}
 use Rattle.qcow2_laws.specs.Unseen.{KeepsFormat}
 use Rattle.qcow2_alloc.specs.declared.clusters_to_free.ClusterKind.{ClusterKind}
 use Rattle.qcow2_alloc.specs.declared.clusters_to_free.ClusterKind.TheVariants.{Metadata}
@@ -11,9 +11,9 @@ use Rattle.qcow2_alloc.specs.declared.allocation.Allocator.{Allocator}
 use Rattle.qcow2_alloc.specs.declared.error.ImageError.{ImageError}
 use Rattle.qcow2_alloc.specs.declared.image_file.ImageFile.{ImageFile}
 use Rattle.image_access.specs.Moments.{StorageView}
-use Rattle.qcow2_alloc.specs.Allocation.{run_at, taken_as, BecomesOn, GetsBlock, GrowsTable, LeavesAs}
-use Rattle.qcow2_alloc.specs.FreeList.{of_data, of_tables, to_free, following, but, ListsTables}
-use Rattle.qcow2_alloc.specs.ImageFile.{KeepsHeader, IsFault, Breaks, pending_at}
+use Rattle.qcow2_alloc.specs.Allocation.{run_at, taken_as, UnseenAllocatorGrowth, GetsBlock, GrowsTable, RefusedGrowth}
+use Rattle.qcow2_alloc.specs.FreeList.{of_data, of_tables, to_free, pending_then, but, ListsTables}
+use Rattle.qcow2_alloc.specs.ImageFile.{KeepsHeader, IsFault, InterruptedFileStep, pending_at}
 use Rattle.qcow2_alloc.proofs.AllocationSteps.{on_of, becomes_on, leaves_as, leaves_on}
 use Rattle.qcow2_alloc.proofs.FileSteps.{pending_same, endures_then}
 use Rattle.qcow2_alloc.proofs.Runs.{held_more, taken_last}
@@ -55,26 +55,26 @@ listed_on : (kind : ClusterKind → ℕ → ℕ) (old new : List ClustersToFreeE
 listed_on kind old new lists k = ap (λ (l : List ClustersToFreeEntry). to_free kind l k) lists.is ∙ free_more kind old lists.more k
 
 -- ---- what is pending
-pub following_same : (p : Pending) (old new : List ClustersToFreeEntry) → new ≡ old → following p old new ≡ p
-following_same p old new e = ap (following p old) e ∙ pending_same (following p old old) p (λ k. refl) (λ k. refl) (λ k. omega arith) (λ k. omega arith) (λ k. refl)
+pub following_same : (p : Pending) (old new : List ClustersToFreeEntry) → new ≡ old → pending_then p old new ≡ p
+following_same p old new e = ap (pending_then p old) e ∙ pending_same (pending_then p old old) p (λ k. refl) (λ k. refl) (λ k. omega arith) (λ k. omega arith) (λ k. refl)
 
-pub following_then : (p : Pending) (a b c : List ClustersToFreeEntry) → ListsTables a b → ListsTables b c → following (following p a b) b c ≡ following p a c
+pub following_then : (p : Pending) (a b c : List ClustersToFreeEntry) → ListsTables a b → ListsTables b c → pending_then (pending_then p a b) b c ≡ pending_then p a c
 following_then p a b c first then =
-    pending_same (following (following p a b) b c) (following p a c) (λ k. refl) (λ k. refl)
+    pending_same (pending_then (pending_then p a b) b c) (pending_then p a c) (λ k. refl) (λ k. refl)
     (λ k. let one = listed_on of_tables a b first k in let two = listed_on of_tables b c then k in omega arith)
     (λ k. let one = listed_on of_data a b first k in let two = listed_on of_data b c then k in omega arith)
     (λ k. refl)
 
-pub following_more : (p : Pending) (old new : List ClustersToFreeEntry) (k : ℕ) → pending_at p k ≤ pending_at (following p old new) k
+pub following_more : (p : Pending) (old new : List ClustersToFreeEntry) (k : ℕ) → pending_at p k ≤ pending_at (pending_then p old new) k
 following_more p old new k = omega arith
 
 -- it is listed beside what was taken
-taken_following : (d : Bool) (p : Pending) (old new : List ClustersToFreeEntry) (n : ℕ → ℕ) → following (taken_as d p n) old new ≡ taken_as d (following p old new) n
+taken_following : (d : Bool) (p : Pending) (old new : List ClustersToFreeEntry) (n : ℕ → ℕ) → pending_then (taken_as d p n) old new ≡ taken_as d (pending_then p old new) n
 taken_following true p old new n = refl
 taken_following false p old new n = refl
 
-pub following_taken : (d : Bool) (p : Pending) (a b c : List ClustersToFreeEntry) (n : ℕ → ℕ) → ListsTables a b → ListsTables b c → following (taken_as d (following p a b) n) b c ≡ taken_as d (following p a c) n
-following_taken d p a b c n first then = taken_following d (following p a b) b c n ∙ ap (λ (q : Pending). taken_as d q n) (following_then p a b c first then)
+pub following_taken : (d : Bool) (p : Pending) (a b c : List ClustersToFreeEntry) (n : ℕ → ℕ) → ListsTables a b → ListsTables b c → pending_then (taken_as d (pending_then p a b) n) b c ≡ taken_as d (pending_then p a c) n
+following_taken d p a b c n first then = taken_following d (pending_then p a b) b c n ∙ ap (λ (q : Pending). taken_as d q n) (following_then p a b c first then)
 
 -- ---- a step in which a range gets its refblock
 module _ {S : Type 0} (view : S → StorageView) where
@@ -82,7 +82,7 @@ module _ {S : Type 0} (view : S → StorageView) where
   grows_none p a b t (Ok done) gets = on_of view p p a b t gets
   grows_none p a b t (Err e) gets = leaves_as view p a b t e gets
 
-  pub grows_on : (p q : Pending) (a b c : ImageFile S) (t t' : Allocator) (result : Result (Unit {0}) ImageError) → ((k : ℕ) → 0 < p.held k → 0 < q.held k) → BecomesOn view p a t b q → GetsBlock view q b t' c result
+  pub grows_on : (p q : Pending) (a b c : ImageFile S) (t t' : Allocator) (result : Result (Unit {0}) ImageError) → ((k : ℕ) → 0 < p.held k → 0 < q.held k) → UnseenAllocatorGrowth view p a t b q → GetsBlock view q b t' c result
       → GrowsTable view p a t' c q result
   grows_on p q a b c t t' (Ok done) held first second = becomes_on view p q q a b c t t' held first (on_of view q q b c t' second)
   grows_on p q a b c t t' (Err e) held first second = leaves_on view p q q a b c t t' e held first (leaves_as view q b c t' e second)
@@ -90,29 +90,29 @@ module _ {S : Type 0} (view : S → StorageView) where
 -- ---- a step after a run was taken, or before one is
 module _ {S : Type 0} (view : S → StorageView) (d : Bool) (p : Pending) (n : ℕ → ℕ) (a b c : ImageFile S) (t t' : Allocator) (first : ListsTables a.free_list b.free_list) (then : ListsTables b.free_list c.free_list) where
   abbrev so_far : Pending
-  so_far = taken_as d (following p a.free_list b.free_list) n
+  so_far = taken_as d (pending_then p a.free_list b.free_list) n
 
   pub held_so_far : (k : ℕ) → 0 < p.held k → 0 < so_far.held k
-  held_so_far k some = held_more d (following p a.free_list b.free_list) n k some
+  held_so_far k some = held_more d (pending_then p a.free_list b.free_list) n k some
 
   -- the run is taken still
-  pub still_taken : BecomesOn view p a t b so_far → BecomesOn view so_far b t' c (following so_far b.free_list c.free_list) → BecomesOn view p a t' c (taken_as d (following p a.free_list c.free_list) n)
+  pub still_taken : UnseenAllocatorGrowth view p a t b so_far → UnseenAllocatorGrowth view so_far b t' c (pending_then so_far b.free_list c.free_list) → UnseenAllocatorGrowth view p a t' c (taken_as d (pending_then p a.free_list c.free_list) n)
   still_taken before step =
-      subst (λ (r : Pending). BecomesOn view p a t' c r) (following_taken d p a.free_list b.free_list c.free_list n first then)
-      (becomes_on view p so_far (following so_far b.free_list c.free_list) a b c t t' held_so_far before step)
+      subst (λ (r : Pending). UnseenAllocatorGrowth view p a t' c r) (following_taken d p a.free_list b.free_list c.free_list n first then)
+      (becomes_on view p so_far (pending_then so_far b.free_list c.free_list) a b c t t' held_so_far before step)
 
   -- one more cluster is taken
-  pub more_taken : (from count : ℕ) → n ≡ run_at from count → BecomesOn view p a t b so_far → BecomesOn view so_far b t' c (taken_as d (following so_far b.free_list c.free_list) (one_at (from + count)))
-      → BecomesOn view p a t' c (taken_as d (following p a.free_list c.free_list) (run_at from (count + 1)))
+  pub more_taken : (from count : ℕ) → n ≡ run_at from count → UnseenAllocatorGrowth view p a t b so_far → UnseenAllocatorGrowth view so_far b t' c (taken_as d (pending_then so_far b.free_list c.free_list) (one_at (from + count)))
+      → UnseenAllocatorGrowth view p a t' c (taken_as d (pending_then p a.free_list c.free_list) (run_at from (count + 1)))
   more_taken from count is before step =
-      subst (λ (r : Pending). BecomesOn view p a t' c r)
+      subst (λ (r : Pending). UnseenAllocatorGrowth view p a t' c r)
       (ap (λ (q : Pending). taken_as d q (one_at (from + count))) (following_taken d p a.free_list b.free_list c.free_list n first then)
-      ∙ ap (λ m. taken_as d (taken_as d (following p a.free_list c.free_list) m) (one_at (from + count))) is
-      ∙ taken_last d (following p a.free_list c.free_list) from count)
-      (becomes_on view p so_far (taken_as d (following so_far b.free_list c.free_list) (one_at (from + count))) a b c t t' held_so_far before step)
+      ∙ ap (λ m. taken_as d (taken_as d (pending_then p a.free_list c.free_list) m) (one_at (from + count))) is
+      ∙ taken_last d (pending_then p a.free_list c.free_list) from count)
+      (becomes_on view p so_far (taken_as d (pending_then so_far b.free_list c.free_list) (one_at (from + count))) a b c t t' held_so_far before step)
 
   -- a fault after a change that was noted breaks off
-  pub ends_taken : (e : ImageError) → BecomesOn view p a t b so_far → IsFault e → IsTrue c.caches.is_changed → (r : Pending) → LeavesAs view so_far b t' c r e → Breaks view a c e
+  pub ends_taken : (e : ImageError) → UnseenAllocatorGrowth view p a t b so_far → IsFault e → IsTrue c.caches.is_changed → (r : Pending) → RefusedGrowth view so_far b t' c r e → InterruptedFileStep view a c e
   ends_taken e before fault noted r step = record {
     fault = fault;
     noted = λ _. noted;
@@ -123,23 +123,23 @@ module _ {S : Type 0} (view : S → StorageView) (d : Bool) (p : Pending) (n : �
   }
 
 module _ {S : Type 0} (view : S → StorageView) (p : Pending) (a b c : ImageFile S) (t t' : Allocator) (first : ListsTables a.free_list b.free_list) (then : ListsTables b.free_list c.free_list)
-    (before : BecomesOn view p a t b (following p a.free_list b.free_list)) where
+    (before : UnseenAllocatorGrowth view p a t b (pending_then p a.free_list b.free_list)) where
   -- what is pending, as a step of its own tells it
-  since_then : following (following p a.free_list b.free_list) b.free_list c.free_list ≡ following p a.free_list c.free_list
+  since_then : pending_then (pending_then p a.free_list b.free_list) b.free_list c.free_list ≡ pending_then p a.free_list c.free_list
   since_then = following_then p a.free_list b.free_list c.free_list first then
 
-  pub then_none : BecomesOn view (following p a.free_list b.free_list) b t' c (following (following p a.free_list b.free_list) b.free_list c.free_list) → BecomesOn view p a t' c (following p a.free_list c.free_list)
+  pub then_none : UnseenAllocatorGrowth view (pending_then p a.free_list b.free_list) b t' c (pending_then (pending_then p a.free_list b.free_list) b.free_list c.free_list) → UnseenAllocatorGrowth view p a t' c (pending_then p a.free_list c.free_list)
   then_none step =
-      subst (λ (r : Pending). BecomesOn view p a t' c r) since_then
-      (becomes_on view p (following p a.free_list b.free_list) (following (following p a.free_list b.free_list) b.free_list c.free_list) a b c t t' (λ k some. some) before step)
+      subst (λ (r : Pending). UnseenAllocatorGrowth view p a t' c r) since_then
+      (becomes_on view p (pending_then p a.free_list b.free_list) (pending_then (pending_then p a.free_list b.free_list) b.free_list c.free_list) a b c t t' (λ k some. some) before step)
 
-  pub then_taken : (d : Bool) (n : ℕ → ℕ) → BecomesOn view (following p a.free_list b.free_list) b t' c (taken_as d (following (following p a.free_list b.free_list) b.free_list c.free_list) n)
-      → BecomesOn view p a t' c (taken_as d (following p a.free_list c.free_list) n)
+  pub then_taken : (d : Bool) (n : ℕ → ℕ) → UnseenAllocatorGrowth view (pending_then p a.free_list b.free_list) b t' c (taken_as d (pending_then (pending_then p a.free_list b.free_list) b.free_list c.free_list) n)
+      → UnseenAllocatorGrowth view p a t' c (taken_as d (pending_then p a.free_list c.free_list) n)
   then_taken d n step =
-      subst (λ (r : Pending). BecomesOn view p a t' c (taken_as d r n)) since_then
-      (becomes_on view p (following p a.free_list b.free_list) (taken_as d (following (following p a.free_list b.free_list) b.free_list c.free_list) n) a b c t t' (λ k some. some) before step)
+      subst (λ (r : Pending). UnseenAllocatorGrowth view p a t' c (taken_as d r n)) since_then
+      (becomes_on view p (pending_then p a.free_list b.free_list) (taken_as d (pending_then (pending_then p a.free_list b.free_list) b.free_list c.free_list) n) a b c t t' (λ k some. some) before step)
 
-  pub then_leaves : (e : ImageError) → LeavesAs view (following p a.free_list b.free_list) b t' c (following (following p a.free_list b.free_list) b.free_list c.free_list) e → LeavesAs view p a t' c (following p a.free_list c.free_list) e
+  pub then_leaves : (e : ImageError) → RefusedGrowth view (pending_then p a.free_list b.free_list) b t' c (pending_then (pending_then p a.free_list b.free_list) b.free_list c.free_list) e → RefusedGrowth view p a t' c (pending_then p a.free_list c.free_list) e
   then_leaves e step =
-      subst (λ (r : Pending). LeavesAs view p a t' c r e) since_then
-      (leaves_on view p (following p a.free_list b.free_list) (following (following p a.free_list b.free_list) b.free_list c.free_list) a b c t t' e (λ k some. some) before step)
+      subst (λ (r : Pending). RefusedGrowth view p a t' c r e) since_then
+      (leaves_on view p (pending_then p a.free_list b.free_list) (pending_then (pending_then p a.free_list b.free_list) b.free_list c.free_list) a b c t t' e (λ k some. some) before step)

@@ -8,7 +8,7 @@ use Rattle.qcow2_metadata.specs.EntryTable.{EntryTableView}
 use Rattle.qcow2_metadata.specs.Header.{HeaderReads, cluster_size, counts_per_block, count_width, reftable_entries}
 use Rattle.qcow2_metadata.specs.Entries.{count, block_offset}
 use Rattle.qcow2_laws.specs.Changes.{one_at}
-use Rattle.qcow2_laws.specs.Guard.{Pending}
+use Rattle.qcow2_laws.specs.CrashInvariant.{Pending}
 use Rattle.std.proofs.Math.Nat.{div-le_self, lt-div-mul-add, mul-le-mul_left}
 use Rattle.std.proofs.Math.Pow.{pow_mono}
 use Rattle.qcow2_laws.proofs.Places.{Sizes-from, count_none, reftable_entry-past}
@@ -18,9 +18,9 @@ use Rattle.qcow2_alloc.specs.declared.clusters_to_free.ClusterKind.TheVariants.{
 use Rattle.qcow2_alloc.specs.declared.clusters_to_free.ClustersToFreeEntry.{ClustersToFreeEntry}
 use Rattle.qcow2_alloc.specs.declared.error.ImageError.{ImageError}
 use Rattle.qcow2_alloc.specs.declared.image_file.ImageFile.{ImageFile}
-use Rattle.qcow2_alloc.specs.Allocation.{run_at, Listed, listed_as, owed_as, Becomes, GivesBack, Frees}
+use Rattle.qcow2_alloc.specs.Allocation.{run_at, Listed, listed_as, owed_as, UnseenAllocatorStep, GivesBack, Frees}
 use Rattle.qcow2_alloc.specs.FreeList.{run_of, of_data, of_tables, to_free, is_same, with_listed, but}
-use Rattle.qcow2_alloc.specs.ImageFile.{contents_in, known_in, IsSoundFile, IsSoundWith, IsFault, HasReftable, LeavesSound}
+use Rattle.qcow2_alloc.specs.ImageFile.{contents_in, known_in, FileInvariant, AllocatorInvariant, IsFault, HasReftable, RefusedFileStep}
 use Rattle.qcow2_alloc.proofs.AllocationSteps.{owed_counted}
 use Rattle.qcow2_alloc.proofs.FileSteps.{pending_same, moves_then, breaks_then}
 use Rattle.qcow2_alloc.proofs.Runs.{run_before, run_after, run_first}
@@ -147,11 +147,11 @@ counted_small h b known c reads some = elim (cases_lt (c / counts_per_block h) (
 module _ {S : Type 0} (view : S → StorageView) where
   -- ---- one step after another
 
-  pub becomes_on : (p q r : Pending) (a b c : ImageFile S) (t t' : Allocator) → ((k : ℕ) → 0 < p.held k → 0 < q.held k) → Becomes view p a t b q → Becomes view q b t' c r → Becomes view p a t' c r
+  pub becomes_on : (p q r : Pending) (a b c : ImageFile S) (t t' : Allocator) → ((k : ℕ) → 0 < p.held k → 0 < q.held k) → UnseenAllocatorStep view p a t b q → UnseenAllocatorStep view q b t' c r → UnseenAllocatorStep view p a t' c r
   becomes_on p q r a b c t t' held first second = record { moves = moves_then view p q r a b c held first.moves second.moves; reftable = second.reftable }
 
   -- a fault left it where it was, or it broke off
-  pub frees_refused : (p q : Pending) (a b c : ImageFile S) (t t' : Allocator) (e : ImageError) → ((k : ℕ) → 0 < p.held k → 0 < q.held k) → Becomes view p a t b q → IsFault e → LeavesSound view q b t' c e → Frees view p a t' c q (Err e)
+  pub frees_refused : (p q : Pending) (a b c : ImageFile S) (t t' : Allocator) (e : ImageError) → ((k : ℕ) → 0 < p.held k → 0 < q.held k) → UnseenAllocatorStep view p a t b q → IsFault e → RefusedFileStep view q b t' c e → Frees view p a t' c q (Err e)
   frees_refused p q a b c t t' e held first fault left = (
     fault,
     elim left [
@@ -162,22 +162,22 @@ module _ {S : Type 0} (view : S → StorageView) where
 
   -- ---- another list
 
-  sound_relisted : (p : Pending) (a : ImageFile S) (l : List ClustersToFreeEntry) → IsSoundFile view p a → IsSoundFile view p (record a { free_list = l })
+  sound_relisted : (p : Pending) (a : ImageFile S) (l : List ClustersToFreeEntry) → FileInvariant view p a → FileInvariant view p (record a { free_list = l })
   sound_relisted p a l sound = record { honest = sound.honest; caches = sound.caches; settled = sound.settled; room = sound.room }
 
   reftable_relisted : (a : ImageFile S) (l : List ClustersToFreeEntry) (t : EntryTableView) → HasReftable view a t → HasReftable view (record a { free_list = l }) t
   reftable_relisted a l t has = record { cluster = has.cluster; bits = has.bits; count = has.count; entries = has.entries }
 
-  pub with_relisted : (p : Pending) (a : ImageFile S) (t : Allocator) (l : List ClustersToFreeEntry) → IsSoundWith view t p a → IsSoundWith view t p (record a { free_list = l })
+  pub with_relisted : (p : Pending) (a : ImageFile S) (t : Allocator) (l : List ClustersToFreeEntry) → AllocatorInvariant view t p a → AllocatorInvariant view t p (record a { free_list = l })
   with_relisted p a t l sound = record { sound = sound_relisted p a l sound.sound; reftable = reftable_relisted a l t.reftable sound.reftable }
 
-  pub becomes_to : (p q : Pending) (a b : ImageFile S) (t : Allocator) (l : List ClustersToFreeEntry) → Becomes view p a t b q → Becomes view p a t (record b { free_list = l }) q
+  pub becomes_to : (p q : Pending) (a b : ImageFile S) (t : Allocator) (l : List ClustersToFreeEntry) → UnseenAllocatorStep view p a t b q → UnseenAllocatorStep view p a t (record b { free_list = l }) q
   becomes_to p q a b t l first = record {
     moves = record { sound = sound_relisted q b l first.moves.sound; leads = first.moves.leads; since = first.moves.since; unseen = first.moves.unseen; l1_table = first.moves.l1_table; counts = first.moves.counts };
     reftable = reftable_relisted b l t.reftable first.reftable;
   }
 
-  pub becomes_from : (p q : Pending) (a b : ImageFile S) (t : Allocator) (l : List ClustersToFreeEntry) → Becomes view p (record a { free_list = l }) t b q → Becomes view p a t b q
+  pub becomes_from : (p q : Pending) (a b : ImageFile S) (t : Allocator) (l : List ClustersToFreeEntry) → UnseenAllocatorStep view p (record a { free_list = l }) t b q → UnseenAllocatorStep view p a t b q
   becomes_from p q a b t l first = record {
     moves = record { sound = first.moves.sound; leads = first.moves.leads; since = first.moves.since; unseen = first.moves.unseen; l1_table = first.moves.l1_table; counts = first.moves.counts };
     reftable = first.reftable;
@@ -187,16 +187,16 @@ module _ {S : Type 0} (view : S → StorageView) where
   pub frees_as : (p p' q q' : Pending) (a b : ImageFile S) (t : Allocator) (l m : List ClustersToFreeEntry) (result : Result (Unit {0}) ImageError) → p ≡ p' → q ≡ q' → Frees view p (record a { free_list = l }) t b q result
       → Frees view p' a t (record b { free_list = m }) q' result
   frees_as p p' q q' a b t l m (Ok _) before after frees =
-      subst (λ (r : Pending). Becomes view r a t (record b { free_list = m }) q') before (subst (λ (r : Pending). Becomes view p a t (record b { free_list = m }) r) after (becomes_to p q a b t m (becomes_from p q a b t l frees)))
+      subst (λ (r : Pending). UnseenAllocatorStep view r a t (record b { free_list = m }) q') before (subst (λ (r : Pending). UnseenAllocatorStep view p a t (record b { free_list = m }) r) after (becomes_to p q a b t m (becomes_from p q a b t l frees)))
   frees_as p p' q q' a b t l m (Err e) before after frees = (
     frees.0,
     elim frees.1 [
-      | inl left ↦ inl (subst (λ (r : Pending). Becomes view r a t (record b { free_list = m }) q') before (subst (λ (r : Pending). Becomes view p a t (record b { free_list = m }) r) after (becomes_to p q a b t m (becomes_from p q a b t l left))))
+      | inl left ↦ inl (subst (λ (r : Pending). UnseenAllocatorStep view r a t (record b { free_list = m }) q') before (subst (λ (r : Pending). UnseenAllocatorStep view p a t (record b { free_list = m }) r) after (becomes_to p q a b t m (becomes_from p q a b t l left))))
       | inr breaks ↦ inr (record { fault = breaks.fault; noted = breaks.noted; since = breaks.since })
     ],
   )
 
-  pub frees_then : (p q r : Pending) (a b c : ImageFile S) (t t' : Allocator) (result : Result (Unit {0}) ImageError) → ((k : ℕ) → 0 < p.held k → 0 < q.held k) → Becomes view p a t b q → Frees view q b t' c r result → Frees view p a t' c r result
+  pub frees_then : (p q r : Pending) (a b c : ImageFile S) (t t' : Allocator) (result : Result (Unit {0}) ImageError) → ((k : ℕ) → 0 < p.held k → 0 < q.held k) → UnseenAllocatorStep view p a t b q → Frees view q b t' c r result → Frees view p a t' c r result
   frees_then p q r a b c t t' (Ok _) held first second = becomes_on p q r a b c t t' held first second
   frees_then p q r a b c t t' (Err e) held first second = (
     second.0,
@@ -208,10 +208,10 @@ module _ {S : Type 0} (view : S → StorageView) where
 
   -- ---- the first of the entries that are taken
   module _ (p : Pending) (taken rest : List ClustersToFreeEntry) (e : ClustersToFreeEntry) (is : taken ≡ e ∷ rest) where
-    pub entry_sound : (b : ImageFile S) (t : Allocator) → IsSoundWith view t (with_listed p (b.free_list ++ taken)) b → IsSoundWith view t (with_listed (with_listed p rest) (b.free_list ++ e ∷ [])) b
-    entry_sound b t sound = subst (λ (r : Pending). IsSoundWith view t r b) (sym (with_first p b.free_list taken rest e is)) sound
+    pub entry_sound : (b : ImageFile S) (t : Allocator) → AllocatorInvariant view t (with_listed p (b.free_list ++ taken)) b → AllocatorInvariant view t (with_listed (with_listed p rest) (b.free_list ++ e ∷ [])) b
+    entry_sound b t sound = subst (λ (r : Pending). AllocatorInvariant view t r b) (sym (with_first p b.free_list taken rest e is)) sound
 
-    pub entry_goes : (q : Pending) (a b c : ImageFile S) (t t' : Allocator) (result : Result (Unit {0}) ImageError) → ((k : ℕ) → 0 < q.held k → 0 < p.held k) → Becomes view q a t b (with_listed p (b.free_list ++ taken))
+    pub entry_goes : (q : Pending) (a b c : ImageFile S) (t t' : Allocator) (result : Result (Unit {0}) ImageError) → ((k : ℕ) → 0 < q.held k → 0 < p.held k) → UnseenAllocatorStep view q a t b (with_listed p (b.free_list ++ taken))
         → Frees view (with_listed (with_listed p rest) (b.free_list ++ e ∷ [])) b t' c (with_listed (with_listed p rest) c.free_list) result → Frees view q a t' c (with_listed p (c.free_list ++ rest)) result
     entry_goes q a b c t t' result held first second =
         frees_then q (with_listed p (b.free_list ++ taken)) (with_listed p (c.free_list ++ rest)) a b c t t' result held first
@@ -223,7 +223,7 @@ module _ {S : Type 0} (view : S → StorageView) where
     abbrev listed_run : Pending
     listed_run = listed_as kind p (run_of run)
 
-    first_small : (file : ImageFile S) → IsSoundFile view listed_run file → run.first_cluster + 1 < 2 ^ 64
+    first_small : (file : ImageFile S) → FileInvariant view listed_run file → run.first_cluster + 1 < 2 ^ 64
     first_small file sound =
         let small = counted_small file.header.fields (contents_in view file) (known_in view file) run.first_cluster sound.caches.kept.kept.guarded.top.header_reads
         (owed_counted view (Listed kind) (behind_first run kind p) run.first_cluster listed_run file (sym (listed_first kind p run some)) sound) in
@@ -237,18 +237,18 @@ module _ {S : Type 0} (view : S → StorageView) where
       owed_is = ap (λ n. listed_as kind (behind_first run kind p) (one_at n)) is ∙ listed_first kind p run some
 
       -- its first cluster is owed
-      pub first_owed : (file : ImageFile S) (t : Allocator) → IsSoundWith view t listed_run file → IsSoundWith view t owed_run file
-      first_owed file t sound = subst (λ (r : Pending). IsSoundWith view t r file) (sym owed_is) sound
+      pub first_owed : (file : ImageFile S) (t : Allocator) → AllocatorInvariant view t listed_run file → AllocatorInvariant view t owed_run file
+      first_owed file t sound = subst (λ (r : Pending). AllocatorInvariant view t r file) (sym owed_is) sound
 
-      module _ (q : Pending) (held : (k : ℕ) → 0 < q.held k → 0 < listed_run.held k) (a b c : ImageFile S) (t t' : Allocator) (before : Becomes view q a t b listed_run) where
+      module _ (q : Pending) (held : (k : ℕ) → 0 < q.held k → 0 < listed_run.held k) (a b c : ImageFile S) (t t' : Allocator) (before : UnseenAllocatorStep view q a t b listed_run) where
         -- it can't be lowered
         pub run_refused : (e : ImageError) → GivesBack view owed_run b t' c (behind_first run kind p) (Err e) → Frees view q a t' c listed_run (Err e)
-        run_refused e low = frees_refused q listed_run a b c t t' e held before low.0 (subst (λ (r : Pending). LeavesSound view r b t' c e) owed_is low.1)
+        run_refused e low = frees_refused q listed_run a b c t t' e held before low.0 (subst (λ (r : Pending). RefusedFileStep view r b t' c e) owed_is low.1)
 
         -- it is freed
-        pub run_freed : (next : ClustersToFreeEntry) → (run.first_cluster + 1 < 2 ^ 64 → next.first_cluster ≡ run.first_cluster + 1) → next.count ≡ run.count - 1 → Becomes view owed_run b t' c (behind_first run kind p)
-            → Becomes view q a t' c (listed_as kind p (run_of next))
+        pub run_freed : (next : ClustersToFreeEntry) → (run.first_cluster + 1 < 2 ^ 64 → next.first_cluster ≡ run.first_cluster + 1) → next.count ≡ run.count - 1 → UnseenAllocatorStep view owed_run b t' c (behind_first run kind p)
+            → UnseenAllocatorStep view q a t' c (listed_as kind p (run_of next))
         run_freed next first count low =
-            let after = subst (λ (r : Pending). Becomes view r b t' c (behind_first run kind p)) owed_is low in
+            let after = subst (λ (r : Pending). UnseenAllocatorStep view r b t' c (behind_first run kind p)) owed_is low in
             becomes_on q listed_run (listed_as kind p (run_of next)) a b c t t' held before
-            (subst (λ (r : Pending). Becomes view listed_run b t' c r) (listed_rest kind p run next (first (first_small b before.moves.sound)) count) after)
+            (subst (λ (r : Pending). UnseenAllocatorStep view listed_run b t' c r) (listed_rest kind p run next (first (first_small b before.moves.sound)) count) after)

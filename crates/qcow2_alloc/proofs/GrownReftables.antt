@@ -11,19 +11,19 @@ use Rattle.qcow2_metadata.specs.Entries.{block_offset}
 use Rattle.qcow2_metadata.specs.EntryTable.{EntryTableView, IsRefTable, entry_count}
 use Rattle.qcow2_metadata.specs.Named.{in_cluster, table_in}
 use Rattle.qcow2_metadata.specs.TableBytes.{entry_at}
-use Rattle.qcow2_laws.specs.Guard.{Pending}
+use Rattle.qcow2_laws.specs.CrashInvariant.{Pending}
 use Rattle.qcow2_laws.proofs.Places.{Sizes}
 use Rattle.qcow2_laws.proofs.Sums.{sum_below-same, sum_below-longer}
 use Rattle.qcow2_alloc.specs.declared.allocation.Allocator.{Allocator}
 use Rattle.qcow2_alloc.specs.declared.clusters_to_free.ClustersToFreeEntry.{ClustersToFreeEntry}
 use Rattle.qcow2_alloc.specs.declared.error.ImageError.{ImageError}
 use Rattle.qcow2_alloc.specs.declared.image_file.ImageFile.{ImageFile}
-use Rattle.qcow2_alloc.specs.Allocation.{Becomes, BecomesOn}
+use Rattle.qcow2_alloc.specs.Allocation.{UnseenAllocatorStep, UnseenAllocatorGrowth}
 use Rattle.qcow2_alloc.specs.ClustersToFree.{metadata_entry}
-use Rattle.qcow2_alloc.specs.FreeList.{of_data, of_tables, to_free, following}
+use Rattle.qcow2_alloc.specs.FreeList.{of_data, of_tables, to_free, pending_then}
 use Rattle.qcow2_alloc.specs.Growing.{IsCloneOf}
 use Rattle.qcow2_alloc.specs.GrownTables.{named_by_entries, with_run, without_reftable, NamesReftable, EntersReftable}
-use Rattle.qcow2_alloc.specs.ImageFile.{IsSoundFile, HasReftable}
+use Rattle.qcow2_alloc.specs.ImageFile.{FileInvariant, HasReftable}
 use Rattle.qcow2_alloc.specs.Limits.{IsFaultOr}
 use Rattle.qcow2_alloc.specs.LowestRuns.{KeepsUsed}
 use Rattle.qcow2_alloc.specs.Rooms.{IsLonger}
@@ -49,7 +49,7 @@ named_alike h old t clone c =
     ∙ sum_below-longer (entry_count old) (entry_count t - entry_count old) (λ k. table_in h c (block_offset (entry_at old.bytes k))) (λ k past. none_named h c (entry_at old.bytes k) (clone.none k past))
 
 -- it fills whole clusters
-module _ {S : Type 0} (view : S → StorageView) (q : Pending) (file : ImageFile S) (old t : EntryTableView) (clusters : ℕ) (sound : IsSoundFile view q file) (has : HasReftable view file old) (clone : IsCloneOf old t)
+module _ {S : Type 0} (view : S → StorageView) (q : Pending) (file : ImageFile S) (old t : EntryTableView) (clusters : ℕ) (sound : FileInvariant view q file) (has : HasReftable view file old) (clone : IsCloneOf old t)
     (whole : entry_count t % entries_per_cluster file.header.fields ≡ 0) (is : clusters ≡ (length t.bytes + 2 ^ t.cluster_bits - 1) / 2 ^ t.cluster_bits) where
   sizes : Sizes file.header.fields
   sizes = file_sizes view q file sound
@@ -82,18 +82,18 @@ module _ {S : Type 0} (view : S → StorageView) (q : Pending) (file : ImageFile
         named = named_alike h old t clone;
       }
 
-module _ {S : Type 0} (view : S → StorageView) (p : Pending) (a b c : ImageFile S) (u u' : Allocator) (t : EntryTableView) (first n : ℕ) (same : b.header ≡ a.header) (room : Becomes view p a u b (with_run p a.header.fields t first n)) where
+module _ {S : Type 0} (view : S → StorageView) (p : Pending) (a b c : ImageFile S) (u u' : Allocator) (t : EntryTableView) (first n : ℕ) (same : b.header ≡ a.header) (room : UnseenAllocatorStep view p a u b (with_run p a.header.fields t first n)) where
   fields : b.header.fields ≡ a.header.fields
   fields = ap (λ (h : HeaderView). h.fields) same
 
-  pub room_now : Becomes view p a u b (with_run p b.header.fields t first n)
-  room_now = subst (λ (h : HeaderFields). Becomes view p a u b (with_run p h t first n)) (sym fields) room
+  pub room_now : UnseenAllocatorStep view p a u b (with_run p b.header.fields t first n)
+  room_now = subst (λ (h : HeaderFields). UnseenAllocatorStep view p a u b (with_run p h t first n)) (sym fields) room
 
   -- ---- there was room for it
   pub entered : (result : Result (Unit {0}) ImageError) → NamesReftable view (with_run p b.header.fields t first n) p b u' c result → EntersReftable view p a u' c result
   entered (Ok done) names =
       becomes_on view p (with_run p b.header.fields t first n) (without_reftable p a.header.fields) a b c u u' (λ k some. some) (on_of view p (with_run p b.header.fields t first n) a b u room_now)
-      (subst (λ (h : HeaderFields). BecomesOn view (with_run p b.header.fields t first n) b u' c (without_reftable p h)) fields names)
+      (subst (λ (h : HeaderFields). UnseenAllocatorGrowth view (with_run p b.header.fields t first n) b u' c (without_reftable p h)) fields names)
   entered (Err e) names = inr (breaks_then view p (with_run p b.header.fields t first n) a b c e room_now.moves names)
 
   pub uses_entered : (result : Result (Unit {0}) ImageError) → KeepsUsed view b c result → KeepsUsed view a c result
@@ -105,11 +105,11 @@ names_fault view q p b c u' Cause (Ok done) names = tt
 names_fault view q p b c u' Cause (Err e) names = inl names.fault
 
 -- ---- the former one is listed
-module _ {S : Type 0} (view : S → StorageView) (p : Pending) (old new : ImageFile S) (allocator : Allocator) (t : EntryTableView) (cluster : ℕ) (former : ClustersToFreeEntry) (sound : IsSoundFile view p old) (has : HasReftable view old t)
+module _ {S : Type 0} (view : S → StorageView) (p : Pending) (old new : ImageFile S) (allocator : Allocator) (t : EntryTableView) (cluster : ℕ) (former : ClustersToFreeEntry) (sound : FileInvariant view p old) (has : HasReftable view old t)
     (is_table : IsRefTable t) (some : t.cluster ≡ Some cluster) (is : former ≡ metadata_entry cluster ((length t.bytes + 2 ^ t.cluster_bits - 1) / 2 ^ t.cluster_bits)) where
-  listed : (l : List ClustersToFreeEntry) → without_reftable p old.header.fields ≡ following p l (l ++ former ∷ [])
+  listed : (l : List ClustersToFreeEntry) → without_reftable p old.header.fields ≡ pending_then p l (l ++ former ∷ [])
   listed l =
-      pending_same (without_reftable p old.header.fields) (following p l (l ++ former ∷ [])) (λ k. refl) (λ k. refl)
+      pending_same (without_reftable p old.header.fields) (pending_then p l (l ++ former ∷ [])) (λ k. refl) (λ k. refl)
       (λ k.
       let more = free_more of_tables l (former ∷ []) k in
       let one : to_free of_tables (former ∷ []) k ≡ to_free of_tables (metadata_entry cluster ((length t.bytes + 2 ^ t.cluster_bits - 1) / 2 ^ t.cluster_bits) ∷ []) k = ap (λ e. to_free of_tables (e ∷ []) k) is in
@@ -121,9 +121,9 @@ module _ {S : Type 0} (view : S → StorageView) (p : Pending) (old new : ImageF
       omega (arith, more, one))
       (λ k. refl)
 
-  pub grown : BecomesOn view p old allocator new (without_reftable p old.header.fields) → (l : List ClustersToFreeEntry) → BecomesOn view p old allocator (record new { free_list = l ++ former ∷ [] }) (following p l (l ++ former ∷ []))
+  pub grown : UnseenAllocatorGrowth view p old allocator new (without_reftable p old.header.fields) → (l : List ClustersToFreeEntry) → UnseenAllocatorGrowth view p old allocator (record new { free_list = l ++ former ∷ [] }) (pending_then p l (l ++ former ∷ []))
   grown becomes l =
-      subst (λ (q : Pending). BecomesOn view p old allocator (record new { free_list = l ++ former ∷ [] }) q) (listed l)
+      subst (λ (q : Pending). UnseenAllocatorGrowth view p old allocator (record new { free_list = l ++ former ∷ [] }) q) (listed l)
       (record {
         moves = record {
           sound = record { honest = becomes.moves.sound.honest; caches = becomes.moves.sound.caches; settled = becomes.moves.sound.settled; room = becomes.moves.sound.room };

@@ -12,7 +12,7 @@ use Rattle.qcow2_metadata.specs.Named.{in_run, table_in, named_by_reftable}
 use Rattle.qcow2_metadata.specs.TableBytes.{entry_at}
 use Rattle.qcow2_metadata.proofs.EntryTables.{entry_at_past}
 use Rattle.qcow2_metadata.proofs.TableEntries.{number_at-moved}
-use Rattle.qcow2_laws.specs.Guard.{Pending, SameIn}
+use Rattle.qcow2_laws.specs.CrashInvariant.{Pending, SameIn}
 use Rattle.qcow2_laws.specs.Tops.{IsNewReftable, with_places, with_reftable_at}
 use Rattle.qcow2_laws.proofs.Caches.{clean_counts}
 use Rattle.qcow2_laws.proofs.Places.{Sizes, reftable-same, block_count-moved, in_one}
@@ -21,7 +21,7 @@ use Rattle.qcow2_laws.proofs.Sums.{sum_below-same}
 use Rattle.qcow2_alloc.specs.declared.image_file.ImageFile.{ImageFile}
 use Rattle.qcow2_alloc.specs.Allocation.{run_at, StandAt, HasNone}
 use Rattle.qcow2_alloc.specs.GrownTables.{counted_run, with_run, named_by_entries, StandsGrown}
-use Rattle.qcow2_alloc.specs.ImageFile.{contents_in, known_in, IsSoundFile, HasReftable}
+use Rattle.qcow2_alloc.specs.ImageFile.{contents_in, known_in, FileInvariant, HasReftable}
 use Rattle.qcow2_alloc.specs.MetadataCaches.{order_of, l2_tables, refblocks}
 use Rattle.qcow2_alloc.proofs.KeptTables.Getting.{cluster_aligned}
 use Rattle.qcow2_alloc.proofs.KeptTables.Standing.{own_cluster}
@@ -118,7 +118,7 @@ module _ (h : HeaderFields) (t : EntryTableView) (first n c : ℕ) where
   ]
 
 module _ {S : Type 0} (view : S → StorageView) (p : Pending) (first blocks clusters : ℕ) (file : ImageFile S) (old t : EntryTableView)
-    (sound : IsSoundFile view (with_run p file.header.fields old first (blocks + clusters)) file) (has : HasReftable view file old) (ready : StandsGrown view file old t first blocks clusters) (is_table : IsRefTable t) where
+    (sound : FileInvariant view (with_run p file.header.fields old first (blocks + clusters)) file) (has : HasReftable view file old) (ready : StandsGrown view file old t first blocks clusters) (is_table : IsRefTable t) where
   abbrev h : HeaderFields
   h = file.header.fields
 
@@ -128,8 +128,8 @@ module _ {S : Type 0} (view : S → StorageView) (p : Pending) (first blocks clu
   abbrev q : Pending
   q = with_run p file.header.fields old first (blocks + clusters)
 
-  abbrev base : Bytes
-  base = contents_in view file
+  abbrev on_storage : Bytes
+  on_storage = contents_in view file
 
   abbrev known : Bytes
   known = known_in view file
@@ -147,7 +147,7 @@ module _ {S : Type 0} (view : S → StorageView) (p : Pending) (first blocks clu
   free : (c : ℕ) → 0 < run_at first n c → IsFree view q file c
   free = free_in_run view p first n file old sound has ready.may
 
-  known_run : (c : ℕ) → 0 < run_at first n c → SameIn (cluster_size h) c known base
+  known_run : (c : ℕ) → 0 < run_at first n c → SameIn (cluster_size h) c known on_storage
   known_run c some = known_there view q file c sound (free c some)
 
   -- the table's own clusters
@@ -163,8 +163,8 @@ module _ {S : Type 0} (view : S → StorageView) (p : Pending) (first blocks clu
       let eights : clusters * cluster_size h ≡ 8 * (clusters * entries_per_cluster h) = ap (λ s. clusters * s) sizes.eights ∙ omega arith in
       omega (arith, whole, eights)
 
-  pub new_entries : IsRefTableOf h' base t
-  new_entries = reftable_stands h' base place t is_table.table.whole (refl, sym many) ready.stands
+  pub new_entries : IsRefTableOf h' on_storage t
+  new_entries = reftable_stands h' on_storage place t is_table.table.whole (refl, sym many) ready.stands
 
   pub few_entries : clusters * entries_per_cluster h ≤ 1048576
   few_entries = let few = is_table.table.few in let e = many in omega (arith, few, e)
@@ -177,41 +177,41 @@ module _ {S : Type 0} (view : S → StorageView) (p : Pending) (first blocks clu
       omega (arith, at, parts)
 
   new_says : (c : ℕ) → HasNone old (c / counts_per_block h) → block_offset (entry_at t.bytes (c / counts_per_block h)) ≢ 0
-      → (block_count base (count_width h) (block_offset (entry_at t.bytes (c / counts_per_block h))) (c % counts_per_block h) ≡ counted_anew h old first n c)
+      → (block_count on_storage (count_width h) (block_offset (entry_at t.bytes (c / counts_per_block h))) (c % counts_per_block h) ≡ counted_anew h old first n c)
       × (block_count known (count_width h) (block_offset (entry_at t.bytes (c / counts_per_block h))) (c % counts_per_block h) ≡ counted_anew h old first n c)
   new_says c none real =
       let k = c / counts_per_block h in
       let at = block_offset (entry_at t.bytes (c / counts_per_block h)) in
       let says = ready.counts c none real ∙ sym (anew_none h old first n c none) in
-      let same = block_count-moved h known base at at (c % counts_per_block h) sizes (mod_below c (counts_per_block h) sizes.counts)
+      let same = block_count-moved h known on_storage at at (c % counts_per_block h) sizes (mod_below c (counts_per_block h) sizes.counts)
       (λ i lt. known_run (at / cluster_size h) (new_place k none real) (at + i) (in_one (cluster_size h) at i (ready.grown.aligned k) lt)) in
       (says, same ∙ says)
 
-  old_none : (k : ℕ) → block_offset (reftable_entry h base k) ≡ 0 → HasNone old k
+  old_none : (k : ℕ) → block_offset (reftable_entry h on_storage k) ≡ 0 → HasNone old k
   old_none k none = ap block_offset (has.entries k) ∙ none
 
-  old_real : (k : ℕ) → block_offset (reftable_entry h base k) ≢ 0 → block_offset (entry_at old.bytes k) ≢ 0
+  old_real : (k : ℕ) → block_offset (reftable_entry h on_storage k) ≢ 0 → block_offset (entry_at old.bytes k) ≢ 0
   old_real k real none = real (ap block_offset (sym (has.entries k)) ∙ none)
 
-  new_known : (k : ℕ) → reftable_entry h' known k ≡ reftable_entry h' base k
+  new_known : (k : ℕ) → reftable_entry h' known k ≡ reftable_entry h' on_storage k
   new_known k =
       let aligned = cluster_aligned (first + blocks) h.cluster_bits in
-      reftable-same h' known base k (same_sizes h place clusters sizes) aligned (λ lt.
+      reftable-same h' known on_storage k (same_sizes h place clusters sizes) aligned (λ lt.
       let one = reftable_has h' k (same_sizes h place clusters sizes) aligned lt in
       let all = clusters_of_run ((place + 8 * k) / cluster_size h) in
       known_run ((place + 8 * k) / cluster_size h) (omega (arith, one, all)))
 
-  new_same : (k : ℕ) → block_offset (reftable_entry h base k) ≢ 0 → reftable_entry h' base k ≡ reftable_entry h base k
+  new_same : (k : ℕ) → block_offset (reftable_entry h on_storage k) ≢ 0 → reftable_entry h' on_storage k ≡ reftable_entry h on_storage k
   new_same k real = sym (new_entries k) ∙ ready.grown.keeps k (old_real k real) ∙ has.entries k
 
-  new_blocks : (c : ℕ) → named_by_reftable h' base c ≡ named_by_reftable h base c + run_at first blocks c
+  new_blocks : (c : ℕ) → named_by_reftable h' on_storage c ≡ named_by_reftable h on_storage c + run_at first blocks c
   new_blocks c =
-      let now : named_by_reftable h' base c ≡ named_by_entries h t c = named_by_table h' base t c many new_entries in
-      let before = named_by_table h base old c has.count has.entries in
+      let now : named_by_reftable h' on_storage c ≡ named_by_entries h t c = named_by_table h' on_storage t c many new_entries in
+      let before = named_by_table h on_storage old c has.count has.entries in
       let more = ready.grown.named c in
       omega (arith, now, before, more)
 
-  anew_covered : (c : ℕ) → 0 < counted_anew h old first n c → (block_offset (reftable_entry h base (c / counts_per_block h)) ≡ 0) × (block_offset (reftable_entry h' base (c / counts_per_block h)) ≢ 0)
+  anew_covered : (c : ℕ) → 0 < counted_anew h old first n c → (block_offset (reftable_entry h on_storage (c / counts_per_block h)) ≡ 0) × (block_offset (reftable_entry h' on_storage (c / counts_per_block h)) ≢ 0)
   anew_covered c some = elim (cases_eq (block_offset (entry_at old.bytes (c / counts_per_block h))) 0) [
     | inl none ↦
         let all = anew_none h old first n c none in (
@@ -221,15 +221,15 @@ module _ {S : Type 0} (view : S → StorageView) (p : Pending) (first blocks clu
     | inr real ↦ let zero = anew_some h old first n c real in absurd (omega (arith, zero, some))
   ]
 
-  run_fresh : (c : ℕ) → counted_anew h old first n c < in_run h c place (clusters * cluster_size h) + run_at first blocks c → (0 < q.fresh c) × (count h base c ≡ count h known c)
+  run_fresh : (c : ℕ) → counted_anew h old first n c < in_run h c place (clusters * cluster_size h) + run_at first blocks c → (0 < q.fresh c) × (count h on_storage c ≡ count h known c)
   run_fresh c less =
       let all = clusters_of_run c in
       let split = run_counted h old first n c in (
         omega (arith, less, all, split),
-        clean_counts h (order_of file.caches) q (l2_tables file.caches) (refblocks file.caches) base sound.caches.kept.kept ready.clean c,
+        clean_counts h (order_of file.caches) q (l2_tables file.caches) (refblocks file.caches) on_storage sound.caches.kept.kept ready.clean c,
       )
 
-  pub new_reftable : IsNewReftable h (order_of file.caches) q base known place clusters (run_at first blocks) (counted_anew h old first n)
+  pub new_reftable : IsNewReftable h (order_of file.caches) q on_storage known place clusters (run_at first blocks) (counted_anew h old first n)
   new_reftable = record {
     aligned = cluster_aligned (first + blocks) h.cluster_bits;
     same = new_same;
@@ -241,7 +241,7 @@ module _ {S : Type 0} (view : S → StorageView) (p : Pending) (first blocks clu
         let k = c / counts_per_block h in
         let at = ap block_offset (sym (new_entries (c / counts_per_block h))) in
         let said = new_says c (old_none k none) (λ zero. real (at ∙ zero)) in (
-          ap (λ x. block_count base (count_width h) x (c % counts_per_block h)) at ∙ said.0,
+          ap (λ x. block_count on_storage (count_width h) x (c % counts_per_block h)) at ∙ said.0,
           ap (λ x. block_count known (count_width h) x (c % counts_per_block h)) at ∙ said.1,
         );
     counted_anew = anew_covered;

@@ -6,8 +6,8 @@ use Rattle.qcow2_metadata.specs.declared.header.HeaderFields.{HeaderFields}
 use Rattle.qcow2_metadata.specs.Header.{cluster_size}
 use Rattle.qcow2_metadata.specs.Entries.{l1_entry, reftable_entry, host_offset, block_offset}
 use Rattle.qcow2_metadata.specs.Named.{in_cluster, named_for_tables, named_by_l1_table, named_by_reftable}
-use Rattle.qcow2_laws.specs.Caches.{IsKept, HasL2, HasBlock, AreSettled}
-use Rattle.qcow2_laws.specs.Guard.{Pending, IsGuarded, SameIn}
+use Rattle.qcow2_laws.specs.Caches.{CacheInvariantOver, HasL2, HasBlock, AreSettled}
+use Rattle.qcow2_laws.specs.CrashInvariant.{Pending, CrashInvariant, SameIn}
 use Rattle.qcow2_laws.specs.Tops.{Places, WritesHeader, with_places}
 use Rattle.qcow2_laws.proofs.Blocks.{table_once}
 use Rattle.qcow2_laws.proofs.Consistency.{in_own}
@@ -15,8 +15,8 @@ use Rattle.qcow2_laws.proofs.Headers.{header_sizes, header_fixed, header_same}
 use Rattle.qcow2_laws.proofs.KeptSteps.{kept_beside}
 use Rattle.qcow2_laws.proofs.Shares.{shares, table_has, block_has}
 use Rattle.qcow2_alloc.specs.declared.image_file.ImageFile.{ImageFile}
-use Rattle.qcow2_alloc.specs.ImageFile.{contents_in, known_in, IsSoundFile}
-use Rattle.qcow2_alloc.specs.MetadataCaches.{HasFormat, order_of, l2_tables, refblocks, known_of, AreSound}
+use Rattle.qcow2_alloc.specs.ImageFile.{contents_in, known_in, FileInvariant}
+use Rattle.qcow2_alloc.specs.MetadataCaches.{HasFormat, order_of, l2_tables, refblocks, known_of, CacheInvariant}
 use Rattle.qcow2_alloc.proofs.KeptTables.Loaded.{loaded_beside}
 use Rattle.qcow2_alloc.proofs.KeptTables.Named.{AreCurrentIn, loaded_named}
 
@@ -37,48 +37,48 @@ same_block h h' b b' c size has same =
     (has.0, (λ none. has.1 (sym e ∙ none)), ap (λ n. n / cluster_size h') e ∙ ap (λ n. block_offset (reftable_entry h b has.0) / n) size ∙ has.2)
 
 -- Entries of the L1 table stay, and so does each refblock that is named; where one is named anew, no cached one is out of date.
-module _ {S : Type 0} (view : S → StorageView) (p p' : Pending) (file : ImageFile S) (sound : IsSoundFile view p file) (a : Places) (base' : Bytes)
-    (writes : WritesHeader file.header.fields a (contents_in view file) (known_in view file) base' (known_of file.header.fields file.caches base'))
-    (guarded : IsGuarded (with_places file.header.fields a) (order_of file.caches) p' base' (known_of file.header.fields file.caches base'))
-    (l1_still : (i : ℕ) → l1_entry (with_places file.header.fields a) base' i ≡ l1_entry file.header.fields (contents_in view file) i)
-    (rb_still : (c : ℕ) → HasBlock file.header.fields (contents_in view file) c → HasBlock (with_places file.header.fields a) base' c)
-    (rb_now : (c : ℕ) → HasBlock (with_places file.header.fields a) base' c → HasBlock file.header.fields (contents_in view file) c ⊎ AreCurrentIn (cluster_size file.header.fields) c (refblocks file.caches) base') where
+module _ {S : Type 0} (view : S → StorageView) (p p' : Pending) (file : ImageFile S) (sound : FileInvariant view p file) (a : Places) (on_storage' : Bytes)
+    (writes : WritesHeader file.header.fields a (contents_in view file) (known_in view file) on_storage' (known_of file.header.fields file.caches on_storage'))
+    (guarded : CrashInvariant (with_places file.header.fields a) (order_of file.caches) p' on_storage' (known_of file.header.fields file.caches on_storage'))
+    (l1_still : (i : ℕ) → l1_entry (with_places file.header.fields a) on_storage' i ≡ l1_entry file.header.fields (contents_in view file) i)
+    (rb_still : (c : ℕ) → HasBlock file.header.fields (contents_in view file) c → HasBlock (with_places file.header.fields a) on_storage' c)
+    (rb_now : (c : ℕ) → HasBlock (with_places file.header.fields a) on_storage' c → HasBlock file.header.fields (contents_in view file) c ⊎ AreCurrentIn (cluster_size file.header.fields) c (refblocks file.caches) on_storage') where
   abbrev h : HeaderFields
   h = file.header.fields
 
   abbrev h' : HeaderFields
   h' = with_places file.header.fields a
 
-  abbrev base : Bytes
-  base = contents_in view file
+  abbrev on_storage : Bytes
+  on_storage = contents_in view file
 
-  kept : IsKept file.header.fields (order_of file.caches) p (l2_tables file.caches) (refblocks file.caches) (contents_in view file)
+  kept : CacheInvariantOver file.header.fields (order_of file.caches) p (l2_tables file.caches) (refblocks file.caches) (contents_in view file)
   kept = sound.caches.kept.kept
 
-  once : named_for_tables h base 0 ≡ 1
-  once = table_once h (order_of file.caches) p base (known_in view file) kept.guarded 0 (header_fixed h a (order_of file.caches) p base (known_in view file) base' (known_of h file.caches base') kept.guarded writes)
+  once : named_for_tables h on_storage 0 ≡ 1
+  once = table_once h (order_of file.caches) p on_storage (known_in view file) kept.guarded 0 (header_fixed h a (order_of file.caches) p on_storage (known_in view file) on_storage' (known_of h file.caches on_storage') kept.guarded writes)
 
-  same_there : (c : ℕ) → c ≢ 0 → SameIn (cluster_size h) c base base'
-  same_there = header_same h a (order_of file.caches) p base (known_in view file) base' (known_of h file.caches base') kept.guarded writes
+  same_there : (c : ℕ) → c ≢ 0 → SameIn (cluster_size h) c on_storage on_storage'
+  same_there = header_same h a (order_of file.caches) p on_storage (known_in view file) on_storage' (known_of h file.caches on_storage') kept.guarded writes
 
   -- a cluster with a table is another one
-  table_elsewhere : (c : ℕ) → 0 < named_by_l1_table h base c + named_by_reftable h base c → c ≢ 0
+  table_elsewhere : (c : ℕ) → 0 < named_by_l1_table h on_storage c + named_by_reftable h on_storage c → c ≢ 0
   table_elsewhere c some e =
-      let here : 0 < named_by_l1_table h base 0 + named_by_reftable h base 0 = subst (λ n. 0 < named_by_l1_table h base n + named_by_reftable h base n) e some in
-      let s = shares h base 0 in
+      let here : 0 < named_by_l1_table h on_storage 0 + named_by_reftable h on_storage 0 = subst (λ n. 0 < named_by_l1_table h on_storage n + named_by_reftable h on_storage n) e some in
+      let s = shares h on_storage 0 in
       let only = once in
-      let sizes = header_sizes h a (order_of file.caches) p base (known_in view file) base' (known_of h file.caches base') kept.guarded writes in
+      let sizes = header_sizes h a (order_of file.caches) p on_storage (known_in view file) on_storage' (known_of h file.caches on_storage') kept.guarded writes in
       let zero : 0 / cluster_size h ≡ 0 = let some_size = sizes.some in omega arith in
       let one : in_cluster h 0 0 ≡ 1 = ap (λ n. in_cluster h n 0) (sym zero) ∙ in_own h 0 in
       absurd (omega arith)
 
-  stays : (c : ℕ) → 0 < named_by_l1_table h base c + named_by_reftable h base c → SameIn (cluster_size h) c base' base
+  stays : (c : ℕ) → 0 < named_by_l1_table h on_storage c + named_by_reftable h on_storage c → SameIn (cluster_size h) c on_storage' on_storage
   stays c some o in_c = sym (same_there c (table_elsewhere c some) o in_c)
 
-  pub header_settled : AreSettled h' (refblocks file.caches) base'
+  pub header_settled : AreSettled h' (refblocks file.caches) on_storage'
   header_settled c = elim (sound.settled c) [ inl free ↦ inl free | inr has ↦ inr (rb_still c has) ]
 
-  pub header_sound : AreSound h' p' file.caches base'
+  pub header_sound : CacheInvariant h' p' file.caches on_storage'
   header_sound = record {
     l2_format = format_placed _ h a sound.caches.l2_format;
     rb_format = format_placed _ h a sound.caches.rb_format;
@@ -86,18 +86,18 @@ module _ {S : Type 0} (view : S → StorageView) (p p' : Pending) (file : ImageF
     rb_fit = sound.caches.rb_fit;
     kept = record {
       kept =
-          kept_beside h h' (order_of file.caches) (order_of file.caches) p p' (l2_tables file.caches) (refblocks file.caches) base base' kept refl guarded
-          (λ c has. inr (has_table h h' base base' c refl l1_still has))
+          kept_beside h h' (order_of file.caches) (order_of file.caches) p p' (l2_tables file.caches) (refblocks file.caches) on_storage on_storage' kept refl guarded
+          (λ c has. inr (has_table h h' on_storage on_storage' c refl l1_still has))
           (λ c either. elim (sound.settled c) [ inl free ↦ inl free | inr has ↦ inr (inl (rb_still c has)) ]);
-      l2_loaded = loaded_beside (cluster_size h) (HasL2 h base) (HasL2 h' base') base base' (l2_tables file.caches)
-          (λ c has. let was = has_table h' h base' base c refl (λ i. sym (l1_still i)) has in (was, table_stays c was)) sound.caches.kept.l2_loaded;
-      rb_loaded = loaded_named (cluster_size h) (HasBlock h base) (HasBlock h' base') base base' (refblocks file.caches)
+      l2_loaded = loaded_beside (cluster_size h) (HasL2 h on_storage) (HasL2 h' on_storage') on_storage on_storage' (l2_tables file.caches)
+          (λ c has. let was = has_table h' h on_storage' on_storage c refl (λ i. sym (l1_still i)) has in (was, table_stays c was)) sound.caches.kept.l2_loaded;
+      rb_loaded = loaded_named (cluster_size h) (HasBlock h on_storage) (HasBlock h' on_storage') on_storage on_storage' (refblocks file.caches)
           (λ c has. elim (rb_now c has) [ inl was ↦ inl (was, block_stays c was) | inr current ↦ inr current ]) sound.caches.kept.rb_loaded;
     };
   }
     where
-      table_stays : (c : ℕ) → HasL2 h base c → SameIn (cluster_size h) c base' base
-      table_stays c has = stays c (subst (λ n. 0 < named_by_l1_table h base n + named_by_reftable h base n) has.2 (let one = table_has h base has.0 has.1 in omega arith))
+      table_stays : (c : ℕ) → HasL2 h on_storage c → SameIn (cluster_size h) c on_storage' on_storage
+      table_stays c has = stays c (subst (λ n. 0 < named_by_l1_table h on_storage n + named_by_reftable h on_storage n) has.2 (let one = table_has h on_storage has.0 has.1 in omega arith))
 
-      block_stays : (c : ℕ) → HasBlock h base c → SameIn (cluster_size h) c base' base
-      block_stays c has = stays c (subst (λ n. 0 < named_by_l1_table h base n + named_by_reftable h base n) has.2 (let one = block_has h base has.0 has.1 in omega arith))
+      block_stays : (c : ℕ) → HasBlock h on_storage c → SameIn (cluster_size h) c on_storage' on_storage
+      block_stays c has = stays c (subst (λ n. 0 < named_by_l1_table h on_storage n + named_by_reftable h on_storage n) has.2 (let one = block_has h on_storage has.0 has.1 in omega arith))

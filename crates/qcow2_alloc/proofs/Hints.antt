@@ -12,17 +12,17 @@ use Rattle.qcow2_metadata.specs.Named.{named_by_reftable}
 use Rattle.std.proofs.lemmas.Nat.{div-mul-add, pow_pos}
 use Rattle.qcow2_laws.proofs.Shares.{shares, block_has}
 use Rattle.qcow2_laws.specs.Changes.{one_at}
-use Rattle.qcow2_laws.specs.Guard.{Pending}
+use Rattle.qcow2_laws.specs.CrashInvariant.{Pending}
 use Rattle.qcow2_alloc.specs.declared.allocation.Allocator.{Allocator}
 use Rattle.qcow2_alloc.specs.declared.clusters_to_free.ClusterKind.TheVariants.{Data, Metadata}
 use Rattle.qcow2_alloc.specs.declared.error.ImageError.{ImageError}
 use Rattle.qcow2_alloc.specs.declared.image_file.ImageFile.{ImageFile}
-use Rattle.qcow2_alloc.specs.Allocation.{run_at, taken_as, Owed, Taken, Listed, owed_as, HasNone, StandsAt, Becomes, GetsBlock, LowersOne, PlacesBlock, TakesOne}
-use Rattle.qcow2_alloc.specs.ImageFile.{pending_at, contents_in, known_in, IsSoundFile, HasReftable, LeavesSound, IsFault}
+use Rattle.qcow2_alloc.specs.Allocation.{run_at, taken_as, Owed, Taken, Listed, owed_as, HasNone, RefblockAt, UnseenAllocatorStep, GetsBlock, LowersOne, PlacesBlock, TakesOne}
+use Rattle.qcow2_alloc.specs.ImageFile.{pending_at, contents_in, known_in, FileInvariant, HasReftable, RefusedFileStep, IsFault}
 use Rattle.qcow2_alloc.specs.MetadataCaches.{rb_at}
 use Rattle.qcow2_alloc.specs.declared.cache.MetadataCaches.{MetadataCaches}
 use Rattle.std.proofs.lemmas.Bool.Decides.{nat_tests}
-use Rattle.qcow2_alloc.specs.LowestRuns.{IsUsed, IsLowestRun, HasHint, KeepsHint, KeepsUsed}
+use Rattle.qcow2_alloc.specs.LowestRuns.{IsUsed, IsLowestRun, NoFreeBelowHint, KeepsNoFreeBelowHint, KeepsUsed}
 use Rattle.qcow2_alloc.proofs.AllocationSteps.{still_sound}
 use Rattle.qcow2_alloc.proofs.FileSteps.{one_here}
 use Rattle.qcow2_alloc.proofs.Runs.{none_there, run_in}
@@ -59,38 +59,38 @@ owed_pending (Listed Metadata) p n k = omega arith
 
 module _ {S : Type 0} (view : S → StorageView) where
   -- a cluster stays in use while no less is pending
-  pub used_stays : (p p' : Pending) (a b : ImageFile S) (t : Allocator) (k : ℕ) → Becomes view p a t b p' → pending_at p k ≤ pending_at p' k → IsUsed view a k → IsUsed view b k
+  pub used_stays : (p p' : Pending) (a b : ImageFile S) (t : Allocator) (k : ℕ) → UnseenAllocatorStep view p a t b p' → pending_at p k ≤ pending_at p' k → IsUsed view a k → IsUsed view b k
   used_stays p p' a b t k becomes no_less used zero = used (let counts = becomes.moves.counts k in omega (arith, counts, no_less, zero))
 
   -- what is taken is in use
-  pub taken_used : (p : Pending) (d : Bool) (n : ℕ → ℕ) (a b : ImageFile S) (t : Allocator) (k : ℕ) → Becomes view p a t b (taken_as d p n) → 0 < n k → IsUsed view b k
+  pub taken_used : (p : Pending) (d : Bool) (n : ℕ → ℕ) (a b : ImageFile S) (t : Allocator) (k : ℕ) → UnseenAllocatorStep view p a t b (taken_as d p n) → 0 < n k → IsUsed view b k
   taken_used p d n a b t k becomes some zero = let counts = becomes.moves.counts k in let more = taken_pending d p n k in absurd (omega (arith, counts, more, some, zero))
 
-  pub hint_stays : (p : Pending) (a b : ImageFile S) (t t' : Allocator) → Becomes view p a t' b p → t'.first_free_cluster ≡ t.first_free_cluster → HasHint view t a → HasHint view t' b
+  pub hint_stays : (p : Pending) (a b : ImageFile S) (t t' : Allocator) → UnseenAllocatorStep view p a t' b p → t'.first_free_cluster ≡ t.first_free_cluster → NoFreeBelowHint view t a → NoFreeBelowHint view t' b
   hint_stays p a b t t' becomes same hint k below = used_stays p p a b t' k becomes (omega arith) (hint k (subst (λ n. k < n) same below))
 
   -- after clusters were taken
-  pub hint_taken : (p : Pending) (d : Bool) (n : ℕ → ℕ) (a b : ImageFile S) (t t' : Allocator) → Becomes view p a t' b (taken_as d p n) → t'.first_free_cluster ≡ t.first_free_cluster → HasHint view t a → HasHint view t' b
+  pub hint_taken : (p : Pending) (d : Bool) (n : ℕ → ℕ) (a b : ImageFile S) (t t' : Allocator) → UnseenAllocatorStep view p a t' b (taken_as d p n) → t'.first_free_cluster ≡ t.first_free_cluster → NoFreeBelowHint view t a → NoFreeBelowHint view t' b
   hint_taken p d n a b t t' becomes same hint k below =
       used_stays p (taken_as d p n) a b t' k becomes (let more = taken_pending d p n k in omega (arith, more)) (hint k (subst (λ m. k < m) same below))
 
   -- one cluster more is in use
-  pub hint_more : (file : ImageFile S) (t t' : Allocator) (cluster : ℕ) → HasHint view t file → t.first_free_cluster ≡ cluster → t'.first_free_cluster ≡ cluster + 1 → IsUsed view file cluster → HasHint view t' file
+  pub hint_more : (file : ImageFile S) (t t' : Allocator) (cluster : ℕ) → NoFreeBelowHint view t file → t.first_free_cluster ≡ cluster → t'.first_free_cluster ≡ cluster + 1 → IsUsed view file cluster → NoFreeBelowHint view t' file
   hint_more file t t' cluster hint is more used k below = elim (cases_eq k cluster) [
     | inl same ↦ subst (IsUsed view file) (sym same) used
     | inr other ↦ hint k (omega (arith, is, more, below, other))
   ]
 
   -- another allocator with the same first free cluster
-  pub hint_as : (file : ImageFile S) (t t' : Allocator) → t'.first_free_cluster ≡ t.first_free_cluster → HasHint view t file → HasHint view t' file
+  pub hint_as : (file : ImageFile S) (t t' : Allocator) → t'.first_free_cluster ≡ t.first_free_cluster → NoFreeBelowHint view t file → NoFreeBelowHint view t' file
   hint_as file t t' same hint k below = hint k (subst (λ n. k < n) same below)
 
   -- after a refusal that is no fault
-  pub hint_refused : (p : Pending) (a b : ImageFile S) (t t' : Allocator) (e : ImageError) → t'.first_free_cluster ≡ t.first_free_cluster → LeavesSound view p a t' b e → HasHint view t a → (IsFault e → ⊥) → HasHint view t' b
+  pub hint_refused : (p : Pending) (a b : ImageFile S) (t t' : Allocator) (e : ImageError) → t'.first_free_cluster ≡ t.first_free_cluster → RefusedFileStep view p a t' b e → NoFreeBelowHint view t a → (IsFault e → ⊥) → NoFreeBelowHint view t' b
   hint_refused p a b t t' e same leaves hint other = hint_stays p a b t t' (still_sound view p a b t' e other leaves) same hint
 
   -- ---- what was in use is in use
-  pub uses_refused : (p : Pending) (a b : ImageFile S) (t : Allocator) (e : ImageError) → LeavesSound view p a t b e → (IsFault e → ⊥) → (k : ℕ) → IsUsed view a k → IsUsed view b k
+  pub uses_refused : (p : Pending) (a b : ImageFile S) (t : Allocator) (e : ImageError) → RefusedFileStep view p a t b e → (IsFault e → ⊥) → (k : ℕ) → IsUsed view a k → IsUsed view b k
   uses_refused p a b t e leaves other k used = used_stays p p a b t k (still_sound view p a b t e other leaves) (omega arith) used
 
   pub uses_got : (p : Pending) (a b : ImageFile S) (t : Allocator) (result : Result (Unit {0}) ImageError) → GetsBlock view p a t b result → KeepsUsed view a b result
@@ -105,14 +105,14 @@ module _ {S : Type 0} (view : S → StorageView) where
   uses_raised p d cluster a b t true takes k used = used_stays p (taken_as d p (one_at cluster)) a b t k takes (let more = taken_pending d p (one_at cluster) k in omega (arith, more)) used
   uses_raised p d cluster a b t false takes k used = used_stays p p a b t k takes (omega arith) used
 
-  pub hint_used : (a b : ImageFile S) (t t' : Allocator) → t'.first_free_cluster ≡ t.first_free_cluster → ((k : ℕ) → IsUsed view a k → IsUsed view b k) → HasHint view t a → HasHint view t' b
+  pub hint_used : (a b : ImageFile S) (t t' : Allocator) → t'.first_free_cluster ≡ t.first_free_cluster → ((k : ℕ) → IsUsed view a k → IsUsed view b k) → NoFreeBelowHint view t a → NoFreeBelowHint view t' b
   hint_used a b t t' same uses hint k below = uses k (hint k (subst (λ n. k < n) same below))
 
   -- a range that has a refblock in the file has one in memory
-  pub block_in_memory : (p : Pending) (file : ImageFile S) (t : EntryTableView) (range block : ℕ) → IsSoundFile view p file → HasReftable view file t → StandsAt view file range (Some block) → HasNone t range → ⊥
+  pub block_in_memory : (p : Pending) (file : ImageFile S) (t : EntryTableView) (range block : ℕ) → FileInvariant view p file → HasReftable view file t → RefblockAt view file range (Some block) → HasNone t range → ⊥
   block_in_memory p file t range block sound has at none = at.0 (ap block_offset (sym (sound.caches.kept.kept.guarded.same_top.reftable range) ∙ sym (has.entries range)) ∙ none)
 
-  pub has_block : (p : Pending) (file : ImageFile S) (t : EntryTableView) (range : ℕ) (o : Option ℕ) → IsSoundFile view p file → HasReftable view file t → is_some o ≡ true → StandsAt view file range o → HasNone t range → ⊥
+  pub has_block : (p : Pending) (file : ImageFile S) (t : EntryTableView) (range : ℕ) (o : Option ℕ) → FileInvariant view p file → HasReftable view file t → is_some o ≡ true → RefblockAt view file range o → HasNone t range → ⊥
   has_block p file t range None sound has some at none = let bad : false ≡ true = some in cc
   has_block p file t range (Some block) sound has some at none = block_in_memory p file t range block sound has at none
 
@@ -122,7 +122,7 @@ module _ {S : Type 0} (view : S → StorageView) where
   placed_block p p' old new t range at (Err e) placed = tt
 
   -- the cluster of a refblock that is named is in use
-  pub named_used : (p : Pending) (file : ImageFile S) (range at : ℕ) → IsSoundFile view p file → StandsAt view file range (Some at) → IsUsed view file at
+  pub named_used : (p : Pending) (file : ImageFile S) (range at : ℕ) → FileInvariant view p file → RefblockAt view file range (Some at) → IsUsed view file at
   named_used p file range at sound stands zero =
       let h = file.header.fields in
       let guarded = sound.caches.kept.kept.guarded in
@@ -138,7 +138,7 @@ module _ {S : Type 0} (view : S → StorageView) where
 
   -- a refblock was placed in a cluster that was taken for it
   pub hint_placed : (p : Pending) (mid new : ImageFile S) (t t' : Allocator) (range at : ℕ) (result : Result (Unit {0}) ImageError) → t'.first_free_cluster ≡ t.first_free_cluster
-      → PlacesBlock view (taken_as false p (one_at at)) mid t' new p range at result → HasHint view t mid → KeepsHint view t' new result
+      → PlacesBlock view (taken_as false p (one_at at)) mid t' new p range at result → NoFreeBelowHint view t mid → KeepsNoFreeBelowHint view t' new result
   hint_placed p mid new t t' range at (Ok done) same placed hint = λ k below. elim (cases_eq k at) [
     | inl here ↦ subst (IsUsed view new) (sym here) (named_used p new range at placed.0.moves.sound placed.1)
     | inr other ↦
@@ -148,12 +148,12 @@ module _ {S : Type 0} (view : S → StorageView) where
   hint_placed p mid new t t' range at (Err e) same placed hint = λ other. absurd (other placed.0)
 
   -- a range got its refblock
-  pub hint_got : (p : Pending) (old new : ImageFile S) (t t' : Allocator) (result : Result (Unit {0}) ImageError) → t'.first_free_cluster ≡ t.first_free_cluster → GetsBlock view p old t' new result → HasHint view t old → KeepsHint view t' new result
+  pub hint_got : (p : Pending) (old new : ImageFile S) (t t' : Allocator) (result : Result (Unit {0}) ImageError) → t'.first_free_cluster ≡ t.first_free_cluster → GetsBlock view p old t' new result → NoFreeBelowHint view t old → KeepsNoFreeBelowHint view t' new result
   hint_got p old new t t' (Ok done) same gets hint = hint_stays p old new t t' gets same hint
   hint_got p old new t t' (Err e) same gets hint = hint_refused p old new t t' e same gets hint
 
   -- a cluster was taken, or is in use
-  pub hint_raised : (p : Pending) (d : Bool) (cluster : ℕ) (old new : ImageFile S) (t t' : Allocator) (taken : Bool) → t'.first_free_cluster ≡ t.first_free_cluster → TakesOne view p old t' new d cluster (Ok taken) → HasHint view t old → HasHint view t' new
+  pub hint_raised : (p : Pending) (d : Bool) (cluster : ℕ) (old new : ImageFile S) (t t' : Allocator) (taken : Bool) → t'.first_free_cluster ≡ t.first_free_cluster → TakesOne view p old t' new d cluster (Ok taken) → NoFreeBelowHint view t old → NoFreeBelowHint view t' new
   hint_raised p d cluster old new t t' true same takes hint = hint_taken p d (one_at cluster) old new t t' takes same hint
   hint_raised p d cluster old new t t' false same takes hint = hint_stays p old new t t' takes same hint
 
@@ -162,20 +162,20 @@ module _ {S : Type 0} (view : S → StorageView) where
   raised_used p d cluster old new t false takes used = used refl
 
   -- a count fell
-  pub lowered_so : (p p' : Pending) (old new : ImageFile S) (t : Allocator) (made : Bool) → IsTrue made → LowersOne view p old t new p' (Ok made) → Becomes view p old t new p'
+  pub lowered_so : (p p' : Pending) (old new : ImageFile S) (t : Allocator) (made : Bool) → IsTrue made → LowersOne view p old t new p' (Ok made) → UnseenAllocatorStep view p old t new p'
   lowered_so p p' old new t true so lowers = lowers
   lowered_so p p' old new t false so lowers = absurd lowers
 
   -- the refblock of a range stands where it stood, while nothing is written
-  pub stands_still : (p p' : Pending) (file : ImageFile S) (caches : MetadataCaches S) (range block : ℕ) → IsSoundFile view p file → IsSoundFile view p' (record file { caches = caches }) → IsSome (rb_at caches block)
-      → StandsAt view file range (Some block) → StandsAt view (record file { caches = caches }) range (Some block)
+  pub stands_still : (p p' : Pending) (file : ImageFile S) (caches : MetadataCaches S) (range block : ℕ) → FileInvariant view p file → FileInvariant view p' (record file { caches = caches }) → IsSome (rb_at caches block)
+      → RefblockAt view file range (Some block) → RefblockAt view (record file { caches = caches }) range (Some block)
   stands_still p p' file caches range block sound sound' held at =
       let same : block_offset (reftable_entry file.header.fields (known_in view (record file { caches = caches })) range) ≡ block_offset (reftable_entry file.header.fields (known_in view file) range) =
       ap block_offset (sym (sound'.caches.kept.kept.guarded.same_top.reftable range) ∙ sound.caches.kept.kept.guarded.same_top.reftable range) in ((λ none. at.0 (sym same ∙ none)), same ∙ at.1, held)
 
   -- a count was lowered, which is noted where it came to 0
-  pub hint_lowered : (owed : Owed) (p : Pending) (cluster : ℕ) (old new : ImageFile S) (t t' : Allocator) → Becomes view (owed_as owed p (one_at cluster)) old t' new p → t'.first_free_cluster ≤ t.first_free_cluster
-      → (count new.header.fields (known_in view new) cluster ≡ 0 → t'.first_free_cluster ≤ cluster) → HasHint view t old → HasHint view t' new
+  pub hint_lowered : (owed : Owed) (p : Pending) (cluster : ℕ) (old new : ImageFile S) (t t' : Allocator) → UnseenAllocatorStep view (owed_as owed p (one_at cluster)) old t' new p → t'.first_free_cluster ≤ t.first_free_cluster
+      → (count new.header.fields (known_in view new) cluster ≡ 0 → t'.first_free_cluster ≤ cluster) → NoFreeBelowHint view t old → NoFreeBelowHint view t' new
   hint_lowered owed p cluster old new t t' becomes lower noted hint k below = elim (cases_eq k cluster) [
     | inl same ↦ λ zero. let le = noted (subst (λ n. count new.header.fields (known_in view new) n ≡ 0) same zero) in omega (arith, le, below, same)
     | inr other ↦
@@ -187,7 +187,7 @@ module _ {S : Type 0} (view : S → StorageView) where
   -- ---- the search for the lowest run
 
   -- all below the first free cluster is in use
-  pub lowest_first : (file : ImageFile S) (t : Allocator) (n : ℕ) → HasHint view t file → 0 < n → IsLowestRun view file t.first_free_cluster n
+  pub lowest_first : (file : ImageFile S) (t : Allocator) (n : ℕ) → NoFreeBelowHint view t file → 0 < n → IsLowestRun view file t.first_free_cluster n
   lowest_first file t n hint some start below = (start, omega arith, omega (arith, some), below, hint start below)
 
   -- what is in use stays in use

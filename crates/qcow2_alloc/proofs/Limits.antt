@@ -2,13 +2,13 @@
 use Rattle.std.proofs.Common.{◌≡◌, inl, inr, ℕ, ◌<◌, ◌≤◌, Result, Ok, Err, ap, sym, ◌∙◌, subst, arith, ◌*◌, ◌^◌, Option, IsSome, refl, ◌/◌, ◌+◌, ◌⊎◌, Bool, true, false, IsTrue, ◌↔◌}
 use Rattle.std.specs.Prelude.{IfErr}
 use Rattle.image_access.specs.Moments.{StorageView}
-use Rattle.qcow2_laws.specs.Guard.{Pending}
+use Rattle.qcow2_laws.specs.CrashInvariant.{Pending}
 use Rattle.qcow2_alloc.specs.declared.allocation.Allocator.{Allocator}
 use Rattle.qcow2_alloc.specs.declared.error.ImageError.{ImageError}
 use Rattle.qcow2_alloc.specs.declared.error.ImageError.TheVariants as I
 use Rattle.qcow2_alloc.specs.declared.image_file.ImageFile.{ImageFile}
 use Rattle.qcow2_alloc.specs.Allocation.{PlacesBlock, run_at}
-use Rattle.qcow2_alloc.specs.ImageFile.{IsFault, IsSoundWith, KeepsHeader}
+use Rattle.qcow2_alloc.specs.ImageFile.{IsFault, AllocatorInvariant, KeepsHeader}
 use Rattle.std.proofs.Math.Nat.{mul-le-mul_right, div-mul-le_self}
 use Rattle.qcow2_metadata.specs.L2Mapping.{IsHostCluster, greatest_offset}
 use Rattle.qcow2_metadata.specs.declared.header.HeaderFields.{HeaderFields}
@@ -49,7 +49,7 @@ range_near h h' cluster bits same counts near =
     subst (λ (k : HeaderFields). IsHostCluster k.cluster_bits (cluster / 2 ^ bits * counts_per_block k)) (sym same) (host_below h.cluster_bits (cluster / 2 ^ bits * counts_per_block h) cluster (omega (arith, e, le)) near)
 
 -- a reftable of a sound file has a place, and clusters of the file's size
-pub is_able : {S : Type 0} (view : S → StorageView) (p : Pending) (file : ImageFile S) (t : Allocator) (bits c : ℕ) (Able : Type 0) → IsSoundWith view t p file → bits ≡ file.header.fields.cluster_bits → IsHostCluster file.header.fields.cluster_bits c
+pub is_able : {S : Type 0} (view : S → StorageView) (p : Pending) (file : ImageFile S) (t : Allocator) (bits c : ℕ) (Able : Type 0) → AllocatorInvariant view t p file → bits ≡ file.header.fields.cluster_bits → IsHostCluster file.header.fields.cluster_bits c
     → (IsSome t.reftable.cluster → IsHostCluster t.reftable.cluster_bits c → IsHostCluster bits c → Able) → Able
 is_able view p file t bits c Able sound same near able =
     able (subst (λ (o : Option ℕ). IsSome o) (sym sound.reftable.cluster) refl) (subst (λ n. IsHostCluster n c) (sym sound.reftable.bits) near) (subst (λ n. IsHostCluster n c) (sym same) near)

@@ -19,12 +19,12 @@ use Rattle.qcow2_metadata.specs.Named.{table_in, in_cluster, named_for_tables, n
 use Rattle.qcow2_metadata.proofs.EntryTables.{on_sector}
 use Rattle.qcow2_metadata.proofs.TablesAt.{ref_block_at}
 use Rattle.qcow2_metadata.proofs.WrittenTables.{IsRefTableOf-written_entry}
-use Rattle.qcow2_laws.specs.Stops.{Mark, IsKeptAt}
+use Rattle.qcow2_laws.specs.Stops.{Checkpoint, StopOkEverywhere}
 use Rattle.qcow2_laws.specs.Changes.{one_at, with_fresh, named_now}
-use Rattle.qcow2_laws.specs.Guard.{Pending, SameIn}
+use Rattle.qcow2_laws.specs.CrashInvariant.{Pending, SameIn}
 use Rattle.qcow2_laws.specs.Caches.{AreClean, BlocksMayGo, HasL2, HasBlock}
 use Rattle.qcow2_laws.specs.Guests.{table_at}
-use Rattle.qcow2_laws.specs.Leads.{Leads, Endures}
+use Rattle.qcow2_laws.specs.SafeSteps.{SafeStep, SafeThroughout}
 use Rattle.qcow2_laws.specs.Unseen.{IsUnseen, SameL1Table}
 use Rattle.qcow2_laws.specs.Tops.{IsSameBut, IsSameOutside, WritesReftableEntry, IsNewBlock}
 use Rattle.qcow2_laws.proofs.Beside.{overwritten_but, reftable_entry_beside}
@@ -39,7 +39,7 @@ use Rattle.qcow2_laws.proofs.Unseen.{unseen_refblock}
 use Rattle.qcow2_alloc.specs.declared.image_file.ImageFile.{ImageFile}
 use Rattle.qcow2_alloc.specs.declared.image_storage.ImageStorage.{ImageStorage}
 use Rattle.qcow2_alloc.specs.Allocation.{placing, first_counts, HasPlaceFor, StandsFirst, StandAt}
-use Rattle.qcow2_alloc.specs.ImageFile.{nothing_given, view_in, contents_in, known_in, stand_in, IsSoundFile, HasReftable, Moves}
+use Rattle.qcow2_alloc.specs.ImageFile.{nothing_given, view_in, contents_in, known_in, state_in, FileInvariant, HasReftable, UnseenFileStep}
 use Rattle.qcow2_alloc.specs.ImageStorage.{storage_of}
 use Rattle.qcow2_alloc.specs.KeptTables.{AreLoaded}
 use Rattle.qcow2_alloc.specs.MetadataCaches.{order_of, l2_tables, refblocks, rb_at}
@@ -92,7 +92,7 @@ counts_as : (d : Bool) (h : HeaderFields) (range at c : ℕ) → 0 < counts_per_
 counts_as true h range at c some first in_range = first_of_range range (counts_per_block h) at c some first in_range
 counts_as false h range at c some first in_range = refl
 
-module _ {S : Type 0} (view : S → StorageView) (d : Bool) (p : Pending) (range at : ℕ) (file : ImageFile S) (t t' : EntryTableView) (block : RefBlockView) (sound : IsSoundFile view (placing d p at) file)
+module _ {S : Type 0} (view : S → StorageView) (d : Bool) (p : Pending) (range at : ℕ) (file : ImageFile S) (t t' : EntryTableView) (block : RefBlockView) (sound : FileInvariant view (placing d p at) file)
     (has : HasReftable view file t) (clean : AreClean (refblocks file.caches)) (may : BlocksMayGo (order_of file.caches) (l2_tables file.caches)) (place : HasPlaceFor d file.header.fields t range at)
     (within : range < entry_count t) (same : t' ≡ record t { bytes = t'.bytes }) (enters : ChangesEntry t.bytes t'.bytes range (at * cluster_size file.header.fields))
     (offset : block_offset (entry_at t'.bytes range) ≡ at * cluster_size file.header.fields) (fits : entry_at t'.bytes range < 2 ^ 64)
@@ -104,8 +104,8 @@ module _ {S : Type 0} (view : S → StorageView) (d : Bool) (p : Pending) (range
   abbrev q : Pending
   q = placing d p at
 
-  abbrev base : Bytes
-  base = contents_in view file
+  abbrev on_storage : Bytes
+  on_storage = contents_in view file
 
   abbrev entry : ℕ
   entry = entry_at t'.bytes range
@@ -127,7 +127,7 @@ module _ {S : Type 0} (view : S → StorageView) (d : Bool) (p : Pending) (range
         let is : at * cluster_size h ≡ 0 = omega arith in
         let zero : 0 / cluster_size h ≡ at = ap (λ n. n / cluster_size h) (sym is) ∙ own_cluster h.cluster_bits at in
         let first : in_cluster h at 0 ≡ 1 = cond-true {A = ℕ} _ 1 0 (eq-eqb (0 / cluster_size h) at zero) in
-        let parts = shares h base at in
+        let parts = shares h on_storage at in
         absurd (omega (arith, parts, first, free.unnamed.no_table))
   ]
 
@@ -138,8 +138,8 @@ module _ {S : Type 0} (view : S → StorageView) (d : Bool) (p : Pending) (range
     abbrev named : ImageFile S
     named = record file { storage = storage }
 
-    abbrev base' : Bytes
-    base' = contents_in view named
+    abbrev on_storage' : Bytes
+    on_storage' = contents_in view named
 
     -- where the entry stands
     abbrev written_to : ℕ
@@ -148,13 +148,13 @@ module _ {S : Type 0} (view : S → StorageView) (d : Bool) (p : Pending) (range
     within_table : range < reftable_entries h
     within_table = let e = has.count in omega (arith, within, e)
 
-    but : IsSameBut (h.reftable_offset + 8 * range) 8 base base'
-    but = subst (λ (l : List ℕ). IsSameBut (h.reftable_offset + 8 * range) 8 base (byte_at l)) (sym is) (overwritten_but (view_in view file).contents (h.reftable_offset + 8 * range) (to_be_bytes w64 entry))
+    but : IsSameBut (h.reftable_offset + 8 * range) 8 on_storage on_storage'
+    but = subst (λ (l : List ℕ). IsSameBut (h.reftable_offset + 8 * range) 8 on_storage (byte_at l)) (sym is) (overwritten_but (view_in view file).contents (h.reftable_offset + 8 * range) (to_be_bytes w64 entry))
 
-    outside : IsSameOutside (cluster_size h) written_to base base'
-    outside = outside_eight (cluster_size h) h.reftable_offset range base base' sizes.whole sizes.some sound.caches.kept.kept.guarded.top.reftable_aligned but
+    outside : IsSameOutside (cluster_size h) written_to on_storage on_storage'
+    outside = outside_eight (cluster_size h) h.reftable_offset range on_storage on_storage' sizes.whole sizes.some sound.caches.kept.kept.guarded.top.reftable_aligned but
 
-    table_now : IsRefTableOf h base' t'
+    table_now : IsRefTableOf h on_storage' t'
     table_now =
         let as_long = enters.as_long in
         let count : entry_count t' ≡ entry_count t = ap (λ n. n / 8) enters.as_long in
@@ -162,20 +162,20 @@ module _ {S : Type 0} (view : S → StorageView) (d : Bool) (p : Pending) (range
         (IsRefTableOf-written_entry h (view_in view file).contents h.reftable_offset t' range (subst (λ n. range < n) (sym count) within) fits
         ((refl, sym has.count ∙ sym count), (λ i other. enters.others i other ∙ has.entries i)))
 
-    pub writes : WritesReftableEntry h base (known_in view file) base' (known_in view named) range entry
-    writes = reftable_entry_beside h (order_of file.caches) q (l2_tables file.caches) (refblocks file.caches) base base' sound.caches.kept.kept range entry within_table but (sym (table_now range))
+    pub writes : WritesReftableEntry h on_storage (known_in view file) on_storage' (known_in view named) range entry
+    writes = reftable_entry_beside h (order_of file.caches) q (l2_tables file.caches) (refblocks file.caches) on_storage on_storage' sound.caches.kept.kept range entry within_table but (sym (table_now range))
 
     -- ---- the refblock that is named
-    counted : (i : ℕ) → i < counts_per_block h → block_count base (count_width h) (at * cluster_size h) i ≡ first_counts d i
+    counted : (i : ℕ) → i < counts_per_block h → block_count on_storage (count_width h) (at * cluster_size h) i ≡ first_counts d i
     counted i lt =
         let per : counts_per_block h ≡ 2 ^ block.cluster_bits * 8 / 2 ^ block.refcount_order = sym (ap (λ n. 2 ^ n * 8 / 2 ^ block.refcount_order) format.bits ∙ ap (λ n. 2 ^ h.cluster_bits * 8 / 2 ^ n) format.order) in
-        sym (subst (λ n. count_at block i ≡ block_count base (2 ^ n) (at * cluster_size h) i) format.order (ref_block_at base (at * cluster_size h) block whole stands i (subst (λ n. i < n) per lt))) ∙ counts i
+        sym (subst (λ n. count_at block i ≡ block_count on_storage (2 ^ n) (at * cluster_size h) i) format.order (ref_block_at on_storage (at * cluster_size h) block whole stands i (subst (λ n. i < n) per lt))) ∙ counts i
 
-    known_same : (i : ℕ) → i < counts_per_block h → block_count (known_in view file) (count_width h) (at * cluster_size h) i ≡ block_count base (count_width h) (at * cluster_size h) i
+    known_same : (i : ℕ) → i < counts_per_block h → block_count (known_in view file) (count_width h) (at * cluster_size h) i ≡ block_count on_storage (count_width h) (at * cluster_size h) i
     known_same i lt =
-        block_count-moved h (known_in view file) base (at * cluster_size h) (at * cluster_size h) i sizes lt (λ k k_lt. known_there view q file at sound free (at * cluster_size h + k) (in_own h.cluster_bits at k k_lt))
+        block_count-moved h (known_in view file) on_storage (at * cluster_size h) (at * cluster_size h) i sizes lt (λ k k_lt. known_there view q file at sound free (at * cluster_size h + k) (in_own h.cluster_bits at k k_lt))
 
-    new_with : (n : ℕ → ℕ) → ((c : ℕ) → c / counts_per_block h ≡ range → first_counts d (c % counts_per_block h) ≡ n c) → IsNewBlock h base (known_in view file) range entry n
+    new_with : (n : ℕ → ℕ) → ((c : ℕ) → c / counts_per_block h ≡ range → first_counts d (c % counts_per_block h) ≡ n c) → IsNewBlock h on_storage (known_in view file) range entry n
     new_with n says = record {
       none = (has_none view q file t sound has range place.none).0;
       reads = let aligned = on_sector at h.cluster_bits sound.caches.kept.kept.guarded.top.header_reads.well_formed.in_range.cluster_bits.0 in let e = enters.entry_is in omega (arith, aligned, e);
@@ -183,7 +183,7 @@ module _ {S : Type 0} (view : S → StorageView) (d : Bool) (p : Pending) (range
       aligned = ap (λ n. n % cluster_size h) offset ∙ cluster_aligned at h.cluster_bits;
       says = λ c in_range.
           let lt = mod_below c (counts_per_block h) sizes.counts in
-          ap (λ x. block_count base (count_width h) x (c % counts_per_block h)) offset ∙ counted (c % counts_per_block h) lt ∙ says c in_range;
+          ap (λ x. block_count on_storage (count_width h) x (c % counts_per_block h)) offset ∙ counted (c % counts_per_block h) lt ∙ says c in_range;
       known_says = λ c in_range.
           let lt = mod_below c (counts_per_block h) sizes.counts in
           ap (λ x. block_count (known_in view file) (count_width h) x (c % counts_per_block h)) offset ∙ known_same (c % counts_per_block h) lt ∙ counted (c % counts_per_block h) lt ∙ says c in_range;
@@ -197,89 +197,89 @@ module _ {S : Type 0} (view : S → StorageView) (d : Bool) (p : Pending) (range
         ap (λ b. named_now (placing b p at) (λ c. table_in h c (block_offset entry))) is
         ∙ pending_same (named_now (with_fresh p (one_at at)) (λ c. table_in h c (block_offset entry))) p (λ k. refl) (λ k. let one = table_in-one h k (block_offset entry) at has_place in_at in omega (arith, one)) (λ k. refl) (λ k. refl) (λ k. refl)
 
-    pub leads : Leads (stand_in view file q) (stand_in view named p) nothing_given []
+    pub leads : SafeStep (state_in view file q) (state_in view named p) nothing_given []
     leads = elim (cases_Bool d) [
       | inl is ↦
-          subst (λ (r : Pending). Leads (stand_in view file q) (stand_in view named r) nothing_given []) (ap (λ b. placing b p at) is)
-          (table_is_named.itself (stand_in view file q) base' (known_in view named) range entry sound.caches.kept.kept.guarded writes
+          subst (λ (r : Pending). SafeStep (state_in view file q) (state_in view named r) nothing_given []) (ap (λ b. placing b p at) is)
+          (table_is_named.itself (state_in view file q) on_storage' (known_in view named) range entry sound.caches.kept.kept.guarded writes
           (new_with (λ c. table_in h c (block_offset entry)) (λ c in_range. first_says c in_range ∙ ap (λ b. new_counts b at c) is ∙ sym (table_in-one h c (block_offset entry) at has_place in_at)))
           (ap (λ n. n / counts_per_block h) in_at ∙ (range_of_first range (counts_per_block h) at sizes.counts (subst (λ b. StandsFirst b h range at) is place.first)).0))
       | inr is ↦
           let own = one_here at in
           let fresh : q.fresh (block_offset entry / cluster_size h) ≡ p.fresh at + one_at at at = ap q.fresh in_at ∙ ap (λ (b : Bool). (placing b p at).fresh at) is in
-          subst (λ (r : Pending). Leads (stand_in view file q) (stand_in view named r) nothing_given []) (named_pending is)
-          (table_is_named.refblock (stand_in view file q) base' (known_in view named) range entry sound.caches.kept.kept.guarded writes
+          subst (λ (r : Pending). SafeStep (state_in view file q) (state_in view named r) nothing_given []) (named_pending is)
+          (table_is_named.refblock (state_in view file q) on_storage' (known_in view named) range entry sound.caches.kept.kept.guarded writes
           (new_with (λ c. 0) (λ c in_range. first_says c in_range ∙ ap (λ b. new_counts b at c) is)) (omega (arith, fresh, own))
-          (clean_counts h (order_of file.caches) q (l2_tables file.caches) (refblocks file.caches) base sound.caches.kept.kept clean (block_offset entry / cluster_size h))
+          (clean_counts h (order_of file.caches) q (l2_tables file.caches) (refblocks file.caches) on_storage sound.caches.kept.kept clean (block_offset entry / cluster_size h))
           (covers_written view q file sound may))
     ]
 
     -- the others are named as they were
-    still_named : (k : ℕ) → block_offset (reftable_entry h base k) ≢ 0 → reftable_entry h base' k ≡ reftable_entry h base k
-    still_named k some = sym (other_reftable h base base' range k but (λ same. some (ap (λ n. block_offset (reftable_entry h base n)) same ∙ (has_none view q file t sound has range place.none).0)))
+    still_named : (k : ℕ) → block_offset (reftable_entry h on_storage k) ≢ 0 → reftable_entry h on_storage' k ≡ reftable_entry h on_storage k
+    still_named k some = sym (other_reftable h on_storage on_storage' range k but (λ same. some (ap (λ n. block_offset (reftable_entry h on_storage n)) same ∙ (has_none view q file t sound has range place.none).0)))
 
     -- ---- the caches
-    abbrev unseen : IsUnseen (stand_in view file q) (stand_in view named p) × SameL1Table (stand_in view file q) (stand_in view named p)
-    unseen = unseen_refblock (stand_in view file q) (stand_in view named p) sound.caches.kept.kept.guarded range entry refl writes
+    abbrev unseen : IsUnseen (state_in view file q) (state_in view named p) × SameL1Table (state_in view file q) (state_in view named p)
+    unseen = unseen_refblock (state_in view file q) (state_in view named p) sound.caches.kept.kept.guarded range entry refl writes
 
     -- tables stand in other clusters than the reftable
-    apart : (c : ℕ) → 0 < named_by_l1_table h base c + named_by_reftable h base c → c ≢ written_to
+    apart : (c : ℕ) → 0 < named_by_l1_table h on_storage c + named_by_reftable h on_storage c → c ≢ written_to
     apart c some here =
         let one = reftable_has h range sizes sound.caches.kept.kept.guarded.top.reftable_aligned within_table in
-        let parts = shares h base written_to in
-        let some_here = subst (λ n. 0 < named_by_l1_table h base n + named_by_reftable h base n) here some in
-        absurd (omega (arith, table_once h (order_of file.caches) q base (known_in view file) sound.caches.kept.kept.guarded written_to (omega (arith, parts, one)), parts, one, some_here))
+        let parts = shares h on_storage written_to in
+        let some_here = subst (λ n. 0 < named_by_l1_table h on_storage n + named_by_reftable h on_storage n) here some in
+        absurd (omega (arith, table_once h (order_of file.caches) q on_storage (known_in view file) sound.caches.kept.kept.guarded written_to (omega (arith, parts, one)), parts, one, some_here))
 
-    stays_in : (c : ℕ) → c ≢ written_to → SameIn (cluster_size h) c base' base
+    stays_in : (c : ℕ) → c ≢ written_to → SameIn (cluster_size h) c on_storage' on_storage
     stays_in c other o in_c = sym (outside o (λ e. other (sym in_c ∙ e)))
 
     free_apart : at ≢ written_to
     free_apart here =
         let one = reftable_has h range sizes sound.caches.kept.kept.guarded.top.reftable_aligned within_table in
-        let parts = shares h base written_to in
-        let none : named_for_tables h base written_to ≡ 0 = ap (named_for_tables h base) (sym here) ∙ free.unnamed.no_table in
+        let parts = shares h on_storage written_to in
+        let none : named_for_tables h on_storage written_to ≡ 0 = ap (named_for_tables h on_storage) (sym here) ∙ free.unnamed.no_table in
         absurd (omega (arith, parts, one, none))
 
-    l2_same : (i : ℕ) → table_at h base' i ≡ table_at h base i
+    l2_same : (i : ℕ) → table_at h on_storage' i ≡ table_at h on_storage i
     l2_same i = ap host_offset (unseen.1 i)
 
-    l2_still : (c : ℕ) → HasL2 h base c → HasL2 h base' c
+    l2_still : (c : ℕ) → HasL2 h on_storage c → HasL2 h on_storage' c
     l2_still c has = (has.0, (λ none. has.1 (sym (l2_same has.0) ∙ none)), ap (λ n. n / cluster_size h) (l2_same has.0) ∙ has.2)
 
-    l2_now : (c : ℕ) → HasL2 h base' c → (HasL2 h base c × SameIn (cluster_size h) c base' base) ⊎ AreCurrentIn (cluster_size h) c (l2_tables file.caches) base'
+    l2_now : (c : ℕ) → HasL2 h on_storage' c → (HasL2 h on_storage c × SameIn (cluster_size h) c on_storage' on_storage) ⊎ AreCurrentIn (cluster_size h) c (l2_tables file.caches) on_storage'
     l2_now c has =
-        let was : HasL2 h base c = (has.0, (λ none. has.1 (l2_same has.0 ∙ none)), ap (λ n. n / cluster_size h) (sym (l2_same has.0)) ∙ has.2) in
-        inl (was, stays_in c (apart c (let one = subst (λ n. 1 ≤ named_by_l1_table h base n) was.2 (table_has h base was.0 was.1) in omega (arith, one))))
+        let was : HasL2 h on_storage c = (has.0, (λ none. has.1 (l2_same has.0 ∙ none)), ap (λ n. n / cluster_size h) (sym (l2_same has.0)) ∙ has.2) in
+        inl (was, stays_in c (apart c (let one = subst (λ n. 1 ≤ named_by_l1_table h on_storage n) was.2 (table_has h on_storage was.0 was.1) in omega (arith, one))))
 
-    rb_other : (k : ℕ) → k ≢ range → block_offset (reftable_entry h base k) ≡ block_offset (reftable_entry h base' k)
-    rb_other k other = ap block_offset (other_reftable h base base' range k but other)
+    rb_other : (k : ℕ) → k ≢ range → block_offset (reftable_entry h on_storage k) ≡ block_offset (reftable_entry h on_storage' k)
+    rb_other k other = ap block_offset (other_reftable h on_storage on_storage' range k but other)
 
-    rb_still : (c : ℕ) → HasBlock h base c → HasBlock h base' c
+    rb_still : (c : ℕ) → HasBlock h on_storage c → HasBlock h on_storage' c
     rb_still c there =
-        let e = rb_other there.0 (λ same. there.1 (ap (λ k. block_offset (reftable_entry h base k)) same ∙ (has_none view q file t sound has range place.none).0)) in
+        let e = rb_other there.0 (λ same. there.1 (ap (λ k. block_offset (reftable_entry h on_storage k)) same ∙ (has_none view q file t sound has range place.none).0)) in
         (there.0, (λ none. there.1 (e ∙ none)), ap (λ n. n / cluster_size h) (sym e) ∙ there.2)
 
-    current : AreCurrentIn (cluster_size h) at (refblocks file.caches) base'
+    current : AreCurrentIn (cluster_size h) at (refblocks file.caches) on_storage'
     current =
         let bits = file.caches.rb.backend.header.fields.cluster_bits in
         let same_bits = sound.caches.rb_format.bits in
-        let there : (i : ℕ) → i < cluster_size h → byte_at held.0.bytes i ≡ base' (at * cluster_size h + i) = λ i lt.
+        let there : (i : ℕ) → i < cluster_size h → byte_at held.0.bytes i ≡ on_storage' (at * cluster_size h + i) = λ i lt.
         ap (λ l. byte_at l i) held.2 ∙ stands i (subst (λ n. i < n) (sym (whole.whole ∙ ap (λ n. 2 ^ n) format.bits)) lt)
         ∙ outside (at * cluster_size h + i) (λ e. free_apart (sym (in_own h.cluster_bits at i lt) ∙ e)) in
-        subst (λ n. AreCurrentIn (2 ^ n) at (refblocks file.caches) base') same_bits
-        (current_entry bits (λ (b : RefBlockView). b.bytes) (λ b. b.is_modified) (HasBlock h base) base base' at file.caches.rb.entries held.0 held.1
-        (subst (λ n. (i : ℕ) → i < 2 ^ n → byte_at held.0.bytes i ≡ base' (at * 2 ^ n + i)) (sym same_bits) there)
-        (subst (λ n. AreLoaded (2 ^ n) (HasBlock h base) (refblocks file.caches) base) (sym same_bits) sound.caches.kept.rb_loaded))
+        subst (λ n. AreCurrentIn (2 ^ n) at (refblocks file.caches) on_storage') same_bits
+        (current_entry bits (λ (b : RefBlockView). b.bytes) (λ b. b.is_modified) (HasBlock h on_storage) on_storage on_storage' at file.caches.rb.entries held.0 held.1
+        (subst (λ n. (i : ℕ) → i < 2 ^ n → byte_at held.0.bytes i ≡ on_storage' (at * 2 ^ n + i)) (sym same_bits) there)
+        (subst (λ n. AreLoaded (2 ^ n) (HasBlock h on_storage) (refblocks file.caches) on_storage) (sym same_bits) sound.caches.kept.rb_loaded))
 
-    rb_now : (c : ℕ) → HasBlock h base' c → (HasBlock h base c × SameIn (cluster_size h) c base' base) ⊎ AreCurrentIn (cluster_size h) c (refblocks file.caches) base'
+    rb_now : (c : ℕ) → HasBlock h on_storage' c → (HasBlock h on_storage c × SameIn (cluster_size h) c on_storage' on_storage) ⊎ AreCurrentIn (cluster_size h) c (refblocks file.caches) on_storage'
     rb_now c has = elim (cases_eq has.0 range) [
       | inl same ↦
-          let here : at ≡ c = sym in_at ∙ ap (λ e. block_offset e / cluster_size h) (table_now range) ∙ ap (λ k. block_offset (reftable_entry h base' k) / cluster_size h) (sym same) ∙ has.2 in
-          inr (subst (λ n. AreCurrentIn (cluster_size h) n (refblocks file.caches) base') here current)
+          let here : at ≡ c = sym in_at ∙ ap (λ e. block_offset e / cluster_size h) (table_now range) ∙ ap (λ k. block_offset (reftable_entry h on_storage' k) / cluster_size h) (sym same) ∙ has.2 in
+          inr (subst (λ n. AreCurrentIn (cluster_size h) n (refblocks file.caches) on_storage') here current)
       | inr other ↦
           let e = rb_other has.0 other in
-          let was : HasBlock h base c = (has.0, (λ none. has.1 (sym e ∙ none)), ap (λ n. n / cluster_size h) e ∙ has.2) in
-          inl (was, stays_in c (apart c (let one = subst (λ n. 1 ≤ named_by_reftable h base n) was.2 (block_has h base was.0 was.1) in omega (arith, one))))
+          let was : HasBlock h on_storage c = (has.0, (λ none. has.1 (sym e ∙ none)), ap (λ n. n / cluster_size h) e ∙ has.2) in
+          inl (was, stays_in c (apart c (let one = subst (λ n. 1 ≤ named_by_reftable h on_storage n) was.2 (block_has h on_storage was.0 was.1) in omega (arith, one))))
     ]
 
     pub reftable_named : HasReftable view named t'
@@ -290,38 +290,38 @@ module _ {S : Type 0} (view : S → StorageView) (d : Bool) (p : Pending) (range
       entries = table_now;
     }
 
-    pub moves_named : (view (storage_of storage)).is_honest → Passing (view_in view file) (view (storage_of storage)) (λ c. c ≡ (view (storage_of storage)).contents) → Moves view q p file named
+    pub moves_named : (view (storage_of storage)).is_honest → Passing (view_in view file) (view (storage_of storage)) (λ c. c ≡ (view (storage_of storage)).contents) → UnseenFileStep view q p file named
     moves_named honest time = record {
       sound = record {
         honest = honest;
-        caches = sound_named h q p file.caches base base' sound.caches sound.settled l2_still rb_still l2_now rb_now leads.sound;
-        settled = settled_named h q p file.caches base base' sound.caches sound.settled l2_still rb_still l2_now rb_now;
+        caches = sound_named h q p file.caches on_storage on_storage' sound.caches sound.settled l2_still rb_still l2_now rb_now leads.sound;
+        settled = settled_named h q p file.caches on_storage on_storage' sound.caches sound.settled l2_still rb_still l2_now rb_now;
         room = sound.room;
       };
       leads = leads;
       since = record {
-        moments = passes_if _ (λ c is backing m ok known_ok. subst (λ l. IsKeptAt backing m (byte_at l)) (sym is) (leads.base backing m ok known_ok)) time;
-        contents = λ backing m ok known_ok. leads.base backing m ok known_ok;
+        moments = passes_if _ (λ c is backing m ok known_ok. subst (λ l. StopOkEverywhere backing m (byte_at l)) (sym is) (leads.on_storage backing m ok known_ok)) time;
+        contents = λ backing m ok known_ok. leads.on_storage backing m ok known_ok;
       };
       unseen = unseen.0;
       l1_table = unseen.1;
-      counts = λ k. counts_follow h (order_of file.caches) (order_of file.caches) q p base base' (known_in view file) (known_in view named) sound.caches.kept.kept.guarded leads.sound unseen.0.covers (fixed_more h base base' still_named unseen.1) k (sym (surplus_placing d p at k));
+      counts = λ k. counts_follow h (order_of file.caches) (order_of file.caches) q p on_storage on_storage' (known_in view file) (known_in view named) sound.caches.kept.kept.guarded leads.sound unseen.0.covers (fixed_more h on_storage on_storage' still_named unseen.1) k (sym (surplus_placing d p at k));
     }
 
   -- what is kept of the storage and of what is known is kept, whether the write is done or not; and where it is done, the refblock is named
   module _ (storage : ImageStorage S) (result : Result (Unit {0}) StorageError) (calls : Calls (view_in view file) (view (storage_of storage)) result)
       (changes : Changes (view_in view file) (view (storage_of storage)) result (overwritten (view_in view file).contents (h.reftable_offset + 8 * range) (to_be_bytes w64 entry))) where
-    kept : (backing : Bytes) (m : Mark) → IsKeptAt backing m base → IsKeptAt backing m (known_in view file) → IsKeptAt backing m (byte_at (view (storage_of storage)).contents)
+    kept : (backing : Bytes) (m : Checkpoint) → StopOkEverywhere backing m on_storage → StopOkEverywhere backing m (known_in view file) → StopOkEverywhere backing m (byte_at (view (storage_of storage)).contents)
     kept backing m ok known_ok = elim (whole_or_nothing result (view_in view file).contents _ (view (storage_of storage)).contents (changes sound.honest)) [
-      | inl same ↦ subst (λ (l : List ℕ). IsKeptAt backing m (byte_at l)) (sym same) ok
-      | inr is ↦ (leads storage is).base backing m ok known_ok
+      | inl same ↦ subst (λ (l : List ℕ). StopOkEverywhere backing m (byte_at l)) (sym same) ok
+      | inr is ↦ (leads storage is).on_storage backing m ok known_ok
     ]
 
-    pub endures_named : Endures (view_in view file) (view (storage_of storage)) (known_in view file) nothing_given []
+    pub endures_named : SafeThroughout (view_in view file) (view (storage_of storage)) (known_in view file) nothing_given []
     endures_named = record {
-      moments = passes_if _ (λ c is backing m ok known_ok. subst (λ (l : List ℕ). IsKeptAt backing m (byte_at l)) (sym is) (kept backing m ok known_ok)) calls.time;
+      moments = passes_if _ (λ c is backing m ok known_ok. subst (λ (l : List ℕ). StopOkEverywhere backing m (byte_at l)) (sym is) (kept backing m ok known_ok)) calls.time;
       contents = kept;
     }
 
-    pub named_so : (x : Unit {0}) → result ≡ Ok x → Moves view q p file (record file { storage = storage }) × HasReftable view (record file { storage = storage }) t'
+    pub named_so : (x : Unit {0}) → result ≡ Ok x → UnseenFileStep view q p file (record file { storage = storage }) × HasReftable view (record file { storage = storage }) t'
     named_so x done = let is = rw done at (changes sound.honest) in (moves_named storage is (calls.honest sound.honest) calls.time, reftable_named storage is)

@@ -12,12 +12,12 @@ use Rattle.qcow2_metadata.specs.Entries.{l1_entry, reftable_entry, block_offset}
 use Rattle.qcow2_metadata.specs.EntryTable.{EntryTableView, IsRefTable, HasRoomIfPlaced, entry_count}
 use Rattle.qcow2_metadata.specs.TableBytes.{entry_at}
 use Rattle.qcow2_laws.specs.Caches.{AreClean, BlocksMayGo, HasBlock}
-use Rattle.qcow2_laws.specs.Guard.{Pending}
-use Rattle.qcow2_laws.specs.Leads.{Leads, Endures}
+use Rattle.qcow2_laws.specs.CrashInvariant.{Pending}
+use Rattle.qcow2_laws.specs.SafeSteps.{SafeStep, SafeThroughout}
 use Rattle.qcow2_laws.specs.Tops.{WritesHeader, with_reftable_at, IsNewReftable}
 use Rattle.qcow2_laws.specs.Unseen.{IsUnseen}
 use Rattle.qcow2_laws.proofs.Headers.{header_fixed, header_l1, header_known_covers}
-use Rattle.qcow2_laws.proofs.Leads.{endures_write}
+use Rattle.qcow2_laws.proofs.SafeSteps.{endures_write}
 use Rattle.qcow2_laws.proofs.ReftableMoves.{now_l1, now_reftable, known_counts}
 use Rattle.qcow2_laws.proofs.Steps.{header_is_written}
 use Rattle.qcow2_laws.proofs.Unseen.{table_bytes}
@@ -26,10 +26,10 @@ use Rattle.qcow2_alloc.specs.declared.cache.MetadataCaches.{MetadataCaches}
 use Rattle.qcow2_alloc.specs.declared.image_file.ImageFile.{ImageFile}
 use Rattle.qcow2_alloc.specs.declared.image_storage.ImageStorage.{ImageStorage}
 use Rattle.qcow2_alloc.specs.declared.error.ImageError.{ImageError}
-use Rattle.qcow2_alloc.specs.Allocation.{run_at, Becomes, BecomesOn}
+use Rattle.qcow2_alloc.specs.Allocation.{run_at, UnseenAllocatorStep, UnseenAllocatorGrowth}
 use Rattle.qcow2_alloc.specs.CacheMarks.{KeepsMarks, SameTables}
 use Rattle.qcow2_alloc.specs.GrownTables.{reftable_at, with_run, without_reftable, StandsGrown}
-use Rattle.qcow2_alloc.specs.ImageFile.{nothing_given, view_in, contents_in, known_in, stand_in, IsSoundFile, IsSoundWith, HasReftable, IsFault, MovesOn, Breaks}
+use Rattle.qcow2_alloc.specs.ImageFile.{nothing_given, view_in, contents_in, known_in, state_in, FileInvariant, AllocatorInvariant, HasReftable, IsFault, UnseenFileGrowth, InterruptedFileStep}
 use Rattle.qcow2_alloc.specs.ImageStorage.{storage_of}
 use Rattle.qcow2_alloc.specs.KeptTables.{AreLoaded}
 use Rattle.qcow2_alloc.specs.LowestRuns.{IsUsed}
@@ -44,7 +44,7 @@ use Rattle.qcow2_alloc.proofs.Numbers.{reftable_pointer_writes}
 use Rattle.qcow2_alloc.proofs.PlacedBlocks.{file_sizes}
 
 -- the clusters of the reftable in memory are those that the header names
-pub reftable_run : {S : Type 0} (view : S → StorageView) (q : Pending) (file : ImageFile S) (t : EntryTableView) (cluster : ℕ) → IsSoundFile view q file → HasReftable view file t → IsRefTable t → t.cluster ≡ Some cluster
+pub reftable_run : {S : Type 0} (view : S → StorageView) (q : Pending) (file : ImageFile S) (t : EntryTableView) (cluster : ℕ) → FileInvariant view q file → HasReftable view file t → IsRefTable t → t.cluster ≡ Some cluster
     → (c : ℕ) → reftable_at file.header.fields c ≡ run_at cluster ((length t.bytes + 2 ^ t.cluster_bits - 1) / 2 ^ t.cluster_bits) c
 reftable_run view q file t cluster sound has is_table some c =
     let h = file.header.fields in
@@ -62,15 +62,15 @@ reftable_run view q file t cluster sound has is_table some c =
 
 -- ---- it names a table that stands ready
 module _ {S : Type 0} (view : S → StorageView) (p : Pending) (first blocks clusters : ℕ) (file : ImageFile S) (old t : EntryTableView)
-    (sound : IsSoundFile view (with_run p file.header.fields old first (blocks + clusters)) file) (has : HasReftable view file old) (ready : StandsGrown view file old t first blocks clusters) (is_table : IsRefTable t) where
+    (sound : FileInvariant view (with_run p file.header.fields old first (blocks + clusters)) file) (has : HasReftable view file old) (ready : StandsGrown view file old t first blocks clusters) (is_table : IsRefTable t) where
   abbrev h : HeaderFields
   h = file.header.fields
 
   abbrev q : Pending
   q = with_run p file.header.fields old first (blocks + clusters)
 
-  abbrev base : Bytes
-  base = contents_in view file
+  abbrev on_storage : Bytes
+  on_storage = contents_in view file
 
   abbrev known : Bytes
   known = known_in view file
@@ -87,7 +87,7 @@ module _ {S : Type 0} (view : S → StorageView) (p : Pending) (first blocks clu
   abbrev written : List ℕ
   written = reftable_pointer_written (with_reftable file.header.fields ((first + blocks) * cluster_size file.header.fields) clusters) (view_in view file).contents
 
-  new : IsNewReftable h (order_of file.caches) q base known place clusters (run_at first blocks) anew
+  new : IsNewReftable h (order_of file.caches) q on_storage known place clusters (run_at first blocks) anew
   new = new_reftable view p first blocks clusters file old t sound has ready is_table
 
   limit : clusters * entries_per_cluster h ≤ 1048576
@@ -106,14 +106,14 @@ module _ {S : Type 0} (view : S → StorageView) (p : Pending) (first blocks clu
       let there : (first + blocks) * 2 ^ h.cluster_bits + length t.bytes < 2 ^ 64 = subst (λ b. (first + blocks) * 2 ^ b + length t.bytes < 2 ^ 64) ready.grown.bits room in
       omega (arith, there)
 
-  writes : WritesHeader h (with_reftable_at h place clusters) base known (byte_at written) (known_of h file.caches (byte_at written))
+  writes : WritesHeader h (with_reftable_at h place clusters) on_storage known (byte_at written) (known_of h file.caches (byte_at written))
   writes = reftable_pointer_writes view q file sound place clusters few limit near
 
-  leads_at : (b : Bytes) → WritesHeader h (with_reftable_at h place clusters) base known b (known_of h file.caches b)
-      → Leads (stand_in view file q) (record (stand_in view file q) { header = h'; pending = without_reftable p h; base = b; known = known_of h file.caches b }) nothing_given []
+  leads_at : (b : Bytes) → WritesHeader h (with_reftable_at h place clusters) on_storage known b (known_of h file.caches b)
+      → SafeStep (state_in view file q) (record (state_in view file q) { header = h'; pending = without_reftable p h; on_storage = b; known = known_of h file.caches b }) nothing_given []
   leads_at b so =
-      let leads = header_is_written.reftable (stand_in view file q) b (known_of h file.caches b) place clusters (run_at first blocks) anew sound.caches.kept.kept.guarded so new in
-      subst (λ (r : Pending). Leads (stand_in view file q) (record (stand_in view file q) { header = h'; pending = r; base = b; known = known_of h file.caches b }) nothing_given [])
+      let leads = header_is_written.reftable (state_in view file q) b (known_of h file.caches b) place clusters (run_at first blocks) anew sound.caches.kept.kept.guarded so new in
+      subst (λ (r : Pending). SafeStep (state_in view file q) (record (state_in view file q) { header = h'; pending = r; on_storage = b; known = known_of h file.caches b }) nothing_given [])
       (pending_same _ (without_reftable p h) (λ k. refl)
       (λ k.
       let all = clusters_of_run view p first blocks clusters file old t sound has ready is_table k in
@@ -123,78 +123,78 @@ module _ {S : Type 0} (view : S → StorageView) (p : Pending) (first blocks clu
 
   -- whatever the storage answers
   pub lasts_named : (result : Result (Unit {0}) StorageError) (after : S) → Changes (view_in view file) (view after) result written → Calls (view_in view file) (view after) result
-      → Endures (view_in view file) (view after) known nothing_given []
-  lasts_named result after wrote called = endures_write {result = result} (view_in view file) (view after) known nothing_given [] written called wrote sound.honest (leads_at (byte_at written) writes).base
+      → SafeThroughout (view_in view file) (view after) known nothing_given []
+  lasts_named result after wrote called = endures_write {result = result} (view_in view file) (view after) known nothing_given [] written called wrote sound.honest (leads_at (byte_at written) writes).on_storage
 
   module _ (storage : ImageStorage S) (is : (view (storage_of storage)).contents ≡ written) (honest : (view (storage_of storage)).is_honest) where
     abbrev named : ImageFile S
     named = record file { storage = storage; header = with_fields file.header (with_reftable file.header.fields ((first + blocks) * cluster_size file.header.fields) clusters) }
 
-    abbrev base' : Bytes
-    base' = contents_in view named
+    abbrev on_storage' : Bytes
+    on_storage' = contents_in view named
 
     abbrev known' : Bytes
     known' = known_of file.header.fields file.caches (contents_in view named)
 
-    writes_now : WritesHeader h (with_reftable_at h place clusters) base known base' known'
-    writes_now = subst (λ (c : List ℕ). WritesHeader h (with_reftable_at h place clusters) base known (byte_at c) (known_of h file.caches (byte_at c))) (sym is) writes
+    writes_now : WritesHeader h (with_reftable_at h place clusters) on_storage known on_storage' known'
+    writes_now = subst (λ (c : List ℕ). WritesHeader h (with_reftable_at h place clusters) on_storage known (byte_at c) (known_of h file.caches (byte_at c))) (sym is) writes
 
-    leads_now : Leads (stand_in view file q) (stand_in view named (without_reftable p h)) nothing_given []
-    leads_now = leads_at base' writes_now
+    leads_now : SafeStep (state_in view file q) (state_in view named (without_reftable p h)) nothing_given []
+    leads_now = leads_at on_storage' writes_now
 
-    l1_now : (i : ℕ) → l1_entry h' base' i ≡ l1_entry h base i
-    l1_now i = sym (now_l1 h place clusters (run_at first blocks) anew (order_of file.caches) q base known base' known' sound.caches.kept.kept.guarded writes_now new i)
+    l1_now : (i : ℕ) → l1_entry h' on_storage' i ≡ l1_entry h on_storage i
+    l1_now i = sym (now_l1 h place clusters (run_at first blocks) anew (order_of file.caches) q on_storage known on_storage' known' sound.caches.kept.kept.guarded writes_now new i)
 
-    entry_now : (k : ℕ) → reftable_entry h' base k ≡ reftable_entry h' base' k
-    entry_now = now_reftable h place clusters (run_at first blocks) anew (order_of file.caches) q base known base' known' sound.caches.kept.kept.guarded writes_now new
+    entry_now : (k : ℕ) → reftable_entry h' on_storage k ≡ reftable_entry h' on_storage' k
+    entry_now = now_reftable h place clusters (run_at first blocks) anew (order_of file.caches) q on_storage known on_storage' known' sound.caches.kept.kept.guarded writes_now new
 
-    entries_now : (k : ℕ) → entry_at t.bytes k ≡ reftable_entry h' base' k
+    entries_now : (k : ℕ) → entry_at t.bytes k ≡ reftable_entry h' on_storage' k
     entries_now k = new_entries view p first blocks clusters file old t sound has ready is_table k ∙ entry_now k
 
-    block_same : (k : ℕ) → block_offset (reftable_entry h base k) ≢ 0 → reftable_entry h' base' k ≡ reftable_entry h base k
+    block_same : (k : ℕ) → block_offset (reftable_entry h on_storage k) ≢ 0 → reftable_entry h' on_storage' k ≡ reftable_entry h on_storage k
     block_same k real = sym (entry_now k) ∙ new.same k real
 
-    rb_still : (c : ℕ) → HasBlock h base c → HasBlock h' base' c
-    rb_still c there = same_block h h' base base' c refl there (block_same there.0 there.1)
+    rb_still : (c : ℕ) → HasBlock h on_storage c → HasBlock h' on_storage' c
+    rb_still c there = same_block h h' on_storage on_storage' c refl there (block_same there.0 there.1)
 
     -- a refblock that is named anew isn't cached
-    uncached : (c : ℕ) → 0 < run_at first blocks c → AreCurrentIn (cluster_size h) c (refblocks file.caches) base'
+    uncached : (c : ℕ) → 0 < run_at first blocks c → AreCurrentIn (cluster_size h) c (refblocks file.caches) on_storage'
     uncached c some =
         let bits = file.caches.rb.backend.header.fields.cluster_bits in
-        subst (λ n. AreCurrentIn (2 ^ n) c (refblocks file.caches) base') sound.caches.rb_format.bits
-        (current_none bits (λ b. b.bytes) (λ b. b.is_modified) (HasBlock h base) base base' c file.caches.rb.entries (ready.uncached c some)
-        (subst (λ n. AreLoaded (2 ^ n) (HasBlock h base) (refblocks file.caches) base) (sym sound.caches.rb_format.bits) sound.caches.kept.rb_loaded))
+        subst (λ n. AreCurrentIn (2 ^ n) c (refblocks file.caches) on_storage') sound.caches.rb_format.bits
+        (current_none bits (λ b. b.bytes) (λ b. b.is_modified) (HasBlock h on_storage) on_storage on_storage' c file.caches.rb.entries (ready.uncached c some)
+        (subst (λ n. AreLoaded (2 ^ n) (HasBlock h on_storage) (refblocks file.caches) on_storage) (sym sound.caches.rb_format.bits) sound.caches.kept.rb_loaded))
 
-    rb_now : (c : ℕ) → HasBlock h' base' c → HasBlock h base c ⊎ AreCurrentIn (cluster_size h) c (refblocks file.caches) base'
-    rb_now c now = elim (cases_eq (block_offset (reftable_entry h base now.0)) 0) [
+    rb_now : (c : ℕ) → HasBlock h' on_storage' c → HasBlock h on_storage c ⊎ AreCurrentIn (cluster_size h) c (refblocks file.caches) on_storage'
+    rb_now c now = elim (cases_eq (block_offset (reftable_entry h on_storage now.0)) 0) [
       | inl none ↦
           let at = ap block_offset (entries_now now.0) in
           let placed = ready.grown.placed now.0 (ap block_offset (has.entries now.0) ∙ none) (λ zero. now.1 (sym at ∙ zero)) in
           inr (uncached c (subst (λ n. 0 < run_at first blocks n) (ap (λ n. n / cluster_size h) at ∙ now.2) placed))
-      | inr real ↦ inl (same_block h' h base' base c refl now (sym (block_same now.0 real)))
+      | inr real ↦ inl (same_block h' h on_storage' on_storage c refl now (sym (block_same now.0 real)))
     ]
 
-    unseen_now : IsUnseen (stand_in view file q) (stand_in view named (without_reftable p h))
+    unseen_now : IsUnseen (state_in view file q) (state_in view named (without_reftable p h))
     unseen_now =
         let guarded = sound.caches.kept.kept.guarded in record {
           header = refl;
-          covers = header_known_covers h (with_reftable_at h place clusters) (order_of file.caches) q base known base' known' guarded writes_now;
-          bytes = table_bytes (stand_in view file q) (stand_in view named (without_reftable p h)) guarded 0 (header_fixed h (with_reftable_at h place clusters) (order_of file.caches) q base known base' known' guarded writes_now)
+          covers = header_known_covers h (with_reftable_at h place clusters) (order_of file.caches) q on_storage known on_storage' known' guarded writes_now;
+          bytes = table_bytes (state_in view file q) (state_in view named (without_reftable p h)) guarded 0 (header_fixed h (with_reftable_at h place clusters) (order_of file.caches) q on_storage known on_storage' known' guarded writes_now)
               writes_now.known_others;
         }
 
-    pub on_named : Endures (view_in view file) (view (storage_of storage)) known nothing_given [] → MovesOn view q (without_reftable p h) file named
+    pub on_named : SafeThroughout (view_in view file) (view (storage_of storage)) known nothing_given [] → UnseenFileGrowth view q (without_reftable p h) file named
     on_named since = record {
       sound = record {
         honest = honest;
-        caches = header_sound view q (without_reftable p h) file sound (with_reftable_at h place clusters) base' writes_now leads_now.sound l1_now rb_still rb_now;
-        settled = header_settled view q (without_reftable p h) file sound (with_reftable_at h place clusters) base' writes_now leads_now.sound l1_now rb_still rb_now;
+        caches = header_sound view q (without_reftable p h) file sound (with_reftable_at h place clusters) on_storage' writes_now leads_now.sound l1_now rb_still rb_now;
+        settled = header_settled view q (without_reftable p h) file sound (with_reftable_at h place clusters) on_storage' writes_now leads_now.sound l1_now rb_still rb_now;
         room = sound.room;
       };
       leads = leads_now;
       since = since;
       unseen = unseen_now;
-      l1_table = λ i. sym (header_l1 h (with_reftable_at h place clusters) (order_of file.caches) q base known base' known' sound.caches.kept.kept.guarded writes_now i);
+      l1_table = λ i. sym (header_l1 h (with_reftable_at h place clusters) (order_of file.caches) q on_storage known on_storage' known' sound.caches.kept.kept.guarded writes_now i);
     }
 
     pub reftable_named : HasReftable view named t
@@ -215,12 +215,12 @@ module _ {S : Type 0} (view : S → StorageView) (p : Pending) (first blocks clu
     -- no count falls
     pub uses_named : (k : ℕ) → IsUsed view file k → IsUsed view named k
     uses_named k used zero =
-        let counts = known_counts h place clusters (run_at first blocks) anew (order_of file.caches) q base known base' known' sound.caches.kept.kept.guarded writes_now new k in
+        let counts = known_counts h place clusters (run_at first blocks) anew (order_of file.caches) q on_storage known on_storage' known' sound.caches.kept.kept.guarded writes_now new k in
         used (omega (arith, counts, zero))
 
 -- ---- as the calls say it
 module _ {S : Type 0} (view : S → StorageView) (p : Pending) (first blocks clusters : ℕ) (file : ImageFile S) (allocator : Allocator) (t : EntryTableView) (cluster offset count : ℕ)
-    (sound : IsSoundWith view allocator (with_run p file.header.fields allocator.reftable first (blocks + clusters)) file) (ready : StandsGrown view file allocator.reftable t first blocks clusters) (is_table : IsRefTable t)
+    (sound : AllocatorInvariant view allocator (with_run p file.header.fields allocator.reftable first (blocks + clusters)) file) (ready : StandsGrown view file allocator.reftable t first blocks clusters) (is_table : IsRefTable t)
     (some : t.cluster ≡ Some cluster) (at : offset ≡ cluster * 2 ^ t.cluster_bits) (many : count ≡ (length t.bytes + 2 ^ t.cluster_bits - 1) / 2 ^ t.cluster_bits) where
   count_is : count ≡ clusters
   count_is =
@@ -266,7 +266,7 @@ module _ {S : Type 0} (view : S → StorageView) (p : Pending) (first blocks clu
         is_header ∙ ap (λ n. with_fields file.header (with_reftable file.header.fields n count)) offset_is
         ∙ ap (λ n. with_fields file.header (with_reftable file.header.fields ((first + blocks) * cluster_size file.header.fields) n)) count_is
 
-    now : Becomes view taken file allocator marked taken
+    now : UnseenAllocatorStep view taken file allocator marked taken
     now = becomes_marked view taken file allocator caches sound tables marks
 
     ready_now : StandsGrown view marked allocator.reftable t first blocks clusters
@@ -287,10 +287,10 @@ module _ {S : Type 0} (view : S → StorageView) (p : Pending) (first blocks clu
     calls_now : Calls (view_in view marked) (view (storage_of storage)) result
     calls_now = subst (λ (s : S). Calls (view s) (view (storage_of storage)) result) same calls
 
-    lasts : Endures (view_in view marked) (view (storage_of storage)) (known_in view marked) nothing_given []
+    lasts : SafeThroughout (view_in view marked) (view (storage_of storage)) (known_in view marked) nothing_given []
     lasts = lasts_named view p first blocks clusters marked allocator.reftable t now.moves.sound now.reftable ready_now is_table result (storage_of storage) changes calls_now
 
-    pub breaks_named : IsTrue caches.is_changed → (e : ImageError) → IsFault e → Breaks view file written_file e
+    pub breaks_named : IsTrue caches.is_changed → (e : ImageError) → IsFault e → InterruptedFileStep view file written_file e
     breaks_named changed e fault = record { fault = fault; noted = λ _. changed; since = endures_then view file marked written_file now.moves.since now.moves.leads.known lasts }
 
     module _ (x : Unit {0}) (done : result ≡ Ok x) where
@@ -300,15 +300,15 @@ module _ {S : Type 0} (view : S → StorageView) (p : Pending) (first blocks clu
       is_written : (view (storage_of storage)).contents ≡ reftable_pointer_written new_fields (view_in view marked).contents
       is_written = rw done at (changes sound.sound.honest)
 
-      becomes_after : BecomesOn view taken file (record allocator { reftable = t }) after (without_reftable p file.header.fields)
+      becomes_after : UnseenAllocatorGrowth view taken file (record allocator { reftable = t }) after (without_reftable p file.header.fields)
       becomes_after = record {
         moves = on_then view taken taken (without_reftable p file.header.fields) file marked after (λ k held. held) (moves_on view taken taken file marked now.moves)
             (on_named view p first blocks clusters marked allocator.reftable t now.moves.sound now.reftable ready_now is_table storage is_written (calls_now.honest sound.sound.honest) lasts);
         reftable = reftable_named view p first blocks clusters marked allocator.reftable t now.moves.sound now.reftable ready_now is_table storage is_written (calls_now.honest sound.sound.honest);
       }
 
-      pub becomes_named : BecomesOn view taken file (record allocator { reftable = t }) written_file (without_reftable p file.header.fields)
-      becomes_named = subst (λ (v : HeaderView). BecomesOn view taken file (record allocator { reftable = t }) (record marked { storage = storage; header = v }) (without_reftable p file.header.fields)) (sym header_now) becomes_after
+      pub becomes_named : UnseenAllocatorGrowth view taken file (record allocator { reftable = t }) written_file (without_reftable p file.header.fields)
+      becomes_named = subst (λ (v : HeaderView). UnseenAllocatorGrowth view taken file (record allocator { reftable = t }) (record marked { storage = storage; header = v }) (without_reftable p file.header.fields)) (sym header_now) becomes_after
 
       pub keeps_used : (k : ℕ) → IsUsed view file k → IsUsed view written_file k
       keeps_used k used =

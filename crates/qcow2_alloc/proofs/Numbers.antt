@@ -8,14 +8,14 @@ use Rattle.qcow2_metadata.specs.HeaderLoad.{IsHeaderIn}
 use Rattle.qcow2_metadata.specs.HeaderWrite.{size_written, l1_table_pointer_written, reftable_pointer_written}
 use Rattle.qcow2_metadata.proofs.StillHeader.{size_still, l1_table_still, reftable_still}
 use Rattle.qcow2_metadata.proofs.WrittenHeader.{size_after, l1_table_after, reftable_after}
-use Rattle.qcow2_laws.specs.Guard.{Pending}
+use Rattle.qcow2_laws.specs.CrashInvariant.{Pending}
 use Rattle.qcow2_laws.specs.Tops.{WritesHeader, resized, with_l1_at, with_reftable_at}
 use Rattle.qcow2_laws.proofs.HeaderWrites.{size_beside, l1_pointer_beside, reftable_pointer_beside}
 use Rattle.qcow2_alloc.specs.declared.image_file.ImageFile.{ImageFile}
-use Rattle.qcow2_alloc.specs.ImageFile.{view_in, known_in, IsSoundFile}
+use Rattle.qcow2_alloc.specs.ImageFile.{view_in, known_in, FileInvariant}
 use Rattle.qcow2_alloc.specs.MetadataCaches.{order_of, l2_tables, refblocks, known_of}
 
-module _ {S : Type 0} (view : S → StorageView) (p : Pending) (file : ImageFile S) (sound : IsSoundFile view p file) where
+module _ {S : Type 0} (view : S → StorageView) (p : Pending) (file : ImageFile S) (sound : FileInvariant view p file) where
   abbrev h : HeaderFields
   h = file.header.fields
 

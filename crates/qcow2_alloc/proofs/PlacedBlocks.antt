@@ -15,21 +15,21 @@ use Rattle.qcow2_metadata.specs.Header.{cluster_size, counts_per_block}
 use Rattle.qcow2_metadata.specs.Entries.{reftable_entry, block_offset, count}
 use Rattle.qcow2_laws.specs.Changes.{one_at, with_fresh}
 use Rattle.qcow2_laws.specs.Clusters.{RbDependsOnL2}
-use Rattle.qcow2_laws.specs.Guard.{Pending, SameCovers, SameIn}
+use Rattle.qcow2_laws.specs.CrashInvariant.{Pending, SameCovers, SameIn}
 use Rattle.qcow2_laws.specs.Caches.{BlocksMayGo}
 use Rattle.qcow2_laws.specs.Writes.{IsUnnamed}
 use Rattle.qcow2_laws.proofs.Beside.{overwritten_but, unnamed_free}
 use Rattle.qcow2_laws.proofs.Caches.{clean_covers}
-use Rattle.qcow2_laws.proofs.KeptSteps.{known_is_base}
+use Rattle.qcow2_laws.proofs.KeptSteps.{known_is_on_storage}
 use Rattle.qcow2_laws.proofs.Places.{Sizes, Sizes-from, count_none, in_one}
 use Rattle.qcow2_laws.proofs.Steps.{data_is_written}
 use Rattle.qcow2_alloc.specs.declared.cache.MetadataCaches.{MetadataCaches}
 use Rattle.qcow2_alloc.specs.declared.image_file.ImageFile.{ImageFile}
 use Rattle.qcow2_alloc.specs.declared.image_storage.ImageStorage.{ImageStorage}
 use Rattle.qcow2_alloc.specs.Allocation.{placing, HasPlaceFor, StandAt}
-use Rattle.qcow2_alloc.specs.ImageFile.{view_in, contents_in, known_in, stand_in, IsSoundFile, HasReftable, Moves}
+use Rattle.qcow2_alloc.specs.ImageFile.{view_in, contents_in, known_in, state_in, FileInvariant, HasReftable, UnseenFileStep}
 use Rattle.qcow2_alloc.specs.ImageStorage.{storage_of}
-use Rattle.qcow2_alloc.specs.MetadataCaches.{order_of, l2_tables, refblocks, HoldsKnown, StaySound}
+use Rattle.qcow2_alloc.specs.MetadataCaches.{order_of, l2_tables, refblocks, HoldsKnown, UnseenCacheStep}
 use Rattle.qcow2_alloc.specs.CacheMarks.{KeepsMarks}
 use Rattle.qcow2_alloc.specs.TableCaches.{IsBlockOf}
 use Rattle.qcow2_alloc.proofs.FileSteps.{one_here, moves_cached, reftable_cached}
@@ -60,7 +60,7 @@ range_of_first range per at some is =
     (ap (λ n. n / per) e ∙ div-mul-add range per 0 some, ap (λ n. n % per) e ∙ mod-mul-add range per 0 some)
 
 module _ {S : Type 0} (view : S → StorageView) where
-  pub file_sizes : (q : Pending) (file : ImageFile S) → IsSoundFile view q file → Sizes file.header.fields
+  pub file_sizes : (q : Pending) (file : ImageFile S) → FileInvariant view q file → Sizes file.header.fields
   file_sizes q file sound = Sizes-from file.header.fields (contents_in view file) sound.caches.kept.kept.guarded.top.header_reads
 
   -- nothing names the cluster, and no guest's data are to stand in it
@@ -68,30 +68,30 @@ module _ {S : Type 0} (view : S → StorageView) where
     pub unnamed : IsUnnamed file.header.fields (contents_in view file) (known_in view file) at
     pub unheld : q.held at ≡ 0
 
-  pub covers_written : (q : Pending) (file : ImageFile S) → IsSoundFile view q file → BlocksMayGo (order_of file.caches) (l2_tables file.caches) → order_of file.caches ≡ RbDependsOnL2
+  pub covers_written : (q : Pending) (file : ImageFile S) → FileInvariant view q file → BlocksMayGo (order_of file.caches) (l2_tables file.caches) → order_of file.caches ≡ RbDependsOnL2
       → SameCovers file.header.fields (contents_in view file) (known_in view file)
   covers_written q file sound may is =
       clean_covers file.header.fields (order_of file.caches) q (l2_tables file.caches) (refblocks file.caches) (contents_in view file) sound.caches.kept.kept (rw is at may)
 
   -- a range that the reftable names no refblock for has none
-  pub has_none : (q : Pending) (file : ImageFile S) (t : EntryTableView) → IsSoundFile view q file → HasReftable view file t → (range : ℕ) → block_offset (entry_at t.bytes range) ≡ 0
+  pub has_none : (q : Pending) (file : ImageFile S) (t : EntryTableView) → FileInvariant view q file → HasReftable view file t → (range : ℕ) → block_offset (entry_at t.bytes range) ≡ 0
       → (block_offset (reftable_entry file.header.fields (contents_in view file) range) ≡ 0) × (block_offset (reftable_entry file.header.fields (known_in view file) range) ≡ 0)
   has_none q file t sound has range none =
-      let base = ap block_offset (sym (has.entries range)) ∙ none in
-      (base, ap block_offset (sym (sound.caches.kept.kept.guarded.same_top.reftable range)) ∙ base)
+      let on_storage = ap block_offset (sym (has.entries range)) ∙ none in
+      (on_storage, ap block_offset (sym (sound.caches.kept.kept.guarded.same_top.reftable range)) ∙ on_storage)
 
   -- so may its refblock's cluster be written
-  pub is_free : (d : Bool) (p : Pending) (range at : ℕ) (file : ImageFile S) (t : EntryTableView) → IsSoundFile view (placing d p at) file → HasReftable view file t
+  pub is_free : (d : Bool) (p : Pending) (range at : ℕ) (file : ImageFile S) (t : EntryTableView) → FileInvariant view (placing d p at) file → HasReftable view file t
       → BlocksMayGo (order_of file.caches) (l2_tables file.caches) → HasPlaceFor d file.header.fields t range at → IsFree (placing d p at) file at
   is_free true p range at file t sound has may place =
       let h = file.header.fields in
       let none = has_none p file t sound has range place.none in
       let in_range = (range_of_first range (counts_per_block file.header.fields) at (file_sizes p file sound).counts place.first).0 in
       let known_none : count file.header.fields (known_in view file) at ≡ 0 = count_none h (known_in view file) at (ap (λ k. block_offset (reftable_entry file.header.fields (known_in view file) k)) in_range ∙ none.1) in
-      let base_none : count file.header.fields (contents_in view file) at ≡ 0 = count_none h (contents_in view file) at (ap (λ k. block_offset (reftable_entry file.header.fields (contents_in view file) k)) in_range ∙ none.0) in
+      let storage_none : count file.header.fields (contents_in view file) at ≡ 0 = count_none h (contents_in view file) at (ap (λ k. block_offset (reftable_entry file.header.fields (contents_in view file) k)) in_range ∙ none.0) in
       let tally = (sound.caches.kept.kept.guarded.always at).tally in
       record {
-        unnamed = data_is_written.unused (stand_in view file p) at sound.caches.kept.kept.guarded known_none base_none;
+        unnamed = data_is_written.unused (state_in view file p) at sound.caches.kept.kept.guarded known_none storage_none;
         unheld = omega (arith, tally, known_none);
       }
   is_free false p range at file t sound has may place =
@@ -101,19 +101,19 @@ module _ {S : Type 0} (view : S → StorageView) where
       let some : 0 < p.fresh at + one_at at at = omega arith in
       let few = (guarded.always at).pending (omega (arith, some)) in
       record {
-        unnamed = data_is_written.fresh (stand_in view file (with_fresh p (one_at at))) at guarded some (covers_written (with_fresh p (one_at at)) file sound may);
+        unnamed = data_is_written.fresh (state_in view file (with_fresh p (one_at at))) at guarded some (covers_written (with_fresh p (one_at at)) file sound may);
         unheld = omega (arith, tally, few, some);
       }
 
   -- what is known of it stands there
-  pub known_there : (q : Pending) (file : ImageFile S) (at : ℕ) → IsSoundFile view q file → IsFree q file at → SameIn (cluster_size file.header.fields) at (known_in view file) (contents_in view file)
+  pub known_there : (q : Pending) (file : ImageFile S) (at : ℕ) → FileInvariant view q file → IsFree q file at → SameIn (cluster_size file.header.fields) at (known_in view file) (contents_in view file)
   known_there q file at sound free o in_it =
       let h = file.header.fields in
       let beside = unnamed_free h (order_of file.caches) q (l2_tables file.caches) (refblocks file.caches) (contents_in view file) (contents_in view file) sound.caches.kept.kept sound.settled at free.unnamed in
-      known_is_base (cluster_size h) (l2_tables file.caches) (refblocks file.caches) (contents_in view file) o (beside.0 o in_it) (beside.1 o in_it)
+      known_is_on_storage (cluster_size h) (l2_tables file.caches) (refblocks file.caches) (contents_in view file) o (beside.0 o in_it) (beside.1 o in_it)
 
   -- ---- bytes are written to it
-  module _ (q : Pending) (file : ImageFile S) (storage : ImageStorage S) (at : ℕ) (bytes : List ℕ) (result : Result (Unit {0}) StorageError) (sound : IsSoundFile view q file) (free : IsFree q file at)
+  module _ (q : Pending) (file : ImageFile S) (storage : ImageStorage S) (at : ℕ) (bytes : List ℕ) (result : Result (Unit {0}) StorageError) (sound : FileInvariant view q file) (free : IsFree q file at)
       (long : length bytes ≡ cluster_size file.header.fields)
       (writes : Changes (view_in view file) (view (storage_of storage)) result (overwritten (view_in view file).contents (at * cluster_size file.header.fields) bytes))
       (calls : Calls (view_in view file) (view (storage_of storage)) result) where
@@ -133,7 +133,7 @@ module _ {S : Type 0} (view : S → StorageView) where
       ]
     ]
 
-    pub moves_rewritten : Moves view q q file rewritten
+    pub moves_rewritten : UnseenFileStep view q q file rewritten
     moves_rewritten = moves_written view q file storage sound (calls.honest sound.honest) each calls.time
 
     pub reftable_rewritten : (t : EntryTableView) → HasReftable view file t → HasReftable view rewritten t
@@ -147,7 +147,7 @@ module _ {S : Type 0} (view : S → StorageView) where
       (subst (λ n. Changes (view asked) (view after) result (overwritten (view asked).contents (at * 2 ^ n) bytes)) same_bits (rw is at written))
 
   -- ---- and then it is put into its cache
-  module _ (d : Bool) (p : Pending) (range at : ℕ) (file : ImageFile S) (t : EntryTableView) (sound : IsSoundFile view (placing d p at) file) (has : HasReftable view file t)
+  module _ (d : Bool) (p : Pending) (range at : ℕ) (file : ImageFile S) (t : EntryTableView) (sound : FileInvariant view (placing d p at) file) (has : HasReftable view file t)
       (may : BlocksMayGo (order_of file.caches) (l2_tables file.caches)) (place : HasPlaceFor d file.header.fields t range at) (block : RefBlockView) (fits : IsBlockOf file.header.fields block)
       (long : length block.bytes ≡ cluster_size file.header.fields) (stands : StandAt (contents_in view file) (at * cluster_size file.header.fields) block.bytes) where
     pub holds_known : HoldsKnown file.header.fields file.caches (contents_in view file) block.bytes at
@@ -155,7 +155,7 @@ module _ {S : Type 0} (view : S → StorageView) where
         stands i (subst (λ n. i < n) (sym long) lt)
         ∙ sym (known_there (placing d p at) file at sound (is_free d p range at file t sound has may place) (at * cluster_size file.header.fields + i) (in_own file.header.fields.cluster_bits at i lt))
 
-    module _ (storage : ImageStorage S) (caches : MetadataCaches S) (stays : StaySound file.header.fields (placing d p at) (view_in view file) file.caches (view (storage_of storage)) caches) (marks : KeepsMarks file.caches caches) where
+    module _ (storage : ImageStorage S) (caches : MetadataCaches S) (stays : UnseenCacheStep file.header.fields (placing d p at) (view_in view file) file.caches (view (storage_of storage)) caches) (marks : KeepsMarks file.caches caches) where
       abbrev put : ImageFile S
       put = record file { storage = storage; caches = caches }
 

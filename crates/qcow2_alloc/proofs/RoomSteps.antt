@@ -15,14 +15,14 @@ use Rattle.qcow2_metadata.specs.TableBytes.{entry_at, ChangesEntry}
 use Rattle.qcow2_metadata.specs.Tables.{CachedTable}
 use Rattle.qcow2_laws.specs.Caches.{BlocksMayGo}
 use Rattle.qcow2_laws.specs.Clusters.{Direction}
-use Rattle.qcow2_laws.specs.Guard.{Pending}
+use Rattle.qcow2_laws.specs.CrashInvariant.{Pending}
 use Rattle.qcow2_laws.specs.Tops.{IsSameOutside}
 use Rattle.qcow2_alloc.specs.declared.allocation.Allocator.{Allocator}
 use Rattle.qcow2_alloc.specs.declared.error.ImageError.{ImageError}
 use Rattle.qcow2_alloc.specs.declared.image_file.ImageFile.{ImageFile}
-use Rattle.qcow2_alloc.specs.Allocation.{run_at, StandAt, Becomes}
+use Rattle.qcow2_alloc.specs.Allocation.{run_at, StandAt, UnseenAllocatorStep}
 use Rattle.qcow2_alloc.specs.GrownTables.{with_run}
-use Rattle.qcow2_alloc.specs.ImageFile.{contents_in, IsFault, IsSoundFile, IsSoundWith, HasReftable, LeavesSound}
+use Rattle.qcow2_alloc.specs.ImageFile.{contents_in, IsFault, FileInvariant, AllocatorInvariant, HasReftable, RefusedFileStep}
 use Rattle.qcow2_alloc.specs.MetadataCaches.{order_of, l2_tables, rb_at}
 use Rattle.qcow2_alloc.specs.Rooms.{opens, opened, CountsRun, WritesTo}
 use Rattle.qcow2_alloc.specs.TableCaches.{IsBlockOf}
@@ -39,7 +39,7 @@ reftable_past : (h : HeaderFields) (b : Bytes) (k : ℕ) → reftable_entries h 
 unfolding reftable_entry
 reftable_past h b k past = cond-false _ _ _ (le-ltb k (reftable_entries h) past)
 
-pub entries_aligned : {S : Type 0} (view : S → StorageView) (q : Pending) (file : ImageFile S) (t : EntryTableView) → IsSoundFile view q file → HasReftable view file t → (k : ℕ) → IsAligned file.header.fields (block_offset (entry_at t.bytes k))
+pub entries_aligned : {S : Type 0} (view : S → StorageView) (q : Pending) (file : ImageFile S) (t : EntryTableView) → FileInvariant view q file → HasReftable view file t → (k : ℕ) → IsAligned file.header.fields (block_offset (entry_at t.bytes k))
 entries_aligned view q file t sound has k =
     let h = file.header.fields in
     elim (cases_lt k (reftable_entries h)) [
@@ -69,18 +69,18 @@ uncached_more old new first placed others gone before c some = elim (cases_eq c 
 module _ {S : Type 0} (view : S → StorageView) (p : Pending) (first n : ℕ) (a : Allocator) (f f' : ImageFile S) (cluster : ℕ) (block : RefBlockView) where
   -- what a write of a refblock says, with the header that the file has all along
   module _ (h : HeaderFields) (same : f.header.fields ≡ h) where
-    pub wrote_err : (e : ImageError) → (IsSoundWith view a (with_run p f.header.fields a.reftable first n) f → IsBlockOf f.header.fields block → WritesTo view (with_run p f.header.fields a.reftable first n) f a f' cluster block.bytes (Err e))
-        → IsSoundWith view a (with_run p h a.reftable first n) f → IsBlockOf f.header.fields block → IsFault e × LeavesSound view (with_run p h a.reftable first n) f a f' e
+    pub wrote_err : (e : ImageError) → (AllocatorInvariant view a (with_run p f.header.fields a.reftable first n) f → IsBlockOf f.header.fields block → WritesTo view (with_run p f.header.fields a.reftable first n) f a f' cluster block.bytes (Err e))
+        → AllocatorInvariant view a (with_run p h a.reftable first n) f → IsBlockOf f.header.fields block → IsFault e × RefusedFileStep view (with_run p h a.reftable first n) f a f' e
     wrote_err e clause sound fits =
-        subst (λ (k : HeaderFields). IsSoundWith view a (with_run p k a.reftable first n) f → IsFault e × LeavesSound view (with_run p k a.reftable first n) f a f' e) same (λ s. clause s fits) sound
+        subst (λ (k : HeaderFields). AllocatorInvariant view a (with_run p k a.reftable first n) f → IsFault e × RefusedFileStep view (with_run p k a.reftable first n) f a f' e) same (λ s. clause s fits) sound
 
-    pub wrote_ok : (x : Unit {0}) → (IsSoundWith view a (with_run p f.header.fields a.reftable first n) f → IsBlockOf f.header.fields block → WritesTo view (with_run p f.header.fields a.reftable first n) f a f' cluster block.bytes (Ok x))
-        → IsSoundWith view a (with_run p h a.reftable first n) f → IsBlockOf f.header.fields block
-        → Becomes view (with_run p h a.reftable first n) f a f' (with_run p h a.reftable first n) × StandAt (contents_in view f') (cluster * cluster_size h) block.bytes × IsSameOutside (cluster_size h) cluster (contents_in view f) (contents_in view f')
+    pub wrote_ok : (x : Unit {0}) → (AllocatorInvariant view a (with_run p f.header.fields a.reftable first n) f → IsBlockOf f.header.fields block → WritesTo view (with_run p f.header.fields a.reftable first n) f a f' cluster block.bytes (Ok x))
+        → AllocatorInvariant view a (with_run p h a.reftable first n) f → IsBlockOf f.header.fields block
+        → UnseenAllocatorStep view (with_run p h a.reftable first n) f a f' (with_run p h a.reftable first n) × StandAt (contents_in view f') (cluster * cluster_size h) block.bytes × IsSameOutside (cluster_size h) cluster (contents_in view f) (contents_in view f')
         × (rb_at f'.caches cluster ≡ None)
     wrote_ok x clause sound fits =
-        subst (λ (k : HeaderFields). IsSoundWith view a (with_run p k a.reftable first n) f
-        → Becomes view (with_run p k a.reftable first n) f a f' (with_run p k a.reftable first n) × StandAt (contents_in view f') (cluster * cluster_size k) block.bytes × IsSameOutside (cluster_size k) cluster (contents_in view f) (contents_in view f')
+        subst (λ (k : HeaderFields). AllocatorInvariant view a (with_run p k a.reftable first n) f
+        → UnseenAllocatorStep view (with_run p k a.reftable first n) f a f' (with_run p k a.reftable first n) × StandAt (contents_in view f') (cluster * cluster_size k) block.bytes × IsSameOutside (cluster_size k) cluster (contents_in view f) (contents_in view f')
         × (rb_at f'.caches cluster ≡ None)) same (λ s. let w = clause s fits in (w.becomes, w.stands, w.outside, w.gone)) sound
 
 -- what may be written still may

@@ -9,18 +9,18 @@ use Rattle.qcow2_metadata.specs.Entries.{block_offset}
 use Rattle.qcow2_metadata.specs.EntryTable.{EntryTableView}
 use Rattle.qcow2_metadata.specs.TableBytes.{entry_at}
 use Rattle.qcow2_laws.specs.Caches.{AreClean, BlocksMayGo}
-use Rattle.qcow2_laws.specs.Guard.{Pending, SameIn}
+use Rattle.qcow2_laws.specs.CrashInvariant.{Pending, SameIn}
 use Rattle.qcow2_laws.proofs.Places.{Sizes, block_count-moved, in_one}
 use Rattle.qcow2_alloc.specs.declared.allocation.Allocator.{Allocator}
 use Rattle.qcow2_alloc.specs.declared.error.ImageError.{ImageError}
 use Rattle.qcow2_alloc.specs.declared.image_file.ImageFile.{ImageFile}
-use Rattle.qcow2_alloc.specs.Allocation.{run_at, StandAt, Becomes, BecomesOn}
+use Rattle.qcow2_alloc.specs.Allocation.{run_at, StandAt, UnseenAllocatorStep, UnseenAllocatorGrowth}
 use Rattle.qcow2_alloc.specs.GrownTables.{with_run, without_reftable, IsGrown, StandsGrown, NamesReftable}
 use Rattle.qcow2_alloc.specs.LowestRuns.{KeepsUsed}
 use Rattle.qcow2_alloc.proofs.Hints.{used_stays}
 use Rattle.qcow2_alloc.proofs.AllocationSteps.{on_of, becomes_on}
 use Rattle.qcow2_alloc.proofs.FileSteps.{breaks_then}
-use Rattle.qcow2_alloc.specs.ImageFile.{contents_in, IsFault, IsSoundWith, LeavesSound}
+use Rattle.qcow2_alloc.specs.ImageFile.{contents_in, IsFault, AllocatorInvariant, RefusedFileStep}
 use Rattle.qcow2_alloc.specs.MetadataCaches.{order_of, l2_tables, refblocks, rb_at}
 use Rattle.qcow2_alloc.specs.Rooms.{WritesTable}
 use Rattle.qcow2_alloc.proofs.PlacedRooms.{Counting}
@@ -40,17 +40,17 @@ counting_beside h sizes b b' old t first blocks clusters n grown before outside 
 
 module _ {S : Type 0} (view : S → StorageView) (p : Pending) (first n : ℕ) (a : Allocator) (f f' : ImageFile S) (cluster clusters : ℕ) (bytes : List ℕ) (h : HeaderFields) (same : f.header.fields ≡ h) where
   -- what a write of a table says, with the header that the file has all along
-  pub table_err : (e : ImageError) → (IsSoundWith view a (with_run p f.header.fields a.reftable first n) f → WritesTable view (with_run p f.header.fields a.reftable first n) f a f' cluster clusters bytes (Err e))
-      → IsSoundWith view a (with_run p h a.reftable first n) f → IsFault e × LeavesSound view (with_run p h a.reftable first n) f a f' e
-  table_err e clause sound = subst (λ (k : HeaderFields). IsSoundWith view a (with_run p k a.reftable first n) f → IsFault e × LeavesSound view (with_run p k a.reftable first n) f a f' e) same clause sound
+  pub table_err : (e : ImageError) → (AllocatorInvariant view a (with_run p f.header.fields a.reftable first n) f → WritesTable view (with_run p f.header.fields a.reftable first n) f a f' cluster clusters bytes (Err e))
+      → AllocatorInvariant view a (with_run p h a.reftable first n) f → IsFault e × RefusedFileStep view (with_run p h a.reftable first n) f a f' e
+  table_err e clause sound = subst (λ (k : HeaderFields). AllocatorInvariant view a (with_run p k a.reftable first n) f → IsFault e × RefusedFileStep view (with_run p k a.reftable first n) f a f' e) same clause sound
 
-  pub table_ok : (x : Unit {0}) → (IsSoundWith view a (with_run p f.header.fields a.reftable first n) f → WritesTable view (with_run p f.header.fields a.reftable first n) f a f' cluster clusters bytes (Ok x))
-      → IsSoundWith view a (with_run p h a.reftable first n) f
-      → Becomes view (with_run p h a.reftable first n) f a f' (with_run p h a.reftable first n) × StandAt (contents_in view f') (cluster * cluster_size h) bytes
+  pub table_ok : (x : Unit {0}) → (AllocatorInvariant view a (with_run p f.header.fields a.reftable first n) f → WritesTable view (with_run p f.header.fields a.reftable first n) f a f' cluster clusters bytes (Ok x))
+      → AllocatorInvariant view a (with_run p h a.reftable first n) f
+      → UnseenAllocatorStep view (with_run p h a.reftable first n) f a f' (with_run p h a.reftable first n) × StandAt (contents_in view f') (cluster * cluster_size h) bytes
       × ((c : ℕ) → run_at cluster clusters c ≡ 0 → SameIn (cluster_size h) c (contents_in view f) (contents_in view f'))
   table_ok x clause sound =
-      subst (λ (k : HeaderFields). IsSoundWith view a (with_run p k a.reftable first n) f
-      → Becomes view (with_run p k a.reftable first n) f a f' (with_run p k a.reftable first n) × StandAt (contents_in view f') (cluster * cluster_size k) bytes
+      subst (λ (k : HeaderFields). AllocatorInvariant view a (with_run p k a.reftable first n) f
+      → UnseenAllocatorStep view (with_run p k a.reftable first n) f a f' (with_run p k a.reftable first n) × StandAt (contents_in view f') (cluster * cluster_size k) bytes
       × ((c : ℕ) → run_at cluster clusters c ≡ 0 → SameIn (cluster_size k) c (contents_in view f) (contents_in view f'))) same (λ s. let w = clause s in (w.becomes, w.stands, w.outside)) sound
 
 -- all of it stands ready
@@ -67,15 +67,15 @@ stands_ready view file h old t first blocks clusters same grown stands counts cl
 }
 
 -- after steps that leave the same pending
-pub uses_after : {S : Type 0} (view : S → StorageView) (q : Pending) (a b c : ImageFile S) (t : Allocator) (result : Result (Unit {0}) ImageError) → Becomes view q a t b q → KeepsUsed view b c result → KeepsUsed view a c result
+pub uses_after : {S : Type 0} (view : S → StorageView) (q : Pending) (a b c : ImageFile S) (t : Allocator) (result : Result (Unit {0}) ImageError) → UnseenAllocatorStep view q a t b q → KeepsUsed view b c result → KeepsUsed view a c result
 uses_after view q a b c t (Ok x) first uses = λ k used. uses k (used_stays view q q a b t k first (omega arith) used)
 uses_after view q a b c t (Err e) first uses = λ other k used. uses other k (used_stays view q q a b t k first (omega arith) used)
 
 -- the pointer is written after those
 pub names_then : {S : Type 0} (view : S → StorageView) (p : Pending) (a b c : ImageFile S) (u u' : Allocator) (t : EntryTableView) (first n : ℕ) → b.header.fields ≡ a.header.fields → (result : Result (Unit {0}) ImageError)
-    → Becomes view (with_run p a.header.fields t first n) a u b (with_run p a.header.fields t first n) → NamesReftable view (with_run p b.header.fields t first n) p b u' c result → NamesReftable view (with_run p a.header.fields t first n) p a u' c result
+    → UnseenAllocatorStep view (with_run p a.header.fields t first n) a u b (with_run p a.header.fields t first n) → NamesReftable view (with_run p b.header.fields t first n) p b u' c result → NamesReftable view (with_run p a.header.fields t first n) p a u' c result
 names_then view p a b c u u' t first n same (Ok x) before names =
     let q : Pending = with_run p a.header.fields t first n in
     becomes_on view q q (without_reftable p a.header.fields) a b c u u' (λ k some. some) (on_of view q q a b u before)
-    (subst (λ (k : HeaderFields). BecomesOn view (with_run p k t first n) b u' c (without_reftable p k)) same names)
+    (subst (λ (k : HeaderFields). UnseenAllocatorGrowth view (with_run p k t first n) b u' c (without_reftable p k)) same names)
 names_then view p a b c u u' t first n same (Err e) before names = breaks_then view (with_run p a.header.fields t first n) (with_run p a.header.fields t first n) a b c e before.moves names

@@ -19,7 +19,7 @@ use Rattle.qcow2_metadata.specs.Tables.{CachedTable}
 use Rattle.qcow2_metadata.specs.Header.{cluster_size, counts_per_block}
 use Rattle.qcow2_metadata.specs.Entries.{block_offset}
 use Rattle.qcow2_laws.specs.Caches.{BlocksMayGo}
-use Rattle.qcow2_laws.specs.Guard.{Pending, IsGuarded, SameIn}
+use Rattle.qcow2_laws.specs.CrashInvariant.{Pending, CrashInvariant, SameIn}
 use Rattle.qcow2_laws.specs.Writes.{IsUnnamed}
 use Rattle.qcow2_laws.specs.Clusters.{Direction}
 use Rattle.qcow2_laws.specs.Tops.{IsSameOutside}
@@ -30,12 +30,12 @@ use Rattle.qcow2_alloc.specs.declared.allocation.Allocator.{Allocator}
 use Rattle.qcow2_alloc.specs.declared.cache.MetadataCaches.{MetadataCaches}
 use Rattle.qcow2_alloc.specs.declared.image_file.ImageFile.{ImageFile}
 use Rattle.qcow2_alloc.specs.declared.image_storage.ImageStorage.{ImageStorage}
-use Rattle.qcow2_alloc.specs.Allocation.{run_at, StandAt, Becomes}
+use Rattle.qcow2_alloc.specs.Allocation.{run_at, StandAt, UnseenAllocatorStep}
 use Rattle.qcow2_alloc.specs.CacheMarks.{KeepsMarks}
 use Rattle.qcow2_alloc.specs.GrownTables.{counted_run, with_run}
-use Rattle.qcow2_alloc.specs.ImageFile.{view_in, contents_in, known_in, stand_in, IsSoundFile, IsSoundWith, HasReftable}
+use Rattle.qcow2_alloc.specs.ImageFile.{view_in, contents_in, known_in, state_in, FileInvariant, AllocatorInvariant, HasReftable}
 use Rattle.qcow2_alloc.specs.ImageStorage.{storage_of}
-use Rattle.qcow2_alloc.specs.MetadataCaches.{order_of, l2_tables, rb_at, known_of, StaySound, TakesBlock}
+use Rattle.qcow2_alloc.specs.MetadataCaches.{order_of, l2_tables, rb_at, known_of, UnseenCacheStep, TakesBlock}
 use Rattle.qcow2_alloc.specs.ImageError.{of_storage}
 use Rattle.qcow2_alloc.specs.Rooms.{WritesTo, WritesTable}
 use Rattle.qcow2_alloc.specs.TableCaches.{IsBlockOf}
@@ -46,7 +46,7 @@ use Rattle.qcow2_alloc.proofs.PlacedBlocks.{IsFree, has_none, covers_written, kn
 
 module _ {S : Type 0} (view : S → StorageView) where
   -- nothing names a cluster of a run whose counted clusters are fresh
-  pub free_in_run : (p : Pending) (first n : ℕ) (file : ImageFile S) (t : EntryTableView) → IsSoundFile view (with_run p file.header.fields t first n) file → HasReftable view file t → BlocksMayGo (order_of file.caches) (l2_tables file.caches)
+  pub free_in_run : (p : Pending) (first n : ℕ) (file : ImageFile S) (t : EntryTableView) → FileInvariant view (with_run p file.header.fields t first n) file → HasReftable view file t → BlocksMayGo (order_of file.caches) (l2_tables file.caches)
       → (c : ℕ) → 0 < run_at first n c → IsFree view (with_run p file.header.fields t first n) file c
   free_in_run p first n file t sound has may c some =
       let h = file.header.fields in
@@ -57,44 +57,44 @@ module _ {S : Type 0} (view : S → StorageView) where
         | inl none ↦
             let none_there = has_none view q file t sound has (c / counts_per_block file.header.fields) none in
             let known_none = count_none h (known_in view file) c none_there.1 in
-            record { unnamed = data_is_written.unused (stand_in view file q) c guarded known_none (count_none h (contents_in view file) c none_there.0); unheld = omega (arith, tally, known_none) }
+            record { unnamed = data_is_written.unused (state_in view file q) c guarded known_none (count_none h (contents_in view file) c none_there.0); unheld = omega (arith, tally, known_none) }
         | inr real ↦
             let is : counted_run h t first n c ≡ run_at first n c = cond-false {A = ℕ} _ 0 (run_at first n c) (ne_eqb _ 0 real) in
             let fresh : 0 < p.fresh c + counted_run h t first n c = omega (arith, is, some) in
             let few = (guarded.always c).pending (omega (arith, fresh)) in
-            record { unnamed = data_is_written.fresh (stand_in view file q) c guarded fresh (covers_written view q file sound may); unheld = omega (arith, tally, few, fresh) }
+            record { unnamed = data_is_written.fresh (state_in view file q) c guarded fresh (covers_written view q file sound may); unheld = omega (arith, tally, few, fresh) }
       ]
 
   -- ---- a refblock is forgotten where nothing names its cluster
-  module _ (q : Pending) (file : ImageFile S) (caches : MetadataCaches S) (cluster : ℕ) (sound : IsSoundFile view q file) (free : IsFree view q file cluster) (order : order_of caches ≡ order_of file.caches) where
+  module _ (q : Pending) (file : ImageFile S) (caches : MetadataCaches S) (cluster : ℕ) (sound : FileInvariant view q file) (free : IsFree view q file cluster) (order : order_of caches ≡ order_of file.caches) where
     abbrev h : HeaderFields
     h = file.header.fields
 
-    abbrev base : Bytes
-    base = contents_in view file
+    abbrev on_storage : Bytes
+    on_storage = contents_in view file
 
-    stays_as : (known : known_of h caches base ≡ known_in view file) → TakesBlock file.caches caches cluster → StaySound h q (view_in view file) file.caches (view_in view file) caches
+    stays_as : (known : known_of h caches on_storage ≡ known_in view file) → TakesBlock file.caches caches cluster → UnseenCacheStep h q (view_in view file) file.caches (view_in view file) caches
     stays_as known takes =
-        let off = takes h q base sound.caches in
-        let guarded = subst (λ (d : Direction). IsGuarded h d q base (known_in view file)) (sym order) sound.caches.kept.kept.guarded in
+        let off = takes h q on_storage sound.caches in
+        let guarded = subst (λ (d : Direction). CrashInvariant h d q on_storage (known_in view file)) (sym order) sound.caches.kept.kept.guarded in
         record {
           honest = sound.honest;
-          sound = off.off.sound q (subst (λ (b : Bytes). IsGuarded h (order_of caches) q base b) (sym known) guarded);
+          sound = off.off.sound q (subst (λ (b : Bytes). CrashInvariant h (order_of caches) q on_storage b) (sym known) guarded);
           known = known;
           settled = off.off.settled;
           since = record { moments = passes_none (view_in view file) _; contents = λ backing m ok known_ok. ok };
         }
 
-    removed_stays : (taken : Bool) → (IsFalse taken → caches ≡ file.caches) → (IsTrue taken → TakesBlock file.caches caches cluster) → StaySound h q (view_in view file) file.caches (view_in view file) caches
+    removed_stays : (taken : Bool) → (IsFalse taken → caches ≡ file.caches) → (IsTrue taken → TakesBlock file.caches caches cluster) → UnseenCacheStep h q (view_in view file) file.caches (view_in view file) caches
     removed_stays true same takes =
-        let off = takes refl h q base sound.caches in
+        let off = takes refl h q on_storage sound.caches in
         let there = known_there view q file cluster sound free in
         stays_as (fun_ext (λ o. elim (cases_eq (o / cluster_size h) cluster) [
-          | inl here ↦ elim (off.off.known cluster) [ inl as_base ↦ as_base o here ∙ sym (there o here) | inr as_known ↦ as_known o here ]
+          | inl here ↦ elim (off.off.known cluster) [ inl as_on_storage ↦ as_on_storage o here ∙ sym (there o here) | inr as_known ↦ as_known o here ]
           | inr other ↦ sym (off.outside o other)
         ])) (takes refl)
     removed_stays false same takes =
-        subst (λ (c : MetadataCaches S). StaySound h q (view_in view file) file.caches (view_in view file) c) (sym (same refl)) (record {
+        subst (λ (c : MetadataCaches S). UnseenCacheStep h q (view_in view file) file.caches (view_in view file) c) (sym (same refl)) (record {
           honest = sound.honest;
           sound = sound.caches;
           known = refl;
@@ -103,18 +103,18 @@ module _ {S : Type 0} (view : S → StorageView) where
         })
 
     pub becomes_removed : (a : Allocator) → HasReftable view file a.reftable → (taken : Bool) → (IsFalse taken → caches ≡ file.caches) → (IsTrue taken → TakesBlock file.caches caches cluster) → KeepsMarks file.caches caches
-        → Becomes view q file a (record file { caches = caches }) q
+        → UnseenAllocatorStep view q file a (record file { caches = caches }) q
     becomes_removed a has taken same takes marks = becomes_cached view q file a file.storage caches (record { sound = sound; reftable = has }) (removed_stays taken same takes) marks
 
   -- ---- the bytes of a refblock are written to its cluster
-  module _ (q : Pending) (file : ImageFile S) (a : Allocator) (storage : ImageStorage S) (at : ℕ) (bytes : List ℕ) (result : Result (Unit {0}) StorageError) (sound : IsSoundWith view a q file) (free : IsFree view q file at)
+  module _ (q : Pending) (file : ImageFile S) (a : Allocator) (storage : ImageStorage S) (at : ℕ) (bytes : List ℕ) (result : Result (Unit {0}) StorageError) (sound : AllocatorInvariant view a q file) (free : IsFree view q file at)
       (long : length bytes ≡ cluster_size file.header.fields)
       (writes : Changes (view_in view file) (view (storage_of storage)) result (overwritten (view_in view file).contents (at * cluster_size file.header.fields) bytes))
       (calls : Calls (view_in view file) (view (storage_of storage)) result) where
     abbrev written : ImageFile S
     written = record file { storage = storage }
 
-    pub becomes_rewritten : Becomes view q file a written q
+    pub becomes_rewritten : UnseenAllocatorStep view q file a written q
     becomes_rewritten = record { moves = moves_rewritten view q file storage at bytes result sound.sound free long writes calls; reftable = reftable_rewritten view q file storage at bytes result sound.sound free long writes calls a.reftable sound.reftable }
 
     pub stands_written : (x : Unit {0}) → result ≡ Ok x → StandAt (contents_in view written) (at * cluster_size file.header.fields) bytes
@@ -130,7 +130,7 @@ module _ {S : Type 0} (view : S → StorageView) where
         ∙ ap (λ (l : List ℕ). byte_at l o) (sym now)
 
   -- ---- both, one after the other
-  module _ (p : Pending) (first n : ℕ) (file : ImageFile S) (a : Allocator) (caches : MetadataCaches S) (cluster : ℕ) (taken : Bool) (sound : IsSoundWith view a (with_run p file.header.fields a.reftable first n) file)
+  module _ (p : Pending) (first n : ℕ) (file : ImageFile S) (a : Allocator) (caches : MetadataCaches S) (cluster : ℕ) (taken : Bool) (sound : AllocatorInvariant view a (with_run p file.header.fields a.reftable first n) file)
       (may : BlocksMayGo (order_of file.caches) (l2_tables file.caches)) (some : 0 < run_at first n cluster) (order : order_of caches ≡ order_of file.caches) (tables : l2_tables caches ≡ l2_tables file.caches) (marks : KeepsMarks file.caches caches)
       (same : IsFalse taken → caches ≡ file.caches) (takes : IsTrue taken → TakesBlock file.caches caches cluster)
       (asked : S) (after : ImageStorage S) (block : RefBlockView) (result : Result (Unit {0}) StorageError) (fits : IsBlockOf file.header.fields block) (is : block.cluster ≡ Some cluster) (whole : length block.bytes ≡ 2 ^ block.cluster_bits)
@@ -145,7 +145,7 @@ module _ {S : Type 0} (view : S → StorageView) where
     abbrev block_written : ImageFile S
     block_written = record forgot { storage = after }
 
-    one : Becomes view run_pending file a forgot run_pending
+    one : UnseenAllocatorStep view run_pending file a forgot run_pending
     one = becomes_removed run_pending file caches cluster sound.sound (free_in_run p first n file a.reftable sound.sound sound.reftable may cluster some) order a sound.reftable taken same takes marks
 
     may_still : BlocksMayGo (order_of caches) (l2_tables caches)
@@ -163,10 +163,10 @@ module _ {S : Type 0} (view : S → StorageView) where
     calls_now : Calls (view_in view forgot) (view (storage_of after)) result
     calls_now = subst (λ (s : S). Calls (view s) (view (storage_of after)) result) asked_same calls
 
-    now : IsSoundWith view a run_pending forgot
+    now : AllocatorInvariant view a run_pending forgot
     now = is_sound_now view run_pending run_pending file forgot a one
 
-    pub becomes_block : Becomes view run_pending file a block_written run_pending
+    pub becomes_block : UnseenAllocatorStep view run_pending file a block_written run_pending
     becomes_block = becomes_then view run_pending run_pending file forgot block_written a a one (becomes_rewritten run_pending forgot a after cluster block.bytes result now free_still long writes calls_now)
 
     pub block_refused : (e : StorageError) → WritesTo view run_pending file a block_written cluster block.bytes (Err (of_storage e))
@@ -181,7 +181,7 @@ module _ {S : Type 0} (view : S → StorageView) where
     }
 
   -- ---- a table is written to clusters of a run
-  module _ (p : Pending) (first n : ℕ) (file : ImageFile S) (a : Allocator) (sound : IsSoundWith view a (with_run p file.header.fields a.reftable first n) file) (may : BlocksMayGo (order_of file.caches) (l2_tables file.caches))
+  module _ (p : Pending) (first n : ℕ) (file : ImageFile S) (a : Allocator) (sound : AllocatorInvariant view a (with_run p file.header.fields a.reftable first n) file) (may : BlocksMayGo (order_of file.caches) (l2_tables file.caches))
       (at m : ℕ) (low : first ≤ at) (high : at + m ≤ first + n) (t : EntryTableView) (t_bits : t.cluster_bits ≡ file.header.fields.cluster_bits) (long : length t.bytes ≡ m * cluster_size file.header.fields)
       (asked : S) (after : ImageStorage S) (result : Result (Unit {0}) StorageError) (asked_same : asked ≡ storage_of file.storage)
       (written : Changes (view asked) (view (storage_of after)) result (overwritten (view asked).contents (at * 2 ^ t.cluster_bits) t.bytes)) (calls : Calls (view asked) (view (storage_of after)) result) where
@@ -241,7 +241,7 @@ module _ {S : Type 0} (view : S → StorageView) where
       ]
     ]
 
-    becomes_table : Becomes view table_pending file a table_written table_pending
+    becomes_table : UnseenAllocatorStep view table_pending file a table_written table_pending
     becomes_table = record {
       moves = moves_written view table_pending file after sound.sound (table_calls.honest sound.sound.honest) each table_calls.time;
       reftable = reftable_written view table_pending file after sound.sound (table_calls.honest sound.sound.honest) each a.reftable sound.reftable;

@@ -3,7 +3,7 @@ use Rattle.std.proofs.Common.{◌≡◌, inl, inr, ℕ, ◌+◌, ◌-◌, ◌<�
 use Rattle.std.proofs.lemmas.Bool.{cases_eq, cases_lt, cond-false, ne_eqb}
 use Rattle.std.proofs.lemmas.Bool.Decides.{nat_tests}
 use Rattle.qcow2_laws.specs.Changes.{one_at, with_held, with_fresh}
-use Rattle.qcow2_laws.specs.Guard.{Pending}
+use Rattle.qcow2_laws.specs.CrashInvariant.{Pending}
 use Rattle.qcow2_alloc.specs.Allocation.{run_at, taken_as}
 use Rattle.qcow2_alloc.proofs.FileSteps.{pending_same, one_here}
 

@@ -11,10 +11,10 @@ use Rattle.qcow2_alloc.specs.TableCaches.{cleared_rb}
 use Rattle.qcow2_metadata.specs.Entries.{reftable_entry, block_offset}
 use Rattle.qcow2_laws.specs.Clusters.{L2DependsOnRb, RbDependsOnL2}
 use Rattle.qcow2_laws.specs.Changes.{one_at, with_held, with_fresh}
-use Rattle.qcow2_laws.specs.Guard.{Pending}
+use Rattle.qcow2_laws.specs.CrashInvariant.{Pending}
 use Rattle.qcow2_alloc.specs.MetadataCaches.{order_of, rb_at}
 use Rattle.qcow2_alloc.specs.ImageError.{IsFault}
-use Rattle.qcow2_alloc.specs.ImageFile.{contents_in, known_in, HasReftable, Moves, MovesOn, Breaks, LeavesSound}
+use Rattle.qcow2_alloc.specs.ImageFile.{contents_in, known_in, HasReftable, UnseenFileStep, UnseenFileGrowth, InterruptedFileStep, RefusedFileStep}
 use Rattle.qcow2_alloc.specs.declared.allocation.Allocator.{Allocator}
 use Rattle.qcow2_alloc.specs.declared.clusters_to_free.ClusterKind.{ClusterKind}
 use Rattle.qcow2_alloc.specs.declared.clusters_to_free.ClusterKind.TheVariants.{Data, Metadata}
@@ -105,27 +105,27 @@ module _ {S : Type 0} where
 
   module _ (view : S → StorageView) where
     -- where the refblock of a range stands, which is held; or it has none
-    abbrev pub StandsAt : ImageFile S → ℕ → Option ℕ → Type 0
-    StandsAt file range None = block_offset (reftable_entry file.header.fields (known_in view file) range) ≡ 0
-    StandsAt file range (Some block) =
+    abbrev pub RefblockAt : ImageFile S → ℕ → Option ℕ → Type 0
+    RefblockAt file range None = block_offset (reftable_entry file.header.fields (known_in view file) range) ≡ 0
+    RefblockAt file range (Some block) =
         (block_offset (reftable_entry file.header.fields (known_in view file) range) ≢ 0)
         × (block_offset (reftable_entry file.header.fields (known_in view file) range) ≡ block * cluster_size file.header.fields) × IsSome (rb_at file.caches block)
 
     module _ (p : Pending) (old : ImageFile S) (allocator' : Allocator) (new : ImageFile S) where
       -- all is sound again, while this is pending
-      pub record Becomes (p' : Pending) : Type 0 where
-        pub moves : Moves view p p' old new
+      pub record UnseenAllocatorStep (p' : Pending) : Type 0 where
+        pub moves : UnseenFileStep view p p' old new
         pub reftable : HasReftable view new allocator'.reftable
 
       -- so it is where the reftable may have moved
-      pub record BecomesOn (p' : Pending) : Type 0 where
-        pub moves : MovesOn view p p' old new
+      pub record UnseenAllocatorGrowth (p' : Pending) : Type 0 where
+        pub moves : UnseenFileGrowth view p p' old new
         pub reftable : HasReftable view new allocator'.reftable
 
       -- the refblock of a range is loaded
       abbrev pub LoadsBlock : ℕ → Result (Option ℕ) ImageError → Type 0
-      LoadsBlock range (Ok block) = Becomes p × StandsAt new range block
-      LoadsBlock range (Err e) = IsFault e × LeavesSound view p old allocator' new e
+      LoadsBlock range (Ok block) = UnseenAllocatorStep p × RefblockAt new range block
+      LoadsBlock range (Err e) = IsFault e × RefusedFileStep view p old allocator' new e
 
       -- a refblock stands in its cluster and in its cache
       pub record HoldsBlock (block : RefBlockView) (at : ℕ) : Type 0 where
@@ -134,94 +134,94 @@ module _ {S : Type 0} where
 
       -- so it does after it was written
       abbrev pub WritesBlock : RefBlockView → ℕ → Result (Unit {0}) ImageError → Type 0
-      WritesBlock block at (Ok _) = Becomes p × HoldsBlock block at
-      WritesBlock block at (Err e) = IsFault e × LeavesSound view p old allocator' new e
+      WritesBlock block at (Ok _) = UnseenAllocatorStep p × HoldsBlock block at
+      WritesBlock block at (Err e) = IsFault e × RefusedFileStep view p old allocator' new e
 
       -- the refblock of a range is placed in a cluster
       abbrev pub PlacesBlock : Pending → ℕ → ℕ → Result (Unit {0}) ImageError → Type 0
-      PlacesBlock p' range at (Ok _) = Becomes p' × StandsAt new range (Some at)
-      PlacesBlock p' range at (Err e) = IsFault e × LeavesSound view p old allocator' new e
+      PlacesBlock p' range at (Ok _) = UnseenAllocatorStep p' × RefblockAt new range (Some at)
+      PlacesBlock p' range at (Err e) = IsFault e × RefusedFileStep view p old allocator' new e
 
       -- a range gets its refblock
       abbrev pub GetsBlock : Result (Unit {0}) ImageError → Type 0
-      GetsBlock (Ok _) = Becomes p
-      GetsBlock (Err e) = LeavesSound view p old allocator' new e
+      GetsBlock (Ok _) = UnseenAllocatorStep p
+      GetsBlock (Err e) = RefusedFileStep view p old allocator' new e
 
       -- a cluster is taken for a table, or there is no free one
       abbrev pub TakesLowest : Result (Option ℕ) ImageError → Type 0
-      TakesLowest (Ok (Some at)) = Becomes (taken_as false p (one_at at))
-      TakesLowest (Ok None) = Becomes p
-      TakesLowest (Err e) = LeavesSound view p old allocator' new e
+      TakesLowest (Ok (Some at)) = UnseenAllocatorStep (taken_as false p (one_at at))
+      TakesLowest (Ok None) = UnseenAllocatorStep p
+      TakesLowest (Err e) = RefusedFileStep view p old allocator' new e
 
       -- a cluster is taken, or it is in use
       abbrev pub TakesOne : Bool → ℕ → Result Bool ImageError → Type 0
-      TakesOne is_data cluster (Ok true) = Becomes (taken_as is_data p (one_at cluster))
-      TakesOne is_data cluster (Ok false) = Becomes p
-      TakesOne is_data cluster (Err e) = LeavesSound view p old allocator' new e
+      TakesOne is_data cluster (Ok true) = UnseenAllocatorStep (taken_as is_data p (one_at cluster))
+      TakesOne is_data cluster (Ok false) = UnseenAllocatorStep p
+      TakesOne is_data cluster (Err e) = RefusedFileStep view p old allocator' new e
 
       -- ---- where the reftable may grow on the way, and p' is what is pending then beside what is taken
 
       -- what a refused part leaves: all is sound; or it broke off
-      abbrev pub LeavesAs : Pending → ImageError → Type 0
-      LeavesAs p' e = BecomesOn p' ⊎ Breaks view old new e
+      abbrev pub RefusedGrowth : Pending → ImageError → Type 0
+      RefusedGrowth p' e = UnseenAllocatorGrowth p' ⊎ InterruptedFileStep view old new e
 
       -- the reftable is longer then, or as it was
       abbrev pub GrowsTable : Pending → Result (Unit {0}) ImageError → Type 0
-      GrowsTable p' (Ok _) = BecomesOn p'
-      GrowsTable p' (Err e) = LeavesAs p' e
+      GrowsTable p' (Ok _) = UnseenAllocatorGrowth p'
+      GrowsTable p' (Err e) = RefusedGrowth p' e
 
       -- a cluster is taken, or it is in use
       abbrev pub TakesCluster : Pending → Bool → ℕ → Result Bool ImageError → Type 0
-      TakesCluster p' is_data cluster (Ok true) = BecomesOn (taken_as is_data p' (one_at cluster))
-      TakesCluster p' is_data cluster (Ok false) = BecomesOn p'
-      TakesCluster p' is_data cluster (Err e) = LeavesAs p' e
+      TakesCluster p' is_data cluster (Ok true) = UnseenAllocatorGrowth (taken_as is_data p' (one_at cluster))
+      TakesCluster p' is_data cluster (Ok false) = UnseenAllocatorGrowth p'
+      TakesCluster p' is_data cluster (Err e) = RefusedGrowth p' e
 
       -- so many clusters of the run are taken, or none where one is in use
       abbrev pub TakesRun : Pending → Bool → ℕ → ℕ → Result ℕ ImageError → Type 0
-      TakesRun p' is_data first n (Ok taken) = (taken ≡ n → BecomesOn (taken_as is_data p' (run_at first n))) × (taken ≢ n → BecomesOn p')
-      TakesRun p' is_data first n (Err e) = LeavesAs p' e
+      TakesRun p' is_data first n (Ok taken) = (taken ≡ n → UnseenAllocatorGrowth (taken_as is_data p' (run_at first n))) × (taken ≢ n → UnseenAllocatorGrowth p')
+      TakesRun p' is_data first n (Err e) = RefusedGrowth p' e
 
       -- n clusters from some one on are taken
       abbrev pub TakesSomeRun : Pending → Bool → ℕ → Result ℕ ImageError → Type 0
-      TakesSomeRun p' is_data n (Ok first) = BecomesOn (taken_as is_data p' (run_at first n))
-      TakesSomeRun p' is_data n (Err e) = LeavesAs p' e
+      TakesSomeRun p' is_data n (Ok first) = UnseenAllocatorGrowth (taken_as is_data p' (run_at first n))
+      TakesSomeRun p' is_data n (Err e) = RefusedGrowth p' e
 
       -- what an allocation answers: so many clusters of this kind from the first one on, which are taken now. Refused, it leaves at most what is listed, or broke off.
       abbrev pub Allocates : Pending → ClusterKind → ℕ → Result ClustersToFreeEntry ImageError → Type 0
-      Allocates p' kind n (Ok run) = (run.count ≡ n) × (run.kind ≡ kind) × BecomesOn (taken_as (is_data kind) p' (run_at run.first_cluster n))
-      Allocates p' kind n (Err e) = LeavesAs p' e
+      Allocates p' kind n (Ok run) = (run.count ≡ n) × (run.kind ≡ kind) × UnseenAllocatorGrowth (taken_as (is_data kind) p' (run_at run.first_cluster n))
+      Allocates p' kind n (Err e) = RefusedGrowth p' e
 
       -- just the cluster asked for is taken for data, or it can't be taken
       abbrev pub AllocatesAt : Pending → ℕ → Result (Option ClustersToFreeEntry) ImageError → Type 0
-      AllocatesAt p' cluster (Ok (Some run)) = (run.first_cluster ≡ cluster) × (run.count ≡ 1) × (run.kind ≡ Data) × BecomesOn (taken_as true p' (run_at cluster 1))
-      AllocatesAt p' cluster (Ok None) = BecomesOn p'
-      AllocatesAt p' cluster (Err e) = LeavesAs p' e
+      AllocatesAt p' cluster (Ok (Some run)) = (run.first_cluster ≡ cluster) × (run.count ≡ 1) × (run.kind ≡ Data) × UnseenAllocatorGrowth (taken_as true p' (run_at cluster 1))
+      AllocatesAt p' cluster (Ok None) = UnseenAllocatorGrowth p'
+      AllocatesAt p' cluster (Err e) = RefusedGrowth p' e
 
       -- what was taken is given back
       abbrev pub GivesBackAs : Pending → Result (Unit {0}) ImageError → Type 0
-      GivesBackAs p' (Ok _) = BecomesOn p'
-      GivesBackAs p' (Err e) = IsFault e × LeavesAs p' e
+      GivesBackAs p' (Ok _) = UnseenAllocatorGrowth p'
+      GivesBackAs p' (Err e) = IsFault e × RefusedGrowth p' e
 
       -- ----
 
       -- one that is owed is counted once less
       abbrev pub LowersOne : Pending → Result Bool ImageError → Type 0
-      LowersOne p' (Ok true) = Becomes p'
+      LowersOne p' (Ok true) = UnseenAllocatorStep p'
       LowersOne p' (Ok false) = ⊥
-      LowersOne p' (Err e) = IsFault e × LeavesSound view p old allocator' new e
+      LowersOne p' (Err e) = IsFault e × RefusedFileStep view p old allocator' new e
 
       -- what is owed is given back
       abbrev pub GivesBack : Pending → Result (Unit {0}) ImageError → Type 0
-      GivesBack p' (Ok _) = Becomes p'
-      GivesBack p' (Err e) = IsFault e × LeavesSound view p old allocator' new e
+      GivesBack p' (Ok _) = UnseenAllocatorStep p'
+      GivesBack p' (Err e) = IsFault e × RefusedFileStep view p old allocator' new e
 
       -- Clusters are freed, and so much is pending then. A fault ends it where it is, or breaks off.
       abbrev pub Frees : Pending → Result (Unit {0}) ImageError → Type 0
-      Frees p' (Ok _) = Becomes p'
-      Frees p' (Err e) = IsFault e × (Becomes p' ⊎ Breaks view old new e)
+      Frees p' (Ok _) = UnseenAllocatorStep p'
+      Frees p' (Err e) = IsFault e × (UnseenAllocatorStep p' ⊎ InterruptedFileStep view old new e)
 
     -- the run that was taken since a start is given back, after a change was noted; p' is what is pending beside it
     abbrev pub GivesBackRun : Allocator → ImageFile S → Allocator → ImageFile S → ℕ → ℕ → Result (Unit {0}) ImageError → Type 0
     GivesBackRun allocator old allocator' new first n result =
         (p p' : Pending) (is_data : Bool) (start : ImageFile S) → ((k : ℕ) → 0 < p.held k → 0 < p'.held k)
-        → BecomesOn p start allocator old (taken_as is_data p' (run_at first n)) → (0 < n → IsTrue old.caches.is_changed) → GivesBackAs p start allocator' new p' result
+        → UnseenAllocatorGrowth p start allocator old (taken_as is_data p' (run_at first n)) → (0 < n → IsTrue old.caches.is_changed) → GivesBackAs p start allocator' new p' result

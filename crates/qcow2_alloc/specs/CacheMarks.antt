@@ -5,9 +5,9 @@ use Rattle.std.specs.Option.{option_map_or}
 use Rattle.std.specs.Map.{keys_of, lookup}
 use Rattle.qcow2_metadata.specs.Bytes.{Bytes}
 use Rattle.qcow2_metadata.specs.declared.header.HeaderFields.{HeaderFields}
-use Rattle.qcow2_laws.specs.Guard.{Pending}
+use Rattle.qcow2_laws.specs.CrashInvariant.{Pending}
 use Rattle.qcow2_alloc.specs.AsyncLruCache.{pinned}
-use Rattle.qcow2_alloc.specs.MetadataCaches.{order_of, l2_at, l2_tables, refblocks, known_of, AreSound}
+use Rattle.qcow2_alloc.specs.MetadataCaches.{order_of, l2_at, l2_tables, refblocks, known_of, CacheInvariant}
 use Rattle.qcow2_alloc.specs.ImageError.{IsFault}
 use Rattle.qcow2_alloc.specs.declared.async_lru_cache.slot.Slot.{Slot}
 use Rattle.qcow2_alloc.specs.declared.cache.MetadataCaches.{MetadataCaches}
@@ -32,8 +32,8 @@ module _ {S : Type 0} where
 
   -- the same tables in the same order
   pub record SameTables (old new : MetadataCaches S) : Type 0 where
-    pub sound : (h : HeaderFields) (p : Pending) (base : Bytes) → AreSound h p old base → AreSound h p new base
-    pub known : (h : HeaderFields) (base : Bytes) → known_of h new base ≡ known_of h old base
+    pub sound : (h : HeaderFields) (p : Pending) (on_storage : Bytes) → CacheInvariant h p old on_storage → CacheInvariant h p new on_storage
+    pub known : (h : HeaderFields) (on_storage : Bytes) → known_of h new on_storage ≡ known_of h old on_storage
     pub l2_tables : l2_tables new ≡ l2_tables old
     pub refblocks : refblocks new ≡ refblocks old
     pub l2_at : (cluster : ℕ) → l2_at new cluster ≡ l2_at old cluster

@@ -1,6 +1,6 @@
 -- The clusters that are listed to be freed.
 use Rattle.std.specs.Prelude.{◌≡◌, ◌⊎◌, ℕ, ◌+◌, ◌-◌, ◌++◌, Bool, true, false, List, [], ◌∷◌, if◌then◌else◌}
-use Rattle.qcow2_laws.specs.Guard.{Pending}
+use Rattle.qcow2_laws.specs.CrashInvariant.{Pending}
 use Rattle.qcow2_alloc.specs.declared.clusters_to_free.ClusterKind.{ClusterKind}
 use Rattle.qcow2_alloc.specs.declared.clusters_to_free.ClusterKind.TheVariants as Kind
 use Rattle.qcow2_alloc.specs.declared.clusters_to_free.ClustersToFreeEntry.{ClustersToFreeEntry}
@@ -28,8 +28,8 @@ abbrev pub with_listed : Pending → List ClustersToFreeEntry → Pending
 with_listed p list = record p { spent = λ k. p.spent k + to_free of_tables list k; dropped = λ k. p.dropped k + to_free of_data list k }
 
 -- what is pending, with what was listed since
-abbrev pub following : Pending → List ClustersToFreeEntry → List ClustersToFreeEntry → Pending
-following p old new = record p {
+abbrev pub pending_then : Pending → List ClustersToFreeEntry → List ClustersToFreeEntry → Pending
+pending_then p old new = record p {
   spent = λ k. p.spent k + (to_free of_tables new k - to_free of_tables old k);
   dropped = λ k. p.dropped k + (to_free of_data new k - to_free of_data old k);
 }

@@ -10,9 +10,9 @@ use Rattle.qcow2_metadata.specs.Named.{in_run, table_in}
 use Rattle.qcow2_metadata.specs.TableBytes.{entry_at}
 use Rattle.qcow2_laws.specs.Caches.{AreClean, BlocksMayGo}
 use Rattle.qcow2_laws.specs.Changes.{with_fresh}
-use Rattle.qcow2_laws.specs.Guard.{Pending}
-use Rattle.qcow2_alloc.specs.Allocation.{run_at, StandAt, HasNone, BecomesOn, LeavesAs}
-use Rattle.qcow2_alloc.specs.ImageFile.{contents_in, Breaks}
+use Rattle.qcow2_laws.specs.CrashInvariant.{Pending}
+use Rattle.qcow2_alloc.specs.Allocation.{run_at, StandAt, HasNone, UnseenAllocatorGrowth, RefusedGrowth}
+use Rattle.qcow2_alloc.specs.ImageFile.{contents_in, InterruptedFileStep}
 use Rattle.qcow2_alloc.specs.MetadataCaches.{order_of, l2_tables, refblocks, rb_at}
 use Rattle.qcow2_alloc.specs.declared.allocation.Allocator.{Allocator}
 use Rattle.qcow2_alloc.specs.declared.error.ImageError.{ImageError}
@@ -63,10 +63,10 @@ module _ {S : Type 0} (view : S → StorageView) where
 
   -- the header names it in the place of the reftable, whose clusters are to be freed then; or the storage failed
   abbrev pub NamesReftable : Pending → Pending → ImageFile S → Allocator → ImageFile S → Result (Unit {0}) ImageError → Type 0
-  NamesReftable q p old allocator' new (Ok _) = BecomesOn view q old allocator' new (without_reftable p old.header.fields)
-  NamesReftable q p old allocator' new (Err e) = Breaks view old new e
+  NamesReftable q p old allocator' new (Ok _) = UnseenAllocatorGrowth view q old allocator' new (without_reftable p old.header.fields)
+  NamesReftable q p old allocator' new (Err e) = InterruptedFileStep view old new e
 
   -- so it does, once there was room for it and its refblocks; or all is as sound as before, or it broke off
   abbrev pub EntersReftable : Pending → ImageFile S → Allocator → ImageFile S → Result (Unit {0}) ImageError → Type 0
-  EntersReftable p old allocator' new (Ok _) = BecomesOn view p old allocator' new (without_reftable p old.header.fields)
-  EntersReftable p old allocator' new (Err e) = LeavesAs view p old allocator' new p e
+  EntersReftable p old allocator' new (Ok _) = UnseenAllocatorGrowth view p old allocator' new (without_reftable p old.header.fields)
+  EntersReftable p old allocator' new (Err e) = RefusedGrowth view p old allocator' new p e

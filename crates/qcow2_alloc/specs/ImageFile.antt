@@ -5,15 +5,15 @@ use Rattle.qcow2_metadata.specs.Bytes.{Bytes, byte_at}
 use Rattle.qcow2_metadata.specs.Header.{HeaderView, cluster_size, reftable_entries, with_fields, with_reftable}
 use Rattle.qcow2_metadata.specs.Entries.{count}
 use Rattle.qcow2_metadata.specs.EntryTable.{EntryTableView, IsRefTableOf, entry_count}
-use Rattle.qcow2_laws.specs.Stops.{Gift}
-use Rattle.qcow2_laws.specs.Guard.{Pending}
+use Rattle.qcow2_laws.specs.Stops.{GivenBytes}
+use Rattle.qcow2_laws.specs.CrashInvariant.{Pending}
 use Rattle.qcow2_laws.specs.Caches.{AreSettled}
-use Rattle.qcow2_laws.specs.Leads.{Stand, Leads, Endures}
+use Rattle.qcow2_laws.specs.SafeSteps.{DriverState, SafeStep, SafeThroughout}
 use Rattle.qcow2_laws.specs.Unseen.{IsUnseen, SameL1Table}
 pub use Rattle.qcow2_alloc.specs.ImageError.{IsFault}
 pub use Rattle.qcow2_alloc.specs.CacheMarks.{l2_pins, HasRoom, KeepsMarks}
 use Rattle.qcow2_alloc.specs.ImageStorage.{storage_of}
-use Rattle.qcow2_alloc.specs.MetadataCaches.{order_of, refblocks, known_of, AreSound}
+use Rattle.qcow2_alloc.specs.MetadataCaches.{order_of, refblocks, known_of, CacheInvariant}
 use Rattle.qcow2_alloc.specs.declared.allocation.Allocator.{Allocator}
 use Rattle.qcow2_alloc.specs.declared.error.ImageError.{ImageError}
 use Rattle.qcow2_alloc.specs.declared.error.ImageError.TheVariants as I
@@ -23,7 +23,7 @@ use Rattle.qcow2_alloc.specs.declared.image_file.ImageFile.{ImageFile}
 abbrev pub KeepsHeader : HeaderView → HeaderView → Type 0
 KeepsHeader h h' = h' ≡ with_fields h (with_reftable h.fields h'.fields.reftable_offset h'.fields.reftable_clusters)
 
-abbrev pub nothing_given : Bytes → List Gift
+abbrev pub nothing_given : Bytes → List GivenBytes
 nothing_given backing = []
 
 -- how often a cluster is pending
@@ -43,13 +43,13 @@ module _ {S : Type 0} where
     known_in file = known_of file.header.fields file.caches (contents_in file)
 
     -- where it stands, while this is pending
-    abbrev pub stand_in : ImageFile S → Pending → Stand
-    stand_in file p = record { header = file.header.fields; direction = order_of file.caches; pending = p; base = contents_in file; known = known_in file }
+    abbrev pub state_in : ImageFile S → Pending → DriverState
+    state_in file p = record { header = file.header.fields; direction = order_of file.caches; pending = p; on_storage = contents_in file; known = known_in file }
 
     -- its storage is honest, and what is kept of its caches is kept, while this is pending
-    pub record IsSoundFile (p : Pending) (file : ImageFile S) : Type 0 where
+    pub record FileInvariant (p : Pending) (file : ImageFile S) : Type 0 where
       pub honest : (view_in file).is_honest
-      pub caches : AreSound file.header.fields p file.caches (contents_in file)
+      pub caches : CacheInvariant file.header.fields p file.caches (contents_in file)
       pub settled : AreSettled file.header.fields (refblocks file.caches) (contents_in file)
       pub room : HasRoom file.caches
 
@@ -61,34 +61,34 @@ module _ {S : Type 0} where
       pub entries : IsRefTableOf file.header.fields (contents_in file) reftable
 
     -- an allocator with the file that it takes clusters of
-    pub record IsSoundWith (allocator : Allocator) (p : Pending) (file : ImageFile S) : Type 0 where
-      pub sound : IsSoundFile p file
+    pub record AllocatorInvariant (allocator : Allocator) (p : Pending) (file : ImageFile S) : Type 0 where
+      pub sound : FileInvariant p file
       pub reftable : HasReftable file allocator.reftable
 
     -- A step that no guest sees, from what was pending to what is: all is sound again, and at each moment what was kept is kept.
-    pub record Moves (p p' : Pending) (old new : ImageFile S) : Type 0 where
-      pub sound : IsSoundFile p' new
-      pub leads : Leads (stand_in old p) (stand_in new p') nothing_given []
-      pub since : Endures (view_in old) (view_in new) (known_in old) nothing_given []
-      pub unseen : IsUnseen (stand_in old p) (stand_in new p')
-      pub l1_table : SameL1Table (stand_in old p) (stand_in new p')
+    pub record UnseenFileStep (p p' : Pending) (old new : ImageFile S) : Type 0 where
+      pub sound : FileInvariant p' new
+      pub leads : SafeStep (state_in old p) (state_in new p') nothing_given []
+      pub since : SafeThroughout (view_in old) (view_in new) (known_in old) nothing_given []
+      pub unseen : IsUnseen (state_in old p) (state_in new p')
+      pub l1_table : SameL1Table (state_in old p) (state_in new p')
       -- each count changes with what is pending; where a refblock is named it may rise
       pub counts : (k : ℕ) → count old.header.fields (known_in old) k + pending_at p' k ≤ count new.header.fields (known_in new) k + pending_at p k
 
     -- The same where the reftable may move: its former clusters are named no longer, and counted still.
-    pub record MovesOn (p p' : Pending) (old new : ImageFile S) : Type 0 where
-      pub sound : IsSoundFile p' new
-      pub leads : Leads (stand_in old p) (stand_in new p') nothing_given []
-      pub since : Endures (view_in old) (view_in new) (known_in old) nothing_given []
-      pub unseen : IsUnseen (stand_in old p) (stand_in new p')
-      pub l1_table : SameL1Table (stand_in old p) (stand_in new p')
+    pub record UnseenFileGrowth (p p' : Pending) (old new : ImageFile S) : Type 0 where
+      pub sound : FileInvariant p' new
+      pub leads : SafeStep (state_in old p) (state_in new p') nothing_given []
+      pub since : SafeThroughout (view_in old) (view_in new) (known_in old) nothing_given []
+      pub unseen : IsUnseen (state_in old p) (state_in new p')
+      pub l1_table : SameL1Table (state_in old p) (state_in new p')
 
     -- The storage failed, or memory was refused after a change, which is noted. At each moment what was kept is kept.
-    pub record Breaks (old new : ImageFile S) (e : ImageError) : Type 0 where
+    pub record InterruptedFileStep (old new : ImageFile S) (e : ImageError) : Type 0 where
       pub fault : IsFault e
       pub noted : e ≡ I.Memory → IsTrue new.caches.is_changed
-      pub since : Endures (view_in old) (view_in new) (known_in old) nothing_given []
+      pub since : SafeThroughout (view_in old) (view_in new) (known_in old) nothing_given []
 
     -- what a refused call leaves of a sound file with its allocator: all as sound as before; or it broke off
-    abbrev pub LeavesSound : Pending → ImageFile S → Allocator → ImageFile S → ImageError → Type 0
-    LeavesSound p old allocator' new e = (Moves p p old new × HasReftable new allocator'.reftable) ⊎ Breaks old new e
+    abbrev pub RefusedFileStep : Pending → ImageFile S → Allocator → ImageFile S → ImageError → Type 0
+    RefusedFileStep p old allocator' new e = (UnseenFileStep p p old new × HasReftable new allocator'.reftable) ⊎ InterruptedFileStep old new e

@@ -6,8 +6,8 @@ use Rattle.qcow2_metadata.specs.declared.header.HeaderFields.{HeaderFields}
 use Rattle.qcow2_metadata.specs.Header.{cluster_size}
 use Rattle.qcow2_metadata.specs.Tables.{CachedTable}
 use Rattle.qcow2_laws.specs.Clusters.{Direction}
-use Rattle.qcow2_laws.specs.Guard.{Pending, IsMixed}
-use Rattle.qcow2_laws.specs.Caches.{IsKept, IsSafeBetween, HasL2, HasBlock}
+use Rattle.qcow2_laws.specs.CrashInvariant.{Pending, IsMixed}
+use Rattle.qcow2_laws.specs.Caches.{CacheInvariantOver, IsSafeBetween, HasL2, HasBlock}
 use Rattle.qcow2_alloc.specs.declared.async_lru_cache.slot.Slot.{Slot}
 
 -- an entry of a cache as a table over the bytes
@@ -24,13 +24,13 @@ AreElsewhere place (t ∷ ts) = (t.place ≢ place) × AreElsewhere place ts
 
 -- it holds what stands in its cluster
 abbrev pub IsCurrent : ℕ → CachedTable → Bytes → Type 0
-IsCurrent size t base = (i : ℕ) → i < size → t.bytes i ≡ base (t.place + i)
+IsCurrent size t on_storage = (i : ℕ) → i < size → t.bytes i ≡ on_storage (t.place + i)
 
 -- Each fills a cluster of its own. One that isn't modified is current where the cluster is named for a table of its kind.
 abbrev pub AreLoaded : ℕ → (ℕ → Type 0) → List CachedTable → Bytes → Type 0
-AreLoaded size IsNamed [] base = Unit {0}
-AreLoaded size IsNamed (t ∷ ts) base =
-    (t.place % size ≡ 0) × AreElsewhere t.place ts × (t.is_modified ≡ false → IsNamed (t.place / size) → IsCurrent size t base) × AreLoaded size IsNamed ts base
+AreLoaded size IsNamed [] on_storage = Unit {0}
+AreLoaded size IsNamed (t ∷ ts) on_storage =
+    (t.place % size ≡ 0) × AreElsewhere t.place ts × (t.is_modified ≡ false → IsNamed (t.place / size) → IsCurrent size t on_storage) × AreLoaded size IsNamed ts on_storage
 
 -- each value is fit
 abbrev pub AllFit : {V : Type 0} → (V → Type 0) → List (ℕ × Slot V) → Type 0
@@ -38,10 +38,10 @@ AllFit IsFit [] = Unit {0}
 AllFit IsFit (e ∷ es) = IsFit e.1.value × AllFit IsFit es
 
 -- What is kept of the L2 tables and the refblocks of the caches over the bytes of a storage.
-pub record AreKept (h : HeaderFields) (d : Direction) (p : Pending) (l2s rbs : List CachedTable) (base : Bytes) : Type 0 where
-  pub kept : IsKept h d p l2s rbs base
-  pub l2_loaded : AreLoaded (cluster_size h) (HasL2 h base) l2s base
-  pub rb_loaded : AreLoaded (cluster_size h) (HasBlock h base) rbs base
+pub record AreKept (h : HeaderFields) (d : Direction) (p : Pending) (l2s rbs : List CachedTable) (on_storage : Bytes) : Type 0 where
+  pub kept : CacheInvariantOver h d p l2s rbs on_storage
+  pub l2_loaded : AreLoaded (cluster_size h) (HasL2 h on_storage) l2s on_storage
+  pub rb_loaded : AreLoaded (cluster_size h) (HasBlock h on_storage) rbs on_storage
 
 -- Since an earlier view of a storage, at each moment and now, a stop is as safe as it was of the contents then and of what was known.
 pub record IsSafeSince (old new : StorageView) (known : Bytes) : Type 0 where

@@ -19,13 +19,13 @@ module _ {S : Type 0} (view : S → StorageView) where
   KeepsUsed old new (Err e) = (IsFault e → ⊥) → (k : ℕ) → IsUsed old k → IsUsed new k
 
   -- no cluster below the allocator's first free one has count 0
-  abbrev pub HasHint : Allocator → ImageFile S → Type 0
-  HasHint allocator file = (k : ℕ) → k < allocator.first_free_cluster → IsUsed file k
+  abbrev pub NoFreeBelowHint : Allocator → ImageFile S → Type 0
+  NoFreeBelowHint allocator file = (k : ℕ) → k < allocator.first_free_cluster → IsUsed file k
 
   -- so it is, but perhaps after a fault or want of memory
-  abbrev pub KeepsHint : {A : Type 0} → Allocator → ImageFile S → Result A ImageError → Type 0
-  KeepsHint allocator file (Ok answer) = HasHint allocator file
-  KeepsHint allocator file (Err e) = (IsFault e → ⊥) → HasHint allocator file
+  abbrev pub KeepsNoFreeBelowHint : {A : Type 0} → Allocator → ImageFile S → Result A ImageError → Type 0
+  KeepsNoFreeBelowHint allocator file (Ok answer) = NoFreeBelowHint allocator file
+  KeepsNoFreeBelowHint allocator file (Err e) = (IsFault e → ⊥) → NoFreeBelowHint allocator file
 
   -- a run of n clusters is the lowest that can be taken: of n clusters from each lower one on, one is in use that lies below the run
   abbrev pub IsLowestRun : ImageFile S → ℕ → ℕ → Type 0

@@ -12,7 +12,7 @@ use Rattle.qcow2_metadata.specs.RefBlock.{RefBlockView}
 use Rattle.qcow2_metadata.specs.TableBytes.{entry_at}
 use Rattle.qcow2_metadata.specs.Tables.{CachedTable, known}
 use Rattle.qcow2_laws.specs.Clusters as Order
-use Rattle.qcow2_laws.specs.Guard.{Pending, IsGuarded, IsPartly}
+use Rattle.qcow2_laws.specs.CrashInvariant.{Pending, CrashInvariant, IsPartly}
 use Rattle.qcow2_laws.specs.Steps.{block_of, CountRises, CountFalls}
 use Rattle.qcow2_laws.specs.Writes.{IsUnnamed}
 use Rattle.qcow2_laws.specs.Caches.{known_bytes, IsFreeOf, AreClean, AreSettled, HasL2, HasBlock}
@@ -87,49 +87,49 @@ module _ {S : Type 0} where
 
   -- the contents with the modified tables laid over
   abbrev pub known_of : HeaderFields → MetadataCaches S → Bytes → Bytes
-  known_of h caches base = known_bytes (cluster_size h) (l2_tables caches) (refblocks caches) base
+  known_of h caches on_storage = known_bytes (cluster_size h) (l2_tables caches) (refblocks caches) on_storage
 
   -- no table is modified
   abbrev pub AreAllWritten : MetadataCaches S → Type 0
   AreAllWritten caches = AreClean (l2_tables caches) × AreClean (refblocks caches)
 
   -- they are the caches of an image with this header, and what is kept of them is kept over these bytes, while this is pending
-  pub record AreSound (h : HeaderFields) (p : Pending) (caches : MetadataCaches S) (base : Bytes) : Type 0 where
+  pub record CacheInvariant (h : HeaderFields) (p : Pending) (caches : MetadataCaches S) (on_storage : Bytes) : Type 0 where
     pub l2_format : HasFormat caches.l2.backend.header.fields h
     pub rb_format : HasFormat caches.rb.backend.header.fields h
     pub l2_fit : AllFit (IsTableOf caches.l2.backend.header.fields) caches.l2.entries
     pub rb_fit : AllFit (IsBlockOf caches.rb.backend.header.fields) caches.rb.entries
-    pub kept : AreKept h (order_of caches) p (l2_tables caches) (refblocks caches) base
+    pub kept : AreKept h (order_of caches) p (l2_tables caches) (refblocks caches) on_storage
 
   -- they are sound again, nothing known changes, no refblock is new, and a stop is as safe as before
-  pub record StaySound (h : HeaderFields) (p : Pending) (old : StorageView) (caches : MetadataCaches S) (new : StorageView) (caches' : MetadataCaches S) : Type 0 where
+  pub record UnseenCacheStep (h : HeaderFields) (p : Pending) (old : StorageView) (caches : MetadataCaches S) (new : StorageView) (caches' : MetadataCaches S) : Type 0 where
     pub honest : new.is_honest
-    pub sound : AreSound h p caches' (byte_at new.contents)
+    pub sound : CacheInvariant h p caches' (byte_at new.contents)
     pub known : known_of h caches' (byte_at new.contents) ≡ known_of h caches (byte_at old.contents)
     pub settled : AreSettled h (refblocks caches) (byte_at old.contents) → AreSettled h (refblocks caches') (byte_at new.contents)
     pub since : IsSafeSince old new (known_of h caches (byte_at old.contents))
 
   -- a table holds what is known in the cluster
   abbrev pub HoldsKnown : HeaderFields → MetadataCaches S → Bytes → List ℕ → ℕ → Type 0
-  HoldsKnown h caches base bytes cluster = (i : ℕ) → i < cluster_size h → byte_at bytes i ≡ known_of h caches base (cluster * cluster_size h + i)
+  HoldsKnown h caches on_storage bytes cluster = (i : ℕ) → i < cluster_size h → byte_at bytes i ≡ known_of h caches on_storage (cluster * cluster_size h + i)
 
   -- what putting in an unmodified table of the image's format that holds what is known in its cluster does to sound caches over an honest storage
   abbrev pub PutSound : (S → StorageView) → ImageStorage S → MetadataCaches S → ImageStorage S → MetadataCaches S → (HeaderFields → Type 0) → Option ℕ → List ℕ → Bool → Type 0
   PutSound view old caches new caches' IsFitFor cluster bytes is_modified =
-      (h : HeaderFields) (p : Pending) → (view (storage_of old)).is_honest → AreSound h p caches (byte_at (view (storage_of old)).contents)
+      (h : HeaderFields) (p : Pending) → (view (storage_of old)).is_honest → CacheInvariant h p caches (byte_at (view (storage_of old)).contents)
       → IsFitFor h → is_modified ≡ false → IfSome cluster (HoldsKnown h caches (byte_at (view (storage_of old)).contents) bytes)
-      → StaySound h p (view (storage_of old)) caches (view (storage_of new)) caches'
+      → UnseenCacheStep h p (view (storage_of old)) caches (view (storage_of new)) caches'
 
   -- what loading, flushing and turning do to sound caches over an honest storage
   abbrev pub KeepSound : (S → StorageView) → ImageStorage S → MetadataCaches S → ImageStorage S → MetadataCaches S → Type 0
   KeepSound view old caches new caches' =
-      (h : HeaderFields) (p : Pending) → (view (storage_of old)).is_honest → AreSound h p caches (byte_at (view (storage_of old)).contents)
-      → StaySound h p (view (storage_of old)) caches (view (storage_of new)) caches'
+      (h : HeaderFields) (p : Pending) → (view (storage_of old)).is_honest → CacheInvariant h p caches (byte_at (view (storage_of old)).contents)
+      → UnseenCacheStep h p (view (storage_of old)) caches (view (storage_of new)) caches'
 
   -- such a call writes tables in the order that the direction, as it was before, asks for
   abbrev pub WritesInOrder : (S → StorageView) → ImageStorage S → MetadataCaches S → ImageStorage S → Type 0
   WritesInOrder view old caches new =
-      (h : HeaderFields) (p : Pending) → (view (storage_of old)).is_honest → AreSound h p caches (byte_at (view (storage_of old)).contents)
+      (h : HeaderFields) (p : Pending) → (view (storage_of old)).is_honest → CacheInvariant h p caches (byte_at (view (storage_of old)).contents)
       → IsInOrderSince h (order_of caches) (view (storage_of old)) (view (storage_of new)) (known_of h caches (byte_at (view (storage_of old)).contents))
 
   -- ---- why calls are refused, over an honest storage, on sound caches of which no refblock is new
@@ -137,118 +137,118 @@ module _ {S : Type 0} where
   -- a call refuses for such a cause
   abbrev pub RefusesBy : (ImageError → Type 0) → (S → StorageView) → ImageStorage S → MetadataCaches S → HeaderFields → Result (Unit {0}) ImageError → Type 0
   RefusesBy IsCause view old caches h result =
-      (p : Pending) → (view (storage_of old)).is_honest → AreSound h p caches (byte_at (view (storage_of old)).contents) → AreSettled h (refblocks caches) (byte_at (view (storage_of old)).contents) → IfErr result IsCause
+      (p : Pending) → (view (storage_of old)).is_honest → CacheInvariant h p caches (byte_at (view (storage_of old)).contents) → AreSettled h (refblocks caches) (byte_at (view (storage_of old)).contents) → IfErr result IsCause
 
   -- so does one that puts in such a table as is said above
   abbrev pub PutRefusesBy : (ImageError → Type 0) → (S → StorageView) → ImageStorage S → MetadataCaches S → (HeaderFields → Type 0) → Option ℕ → List ℕ → Bool → Result (Unit {0}) ImageError → Type 0
   PutRefusesBy IsCause view old caches IsFitFor cluster bytes is_modified result =
-      (h : HeaderFields) (p : Pending) → (view (storage_of old)).is_honest → AreSound h p caches (byte_at (view (storage_of old)).contents) → AreSettled h (refblocks caches) (byte_at (view (storage_of old)).contents)
+      (h : HeaderFields) (p : Pending) → (view (storage_of old)).is_honest → CacheInvariant h p caches (byte_at (view (storage_of old)).contents) → AreSettled h (refblocks caches) (byte_at (view (storage_of old)).contents)
       → IsFitFor h → is_modified ≡ false → IfSome cluster (HoldsKnown h caches (byte_at (view (storage_of old)).contents) bytes) → IfErr result IsCause
 
   -- ---- counts of held refblocks
 
   -- the change was made, and the caches are sound again, whatever is pending, where the order of writes is kept
-  pub record Made (Change : Type 0) (h : HeaderFields) (caches caches' : MetadataCaches S) (base : Bytes) : Type 0 where
+  pub record Made (Change : Type 0) (h : HeaderFields) (caches caches' : MetadataCaches S) (on_storage : Bytes) : Type 0 where
     pub change : Change
-    pub settled : AreSettled h (refblocks caches) base → AreSettled h (refblocks caches') base
-    pub sound : (p : Pending) → IsGuarded h (order_of caches') p base (known_of h caches' base) → AreSound h p caches' base
+    pub settled : AreSettled h (refblocks caches) on_storage → AreSettled h (refblocks caches') on_storage
+    pub sound : (p : Pending) → CrashInvariant h (order_of caches') p on_storage (known_of h caches' on_storage) → CacheInvariant h p caches' on_storage
 
   -- the count at this place of the refblock of a cluster rises from 0
   abbrev pub RaisesCount : MetadataCaches S → MetadataCaches S → ℕ → ℕ → Type 0
   RaisesCount caches caches' block index =
-      (h : HeaderFields) (p : Pending) (base : Bytes) (c : ℕ) → AreSound h p caches base → IsCountedAt h (known_of h caches base) c block index → count h (known_of h caches base) c ≡ 0
-      → Made (CountRises h (known_of h caches base) (known_of h caches' base) c) h caches caches' base
+      (h : HeaderFields) (p : Pending) (on_storage : Bytes) (c : ℕ) → CacheInvariant h p caches on_storage → IsCountedAt h (known_of h caches on_storage) c block index → count h (known_of h caches on_storage) c ≡ 0
+      → Made (CountRises h (known_of h caches on_storage) (known_of h caches' on_storage) c) h caches caches' on_storage
 
   -- it falls
   abbrev pub LowersCount : MetadataCaches S → MetadataCaches S → ℕ → ℕ → Type 0
   LowersCount caches caches' block index =
-      (h : HeaderFields) (p : Pending) (base : Bytes) (c : ℕ) → AreSound h p caches base → IsCountedAt h (known_of h caches base) c block index
-      → Made (CountFalls h (known_of h caches base) (known_of h caches' base) c) h caches caches' base
+      (h : HeaderFields) (p : Pending) (on_storage : Bytes) (c : ℕ) → CacheInvariant h p caches on_storage → IsCountedAt h (known_of h caches on_storage) c block index
+      → Made (CountFalls h (known_of h caches on_storage) (known_of h caches' on_storage) c) h caches caches' on_storage
 
   -- the count is 0 where this is true, as far as the refblock is held
   abbrev pub TellsZero : MetadataCaches S → ℕ → ℕ → Bool → Type 0
   TellsZero caches block index is_zero =
-      (h : HeaderFields) (p : Pending) (base : Bytes) (c : ℕ) → AreSound h p caches base → IsCountedAt h (known_of h caches base) c block index → IsSome (rb_at caches block)
-      → is_zero ≡ (count h (known_of h caches base) c == 0)
+      (h : HeaderFields) (p : Pending) (on_storage : Bytes) (c : ℕ) → CacheInvariant h p caches on_storage → IsCountedAt h (known_of h caches on_storage) c block index → IsSome (rb_at caches block)
+      → is_zero ≡ (count h (known_of h caches on_storage) c == 0)
 
   -- on sound caches a count of a held refblock that is 0 rises
   abbrev pub RaisesZero : MetadataCaches S → ℕ → ℕ → Bool → Type 0
   RaisesZero caches block index made =
-      (h : HeaderFields) (p : Pending) (base : Bytes) (c : ℕ) → AreSound h p caches base → IsCountedAt h (known_of h caches base) c block index → IsSome (rb_at caches block)
-      → count h (known_of h caches base) c ≡ 0 → IsTrue made
+      (h : HeaderFields) (p : Pending) (on_storage : Bytes) (c : ℕ) → CacheInvariant h p caches on_storage → IsCountedAt h (known_of h caches on_storage) c block index → IsSome (rb_at caches block)
+      → count h (known_of h caches on_storage) c ≡ 0 → IsTrue made
 
   -- one that isn't 0 falls
   abbrev pub LowersSome : MetadataCaches S → ℕ → ℕ → Bool → Type 0
   LowersSome caches block index made =
-      (h : HeaderFields) (p : Pending) (base : Bytes) (c : ℕ) → AreSound h p caches base → IsCountedAt h (known_of h caches base) c block index → IsSome (rb_at caches block)
-      → count h (known_of h caches base) c ≢ 0 → IsTrue made
+      (h : HeaderFields) (p : Pending) (on_storage : Bytes) (c : ℕ) → CacheInvariant h p caches on_storage → IsCountedAt h (known_of h caches on_storage) c block index → IsSome (rb_at caches block)
+      → count h (known_of h caches on_storage) c ≢ 0 → IsTrue made
 
   -- ---- entries of held L2 tables
 
   -- Entry j of the table of L1 entry i becomes another one, and what the old one names that the new one doesn't is answered. The caches are sound again, whatever is
   -- pending, where the order of writes is kept and each modified refblock is named.
-  pub record MadeEntry (h : HeaderFields) (caches caches' : MetadataCaches S) (base : Bytes) (i j entry : ℕ) (answer : Option (ℕ × ℕ)) : Type 0 where
-    pub change : ChangesKnownEntry h (known_of h caches base) (known_of h caches' base) i j entry
-    pub settled : AreSettled h (refblocks caches) base → AreSettled h (refblocks caches') base
-    pub answered : answer ≡ dropped_run h.cluster_bits (entry_cover h (l2_entry (known_of h caches base) (table_at h (known_of h caches base) i) j)) (entry_cover h entry)
-    pub sound : (p : Pending) → AreSettled h (refblocks caches) base → IsGuarded h (order_of caches') p base (known_of h caches' base) → AreSound h p caches' base
+  pub record MadeEntry (h : HeaderFields) (caches caches' : MetadataCaches S) (on_storage : Bytes) (i j entry : ℕ) (answer : Option (ℕ × ℕ)) : Type 0 where
+    pub change : ChangesKnownEntry h (known_of h caches on_storage) (known_of h caches' on_storage) i j entry
+    pub settled : AreSettled h (refblocks caches) on_storage → AreSettled h (refblocks caches') on_storage
+    pub answered : answer ≡ dropped_run h.cluster_bits (entry_cover h (l2_entry (known_of h caches on_storage) (table_at h (known_of h caches on_storage) i) j)) (entry_cover h entry)
+    pub sound : (p : Pending) → AreSettled h (refblocks caches) on_storage → CrashInvariant h (order_of caches') p on_storage (known_of h caches' on_storage) → CacheInvariant h p caches' on_storage
 
   -- an entry of the held table of a cluster becomes copied data at a host cluster
   abbrev pub MapsEntry : MetadataCaches S → MetadataCaches S → ℕ → ℕ → ℕ → Option (ℕ × ℕ) → Type 0
   MapsEntry caches caches' table index host answer =
-      (h : HeaderFields) (p : Pending) (base : Bytes) (i : ℕ) → AreSound h p caches base → IsEntryAt h (known_of h caches base) i table index → IsSome (l2_at caches table) → IsHostCluster h.cluster_bits host
-      → MadeEntry h caches caches' base i index (copied_entry (host * cluster_size h)) answer
+      (h : HeaderFields) (p : Pending) (on_storage : Bytes) (i : ℕ) → CacheInvariant h p caches on_storage → IsEntryAt h (known_of h caches on_storage) i table index → IsSome (l2_at caches table) → IsHostCluster h.cluster_bits host
+      → MadeEntry h caches caches' on_storage i index (copied_entry (host * cluster_size h)) answer
 
   -- it becomes zero; where it is to keep its host cluster, and that is marked copied, it keeps it
   abbrev pub ZeroesEntry : MetadataCaches S → MetadataCaches S → ℕ → ℕ → Bool → Option (ℕ × ℕ) → Type 0
   ZeroesEntry caches caches' table index keep answer =
-      (h : HeaderFields) (p : Pending) (base : Bytes) (i : ℕ) → AreSound h p caches base → IsEntryAt h (known_of h caches base) i table index → IsSome (l2_at caches table)
-      → MadeEntry h caches caches' base i index (zero_entry (if keep then copied_host (entry_cover h (l2_entry (known_of h caches base) (table_at h (known_of h caches base) i) index)) else None)) answer
+      (h : HeaderFields) (p : Pending) (on_storage : Bytes) (i : ℕ) → CacheInvariant h p caches on_storage → IsEntryAt h (known_of h caches on_storage) i table index → IsSome (l2_at caches table)
+      → MadeEntry h caches caches' on_storage i index (zero_entry (if keep then copied_host (entry_cover h (l2_entry (known_of h caches on_storage) (table_at h (known_of h caches on_storage) i) index)) else None)) answer
 
   -- it becomes uncovered
   abbrev pub DiscardsEntry : MetadataCaches S → MetadataCaches S → ℕ → ℕ → Option (ℕ × ℕ) → Type 0
   DiscardsEntry caches caches' table index answer =
-      (h : HeaderFields) (p : Pending) (base : Bytes) (i : ℕ) → AreSound h p caches base → IsEntryAt h (known_of h caches base) i table index → IsSome (l2_at caches table)
-      → MadeEntry h caches caches' base i index 0 answer
+      (h : HeaderFields) (p : Pending) (on_storage : Bytes) (i : ℕ) → CacheInvariant h p caches on_storage → IsEntryAt h (known_of h caches on_storage) i table index → IsSome (l2_at caches table)
+      → MadeEntry h caches caches' on_storage i index 0 answer
 
   -- a change of it is noted
   abbrev pub NotesHeld : MetadataCaches S → MetadataCaches S → ℕ → ℕ → Type 0
   NotesHeld caches caches' table index =
-      (h : HeaderFields) (p : Pending) (base : Bytes) (i : ℕ) → AreSound h p caches base → IsEntryAt h (known_of h caches base) i table index → IsSome (l2_at caches table) → IsTrue caches'.is_changed
+      (h : HeaderFields) (p : Pending) (on_storage : Bytes) (i : ℕ) → CacheInvariant h p caches on_storage → IsEntryAt h (known_of h caches on_storage) i table index → IsSome (l2_at caches table) → IsTrue caches'.is_changed
 
   -- so where it is mapped
   abbrev pub NotesEntry : MetadataCaches S → MetadataCaches S → ℕ → ℕ → ℕ → Type 0
   NotesEntry caches caches' table index host =
-      (h : HeaderFields) (p : Pending) (base : Bytes) (i : ℕ) → AreSound h p caches base → IsEntryAt h (known_of h caches base) i table index → IsSome (l2_at caches table) → IsHostCluster h.cluster_bits host
+      (h : HeaderFields) (p : Pending) (on_storage : Bytes) (i : ℕ) → CacheInvariant h p caches on_storage → IsEntryAt h (known_of h caches on_storage) i table index → IsSome (l2_at caches table) → IsHostCluster h.cluster_bits host
       → IsTrue caches'.is_changed
 
   -- so for each entry of the held table of a cluster
   abbrev pub ShowsKnown : MetadataCaches S → ℕ → L2TableView → Type 0
   ShowsKnown caches table t =
-      (h : HeaderFields) (p : Pending) (base : Bytes) (i index : ℕ) → AreSound h p caches base → IsEntryAt h (known_of h caches base) i table index → ShowsEntry h (known_of h caches base) i index t
+      (h : HeaderFields) (p : Pending) (on_storage : Bytes) (i index : ℕ) → CacheInvariant h p caches on_storage → IsEntryAt h (known_of h caches on_storage) i table index → ShowsEntry h (known_of h caches on_storage) i index t
 
   -- ---- tables that are taken off, unwritten
 
   -- Each cluster is known as before, or as it stands on the storage, and as before where none of them was modified. No refblock is new that wasn't. The caches are sound again,
   -- whatever is pending, where the order of writes is kept.
-  pub record TakenOff (Unmodified : Type 0) (h : HeaderFields) (caches caches' : MetadataCaches S) (base : Bytes) : Type 0 where
-    pub known : IsPartly (cluster_size h) base (known_of h caches base) (known_of h caches' base)
-    pub same : Unmodified → known_of h caches' base ≡ known_of h caches base
-    pub settled : AreSettled h (refblocks caches) base → AreSettled h (refblocks caches') base
-    pub sound : (p : Pending) → IsGuarded h (order_of caches') p base (known_of h caches' base) → AreSound h p caches' base
+  pub record TakenOff (Unmodified : Type 0) (h : HeaderFields) (caches caches' : MetadataCaches S) (on_storage : Bytes) : Type 0 where
+    pub known : IsPartly (cluster_size h) on_storage (known_of h caches on_storage) (known_of h caches' on_storage)
+    pub same : Unmodified → known_of h caches' on_storage ≡ known_of h caches on_storage
+    pub settled : AreSettled h (refblocks caches) on_storage → AreSettled h (refblocks caches') on_storage
+    pub sound : (p : Pending) → CrashInvariant h (order_of caches') p on_storage (known_of h caches' on_storage) → CacheInvariant h p caches' on_storage
 
   -- so on sound caches
   abbrev pub TakesOff : Type 0 → MetadataCaches S → MetadataCaches S → Type 0
-  TakesOff Unmodified caches caches' = (h : HeaderFields) (p : Pending) (base : Bytes) → AreSound h p caches base → TakenOff Unmodified h caches caches' base
+  TakesOff Unmodified caches caches' = (h : HeaderFields) (p : Pending) (on_storage : Bytes) → CacheInvariant h p caches on_storage → TakenOff Unmodified h caches caches' on_storage
 
   -- the refblock of a cluster is taken off: it is no longer held, and outside of its cluster nothing known changes
-  pub record TakenFrom (h : HeaderFields) (caches caches' : MetadataCaches S) (base : Bytes) (cluster : ℕ) : Type 0 where
-    pub off : TakenOff (IfSome (rb_at caches cluster) (λ b. b.is_modified ≡ false)) h caches caches' base
-    pub outside : IsSameOutside (cluster_size h) cluster (known_of h caches base) (known_of h caches' base)
+  pub record TakenFrom (h : HeaderFields) (caches caches' : MetadataCaches S) (on_storage : Bytes) (cluster : ℕ) : Type 0 where
+    pub off : TakenOff (IfSome (rb_at caches cluster) (λ b. b.is_modified ≡ false)) h caches caches' on_storage
+    pub outside : IsSameOutside (cluster_size h) cluster (known_of h caches on_storage) (known_of h caches' on_storage)
     pub gone : rb_at caches' cluster ≡ None
 
   abbrev pub TakesBlock : MetadataCaches S → MetadataCaches S → ℕ → Type 0
-  TakesBlock caches caches' cluster = (h : HeaderFields) (p : Pending) (base : Bytes) → AreSound h p caches base → TakenFrom h caches caches' base cluster
+  TakesBlock caches caches' cluster = (h : HeaderFields) (p : Pending) (on_storage : Bytes) → CacheInvariant h p caches on_storage → TakenFrom h caches caches' on_storage cluster
 
   -- ---- a modified table is put in
 
@@ -259,18 +259,18 @@ module _ {S : Type 0} where
     pub known : known_of h caches' (byte_at new.contents) ≡ known (cluster_size h) (t ∷ []) (known_of h caches (byte_at old.contents))
     pub since : IsSafeSince old new (known_of h caches (byte_at old.contents))
     pub settled : IsNamed (byte_at new.contents) → AreSettled h (refblocks caches) (byte_at old.contents) → AreSettled h (refblocks caches') (byte_at new.contents)
-    pub sound : (p : Pending) → Stands (byte_at new.contents) (known_of h caches' (byte_at new.contents)) → IsGuarded h (order_of caches') p (byte_at new.contents) (known_of h caches' (byte_at new.contents))
-        → AreSound h p caches' (byte_at new.contents)
+    pub sound : (p : Pending) → Stands (byte_at new.contents) (known_of h caches' (byte_at new.contents)) → CrashInvariant h (order_of caches') p (byte_at new.contents) (known_of h caches' (byte_at new.contents))
+        → CacheInvariant h p caches' (byte_at new.contents)
 
   -- an L2 table, whose cluster an L1 entry names, while no refblock is new
   abbrev pub LaysTable : (S → StorageView) → ImageStorage S → MetadataCaches S → ImageStorage S → MetadataCaches S → L2TableView → Type 0
   LaysTable view old caches new caches' t =
-      (h : HeaderFields) (p : Pending) → (view (storage_of old)).is_honest → AreSound h p caches (byte_at (view (storage_of old)).contents) → IsTableOf h t → t.is_modified ≡ true
-      → IfSome t.cluster (λ cluster. LaidOver (λ base known. AreSettled h (refblocks caches') base × HasL2 h base cluster) (λ base. Unit {0}) h (view (storage_of old)) caches (view (storage_of new)) caches' (laid_at h cluster t.bytes))
+      (h : HeaderFields) (p : Pending) → (view (storage_of old)).is_honest → CacheInvariant h p caches (byte_at (view (storage_of old)).contents) → IsTableOf h t → t.is_modified ≡ true
+      → IfSome t.cluster (λ cluster. LaidOver (λ on_storage known. AreSettled h (refblocks caches') on_storage × HasL2 h on_storage cluster) (λ on_storage. Unit {0}) h (view (storage_of old)) caches (view (storage_of new)) caches' (laid_at h cluster t.bytes))
 
   -- a refblock, whose cluster the reftable names, or nothing does, where no modified L2 table lies
   abbrev pub LaysBlock : (S → StorageView) → ImageStorage S → MetadataCaches S → ImageStorage S → MetadataCaches S → RefBlockView → Type 0
   LaysBlock view old caches new caches' b =
-      (h : HeaderFields) (p : Pending) → (view (storage_of old)).is_honest → AreSound h p caches (byte_at (view (storage_of old)).contents) → IsBlockOf h b → b.is_modified ≡ true
+      (h : HeaderFields) (p : Pending) → (view (storage_of old)).is_honest → CacheInvariant h p caches (byte_at (view (storage_of old)).contents) → IsBlockOf h b → b.is_modified ≡ true
       → IfSome b.cluster (λ cluster. IsFreeOf (cluster_size h) (l2_tables caches) cluster
-      → LaidOver (λ base known. HasBlock h base cluster ⊎ IsUnnamed h base known cluster) (λ base. HasBlock h base cluster) h (view (storage_of old)) caches (view (storage_of new)) caches' (laid_at h cluster b.bytes))
+      → LaidOver (λ on_storage known. HasBlock h on_storage cluster ⊎ IsUnnamed h on_storage known cluster) (λ on_storage. HasBlock h on_storage cluster) h (view (storage_of old)) caches (view (storage_of new)) caches' (laid_at h cluster b.bytes))

@@ -9,11 +9,11 @@ use Rattle.qcow2_metadata.specs.EntryTable.{EntryTableView, entry_count}
 use Rattle.qcow2_metadata.specs.RefBlock.{RefBlockView, count_at}
 use Rattle.qcow2_metadata.specs.TableBytes.{entry_at}
 use Rattle.qcow2_laws.specs.Changes.{one_at, with_fresh}
-use Rattle.qcow2_laws.specs.Guard.{Pending, SameIn}
+use Rattle.qcow2_laws.specs.CrashInvariant.{Pending, SameIn}
 use Rattle.qcow2_laws.specs.Tops.{IsSameOutside}
-use Rattle.qcow2_alloc.specs.Allocation.{run_at, StandAt, HasNone, Becomes}
+use Rattle.qcow2_alloc.specs.Allocation.{run_at, StandAt, HasNone, UnseenAllocatorStep}
 use Rattle.qcow2_alloc.specs.GrownTables.{with_run, named_by_entries, IsGrown}
-use Rattle.qcow2_alloc.specs.ImageFile.{contents_in, IsFault, LeavesSound}
+use Rattle.qcow2_alloc.specs.ImageFile.{contents_in, IsFault, RefusedFileStep}
 use Rattle.qcow2_alloc.specs.MetadataCaches.{rb_at}
 use Rattle.qcow2_alloc.specs.declared.allocation.Allocator.{Allocator}
 use Rattle.qcow2_alloc.specs.declared.error.ImageError.{ImageError}
@@ -44,19 +44,19 @@ length_of room = room.blocks + room.clusters
 module _ {S : Type 0} (view : S → StorageView) (p : Pending) (old : ImageFile S) (allocator' : Allocator) (new : ImageFile S) where
   -- a cluster is taken where it is counted anywhere, or it is in use
   abbrev pub TakesFree : EntryTableView → ℕ → Result Bool ImageError → Type 0
-  TakesFree t cluster (Ok true) = Becomes view p old allocator' new (with_fresh p (counted_one old.header.fields t cluster))
-  TakesFree t cluster (Ok false) = Becomes view p old allocator' new p
-  TakesFree t cluster (Err e) = IsFault e × LeavesSound view p old allocator' new e
+  TakesFree t cluster (Ok true) = UnseenAllocatorStep view p old allocator' new (with_fresh p (counted_one old.header.fields t cluster))
+  TakesFree t cluster (Ok false) = UnseenAllocatorStep view p old allocator' new p
+  TakesFree t cluster (Err e) = IsFault e × RefusedFileStep view p old allocator' new e
 
   -- so many clusters from first on are taken
   abbrev pub ReachesRoom : EntryTableView → ℕ → Result Reach ImageError → Type 0
-  ReachesRoom t first (Ok reach) = Becomes view p old allocator' new (with_run p old.header.fields t first reach.taken)
-  ReachesRoom t first (Err e) = IsFault e × LeavesSound view p old allocator' new e
+  ReachesRoom t first (Ok reach) = UnseenAllocatorStep view p old allocator' new (with_run p old.header.fields t first reach.taken)
+  ReachesRoom t first (Err e) = IsFault e × RefusedFileStep view p old allocator' new e
 
   -- the clusters of a room are
   abbrev pub TakesRoom : EntryTableView → Result Room ImageError → Type 0
-  TakesRoom t (Ok room) = Becomes view p old allocator' new (with_run p old.header.fields t room.first (length_of room))
-  TakesRoom t (Err e) = LeavesSound view p old allocator' new e
+  TakesRoom t (Ok room) = UnseenAllocatorStep view p old allocator' new (with_run p old.header.fields t room.first (length_of room))
+  TakesRoom t (Err e) = RefusedFileStep view p old allocator' new e
 
 -- a longer reftable in memory has the same entries, and needs so many clusters
 pub record IsLonger (h : HeaderFields) (old t : EntryTableView) (clusters : ℕ) : Type 0 where
@@ -84,32 +84,32 @@ module _ {S : Type 0} (view : S → StorageView) where
   module _ (q : Pending) (old : ImageFile S) (allocator : Allocator) (new : ImageFile S) where
     -- bytes stand in a cluster, which no cached refblock has; nothing else changes on the storage
     pub record StandsIn (cluster : ℕ) (bytes : List ℕ) : Type 0 where
-      pub becomes : Becomes view q old allocator new q
+      pub becomes : UnseenAllocatorStep view q old allocator new q
       pub stands : StandAt (contents_in view new) (cluster * cluster_size old.header.fields) bytes
       pub outside : IsSameOutside (cluster_size old.header.fields) cluster (contents_in view old) (contents_in view new)
       pub gone : rb_at new.caches cluster ≡ None
 
     abbrev pub WritesTo : ℕ → List ℕ → Result (Unit {0}) ImageError → Type 0
     WritesTo cluster bytes (Ok _) = StandsIn cluster bytes
-    WritesTo cluster bytes (Err e) = IsFault e × LeavesSound view q old allocator new e
+    WritesTo cluster bytes (Err e) = IsFault e × RefusedFileStep view q old allocator new e
 
     -- the refblocks that a reftable lacks stand in the first clusters of a room, and a longer one names them
     pub record HasPlaced (before after : EntryTableView) (room : Room) : Type 0 where
-      pub becomes : Becomes view q old allocator new q
+      pub becomes : UnseenAllocatorStep view q old allocator new q
       pub grown : IsGrown old.header.fields before (placed_at after (room.first + room.blocks)) room.first room.blocks room.clusters
       pub counts : StandCounting new before after room.first (length_of room)
       pub uncached : (c : ℕ) → 0 < run_at room.first room.blocks c → rb_at new.caches c ≡ None
 
     abbrev pub PlacesBlocks : EntryTableView → EntryTableView → Room → Result (Unit {0}) ImageError → Type 0
     PlacesBlocks before after room (Ok _) = HasPlaced before after room
-    PlacesBlocks before after room (Err e) = IsFault e × LeavesSound view q old allocator new e
+    PlacesBlocks before after room (Err e) = IsFault e × RefusedFileStep view q old allocator new e
 
     -- a table stands in so many clusters, and on the storage nothing else changes
     pub record StandsFrom (cluster clusters : ℕ) (bytes : List ℕ) : Type 0 where
-      pub becomes : Becomes view q old allocator new q
+      pub becomes : UnseenAllocatorStep view q old allocator new q
       pub stands : StandAt (contents_in view new) (cluster * cluster_size old.header.fields) bytes
       pub outside : (c : ℕ) → run_at cluster clusters c ≡ 0 → SameIn (cluster_size old.header.fields) c (contents_in view old) (contents_in view new)
 
     abbrev pub WritesTable : ℕ → ℕ → List ℕ → Result (Unit {0}) ImageError → Type 0
     WritesTable cluster clusters bytes (Ok _) = StandsFrom cluster clusters bytes
-    WritesTable cluster clusters bytes (Err e) = IsFault e × LeavesSound view q old allocator new e
+    WritesTable cluster clusters bytes (Err e) = IsFault e × RefusedFileStep view q old allocator new e

@@ -1,7 +1,7 @@
 -- What loading and flushing a cached table do to the storage.
 use Rattle.std.specs.Prelude.{◌≡◌, ◌⊎◌, ℕ, ◌*◌, ◌^◌, Bool, true, false, List, length, Result, Ok, Err, IsErrOf}
 use Rattle.image_access.specs.Contents.{bytes_at, overwritten}
-use Rattle.image_access.specs.Moments.{StorageView, Keeps, Calls}
+use Rattle.image_access.specs.Moments.{StorageView, ContentsStay, Calls}
 use Rattle.image_access.specs.declared.error.StorageError.{StorageError}
 use Rattle.image_access.specs.declared.error.StorageError.TheVariants.{Fault}
 use Rattle.qcow2_metadata.specs.declared.error.MetadataError.{MetadataError}
@@ -31,13 +31,13 @@ module _ {S V : Type 0} (view : S → StorageView) (cluster_bits : ℕ) (bytes :
     pub fits : IsFit v
     pub read : (view s).is_honest → bytes v ≡ bytes_at (view s).contents (place_of k) (2 ^ cluster_bits)
     pub calls : Calls (view s) (view t) done
-    pub keeps : Keeps (view s) (view t)
+    pub keeps : ContentsStay (view s) (view t)
 
   -- a cluster that has a place is refused by the storage, or for memory
   pub record FailsToLoad (s : S) (k : ℕ) (e : MetadataError) (t : S) : Type 0 where
     pub cause : HasPlace cluster_bits k → IsOfStorageOrMemory e
     pub calls : Calls (view s) (view t) (refused e)
-    pub keeps : Keeps (view s) (view t)
+    pub keeps : ContentsStay (view s) (view t)
 
   -- the table's bytes stand in its cluster
   pub record IsWritten (s : S) (k : ℕ) (v : V) (t : S) : Type 0 where
@@ -47,7 +47,7 @@ module _ {S V : Type 0} (view : S → StorageView) (cluster_bits : ℕ) (bytes :
   -- one that is modified is written, another one isn't; then it isn't modified
   pub record FlushesTable (s : S) (k : ℕ) (v w : V) (t : S) : Type 0 where
     pub clean : w ≡ cleared v
-    pub skips : is_modified v ≡ false → Keeps (view s) (view t)
+    pub skips : is_modified v ≡ false → ContentsStay (view s) (view t)
     pub writes : is_modified v ≡ true → IsWritten s k v t
     pub calls : Calls (view s) (view t) done
 

@@ -1,16 +1,16 @@
 //! Taking clusters of the image's file.
 ghost use Rattle.std.specs.Prelude.{◌≡◌, ◌≢◌, false, ◌+◌, ◌*◌, ◌^◌, ◌<◌, ◌≤◌, ◌⊎◌, Bool, IsNone, IfOk, IfErr, OnOk, IsSome, IsTrue};
 ghost use Rattle.image_access.specs.Contents.{bytes_at};
-ghost use Rattle.image_access.specs.Moments.{Keeps, Passing};
+ghost use Rattle.image_access.specs.Moments.{ContentsStay, Passing};
 ghost use Rattle.qcow2_laws.specs.Clusters.{L2DependsOnRb};
-ghost use Rattle.qcow2_laws.specs.Guard.{Pending};
+ghost use Rattle.qcow2_laws.specs.CrashInvariant.{Pending};
 ghost use Rattle.qcow2_alloc.specs.Allocation.{MayTake, TakesCluster, TakesRun, TakesSomeRun, is_data, Allocates, AllocatesAt};
-ghost use Rattle.qcow2_alloc.specs.FreeList.{following, ListsTables};
+ghost use Rattle.qcow2_alloc.specs.FreeList.{pending_then, ListsTables};
 ghost use Rattle.qcow2_alloc.specs.CacheMarks.{KeepsMarks};
 ghost use Rattle.qcow2_alloc.specs.Limits.{IsFaultOr, HasNoPlace, CantCount, CantCountRun, nameable_clusters};
-ghost use Rattle.qcow2_alloc.specs.LowestRuns.{HasHint, IsLowestRun, IsUsed, KeepsHint, KeepsUsed};
+ghost use Rattle.qcow2_alloc.specs.LowestRuns.{NoFreeBelowHint, IsLowestRun, IsUsed, KeepsNoFreeBelowHint, KeepsUsed};
 ghost use Rattle.qcow2_alloc.specs.ImageError.{IsOfTables, IsFault};
-ghost use Rattle.qcow2_alloc.specs.ImageFile.{view_in, HasReftable, IsSoundWith, KeepsHeader};
+ghost use Rattle.qcow2_alloc.specs.ImageFile.{view_in, HasReftable, AllocatorInvariant, KeepsHeader};
 ghost use Rattle.qcow2_alloc.specs.MetadataCaches.{order_of};
 ghost use Rattle.qcow2_metadata.specs.Header.{reftable_entries, IsAligned};
 ghost use Rattle.qcow2_metadata.specs.EntryTable.{SomeUnread};
@@ -58,7 +58,7 @@ impl Allocator {
             ⊎ ((e ≡ ImageError.Metadata) × SomeUnread ReftableEntryReads (bytes_at (view_in S.view file.old).contents file.old.header.fields.reftable_offset (8 * reftable_entries file.old.header.fields)))) }
         ensures rest { file.new ≡ record file.old { storage = file.new.storage } }
         ensures honest { (view_in S.view file.old).is_honest → (view_in S.view file.new).is_honest }
-        ensures same { Keeps (view_in S.view file.old) (view_in S.view file.new) }
+        ensures same { ContentsStay (view_in S.view file.old) (view_in S.view file.new) }
         ensures time { Passing (view_in S.view file.old) (view_in S.view file.new) (λ c. c ≡ (view_in S.view file.new).contents) }
         ensures reftable { (view_in S.view file.old).is_honest → IfOk result (λ allocator. HasReftable S.view file.new allocator.reftable) }
         ensures first { IfOk result (λ allocator. allocator.first_free_cluster ≡ 0) }
@@ -106,14 +106,14 @@ impl Allocator {
         ensures marks { KeepsMarks file.old.caches file.new.caches }
         ensures order { order_of file.new.caches ≡ order_of file.old.caches }
         ensures noted { OnOk result (IsTrue file.new.caches.is_changed) }
-        ensures sound { (p : Pending) → IsSoundWith S.view self.old p file.old → Allocates S.view p file.old self.new file.new (following p file.old.free_list file.new.free_list) ClusterKind.Metadata count result }
+        ensures sound { (p : Pending) → AllocatorInvariant S.view self.old p file.old → Allocates S.view p file.old self.new file.new (pending_then p file.old.free_list file.new.free_list) ClusterKind.Metadata count result }
         ensures header { KeepsHeader file.old.header file.new.header }
         ensures list { ListsTables file.old.free_list file.new.free_list }
         ensures nameable { IfOk result (λ p. IsHostCluster file.old.header.fields.cluster_bits p.first_cluster) }
         ensures cause { IfErr result IsOfTables }
-        ensures limit { (p : Pending) → IsSoundWith S.view self.old p file.old → HasHint S.view self.old file.old → 0 < count → IfErr result (IsFaultOr (HasNoPlace S.view file.new self.new count)) }
-        ensures lowest { (p : Pending) → IsSoundWith S.view self.old p file.old → HasHint S.view self.old file.old → IfOk result (λ run. IsLowestRun S.view file.new run.first_cluster count) }
-        ensures hint { (p : Pending) → IsSoundWith S.view self.old p file.old → HasHint S.view self.old file.old → KeepsHint S.view self.new file.new result }
+        ensures limit { (p : Pending) → AllocatorInvariant S.view self.old p file.old → NoFreeBelowHint S.view self.old file.old → 0 < count → IfErr result (IsFaultOr (HasNoPlace S.view file.new self.new count)) }
+        ensures lowest { (p : Pending) → AllocatorInvariant S.view self.old p file.old → NoFreeBelowHint S.view self.old file.old → IfOk result (λ run. IsLowestRun S.view file.new run.first_cluster count) }
+        ensures hint { (p : Pending) → AllocatorInvariant S.view self.old p file.old → NoFreeBelowHint S.view self.old file.old → KeepsNoFreeBelowHint S.view self.new file.new result }
     {
         self.allocate(file, count, ClusterKind::Metadata)
     }
@@ -127,14 +127,14 @@ impl Allocator {
         ensures marks { KeepsMarks file.old.caches file.new.caches }
         ensures order { OnOk result (order_of file.new.caches ≡ L2DependsOnRb) }
         ensures noted { OnOk result (IsTrue file.new.caches.is_changed) }
-        ensures sound { (p : Pending) → IsSoundWith S.view self.old p file.old → Allocates S.view p file.old self.new file.new (following p file.old.free_list file.new.free_list) ClusterKind.Data count result }
+        ensures sound { (p : Pending) → AllocatorInvariant S.view self.old p file.old → Allocates S.view p file.old self.new file.new (pending_then p file.old.free_list file.new.free_list) ClusterKind.Data count result }
         ensures header { KeepsHeader file.old.header file.new.header }
         ensures list { ListsTables file.old.free_list file.new.free_list }
         ensures nameable { IfOk result (λ p. IsHostCluster file.old.header.fields.cluster_bits p.first_cluster) }
         ensures cause { IfErr result IsOfTables }
-        ensures limit { (p : Pending) → IsSoundWith S.view self.old p file.old → HasHint S.view self.old file.old → 0 < count → IfErr result (IsFaultOr (HasNoPlace S.view file.new self.new count)) }
-        ensures lowest { (p : Pending) → IsSoundWith S.view self.old p file.old → HasHint S.view self.old file.old → IfOk result (λ run. IsLowestRun S.view file.new run.first_cluster count) }
-        ensures hint { (p : Pending) → IsSoundWith S.view self.old p file.old → HasHint S.view self.old file.old → KeepsHint S.view self.new file.new result }
+        ensures limit { (p : Pending) → AllocatorInvariant S.view self.old p file.old → NoFreeBelowHint S.view self.old file.old → 0 < count → IfErr result (IsFaultOr (HasNoPlace S.view file.new self.new count)) }
+        ensures lowest { (p : Pending) → AllocatorInvariant S.view self.old p file.old → NoFreeBelowHint S.view self.old file.old → IfOk result (λ run. IsLowestRun S.view file.new run.first_cluster count) }
+        ensures hint { (p : Pending) → AllocatorInvariant S.view self.old p file.old → NoFreeBelowHint S.view self.old file.old → KeepsNoFreeBelowHint S.view self.new file.new result }
     {
         file.caches.l2_depends_on_rb(&mut file.storage)?;
         self.allocate(file, count, ClusterKind::Data)
@@ -150,14 +150,14 @@ impl Allocator {
         ensures marks { KeepsMarks file.old.caches file.new.caches }
         ensures order { OnOk result (order_of file.new.caches ≡ L2DependsOnRb) }
         ensures noted { IfOk result (λ run. IsSome run → IsTrue file.new.caches.is_changed) }
-        ensures sound { (p : Pending) → IsSoundWith S.view self.old p file.old → AllocatesAt S.view p file.old self.new file.new (following p file.old.free_list file.new.free_list) cluster result }
+        ensures sound { (p : Pending) → AllocatorInvariant S.view self.old p file.old → AllocatesAt S.view p file.old self.new file.new (pending_then p file.old.free_list file.new.free_list) cluster result }
         ensures header { KeepsHeader file.old.header file.new.header }
         ensures list { ListsTables file.old.free_list file.new.free_list }
         ensures nameable { IfOk result (λ run. IsSome run → IsHostCluster file.old.header.fields.cluster_bits cluster) }
         ensures cause { IfErr result IsOfTables }
-        ensures limit { (p : Pending) → IsSoundWith S.view self.old p file.old → HasHint S.view self.old file.old → IfErr result (IsFaultOr (CantCount S.view file.new (λ k. 0) self.new cluster)) }
-        ensures none { (p : Pending) → IsSoundWith S.view self.old p file.old → IfOk result (λ run. IsNone run → (IsHostCluster file.old.header.fields.cluster_bits cluster → ⊥) ⊎ IsUsed S.view file.new cluster) }
-        ensures hint { (p : Pending) → IsSoundWith S.view self.old p file.old → HasHint S.view self.old file.old → KeepsHint S.view self.new file.new result }
+        ensures limit { (p : Pending) → AllocatorInvariant S.view self.old p file.old → NoFreeBelowHint S.view self.old file.old → IfErr result (IsFaultOr (CantCount S.view file.new (λ k. 0) self.new cluster)) }
+        ensures none { (p : Pending) → AllocatorInvariant S.view self.old p file.old → IfOk result (λ run. IsNone run → (IsHostCluster file.old.header.fields.cluster_bits cluster → ⊥) ⊎ IsUsed S.view file.new cluster) }
+        ensures hint { (p : Pending) → AllocatorInvariant S.view self.old p file.old → NoFreeBelowHint S.view self.old file.old → KeepsNoFreeBelowHint S.view self.new file.new result }
     {
         file.caches.l2_depends_on_rb(&mut file.storage)?;
         if !cluster.is_nameable(file.header.cluster_bits()) {
@@ -190,14 +190,14 @@ impl Allocator {
         ensures marks { KeepsMarks file.old.caches file.new.caches }
         ensures order { order_of file.new.caches ≡ order_of file.old.caches }
         ensures noted { OnOk result (IsTrue file.new.caches.is_changed) }
-        ensures sound { (p : Pending) → IsSoundWith S.view self.old p file.old → MayTake (is_data kind) file.old → Allocates S.view p file.old self.new file.new (following p file.old.free_list file.new.free_list) kind count result }
+        ensures sound { (p : Pending) → AllocatorInvariant S.view self.old p file.old → MayTake (is_data kind) file.old → Allocates S.view p file.old self.new file.new (pending_then p file.old.free_list file.new.free_list) kind count result }
         ensures header { KeepsHeader file.old.header file.new.header }
         ensures list { ListsTables file.old.free_list file.new.free_list }
         ensures nameable { IfOk result (λ p. IsHostCluster file.old.header.fields.cluster_bits p.first_cluster) }
         ensures cause { IfErr result IsOfTables }
-        ensures limit { (p : Pending) → IsSoundWith S.view self.old p file.old → MayTake (is_data kind) file.old → HasHint S.view self.old file.old → 0 < count → IfErr result (IsFaultOr (HasNoPlace S.view file.new self.new count)) }
-        ensures lowest { (p : Pending) → IsSoundWith S.view self.old p file.old → MayTake (is_data kind) file.old → HasHint S.view self.old file.old → IfOk result (λ run. IsLowestRun S.view file.new run.first_cluster count) }
-        ensures hint { (p : Pending) → IsSoundWith S.view self.old p file.old → MayTake (is_data kind) file.old → HasHint S.view self.old file.old → KeepsHint S.view self.new file.new result }
+        ensures limit { (p : Pending) → AllocatorInvariant S.view self.old p file.old → MayTake (is_data kind) file.old → NoFreeBelowHint S.view self.old file.old → 0 < count → IfErr result (IsFaultOr (HasNoPlace S.view file.new self.new count)) }
+        ensures lowest { (p : Pending) → AllocatorInvariant S.view self.old p file.old → MayTake (is_data kind) file.old → NoFreeBelowHint S.view self.old file.old → IfOk result (λ run. IsLowestRun S.view file.new run.first_cluster count) }
+        ensures hint { (p : Pending) → AllocatorInvariant S.view self.old p file.old → MayTake (is_data kind) file.old → NoFreeBelowHint S.view self.old file.old → KeepsNoFreeBelowHint S.view self.new file.new result }
     {
         let entry = ClustersToFreeEntry {
             first_cluster: HostCluster::new(0),
@@ -221,14 +221,14 @@ impl Allocator {
         ensures marks { KeepsMarks file.old.caches file.new.caches }
         ensures order { order_of file.new.caches ≡ order_of file.old.caches }
         ensures noted { OnOk result (IsTrue file.new.caches.is_changed) }
-        ensures sound { (p : Pending) (is_data : Bool) → IsSoundWith S.view self.old p file.old → MayTake is_data file.old → TakesSomeRun S.view p file.old self.new file.new (following p file.old.free_list file.new.free_list) is_data n result }
+        ensures sound { (p : Pending) (is_data : Bool) → AllocatorInvariant S.view self.old p file.old → MayTake is_data file.old → TakesSomeRun S.view p file.old self.new file.new (pending_then p file.old.free_list file.new.free_list) is_data n result }
         ensures header { KeepsHeader file.old.header file.new.header }
         ensures list { ListsTables file.old.free_list file.new.free_list }
         ensures nameable { IfOk result (λ first. IsHostCluster file.old.header.fields.cluster_bits first) }
         ensures cause { IfErr result IsOfTables }
-        ensures limit { (p : Pending) (is_data : Bool) → IsSoundWith S.view self.old p file.old → MayTake is_data file.old → HasHint S.view self.old file.old → 0 < n → IfErr result (IsFaultOr (HasNoPlace S.view file.new self.new n)) }
-        ensures lowest { (p : Pending) (is_data : Bool) → IsSoundWith S.view self.old p file.old → MayTake is_data file.old → HasHint S.view self.old file.old → IfOk result (λ first. IsLowestRun S.view file.new first n) }
-        ensures hint { (p : Pending) (is_data : Bool) → IsSoundWith S.view self.old p file.old → MayTake is_data file.old → HasHint S.view self.old file.old → KeepsHint S.view self.new file.new result }
+        ensures limit { (p : Pending) (is_data : Bool) → AllocatorInvariant S.view self.old p file.old → MayTake is_data file.old → NoFreeBelowHint S.view self.old file.old → 0 < n → IfErr result (IsFaultOr (HasNoPlace S.view file.new self.new n)) }
+        ensures lowest { (p : Pending) (is_data : Bool) → AllocatorInvariant S.view self.old p file.old → MayTake is_data file.old → NoFreeBelowHint S.view self.old file.old → IfOk result (λ first. IsLowestRun S.view file.new first n) }
+        ensures hint { (p : Pending) (is_data : Bool) → AllocatorInvariant S.view self.old p file.old → MayTake is_data file.old → NoFreeBelowHint S.view self.old file.old → KeepsNoFreeBelowHint S.view self.new file.new result }
     {
         let limit = (MAX_HOST_OFFSET >> file.header.cluster_bits()) + 1;
         let mut first = self.first_free_cluster;
@@ -253,15 +253,15 @@ impl Allocator {
         ensures marks { KeepsMarks file.old.caches file.new.caches }
         ensures order { order_of file.new.caches ≡ order_of file.old.caches }
         ensures noted { IfOk result (λ taken. taken ≡ n → 0 < n → IsTrue file.new.caches.is_changed) }
-        ensures sound { (p : Pending) (is_data : Bool) → IsSoundWith S.view self.old p file.old → MayTake is_data file.old → TakesRun S.view p file.old self.new file.new (following p file.old.free_list file.new.free_list) is_data first n result }
+        ensures sound { (p : Pending) (is_data : Bool) → AllocatorInvariant S.view self.old p file.old → MayTake is_data file.old → TakesRun S.view p file.old self.new file.new (pending_then p file.old.free_list file.new.free_list) is_data first n result }
         ensures header { KeepsHeader file.old.header file.new.header }
         ensures list { ListsTables file.old.free_list file.new.free_list }
         ensures within { IfOk result (λ taken. taken ≤ n) }
         ensures cause { IfErr result IsOfTables }
-        ensures limit { (p : Pending) (is_data : Bool) → IsSoundWith S.view self.old p file.old → MayTake is_data file.old → HasHint S.view self.old file.old → first + n ≤ nameable_clusters file.old.header.fields → IfErr result (IsFaultOr (CantCountRun S.view file.new self.new first n)) }
-        ensures used { (p : Pending) (is_data : Bool) → IsSoundWith S.view self.old p file.old → MayTake is_data file.old → IfOk result (λ taken. taken ≢ n → IsUsed S.view file.new (first + taken)) }
-        ensures hint { (p : Pending) (is_data : Bool) → IsSoundWith S.view self.old p file.old → MayTake is_data file.old → HasHint S.view self.old file.old → KeepsHint S.view self.new file.new result }
-        ensures uses { (p : Pending) (is_data : Bool) → IsSoundWith S.view self.old p file.old → MayTake is_data file.old → KeepsUsed S.view file.old file.new result }
+        ensures limit { (p : Pending) (is_data : Bool) → AllocatorInvariant S.view self.old p file.old → MayTake is_data file.old → NoFreeBelowHint S.view self.old file.old → first + n ≤ nameable_clusters file.old.header.fields → IfErr result (IsFaultOr (CantCountRun S.view file.new self.new first n)) }
+        ensures used { (p : Pending) (is_data : Bool) → AllocatorInvariant S.view self.old p file.old → MayTake is_data file.old → IfOk result (λ taken. taken ≢ n → IsUsed S.view file.new (first + taken)) }
+        ensures hint { (p : Pending) (is_data : Bool) → AllocatorInvariant S.view self.old p file.old → MayTake is_data file.old → NoFreeBelowHint S.view self.old file.old → KeepsNoFreeBelowHint S.view self.new file.new result }
+        ensures uses { (p : Pending) (is_data : Bool) → AllocatorInvariant S.view self.old p file.old → MayTake is_data file.old → KeepsUsed S.view file.old file.new result }
     {
         'taking: for taken in 0..n {
             match self.take(file, first + taken) {
@@ -291,15 +291,15 @@ impl Allocator {
         ensures marks { KeepsMarks file.old.caches file.new.caches }
         ensures order { order_of file.new.caches ≡ order_of file.old.caches }
         ensures noted { IfOk result (λ taken. IsTrue taken → IsTrue file.new.caches.is_changed) }
-        ensures sound { (p : Pending) (is_data : Bool) → IsSoundWith S.view self.old p file.old → MayTake is_data file.old → TakesCluster S.view p file.old self.new file.new (following p file.old.free_list file.new.free_list) is_data cluster result }
+        ensures sound { (p : Pending) (is_data : Bool) → AllocatorInvariant S.view self.old p file.old → MayTake is_data file.old → TakesCluster S.view p file.old self.new file.new (pending_then p file.old.free_list file.new.free_list) is_data cluster result }
         ensures header { KeepsHeader file.old.header file.new.header }
         ensures list { ListsTables file.old.free_list file.new.free_list }
         ensures cause { IfErr result IsOfTables }
-        ensures limit { (p : Pending) (is_data : Bool) → IsSoundWith S.view self.old p file.old → MayTake is_data file.old → HasHint S.view self.old file.old → IsHostCluster file.old.header.fields.cluster_bits cluster → IfErr result (IsFaultOr (CantCount S.view file.new (λ k. 0) self.new cluster)) }
-        ensures used { (p : Pending) (is_data : Bool) → IsSoundWith S.view self.old p file.old → MayTake is_data file.old → IfOk result (λ taken. taken ≡ false → IsUsed S.view file.new cluster) }
-        ensures hint { (p : Pending) (is_data : Bool) → IsSoundWith S.view self.old p file.old → MayTake is_data file.old → HasHint S.view self.old file.old → KeepsHint S.view self.new file.new result }
-        ensures uses { (p : Pending) (is_data : Bool) → IsSoundWith S.view self.old p file.old → MayTake is_data file.old → KeepsUsed S.view file.old file.new result }
-        ensures free { (p : Pending) → IsSoundWith S.view self.old p file.old → IfOk result (λ taken. IsTrue taken → ¬ IsUsed S.view file.old cluster) }
+        ensures limit { (p : Pending) (is_data : Bool) → AllocatorInvariant S.view self.old p file.old → MayTake is_data file.old → NoFreeBelowHint S.view self.old file.old → IsHostCluster file.old.header.fields.cluster_bits cluster → IfErr result (IsFaultOr (CantCount S.view file.new (λ k. 0) self.new cluster)) }
+        ensures used { (p : Pending) (is_data : Bool) → AllocatorInvariant S.view self.old p file.old → MayTake is_data file.old → IfOk result (λ taken. taken ≡ false → IsUsed S.view file.new cluster) }
+        ensures hint { (p : Pending) (is_data : Bool) → AllocatorInvariant S.view self.old p file.old → MayTake is_data file.old → NoFreeBelowHint S.view self.old file.old → KeepsNoFreeBelowHint S.view self.new file.new result }
+        ensures uses { (p : Pending) (is_data : Bool) → AllocatorInvariant S.view self.old p file.old → MayTake is_data file.old → KeepsUsed S.view file.old file.new result }
+        ensures free { (p : Pending) → AllocatorInvariant S.view self.old p file.old → IfOk result (λ taken. IsTrue taken → ¬ IsUsed S.view file.old cluster) }
     {
         self.reach_block(file, cluster)?;
         let taken = self.raise(file, cluster)?;

@@ -3,14 +3,14 @@ ghost use Rattle.std.specs.Prelude.{◌≡◌, ◌≢◌, ◌⊎◌, ◌↔◌, 
 ghost use Rattle.qcow2_metadata.specs.Bytes.{Bytes};
 ghost use Rattle.qcow2_metadata.specs.declared.header.HeaderFields.{HeaderFields};
 ghost use Rattle.qcow2_metadata.specs.TableBytes.{HasPlace};
-ghost use Rattle.qcow2_laws.specs.Guard.{Pending, IsGuarded};
+ghost use Rattle.qcow2_laws.specs.CrashInvariant.{Pending, CrashInvariant};
 ghost use Rattle.qcow2_laws.specs.Clusters.{Neither, L2DependsOnRb, RbDependsOnL2};
 ghost use Rattle.qcow2_laws.specs.Caches.{IsFreeOf, AreClean, AreSettled, BlocksMayGo, TablesMayGo};
 ghost use Rattle.qcow2_alloc.specs.ImageError.{IsOfTables, IsFault};
 ghost use Rattle.qcow2_alloc.specs.ImageStorage.{storage_of};
 ghost use Rattle.qcow2_alloc.specs.AsyncLruCache.{can_remove};
 ghost use Rattle.qcow2_alloc.specs.TableCaches.{IsTableOf, IsBlockOf};
-ghost use Rattle.qcow2_alloc.specs.MetadataCaches.{order_of, l2_at, rb_at, l2_tables, refblocks, known_of, AreAllWritten, AreSound, KeepSound, PutSound, RefusesBy, PutRefusesBy, RaisesCount, LowersCount, TellsZero, RaisesZero, LowersSome, MapsEntry, ZeroesEntry, DiscardsEntry, NotesEntry, NotesHeld, ShowsKnown, TakesOff, TakesBlock, LaysTable, LaysBlock, WritesInOrder};
+ghost use Rattle.qcow2_alloc.specs.MetadataCaches.{order_of, l2_at, rb_at, l2_tables, refblocks, known_of, AreAllWritten, CacheInvariant, KeepSound, PutSound, RefusesBy, PutRefusesBy, RaisesCount, LowersCount, TellsZero, RaisesZero, LowersSome, MapsEntry, ZeroesEntry, DiscardsEntry, NotesEntry, NotesHeld, ShowsKnown, TakesOff, TakesBlock, LaysTable, LaysBlock, WritesInOrder};
 ghost use Rattle.qcow2_metadata.specs.L2Mapping.{IsHostCluster};
 ghost use Rattle.qcow2_metadata.specs.L2Table.{entries_of, cover_at, copied_entry, zero_entry, copied_host};
 ghost use Rattle.qcow2_alloc.specs.TableChanges.{CountsMore, CountsLess, SetsEntry};
@@ -54,9 +54,9 @@ impl<S: Storage> MetadataCaches<S> {
         l2_entries: usize,
         rb_entries: usize,
     ) -> Result<Self, AllocError>
-        ensures sound { IfOk result (λ caches. (p : Pending) (base : Bytes) → IsGuarded header.now.fields Neither p base base → AreSound header.now.fields p caches base) }
-        ensures known { IfOk result (λ caches. (base : Bytes) → known_of header.now.fields caches base ≡ base) }
-        ensures settled { IfOk result (λ caches. (base : Bytes) → AreSettled header.now.fields (refblocks caches) base) }
+        ensures sound { IfOk result (λ caches. (p : Pending) (on_storage : Bytes) → CrashInvariant header.now.fields Neither p on_storage on_storage → CacheInvariant header.now.fields p caches on_storage) }
+        ensures known { IfOk result (λ caches. (on_storage : Bytes) → known_of header.now.fields caches on_storage ≡ on_storage) }
+        ensures settled { IfOk result (λ caches. (on_storage : Bytes) → AreSettled header.now.fields (refblocks caches) on_storage) }
         ensures order { IfOk result (λ caches. order_of caches ≡ Neither) }
         ensures sizes { IfOk result (λ caches. (caches.l2.size ≡ l2_entries) × (caches.rb.size ≡ rb_entries)) }
         ensures room { IfOk result (λ caches. 0 < rb_entries → HasRoom caches) }
@@ -406,7 +406,7 @@ impl<S: Storage> MetadataCaches<S> {
         ensures marks { KeepsMarks self.old self.new }
         ensures taken { IsTrue result → TakesBlock self.old self.new cluster }
         ensures clean { AreClean (refblocks self.old) → AreClean (refblocks self.new) }
-        ensures gone { (h : HeaderFields) (p : Pending) (base : Bytes) → AreSound h p self.old base → HasRoom self.old → rb_at self.new cluster ≡ None }
+        ensures gone { (h : HeaderFields) (p : Pending) (on_storage : Bytes) → CacheInvariant h p self.old on_storage → HasRoom self.old → rb_at self.new cluster ≡ None }
     {
         self.rb.remove(cluster)
     }

@@ -1,14 +1,14 @@
 //! A run of free clusters for a longer reftable and the refblocks that it lacks.
 ghost use Rattle.std.specs.Prelude.{◌≡◌, ◌≢◌, ◌⊎◌, ℕ, ◌+◌, ◌/◌, ◌^◌, ◌<◌, ◌≤◌, false, OnOk, IfOk, IfErr, IsTrue};
 ghost use Rattle.qcow2_metadata.specs.Header.{counts_per_block};
-ghost use Rattle.qcow2_laws.specs.Guard.{Pending};
-ghost use Rattle.qcow2_alloc.specs.Allocation.{run_at, Becomes, GivesBack};
+ghost use Rattle.qcow2_laws.specs.CrashInvariant.{Pending};
+ghost use Rattle.qcow2_alloc.specs.Allocation.{run_at, UnseenAllocatorStep, GivesBack};
 ghost use Rattle.qcow2_alloc.specs.CacheMarks.{KeepsMarks};
 ghost use Rattle.qcow2_alloc.specs.GrownTables.{counted_run, with_run};
 ghost use Rattle.qcow2_alloc.specs.ImageError.{IsOfTables};
-ghost use Rattle.qcow2_alloc.specs.ImageFile.{IsSoundWith};
+ghost use Rattle.qcow2_alloc.specs.ImageFile.{AllocatorInvariant};
 ghost use Rattle.qcow2_alloc.specs.Limits.{IsFaultOr, HasNoRoom, IsLowestRoom};
-ghost use Rattle.qcow2_alloc.specs.LowestRuns.{HasHint, IsUsed};
+ghost use Rattle.qcow2_alloc.specs.LowestRuns.{NoFreeBelowHint, IsUsed};
 ghost use Rattle.qcow2_alloc.specs.MetadataCaches.{order_of};
 ghost use Rattle.qcow2_alloc.specs.Rooms.{lacks, opens, opened, length_of, TakesFree, ReachesRoom, TakesRoom};
 
@@ -46,16 +46,16 @@ impl Allocator {
         ensures order { order_of file.new.caches ≡ order_of file.old.caches }
         ensures reftable { self.new.reftable ≡ self.old.reftable }
         ensures first { self.new.first_free_cluster ≡ self.old.first_free_cluster }
-        ensures sound { (p : Pending) → IsSoundWith S.view self.old p file.old → TakesRoom S.view p file.old self.new file.new self.old.reftable result }
+        ensures sound { (p : Pending) → AllocatorInvariant S.view self.old p file.old → TakesRoom S.view p file.old self.new file.new self.old.reftable result }
         ensures blocks { IfOk result (λ room. room.blocks ≡ opened self.old.reftable (counts_per_block file.old.header.fields) room.first (length_of room)) }
         ensures clusters { IfOk result (λ room. room.clusters ≡ clusters) }
         ensures above { IfOk result (λ room. 0 < room.first) }
         ensures below { IfOk result (λ room. room.first + length_of room ≤ end) }
-        ensures lowest { (p : Pending) → IsSoundWith S.view self.old p file.old → HasHint S.view self.old file.old → IfOk result (λ room. IsLowestRoom S.view file.new self.old.reftable clusters end room.first) }
+        ensures lowest { (p : Pending) → AllocatorInvariant S.view self.old p file.old → NoFreeBelowHint S.view self.old file.old → IfOk result (λ room. IsLowestRoom S.view file.new self.old.reftable clusters end room.first) }
         ensures header { file.new.header ≡ file.old.header }
         ensures list { file.new.free_list ≡ file.old.free_list }
         ensures cause { IfErr result IsOfTables }
-        ensures room { (p : Pending) → IsSoundWith S.view self.old p file.old → HasHint S.view self.old file.old → IfErr result (IsFaultOr (HasNoRoom S.view file.new (λ k. 0) self.old.reftable clusters end)) }
+        ensures room { (p : Pending) → AllocatorInvariant S.view self.old p file.old → NoFreeBelowHint S.view self.old file.old → IfErr result (IsFaultOr (HasNoRoom S.view file.new (λ k. 0) self.old.reftable clusters end)) }
     {
         let mut first = self.first_free_cluster.max(1);
         'search: while first < end {
@@ -87,7 +87,7 @@ impl Allocator {
         ensures marks { KeepsMarks file.old.caches file.new.caches }
         ensures order { order_of file.new.caches ≡ order_of file.old.caches }
         ensures same { self.new ≡ self.old }
-        ensures sound { (p : Pending) → IsSoundWith S.view self.old p file.old → ReachesRoom S.view p file.old self.new file.new self.old.reftable first result }
+        ensures sound { (p : Pending) → AllocatorInvariant S.view self.old p file.old → ReachesRoom S.view p file.old self.new file.new self.old.reftable first result }
         ensures noted { IfOk result (λ reach. ((k : ℕ) → counted_run file.old.header.fields self.old.reftable first reach.taken k ≡ 0) ⊎ IsTrue file.new.caches.is_changed) }
         ensures blocks { IfOk result (λ reach. reach.blocks ≡ opened self.old.reftable (counts_per_block file.old.header.fields) first reach.taken) }
         ensures within { IfOk result (λ reach. first + reach.taken ≤ end) }
@@ -96,7 +96,7 @@ impl Allocator {
         ensures list { file.new.free_list ≡ file.old.free_list }
         ensures cause { IfErr result IsOfTables }
         ensures short { IfOk result (λ reach. reach.taken ≢ reach.blocks + clusters → (n : ℕ) → n ≤ reach.taken → n < opened self.old.reftable (counts_per_block file.old.header.fields) first n + clusters) }
-        ensures stopped { (p : Pending) → IsSoundWith S.view self.old p file.old → IfOk result (λ reach. reach.taken ≢ reach.blocks + clusters → first + reach.taken < end → IsUsed S.view file.new (first + reach.taken)) }
+        ensures stopped { (p : Pending) → AllocatorInvariant S.view self.old p file.old → IfOk result (λ reach. reach.taken ≢ reach.blocks + clusters → first + reach.taken < end → IsUsed S.view file.new (first + reach.taken)) }
     {
         let bits = file.header.rb_bits();
         let mut taken = 0;
@@ -124,12 +124,12 @@ impl Allocator {
         ensures marks { KeepsMarks file.old.caches file.new.caches }
         ensures order { order_of file.new.caches ≡ order_of file.old.caches }
         ensures same { self.new ≡ self.old }
-        ensures sound { (p : Pending) → IsSoundWith S.view self.old p file.old → TakesFree S.view p file.old self.new file.new self.old.reftable cluster result }
+        ensures sound { (p : Pending) → AllocatorInvariant S.view self.old p file.old → TakesFree S.view p file.old self.new file.new self.old.reftable cluster result }
         ensures noted { IfOk result (λ taken. IsTrue taken → lacks self.old.reftable (cluster / 2 ^ bits) ≡ false → IsTrue file.new.caches.is_changed) }
         ensures header { file.new.header ≡ file.old.header }
         ensures list { file.new.free_list ≡ file.old.free_list }
         ensures cause { IfErr result IsOfTables }
-        ensures used { (p : Pending) → IsSoundWith S.view self.old p file.old → IfOk result (λ taken. taken ≡ false → IsUsed S.view file.new cluster) }
+        ensures used { (p : Pending) → AllocatorInvariant S.view self.old p file.old → IfOk result (λ taken. taken ≡ false → IsUsed S.view file.new cluster) }
     {
         if self.lacks_block(cluster >> bits) {
             return Ok(true);
@@ -158,12 +158,12 @@ impl Allocator {
         ensures order { order_of file.new.caches ≡ order_of file.old.caches }
         ensures reftable { self.new.reftable ≡ self.old.reftable }
         ensures first { self.new.first_free_cluster ≡ self.old.first_free_cluster }
-        ensures sound { (p : Pending) (start : ImageFile S) → start.header ≡ file.old.header → Becomes S.view p start self.old file.old (with_run p start.header.fields self.old.reftable first n)
+        ensures sound { (p : Pending) (start : ImageFile S) → start.header ≡ file.old.header → UnseenAllocatorStep S.view p start self.old file.old (with_run p start.header.fields self.old.reftable first n)
             → ((k : ℕ) → counted_run start.header.fields self.old.reftable first n k ≡ 0) ⊎ IsTrue file.old.caches.is_changed → GivesBack S.view p start self.new file.new p result }
         ensures header { file.new.header ≡ file.old.header }
         ensures list { file.new.free_list ≡ file.old.free_list }
         ensures cause { IfErr result IsOfTables }
-        ensures kept { (p : Pending) (start : ImageFile S) → start.header ≡ file.old.header → Becomes S.view p start self.old file.old (with_run p start.header.fields self.old.reftable first n)
+        ensures kept { (p : Pending) (start : ImageFile S) → start.header ≡ file.old.header → UnseenAllocatorStep S.view p start self.old file.old (with_run p start.header.fields self.old.reftable first n)
             → OnOk result ((k : ℕ) → run_at first n k ≡ 0 → IsUsed S.view file.old k → IsUsed S.view file.new k) }
     {
         let bits = file.header.rb_bits();

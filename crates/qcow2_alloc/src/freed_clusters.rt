@@ -1,14 +1,14 @@
 //! Freeing clusters: those that are listed to be freed, and those that are given back.
 ghost use Rattle.std.specs.Prelude.{◌≡◌, ◌++◌, ◌∷◌, [], ℕ, ◌+◌, ◌^◌, ◌<◌, ◌≤◌, Bool, IfErr, OnOk, IsTrue};
 ghost use Rattle.qcow2_laws.specs.Changes.{one_at};
-ghost use Rattle.qcow2_laws.specs.Guard.{Pending};
+ghost use Rattle.qcow2_laws.specs.CrashInvariant.{Pending};
 ghost use Rattle.qcow2_alloc.specs.Allocation.{run_at, taken_as, MayFree, Owed, listed_as, owed_as, MayLower, SameLeaks, Frees, LowersOne, GivesBack, GivesBackRun};
 ghost use Rattle.qcow2_alloc.specs.FreeList.{run_of, with_listed, but, GoOffInOrder};
 ghost use Rattle.qcow2_alloc.specs.CacheMarks.{KeepsMarks};
 ghost use Rattle.qcow2_alloc.specs.Leaks.{TriesToLower, LowersOrLeaks};
-ghost use Rattle.qcow2_alloc.specs.LowestRuns.{HasHint, IsUsed};
+ghost use Rattle.qcow2_alloc.specs.LowestRuns.{NoFreeBelowHint, IsUsed};
 ghost use Rattle.qcow2_alloc.specs.ImageError.{IsOfTables};
-ghost use Rattle.qcow2_alloc.specs.ImageFile.{IsSoundWith};
+ghost use Rattle.qcow2_alloc.specs.ImageFile.{AllocatorInvariant};
 ghost use Rattle.qcow2_alloc.specs.MetadataCaches.{order_of};
 
 #[cfg(test)]
@@ -36,8 +36,8 @@ impl Allocator {
         ensures header { file.new.header ≡ file.old.header }
         ensures list { file.new.free_list ≡ file.old.free_list }
         ensures cause { IfErr result IsOfTables }
-        ensures hint { (p : Pending) (is_data : Bool) → IsSoundWith S.view self.old (taken_as is_data p (run_at first n)) file.old → HasHint S.view self.old file.old → OnOk result (HasHint S.view self.new file.new) }
-        ensures kept { (p : Pending) (is_data : Bool) → IsSoundWith S.view self.old (taken_as is_data p (run_at first n)) file.old → OnOk result ((k : ℕ) → run_at first n k ≡ 0 → IsUsed S.view file.old k → IsUsed S.view file.new k) }
+        ensures hint { (p : Pending) (is_data : Bool) → AllocatorInvariant S.view self.old (taken_as is_data p (run_at first n)) file.old → NoFreeBelowHint S.view self.old file.old → OnOk result (NoFreeBelowHint S.view self.new file.new) }
+        ensures kept { (p : Pending) (is_data : Bool) → AllocatorInvariant S.view self.old (taken_as is_data p (run_at first n)) file.old → OnOk result ((k : ℕ) → run_at first n k ≡ 0 → IsUsed S.view file.old k → IsUsed S.view file.new k) }
     {
         if n == 0 {
             return Ok(());
@@ -58,15 +58,15 @@ impl Allocator {
         ensures order { order_of file.new.caches ≡ order_of file.old.caches }
         ensures reftable { self.new.reftable ≡ self.old.reftable }
         ensures first { self.old.first_free_cluster ≤ cluster → self.new.first_free_cluster ≡ self.old.first_free_cluster }
-        ensures sound { (p : Pending) (owed : Owed) → IsSoundWith S.view self.old (owed_as owed p (one_at cluster)) file.old → MayLower owed file.old
+        ensures sound { (p : Pending) (owed : Owed) → AllocatorInvariant S.view self.old (owed_as owed p (one_at cluster)) file.old → MayLower owed file.old
             → GivesBack S.view (owed_as owed p (one_at cluster)) file.old self.new file.new p result }
-        ensures leaks { (p : Pending) (owed : Owed) → IsSoundWith S.view self.old (owed_as owed p (one_at cluster)) file.old → MayLower owed file.old → SameLeaks self.old self.new }
+        ensures leaks { (p : Pending) (owed : Owed) → AllocatorInvariant S.view self.old (owed_as owed p (one_at cluster)) file.old → MayLower owed file.old → SameLeaks self.old self.new }
         ensures or_leaks { LowersOrLeaks self.old self.new file.new cluster result }
         ensures grows { self.old.leaked_clusters ≤ self.new.leaked_clusters }
         ensures header { file.new.header ≡ file.old.header }
         ensures list { file.new.free_list ≡ file.old.free_list }
         ensures cause { IfErr result IsOfTables }
-        ensures hint { (p : Pending) (owed : Owed) → IsSoundWith S.view self.old (owed_as owed p (one_at cluster)) file.old → MayLower owed file.old → HasHint S.view self.old file.old → OnOk result (HasHint S.view self.new file.new) }
+        ensures hint { (p : Pending) (owed : Owed) → AllocatorInvariant S.view self.old (owed_as owed p (one_at cluster)) file.old → MayLower owed file.old → NoFreeBelowHint S.view self.old file.old → OnOk result (NoFreeBelowHint S.view self.new file.new) }
     {
         match self.try_lower(file, cluster) {
             Ok(true) => return Ok(()),
@@ -87,13 +87,13 @@ impl Allocator {
         ensures marks { KeepsMarks file.old.caches file.new.caches }
         ensures emptied { OnOk result (file.new.free_list ≡ []) }
         ensures in_order { GoOffInOrder file.old.free_list file.new.free_list }
-        ensures sound { (p : Pending) → IsSoundWith S.view self.old (with_listed p file.old.free_list) file.old
+        ensures sound { (p : Pending) → AllocatorInvariant S.view self.old (with_listed p file.old.free_list) file.old
             → Frees S.view (with_listed p file.old.free_list) file.old self.new file.new (with_listed p file.new.free_list) result }
-        ensures leaks { (p : Pending) → IsSoundWith S.view self.old (with_listed p file.old.free_list) file.old → SameLeaks self.old self.new }
+        ensures leaks { (p : Pending) → AllocatorInvariant S.view self.old (with_listed p file.old.free_list) file.old → SameLeaks self.old self.new }
         ensures grows { self.old.leaked_clusters ≤ self.new.leaked_clusters }
         ensures header { file.new.header ≡ file.old.header }
         ensures cause { IfErr result IsOfTables }
-        ensures hint { (p : Pending) → IsSoundWith S.view self.old (with_listed p file.old.free_list) file.old → HasHint S.view self.old file.old → OnOk result (HasHint S.view self.new file.new) }
+        ensures hint { (p : Pending) → AllocatorInvariant S.view self.old (with_listed p file.old.free_list) file.old → NoFreeBelowHint S.view self.old file.old → OnOk result (NoFreeBelowHint S.view self.new file.new) }
     {
         self.free_kind(file, ClusterKind::Metadata)?;
         if file.free_list.is_empty() {
@@ -113,13 +113,13 @@ impl Allocator {
         ensures order { order_of file.new.caches ≡ order_of file.old.caches }
         ensures left { OnOk result (file.new.free_list ≡ but kind file.old.free_list) }
         ensures others { but kind file.new.free_list ≡ but kind file.old.free_list }
-        ensures sound { (p : Pending) → IsSoundWith S.view self.old (with_listed p file.old.free_list) file.old → MayFree kind file.old
+        ensures sound { (p : Pending) → AllocatorInvariant S.view self.old (with_listed p file.old.free_list) file.old → MayFree kind file.old
             → Frees S.view (with_listed p file.old.free_list) file.old self.new file.new (with_listed p file.new.free_list) result }
-        ensures leaks { (p : Pending) → IsSoundWith S.view self.old (with_listed p file.old.free_list) file.old → MayFree kind file.old → SameLeaks self.old self.new }
+        ensures leaks { (p : Pending) → AllocatorInvariant S.view self.old (with_listed p file.old.free_list) file.old → MayFree kind file.old → SameLeaks self.old self.new }
         ensures grows { self.old.leaked_clusters ≤ self.new.leaked_clusters }
         ensures header { file.new.header ≡ file.old.header }
         ensures cause { IfErr result IsOfTables }
-        ensures hint { (p : Pending) → IsSoundWith S.view self.old (with_listed p file.old.free_list) file.old → MayFree kind file.old → HasHint S.view self.old file.old → OnOk result (HasHint S.view self.new file.new) }
+        ensures hint { (p : Pending) → AllocatorInvariant S.view self.old (with_listed p file.old.free_list) file.old → MayFree kind file.old → NoFreeBelowHint S.view self.old file.old → OnOk result (NoFreeBelowHint S.view self.new file.new) }
     {
         let mut taken = file.free_list.take();
         let done = self.free_taken(file, &mut taken, kind);
@@ -139,13 +139,13 @@ impl Allocator {
         ensures all { OnOk result (taken.new ≡ []) }
         ensures left { OnOk result (file.new.free_list ≡ file.old.free_list ++ but kind taken.old) }
         ensures others { but kind (file.new.free_list ++ taken.new) ≡ but kind (file.old.free_list ++ taken.old) }
-        ensures sound { (p : Pending) → IsSoundWith S.view self.old (with_listed p (file.old.free_list ++ taken.old)) file.old → MayFree kind file.old
+        ensures sound { (p : Pending) → AllocatorInvariant S.view self.old (with_listed p (file.old.free_list ++ taken.old)) file.old → MayFree kind file.old
             → Frees S.view (with_listed p (file.old.free_list ++ taken.old)) file.old self.new file.new (with_listed p (file.new.free_list ++ taken.new)) result }
-        ensures leaks { (p : Pending) → IsSoundWith S.view self.old (with_listed p (file.old.free_list ++ taken.old)) file.old → MayFree kind file.old → SameLeaks self.old self.new }
+        ensures leaks { (p : Pending) → AllocatorInvariant S.view self.old (with_listed p (file.old.free_list ++ taken.old)) file.old → MayFree kind file.old → SameLeaks self.old self.new }
         ensures grows { self.old.leaked_clusters ≤ self.new.leaked_clusters }
         ensures header { file.new.header ≡ file.old.header }
         ensures cause { IfErr result IsOfTables }
-        ensures hint { (p : Pending) → IsSoundWith S.view self.old (with_listed p (file.old.free_list ++ taken.old)) file.old → MayFree kind file.old → HasHint S.view self.old file.old → OnOk result (HasHint S.view self.new file.new) }
+        ensures hint { (p : Pending) → AllocatorInvariant S.view self.old (with_listed p (file.old.free_list ++ taken.old)) file.old → MayFree kind file.old → NoFreeBelowHint S.view self.old file.old → OnOk result (NoFreeBelowHint S.view self.new file.new) }
     {
         'freeing: while let Some(pending) = taken.next_pending() {
             self.free_or_list(file, pending, kind)?;
@@ -164,13 +164,13 @@ impl Allocator {
         ensures order { order_of file.new.caches ≡ order_of file.old.caches }
         ensures left { OnOk result (file.new.free_list ≡ file.old.free_list ++ but kind (pending ∷ [])) }
         ensures others { but kind file.new.free_list ≡ but kind (file.old.free_list ++ pending ∷ []) }
-        ensures sound { (p : Pending) → IsSoundWith S.view self.old (with_listed p (file.old.free_list ++ pending ∷ [])) file.old → MayFree kind file.old
+        ensures sound { (p : Pending) → AllocatorInvariant S.view self.old (with_listed p (file.old.free_list ++ pending ∷ [])) file.old → MayFree kind file.old
             → Frees S.view (with_listed p (file.old.free_list ++ pending ∷ [])) file.old self.new file.new (with_listed p file.new.free_list) result }
-        ensures leaks { (p : Pending) → IsSoundWith S.view self.old (with_listed p (file.old.free_list ++ pending ∷ [])) file.old → MayFree kind file.old → SameLeaks self.old self.new }
+        ensures leaks { (p : Pending) → AllocatorInvariant S.view self.old (with_listed p (file.old.free_list ++ pending ∷ [])) file.old → MayFree kind file.old → SameLeaks self.old self.new }
         ensures grows { self.old.leaked_clusters ≤ self.new.leaked_clusters }
         ensures header { file.new.header ≡ file.old.header }
         ensures cause { IfErr result IsOfTables }
-        ensures hint { (p : Pending) → IsSoundWith S.view self.old (with_listed p (file.old.free_list ++ pending ∷ [])) file.old → MayFree kind file.old → HasHint S.view self.old file.old → OnOk result (HasHint S.view self.new file.new) }
+        ensures hint { (p : Pending) → AllocatorInvariant S.view self.old (with_listed p (file.old.free_list ++ pending ∷ [])) file.old → MayFree kind file.old → NoFreeBelowHint S.view self.old file.old → OnOk result (NoFreeBelowHint S.view self.new file.new) }
     {
         if pending.kind() == kind {
             return self.free_entry(file, pending);
@@ -189,13 +189,13 @@ impl Allocator {
         ensures order { order_of file.new.caches ≡ order_of file.old.caches }
         ensures left { OnOk result (file.new.free_list ≡ file.old.free_list) }
         ensures others { but pending.kind file.new.free_list ≡ but pending.kind file.old.free_list }
-        ensures sound { (p : Pending) → IsSoundWith S.view self.old (with_listed p (file.old.free_list ++ pending ∷ [])) file.old → MayFree pending.kind file.old
+        ensures sound { (p : Pending) → AllocatorInvariant S.view self.old (with_listed p (file.old.free_list ++ pending ∷ [])) file.old → MayFree pending.kind file.old
             → Frees S.view (with_listed p (file.old.free_list ++ pending ∷ [])) file.old self.new file.new (with_listed p file.new.free_list) result }
-        ensures leaks { (p : Pending) → IsSoundWith S.view self.old (with_listed p (file.old.free_list ++ pending ∷ [])) file.old → MayFree pending.kind file.old → SameLeaks self.old self.new }
+        ensures leaks { (p : Pending) → AllocatorInvariant S.view self.old (with_listed p (file.old.free_list ++ pending ∷ [])) file.old → MayFree pending.kind file.old → SameLeaks self.old self.new }
         ensures grows { self.old.leaked_clusters ≤ self.new.leaked_clusters }
         ensures header { file.new.header ≡ file.old.header }
         ensures cause { IfErr result IsOfTables }
-        ensures hint { (p : Pending) → IsSoundWith S.view self.old (with_listed p (file.old.free_list ++ pending ∷ [])) file.old → MayFree pending.kind file.old → HasHint S.view self.old file.old → OnOk result (HasHint S.view self.new file.new) }
+        ensures hint { (p : Pending) → AllocatorInvariant S.view self.old (with_listed p (file.old.free_list ++ pending ∷ [])) file.old → MayFree pending.kind file.old → NoFreeBelowHint S.view self.old file.old → OnOk result (NoFreeBelowHint S.view self.new file.new) }
     {
         let mut run = pending;
         match self.free_run(file, &mut run) {
@@ -220,14 +220,14 @@ impl Allocator {
         ensures order { order_of file.new.caches ≡ order_of file.old.caches }
         ensures kind { run.new.kind ≡ run.old.kind }
         ensures all { OnOk result (run.new.count ≡ 0) }
-        ensures sound { (p : Pending) → IsSoundWith S.view self.old (listed_as run.old.kind p (run_of run.old)) file.old → MayFree run.old.kind file.old
+        ensures sound { (p : Pending) → AllocatorInvariant S.view self.old (listed_as run.old.kind p (run_of run.old)) file.old → MayFree run.old.kind file.old
             → Frees S.view (listed_as run.old.kind p (run_of run.old)) file.old self.new file.new (listed_as run.old.kind p (run_of run.new)) result }
-        ensures leaks { (p : Pending) → IsSoundWith S.view self.old (listed_as run.old.kind p (run_of run.old)) file.old → MayFree run.old.kind file.old → SameLeaks self.old self.new }
+        ensures leaks { (p : Pending) → AllocatorInvariant S.view self.old (listed_as run.old.kind p (run_of run.old)) file.old → MayFree run.old.kind file.old → SameLeaks self.old self.new }
         ensures grows { self.old.leaked_clusters ≤ self.new.leaked_clusters }
         ensures header { file.new.header ≡ file.old.header }
         ensures list { file.new.free_list ≡ file.old.free_list }
         ensures cause { IfErr result IsOfTables }
-        ensures hint { (p : Pending) → IsSoundWith S.view self.old (listed_as run.old.kind p (run_of run.old)) file.old → MayFree run.old.kind file.old → HasHint S.view self.old file.old → OnOk result (HasHint S.view self.new file.new) }
+        ensures hint { (p : Pending) → AllocatorInvariant S.view self.old (listed_as run.old.kind p (run_of run.old)) file.old → MayFree run.old.kind file.old → NoFreeBelowHint S.view self.old file.old → OnOk result (NoFreeBelowHint S.view self.new file.new) }
     {
         'freeing: while run.count().value() > 0 {
             self.lower(file, run.cluster().value())?;
@@ -248,12 +248,12 @@ impl Allocator {
         ensures leaked { self.new.leaked_clusters ≡ self.old.leaked_clusters }
         ensures tries { TriesToLower file.new cluster result }
         ensures first { self.old.first_free_cluster ≤ cluster → self.new.first_free_cluster ≡ self.old.first_free_cluster }
-        ensures sound { (p : Pending) (owed : Owed) → IsSoundWith S.view self.old (owed_as owed p (one_at cluster)) file.old → MayLower owed file.old
+        ensures sound { (p : Pending) (owed : Owed) → AllocatorInvariant S.view self.old (owed_as owed p (one_at cluster)) file.old → MayLower owed file.old
             → LowersOne S.view (owed_as owed p (one_at cluster)) file.old self.new file.new p result }
         ensures header { file.new.header ≡ file.old.header }
         ensures list { file.new.free_list ≡ file.old.free_list }
         ensures cause { IfErr result IsOfTables }
-        ensures hint { (p : Pending) (owed : Owed) → IsSoundWith S.view self.old (owed_as owed p (one_at cluster)) file.old → MayLower owed file.old → HasHint S.view self.old file.old → OnOk result (HasHint S.view self.new file.new) }
+        ensures hint { (p : Pending) (owed : Owed) → AllocatorInvariant S.view self.old (owed_as owed p (one_at cluster)) file.old → MayLower owed file.old → NoFreeBelowHint S.view self.old file.old → OnOk result (NoFreeBelowHint S.view self.new file.new) }
     {
         let bits = file.header.rb_bits();
         let Some(block) = self.load_block(file, cluster >> bits)? else {

@@ -6,12 +6,12 @@ ghost use Rattle.qcow2_metadata.specs.L2Mapping.{IsHostCluster, greatest_offset}
 ghost use Rattle.qcow2_metadata.specs.RefBlock.{IsRefBlock};
 ghost use Rattle.qcow2_metadata.specs.TableBytes.{HasPlace};
 ghost use Rattle.qcow2_laws.specs.Caches.{AreClean, BlocksMayGo};
-ghost use Rattle.qcow2_laws.specs.Guard.{Pending};
+ghost use Rattle.qcow2_laws.specs.CrashInvariant.{Pending};
 ghost use Rattle.qcow2_alloc.specs.Allocation.{run_at};
 ghost use Rattle.qcow2_alloc.specs.CacheMarks.{KeepsMarks};
 ghost use Rattle.qcow2_alloc.specs.GrownTables.{with_run, NamesReftable};
 ghost use Rattle.qcow2_alloc.specs.ImageError.{IsOfTables};
-ghost use Rattle.qcow2_alloc.specs.ImageFile.{IsSoundWith, KeepsHeader};
+ghost use Rattle.qcow2_alloc.specs.ImageFile.{AllocatorInvariant, KeepsHeader};
 ghost use Rattle.qcow2_alloc.specs.LowestRuns.{KeepsUsed};
 ghost use Rattle.qcow2_alloc.specs.MetadataCaches.{order_of, l2_tables, refblocks, rb_at};
 ghost use Rattle.qcow2_alloc.specs.Rooms.{opened, length_of, placed_at, CountsRun, IsLonger, WritesTo, WritesTable, PlacesBlocks};
@@ -67,7 +67,7 @@ fn write_new_block<S: Storage>(
     ensures tables { l2_tables file.new.caches ≡ l2_tables file.old.caches }
     ensures clean { AreClean (refblocks file.old.caches) → AreClean (refblocks file.new.caches) }
     ensures others { (c : ℕ) → (c ≡ cluster → ⊥) → rb_at file.new.caches c ≡ rb_at file.old.caches c }
-    ensures sound { (p : Pending) (first n : ℕ) (allocator : AllocatorView) → IsSoundWith S.view allocator (with_run p file.old.header.fields allocator.reftable first n) file.old
+    ensures sound { (p : Pending) (first n : ℕ) (allocator : AllocatorView) → AllocatorInvariant S.view allocator (with_run p file.old.header.fields allocator.reftable first n) file.old
         → BlocksMayGo (order_of file.old.caches) (l2_tables file.old.caches) → 0 < run_at first n cluster → IsBlockOf file.old.header.fields block.now
         → WritesTo S.view (with_run p file.old.header.fields allocator.reftable first n) file.old allocator file.new cluster block.now.bytes result }
     ensures header { file.new.header ≡ file.old.header }
@@ -90,7 +90,7 @@ pub(crate) fn place_table<S: Storage>(
     requires { IsHostCluster table.old.cluster_bits cluster }
     ensures caches { file.new.caches ≡ file.old.caches }
     ensures table { table.new ≡ placed_at table.old cluster }
-    ensures sound { (p : Pending) (first n clusters : ℕ) (allocator : AllocatorView) → IsSoundWith S.view allocator (with_run p file.old.header.fields allocator.reftable first n) file.old
+    ensures sound { (p : Pending) (first n clusters : ℕ) (allocator : AllocatorView) → AllocatorInvariant S.view allocator (with_run p file.old.header.fields allocator.reftable first n) file.old
         → BlocksMayGo (order_of file.old.caches) (l2_tables file.old.caches) → first ≤ cluster → cluster + clusters ≤ first + n → table.old.cluster_bits ≡ file.old.header.fields.cluster_bits
         → length table.old.bytes ≡ clusters * cluster_size file.old.header.fields
         → WritesTable S.view (with_run p file.old.header.fields allocator.reftable first n) file.old allocator file.new cluster clusters table.old.bytes result }
@@ -124,7 +124,7 @@ impl Allocator {
         ensures clean { AreClean (refblocks file.old.caches) → AreClean (refblocks file.new.caches) }
         ensures rest { table.new ≡ record table.old { bytes = table.new.bytes } }
         ensures as_long { length table.new.bytes ≡ length table.old.bytes }
-        ensures sound { (p : Pending) → IsSoundWith S.view self.now (with_run p file.old.header.fields self.now.reftable room.first (length_of room)) file.old
+        ensures sound { (p : Pending) → AllocatorInvariant S.view self.now (with_run p file.old.header.fields self.now.reftable room.first (length_of room)) file.old
             → BlocksMayGo (order_of file.old.caches) (l2_tables file.old.caches) → IsLonger file.old.header.fields self.now.reftable table.old room.clusters
             → PlacesBlocks S.view (with_run p file.old.header.fields self.now.reftable room.first (length_of room)) file.old self.now file.new self.now.reftable table.new room result }
         ensures header { file.new.header ≡ file.old.header }
@@ -173,10 +173,10 @@ impl Allocator {
         ensures table { OnOk result (entry_count self.new.reftable ≡ entry_count table) }
         ensures place { OnOk result (self.new.reftable.cluster ≡ Some (room.first + room.blocks)) }
         ensures first { self.new.first_free_cluster ≡ self.old.first_free_cluster }
-        ensures sound { (p : Pending) → IsSoundWith S.view self.old (with_run p file.old.header.fields self.old.reftable room.first (length_of room)) file.old
+        ensures sound { (p : Pending) → AllocatorInvariant S.view self.old (with_run p file.old.header.fields self.old.reftable room.first (length_of room)) file.old
             → IsLonger file.old.header.fields self.old.reftable table room.clusters
             → NamesReftable S.view (with_run p file.old.header.fields self.old.reftable room.first (length_of room)) p file.old self.new file.new result }
-        ensures uses { (p : Pending) → IsSoundWith S.view self.old (with_run p file.old.header.fields self.old.reftable room.first (length_of room)) file.old
+        ensures uses { (p : Pending) → AllocatorInvariant S.view self.old (with_run p file.old.header.fields self.old.reftable room.first (length_of room)) file.old
             → IsLonger file.old.header.fields self.old.reftable table room.clusters → KeepsUsed S.view file.old file.new result }
         ensures header { KeepsHeader file.old.header file.new.header }
         ensures list { file.new.free_list ≡ file.old.free_list }

@@ -1,13 +1,13 @@
 //! Refblocks: loading one, counting a cluster in it, and making one that is missing.
 ghost use Rattle.std.specs.Prelude.{◌≡◌, ◌≢◌, ◌/◌, false, ℕ, ◌*◌, ◌^◌, ◌<◌, ◌≤◌, Bool, Some, IfSome, IfOk, IfErr, OnOk, IsSome, IsTrue};
-ghost use Rattle.qcow2_laws.specs.Guard.{Pending};
+ghost use Rattle.qcow2_laws.specs.CrashInvariant.{Pending};
 ghost use Rattle.qcow2_alloc.specs.Allocation.{placing, first_counts, HasPlaceFor, KeepsEntries, MayTake, LoadsBlock, WritesBlock, PlacesBlock, TakesOne, HasNone, GetsBlock, TakesLowest, GrowsTable};
-ghost use Rattle.qcow2_alloc.specs.FreeList.{following, ListsTables};
+ghost use Rattle.qcow2_alloc.specs.FreeList.{pending_then, ListsTables};
 ghost use Rattle.qcow2_alloc.specs.CacheMarks.{KeepsMarks, LeavesPinned};
 ghost use Rattle.qcow2_alloc.specs.Limits.{IsFaultOr, CantCount};
-ghost use Rattle.qcow2_alloc.specs.LowestRuns.{HasHint, IsUsed, KeepsHint, KeepsUsed};
+ghost use Rattle.qcow2_alloc.specs.LowestRuns.{NoFreeBelowHint, IsUsed, KeepsNoFreeBelowHint, KeepsUsed};
 ghost use Rattle.qcow2_alloc.specs.ImageError.{IsOfTables, IsFault};
-ghost use Rattle.qcow2_alloc.specs.ImageFile.{IsSoundWith, KeepsHeader};
+ghost use Rattle.qcow2_alloc.specs.ImageFile.{AllocatorInvariant, KeepsHeader};
 ghost use Rattle.qcow2_laws.specs.Caches.{AreClean, BlocksMayGo};
 ghost use Rattle.qcow2_alloc.specs.MetadataCaches.{order_of, l2_tables, refblocks, TakesOff};
 ghost use Rattle.qcow2_metadata.specs.L2Mapping.{IsHostCluster};
@@ -53,7 +53,7 @@ fn write_block<S: Storage>(file: &mut ImageFile<S>, mut block: RefBlock) -> Resu
     requires { IsSome block.cluster }
     ensures marks { KeepsMarks file.old.caches file.new.caches }
     ensures order { order_of file.new.caches ≡ order_of file.old.caches }
-    ensures sound { (p : Pending) (counts_itself : Bool) (allocator : Allocator) (range at : ℕ) → IsSoundWith S.view allocator (placing counts_itself p at) file.old
+    ensures sound { (p : Pending) (counts_itself : Bool) (allocator : Allocator) (range at : ℕ) → AllocatorInvariant S.view allocator (placing counts_itself p at) file.old
         → HasPlaceFor counts_itself file.old.header.fields allocator.reftable range at → IsBlockOf file.old.header.fields block → block.cluster ≡ Some at
         → WritesBlock S.view (placing counts_itself p at) file.old allocator file.new block at result }
     ensures counted { OnOk result (AreClean (refblocks file.new.caches)) }
@@ -98,7 +98,7 @@ impl Allocator {
     ) -> Result<Option<HostCluster>, ImageError>
         ensures marks { KeepsMarks file.old.caches file.new.caches }
         ensures order { order_of file.new.caches ≡ order_of file.old.caches }
-        ensures sound { (p : Pending) → IsSoundWith S.view self.now p file.old → LoadsBlock S.view p file.old self.now file.new range result }
+        ensures sound { (p : Pending) → AllocatorInvariant S.view self.now p file.old → LoadsBlock S.view p file.old self.now file.new range result }
         ensures header { file.new.header ≡ file.old.header }
         ensures list { file.new.free_list ≡ file.old.free_list }
         ensures cause { IfErr result IsOfTables }
@@ -123,13 +123,13 @@ impl Allocator {
         ensures order { order_of file.new.caches ≡ order_of file.old.caches }
         ensures noted { IfOk result (λ taken. IsTrue taken → IsTrue file.new.caches.is_changed) }
         ensures same { self.new ≡ self.old }
-        ensures sound { (p : Pending) (is_data : Bool) → IsSoundWith S.view self.old p file.old → MayTake is_data file.old → TakesOne S.view p file.old self.new file.new is_data cluster result }
+        ensures sound { (p : Pending) (is_data : Bool) → AllocatorInvariant S.view self.old p file.old → MayTake is_data file.old → TakesOne S.view p file.old self.new file.new is_data cluster result }
         ensures header { file.new.header ≡ file.old.header }
         ensures list { file.new.free_list ≡ file.old.free_list }
         ensures cause { IfErr result IsOfTables }
-        ensures fault { (p : Pending) → IsSoundWith S.view self.old p file.old → IfErr result IsFault }
-        ensures used { (p : Pending) → IsSoundWith S.view self.old p file.old → (HasNone self.old.reftable (cluster / counts_per_block file.old.header.fields) → ⊥) → IfOk result (λ taken. taken ≡ false → IsUsed S.view file.new cluster) }
-        ensures free { (p : Pending) → IsSoundWith S.view self.old p file.old → IfOk result (λ taken. IsTrue taken → ¬ IsUsed S.view file.old cluster) }
+        ensures fault { (p : Pending) → AllocatorInvariant S.view self.old p file.old → IfErr result IsFault }
+        ensures used { (p : Pending) → AllocatorInvariant S.view self.old p file.old → (HasNone self.old.reftable (cluster / counts_per_block file.old.header.fields) → ⊥) → IfOk result (λ taken. taken ≡ false → IsUsed S.view file.new cluster) }
+        ensures free { (p : Pending) → AllocatorInvariant S.view self.old p file.old → IfOk result (λ taken. IsTrue taken → ¬ IsUsed S.view file.old cluster) }
     {
         let bits = file.header.rb_bits();
         let Some(block) = self.load_block(file, cluster >> bits)? else {
@@ -148,14 +148,14 @@ impl Allocator {
         requires { cluster < 2 ^ 63 }
         ensures marks { KeepsMarks file.old.caches file.new.caches }
         ensures order { order_of file.new.caches ≡ order_of file.old.caches }
-        ensures sound { (p : Pending) → IsSoundWith S.view self.old p file.old → GrowsTable S.view p file.old self.new file.new (following p file.old.free_list file.new.free_list) result }
+        ensures sound { (p : Pending) → AllocatorInvariant S.view self.old p file.old → GrowsTable S.view p file.old self.new file.new (pending_then p file.old.free_list file.new.free_list) result }
         ensures header { KeepsHeader file.old.header file.new.header }
         ensures list { ListsTables file.old.free_list file.new.free_list }
         ensures cause { IfErr result IsOfTables }
-        ensures limit { (p : Pending) → IsSoundWith S.view self.old p file.old → HasHint S.view self.old file.old → IsHostCluster file.old.header.fields.cluster_bits cluster → IfErr result (IsFaultOr (CantCount S.view file.new (λ k. 0) self.new cluster)) }
-        ensures has { (p : Pending) → IsSoundWith S.view self.old p file.old → OnOk result (HasNone self.new.reftable (cluster / counts_per_block file.old.header.fields) → ⊥) }
-        ensures hint { (p : Pending) → IsSoundWith S.view self.old p file.old → HasHint S.view self.old file.old → KeepsHint S.view self.new file.new result }
-        ensures uses { (p : Pending) → IsSoundWith S.view self.old p file.old → KeepsUsed S.view file.old file.new result }
+        ensures limit { (p : Pending) → AllocatorInvariant S.view self.old p file.old → NoFreeBelowHint S.view self.old file.old → IsHostCluster file.old.header.fields.cluster_bits cluster → IfErr result (IsFaultOr (CantCount S.view file.new (λ k. 0) self.new cluster)) }
+        ensures has { (p : Pending) → AllocatorInvariant S.view self.old p file.old → OnOk result (HasNone self.new.reftable (cluster / counts_per_block file.old.header.fields) → ⊥) }
+        ensures hint { (p : Pending) → AllocatorInvariant S.view self.old p file.old → NoFreeBelowHint S.view self.old file.old → KeepsNoFreeBelowHint S.view self.new file.new result }
+        ensures uses { (p : Pending) → AllocatorInvariant S.view self.old p file.old → KeepsUsed S.view file.old file.new result }
     {
         let range = (cluster >> file.header.rb_bits()) as usize;
         if self.reftable.in_bounds(range) {
@@ -174,13 +174,13 @@ impl Allocator {
         requires { cluster < 2 ^ 63 }
         ensures marks { KeepsMarks file.old.caches file.new.caches }
         ensures order { order_of file.new.caches ≡ order_of file.old.caches }
-        ensures sound { (p : Pending) → IsSoundWith S.view self.old p file.old → GetsBlock S.view p file.old self.new file.new result }
+        ensures sound { (p : Pending) → AllocatorInvariant S.view self.old p file.old → GetsBlock S.view p file.old self.new file.new result }
         ensures header { file.new.header ≡ file.old.header }
         ensures list { file.new.free_list ≡ file.old.free_list }
         ensures cause { IfErr result IsOfTables }
-        ensures fault { (p : Pending) → IsSoundWith S.view self.old p file.old → cluster / counts_per_block file.old.header.fields < entry_count self.old.reftable → IsHostCluster file.old.header.fields.cluster_bits cluster → IfErr result IsFault }
-        ensures has { (p : Pending) → IsSoundWith S.view self.old p file.old → OnOk result (HasNone self.new.reftable (cluster / counts_per_block file.old.header.fields) → ⊥) }
-        ensures hint { (p : Pending) → IsSoundWith S.view self.old p file.old → HasHint S.view self.old file.old → KeepsHint S.view self.new file.new result }
+        ensures fault { (p : Pending) → AllocatorInvariant S.view self.old p file.old → cluster / counts_per_block file.old.header.fields < entry_count self.old.reftable → IsHostCluster file.old.header.fields.cluster_bits cluster → IfErr result IsFault }
+        ensures has { (p : Pending) → AllocatorInvariant S.view self.old p file.old → OnOk result (HasNone self.new.reftable (cluster / counts_per_block file.old.header.fields) → ⊥) }
+        ensures hint { (p : Pending) → AllocatorInvariant S.view self.old p file.old → NoFreeBelowHint S.view self.old file.old → KeepsNoFreeBelowHint S.view self.new file.new result }
     {
         let bits = file.header.rb_bits();
         let range = cluster >> bits;
@@ -215,11 +215,11 @@ impl Allocator {
         ensures noted { IfOk result (λ at. IsSome at → IsTrue file.new.caches.is_changed) }
         ensures below { IfOk result (λ at. IfSome at (λ at. at < end)) }
         ensures entries { KeepsEntries (λ k. end ≤ k * counts_per_block file.old.header.fields) self.old.reftable self.new.reftable }
-        ensures sound { (p : Pending) → IsSoundWith S.view self.old p file.old → TakesLowest S.view p file.old self.new file.new result }
+        ensures sound { (p : Pending) → AllocatorInvariant S.view self.old p file.old → TakesLowest S.view p file.old self.new file.new result }
         ensures header { file.new.header ≡ file.old.header }
         ensures list { file.new.free_list ≡ file.old.free_list }
         ensures cause { IfErr result IsOfTables }
-        ensures hint { (p : Pending) → IsSoundWith S.view self.old p file.old → HasHint S.view self.old file.old → KeepsHint S.view self.new file.new result }
+        ensures hint { (p : Pending) → AllocatorInvariant S.view self.old p file.old → NoFreeBelowHint S.view self.old file.old → KeepsNoFreeBelowHint S.view self.new file.new result }
     {
         let bits = file.header.rb_bits();
         'search: while self.first_free_cluster < end {
@@ -244,13 +244,13 @@ impl Allocator {
         ensures marks { KeepsMarks file.old.caches file.new.caches }
         ensures order { order_of file.new.caches ≡ order_of file.old.caches }
         ensures entries { KeepsEntries (λ k. k ≢ range) self.old.reftable self.new.reftable }
-        ensures sound { (p : Pending) → IsSoundWith S.view self.old p file.old → GetsBlock S.view p file.old self.new file.new result }
+        ensures sound { (p : Pending) → AllocatorInvariant S.view self.old p file.old → GetsBlock S.view p file.old self.new file.new result }
         ensures header { file.new.header ≡ file.old.header }
         ensures list { file.new.free_list ≡ file.old.free_list }
         ensures cause { IfErr result IsOfTables }
-        ensures fault { (p : Pending) → IsSoundWith S.view self.old p file.old → range < entry_count self.old.reftable → IsHostCluster file.old.header.fields.cluster_bits (range * counts_per_block file.old.header.fields) → IfErr result IsFault }
+        ensures fault { (p : Pending) → AllocatorInvariant S.view self.old p file.old → range < entry_count self.old.reftable → IsHostCluster file.old.header.fields.cluster_bits (range * counts_per_block file.old.header.fields) → IfErr result IsFault }
         ensures first { self.new.first_free_cluster ≡ self.old.first_free_cluster }
-        ensures has { (p : Pending) → IsSoundWith S.view self.old p file.old → OnOk result (HasNone self.new.reftable range → ⊥) }
+        ensures has { (p : Pending) → AllocatorInvariant S.view self.old p file.old → OnOk result (HasNone self.new.reftable range → ⊥) }
     {
         if self.load_block(file, range)?.is_some() {
             return Ok(());
@@ -280,7 +280,7 @@ impl Allocator {
         ensures order { order_of file.new.caches ≡ order_of file.old.caches }
         ensures noted { OnOk result (IsTrue file.new.caches.is_changed) }
         ensures entries { KeepsEntries (λ k. k ≢ range) self.old.reftable self.new.reftable }
-        ensures sound { (p : Pending) → IsSoundWith S.view self.old (placing counts_itself p at) file.old → HasPlaceFor counts_itself file.old.header.fields self.old.reftable range at
+        ensures sound { (p : Pending) → AllocatorInvariant S.view self.old (placing counts_itself p at) file.old → HasPlaceFor counts_itself file.old.header.fields self.old.reftable range at
             → PlacesBlock S.view (placing counts_itself p at) file.old self.new file.new p range at result }
         ensures header { file.new.header ≡ file.old.header }
         ensures list { file.new.free_list ≡ file.old.free_list }

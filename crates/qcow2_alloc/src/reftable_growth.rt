@@ -1,6 +1,6 @@
 //! A longer reftable.
 ghost use Rattle.std.specs.Prelude.{◌≡◌, ℕ, ◌+◌, ◌-◌, ◌*◌, ◌/◌, ◌%◌, ◌^◌, ◌<◌, ◌≤◌, length, IfOk, IfErr, IfSome, IsSome, OnOk, IsTrue};
-ghost use Rattle.qcow2_laws.specs.Guard.{Pending};
+ghost use Rattle.qcow2_laws.specs.CrashInvariant.{Pending};
 ghost use Rattle.qcow2_metadata.specs.EntryTable.{entry_count, IsRefTable};
 ghost use Rattle.qcow2_metadata.specs.Header.{entries_per_cluster, counts_per_block};
 ghost use Rattle.qcow2_metadata.specs.TableBytes.{entry_at};
@@ -8,13 +8,13 @@ ghost use Rattle.qcow2_alloc.specs.Allocation.{GrowsTable};
 ghost use Rattle.qcow2_alloc.specs.CacheMarks.{KeepsMarks};
 ghost use Rattle.qcow2_alloc.specs.ClustersToFree.{metadata_entry};
 ghost use Rattle.qcow2_alloc.specs.declared.clusters_to_free.ClusterKind.TheVariants.{Metadata};
-ghost use Rattle.qcow2_alloc.specs.FreeList.{following, ListsTables};
+ghost use Rattle.qcow2_alloc.specs.FreeList.{pending_then, ListsTables};
 ghost use Rattle.qcow2_alloc.specs.GrownTables.{EntersReftable};
 ghost use Rattle.qcow2_alloc.specs.Growing.{IsLongEnough, IsLeastLength, IsCloneOf};
 ghost use Rattle.qcow2_alloc.specs.ImageError.{IsOfTables};
-ghost use Rattle.qcow2_alloc.specs.ImageFile.{IsSoundWith, KeepsHeader};
+ghost use Rattle.qcow2_alloc.specs.ImageFile.{AllocatorInvariant, KeepsHeader};
 ghost use Rattle.qcow2_alloc.specs.Limits.{IsFaultOr, HasNoRoomFor, LiesLowest, CantGrow};
-ghost use Rattle.qcow2_alloc.specs.LowestRuns.{HasHint, KeepsUsed};
+ghost use Rattle.qcow2_alloc.specs.LowestRuns.{NoFreeBelowHint, KeepsUsed};
 ghost use Rattle.qcow2_alloc.specs.MetadataCaches.{order_of};
 
 use crate::reftable_length::{MAX_ENTRIES, grown_length};
@@ -41,15 +41,15 @@ impl Allocator {
         ensures marks { KeepsMarks file.old.caches file.new.caches }
         ensures order { order_of file.new.caches ≡ order_of file.old.caches }
         ensures noted { OnOk result (IsTrue file.new.caches.is_changed) }
-        ensures sound { (p : Pending) → IsSoundWith S.view self.old p file.old → GrowsTable S.view p file.old self.new file.new (following p file.old.free_list file.new.free_list) result }
+        ensures sound { (p : Pending) → AllocatorInvariant S.view self.old p file.old → GrowsTable S.view p file.old self.new file.new (pending_then p file.old.free_list file.new.free_list) result }
         ensures header { KeepsHeader file.old.header file.new.header }
         ensures list { ListsTables file.old.free_list file.new.free_list }
         ensures length { OnOk result (IsLeastLength (entry_count self.old.reftable) index (entries_per_cluster file.old.header.fields) (counts_per_block file.old.header.fields) (entry_count self.new.reftable)) }
-        ensures lowest { (p : Pending) → IsSoundWith S.view self.old p file.old → HasHint S.view self.old file.old → OnOk result (LiesLowest S.view file.new self.old.reftable self.new.reftable) }
+        ensures lowest { (p : Pending) → AllocatorInvariant S.view self.old p file.old → NoFreeBelowHint S.view self.old file.old → OnOk result (LiesLowest S.view file.new self.old.reftable self.new.reftable) }
         ensures cause { IfErr result IsOfTables }
-        ensures limit { (p : Pending) → IsSoundWith S.view self.old p file.old → HasHint S.view self.old file.old → IfErr result (IsFaultOr ((self.new.reftable ≡ self.old.reftable) × CantGrow S.view file.new (λ k. 0) self.old.reftable index)) }
+        ensures limit { (p : Pending) → AllocatorInvariant S.view self.old p file.old → NoFreeBelowHint S.view self.old file.old → IfErr result (IsFaultOr ((self.new.reftable ≡ self.old.reftable) × CantGrow S.view file.new (λ k. 0) self.old.reftable index)) }
         ensures first { self.new.first_free_cluster ≡ self.old.first_free_cluster }
-        ensures uses { (p : Pending) → IsSoundWith S.view self.old p file.old → KeepsUsed S.view file.old file.new result }
+        ensures uses { (p : Pending) → AllocatorInvariant S.view self.old p file.old → KeepsUsed S.view file.old file.new result }
     {
         let table = self.longer_reftable(file.alloc, &file.header, index)?;
         let former = self.former_reftable(file.alloc)?;
@@ -119,15 +119,15 @@ impl Allocator {
         ensures marks { KeepsMarks file.old.caches file.new.caches }
         ensures order { order_of file.new.caches ≡ order_of file.old.caches }
         ensures noted { OnOk result (IsTrue file.new.caches.is_changed) }
-        ensures enters { (p : Pending) → IsSoundWith S.view self.old p file.old → IsCloneOf self.old.reftable table → entry_count table % entries_per_cluster file.old.header.fields ≡ 0 → EntersReftable S.view p file.old self.new file.new result }
-        ensures uses { (p : Pending) → IsSoundWith S.view self.old p file.old → IsCloneOf self.old.reftable table → entry_count table % entries_per_cluster file.old.header.fields ≡ 0 → KeepsUsed S.view file.old file.new result }
-        ensures lowest { (p : Pending) → IsSoundWith S.view self.old p file.old → HasHint S.view self.old file.old → IsCloneOf self.old.reftable table → entry_count table % entries_per_cluster file.old.header.fields ≡ 0 → OnOk result (LiesLowest S.view file.new self.old.reftable self.new.reftable) }
+        ensures enters { (p : Pending) → AllocatorInvariant S.view self.old p file.old → IsCloneOf self.old.reftable table → entry_count table % entries_per_cluster file.old.header.fields ≡ 0 → EntersReftable S.view p file.old self.new file.new result }
+        ensures uses { (p : Pending) → AllocatorInvariant S.view self.old p file.old → IsCloneOf self.old.reftable table → entry_count table % entries_per_cluster file.old.header.fields ≡ 0 → KeepsUsed S.view file.old file.new result }
+        ensures lowest { (p : Pending) → AllocatorInvariant S.view self.old p file.old → NoFreeBelowHint S.view self.old file.old → IsCloneOf self.old.reftable table → entry_count table % entries_per_cluster file.old.header.fields ≡ 0 → OnOk result (LiesLowest S.view file.new self.old.reftable self.new.reftable) }
         ensures header { KeepsHeader file.old.header file.new.header }
         ensures list { file.new.free_list ≡ file.old.free_list }
         ensures table { OnOk result (entry_count self.new.reftable ≡ entry_count table) }
         ensures first { self.new.first_free_cluster ≡ self.old.first_free_cluster }
         ensures cause { IfErr result IsOfTables }
-        ensures limit { (p : Pending) → IsSoundWith S.view self.old p file.old → HasHint S.view self.old file.old → IsCloneOf self.old.reftable table → entry_count table % entries_per_cluster file.old.header.fields ≡ 0
+        ensures limit { (p : Pending) → AllocatorInvariant S.view self.old p file.old → NoFreeBelowHint S.view self.old file.old → IsCloneOf self.old.reftable table → entry_count table % entries_per_cluster file.old.header.fields ≡ 0
             → IfErr result (IsFaultOr ((self.new.reftable ≡ self.old.reftable) × HasNoRoomFor S.view file.new (λ k. 0) self.old.reftable (entry_count table))) }
     {
         let bits = file.header.cluster_bits();

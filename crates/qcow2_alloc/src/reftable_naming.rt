@@ -1,10 +1,10 @@
 //! The header's pointer to a longer reftable.
 ghost use Rattle.std.specs.Prelude.{◌≡◌, ℕ, ◌+◌, OnOk, IfErr, IsTrue};
-ghost use Rattle.qcow2_laws.specs.Guard.{Pending};
+ghost use Rattle.qcow2_laws.specs.CrashInvariant.{Pending};
 ghost use Rattle.qcow2_alloc.specs.CacheMarks.{KeepsMarks};
 ghost use Rattle.qcow2_alloc.specs.GrownTables.{with_run, StandsGrown, NamesReftable};
 ghost use Rattle.qcow2_alloc.specs.ImageError.{IsOfTables};
-ghost use Rattle.qcow2_alloc.specs.ImageFile.{IsSoundWith, KeepsHeader};
+ghost use Rattle.qcow2_alloc.specs.ImageFile.{AllocatorInvariant, KeepsHeader};
 ghost use Rattle.qcow2_alloc.specs.LowestRuns.{KeepsUsed};
 ghost use Rattle.qcow2_alloc.specs.MetadataCaches.{order_of};
 
@@ -22,10 +22,10 @@ impl Allocator {
         ensures marks { KeepsMarks file.old.caches file.new.caches }
         ensures order { order_of file.new.caches ≡ order_of file.old.caches }
         ensures noted { OnOk result (IsTrue file.new.caches.is_changed) }
-        ensures names { (p : Pending) (first blocks clusters : ℕ) → IsSoundWith S.view self.old (with_run p file.old.header.fields self.old.reftable first (blocks + clusters)) file.old
+        ensures names { (p : Pending) (first blocks clusters : ℕ) → AllocatorInvariant S.view self.old (with_run p file.old.header.fields self.old.reftable first (blocks + clusters)) file.old
             → StandsGrown S.view file.old self.old.reftable table first blocks clusters
             → NamesReftable S.view (with_run p file.old.header.fields self.old.reftable first (blocks + clusters)) p file.old self.new file.new result }
-        ensures uses { (p : Pending) (first blocks clusters : ℕ) → IsSoundWith S.view self.old (with_run p file.old.header.fields self.old.reftable first (blocks + clusters)) file.old
+        ensures uses { (p : Pending) (first blocks clusters : ℕ) → AllocatorInvariant S.view self.old (with_run p file.old.header.fields self.old.reftable first (blocks + clusters)) file.old
             → StandsGrown S.view file.old self.old.reftable table first blocks clusters → KeepsUsed S.view file.old file.new result }
         ensures header { KeepsHeader file.old.header file.new.header }
         ensures list { file.new.free_list ≡ file.old.free_list }

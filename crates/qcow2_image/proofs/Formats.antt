@@ -15,21 +15,21 @@ use Rattle.qcow2_image.specs.declared.image.Qcow2.{Qcow2}
 use Rattle.qcow2_image.specs.declared.prepared.Prepared.{Prepared}
 use Rattle.qcow2_image.specs.declared.prepared.NewCluster.{NewCluster}
 use Rattle.qcow2_image.specs.NewTables.{SaysKnown}
-use Rattle.qcow2_image.specs.Steps.{ListGrows}
-use Rattle.qcow2_image.specs.Views.{HasCluster, IsReadyWith}
+use Rattle.qcow2_image.specs.UnseenSteps.{ListGrows}
+use Rattle.qcow2_image.specs.ImageInvariant.{HasCluster, IsReadyWith}
 
 -- ---- what is read with it
-module _ (h : HeaderFields) (offset clusters : ℕ) (known base : Bytes) where
+module _ (h : HeaderFields) (offset clusters : ℕ) (known on_storage : Bytes) where
   entry_with : (i table j : ℕ) → IsEntryAt h known i table j → IsEntryAt (with_reftable h offset clusters) known i table j
   unfolding l1_entry
   entry_with i table j is = record { real = is.real; place = is.place; within = is.within }
 
-  cluster_with : (q : Prepared) (n : Option NewCluster) → HasCluster h known base q n → HasCluster (with_reftable h offset clusters) known base q n
+  cluster_with : (q : Prepared) (n : Option NewCluster) → HasCluster h known on_storage q n → HasCluster (with_reftable h offset clusters) known on_storage q n
   unfolding cover cover_under l1_entry
   cluster_with q None is = record { begins = is.begins; entry = is.entry }
   cluster_with q (Some n) is = record { begins = is.begins; one = is.one; kind = is.kind; nameable = is.nameable; index = is.index; entry = is.entry }
 
-  ready_with : (q : Prepared) (t : Option ℕ) → IsReadyWith h known base q t → IsReadyWith (with_reftable h offset clusters) known base q t
+  ready_with : (q : Prepared) (t : Option ℕ) → IsReadyWith h known on_storage q t → IsReadyWith (with_reftable h offset clusters) known on_storage q t
   unfolding l1_entry
   ready_with q None is = is
   ready_with q (Some table) is = record {
@@ -44,19 +44,19 @@ module _ (h : HeaderFields) (offset clusters : ℕ) (known base : Bytes) where
   unfolding cover cover_under l1_entry
   says_with i t is = record { format = record { bits = is.format.bits; zero_bit = is.format.zero_bit; external = is.format.external }; says = is.says }
 
-module _ (h h' : HeaderFields) (e : KeepsFormat h h') (known base : Bytes) where
+module _ (h h' : HeaderFields) (e : KeepsFormat h h') (known on_storage : Bytes) where
   pub entry_at_format : (i table j : ℕ) → IsEntryAt h known i table j → IsEntryAt h' known i table j
-  entry_at_format i table j is = subst (λ (x : HeaderFields). IsEntryAt x known i table j) (sym e) (entry_with h h'.reftable_offset h'.reftable_clusters known base i table j is)
+  entry_at_format i table j is = subst (λ (x : HeaderFields). IsEntryAt x known i table j) (sym e) (entry_with h h'.reftable_offset h'.reftable_clusters known on_storage i table j is)
 
-  pub ready_format : (q : Prepared) (t : Option ℕ) → IsReadyWith h known base q t → IsReadyWith h' known base q t
-  ready_format q t is = subst (λ (x : HeaderFields). IsReadyWith x known base q t) (sym e) (ready_with h h'.reftable_offset h'.reftable_clusters known base q t is)
+  pub ready_format : (q : Prepared) (t : Option ℕ) → IsReadyWith h known on_storage q t → IsReadyWith h' known on_storage q t
+  ready_format q t is = subst (λ (x : HeaderFields). IsReadyWith x known on_storage q t) (sym e) (ready_with h h'.reftable_offset h'.reftable_clusters known on_storage q t is)
 
   pub says_format : (i : ℕ) (t : L2TableView) → SaysKnown h known i t → SaysKnown h' known i t
-  says_format i t is = subst (λ (x : HeaderFields). SaysKnown x known i t) (sym e) (says_with h h'.reftable_offset h'.reftable_clusters known base i t is)
+  says_format i t is = subst (λ (x : HeaderFields). SaysKnown x known i t) (sym e) (says_with h h'.reftable_offset h'.reftable_clusters known on_storage i t is)
 
   -- an L1 entry that two images share by one header they share by the other
-  pub l1_shared : (i : ℕ) → l1_entry h' known i ≡ l1_entry h' base i → l1_entry h known i ≡ l1_entry h base i
-  l1_shared i same = sym (l1_format h h' e known i) ∙ same ∙ l1_format h h' e base i
+  pub l1_shared : (i : ℕ) → l1_entry h' known i ≡ l1_entry h' on_storage i → l1_entry h known i ≡ l1_entry h on_storage i
+  l1_shared i same = sym (l1_format h h' e known i) ∙ same ∙ l1_format h h' e on_storage i
 
 -- ---- images
 module _ {S F : Type 0} where

@@ -9,15 +9,15 @@ use Rattle.qcow2_metadata.specs.Entries.{count}
 use Rattle.qcow2_metadata.specs.Header.{cluster_size}
 use Rattle.qcow2_metadata.specs.Named.{named}
 use Rattle.qcow2_metadata.specs.declared.header.HeaderFields.{HeaderFields}
-use Rattle.qcow2_laws.specs.Guard.{Pending}
-use Rattle.qcow2_laws.specs.Views.{HasFreePlaces, IsWhole}
+use Rattle.qcow2_laws.specs.CrashInvariant.{Pending}
+use Rattle.qcow2_laws.specs.AbstractImages.{HasFreePlaces, IsWhole}
 use Rattle.qcow2_laws.proofs.Steps.{sound_is_consistent}
 use Rattle.qcow2_laws.proofs.Unseen.{known_header}
-use Rattle.qcow2_alloc.specs.ImageFile.{stand_in, view_in, known_in, IsSoundFile}
+use Rattle.qcow2_alloc.specs.ImageFile.{state_in, view_in, known_in, FileInvariant}
 use Rattle.qcow2_alloc.specs.ImageStorage.{storage_of}
 use Rattle.qcow2_image.specs.declared.image.Qcow2.{Qcow2}
 use Rattle.qcow2_image.specs.declared.prepared.Prepared.{Prepared}
-use Rattle.qcow2_image.specs.Views.{over_all, held_by, pins_by, to_free, of_tables, of_data, pending_in, IsSoundAt, image_spec, seen}
+use Rattle.qcow2_image.specs.ImageInvariant.{over_all, held_by, pins_by, to_free, of_tables, of_data, pending_in, ImageInvariant, image_abstraction, abstract_of}
 
 over_all_free : (f : Prepared → ℕ → ℕ) (a b : List (Option Prepared)) (k : ℕ) → over_all f (a ++ None ∷ b) k ≡ over_all f (a ++ b) k
 over_all_free f [] b k = omega arith
@@ -49,10 +49,10 @@ module _ {S F : Type 0} (view : S → StorageView) (backing : F → BackingView)
 
     -- the same mappings at other places
     moved : (p p' : Pending) (out out' : List (Option Prepared)) → p ≡ p' → ((t : ℕ) → over_all pins_by out t ≡ over_all pins_by out' t)
-        → ((k : ℕ) (q : Prepared) → slice_get out' k ≡ Some (Some q) → (j : ℕ) × (slice_get out j ≡ Some (Some q))) → IsSoundAt view backing p image out → IsSoundAt view backing p' image out'
+        → ((k : ℕ) (q : Prepared) → slice_get out' k ≡ Some (Some q) → (j : ℕ) × (slice_get out j ≡ Some (Some q))) → ImageInvariant view backing p image out → ImageInvariant view backing p' image out'
     moved p p' out out' same pins at s = record {
       works = s.works;
-      file = subst (λ q. IsSoundFile view q image.file) same s.file;
+      file = subst (λ q. FileInvariant view q image.file) same s.file;
       l1_table = s.l1_table;
       reftable = s.reftable;
       below = s.below;
@@ -61,7 +61,7 @@ module _ {S F : Type 0} (view : S → StorageView) (backing : F → BackingView)
       once = λ t. subst (λ n. n ≤ 1) (pins t) (s.once t);
     }
 
-  pub free_places : HasFreePlaces (image_spec view backing)
+  pub free_places : HasFreePlaces (image_abstraction view backing)
   free_places = record {
     free = λ image a b. moved image _ _ (a ++ b) (a ++ None ∷ b) (sym (pending_free image a b)) (λ t. sym (over_all_free pins_by a b t)) (get_in a b);
     left = λ image a b. moved image _ _ (a ++ None ∷ b) (a ++ b) (pending_free image a b) (over_all_free pins_by a b) (get_out a b);
@@ -69,9 +69,9 @@ module _ {S F : Type 0} (view : S → StorageView) (backing : F → BackingView)
     works = λ image out sound. sound.works;
   }
 
-  pub whole : (image : Qcow2 S F) (out : List (Option Prepared)) → IsSoundAt view backing (pending_in view backing image out) image out → IsWhole (seen view backing image out)
+  pub whole : (image : Qcow2 S F) (out : List (Option Prepared)) → ImageInvariant view backing (pending_in view backing image out) image out → IsWhole (abstract_of view backing image out)
   whole image out sound =
-      let stand = stand_in view image.file (pending_in view backing image out) in
+      let stand = state_in view image.file (pending_in view backing image out) in
       record {
         consistent = sound_is_consistent.known stand sound.file.caches.kept.kept.guarded;
         cluster_size = ap (λ (h : HeaderFields). cluster_size h) (sym (known_header stand sound.file.caches.kept.kept.guarded));

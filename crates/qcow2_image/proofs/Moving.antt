@@ -6,23 +6,23 @@ use Rattle.image_access.specs.Backing.{BackingView}
 use Rattle.image_access.specs.Moments.{StorageView}
 use Rattle.qcow2_metadata.specs.declared.header.HeaderFields.{HeaderFields}
 use Rattle.qcow2_metadata.specs.Header.{cluster_size}
-use Rattle.qcow2_laws.specs.Guard.{Pending}
+use Rattle.qcow2_laws.specs.CrashInvariant.{Pending}
 use Rattle.qcow2_laws.specs.Unseen.{KeepsFormat}
 use Rattle.qcow2_laws.proofs.Formats.{l1_format}
 use Rattle.qcow2_alloc.specs.CacheMarks.{l2_pins}
 use Rattle.qcow2_alloc.specs.declared.allocation.Allocator.{Allocator}
 use Rattle.qcow2_alloc.specs.declared.image_file.ImageFile.{ImageFile}
-use Rattle.qcow2_alloc.specs.ImageFile.{contents_in, known_in, Moves, MovesOn, HasReftable}
+use Rattle.qcow2_alloc.specs.ImageFile.{contents_in, known_in, UnseenFileStep, UnseenFileGrowth, HasReftable}
 use Rattle.qcow2_alloc.proofs.FileSteps.{moves_on}
 use Rattle.qcow2_image.specs.declared.image.Qcow2.{Qcow2}
 use Rattle.qcow2_image.specs.declared.prepared.Prepared.{Prepared}
-use Rattle.qcow2_image.specs.Steps.{Keeps, ListGrows, Tidies}
-use Rattle.qcow2_image.specs.Views.{cluster_of, HasL1Table, IsReadyWith, IsSoundAt}
+use Rattle.qcow2_image.specs.UnseenSteps.{UnseenStep, ListGrows, UnseenFreeingStep}
+use Rattle.qcow2_image.specs.ImageInvariant.{cluster_of, HasL1Table, IsReadyWith, ImageInvariant}
 use Rattle.qcow2_image.proofs.Formats.{l1_shared, ready_format}
 use Rattle.qcow2_image.proofs.Ready.{still_ready}
 
-module _ {S F : Type 0} (view : S → StorageView) (backing : F → BackingView) (old : Qcow2 S F) (out : List (Option Prepared)) (p p' : Pending) (sound : IsSoundAt view backing p old out)
-    (file : ImageFile S) (allocator : Option Allocator) (moves : MovesOn view p p' old.file file) (reftable : IfSome allocator (λ a. HasReftable view file a.reftable))
+module _ {S F : Type 0} (view : S → StorageView) (backing : F → BackingView) (old : Qcow2 S F) (out : List (Option Prepared)) (p p' : Pending) (sound : ImageInvariant view backing p old out)
+    (file : ImageFile S) (allocator : Option Allocator) (moves : UnseenFileGrowth view p p' old.file file) (reftable : IfSome allocator (λ a. HasReftable view file a.reftable))
     (pins : (table : ℕ) → l2_pins file.caches table ≡ l2_pins old.file.caches table) where
   abbrev h : HeaderFields
   h = old.file.header.fields
@@ -44,7 +44,7 @@ module _ {S F : Type 0} (view : S → StorageView) (backing : F → BackingView)
       (still_ready h (known_in view old.file) (contents_in view old.file) (known_in view file) (contents_in view file) q (moves.unseen.covers (cluster_of h q)) sound.file.caches.kept.kept.guarded.same_top.l1
       (λ i. l1_shared h file.header.fields header (contents_in view file) (known_in view file) i (moves.sound.caches.kept.kept.guarded.same_top.l1 i)) (λ i copied. moves.l1_table i) q.table ready)
 
-  pub file_tidied : Tidies view backing p p' old (record old { file = file; allocator = allocator }) out
+  pub file_tidied : UnseenFreeingStep view backing p p' old (record old { file = file; allocator = allocator }) out
   file_tidied = record {
     sound = record {
       works = sound.works;
@@ -63,7 +63,7 @@ module _ {S F : Type 0} (view : S → StorageView) (backing : F → BackingView)
     below = refl;
   }
 
-  pub file_moved_on : ListGrows old (record old { file = file; allocator = allocator }) → Keeps view backing p p' old (record old { file = file; allocator = allocator }) out
+  pub file_moved_on : ListGrows old (record old { file = file; allocator = allocator }) → UnseenStep view backing p p' old (record old { file = file; allocator = allocator }) out
   file_moved_on list = record {
     sound = file_tidied.sound;
     leads = file_tidied.leads;
@@ -75,8 +75,8 @@ module _ {S F : Type 0} (view : S → StorageView) (backing : F → BackingView)
   }
 
 -- the reftable stays, and so does the list
-module _ {S F : Type 0} (view : S → StorageView) (backing : F → BackingView) (old : Qcow2 S F) (out : List (Option Prepared)) (p p' : Pending) (sound : IsSoundAt view backing p old out)
-    (file : ImageFile S) (allocator : Option Allocator) (moves : Moves view p p' old.file file) (reftable : IfSome allocator (λ a. HasReftable view file a.reftable))
+module _ {S F : Type 0} (view : S → StorageView) (backing : F → BackingView) (old : Qcow2 S F) (out : List (Option Prepared)) (p p' : Pending) (sound : ImageInvariant view backing p old out)
+    (file : ImageFile S) (allocator : Option Allocator) (moves : UnseenFileStep view p p' old.file file) (reftable : IfSome allocator (λ a. HasReftable view file a.reftable))
     (pins : (table : ℕ) → l2_pins file.caches table ≡ l2_pins old.file.caches table) where
-  pub file_moved : file.free_list ≡ old.file.free_list → Keeps view backing p p' old (record old { file = file; allocator = allocator }) out
+  pub file_moved : file.free_list ≡ old.file.free_list → UnseenStep view backing p p' old (record old { file = file; allocator = allocator }) out
   file_moved list = file_moved_on view backing old out p p' sound file allocator (moves_on view p p' old.file file moves) reftable pins (record { more = []; is = list ∙ sym (append-nil old.file.free_list) })

@@ -9,19 +9,19 @@ use Rattle.qcow2_metadata.specs.Cover.{cover}
 use Rattle.qcow2_laws.specs.Guests.{table_at}
 use Rattle.qcow2_image.specs.declared.prepared.Prepared.{Prepared}
 use Rattle.qcow2_image.specs.declared.prepared.NewCluster.{NewCluster}
-use Rattle.qcow2_image.specs.Steps.{NamesOwn}
-use Rattle.qcow2_image.specs.Views.{cluster_of, HasCluster, IsPending, IsReadyWith}
+use Rattle.qcow2_image.specs.UnseenSteps.{NamesOwn}
+use Rattle.qcow2_image.specs.ImageInvariant.{cluster_of, HasCluster, IsPending, IsReadyWith}
 
-module _ (h : HeaderFields) (known base known' base' : Bytes) (q : Prepared) (covers : cover h known (cluster_of h q) ≡ cover h known' (cluster_of h q)) (top : (i : ℕ) → l1_entry h base i ≡ l1_entry h known i) (top' : (i : ℕ) → l1_entry h base' i ≡ l1_entry h known' i)
-    (copied : (i : ℕ) → NamesOwn (l1_entry h base i) → l1_entry h base' i ≡ l1_entry h base i) where
-  still_placed : (n : Option NewCluster) → HasCluster h known base q n → HasCluster h known' base' q n
+module _ (h : HeaderFields) (known on_storage known' on_storage' : Bytes) (q : Prepared) (covers : cover h known (cluster_of h q) ≡ cover h known' (cluster_of h q)) (top : (i : ℕ) → l1_entry h on_storage i ≡ l1_entry h known i) (top' : (i : ℕ) → l1_entry h on_storage' i ≡ l1_entry h known' i)
+    (copied : (i : ℕ) → NamesOwn (l1_entry h on_storage i) → l1_entry h on_storage' i ≡ l1_entry h on_storage i) where
+  still_placed : (n : Option NewCluster) → HasCluster h known on_storage q n → HasCluster h known' on_storage' q n
   still_placed None is = record { begins = is.begins; entry = sym covers ∙ is.entry }
   still_placed (Some n) is = record { begins = is.begins; one = is.one; kind = is.kind; nameable = is.nameable; index = is.index; entry = sym covers ∙ is.entry }
 
-  still_pending : (table : ℕ) → IsPending h known base q table → IsPending h known' base' q table
+  still_pending : (table : ℕ) → IsPending h known on_storage q table → IsPending h known' on_storage' q table
   still_pending table is =
       let i = cluster_of h q / entries_per_cluster h in
-      let same : l1_entry h base' i ≡ l1_entry h base i = copied i ((λ none. is.named.real (ap host_offset (sym (top i)) ∙ none)), is.copied) in
+      let same : l1_entry h on_storage' i ≡ l1_entry h on_storage i = copied i ((λ none. is.named.real (ap host_offset (sym (top i)) ∙ none)), is.copied) in
       let there : table_at h known' i ≡ table_at h known i = ap host_offset (sym (top' i) ∙ same ∙ top i) in
       record {
         some = is.some;
@@ -31,6 +31,6 @@ module _ (h : HeaderFields) (known base known' base' : Bytes) (q : Prepared) (co
         cluster = still_placed q.new_cluster is.cluster;
       }
 
-  pub still_ready : (table : Option ℕ) → IsReadyWith h known base q table → IsReadyWith h known' base' q table
+  pub still_ready : (table : Option ℕ) → IsReadyWith h known on_storage q table → IsReadyWith h known' on_storage' q table
   still_ready None is = is
   still_ready (Some table) is = still_pending table is

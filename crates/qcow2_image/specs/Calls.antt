@@ -4,15 +4,15 @@ use Rattle.image_access.specs.Backing.{BackingView}
 use Rattle.image_access.specs.Moments.{StorageView}
 use Rattle.qcow2_alloc.specs.declared.error.ImageError.{ImageError}
 use Rattle.qcow2_alloc.specs.declared.error.ImageError.TheVariants as I
-use Rattle.qcow2_laws.specs.Stops.{Gift}
+use Rattle.qcow2_laws.specs.Stops.{GivenBytes}
 use Rattle.qcow2_laws.specs.Mappings.{IsPrepared, put_mapping, put_disk, committed, gift_of, gift_of_commit}
-use Rattle.qcow2_laws.specs.Views.{Guest, View, guest_of, contents_of}
+use Rattle.qcow2_laws.specs.AbstractImages.{Guest, AbstractImage, guest_of, contents_of}
 use Rattle.qcow2_laws.specs.Calls.{Refusal, memory, storage, another, IsFault, Does, Refuses, IsSame, with_disk, with_slot}
 use Rattle.qcow2_image.specs.declared.image.Qcow2.{Qcow2}
 use Rattle.qcow2_image.specs.declared.prepared.Prepared.{Prepared}
 use Rattle.qcow2_image.specs.declared.prepared.CommitRefused.{CommitRefused}
 use Rattle.qcow2_image.specs.declared.prepared.CommitRefused.TheVariants.{Kept, Spent}
-use Rattle.qcow2_image.specs.Views.{seen, meaning}
+use Rattle.qcow2_image.specs.ImageInvariant.{abstract_of, meaning}
 
 -- a refusal, as far as the state after it depends on that
 abbrev pub refusal_of : ImageError → Refusal
@@ -45,27 +45,27 @@ reason_of (Spent e) = e
 
 module _ {S F : Type 0} (view : S → StorageView) (backing : F → BackingView) (old new : Qcow2 S F) where
   -- a call that leaves the prepared mappings at their places, and gives these values: what it did, or the guest sees what it saw
-  abbrev pub Answers : {A : Type 0} → List Gift → (A → Guest → Guest → Type 0) → Result A ImageError → Type 0
-  Answers given Done (Ok a) = (out : List (Option Prepared)) → let v = seen view backing old out in let w = seen view backing new out in Does v w given [] (Done a (guest_of v) (guest_of w))
-  Answers given Done (Err e) = (out : List (Option Prepared)) → let v = seen view backing old out in let w = seen view backing new out in Refuses v w given [] (refusal_of e) (IsSame v w)
+  abbrev pub Answers : {A : Type 0} → List GivenBytes → (A → Guest → Guest → Type 0) → Result A ImageError → Type 0
+  Answers given Done (Ok a) = (out : List (Option Prepared)) → let v = abstract_of view backing old out in let w = abstract_of view backing new out in Does v w given [] (Done a (guest_of v) (guest_of w))
+  Answers given Done (Err e) = (out : List (Option Prepared)) → let v = abstract_of view backing old out in let w = abstract_of view backing new out in Refuses v w given [] (refusal_of e) (IsSame v w)
 
   -- a range is prepared, and put at a place that was free
   abbrev pub Prepares : ℕ → ℕ → Bool → Result Prepared ImageError → Type 0
   Prepares offset n overwrite (Ok p) = (out : List (Option Prepared)) (k : ℕ) → slice_get out k ≡ Some None
-      → let v = seen view backing old out in let w = seen view backing new (slice_set out k (Some p)) in Does v w [] []
+      → let v = abstract_of view backing old out in let w = abstract_of view backing new (slice_set out k (Some p)) in Does v w [] []
       (IsPrepared v.setting.cluster_size (guest_of v).disk offset n overwrite (meaning view backing new p) × (guest_of w ≡ with_slot (guest_of v) k (Some (meaning view backing new p))))
-  Prepares offset n overwrite (Err e) = (out : List (Option Prepared)) → let v = seen view backing old out in let w = seen view backing new out in Refuses v w [] [] (refusal_of e) (IsSame v w)
+  Prepares offset n overwrite (Err e) = (out : List (Option Prepared)) → let v = abstract_of view backing old out in let w = abstract_of view backing new out in Refuses v w [] [] (refusal_of e) (IsSame v w)
 
   -- bytes are put into a mapping that is out: private ones are kept for the commit, all others are written to the disk
   abbrev pub Puts : Prepared → ℕ → List ℕ → Result (Unit {0}) ImageError → Type 0
   Puts p at bytes (Ok _) = (out : List (Option Prepared)) (k : ℕ) → slice_get out k ≡ Some (Some p)
-      → let v = seen view backing old out in let w = seen view backing new out in let m = meaning view backing old p in Does v w (gift_of (m.from + at) bytes ∷ []) []
+      → let v = abstract_of view backing old out in let w = abstract_of view backing new out in let m = meaning view backing old p in Does v w (gift_of (m.from + at) bytes ∷ []) []
       (guest_of w ≡ with_slot (with_disk (guest_of v) (put_disk (guest_of v).disk m at bytes)) k (Some (put_mapping m at bytes)))
   Puts p at bytes (Err e) = (out : List (Option Prepared)) (k : ℕ) → slice_get out k ≡ Some (Some p)
-      → let v = seen view backing old out in let w = seen view backing new out in Refuses v w (gift_of ((meaning view backing old p).from + at) bytes ∷ []) [] (refusal_of e) (IsSame v w)
+      → let v = abstract_of view backing old out in let w = abstract_of view backing new out in Refuses v w (gift_of ((meaning view backing old p).from + at) bytes ∷ []) [] (refusal_of e) (IsSame v w)
 
   -- what a commit gives: what the disk shows in the mapping's whole clusters
-  abbrev pub gifts_of_commit : View → Prepared → List Gift
+  abbrev pub gifts_of_commit : AbstractImage → Prepared → List GivenBytes
   gifts_of_commit v p = gift_of_commit v.setting.cluster_size (guest_of v).disk (meaning view backing old p) ∷ []
 
   -- what a refused commit hands back
@@ -76,18 +76,18 @@ module _ {S F : Type 0} (view : S → StorageView) (backing : F → BackingView)
   -- Its private bytes become visible, and its place is free. On a sound image a fault or want of memory alone refuses it, and then it is at its place again, or the image failed.
   abbrev pub Commits : Prepared → Result (Unit {0}) CommitRefused → Type 0
   Commits p (Ok _) = (out : List (Option Prepared)) (k : ℕ) → slice_get out k ≡ Some (Some p)
-      → let v = seen view backing old out in let w = seen view backing new (slice_set out k None) in Does v w (gifts_of_commit v p) []
+      → let v = abstract_of view backing old out in let w = abstract_of view backing new (slice_set out k None) in Does v w (gifts_of_commit v p) []
       (guest_of w ≡ with_slot (with_disk (guest_of v) (committed (guest_of v).disk (meaning view backing old p))) k None)
   Commits p (Err r) = (out : List (Option Prepared)) (k : ℕ) → slice_get out k ≡ Some (Some p)
-      → let v = seen view backing old out in let w = seen view backing new (slice_set out k (handed_back r)) in
+      → let v = abstract_of view backing old out in let w = abstract_of view backing new (slice_set out k (handed_back r)) in
       (v.is_sound → IsFault (refusal_of (reason_of r))) × Refuses v w (gifts_of_commit v p) [] (refusal_of (reason_of r)) (IsSame v w)
 
   -- it is dropped, and its place is free
   abbrev pub Discards : Prepared → Type 0
   Discards p = (out : List (Option Prepared)) (k : ℕ) → slice_get out k ≡ Some (Some p)
-      → let v = seen view backing old out in let w = seen view backing new (slice_set out k None) in Does v w [] [] (guest_of w ≡ with_slot (guest_of v) k None)
+      → let v = abstract_of view backing old out in let w = abstract_of view backing new (slice_set out k None) in Does v w [] [] (guest_of w ≡ with_slot (guest_of v) k None)
 
   -- all that is known is on the storage
   abbrev pub Flushes : Result (Unit {0}) ImageError → Type 0
-  Flushes (Ok _) = (out : List (Option Prepared)) → let v = seen view backing old out in let w = seen view backing new out in Does v w [] [] ((w.known ≡ contents_of w) × IsSame v w)
-  Flushes (Err e) = (out : List (Option Prepared)) → let v = seen view backing old out in let w = seen view backing new out in Refuses v w [] [] (refusal_of e) (IsSame v w)
+  Flushes (Ok _) = (out : List (Option Prepared)) → let v = abstract_of view backing old out in let w = abstract_of view backing new out in Does v w [] [] ((w.known ≡ contents_of w) × IsSame v w)
+  Flushes (Err e) = (out : List (Option Prepared)) → let v = abstract_of view backing old out in let w = abstract_of view backing new out in Refuses v w [] [] (refusal_of e) (IsSame v w)

@@ -10,8 +10,8 @@ use Rattle.qcow2_metadata.specs.Named.{in_run}
 use Rattle.qcow2_metadata.specs.TableBytes.{entry_at}
 use Rattle.qcow2_laws.specs.Changes.{with_fresh}
 use Rattle.qcow2_laws.specs.Clusters.{RbDependsOnL2}
-use Rattle.qcow2_laws.specs.Guard.{Pending, SameCovers, SameCounts}
-use Rattle.qcow2_laws.specs.Leads.{Leads, Endures}
+use Rattle.qcow2_laws.specs.CrashInvariant.{Pending, SameCovers, SameCounts}
+use Rattle.qcow2_laws.specs.SafeSteps.{SafeStep, SafeThroughout}
 use Rattle.qcow2_laws.specs.Tops.{places_of, with_places, with_l1_at}
 use Rattle.qcow2_alloc.specs.Allocation.{run_at}
 use Rattle.qcow2_alloc.specs.FreeList.{with_listed}
@@ -19,11 +19,11 @@ use Rattle.qcow2_alloc.specs.MetadataCaches.{order_of}
 use Rattle.qcow2_alloc.specs.ClustersToFree.{metadata_entry}
 use Rattle.qcow2_alloc.specs.declared.clusters_to_free.ClustersToFreeEntry.{ClustersToFreeEntry}
 use Rattle.qcow2_alloc.specs.declared.error.ImageError.{ImageError}
-use Rattle.qcow2_alloc.specs.ImageFile.{view_in, contents_in, known_in, stand_in, nothing_given}
+use Rattle.qcow2_alloc.specs.ImageFile.{view_in, contents_in, known_in, state_in, nothing_given}
 use Rattle.qcow2_image.specs.declared.image.Qcow2.{Qcow2}
 use Rattle.qcow2_image.specs.Image.{size_of}
-use Rattle.qcow2_image.specs.Steps.{Keeps, following}
-use Rattle.qcow2_image.specs.Views.{IsSoundAt, pending_in}
+use Rattle.qcow2_image.specs.UnseenSteps.{UnseenStep, pending_then}
+use Rattle.qcow2_image.specs.ImageInvariant.{ImageInvariant, pending_in}
 
 -- the header differs only in numbers that are written again after it was created
 abbrev pub SameFormat : HeaderFields → HeaderFields → Type 0
@@ -70,19 +70,19 @@ module _ {S F : Type 0} where
 
     -- at each moment what was kept is kept, but that these sizes are asked for
     abbrev pub Lasts : Qcow2 S F → Qcow2 S F → List ℕ → Type 0
-    Lasts old new asked = Endures (view_in view old.file) (view_in view new.file) (known_in view old.file) nothing_given asked
+    Lasts old new asked = SafeThroughout (view_in view old.file) (view_in view new.file) (known_in view old.file) nothing_given asked
 
     module _ (backing : F → BackingView) where
       -- All is sound again, from what was pending to what is, with a header of the same format.
       pub record Extends (p p' : Pending) (old new : Qcow2 S F) (asked : List ℕ) : Type 0 where
-        pub sound : IsSoundAt view backing p' new []
-        pub leads : Leads (stand_in view old.file p) (stand_in view new.file p') nothing_given asked
+        pub sound : ImageInvariant view backing p' new []
+        pub leads : SafeStep (state_in view old.file p) (state_in view new.file p') nothing_given asked
         pub since : Lasts old new asked
         pub format : SameFormat old.file.header.fields new.file.header.fields
 
       -- a longer table is written to its clusters
       abbrev pub PlacesTable : Pending → Qcow2 S F → Qcow2 S F → EntryTableView → ℕ → Result (Unit {0}) ImageError → Type 0
-      PlacesTable p old new t cluster (Ok _) = Keeps view backing p p old new [] × StandsWhole new t cluster
+      PlacesTable p old new t cluster (Ok _) = UnseenStep view backing p p old new [] × StandsWhole new t cluster
       PlacesTable p old new t cluster (Err e) = Lasts old new []
 
       -- the header names it in the place of the L1 table
@@ -92,17 +92,17 @@ module _ {S F : Type 0} where
 
       -- it gets its clusters, and takes the place of the L1 table
       abbrev pub TakesTable : Pending → Qcow2 S F → Qcow2 S F → Result (Unit {0}) ImageError → Type 0
-      TakesTable p old new (Ok _) = Extends p (without_l1 (following p old new) old.file.header.fields) old new []
+      TakesTable p old new (Ok _) = Extends p (without_l1 (pending_then p old new) old.file.header.fields) old new []
       TakesTable p old new (Err e) = Lasts old new []
 
       -- and the clusters of that one are to be freed
       abbrev pub Lengthens : Pending → Qcow2 S F → Qcow2 S F → Result (Unit {0}) ImageError → Type 0
-      Lengthens p old new (Ok _) = Extends p (following p old new) old new []
+      Lengthens p old new (Ok _) = Extends p (pending_then p old new) old new []
       Lengthens p old new (Err e) = Lasts old new []
 
       -- then the size is written
       abbrev pub Resizes : Pending → Qcow2 S F → Qcow2 S F → ℕ → Result (Unit {0}) ImageError → Type 0
-      Resizes p old new size (Ok _) = Extends p (following p old new) old new (size ∷ []) × (size_of new ≡ size)
+      Resizes p old new size (Ok _) = Extends p (pending_then p old new) old new (size ∷ []) × (size_of new ≡ size)
       Resizes p old new size (Err e) = Lasts old new (size ∷ [])
 
       -- the disk has this size then, unless it was larger

@@ -3,12 +3,12 @@ pub mod FirstCluster
 pub mod Image
 pub mod Prepared
 pub mod Refusals
-pub mod Views
+pub mod ImageInvariant
 pub mod Calls
-pub mod Steps
+pub mod UnseenSteps
 pub mod NewTables
 pub mod Found
-pub mod Parts
+pub mod CallParts
 pub mod Opened
 pub mod Preparing
 pub mod Created

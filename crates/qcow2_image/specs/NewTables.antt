@@ -12,16 +12,16 @@ use Rattle.qcow2_metadata.specs.Named.{table_in}
 use Rattle.qcow2_metadata.specs.TableBytes.{entry_at}
 use Rattle.qcow2_laws.specs.Caches.{AreClean, BlocksMayGo}
 use Rattle.qcow2_laws.specs.Changes.{one_at, with_fresh}
-use Rattle.qcow2_laws.specs.Guard.{Pending}
+use Rattle.qcow2_laws.specs.CrashInvariant.{Pending}
 use Rattle.qcow2_laws.specs.Guests.{table_at}
 use Rattle.qcow2_alloc.specs.Allocation.{StandAt}
 use Rattle.qcow2_alloc.specs.declared.error.ImageError.{ImageError}
-use Rattle.qcow2_alloc.specs.ImageFile.{contents_in, Breaks}
+use Rattle.qcow2_alloc.specs.ImageFile.{contents_in, InterruptedFileStep}
 use Rattle.qcow2_alloc.specs.MetadataCaches.{order_of, l2_tables, refblocks, l2_at}
 use Rattle.qcow2_alloc.specs.TableCaches.{IsTableOf}
 use Rattle.qcow2_image.specs.declared.image.Qcow2.{Qcow2}
 use Rattle.qcow2_image.specs.declared.prepared.Prepared.{Prepared}
-use Rattle.qcow2_image.specs.Steps.{NamesOwn, Keeps, Leaves, following}
+use Rattle.qcow2_image.specs.UnseenSteps.{NamesOwn, UnseenStep, RefusedStep, pending_then}
 
 -- a table of the image's format says what is known of the guest clusters of an L1 entry
 pub record SaysKnown (h : HeaderFields) (known : Bytes) (index : ℕ) (t : L2TableView) : Type 0 where
@@ -63,30 +63,30 @@ module _ {S F : Type 0} (view : S → StorageView) where
   module _ (backing : F → BackingView) where
     -- all is written that has to stand before an L1 entry
     abbrev pub Stores : Pending → Qcow2 S F → Qcow2 S F → List (Option Prepared) → ℕ → Result (Unit {0}) ImageError → Type 0
-    Stores p old new out index (Ok _) = Keeps view backing p p old new out × IsStored new index
-    Stores p old new out index (Err e) = Keeps view backing p p old new out
+    Stores p old new out index (Ok _) = UnseenStep view backing p p old new out × IsStored new index
+    Stores p old new out index (Err e) = UnseenStep view backing p p old new out
 
     -- the bytes of a table are written to its cluster, and then it is put into its cache
     abbrev pub Places : Pending → Qcow2 S F → Qcow2 S F → List (Option Prepared) → ℕ → ℕ → List ℕ → Result (Unit {0}) ImageError → Type 0
-    Places p old new out index cluster bytes (Ok _) = Keeps view backing p p old new out × StandsReady new index cluster bytes
-    Places p old new out index cluster bytes (Err e) = Keeps view backing p p old new out
+    Places p old new out index cluster bytes (Ok _) = UnseenStep view backing p p old new out × StandsReady new index cluster bytes
+    Places p old new out index cluster bytes (Err e) = UnseenStep view backing p p old new out
 
     -- an L1 entry is written that names a new table
     abbrev pub NamesNew : Pending → Qcow2 S F → Qcow2 S F → List (Option Prepared) → ℕ → ℕ → Result (Unit {0}) ImageError → Type 0
-    NamesNew p old new out index cluster (Ok _) = Keeps view backing (with_fresh p (one_at cluster)) (replacing p old index) old new out × NamesCopied new index cluster
-    NamesNew p old new out index cluster (Err e) = Breaks view old.file new.file e
+    NamesNew p old new out index cluster (Ok _) = UnseenStep view backing (with_fresh p (one_at cluster)) (replacing p old index) old new out × NamesCopied new index cluster
+    NamesNew p old new out index cluster (Err e) = InterruptedFileStep view old.file new.file e
 
     -- both; where it is refused, the cluster is fresh still, or it broke off
     abbrev pub WritesNew : Pending → Qcow2 S F → Qcow2 S F → List (Option Prepared) → ℕ → ℕ → Result (Unit {0}) ImageError → Type 0
-    WritesNew p old new out index cluster (Ok _) = Keeps view backing (with_fresh p (one_at cluster)) (replacing p old index) old new out × NamesCopied new index cluster
-    WritesNew p old new out index cluster (Err e) = Keeps view backing (with_fresh p (one_at cluster)) (with_fresh p (one_at cluster)) old new out ⊎ Breaks view old.file new.file e
+    WritesNew p old new out index cluster (Ok _) = UnseenStep view backing (with_fresh p (one_at cluster)) (replacing p old index) old new out × NamesCopied new index cluster
+    WritesNew p old new out index cluster (Err e) = UnseenStep view backing (with_fresh p (one_at cluster)) (with_fresh p (one_at cluster)) old new out ⊎ InterruptedFileStep view old.file new.file e
 
     -- a new table gets its cluster, and is named
     abbrev pub EntersTable : Pending → Qcow2 S F → Qcow2 S F → List (Option Prepared) → ℕ → Result ℕ ImageError → Type 0
-    EntersTable p old new out index (Ok cluster) = Keeps view backing p (replacing (following p old new) old index) old new out × NamesCopied new index cluster
-    EntersTable p old new out index (Err e) = Leaves view backing p old new out e
+    EntersTable p old new out index (Ok cluster) = UnseenStep view backing p (replacing (pending_then p old new) old index) old new out × NamesCopied new index cluster
+    EntersTable p old new out index (Err e) = RefusedStep view backing p old new out e
 
     -- the table of an L1 entry lies in a cluster, and is marked copied
     abbrev pub OwnsTable : Pending → Qcow2 S F → Qcow2 S F → List (Option Prepared) → ℕ → Result ℕ ImageError → Type 0
-    OwnsTable p old new out index (Ok cluster) = Keeps view backing p (following p old new) old new out × NamesCopied new index cluster
-    OwnsTable p old new out index (Err e) = Leaves view backing p old new out e
+    OwnsTable p old new out index (Ok cluster) = UnseenStep view backing p (pending_then p old new) old new out × NamesCopied new index cluster
+    OwnsTable p old new out index (Err e) = RefusedStep view backing p old new out e

@@ -7,21 +7,21 @@ use Rattle.qcow2_metadata.specs.Consistent.{IsConsistent}
 use Rattle.qcow2_metadata.specs.EntryTable.{EntryTableView}
 use Rattle.qcow2_metadata.specs.Header.{HeaderView, header, with_fields}
 use Rattle.qcow2_metadata.specs.HeaderLoad.{IsHeaderIn}
-use Rattle.qcow2_laws.specs.Guard.{Pending}
-use Rattle.qcow2_laws.specs.Leads.{Endures}
-use Rattle.qcow2_laws.specs.Views.{IsOpened}
+use Rattle.qcow2_laws.specs.CrashInvariant.{Pending}
+use Rattle.qcow2_laws.specs.SafeSteps.{SafeThroughout}
+use Rattle.qcow2_laws.specs.AbstractImages.{IsOpened}
 use Rattle.qcow2_alloc.specs.declared.allocation.Allocator.{Allocator}
 use Rattle.qcow2_alloc.specs.declared.error.ImageError.{ImageError}
 use Rattle.qcow2_alloc.specs.declared.image_file.ImageFile.{ImageFile}
-use Rattle.qcow2_alloc.specs.ImageFile.{l2_pins, nothing_given, view_in, IsSoundFile, HasReftable}
+use Rattle.qcow2_alloc.specs.ImageFile.{l2_pins, nothing_given, view_in, FileInvariant, HasReftable}
 use Rattle.qcow2_alloc.specs.MetadataCaches.{known_of}
 use Rattle.qcow2_image.specs.declared.image.Qcow2.{Qcow2}
 use Rattle.qcow2_image.specs.Image.{storage_of_image}
-use Rattle.qcow2_image.specs.Views.{seen, HasL1Table}
+use Rattle.qcow2_image.specs.ImageInvariant.{abstract_of, HasL1Table}
 
 -- at each moment since, and now, what was kept of the contents is kept: a consistent image stays so, and shows the same disk
 abbrev pub IsKeptSince : StorageView → StorageView → Type 0
-IsKeptSince old new = Endures old new (byte_at old.contents) nothing_given []
+IsKeptSince old new = SafeThroughout old new (byte_at old.contents) nothing_given []
 
 -- the names behind a header's numbers are the same
 abbrev pub SameNames : HeaderView → HeaderView → Type 0
@@ -39,9 +39,9 @@ storage_after (Err refused) = refused.0
 module _ {S F : Type 0} (view : S → StorageView) (backing : F → BackingView) where
   -- a sound file with the header that stands there, whose caches hold nothing that is modified or pinned
   pub record IsFresh (p : Pending) (file : ImageFile S) : Type 0 where
-    pub sound : IsSoundFile view p file
+    pub sound : FileInvariant view p file
     pub header : IsHeaderIn file.header (view_in view file).contents
-    pub clean : (base : Bytes) → known_of file.header.fields file.caches base ≡ base
+    pub clean : (on_storage : Bytes) → known_of file.header.fields file.caches on_storage ≡ on_storage
     pub unpinned : (cluster : ℕ) → l2_pins file.caches cluster ≡ 0
     pub list : file.free_list ≡ []
 
@@ -59,4 +59,4 @@ module _ {S F : Type 0} (view : S → StorageView) (backing : F → BackingView)
 
   -- where a consistent image stands on an honest storage, it is sound as it is opened, and nothing is modified
   abbrev pub Opens : StorageView → Qcow2 S F → Type 0
-  Opens storage image = storage.is_honest → IsConsistent (byte_at storage.contents) → IsOpened (seen view backing image [])
+  Opens storage image = storage.is_honest → IsConsistent (byte_at storage.contents) → IsOpened (abstract_of view backing image [])

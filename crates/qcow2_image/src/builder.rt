@@ -4,7 +4,7 @@ ghost use Rattle.image_access.specs.Moments.{Passing};
 ghost use Rattle.qcow2_metadata.specs.Bytes.{byte_at};
 ghost use Rattle.qcow2_alloc.specs.ImageStorage.{storage_of};
 ghost use Rattle.qcow2_image.specs.Growing.{GrowsWhole};
-ghost use Rattle.qcow2_image.specs.Views.{seen};
+ghost use Rattle.qcow2_image.specs.ImageInvariant.{abstract_of};
 ghost use Rattle.qcow2_image.specs.Created.{IsUnwritten, IsNewHeader, CountsThree, NamesOne, WritesThree, Enlarges};
 
 use crate::Qcow2;
@@ -68,7 +68,7 @@ impl<S: Storage> Qcow2CreateBuilder<S> {
     ghost use Rattle.qcow2_alloc.specs.declared.error.ImageError.TheVariants.{InvalidOption};
     ghost use Rattle.qcow2_image.specs.Created.{StopsCreating, IsCreated, IsAllowed};
     ghost use Rattle.std.specs.Prelude.{true, false};
-    ghost use Rattle.qcow2_laws.specs.Views.{IsOpened};
+    ghost use Rattle.qcow2_laws.specs.AbstractImages.{IsOpened};
     ghost use Rattle.qcow2_image.specs.Image.{number_of, is_failed, is_writable};
 
     /// A disk of no bytes, clusters of 65,536 bytes and counts of 16 bits.
@@ -149,8 +149,8 @@ impl<S: Storage> Qcow2CreateBuilder<S> {
         alloc: Global,
         number: u64,
     ) -> Result<Qcow2<S, F>, (S, ImageError)>
-        ensures opens { (S.view self.image).is_honest → IfOk result (λ image. IsOpened (seen S.view F.backing image [])) }
-        ensures unwritten { (S.view self.image).is_honest → IfOk result (λ image. IsUnwritten self.size (seen S.view F.backing image []).known) }
+        ensures opens { (S.view self.image).is_honest → IfOk result (λ image. IsOpened (abstract_of S.view F.backing image [])) }
+        ensures unwritten { (S.view self.image).is_honest → IfOk result (λ image. IsUnwritten self.size (abstract_of S.view F.backing image []).known) }
         ensures ok { IfOk result (λ image. (number_of image ≡ number) × (is_failed image ≡ false) × (is_writable image ≡ true)) }
         ensures below { IfOk result (λ image. is_some image.backing ≡ false) }
     {
@@ -252,7 +252,7 @@ fn grow_and_flush<S: Storage, F: WrappedFormat<S>>(
     image: &mut Qcow2<S, F>,
     size: u64,
 ) -> Result<(), ImageError>
-    ensures { (seen S.view F.backing image.old []).is_sound → GrowsWhole S.view F.backing image.old image.new size result }
+    ensures { (abstract_of S.view F.backing image.old []).is_sound → GrowsWhole S.view F.backing image.old image.new size result }
 {
     image.grow(size)?;
     image.flush()

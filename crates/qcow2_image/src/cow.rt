@@ -1,10 +1,10 @@
 //! Filling a new cluster with the bytes that the guest saw there before.
 ghost use Rattle.std.specs.Prelude.{◌≡◌, ◌+◌, ◌<◌, ℕ, List, Option, replicate, IfOk, IfErr};
-ghost use Rattle.qcow2_laws.specs.Guard.{Pending};
+ghost use Rattle.qcow2_laws.specs.CrashInvariant.{Pending};
 ghost use Rattle.qcow2_alloc.specs.ImageFile.{view_in};
-ghost use Rattle.qcow2_image.specs.Parts.{WritesBytes};
-ghost use Rattle.qcow2_image.specs.Steps.{AreThere, Goes, HoldsAll, IsFilled, IsOwn};
-ghost use Rattle.qcow2_image.specs.Views.{IsHonestBacking, IsSoundAt, backing_bytes, held_by, over_all};
+ghost use Rattle.qcow2_image.specs.CallParts.{WritesBytes};
+ghost use Rattle.qcow2_image.specs.UnseenSteps.{AreThere, UnseenFillingStep, HoldsAll, IsFilled, IsOwn};
+ghost use Rattle.qcow2_image.specs.ImageInvariant.{IsHonestBacking, ImageInvariant, backing_bytes, held_by, over_all};
 ghost use Rattle.qcow2_image.specs.declared.prepared.Prepared.{Prepared};
 ghost use Rattle.qcow2_image.specs.Image.{Stays};
 ghost use Rattle.qcow2_image.specs.Refusals.{IsMet};
@@ -16,7 +16,7 @@ use image_access::{BackingDisk, Storage, WrappedFormat};
 use qcow2_alloc::{ImageError, WriteKind};
 use qcow2_metadata::{GuestOffset, HostCluster};
 
-#[tactic(auto, using(crate::proofs::MetErrors::tables_met, crate::proofs::MetErrors::storage_met, crate::proofs::MetErrors::metadata_met))]
+#[tactic(auto, using(crate::proofs::Call::MetErrors::tables_met, crate::proofs::Call::MetErrors::storage_met, crate::proofs::Call::MetErrors::metadata_met))]
 impl<S: Storage, F: WrappedFormat<S>> Qcow2<S, F> {
     // Fills the new cluster for an offset that the image doesn't cover.
     pub(crate) fn fill_cluster(
@@ -30,7 +30,7 @@ impl<S: Storage, F: WrappedFormat<S>> Qcow2<S, F> {
         ensures value { self.new.file.header ≡ self.old.file.header }
         ensures stays { Stays self.old self.new }
         ensures cause { IfErr result IsMet }
-        ensures goes { (p : Pending) (out : List (Option Prepared)) → IsSoundAt S.view F.backing p self.old out → HoldsAll S.view F.backing p out → 0 < p.held cluster → over_all held_by out cluster ≡ 0 → Goes S.view F.backing p p self.old self.new out }
+        ensures goes { (p : Pending) (out : List (Option Prepared)) → ImageInvariant S.view F.backing p self.old out → HoldsAll S.view F.backing p out → 0 < p.held cluster → over_all held_by out cluster ≡ 0 → UnseenFillingStep S.view F.backing p p self.old self.new out }
         ensures list { self.new.file.free_list ≡ self.old.file.free_list }
         ensures fills { (view_in S.view self.old.file).is_honest → IsHonestBacking S.view F.backing self.old.backing → IfOk result (λ done. IsFilled S.view F.backing self.old self.new cluster offset length overwrite) }
     {
@@ -54,7 +54,7 @@ impl<S: Storage, F: WrappedFormat<S>> Qcow2<S, F> {
         ensures value { self.new.file.header ≡ self.old.file.header }
         ensures stays { Stays self.old self.new }
         ensures cause { IfErr result IsMet }
-        ensures goes { (p : Pending) (out : List (Option Prepared)) (cluster : ℕ) → IsSoundAt S.view F.backing p self.old out → HoldsAll S.view F.backing p out → IsOwn S.view F.backing p self.old out cluster at length → Goes S.view F.backing p p self.old self.new out }
+        ensures goes { (p : Pending) (out : List (Option Prepared)) (cluster : ℕ) → ImageInvariant S.view F.backing p self.old out → HoldsAll S.view F.backing p out → IsOwn S.view F.backing p self.old out cluster at length → UnseenFillingStep S.view F.backing p p self.old self.new out }
         ensures list { self.new.file.free_list ≡ self.old.file.free_list }
         ensures copies { (view_in S.view self.old.file).is_honest → IsHonestBacking S.view F.backing self.old.backing → IfOk result (λ done. AreThere S.view self.new.file at length (λ i. backing_bytes S.view F.backing self.old.backing (guest + i))) }
     {

@@ -33,7 +33,7 @@ struct Tables {
     allocator: Option<Allocator>,
 }
 
-#[tactic(auto, using(crate::proofs::MetErrors::tables_met, crate::proofs::MetErrors::storage_met, crate::proofs::MetErrors::metadata_met))]
+#[tactic(auto, using(crate::proofs::Call::MetErrors::tables_met, crate::proofs::Call::MetErrors::storage_met, crate::proofs::Call::MetErrors::metadata_met))]
 impl<S: Storage, F: WrappedFormat<S>> Qcow2<S, F> {
     ghost use Rattle.std.specs.Prelude.{◌≡◌, [], IfOk, IfErr, OnOk, IsTrue, MatchOption, Ok, Err, Some, None, false, nat_le, option_map, if◌then◌else◌};
     ghost use Rattle.std.specs.String.{string_bytes};
@@ -41,22 +41,22 @@ impl<S: Storage, F: WrappedFormat<S>> Qcow2<S, F> {
     ghost use Rattle.qcow2_alloc.specs.declared.error.ImageError.TheVariants.{Failed, Memory};
     ghost use Rattle.qcow2_image.specs.Image.{storage_of_image, HasNothingToFree, Stays, KeepsRest, IsSameImage, is_failed, is_writable, is_external, leaked_in, number_of, size_of};
     ghost use Rattle.std.specs.Prelude.{List, Option};
-    ghost use Rattle.qcow2_laws.specs.Views.{guest_of};
+    ghost use Rattle.qcow2_laws.specs.AbstractImages.{guest_of};
     ghost use Rattle.qcow2_image.specs.declared.prepared.Prepared.{Prepared};
-    ghost use Rattle.qcow2_laws.specs.Guard.{Pending};
-    ghost use Rattle.qcow2_image.specs.Views.{seen, pending_in, IsSoundAt};
-    ghost use Rattle.qcow2_image.specs.Parts.{EndsFreeing};
+    ghost use Rattle.qcow2_laws.specs.CrashInvariant.{Pending};
+    ghost use Rattle.qcow2_image.specs.ImageInvariant.{abstract_of, pending_in, ImageInvariant};
+    ghost use Rattle.qcow2_image.specs.CallParts.{EndsFreeing};
     ghost use Rattle.qcow2_alloc.specs.ImageError.{IsFault};
     ghost use Rattle.qcow2_image.specs.Calls.{Flushes};
     ghost use Rattle.qcow2_alloc.specs.ImageFile.{contents_in, known_in};
-    ghost use Rattle.qcow2_image.specs.Steps.{Keeps, FreesListed};
+    ghost use Rattle.qcow2_image.specs.UnseenSteps.{UnseenStep, FreesListed};
     ghost use Rattle.qcow2_alloc.specs.FreeList.{with_listed};
     ghost use Rattle.qcow2_image.specs.Refusals.{unusable, IsMet, Marks, failed_after};
-    ghost use Rattle.image_access.specs.Moments.{Keeps as ContentsStay, Passing};
+    ghost use Rattle.image_access.specs.Moments.{ContentsStay, Passing};
     ghost use Rattle.qcow2_metadata.specs.Bytes.{byte_at};
     ghost use Rattle.qcow2_metadata.specs.Consistent.{IsConsistent};
     ghost use Rattle.qcow2_alloc.specs.ImageFile.{view_in, HasReftable};
-    ghost use Rattle.qcow2_image.specs.Views.{HasL1Table};
+    ghost use Rattle.qcow2_image.specs.ImageInvariant.{HasL1Table};
     ghost use Rattle.qcow2_image.specs.Created.{begins_image};
     ghost use Rattle.qcow2_image.specs.Growing.{SameFormat, WritesBack};
     ghost use Rattle.qcow2_image.specs.Opened.{IsFresh, StaysFresh, IsLoaded, IsKeptSince, SameNames, HasNamesIn, storage_after, Opens};
@@ -219,7 +219,7 @@ impl<S: Storage, F: WrappedFormat<S>> Qcow2<S, F> {
     /// The size of the guest's disk, in bytes.
     pub fn size(&self) -> u64
         ensures value { result ≡ size_of self.now }
-        ensures sees { (out : List (Option Prepared)) → (seen S.view F.backing self.now out).is_sound → result ≡ (guest_of (seen S.view F.backing self.now out)).disk.size }
+        ensures sees { (out : List (Option Prepared)) → (abstract_of S.view F.backing self.now out).is_sound → result ≡ (guest_of (abstract_of S.view F.backing self.now out)).disk.size }
     {
         self.file.header.size()
     }
@@ -288,21 +288,21 @@ impl<S: Storage, F: WrappedFormat<S>> Qcow2<S, F> {
         ensures image { IsSameImage self.old self.new }
         ensures sees { Flushes S.view F.backing self.old self.new result }
         ensures emptied { IsTrue (is_writable self.old) → OnOk result (HasNothingToFree self.new) }
-        ensures writes { (p : Pending) → IsSoundAt S.view F.backing (with_listed p self.old.file.free_list) self.old [] → WritesBack S.view F.backing p self.old self.new result }
+        ensures writes { (p : Pending) → ImageInvariant S.view F.backing (with_listed p self.old.file.free_list) self.old [] → WritesBack S.view F.backing p self.old self.new result }
     {
         if self.is_failed {
             return Err(ImageError::Failed);
         }
         self.begin();
         let done = self.write_back();
-        self.settled(done)
+        self.mark_failure(done)
     }
 
     fn write_back(&mut self) -> Result<(), ImageError>
         ensures stays { Stays self.old self.new }
         ensures cause { IfErr result IsMet }
         ensures emptied { IsTrue (is_writable self.old) → OnOk result (HasNothingToFree self.new) }
-        ensures frees { (p : Pending) (out : List (Option Prepared)) → IsSoundAt S.view F.backing (with_listed p self.old.file.free_list) self.old out → FreesListed S.view F.backing p self.old self.new out result }
+        ensures frees { (p : Pending) (out : List (Option Prepared)) → ImageInvariant S.view F.backing (with_listed p self.old.file.free_list) self.old out → FreesListed S.view F.backing p self.old self.new out result }
         ensures written { IfOk result (λ done. known_in S.view self.new.file ≡ contents_in S.view self.new.file) }
     {
         self.free_listed()?;
@@ -317,8 +317,8 @@ impl<S: Storage, F: WrappedFormat<S>> Qcow2<S, F> {
         ensures keeps_rest { KeepsRest self.old self.new }
         ensures cause { IfErr result IsMet }
         ensures emptied { IsTrue (is_writable self.old) → OnOk result (HasNothingToFree self.new) }
-        ensures frees { (p : Pending) (out : List (Option Prepared)) → IsSoundAt S.view F.backing (with_listed p self.old.file.free_list) self.old out → FreesListed S.view F.backing p self.old self.new out result }
-        ensures faults { (p : Pending) (out : List (Option Prepared)) → IsSoundAt S.view F.backing (with_listed p self.old.file.free_list) self.old out → IfErr result IsFault }
+        ensures frees { (p : Pending) (out : List (Option Prepared)) → ImageInvariant S.view F.backing (with_listed p self.old.file.free_list) self.old out → FreesListed S.view F.backing p self.old self.new out result }
+        ensures faults { (p : Pending) (out : List (Option Prepared)) → ImageInvariant S.view F.backing (with_listed p self.old.file.free_list) self.old out → IfErr result IsFault }
         ensures noted { IsTrue self.old.file.caches.is_changed → IsTrue self.new.file.caches.is_changed }
     {
         let Some(allocator) = &mut self.allocator else {
@@ -333,19 +333,19 @@ impl<S: Storage, F: WrappedFormat<S>> Qcow2<S, F> {
         ensures cause { IfErr result IsMet }
         ensures marks { Marks result (is_failed self.old) (is_failed self.new) }
         ensures emptied { IsTrue (is_writable self.old) → OnOk result (HasNothingToFree self.new) }
-        ensures frees { IsTrue self.old.file.caches.is_changed → (out : List (Option Prepared)) → IsSoundAt S.view F.backing (pending_in S.view F.backing self.old out) self.old out
+        ensures frees { IsTrue self.old.file.caches.is_changed → (out : List (Option Prepared)) → ImageInvariant S.view F.backing (pending_in S.view F.backing self.old out) self.old out
             → EndsFreeing S.view F.backing self.old self.new out result }
     {
         let freed = self.free_listed();
-        self.settled(freed)
+        self.mark_failure(freed)
     }
 
     // From here on it is noted anew whether anything changes.
     pub(crate) fn begin(&mut self)
         ensures stays { Stays self.old self.new }
         ensures list { self.new.file.free_list ≡ self.old.file.free_list }
-        ensures keeps { (p : Pending) (out : List (Option Prepared)) → IsSoundAt S.view F.backing p self.old out → Keeps S.view F.backing p p self.old self.new out }
-        ensures known { (p : Pending) (out : List (Option Prepared)) → IsSoundAt S.view F.backing p self.old out → known_in S.view self.new.file ≡ known_in S.view self.old.file }
+        ensures keeps { (p : Pending) (out : List (Option Prepared)) → ImageInvariant S.view F.backing p self.old out → UnseenStep S.view F.backing p p self.old self.new out }
+        ensures known { (p : Pending) (out : List (Option Prepared)) → ImageInvariant S.view F.backing p self.old out → known_in S.view self.new.file ≡ known_in S.view self.old.file }
     {
         self.file.storage.begin();
         self.file.caches.begin();
@@ -382,7 +382,7 @@ impl<S: Storage, F: WrappedFormat<S>> Qcow2<S, F> {
         }
     }
 
-    pub(crate) fn settled<T>(&mut self, done: Result<T, ImageError>) -> Result<T, ImageError>
+    pub(crate) fn mark_failure<T>(&mut self, done: Result<T, ImageError>) -> Result<T, ImageError>
         ensures answer { result ≡ done }
         ensures image { IsSameImage self.old self.new }
         ensures marks { Marks done (is_failed self.old) (is_failed self.new) }

@@ -1,12 +1,12 @@
 //! Reading and writing what is mapped.
 ghost use Rattle.std.specs.Prelude.{◌≡◌, ◌≢◌, ◌+◌, ◌^◌, ◌<◌, ◌≤◌, ℕ, List, [], Option, length, slice_get, ◌⊎◌, IfOk, IfErr, IfSome, IsSome, IsTrue, MatchOption, Ok, Err, Some, None, true, false};
 ghost use Rattle.qcow2_laws.specs.Calls.{Shows};
-ghost use Rattle.qcow2_laws.specs.Guard.{Pending};
+ghost use Rattle.qcow2_laws.specs.CrashInvariant.{Pending};
 ghost use Rattle.qcow2_image.specs.Calls.{Answers, Puts};
 ghost use Rattle.qcow2_image.specs.Found.{AreBytesOf, IsFoundWhole, IsMappedAs, further_by};
-ghost use Rattle.qcow2_image.specs.Parts.{PutsPart, WritesBytes};
-ghost use Rattle.qcow2_image.specs.Steps.{Keeps};
-ghost use Rattle.qcow2_image.specs.Views.{IsHonestBacking, IsSoundAt, pending_in, backing_bytes, disk_of, seen};
+ghost use Rattle.qcow2_image.specs.CallParts.{PutsPart, WritesBytes};
+ghost use Rattle.qcow2_image.specs.UnseenSteps.{UnseenStep};
+ghost use Rattle.qcow2_image.specs.ImageInvariant.{IsHonestBacking, ImageInvariant, pending_in, backing_bytes, disk_of, abstract_of};
 ghost use Rattle.qcow2_image.specs.declared.mapping.MappingKind.TheVariants.{Eof, Raw};
 ghost use Rattle.qcow2_image.specs.declared.mapping.Place.TheVariants.{Image};
 ghost use Rattle.qcow2_image.specs.declared.prepared.Prepared.{Prepared};
@@ -20,7 +20,7 @@ use crate::{Mapping, MappingKind, Place, Prepared, Qcow2};
 use image_access::{BackingDisk, Storage, WrappedFormat};
 use qcow2_alloc::{ImageError, WriteKind};
 
-#[tactic(auto, using(crate::proofs::MetErrors::tables_met, crate::proofs::MetErrors::storage_met, crate::proofs::MetErrors::metadata_met))]
+#[tactic(auto, using(crate::proofs::Call::MetErrors::tables_met, crate::proofs::Call::MetErrors::storage_met, crate::proofs::Call::MetErrors::metadata_met))]
 impl<S: Storage, F: WrappedFormat<S>> Qcow2<S, F> {
     /// Refuses a range that can't be read.
     pub fn check_read(&self, offset: u64, length: u64) -> Result<(), ImageError>
@@ -47,7 +47,7 @@ impl<S: Storage, F: WrappedFormat<S>> Qcow2<S, F> {
         ensures nothing { refuses_mapping self.old mapping.now.image ≡ None → length bytes.old ≡ 0 → (result ≡ Ok tt) × (self.new ≡ self.old) }
         ensures marks { Marks result (is_failed self.old) (is_failed self.new) }
         ensures image { IsSameImage self.old self.new }
-        ensures outdated { (out : List (Option Prepared)) → (seen S.view F.backing self.old out).is_sound → result ≡ Err OutdatedMapping
+        ensures outdated { (out : List (Option Prepared)) → (abstract_of S.view F.backing self.old out).is_sound → result ≡ Err OutdatedMapping
             → ¬ IsFoundWhole S.view self.new (mapping.now.offset + at) (further_by at mapping.now.kind) (length bytes.old) }
         ensures sees { Answers S.view F.backing self.old self.new [] (λ done old new. (new ≡ old) × Shows old.disk (mapping.now.offset + at) bytes.new) result }
     {
@@ -60,7 +60,7 @@ impl<S: Storage, F: WrappedFormat<S>> Qcow2<S, F> {
         }
         self.begin();
         let done = self.read_current(mapping, at, bytes);
-        self.settled(done)
+        self.mark_failure(done)
     }
 
     fn read_current(
@@ -72,10 +72,10 @@ impl<S: Storage, F: WrappedFormat<S>> Qcow2<S, F> {
         ensures stays { Stays self.old self.new }
         ensures cause { IfErr result IsMet }
         ensures list { self.new.file.free_list ≡ self.old.file.free_list }
-        ensures keeps { (p : Pending) (out : List (Option Prepared)) → IsSoundAt S.view F.backing p self.old out → Keeps S.view F.backing p p self.old self.new out }
-        ensures outdated { 0 < length bytes.old → (p : Pending) (out : List (Option Prepared)) → IsSoundAt S.view F.backing p self.old out → result ≡ Err OutdatedMapping
+        ensures keeps { (p : Pending) (out : List (Option Prepared)) → ImageInvariant S.view F.backing p self.old out → UnseenStep S.view F.backing p p self.old self.new out }
+        ensures outdated { 0 < length bytes.old → (p : Pending) (out : List (Option Prepared)) → ImageInvariant S.view F.backing p self.old out → result ≡ Err OutdatedMapping
             → ¬ IsFoundWhole S.view self.new (mapping.now.offset + at) (further_by at mapping.now.kind) (length bytes.old) }
-        ensures shows { 0 < length bytes.old → (p : Pending) (out : List (Option Prepared)) → IsSoundAt S.view F.backing p self.old out → IfOk result (λ done. Shows (disk_of S.view F.backing self.new) (mapping.now.offset + at) bytes.new) }
+        ensures shows { 0 < length bytes.old → (p : Pending) (out : List (Option Prepared)) → ImageInvariant S.view F.backing p self.old out → IfOk result (λ done. Shows (disk_of S.view F.backing self.new) (mapping.now.offset + at) bytes.new) }
     {
         let offset = self.place_within(mapping.offset, at)?;
         let kind = mapping.kind.further(at);
@@ -106,9 +106,9 @@ impl<S: Storage, F: WrappedFormat<S>> Qcow2<S, F> {
         ensures stays { Stays self.old self.new }
         ensures cause { IfErr result IsMet }
         ensures list { self.new.file.free_list ≡ self.old.file.free_list }
-        ensures keeps { (p : Pending) (out : List (Option Prepared)) → IsSoundAt S.view F.backing p self.old out → Keeps S.view F.backing p p self.old self.new out }
-        ensures outdated { (p : Pending) (out : List (Option Prepared)) → IsSoundAt S.view F.backing p self.old out → result ≡ Err OutdatedMapping → ¬ IsFoundWhole S.view self.new offset wanted.now length }
-        ensures mapped { 0 < length → (p : Pending) (out : List (Option Prepared)) → IsSoundAt S.view F.backing p self.old out → IfOk result (λ done. IsMappedAs S.view self.new offset wanted.now length) }
+        ensures keeps { (p : Pending) (out : List (Option Prepared)) → ImageInvariant S.view F.backing p self.old out → UnseenStep S.view F.backing p p self.old self.new out }
+        ensures outdated { (p : Pending) (out : List (Option Prepared)) → ImageInvariant S.view F.backing p self.old out → result ≡ Err OutdatedMapping → ¬ IsFoundWhole S.view self.new offset wanted.now length }
+        ensures mapped { 0 < length → (p : Pending) (out : List (Option Prepared)) → ImageInvariant S.view F.backing p self.old out → IfOk result (λ done. IsMappedAs S.view self.new offset wanted.now length) }
     {
         let (kind, found) = self.look_up(offset, length)?;
         if found >= length && wanted.is(&kind) {
@@ -127,9 +127,9 @@ impl<S: Storage, F: WrappedFormat<S>> Qcow2<S, F> {
         ensures stays { Stays self.old self.new }
         ensures cause { IfErr result IsMet }
         ensures list { self.new.file.free_list ≡ self.old.file.free_list }
-        ensures keeps { (p : Pending) (out : List (Option Prepared)) → IsSoundAt S.view F.backing p self.old out → Keeps S.view F.backing p p self.old self.new out }
+        ensures keeps { (p : Pending) (out : List (Option Prepared)) → ImageInvariant S.view F.backing p self.old out → UnseenStep S.view F.backing p p self.old self.new out }
         ensures outdated { result ≡ Err OutdatedMapping → (kind.now ≡ Eof) × (self.new ≡ self.old) }
-        ensures shows { (p : Pending) (out : List (Option Prepared)) → IsSoundAt S.view F.backing p self.old out → IsMappedAs S.view self.old offset kind.now (length bytes.old)
+        ensures shows { (p : Pending) (out : List (Option Prepared)) → ImageInvariant S.view F.backing p self.old out → IsMappedAs S.view self.old offset kind.now (length bytes.old)
             → IfOk result (λ done. Shows (disk_of S.view F.backing self.new) offset bytes.new) }
     {
         match kind {
@@ -156,7 +156,7 @@ impl<S: Storage, F: WrappedFormat<S>> Qcow2<S, F> {
         ensures cause { IfErr result IsMet }
         ensures current { result ≢ Err OutdatedMapping }
         ensures file { self.new.file ≡ self.old.file }
-        ensures keeps { (p : Pending) (out : List (Option Prepared)) → IsSoundAt S.view F.backing p self.old out → Keeps S.view F.backing p p self.old self.new out }
+        ensures keeps { (p : Pending) (out : List (Option Prepared)) → ImageInvariant S.view F.backing p self.old out → UnseenStep S.view F.backing p p self.old self.new out }
         ensures reads { IsHonestBacking S.view F.backing self.old.backing → IfOk result (λ done. (length bytes.new ≡ length bytes.old) × AreBytesOf (backing_bytes S.view F.backing self.old.backing) offset bytes.new) }
     {
         let Some(backing) = &mut self.backing else {
@@ -182,7 +182,7 @@ impl<S: Storage, F: WrappedFormat<S>> Qcow2<S, F> {
         ensures nothing { refuses_mapping self.old (image_of prepared.now) ≡ None → length bytes.now ≡ 0 → (result ≡ Ok tt) × (self.new ≡ self.old) }
         ensures marks { Marks result (is_failed self.old) (is_failed self.new) }
         ensures image { IsSameImage self.old self.new }
-        ensures outdated { table_of prepared.now ≡ None → (out : List (Option Prepared)) → (seen S.view F.backing self.old out).is_sound → result ≡ Err OutdatedMapping
+        ensures outdated { table_of prepared.now ≡ None → (out : List (Option Prepared)) → (abstract_of S.view F.backing self.old out).is_sound → result ≡ Err OutdatedMapping
             → ¬ IsFoundWhole S.view self.new (prepared.now.guest + at) (Raw Image (prepared.now.offset + at) true) (length bytes.now) }
         ensures private { IsSome (table_of prepared.now) → result ≡ Err OutdatedMapping → (size_of self.old ≤ prepared.now.guest + at) ⊎ (2 ^ 64 ≤ prepared.now.offset + at) }
         ensures sees { Puts S.view F.backing self.old self.new prepared.now at bytes.now result }
@@ -199,7 +199,7 @@ impl<S: Storage, F: WrappedFormat<S>> Qcow2<S, F> {
         }
         self.begin();
         let done = self.write_current(prepared, at, bytes);
-        self.settled(done)
+        self.mark_failure(done)
     }
 
     fn write_current(
@@ -210,11 +210,11 @@ impl<S: Storage, F: WrappedFormat<S>> Qcow2<S, F> {
     ) -> Result<(), ImageError>
         ensures stays { Stays self.old self.new }
         ensures cause { IfErr result IsMet }
-        ensures outdated { 0 < length bytes.now → table_of prepared.now ≡ None → (p : Pending) (out : List (Option Prepared)) → IsSoundAt S.view F.backing p self.old out → result ≡ Err OutdatedMapping
+        ensures outdated { 0 < length bytes.now → table_of prepared.now ≡ None → (p : Pending) (out : List (Option Prepared)) → ImageInvariant S.view F.backing p self.old out → result ≡ Err OutdatedMapping
             → ¬ IsFoundWhole S.view self.new (prepared.now.guest + at) (Raw Image (prepared.now.offset + at) true) (length bytes.now) }
         ensures private { IsSome (table_of prepared.now) → result ≡ Err OutdatedMapping → (size_of self.old ≤ prepared.now.guest + at) ⊎ (2 ^ 64 ≤ prepared.now.offset + at) }
         ensures puts { 0 < length bytes.now → at + length bytes.now ≤ prepared.now.length → (out : List (Option Prepared)) (k : ℕ) → slice_get out k ≡ Some (Some prepared.now)
-            → IsSoundAt S.view F.backing (pending_in S.view F.backing self.old out) self.old out → PutsPart S.view F.backing self.old self.new out k prepared.now at bytes.now result }
+            → ImageInvariant S.view F.backing (pending_in S.view F.backing self.old out) self.old out → PutsPart S.view F.backing self.old self.new out k prepared.now at bytes.now result }
     {
         let guest = self.place_within(prepared.guest, at)?;
         let Some(host) = prepared.offset.checked_add(at) else {
@@ -235,9 +235,9 @@ impl<S: Storage, F: WrappedFormat<S>> Qcow2<S, F> {
         ensures stays { Stays self.old self.new }
         ensures cause { IfErr result IsMet }
         ensures list { self.new.file.free_list ≡ self.old.file.free_list }
-        ensures keeps { (p : Pending) (out : List (Option Prepared)) → IsSoundAt S.view F.backing p self.old out → Keeps S.view F.backing p p self.old self.new out }
-        ensures outdated { (p : Pending) (out : List (Option Prepared)) → IsSoundAt S.view F.backing p self.old out → result ≡ Err OutdatedMapping → ¬ IsFoundWhole S.view self.new guest (Raw Image host true) length }
-        ensures mapped { table_of prepared.now ≡ None → 0 < length → (p : Pending) (out : List (Option Prepared)) → IsSoundAt S.view F.backing p self.old out
+        ensures keeps { (p : Pending) (out : List (Option Prepared)) → ImageInvariant S.view F.backing p self.old out → UnseenStep S.view F.backing p p self.old self.new out }
+        ensures outdated { (p : Pending) (out : List (Option Prepared)) → ImageInvariant S.view F.backing p self.old out → result ≡ Err OutdatedMapping → ¬ IsFoundWhole S.view self.new guest (Raw Image host true) length }
+        ensures mapped { table_of prepared.now ≡ None → 0 < length → (p : Pending) (out : List (Option Prepared)) → ImageInvariant S.view F.backing p self.old out
             → IfOk result (λ done. IsMappedAs S.view self.new guest (Raw Image host true) length) }
         ensures private { IsSome (table_of prepared.now) → result ≡ Ok tt }
     {

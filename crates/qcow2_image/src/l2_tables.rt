@@ -3,13 +3,13 @@ ghost use Rattle.std.specs.Prelude.{ℕ, List, Option, is_some, ◌≡◌, ◌-�
 ghost use Rattle.qcow2_metadata.specs.L2Mapping.{IsHostCluster};
 ghost use Rattle.qcow2_metadata.specs.EntryTable.{entry_count};
 ghost use Rattle.qcow2_image.specs.Image.{Stays, KeepsRest, KeepsRestOn, is_writable};
-ghost use Rattle.qcow2_laws.specs.Guard.{Pending};
+ghost use Rattle.qcow2_laws.specs.CrashInvariant.{Pending};
 ghost use Rattle.qcow2_alloc.specs.ImageFile.{known_in};
 ghost use Rattle.qcow2_image.specs.declared.prepared.Prepared.{Prepared};
-ghost use Rattle.qcow2_image.specs.Parts.{Enters, FindsTable};
+ghost use Rattle.qcow2_image.specs.CallParts.{Enters, FindsTable};
 ghost use Rattle.qcow2_image.specs.Found.{l1_index_of};
-ghost use Rattle.qcow2_image.specs.Steps.{Ensures, Keeps};
-ghost use Rattle.qcow2_image.specs.Views.{IsSoundAt, pending_in};
+ghost use Rattle.qcow2_image.specs.UnseenSteps.{Ensures, UnseenStep};
+ghost use Rattle.qcow2_image.specs.ImageInvariant.{ImageInvariant, pending_in};
 ghost use Rattle.qcow2_metadata.specs.Cover.{cover};
 ghost use Rattle.qcow2_image.specs.declared.mapping.Place.TheVariants.{Image};
 ghost use Rattle.qcow2_image.specs.NewTables.{SaysKnown, IsStored, StandsReady, MayName, NamesShared, Places, Stores, NamesNew, WritesNew, EntersTable, OwnsTable};
@@ -23,14 +23,14 @@ use image_access::{Storage, WrappedFormat};
 use qcow2_alloc::{ClustersToFreeEntry, ClustersToFreeList, ImageError, WriteKind};
 use qcow2_metadata::{ClusterCount, GuestOffset, HostCluster, L2Table};
 
-#[tactic(auto, using(crate::proofs::MetErrors::tables_met, crate::proofs::MetErrors::storage_met, crate::proofs::MetErrors::metadata_met))]
+#[tactic(auto, using(crate::proofs::Call::MetErrors::tables_met, crate::proofs::Call::MetErrors::storage_met, crate::proofs::Call::MetErrors::metadata_met))]
 impl<S: Storage, F: WrappedFormat<S>> Qcow2<S, F> {
     // The L2 table that covers an offset, held in its cache and marked copied. Where one is made, the clusters that are to be freed are freed then.
     pub(crate) fn table_for(&mut self, offset: u64) -> Result<HostCluster, ImageError>
         requires writable { IsTrue (is_writable self.old) }
         ensures stays { Stays self.old self.new }
         ensures cause { IfErr result IsMet }
-        ensures finds { (out : List (Option Prepared)) → IsSoundAt S.view F.backing (pending_in S.view F.backing self.old out) self.old out → FindsTable S.view F.backing self.old self.new out offset result }
+        ensures finds { (out : List (Option Prepared)) → ImageInvariant S.view F.backing (pending_in S.view F.backing self.old out) self.old out → FindsTable S.view F.backing self.old self.new out offset result }
     {
         if self.has_own_l2(offset) {
             return self.ensure_l2(offset);
@@ -55,7 +55,7 @@ impl<S: Storage, F: WrappedFormat<S>> Qcow2<S, F> {
         ensures stays { Stays self.old self.new }
         ensures keeps_rest { KeepsRestOn self.old self.new }
         ensures cause { IfErr result IsMet }
-        ensures ready { (p : Pending) (out : List (Option Prepared)) → IsSoundAt S.view F.backing p self.old out → Ensures S.view F.backing p self.old self.new out offset result }
+        ensures ready { (p : Pending) (out : List (Option Prepared)) → ImageInvariant S.view F.backing p self.old out → Ensures S.view F.backing p self.old self.new out offset result }
     {
         let cluster = self.own_l2(offset)?;
         self.file
@@ -70,7 +70,7 @@ impl<S: Storage, F: WrappedFormat<S>> Qcow2<S, F> {
         ensures stays { Stays self.old self.new }
         ensures keeps_rest { KeepsRestOn self.old self.new }
         ensures cause { IfErr result IsMet }
-        ensures owns { (p : Pending) (out : List (Option Prepared)) → IsSoundAt S.view F.backing p self.old out → OwnsTable S.view F.backing p self.old self.new out (l1_index_of self.old.file.header.fields offset) result }
+        ensures owns { (p : Pending) (out : List (Option Prepared)) → ImageInvariant S.view F.backing p self.old out → OwnsTable S.view F.backing p self.old self.new out (l1_index_of self.old.file.header.fields offset) result }
     {
         let bits = self.file.header.cluster_bits();
         let index = GuestOffset::new(offset).l1_index(bits);
@@ -96,7 +96,7 @@ impl<S: Storage, F: WrappedFormat<S>> Qcow2<S, F> {
         ensures stays { Stays self.old self.new }
         ensures keeps_rest { KeepsRestOn self.old self.new }
         ensures cause { IfErr result IsMet }
-        ensures owns { (p : Pending) (out : List (Option Prepared)) → IsSoundAt S.view F.backing p self.old out → NamesShared S.view self.old index old → OwnsTable S.view F.backing p self.old self.new out index result }
+        ensures owns { (p : Pending) (out : List (Option Prepared)) → ImageInvariant S.view F.backing p self.old out → NamesShared S.view self.old index old → OwnsTable S.view F.backing p self.old self.new out index result }
     {
         self.file
             .caches
@@ -119,7 +119,7 @@ impl<S: Storage, F: WrappedFormat<S>> Qcow2<S, F> {
         ensures stays { Stays self.old self.new }
         ensures keeps_rest { KeepsRestOn self.old self.new }
         ensures cause { IfErr result IsMet }
-        ensures owns { (p : Pending) (out : List (Option Prepared)) → IsSoundAt S.view F.backing p self.old out → NamesShared S.view self.old index old → SaysKnown self.old.file.header.fields (known_in S.view self.old.file) index table → OwnsTable S.view F.backing p self.old self.new out index result }
+        ensures owns { (p : Pending) (out : List (Option Prepared)) → ImageInvariant S.view F.backing p self.old out → NamesShared S.view self.old index old → SaysKnown self.old.file.header.fields (known_in S.view self.old.file) index table → OwnsTable S.view F.backing p self.old self.new out index result }
     {
         let entry = ClustersToFreeEntry::metadata(old, ClusterCount::new(1));
         let dropped = ClustersToFreeList::pending_guard(self.file.alloc, entry)?;
@@ -141,7 +141,7 @@ impl<S: Storage, F: WrappedFormat<S>> Qcow2<S, F> {
         ensures stays { Stays self.old self.new }
         ensures keeps_rest { KeepsRestOn self.old self.new }
         ensures cause { IfErr result IsMet }
-        ensures enters { (p : Pending) (out : List (Option Prepared)) → IsSoundAt S.view F.backing p self.old out → MayName S.view self.old index → SaysKnown self.old.file.header.fields (known_in S.view self.old.file) index table → EntersTable S.view F.backing p self.old self.new out index result }
+        ensures enters { (p : Pending) (out : List (Option Prepared)) → ImageInvariant S.view F.backing p self.old out → MayName S.view self.old index → SaysKnown self.old.file.header.fields (known_in S.view self.old.file) index table → EntersTable S.view F.backing p self.old self.new out index result }
     {
         let Some(allocator) = &mut self.allocator else {
             unreachable!();
@@ -171,7 +171,7 @@ impl<S: Storage, F: WrappedFormat<S>> Qcow2<S, F> {
         ensures keeps_rest { KeepsRest self.old self.new }
         ensures cause { IfErr result IsMet }
         ensures list { self.new.file.free_list ≡ self.old.file.free_list }
-        ensures writes { (p : Pending) (out : List (Option Prepared)) → IsSoundAt S.view F.backing (with_fresh p (one_at cluster)) self.old out → MayName S.view self.old index → IsTrue self.old.file.caches.is_changed
+        ensures writes { (p : Pending) (out : List (Option Prepared)) → ImageInvariant S.view F.backing (with_fresh p (one_at cluster)) self.old out → MayName S.view self.old index → IsTrue self.old.file.caches.is_changed
             → SaysKnown self.old.file.header.fields (known_in S.view self.old.file) index table → WritesNew S.view F.backing p self.old self.new out index cluster result }
     {
         if !self.can_enter(index, cluster) {
@@ -189,7 +189,7 @@ impl<S: Storage, F: WrappedFormat<S>> Qcow2<S, F> {
         ensures cause { IfErr result IsMet }
         ensures rest { self.new ≡ record self.old { file = record self.old.file { storage = self.new.file.storage; caches = self.new.file.caches } } }
         ensures noted { IsTrue self.old.file.caches.is_changed → IsTrue self.new.file.caches.is_changed }
-        ensures stores { (p : Pending) (out : List (Option Prepared)) → IsSoundAt S.view F.backing p self.old out → Stores S.view F.backing p self.old self.new out index result }
+        ensures stores { (p : Pending) (out : List (Option Prepared)) → ImageInvariant S.view F.backing p self.old out → Stores S.view F.backing p self.old self.new out index result }
     {
         if self.l1_table.get(index).is_some() {
             self.file.caches.flush_all(&mut self.file.storage)
@@ -206,7 +206,7 @@ impl<S: Storage, F: WrappedFormat<S>> Qcow2<S, F> {
         ensures rest { self.new ≡ record self.old { file = record self.old.file { storage = self.new.file.storage; caches = self.new.file.caches } } }
         ensures noted { IsTrue self.old.file.caches.is_changed → IsTrue self.new.file.caches.is_changed }
         ensures long { length table.bytes ≡ 2 ^ table.cluster_bits }
-        ensures places { (p : Pending) (out : List (Option Prepared)) (index : ℕ) → IsSoundAt S.view F.backing p self.old out → 0 < p.fresh cluster → IsTableOf self.old.file.header.fields table
+        ensures places { (p : Pending) (out : List (Option Prepared)) (index : ℕ) → ImageInvariant S.view F.backing p self.old out → 0 < p.fresh cluster → IsTableOf self.old.file.header.fields table
             → IsStored S.view self.old index → Places S.view F.backing p self.old self.new out index cluster table.bytes result }
     {
         if !cluster.is_nameable(table.cluster_bits()) {
@@ -228,7 +228,7 @@ impl<S: Storage, F: WrappedFormat<S>> Qcow2<S, F> {
         ensures keeps_rest { KeepsRest self.old self.new }
         ensures cause { IfErr result IsMet }
         ensures list { self.new.file.free_list ≡ self.old.file.free_list }
-        ensures names { (p : Pending) (out : List (Option Prepared)) (table : L2TableView) → IsSoundAt S.view F.backing (with_fresh p (one_at cluster)) self.old out → MayName S.view self.old index → IsTrue self.old.file.caches.is_changed
+        ensures names { (p : Pending) (out : List (Option Prepared)) (table : L2TableView) → ImageInvariant S.view F.backing (with_fresh p (one_at cluster)) self.old out → MayName S.view self.old index → IsTrue self.old.file.caches.is_changed
             → SaysKnown self.old.file.header.fields (known_in S.view self.old.file) index table → length table.bytes ≡ 2 ^ table.cluster_bits → StandsReady S.view self.old index cluster table.bytes → NamesNew S.view F.backing p self.old self.new out index cluster result }
     {
         self.file.storage.will_write(WriteKind::Other);

@@ -6,19 +6,19 @@ ghost use Rattle.qcow2_image.specs.FirstCluster.{IsFirst, IsNear};
 ghost use Rattle.qcow2_image.specs.Image.{HasNothingToFree, Stays, IsSameImage, is_failed, is_writable, number_of, size_of};
 ghost use Rattle.qcow2_image.specs.Prepared.{image_of, length_of, offset_of, table_of, HasNewCluster, IsKept};
 ghost use Rattle.qcow2_image.specs.Preparing.{HasItsOwn, IsAnswered, IsOfNothing, IsPlaceOf, IsRest, IsTaken};
-ghost use Rattle.qcow2_laws.specs.Guard.{Pending};
+ghost use Rattle.qcow2_laws.specs.CrashInvariant.{Pending};
 ghost use Rattle.qcow2_alloc.specs.MetadataCaches.{IsEntryAt, l2_at};
-ghost use Rattle.qcow2_alloc.specs.ImageFile.{known_in, IsSoundFile, KeepsHeader};
+ghost use Rattle.qcow2_alloc.specs.ImageFile.{known_in, FileInvariant, KeepsHeader};
 ghost use Rattle.qcow2_image.specs.declared.prepared.Prepared.{Prepared};
 ghost use Rattle.qcow2_image.specs.Calls.{Answers, Commits, Discards, Prepares, reason_of};
-ghost use Rattle.qcow2_image.specs.Parts.{Enters, NotesNew, IsExisting, Readies, IsRefused, PreparesRange};
+ghost use Rattle.qcow2_image.specs.CallParts.{Enters, NotesNew, IsExisting, Readies, RefusedCall, PreparesRange};
 ghost use Rattle.qcow2_alloc.specs.CacheMarks.{l2_pins};
 ghost use Rattle.qcow2_alloc.specs.ImageError.{IsFault, IsOfTables};
 ghost use Rattle.qcow2_laws.specs.Alike.{IsAlike};
 ghost use Rattle.qcow2_laws.specs.Found.{IsFoundIn, kind_at, rest_of_table};
 ghost use Rattle.qcow2_image.specs.Found.{found_kind, mapping_of, IsRunBehind, NamesTable, IsRunFrom, IsFound, l1_index_of, l2_index_of};
-ghost use Rattle.qcow2_image.specs.Steps.{Gains, HoldsAll, HoldsTable, Pins, SameHeld, Keeps, ListGrows, TakesData, EntersCluster, EntersNew, FreesLater, Unpins, freed_by};
-ghost use Rattle.qcow2_image.specs.Views.{HasL1Table, IsSoundAt, meaning, pending_in, seen};
+ghost use Rattle.qcow2_image.specs.UnseenSteps.{Gains, HoldsAll, HoldsTable, Pins, SameHeld, UnseenStep, ListGrows, TakesData, EntersCluster, EntersNew, FreesLater, Unpins, freed_by};
+ghost use Rattle.qcow2_image.specs.ImageInvariant.{HasL1Table, ImageInvariant, meaning, pending_in, abstract_of};
 ghost use Rattle.qcow2_metadata.specs.Header.{cluster_size, entries_per_cluster};
 ghost use Rattle.qcow2_metadata.specs.Cover.{cover};
 ghost use Rattle.qcow2_image.specs.declared.mapping.Place.TheVariants.{Image};
@@ -86,7 +86,7 @@ enum FirstCluster {
     Missing,
 }
 
-#[tactic(auto, using(crate::proofs::MetErrors::tables_met, crate::proofs::MetErrors::storage_met, crate::proofs::MetErrors::metadata_met, crate::proofs::MetErrors::metadata_of_tables))]
+#[tactic(auto, using(crate::proofs::Call::MetErrors::tables_met, crate::proofs::Call::MetErrors::storage_met, crate::proofs::Call::MetErrors::metadata_met, crate::proofs::Call::MetErrors::metadata_of_tables))]
 impl<S: Storage, F: WrappedFormat<S>> Qcow2<S, F> {
     /// What stands at a guest offset, and for how many bytes, up to `max`, all is mapped alike: within one L2 table,
     /// and below the disk's size.
@@ -99,13 +99,13 @@ impl<S: Storage, F: WrappedFormat<S>> Qcow2<S, F> {
         ensures within { IfOk result (λ (mapping, n). n ≤ max) }
         ensures some { IfOk result (λ (mapping, n). offset < size_of self.old → 0 < max → 0 < n) }
         ensures sees { Answers S.view F.backing self.old self.new [] (λ found old new. new ≡ old) result }
-        ensures known { (out : List (Option Prepared)) → (seen S.view F.backing self.old out).is_sound → known_in S.view self.new.file ≡ known_in S.view self.old.file }
-        ensures run { (out : List (Option Prepared)) → (seen S.view F.backing self.old out).is_sound → IfOk result (λ (mapping, n). IsFoundIn (known_in S.view self.new.file) (is_some self.new.backing) offset max (found_kind mapping.kind) n) }
+        ensures known { (out : List (Option Prepared)) → (abstract_of S.view F.backing self.old out).is_sound → known_in S.view self.new.file ≡ known_in S.view self.old.file }
+        ensures run { (out : List (Option Prepared)) → (abstract_of S.view F.backing self.old out).is_sound → IfOk result (λ (mapping, n). IsFoundIn (known_in S.view self.new.file) (is_some self.new.backing) offset max (found_kind mapping.kind) n) }
     {
         self.check_usable()?;
         self.begin();
         let found = self.look_up(offset, max);
-        let (kind, length) = self.settled(found)?;
+        let (kind, length) = self.mark_failure(found)?;
         let mapping = Mapping {
             image: self.number,
             offset,
@@ -122,12 +122,12 @@ impl<S: Storage, F: WrappedFormat<S>> Qcow2<S, F> {
     ) -> Result<(MappingKind, u64), ImageError>
         ensures stays { Stays self.old self.new }
         ensures cause { IfErr result IsOfTables }
-        ensures keeps { (p : Pending) (out : List (Option Prepared)) → IsSoundAt S.view F.backing p self.old out → Keeps S.view F.backing p p self.old self.new out }
-        ensures known { (p : Pending) (out : List (Option Prepared)) → IsSoundAt S.view F.backing p self.old out → known_in S.view self.new.file ≡ known_in S.view self.old.file }
+        ensures keeps { (p : Pending) (out : List (Option Prepared)) → ImageInvariant S.view F.backing p self.old out → UnseenStep S.view F.backing p p self.old self.new out }
+        ensures known { (p : Pending) (out : List (Option Prepared)) → ImageInvariant S.view F.backing p self.old out → known_in S.view self.new.file ≡ known_in S.view self.old.file }
         ensures list { self.new.file.free_list ≡ self.old.file.free_list }
         ensures within { IfOk result (λ (kind, n). n ≤ max) }
         ensures some { IfOk result (λ (kind, n). offset < size_of self.old → 0 < max → 0 < n) }
-        ensures found { (p : Pending) (out : List (Option Prepared)) → IsSoundAt S.view F.backing p self.old out → IfOk result (λ (kind, n). IsFound S.view self.new offset max kind n) }
+        ensures found { (p : Pending) (out : List (Option Prepared)) → ImageInvariant S.view F.backing p self.old out → IfOk result (λ (kind, n). IsFound S.view self.new offset max kind n) }
     {
         let size = self.file.header.size();
         if offset >= size {
@@ -190,7 +190,7 @@ impl<S: Storage, F: WrappedFormat<S>> Qcow2<S, F> {
         ensures cause { IfErr result IsOfTables }
         ensures within { IfOk result (λ (kind, n). n ≤ max) }
         ensures some { IfOk result (λ (kind, n). 0 < max → 0 < n) }
-        ensures run { (p : Pending) → IsSoundFile S.view p self.now.file
+        ensures run { (p : Pending) → FileInvariant S.view p self.now.file
             → IsEntryAt self.now.file.header.fields (known_in S.view self.now.file) (l1_index_of self.now.file.header.fields offset) table (l2_index_of self.now.file.header.fields offset)
             → max ≤ rest_of_table self.now.file.header.fields offset → IfOk result (λ (kind, n). IsRunFrom S.view self.now offset max kind n) }
     {
@@ -277,13 +277,13 @@ impl<S: Storage, F: WrappedFormat<S>> Qcow2<S, F> {
         ensures nothing { refuses_to_prepare self.old offset 0 ≡ None → length ≡ 0 → IsOk result × IfOk result IsOfNothing × (self.new ≡ self.old) }
         ensures marks { Marks result (is_failed self.old) (is_failed self.new) }
         ensures image { IsSameImage self.old self.new }
-        ensures taken { refuses_to_prepare self.old offset length ≡ None → (out : List (Option Prepared)) → (seen S.view F.backing self.old out).is_sound
+        ensures taken { refuses_to_prepare self.old offset length ≡ None → (out : List (Option Prepared)) → (abstract_of S.view F.backing self.old out).is_sound
             → IfErr result (λ e. e ≡ TablePrepared → IsTaken self.old.file.header.fields (known_in S.view self.old.file) offset length out) }
         ensures own { IfOk result (λ p. image_of p ≡ number_of self.old) }
         ensures some { IfOk result (λ p. 0 < length → 0 < length_of p) }
         ensures end { IfOk result (λ p. offset + length < 2 ^ 64) }
         ensures sees { Prepares S.view F.backing self.old self.new offset length overwrite result }
-        ensures maps { 0 < length → (out : List (Option Prepared)) → (seen S.view F.backing self.old out).is_sound
+        ensures maps { 0 < length → (out : List (Option Prepared)) → (abstract_of S.view F.backing self.old out).is_sound
             → IfOk result (λ p. IsAnswered self.old.file.header.fields (known_in S.view self.old.file) offset length self.new.file.header.fields (known_in S.view self.new.file) p (meaning S.view F.backing self.new p)) }
     {
         self.check_prepare(offset, length)?;
@@ -292,7 +292,7 @@ impl<S: Storage, F: WrappedFormat<S>> Qcow2<S, F> {
         }
         self.begin();
         let prepared = self.prepare(offset, length, overwrite);
-        self.settled(prepared)
+        self.mark_failure(prepared)
     }
 
     // Refuses a range that can't be prepared.
@@ -332,13 +332,13 @@ impl<S: Storage, F: WrappedFormat<S>> Qcow2<S, F> {
         requires writable { IsTrue (is_writable self.old) }
         ensures stays { Stays self.old self.new }
         ensures cause { IfErr result IsMetPreparing }
-        ensures taken { 0 < length → (out : List (Option Prepared)) → IsSoundAt S.view F.backing (pending_in S.view F.backing self.old out) self.old out
+        ensures taken { 0 < length → (out : List (Option Prepared)) → ImageInvariant S.view F.backing (pending_in S.view F.backing self.old out) self.old out
             → IfErr result (λ e. e ≡ TablePrepared → IsTaken self.old.file.header.fields (known_in S.view self.old.file) offset length out) }
         ensures own { IfOk result (λ p. image_of p ≡ number_of self.old) }
         ensures some { IfOk result (λ p. 0 < length → 0 < length_of p) }
-        ensures readies { 0 < length → (out : List (Option Prepared)) → IsSoundAt S.view F.backing (pending_in S.view F.backing self.old out) self.old out
+        ensures readies { 0 < length → (out : List (Option Prepared)) → ImageInvariant S.view F.backing (pending_in S.view F.backing self.old out) self.old out
             → PreparesRange S.view F.backing self.old self.new out offset length overwrite result }
-        ensures answers { 0 < length → (out : List (Option Prepared)) → IsSoundAt S.view F.backing (pending_in S.view F.backing self.old out) self.old out
+        ensures answers { 0 < length → (out : List (Option Prepared)) → ImageInvariant S.view F.backing (pending_in S.view F.backing self.old out) self.old out
             → IfOk result (λ q. IsAnswered self.old.file.header.fields (known_in S.view self.old.file) offset length self.new.file.header.fields (known_in S.view self.new.file) q (meaning S.view F.backing self.new q)) }
     {
         let table = self.table_for(offset)?;
@@ -362,11 +362,11 @@ impl<S: Storage, F: WrappedFormat<S>> Qcow2<S, F> {
         ensures taken { IfErr result (λ e. e ≡ TablePrepared → 0 < l2_pins self.old.file.caches table) }
         ensures own { IfOk result (λ p. image_of p ≡ number_of self.old) }
         ensures some { IfOk result (λ p. 0 < length_of p) }
-        ensures readies { (out : List (Option Prepared)) → IsSoundAt S.view F.backing (pending_in S.view F.backing self.old out) self.old out
+        ensures readies { (out : List (Option Prepared)) → ImageInvariant S.view F.backing (pending_in S.view F.backing self.old out) self.old out
             → HoldsTable S.view F.backing self.old offset table → PreparesRange S.view F.backing self.old self.new out offset length overwrite result }
-        ensures alone { (p : Pending) (out : List (Option Prepared)) → IsSoundAt S.view F.backing p self.old out → HoldsAll S.view F.backing p out
+        ensures alone { (p : Pending) (out : List (Option Prepared)) → ImageInvariant S.view F.backing p self.old out → HoldsAll S.view F.backing p out
             → IfOk result (λ q. HasItsOwn self.new.file.header.fields (known_in S.view self.new.file) q.new_cluster) }
-        ensures rest { (p : Pending) (out : List (Option Prepared)) → IsSoundAt S.view F.backing p self.old out
+        ensures rest { (p : Pending) (out : List (Option Prepared)) → ImageInvariant S.view F.backing p self.old out
             → HoldsTable S.view F.backing self.old offset table → IfOk result (IsRest self.old.file.header.fields (known_in S.view self.old.file) offset) }
         ensures header { OnOk result (KeepsHeader self.old.file.header self.new.file.header) }
     {
@@ -382,7 +382,7 @@ impl<S: Storage, F: WrappedFormat<S>> Qcow2<S, F> {
         ensures cause { IsMetPreparing refusal → IsMetPreparing result }
         ensures taken { IsMetPreparing refusal → result ≡ TablePrepared → refusal ≡ TablePrepared }
         ensures fault { IsFault refusal → (result ≡ refusal) × (self.new ≡ self.old) }
-        ensures frees { (out : List (Option Prepared)) → IsSoundAt S.view F.backing (pending_in S.view F.backing self.old out) self.old out → IsRefused S.view F.backing self.old self.new out result }
+        ensures frees { (out : List (Option Prepared)) → ImageInvariant S.view F.backing (pending_in S.view F.backing self.old out) self.old out → RefusedCall S.view F.backing self.old self.new out result }
     {
         if is_last(&refusal) {
             return refusal;
@@ -401,7 +401,7 @@ impl<S: Storage, F: WrappedFormat<S>> Qcow2<S, F> {
         length: u64,
     ) -> Result<Option<u64>, ImageError>
         ensures cause { IfErr result IsMet }
-        ensures place { (p : Pending) → IsSoundFile S.view p self.now.file
+        ensures place { (p : Pending) → FileInvariant S.view p self.now.file
             → IsEntryAt self.now.file.header.fields (known_in S.view self.now.file) (l1_index_of self.now.file.header.fields offset) table (l2_index_of self.now.file.header.fields offset)
             → 0 < length → IfOk result (IsPlaceOf self.now.file.header.fields (known_in S.view self.now.file) offset length) }
     {
@@ -427,11 +427,11 @@ impl<S: Storage, F: WrappedFormat<S>> Qcow2<S, F> {
         ensures taken { IfErr result (λ e. e ≡ TablePrepared → 0 < l2_pins self.old.file.caches table) }
         ensures own { IfOk result (λ p. image_of p ≡ number_of self.old) }
         ensures some { IfOk result (λ p. 0 < length_of p) }
-        ensures readies { (out : List (Option Prepared)) → IsSoundAt S.view F.backing (pending_in S.view F.backing self.old out) self.old out
+        ensures readies { (out : List (Option Prepared)) → ImageInvariant S.view F.backing (pending_in S.view F.backing self.old out) self.old out
             → HoldsTable S.view F.backing self.old offset table → Readies S.view F.backing self.old self.new out offset length overwrite result }
-        ensures alone { (p : Pending) (out : List (Option Prepared)) → IsSoundAt S.view F.backing p self.old out → HoldsAll S.view F.backing p out
+        ensures alone { (p : Pending) (out : List (Option Prepared)) → ImageInvariant S.view F.backing p self.old out → HoldsAll S.view F.backing p out
             → IfOk result (λ q. HasItsOwn self.new.file.header.fields (known_in S.view self.new.file) q.new_cluster) }
-        ensures rest { (p : Pending) (out : List (Option Prepared)) → IsSoundAt S.view F.backing p self.old out
+        ensures rest { (p : Pending) (out : List (Option Prepared)) → ImageInvariant S.view F.backing p self.old out
             → HoldsTable S.view F.backing self.old offset table → IfOk result (IsRest self.old.file.header.fields (known_in S.view self.old.file) offset) }
         ensures header { KeepsHeader self.old.file.header self.new.file.header }
     {
@@ -458,10 +458,10 @@ impl<S: Storage, F: WrappedFormat<S>> Qcow2<S, F> {
         ensures cause { IfErr result IsMet }
         ensures own { IfOk result (λ p. image_of p ≡ number_of self.old) }
         ensures some { IfOk result (λ p. 0 < length_of p) }
-        ensures readies { (out : List (Option Prepared)) → IsSoundAt S.view F.backing (pending_in S.view F.backing self.old out) self.old out
+        ensures readies { (out : List (Option Prepared)) → ImageInvariant S.view F.backing (pending_in S.view F.backing self.old out) self.old out
             → HoldsTable S.view F.backing self.old offset table → l2_pins self.old.file.caches table ≡ 0 → cover self.old.file.header.fields (known_in S.view self.old.file) (offset / cluster_size self.old.file.header.fields) ≡ L2Mapping.Uncovered
             → Readies S.view F.backing self.old self.new out offset length overwrite result }
-        ensures alone { (p : Pending) (out : List (Option Prepared)) → IsSoundAt S.view F.backing p self.old out → HoldsAll S.view F.backing p out
+        ensures alone { (p : Pending) (out : List (Option Prepared)) → ImageInvariant S.view F.backing p self.old out → HoldsAll S.view F.backing p out
             → IfOk result (λ q. HasItsOwn self.new.file.header.fields (known_in S.view self.new.file) q.new_cluster) }
         ensures rest { (known : Bytes) → cover self.old.file.header.fields known (offset / cluster_size self.old.file.header.fields) ≡ L2Mapping.Uncovered → IfOk result (IsRest self.old.file.header.fields known offset) }
         ensures header { KeepsHeader self.old.file.header self.new.file.header }
@@ -487,8 +487,8 @@ impl<S: Storage, F: WrappedFormat<S>> Qcow2<S, F> {
         ensures stays { Stays self.old self.new }
         ensures cause { IfErr result IsMet }
         ensures list { self.new.file.free_list ≡ self.old.file.free_list }
-        ensures keeps { (p : Pending) (out : List (Option Prepared)) → IsSoundAt S.view F.backing p self.old out → Keeps S.view F.backing p p self.old self.new out }
-        ensures contents { (p : Pending) (out : List (Option Prepared)) → IsSoundAt S.view F.backing p self.old out → SameHeld S.view F.backing p self.old self.new }
+        ensures keeps { (p : Pending) (out : List (Option Prepared)) → ImageInvariant S.view F.backing p self.old out → UnseenStep S.view F.backing p p self.old self.new out }
+        ensures contents { (p : Pending) (out : List (Option Prepared)) → ImageInvariant S.view F.backing p self.old out → SameHeld S.view F.backing p self.old self.new }
         ensures held { OnOk result (IsSome (l2_at self.new.file.caches table)) }
     {
         self.file
@@ -541,7 +541,7 @@ impl<S: Storage, F: WrappedFormat<S>> Qcow2<S, F> {
     ) -> Result<FirstCluster, ImageError>
         ensures value { IfOk result IsNear }
         ensures cause { IfErr result IsMet }
-        ensures stands { (p : Pending) (i : ℕ) → IsSoundFile S.view p self.now.file → IsEntryAt self.now.file.header.fields (known_in S.view self.now.file) i table (cluster % entries_per_cluster self.now.file.header.fields)
+        ensures stands { (p : Pending) (i : ℕ) → FileInvariant S.view p self.now.file → IsEntryAt self.now.file.header.fields (known_in S.view self.now.file) i table (cluster % entries_per_cluster self.now.file.header.fields)
             → cluster / entries_per_cluster self.now.file.header.fields ≡ i → IfOk result (IsFirst self.now.file.header.fields (known_in S.view self.now.file) cluster) }
     {
         let Some(held) = self.file.caches.l2_peek(table) else {
@@ -572,7 +572,7 @@ impl<S: Storage, F: WrappedFormat<S>> Qcow2<S, F> {
         ensures header { KeepsHeader self.old.file.header self.new.file.header }
         ensures stays { Stays self.old self.new }
         ensures cause { IfErr result IsMet }
-        ensures gains { (p : Pending) (out : List (Option Prepared)) → IsSoundAt S.view F.backing p self.old out → HoldsAll S.view F.backing p out → Gains S.view F.backing p self.old self.new out offset length overwrite result }
+        ensures gains { (p : Pending) (out : List (Option Prepared)) → ImageInvariant S.view F.backing p self.old out → HoldsAll S.view F.backing p out → Gains S.view F.backing p self.old self.new out offset length overwrite result }
     {
         let pending = self.take_data()?;
         match self.fill_cluster(pending.cluster(), offset, length, overwrite) {
@@ -592,7 +592,7 @@ impl<S: Storage, F: WrappedFormat<S>> Qcow2<S, F> {
         ensures list { ListGrows self.old self.new }
         ensures stays { Stays self.old self.new }
         ensures cause { IfErr result IsMet }
-        ensures takes { (p : Pending) (out : List (Option Prepared)) → IsSoundAt S.view F.backing p self.old out → HoldsAll S.view F.backing p out → TakesData S.view F.backing p self.old self.new out result }
+        ensures takes { (p : Pending) (out : List (Option Prepared)) → ImageInvariant S.view F.backing p self.old out → HoldsAll S.view F.backing p out → TakesData S.view F.backing p self.old self.new out result }
     {
         let Some(allocator) = &mut self.allocator else {
             unreachable!();

@@ -1,10 +1,10 @@
 //! A larger disk.
 ghost use Rattle.std.specs.Prelude.{◌≡◌, ◌<◌, ◌++◌, Some, [], IfOk, OnOk};
 ghost use Rattle.qcow2_metadata.specs.L2Mapping.{IsHostCluster};
-ghost use Rattle.qcow2_laws.specs.Guard.{Pending};
+ghost use Rattle.qcow2_laws.specs.CrashInvariant.{Pending};
 ghost use Rattle.qcow2_image.specs.Growing.{run_of_table, listed, with_table, IsLonger, StandsWhole, PlacesTable, NamesTable, TakesTable, Lengthens, Resizes, Grows};
-ghost use Rattle.qcow2_image.specs.Steps.{ListGrows};
-ghost use Rattle.qcow2_image.specs.Views.{IsSoundAt, seen};
+ghost use Rattle.qcow2_image.specs.UnseenSteps.{ListGrows};
+ghost use Rattle.qcow2_image.specs.ImageInvariant.{ImageInvariant, abstract_of};
 
 use crate::Qcow2;
 use image_access::{Storage, WrappedFormat};
@@ -19,7 +19,7 @@ const MAX_L1_ENTRIES: usize = 4_194_304;
 impl<S: Storage, F: WrappedFormat<S>> Qcow2<S, F> {
     // Makes the disk larger: a new L1 table, then the size. A size that isn't larger changes nothing.
     pub(crate) fn grow(&mut self, size: u64) -> Result<(), ImageError>
-        ensures grows { (seen S.view F.backing self.old []).is_sound → Grows S.view F.backing self.old self.new size result }
+        ensures grows { (abstract_of S.view F.backing self.old []).is_sound → Grows S.view F.backing self.old self.new size result }
     {
         if self.is_failed {
             return Err(ImageError::Failed);
@@ -29,12 +29,12 @@ impl<S: Storage, F: WrappedFormat<S>> Qcow2<S, F> {
         }
         self.begin();
         let done = self.grow_to(size);
-        self.settled(done)
+        self.mark_failure(done)
     }
 
     fn grow_to(&mut self, size: u64) -> Result<(), ImageError>
         requires { 0 < size }
-        ensures resizes { (p : Pending) → IsSoundAt S.view F.backing p self.old [] → Resizes S.view F.backing p self.old self.new size result }
+        ensures resizes { (p : Pending) → ImageInvariant S.view F.backing p self.old [] → Resizes S.view F.backing p self.old self.new size result }
         ensures list { OnOk result (ListGrows self.old self.new) }
     {
         let bits = self.file.header.cluster_bits();
@@ -43,7 +43,7 @@ impl<S: Storage, F: WrappedFormat<S>> Qcow2<S, F> {
     }
 
     fn write_size(&mut self, size: u64) -> Result<(), ImageError>
-        ensures resizes { (p : Pending) → IsSoundAt S.view F.backing p self.old [] → Resizes S.view F.backing p self.old self.new size result }
+        ensures resizes { (p : Pending) → ImageInvariant S.view F.backing p self.old [] → Resizes S.view F.backing p self.old self.new size result }
         ensures list { self.new.file.free_list ≡ self.old.file.free_list }
     {
         self.file.header.set_size(size);
@@ -54,7 +54,7 @@ impl<S: Storage, F: WrappedFormat<S>> Qcow2<S, F> {
 
     // Makes a new L1 table that has an entry of this index, with all old entries. The old one is to be freed.
     fn grow_l1_table(&mut self, index: usize) -> Result<(), ImageError>
-        ensures lengthens { (p : Pending) → IsSoundAt S.view F.backing p self.old [] → Lengthens S.view F.backing p self.old self.new result }
+        ensures lengthens { (p : Pending) → ImageInvariant S.view F.backing p self.old [] → Lengthens S.view F.backing p self.old self.new result }
         ensures list { OnOk result (ListGrows self.old self.new) }
     {
         if index >= MAX_L1_ENTRIES {
@@ -89,7 +89,7 @@ impl<S: Storage, F: WrappedFormat<S>> Qcow2<S, F> {
 
     // Gives an L1 table clusters, writes it there, and then the pointer that names it.
     fn enter_l1_table(&mut self, table: L1Table) -> Result<(), ImageError>
-        ensures takes { (p : Pending) → IsSoundAt S.view F.backing p self.old [] → IsLonger self.old table → TakesTable S.view F.backing p self.old self.new result }
+        ensures takes { (p : Pending) → ImageInvariant S.view F.backing p self.old [] → IsLonger self.old table → TakesTable S.view F.backing p self.old self.new result }
         ensures list { OnOk result (ListGrows self.old self.new) }
     {
         let Some(allocator) = &mut self.allocator else {
@@ -111,7 +111,7 @@ impl<S: Storage, F: WrappedFormat<S>> Qcow2<S, F> {
     // The table is written first, then the pointer that names it.
     fn write_l1_table(&mut self, mut table: L1Table, cluster: HostCluster) -> Result<(), ImageError>
         requires { IsHostCluster self.old.file.header.fields.cluster_bits cluster }
-        ensures names { (p : Pending) → IsSoundAt S.view F.backing (with_table p table cluster) self.old [] → IsLonger self.old table → NamesTable S.view F.backing p self.old self.new table cluster result }
+        ensures names { (p : Pending) → ImageInvariant S.view F.backing (with_table p table cluster) self.old [] → IsLonger self.old table → NamesTable S.view F.backing p self.old self.new table cluster result }
         ensures list { self.new.file.free_list ≡ self.old.file.free_list }
     {
         self.place_l1_table(&mut table, cluster)?;
@@ -124,7 +124,7 @@ impl<S: Storage, F: WrappedFormat<S>> Qcow2<S, F> {
         table: &mut L1Table,
         cluster: HostCluster,
     ) -> Result<(), ImageError>
-        ensures places { (p : Pending) → IsSoundAt S.view F.backing (with_table p table.old cluster) self.old [] → IsLonger self.old table.old → PlacesTable S.view F.backing (with_table p table.old cluster) self.old self.new table.new cluster result }
+        ensures places { (p : Pending) → ImageInvariant S.view F.backing (with_table p table.old cluster) self.old [] → IsLonger self.old table.old → PlacesTable S.view F.backing (with_table p table.old cluster) self.old self.new table.new cluster result }
         ensures table { OnOk result (table.new ≡ record table.old { cluster = Some cluster }) }
         ensures header { self.new.file.header ≡ self.old.file.header }
         ensures list { self.new.file.free_list ≡ self.old.file.free_list }
@@ -142,7 +142,7 @@ impl<S: Storage, F: WrappedFormat<S>> Qcow2<S, F> {
     // Writes the pointer that names an L1 table, which is the image's own then.
     fn name_l1_table(&mut self, table: L1Table, cluster: HostCluster) -> Result<(), ImageError>
         requires { IsHostCluster self.old.file.header.fields.cluster_bits cluster }
-        ensures names { (p : Pending) → IsSoundAt S.view F.backing (with_table p table cluster) self.old [] → StandsWhole S.view self.old table cluster → NamesTable S.view F.backing p self.old self.new table cluster result }
+        ensures names { (p : Pending) → ImageInvariant S.view F.backing (with_table p table cluster) self.old [] → StandsWhole S.view self.old table cluster → NamesTable S.view F.backing p self.old self.new table cluster result }
         ensures list { self.new.file.free_list ≡ self.old.file.free_list }
     {
         let offset = cluster.offset(self.file.header.cluster_bits());

@@ -12,13 +12,13 @@ use Rattle.qcow2_metadata.specs.declared.l2_mapping.L2Mapping.{L2Mapping}
 use Rattle.qcow2_metadata.specs.declared.l2_mapping.L2Mapping.TheVariants.{Data, Zero, Compressed, Uncovered}
 use Rattle.qcow2_laws.specs.Disk.{disk}
 use Rattle.qcow2_laws.specs.Guests.{names}
-use Rattle.qcow2_laws.specs.Leads.{Stand, IsSound}
+use Rattle.qcow2_laws.specs.SafeSteps.{DriverState, StateInvariant}
 use Rattle.qcow2_laws.specs.Alike.{IsDataAt, AreDataAt, IsAlike, IsAlikeAt, IsAlikeRun, IsLongestRun}
 use Rattle.qcow2_laws.proofs.Places.{in_one, div_mono}
 use Rattle.qcow2_laws.proofs.Shown.{shown_data, shown_zero, shown_uncovered, data_aligned, data_named, data_unlaid}
 
 -- ---- a guest byte that stands at a place
-module _ (s : Stand) (sound : IsSound s) (copied : Bool) (o place : ℕ) (at : IsDataAt s.header s.known copied o place) where
+module _ (s : DriverState) (sound : StateInvariant s) (copied : Bool) (o place : ℕ) (at : IsDataAt s.header s.known copied o place) where
   pub at_cluster : place / cluster_size s.header ≡ at.0 / cluster_size s.header
   at_cluster =
       ap (λ n. n / cluster_size s.header) (sym at.2)
@@ -27,13 +27,13 @@ module _ (s : Stand) (sound : IsSound s) (copied : Bool) (o place : ℕ) (at : I
   pub at_named : names s.header s.known (place / cluster_size s.header) (o / cluster_size s.header) ≡ 1
   at_named = ap (λ c. names s.header s.known c (o / cluster_size s.header)) at_cluster ∙ data_named s sound (o / cluster_size s.header) at.0 copied at.1
 
-  pub at_unlaid : s.base place ≡ s.known place
+  pub at_unlaid : s.on_storage place ≡ s.known place
   at_unlaid =
-      subst (λ n. s.base n ≡ s.known n) at.2
+      subst (λ n. s.on_storage n ≡ s.known n) at.2
       (data_unlaid s sound (o / cluster_size s.header) at.0 copied at.1 (o % cluster_size s.header) (mod_below o (cluster_size s.header) (pow_pos s.header.cluster_bits)))
 
-  pub at_shown : (backing : Bytes) → (disk s.known backing).value o ≡ known_byte (s.base place)
-  at_shown backing = shown_data s sound backing o at.0 copied at.1 ∙ ap (λ n. known_byte (s.base n)) at.2
+  pub at_shown : (backing : Bytes) → (disk s.known backing).value o ≡ known_byte (s.on_storage place)
+  at_shown backing = shown_data s sound backing o at.0 copied at.1 ∙ ap (λ n. known_byte (s.on_storage n)) at.2
 
 -- ---- bytes that stand in a row
 
@@ -119,9 +119,9 @@ module _ (h : HeaderFields) (b : Bytes) (offset n : ℕ) (run : IsAlikeRun h b o
       alike_uncovered distance (cover h b ((offset + i) / cluster_size h)) (subst (λ v. IsAlike distance v (cover h b ((offset + i) / cluster_size h))) is (run i lt))
 
 -- ---- what guests read of a run
-module _ (s : Stand) (sound : IsSound s) (offset n : ℕ) (run : IsAlikeRun s.header s.known offset n) (backing : Bytes) where
+module _ (s : DriverState) (sound : StateInvariant s) (offset n : ℕ) (run : IsAlikeRun s.header s.known offset n) (backing : Bytes) where
   pub run_shows_data : (host : ℕ) (copied : Bool) → cover s.header s.known (offset / cluster_size s.header) ≡ Data host copied
-      → (i : ℕ) → i < n → (disk s.known backing).value (offset + i) ≡ known_byte (s.base (host + offset % cluster_size s.header + i))
+      → (i : ℕ) → i < n → (disk s.known backing).value (offset + i) ≡ known_byte (s.on_storage (host + offset % cluster_size s.header + i))
   run_shows_data host copied is i lt =
       at_shown s sound copied (offset + i) (host + offset % cluster_size s.header + i) (run_data s.header s.known offset n run host copied is i lt) backing
 

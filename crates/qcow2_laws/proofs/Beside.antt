@@ -11,18 +11,18 @@ use Rattle.qcow2_metadata.specs.Entries.{l1_entry, l2_entry, reftable_entry}
 use Rattle.qcow2_metadata.specs.Cover.{cover, entry_cover}
 use Rattle.qcow2_metadata.specs.Named.{in_cluster}
 use Rattle.qcow2_metadata.specs.Tables.{CachedTable}
-use Rattle.qcow2_laws.specs.Stops.{Gift}
+use Rattle.qcow2_laws.specs.Stops.{GivenBytes}
 use Rattle.qcow2_laws.specs.Clusters.{Direction}
 use Rattle.qcow2_laws.specs.Guests.{marks, table_at}
-use Rattle.qcow2_laws.specs.Guard.{Pending, SameIn}
+use Rattle.qcow2_laws.specs.CrashInvariant.{Pending, SameIn}
 use Rattle.qcow2_laws.specs.Writes.{IsUnnamed, MayChange, IsWritten}
 use Rattle.qcow2_laws.specs.Tops.{Places, with_places, IsSameBut, WritesL1Entry, WritesReftableEntry, WritesHeader}
-use Rattle.qcow2_laws.specs.Caches.{known_bytes, IsFreeOf, IsKept, AreSettled}
+use Rattle.qcow2_laws.specs.Caches.{known_bytes, IsFreeOf, CacheInvariantOver, AreSettled}
 use Rattle.qcow2_laws.proofs.Places.{Sizes, l1-same, reftable-same, cover_none, cover_in}
 use Rattle.qcow2_laws.proofs.Consistency.{in_own}
 use Rattle.qcow2_laws.proofs.Shares.{in_l1, in_reftable, l1_has, reftable_has}
 use Rattle.qcow2_laws.proofs.Caches.{kept_sizes, rbs_free, l2s_free, unnamed_free_l2, unnamed_free_rb}
-use Rattle.qcow2_laws.proofs.KeptSteps.{known_beside, known_is_base, still_agree}
+use Rattle.qcow2_laws.proofs.KeptSteps.{known_beside, known_is_on_storage, still_agree}
 use Rattle.qcow2_laws.proofs.Writes.{marked_alone}
 use Rattle.qcow2_metadata.proofs.MadeEntries.{cover_of-0}
 use Rattle.qcow2_laws.proofs.Headers.{writes_header}
@@ -31,24 +31,24 @@ use Rattle.qcow2_laws.proofs.Headers.{writes_header}
 pub overwritten_but : (contents : List ℕ) (at : ℕ) (bytes : List ℕ) → IsSameBut at (length bytes) (byte_at contents) (byte_at (overwritten contents at bytes))
 overwritten_but contents at bytes o outside = sym (byte_at-overwritten_outside contents at bytes o outside)
 
-module _ (h : HeaderFields) (d : Direction) (p : Pending) (l2s rbs : List CachedTable) (base base' : Bytes) (kept : IsKept h d p l2s rbs base) where
+module _ (h : HeaderFields) (d : Direction) (p : Pending) (l2s rbs : List CachedTable) (on_storage on_storage' : Bytes) (kept : CacheInvariantOver h d p l2s rbs on_storage) where
   sizes : Sizes h
-  sizes = kept_sizes h d p l2s rbs base kept
+  sizes = kept_sizes h d p l2s rbs on_storage kept
 
   -- no modified table lies in the clusters of the header, the L1 table and the reftable
   pub first_free : (c : ℕ) → 0 < in_cluster h c 0 + in_l1 h c + in_reftable h c → IsFreeOf (cluster_size h) l2s c × IsFreeOf (cluster_size h) rbs c
-  first_free c some = (l2s_free h d p l2s rbs base kept c (omega arith), rbs_free h d p l2s rbs base kept c (omega arith))
+  first_free c some = (l2s_free h d p l2s rbs on_storage kept c (omega arith), rbs_free h d p l2s rbs on_storage kept c (omega arith))
 
-  but_known : (place n : ℕ) → IsSameBut place n base base' → IsSameBut place n (known_bytes (cluster_size h) l2s rbs base) (known_bytes (cluster_size h) l2s rbs base')
-  but_known place n but o outside = known_beside (cluster_size h) l2s rbs base base' o (but o outside)
+  but_known : (place n : ℕ) → IsSameBut place n on_storage on_storage' → IsSameBut place n (known_bytes (cluster_size h) l2s rbs on_storage) (known_bytes (cluster_size h) l2s rbs on_storage')
+  but_known place n but o outside = known_beside (cluster_size h) l2s rbs on_storage on_storage' o (but o outside)
 
   -- in a cluster that no modified table lies in, what is known is on the storage
-  free_in : (c : ℕ) → IsFreeOf (cluster_size h) l2s c × IsFreeOf (cluster_size h) rbs c → SameIn (cluster_size h) c (known_bytes (cluster_size h) l2s rbs base') base'
-  free_in c free o in_c = known_is_base (cluster_size h) l2s rbs base' o (free.0 o in_c) (free.1 o in_c)
+  free_in : (c : ℕ) → IsFreeOf (cluster_size h) l2s c × IsFreeOf (cluster_size h) rbs c → SameIn (cluster_size h) c (known_bytes (cluster_size h) l2s rbs on_storage') on_storage'
+  free_in c free o in_c = known_is_on_storage (cluster_size h) l2s rbs on_storage' o (free.0 o in_c) (free.1 o in_c)
 
   -- ---- an entry of the L1 table, and one of the reftable
-  pub l1_entry_beside : (i entry : ℕ) → i < h.l1_entries → IsSameBut (h.l1_offset + 8 * i) 8 base base' → l1_entry h base' i ≡ entry
-      → WritesL1Entry h base (known_bytes (cluster_size h) l2s rbs base) base' (known_bytes (cluster_size h) l2s rbs base') i entry
+  pub l1_entry_beside : (i entry : ℕ) → i < h.l1_entries → IsSameBut (h.l1_offset + 8 * i) 8 on_storage on_storage' → l1_entry h on_storage' i ≡ entry
+      → WritesL1Entry h on_storage (known_bytes (cluster_size h) l2s rbs on_storage) on_storage' (known_bytes (cluster_size h) l2s rbs on_storage') i entry
   l1_entry_beside i entry lt but is = record {
     within = lt;
     others = but;
@@ -56,12 +56,12 @@ module _ (h : HeaderFields) (d : Direction) (p : Pending) (l2s rbs : List Cached
     is = is;
     known_is =
         let aligned = kept.guarded.top.l1_aligned in
-        l1-same h (known_bytes (cluster_size h) l2s rbs base') base' i sizes aligned (λ _.
+        l1-same h (known_bytes (cluster_size h) l2s rbs on_storage') on_storage' i sizes aligned (λ _.
         free_in ((h.l1_offset + 8 * i) / cluster_size h) (first_free ((h.l1_offset + 8 * i) / cluster_size h) (let one = l1_has h i sizes aligned lt in omega arith))) ∙ is;
   }
 
-  pub reftable_entry_beside : (k entry : ℕ) → k < reftable_entries h → IsSameBut (h.reftable_offset + 8 * k) 8 base base' → reftable_entry h base' k ≡ entry
-      → WritesReftableEntry h base (known_bytes (cluster_size h) l2s rbs base) base' (known_bytes (cluster_size h) l2s rbs base') k entry
+  pub reftable_entry_beside : (k entry : ℕ) → k < reftable_entries h → IsSameBut (h.reftable_offset + 8 * k) 8 on_storage on_storage' → reftable_entry h on_storage' k ≡ entry
+      → WritesReftableEntry h on_storage (known_bytes (cluster_size h) l2s rbs on_storage) on_storage' (known_bytes (cluster_size h) l2s rbs on_storage') k entry
   reftable_entry_beside k entry lt but is = record {
     within = lt;
     others = but;
@@ -69,19 +69,19 @@ module _ (h : HeaderFields) (d : Direction) (p : Pending) (l2s rbs : List Cached
     is = is;
     known_is =
         let aligned = kept.guarded.top.reftable_aligned in
-        reftable-same h (known_bytes (cluster_size h) l2s rbs base') base' k sizes aligned (λ _.
+        reftable-same h (known_bytes (cluster_size h) l2s rbs on_storage') on_storage' k sizes aligned (λ _.
         free_in ((h.reftable_offset + 8 * k) / cluster_size h) (first_free ((h.reftable_offset + 8 * k) / cluster_size h) (let one = reftable_has h k sizes aligned lt in omega arith))) ∙ is;
   }
 
   -- ---- the header
-  pub header_beside : (a : Places) (place n : ℕ) → place + n ≤ 104 → IsSameBut place n base base' → header base' ≡ with_places h a → HeaderReads (with_places h a) base'
-      → WritesHeader h a base (known_bytes (cluster_size h) l2s rbs base) base' (known_bytes (cluster_size h) l2s rbs base')
+  pub header_beside : (a : Places) (place n : ℕ) → place + n ≤ 104 → IsSameBut place n on_storage on_storage' → header on_storage' ≡ with_places h a → HeaderReads (with_places h a) on_storage'
+      → WritesHeader h a on_storage (known_bytes (cluster_size h) l2s rbs on_storage) on_storage' (known_bytes (cluster_size h) l2s rbs on_storage')
   header_beside a place n small but is reads =
-      writes_header h d p base (known_bytes (cluster_size h) l2s rbs base) base' (known_bytes (cluster_size h) l2s rbs base') kept.guarded a place n
+      writes_header h d p on_storage (known_bytes (cluster_size h) l2s rbs on_storage) on_storage' (known_bytes (cluster_size h) l2s rbs on_storage') kept.guarded a place n
       (record {
         others = but;
         known_others = but_known place n but;
-        agree = still_agree (cluster_size h) l2s rbs base base' (λ o. elim (cases_lt o (place + n)) [
+        agree = still_agree (cluster_size h) l2s rbs on_storage on_storage' (λ o. elim (cases_lt o (place + n)) [
           | inr past ↦ inl (but o (inr past))
           | inl lt ↦
               let large = sizes.large in
@@ -95,11 +95,11 @@ module _ (h : HeaderFields) (d : Direction) (p : Pending) (l2s rbs : List Cached
       }) small is reads
 
   -- ---- data, and bytes of new tables: no refblock is modified that nothing names
-  pub data_beside : (given : List Gift) → ((c : ℕ) → SameIn (cluster_size h) c base base' ⊎ (IsFreeOf (cluster_size h) l2s c × IsFreeOf (cluster_size h) rbs c))
-      → ((c : ℕ) → MayChange h base (known_bytes (cluster_size h) l2s rbs base) base' (known_bytes (cluster_size h) l2s rbs base') given c)
-      → IsWritten h base (known_bytes (cluster_size h) l2s rbs base) base' (known_bytes (cluster_size h) l2s rbs base') given
+  pub data_beside : (given : List GivenBytes) → ((c : ℕ) → SameIn (cluster_size h) c on_storage on_storage' ⊎ (IsFreeOf (cluster_size h) l2s c × IsFreeOf (cluster_size h) rbs c))
+      → ((c : ℕ) → MayChange h on_storage (known_bytes (cluster_size h) l2s rbs on_storage) on_storage' (known_bytes (cluster_size h) l2s rbs on_storage') given c)
+      → IsWritten h on_storage (known_bytes (cluster_size h) l2s rbs on_storage) on_storage' (known_bytes (cluster_size h) l2s rbs on_storage') given
   data_beside given free each = record {
-    agree = still_agree (cluster_size h) l2s rbs base base' (λ o. elim (free (o / cluster_size h)) [
+    agree = still_agree (cluster_size h) l2s rbs on_storage on_storage' (λ o. elim (free (o / cluster_size h)) [
       | inl same ↦ inl (same o refl)
       | inr none ↦ inr (none.0 o refl, none.1 o refl)
     ]);
@@ -107,17 +107,17 @@ module _ (h : HeaderFields) (d : Direction) (p : Pending) (l2s rbs : List Cached
   }
 
   -- a cluster that stays on the storage stays as known
-  pub same_beside : (c : ℕ) → SameIn (cluster_size h) c base base' → SameIn (cluster_size h) c base base' × SameIn (cluster_size h) c (known_bytes (cluster_size h) l2s rbs base) (known_bytes (cluster_size h) l2s rbs base')
-  same_beside c same = (same, (λ o in_c. known_beside (cluster_size h) l2s rbs base base' o (same o in_c)))
+  pub same_beside : (c : ℕ) → SameIn (cluster_size h) c on_storage on_storage' → SameIn (cluster_size h) c on_storage on_storage' × SameIn (cluster_size h) c (known_bytes (cluster_size h) l2s rbs on_storage) (known_bytes (cluster_size h) l2s rbs on_storage')
+  same_beside c same = (same, (λ o in_c. known_beside (cluster_size h) l2s rbs on_storage on_storage' o (same o in_c)))
 
-  pub unnamed_free : AreSettled h rbs base → (c : ℕ) → IsUnnamed h base (known_bytes (cluster_size h) l2s rbs base) c → IsFreeOf (cluster_size h) l2s c × IsFreeOf (cluster_size h) rbs c
-  unnamed_free settled c unnamed = (unnamed_free_l2 h d p l2s rbs base kept c unnamed.no_table, unnamed_free_rb h d p l2s rbs base kept settled c unnamed.no_table)
+  pub unnamed_free : AreSettled h rbs on_storage → (c : ℕ) → IsUnnamed h on_storage (known_bytes (cluster_size h) l2s rbs on_storage) c → IsFreeOf (cluster_size h) l2s c × IsFreeOf (cluster_size h) rbs c
+  unnamed_free settled c unnamed = (unnamed_free_l2 h d p l2s rbs on_storage kept c unnamed.no_table, unnamed_free_rb h d p l2s rbs on_storage kept settled c unnamed.no_table)
 
   -- nor does one lie in a cluster that a guest cluster is known to have to itself
-  pub in_place_free : AreSettled h rbs base → (c g : ℕ) → 0 < marks h (known_bytes (cluster_size h) l2s rbs base) c g → IsFreeOf (cluster_size h) l2s c × IsFreeOf (cluster_size h) rbs c
+  pub in_place_free : AreSettled h rbs on_storage → (c g : ℕ) → 0 < marks h (known_bytes (cluster_size h) l2s rbs on_storage) c g → IsFreeOf (cluster_size h) l2s c × IsFreeOf (cluster_size h) rbs c
   in_place_free settled c g marked =
-      let alone = marked_alone h d p base (known_bytes (cluster_size h) l2s rbs base) kept.guarded c g marked in
-      (unnamed_free_l2 h d p l2s rbs base kept c alone.0, unnamed_free_rb h d p l2s rbs base kept settled c alone.0)
+      let alone = marked_alone h d p on_storage (known_bytes (cluster_size h) l2s rbs on_storage) kept.guarded c g marked in
+      (unnamed_free_l2 h d p l2s rbs on_storage kept c alone.0, unnamed_free_rb h d p l2s rbs on_storage kept settled c alone.0)
 
 -- ---- what a new L2 table says
 

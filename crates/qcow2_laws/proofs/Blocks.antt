@@ -10,10 +10,10 @@ use Rattle.qcow2_metadata.specs.Cover.{cover, entry_cover}
 use Rattle.qcow2_metadata.specs.Guest.{guest_value}
 use Rattle.qcow2_metadata.specs.Named.{named_for_tables}
 use Rattle.qcow2_metadata.specs.Consistent.{CoverIsAligned}
-use Rattle.qcow2_laws.specs.Stops.{Gift, IsGiven, Mark, more, IsKeptAt}
+use Rattle.qcow2_laws.specs.Stops.{GivenBytes, IsGiven, Checkpoint, checkpoint_with, StopOkEverywhere}
 use Rattle.qcow2_laws.specs.Clusters.{Direction, L2DependsOnRb, RbDependsOnL2}
 use Rattle.qcow2_laws.specs.Guests.{guests, names, marks, named_in_either, table_at}
-use Rattle.qcow2_laws.specs.Guard.{Pending, cluster, IsGuarded, IsTop, SameTop, SameCovers, SameCounts, SameIn}
+use Rattle.qcow2_laws.specs.CrashInvariant.{Pending, cluster, CrashInvariant, IsTop, SameTop, SameCovers, SameCounts, SameIn}
 use Rattle.qcow2_laws.specs.Changes.{one_at, with_held, with_fresh, without_spent, without_dropped, remapped}
 use Rattle.qcow2_laws.specs.Tops.{IsSameOutside}
 use Rattle.qcow2_laws.proofs.Places.{Sizes, Sizes-from, count_in, cover_in, cover_at, has_table}
@@ -24,16 +24,16 @@ use Rattle.qcow2_laws.proofs.Changes.{one_at-le, at_one, data_counted, table_cou
 use Rattle.qcow2_laws.proofs.Shares.{shares, block_has, table_has, block_top, block_covers, block_others, table_top, table_counts, table_others}
 
 -- a cluster that a table stands in is neither named by entries nor held, and is counted
-module _ (h : HeaderFields) (d : Direction) (p : Pending) (base known : Bytes) (guarded : IsGuarded h d p base known) (c : ℕ) (fixed : 0 < named_for_tables h base c) where
-  pub table_apart : named_in_either h base known c + p.held c ≡ 0
+module _ (h : HeaderFields) (d : Direction) (p : Pending) (on_storage known : Bytes) (guarded : CrashInvariant h d p on_storage known) (c : ℕ) (fixed : 0 < named_for_tables h on_storage c) where
+  pub table_apart : named_in_either h on_storage known c + p.held c ≡ 0
   table_apart =
       let table = (guarded.always c).table fixed in
       elim (cases_lt 0 (p.held c)) [
-        | inl held ↦ absurd (let none = held_unnamed d (cluster h p base known c) (p.surplus c) (tied h p base known c) held (good h d p base known guarded c) in omega (arith, none.1))
+        | inl held ↦ absurd (let none = held_unnamed d (cluster h p on_storage known c) (p.surplus c) (tied h p on_storage known c) held (good h d p on_storage known guarded c) in omega (arith, none.1))
         | inr none ↦ omega arith
       ]
 
-  pub table_once : named_for_tables h base c ≡ 1
+  pub table_once : named_for_tables h on_storage c ≡ 1
   table_once = let table = (guarded.always c).table fixed in omega arith
 
   pub table_is_counted : 0 < count h known c
@@ -54,14 +54,14 @@ not_at : (per c0 c : ℕ) → c / per ≢ c0 / per → one_at c0 c ≡ 0
 not_at per c0 c other = cond-false {A = ℕ} _ 1 0 (ne_eqb c c0 (λ e. other (ap (λ n. n / per) e)))
 
 -- ---- one count of a refblock changes
-module _ (h : HeaderFields) (d : Direction) (p : Pending) (base known known' : Bytes) (guarded : IsGuarded h d p base known) (c0 : ℕ)
+module _ (h : HeaderFields) (d : Direction) (p : Pending) (on_storage known known' : Bytes) (guarded : CrashInvariant h d p on_storage known) (c0 : ℕ)
     (real : block_offset (reftable_entry h known (c0 / counts_per_block h)) ≢ 0)
     (outside : IsSameOutside (cluster_size h) (block_offset (reftable_entry h known (c0 / counts_per_block h)) / cluster_size h) known known') where
   place : ℕ
   place = block_offset (reftable_entry h known (c0 / counts_per_block h))
 
   known_top : IsTop h known
-  known_top = IsTop-top h base known guarded.same_top guarded.top
+  known_top = IsTop-top h on_storage known guarded.same_top guarded.top
 
   sizes : Sizes h
   sizes = Sizes-from h known known_top.header_reads
@@ -75,13 +75,13 @@ module _ (h : HeaderFields) (d : Direction) (p : Pending) (base known known' : B
       let one = block_has h known (c0 / counts_per_block h) real in
       omega arith
 
-  base_fixed : 0 < named_for_tables h base (block_offset (reftable_entry h known (c0 / counts_per_block h)) / cluster_size h)
-  base_fixed = let e = for_tables-top h base known (block_offset (reftable_entry h known (c0 / counts_per_block h)) / cluster_size h) guarded.same_top in let f = fixed in omega arith
+  storage_fixed : 0 < named_for_tables h on_storage (block_offset (reftable_entry h known (c0 / counts_per_block h)) / cluster_size h)
+  storage_fixed = let e = for_tables-top h on_storage known (block_offset (reftable_entry h known (c0 / counts_per_block h)) / cluster_size h) guarded.same_top in let f = fixed in omega arith
 
   once : named_for_tables h known (block_offset (reftable_entry h known (c0 / counts_per_block h)) / cluster_size h) ≤ 1
   once =
-      let e = for_tables-top h base known (block_offset (reftable_entry h known (c0 / counts_per_block h)) / cluster_size h) guarded.same_top in
-      let t = table_once h d p base known guarded (block_offset (reftable_entry h known (c0 / counts_per_block h)) / cluster_size h) base_fixed in
+      let e = for_tables-top h on_storage known (block_offset (reftable_entry h known (c0 / counts_per_block h)) / cluster_size h) guarded.same_top in
+      let t = table_once h d p on_storage known guarded (block_offset (reftable_entry h known (c0 / counts_per_block h)) / cluster_size h) storage_fixed in
       omega arith
 
   pub counted_top : SameTop h known known'
@@ -91,13 +91,13 @@ module _ (h : HeaderFields) (d : Direction) (p : Pending) (base known known' : B
   counted_covers = block_covers h known known' known_top (c0 / counts_per_block h) real once same
 
   -- what entries name, and what is held, isn't where the refblock stands
-  stays : (o : ℕ) → 0 < named_in_either h base known (o / cluster_size h) + p.held (o / cluster_size h) → known o ≡ known' o
+  stays : (o : ℕ) → 0 < named_in_either h on_storage known (o / cluster_size h) + p.held (o / cluster_size h) → known o ≡ known' o
   stays o some = outside o (λ e.
-      let apart = table_apart h d p base known guarded (block_offset (reftable_entry h known (c0 / counts_per_block h)) / cluster_size h) base_fixed in
-      let here = subst (λ n. 0 < named_in_either h base known n + p.held n) e some in
+      let apart = table_apart h d p on_storage known guarded (block_offset (reftable_entry h known (c0 / counts_per_block h)) / cluster_size h) storage_fixed in
+      let here = subst (λ n. 0 < named_in_either h on_storage known n + p.held n) e some in
       absurd (omega arith))
 
-  bytes : (o : ℕ) → 0 < named_in_either h base known (o / cluster_size h) + p.held (o / cluster_size h) → base o ≡ known' o
+  bytes : (o : ℕ) → 0 < named_in_either h on_storage known (o / cluster_size h) + p.held (o / cluster_size h) → on_storage o ≡ known' o
   bytes o some = guarded.unlaid o some ∙ stays o some
 
   -- a count in this refblock, before and after
@@ -111,13 +111,13 @@ module _ (h : HeaderFields) (d : Direction) (p : Pending) (base known known' : B
       )
 
   -- the count rises by one
-  module _ (more : (i : ℕ) → i < counts_per_block h → block_count known' (count_width h) (block_offset (reftable_entry h known (c0 / counts_per_block h))) i
+  module _ (checkpoint_with : (i : ℕ) → i < counts_per_block h → block_count known' (count_width h) (block_offset (reftable_entry h known (c0 / counts_per_block h))) i
       ≡ block_count known (count_width h) (block_offset (reftable_entry h known (c0 / counts_per_block h))) i + one_at (c0 % counts_per_block h) i) (free : count h known c0 ≡ 0) where
     pub counts_more : (c : ℕ) → count h known' c ≡ count h known c + one_at c0 c
     counts_more c = elim (cases_eq (c / counts_per_block h) (c0 / counts_per_block h)) [
       | inl here ↦
           let at = count_here c here in
-          let e = more (c % counts_per_block h) (mod_below c (counts_per_block h) sizes.counts) in
+          let e = checkpoint_with (c % counts_per_block h) (mod_below c (counts_per_block h) sizes.counts) in
           let one = one_in_block (counts_per_block h) c0 c sizes.counts here in
           omega (arith, at.0, at.1)
       | inr other ↦
@@ -129,19 +129,19 @@ module _ (h : HeaderFields) (d : Direction) (p : Pending) (base known known' : B
     table_counted_free : (c : ℕ) → 0 < one_at c0 c → count h known c ≡ 0
     table_counted_free c some = at_one c0 c (count h known) 0 free some
 
-    pub table_allocated : IsGuarded h d (with_fresh p (one_at c0)) base known'
-    table_allocated = table_counted h p base known known' (one_at c0) counted_top counted_covers (one_at-le c0) d guarded bytes table_counted_free counts_more
+    pub table_allocated : CrashInvariant h d (with_fresh p (one_at c0)) on_storage known'
+    table_allocated = table_counted h p on_storage known known' (one_at c0) counted_top counted_covers (one_at-le c0) d guarded bytes table_counted_free counts_more
 
     -- the new cluster holds what it holds on the storage
-    pub data_allocated : d ≡ L2DependsOnRb → ((o : ℕ) → o / cluster_size h ≡ c0 → base o ≡ known o) → IsGuarded h L2DependsOnRb (with_held p (one_at c0)) base known'
+    pub data_allocated : d ≡ L2DependsOnRb → ((o : ℕ) → o / cluster_size h ≡ c0 → on_storage o ≡ known o) → CrashInvariant h L2DependsOnRb (with_held p (one_at c0)) on_storage known'
     data_allocated is unlaid =
-        data_counted h p base known known' (one_at c0) counted_top counted_covers (one_at-le c0) (subst (λ e. IsGuarded h e p base known) is guarded)
-        (λ o some. elim (cases_lt 0 (named_in_either h base known (o / cluster_size h) + p.held (o / cluster_size h))) [
+        data_counted h p on_storage known known' (one_at c0) counted_top counted_covers (one_at-le c0) (subst (λ e. CrashInvariant h e p on_storage known) is guarded)
+        (λ o some. elim (cases_lt 0 (named_in_either h on_storage known (o / cluster_size h) + p.held (o / cluster_size h))) [
           | inl before ↦ bytes o before
           | inr none ↦
               let here : o / cluster_size h ≡ c0 = elim (cases_eq (o / cluster_size h) c0) [ inl e ↦ e | inr ne ↦ absurd (let z : one_at c0 (o / cluster_size h) ≡ 0 = cond-false {A = ℕ} _ 1 0 (ne_eqb (o / cluster_size h) c0 ne) in omega arith) ] in
               unlaid o here ∙ outside o (λ e.
-              let used = table_is_counted h d p base known guarded (block_offset (reftable_entry h known (c0 / counts_per_block h)) / cluster_size h) base_fixed in
+              let used = table_is_counted h d p on_storage known guarded (block_offset (reftable_entry h known (c0 / counts_per_block h)) / cluster_size h) storage_fixed in
               let zero : count h known (block_offset (reftable_entry h known (c0 / counts_per_block h)) / cluster_size h) ≡ 0 = ap (count h known) (sym e ∙ here) ∙ free in
               absurd (omega arith))
         ])
@@ -163,31 +163,31 @@ module _ (h : HeaderFields) (d : Direction) (p : Pending) (base known known' : B
           omega arith
     ]
 
-    pub table_released : 0 < p.spent c0 → IsGuarded h d (without_spent p (one_at c0)) base known'
+    pub table_released : 0 < p.spent c0 → CrashInvariant h d (without_spent p (one_at c0)) on_storage known'
     table_released some =
-        table_freed h p base known known' (one_at c0) counted_top counted_covers (one_at-le c0) d guarded bytes (λ c at. spent_at c at) counts_less
+        table_freed h p on_storage known known' (one_at c0) counted_top counted_covers (one_at-le c0) d guarded bytes (λ c at. spent_at c at) counts_less
       where
         spent_at : (c : ℕ) → 0 < one_at c0 c → 0 < p.spent c
         spent_at c at = let e = at_one c0 c p.spent (p.spent c0) refl at in omega arith
 
-    pub data_released : d ≡ RbDependsOnL2 → 0 < p.dropped c0 → IsGuarded h RbDependsOnL2 (without_dropped p (one_at c0)) base known'
+    pub data_released : d ≡ RbDependsOnL2 → 0 < p.dropped c0 → CrashInvariant h RbDependsOnL2 (without_dropped p (one_at c0)) on_storage known'
     data_released is some =
-        data_freed h p base known known' (one_at c0) counted_top counted_covers (one_at-le c0) (subst (λ e. IsGuarded h e p base known) is guarded) bytes (λ c at. dropped_at c at) counts_less
+        data_freed h p on_storage known known' (one_at c0) counted_top counted_covers (one_at-le c0) (subst (λ e. CrashInvariant h e p on_storage known) is guarded) bytes (λ c at. dropped_at c at) counts_less
       where
         dropped_at : (c : ℕ) → 0 < one_at c0 c → 0 < p.dropped c
         dropped_at c at = let e = at_one c0 c p.dropped (p.dropped c0) refl at in omega arith
 
   -- whatever the counts are, guests see what they saw
-  pub counts_kept : (e : Direction) (p' : Pending) → IsGuarded h e p' base known' → (backing : Bytes) (m : Mark) → IsKeptAt backing m known → IsKeptAt backing m known'
-  counts_kept e p' guarded' backing m kept = covers_kept h d e p p' base known known' guarded guarded' counted_covers (λ o some. stays o (omega arith)) backing m kept
+  pub counts_kept : (e : Direction) (p' : Pending) → CrashInvariant h e p' on_storage known' → (backing : Bytes) (m : Checkpoint) → StopOkEverywhere backing m known → StopOkEverywhere backing m known'
+  counts_kept e p' guarded' backing m kept = covers_kept h d e p p' on_storage known known' guarded guarded' counted_covers (λ o some. stays o (omega arith)) backing m kept
 
 -- ---- one entry of an L2 table changes
-module _ (h : HeaderFields) (d : Direction) (p : Pending) (base known known' : Bytes) (guarded : IsGuarded h d p base known) (i0 j0 : ℕ)
+module _ (h : HeaderFields) (d : Direction) (p : Pending) (on_storage known known' : Bytes) (guarded : CrashInvariant h d p on_storage known) (i0 j0 : ℕ)
     (real : table_at h known i0 ≢ 0) (within : j0 < entries_per_cluster h)
     (outside : IsSameOutside (cluster_size h) (table_at h known i0 / cluster_size h) known known')
     (entries : (j : ℕ) → j < entries_per_cluster h → j ≢ j0 → l2_entry known (table_at h known i0) j ≡ l2_entry known' (table_at h known i0) j) where
   l2_known_top : IsTop h known
-  l2_known_top = IsTop-top h base known guarded.same_top guarded.top
+  l2_known_top = IsTop-top h on_storage known guarded.same_top guarded.top
 
   l2_sizes : Sizes h
   l2_sizes = Sizes-from h known l2_known_top.header_reads
@@ -195,17 +195,17 @@ module _ (h : HeaderFields) (d : Direction) (p : Pending) (base known known' : B
   l2_same : (c : ℕ) → c ≢ table_at h known i0 / cluster_size h → SameIn (cluster_size h) c known known'
   l2_same c other o in_c = outside o (λ e. other (sym in_c ∙ e))
 
-  l2_fixed : 0 < named_for_tables h base (table_at h known i0 / cluster_size h)
+  l2_fixed : 0 < named_for_tables h on_storage (table_at h known i0 / cluster_size h)
   l2_fixed =
-      let e = for_tables-top h base known (table_at h known i0 / cluster_size h) guarded.same_top in
+      let e = for_tables-top h on_storage known (table_at h known i0 / cluster_size h) guarded.same_top in
       let s = shares h known (table_at h known i0 / cluster_size h) in
       let one = table_has h known i0 real in
       omega arith
 
   l2_once : named_for_tables h known (table_at h known i0 / cluster_size h) ≤ 1
   l2_once =
-      let e = for_tables-top h base known (table_at h known i0 / cluster_size h) guarded.same_top in
-      let t = table_once h d p base known guarded (table_at h known i0 / cluster_size h) l2_fixed in
+      let e = for_tables-top h on_storage known (table_at h known i0 / cluster_size h) guarded.same_top in
+      let t = table_once h d p on_storage known guarded (table_at h known i0 / cluster_size h) l2_fixed in
       omega arith
 
   pub entry_top : SameTop h known known'
@@ -249,20 +249,20 @@ module _ (h : HeaderFields) (d : Direction) (p : Pending) (base known known' : B
       let rows : (i0 + 1) * entries_per_cluster h ≤ h.l1_entries * entries_per_cluster h = mul-le (i0 + 1) (entries_per_cluster h) h.l1_entries (entries_per_cluster h) (omega arith) (omega arith) in
       omega arith
 
-  entry_stays : (o : ℕ) → 0 < named_in_either h base known (o / cluster_size h) + p.held (o / cluster_size h) → known o ≡ known' o
+  entry_stays : (o : ℕ) → 0 < named_in_either h on_storage known (o / cluster_size h) + p.held (o / cluster_size h) → known o ≡ known' o
   entry_stays o some = outside o (λ e.
-      let apart = table_apart h d p base known guarded (table_at h known i0 / cluster_size h) l2_fixed in
-      let here = subst (λ n. 0 < named_in_either h base known n + p.held n) e some in
+      let apart = table_apart h d p on_storage known guarded (table_at h known i0 / cluster_size h) l2_fixed in
+      let here = subst (λ n. 0 < named_in_either h on_storage known n + p.held n) e some in
       absurd (omega arith))
 
   module _ (held : (c : ℕ) → names h known' c (i0 * entries_per_cluster h + j0) - names h known c (i0 * entries_per_cluster h + j0) ≤ p.held c)
       (marked : (c : ℕ) → marks h known' c (i0 * entries_per_cluster h + j0) ≤ marks h known c (i0 * entries_per_cluster h + j0) + (names h known' c (i0 * entries_per_cluster h + j0) - names h known c (i0 * entries_per_cluster h + j0)))
       (aligned : CoverIsAligned h (cover h known' (i0 * entries_per_cluster h + j0))) where
-    pub entry_set : IsGuarded h d (remapped p (λ c. names h known c (i0 * entries_per_cluster h + j0)) (λ c. names h known' c (i0 * entries_per_cluster h + j0))) base known'
-    entry_set = entry_mapped h d p base known known' guarded (i0 * entries_per_cluster h + j0) guest_within entry_top entry_others entry_counts held marked aligned entry_stays
+    pub entry_set : CrashInvariant h d (remapped p (λ c. names h known c (i0 * entries_per_cluster h + j0)) (λ c. names h known' c (i0 * entries_per_cluster h + j0))) on_storage known'
+    entry_set = entry_mapped h d p on_storage known known' guarded (i0 * entries_per_cluster h + j0) guest_within entry_top entry_others entry_counts held marked aligned entry_stays
 
-    pub entry_kept : (backing : Bytes) (m : Mark) (given : List Gift)
+    pub entry_kept : (backing : Bytes) (m : Checkpoint) (given : List GivenBytes)
         → ((o : ℕ) → o / cluster_size h ≡ i0 * entries_per_cluster h + j0 → (guest_value h known' known' backing o ≡ guest_value h known known backing o) ⊎ IsGiven given o (guest_value h known' known' backing o))
-        → IsKeptAt backing m known → IsKeptAt backing (more given [] m) known'
+        → StopOkEverywhere backing m known → StopOkEverywhere backing (checkpoint_with given [] m) known'
     entry_kept backing m given there kept =
-        mapping_kept h d p base known known' guarded (i0 * entries_per_cluster h + j0) guest_within entry_top entry_others entry_counts held marked aligned entry_stays backing m given there kept
+        mapping_kept h d p on_storage known known' guarded (i0 * entries_per_cluster h + j0) guest_within entry_top entry_others entry_counts held marked aligned entry_stays backing m given there kept

@@ -18,7 +18,7 @@ use Rattle.qcow2_metadata.specs.declared.l2_mapping.L2Mapping.TheVariants.{Data,
 use Rattle.qcow2_laws.specs.Guests.{names, marks, table_at, marked_by_cover}
 use Rattle.qcow2_laws.specs.Changes.{one_at}
 use Rattle.qcow2_laws.specs.Tops.{IsSameOutside}
-use Rattle.qcow2_laws.specs.Leads.{Stand, IsSound}
+use Rattle.qcow2_laws.specs.SafeSteps.{DriverState, StateInvariant}
 use Rattle.qcow2_laws.specs.Steps.{block_of, CountRises, CountFalls, EntryChanges, guest_at}
 use Rattle.qcow2_laws.proofs.Places.{Sizes, Sizes-from, count_in as count_found, cover_at}
 use Rattle.qcow2_laws.proofs.Guests.{guest_le, names_within}
@@ -127,7 +127,7 @@ in_most h c place = elim (cases_eq (place / cluster_size h) c) [
   | inr ne ↦ let none : in_cluster h c place ≡ 0 = cond-false {A = ℕ} _ 1 0 (ne_eqb (place / cluster_size h) c ne) in omega arith
 ]
 
-pub takes_held : (s : Stand) (g host : ℕ) → IsSound s → host % cluster_size s.header ≡ 0 → 0 < s.pending.held (host / cluster_size s.header) → Takes s.header s.pending.held (cover s.header s.known g) (Data host true)
+pub takes_held : (s : DriverState) (g host : ℕ) → StateInvariant s → host % cluster_size s.header ≡ 0 → 0 < s.pending.held (host / cluster_size s.header) → Takes s.header s.pending.held (cover s.header s.known g) (Data host true)
 takes_held s g host sound aligned some = record {
   held = λ c. elim (cases_lt 0 (in_cluster s.header c host)) [
     | inl here ↦
@@ -139,11 +139,11 @@ takes_held s g host sound aligned some = record {
   marked = λ c. elim (cases_lt 0 (in_cluster s.header c host)) [
     | inl here ↦
         let enough : 0 < s.pending.held c = subst (λ n. 0 < s.pending.held n) (in_at s.header c host here) some in
-        let unnamed = held_is_unnamed s.header s.direction s.pending s.base s.known sound c enough in
+        let unnamed = held_is_unnamed s.header s.direction s.pending s.on_storage s.known sound c enough in
         let before : names s.header s.known c g ≡ 0 = elim (cases_lt 0 (names s.header s.known c g)) [
           | inl named ↦ absurd (
-              let within = names_within s.header s.known c g (Sizes-from s.header s.base sound.top.header_reads) named in
-              let le = guest_le s.header (λ k. max (names s.header s.base c k) (names s.header s.known c k)) g within in
+              let within = names_within s.header s.known c g (Sizes-from s.header s.on_storage sound.top.header_reads) named in
+              let le = guest_le s.header (λ k. max (names s.header s.on_storage c k) (names s.header s.known c k)) g within in
               let zero = unnamed.no_entry in
               omega arith)
           | inr zero ↦ omega arith
@@ -155,7 +155,7 @@ takes_held s g host sound aligned some = record {
 }
 
 -- ---- an entry of a cached L2 table, whose entries are those known before and after
-module _ (s : Stand) (known' : Bytes) (i j entry : ℕ) (old new : List ℕ) (sound : IsSound s) (real : table_at s.header s.known i ≢ 0) (within : j < entries_per_cluster s.header)
+module _ (s : DriverState) (known' : Bytes) (i j entry : ℕ) (old new : List ℕ) (sound : StateInvariant s) (real : table_at s.header s.known i ≢ 0) (within : j < entries_per_cluster s.header)
     (outside : IsSameOutside (cluster_size s.header) (table_at s.header s.known i / cluster_size s.header) s.known known')
     (was : (k : ℕ) → k < entries_per_cluster s.header → entry_at old k ≡ l2_entry s.known (table_at s.header s.known i) k)
     (now : (k : ℕ) → k < entries_per_cluster s.header → entry_at new k ≡ l2_entry known' (table_at s.header s.known i) k)
@@ -164,10 +164,10 @@ module _ (s : Stand) (known' : Bytes) (i j entry : ℕ) (old new : List ℕ) (so
   same_entries k lt other = sym (was k lt) ∙ sym (changes.others k other) ∙ now k lt
 
   same_table : table_at s.header known' i ≡ table_at s.header s.known i
-  same_table = ap host_offset (sym ((entry_top s.header s.direction s.pending s.base s.known known' sound i j real within outside same_entries).l1 i))
+  same_table = ap host_offset (sym ((entry_top s.header s.direction s.pending s.on_storage s.known known' sound i j real within outside same_entries).l1 i))
 
   sizes : Sizes s.header
-  sizes = Sizes-from s.header s.base sound.top.header_reads
+  sizes = Sizes-from s.header s.on_storage sound.top.header_reads
 
   pub cover_was : cover s.header s.known (guest_at s.header i j) ≡ entry_cover s.header (entry_at old j)
   cover_was = cover_at s.header s.known i j sizes real within ∙ ap (entry_cover s.header) (sym (was j within))

@@ -7,12 +7,12 @@ use Rattle.qcow2_metadata.specs.Header.{cluster_size, entries_per_cluster, count
 use Rattle.qcow2_metadata.specs.Entries.{reftable_entry, host_offset, block_offset}
 use Rattle.qcow2_metadata.specs.Named.{in_cluster, named_for_tables, named_by_reftable, named_by_l1_table}
 use Rattle.qcow2_metadata.specs.Tables.{CachedTable, known}
-use Rattle.qcow2_laws.specs.Stops.{IsKeptAt}
+use Rattle.qcow2_laws.specs.Stops.{StopOkEverywhere}
 use Rattle.qcow2_laws.specs.Clusters.{Direction, Neither, L2DependsOnRb, RbDependsOnL2}
 use Rattle.qcow2_laws.specs.Guests.{table_at}
-use Rattle.qcow2_laws.specs.Guard.{Pending, IsGuarded, SameTop, SameIn, IsPartly, SameCovers, SameCounts, IsInOrder, IsMixed, MayTurn}
+use Rattle.qcow2_laws.specs.CrashInvariant.{Pending, CrashInvariant, SameTop, SameIn, IsPartly, SameCovers, SameCounts, IsInOrder, IsMixed, MayTurn}
 use Rattle.qcow2_laws.specs.Writes.{IsUnnamed}
-use Rattle.qcow2_laws.specs.Caches.{known_bytes, IsFreeAt, IsFreeOf, AreApart, AreClean, HasL2, HasBlock, IsKept, BlocksMayGo, TablesMayGo, IsWrittenSo, Keeps, AreSettled}
+use Rattle.qcow2_laws.specs.Caches.{known_bytes, IsFreeAt, IsFreeOf, AreApart, AreClean, HasL2, HasBlock, CacheInvariantOver, BlocksMayGo, TablesMayGo, IsWrittenSo, UnseenTableWrite, AreSettled}
 use Rattle.qcow2_laws.proofs.Places.{Sizes, Sizes-from}
 use Rattle.qcow2_laws.proofs.Tops.{for_tables-top}
 use Rattle.qcow2_laws.proofs.Mixes.{top_kept, mixed_guarded, mixed_either, turned_guarded}
@@ -21,28 +21,28 @@ use Rattle.qcow2_laws.proofs.Blocks.{table_once}
 use Rattle.qcow2_laws.proofs.Shares.{shares, in_l1, in_reftable, table_has, block_has, cover_stays, count_stays}
 use Rattle.qcow2_laws.proofs.Lists.{known-at, known-none, clean_known, free_too, apart_too, written_partly, written_known}
 
-module _ (h : HeaderFields) (d : Direction) (p : Pending) (l2s rbs : List CachedTable) (base : Bytes) (kept : IsKept h d p l2s rbs base) where
+module _ (h : HeaderFields) (d : Direction) (p : Pending) (l2s rbs : List CachedTable) (on_storage : Bytes) (kept : CacheInvariantOver h d p l2s rbs on_storage) where
   all_known : Bytes
-  all_known = known_bytes (cluster_size h) l2s rbs base
+  all_known = known_bytes (cluster_size h) l2s rbs on_storage
 
   pub kept_sizes : Sizes h
-  kept_sizes = Sizes-from h base kept.guarded.top.header_reads
+  kept_sizes = Sizes-from h on_storage kept.guarded.top.header_reads
 
   -- ---- which clusters no modified table lies in
 
   -- one kind of table alone stands in a cluster
-  l2_share : (c : ℕ) → HasL2 h base c → 1 ≤ named_by_l1_table h base c
-  l2_share c has = subst (λ n. 1 ≤ named_by_l1_table h base n) has.2 (table_has h base has.0 has.1)
+  l2_share : (c : ℕ) → HasL2 h on_storage c → 1 ≤ named_by_l1_table h on_storage c
+  l2_share c has = subst (λ n. 1 ≤ named_by_l1_table h on_storage n) has.2 (table_has h on_storage has.0 has.1)
 
-  block_share : (c : ℕ) → HasBlock h base c → 1 ≤ named_by_reftable h base c
-  block_share c has = subst (λ n. 1 ≤ named_by_reftable h base n) has.2 (block_has h base has.0 has.1)
+  block_share : (c : ℕ) → HasBlock h on_storage c → 1 ≤ named_by_reftable h on_storage c
+  block_share c has = subst (λ n. 1 ≤ named_by_reftable h on_storage n) has.2 (block_has h on_storage has.0 has.1)
 
-  once_at : (c : ℕ) → 0 < named_for_tables h base c → named_for_tables h base c ≡ 1
-  once_at c fixed = table_once h d p base (known_bytes (cluster_size h) l2s rbs base) kept.guarded c fixed
+  once_at : (c : ℕ) → 0 < named_for_tables h on_storage c → named_for_tables h on_storage c ≡ 1
+  once_at c fixed = table_once h d p on_storage (known_bytes (cluster_size h) l2s rbs on_storage) kept.guarded c fixed
 
-  pub rbs_free : (c : ℕ) → 0 < in_cluster h c 0 + in_l1 h c + in_reftable h c + named_by_l1_table h base c → IsFreeOf (cluster_size h) rbs c
+  pub rbs_free : (c : ℕ) → 0 < in_cluster h c 0 + in_l1 h c + in_reftable h c + named_by_l1_table h on_storage c → IsFreeOf (cluster_size h) rbs c
   rbs_free c some =
-      let s = shares h base c in
+      let s = shares h on_storage c in
       let one = once_at c (omega arith) in
       elim (kept.rb_stand c) [
         | inl free ↦ free
@@ -52,9 +52,9 @@ module _ (h : HeaderFields) (d : Direction) (p : Pending) (l2s rbs : List Cached
         ]
       ]
 
-  pub l2s_free : (c : ℕ) → 0 < in_cluster h c 0 + in_l1 h c + in_reftable h c + named_by_reftable h base c → IsFreeOf (cluster_size h) l2s c
+  pub l2s_free : (c : ℕ) → 0 < in_cluster h c 0 + in_l1 h c + in_reftable h c + named_by_reftable h on_storage c → IsFreeOf (cluster_size h) l2s c
   l2s_free c some =
-      let s = shares h base c in
+      let s = shares h on_storage c in
       let one = once_at c (omega arith) in
       elim (kept.l2_stand c) [
         | inl free ↦ free
@@ -62,16 +62,16 @@ module _ (h : HeaderFields) (d : Direction) (p : Pending) (l2s rbs : List Cached
       ]
 
   -- where no table stands
-  pub unnamed_free_l2 : (c : ℕ) → named_for_tables h base c ≡ 0 → IsFreeOf (cluster_size h) l2s c
+  pub unnamed_free_l2 : (c : ℕ) → named_for_tables h on_storage c ≡ 0 → IsFreeOf (cluster_size h) l2s c
   unnamed_free_l2 c none = elim (kept.l2_stand c) [
     | inl free ↦ free
-    | inr has ↦ absurd (let s = shares h base c in let t = l2_share c has in omega arith)
+    | inr has ↦ absurd (let s = shares h on_storage c in let t = l2_share c has in omega arith)
   ]
 
-  pub unnamed_free_rb : AreSettled h rbs base → (c : ℕ) → named_for_tables h base c ≡ 0 → IsFreeOf (cluster_size h) rbs c
+  pub unnamed_free_rb : AreSettled h rbs on_storage → (c : ℕ) → named_for_tables h on_storage c ≡ 0 → IsFreeOf (cluster_size h) rbs c
   unnamed_free_rb settled c none = elim (settled c) [
     | inl free ↦ free
-    | inr has ↦ absurd (let s = shares h base c in let t = block_share c has in omega arith)
+    | inr has ↦ absurd (let s = shares h on_storage c in let t = block_share c has in omega arith)
   ]
 
   apart : (c : ℕ) → IsFreeOf (cluster_size h) l2s c ⊎ IsFreeOf (cluster_size h) rbs c
@@ -83,199 +83,199 @@ module _ (h : HeaderFields) (d : Direction) (p : Pending) (l2s rbs : List Cached
   -- ---- a moment while refblocks are written, and one while L2 tables are
 
   -- each cluster is the old one where none of the tables lies
-  stays_in : (ts : List CachedTable) (b : Bytes) (c : ℕ) → IsPartly (cluster_size h) base (known (cluster_size h) ts base) b → IsFreeOf (cluster_size h) ts c → SameIn (cluster_size h) c b base
+  stays_in : (ts : List CachedTable) (b : Bytes) (c : ℕ) → IsPartly (cluster_size h) on_storage (known (cluster_size h) ts on_storage) b → IsFreeOf (cluster_size h) ts c → SameIn (cluster_size h) c b on_storage
   stays_in ts b c partly free = elim (partly c) [
     | inl same ↦ same
-    | inr same ↦ λ o in_c. same o in_c ∙ known-none (cluster_size h) ts base o (free o in_c)
+    | inr same ↦ λ o in_c. same o in_c ∙ known-none (cluster_size h) ts on_storage o (free o in_c)
   ]
 
-  blocks_partly : (b : Bytes) → IsPartly (cluster_size h) base (known (cluster_size h) rbs base) b → IsPartly (cluster_size h) base (known_bytes (cluster_size h) l2s rbs base) b
+  blocks_partly : (b : Bytes) → IsPartly (cluster_size h) on_storage (known (cluster_size h) rbs on_storage) b → IsPartly (cluster_size h) on_storage (known_bytes (cluster_size h) l2s rbs on_storage) b
   blocks_partly b partly c = elim (apart c) [
     | inl free ↦ elim (partly c) [
       | inl same ↦ inl same
-      | inr same ↦ inr (λ o in_c. same o in_c ∙ sym (known-none (cluster_size h) l2s (known (cluster_size h) rbs base) o (free o in_c)))
+      | inr same ↦ inr (λ o in_c. same o in_c ∙ sym (known-none (cluster_size h) l2s (known (cluster_size h) rbs on_storage) o (free o in_c)))
     ]
     | inr free ↦ inl (stays_in rbs b c partly free)
   ]
 
-  tables_partly : (b : Bytes) → IsPartly (cluster_size h) base (known (cluster_size h) l2s base) b → IsPartly (cluster_size h) base (known_bytes (cluster_size h) l2s rbs base) b
+  tables_partly : (b : Bytes) → IsPartly (cluster_size h) on_storage (known (cluster_size h) l2s on_storage) b → IsPartly (cluster_size h) on_storage (known_bytes (cluster_size h) l2s rbs on_storage) b
   tables_partly b partly c = elim (apart c) [
     | inl free ↦ inl (stays_in l2s b c partly free)
     | inr free ↦ elim (partly c) [
       | inl same ↦ inl same
-      | inr same ↦ inr (λ o in_c. same o in_c ∙ sym (known-at (cluster_size h) l2s (known (cluster_size h) rbs base) base o (known-none (cluster_size h) rbs base o (free o in_c))))
+      | inr same ↦ inr (λ o in_c. same o in_c ∙ sym (known-at (cluster_size h) l2s (known (cluster_size h) rbs on_storage) on_storage o (known-none (cluster_size h) rbs on_storage o (free o in_c))))
     ]
   ]
 
-  top_of : (b : Bytes) → IsPartly (cluster_size h) base (known_bytes (cluster_size h) l2s rbs base) b → SameTop h base b
-  top_of b partly = top_kept h base (known_bytes (cluster_size h) l2s rbs base) b kept.guarded.top kept.guarded.same_top partly
+  top_of : (b : Bytes) → IsPartly (cluster_size h) on_storage (known_bytes (cluster_size h) l2s rbs on_storage) b → SameTop h on_storage b
+  top_of b partly = top_kept h on_storage (known_bytes (cluster_size h) l2s rbs on_storage) b kept.guarded.top kept.guarded.same_top partly
 
-  flipped : (c : ℕ) (b : Bytes) → SameIn (cluster_size h) c b base → SameIn (cluster_size h) c base b
+  flipped : (c : ℕ) (b : Bytes) → SameIn (cluster_size h) c b on_storage → SameIn (cluster_size h) c on_storage b
   flipped c b same o in_c = sym (same o in_c)
 
-  blocks_covers : (b : Bytes) → IsPartly (cluster_size h) base (known (cluster_size h) rbs base) b → SameCovers h base b
+  blocks_covers : (b : Bytes) → IsPartly (cluster_size h) on_storage (known (cluster_size h) rbs on_storage) b → SameCovers h on_storage b
   blocks_covers b partly g =
       let top = top_of b (blocks_partly b partly) in
-      cover_stays h base b kept.guarded.top g (top.l1 (g / entries_per_cluster h)) (λ real.
-      let c = table_at h base (g / entries_per_cluster h) / cluster_size h in
-      flipped c b (stays_in rbs b c partly (rbs_free c (let t = table_has h base (g / entries_per_cluster h) real in omega arith))))
+      cover_stays h on_storage b kept.guarded.top g (top.l1 (g / entries_per_cluster h)) (λ real.
+      let c = table_at h on_storage (g / entries_per_cluster h) / cluster_size h in
+      flipped c b (stays_in rbs b c partly (rbs_free c (let t = table_has h on_storage (g / entries_per_cluster h) real in omega arith))))
 
-  tables_counts : (b : Bytes) → IsPartly (cluster_size h) base (known (cluster_size h) l2s base) b → SameCounts h base b
+  tables_counts : (b : Bytes) → IsPartly (cluster_size h) on_storage (known (cluster_size h) l2s on_storage) b → SameCounts h on_storage b
   tables_counts b partly x =
       let top = top_of b (tables_partly b partly) in
-      count_stays h base b kept.guarded.top x (top.reftable (x / counts_per_block h)) (λ real.
-      let c = block_offset (reftable_entry h base (x / counts_per_block h)) / cluster_size h in
-      flipped c b (stays_in l2s b c partly (l2s_free c (let t = block_has h base (x / counts_per_block h) real in omega arith))))
+      count_stays h on_storage b kept.guarded.top x (top.reftable (x / counts_per_block h)) (λ real.
+      let c = block_offset (reftable_entry h on_storage (x / counts_per_block h)) / cluster_size h in
+      flipped c b (stays_in l2s b c partly (l2s_free c (let t = block_has h on_storage (x / counts_per_block h) real in omega arith))))
 
   -- where the caches are clean, the entries, the counts on the storage are known
-  pub clean_covers : AreClean l2s → SameCovers h base (known_bytes (cluster_size h) l2s rbs base)
+  pub clean_covers : AreClean l2s → SameCovers h on_storage (known_bytes (cluster_size h) l2s rbs on_storage)
   clean_covers clean =
-      subst (SameCovers h base) (sym (clean_known (cluster_size h) l2s (known (cluster_size h) rbs base) clean))
-      (blocks_covers (known (cluster_size h) rbs base) (λ c. inr (λ o in_c. refl)))
+      subst (SameCovers h on_storage) (sym (clean_known (cluster_size h) l2s (known (cluster_size h) rbs on_storage) clean))
+      (blocks_covers (known (cluster_size h) rbs on_storage) (λ c. inr (λ o in_c. refl)))
 
-  pub clean_counts : AreClean rbs → SameCounts h base (known_bytes (cluster_size h) l2s rbs base)
+  pub clean_counts : AreClean rbs → SameCounts h on_storage (known_bytes (cluster_size h) l2s rbs on_storage)
   clean_counts clean =
-      subst (λ (b : Bytes). SameCounts h base (known (cluster_size h) l2s b)) (sym (clean_known (cluster_size h) rbs base clean))
-      (tables_counts (known (cluster_size h) l2s base) (λ c. inr (λ o in_c. refl)))
+      subst (λ (b : Bytes). SameCounts h on_storage (known (cluster_size h) l2s b)) (sym (clean_known (cluster_size h) rbs on_storage clean))
+      (tables_counts (known (cluster_size h) l2s on_storage) (λ c. inr (λ o in_c. refl)))
 
-  blocks_order : (e : Direction) → BlocksMayGo e l2s → (b : Bytes) → IsPartly (cluster_size h) base (known (cluster_size h) rbs base) b → IsInOrder e h base (known_bytes (cluster_size h) l2s rbs base) b
+  blocks_order : (e : Direction) → BlocksMayGo e l2s → (b : Bytes) → IsPartly (cluster_size h) on_storage (known (cluster_size h) rbs on_storage) b → IsInOrder e h on_storage (known_bytes (cluster_size h) l2s rbs on_storage) b
   blocks_order Neither may b partly = tt
   blocks_order L2DependsOnRb may b partly = inl (blocks_covers b partly)
   blocks_order RbDependsOnL2 may b partly = inr (λ g. sym (clean_covers may g) ∙ blocks_covers b partly g)
 
-  tables_order : (e : Direction) → TablesMayGo e rbs → (b : Bytes) → IsPartly (cluster_size h) base (known (cluster_size h) l2s base) b → IsInOrder e h base (known_bytes (cluster_size h) l2s rbs base) b
+  tables_order : (e : Direction) → TablesMayGo e rbs → (b : Bytes) → IsPartly (cluster_size h) on_storage (known (cluster_size h) l2s on_storage) b → IsInOrder e h on_storage (known_bytes (cluster_size h) l2s rbs on_storage) b
   tables_order Neither may b partly = tt
   tables_order L2DependsOnRb may b partly = inr (λ c. sym (clean_counts may c) ∙ tables_counts b partly c)
   tables_order RbDependsOnL2 may b partly = inl (tables_counts b partly)
 
   -- ---- what stands where, in a mix
-  l2_stands : (b : Bytes) → SameTop h base b → (c : ℕ) → HasL2 h base c → HasL2 h b c
+  l2_stands : (b : Bytes) → SameTop h on_storage b → (c : ℕ) → HasL2 h on_storage c → HasL2 h b c
   l2_stands b top c has =
       let e = ap host_offset (top.l1 has.0) in
       (has.0, (λ none. has.1 (e ∙ none)), ap (λ n. n / cluster_size h) (sym e) ∙ has.2)
 
-  block_stands : (b : Bytes) → SameTop h base b → (c : ℕ) → HasBlock h base c → HasBlock h b c
+  block_stands : (b : Bytes) → SameTop h on_storage b → (c : ℕ) → HasBlock h on_storage c → HasBlock h b c
   block_stands b top c has =
       let e = ap block_offset (top.reftable has.0) in
       (has.0, (λ none. has.1 (e ∙ none)), ap (λ n. n / cluster_size h) (sym e) ∙ has.2)
 
-  still_unnamed : (b : Bytes) → IsMixed h d base (known_bytes (cluster_size h) l2s rbs base) b → SameTop h base b → (c : ℕ)
-      → IsUnnamed h base (known_bytes (cluster_size h) l2s rbs base) c → IsUnnamed h b (known_bytes (cluster_size h) l2s rbs base) c
+  still_unnamed : (b : Bytes) → IsMixed h d on_storage (known_bytes (cluster_size h) l2s rbs on_storage) b → SameTop h on_storage b → (c : ℕ)
+      → IsUnnamed h on_storage (known_bytes (cluster_size h) l2s rbs on_storage) c → IsUnnamed h b (known_bytes (cluster_size h) l2s rbs on_storage) c
   still_unnamed b mixed top c unnamed = record {
-    no_table = sym (for_tables-top h base b c top) ∙ unnamed.no_table;
+    no_table = sym (for_tables-top h on_storage b c top) ∙ unnamed.no_table;
     no_entry =
-        let le = mixed_either h d p base (known_bytes (cluster_size h) l2s rbs base) b kept.guarded mixed c in
+        let le = mixed_either h d p on_storage (known_bytes (cluster_size h) l2s rbs on_storage) b kept.guarded mixed c in
         let none = unnamed.no_entry in
         omega arith;
   }
 
   -- ---- one refblock is written
-  module _ (front back : List CachedTable) (t t' : CachedTable) (base' : Bytes) (are : rbs ≡ front ++ t ∷ back) (so : IsWrittenSo (cluster_size h) t t' base base') (may : BlocksMayGo d l2s) where
+  module _ (front back : List CachedTable) (t t' : CachedTable) (on_storage' : Bytes) (are : rbs ≡ front ++ t ∷ back) (so : IsWrittenSo (cluster_size h) t t' on_storage on_storage') (may : BlocksMayGo d l2s) where
     rb_apart_at : AreApart (cluster_size h) (front ++ t ∷ back)
     rb_apart_at = subst (AreApart (cluster_size h)) are kept.rb_apart
 
-    rb_partly : IsPartly (cluster_size h) base (known (cluster_size h) rbs base) base'
-    rb_partly = subst (λ ts. IsPartly (cluster_size h) base (known (cluster_size h) ts base) base') (sym are)
-        (written_partly (cluster_size h) t t' base base' so front back kept_sizes.some rb_apart_at)
+    rb_partly : IsPartly (cluster_size h) on_storage (known (cluster_size h) rbs on_storage) on_storage'
+    rb_partly = subst (λ ts. IsPartly (cluster_size h) on_storage (known (cluster_size h) ts on_storage) on_storage') (sym are)
+        (written_partly (cluster_size h) t t' on_storage on_storage' so front back kept_sizes.some rb_apart_at)
 
-    pub rb_mixed : IsMixed h d base (known_bytes (cluster_size h) l2s rbs base) base'
-    rb_mixed = record { partly = blocks_partly base' rb_partly; ordered = blocks_order d may base' rb_partly }
+    pub rb_mixed : IsMixed h d on_storage (known_bytes (cluster_size h) l2s rbs on_storage) on_storage'
+    rb_mixed = record { partly = blocks_partly on_storage' rb_partly; ordered = blocks_order d may on_storage' rb_partly }
 
-    rb_known : known_bytes (cluster_size h) l2s (front ++ t' ∷ back) base' ≡ known_bytes (cluster_size h) l2s rbs base
-    rb_known = ap (known (cluster_size h) l2s) (written_known (cluster_size h) t t' base base' so front back rb_apart_at ∙ ap (λ ts. known (cluster_size h) ts base) (sym are))
+    rb_known : known_bytes (cluster_size h) l2s (front ++ t' ∷ back) on_storage' ≡ known_bytes (cluster_size h) l2s rbs on_storage
+    rb_known = ap (known (cluster_size h) l2s) (written_known (cluster_size h) t t' on_storage on_storage' so front back rb_apart_at ∙ ap (λ ts. known (cluster_size h) ts on_storage) (sym are))
 
-    pub block_written : Keeps h d p l2s rbs base l2s (front ++ t' ∷ back) base'
+    pub block_written : UnseenTableWrite h d p l2s rbs on_storage l2s (front ++ t' ∷ back) on_storage'
     block_written =
-        let top = top_of base' (blocks_partly base' rb_partly) in
-        let now = mixed_guarded h d p base (known_bytes (cluster_size h) l2s rbs base) base' kept.guarded rb_mixed in
+        let top = top_of on_storage' (blocks_partly on_storage' rb_partly) in
+        let now = mixed_guarded h d p on_storage (known_bytes (cluster_size h) l2s rbs on_storage) on_storage' kept.guarded rb_mixed in
         record {
           kept = record {
-            guarded = subst (IsGuarded h d p base') (sym rb_known) now;
+            guarded = subst (CrashInvariant h d p on_storage') (sym rb_known) now;
             l2_apart = kept.l2_apart;
-            rb_apart = apart_too (cluster_size h) t t' base base' so front back rb_apart_at;
-            l2_stand = λ c. elim (kept.l2_stand c) [ inl free ↦ inl free | inr has ↦ inr (l2_stands base' top c has) ];
+            rb_apart = apart_too (cluster_size h) t t' on_storage on_storage' so front back rb_apart_at;
+            l2_stand = λ c. elim (kept.l2_stand c) [ inl free ↦ inl free | inr has ↦ inr (l2_stands on_storage' top c has) ];
             rb_stand = λ c. elim (kept.rb_stand c) [
-              | inl free ↦ inl (λ o in_c. free_too (cluster_size h) t t' base base' so front back o (subst (λ ts. IsFreeAt (cluster_size h) ts o) are (free o in_c)))
+              | inl free ↦ inl (λ o in_c. free_too (cluster_size h) t t' on_storage on_storage' so front back o (subst (λ ts. IsFreeAt (cluster_size h) ts o) are (free o in_c)))
               | inr more ↦ elim more [
-                | inl has ↦ inr (inl (block_stands base' top c has))
-                | inr unnamed ↦ inr (inr (subst (λ (k : Bytes). IsUnnamed h base' k c) (sym rb_known) (still_unnamed base' rb_mixed top c unnamed)))
+                | inl has ↦ inr (inl (block_stands on_storage' top c has))
+                | inr unnamed ↦ inr (inr (subst (λ (k : Bytes). IsUnnamed h on_storage' k c) (sym rb_known) (still_unnamed on_storage' rb_mixed top c unnamed)))
               ]
             ];
           };
           known = rb_known;
-          safe = λ backing m ok known_ok. mixed_kept h d p base (known_bytes (cluster_size h) l2s rbs base) base' kept.guarded rb_mixed backing m ok known_ok;
+          safe = λ backing m ok known_ok. mixed_kept h d p on_storage (known_bytes (cluster_size h) l2s rbs on_storage) on_storage' kept.guarded rb_mixed backing m ok known_ok;
         }
 
   -- ---- one L2 table is written
-  module _ (front back : List CachedTable) (t t' : CachedTable) (base' : Bytes) (are : l2s ≡ front ++ t ∷ back) (so : IsWrittenSo (cluster_size h) t t' base base') (may : TablesMayGo d rbs) where
+  module _ (front back : List CachedTable) (t t' : CachedTable) (on_storage' : Bytes) (are : l2s ≡ front ++ t ∷ back) (so : IsWrittenSo (cluster_size h) t t' on_storage on_storage') (may : TablesMayGo d rbs) where
     l2_apart_at : AreApart (cluster_size h) (front ++ t ∷ back)
     l2_apart_at = subst (AreApart (cluster_size h)) are kept.l2_apart
 
-    l2_partly : IsPartly (cluster_size h) base (known (cluster_size h) l2s base) base'
-    l2_partly = subst (λ ts. IsPartly (cluster_size h) base (known (cluster_size h) ts base) base') (sym are)
-        (written_partly (cluster_size h) t t' base base' so front back kept_sizes.some l2_apart_at)
+    l2_partly : IsPartly (cluster_size h) on_storage (known (cluster_size h) l2s on_storage) on_storage'
+    l2_partly = subst (λ ts. IsPartly (cluster_size h) on_storage (known (cluster_size h) ts on_storage) on_storage') (sym are)
+        (written_partly (cluster_size h) t t' on_storage on_storage' so front back kept_sizes.some l2_apart_at)
 
-    pub l2_mixed : IsMixed h d base (known_bytes (cluster_size h) l2s rbs base) base'
-    l2_mixed = record { partly = tables_partly base' l2_partly; ordered = tables_order d may base' l2_partly }
+    pub l2_mixed : IsMixed h d on_storage (known_bytes (cluster_size h) l2s rbs on_storage) on_storage'
+    l2_mixed = record { partly = tables_partly on_storage' l2_partly; ordered = tables_order d may on_storage' l2_partly }
 
     l2_free : (o : ℕ) → IsFreeAt (cluster_size h) l2s o → IsFreeAt (cluster_size h) (front ++ t' ∷ back) o
-    l2_free o free = free_too (cluster_size h) t t' base base' so front back o (subst (λ ts. IsFreeAt (cluster_size h) ts o) are free)
+    l2_free o free = free_too (cluster_size h) t t' on_storage on_storage' so front back o (subst (λ ts. IsFreeAt (cluster_size h) ts o) are free)
 
-    l2_known : known_bytes (cluster_size h) (front ++ t' ∷ back) rbs base' ≡ known_bytes (cluster_size h) l2s rbs base
+    l2_known : known_bytes (cluster_size h) (front ++ t' ∷ back) rbs on_storage' ≡ known_bytes (cluster_size h) l2s rbs on_storage
     l2_known = fun_ext (λ o. elim (apart (o / cluster_size h)) [
       | inl free ↦
-          let old = known-none (cluster_size h) l2s (known (cluster_size h) rbs base) o (free o refl) in
-          let new = known-none (cluster_size h) (front ++ t' ∷ back) (known (cluster_size h) rbs base') o (l2_free o (free o refl)) in
-          new ∙ known-at (cluster_size h) rbs base' base o (stays_in l2s base' (o / cluster_size h) l2_partly free o refl) ∙ sym old
+          let old = known-none (cluster_size h) l2s (known (cluster_size h) rbs on_storage) o (free o refl) in
+          let new = known-none (cluster_size h) (front ++ t' ∷ back) (known (cluster_size h) rbs on_storage') o (l2_free o (free o refl)) in
+          new ∙ known-at (cluster_size h) rbs on_storage' on_storage o (stays_in l2s on_storage' (o / cluster_size h) l2_partly free o refl) ∙ sym old
       | inr free ↦
-          known-at (cluster_size h) (front ++ t' ∷ back) (known (cluster_size h) rbs base') base' o (known-none (cluster_size h) rbs base' o (free o refl))
-          ∙ ap (λ (m : Bytes). m o) (written_known (cluster_size h) t t' base base' so front back l2_apart_at ∙ ap (λ ts. known (cluster_size h) ts base) (sym are))
-          ∙ sym (known-at (cluster_size h) l2s (known (cluster_size h) rbs base) base o (known-none (cluster_size h) rbs base o (free o refl)))
+          known-at (cluster_size h) (front ++ t' ∷ back) (known (cluster_size h) rbs on_storage') on_storage' o (known-none (cluster_size h) rbs on_storage' o (free o refl))
+          ∙ ap (λ (m : Bytes). m o) (written_known (cluster_size h) t t' on_storage on_storage' so front back l2_apart_at ∙ ap (λ ts. known (cluster_size h) ts on_storage) (sym are))
+          ∙ sym (known-at (cluster_size h) l2s (known (cluster_size h) rbs on_storage) on_storage o (known-none (cluster_size h) rbs on_storage o (free o refl)))
     ])
 
-    pub table_written : Keeps h d p l2s rbs base (front ++ t' ∷ back) rbs base'
+    pub table_written : UnseenTableWrite h d p l2s rbs on_storage (front ++ t' ∷ back) rbs on_storage'
     table_written =
-        let top = top_of base' (tables_partly base' l2_partly) in
-        let now = mixed_guarded h d p base (known_bytes (cluster_size h) l2s rbs base) base' kept.guarded l2_mixed in
+        let top = top_of on_storage' (tables_partly on_storage' l2_partly) in
+        let now = mixed_guarded h d p on_storage (known_bytes (cluster_size h) l2s rbs on_storage) on_storage' kept.guarded l2_mixed in
         record {
           kept = record {
-            guarded = subst (IsGuarded h d p base') (sym l2_known) now;
-            l2_apart = apart_too (cluster_size h) t t' base base' so front back l2_apart_at;
+            guarded = subst (CrashInvariant h d p on_storage') (sym l2_known) now;
+            l2_apart = apart_too (cluster_size h) t t' on_storage on_storage' so front back l2_apart_at;
             rb_apart = kept.rb_apart;
             l2_stand = λ c. elim (kept.l2_stand c) [
               | inl free ↦ inl (λ o in_c. l2_free o (free o in_c))
-              | inr has ↦ inr (l2_stands base' top c has)
+              | inr has ↦ inr (l2_stands on_storage' top c has)
             ];
             rb_stand = λ c. elim (kept.rb_stand c) [
               | inl free ↦ inl free
               | inr more ↦ elim more [
-                | inl has ↦ inr (inl (block_stands base' top c has))
-                | inr unnamed ↦ inr (inr (subst (λ (k : Bytes). IsUnnamed h base' k c) (sym l2_known) (still_unnamed base' l2_mixed top c unnamed)))
+                | inl has ↦ inr (inl (block_stands on_storage' top c has))
+                | inr unnamed ↦ inr (inr (subst (λ (k : Bytes). IsUnnamed h on_storage' k c) (sym l2_known) (still_unnamed on_storage' l2_mixed top c unnamed)))
               ]
             ];
           };
           known = l2_known;
-          safe = λ backing m ok known_ok. mixed_kept h d p base (known_bytes (cluster_size h) l2s rbs base) base' kept.guarded l2_mixed backing m ok known_ok;
+          safe = λ backing m ok known_ok. mixed_kept h d p on_storage (known_bytes (cluster_size h) l2s rbs on_storage) on_storage' kept.guarded l2_mixed backing m ok known_ok;
         }
 
   -- ---- turns
-  pub kept_turned : (to : Direction) → MayTurn d to h base (known_bytes (cluster_size h) l2s rbs base) → IsKept h to p l2s rbs base
+  pub kept_turned : (to : Direction) → MayTurn d to h on_storage (known_bytes (cluster_size h) l2s rbs on_storage) → CacheInvariantOver h to p l2s rbs on_storage
   kept_turned to may = record {
-    guarded = turned_guarded h d to p base (known_bytes (cluster_size h) l2s rbs base) may kept.guarded;
+    guarded = turned_guarded h d to p on_storage (known_bytes (cluster_size h) l2s rbs on_storage) may kept.guarded;
     l2_apart = kept.l2_apart;
     rb_apart = kept.rb_apart;
     l2_stand = kept.l2_stand;
     rb_stand = kept.rb_stand;
   }
 
-  pub keeps_none : Keeps h d p l2s rbs base l2s rbs base
+  pub keeps_none : UnseenTableWrite h d p l2s rbs on_storage l2s rbs on_storage
   keeps_none = record { kept = kept; known = refl; safe = λ backing m ok known_ok. ok }
 
 -- one after another
-pub keeps_then : (h : HeaderFields) (d : Direction) (p : Pending) (l2s rbs : List CachedTable) (base : Bytes) (l2s' rbs' : List CachedTable) (base' : Bytes) (l2s'' rbs'' : List CachedTable) (base'' : Bytes)
-    → Keeps h d p l2s rbs base l2s' rbs' base' → Keeps h d p l2s' rbs' base' l2s'' rbs'' base'' → Keeps h d p l2s rbs base l2s'' rbs'' base''
-keeps_then h d p l2s rbs base l2s' rbs' base' l2s'' rbs'' base'' first second = record {
+pub keeps_then : (h : HeaderFields) (d : Direction) (p : Pending) (l2s rbs : List CachedTable) (on_storage : Bytes) (l2s' rbs' : List CachedTable) (on_storage' : Bytes) (l2s'' rbs'' : List CachedTable) (on_storage'' : Bytes)
+    → UnseenTableWrite h d p l2s rbs on_storage l2s' rbs' on_storage' → UnseenTableWrite h d p l2s' rbs' on_storage' l2s'' rbs'' on_storage'' → UnseenTableWrite h d p l2s rbs on_storage l2s'' rbs'' on_storage''
+keeps_then h d p l2s rbs on_storage l2s' rbs' on_storage' l2s'' rbs'' on_storage'' first second = record {
   kept = second.kept;
   known = second.known ∙ first.known;
-  safe = λ backing m ok known_ok. second.safe backing m (first.safe backing m ok known_ok) (subst (IsKeptAt backing m) (sym first.known) known_ok);
+  safe = λ backing m ok known_ok. second.safe backing m (first.safe backing m ok known_ok) (subst (StopOkEverywhere backing m) (sym first.known) known_ok);
 }

@@ -10,10 +10,10 @@ use Rattle.qcow2_metadata.specs.Guest.{guest_value}
 use Rattle.qcow2_metadata.specs.Named.{named_by_cover}
 use Rattle.qcow2_metadata.specs.Consistent.{CoverIsAligned}
 use Rattle.qcow2_metadata.specs.declared.l2_mapping.L2Mapping.{L2Mapping}
-use Rattle.qcow2_laws.specs.Stops.{Gift, IsGiven, Mark, more, IsKeptAt}
+use Rattle.qcow2_laws.specs.Stops.{GivenBytes, IsGiven, Checkpoint, checkpoint_with, StopOkEverywhere}
 use Rattle.qcow2_laws.specs.Clusters.{Direction, L2DependsOnRb, RbDependsOnL2}
 use Rattle.qcow2_laws.specs.Guests.{guests, over_guests, names, marks, named_in_either, marked_by_cover}
-use Rattle.qcow2_laws.specs.Guard.{SameTop, Pending, cluster, IsGuarded, SameCovers, SameCounts}
+use Rattle.qcow2_laws.specs.CrashInvariant.{SameTop, Pending, cluster, CrashInvariant, SameCovers, SameCounts}
 use Rattle.qcow2_laws.specs.Changes.{one_at, with_held, with_fresh, without_spent, without_dropped, held_to_dropped, held_to_spent, fresh_to_spent, remapped}
 use Rattle.qcow2_laws.proofs.Clusters.{Good, allocate_data, allocate_table, free_table, free_data, drop_held, undo, abandon, remap, held_unnamed}
 use Rattle.qcow2_laws.proofs.Places.{Sizes-from}
@@ -33,27 +33,27 @@ at_one c k f n is some = elim (cases_eq k c) [
 ]
 
 -- ---- counts and what is pending change, and covers stay
-module _ (h : HeaderFields) (d : Direction) (p p' : Pending) (base known known' : Bytes) (guarded : IsGuarded h d p base known)
+module _ (h : HeaderFields) (d : Direction) (p p' : Pending) (on_storage known known' : Bytes) (guarded : CrashInvariant h d p on_storage known)
     (top : SameTop h known known') (covers : SameCovers h known known')
-    (bytes : (o : ℕ) → 0 < named_in_either h base known (o / cluster_size h) + p'.held (o / cluster_size h) → base o ≡ known' o) where
+    (bytes : (o : ℕ) → 0 < named_in_either h on_storage known (o / cluster_size h) + p'.held (o / cluster_size h) → on_storage o ≡ known' o) where
   sum_same : (f : L2Mapping → ℕ) → over_guests h (λ g. f (cover h known' g)) ≡ over_guests h (λ g. f (cover h known g))
   sum_same f = over_guests-same h _ _ (λ g. ap f (sym (covers g)))
 
-  max_same : (f : L2Mapping → ℕ) → over_guests h (λ g. max (f (cover h base g)) (f (cover h known' g))) ≡ over_guests h (λ g. max (f (cover h base g)) (f (cover h known g)))
-  max_same f = over_guests-same h _ _ (λ g. ap (λ v. max (f (cover h base g)) (f v)) (sym (covers g)))
+  max_same : (f : L2Mapping → ℕ) → over_guests h (λ g. max (f (cover h on_storage g)) (f (cover h known' g))) ≡ over_guests h (λ g. max (f (cover h on_storage g)) (f (cover h known g)))
+  max_same f = over_guests-same h _ _ (λ g. ap (λ v. max (f (cover h on_storage g)) (f v)) (sym (covers g)))
 
-  pub counts_changed : ((c : ℕ) → Good d (record (cluster h p base known c) { known_count = count h known' c; held = p'.held c; fresh = p'.fresh c; spent = p'.spent c; dropped = p'.dropped c }) (p'.surplus c))
-      → IsGuarded h d p' base known'
+  pub counts_changed : ((c : ℕ) → Good d (record (cluster h p on_storage known c) { known_count = count h known' c; held = p'.held c; fresh = p'.fresh c; spent = p'.spent c; dropped = p'.dropped c }) (p'.surplus c))
+      → CrashInvariant h d p' on_storage known'
   counts_changed numbers =
-      let now : (c : ℕ) → Good d (cluster h p' base known' c) (p'.surplus c) = λ c.
+      let now : (c : ℕ) → Good d (cluster h p' on_storage known' c) (p'.surplus c) = λ c.
       let in_known = sym (sum_same (named_by_cover h c)) in
       let in_either = sym (max_same (named_by_cover h c)) in
       let marks_known = sym (sum_same (marked_by_cover h c)) in
       let marks_either = sym (max_same (marked_by_cover h c)) in
-      subst (λ k. Good d k (p'.surplus c)) (λ j. record (cluster h p' base known' c) { in_known = in_known j; in_either = in_either j; marks_known = marks_known j; marks_either = marks_either j }) (numbers c) in
+      subst (λ k. Good d k (p'.surplus c)) (λ j. record (cluster h p' on_storage known' c) { in_known = in_known j; in_either = in_either j; marks_known = marks_known j; marks_either = marks_either j }) (numbers c) in
       record {
         top = guarded.top;
-        same_top = SameTop-trans h base known known' guarded.same_top top;
+        same_top = SameTop-trans h on_storage known known' guarded.same_top top;
         always = λ c. (now c).always;
         ordered = λ c. (now c).ordered;
         aligned = guarded.aligned;
@@ -63,94 +63,94 @@ module _ (h : HeaderFields) (d : Direction) (p p' : Pending) (base known known' 
       }
 
 -- the guest sees what it saw
-module _ (h : HeaderFields) (d d' : Direction) (p p' : Pending) (base known known' : Bytes) (guarded : IsGuarded h d p base known) (guarded' : IsGuarded h d' p' base known')
+module _ (h : HeaderFields) (d d' : Direction) (p p' : Pending) (on_storage known known' : Bytes) (guarded : CrashInvariant h d p on_storage known) (guarded' : CrashInvariant h d' p' on_storage known')
     (covers : SameCovers h known known')
-    (bytes : (o : ℕ) → 0 < named_in_either h base known (o / cluster_size h) → known o ≡ known' o) where
-  pub covers_kept : (backing : Bytes) (m : Mark) → IsKeptAt backing m known → IsKeptAt backing m known'
+    (bytes : (o : ℕ) → 0 < named_in_either h on_storage known (o / cluster_size h) → known o ≡ known' o) where
+  pub covers_kept : (backing : Bytes) (m : Checkpoint) → StopOkEverywhere backing m known → StopOkEverywhere backing m known'
   covers_kept backing m kept =
-      kept_shown h backing m [] known known' (IsTop-top h base known guarded.same_top guarded.top).header_is (IsTop-top h base known' guarded'.same_top guarded'.top).header_is
-      (known_consistent h d' p' base known' guarded')
+      kept_shown h backing m [] known known' (IsTop-top h on_storage known guarded.same_top guarded.top).header_is (IsTop-top h on_storage known' guarded'.same_top guarded'.top).header_is
+      (known_consistent h d' p' on_storage known' guarded')
       (λ o. inl (sym (guest_value-same h known known' backing o (covers (o / cluster_size h)) (guarded.known_aligned (o / cluster_size h)) (λ place some.
       bytes place (
-      let within = names_within h known (place / cluster_size h) (o / cluster_size h) (Sizes-from h base guarded.top.header_reads) some in
-      let le = guest_le h (λ k. max (names h base (place / cluster_size h) k) (names h known (place / cluster_size h) k)) (o / cluster_size h) within in
+      let within = names_within h known (place / cluster_size h) (o / cluster_size h) (Sizes-from h on_storage guarded.top.header_reads) some in
+      let le = guest_le h (λ k. max (names h on_storage (place / cluster_size h) k) (names h known (place / cluster_size h) k)) (o / cluster_size h) within in
       omega arith))))) kept
 
 -- ---- counts of single clusters
-module _ (h : HeaderFields) (p : Pending) (base known known' : Bytes) (n : ℕ → ℕ) (top : SameTop h known known') (covers : SameCovers h known known') (few : (c : ℕ) → n c ≤ 1) where
-  pub data_counted : IsGuarded h L2DependsOnRb p base known
-      → ((o : ℕ) → 0 < named_in_either h base known (o / cluster_size h) + (with_held p n).held (o / cluster_size h) → base o ≡ known' o)
+module _ (h : HeaderFields) (p : Pending) (on_storage known known' : Bytes) (n : ℕ → ℕ) (top : SameTop h known known') (covers : SameCovers h known known') (few : (c : ℕ) → n c ≤ 1) where
+  pub data_counted : CrashInvariant h L2DependsOnRb p on_storage known
+      → ((o : ℕ) → 0 < named_in_either h on_storage known (o / cluster_size h) + (with_held p n).held (o / cluster_size h) → on_storage o ≡ known' o)
       → ((c : ℕ) → 0 < n c → count h known c ≡ 0) → ((c : ℕ) → count h known' c ≡ count h known c + n c)
-      → IsGuarded h L2DependsOnRb (with_held p n) base known'
-  data_counted guarded bytes free more =
-      counts_changed h L2DependsOnRb p (with_held p n) base known known' guarded top covers bytes (λ c.
-      let next = allocate_data (cluster h p base known c) (p.surplus c) (n c) (tied h p base known c) (few c) (free c) (good h L2DependsOnRb p base known guarded c) in
-      let e : count h known c + n c ≡ count h known' c = sym (more c) in
-      subst (λ k. Good L2DependsOnRb k (p.surplus c)) (λ j. record (cluster h p base known c) { known_count = e j; held = p.held c + n c }) next)
+      → CrashInvariant h L2DependsOnRb (with_held p n) on_storage known'
+  data_counted guarded bytes free checkpoint_with =
+      counts_changed h L2DependsOnRb p (with_held p n) on_storage known known' guarded top covers bytes (λ c.
+      let next = allocate_data (cluster h p on_storage known c) (p.surplus c) (n c) (tied h p on_storage known c) (few c) (free c) (good h L2DependsOnRb p on_storage known guarded c) in
+      let e : count h known c + n c ≡ count h known' c = sym (checkpoint_with c) in
+      subst (λ k. Good L2DependsOnRb k (p.surplus c)) (λ j. record (cluster h p on_storage known c) { known_count = e j; held = p.held c + n c }) next)
 
-  pub table_counted : (d : Direction) → IsGuarded h d p base known
-      → ((o : ℕ) → 0 < named_in_either h base known (o / cluster_size h) + p.held (o / cluster_size h) → base o ≡ known' o)
+  pub table_counted : (d : Direction) → CrashInvariant h d p on_storage known
+      → ((o : ℕ) → 0 < named_in_either h on_storage known (o / cluster_size h) + p.held (o / cluster_size h) → on_storage o ≡ known' o)
       → ((c : ℕ) → 0 < n c → count h known c ≡ 0) → ((c : ℕ) → count h known' c ≡ count h known c + n c)
-      → IsGuarded h d (with_fresh p n) base known'
-  table_counted d guarded bytes free more =
-      counts_changed h d p (with_fresh p n) base known known' guarded top covers bytes (λ c.
-      let next = allocate_table d (cluster h p base known c) (p.surplus c) (n c) (tied h p base known c) (few c) (free c) (good h d p base known guarded c) in
-      let e : count h known c + n c ≡ count h known' c = sym (more c) in
-      subst (λ k. Good d k (p.surplus c)) (λ j. record (cluster h p base known c) { known_count = e j; fresh = p.fresh c + n c }) next)
+      → CrashInvariant h d (with_fresh p n) on_storage known'
+  table_counted d guarded bytes free checkpoint_with =
+      counts_changed h d p (with_fresh p n) on_storage known known' guarded top covers bytes (λ c.
+      let next = allocate_table d (cluster h p on_storage known c) (p.surplus c) (n c) (tied h p on_storage known c) (few c) (free c) (good h d p on_storage known guarded c) in
+      let e : count h known c + n c ≡ count h known' c = sym (checkpoint_with c) in
+      subst (λ k. Good d k (p.surplus c)) (λ j. record (cluster h p on_storage known c) { known_count = e j; fresh = p.fresh c + n c }) next)
 
-  pub table_freed : (d : Direction) → IsGuarded h d p base known
-      → ((o : ℕ) → 0 < named_in_either h base known (o / cluster_size h) + p.held (o / cluster_size h) → base o ≡ known' o)
+  pub table_freed : (d : Direction) → CrashInvariant h d p on_storage known
+      → ((o : ℕ) → 0 < named_in_either h on_storage known (o / cluster_size h) + p.held (o / cluster_size h) → on_storage o ≡ known' o)
       → ((c : ℕ) → 0 < n c → 0 < p.spent c) → ((c : ℕ) → count h known' c + n c ≡ count h known c)
-      → IsGuarded h d (without_spent p n) base known'
+      → CrashInvariant h d (without_spent p n) on_storage known'
   table_freed d guarded bytes some less =
-      counts_changed h d p (without_spent p n) base known known' guarded top covers bytes (λ c.
-      let next = free_table d (cluster h p base known c) (p.surplus c) (n c) (tied h p base known c) (few c) (some c) (good h d p base known guarded c) in
+      counts_changed h d p (without_spent p n) on_storage known known' guarded top covers bytes (λ c.
+      let next = free_table d (cluster h p on_storage known c) (p.surplus c) (n c) (tied h p on_storage known c) (few c) (some c) (good h d p on_storage known guarded c) in
       let e : count h known c - n c ≡ count h known' c = let l = less c in omega arith in
-      subst (λ k. Good d k (p.surplus c)) (λ j. record (cluster h p base known c) { known_count = e j; spent = p.spent c - n c }) next)
+      subst (λ k. Good d k (p.surplus c)) (λ j. record (cluster h p on_storage known c) { known_count = e j; spent = p.spent c - n c }) next)
 
-  pub data_freed : IsGuarded h RbDependsOnL2 p base known
-      → ((o : ℕ) → 0 < named_in_either h base known (o / cluster_size h) + p.held (o / cluster_size h) → base o ≡ known' o)
+  pub data_freed : CrashInvariant h RbDependsOnL2 p on_storage known
+      → ((o : ℕ) → 0 < named_in_either h on_storage known (o / cluster_size h) + p.held (o / cluster_size h) → on_storage o ≡ known' o)
       → ((c : ℕ) → 0 < n c → 0 < p.dropped c) → ((c : ℕ) → count h known' c + n c ≡ count h known c)
-      → IsGuarded h RbDependsOnL2 (without_dropped p n) base known'
+      → CrashInvariant h RbDependsOnL2 (without_dropped p n) on_storage known'
   data_freed guarded bytes some less =
-      counts_changed h RbDependsOnL2 p (without_dropped p n) base known known' guarded top covers bytes (λ c.
-      let next = free_data (cluster h p base known c) (p.surplus c) (n c) (tied h p base known c) (few c) (some c) (good h RbDependsOnL2 p base known guarded c) in
+      counts_changed h RbDependsOnL2 p (without_dropped p n) on_storage known known' guarded top covers bytes (λ c.
+      let next = free_data (cluster h p on_storage known c) (p.surplus c) (n c) (tied h p on_storage known c) (few c) (some c) (good h RbDependsOnL2 p on_storage known guarded c) in
       let e : count h known c - n c ≡ count h known' c = let l = less c in omega arith in
-      subst (λ k. Good RbDependsOnL2 k (p.surplus c)) (λ j. record (cluster h p base known c) { known_count = e j; dropped = p.dropped c - n c }) next)
+      subst (λ k. Good RbDependsOnL2 k (p.surplus c)) (λ j. record (cluster h p on_storage known c) { known_count = e j; dropped = p.dropped c - n c }) next)
 
 -- ---- what is pending changes alone
-module _ (h : HeaderFields) (d : Direction) (p : Pending) (base known : Bytes) (guarded : IsGuarded h d p base known) (n : ℕ → ℕ) (few : (c : ℕ) → n c ≤ 1) where
-  pub dropped_instead : ((c : ℕ) → 0 < n c → 0 < p.held c) → IsGuarded h d (held_to_dropped p n) base known
+module _ (h : HeaderFields) (d : Direction) (p : Pending) (on_storage known : Bytes) (guarded : CrashInvariant h d p on_storage known) (n : ℕ → ℕ) (few : (c : ℕ) → n c ≤ 1) where
+  pub dropped_instead : ((c : ℕ) → 0 < n c → 0 < p.held c) → CrashInvariant h d (held_to_dropped p n) on_storage known
   dropped_instead some =
-      counts_changed h d p (held_to_dropped p n) base known known guarded (SameTop-refl h known) (λ g. refl) (λ o any. guarded.unlaid o (omega arith))
-      (λ c. drop_held d (cluster h p base known c) (p.surplus c) (n c) (tied h p base known c) (few c) (some c) (good h d p base known guarded c))
+      counts_changed h d p (held_to_dropped p n) on_storage known known guarded (SameTop-refl h known) (λ g. refl) (λ o any. guarded.unlaid o (omega arith))
+      (λ c. drop_held d (cluster h p on_storage known c) (p.surplus c) (n c) (tied h p on_storage known c) (few c) (some c) (good h d p on_storage known guarded c))
 
-  pub spent_instead : ((c : ℕ) → 0 < n c → 0 < p.held c) → IsGuarded h d (held_to_spent p n) base known
+  pub spent_instead : ((c : ℕ) → 0 < n c → 0 < p.held c) → CrashInvariant h d (held_to_spent p n) on_storage known
   spent_instead some =
-      counts_changed h d p (held_to_spent p n) base known known guarded (SameTop-refl h known) (λ g. refl) (λ o any. guarded.unlaid o (omega arith))
-      (λ c. undo d (cluster h p base known c) (p.surplus c) (n c) (tied h p base known c) (few c) (some c) (good h d p base known guarded c))
+      counts_changed h d p (held_to_spent p n) on_storage known known guarded (SameTop-refl h known) (λ g. refl) (λ o any. guarded.unlaid o (omega arith))
+      (λ c. undo d (cluster h p on_storage known c) (p.surplus c) (n c) (tied h p on_storage known c) (few c) (some c) (good h d p on_storage known guarded c))
 
-  pub never_named : ((c : ℕ) → 0 < n c → 0 < p.fresh c) → IsGuarded h d (fresh_to_spent p n) base known
+  pub never_named : ((c : ℕ) → 0 < n c → 0 < p.fresh c) → CrashInvariant h d (fresh_to_spent p n) on_storage known
   never_named some =
-      counts_changed h d p (fresh_to_spent p n) base known known guarded (SameTop-refl h known) (λ g. refl) (λ o any. guarded.unlaid o (omega arith))
-      (λ c. abandon d (cluster h p base known c) (p.surplus c) (n c) (tied h p base known c) (few c) (some c) (good h d p base known guarded c))
+      counts_changed h d p (fresh_to_spent p n) on_storage known known guarded (SameTop-refl h known) (λ g. refl) (λ o any. guarded.unlaid o (omega arith))
+      (λ c. abandon d (cluster h p on_storage known c) (p.surplus c) (n c) (tied h p on_storage known c) (few c) (some c) (good h d p on_storage known guarded c))
 
 -- ---- one guest cluster is mapped anew: what it names beside the old is taken from what is held
-module _ (h : HeaderFields) (d : Direction) (p : Pending) (base known known' : Bytes) (guarded : IsGuarded h d p base known) (g0 : ℕ) (within : g0 < guests h)
+module _ (h : HeaderFields) (d : Direction) (p : Pending) (on_storage known known' : Bytes) (guarded : CrashInvariant h d p on_storage known) (g0 : ℕ) (within : g0 < guests h)
     (top : SameTop h known known') (others : (g : ℕ) → g ≢ g0 → cover h known g ≡ cover h known' g) (counts : SameCounts h known known')
     (held : (c : ℕ) → names h known' c g0 - names h known c g0 ≤ p.held c)
     (marked : (c : ℕ) → marks h known' c g0 ≤ marks h known c g0 + (names h known' c g0 - names h known c g0))
     (aligned : CoverIsAligned h (cover h known' g0))
-    (bytes : (o : ℕ) → 0 < named_in_either h base known (o / cluster_size h) + p.held (o / cluster_size h) → known o ≡ known' o) where
+    (bytes : (o : ℕ) → 0 < named_in_either h on_storage known (o / cluster_size h) + p.held (o / cluster_size h) → known o ≡ known' o) where
   sum_changed : (f : L2Mapping → ℕ) → over_guests h (λ g. f (cover h known' g)) + f (cover h known g0) ≡ over_guests h (λ g. f (cover h known g)) + f (cover h known' g0)
   sum_changed f = over_guests-change h (λ g. f (cover h known' g)) (λ g. f (cover h known g)) g0 within (λ g ne. ap f (sym (others g ne)))
 
-  max_changed : (f : L2Mapping → ℕ) → over_guests h (λ g. max (f (cover h base g)) (f (cover h known' g))) + max (f (cover h base g0)) (f (cover h known g0))
-      ≡ over_guests h (λ g. max (f (cover h base g)) (f (cover h known g))) + max (f (cover h base g0)) (f (cover h known' g0))
-  max_changed f = over_guests-change h (λ g. max (f (cover h base g)) (f (cover h known' g))) (λ g. max (f (cover h base g)) (f (cover h known g))) g0 within
-      (λ g ne. ap (λ v. max (f (cover h base g)) (f v)) (sym (others g ne)))
+  max_changed : (f : L2Mapping → ℕ) → over_guests h (λ g. max (f (cover h on_storage g)) (f (cover h known' g))) + max (f (cover h on_storage g0)) (f (cover h known g0))
+      ≡ over_guests h (λ g. max (f (cover h on_storage g)) (f (cover h known g))) + max (f (cover h on_storage g0)) (f (cover h known' g0))
+  max_changed f = over_guests-change h (λ g. max (f (cover h on_storage g)) (f (cover h known' g))) (λ g. max (f (cover h on_storage g)) (f (cover h known g))) g0 within
+      (λ g ne. ap (λ v. max (f (cover h on_storage g)) (f v)) (sym (others g ne)))
 
-  now : (c : ℕ) → Good d (cluster h (remapped p (λ c. names h known c g0) (λ c. names h known' c g0)) base known' c) (p.surplus c)
+  now : (c : ℕ) → Good d (cluster h (remapped p (λ c. names h known c g0) (λ c. names h known' c g0)) on_storage known' c) (p.surplus c)
   now c =
       let in_known = sum_changed (named_by_cover h c) in
       let in_either = max_changed (named_by_cover h c) in
@@ -158,29 +158,29 @@ module _ (h : HeaderFields) (d : Direction) (p : Pending) (base known known' : B
       let marks_either = max_changed (marked_by_cover h c) in
       let taken = held c in
       let mark = marked c in
-      let next = remap d (cluster h p base known c) (p.surplus c) (names h known c g0) (names h known' c g0)
-      (over_guests h (names h known' c)) (named_in_either h base known' c)
-      (over_guests h (marks h known' c)) (over_guests h (λ g. max (marks h base c g) (marks h known' c g)))
-      (tied h p base known c) (omega arith) (omega arith) (omega arith) (omega arith) (omega arith) (good h d p base known guarded c) in
-      subst (λ k. Good d k (p.surplus c)) (λ j. record (cluster h (remapped p (λ c. names h known c g0) (λ c. names h known' c g0)) base known' c) { known_count = counts c j }) next
+      let next = remap d (cluster h p on_storage known c) (p.surplus c) (names h known c g0) (names h known' c g0)
+      (over_guests h (names h known' c)) (named_in_either h on_storage known' c)
+      (over_guests h (marks h known' c)) (over_guests h (λ g. max (marks h on_storage c g) (marks h known' c g)))
+      (tied h p on_storage known c) (omega arith) (omega arith) (omega arith) (omega arith) (omega arith) (good h d p on_storage known guarded c) in
+      subst (λ k. Good d k (p.surplus c)) (λ j. record (cluster h (remapped p (λ c. names h known c g0) (λ c. names h known' c g0)) on_storage known' c) { known_count = counts c j }) next
 
-  own_there : (c : ℕ) → 0 < marks h known' c g0 → names h base c g0 ≤ marks h base c g0
+  own_there : (c : ℕ) → 0 < marks h known' c g0 → names h on_storage c g0 ≤ marks h on_storage c g0
   own_there c some = elim (cases_lt 0 (marks h known c g0)) [
     | inl before ↦ guarded.own g0 c before
     | inr not ↦
         let taken = held c in
         let mark = marked c in
         let from : 0 < p.held c = omega arith in
-        let none = held_unnamed d (cluster h p base known c) (p.surplus c) (tied h p base known c) from (good h d p base known guarded c) in
-        let le = guest_le h (λ g. max (names h base c g) (names h known c g)) g0 within in
-        let zero_sum : named_in_either h base known c ≡ 0 = none.0 in
+        let none = held_unnamed d (cluster h p on_storage known c) (p.surplus c) (tied h p on_storage known c) from (good h d p on_storage known guarded c) in
+        let le = guest_le h (λ g. max (names h on_storage c g) (names h known c g)) g0 within in
+        let zero_sum : named_in_either h on_storage known c ≡ 0 = none.0 in
         omega arith
   ]
 
-  pub entry_mapped : IsGuarded h d (remapped p (λ c. names h known c g0) (λ c. names h known' c g0)) base known'
+  pub entry_mapped : CrashInvariant h d (remapped p (λ c. names h known c g0) (λ c. names h known' c g0)) on_storage known'
   entry_mapped = record {
     top = guarded.top;
-    same_top = SameTop-trans h base known known' guarded.same_top top;
+    same_top = SameTop-trans h on_storage known known' guarded.same_top top;
     always = λ c. (now c).always;
     ordered = λ c. (now c).ordered;
     aligned = guarded.aligned;
@@ -189,28 +189,28 @@ module _ (h : HeaderFields) (d : Direction) (p : Pending) (base known known' : B
       | inr ne ↦ subst (CoverIsAligned h) (others g ne) (guarded.known_aligned g)
     ];
     own = λ g c some. elim (cases_eq g g0) [
-      | inl e ↦ subst (λ n. names h base c n ≤ marks h base c n) (sym e) (own_there c (subst (λ n. 0 < marks h known' c n) e some))
+      | inl e ↦ subst (λ n. names h on_storage c n ≤ marks h on_storage c n) (sym e) (own_there c (subst (λ n. 0 < marks h known' c n) e some))
       | inr ne ↦ guarded.own g c (subst (λ v. 0 < marked_by_cover h c v) (sym (others g ne)) some)
     ];
     unlaid = λ o some.
         let changed = max_changed (named_by_cover h (o / cluster_size h)) in
         let taken = held (o / cluster_size h) in
-        let as_before : 0 < named_in_either h base known (o / cluster_size h) + p.held (o / cluster_size h) = omega arith in
+        let as_before : 0 < named_in_either h on_storage known (o / cluster_size h) + p.held (o / cluster_size h) = omega arith in
         guarded.unlaid o as_before ∙ bytes o as_before;
   }
 
   -- the other guest clusters show what they showed
-  pub mapping_kept : (backing : Bytes) (m : Mark) (given : List Gift)
+  pub mapping_kept : (backing : Bytes) (m : Checkpoint) (given : List GivenBytes)
       → ((o : ℕ) → o / cluster_size h ≡ g0 → (guest_value h known' known' backing o ≡ guest_value h known known backing o) ⊎ IsGiven given o (guest_value h known' known' backing o))
-      → IsKeptAt backing m known → IsKeptAt backing (more given [] m) known'
+      → StopOkEverywhere backing m known → StopOkEverywhere backing (checkpoint_with given [] m) known'
   mapping_kept backing m given there kept =
-      kept_shown h backing m given known known' (IsTop-top h base known guarded.same_top guarded.top).header_is (IsTop-top h base known' entry_mapped.same_top guarded.top).header_is
-      (known_consistent h d (remapped p (λ c. names h known c g0) (λ c. names h known' c g0)) base known' entry_mapped)
+      kept_shown h backing m given known known' (IsTop-top h on_storage known guarded.same_top guarded.top).header_is (IsTop-top h on_storage known' entry_mapped.same_top guarded.top).header_is
+      (known_consistent h d (remapped p (λ c. names h known c g0) (λ c. names h known' c g0)) on_storage known' entry_mapped)
       (λ o. elim (cases_eq (o / cluster_size h) g0) [
         | inl here ↦ there o here
         | inr other ↦ inl (sym (guest_value-same h known known' backing o (others (o / cluster_size h) other) (guarded.known_aligned (o / cluster_size h)) (λ place some.
             bytes place (
-            let inside = names_within h known (place / cluster_size h) (o / cluster_size h) (Sizes-from h base guarded.top.header_reads) some in
-            let le = guest_le h (λ k. max (names h base (place / cluster_size h) k) (names h known (place / cluster_size h) k)) (o / cluster_size h) inside in
+            let inside = names_within h known (place / cluster_size h) (o / cluster_size h) (Sizes-from h on_storage guarded.top.header_reads) some in
+            let le = guest_le h (λ k. max (names h on_storage (place / cluster_size h) k) (names h known (place / cluster_size h) k)) (o / cluster_size h) inside in
             omega arith))))
       ]) kept

@@ -4,13 +4,13 @@ use Rattle.qcow2_laws.specs.Clusters.{Direction, Neither, L2DependsOnRb, RbDepen
 
 -- how the sums of a cluster's numbers go together
 pub record Tied (k : Cluster) : Type 0 where
-  pub base : k.in_base ≤ k.in_either
+  pub on_storage : k.in_storage ≤ k.in_either
   pub known : k.in_known ≤ k.in_either
-  pub marks_base : k.marks_base ≤ k.marks_either
+  pub marks_in_storage : k.marks_in_storage ≤ k.marks_either
   pub marks_known : k.marks_known ≤ k.marks_either
   pub marks : k.marks_either ≤ k.in_either
   pub named : k.marks_known ≤ k.in_known
-  pub based : k.marks_base ≤ k.in_base
+  pub based : k.marks_in_storage ≤ k.in_storage
 
 pub record Good (d : Direction) (k : Cluster) (surplus : ℕ) : Type 0 where
   pub always : Always k surplus
@@ -18,29 +18,29 @@ pub record Good (d : Direction) (k : Cluster) (surplus : ℕ) : Type 0 where
 
 -- how the numbers of a mix go with those before
 pub record Nearer (k : Cluster) (a b c e n : ℕ) : Type 0 where
-  pub in_base : a ≤ k.in_either
+  pub in_storage : a ≤ k.in_either
   pub in_either : b ≤ k.in_either
-  pub marks_base : c ≤ k.marks_either
+  pub marks_in_storage : c ≤ k.marks_either
   pub marks_either : e ≤ k.marks_either
-  pub count : (n ≡ k.base_count) ⊎ (n ≡ k.known_count)
+  pub count : (n ≡ k.storage_count) ⊎ (n ≡ k.known_count)
 
 -- and what order asks for
 abbrev pub InOrder : Direction → Cluster → ℕ → ℕ → ℕ → ℕ → ℕ → Type 0
 InOrder Neither k a b c e n = Unit {0}
-InOrder L2DependsOnRb k a b c e n = ((a ≡ k.in_base) × (c ≡ k.marks_base)) ⊎ (n ≡ k.known_count)
-InOrder RbDependsOnL2 k a b c e n = (n ≡ k.base_count) ⊎ ((b ≡ k.in_known) × (e ≡ k.marks_known))
+InOrder L2DependsOnRb k a b c e n = ((a ≡ k.in_storage) × (c ≡ k.marks_in_storage)) ⊎ (n ≡ k.known_count)
+InOrder RbDependsOnL2 k a b c e n = (n ≡ k.storage_count) ⊎ ((b ≡ k.in_known) × (e ≡ k.marks_known))
 
 pub mix : (d : Direction) (k : Cluster) (x a b c e n : ℕ) → Tied k → Nearer k a b c e n → InOrder d k a b c e n → Good d k x
-    → Good d (record k { in_base = a; in_either = b; marks_base = c; marks_either = e; base_count = n }) x
+    → Good d (record k { in_storage = a; in_either = b; marks_in_storage = c; marks_either = e; storage_count = n }) x
 mix Neither k x a b c e n tied near order good = grind arith
 mix L2DependsOnRb k x a b c e n tied near order good = grind arith
 mix RbDependsOnL2 k x a b c e n tied near order good = grind arith
 
 -- what one cluster has to say of a consistent image
 pub record Fine (k : Cluster) : Type 0 where
-  pub counted : k.fixed + k.in_base ≤ k.base_count
-  pub tables : 0 < k.fixed → k.fixed + k.in_base ≡ 1
-  pub copied : 0 < k.sole + k.marks_base → (k.fixed + k.in_base ≡ 1) × (k.base_count ≡ 1)
+  pub counted : k.fixed + k.in_storage ≤ k.storage_count
+  pub tables : 0 < k.fixed → k.fixed + k.in_storage ≡ 1
+  pub copied : 0 < k.sole + k.marks_in_storage → (k.fixed + k.in_storage ≡ 1) × (k.storage_count ≡ 1)
 
 pub fine : (d : Direction) (k : Cluster) (x : ℕ) → Tied k → Good d k x → Fine k
 fine Neither k x tied good = grind arith
@@ -57,11 +57,11 @@ allocate_table Neither k x i tied one empty good = grind arith
 allocate_table L2DependsOnRb k x i tied one empty good = grind arith
 allocate_table RbDependsOnL2 k x i tied one empty good = grind arith
 
-pub name_self : (d : Direction) (k : Cluster) (x i : ℕ) → Tied k → i ≤ 1 → (0 < i → k.known_count ≡ 0) → (0 < i → k.base_count ≡ 0) → Good d k x
-    → Good d (record k { fixed = k.fixed + i; known_count = k.known_count + i; base_count = k.base_count + i }) x
-name_self Neither k x i tied one empty empty_base good = grind arith
-name_self L2DependsOnRb k x i tied one empty empty_base good = grind arith
-name_self RbDependsOnL2 k x i tied one empty empty_base good = grind arith
+pub name_self : (d : Direction) (k : Cluster) (x i : ℕ) → Tied k → i ≤ 1 → (0 < i → k.known_count ≡ 0) → (0 < i → k.storage_count ≡ 0) → Good d k x
+    → Good d (record k { fixed = k.fixed + i; known_count = k.known_count + i; storage_count = k.storage_count + i }) x
+name_self Neither k x i tied one empty empty_storage good = grind arith
+name_self L2DependsOnRb k x i tied one empty empty_storage good = grind arith
+name_self RbDependsOnL2 k x i tied one empty empty_storage good = grind arith
 
 pub unname : (d : Direction) (k : Cluster) (x i : ℕ) → Tied k → i ≤ 1 → (0 < i → 0 < k.fixed) → Good d k x
     → Good d (record k { fixed = k.fixed - i; sole = k.sole - i; spent = k.spent + i }) x
@@ -105,17 +105,17 @@ Written RbDependsOnL2 k = (k.in_either ≡ k.in_known) × (k.marks_either ≡ k.
 
 abbrev pub Counted : Direction → Cluster → Type 0
 Counted Neither k = Unit {0}
-Counted L2DependsOnRb k = k.base_count ≡ k.known_count
+Counted L2DependsOnRb k = k.storage_count ≡ k.known_count
 Counted RbDependsOnL2 k = Unit {0}
 
-pub name : (d : Direction) (k : Cluster) (x i j : ℕ) → Tied k → i ≤ 1 → j ≤ i → (0 < i → 0 < k.fresh) → (0 < i → k.base_count ≡ k.known_count) → (0 < i → Written d k) → Good d k x
+pub name : (d : Direction) (k : Cluster) (x i j : ℕ) → Tied k → i ≤ 1 → j ≤ i → (0 < i → 0 < k.fresh) → (0 < i → k.storage_count ≡ k.known_count) → (0 < i → Written d k) → Good d k x
     → Good d (record k { fixed = k.fixed + i; sole = k.sole + j; fresh = k.fresh - i }) x
 name Neither k x i j tied one marked some same written good = grind arith
 name L2DependsOnRb k x i j tied one marked some same written good = grind arith
 name RbDependsOnL2 k x i j tied one marked some same written good = grind arith
 
 pub write_count : (d : Direction) (k : Cluster) (x : ℕ) → Tied k → Written d k → Good d k x
-    → Good d (record k { base_count = k.known_count }) x
+    → Good d (record k { storage_count = k.known_count }) x
 write_count Neither k x tied written good = grind arith
 write_count L2DependsOnRb k x tied written good = grind arith
 write_count RbDependsOnL2 k x tied written good = grind arith
@@ -134,16 +134,16 @@ turn_from_free Neither k x tied good = good
 turn_from_free L2DependsOnRb k x tied good = grind arith
 turn_from_free RbDependsOnL2 k x tied good = grind arith
 
-pub turn_to_l2 : (k : Cluster) (x : ℕ) → Tied k → k.base_count ≡ k.known_count → Good L2DependsOnRb k x → Good RbDependsOnL2 k x
+pub turn_to_l2 : (k : Cluster) (x : ℕ) → Tied k → k.storage_count ≡ k.known_count → Good L2DependsOnRb k x → Good RbDependsOnL2 k x
 turn_to_l2 k x tied same good = grind arith
 
 pub turn_to_rb : (k : Cluster) (x : ℕ) → Tied k → k.in_either ≡ k.in_known → k.marks_either ≡ k.marks_known → Good RbDependsOnL2 k x → Good L2DependsOnRb k x
 turn_to_rb k x tied same same_marks good = grind arith
 
-pub turn_free : (k : Cluster) (x : ℕ) → Tied k → k.base_count ≡ k.known_count → k.in_either ≡ k.in_known → k.marks_either ≡ k.marks_known → Good RbDependsOnL2 k x → Good Neither k x
+pub turn_free : (k : Cluster) (x : ℕ) → Tied k → k.storage_count ≡ k.known_count → k.in_either ≡ k.in_known → k.marks_either ≡ k.marks_known → Good RbDependsOnL2 k x → Good Neither k x
 turn_free k x tied counts same same_marks good = grind arith
 
-pub turn_free_too : (k : Cluster) (x : ℕ) → Tied k → k.base_count ≡ k.known_count → k.in_either ≡ k.in_known → k.marks_either ≡ k.marks_known → Good L2DependsOnRb k x → Good Neither k x
+pub turn_free_too : (k : Cluster) (x : ℕ) → Tied k → k.storage_count ≡ k.known_count → k.in_either ≡ k.in_known → k.marks_either ≡ k.marks_known → Good L2DependsOnRb k x → Good Neither k x
 turn_free_too k x tied counts same same_marks good = grind arith
 
 -- what pending and table clusters, and clusters that one entry has to itself, say of the entries
@@ -165,15 +165,15 @@ named_once Neither k x tied some good = grind arith
 named_once L2DependsOnRb k x tied some good = grind arith
 named_once RbDependsOnL2 k x tied some good = grind arith
 
-pub unused_unnamed : (d : Direction) (k : Cluster) (x : ℕ) → Tied k → k.known_count ≡ 0 → k.base_count ≡ 0 → Good d k x → k.in_either ≡ 0
-unused_unnamed Neither k x tied known base good = grind arith
-unused_unnamed L2DependsOnRb k x tied known base good = grind arith
-unused_unnamed RbDependsOnL2 k x tied known base good = grind arith
+pub unused_unnamed : (d : Direction) (k : Cluster) (x : ℕ) → Tied k → k.known_count ≡ 0 → k.storage_count ≡ 0 → Good d k x → k.in_either ≡ 0
+unused_unnamed Neither k x tied known on_storage good = grind arith
+unused_unnamed L2DependsOnRb k x tied known on_storage good = grind arith
+unused_unnamed RbDependsOnL2 k x tied known on_storage good = grind arith
 
 -- Tables are named anew: i are fresh and counted on the storage, s are counted with it, u are no longer named. Of the first j are marked copied.
 pub rename : (d : Direction) (k : Cluster) (x fixed sole i j s u : ℕ) → Tied k → i + s ≤ 1 → j ≤ i → fixed + u ≡ k.fixed + i + s → sole ≤ fixed → sole ≤ k.sole + j
-    → (0 < i → 0 < k.fresh) → (0 < i → k.base_count ≡ k.known_count) → (0 < i → Written d k) → (0 < s → k.known_count ≡ 0) → (0 < s → k.base_count ≡ 0) → Good d k x
-    → Good d (record k { fixed = fixed; sole = sole; base_count = k.base_count + s; known_count = k.known_count + s; fresh = k.fresh - i; spent = k.spent + u }) x
-rename Neither k x fixed sole i j s u tied one marked is few fewer some same written empty empty_base good = grind arith
-rename L2DependsOnRb k x fixed sole i j s u tied one marked is few fewer some same written empty empty_base good = grind arith
-rename RbDependsOnL2 k x fixed sole i j s u tied one marked is few fewer some same written empty empty_base good = grind arith
+    → (0 < i → 0 < k.fresh) → (0 < i → k.storage_count ≡ k.known_count) → (0 < i → Written d k) → (0 < s → k.known_count ≡ 0) → (0 < s → k.storage_count ≡ 0) → Good d k x
+    → Good d (record k { fixed = fixed; sole = sole; storage_count = k.storage_count + s; known_count = k.known_count + s; fresh = k.fresh - i; spent = k.spent + u }) x
+rename Neither k x fixed sole i j s u tied one marked is few fewer some same written empty empty_storage good = grind arith
+rename L2DependsOnRb k x fixed sole i j s u tied one marked is few fewer some same written empty empty_storage good = grind arith
+rename RbDependsOnL2 k x fixed sole i j s u tied one marked is few fewer some same written empty empty_storage good = grind arith

@@ -4,14 +4,14 @@ use Rattle.image_access.proofs.Passing.{passes_if, passes_on}
 use Rattle.qcow2_metadata.specs.Bytes.{Bytes, byte_at}
 use Rattle.qcow2_metadata.specs.Guest.{Value}
 use Rattle.qcow2_laws.specs.Disk.{disk}
-use Rattle.qcow2_laws.specs.Stops.{Gift, IsGiven, Mark, more, IsKeptAt}
-use Rattle.qcow2_laws.specs.Views.{Setting, View, guest_of, contents_of}
+use Rattle.qcow2_laws.specs.Stops.{GivenBytes, IsGiven, Checkpoint, checkpoint_with, StopOkEverywhere}
+use Rattle.qcow2_laws.specs.AbstractImages.{Setting, AbstractImage, guest_of, contents_of}
 use Rattle.qcow2_laws.specs.Calls.{Works, Rests}
 use Rattle.qcow2_laws.proofs.Stops.{given_more, given_front, given_split, kept_twice}
 
-module _ (v : View) (gs fewer : List Gift) (asked : List ℕ) (within : (o : ℕ) (w : Value) → IsGiven gs o w → (w ≡ (guest_of v).disk.value o) ⊎ IsGiven fewer o w) (m : Mark)
-    (known : IsKeptAt v.setting.backing m v.known) where
-  kept_less : (b : Bytes) → IsKeptAt v.setting.backing (more gs asked m) b → IsKeptAt v.setting.backing (more fewer asked m) b
+module _ (v : AbstractImage) (gs fewer : List GivenBytes) (asked : List ℕ) (within : (o : ℕ) (w : Value) → IsGiven gs o w → (w ≡ (guest_of v).disk.value o) ⊎ IsGiven fewer o w) (m : Checkpoint)
+    (known : StopOkEverywhere v.setting.backing m v.known) where
+  kept_less : (b : Bytes) → StopOkEverywhere v.setting.backing (checkpoint_with gs asked m) b → StopOkEverywhere v.setting.backing (checkpoint_with fewer asked m) b
   kept_less b k = record {
     consistent = k.consistent;
     size = k.size;
@@ -28,13 +28,13 @@ module _ (v : View) (gs fewer : List Gift) (asked : List ℕ) (within : (o : ℕ
   }
 
 -- a call that gives only what is there already or is one of fewer gifts, gives those
-pub works_less : (old new : View) (gs fewer : List Gift) (asked : List ℕ) → ((o : ℕ) (w : Value) → IsGiven gs o w → (w ≡ (guest_of old).disk.value o) ⊎ IsGiven fewer o w)
+pub works_less : (old new : AbstractImage) (gs fewer : List GivenBytes) (asked : List ℕ) → ((o : ℕ) (w : Value) → IsGiven gs o w → (w ≡ (guest_of old).disk.value o) ⊎ IsGiven fewer o w)
     → Works old new gs asked → Works old new fewer asked
 works_less old new gs fewer asked within w = record {
   setting = w.setting;
   surplus = w.surplus;
   stops = λ m starts. let s = w.stops m starts in record {
-    moments = passes_if (λ c. IsKeptAt old.setting.backing (more fewer asked m) (byte_at c))
+    moments = passes_if (λ c. StopOkEverywhere old.setting.backing (checkpoint_with fewer asked m) (byte_at c))
         (λ c k. kept_less old gs fewer asked within m starts.1 (byte_at c) k) s.moments;
     contents = kept_less old gs fewer asked within m starts.1 (contents_of new) s.contents;
     known = λ h. kept_less old gs fewer asked within m starts.1 new.known (s.known h);
@@ -42,7 +42,7 @@ works_less old new gs fewer asked within w = record {
 }
 
 -- two calls that give the same
-pub works_then : (old mid new : View) (gs : List Gift) (asked : List ℕ) → mid.is_sound → Works old mid gs asked → Works mid new gs asked → Works old new gs asked
+pub works_then : (old mid new : AbstractImage) (gs : List GivenBytes) (asked : List ℕ) → mid.is_sound → Works old mid gs asked → Works mid new gs asked → Works old new gs asked
 works_then old mid new gs asked there a b =
     let same : mid.setting.backing ≡ old.setting.backing = ap (λ (y : Setting). y.backing) a.setting in
     record {
@@ -50,16 +50,16 @@ works_then old mid new gs asked there a b =
       surplus = λ h. b.surplus h ∙ a.surplus there;
       stops = λ m starts.
           let f = a.stops m starts in
-          let l = b.stops (more gs asked m) (subst (λ k. IsKeptAt k (more gs asked m) (contents_of mid)) (sym same) f.contents, subst (λ k. IsKeptAt k (more gs asked m) mid.known) (sym same) (f.known there)) in
+          let l = b.stops (checkpoint_with gs asked m) (subst (λ k. StopOkEverywhere k (checkpoint_with gs asked m) (contents_of mid)) (sym same) f.contents, subst (λ k. StopOkEverywhere k (checkpoint_with gs asked m) mid.known) (sym same) (f.known there)) in
           record {
-            moments = passes_on (λ c. IsKeptAt old.setting.backing (more gs asked m) (byte_at c)) f.moments l.moments
-                (λ c k. kept_twice old.setting.backing gs asked m (byte_at c) (subst (λ q. IsKeptAt q (more gs asked (more gs asked m)) (byte_at c)) same k));
-            contents = kept_twice old.setting.backing gs asked m (contents_of new) (subst (λ q. IsKeptAt q (more gs asked (more gs asked m)) (contents_of new)) same l.contents);
-            known = λ h. kept_twice old.setting.backing gs asked m new.known (subst (λ q. IsKeptAt q (more gs asked (more gs asked m)) new.known) same (l.known h));
+            moments = passes_on (λ c. StopOkEverywhere old.setting.backing (checkpoint_with gs asked m) (byte_at c)) f.moments l.moments
+                (λ c k. kept_twice old.setting.backing gs asked m (byte_at c) (subst (λ q. StopOkEverywhere q (checkpoint_with gs asked (checkpoint_with gs asked m)) (byte_at c)) same k));
+            contents = kept_twice old.setting.backing gs asked m (contents_of new) (subst (λ q. StopOkEverywhere q (checkpoint_with gs asked (checkpoint_with gs asked m)) (contents_of new)) same l.contents);
+            known = λ h. kept_twice old.setting.backing gs asked m new.known (subst (λ q. StopOkEverywhere q (checkpoint_with gs asked (checkpoint_with gs asked m)) new.known) same (l.known h));
           };
     }
 
-pub rests_then : (old mid new : View) → Rests old mid → Rests mid new → Rests old new
+pub rests_then : (old mid new : AbstractImage) → Rests old mid → Rests mid new → Rests old new
 rests_then old mid new a b = record {
   setting = b.setting ∙ a.setting;
   failed = b.failed;

@@ -13,7 +13,7 @@ use Rattle.qcow2_metadata.specs.declared.l2_mapping.L2Mapping.{L2Mapping}
 use Rattle.qcow2_metadata.specs.declared.l2_mapping.L2Mapping.TheVariants.{Data, Zero, Compressed, Uncovered}
 use Rattle.qcow2_laws.specs.Clusters.{Direction}
 use Rattle.qcow2_laws.specs.Guests.{over_guests, marks, marked_by_cover, marked_by_kept, marked_by_l1_table, table_at}
-use Rattle.qcow2_laws.specs.Guard.{Pending, cluster, IsGuarded}
+use Rattle.qcow2_laws.specs.CrashInvariant.{Pending, cluster, CrashInvariant}
 use Rattle.qcow2_laws.proofs.Sums.{term_le-sum_below}
 use Rattle.qcow2_laws.proofs.Places.{Sizes, Sizes-from, cover_at}
 use Rattle.qcow2_laws.proofs.Clusters.{Fine, fine}
@@ -55,17 +55,17 @@ l1_marked h b i lt real copied =
 each_entry : (h : HeaderFields) (b : Bytes) (P : L2Mapping → Type 0) → Sizes h → ((g : ℕ) → P (cover h b g)) → EachCover h b P
 each_entry h b P sizes each i j lt real within = subst P (cover_at h b i j sizes real within) (each (i * entries_per_cluster h + j))
 
-module _ (h : HeaderFields) (d : Direction) (p : Pending) (base known : Bytes) (guarded : IsGuarded h d p base known) where
+module _ (h : HeaderFields) (d : Direction) (p : Pending) (on_storage known : Bytes) (guarded : CrashInvariant h d p on_storage known) where
   sizes : Sizes h
-  sizes = Sizes-from h base guarded.top.header_reads
+  sizes = Sizes-from h on_storage guarded.top.header_reads
 
-  fine_at : (c : ℕ) → Fine (cluster h p base known c)
-  fine_at c = fine d (cluster h p base known c) (p.surplus c) (tied h p base known c) (good h d p base known guarded c)
+  fine_at : (c : ℕ) → Fine (cluster h p on_storage known c)
+  fine_at c = fine d (cluster h p on_storage known c) (p.surplus c) (tied h p on_storage known c) (good h d p on_storage known guarded c)
 
-  owned : (c : ℕ) → 0 < marked_by_l1_table h base c + over_guests h (marks h base c) → Owned h base c
-  owned c some = let f = (fine_at c).copied some in (named-is h base c sizes ∙ f.0, f.1)
+  owned : (c : ℕ) → 0 < marked_by_l1_table h on_storage c + over_guests h (marks h on_storage c) → Owned h on_storage c
+  owned c some = let f = (fine_at c).copied some in (named-is h on_storage c sizes ∙ f.0, f.1)
 
-  pub consistent : Consistent h base
+  pub consistent : Consistent h on_storage
   consistent = record {
     header_reads = guarded.top.header_reads;
     l1_reads = guarded.top.l1_reads;
@@ -76,16 +76,16 @@ module _ (h : HeaderFields) (d : Direction) (p : Pending) (base known : Bytes) (
     reftable_aligned = guarded.top.reftable_aligned;
     l2_tables_aligned = guarded.top.l2_tables_aligned;
     refblocks_aligned = guarded.top.refblocks_aligned;
-    data_aligned = each_entry h base (CoverIsAligned h) sizes guarded.aligned;
-    counted = λ c. let e = named-is h base c sizes in let f = (fine_at c).counted in omega arith;
-    tables_once = λ c some. named-is h base c sizes ∙ (fine_at c).tables (omega (arith, some));
-    copied_tables = λ i lt real copied. owned (table_at h base i / cluster_size h) (let s = l1_marked h base i lt real copied in omega arith);
-    copied_data = each_entry h base (CopiedIsOwn h base) sizes (λ g. cover_own h base (cover h base g)
-        (λ c some. owned c (let le = guest_le h (marks h base c) g (names_within h base c g sizes (let m = marks-le h c (cover h base g) in omega arith)) in omega arith)));
+    data_aligned = each_entry h on_storage (CoverIsAligned h) sizes guarded.aligned;
+    counted = λ c. let e = named-is h on_storage c sizes in let f = (fine_at c).counted in omega arith;
+    tables_once = λ c some. named-is h on_storage c sizes ∙ (fine_at c).tables (omega (arith, some));
+    copied_tables = λ i lt real copied. owned (table_at h on_storage i / cluster_size h) (let s = l1_marked h on_storage i lt real copied in omega arith);
+    copied_data = each_entry h on_storage (CopiedIsOwn h on_storage) sizes (λ g. cover_own h on_storage (cover h on_storage g)
+        (λ c some. owned c (let le = guest_le h (marks h on_storage c) g (names_within h on_storage c g sizes (let m = marks-le h c (cover h on_storage g) in omega arith)) in omega arith)));
   }
 
-  pub guarded_consistent : IsConsistent base
-  guarded_consistent = subst (λ t. Consistent t base) (sym guarded.top.header_is) consistent
+  pub guarded_consistent : IsConsistent on_storage
+  guarded_consistent = subst (λ t. Consistent t on_storage) (sym guarded.top.header_is) consistent
 
-pub known_consistent : (h : HeaderFields) (d : Direction) (p : Pending) (base known : Bytes) → IsGuarded h d p base known → IsConsistent known
-known_consistent h d p base known guarded = guarded_consistent h d p known known (known_guarded h d p base known guarded)
+pub known_consistent : (h : HeaderFields) (d : Direction) (p : Pending) (on_storage known : Bytes) → CrashInvariant h d p on_storage known → IsConsistent known
+known_consistent h d p on_storage known guarded = guarded_consistent h d p known known (known_guarded h d p on_storage known guarded)

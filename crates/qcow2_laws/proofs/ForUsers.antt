@@ -5,7 +5,7 @@ use Rattle.std.proofs.lemmas.Bool.{cases_lt, cond-true, cond-false, eq-eqb, le-l
 use Rattle.qcow2_metadata.specs.Bytes.{byte_at, laid_over, is_within}
 use Rattle.qcow2_metadata.specs.Guest.{known_byte}
 use Rattle.qcow2_laws.specs.Disk.{Disk, disk, with_bytes}
-use Rattle.qcow2_laws.specs.Views.{Guest}
+use Rattle.qcow2_laws.specs.AbstractImages.{Guest}
 use Rattle.qcow2_laws.specs.Mappings.{PreparedMapping, put_disk, put_mapping, committed}
 use Rattle.qcow2_laws.specs.ForUsers.{PrivateBytesAreUnseen, CommittedIsReadBack, PutIsReadInPlace, FlushedIsExact}
 

@@ -8,7 +8,7 @@ use Rattle.qcow2_metadata.specs.Cover.{cover, cover_under}
 use Rattle.qcow2_metadata.specs.Guest.{guest_value}
 use Rattle.qcow2_metadata.specs.Named.{named_by_cover}
 use Rattle.qcow2_laws.specs.Guests.{over_guests, guests, names, marks, marked_by_cover, marked_by_l1_table}
-use Rattle.qcow2_laws.specs.Guard.{SameCovers}
+use Rattle.qcow2_laws.specs.CrashInvariant.{SameCovers}
 use Rattle.qcow2_laws.specs.Unseen.{KeepsFormat}
 use Rattle.qcow2_laws.proofs.Guests.{over_guests-same}
 

@@ -8,11 +8,11 @@ use Rattle.qcow2_metadata.specs.Bytes.{Bytes, byte_at}
 use Rattle.qcow2_metadata.specs.Header.{header, cluster_size}
 use Rattle.qcow2_metadata.specs.Guest.{known_byte, guest_value, value_under}
 use Rattle.qcow2_laws.specs.Disk.{disk}
-use Rattle.qcow2_laws.specs.Stops.{Gift, Mark, more, IsKeptAt}
+use Rattle.qcow2_laws.specs.Stops.{GivenBytes, Checkpoint, checkpoint_with, StopOkEverywhere}
 use Rattle.qcow2_laws.specs.Mappings.{gift_shown}
 use Rattle.qcow2_laws.specs.Guests.{guests}
-use Rattle.qcow2_laws.specs.Leads.{Stand, IsSound, Endures}
-use Rattle.qcow2_laws.specs.Views.{View, contents_of}
+use Rattle.qcow2_laws.specs.SafeSteps.{DriverState, StateInvariant, SafeThroughout}
+use Rattle.qcow2_laws.specs.AbstractImages.{AbstractImage, contents_of}
 use Rattle.qcow2_laws.specs.Calls.{Works, StartsAt}
 use Rattle.qcow2_laws.specs.GuestLaws.{LongerL1TableKeepsGuests, SizeStaysUnlessAsked, HasSizeSince}
 use Rattle.qcow2_laws.proofs.Places.{Sizes-from}
@@ -23,10 +23,10 @@ use Rattle.qcow2_laws.proofs.Unseen.{known_header}
 use Rattle.qcow2_laws.proofs.L1Moves.{guests_kept}
 
 pub longer_l1_table_keeps_guests : LongerL1TableKeepsGuests
-longer_l1_table_keeps_guests s base' known' offset entries sound writes new = guests_kept s.header offset entries s.direction s.pending s.base s.known base' known' sound writes new
+longer_l1_table_keeps_guests s on_storage' known' offset entries sound writes new = guests_kept s.header offset entries s.direction s.pending s.on_storage s.known on_storage' known' sound writes new
 
 -- ---- the size
-module _ (s : Stand) (backing : Bytes) (sound : IsSound s) where
+module _ (s : DriverState) (backing : Bytes) (sound : StateInvariant s) where
   known_is : header s.known ≡ s.header
   known_is = known_header s sound
 
@@ -35,49 +35,49 @@ module _ (s : Stand) (backing : Bytes) (sound : IsSound s) where
   unfolding guest_value
   past b is o far =
       value_is s.header b backing o is
-      ∙ ap (value_under s.header b b backing o) (past_guests s.header b (o / cluster_size s.header) (Sizes-from s.header s.base sound.top.header_reads)
+      ∙ ap (value_under s.header b b backing o) (past_guests s.header b (o / cluster_size s.header) (Sizes-from s.header s.on_storage sound.top.header_reads)
       (le-div (guests s.header) o (cluster_size s.header) (pow_pos s.header.cluster_bits) far))
 
   -- the disk of the storage, with all given that the known one shows
-  abbrev mark : Mark
-  mark = record { last = disk s.base backing; given = gift_shown (disk s.known backing) 0 (guests s.header * cluster_size s.header) ∷ []; asked = [] }
+  abbrev mark : Checkpoint
+  mark = record { last = disk s.on_storage backing; given = gift_shown (disk s.known backing) 0 (guests s.header * cluster_size s.header) ∷ []; asked = [] }
 
-  pub base_kept : IsKeptAt backing mark s.base
+  pub storage_kept : StopOkEverywhere backing mark s.on_storage
   unfolding disk
-  base_kept = record { consistent = guarded_consistent s.header s.direction s.pending s.base s.known sound; size = inl refl; values = λ o. inl refl }
+  storage_kept = record { consistent = guarded_consistent s.header s.direction s.pending s.on_storage s.known sound; size = inl refl; values = λ o. inl refl }
 
-  pub known_kept : IsKeptAt backing mark s.known
+  pub known_kept : StopOkEverywhere backing mark s.known
   unfolding disk
   known_kept = record {
-    consistent = known_consistent s.header s.direction s.pending s.base s.known sound;
-    size = inl (size_is s.header s.known backing known_is ∙ sym (size_is s.header s.base backing sound.top.header_is));
+    consistent = known_consistent s.header s.direction s.pending s.on_storage s.known sound;
+    size = inl (size_is s.header s.known backing known_is ∙ sym (size_is s.header s.on_storage backing sound.top.header_is));
     values = λ o. elim (cases_lt o (guests s.header * cluster_size s.header)) [
       | inl below ↦ inr (inl (omega arith, omega arith, ap (disk s.known backing).value (let e : o ≡ 0 + (o - 0) = omega arith in e)))
-      | inr far ↦ inl (past s.known known_is o far ∙ sym (past s.base sound.top.header_is o far))
+      | inr far ↦ inl (past s.known known_is o far ∙ sym (past s.on_storage sound.top.header_is o far))
     ];
   }
 
-  old_size : (given : List Gift) (b : Bytes) → IsKeptAt backing (more given [] mark) b → (header b).size ≡ s.header.size
+  old_size : (given : List GivenBytes) (b : Bytes) → StopOkEverywhere backing (checkpoint_with given [] mark) b → (header b).size ≡ s.header.size
   unfolding disk
   old_size given b kept = elim kept.size [
-    | inl e ↦ sym (size_is (header b) b backing refl) ∙ e ∙ size_is s.header s.base backing sound.top.header_is
+    | inl e ↦ sym (size_is (header b) b backing refl) ∙ e ∙ size_is s.header s.on_storage backing sound.top.header_is
     | inr asked ↦ absurd asked
   ]
 
 pub size_stays_unless_asked : SizeStaysUnlessAsked
 size_stays_unless_asked s backing image given sound kept =
-    old_size s backing sound given image (kept (mark s backing sound) (base_kept s backing sound) (known_kept s backing sound))
+    old_size s backing sound given image (kept (mark s backing sound) (storage_kept s backing sound) (known_kept s backing sound))
 
 -- at each moment of steps, and of calls
-pub size_stays_in_steps : (s : Stand) (old new : StorageView) (given : Bytes → List Gift) → IsSound s → byte_at old.contents ≡ s.base → Endures old new s.known given [] → HasSizeSince old new s.header.size
+pub size_stays_in_steps : (s : DriverState) (old new : StorageView) (given : Bytes → List GivenBytes) → StateInvariant s → byte_at old.contents ≡ s.on_storage → SafeThroughout old new s.known given [] → HasSizeSince old new s.header.size
 size_stays_in_steps s old new given sound is endures =
     passes_if (λ c. (header (byte_at c)).size ≡ s.header.size) (λ c kept.
-    size_stays_unless_asked s (λ _. 0) (byte_at c) (given (λ _. 0)) sound (λ m ok known_ok. kept (λ _. 0) m (subst (IsKeptAt (λ _. 0) m) (sym is) ok) known_ok)) endures.moments
+    size_stays_unless_asked s (λ _. 0) (byte_at c) (given (λ _. 0)) sound (λ m ok known_ok. kept (λ _. 0) m (subst (StopOkEverywhere (λ _. 0) m) (sym is) ok) known_ok)) endures.moments
 
-pub size_stays_in_calls : (s : Stand) (old new : View) (given : List Gift) → IsSound s → contents_of old ≡ s.base → old.known ≡ s.known → Works old new given [] → HasSizeSince old.storage new.storage s.header.size
+pub size_stays_in_calls : (s : DriverState) (old new : AbstractImage) (given : List GivenBytes) → StateInvariant s → contents_of old ≡ s.on_storage → old.known ≡ s.known → Works old new given [] → HasSizeSince old.storage new.storage s.header.size
 size_stays_in_calls s old new given sound is known works =
     let starts : StartsAt old (mark s old.setting.backing sound) = (
-      subst (IsKeptAt old.setting.backing (mark s old.setting.backing sound)) (sym is) (base_kept s old.setting.backing sound),
-      subst (IsKeptAt old.setting.backing (mark s old.setting.backing sound)) (sym known) (known_kept s old.setting.backing sound),
+      subst (StopOkEverywhere old.setting.backing (mark s old.setting.backing sound)) (sym is) (storage_kept s old.setting.backing sound),
+      subst (StopOkEverywhere old.setting.backing (mark s old.setting.backing sound)) (sym known) (known_kept s old.setting.backing sound),
     ) in
     passes_if (λ c. (header (byte_at c)).size ≡ s.header.size) (λ c kept. old_size s old.setting.backing sound given (byte_at c) kept) (works.stops (mark s old.setting.backing sound) starts).moments

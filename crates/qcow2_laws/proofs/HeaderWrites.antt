@@ -8,9 +8,9 @@ use Rattle.qcow2_metadata.specs.HeaderLoad.{IsHeaderIn}
 use Rattle.qcow2_metadata.specs.HeaderWrite.{bytes_of_numbers, size_written, l1_table_pointer_written, reftable_pointer_written, autoclear_cleared}
 use Rattle.qcow2_metadata.specs.Tables.{CachedTable}
 use Rattle.qcow2_laws.specs.Clusters.{Direction}
-use Rattle.qcow2_laws.specs.Guard.{Pending}
+use Rattle.qcow2_laws.specs.CrashInvariant.{Pending}
 use Rattle.qcow2_laws.specs.Tops.{Places, with_places, IsSameBut, WritesHeader, resized, with_l1_at, with_reftable_at}
-use Rattle.qcow2_laws.specs.Caches.{known_bytes, IsKept}
+use Rattle.qcow2_laws.specs.Caches.{known_bytes, CacheInvariantOver}
 use Rattle.qcow2_laws.proofs.Beside.{overwritten_but, header_beside}
 
 -- a pointer has twelve bytes
@@ -22,7 +22,7 @@ reftable_pointer_but : (h : HeaderFields) (contents : List ℕ) → IsSameBut 48
 unfolding bytes_of_numbers
 reftable_pointer_but h contents = overwritten_but contents 48 _
 
-module _ (h : HeaderFields) (d : Direction) (p : Pending) (l2s rbs : List CachedTable) (contents : List ℕ) (kept : IsKept h d p l2s rbs (byte_at contents)) where
+module _ (h : HeaderFields) (d : Direction) (p : Pending) (l2s rbs : List CachedTable) (contents : List ℕ) (kept : CacheInvariantOver h d p l2s rbs (byte_at contents)) where
   abbrev known : List ℕ → Bytes
   known c = known_bytes (cluster_size h) l2s rbs (byte_at c)
 

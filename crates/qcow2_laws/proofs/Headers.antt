@@ -9,10 +9,10 @@ use Rattle.qcow2_metadata.specs.Entries.{l1_entry, reftable_entry, count, count_
 use Rattle.qcow2_metadata.specs.Cover.{cover, cover_under}
 use Rattle.qcow2_metadata.specs.Named.{in_cluster, named_for_tables, named_by_header, named_by_reftable, named_by_l1_table}
 use Rattle.qcow2_metadata.specs.Consistent.{IsAligned}
-use Rattle.qcow2_laws.specs.Stops.{IsAsked, Mark, more, IsKeptAt}
+use Rattle.qcow2_laws.specs.Stops.{IsAsked, Checkpoint, checkpoint_with, StopOkEverywhere}
 use Rattle.qcow2_laws.specs.Clusters.{Direction}
 use Rattle.qcow2_laws.specs.Guests.{named_in_either, marked_by_l1_table}
-use Rattle.qcow2_laws.specs.Guard.{Pending, IsGuarded, IsTop, SameTop, SameCovers, SameCounts, SameIn}
+use Rattle.qcow2_laws.specs.CrashInvariant.{Pending, CrashInvariant, IsTop, SameTop, SameCovers, SameCounts, SameIn}
 use Rattle.qcow2_laws.specs.Tops.{Places, with_places, KeepsCovers, IsSameBut, IsSameOutside, WritesHeader, WritesAt, resized}
 use Rattle.qcow2_laws.proofs.Places.{Sizes, Sizes-from}
 use Rattle.qcow2_laws.proofs.Tops.{IsTop-top, for_tables-top, l1_names-same, reftable_names-same, l1_marks-same}
@@ -22,10 +22,10 @@ use Rattle.qcow2_laws.proofs.Shares.{shares, first_l1, first_reftable, first_cov
 use Rattle.qcow2_laws.proofs.Renaming.{tables_renamed, moved_kept, moved_known_kept}
 
 -- bytes among the header's own numbers are written, and it reads
-pub writes_header : (h : HeaderFields) (d : Direction) (p : Pending) (base known base' known' : Bytes) → IsGuarded h d p base known → (a : Places) (place n : ℕ) → WritesAt place n base known base' known' → place + n ≤ 104
-    → header base' ≡ with_places h a → HeaderReads (with_places h a) base' → WritesHeader h a base known base' known'
-writes_header h d p base known base' known' guarded a place n writes small is reads = record {
-  others = outside base base' writes.others;
+pub writes_header : (h : HeaderFields) (d : Direction) (p : Pending) (on_storage known on_storage' known' : Bytes) → CrashInvariant h d p on_storage known → (a : Places) (place n : ℕ) → WritesAt place n on_storage known on_storage' known' → place + n ≤ 104
+    → header on_storage' ≡ with_places h a → HeaderReads (with_places h a) on_storage' → WritesHeader h a on_storage known on_storage' known'
+writes_header h d p on_storage known on_storage' known' guarded a place n writes small is reads = record {
+  others = outside on_storage on_storage' writes.others;
   known_others = outside known known' writes.known_others;
   same_first = λ i lt. writes.agree (0 + i) (guarded.same_top.first_cluster i lt);
   is = is;
@@ -35,82 +35,82 @@ writes_header h d p base known base' known' guarded a place n writes small is re
     outside : (b b' : Bytes) → IsSameBut place n b b' → IsSameOutside (cluster_size h) 0 b b'
     outside b b' but o other = but o (elim (cases_lt o (place + n)) [
       | inl lt ↦ absurd (other (
-          let l = (Sizes-from h base guarded.top.header_reads).large in
+          let l = (Sizes-from h on_storage guarded.top.header_reads).large in
           let e : o ≡ 0 * cluster_size h + o = omega arith in
           ap (λ k. k / cluster_size h) e ∙ div-mul-add 0 (cluster_size h) o (omega arith)))
       | inr past ↦ inr past
     ])
 
 -- ---- what stays where the first cluster alone changes
-module _ (h : HeaderFields) (a : Places) (d : Direction) (p : Pending) (base known base' known' : Bytes) (guarded : IsGuarded h d p base known) (writes : WritesHeader h a base known base' known') where
+module _ (h : HeaderFields) (a : Places) (d : Direction) (p : Pending) (on_storage known on_storage' known' : Bytes) (guarded : CrashInvariant h d p on_storage known) (writes : WritesHeader h a on_storage known on_storage' known') where
   pub header_sizes : Sizes h
-  header_sizes = Sizes-from h base guarded.top.header_reads
+  header_sizes = Sizes-from h on_storage guarded.top.header_reads
 
   pub header_known_top : IsTop h known
-  header_known_top = IsTop-top h base known guarded.same_top guarded.top
+  header_known_top = IsTop-top h on_storage known guarded.same_top guarded.top
 
-  pub header_fixed : 0 < named_for_tables h base 0
+  pub header_fixed : 0 < named_for_tables h on_storage 0
   header_fixed =
-      let s = shares h base 0 in
+      let s = shares h on_storage 0 in
       let zero : 0 / cluster_size h ≡ 0 = let size = header_sizes.some in omega arith in
       let one : in_cluster h 0 0 ≡ 1 = ap (λ n. in_cluster h n 0) (sym zero) ∙ in_own h 0 in
       omega arith
 
-  header_once : named_for_tables h base 0 ≤ 1
-  header_once = let t = table_once h d p base known guarded 0 header_fixed in omega arith
+  header_once : named_for_tables h on_storage 0 ≤ 1
+  header_once = let t = table_once h d p on_storage known guarded 0 header_fixed in omega arith
 
   header_known_once : named_for_tables h known 0 ≤ 1
-  header_known_once = let e = for_tables-top h base known 0 guarded.same_top in let o = header_once in omega arith
+  header_known_once = let e = for_tables-top h on_storage known 0 guarded.same_top in let o = header_once in omega arith
 
-  pub header_same : (c : ℕ) → c ≢ 0 → SameIn (cluster_size h) c base base'
+  pub header_same : (c : ℕ) → c ≢ 0 → SameIn (cluster_size h) c on_storage on_storage'
   header_same c other o in_c = writes.others o (λ e. other (sym in_c ∙ e))
 
   pub header_known_same : (c : ℕ) → c ≢ 0 → SameIn (cluster_size h) c known known'
   header_known_same c other o in_c = writes.known_others o (λ e. other (sym in_c ∙ e))
 
-  pub header_l1 : (i : ℕ) → l1_entry h base i ≡ l1_entry h base' i
-  header_l1 = first_l1 h base base' guarded.top header_once header_same
+  pub header_l1 : (i : ℕ) → l1_entry h on_storage i ≡ l1_entry h on_storage' i
+  header_l1 = first_l1 h on_storage on_storage' guarded.top header_once header_same
 
   pub header_known_l1 : (i : ℕ) → l1_entry h known i ≡ l1_entry h known' i
   header_known_l1 = first_l1 h known known' header_known_top header_known_once header_known_same
 
-  pub header_reftable : (k : ℕ) → reftable_entry h base k ≡ reftable_entry h base' k
-  header_reftable = first_reftable h base base' guarded.top header_once header_same
+  pub header_reftable : (k : ℕ) → reftable_entry h on_storage k ≡ reftable_entry h on_storage' k
+  header_reftable = first_reftable h on_storage on_storage' guarded.top header_once header_same
 
   pub header_known_reftable : (k : ℕ) → reftable_entry h known k ≡ reftable_entry h known' k
   header_known_reftable = first_reftable h known known' header_known_top header_known_once header_known_same
 
-  pub header_covers : SameCovers h base base'
-  header_covers = first_covers h base base' guarded.top header_once header_same
+  pub header_covers : SameCovers h on_storage on_storage'
+  header_covers = first_covers h on_storage on_storage' guarded.top header_once header_same
 
   pub header_known_covers : SameCovers h known known'
   header_known_covers = first_covers h known known' header_known_top header_known_once header_known_same
 
-  pub header_counts : SameCounts h base base'
-  header_counts = first_counts h base base' guarded.top header_once header_same
+  pub header_counts : SameCounts h on_storage on_storage'
+  header_counts = first_counts h on_storage on_storage' guarded.top header_once header_same
 
   pub header_known_counts : SameCounts h known known'
   header_known_counts = first_counts h known known' header_known_top header_known_once header_known_same
 
-  pub header_elsewhere : (o : ℕ) → 0 < named_in_either h base known (o / cluster_size h) + p.held (o / cluster_size h) → o / cluster_size h ≢ 0
+  pub header_elsewhere : (o : ℕ) → 0 < named_in_either h on_storage known (o / cluster_size h) + p.held (o / cluster_size h) → o / cluster_size h ≢ 0
   header_elsewhere o some e =
-      let none = table_apart h d p base known guarded 0 header_fixed in
-      let here = subst (λ n. 0 < named_in_either h base known n + p.held n) e some in
+      let none = table_apart h d p on_storage known guarded 0 header_fixed in
+      let here = subst (λ n. 0 < named_in_either h on_storage known n + p.held n) e some in
       absurd (omega arith)
 
-  pub header_unlaid : (o : ℕ) → 0 < named_in_either h base known (o / cluster_size h) + p.held (o / cluster_size h) → base' o ≡ known' o
+  pub header_unlaid : (o : ℕ) → 0 < named_in_either h on_storage known (o / cluster_size h) + p.held (o / cluster_size h) → on_storage' o ≡ known' o
   header_unlaid o some = sym (writes.others o (header_elsewhere o some)) ∙ guarded.unlaid o some ∙ writes.known_others o (header_elsewhere o some)
 
   -- a cluster that nothing names is another one
-  pub unnamed_elsewhere : (c : ℕ) → named_for_tables h base c ≡ 0 → c ≢ 0
+  pub unnamed_elsewhere : (c : ℕ) → named_for_tables h on_storage c ≡ 0 → c ≢ 0
   unnamed_elsewhere c none e =
-      let here : named_for_tables h base 0 ≡ 0 = ap (named_for_tables h base) (sym e) ∙ none in
+      let here : named_for_tables h on_storage 0 ≡ 0 = ap (named_for_tables h on_storage) (sym e) ∙ none in
       let some = header_fixed in
       absurd (omega arith)
 
 -- ---- the size, and the autoclear bits
-module _ (h : HeaderFields) (size autoclear : ℕ) (d : Direction) (p : Pending) (base known base' known' : Bytes) (guarded : IsGuarded h d p base known)
-    (writes : WritesHeader h (resized h size autoclear) base known base' known') where
+module _ (h : HeaderFields) (size autoclear : ℕ) (d : Direction) (p : Pending) (on_storage known on_storage' known' : Bytes) (guarded : CrashInvariant h d p on_storage known)
+    (writes : WritesHeader h (resized h size autoclear) on_storage known on_storage' known') where
   a : Places
   a = resized h size autoclear
 
@@ -138,13 +138,13 @@ module _ (h : HeaderFields) (size autoclear : ℕ) (d : Direction) (p : Pending)
   unfolding marked_by_l1_table l1_entry
   sole_too b c = refl
 
-  resized_l1 : (i : ℕ) → l1_entry h base i ≡ l1_entry (with_places h (resized h size autoclear)) base' i
-  resized_l1 i = header_l1 h (resized h size autoclear) d p base known base' known' guarded writes i ∙ sym (l1_too base' i)
+  resized_l1 : (i : ℕ) → l1_entry h on_storage i ≡ l1_entry (with_places h (resized h size autoclear)) on_storage' i
+  resized_l1 i = header_l1 h (resized h size autoclear) d p on_storage known on_storage' known' guarded writes i ∙ sym (l1_too on_storage' i)
 
-  resized_reftable : (k : ℕ) → reftable_entry h base k ≡ reftable_entry (with_places h (resized h size autoclear)) base' k
-  resized_reftable k = header_reftable h (resized h size autoclear) d p base known base' known' guarded writes k ∙ sym (reftable_too base' k)
+  resized_reftable : (k : ℕ) → reftable_entry h on_storage k ≡ reftable_entry (with_places h (resized h size autoclear)) on_storage' k
+  resized_reftable k = header_reftable h (resized h size autoclear) d p on_storage known on_storage' known' guarded writes k ∙ sym (reftable_too on_storage' k)
 
-  resized_top : IsTop (with_places h (resized h size autoclear)) base'
+  resized_top : IsTop (with_places h (resized h size autoclear)) on_storage'
   resized_top = record {
     header_is = writes.is;
     header_reads = writes.reads;
@@ -158,53 +158,53 @@ module _ (h : HeaderFields) (size autoclear : ℕ) (d : Direction) (p : Pending)
     refblocks_aligned = λ k lt. subst (λ e. IsAligned h (block_offset e)) (resized_reftable k) (guarded.top.refblocks_aligned k lt);
   }
 
-  resized_same_top : SameTop (with_places h (resized h size autoclear)) base' known'
+  resized_same_top : SameTop (with_places h (resized h size autoclear)) on_storage' known'
   resized_same_top = record {
     first_cluster = writes.same_first;
-    l1 = λ i. sym (resized_l1 i) ∙ guarded.same_top.l1 i ∙ header_known_l1 h (resized h size autoclear) d p base known base' known' guarded writes i ∙ sym (l1_too known' i);
-    reftable = λ k. sym (resized_reftable k) ∙ guarded.same_top.reftable k ∙ header_known_reftable h (resized h size autoclear) d p base known base' known' guarded writes k ∙ sym (reftable_too known' k);
+    l1 = λ i. sym (resized_l1 i) ∙ guarded.same_top.l1 i ∙ header_known_l1 h (resized h size autoclear) d p on_storage known on_storage' known' guarded writes i ∙ sym (l1_too known' i);
+    reftable = λ k. sym (resized_reftable k) ∙ guarded.same_top.reftable k ∙ header_known_reftable h (resized h size autoclear) d p on_storage known on_storage' known' guarded writes k ∙ sym (reftable_too known' k);
   }
 
-  resized_covers : KeepsCovers h (resized h size autoclear) base base'
-  resized_covers g = header_covers h (resized h size autoclear) d p base known base' known' guarded writes g ∙ sym (covers_too base' g)
+  resized_covers : KeepsCovers h (resized h size autoclear) on_storage on_storage'
+  resized_covers g = header_covers h (resized h size autoclear) d p on_storage known on_storage' known' guarded writes g ∙ sym (covers_too on_storage' g)
 
   resized_known_covers : KeepsCovers h (resized h size autoclear) known known'
-  resized_known_covers g = header_known_covers h (resized h size autoclear) d p base known base' known' guarded writes g ∙ sym (covers_too known' g)
+  resized_known_covers g = header_known_covers h (resized h size autoclear) d p on_storage known on_storage' known' guarded writes g ∙ sym (covers_too known' g)
 
-  resized_unlaid : (o : ℕ) → 0 < named_in_either h base known (o / cluster_size h) + p.held (o / cluster_size h) → base' o ≡ known' o
-  resized_unlaid = header_unlaid h (resized h size autoclear) d p base known base' known' guarded writes
+  resized_unlaid : (o : ℕ) → 0 < named_in_either h on_storage known (o / cluster_size h) + p.held (o / cluster_size h) → on_storage' o ≡ known' o
+  resized_unlaid = header_unlaid h (resized h size autoclear) d p on_storage known on_storage' known' guarded writes
 
-  resized_fixed : (c : ℕ) → named_for_tables (with_places h (resized h size autoclear)) base' c ≡ named_for_tables h base c
+  resized_fixed : (c : ℕ) → named_for_tables (with_places h (resized h size autoclear)) on_storage' c ≡ named_for_tables h on_storage c
   resized_fixed c =
-      let before = shares h base c in
-      let after = shares h base' c in
-      let tables = l1_names-same h base base' c (header_l1 h (resized h size autoclear) d p base known base' known' guarded writes) in
-      let blocks = reftable_names-same h base base' c (header_reftable h (resized h size autoclear) d p base known base' known' guarded writes) in
-      let e = fixed_too base' c in
+      let before = shares h on_storage c in
+      let after = shares h on_storage' c in
+      let tables = l1_names-same h on_storage on_storage' c (header_l1 h (resized h size autoclear) d p on_storage known on_storage' known' guarded writes) in
+      let blocks = reftable_names-same h on_storage on_storage' c (header_reftable h (resized h size autoclear) d p on_storage known on_storage' known' guarded writes) in
+      let e = fixed_too on_storage' c in
       omega arith
 
-  pub size_written : IsGuarded (with_places h (resized h size autoclear)) d p base' known'
+  pub size_written : CrashInvariant (with_places h (resized h size autoclear)) d p on_storage' known'
   size_written =
-      tables_renamed h (resized h size autoclear) d p p base known base' known' guarded
+      tables_renamed h (resized h size autoclear) d p p on_storage known on_storage' known' guarded
       resized_top resized_same_top (omega arith) resized_covers resized_known_covers resized_unlaid
       (λ c. 0) (λ c. 0) (λ c. 0) (λ c. (refl, omega arith, omega arith, refl, refl)) (λ c. omega arith)
       (λ c. let e = resized_fixed c in omega arith)
-      (λ c. let e = sole_too base' c ∙ sym (l1_marks-same h base base' c (header_l1 h (resized h size autoclear) d p base known base' known' guarded writes)) in omega arith)
-      (λ c. let e = counts_too base' c in let s = header_counts h (resized h size autoclear) d p base known base' known' guarded writes c in omega arith)
-      (λ c. let e = counts_too known' c in let s = header_known_counts h (resized h size autoclear) d p base known base' known' guarded writes c in omega arith)
+      (λ c. let e = sole_too on_storage' c ∙ sym (l1_marks-same h on_storage on_storage' c (header_l1 h (resized h size autoclear) d p on_storage known on_storage' known' guarded writes)) in omega arith)
+      (λ c. let e = counts_too on_storage' c in let s = header_counts h (resized h size autoclear) d p on_storage known on_storage' known' guarded writes c in omega arith)
+      (λ c. let e = counts_too known' c in let s = header_known_counts h (resized h size autoclear) d p on_storage known on_storage' known' guarded writes c in omega arith)
       (λ c some. absurd (omega arith)) (λ c some. absurd (omega arith))
 
-  module _ (backing : Bytes) (m : Mark) (asked : List ℕ) (ask : (size ≡ h.size) ⊎ IsAsked asked size) where
-    pub size_written_kept : IsKeptAt backing m base → IsKeptAt backing (more [] asked m) base'
+  module _ (backing : Bytes) (m : Checkpoint) (asked : List ℕ) (ask : (size ≡ h.size) ⊎ IsAsked asked size) where
+    pub size_written_kept : StopOkEverywhere backing m on_storage → StopOkEverywhere backing (checkpoint_with [] asked m) on_storage'
     size_written_kept kept =
-        moved_kept h (resized h size autoclear) d p p base known base' known' guarded
+        moved_kept h (resized h size autoclear) d p p on_storage known on_storage' known' guarded
         resized_top resized_same_top (omega arith) resized_covers resized_known_covers resized_unlaid size_written
-        (λ o some. writes.others o (header_elsewhere h (resized h size autoclear) d p base known base' known' guarded writes o (omega arith)))
-        (λ o some. writes.known_others o (header_elsewhere h (resized h size autoclear) d p base known base' known' guarded writes o (omega arith))) backing m asked ask kept
+        (λ o some. writes.others o (header_elsewhere h (resized h size autoclear) d p on_storage known on_storage' known' guarded writes o (omega arith)))
+        (λ o some. writes.known_others o (header_elsewhere h (resized h size autoclear) d p on_storage known on_storage' known' guarded writes o (omega arith))) backing m asked ask kept
 
-    pub size_written_known_kept : IsKeptAt backing m known → IsKeptAt backing (more [] asked m) known'
+    pub size_written_known_kept : StopOkEverywhere backing m known → StopOkEverywhere backing (checkpoint_with [] asked m) known'
     size_written_known_kept kept =
-        moved_known_kept h (resized h size autoclear) d p p base known base' known' guarded
+        moved_known_kept h (resized h size autoclear) d p p on_storage known on_storage' known' guarded
         resized_top resized_same_top (omega arith) resized_covers resized_known_covers resized_unlaid size_written
-        (λ o some. writes.others o (header_elsewhere h (resized h size autoclear) d p base known base' known' guarded writes o (omega arith)))
-        (λ o some. writes.known_others o (header_elsewhere h (resized h size autoclear) d p base known base' known' guarded writes o (omega arith))) backing m asked ask kept
+        (λ o some. writes.others o (header_elsewhere h (resized h size autoclear) d p on_storage known on_storage' known' guarded writes o (omega arith)))
+        (λ o some. writes.known_others o (header_elsewhere h (resized h size autoclear) d p on_storage known on_storage' known' guarded writes o (omega arith))) backing m asked ask kept

@@ -15,26 +15,26 @@ use Rattle.qcow2_laws.specs.Disk.{disk}
 use Rattle.qcow2_laws.specs.Stops.{IsGiven}
 use Rattle.qcow2_laws.specs.Mappings.{gift_of}
 use Rattle.qcow2_laws.specs.Guests.{names, marks, marked_by_cover, named_in_either}
-use Rattle.qcow2_laws.specs.Guard.{Pending, SameCovers}
+use Rattle.qcow2_laws.specs.CrashInvariant.{Pending, SameCovers}
 use Rattle.qcow2_laws.specs.Tops.{WritesAt}
 use Rattle.qcow2_laws.specs.Writes.{IsWritten}
-use Rattle.qcow2_laws.specs.Leads.{Stand, IsSound, Leads}
+use Rattle.qcow2_laws.specs.SafeSteps.{DriverState, StateInvariant, SafeStep}
 use Rattle.qcow2_laws.specs.Steps.{guest_at, EntryChanges}
 use Rattle.qcow2_laws.specs.Unseen.{used_by_guests}
 use Rattle.qcow2_laws.specs.GuestLaws.{KeptClusterIsWritten, KeptClusterIsCommitted}
 use Rattle.qcow2_laws.proofs.Places.{in_one}
 use Rattle.qcow2_laws.proofs.Mixes.{tied}
 use Rattle.qcow2_laws.proofs.Consistency.{in_own}
-use Rattle.qcow2_laws.proofs.Writes.{base_stays, known_covers, its_own}
+use Rattle.qcow2_laws.proofs.Writes.{storage_stays, known_covers, its_own}
 use Rattle.qcow2_laws.proofs.Shares.{top_stays}
 use Rattle.qcow2_laws.proofs.Steps.{data_is_written}
-use Rattle.qcow2_laws.proofs.Leads.{leads_less}
+use Rattle.qcow2_laws.proofs.SafeSteps.{leads_less}
 use Rattle.qcow2_laws.proofs.Unseen.{named_some, size_stays, value_stays}
 use Rattle.qcow2_laws.proofs.Shown.{Writes, shown_zero}
 use Rattle.qcow2_laws.proofs.Overwritten.{in_range}
 use Rattle.qcow2_laws.proofs.MappedAnew.{Maps, pending_after, entry_unseen, entry_maps}
 
-module _ (s : Stand) (sound : IsSound s) (g host : ℕ) (is : cover s.header s.known g ≡ Zero (Some (host, true))) where
+module _ (s : DriverState) (sound : StateInvariant s) (g host : ℕ) (is : cover s.header s.known g ≡ Zero (Some (host, true))) where
   pub kept_aligned : host % cluster_size s.header ≡ 0
   kept_aligned = subst (CoverIsAligned s.header) is (sound.known_aligned g)
 
@@ -45,19 +45,19 @@ module _ (s : Stand) (sound : IsSound s) (g host : ℕ) (is : cover s.header s.k
   kept_marked = ap (marked_by_cover s.header (host / cluster_size s.header)) is ∙ in_own s.header host
 
   -- its bytes are used, and no table is laid over them
-  pub kept_unlaid : (k : ℕ) → k < cluster_size s.header → s.base (host + k) ≡ s.known (host + k)
+  pub kept_unlaid : (k : ℕ) → k < cluster_size s.header → s.on_storage (host + k) ≡ s.known (host + k)
   kept_unlaid k lt =
       sound.unlaid (host + k) (
       let here = in_one (cluster_size s.header) host k kept_aligned lt in
       let named = kept_names (host / cluster_size s.header) in
       let own = in_own s.header host in
       let some = named_some s s sound (host / cluster_size s.header) g (omega arith) in
-      let t = (tied s.header s.pending s.base s.known (host / cluster_size s.header)).known in
-      subst (λ n. 0 < named_in_either s.header s.base s.known n + s.pending.held n) (sym here) (omega arith))
+      let t = (tied s.header s.pending s.on_storage s.known (host / cluster_size s.header)).known in
+      subst (λ n. 0 < named_in_either s.header s.on_storage s.known n + s.pending.held n) (sym here) (omega arith))
 
 -- ---- bytes are written into it
-module _ (s : Stand) (base' known' : Bytes) (sound : IsSound s) (g host at : ℕ) (bytes : List ℕ) (is : cover s.header s.known g ≡ Zero (Some (host, true))) (fits : at + length bytes ≤ cluster_size s.header)
-    (writes : WritesAt (host + at) (length bytes) s.base s.known base' known') (there : (i : ℕ) → i < length bytes → base' (host + at + i) ≡ byte_at bytes i) where
+module _ (s : DriverState) (on_storage' known' : Bytes) (sound : StateInvariant s) (g host at : ℕ) (bytes : List ℕ) (is : cover s.header s.known g ≡ Zero (Some (host, true))) (fits : at + length bytes ≤ cluster_size s.header)
+    (writes : WritesAt (host + at) (length bytes) s.on_storage s.known on_storage' known') (there : (i : ℕ) → i < length bytes → on_storage' (host + at + i) ≡ byte_at bytes i) where
   outside_in : (o : ℕ) → o / cluster_size s.header ≢ host / cluster_size s.header → (o < host + at) ⊎ (host + at + length bytes ≤ o)
   outside_in o other = elim (in_range o (host + at) (length bytes)) [
     | inl out ↦ out
@@ -70,7 +70,7 @@ module _ (s : Stand) (base' known' : Bytes) (sound : IsSound s) (g host at : ℕ
   known_there : (i : ℕ) → i < length bytes → known' (host + at + i) ≡ byte_at bytes i
   known_there i lt =
       let e : host + (at + i) ≡ host + at + i = omega arith in
-      sym (writes.agree (host + at + i) (subst (λ o. s.base o ≡ s.known o) e (kept_unlaid s sound g host is (at + i) (omega arith)))) ∙ there i lt
+      sym (writes.agree (host + at + i) (subst (λ o. s.on_storage o ≡ s.known o) e (kept_unlaid s sound g host is (at + i) (omega arith)))) ∙ there i lt
 
   rest_of : (i : ℕ) → at + i < cluster_size s.header → (host + at + i) % cluster_size s.header ≡ at + i
   rest_of i lt =
@@ -79,7 +79,7 @@ module _ (s : Stand) (base' known' : Bytes) (sound : IsSound s) (g host at : ℕ
       let e : host + at + i ≡ host / cluster_size s.header * cluster_size s.header + (at + i) = omega arith in
       ap (λ n. n % cluster_size s.header) e ∙ mod-mul-add (host / cluster_size s.header) (cluster_size s.header) (at + i) lt
 
-  gives : (o : ℕ) → ((s.base o ≡ base' o) × (s.known o ≡ known' o))
+  gives : (o : ℕ) → ((s.on_storage o ≡ on_storage' o) × (s.known o ≡ known' o))
       ⊎ IsGiven (gift_of (g * cluster_size s.header + at) bytes ∷ []) (g * cluster_size s.header + o % cluster_size s.header) (known_byte (known' o))
   gives o = elim (in_range o (host + at) (length bytes)) [
     | inl out ↦ inl (writes.others o out, writes.known_others o out)
@@ -90,7 +90,7 @@ module _ (s : Stand) (base' known' : Bytes) (sound : IsSound s) (g host at : ℕ
         inr (inl (omega arith, omega arith, ap known_byte (ap known' (sym j.2) ∙ known_there j.0 j.1 ∙ ap (byte_at bytes) j_is)))
   ]
 
-  written : IsWritten s.header s.base s.known base' known' (gift_of (g * cluster_size s.header + at) bytes ∷ [])
+  written : IsWritten s.header s.on_storage s.known on_storage' known' (gift_of (g * cluster_size s.header + at) bytes ∷ [])
   written = record {
     agree = writes.agree;
     each = λ k. elim (cases_eq k (host / cluster_size s.header)) [
@@ -107,31 +107,31 @@ module _ (s : Stand) (base' known' : Bytes) (sound : IsSound s) (g host at : ℕ
   }
 
   covers_stay : SameCovers s.header s.known known'
-  covers_stay = known_covers s.header s.direction s.pending s.base s.known base' known' (gift_of (g * cluster_size s.header + at) bytes ∷ []) sound written
+  covers_stay = known_covers s.header s.direction s.pending s.on_storage s.known on_storage' known' (gift_of (g * cluster_size s.header + at) bytes ∷ []) sound written
 
   -- only its guest cluster names it, and that shows zeros
-  value_now : IsSound (record s { base = base'; known = known' }) → (backing : Bytes) (o : ℕ) → (disk known' backing).value o ≡ (disk s.known backing).value o
+  value_now : StateInvariant (record s { on_storage = on_storage'; known = known' }) → (backing : Bytes) (o : ℕ) → (disk known' backing).value o ≡ (disk s.known backing).value o
   value_now sound' backing o = elim (cases_eq (o / cluster_size s.header) g) [
     | inl here ↦
         let cover_is : cover s.header s.known (o / cluster_size s.header) ≡ Zero (Some (host, true)) = ap (cover s.header s.known) here ∙ is in
-        shown_zero (record s { base = base'; known = known' }) sound' backing o (Some (host, true)) (sym (covers_stay (o / cluster_size s.header)) ∙ cover_is)
+        shown_zero (record s { on_storage = on_storage'; known = known' }) sound' backing o (Some (host, true)) (sym (covers_stay (o / cluster_size s.header)) ∙ cover_is)
         ∙ sym (shown_zero s sound backing o (Some (host, true)) cover_is)
-    | inr other ↦ value_stays s (record s { base = base'; known = known' }) sound sound' refl backing o (covers_stay (o / cluster_size s.header)) (λ place some.
-        sym (writes.known_others place (outside_in place (λ e. other (sym (its_own s.header s.direction s.pending s.base s.known base' known' (gift_of (g * cluster_size s.header + at) bytes ∷ []) sound written
+    | inr other ↦ value_stays s (record s { on_storage = on_storage'; known = known' }) sound sound' refl backing o (covers_stay (o / cluster_size s.header)) (λ place some.
+        sym (writes.known_others place (outside_in place (λ e. other (sym (its_own s.header s.direction s.pending s.on_storage s.known on_storage' known' (gift_of (g * cluster_size s.header + at) bytes ∷ []) sound written
         (host / cluster_size s.header) g (o / cluster_size s.header) (let one = kept_marked s sound g host is in omega arith) (let named = subst (λ c. 0 < names s.header s.known c (o / cluster_size s.header)) e some in omega arith)))))))
   ]
 
-  pub kept_written : Writes (host / cluster_size s.header) s (record s { base = base'; known = known' }) (λ _. gift_of (g * cluster_size s.header + at) bytes ∷ []) (λ backing. disk s.known backing)
+  pub kept_written : Writes (host / cluster_size s.header) s (record s { on_storage = on_storage'; known = known' }) (λ _. gift_of (g * cluster_size s.header + at) bytes ∷ []) (λ backing. disk s.known backing)
   kept_written =
-      let leads : Leads s (record s { base = base'; known = known' }) (λ _. gift_of (g * cluster_size s.header + at) bytes ∷ []) [] =
-      data_is_written.written s base' known' (gift_of (g * cluster_size s.header + at) bytes ∷ []) sound written in
+      let leads : SafeStep s (record s { on_storage = on_storage'; known = known' }) (λ _. gift_of (g * cluster_size s.header + at) bytes ∷ []) [] =
+      data_is_written.written s on_storage' known' (gift_of (g * cluster_size s.header + at) bytes ∷ []) sound written in
       record {
         leads = leads;
         unseen = record { header = refl; covers = covers_stay; bytes = λ o other some. sym (writes.known_others o (outside_in o other)) };
-        l1 = λ i. sym ((top_stays s.header s.base base' sound.top (base_stays s.header s.direction s.pending s.base s.known base' known' (gift_of (g * cluster_size s.header + at) bytes ∷ []) sound written)).l1 i);
+        l1 = λ i. sym ((top_stays s.header s.on_storage on_storage' sound.top (storage_stays s.header s.direction s.pending s.on_storage s.known on_storage' known' (gift_of (g * cluster_size s.header + at) bytes ∷ []) sound written)).l1 i);
         shows = λ backing.
             let value : (disk known' backing).value ≡ (disk s.known backing).value = fun_ext (value_now leads.sound backing) in
-            λ j. record { size = size_stays s (record s { base = base'; known = known' }) sound leads.sound refl backing j; value = value j };
+            λ j. record { size = size_stays s (record s { on_storage = on_storage'; known = known' }) sound leads.sound refl backing j; value = value j };
       }
 
   -- zeros are what is shown there
@@ -143,18 +143,18 @@ module _ (s : Stand) (base' known' : Bytes) (sound : IsSound s) (g host at : ℕ
       let here : o / cluster_size s.header ≡ g = ap (λ n. n / cluster_size s.header) e ∙ div-mul-add g (cluster_size s.header) (o - g * cluster_size s.header) (omega arith) in
       inl (v_is ∙ ap known_byte (zeros (o - (g * cluster_size s.header + at)) (omega arith)) ∙ sym (shown_zero s sound backing o (Some (host, true)) (ap (cover s.header s.known) here ∙ is)))
 
-  pub kept_zeroed : ((i : ℕ) → i < length bytes → byte_at bytes i ≡ 0) → Leads s (record s { base = base'; known = known' }) (λ _. []) []
-  kept_zeroed zeros = leads_less s (record s { base = base'; known = known' }) _ (λ _. []) [] (λ backing o v given. zeros_shown zeros backing o v given) kept_written.leads
+  pub kept_zeroed : ((i : ℕ) → i < length bytes → byte_at bytes i ≡ 0) → SafeStep s (record s { on_storage = on_storage'; known = known' }) (λ _. []) []
+  kept_zeroed zeros = leads_less s (record s { on_storage = on_storage'; known = known' }) _ (λ _. []) [] (λ backing o v given. zeros_shown zeros backing o v given) kept_written.leads
 
 pub kept_cluster_is_written : KeptClusterIsWritten
 kept_cluster_is_written = record {
-  bytes = λ s base' known' g host at bytes sound is fits writes there.
-      let w = kept_written s base' known' sound g host at bytes is fits writes there in (w.leads, w.shows);
-  zeros = λ s base' known' g host at bytes sound is fits writes there zeros. kept_zeroed s base' known' sound g host at bytes is fits writes there zeros;
+  bytes = λ s on_storage' known' g host at bytes sound is fits writes there.
+      let w = kept_written s on_storage' known' sound g host at bytes is fits writes there in (w.leads, w.shows);
+  zeros = λ s on_storage' known' g host at bytes sound is fits writes there zeros. kept_zeroed s on_storage' known' sound g host at bytes is fits writes there zeros;
 }
 
 -- ---- it becomes data
-module _ (s : Stand) (known' : Bytes) (i j host : ℕ) (sound : IsSound s) (changes : EntryChanges s known' i j)
+module _ (s : DriverState) (known' : Bytes) (i j host : ℕ) (sound : StateInvariant s) (changes : EntryChanges s known' i j)
     (was : cover s.header s.known (guest_at s.header i j) ≡ Zero (Some (host, true))) (is : cover s.header known' (guest_at s.header i j) ≡ Data host true) where
   same_names : (c : ℕ) → names s.header known' c (guest_at s.header i j) ≡ names s.header s.known c (guest_at s.header i j)
   same_names c = ap (named_by_cover s.header c) is ∙ sym (ap (named_by_cover s.header c) was)
@@ -165,7 +165,7 @@ module _ (s : Stand) (known' : Bytes) (i j host : ℕ) (sound : IsSound s) (chan
       let dropped : (pending_after s known' (guest_at s.header i j)).dropped ≡ s.pending.dropped = fun_ext (λ c. let e = same_names c in omega arith) in
       λ k. record s.pending { held = held k; dropped = dropped k }
 
-  host_bytes : (k : ℕ) → k < cluster_size s.header → known' (host + k) ≡ s.base (host + k)
+  host_bytes : (k : ℕ) → k < cluster_size s.header → known' (host + k) ≡ s.on_storage (host + k)
   host_bytes k lt =
       let here = in_one (cluster_size s.header) host k (kept_aligned s sound (guest_at s.header i j) host was) lt in
       let named = kept_names s sound (guest_at s.header i j) host was (host / cluster_size s.header) in
@@ -174,10 +174,10 @@ module _ (s : Stand) (known' : Bytes) (i j host : ℕ) (sound : IsSound s) (chan
       let used : 0 < used_by_guests s ((host + k) / cluster_size s.header) = subst (λ n. 0 < used_by_guests s n) (sym here) (omega arith) in
       (entry_unseen s known' i j sound changes s.pending).bytes (host + k) used ∙ sym (kept_unlaid s sound (guest_at s.header i j) host was k lt)
 
-  pub kept_committed : Maps (guest_at s.header i j) s (record s { known = known' }) (λ backing o. known_byte (s.base (host + o % cluster_size s.header)))
+  pub kept_committed : Maps (guest_at s.header i j) s (record s { known = known' }) (λ backing o. known_byte (s.on_storage (host + o % cluster_size s.header)))
   kept_committed =
-      subst (λ (p : Pending). Maps (guest_at s.header i j) s (record s { pending = p; known = known' }) (λ backing o. known_byte (s.base (host + o % cluster_size s.header)))) kept_pending
-      (entry_maps s known' i j sound changes (λ backing o. known_byte (s.base (host + o % cluster_size s.header))) (λ backing o here.
+      subst (λ (p : Pending). Maps (guest_at s.header i j) s (record s { pending = p; known = known' }) (λ backing o. known_byte (s.on_storage (host + o % cluster_size s.header)))) kept_pending
+      (entry_maps s known' i j sound changes (λ backing o. known_byte (s.on_storage (host + o % cluster_size s.header))) (λ backing o here.
       ap (value_under s.header known' known' backing o) is ∙ ap known_byte (host_bytes (o % cluster_size s.header) (mod_below o (cluster_size s.header) (pow_pos s.header.cluster_bits)))))
 
 pub kept_cluster_is_committed : KeptClusterIsCommitted

@@ -8,9 +8,9 @@ use Rattle.qcow2_metadata.specs.Tables.{CachedTable, known, overlays}
 use Rattle.qcow2_metadata.specs.Named.{named_by_cover}
 use Rattle.qcow2_laws.specs.Clusters.{Direction}
 use Rattle.qcow2_laws.specs.Guests.{names}
-use Rattle.qcow2_laws.specs.Guard.{Pending, IsGuarded, SameCovers}
+use Rattle.qcow2_laws.specs.CrashInvariant.{Pending, CrashInvariant, SameCovers}
 use Rattle.qcow2_laws.specs.Writes.{IsUnnamed}
-use Rattle.qcow2_laws.specs.Caches.{known_bytes, IsFreeAt, IsFreeOf, AreApart, HasL2, HasBlock, IsKept, AreSettled}
+use Rattle.qcow2_laws.specs.Caches.{known_bytes, IsFreeAt, IsFreeOf, AreApart, HasL2, HasBlock, CacheInvariantOver, AreSettled}
 use Rattle.qcow2_laws.proofs.Guests.{over_guests-same}
 use Rattle.qcow2_laws.proofs.Lists.{known-at, known-none, no_overlay, overlays_within, within_cluster}
 
@@ -25,17 +25,17 @@ elsewhere_free size front back t t' c aligned other free o in_c =
     free_changed size front back t t' o (no_overlay size t' o (λ over. other (sym in_c ∙ within_cluster t'.place size o aligned (overlays_within size t' o over)))) (free o in_c)
 
 -- ---- a cached refblock changes, and what it says of clusters with it
-pub refblock_changed : (h : HeaderFields) (d d' : Direction) (p p' : Pending) (l2s front back : List CachedTable) (t t' : CachedTable) (base : Bytes) → IsKept h d p l2s (front ++ t ∷ back) base
-    → t'.place % cluster_size h ≡ 0 → HasBlock h base (t'.place / cluster_size h) → AreApart (cluster_size h) (front ++ t' ∷ back)
-    → SameCovers h (known_bytes (cluster_size h) l2s (front ++ t ∷ back) base) (known_bytes (cluster_size h) l2s (front ++ t' ∷ back) base)
-    → IsGuarded h d' p' base (known_bytes (cluster_size h) l2s (front ++ t' ∷ back) base) → IsKept h d' p' l2s (front ++ t' ∷ back) base
-refblock_changed h d d' p p' l2s front back t t' base kept aligned stands apart covers guarded = record {
+pub refblock_changed : (h : HeaderFields) (d d' : Direction) (p p' : Pending) (l2s front back : List CachedTable) (t t' : CachedTable) (on_storage : Bytes) → CacheInvariantOver h d p l2s (front ++ t ∷ back) on_storage
+    → t'.place % cluster_size h ≡ 0 → HasBlock h on_storage (t'.place / cluster_size h) → AreApart (cluster_size h) (front ++ t' ∷ back)
+    → SameCovers h (known_bytes (cluster_size h) l2s (front ++ t ∷ back) on_storage) (known_bytes (cluster_size h) l2s (front ++ t' ∷ back) on_storage)
+    → CrashInvariant h d' p' on_storage (known_bytes (cluster_size h) l2s (front ++ t' ∷ back) on_storage) → CacheInvariantOver h d' p' l2s (front ++ t' ∷ back) on_storage
+refblock_changed h d d' p p' l2s front back t t' on_storage kept aligned stands apart covers guarded = record {
   guarded = guarded;
   l2_apart = kept.l2_apart;
   rb_apart = apart;
   l2_stand = kept.l2_stand;
   rb_stand = λ c. elim (cases_eq c (t'.place / cluster_size h)) [
-    | inl here ↦ inr (inl (subst (HasBlock h base) (sym here) stands))
+    | inl here ↦ inr (inl (subst (HasBlock h on_storage) (sym here) stands))
     | inr other ↦ elim (kept.rb_stand c) [
       | inl free ↦ inl (elsewhere_free (cluster_size h) front back t t' c aligned other free)
       | inr more ↦ elim more [
@@ -43,9 +43,9 @@ refblock_changed h d d' p p' l2s front back t t' base kept aligned stands apart 
         | inr unnamed ↦ inr (inr (record {
           no_table = unnamed.no_table;
           no_entry =
-              let same = over_guests-same h (λ g. max (names h base c g) (names h (known_bytes (cluster_size h) l2s (front ++ t ∷ back) base) c g))
-              (λ g. max (names h base c g) (names h (known_bytes (cluster_size h) l2s (front ++ t' ∷ back) base) c g))
-              (λ g. ap (λ v. max (names h base c g) (named_by_cover h c v)) (covers g)) in
+              let same = over_guests-same h (λ g. max (names h on_storage c g) (names h (known_bytes (cluster_size h) l2s (front ++ t ∷ back) on_storage) c g))
+              (λ g. max (names h on_storage c g) (names h (known_bytes (cluster_size h) l2s (front ++ t' ∷ back) on_storage) c g))
+              (λ g. ap (λ v. max (names h on_storage c g) (named_by_cover h c v)) (covers g)) in
               sym same ∙ unnamed.no_entry;
         }))
       ]
@@ -54,15 +54,15 @@ refblock_changed h d d' p p' l2s front back t t' base kept aligned stands apart 
 }
 
 -- ---- a cached L2 table changes, while no refblock is unnamed
-pub l2_table_changed : (h : HeaderFields) (d d' : Direction) (p p' : Pending) (front back rbs : List CachedTable) (t t' : CachedTable) (base : Bytes) → IsKept h d p (front ++ t ∷ back) rbs base
-    → AreSettled h rbs base → t'.place % cluster_size h ≡ 0 → HasL2 h base (t'.place / cluster_size h) → AreApart (cluster_size h) (front ++ t' ∷ back)
-    → IsGuarded h d' p' base (known_bytes (cluster_size h) (front ++ t' ∷ back) rbs base) → IsKept h d' p' (front ++ t' ∷ back) rbs base
-l2_table_changed h d d' p p' front back rbs t t' base kept settled aligned stands apart guarded = record {
+pub l2_table_changed : (h : HeaderFields) (d d' : Direction) (p p' : Pending) (front back rbs : List CachedTable) (t t' : CachedTable) (on_storage : Bytes) → CacheInvariantOver h d p (front ++ t ∷ back) rbs on_storage
+    → AreSettled h rbs on_storage → t'.place % cluster_size h ≡ 0 → HasL2 h on_storage (t'.place / cluster_size h) → AreApart (cluster_size h) (front ++ t' ∷ back)
+    → CrashInvariant h d' p' on_storage (known_bytes (cluster_size h) (front ++ t' ∷ back) rbs on_storage) → CacheInvariantOver h d' p' (front ++ t' ∷ back) rbs on_storage
+l2_table_changed h d d' p p' front back rbs t t' on_storage kept settled aligned stands apart guarded = record {
   guarded = guarded;
   l2_apart = apart;
   rb_apart = kept.rb_apart;
   l2_stand = λ c. elim (cases_eq c (t'.place / cluster_size h)) [
-    | inl here ↦ inr (subst (HasL2 h base) (sym here) stands)
+    | inl here ↦ inr (subst (HasL2 h on_storage) (sym here) stands)
     | inr other ↦ elim (kept.l2_stand c) [
       | inl free ↦ inl (elsewhere_free (cluster_size h) front back t t' c aligned other free)
       | inr has ↦ inr has
@@ -74,28 +74,28 @@ l2_table_changed h d d' p p' front back rbs t t' base kept settled aligned stand
 -- ---- bytes are written to the storage, beside the modified tables
 
 -- what is known changes with it, as the storage does
-pub known_beside : (size : ℕ) (l2s rbs : List CachedTable) (base base' : Bytes) (o : ℕ) → base o ≡ base' o → known_bytes size l2s rbs base o ≡ known_bytes size l2s rbs base' o
-known_beside size l2s rbs base base' o same = known-at size l2s (known size rbs base) (known size rbs base') o (known-at size rbs base base' o same)
+pub known_beside : (size : ℕ) (l2s rbs : List CachedTable) (on_storage on_storage' : Bytes) (o : ℕ) → on_storage o ≡ on_storage' o → known_bytes size l2s rbs on_storage o ≡ known_bytes size l2s rbs on_storage' o
+known_beside size l2s rbs on_storage on_storage' o same = known-at size l2s (known size rbs on_storage) (known size rbs on_storage') o (known-at size rbs on_storage on_storage' o same)
 
-pub known_is_base : (size : ℕ) (l2s rbs : List CachedTable) (base : Bytes) (o : ℕ) → IsFreeAt size l2s o → IsFreeAt size rbs o → known_bytes size l2s rbs base o ≡ base o
-known_is_base size l2s rbs base o l2_free rb_free = known-none size l2s (known size rbs base) o l2_free ∙ known-none size rbs base o rb_free
+pub known_is_on_storage : (size : ℕ) (l2s rbs : List CachedTable) (on_storage : Bytes) (o : ℕ) → IsFreeAt size l2s o → IsFreeAt size rbs o → known_bytes size l2s rbs on_storage o ≡ on_storage o
+known_is_on_storage size l2s rbs on_storage o l2_free rb_free = known-none size l2s (known size rbs on_storage) o l2_free ∙ known-none size rbs on_storage o rb_free
 
 -- where the two were alike they still are, if each byte stays or has no modified table over it
-pub still_agree : (size : ℕ) (l2s rbs : List CachedTable) (base base' : Bytes) → ((o : ℕ) → (base o ≡ base' o) ⊎ (IsFreeAt size l2s o × IsFreeAt size rbs o))
-    → (o : ℕ) → base o ≡ known_bytes size l2s rbs base o → base' o ≡ known_bytes size l2s rbs base' o
-still_agree size l2s rbs base base' each o same = elim (each o) [
-  | inl stays ↦ sym stays ∙ same ∙ known_beside size l2s rbs base base' o stays
-  | inr free ↦ sym (known_is_base size l2s rbs base' o free.0 free.1)
+pub still_agree : (size : ℕ) (l2s rbs : List CachedTable) (on_storage on_storage' : Bytes) → ((o : ℕ) → (on_storage o ≡ on_storage' o) ⊎ (IsFreeAt size l2s o × IsFreeAt size rbs o))
+    → (o : ℕ) → on_storage o ≡ known_bytes size l2s rbs on_storage o → on_storage' o ≡ known_bytes size l2s rbs on_storage' o
+still_agree size l2s rbs on_storage on_storage' each o same = elim (each o) [
+  | inl stays ↦ sym stays ∙ same ∙ known_beside size l2s rbs on_storage on_storage' o stays
+  | inr free ↦ sym (known_is_on_storage size l2s rbs on_storage' o free.0 free.1)
 ]
 
 -- what stands where is kept by what names it, before and after
-pub kept_beside : (h h' : HeaderFields) (d d' : Direction) (p p' : Pending) (l2s rbs : List CachedTable) (base base' : Bytes) → IsKept h d p l2s rbs base → cluster_size h' ≡ cluster_size h
-    → IsGuarded h' d' p' base' (known_bytes (cluster_size h') l2s rbs base')
-    → ((c : ℕ) → HasL2 h base c → IsFreeOf (cluster_size h) l2s c ⊎ HasL2 h' base' c)
-    → ((c : ℕ) → HasBlock h base c ⊎ IsUnnamed h base (known_bytes (cluster_size h) l2s rbs base) c
-    → IsFreeOf (cluster_size h) rbs c ⊎ (HasBlock h' base' c ⊎ IsUnnamed h' base' (known_bytes (cluster_size h') l2s rbs base') c))
-    → IsKept h' d' p' l2s rbs base'
-kept_beside h h' d d' p p' l2s rbs base base' kept size guarded l2 rb = record {
+pub kept_beside : (h h' : HeaderFields) (d d' : Direction) (p p' : Pending) (l2s rbs : List CachedTable) (on_storage on_storage' : Bytes) → CacheInvariantOver h d p l2s rbs on_storage → cluster_size h' ≡ cluster_size h
+    → CrashInvariant h' d' p' on_storage' (known_bytes (cluster_size h') l2s rbs on_storage')
+    → ((c : ℕ) → HasL2 h on_storage c → IsFreeOf (cluster_size h) l2s c ⊎ HasL2 h' on_storage' c)
+    → ((c : ℕ) → HasBlock h on_storage c ⊎ IsUnnamed h on_storage (known_bytes (cluster_size h) l2s rbs on_storage) c
+    → IsFreeOf (cluster_size h) rbs c ⊎ (HasBlock h' on_storage' c ⊎ IsUnnamed h' on_storage' (known_bytes (cluster_size h') l2s rbs on_storage') c))
+    → CacheInvariantOver h' d' p' l2s rbs on_storage'
+kept_beside h h' d d' p p' l2s rbs on_storage on_storage' kept size guarded l2 rb = record {
   guarded = guarded;
   l2_apart = subst (λ n. AreApart n l2s) (sym size) kept.l2_apart;
   rb_apart = subst (λ n. AreApart n rbs) (sym size) kept.rb_apart;

@@ -10,10 +10,10 @@ use Rattle.qcow2_metadata.specs.Cover.{cover, cover_under}
 use Rattle.qcow2_metadata.specs.Named.{in_run, table_in, named_for_tables, named_by_reftable, named_by_l1_table, named_by_cover}
 use Rattle.qcow2_metadata.specs.Consistent.{IsAligned}
 use Rattle.qcow2_laws.specs.Disk.{disk}
-use Rattle.qcow2_laws.specs.Stops.{Mark, IsKeptAt}
+use Rattle.qcow2_laws.specs.Stops.{Checkpoint, StopOkEverywhere}
 use Rattle.qcow2_laws.specs.Clusters.{Direction}
 use Rattle.qcow2_laws.specs.Guests.{over_guests, names, named_in_either, marked_by_l1_table}
-use Rattle.qcow2_laws.specs.Guard.{Pending, IsGuarded, IsTop, SameTop, SameIn}
+use Rattle.qcow2_laws.specs.CrashInvariant.{Pending, CrashInvariant, IsTop, SameTop, SameIn}
 use Rattle.qcow2_laws.specs.Changes.{renamed}
 use Rattle.qcow2_laws.specs.Tops.{with_places, KeepsCovers, WritesHeader, with_l1_at, IsNewL1}
 use Rattle.qcow2_laws.specs.GuestLaws.{KeepsGuests, with_l1_table}
@@ -28,8 +28,8 @@ use Rattle.qcow2_laws.proofs.Values.{value_is, size_is}
 use Rattle.qcow2_laws.proofs.Renaming.{tables_renamed, moved_kept, moved_known_kept, known_sum, same_value}
 use Rattle.qcow2_laws.proofs.Headers.{header_sizes, header_same, header_known_same, header_l1, header_known_l1, header_reftable, header_known_reftable, header_covers, header_known_covers, header_counts, header_known_counts, header_elsewhere, header_unlaid, unnamed_elsewhere}
 
-module _ (h : HeaderFields) (offset entries : ℕ) (d : Direction) (p : Pending) (base known base' known' : Bytes) (guarded : IsGuarded h d p base known)
-    (writes : WritesHeader h (with_l1_at h offset entries) base known base' known') (new : IsNewL1 h d p base known offset entries) where
+module _ (h : HeaderFields) (offset entries : ℕ) (d : Direction) (p : Pending) (on_storage known on_storage' known' : Bytes) (guarded : CrashInvariant h d p on_storage known)
+    (writes : WritesHeader h (with_l1_at h offset entries) on_storage known on_storage' known') (new : IsNewL1 h d p on_storage known offset entries) where
   reftable_too : (b : Bytes) (k : ℕ) → reftable_entry (with_places h (with_l1_at h offset entries)) b k ≡ reftable_entry h b k
   unfolding reftable_entry
   reftable_too b k = refl
@@ -42,35 +42,35 @@ module _ (h : HeaderFields) (offset entries : ℕ) (d : Direction) (p : Pending)
   stays : (b b' : Bytes) → ((c : ℕ) → c ≢ 0 → SameIn (cluster_size h) c b b') → (i : ℕ)
       → l1_entry (with_places h (with_l1_at h offset entries)) b i ≡ l1_entry (with_places h (with_l1_at h offset entries)) b' i
   stays b b' same i =
-      l1-same (with_places h (with_l1_at h offset entries)) b b' i (Sizes-from (with_places h (with_l1_at h offset entries)) base' writes.reads) new.aligned (λ lt.
-      same _ (unnamed_elsewhere h (with_l1_at h offset entries) d p base known base' known' guarded writes _
-      (fresh_is_unnamed h d p base known guarded _
-      (new.fresh ((offset + 8 * i) / cluster_size h) (let one = l1_has (with_places h (with_l1_at h offset entries)) i (Sizes-from (with_places h (with_l1_at h offset entries)) base' writes.reads) new.aligned lt in omega arith)).0
+      l1-same (with_places h (with_l1_at h offset entries)) b b' i (Sizes-from (with_places h (with_l1_at h offset entries)) on_storage' writes.reads) new.aligned (λ lt.
+      same _ (unnamed_elsewhere h (with_l1_at h offset entries) d p on_storage known on_storage' known' guarded writes _
+      (fresh_is_unnamed h d p on_storage known guarded _
+      (new.fresh ((offset + 8 * i) / cluster_size h) (let one = l1_has (with_places h (with_l1_at h offset entries)) i (Sizes-from (with_places h (with_l1_at h offset entries)) on_storage' writes.reads) new.aligned lt in omega arith)).0
       new.written).no_table))
 
-  pub now_l1 : (i : ℕ) → l1_entry h base i ≡ l1_entry (with_places h (with_l1_at h offset entries)) base' i
-  now_l1 i = sym (new.same i) ∙ stays base base' (header_same h (with_l1_at h offset entries) d p base known base' known' guarded writes) i
+  pub now_l1 : (i : ℕ) → l1_entry h on_storage i ≡ l1_entry (with_places h (with_l1_at h offset entries)) on_storage' i
+  now_l1 i = sym (new.same i) ∙ stays on_storage on_storage' (header_same h (with_l1_at h offset entries) d p on_storage known on_storage' known' guarded writes) i
 
   now_known_l1 : (i : ℕ) → l1_entry h known i ≡ l1_entry (with_places h (with_l1_at h offset entries)) known' i
-  now_known_l1 i = sym (new.known_same i) ∙ stays known known' (header_known_same h (with_l1_at h offset entries) d p base known base' known' guarded writes) i
+  now_known_l1 i = sym (new.known_same i) ∙ stays known known' (header_known_same h (with_l1_at h offset entries) d p on_storage known on_storage' known' guarded writes) i
 
-  pub now_reftable : (k : ℕ) → reftable_entry h base k ≡ reftable_entry (with_places h (with_l1_at h offset entries)) base' k
-  now_reftable k = header_reftable h (with_l1_at h offset entries) d p base known base' known' guarded writes k ∙ sym (reftable_too base' k)
+  pub now_reftable : (k : ℕ) → reftable_entry h on_storage k ≡ reftable_entry (with_places h (with_l1_at h offset entries)) on_storage' k
+  now_reftable k = header_reftable h (with_l1_at h offset entries) d p on_storage known on_storage' known' guarded writes k ∙ sym (reftable_too on_storage' k)
 
   -- an entry that is none reads, and is aligned
-  each_l1 : (Q : ℕ → Type 0) → Q 0 → ((i : ℕ) → i < h.l1_entries → Q (l1_entry h base i)) → (i : ℕ) → Q (l1_entry (with_places h (with_l1_at h offset entries)) base' i)
+  each_l1 : (Q : ℕ → Type 0) → Q 0 → ((i : ℕ) → i < h.l1_entries → Q (l1_entry h on_storage i)) → (i : ℕ) → Q (l1_entry (with_places h (with_l1_at h offset entries)) on_storage' i)
   each_l1 Q none each i = subst Q (now_l1 i) (elim (cases_lt i h.l1_entries) [
     | inl lt ↦ each i lt
-    | inr past ↦ subst Q (sym (l1_entry-past h base i past)) none
+    | inr past ↦ subst Q (sym (l1_entry-past h on_storage i past)) none
   ])
 
   zero_reads : L1EntryReads 0
   zero_reads = (refl, refl)
 
   zero_aligned : IsAligned h (host_offset 0)
-  zero_aligned = let some = (header_sizes h (with_l1_at h offset entries) d p base known base' known' guarded writes).some in omega arith
+  zero_aligned = let some = (header_sizes h (with_l1_at h offset entries) d p on_storage known on_storage' known' guarded writes).some in omega arith
 
-  top_now : IsTop (with_places h (with_l1_at h offset entries)) base'
+  top_now : IsTop (with_places h (with_l1_at h offset entries)) on_storage'
   top_now = record {
     header_is = writes.is;
     header_reads = writes.reads;
@@ -84,11 +84,11 @@ module _ (h : HeaderFields) (offset entries : ℕ) (d : Direction) (p : Pending)
     refblocks_aligned = λ k lt. subst (λ e. IsAligned h (block_offset e)) (now_reftable k) (guarded.top.refblocks_aligned k lt);
   }
 
-  same_top_now : SameTop (with_places h (with_l1_at h offset entries)) base' known'
+  same_top_now : SameTop (with_places h (with_l1_at h offset entries)) on_storage' known'
   same_top_now = record {
     first_cluster = writes.same_first;
     l1 = λ i. sym (now_l1 i) ∙ guarded.same_top.l1 i ∙ now_known_l1 i;
-    reftable = λ k. sym (now_reftable k) ∙ guarded.same_top.reftable k ∙ header_known_reftable h (with_l1_at h offset entries) d p base known base' known' guarded writes k ∙ sym (reftable_too known' k);
+    reftable = λ k. sym (now_reftable k) ∙ guarded.same_top.reftable k ∙ header_known_reftable h (with_l1_at h offset entries) d p on_storage known on_storage' known' guarded writes k ∙ sym (reftable_too known' k);
   }
 
   cover_of : (b : Bytes) (g e : ℕ) → l1_entry h b (g / entries_per_cluster h) ≡ e → l1_entry (with_places h (with_l1_at h offset entries)) b (g / entries_per_cluster h) ≡ e
@@ -96,18 +96,18 @@ module _ (h : HeaderFields) (offset entries : ℕ) (d : Direction) (p : Pending)
   unfolding cover cover_under
   cover_of b g e is is' = ap (λ x. cover_under h b x g) is ∙ sym (ap (λ x. cover_under h b x g) is')
 
-  pub covers : KeepsCovers h (with_l1_at h offset entries) base base'
+  pub covers : KeepsCovers h (with_l1_at h offset entries) on_storage on_storage'
   covers g =
-      header_covers h (with_l1_at h offset entries) d p base known base' known' guarded writes g
-      ∙ cover_of base' g _ refl (sym (now_l1 (g / entries_per_cluster h)) ∙ header_l1 h (with_l1_at h offset entries) d p base known base' known' guarded writes (g / entries_per_cluster h))
+      header_covers h (with_l1_at h offset entries) d p on_storage known on_storage' known' guarded writes g
+      ∙ cover_of on_storage' g _ refl (sym (now_l1 (g / entries_per_cluster h)) ∙ header_l1 h (with_l1_at h offset entries) d p on_storage known on_storage' known' guarded writes (g / entries_per_cluster h))
 
   pub known_covers : KeepsCovers h (with_l1_at h offset entries) known known'
   known_covers g =
-      header_known_covers h (with_l1_at h offset entries) d p base known base' known' guarded writes g
-      ∙ cover_of known' g _ refl (sym (now_known_l1 (g / entries_per_cluster h)) ∙ header_known_l1 h (with_l1_at h offset entries) d p base known base' known' guarded writes (g / entries_per_cluster h))
+      header_known_covers h (with_l1_at h offset entries) d p on_storage known on_storage' known' guarded writes g
+      ∙ cover_of known' g _ refl (sym (now_known_l1 (g / entries_per_cluster h)) ∙ header_known_l1 h (with_l1_at h offset entries) d p on_storage known on_storage' known' guarded writes (g / entries_per_cluster h))
 
-  unlaid : (o : ℕ) → 0 < named_in_either h base known (o / cluster_size h) + p.held (o / cluster_size h) → base' o ≡ known' o
-  unlaid = header_unlaid h (with_l1_at h offset entries) d p base known base' known' guarded writes
+  unlaid : (o : ℕ) → 0 < named_in_either h on_storage known (o / cluster_size h) + p.held (o / cluster_size h) → on_storage' o ≡ known' o
+  unlaid = header_unlaid h (with_l1_at h offset entries) d p on_storage known on_storage' known' guarded writes
 
   -- ---- how often tables name a cluster now
   longer_sum : (f g : ℕ → ℕ) → ((i : ℕ) → f i ≡ g i) → ((i : ℕ) → h.l1_entries ≤ i → f i ≡ 0) → sum_below entries g ≡ sum_below h.l1_entries f
@@ -115,90 +115,90 @@ module _ (h : HeaderFields) (offset entries : ℕ) (d : Direction) (p : Pending)
       let e : h.l1_entries + (entries - h.l1_entries) ≡ entries = let l = new.longer in omega arith in
       sum_below-same entries g f (λ i lt. sym (same i)) ∙ ap (λ n. sum_below n f) (sym e) ∙ sum_below-longer h.l1_entries (entries - h.l1_entries) f none
 
-  tables_same : (c : ℕ) → named_by_l1_table (with_places h (with_l1_at h offset entries)) base' c ≡ named_by_l1_table h base c
+  tables_same : (c : ℕ) → named_by_l1_table (with_places h (with_l1_at h offset entries)) on_storage' c ≡ named_by_l1_table h on_storage c
   unfolding named_by_l1_table
   tables_same c =
-      longer_sum (λ i. table_in h c (host_offset (l1_entry h base i))) (λ i. table_in h c (host_offset (l1_entry (with_places h (with_l1_at h offset entries)) base' i)))
-      (λ i. ap (λ e. table_in h c (host_offset e)) (now_l1 i)) (λ i past. ap (λ e. table_in h c (host_offset e)) (l1_entry-past h base i past))
+      longer_sum (λ i. table_in h c (host_offset (l1_entry h on_storage i))) (λ i. table_in h c (host_offset (l1_entry (with_places h (with_l1_at h offset entries)) on_storage' i)))
+      (λ i. ap (λ e. table_in h c (host_offset e)) (now_l1 i)) (λ i past. ap (λ e. table_in h c (host_offset e)) (l1_entry-past h on_storage i past))
 
-  marks_same : (c : ℕ) → marked_by_l1_table (with_places h (with_l1_at h offset entries)) base' c ≡ marked_by_l1_table h base c
+  marks_same : (c : ℕ) → marked_by_l1_table (with_places h (with_l1_at h offset entries)) on_storage' c ≡ marked_by_l1_table h on_storage c
   unfolding marked_by_l1_table
   marks_same c =
-      longer_sum (λ i. cond (is_copied (l1_entry h base i)) (table_in h c (host_offset (l1_entry h base i))) 0)
-      (λ i. cond (is_copied (l1_entry (with_places h (with_l1_at h offset entries)) base' i)) (table_in h c (host_offset (l1_entry (with_places h (with_l1_at h offset entries)) base' i))) 0)
-      (λ i. ap (λ e. cond (is_copied e) (table_in h c (host_offset e)) 0) (now_l1 i)) (λ i past. ap (λ e. cond (is_copied e) (table_in h c (host_offset e)) 0) (l1_entry-past h base i past))
+      longer_sum (λ i. cond (is_copied (l1_entry h on_storage i)) (table_in h c (host_offset (l1_entry h on_storage i))) 0)
+      (λ i. cond (is_copied (l1_entry (with_places h (with_l1_at h offset entries)) on_storage' i)) (table_in h c (host_offset (l1_entry (with_places h (with_l1_at h offset entries)) on_storage' i))) 0)
+      (λ i. ap (λ e. cond (is_copied e) (table_in h c (host_offset e)) 0) (now_l1 i)) (λ i past. ap (λ e. cond (is_copied e) (table_in h c (host_offset e)) 0) (l1_entry-past h on_storage i past))
 
-  blocks_same : (c : ℕ) → named_by_reftable (with_places h (with_l1_at h offset entries)) base' c ≡ named_by_reftable h base c
+  blocks_same : (c : ℕ) → named_by_reftable (with_places h (with_l1_at h offset entries)) on_storage' c ≡ named_by_reftable h on_storage c
   unfolding named_by_reftable
   blocks_same c = sum_below-same _ _ _ (λ k lt. ap (λ e. table_in h c (block_offset e)) (sym (now_reftable k)))
 
-  fixed_changed : (c : ℕ) → named_for_tables (with_places h (with_l1_at h offset entries)) base' c + in_l1 h c ≡ named_for_tables h base c + in_run h c offset (8 * entries) + 0
+  fixed_changed : (c : ℕ) → named_for_tables (with_places h (with_l1_at h offset entries)) on_storage' c + in_l1 h c ≡ named_for_tables h on_storage c + in_run h c offset (8 * entries) + 0
   fixed_changed c =
-      let before = shares h base c in
-      let after = shares (with_places h (with_l1_at h offset entries)) base' c in
+      let before = shares h on_storage c in
+      let after = shares (with_places h (with_l1_at h offset entries)) on_storage' c in
       let tables = tables_same c in
       let blocks = blocks_same c in
       omega arith
 
-  pub l1_moved : IsGuarded (with_places h (with_l1_at h offset entries)) d (renamed p (λ c. in_run h c offset (8 * entries)) (in_l1 h)) base' known'
+  pub l1_moved : CrashInvariant (with_places h (with_l1_at h offset entries)) d (renamed p (λ c. in_run h c offset (8 * entries)) (in_l1 h)) on_storage' known'
   l1_moved =
-      tables_renamed h (with_l1_at h offset entries) d p (renamed p (λ c. in_run h c offset (8 * entries)) (in_l1 h)) base known base' known' guarded
+      tables_renamed h (with_l1_at h offset entries) d p (renamed p (λ c. in_run h c offset (8 * entries)) (in_l1 h)) on_storage known on_storage' known' guarded
       top_now same_top_now new.longer covers known_covers unlaid
       (λ c. in_run h c offset (8 * entries)) (λ c. 0) (in_l1 h) (λ c. (refl, refl, refl, refl, refl))
       (λ c. let one = in_run-le h c offset (8 * entries) in omega arith) fixed_changed (λ c. let e = marks_same c in omega arith)
-      (λ c. let e = counts_too base' c in let s = header_counts h (with_l1_at h offset entries) d p base known base' known' guarded writes c in omega arith)
-      (λ c. let e = counts_too known' c in let s = header_known_counts h (with_l1_at h offset entries) d p base known base' known' guarded writes c in omega arith)
+      (λ c. let e = counts_too on_storage' c in let s = header_counts h (with_l1_at h offset entries) d p on_storage known on_storage' known' guarded writes c in omega arith)
+      (λ c. let e = counts_too known' c in let s = header_known_counts h (with_l1_at h offset entries) d p on_storage known on_storage' known' guarded writes c in omega arith)
       (λ c some. let f = new.fresh c some in (f.0, f.1, new.written)) (λ c some. absurd (omega arith))
 
-  elsewhere : (o : ℕ) → 0 < named_in_either h base known (o / cluster_size h) → o / cluster_size h ≢ 0
-  elsewhere o some = header_elsewhere h (with_l1_at h offset entries) d p base known base' known' guarded writes o (omega arith)
+  elsewhere : (o : ℕ) → 0 < named_in_either h on_storage known (o / cluster_size h) → o / cluster_size h ≢ 0
+  elsewhere o some = header_elsewhere h (with_l1_at h offset entries) d p on_storage known on_storage' known' guarded writes o (omega arith)
 
-  pub l1_moved_kept : (backing : Bytes) (m : Mark) → IsKeptAt backing m base → IsKeptAt backing m base'
+  pub l1_moved_kept : (backing : Bytes) (m : Checkpoint) → StopOkEverywhere backing m on_storage → StopOkEverywhere backing m on_storage'
   l1_moved_kept backing m kept =
-      moved_kept h (with_l1_at h offset entries) d p (renamed p (λ c. in_run h c offset (8 * entries)) (in_l1 h)) base known base' known' guarded
+      moved_kept h (with_l1_at h offset entries) d p (renamed p (λ c. in_run h c offset (8 * entries)) (in_l1 h)) on_storage known on_storage' known' guarded
       top_now same_top_now new.longer covers known_covers unlaid l1_moved
       (λ o some. writes.others o (elsewhere o some)) (λ o some. writes.known_others o (elsewhere o some)) backing m [] (inl refl) kept
 
-  pub l1_moved_known_kept : (backing : Bytes) (m : Mark) → IsKeptAt backing m known → IsKeptAt backing m known'
+  pub l1_moved_known_kept : (backing : Bytes) (m : Checkpoint) → StopOkEverywhere backing m known → StopOkEverywhere backing m known'
   l1_moved_known_kept backing m kept =
-      moved_known_kept h (with_l1_at h offset entries) d p (renamed p (λ c. in_run h c offset (8 * entries)) (in_l1 h)) base known base' known' guarded
+      moved_known_kept h (with_l1_at h offset entries) d p (renamed p (λ c. in_run h c offset (8 * entries)) (in_l1 h)) on_storage known on_storage' known' guarded
       top_now same_top_now new.longer covers known_covers unlaid l1_moved
       (λ o some. writes.others o (elsewhere o some)) (λ o some. writes.known_others o (elsewhere o some)) backing m [] (inl refl) kept
 
   -- ---- what guests use
-  bytes_stay : (o : ℕ) → 0 < named_in_either h base known (o / cluster_size h) + p.held (o / cluster_size h) → known' o ≡ known o
-  bytes_stay o some = sym (writes.known_others o (header_elsewhere h (with_l1_at h offset entries) d p base known base' known' guarded writes o some))
+  bytes_stay : (o : ℕ) → 0 < named_in_either h on_storage known (o / cluster_size h) + p.held (o / cluster_size h) → known' o ≡ known o
+  bytes_stay o some = sym (writes.known_others o (header_elsewhere h (with_l1_at h offset entries) d p on_storage known on_storage' known' guarded writes o some))
 
   used_same : (c : ℕ) → over_guests (with_places h (with_l1_at h offset entries)) (names (with_places h (with_l1_at h offset entries)) known' c) ≡ over_guests h (names h known c)
   used_same c =
-      sym (known_sum h (with_l1_at h offset entries) d p (renamed p (λ k. in_run h k offset (8 * entries)) (in_l1 h)) base known base' known' guarded
+      sym (known_sum h (with_l1_at h offset entries) d p (renamed p (λ k. in_run h k offset (8 * entries)) (in_l1 h)) on_storage known on_storage' known' guarded
       top_now same_top_now new.longer covers known_covers unlaid (named_by_cover h c) refl)
 
   disk_same : (backing : Bytes) → disk known' backing ≡ disk known backing
   unfolding disk
   disk_same backing =
-      let was = (IsTop-top h base known guarded.same_top guarded.top).header_is in
-      let is = (IsTop-top (with_places h (with_l1_at h offset entries)) base' known' same_top_now top_now).header_is in
+      let was = (IsTop-top h on_storage known guarded.same_top guarded.top).header_is in
+      let is = (IsTop-top (with_places h (with_l1_at h offset entries)) on_storage' known' same_top_now top_now).header_is in
       let size : (disk known' backing).size ≡ (disk known backing).size = size_is (with_places h (with_l1_at h offset entries)) known' backing is ∙ sym (size_is h known backing was) in
       let value : (disk known' backing).value ≡ (disk known backing).value = fun_ext (λ o.
       value_is (with_places h (with_l1_at h offset entries)) known' backing o is
-      ∙ sym (same_value h (with_l1_at h offset entries) d p (renamed p (λ k. in_run h k offset (8 * entries)) (in_l1 h)) base known base' known' guarded
+      ∙ sym (same_value h (with_l1_at h offset entries) d p (renamed p (λ k. in_run h k offset (8 * entries)) (in_l1 h)) on_storage known on_storage' known' guarded
       top_now same_top_now new.longer covers known_covers unlaid known known' backing known_covers guarded.known_aligned (λ g place some.
-      sym (bytes_stay place (let t = (tied h p base known (place / cluster_size h)).known in let n = named_once place g some in omega arith))) o)
+      sym (bytes_stay place (let t = (tied h p on_storage known (place / cluster_size h)).known in let n = named_once place g some in omega arith))) o)
       ∙ sym (value_is h known backing o was)) in
       λ j. record { size = size j; value = value j }
     where
       named_once : (place g : ℕ) → 0 < names h known (place / cluster_size h) g → 0 < over_guests h (names h known (place / cluster_size h))
       named_once place g some =
-          let le = guest_le h (names h known (place / cluster_size h)) g (names_within h known (place / cluster_size h) g (Sizes-from h base guarded.top.header_reads) some) in
+          let le = guest_le h (names h known (place / cluster_size h)) g (names_within h known (place / cluster_size h) g (Sizes-from h on_storage guarded.top.header_reads) some) in
           omega arith
 
-  pub guests_kept : KeepsGuests (record { header = h; direction = d; pending = p; base = base; known = known })
-      (with_l1_table (record { header = h; direction = d; pending = p; base = base; known = known }) offset entries base' known')
+  pub guests_kept : KeepsGuests (record { header = h; direction = d; pending = p; on_storage = on_storage; known = known })
+      (with_l1_table (record { header = h; direction = d; pending = p; on_storage = on_storage; known = known }) offset entries on_storage' known')
   guests_kept = record {
-    base_covers = covers;
+    storage_covers = covers;
     covers = known_covers;
-    bytes = λ o some. bytes_stay o (let t = (tied h p base known (o / cluster_size h)).known in omega arith);
+    bytes = λ o some. bytes_stay o (let t = (tied h p on_storage known (o / cluster_size h)).known in omega arith);
     used = λ c. ap (λ n. n + p.held c) (used_same c);
     surplus = λ c. refl;
     disk = disk_same;

@@ -22,7 +22,7 @@ pub mod L1Moves
 pub mod ReftableMoves
 pub mod Lists
 pub mod Caches
-pub mod Leads
+pub mod SafeSteps
 pub mod Steps
 pub mod GuestLaws
 pub mod RunSteps

@@ -14,9 +14,9 @@ use Rattle.qcow2_metadata.specs.declared.l2_mapping.L2Mapping.TheVariants.{Data,
 use Rattle.qcow2_laws.specs.Disk.{disk}
 use Rattle.qcow2_laws.specs.Mappings.{gift_shown}
 use Rattle.qcow2_laws.specs.Guests.{names, table_at}
-use Rattle.qcow2_laws.specs.Guard.{Pending}
+use Rattle.qcow2_laws.specs.CrashInvariant.{Pending}
 use Rattle.qcow2_laws.specs.Changes.{remapped}
-use Rattle.qcow2_laws.specs.Leads.{Stand, IsSound, Leads}
+use Rattle.qcow2_laws.specs.SafeSteps.{DriverState, StateInvariant, SafeStep}
 use Rattle.qcow2_laws.specs.Steps.{guest_at, EntryChanges}
 use Rattle.qcow2_laws.specs.Unseen.{used_by_guests, IsMappedAnew, with_cluster}
 use Rattle.qcow2_laws.proofs.Places.{in_one}
@@ -33,13 +33,13 @@ use Rattle.qcow2_laws.proofs.Unseen.{table_bytes, named_some, size_stays, value_
 use Rattle.qcow2_laws.proofs.Shown.{shown_under}
 
 -- what such a step does: it gives what the guest cluster shows then, which are these values over each backing disk
-pub record Maps (guest : ℕ) (old new : Stand) (values : Bytes → ℕ → Value) : Type 0 where
-  pub leads : Leads old new (λ backing. gift_shown (disk new.known backing) (guest * cluster_size old.header) (guest * cluster_size old.header + cluster_size old.header) ∷ []) []
+pub record Maps (guest : ℕ) (old new : DriverState) (values : Bytes → ℕ → Value) : Type 0 where
+  pub leads : SafeStep old new (λ backing. gift_shown (disk new.known backing) (guest * cluster_size old.header) (guest * cluster_size old.header + cluster_size old.header) ∷ []) []
   pub unseen : IsMappedAnew guest old new
   pub shows : (backing : Bytes) → disk new.known backing ≡ with_cluster (cluster_size old.header) (disk old.known backing) guest (values backing)
 
 -- what is pending after an entry changed
-abbrev pub pending_after : Stand → Bytes → ℕ → Pending
+abbrev pub pending_after : DriverState → Bytes → ℕ → Pending
 pending_after s known' guest = remapped s.pending (λ c. names s.header s.known c guest) (λ c. names s.header known' c guest)
 
 in_cluster_of : (o g size : ℕ) → 0 < size → o / size ≡ g → (g * size ≤ o) × (o < g * size + (g * size + size - g * size)) × (g * size + (o - g * size) ≡ o)
@@ -49,27 +49,27 @@ in_cluster_of o g size some here =
     let q : o / size * size ≡ g * size = ap (λ n. n * size) here in
     (omega arith, omega arith, omega arith)
 
-module _ (s : Stand) (known' : Bytes) (i j : ℕ) (sound : IsSound s) (changes : EntryChanges s known' i j) where
+module _ (s : DriverState) (known' : Bytes) (i j : ℕ) (sound : StateInvariant s) (changes : EntryChanges s known' i j) where
   -- whatever is pending then
   pub entry_unseen : (p' : Pending) → IsMappedAnew (guest_at s.header i j) s (record s { pending = p'; known = known' })
   entry_unseen p' =
-      let fixed : 0 < named_for_tables s.header s.base (table_at s.header s.known i / cluster_size s.header) =
-      let e = for_tables-top s.header s.base s.known (table_at s.header s.known i / cluster_size s.header) sound.same_top in
+      let fixed : 0 < named_for_tables s.header s.on_storage (table_at s.header s.known i / cluster_size s.header) =
+      let e = for_tables-top s.header s.on_storage s.known (table_at s.header s.known i / cluster_size s.header) sound.same_top in
       let parts = shares s.header s.known (table_at s.header s.known i / cluster_size s.header) in
       let one = table_has s.header s.known i changes.real in
       omega arith in
       record {
         header = refl;
-        covers = entry_others s.header s.direction s.pending s.base s.known known' sound i j changes.real changes.within changes.outside changes.entries;
+        covers = entry_others s.header s.direction s.pending s.on_storage s.known known' sound i j changes.real changes.within changes.outside changes.entries;
         bytes = table_bytes s (record s { pending = p'; known = known' }) sound (table_at s.header s.known i / cluster_size s.header) fixed changes.outside;
       }
 
   new_header : header known' ≡ s.header
   new_header =
-      let top = entry_top s.header s.direction s.pending s.base s.known known' sound i j changes.real changes.within changes.outside changes.entries in
-      (IsTop-top s.header s.known known' top (IsTop-top s.header s.base s.known sound.same_top sound.top)).header_is
+      let top = entry_top s.header s.direction s.pending s.on_storage s.known known' sound i j changes.real changes.within changes.outside changes.entries in
+      (IsTop-top s.header s.known known' top (IsTop-top s.header s.on_storage s.known sound.same_top sound.top)).header_is
 
-  leads_on : Leads s (record s { pending = pending_after s known' (guest_at s.header i j); known = known' })
+  leads_on : SafeStep s (record s { pending = pending_after s known' (guest_at s.header i j); known = known' })
       (λ backing. gift_shown (disk known' backing) (guest_at s.header i j * cluster_size s.header) (guest_at s.header i j * cluster_size s.header + cluster_size s.header) ∷ []) []
   leads_on =
       entry_is_changed s known' i j _ sound changes (λ backing o here.
@@ -82,7 +82,7 @@ module _ (s : Stand) (known' : Bytes) (i j : ℕ) (sound : IsSound s) (changes :
     value_now : (backing : Bytes) (o : ℕ)
         → (disk known' backing).value o ≡ cond (eqb (o / cluster_size s.header) (guest_at s.header i j)) (values backing o) ((disk s.known backing).value o)
     value_now backing o =
-        let new : Stand = record s { pending = pending_after s known' (guest_at s.header i j); known = known' } in
+        let new : DriverState = record s { pending = pending_after s known' (guest_at s.header i j); known = known' } in
         elim (cases_eq (o / cluster_size s.header) (guest_at s.header i j)) [
           | inl here ↦
               shown_under new leads_on.sound backing o (cover s.header known' (guest_at s.header i j)) (ap (cover s.header known') here)
@@ -100,7 +100,7 @@ module _ (s : Stand) (known' : Bytes) (i j : ℕ) (sound : IsSound s) (changes :
       leads = leads_on;
       unseen = entry_unseen (pending_after s known' (guest_at s.header i j));
       shows = λ backing.
-          let new : Stand = record s { pending = pending_after s known' (guest_at s.header i j); known = known' } in
+          let new : DriverState = record s { pending = pending_after s known' (guest_at s.header i j); known = known' } in
           let value : (disk known' backing).value ≡ (with_cluster (cluster_size s.header) (disk s.known backing) (guest_at s.header i j) (values backing)).value = fun_ext (λ o. value_now backing o) in
           λ k. record { size = size_stays s new sound leads_on.sound refl backing k; value = value k };
     }
@@ -120,15 +120,15 @@ module _ (s : Stand) (known' : Bytes) (i j : ℕ) (sound : IsSound s) (changes :
     aligned = subst (CoverIsAligned s.header) is changes.aligned
 
     -- nothing is laid over it, and the entry that changes is elsewhere
-    host_bytes : (k : ℕ) → k < cluster_size s.header → known' (host + k) ≡ s.base (host + k)
+    host_bytes : (k : ℕ) → k < cluster_size s.header → known' (host + k) ≡ s.on_storage (host + k)
     host_bytes k lt =
         let here = in_one (cluster_size s.header) host k aligned lt in
         let held : 0 < s.pending.held ((host + k) / cluster_size s.header) = subst (λ n. 0 < s.pending.held n) (sym here) some in
         (entry_unseen s.pending).bytes (host + k) (omega arith) ∙ sym (sound.unlaid (host + k) (omega arith))
 
     pub private_committed : Maps (guest_at s.header i j) s (record s { pending = pending_after s known' (guest_at s.header i j); known = known' })
-        (λ backing o. known_byte (s.base (host + o % cluster_size s.header)))
-    private_committed = entry_maps (λ backing o. known_byte (s.base (host + o % cluster_size s.header))) (λ backing o here.
+        (λ backing o. known_byte (s.on_storage (host + o % cluster_size s.header)))
+    private_committed = entry_maps (λ backing o. known_byte (s.on_storage (host + o % cluster_size s.header))) (λ backing o here.
         ap (value_under s.header known' known' backing o) is ∙ ap known_byte (host_bytes (o % cluster_size s.header) (mod_below o (cluster_size s.header) (pow_pos s.header.cluster_bits))))
 
     -- what the guest cluster named before isn't the new host cluster
@@ -138,8 +138,8 @@ module _ (s : Stand) (known' : Bytes) (i j : ℕ) (sound : IsSound s) (changes :
       | inl here ↦
           let most = in_most s.header c host in
           let held : 0 < s.pending.held c = subst (λ n. 0 < s.pending.held n) (in_at s.header c host here) some in
-          let unnamed = held_is_unnamed s.header s.direction s.pending s.base s.known sound c held in
-          let t = (tied s.header s.pending s.base s.known c).known in
+          let unnamed = held_is_unnamed s.header s.direction s.pending s.on_storage s.known sound c held in
+          let t = (tied s.header s.pending s.on_storage s.known c).known in
           let old : names s.header s.known c (guest_at s.header i j) ≡ 0 = elim (cases_lt 0 (names s.header s.known c (guest_at s.header i j))) [
             | inl named ↦ absurd (let sum = named_some s s sound c (guest_at s.header i j) named in omega (arith, unnamed.no_entry))
             | inr none ↦ omega arith
@@ -162,7 +162,7 @@ module _ (s : Stand) (known' : Bytes) (i j : ℕ) (sound : IsSound s) (changes :
     committed_used c =
         let now = names_new c in
         let others = (entry_unseen s.pending).covers in
-        let within = guest_within s.header s.direction s.pending s.base s.known known' sound i j changes.real changes.within changes.outside changes.entries in
+        let within = guest_within s.header s.direction s.pending s.on_storage s.known known' sound i j changes.real changes.within changes.outside changes.entries in
         let sum = over_guests-change s.header (names s.header known' c) (names s.header s.known c) (guest_at s.header i j) within (λ g ne. ap (named_by_cover s.header c) (sym (others g ne))) in
         elim (either c) [ inl none ↦ omega arith | inr one ↦ omega (arith, one.0, one.1, one.2) ]
 

@@ -15,18 +15,18 @@ use Rattle.qcow2_laws.specs.Stops.{IsIn, IsGiven}
 use Rattle.qcow2_laws.specs.Mappings.{gift_shown}
 use Rattle.qcow2_laws.specs.Guests.{names}
 use Rattle.qcow2_laws.specs.Steps.{guest_at, EntryChanges}
-use Rattle.qcow2_laws.specs.Leads.{Stand, IsSound, Leads}
+use Rattle.qcow2_laws.specs.SafeSteps.{DriverState, StateInvariant, SafeStep}
 use Rattle.qcow2_laws.specs.Unseen.{used_by_guests, with_cluster}
 use Rattle.qcow2_laws.specs.GuestLaws.{MapsEntry, MapsInTurn, IsZeros, ClustersInTurnAreARange}
 use Rattle.qcow2_laws.proofs.Guests.{over_guests-change}
 use Rattle.qcow2_laws.proofs.Blocks.{guest_within}
-use Rattle.qcow2_laws.proofs.Leads.{leads_none, leads_then, leads_less}
+use Rattle.qcow2_laws.proofs.SafeSteps.{leads_none, leads_then, leads_less}
 use Rattle.qcow2_laws.proofs.ForUsers.{laid_inside, laid_outside}
 use Rattle.qcow2_laws.proofs.MappedAnew.{Maps, pending_after, entry_unseen, entry_zeroed, entry_uncovered}
 
 -- what they do together: the range shows these values over each backing disk
-pub record MapsRange (first n : ℕ) (old new : Stand) (values : Bytes → ℕ → Value) : Type 0 where
-  pub leads : Leads old new (λ backing. gift_shown (disk new.known backing) (first * cluster_size old.header) ((first + n) * cluster_size old.header) ∷ []) []
+pub record MapsRange (first n : ℕ) (old new : DriverState) (values : Bytes → ℕ → Value) : Type 0 where
+  pub leads : SafeStep old new (λ backing. gift_shown (disk new.known backing) (first * cluster_size old.header) ((first + n) * cluster_size old.header) ∷ []) []
   pub header : new.header ≡ old.header
   pub covers : (g : ℕ) → (g < first) ⊎ (first + n ≤ g) → cover old.header old.known g ≡ cover old.header new.known g
   pub used : (c : ℕ) → 0 < used_by_guests new c → 0 < used_by_guests old c
@@ -84,7 +84,7 @@ module _ (size first n : ℕ) (some : 0 < size) (values : ℕ → Value) (d : Di
       ]
 
 -- ---- none, and one more
-pub maps_none : (s : Stand) (first : ℕ) (values : Bytes → ℕ → Value) → IsSound s → MapsRange first 0 s s values
+pub maps_none : (s : DriverState) (first : ℕ) (values : Bytes → ℕ → Value) → StateInvariant s → MapsRange first 0 s s values
 maps_none s first values sound = record {
   leads = leads_less s s (λ _. []) _ [] (λ backing o v given. absurd given) (leads_none s sound);
   header = refl;
@@ -105,14 +105,14 @@ maps_none s first values sound = record {
         → disk s.known backing ≡ with_values (disk s.known backing) (first * cluster_size s.header) ((first + 0) * cluster_size s.header - first * cluster_size s.header) (λ i. values backing (first * cluster_size s.header + i))
     same_values backing value = λ j. record (disk s.known backing) { value = value j }
 
-module _ (first n : ℕ) (a b c : Stand) (values : Bytes → ℕ → Value) (one : MapsRange first n a b values) (two : Maps (first + n) b c values)
+module _ (first n : ℕ) (a b c : DriverState) (values : Bytes → ℕ → Value) (one : MapsRange first n a b values) (two : Maps (first + n) b c values)
     (less : (k : ℕ) → 0 < used_by_guests c k → 0 < used_by_guests b k) where
   then_shows : (backing : Bytes) → disk c.known backing ≡ with_cluster (cluster_size a.header) (disk b.known backing) (first + n) (values backing)
   then_shows backing = subst (λ h. disk c.known backing ≡ with_cluster (cluster_size h) (disk b.known backing) (first + n) (values backing)) one.header (two.shows backing)
 
-  then_leads : Leads b c (λ backing. gift_shown (disk c.known backing) ((first + n) * cluster_size a.header) ((first + n) * cluster_size a.header + cluster_size a.header) ∷ []) []
+  then_leads : SafeStep b c (λ backing. gift_shown (disk c.known backing) ((first + n) * cluster_size a.header) ((first + n) * cluster_size a.header + cluster_size a.header) ∷ []) []
   then_leads =
-      subst (λ h. Leads b c (λ backing. gift_shown (disk c.known backing) ((first + n) * cluster_size h) ((first + n) * cluster_size h + cluster_size h) ∷ []) []) one.header two.leads
+      subst (λ h. SafeStep b c (λ backing. gift_shown (disk c.known backing) ((first + n) * cluster_size h) ((first + n) * cluster_size h + cluster_size h) ∷ []) []) one.header two.leads
 
   before : (backing : Bytes) (o : ℕ) → o < (first + n) * cluster_size a.header → (disk c.known backing).value o ≡ (disk b.known backing).value o
   before backing o lt =
@@ -154,30 +154,30 @@ module _ (first n : ℕ) (a b c : Stand) (values : Bytes → ℕ → Value) (one
 
 -- ---- entries that change in turn
 -- guests use no cluster that they didn't use, or that wasn't held for them
-entry_used : (s : Stand) (known' : Bytes) (i j : ℕ) (c : ℕ) → IsSound s → EntryChanges s known' i j
+entry_used : (s : DriverState) (known' : Bytes) (i j : ℕ) (c : ℕ) → StateInvariant s → EntryChanges s known' i j
     → used_by_guests (record s { pending = pending_after s known' (guest_at s.header i j); known = known' }) c ≤ used_by_guests s c
 entry_used s known' i j c sound changes =
     let others = (entry_unseen s known' i j sound changes s.pending).covers in
-    let in_guests = guest_within s.header s.direction s.pending s.base s.known known' sound i j changes.real changes.within changes.outside changes.entries in
+    let in_guests = guest_within s.header s.direction s.pending s.on_storage s.known known' sound i j changes.real changes.within changes.outside changes.entries in
     let sum = over_guests-change s.header (names s.header known' c) (names s.header s.known c) (guest_at s.header i j) in_guests (λ g ne. ap (named_by_cover s.header c) (sym (others g ne))) in
     let held = changes.held c in
     omega (arith, sum, held)
 
 module _ (kind : L2Mapping → Type 0) (values : Bytes → ℕ → Value) (first : ℕ)
-    (are : (s : Stand) (known' : Bytes) (i j : ℕ) → IsSound s → EntryChanges s known' i j → kind (cover s.header known' (guest_at s.header i j))
+    (are : (s : DriverState) (known' : Bytes) (i j : ℕ) → StateInvariant s → EntryChanges s known' i j → kind (cover s.header known' (guest_at s.header i j))
     → Maps (guest_at s.header i j) s (record s { pending = pending_after s known' (guest_at s.header i j); known = known' }) values) where
-  entry_then : (n : ℕ) (a b c : Stand) → MapsRange first n a b values → MapsEntry kind (first + n) b c → MapsRange first (suc n) a c values
+  entry_then : (n : ℕ) (a b c : DriverState) → MapsRange first n a b values → MapsEntry kind (first + n) b c → MapsRange first (suc n) a c values
   entry_then n a b c one entry =
       subst (λ c. MapsRange first (suc n) a c values) (sym entry.is)
       (maps_next first n a b _ values one (subst (λ g. Maps g b (record b { pending = pending_after b entry.known (guest_at b.header entry.row entry.column); known = entry.known }) values) entry.here
       (are b entry.known entry.row entry.column one.leads.sound entry.changes entry.maps))
       (λ k some. let le = entry_used b entry.known entry.row entry.column k one.leads.sound entry.changes in omega arith))
 
-  pub maps_in_turn : (n : ℕ) (s new : Stand) → IsSound s → MapsInTurn kind first n s new → MapsRange first n s new values
-  maps_in_turn zero s new sound same = subst (λ (b : Stand). MapsRange first 0 s b values) (sym same) (maps_none s first values sound)
+  pub maps_in_turn : (n : ℕ) (s new : DriverState) → StateInvariant s → MapsInTurn kind first n s new → MapsRange first n s new values
+  maps_in_turn zero s new sound same = subst (λ (b : DriverState). MapsRange first 0 s b values) (sym same) (maps_none s first values sound)
   maps_in_turn (suc n) s new sound turn = entry_then n s turn.0 new (maps_in_turn n s turn.0 sound turn.1) turn.2
 
-zeros_map : (s : Stand) (known' : Bytes) (i j : ℕ) → IsSound s → EntryChanges s known' i j → (v : L2Mapping) → cover s.header known' (guest_at s.header i j) ≡ v → IsZeros v
+zeros_map : (s : DriverState) (known' : Bytes) (i j : ℕ) → StateInvariant s → EntryChanges s known' i j → (v : L2Mapping) → cover s.header known' (guest_at s.header i j) ≡ v → IsZeros v
     → Maps (guest_at s.header i j) s (record s { pending = pending_after s known' (guest_at s.header i j); known = known' }) (λ backing o. known_byte 0)
 zeros_map s known' i j sound changes (Zero kept) is zeros = entry_zeroed s known' i j sound changes kept is
 zeros_map s known' i j sound changes (Data host copied) is zeros = absurd zeros

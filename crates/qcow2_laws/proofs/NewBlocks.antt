@@ -9,10 +9,10 @@ use Rattle.qcow2_metadata.specs.Entries.{l1_entry, reftable_entry, count, block_
 use Rattle.qcow2_metadata.specs.Named.{table_in, named_for_tables, named_by_reftable}
 use Rattle.qcow2_metadata.specs.Consistent.{IsAligned}
 use Rattle.qcow2_metadata.proofs.BigEndian.{number_at-same}
-use Rattle.qcow2_laws.specs.Stops.{Mark, IsKeptAt}
+use Rattle.qcow2_laws.specs.Stops.{Checkpoint, StopOkEverywhere}
 use Rattle.qcow2_laws.specs.Clusters.{Direction, RbDependsOnL2}
 use Rattle.qcow2_laws.specs.Guests.{named_in_either}
-use Rattle.qcow2_laws.specs.Guard.{Pending, IsGuarded, IsTop, SameTop, SameCovers, SameIn}
+use Rattle.qcow2_laws.specs.CrashInvariant.{Pending, CrashInvariant, IsTop, SameTop, SameCovers, SameIn}
 use Rattle.qcow2_laws.specs.Changes.{named_now}
 use Rattle.qcow2_laws.specs.Tops.{places_of, IsSameBut, IsSameOutside, WritesReftableEntry, IsNewBlock}
 use Rattle.qcow2_laws.proofs.Sums.{sum_below-change}
@@ -31,55 +31,55 @@ other_reftable h b b' k0 k but other =
     (elim (cases_lt k k0) [ inl below ↦ inl (omega arith) | inr above ↦ inr (omega arith) ])))
 
 -- counts are those of the clusters in the new refblock's range; of the new refblock's own cluster it is 1 where it isn't counted elsewhere
-module _ (h : HeaderFields) (d : Direction) (p p' : Pending) (base known base' known' : Bytes) (guarded : IsGuarded h d p base known) (k0 entry : ℕ) (s : ℕ → ℕ)
+module _ (h : HeaderFields) (d : Direction) (p p' : Pending) (on_storage known on_storage' known' : Bytes) (guarded : CrashInvariant h d p on_storage known) (k0 entry : ℕ) (s : ℕ → ℕ)
     (pending : (c : ℕ) → (p'.held c ≡ p.held c) × (p'.fresh c ≡ p.fresh c - (table_in h c (block_offset entry) - s c)) × (p'.spent c ≡ p.spent c + 0) × (p'.dropped c ≡ p.dropped c) × (p'.surplus c ≡ p.surplus c))
-    (writes : WritesReftableEntry h base known base' known' k0 entry) (new : IsNewBlock h base known k0 entry s) (no_table : named_for_tables h base (block_offset entry / cluster_size h) ≡ 0)
+    (writes : WritesReftableEntry h on_storage known on_storage' known' k0 entry) (new : IsNewBlock h on_storage known k0 entry s) (no_table : named_for_tables h on_storage (block_offset entry / cluster_size h) ≡ 0)
     (in_range : (c : ℕ) → c / counts_per_block h ≢ k0 → s c ≡ 0) (few : (c : ℕ) → s c ≤ table_in h c (block_offset entry))
-    (fresh : (c : ℕ) → 0 < table_in h c (block_offset entry) - s c → (0 < p.fresh c) × (count h base c ≡ count h known c) × (d ≡ RbDependsOnL2 → SameCovers h base known)) where
+    (fresh : (c : ℕ) → 0 < table_in h c (block_offset entry) - s c → (0 < p.fresh c) × (count h on_storage c ≡ count h known c) × (d ≡ RbDependsOnL2 → SameCovers h on_storage known)) where
   sizes : Sizes h
-  sizes = Sizes-from h base guarded.top.header_reads
+  sizes = Sizes-from h on_storage guarded.top.header_reads
 
   known_top : IsTop h known
-  known_top = IsTop-top h base known guarded.same_top guarded.top
+  known_top = IsTop-top h on_storage known guarded.same_top guarded.top
 
   one_part : 1 ≤ in_reftable h ((h.reftable_offset + 8 * k0) / cluster_size h)
   one_part = let one = reftable_has h k0 sizes guarded.top.reftable_aligned writes.within in omega arith
 
-  fixed : 0 < named_for_tables h base ((h.reftable_offset + 8 * k0) / cluster_size h)
-  fixed = let parts = shares h base ((h.reftable_offset + 8 * k0) / cluster_size h) in let one = one_part in omega arith
+  fixed : 0 < named_for_tables h on_storage ((h.reftable_offset + 8 * k0) / cluster_size h)
+  fixed = let parts = shares h on_storage ((h.reftable_offset + 8 * k0) / cluster_size h) in let one = one_part in omega arith
 
-  once : named_for_tables h base ((h.reftable_offset + 8 * k0) / cluster_size h) ≤ 1
-  once = let t = table_once h d p base known guarded ((h.reftable_offset + 8 * k0) / cluster_size h) fixed in omega arith
+  once : named_for_tables h on_storage ((h.reftable_offset + 8 * k0) / cluster_size h) ≤ 1
+  once = let t = table_once h d p on_storage known guarded ((h.reftable_offset + 8 * k0) / cluster_size h) fixed in omega arith
 
   known_once : named_for_tables h known ((h.reftable_offset + 8 * k0) / cluster_size h) ≤ 1
-  known_once = let e = for_tables-top h base known ((h.reftable_offset + 8 * k0) / cluster_size h) guarded.same_top in let o = once in omega arith
+  known_once = let e = for_tables-top h on_storage known ((h.reftable_offset + 8 * k0) / cluster_size h) guarded.same_top in let o = once in omega arith
 
-  outside : IsSameOutside (cluster_size h) ((h.reftable_offset + 8 * k0) / cluster_size h) base base'
-  outside = outside_eight (cluster_size h) h.reftable_offset k0 base base' sizes.whole sizes.some guarded.top.reftable_aligned writes.others
+  outside : IsSameOutside (cluster_size h) ((h.reftable_offset + 8 * k0) / cluster_size h) on_storage on_storage'
+  outside = outside_eight (cluster_size h) h.reftable_offset k0 on_storage on_storage' sizes.whole sizes.some guarded.top.reftable_aligned writes.others
 
   known_outside : IsSameOutside (cluster_size h) ((h.reftable_offset + 8 * k0) / cluster_size h) known known'
   known_outside = outside_eight (cluster_size h) h.reftable_offset k0 known known' sizes.whole sizes.some guarded.top.reftable_aligned writes.known_others
 
-  same : (c : ℕ) → c ≢ (h.reftable_offset + 8 * k0) / cluster_size h → SameIn (cluster_size h) c base base'
+  same : (c : ℕ) → c ≢ (h.reftable_offset + 8 * k0) / cluster_size h → SameIn (cluster_size h) c on_storage on_storage'
   same c other o in_c = outside o (λ e. other (sym in_c ∙ e))
 
   known_same : (c : ℕ) → c ≢ (h.reftable_offset + 8 * k0) / cluster_size h → SameIn (cluster_size h) c known known'
   known_same c other o in_c = known_outside o (λ e. other (sym in_c ∙ e))
 
-  first : SameFrom 0 (cluster_size h) base base'
-  first = reftable_first h base base' guarded.top ((h.reftable_offset + 8 * k0) / cluster_size h) one_part once same
+  first : SameFrom 0 (cluster_size h) on_storage on_storage'
+  first = reftable_first h on_storage on_storage' guarded.top ((h.reftable_offset + 8 * k0) / cluster_size h) one_part once same
 
-  l1 : (i : ℕ) → l1_entry h base i ≡ l1_entry h base' i
-  l1 = reftable_l1 h base base' guarded.top ((h.reftable_offset + 8 * k0) / cluster_size h) one_part once same
+  l1 : (i : ℕ) → l1_entry h on_storage i ≡ l1_entry h on_storage' i
+  l1 = reftable_l1 h on_storage on_storage' guarded.top ((h.reftable_offset + 8 * k0) / cluster_size h) one_part once same
 
-  covers : SameCovers h base base'
-  covers = reftable_covers h base base' guarded.top ((h.reftable_offset + 8 * k0) / cluster_size h) one_part once same
+  covers : SameCovers h on_storage on_storage'
+  covers = reftable_covers h on_storage on_storage' guarded.top ((h.reftable_offset + 8 * k0) / cluster_size h) one_part once same
 
   known_covers : SameCovers h known known'
   known_covers = reftable_covers h known known' known_top ((h.reftable_offset + 8 * k0) / cluster_size h) one_part known_once known_same
 
-  others : (k : ℕ) → k ≢ k0 → reftable_entry h base k ≡ reftable_entry h base' k
-  others k = other_reftable h base base' k0 k writes.others
+  others : (k : ℕ) → k ≢ k0 → reftable_entry h on_storage k ≡ reftable_entry h on_storage' k
+  others k = other_reftable h on_storage on_storage' k0 k writes.others
 
   known_others : (k : ℕ) → k ≢ k0 → reftable_entry h known k ≡ reftable_entry h known' k
   known_others k = other_reftable h known known' k0 k writes.known_others
@@ -87,7 +87,7 @@ module _ (h : HeaderFields) (d : Direction) (p p' : Pending) (base known base' k
   -- the new refblock stands elsewhere
   apart : block_offset entry / cluster_size h ≢ (h.reftable_offset + 8 * k0) / cluster_size h
   apart e =
-      let here : named_for_tables h base ((h.reftable_offset + 8 * k0) / cluster_size h) ≡ 0 = ap (named_for_tables h base) (sym e) ∙ no_table in
+      let here : named_for_tables h on_storage ((h.reftable_offset + 8 * k0) / cluster_size h) ≡ 0 = ap (named_for_tables h on_storage) (sym e) ∙ no_table in
       let some = fixed in
       absurd (omega arith)
 
@@ -109,11 +109,11 @@ module _ (h : HeaderFields) (d : Direction) (p p' : Pending) (base known base' k
   known_none : block_offset (reftable_entry h known k0) ≡ 0
   known_none = ap block_offset (sym (guarded.same_top.reftable k0)) ∙ new.none
 
-  counts : (c : ℕ) → count h base' c ≡ count h base c + s c
+  counts : (c : ℕ) → count h on_storage' c ≡ count h on_storage c + s c
   counts c = elim (cases_eq (c / counts_per_block h) k0) [
-    | inl here ↦ let n = counts_new base base' same new.none writes.is new.says c here in omega (arith, n.0, n.1)
+    | inl here ↦ let n = counts_new on_storage on_storage' same new.none writes.is new.says c here in omega (arith, n.0, n.1)
     | inr other ↦
-        let e = reftable_counts h base base' guarded.top ((h.reftable_offset + 8 * k0) / cluster_size h) one_part once same c (others (c / counts_per_block h) other) in
+        let e = reftable_counts h on_storage on_storage' guarded.top ((h.reftable_offset + 8 * k0) / cluster_size h) one_part once same c (others (c / counts_per_block h) other) in
         let zero = in_range c other in
         omega arith
   ]
@@ -127,25 +127,25 @@ module _ (h : HeaderFields) (d : Direction) (p p' : Pending) (base known base' k
         omega arith
   ]
 
-  empty : (c : ℕ) → 0 < s c → (count h known c ≡ 0) × (count h base c ≡ 0)
+  empty : (c : ℕ) → 0 < s c → (count h known c ≡ 0) × (count h on_storage c ≡ 0)
   empty c some = elim (cases_eq (c / counts_per_block h) k0) [
     | inl here ↦ (
       (counts_new known known' known_same known_none writes.known_is new.known_says c here).0,
-      (counts_new base base' same new.none writes.is new.says c here).0,
+      (counts_new on_storage on_storage' same new.none writes.is new.says c here).0,
     )
     | inr other ↦ absurd (let zero = in_range c other in omega arith)
   ]
 
-  each_block : (Q : ℕ → Type 0) → Q entry → (k : ℕ) → Q (reftable_entry h base k) → Q (reftable_entry h base' k)
+  each_block : (Q : ℕ → Type 0) → Q entry → (k : ℕ) → Q (reftable_entry h on_storage k) → Q (reftable_entry h on_storage' k)
   each_block Q there k before = elim (cases_eq k k0) [
-    | inl e ↦ subst (λ n. Q (reftable_entry h base' n)) (sym e) (subst Q (sym writes.is) there)
+    | inl e ↦ subst (λ n. Q (reftable_entry h on_storage' n)) (sym e) (subst Q (sym writes.is) there)
     | inr ne ↦ subst Q (others k ne) before
   ]
 
-  top_now : IsTop h base'
+  top_now : IsTop h on_storage'
   top_now = record {
-    header_is = sym (header-first h base base' sizes first) ∙ guarded.top.header_is;
-    header_reads = HeaderReads-same h base base' first guarded.top.header_reads;
+    header_is = sym (header-first h on_storage on_storage' sizes first) ∙ guarded.top.header_is;
+    header_reads = HeaderReads-same h on_storage on_storage' first guarded.top.header_reads;
     l1_reads = λ i lt. subst L1EntryReads (l1 i) (guarded.top.l1_reads i lt);
     reftable_reads = λ k lt. each_block ReftableEntryReads new.reads k (guarded.top.reftable_reads k lt);
     no_snapshots = guarded.top.no_snapshots;
@@ -156,99 +156,99 @@ module _ (h : HeaderFields) (d : Direction) (p p' : Pending) (base known base' k
     refblocks_aligned = λ k lt. each_block (λ e. IsAligned h (block_offset e)) new.aligned k (guarded.top.refblocks_aligned k lt);
   }
 
-  same_top_now : SameTop h base' known'
+  same_top_now : SameTop h on_storage' known'
   same_top_now = record {
     first_cluster = λ i lt. sym (first i lt) ∙ guarded.same_top.first_cluster i lt ∙ reftable_first h known known' known_top ((h.reftable_offset + 8 * k0) / cluster_size h) one_part known_once known_same i lt;
     l1 = λ i. sym (l1 i) ∙ guarded.same_top.l1 i ∙ reftable_l1 h known known' known_top ((h.reftable_offset + 8 * k0) / cluster_size h) one_part known_once known_same i;
     reftable = λ k. elim (cases_eq k k0) [
-      | inl e ↦ ap (reftable_entry h base') e ∙ writes.is ∙ sym writes.known_is ∙ ap (reftable_entry h known') (sym e)
+      | inl e ↦ ap (reftable_entry h on_storage') e ∙ writes.is ∙ sym writes.known_is ∙ ap (reftable_entry h known') (sym e)
       | inr ne ↦ sym (others k ne) ∙ guarded.same_top.reftable k ∙ known_others k ne
     ];
   }
 
-  blocks_changed : (c : ℕ) → named_by_reftable h base' c ≡ named_by_reftable h base c + table_in h c (block_offset entry)
+  blocks_changed : (c : ℕ) → named_by_reftable h on_storage' c ≡ named_by_reftable h on_storage c + table_in h c (block_offset entry)
   unfolding named_by_reftable
   blocks_changed c =
-      let change = sum_below-change (reftable_entries h) (λ k. table_in h c (block_offset (reftable_entry h base' k))) (λ k. table_in h c (block_offset (reftable_entry h base k))) k0 writes.within
+      let change = sum_below-change (reftable_entries h) (λ k. table_in h c (block_offset (reftable_entry h on_storage' k))) (λ k. table_in h c (block_offset (reftable_entry h on_storage k))) k0 writes.within
       (λ k lt ne. ap (λ e. table_in h c (block_offset e)) (sym (others k ne))) in
-      let here : table_in h c (block_offset (reftable_entry h base' k0)) ≡ table_in h c (block_offset entry) = ap (λ e. table_in h c (block_offset e)) writes.is in
-      let before : table_in h c (block_offset (reftable_entry h base k0)) ≡ 0 = ap (table_in h c) new.none in
+      let here : table_in h c (block_offset (reftable_entry h on_storage' k0)) ≡ table_in h c (block_offset entry) = ap (λ e. table_in h c (block_offset e)) writes.is in
+      let before : table_in h c (block_offset (reftable_entry h on_storage k0)) ≡ 0 = ap (table_in h c) new.none in
       omega arith
 
-  fixed_changed : (c : ℕ) → named_for_tables h base' c + 0 ≡ named_for_tables h base c + (table_in h c (block_offset entry) - s c) + s c
+  fixed_changed : (c : ℕ) → named_for_tables h on_storage' c + 0 ≡ named_for_tables h on_storage c + (table_in h c (block_offset entry) - s c) + s c
   fixed_changed c =
-      let before = shares h base c in
-      let after = shares h base' c in
+      let before = shares h on_storage c in
+      let after = shares h on_storage' c in
       let blocks = blocks_changed c in
-      let tables = l1_names-same h base base' c l1 in
+      let tables = l1_names-same h on_storage on_storage' c l1 in
       let le = few c in
       omega arith
 
-  elsewhere : (o : ℕ) → 0 < named_in_either h base known (o / cluster_size h) + p.held (o / cluster_size h) → o / cluster_size h ≢ (h.reftable_offset + 8 * k0) / cluster_size h
+  elsewhere : (o : ℕ) → 0 < named_in_either h on_storage known (o / cluster_size h) + p.held (o / cluster_size h) → o / cluster_size h ≢ (h.reftable_offset + 8 * k0) / cluster_size h
   elsewhere o some e =
-      let none = table_apart h d p base known guarded ((h.reftable_offset + 8 * k0) / cluster_size h) fixed in
-      let here = subst (λ n. 0 < named_in_either h base known n + p.held n) e some in
+      let none = table_apart h d p on_storage known guarded ((h.reftable_offset + 8 * k0) / cluster_size h) fixed in
+      let here = subst (λ n. 0 < named_in_either h on_storage known n + p.held n) e some in
       absurd (omega arith)
 
-  unlaid : (o : ℕ) → 0 < named_in_either h base known (o / cluster_size h) + p'.held (o / cluster_size h) → base' o ≡ known' o
+  unlaid : (o : ℕ) → 0 < named_in_either h on_storage known (o / cluster_size h) + p'.held (o / cluster_size h) → on_storage' o ≡ known' o
   unlaid o any =
-      let some : 0 < named_in_either h base known (o / cluster_size h) + p.held (o / cluster_size h) = let e = (pending (o / cluster_size h)).0 in omega arith in
+      let some : 0 < named_in_either h on_storage known (o / cluster_size h) + p.held (o / cluster_size h) = let e = (pending (o / cluster_size h)).0 in omega arith in
       sym (outside o (elsewhere o some)) ∙ guarded.unlaid o some ∙ known_outside o (elsewhere o some)
 
-  pub reftable_named : IsGuarded h d p' base' known'
+  pub reftable_named : CrashInvariant h d p' on_storage' known'
   reftable_named =
-      tables_renamed h (places_of h) d p p' base known base' known' guarded
+      tables_renamed h (places_of h) d p p' on_storage known on_storage' known' guarded
       top_now same_top_now (omega arith) covers known_covers unlaid
       (λ c. table_in h c (block_offset entry) - s c) s (λ c. 0) pending
-      (λ c. let one = table_in-le h c (block_offset entry) in let le = few c in omega arith) fixed_changed (λ c. let e = l1_marks-same h base base' c l1 in omega arith)
+      (λ c. let one = table_in-le h c (block_offset entry) in let le = few c in omega arith) fixed_changed (λ c. let e = l1_marks-same h on_storage on_storage' c l1 in omega arith)
       counts known_counts fresh empty
 
-  pub reftable_named_kept : (backing : Bytes) (m : Mark) → IsKeptAt backing m base → IsKeptAt backing m base'
+  pub reftable_named_kept : (backing : Bytes) (m : Checkpoint) → StopOkEverywhere backing m on_storage → StopOkEverywhere backing m on_storage'
   reftable_named_kept backing m kept =
-      moved_kept h (places_of h) d p p' base known base' known' guarded
+      moved_kept h (places_of h) d p p' on_storage known on_storage' known' guarded
       top_now same_top_now (omega arith) covers known_covers unlaid reftable_named
       (λ o some. outside o (elsewhere o (omega arith))) (λ o some. known_outside o (elsewhere o (omega arith))) backing m [] (inl refl) kept
 
-  pub reftable_named_known_kept : (backing : Bytes) (m : Mark) → IsKeptAt backing m known → IsKeptAt backing m known'
+  pub reftable_named_known_kept : (backing : Bytes) (m : Checkpoint) → StopOkEverywhere backing m known → StopOkEverywhere backing m known'
   reftable_named_known_kept backing m kept =
-      moved_known_kept h (places_of h) d p p' base known base' known' guarded
+      moved_known_kept h (places_of h) d p p' on_storage known on_storage' known' guarded
       top_now same_top_now (omega arith) covers known_covers unlaid reftable_named
       (λ o some. outside o (elsewhere o (omega arith))) (λ o some. known_outside o (elsewhere o (omega arith))) backing m [] (inl refl) kept
 
 -- ---- a refblock of zeros in a fresh cluster
-module _ (h : HeaderFields) (d : Direction) (p : Pending) (base known base' known' : Bytes) (guarded : IsGuarded h d p base known) (k0 entry : ℕ)
-    (writes : WritesReftableEntry h base known base' known' k0 entry) (new : IsNewBlock h base known k0 entry (λ c. 0))
-    (fresh : 0 < p.fresh (block_offset entry / cluster_size h)) (counted : count h base (block_offset entry / cluster_size h) ≡ count h known (block_offset entry / cluster_size h))
-    (written : d ≡ RbDependsOnL2 → SameCovers h base known) where
-  no_table_there : named_for_tables h base (block_offset entry / cluster_size h) ≡ 0
-  no_table_there = (fresh_is_unnamed h d p base known guarded (block_offset entry / cluster_size h) fresh written).no_table
+module _ (h : HeaderFields) (d : Direction) (p : Pending) (on_storage known on_storage' known' : Bytes) (guarded : CrashInvariant h d p on_storage known) (k0 entry : ℕ)
+    (writes : WritesReftableEntry h on_storage known on_storage' known' k0 entry) (new : IsNewBlock h on_storage known k0 entry (λ c. 0))
+    (fresh : 0 < p.fresh (block_offset entry / cluster_size h)) (counted : count h on_storage (block_offset entry / cluster_size h) ≡ count h known (block_offset entry / cluster_size h))
+    (written : d ≡ RbDependsOnL2 → SameCovers h on_storage known) where
+  no_table_there : named_for_tables h on_storage (block_offset entry / cluster_size h) ≡ 0
+  no_table_there = (fresh_is_unnamed h d p on_storage known guarded (block_offset entry / cluster_size h) fresh written).no_table
 
-  fresh_there : (c : ℕ) → 0 < table_in h c (block_offset entry) - 0 → (0 < p.fresh c) × (count h base c ≡ count h known c) × (d ≡ RbDependsOnL2 → SameCovers h base known)
+  fresh_there : (c : ℕ) → 0 < table_in h c (block_offset entry) - 0 → (0 < p.fresh c) × (count h on_storage c ≡ count h known c) × (d ≡ RbDependsOnL2 → SameCovers h on_storage known)
   fresh_there c some =
       let here = table_in-at h c (block_offset entry) (omega arith) in
-      (subst (λ n. 0 < p.fresh n) here fresh, subst (λ n. count h base n ≡ count h known n) here counted, written)
+      (subst (λ n. 0 < p.fresh n) here fresh, subst (λ n. count h on_storage n ≡ count h known n) here counted, written)
 
   pending_named : (c : ℕ) → (p.held c ≡ p.held c) × (p.fresh c - table_in h c (block_offset entry) ≡ p.fresh c - (table_in h c (block_offset entry) - 0)) × (p.spent c ≡ p.spent c + 0) × (p.dropped c ≡ p.dropped c) × (p.surplus c ≡ p.surplus c)
   pending_named c = (refl, omega arith, omega arith, refl, refl)
 
-  pub block_named : IsGuarded h d (named_now p (λ c. table_in h c (block_offset entry))) base' known'
-  block_named = reftable_named h d p (named_now p (λ c. table_in h c (block_offset entry))) base known base' known' guarded k0 entry (λ c. 0) pending_named writes new no_table_there (λ c _. refl) (λ c. omega arith) fresh_there
+  pub block_named : CrashInvariant h d (named_now p (λ c. table_in h c (block_offset entry))) on_storage' known'
+  block_named = reftable_named h d p (named_now p (λ c. table_in h c (block_offset entry))) on_storage known on_storage' known' guarded k0 entry (λ c. 0) pending_named writes new no_table_there (λ c _. refl) (λ c. omega arith) fresh_there
 
-  pub block_named_kept : (backing : Bytes) (m : Mark) → IsKeptAt backing m base → IsKeptAt backing m base'
-  block_named_kept = reftable_named_kept h d p (named_now p (λ c. table_in h c (block_offset entry))) base known base' known' guarded k0 entry (λ c. 0) pending_named writes new no_table_there (λ c _. refl) (λ c. omega arith) fresh_there
+  pub block_named_kept : (backing : Bytes) (m : Checkpoint) → StopOkEverywhere backing m on_storage → StopOkEverywhere backing m on_storage'
+  block_named_kept = reftable_named_kept h d p (named_now p (λ c. table_in h c (block_offset entry))) on_storage known on_storage' known' guarded k0 entry (λ c. 0) pending_named writes new no_table_there (λ c _. refl) (λ c. omega arith) fresh_there
 
-  pub block_named_known_kept : (backing : Bytes) (m : Mark) → IsKeptAt backing m known → IsKeptAt backing m known'
-  block_named_known_kept = reftable_named_known_kept h d p (named_now p (λ c. table_in h c (block_offset entry))) base known base' known' guarded k0 entry (λ c. 0) pending_named writes new no_table_there (λ c _. refl) (λ c. omega arith) fresh_there
+  pub block_named_known_kept : (backing : Bytes) (m : Checkpoint) → StopOkEverywhere backing m known → StopOkEverywhere backing m known'
+  block_named_known_kept = reftable_named_known_kept h d p (named_now p (λ c. table_in h c (block_offset entry))) on_storage known on_storage' known' guarded k0 entry (λ c. 0) pending_named writes new no_table_there (λ c _. refl) (λ c. omega arith) fresh_there
 
 -- ---- a refblock that counts itself, and nothing else
-module _ (h : HeaderFields) (d : Direction) (p : Pending) (base known base' known' : Bytes) (guarded : IsGuarded h d p base known) (k0 entry : ℕ)
-    (writes : WritesReftableEntry h base known base' known' k0 entry) (new : IsNewBlock h base known k0 entry (λ c. table_in h c (block_offset entry)))
+module _ (h : HeaderFields) (d : Direction) (p : Pending) (on_storage known on_storage' known' : Bytes) (guarded : CrashInvariant h d p on_storage known) (k0 entry : ℕ)
+    (writes : WritesReftableEntry h on_storage known on_storage' known' k0 entry) (new : IsNewBlock h on_storage known k0 entry (λ c. table_in h c (block_offset entry)))
     (range : block_offset entry / cluster_size h / counts_per_block h ≡ k0) where
-  itself_unnamed : named_for_tables h base (block_offset entry / cluster_size h) ≡ 0
+  itself_unnamed : named_for_tables h on_storage (block_offset entry / cluster_size h) ≡ 0
   itself_unnamed =
-      (unused_is_unnamed h d p base known guarded (block_offset entry / cluster_size h)
+      (unused_is_unnamed h d p on_storage known guarded (block_offset entry / cluster_size h)
       (count_none h known (block_offset entry / cluster_size h) (ap (λ k. block_offset (reftable_entry h known k)) range ∙ ap block_offset (sym (guarded.same_top.reftable k0)) ∙ new.none))
-      (count_none h base (block_offset entry / cluster_size h) (ap (λ k. block_offset (reftable_entry h base k)) range ∙ new.none))).no_table
+      (count_none h on_storage (block_offset entry / cluster_size h) (ap (λ k. block_offset (reftable_entry h on_storage k)) range ∙ new.none))).no_table
 
   only_itself : (c : ℕ) → c / counts_per_block h ≢ k0 → table_in h c (block_offset entry) ≡ 0
   only_itself c other = elim (cases_lt 0 (table_in h c (block_offset entry))) [
@@ -256,17 +256,17 @@ module _ (h : HeaderFields) (d : Direction) (p : Pending) (base known base' know
     | inr none ↦ omega arith
   ]
 
-  nothing_fresh : (c : ℕ) → 0 < table_in h c (block_offset entry) - table_in h c (block_offset entry) → (0 < p.fresh c) × (count h base c ≡ count h known c) × (d ≡ RbDependsOnL2 → SameCovers h base known)
+  nothing_fresh : (c : ℕ) → 0 < table_in h c (block_offset entry) - table_in h c (block_offset entry) → (0 < p.fresh c) × (count h on_storage c ≡ count h known c) × (d ≡ RbDependsOnL2 → SameCovers h on_storage known)
   nothing_fresh c some = absurd (omega arith)
 
   pending_still : (c : ℕ) → (p.held c ≡ p.held c) × (p.fresh c ≡ p.fresh c - (table_in h c (block_offset entry) - table_in h c (block_offset entry))) × (p.spent c ≡ p.spent c + 0) × (p.dropped c ≡ p.dropped c) × (p.surplus c ≡ p.surplus c)
   pending_still c = (refl, omega arith, omega arith, refl, refl)
 
-  pub block_counts_itself : IsGuarded h d p base' known'
-  block_counts_itself = reftable_named h d p p base known base' known' guarded k0 entry (λ c. table_in h c (block_offset entry)) pending_still writes new itself_unnamed only_itself (λ c. omega arith) nothing_fresh
+  pub block_counts_itself : CrashInvariant h d p on_storage' known'
+  block_counts_itself = reftable_named h d p p on_storage known on_storage' known' guarded k0 entry (λ c. table_in h c (block_offset entry)) pending_still writes new itself_unnamed only_itself (λ c. omega arith) nothing_fresh
 
-  pub block_counts_itself_kept : (backing : Bytes) (m : Mark) → IsKeptAt backing m base → IsKeptAt backing m base'
-  block_counts_itself_kept = reftable_named_kept h d p p base known base' known' guarded k0 entry (λ c. table_in h c (block_offset entry)) pending_still writes new itself_unnamed only_itself (λ c. omega arith) nothing_fresh
+  pub block_counts_itself_kept : (backing : Bytes) (m : Checkpoint) → StopOkEverywhere backing m on_storage → StopOkEverywhere backing m on_storage'
+  block_counts_itself_kept = reftable_named_kept h d p p on_storage known on_storage' known' guarded k0 entry (λ c. table_in h c (block_offset entry)) pending_still writes new itself_unnamed only_itself (λ c. omega arith) nothing_fresh
 
-  pub block_counts_itself_known_kept : (backing : Bytes) (m : Mark) → IsKeptAt backing m known → IsKeptAt backing m known'
-  block_counts_itself_known_kept = reftable_named_known_kept h d p p base known base' known' guarded k0 entry (λ c. table_in h c (block_offset entry)) pending_still writes new itself_unnamed only_itself (λ c. omega arith) nothing_fresh
+  pub block_counts_itself_known_kept : (backing : Bytes) (m : Checkpoint) → StopOkEverywhere backing m known → StopOkEverywhere backing m known'
+  block_counts_itself_known_kept = reftable_named_known_kept h d p p on_storage known on_storage' known' guarded k0 entry (λ c. table_in h c (block_offset entry)) pending_still writes new itself_unnamed only_itself (λ c. omega arith) nothing_fresh

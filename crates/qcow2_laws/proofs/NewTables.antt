@@ -9,10 +9,10 @@ use Rattle.qcow2_metadata.specs.Cover.{cover, entry_cover}
 use Rattle.qcow2_metadata.specs.Named.{table_in, in_cluster, named_for_tables, named_by_l1_table}
 use Rattle.qcow2_metadata.specs.Consistent.{IsAligned}
 use Rattle.qcow2_metadata.proofs.BigEndian.{number_at-same}
-use Rattle.qcow2_laws.specs.Stops.{Mark, IsKeptAt}
+use Rattle.qcow2_laws.specs.Stops.{Checkpoint, StopOkEverywhere}
 use Rattle.qcow2_laws.specs.Clusters.{Direction}
 use Rattle.qcow2_laws.specs.Guests.{named_in_either, table_at, marked_by_l1_table}
-use Rattle.qcow2_laws.specs.Guard.{Pending, IsGuarded, IsTop, SameTop, SameCovers, SameCounts, SameIn}
+use Rattle.qcow2_laws.specs.CrashInvariant.{Pending, CrashInvariant, IsTop, SameTop, SameCovers, SameCounts, SameIn}
 use Rattle.qcow2_laws.specs.Changes.{renamed}
 use Rattle.qcow2_laws.specs.Tops.{places_of, IsSameBut, IsSameOutside, WritesL1Entry, IsNewTable}
 use Rattle.qcow2_laws.proofs.Sums.{sum_below-change}
@@ -60,13 +60,13 @@ table_in-at h c place some = elim (cases_eq (place / cluster_size h) c) [
       ])
 ]
 
-module _ (h : HeaderFields) (d : Direction) (p : Pending) (base known base' known' : Bytes) (guarded : IsGuarded h d p base known) (i0 entry : ℕ)
-    (writes : WritesL1Entry h base known base' known' i0 entry) (new : IsNewTable h d p base known i0 entry) where
+module _ (h : HeaderFields) (d : Direction) (p : Pending) (on_storage known on_storage' known' : Bytes) (guarded : CrashInvariant h d p on_storage known) (i0 entry : ℕ)
+    (writes : WritesL1Entry h on_storage known on_storage' known' i0 entry) (new : IsNewTable h d p on_storage known i0 entry) where
   sizes : Sizes h
-  sizes = Sizes-from h base guarded.top.header_reads
+  sizes = Sizes-from h on_storage guarded.top.header_reads
 
   known_top : IsTop h known
-  known_top = IsTop-top h base known guarded.same_top guarded.top
+  known_top = IsTop-top h on_storage known guarded.same_top guarded.top
 
   -- the cluster of the L1 table that is written to
   at_l1 : ℕ
@@ -75,22 +75,22 @@ module _ (h : HeaderFields) (d : Direction) (p : Pending) (base known base' know
   part : in_l1 h ((h.l1_offset + 8 * i0) / cluster_size h) ≡ 1
   part = l1_has h i0 sizes guarded.top.l1_aligned writes.within
 
-  fixed : 0 < named_for_tables h base ((h.l1_offset + 8 * i0) / cluster_size h)
-  fixed = let s = shares h base ((h.l1_offset + 8 * i0) / cluster_size h) in let one = part in omega arith
+  fixed : 0 < named_for_tables h on_storage ((h.l1_offset + 8 * i0) / cluster_size h)
+  fixed = let s = shares h on_storage ((h.l1_offset + 8 * i0) / cluster_size h) in let one = part in omega arith
 
-  once : named_for_tables h base ((h.l1_offset + 8 * i0) / cluster_size h) ≤ 1
-  once = let t = table_once h d p base known guarded ((h.l1_offset + 8 * i0) / cluster_size h) fixed in omega arith
+  once : named_for_tables h on_storage ((h.l1_offset + 8 * i0) / cluster_size h) ≤ 1
+  once = let t = table_once h d p on_storage known guarded ((h.l1_offset + 8 * i0) / cluster_size h) fixed in omega arith
 
   known_once : named_for_tables h known ((h.l1_offset + 8 * i0) / cluster_size h) ≤ 1
-  known_once = let e = for_tables-top h base known ((h.l1_offset + 8 * i0) / cluster_size h) guarded.same_top in let o = once in omega arith
+  known_once = let e = for_tables-top h on_storage known ((h.l1_offset + 8 * i0) / cluster_size h) guarded.same_top in let o = once in omega arith
 
-  outside : IsSameOutside (cluster_size h) ((h.l1_offset + 8 * i0) / cluster_size h) base base'
-  outside = outside_eight (cluster_size h) h.l1_offset i0 base base' sizes.whole sizes.some guarded.top.l1_aligned writes.others
+  outside : IsSameOutside (cluster_size h) ((h.l1_offset + 8 * i0) / cluster_size h) on_storage on_storage'
+  outside = outside_eight (cluster_size h) h.l1_offset i0 on_storage on_storage' sizes.whole sizes.some guarded.top.l1_aligned writes.others
 
   known_outside : IsSameOutside (cluster_size h) ((h.l1_offset + 8 * i0) / cluster_size h) known known'
   known_outside = outside_eight (cluster_size h) h.l1_offset i0 known known' sizes.whole sizes.some guarded.top.l1_aligned writes.known_others
 
-  same : (c : ℕ) → c ≢ (h.l1_offset + 8 * i0) / cluster_size h → SameIn (cluster_size h) c base base'
+  same : (c : ℕ) → c ≢ (h.l1_offset + 8 * i0) / cluster_size h → SameIn (cluster_size h) c on_storage on_storage'
   same c other o in_c = outside o (λ e. other (sym in_c ∙ e))
 
   known_same : (c : ℕ) → c ≢ (h.l1_offset + 8 * i0) / cluster_size h → SameIn (cluster_size h) c known known'
@@ -99,20 +99,20 @@ module _ (h : HeaderFields) (d : Direction) (p : Pending) (base known base' know
   one_part : 1 ≤ in_l1 h ((h.l1_offset + 8 * i0) / cluster_size h)
   one_part = let e = part in omega arith
 
-  first : SameFrom 0 (cluster_size h) base base'
-  first = l1_first h base base' guarded.top ((h.l1_offset + 8 * i0) / cluster_size h) one_part once same
+  first : SameFrom 0 (cluster_size h) on_storage on_storage'
+  first = l1_first h on_storage on_storage' guarded.top ((h.l1_offset + 8 * i0) / cluster_size h) one_part once same
 
-  reftable : (k : ℕ) → reftable_entry h base k ≡ reftable_entry h base' k
-  reftable = l1_reftable h base base' guarded.top ((h.l1_offset + 8 * i0) / cluster_size h) one_part once same
+  reftable : (k : ℕ) → reftable_entry h on_storage k ≡ reftable_entry h on_storage' k
+  reftable = l1_reftable h on_storage on_storage' guarded.top ((h.l1_offset + 8 * i0) / cluster_size h) one_part once same
 
-  counts : SameCounts h base base'
-  counts = l1_counts h base base' guarded.top ((h.l1_offset + 8 * i0) / cluster_size h) one_part once same
+  counts : SameCounts h on_storage on_storage'
+  counts = l1_counts h on_storage on_storage' guarded.top ((h.l1_offset + 8 * i0) / cluster_size h) one_part once same
 
   known_counts : SameCounts h known known'
   known_counts = l1_counts h known known' known_top ((h.l1_offset + 8 * i0) / cluster_size h) one_part known_once known_same
 
-  others : (i : ℕ) → i ≢ i0 → l1_entry h base i ≡ l1_entry h base' i
-  others i = other_l1 h base base' i0 i writes.others
+  others : (i : ℕ) → i ≢ i0 → l1_entry h on_storage i ≡ l1_entry h on_storage' i
+  others i = other_l1 h on_storage on_storage' i0 i writes.others
 
   known_others : (i : ℕ) → i ≢ i0 → l1_entry h known i ≡ l1_entry h known' i
   known_others i = other_l1 h known known' i0 i writes.known_others
@@ -120,8 +120,8 @@ module _ (h : HeaderFields) (d : Direction) (p : Pending) (base known base' know
   -- the new table stands elsewhere
   apart : host_offset entry / cluster_size h ≢ (h.l1_offset + 8 * i0) / cluster_size h
   apart e =
-      let none = (fresh_is_unnamed h d p base known guarded (host_offset entry / cluster_size h) new.fresh new.written).no_table in
-      let here : named_for_tables h base ((h.l1_offset + 8 * i0) / cluster_size h) ≡ 0 = ap (named_for_tables h base) (sym e) ∙ none in
+      let none = (fresh_is_unnamed h d p on_storage known guarded (host_offset entry / cluster_size h) new.fresh new.written).no_table in
+      let here : named_for_tables h on_storage ((h.l1_offset + 8 * i0) / cluster_size h) ≡ 0 = ap (named_for_tables h on_storage) (sym e) ∙ none in
       let some = fixed in
       absurd (omega arith)
 
@@ -137,10 +137,10 @@ module _ (h : HeaderFields) (d : Direction) (p : Pending) (base known base' know
       ∙ ap (λ t. entry_cover h (l2_entry b' t (g % entries_per_cluster h))) (sym at)
       ∙ sym (cover_in h b' g (λ none. new.real (sym at ∙ none)))
 
-  covers : SameCovers h base base'
+  covers : SameCovers h on_storage on_storage'
   covers g = elim (cases_eq (g / entries_per_cluster h) i0) [
-    | inl here ↦ new_cover base base' same writes.is new.covers g here
-    | inr other ↦ l1_covers h base base' guarded.top ((h.l1_offset + 8 * i0) / cluster_size h) one_part once same g (others (g / entries_per_cluster h) other)
+    | inl here ↦ new_cover on_storage on_storage' same writes.is new.covers g here
+    | inr other ↦ l1_covers h on_storage on_storage' guarded.top ((h.l1_offset + 8 * i0) / cluster_size h) one_part once same g (others (g / entries_per_cluster h) other)
   ]
 
   pub known_covers : SameCovers h known known'
@@ -150,16 +150,16 @@ module _ (h : HeaderFields) (d : Direction) (p : Pending) (base known base' know
   ]
 
   -- what holds of the old entries and of the new one holds of all now
-  each_l1 : (Q : ℕ → Type 0) → Q entry → (i : ℕ) → Q (l1_entry h base i) → Q (l1_entry h base' i)
+  each_l1 : (Q : ℕ → Type 0) → Q entry → (i : ℕ) → Q (l1_entry h on_storage i) → Q (l1_entry h on_storage' i)
   each_l1 Q there i before = elim (cases_eq i i0) [
-    | inl e ↦ subst (λ n. Q (l1_entry h base' n)) (sym e) (subst Q (sym writes.is) there)
+    | inl e ↦ subst (λ n. Q (l1_entry h on_storage' n)) (sym e) (subst Q (sym writes.is) there)
     | inr ne ↦ subst Q (others i ne) before
   ]
 
-  top_now : IsTop h base'
+  top_now : IsTop h on_storage'
   top_now = record {
-    header_is = sym (header-first h base base' sizes first) ∙ guarded.top.header_is;
-    header_reads = HeaderReads-same h base base' first guarded.top.header_reads;
+    header_is = sym (header-first h on_storage on_storage' sizes first) ∙ guarded.top.header_is;
+    header_reads = HeaderReads-same h on_storage on_storage' first guarded.top.header_reads;
     l1_reads = λ i lt. each_l1 L1EntryReads new.reads i (guarded.top.l1_reads i lt);
     reftable_reads = λ k lt. subst ReftableEntryReads (reftable k) (guarded.top.reftable_reads k lt);
     no_snapshots = guarded.top.no_snapshots;
@@ -170,78 +170,78 @@ module _ (h : HeaderFields) (d : Direction) (p : Pending) (base known base' know
     refblocks_aligned = λ k lt. subst (λ e. IsAligned h (block_offset e)) (reftable k) (guarded.top.refblocks_aligned k lt);
   }
 
-  same_top_now : SameTop h base' known'
+  same_top_now : SameTop h on_storage' known'
   same_top_now = record {
     first_cluster = λ i lt. sym (first i lt) ∙ guarded.same_top.first_cluster i lt ∙ l1_first h known known' known_top ((h.l1_offset + 8 * i0) / cluster_size h) one_part known_once known_same i lt;
     l1 = λ i. elim (cases_eq i i0) [
-      | inl e ↦ ap (l1_entry h base') e ∙ writes.is ∙ sym writes.known_is ∙ ap (l1_entry h known') (sym e)
+      | inl e ↦ ap (l1_entry h on_storage') e ∙ writes.is ∙ sym writes.known_is ∙ ap (l1_entry h known') (sym e)
       | inr ne ↦ sym (others i ne) ∙ guarded.same_top.l1 i ∙ known_others i ne
     ];
     reftable = λ k. sym (reftable k) ∙ guarded.same_top.reftable k ∙ l1_reftable h known known' known_top ((h.l1_offset + 8 * i0) / cluster_size h) one_part known_once known_same k;
   }
 
   -- ---- how often tables name a cluster now
-  tables_changed : (c : ℕ) → named_by_l1_table h base' c + table_in h c (table_at h base i0) ≡ named_by_l1_table h base c + table_in h c (host_offset entry)
+  tables_changed : (c : ℕ) → named_by_l1_table h on_storage' c + table_in h c (table_at h on_storage i0) ≡ named_by_l1_table h on_storage c + table_in h c (host_offset entry)
   unfolding named_by_l1_table
   tables_changed c =
-      let change = sum_below-change h.l1_entries (λ i. table_in h c (host_offset (l1_entry h base' i))) (λ i. table_in h c (host_offset (l1_entry h base i))) i0 writes.within
+      let change = sum_below-change h.l1_entries (λ i. table_in h c (host_offset (l1_entry h on_storage' i))) (λ i. table_in h c (host_offset (l1_entry h on_storage i))) i0 writes.within
       (λ i lt ne. ap (λ e. table_in h c (host_offset e)) (sym (others i ne))) in
-      let here : table_in h c (host_offset (l1_entry h base' i0)) ≡ table_in h c (host_offset entry) = ap (λ e. table_in h c (host_offset e)) writes.is in
+      let here : table_in h c (host_offset (l1_entry h on_storage' i0)) ≡ table_in h c (host_offset entry) = ap (λ e. table_in h c (host_offset e)) writes.is in
       omega arith
 
-  fixed_changed : (c : ℕ) → named_for_tables h base' c + table_in h c (table_at h base i0) ≡ named_for_tables h base c + table_in h c (host_offset entry)
+  fixed_changed : (c : ℕ) → named_for_tables h on_storage' c + table_in h c (table_at h on_storage i0) ≡ named_for_tables h on_storage c + table_in h c (host_offset entry)
   fixed_changed c =
-      let before = shares h base c in
-      let after = shares h base' c in
+      let before = shares h on_storage c in
+      let after = shares h on_storage' c in
       let tables = tables_changed c in
-      let blocks = reftable_names-same h base base' c reftable in
+      let blocks = reftable_names-same h on_storage on_storage' c reftable in
       omega arith
 
-  sole_changed : (c : ℕ) → marked_by_l1_table h base' c ≤ marked_by_l1_table h base c + table_in h c (host_offset entry)
+  sole_changed : (c : ℕ) → marked_by_l1_table h on_storage' c ≤ marked_by_l1_table h on_storage c + table_in h c (host_offset entry)
   unfolding marked_by_l1_table
   sole_changed c =
-      let change = sum_below-change h.l1_entries (λ i. cond (is_copied (l1_entry h base' i)) (table_in h c (table_at h base' i)) 0) (λ i. cond (is_copied (l1_entry h base i)) (table_in h c (table_at h base i)) 0) i0 writes.within
+      let change = sum_below-change h.l1_entries (λ i. cond (is_copied (l1_entry h on_storage' i)) (table_in h c (table_at h on_storage' i)) 0) (λ i. cond (is_copied (l1_entry h on_storage i)) (table_in h c (table_at h on_storage i)) 0) i0 writes.within
       (λ i lt ne. ap (λ e. cond (is_copied e) (table_in h c (host_offset e)) 0) (sym (others i ne))) in
-      let here : cond (is_copied (l1_entry h base' i0)) (table_in h c (table_at h base' i0)) 0 ≡ cond (is_copied entry) (table_in h c (host_offset entry)) 0 = ap (λ e. cond (is_copied e) (table_in h c (host_offset e)) 0) writes.is in
+      let here : cond (is_copied (l1_entry h on_storage' i0)) (table_in h c (table_at h on_storage' i0)) 0 ≡ cond (is_copied entry) (table_in h c (host_offset entry)) 0 = ap (λ e. cond (is_copied e) (table_in h c (host_offset e)) 0) writes.is in
       let le = below_of (is_copied entry) (table_in h c (host_offset entry)) in
       omega arith
 
   new_at : (c : ℕ) → 0 < table_in h c (host_offset entry) → host_offset entry / cluster_size h ≡ c
   new_at c some = table_in-at h c (host_offset entry) some
 
-  unlaid : (o : ℕ) → 0 < named_in_either h base known (o / cluster_size h) + p.held (o / cluster_size h) → base' o ≡ known' o
+  unlaid : (o : ℕ) → 0 < named_in_either h on_storage known (o / cluster_size h) + p.held (o / cluster_size h) → on_storage' o ≡ known' o
   unlaid o some = sym (outside o (elsewhere o some)) ∙ guarded.unlaid o some ∙ known_outside o (elsewhere o some)
     where
-      elsewhere : (o : ℕ) → 0 < named_in_either h base known (o / cluster_size h) + p.held (o / cluster_size h) → o / cluster_size h ≢ (h.l1_offset + 8 * i0) / cluster_size h
+      elsewhere : (o : ℕ) → 0 < named_in_either h on_storage known (o / cluster_size h) + p.held (o / cluster_size h) → o / cluster_size h ≢ (h.l1_offset + 8 * i0) / cluster_size h
       elsewhere o some e =
-          let none = table_apart h d p base known guarded ((h.l1_offset + 8 * i0) / cluster_size h) fixed in
-          let here = subst (λ n. 0 < named_in_either h base known n + p.held n) e some in
+          let none = table_apart h d p on_storage known guarded ((h.l1_offset + 8 * i0) / cluster_size h) fixed in
+          let here = subst (λ n. 0 < named_in_either h on_storage known n + p.held n) e some in
           absurd (omega arith)
 
-  pub l1_named : IsGuarded h d (renamed p (λ c. table_in h c (host_offset entry)) (λ c. table_in h c (table_at h base i0))) base' known'
+  pub l1_named : CrashInvariant h d (renamed p (λ c. table_in h c (host_offset entry)) (λ c. table_in h c (table_at h on_storage i0))) on_storage' known'
   l1_named =
-      tables_renamed h (places_of h) d p (renamed p (λ c. table_in h c (host_offset entry)) (λ c. table_in h c (table_at h base i0))) base known base' known' guarded
+      tables_renamed h (places_of h) d p (renamed p (λ c. table_in h c (host_offset entry)) (λ c. table_in h c (table_at h on_storage i0))) on_storage known on_storage' known' guarded
       top_now same_top_now (omega arith) covers known_covers unlaid
-      (λ c. table_in h c (host_offset entry)) (λ c. 0) (λ c. table_in h c (table_at h base i0)) (λ c. (refl, refl, refl, refl, refl))
+      (λ c. table_in h c (host_offset entry)) (λ c. 0) (λ c. table_in h c (table_at h on_storage i0)) (λ c. (refl, refl, refl, refl, refl))
       (λ c. let one = table_in-le h c (host_offset entry) in omega arith) (λ c. let changed = fixed_changed c in omega arith) sole_changed
       (λ c. let e = counts c in omega arith) (λ c. let e = known_counts c in omega arith)
-      (λ c some. (subst (λ n. 0 < p.fresh n) (new_at c some) new.fresh, subst (λ n. count h base n ≡ count h known n) (new_at c some) new.counted, new.written))
+      (λ c some. (subst (λ n. 0 < p.fresh n) (new_at c some) new.fresh, subst (λ n. count h on_storage n ≡ count h known n) (new_at c some) new.counted, new.written))
       (λ c some. absurd (omega arith))
 
-  elsewhere_named : (o : ℕ) → 0 < named_in_either h base known (o / cluster_size h) → o / cluster_size h ≢ (h.l1_offset + 8 * i0) / cluster_size h
+  elsewhere_named : (o : ℕ) → 0 < named_in_either h on_storage known (o / cluster_size h) → o / cluster_size h ≢ (h.l1_offset + 8 * i0) / cluster_size h
   elsewhere_named o some e =
-      let none = table_apart h d p base known guarded ((h.l1_offset + 8 * i0) / cluster_size h) fixed in
-      let here = subst (λ n. 0 < named_in_either h base known n) e some in
+      let none = table_apart h d p on_storage known guarded ((h.l1_offset + 8 * i0) / cluster_size h) fixed in
+      let here = subst (λ n. 0 < named_in_either h on_storage known n) e some in
       absurd (omega arith)
 
-  pub l1_named_kept : (backing : Bytes) (m : Mark) → IsKeptAt backing m base → IsKeptAt backing m base'
+  pub l1_named_kept : (backing : Bytes) (m : Checkpoint) → StopOkEverywhere backing m on_storage → StopOkEverywhere backing m on_storage'
   l1_named_kept backing m kept =
-      moved_kept h (places_of h) d p (renamed p (λ c. table_in h c (host_offset entry)) (λ c. table_in h c (table_at h base i0))) base known base' known' guarded
+      moved_kept h (places_of h) d p (renamed p (λ c. table_in h c (host_offset entry)) (λ c. table_in h c (table_at h on_storage i0))) on_storage known on_storage' known' guarded
       top_now same_top_now (omega arith) covers known_covers unlaid l1_named
       (λ o some. outside o (elsewhere_named o some)) (λ o some. known_outside o (elsewhere_named o some)) backing m [] (inl refl) kept
 
-  pub l1_named_known_kept : (backing : Bytes) (m : Mark) → IsKeptAt backing m known → IsKeptAt backing m known'
+  pub l1_named_known_kept : (backing : Bytes) (m : Checkpoint) → StopOkEverywhere backing m known → StopOkEverywhere backing m known'
   l1_named_known_kept backing m kept =
-      moved_known_kept h (places_of h) d p (renamed p (λ c. table_in h c (host_offset entry)) (λ c. table_in h c (table_at h base i0))) base known base' known' guarded
+      moved_known_kept h (places_of h) d p (renamed p (λ c. table_in h c (host_offset entry)) (λ c. table_in h c (table_at h on_storage i0))) on_storage known on_storage' known' guarded
       top_now same_top_now (omega arith) covers known_covers unlaid l1_named
       (λ o some. outside o (elsewhere_named o some)) (λ o some. known_outside o (elsewhere_named o some)) backing m [] (inl refl) kept

@@ -14,7 +14,7 @@ use Rattle.qcow2_metadata.specs.declared.l2_mapping.L2Mapping.{L2Mapping}
 use Rattle.qcow2_metadata.specs.declared.l2_mapping.L2Mapping.TheVariants.{Data, Zero, Compressed, Uncovered}
 use Rattle.qcow2_laws.specs.Clusters.{Neither, Always}
 use Rattle.qcow2_laws.specs.Guests.{over_guests, names, marks, marked_by_cover, marked_by_kept, marked_by_l1_table, table_at}
-use Rattle.qcow2_laws.specs.Guard.{cluster, IsGuarded}
+use Rattle.qcow2_laws.specs.CrashInvariant.{cluster, CrashInvariant}
 use Rattle.qcow2_laws.specs.Opened.{nothing_pending, surplus_of}
 use Rattle.qcow2_laws.proofs.Sums.{some_term}
 use Rattle.qcow2_laws.proofs.Places.{Sizes, Sizes-from, cover_in, cover_none, has_table}
@@ -103,7 +103,7 @@ module _ (h : HeaderFields) (b : Bytes) (ok : Consistent h b) where
         sole = omega (arith, l1_marks-le h b c, fixed_l1 c);
       }
 
-  pub opened_guarded : header b ≡ h → IsGuarded h Neither (nothing_pending (surplus_of h b)) b b
+  pub opened_guarded : header b ≡ h → CrashInvariant h Neither (nothing_pending (surplus_of h b)) b b
   opened_guarded is = record {
     top = record {
       header_is = is;

@@ -9,19 +9,19 @@ use Rattle.qcow2_metadata.specs.Cover.{cover}
 use Rattle.qcow2_metadata.specs.Guest.{known_byte}
 use Rattle.qcow2_metadata.specs.declared.l2_mapping.L2Mapping.TheVariants.{Data}
 use Rattle.qcow2_laws.specs.Disk.{Disk, disk, with_bytes}
-use Rattle.qcow2_laws.specs.Stops.{Gift, IsGiven}
+use Rattle.qcow2_laws.specs.Stops.{GivenBytes, IsGiven}
 use Rattle.qcow2_laws.specs.Mappings.{gift_of}
 use Rattle.qcow2_laws.specs.Guests.{names, marks, marked_by_cover}
-use Rattle.qcow2_laws.specs.Guard.{SameCovers, SameIn}
+use Rattle.qcow2_laws.specs.CrashInvariant.{SameCovers, SameIn}
 use Rattle.qcow2_laws.specs.Tops.{WritesAt}
 use Rattle.qcow2_laws.specs.Writes.{IsWritten}
-use Rattle.qcow2_laws.specs.Leads.{Stand, IsSound, Leads}
+use Rattle.qcow2_laws.specs.SafeSteps.{DriverState, StateInvariant, SafeStep}
 use Rattle.qcow2_laws.specs.Unseen.{SameL1Table}
 use Rattle.qcow2_laws.specs.Alike.{IsDataAt, AreDataAt}
 use Rattle.qcow2_laws.proofs.Places.{in_one}
 use Rattle.qcow2_laws.proofs.Mixes.{tied}
 use Rattle.qcow2_laws.proofs.Consistency.{in_own}
-use Rattle.qcow2_laws.proofs.Writes.{held_is_unnamed, base_stays, known_covers, its_own}
+use Rattle.qcow2_laws.proofs.Writes.{held_is_unnamed, storage_stays, known_covers, its_own}
 use Rattle.qcow2_laws.proofs.Shares.{top_stays}
 use Rattle.qcow2_laws.proofs.Steps.{data_is_written}
 use Rattle.qcow2_laws.proofs.Shown.{Writes, data_aligned}
@@ -30,13 +30,13 @@ use Rattle.qcow2_laws.proofs.Unseen.{named_some, size_stays, value_stays}
 use Rattle.qcow2_laws.proofs.Alike.{at_cluster, at_named, at_unlaid, at_shown}
 
 -- what a write over data in place does
-pub record WritesOver (old new : Stand) (given : Bytes → List Gift) (now : Bytes → Disk) : Type 0 where
-  pub leads : Leads old new given []
+pub record WritesOver (old new : DriverState) (given : Bytes → List GivenBytes) (now : Bytes → Disk) : Type 0 where
+  pub leads : SafeStep old new given []
   pub header : new.header ≡ old.header
   pub covers : SameCovers old.header old.known new.known
   pub l1 : SameL1Table old new
   -- what is held is as before
-  pub held : (k : ℕ) → 0 < old.pending.held k → SameIn (cluster_size old.header) k old.base new.base × SameIn (cluster_size old.header) k old.known new.known
+  pub held : (k : ℕ) → 0 < old.pending.held k → SameIn (cluster_size old.header) k old.on_storage new.on_storage × SameIn (cluster_size old.header) k old.known new.known
   pub shows : (backing : Bytes) → disk new.known backing ≡ now backing
 
 -- ---- a place lies outside of a range, or is one of its places
@@ -68,10 +68,10 @@ apart size host from place o same at =
     let q : o / size * size ≡ from / size * size = ap (λ n. n * size) same in
     omega arith
 
-module _ (s : Stand) (base' known' : Bytes) (sound : IsSound s) (offset place : ℕ) (bytes : List ℕ) (are : AreDataAt s.header s.known true offset place (length bytes))
-    (writes : WritesAt place (length bytes) s.base s.known base' known') (there : (i : ℕ) → i < length bytes → base' (place + i) ≡ byte_at bytes i) where
+module _ (s : DriverState) (on_storage' known' : Bytes) (sound : StateInvariant s) (offset place : ℕ) (bytes : List ℕ) (are : AreDataAt s.header s.known true offset place (length bytes))
+    (writes : WritesAt place (length bytes) s.on_storage s.known on_storage' known') (there : (i : ℕ) → i < length bytes → on_storage' (place + i) ≡ byte_at bytes i) where
   -- a cluster that no byte is written to
-  untouched : (k : ℕ) → ((i : ℕ) → i < length bytes → (place + i) / cluster_size s.header ≢ k) → SameIn (cluster_size s.header) k s.base base' × SameIn (cluster_size s.header) k s.known known'
+  untouched : (k : ℕ) → ((i : ℕ) → i < length bytes → (place + i) / cluster_size s.header ≢ k) → SameIn (cluster_size s.header) k s.on_storage on_storage' × SameIn (cluster_size s.header) k s.known known'
   untouched k none =
       let out : (o : ℕ) → o / cluster_size s.header ≡ k → (o < place) ⊎ (place + length bytes ≤ o) = λ o in_k. elim (in_range o place (length bytes)) [
         | inl out ↦ out
@@ -79,13 +79,13 @@ module _ (s : Stand) (base' known' : Bytes) (sound : IsSound s) (offset place : 
       ] in
       ((λ o in_k. writes.others o (out o in_k)), (λ o in_k. writes.known_others o (out o in_k)))
 
-  held_stays : (k : ℕ) → 0 < s.pending.held k → SameIn (cluster_size s.header) k s.base base' × SameIn (cluster_size s.header) k s.known known'
+  held_stays : (k : ℕ) → 0 < s.pending.held k → SameIn (cluster_size s.header) k s.on_storage on_storage' × SameIn (cluster_size s.header) k s.known known'
   held_stays k held = untouched k (λ i lt here.
-      let none = held_is_unnamed s.header s.direction s.pending s.base s.known sound k held in
+      let none = held_is_unnamed s.header s.direction s.pending s.on_storage s.known sound k held in
       let one : names s.header s.known k ((offset + i) / cluster_size s.header) ≡ 1 =
       ap (λ c. names s.header s.known c ((offset + i) / cluster_size s.header)) (sym here) ∙ at_named s sound true (offset + i) (place + i) (are i lt) in
       let some = named_some s s sound k ((offset + i) / cluster_size s.header) (omega arith) in
-      let t = (tied s.header s.pending s.base s.known k).known in
+      let t = (tied s.header s.pending s.on_storage s.known k).known in
       let no_entry = none.no_entry in
       absurd (omega arith))
 
@@ -102,7 +102,7 @@ module _ (s : Stand) (base' known' : Bytes) (sound : IsSound s) (offset place : 
 
   -- each byte of a cluster that is written to is as it was, or given
   gives : (i : ℕ) → i < length bytes → (o : ℕ) → o / cluster_size s.header ≡ (place + i) / cluster_size s.header
-      → ((s.base o ≡ base' o) × (s.known o ≡ known' o)) ⊎ IsGiven (gift_of offset bytes ∷ []) ((offset + i) / cluster_size s.header * cluster_size s.header + o % cluster_size s.header) (known_byte (known' o))
+      → ((s.on_storage o ≡ on_storage' o) × (s.known o ≡ known' o)) ⊎ IsGiven (gift_of offset bytes ∷ []) ((offset + i) / cluster_size s.header * cluster_size s.header + o % cluster_size s.header) (known_byte (known' o))
   gives i lt o in_k = elim (in_range o place (length bytes)) [
     | inl out ↦ inl (writes.others o out, writes.known_others o out)
     | inr j ↦
@@ -121,7 +121,7 @@ module _ (s : Stand) (base' known' : Bytes) (sound : IsSound s) (offset place : 
         inr (inl (omega arith, omega arith, ap known_byte (ap known' (sym j.2) ∙ known_there j.0 j.1 ∙ ap (byte_at bytes) j_is)))
   ]
 
-  written : IsWritten s.header s.base s.known base' known' (gift_of offset bytes ∷ [])
+  written : IsWritten s.header s.on_storage s.known on_storage' known' (gift_of offset bytes ∷ [])
   written = record {
     agree = writes.agree;
     each = λ k. elim (meets (cluster_size s.header) place k (length bytes)) [
@@ -135,7 +135,7 @@ module _ (s : Stand) (base' known' : Bytes) (sound : IsSound s) (offset place : 
   }
 
   -- what the guest reads then
-  module _ (sound' : IsSound (record s { base = base'; known = known' })) (covers : SameCovers s.header s.known known') (backing : Bytes) (o : ℕ) where
+  module _ (sound' : StateInvariant (record s { on_storage = on_storage'; known = known' })) (covers : SameCovers s.header s.known known') (backing : Bytes) (o : ℕ) where
     -- it stands where it stood
     now_at : (from to : ℕ) → IsDataAt s.header s.known true from to → IsDataAt s.header known' true from to
     now_at from to at = (at.0, sym (covers (from / cluster_size s.header)) ∙ at.1, at.2)
@@ -151,19 +151,19 @@ module _ (s : Stand) (base' known' : Bytes) (sound : IsSound s) (offset place : 
           | inl below ↦ inl (omega arith)
           | inr past ↦ inr (omega arith)
         ] in
-        at_shown (record s { base = base'; known = known' }) sound' true o to (now_at o to was) backing
+        at_shown (record s { on_storage = on_storage'; known = known' }) sound' true o to (now_at o to was) backing
         ∙ sym (ap known_byte (writes.others to beside))
         ∙ sym (at_shown s sound true o to was backing)
 
     value_elsewhere : ((i : ℕ) → i < length bytes → (offset + i) / cluster_size s.header ≢ o / cluster_size s.header) → (disk known' backing).value o ≡ (disk s.known backing).value o
     value_elsewhere none =
-        value_stays s (record s { base = base'; known = known' }) sound sound' refl backing o (covers (o / cluster_size s.header)) (λ to some.
+        value_stays s (record s { on_storage = on_storage'; known = known' }) sound sound' refl backing o (covers (o / cluster_size s.header)) (λ to some.
         elim (in_range to place (length bytes)) [
           | inl out ↦ sym (writes.known_others to out)
           | inr at ↦ absurd (
               let named : 0 < names s.header s.known ((place + at.0) / cluster_size s.header) (o / cluster_size s.header) =
               subst (λ n. 0 < names s.header s.known (n / cluster_size s.header) (o / cluster_size s.header)) (sym at.2) some in
-              none at.0 at.1 (its_own s.header s.direction s.pending s.base s.known base' known' (gift_of offset bytes ∷ []) sound written
+              none at.0 at.1 (its_own s.header s.direction s.pending s.on_storage s.known on_storage' known' (gift_of offset bytes ∷ []) sound written
               ((place + at.0) / cluster_size s.header) ((offset + at.0) / cluster_size s.header) (o / cluster_size s.header) (marked at.0 at.1) (omega arith)))
         ])
 
@@ -171,7 +171,7 @@ module _ (s : Stand) (base' known' : Bytes) (sound : IsSound s) (offset place : 
     value_now = elim (in_range o offset (length bytes)) [
       | inr at ↦
           ap (disk known' backing).value (sym at.2)
-          ∙ at_shown (record s { base = base'; known = known' }) sound' true (offset + at.0) (place + at.0) (now_at (offset + at.0) (place + at.0) (are at.0 at.1)) backing
+          ∙ at_shown (record s { on_storage = on_storage'; known = known' }) sound' true (offset + at.0) (place + at.0) (now_at (offset + at.0) (place + at.0) (are at.0 at.1)) backing
           ∙ ap known_byte (there at.0 at.1)
           ∙ sym (laid_inside offset (length bytes) (λ k. known_byte (byte_at bytes k)) (disk s.known backing).value at.0 at.1)
           ∙ ap (laid_over offset (length bytes) (λ k. known_byte (byte_at bytes k)) (disk s.known backing).value) at.2
@@ -183,16 +183,16 @@ module _ (s : Stand) (base' known' : Bytes) (sound : IsSound s) (offset place : 
           ∙ sym (laid_outside offset (length bytes) (λ k. known_byte (byte_at bytes k)) (disk s.known backing).value o out)
     ]
 
-  pub written_over : WritesOver s (record s { base = base'; known = known' }) (λ _. gift_of offset bytes ∷ []) (λ backing. with_bytes (disk s.known backing) offset bytes)
+  pub written_over : WritesOver s (record s { on_storage = on_storage'; known = known' }) (λ _. gift_of offset bytes ∷ []) (λ backing. with_bytes (disk s.known backing) offset bytes)
   written_over =
-      let new : Stand = record s { base = base'; known = known' } in
-      let leads : Leads s (record s { base = base'; known = known' }) (λ _. gift_of offset bytes ∷ []) [] = data_is_written.written s base' known' (gift_of offset bytes ∷ []) sound written in
-      let covers = known_covers s.header s.direction s.pending s.base s.known base' known' (gift_of offset bytes ∷ []) sound written in
+      let new : DriverState = record s { on_storage = on_storage'; known = known' } in
+      let leads : SafeStep s (record s { on_storage = on_storage'; known = known' }) (λ _. gift_of offset bytes ∷ []) [] = data_is_written.written s on_storage' known' (gift_of offset bytes ∷ []) sound written in
+      let covers = known_covers s.header s.direction s.pending s.on_storage s.known on_storage' known' (gift_of offset bytes ∷ []) sound written in
       record {
         leads = leads;
         header = refl;
         covers = covers;
-        l1 = λ i. sym ((top_stays s.header s.base base' sound.top (base_stays s.header s.direction s.pending s.base s.known base' known' (gift_of offset bytes ∷ []) sound written)).l1 i);
+        l1 = λ i. sym ((top_stays s.header s.on_storage on_storage' sound.top (storage_stays s.header s.direction s.pending s.on_storage s.known on_storage' known' (gift_of offset bytes ∷ []) sound written)).l1 i);
         held = held_stays;
         shows = λ backing.
             let value : (disk known' backing).value ≡ (with_bytes (disk s.known backing) offset bytes).value = fun_ext (λ o. value_now leads.sound covers backing o) in
@@ -200,8 +200,8 @@ module _ (s : Stand) (base' known' : Bytes) (sound : IsSound s) (offset place : 
       }
 
 -- ---- in one cluster
-module _ (s : Stand) (base' known' : Bytes) (sound : IsSound s) (g host a : ℕ) (bytes : List ℕ) (is : cover s.header s.known g ≡ Data host true) (fits : a + length bytes ≤ cluster_size s.header)
-    (writes : WritesAt (host + a) (length bytes) s.base s.known base' known') (there : (i : ℕ) → i < length bytes → base' (host + a + i) ≡ byte_at bytes i) where
+module _ (s : DriverState) (on_storage' known' : Bytes) (sound : StateInvariant s) (g host a : ℕ) (bytes : List ℕ) (is : cover s.header s.known g ≡ Data host true) (fits : a + length bytes ≤ cluster_size s.header)
+    (writes : WritesAt (host + a) (length bytes) s.on_storage s.known on_storage' known') (there : (i : ℕ) → i < length bytes → on_storage' (host + a + i) ≡ byte_at bytes i) where
   are_there : AreDataAt s.header s.known true (g * cluster_size s.header + a) (host + a) (length bytes)
   are_there i lt =
       let e : g * cluster_size s.header + a + i ≡ g * cluster_size s.header + (a + i) = omega arith in
@@ -218,10 +218,10 @@ module _ (s : Stand) (base' known' : Bytes) (sound : IsSound s) (g host a : ℕ)
         other (ap (λ n. n / cluster_size s.header) (sym e) ∙ in_one (cluster_size s.header) host (a + at.0) (data_aligned s sound g host true is) (omega arith)))
   ]
 
-  pub written_in_place : Writes (host / cluster_size s.header) s (record s { base = base'; known = known' }) (λ _. gift_of (g * cluster_size s.header + a) bytes ∷ [])
+  pub written_in_place : Writes (host / cluster_size s.header) s (record s { on_storage = on_storage'; known = known' }) (λ _. gift_of (g * cluster_size s.header + a) bytes ∷ [])
       (λ backing. with_bytes (disk s.known backing) (g * cluster_size s.header + a) bytes)
   written_in_place =
-      let over = written_over s base' known' sound (g * cluster_size s.header + a) (host + a) bytes are_there writes there in
+      let over = written_over s on_storage' known' sound (g * cluster_size s.header + a) (host + a) bytes are_there writes there in
       record {
         leads = over.leads;
         unseen = record { header = refl; covers = over.covers; bytes = λ o other some. sym (writes.known_others o (outside_in o other)) };

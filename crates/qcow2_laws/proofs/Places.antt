@@ -10,7 +10,7 @@ use Rattle.qcow2_metadata.specs.Entries.{l1_entry, l2_entry, reftable_entry, blo
 use Rattle.qcow2_metadata.specs.Cover.{cover, cover_under, entry_cover}
 use Rattle.qcow2_metadata.specs.declared.l2_mapping.L2Mapping.TheVariants.{Uncovered}
 use Rattle.qcow2_metadata.proofs.BigEndian.{number_at-same}
-use Rattle.qcow2_laws.specs.Guard.{SameIn}
+use Rattle.qcow2_laws.specs.CrashInvariant.{SameIn}
 use Rattle.qcow2_laws.specs.Guests.{table_at}
 
 -- what sizes of clusters and counts there are

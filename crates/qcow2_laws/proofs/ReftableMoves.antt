@@ -9,10 +9,10 @@ use Rattle.qcow2_metadata.specs.Entries.{l1_entry, reftable_entry, count, count_
 use Rattle.qcow2_metadata.specs.Cover.{cover, cover_under}
 use Rattle.qcow2_metadata.specs.Named.{in_cluster, in_run, table_in, named_for_tables, named_by_reftable, named_by_l1_table}
 use Rattle.qcow2_metadata.specs.Consistent.{IsAligned}
-use Rattle.qcow2_laws.specs.Stops.{Mark, IsKeptAt}
+use Rattle.qcow2_laws.specs.Stops.{Checkpoint, StopOkEverywhere}
 use Rattle.qcow2_laws.specs.Clusters.{Direction}
 use Rattle.qcow2_laws.specs.Guests.{named_in_either, marked_by_l1_table}
-use Rattle.qcow2_laws.specs.Guard.{Pending, IsGuarded, IsTop, SameTop, SameIn}
+use Rattle.qcow2_laws.specs.CrashInvariant.{Pending, CrashInvariant, IsTop, SameTop, SameIn}
 use Rattle.qcow2_laws.specs.Changes.{renamed}
 use Rattle.qcow2_laws.specs.Writes.{IsUnnamed}
 use Rattle.qcow2_laws.specs.Tops.{with_places, KeepsCovers, WritesHeader, with_reftable_at, IsNewReftable}
@@ -25,37 +25,37 @@ use Rattle.qcow2_laws.proofs.Shares.{shares, in_reftable, reftable_has, block_ha
 use Rattle.qcow2_laws.proofs.Renaming.{tables_renamed, moved_kept, moved_known_kept}
 use Rattle.qcow2_laws.proofs.Headers.{header_sizes, header_fixed, header_same, header_known_same, header_l1, header_known_l1, header_reftable, header_known_reftable, header_covers, header_known_covers, header_counts, header_known_counts, header_elsewhere, header_unlaid, unnamed_elsewhere}
 
-module _ (h : HeaderFields) (offset clusters : ℕ) (blocks counted : ℕ → ℕ) (d : Direction) (p : Pending) (base known base' known' : Bytes) (guarded : IsGuarded h d p base known)
-    (writes : WritesHeader h (with_reftable_at h offset clusters) base known base' known') (new : IsNewReftable h d p base known offset clusters blocks counted) where
+module _ (h : HeaderFields) (offset clusters : ℕ) (blocks counted : ℕ → ℕ) (d : Direction) (p : Pending) (on_storage known on_storage' known' : Bytes) (guarded : CrashInvariant h d p on_storage known)
+    (writes : WritesHeader h (with_reftable_at h offset clusters) on_storage known on_storage' known') (new : IsNewReftable h d p on_storage known offset clusters blocks counted) where
   sizes : Sizes h
-  sizes = header_sizes h (with_reftable_at h offset clusters) d p base known base' known' guarded writes
+  sizes = header_sizes h (with_reftable_at h offset clusters) d p on_storage known on_storage' known' guarded writes
 
   now_sizes : Sizes (with_places h (with_reftable_at h offset clusters))
-  now_sizes = Sizes-from (with_places h (with_reftable_at h offset clusters)) base' writes.reads
+  now_sizes = Sizes-from (with_places h (with_reftable_at h offset clusters)) on_storage' writes.reads
 
-  same : (c : ℕ) → c ≢ 0 → SameIn (cluster_size h) c base base'
-  same = header_same h (with_reftable_at h offset clusters) d p base known base' known' guarded writes
+  same : (c : ℕ) → c ≢ 0 → SameIn (cluster_size h) c on_storage on_storage'
+  same = header_same h (with_reftable_at h offset clusters) d p on_storage known on_storage' known' guarded writes
 
   known_same : (c : ℕ) → c ≢ 0 → SameIn (cluster_size h) c known known'
-  known_same = header_known_same h (with_reftable_at h offset clusters) d p base known base' known' guarded writes
+  known_same = header_known_same h (with_reftable_at h offset clusters) d p on_storage known on_storage' known' guarded writes
 
-  known_block : (k : ℕ) → block_offset (reftable_entry h known k) ≡ block_offset (reftable_entry h base k)
+  known_block : (k : ℕ) → block_offset (reftable_entry h known k) ≡ block_offset (reftable_entry h on_storage k)
   known_block k = ap block_offset (sym (guarded.same_top.reftable k))
 
-  none_counted : (c : ℕ) → 0 < counted c → (count h known c ≡ 0) × (count h base c ≡ 0)
+  none_counted : (c : ℕ) → 0 < counted c → (count h known c ≡ 0) × (count h on_storage c ≡ 0)
   none_counted c some =
       let none = (new.counted_anew c some).0 in
-      (count_none h known c (known_block (c / counts_per_block h) ∙ none), count_none h base c none)
+      (count_none h known c (known_block (c / counts_per_block h) ∙ none), count_none h on_storage c none)
 
   -- what is to be named is named by nothing yet
-  unnamed : (c : ℕ) → 0 < in_run h c offset (clusters * cluster_size h) + blocks c → IsUnnamed h base known c
+  unnamed : (c : ℕ) → 0 < in_run h c offset (clusters * cluster_size h) + blocks c → IsUnnamed h on_storage known c
   unnamed c some = elim (cases_lt 0 (counted c)) [
-    | inl anew ↦ let none = none_counted c anew in unused_is_unnamed h d p base known guarded c none.0 none.1
-    | inr not ↦ fresh_is_unnamed h d p base known guarded c (new.fresh c (omega arith)).0 new.written
+    | inl anew ↦ let none = none_counted c anew in unused_is_unnamed h d p on_storage known guarded c none.0 none.1
+    | inr not ↦ fresh_is_unnamed h d p on_storage known guarded c (new.fresh c (omega arith)).0 new.written
   ]
 
   others : (c : ℕ) → 0 < in_run h c offset (clusters * cluster_size h) + blocks c → c ≢ 0
-  others c some = unnamed_elsewhere h (with_reftable_at h offset clusters) d p base known base' known' guarded writes c (unnamed c some).no_table
+  others c some = unnamed_elsewhere h (with_reftable_at h offset clusters) d p on_storage known on_storage' known' guarded writes c (unnamed c some).no_table
 
   stays : (b b' : Bytes) → ((c : ℕ) → c ≢ 0 → SameIn (cluster_size h) c b b') → (k : ℕ)
       → reftable_entry (with_places h (with_reftable_at h offset clusters)) b k ≡ reftable_entry (with_places h (with_reftable_at h offset clusters)) b' k
@@ -63,21 +63,21 @@ module _ (h : HeaderFields) (offset clusters : ℕ) (blocks counted : ℕ → �
       reftable-same (with_places h (with_reftable_at h offset clusters)) b b' k now_sizes new.aligned (λ lt.
       alike _ (others _ (let one = reftable_has (with_places h (with_reftable_at h offset clusters)) k now_sizes new.aligned lt in omega arith)))
 
-  pub now_reftable : (k : ℕ) → reftable_entry (with_places h (with_reftable_at h offset clusters)) base k ≡ reftable_entry (with_places h (with_reftable_at h offset clusters)) base' k
-  now_reftable = stays base base' same
+  pub now_reftable : (k : ℕ) → reftable_entry (with_places h (with_reftable_at h offset clusters)) on_storage k ≡ reftable_entry (with_places h (with_reftable_at h offset clusters)) on_storage' k
+  now_reftable = stays on_storage on_storage' same
 
-  now_known_reftable : (k : ℕ) → reftable_entry (with_places h (with_reftable_at h offset clusters)) base k ≡ reftable_entry (with_places h (with_reftable_at h offset clusters)) known' k
+  now_known_reftable : (k : ℕ) → reftable_entry (with_places h (with_reftable_at h offset clusters)) on_storage k ≡ reftable_entry (with_places h (with_reftable_at h offset clusters)) known' k
   now_known_reftable k = sym (new.known_same k) ∙ stays known known' known_same k
 
   -- a new refblock doesn't stand in the header's cluster
-  block_elsewhere : (k : ℕ) → block_offset (reftable_entry (with_places h (with_reftable_at h offset clusters)) base k) ≢ 0
-      → block_offset (reftable_entry (with_places h (with_reftable_at h offset clusters)) base k) / cluster_size h ≢ 0
+  block_elsewhere : (k : ℕ) → block_offset (reftable_entry (with_places h (with_reftable_at h offset clusters)) on_storage k) ≢ 0
+      → block_offset (reftable_entry (with_places h (with_reftable_at h offset clusters)) on_storage k) / cluster_size h ≢ 0
   block_elsewhere k real e =
-      let has = block_has (with_places h (with_reftable_at h offset clusters)) base k real in
-      let at : 1 ≤ named_by_reftable (with_places h (with_reftable_at h offset clusters)) base 0 = subst (λ n. 1 ≤ named_by_reftable (with_places h (with_reftable_at h offset clusters)) base n) e has in
+      let has = block_has (with_places h (with_reftable_at h offset clusters)) on_storage k real in
+      let at : 1 ≤ named_by_reftable (with_places h (with_reftable_at h offset clusters)) on_storage 0 = subst (λ n. 1 ≤ named_by_reftable (with_places h (with_reftable_at h offset clusters)) on_storage n) e has in
       let are = new.blocks_are 0 in
-      let parts = shares h base 0 in
-      let fixed = header_fixed h (with_reftable_at h offset clusters) d p base known base' known' guarded writes in
+      let parts = shares h on_storage 0 in
+      let fixed = header_fixed h (with_reftable_at h offset clusters) d p on_storage known on_storage' known' guarded writes in
       let table = (guarded.always 0).table fixed in
       let zero : 0 / cluster_size h ≡ 0 = let size = sizes.some in omega arith in
       let one : in_cluster h 0 0 ≡ 1 = ap (λ n. in_cluster h n 0) (sym zero) ∙ in_own h 0 in
@@ -90,51 +90,51 @@ module _ (h : HeaderFields) (offset clusters : ℕ) (blocks counted : ℕ → �
   count_of b c e is is' = ap (λ x. count_under h b x c) is' ∙ sym (ap (λ x. count_under h b x c) is)
 
   count_anew : (b b' : Bytes) → ((c : ℕ) → c ≢ 0 → SameIn (cluster_size h) c b b') → (c : ℕ)
-      → reftable_entry (with_places h (with_reftable_at h offset clusters)) base (c / counts_per_block h) ≡ reftable_entry (with_places h (with_reftable_at h offset clusters)) b' (c / counts_per_block h)
-      → block_offset (reftable_entry (with_places h (with_reftable_at h offset clusters)) base (c / counts_per_block h)) ≢ 0
-      → block_count b (count_width h) (block_offset (reftable_entry (with_places h (with_reftable_at h offset clusters)) base (c / counts_per_block h))) (c % counts_per_block h) ≡ counted c
+      → reftable_entry (with_places h (with_reftable_at h offset clusters)) on_storage (c / counts_per_block h) ≡ reftable_entry (with_places h (with_reftable_at h offset clusters)) b' (c / counts_per_block h)
+      → block_offset (reftable_entry (with_places h (with_reftable_at h offset clusters)) on_storage (c / counts_per_block h)) ≢ 0
+      → block_count b (count_width h) (block_offset (reftable_entry (with_places h (with_reftable_at h offset clusters)) on_storage (c / counts_per_block h))) (c % counts_per_block h) ≡ counted c
       → count (with_places h (with_reftable_at h offset clusters)) b' c ≡ counted c
   count_anew b b' alike c entry real says =
       let at = ap block_offset entry in
-      let place = block_offset (reftable_entry (with_places h (with_reftable_at h offset clusters)) base (c / counts_per_block h)) in
+      let place = block_offset (reftable_entry (with_places h (with_reftable_at h offset clusters)) on_storage (c / counts_per_block h)) in
       count_in (with_places h (with_reftable_at h offset clusters)) b' c (λ none. real (at ∙ none))
       ∙ ap (λ t. block_count b' (count_width h) t (c % counts_per_block h)) (sym at)
       ∙ sym (block_count-moved h b b' place place (c % counts_per_block h) sizes (mod_below c (counts_per_block h) sizes.counts)
       (SameFrom-in (cluster_size h) _ place b b' (alike (place / cluster_size h) (block_elsewhere (c / counts_per_block h) real)) (new.blocks_aligned (c / counts_per_block h)) refl))
       ∙ says
 
-  not_anew : (c : ℕ) → block_offset (reftable_entry h base (c / counts_per_block h)) ≢ 0 → counted c ≡ 0
+  not_anew : (c : ℕ) → block_offset (reftable_entry h on_storage (c / counts_per_block h)) ≢ 0 → counted c ≡ 0
   not_anew c real = elim (cases_lt 0 (counted c)) [
     | inl some ↦ absurd (real (new.counted_anew c some).0)
     | inr none ↦ omega arith
   ]
 
-  counts : (c : ℕ) → count (with_places h (with_reftable_at h offset clusters)) base' c ≡ count h base c + counted c
+  counts : (c : ℕ) → count (with_places h (with_reftable_at h offset clusters)) on_storage' c ≡ count h on_storage c + counted c
   counts c =
       let k = c / counts_per_block h in
-      elim (cases_eq (block_offset (reftable_entry h base (c / counts_per_block h))) 0) [
+      elim (cases_eq (block_offset (reftable_entry h on_storage (c / counts_per_block h))) 0) [
         | inl none ↦
-            let before = count_none h base c none in
-            elim (cases_eq (block_offset (reftable_entry (with_places h (with_reftable_at h offset clusters)) base (c / counts_per_block h))) 0) [
+            let before = count_none h on_storage c none in
+            elim (cases_eq (block_offset (reftable_entry (with_places h (with_reftable_at h offset clusters)) on_storage (c / counts_per_block h))) 0) [
               | inl still ↦
-                  let after = count_none (with_places h (with_reftable_at h offset clusters)) base' c (ap block_offset (sym (now_reftable k)) ∙ still) in
+                  let after = count_none (with_places h (with_reftable_at h offset clusters)) on_storage' c (ap block_offset (sym (now_reftable k)) ∙ still) in
                   elim (cases_lt 0 (counted c)) [ inl some ↦ absurd ((new.counted_anew c some).1 still) | inr zero ↦ omega arith ]
-              | inr real ↦ let after = count_anew base base' same c (now_reftable k) real (new.says c none real).0 in omega arith
+              | inr real ↦ let after = count_anew on_storage on_storage' same c (now_reftable k) real (new.says c none real).0 in omega arith
             ]
         | inr real ↦
             let zero = not_anew c real in
-            let now = count_of base' c (reftable_entry h base k) (sym (header_reftable h (with_reftable_at h offset clusters) d p base known base' known' guarded writes k)) (sym (now_reftable k) ∙ new.same k real) in
-            let stay = header_counts h (with_reftable_at h offset clusters) d p base known base' known' guarded writes c in
+            let now = count_of on_storage' c (reftable_entry h on_storage k) (sym (header_reftable h (with_reftable_at h offset clusters) d p on_storage known on_storage' known' guarded writes k)) (sym (now_reftable k) ∙ new.same k real) in
+            let stay = header_counts h (with_reftable_at h offset clusters) d p on_storage known on_storage' known' guarded writes c in
             omega arith
       ]
 
   pub known_counts : (c : ℕ) → count (with_places h (with_reftable_at h offset clusters)) known' c ≡ count h known c + counted c
   known_counts c =
       let k = c / counts_per_block h in
-      elim (cases_eq (block_offset (reftable_entry h base (c / counts_per_block h))) 0) [
+      elim (cases_eq (block_offset (reftable_entry h on_storage (c / counts_per_block h))) 0) [
         | inl none ↦
             let before = count_none h known c (known_block k ∙ none) in
-            elim (cases_eq (block_offset (reftable_entry (with_places h (with_reftable_at h offset clusters)) base (c / counts_per_block h))) 0) [
+            elim (cases_eq (block_offset (reftable_entry (with_places h (with_reftable_at h offset clusters)) on_storage (c / counts_per_block h))) 0) [
               | inl still ↦
                   let after = count_none (with_places h (with_reftable_at h offset clusters)) known' c (ap block_offset (sym (now_known_reftable k)) ∙ still) in
                   elim (cases_lt 0 (counted c)) [ inl some ↦ absurd ((new.counted_anew c some).1 still) | inr zero ↦ omega arith ]
@@ -142,9 +142,9 @@ module _ (h : HeaderFields) (offset clusters : ℕ) (blocks counted : ℕ → �
             ]
         | inr real ↦
             let zero = not_anew c real in
-            let now = count_of known' c (reftable_entry h base k)
-            (sym (guarded.same_top.reftable k ∙ header_known_reftable h (with_reftable_at h offset clusters) d p base known base' known' guarded writes k)) (sym (now_known_reftable k) ∙ new.same k real) in
-            let stay = header_known_counts h (with_reftable_at h offset clusters) d p base known base' known' guarded writes c in
+            let now = count_of known' c (reftable_entry h on_storage k)
+            (sym (guarded.same_top.reftable k ∙ header_known_reftable h (with_reftable_at h offset clusters) d p on_storage known on_storage' known' guarded writes k)) (sym (now_known_reftable k) ∙ new.same k real) in
+            let stay = header_known_counts h (with_reftable_at h offset clusters) d p on_storage known on_storage' known' guarded writes c in
             omega arith
       ]
 
@@ -157,10 +157,10 @@ module _ (h : HeaderFields) (offset clusters : ℕ) (blocks counted : ℕ → �
   unfolding cover cover_under l1_entry
   covers_too b g = refl
 
-  pub now_l1 : (i : ℕ) → l1_entry h base i ≡ l1_entry (with_places h (with_reftable_at h offset clusters)) base' i
-  now_l1 i = header_l1 h (with_reftable_at h offset clusters) d p base known base' known' guarded writes i ∙ sym (l1_too base' i)
+  pub now_l1 : (i : ℕ) → l1_entry h on_storage i ≡ l1_entry (with_places h (with_reftable_at h offset clusters)) on_storage' i
+  now_l1 i = header_l1 h (with_reftable_at h offset clusters) d p on_storage known on_storage' known' guarded writes i ∙ sym (l1_too on_storage' i)
 
-  top_now : IsTop (with_places h (with_reftable_at h offset clusters)) base'
+  top_now : IsTop (with_places h (with_reftable_at h offset clusters)) on_storage'
   top_now = record {
     header_is = writes.is;
     header_reads = writes.reads;
@@ -174,65 +174,65 @@ module _ (h : HeaderFields) (offset clusters : ℕ) (blocks counted : ℕ → �
     refblocks_aligned = λ k lt. subst (λ e. IsAligned h (block_offset e)) (now_reftable k) (new.blocks_aligned k);
   }
 
-  same_top_now : SameTop (with_places h (with_reftable_at h offset clusters)) base' known'
+  same_top_now : SameTop (with_places h (with_reftable_at h offset clusters)) on_storage' known'
   same_top_now = record {
     first_cluster = writes.same_first;
-    l1 = λ i. sym (now_l1 i) ∙ guarded.same_top.l1 i ∙ header_known_l1 h (with_reftable_at h offset clusters) d p base known base' known' guarded writes i ∙ sym (l1_too known' i);
+    l1 = λ i. sym (now_l1 i) ∙ guarded.same_top.l1 i ∙ header_known_l1 h (with_reftable_at h offset clusters) d p on_storage known on_storage' known' guarded writes i ∙ sym (l1_too known' i);
     reftable = λ k. sym (now_reftable k) ∙ now_known_reftable k;
   }
 
-  covers : KeepsCovers h (with_reftable_at h offset clusters) base base'
-  covers g = header_covers h (with_reftable_at h offset clusters) d p base known base' known' guarded writes g ∙ sym (covers_too base' g)
+  covers : KeepsCovers h (with_reftable_at h offset clusters) on_storage on_storage'
+  covers g = header_covers h (with_reftable_at h offset clusters) d p on_storage known on_storage' known' guarded writes g ∙ sym (covers_too on_storage' g)
 
   known_covers : KeepsCovers h (with_reftable_at h offset clusters) known known'
-  known_covers g = header_known_covers h (with_reftable_at h offset clusters) d p base known base' known' guarded writes g ∙ sym (covers_too known' g)
+  known_covers g = header_known_covers h (with_reftable_at h offset clusters) d p on_storage known on_storage' known' guarded writes g ∙ sym (covers_too known' g)
 
-  unlaid : (o : ℕ) → 0 < named_in_either h base known (o / cluster_size h) + p.held (o / cluster_size h) → base' o ≡ known' o
-  unlaid = header_unlaid h (with_reftable_at h offset clusters) d p base known base' known' guarded writes
+  unlaid : (o : ℕ) → 0 < named_in_either h on_storage known (o / cluster_size h) + p.held (o / cluster_size h) → on_storage' o ≡ known' o
+  unlaid = header_unlaid h (with_reftable_at h offset clusters) d p on_storage known on_storage' known' guarded writes
 
   -- ---- how often tables name a cluster now
-  tables_same : (c : ℕ) → named_by_l1_table (with_places h (with_reftable_at h offset clusters)) base' c ≡ named_by_l1_table h base c
+  tables_same : (c : ℕ) → named_by_l1_table (with_places h (with_reftable_at h offset clusters)) on_storage' c ≡ named_by_l1_table h on_storage c
   unfolding named_by_l1_table
   tables_same c = sum_below-same h.l1_entries _ _ (λ i lt. ap (λ e. table_in h c (host_offset e)) (sym (now_l1 i)))
 
-  marks_too : (c : ℕ) → marked_by_l1_table (with_places h (with_reftable_at h offset clusters)) base' c ≡ marked_by_l1_table h base' c
+  marks_too : (c : ℕ) → marked_by_l1_table (with_places h (with_reftable_at h offset clusters)) on_storage' c ≡ marked_by_l1_table h on_storage' c
   unfolding marked_by_l1_table l1_entry
   marks_too c = refl
 
-  blocks_now : (c : ℕ) → named_by_reftable (with_places h (with_reftable_at h offset clusters)) base' c ≡ named_by_reftable h base c + blocks c
+  blocks_now : (c : ℕ) → named_by_reftable (with_places h (with_reftable_at h offset clusters)) on_storage' c ≡ named_by_reftable h on_storage c + blocks c
   unfolding named_by_reftable
   blocks_now c = sum_below-same _ _ _ (λ k lt. ap (λ e. table_in h c (block_offset e)) (sym (now_reftable k))) ∙ new.blocks_are c
 
-  fixed_changed : (c : ℕ) → named_for_tables (with_places h (with_reftable_at h offset clusters)) base' c + in_reftable h c
-      ≡ named_for_tables h base c + (in_run h c offset (clusters * cluster_size h) + blocks c - counted c) + counted c
+  fixed_changed : (c : ℕ) → named_for_tables (with_places h (with_reftable_at h offset clusters)) on_storage' c + in_reftable h c
+      ≡ named_for_tables h on_storage c + (in_run h c offset (clusters * cluster_size h) + blocks c - counted c) + counted c
   fixed_changed c =
-      let before = shares h base c in
-      let after = shares (with_places h (with_reftable_at h offset clusters)) base' c in
+      let before = shares h on_storage c in
+      let after = shares (with_places h (with_reftable_at h offset clusters)) on_storage' c in
       let tables = tables_same c in
       let now = blocks_now c in
       let le = new.counted_there c in
       omega arith
 
-  pub reftable_moved : IsGuarded (with_places h (with_reftable_at h offset clusters)) d (renamed p (λ c. in_run h c offset (clusters * cluster_size h) + blocks c - counted c) (in_reftable h)) base' known'
+  pub reftable_moved : CrashInvariant (with_places h (with_reftable_at h offset clusters)) d (renamed p (λ c. in_run h c offset (clusters * cluster_size h) + blocks c - counted c) (in_reftable h)) on_storage' known'
   reftable_moved =
-      tables_renamed h (with_reftable_at h offset clusters) d p (renamed p (λ c. in_run h c offset (clusters * cluster_size h) + blocks c - counted c) (in_reftable h)) base known base' known' guarded
+      tables_renamed h (with_reftable_at h offset clusters) d p (renamed p (λ c. in_run h c offset (clusters * cluster_size h) + blocks c - counted c) (in_reftable h)) on_storage known on_storage' known' guarded
       top_now same_top_now (omega arith) covers known_covers unlaid
       (λ c. in_run h c offset (clusters * cluster_size h) + blocks c - counted c) counted (in_reftable h) (λ c. (refl, refl, refl, refl, refl))
       (λ c. let one = new.once c in let le = new.counted_there c in omega arith) fixed_changed
-      (λ c. let e = marks_too c ∙ sym (l1_marks-same h base base' c (header_l1 h (with_reftable_at h offset clusters) d p base known base' known' guarded writes)) in omega arith)
+      (λ c. let e = marks_too c ∙ sym (l1_marks-same h on_storage on_storage' c (header_l1 h (with_reftable_at h offset clusters) d p on_storage known on_storage' known' guarded writes)) in omega arith)
       counts known_counts (λ c some. let f = new.fresh c (omega arith) in (f.0, f.1, new.written)) none_counted
 
-  elsewhere : (o : ℕ) → 0 < named_in_either h base known (o / cluster_size h) → o / cluster_size h ≢ 0
-  elsewhere o some = header_elsewhere h (with_reftable_at h offset clusters) d p base known base' known' guarded writes o (omega arith)
+  elsewhere : (o : ℕ) → 0 < named_in_either h on_storage known (o / cluster_size h) → o / cluster_size h ≢ 0
+  elsewhere o some = header_elsewhere h (with_reftable_at h offset clusters) d p on_storage known on_storage' known' guarded writes o (omega arith)
 
-  pub reftable_moved_kept : (backing : Bytes) (m : Mark) → IsKeptAt backing m base → IsKeptAt backing m base'
+  pub reftable_moved_kept : (backing : Bytes) (m : Checkpoint) → StopOkEverywhere backing m on_storage → StopOkEverywhere backing m on_storage'
   reftable_moved_kept backing m kept =
-      moved_kept h (with_reftable_at h offset clusters) d p (renamed p (λ c. in_run h c offset (clusters * cluster_size h) + blocks c - counted c) (in_reftable h)) base known base' known' guarded
+      moved_kept h (with_reftable_at h offset clusters) d p (renamed p (λ c. in_run h c offset (clusters * cluster_size h) + blocks c - counted c) (in_reftable h)) on_storage known on_storage' known' guarded
       top_now same_top_now (omega arith) covers known_covers unlaid reftable_moved
       (λ o some. writes.others o (elsewhere o some)) (λ o some. writes.known_others o (elsewhere o some)) backing m [] (inl refl) kept
 
-  pub reftable_moved_known_kept : (backing : Bytes) (m : Mark) → IsKeptAt backing m known → IsKeptAt backing m known'
+  pub reftable_moved_known_kept : (backing : Bytes) (m : Checkpoint) → StopOkEverywhere backing m known → StopOkEverywhere backing m known'
   reftable_moved_known_kept backing m kept =
-      moved_known_kept h (with_reftable_at h offset clusters) d p (renamed p (λ c. in_run h c offset (clusters * cluster_size h) + blocks c - counted c) (in_reftable h)) base known base' known' guarded
+      moved_known_kept h (with_reftable_at h offset clusters) d p (renamed p (λ c. in_run h c offset (clusters * cluster_size h) + blocks c - counted c) (in_reftable h)) on_storage known on_storage' known' guarded
       top_now same_top_now (omega arith) covers known_covers unlaid reftable_moved
       (λ o some. writes.others o (elsewhere o some)) (λ o some. writes.known_others o (elsewhere o some)) backing m [] (inl refl) kept

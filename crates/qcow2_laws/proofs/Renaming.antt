@@ -12,10 +12,10 @@ use Rattle.qcow2_metadata.specs.Consistent.{CoverIsAligned}
 use Rattle.qcow2_metadata.specs.declared.l2_mapping.L2Mapping.{L2Mapping}
 use Rattle.qcow2_metadata.specs.declared.l2_mapping.L2Mapping.TheVariants.{Uncovered}
 use Rattle.qcow2_laws.specs.Disk.{disk}
-use Rattle.qcow2_laws.specs.Stops.{IsAsked, Mark, more, IsKeptAt}
+use Rattle.qcow2_laws.specs.Stops.{IsAsked, Checkpoint, checkpoint_with, StopOkEverywhere}
 use Rattle.qcow2_laws.specs.Clusters.{Direction, RbDependsOnL2}
 use Rattle.qcow2_laws.specs.Guests.{guests, over_guests, names, named_in_either, marked_by_cover, marked_by_l1_table}
-use Rattle.qcow2_laws.specs.Guard.{IsTop, SameTop, Pending, cluster, IsGuarded, SameCovers}
+use Rattle.qcow2_laws.specs.CrashInvariant.{IsTop, SameTop, Pending, cluster, CrashInvariant, SameCovers}
 use Rattle.qcow2_laws.specs.Tops.{Places, with_places, KeepsCovers}
 use Rattle.qcow2_laws.proofs.Clusters.{Good, rename}
 use Rattle.qcow2_laws.proofs.Sums.{sum_below-same, sum_below-longer}
@@ -40,53 +40,53 @@ over_guests-longer h a f g longer same none =
     ∙ ap (λ n. sum_below n f) e
     ∙ sum_below-same (guests (with_places h a)) f g (λ k lt. same k)
 
-module _ (h : HeaderFields) (a : Places) (d : Direction) (p p' : Pending) (base known base' known' : Bytes) (guarded : IsGuarded h d p base known)
-    (top : IsTop (with_places h a) base') (same_top : SameTop (with_places h a) base' known') (longer : h.l1_entries ≤ a.l1_entries)
-    (covers : KeepsCovers h a base base') (known_covers : KeepsCovers h a known known')
-    (unlaid : (o : ℕ) → 0 < named_in_either h base known (o / cluster_size h) + p'.held (o / cluster_size h) → base' o ≡ known' o) where
+module _ (h : HeaderFields) (a : Places) (d : Direction) (p p' : Pending) (on_storage known on_storage' known' : Bytes) (guarded : CrashInvariant h d p on_storage known)
+    (top : IsTop (with_places h a) on_storage') (same_top : SameTop (with_places h a) on_storage' known') (longer : h.l1_entries ≤ a.l1_entries)
+    (covers : KeepsCovers h a on_storage on_storage') (known_covers : KeepsCovers h a known known')
+    (unlaid : (o : ℕ) → 0 < named_in_either h on_storage known (o / cluster_size h) + p'.held (o / cluster_size h) → on_storage' o ≡ known' o) where
   sizes : Sizes h
-  sizes = Sizes-from h base guarded.top.header_reads
+  sizes = Sizes-from h on_storage guarded.top.header_reads
 
   -- what counts covers sums up alike
-  base_sum : (f : L2Mapping → ℕ) → f Uncovered ≡ 0 → over_guests h (λ g. f (cover h base g)) ≡ over_guests (with_places h a) (λ g. f (cover (with_places h a) base' g))
-  base_sum f none = over_guests-longer h a _ _ longer (λ g. ap f (covers g)) (λ g past. ap f (past_guests h base g sizes past) ∙ none)
+  storage_sum : (f : L2Mapping → ℕ) → f Uncovered ≡ 0 → over_guests h (λ g. f (cover h on_storage g)) ≡ over_guests (with_places h a) (λ g. f (cover (with_places h a) on_storage' g))
+  storage_sum f none = over_guests-longer h a _ _ longer (λ g. ap f (covers g)) (λ g past. ap f (past_guests h on_storage g sizes past) ∙ none)
 
   pub known_sum : (f : L2Mapping → ℕ) → f Uncovered ≡ 0 → over_guests h (λ g. f (cover h known g)) ≡ over_guests (with_places h a) (λ g. f (cover (with_places h a) known' g))
   known_sum f none = over_guests-longer h a _ _ longer (λ g. ap f (known_covers g)) (λ g past. ap f (past_guests h known g sizes past) ∙ none)
 
-  either_sum : (f : L2Mapping → ℕ) → f Uncovered ≡ 0 → over_guests h (λ g. max (f (cover h base g)) (f (cover h known g)))
-      ≡ over_guests (with_places h a) (λ g. max (f (cover (with_places h a) base' g)) (f (cover (with_places h a) known' g)))
+  either_sum : (f : L2Mapping → ℕ) → f Uncovered ≡ 0 → over_guests h (λ g. max (f (cover h on_storage g)) (f (cover h known g)))
+      ≡ over_guests (with_places h a) (λ g. max (f (cover (with_places h a) on_storage' g)) (f (cover (with_places h a) known' g)))
   either_sum f none =
       over_guests-longer h a _ _ longer
-      (λ g. ap (λ v. max (f v) (f (cover h known g))) (covers g) ∙ ap (λ v. max (f (cover (with_places h a) base' g)) (f v)) (known_covers g))
+      (λ g. ap (λ v. max (f v) (f (cover h known g))) (covers g) ∙ ap (λ v. max (f (cover (with_places h a) on_storage' g)) (f v)) (known_covers g))
       (λ g past.
-      let in_base : f (cover h base g) ≡ 0 = ap f (past_guests h base g sizes past) ∙ none in
+      let in_storage : f (cover h on_storage g) ≡ 0 = ap f (past_guests h on_storage g sizes past) ∙ none in
       let in_known : f (cover h known g) ≡ 0 = ap f (past_guests h known g sizes past) ∙ none in
       omega arith)
 
-  pub top_changed : ((c : ℕ) → Good d (record (cluster h p base known c) {
-    fixed = named_for_tables (with_places h a) base' c;
-    sole = marked_by_l1_table (with_places h a) base' c;
-    base_count = count (with_places h a) base' c;
+  pub top_changed : ((c : ℕ) → Good d (record (cluster h p on_storage known c) {
+    fixed = named_for_tables (with_places h a) on_storage' c;
+    sole = marked_by_l1_table (with_places h a) on_storage' c;
+    storage_count = count (with_places h a) on_storage' c;
     known_count = count (with_places h a) known' c;
     held = p'.held c;
     fresh = p'.fresh c;
     spent = p'.spent c;
     dropped = p'.dropped c;
-  }) (p'.surplus c)) → IsGuarded (with_places h a) d p' base' known'
+  }) (p'.surplus c)) → CrashInvariant (with_places h a) d p' on_storage' known'
   top_changed numbers =
-      let now : (c : ℕ) → Good d (cluster (with_places h a) p' base' known' c) (p'.surplus c) = λ c.
-      let in_base = base_sum (named_by_cover h c) refl in
+      let now : (c : ℕ) → Good d (cluster (with_places h a) p' on_storage' known' c) (p'.surplus c) = λ c.
+      let in_storage = storage_sum (named_by_cover h c) refl in
       let in_known = known_sum (named_by_cover h c) refl in
       let in_either = either_sum (named_by_cover h c) refl in
-      let marks_base = base_sum (marked_by_cover h c) refl in
+      let marks_in_storage = storage_sum (marked_by_cover h c) refl in
       let marks_known = known_sum (marked_by_cover h c) refl in
       let marks_either = either_sum (marked_by_cover h c) refl in
-      subst (λ k. Good d k (p'.surplus c)) (λ j. record (cluster (with_places h a) p' base' known' c) {
-        in_base = in_base j;
+      subst (λ k. Good d k (p'.surplus c)) (λ j. record (cluster (with_places h a) p' on_storage' known' c) {
+        in_storage = in_storage j;
         in_known = in_known j;
         in_either = in_either j;
-        marks_base = marks_base j;
+        marks_in_storage = marks_in_storage j;
         marks_known = marks_known j;
         marks_either = marks_either j;
       }) (numbers c) in
@@ -104,41 +104,41 @@ module _ (h : HeaderFields) (a : Places) (d : Direction) (p p' : Pending) (base 
   -- the same, by how often tables are named anew: i are fresh and counted on the storage, s are counted with it, u are no longer named
   pub tables_renamed : (i s u : ℕ → ℕ) → ((c : ℕ) → (p'.held c ≡ p.held c) × (p'.fresh c ≡ p.fresh c - i c) × (p'.spent c ≡ p.spent c + u c) × (p'.dropped c ≡ p.dropped c) × (p'.surplus c ≡ p.surplus c))
       → ((c : ℕ) → i c + s c ≤ 1)
-      → ((c : ℕ) → named_for_tables (with_places h a) base' c + u c ≡ named_for_tables h base c + i c + s c)
-      → ((c : ℕ) → marked_by_l1_table (with_places h a) base' c ≤ marked_by_l1_table h base c + i c)
-      → ((c : ℕ) → count (with_places h a) base' c ≡ count h base c + s c) → ((c : ℕ) → count (with_places h a) known' c ≡ count h known c + s c)
-      → ((c : ℕ) → 0 < i c → (0 < p.fresh c) × (count h base c ≡ count h known c) × (d ≡ RbDependsOnL2 → SameCovers h base known))
-      → ((c : ℕ) → 0 < s c → (count h known c ≡ 0) × (count h base c ≡ 0))
-      → IsGuarded (with_places h a) d p' base' known'
+      → ((c : ℕ) → named_for_tables (with_places h a) on_storage' c + u c ≡ named_for_tables h on_storage c + i c + s c)
+      → ((c : ℕ) → marked_by_l1_table (with_places h a) on_storage' c ≤ marked_by_l1_table h on_storage c + i c)
+      → ((c : ℕ) → count (with_places h a) on_storage' c ≡ count h on_storage c + s c) → ((c : ℕ) → count (with_places h a) known' c ≡ count h known c + s c)
+      → ((c : ℕ) → 0 < i c → (0 < p.fresh c) × (count h on_storage c ≡ count h known c) × (d ≡ RbDependsOnL2 → SameCovers h on_storage known))
+      → ((c : ℕ) → 0 < s c → (count h known c ≡ 0) × (count h on_storage c ≡ 0))
+      → CrashInvariant (with_places h a) d p' on_storage' known'
   tables_renamed i s u pending one fixed sole counts known_counts fresh empty = top_changed (λ c.
-      let l1_le = l1_marks-le (with_places h a) base' c in
-      let in_fixed = shares (with_places h a) base' c in
+      let l1_le = l1_marks-le (with_places h a) on_storage' c in
+      let in_fixed = shares (with_places h a) on_storage' c in
       let is = fixed c in
       let few = one c in
       let fewer = sole c in
-      let next = rename d (cluster h p base known c) (p.surplus c) (named_for_tables (with_places h a) base' c) (marked_by_l1_table (with_places h a) base' c) (i c) (i c) (s c) (u c)
-      (tied h p base known c) (omega arith) (omega arith) (omega arith) (omega arith) (omega arith)
-      (λ some. (fresh c some).0) (λ some. (fresh c some).1) (λ some. written_covers h d p base known guarded c (fresh c some).2) (λ some. (empty c some).0) (λ some. (empty c some).1) (good h d p base known guarded c) in
+      let next = rename d (cluster h p on_storage known c) (p.surplus c) (named_for_tables (with_places h a) on_storage' c) (marked_by_l1_table (with_places h a) on_storage' c) (i c) (i c) (s c) (u c)
+      (tied h p on_storage known c) (omega arith) (omega arith) (omega arith) (omega arith) (omega arith)
+      (λ some. (fresh c some).0) (λ some. (fresh c some).1) (λ some. written_covers h d p on_storage known guarded c (fresh c some).2) (λ some. (empty c some).0) (λ some. (empty c some).1) (good h d p on_storage known guarded c) in
       let held_is = sym (pending c).0 in
       let fresh_is = sym (pending c).1 in
       let spent_is = sym (pending c).2 in
       let dropped_is = sym (pending c).3 in
-      let base_is = sym (counts c) in
+      let on_storage_is = sym (counts c) in
       let known_is = sym (known_counts c) in
-      subst (λ n. Good d (record (cluster h p base known c) {
-        fixed = named_for_tables (with_places h a) base' c;
-        sole = marked_by_l1_table (with_places h a) base' c;
-        base_count = count (with_places h a) base' c;
+      subst (λ n. Good d (record (cluster h p on_storage known c) {
+        fixed = named_for_tables (with_places h a) on_storage' c;
+        sole = marked_by_l1_table (with_places h a) on_storage' c;
+        storage_count = count (with_places h a) on_storage' c;
         known_count = count (with_places h a) known' c;
         held = p'.held c;
         fresh = p'.fresh c;
         spent = p'.spent c;
         dropped = p'.dropped c;
       }) n) (sym (pending c).4)
-      (subst (λ k. Good d k (p.surplus c)) (λ t. record (cluster h p base known c) {
-        fixed = named_for_tables (with_places h a) base' c;
-        sole = marked_by_l1_table (with_places h a) base' c;
-        base_count = base_is t;
+      (subst (λ k. Good d k (p.surplus c)) (λ t. record (cluster h p on_storage known c) {
+        fixed = named_for_tables (with_places h a) on_storage' c;
+        sole = marked_by_l1_table (with_places h a) on_storage' c;
+        storage_count = on_storage_is t;
         known_count = known_is t;
         held = held_is t;
         fresh = fresh_is t;
@@ -154,12 +154,12 @@ module _ (h : HeaderFields) (a : Places) (d : Direction) (p p' : Pending) (base 
       shown h b b' backing o (cover h b (o / cluster_size h)) (aligned (o / cluster_size h)) (λ place some. bytes (o / cluster_size h) place some)
       ∙ ap (λ v. value_under h b' b' backing o v) (keeps (o / cluster_size h))
 
-  module _ (guarded' : IsGuarded (with_places h a) d p' base' known')
-      (base_bytes : (o : ℕ) → 0 < named_in_either h base known (o / cluster_size h) → base o ≡ base' o)
-      (known_bytes : (o : ℕ) → 0 < named_in_either h base known (o / cluster_size h) → known o ≡ known' o)
-      (backing : Bytes) (m : Mark) (asked : List ℕ) (size : (a.size ≡ h.size) ⊎ IsAsked asked a.size) where
-    in_sum : (b : Bytes) (c g : ℕ) → 0 < names h b c g → (names h b c g ≤ max (names h base c g) (names h known c g)) → 0 < named_in_either h base known c
-    in_sum b c g some le = let sum = guest_le h (λ k. max (names h base c k) (names h known c k)) g (names_within h b c g sizes some) in omega arith
+  module _ (guarded' : CrashInvariant (with_places h a) d p' on_storage' known')
+      (storage_bytes : (o : ℕ) → 0 < named_in_either h on_storage known (o / cluster_size h) → on_storage o ≡ on_storage' o)
+      (known_bytes : (o : ℕ) → 0 < named_in_either h on_storage known (o / cluster_size h) → known o ≡ known' o)
+      (backing : Bytes) (m : Checkpoint) (asked : List ℕ) (size : (a.size ≡ h.size) ⊎ IsAsked asked a.size) where
+    in_sum : (b : Bytes) (c g : ℕ) → 0 < names h b c g → (names h b c g ≤ max (names h on_storage c g) (names h known c g)) → 0 < named_in_either h on_storage known c
+    in_sum b c g some le = let sum = guest_le h (λ k. max (names h on_storage c k) (names h known c k)) g (names_within h b c g sizes some) in omega arith
 
     size_too : (b b' : Bytes) → header b ≡ h → header b' ≡ with_places h a → ((disk b' backing).size ≡ (disk b backing).size) ⊎ IsAsked asked (disk b' backing).size
     size_too b b' is is' =
@@ -170,18 +170,18 @@ module _ (h : HeaderFields) (a : Places) (d : Direction) (p p' : Pending) (base 
         ⊎-map f g (inl x) = inl (f x)
         ⊎-map f g (inr y) = inr (g y)
 
-    pub moved_kept : IsKeptAt backing m base → IsKeptAt backing (more [] asked m) base'
+    pub moved_kept : StopOkEverywhere backing m on_storage → StopOkEverywhere backing (checkpoint_with [] asked m) on_storage'
     moved_kept kept =
-        kept_on backing m [] asked base base' (guarded_consistent (with_places h a) d p' base' known' guarded') (size_too base base' guarded.top.header_is top.header_is)
-        (λ o. inl (value_is (with_places h a) base' backing o top.header_is
-        ∙ sym (same_value base base' backing covers guarded.aligned (λ g place some. base_bytes place (in_sum base (place / cluster_size h) g some (omega arith))) o)
-        ∙ sym (value_is h base backing o guarded.top.header_is))) kept
+        kept_on backing m [] asked on_storage on_storage' (guarded_consistent (with_places h a) d p' on_storage' known' guarded') (size_too on_storage on_storage' guarded.top.header_is top.header_is)
+        (λ o. inl (value_is (with_places h a) on_storage' backing o top.header_is
+        ∙ sym (same_value on_storage on_storage' backing covers guarded.aligned (λ g place some. storage_bytes place (in_sum on_storage (place / cluster_size h) g some (omega arith))) o)
+        ∙ sym (value_is h on_storage backing o guarded.top.header_is))) kept
 
-    pub moved_known_kept : IsKeptAt backing m known → IsKeptAt backing (more [] asked m) known'
+    pub moved_known_kept : StopOkEverywhere backing m known → StopOkEverywhere backing (checkpoint_with [] asked m) known'
     moved_known_kept kept =
-        let was = (IsTop-top h base known guarded.same_top guarded.top).header_is in
-        let is = (IsTop-top (with_places h a) base' known' same_top top).header_is in
-        kept_on backing m [] asked known known' (known_consistent (with_places h a) d p' base' known' guarded') (size_too known known' was is)
+        let was = (IsTop-top h on_storage known guarded.same_top guarded.top).header_is in
+        let is = (IsTop-top (with_places h a) on_storage' known' same_top top).header_is in
+        kept_on backing m [] asked known known' (known_consistent (with_places h a) d p' on_storage' known' guarded') (size_too known known' was is)
         (λ o. inl (value_is (with_places h a) known' backing o is
         ∙ sym (same_value known known' backing known_covers guarded.known_aligned (λ g place some. known_bytes place (in_sum known (place / cluster_size h) g some (omega arith))) o)
         ∙ sym (value_is h known backing o was))) kept

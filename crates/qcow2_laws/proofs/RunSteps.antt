@@ -6,11 +6,11 @@ use Rattle.image_access.proofs.Passing.{passes_none, passes_if, passes_more, pas
 use Rattle.qcow2_metadata.specs.Bytes.{Bytes, byte_at}
 use Rattle.qcow2_metadata.specs.Consistent.{IsConsistent}
 use Rattle.qcow2_laws.specs.Disk.{Disk, disk}
-use Rattle.qcow2_laws.specs.Stops.{Gift, Mark, marked, more, IsKeptAt, IsStopAt}
+use Rattle.qcow2_laws.specs.Stops.{GivenBytes, Checkpoint, checkpoint_at, checkpoint_with, StopOkEverywhere, StopOk}
 use Rattle.qcow2_laws.specs.Mappings.{PreparedMapping}
-use Rattle.qcow2_laws.specs.Views.{Setting, Guest, Spec, View, view, guest_of, contents_of, IsWhole}
+use Rattle.qcow2_laws.specs.AbstractImages.{Setting, Guest, Abstraction, AbstractImage, abstract_image, guest_of, contents_of, IsWhole}
 use Rattle.qcow2_laws.specs.Calls.{Refusal, Acts, Does, Refuses, IsFault, Works, Rests, Stops}
-use Rattle.qcow2_laws.specs.Runs.{Command, Reply, Found, Means, IsFaultReply, IsRightlyFound, State, Step, Run, IsSafeWhile, IsAsSaid, HoldsAlong, IsStopIn, StandsAt, Goes, Ran, Completes, MeansTheDisk, started, mark_in, mark_after, stepped, given_by, asked_by, flush, done}
+use Rattle.qcow2_laws.specs.Runs.{Command, Reply, Found, CommandMeaning, IsFaultReply, IsRightlyFound, State, CommandStep, Run, IsSafeWhile, RefinesGuest, RefinesAlong, IsStopIn, RefinesState, RefinesCommand, RefinesRun, RefinesWholeRun, RefinesDisk, started, checkpoint_during, checkpoint_after, stepped, given_by, asked_by, flush, done}
 use Rattle.qcow2_laws.proofs.Stops.{stop_of_kept, stop_more, kept_more}
 
 bool_cases : (b : Bool) → (b ≡ true) ⊎ (b ≡ false)
@@ -18,22 +18,22 @@ bool_cases true = inl refl
 bool_cases false = inr refl
 
 -- how a call ends on an image that worked
-pub record Ends (found : ℕ → Option Found) (old new : View) (command : Command) (reply : Reply) : Type 0 where
-  pub ends : (new.is_sound × Means old.setting found (guest_of old) command reply (guest_of new)) ⊎ (IsFaultReply reply × IsTrue new.is_failed)
+pub record Ends (found : ℕ → Option Found) (old new : AbstractImage) (command : Command) (reply : Reply) : Type 0 where
+  pub ends : (new.is_sound × CommandMeaning old.setting found (guest_of old) command reply (guest_of new)) ⊎ (IsFaultReply reply × IsTrue new.is_failed)
   pub finds : new.is_sound → IsRightlyFound new.setting old.known new.known command reply
-  pub mark : (x : Setting) (s : State) → new.is_sound → (mark_after x s command reply (guest_of new) ≡ mark_in x s command)
-      ⊎ ((mark_after x s command reply (guest_of new) ≡ marked (guest_of new).disk) × (IsKeptAt new.setting.backing (marked (guest_of new).disk) new.known × IsKeptAt new.setting.backing (marked (guest_of new).disk) (contents_of new)))
+  pub mark : (x : Setting) (s : State) → new.is_sound → (checkpoint_after x s command reply (guest_of new) ≡ checkpoint_during x s command)
+      ⊎ ((checkpoint_after x s command reply (guest_of new) ≡ checkpoint_at (guest_of new).disk) × (StopOkEverywhere new.setting.backing (checkpoint_at (guest_of new).disk) new.known × StopOkEverywhere new.setting.backing (checkpoint_at (guest_of new).disk) (contents_of new)))
 
 -- a fault isn't an answered flush
-mark_of_fault : (x : Setting) (s : State) (command : Command) (reply : Reply) (new : Guest) → IsFaultReply reply → mark_after x s command reply new ≡ mark_in x s command
+mark_of_fault : (x : Setting) (s : State) (command : Command) (reply : Reply) (new : Guest) → IsFaultReply reply → checkpoint_after x s command reply new ≡ checkpoint_during x s command
 mark_of_fault x s flush done new fault = absurd fault
 mark_of_fault x s command reply new fault = refl
 
-module _ (x : Setting) (old new : View) (s : State) (command : Command) (reply : Reply) (stands : StandsAt x old s) where
-  rested : IsTrue s.is_failed → Rests old new → Goes x old new s command reply
+module _ (x : Setting) (old new : AbstractImage) (s : State) (command : Command) (reply : Reply) (stands : RefinesState x old s) where
+  rested : IsTrue s.is_failed → Rests old new → RefinesCommand x old new s command reply
   rested failed rests =
       let not_ok : s.is_failed ≡ false → ⊥ = λ e. let t : s.is_failed ≡ true = failed in cc in
-      let at : IsStopAt x.backing s.mark (contents_of new) = subst (λ c. IsStopAt x.backing s.mark (byte_at c)) (sym rests.contents) stands.at_rest in
+      let at : StopOk x.backing s.mark (contents_of new) = subst (λ c. StopOk x.backing s.mark (byte_at c)) (sym rests.contents) stands.at_rest in
       record {
         end = s;
         step = inl (failed, refl);
@@ -63,26 +63,26 @@ module _ (x : Setting) (old new : View) (s : State) (command : Command) (reply :
     new_backing = ap (λ (y : Setting). y.backing) (acts.setting ∙ stands.setting)
 
     stops : Stops old new (given_by x s.guest command) (asked_by command) s.mark
-    stops = acts.stops s.mark (subst (λ b. IsKeptAt b s.mark (contents_of old)) (sym backing-is) (stands.contents ok), subst (λ b. IsKeptAt b s.mark old.known) (sym backing-is) (stands.known ok))
+    stops = acts.stops s.mark (subst (λ b. StopOkEverywhere b s.mark (contents_of old)) (sym backing-is) (stands.contents ok), subst (λ b. StopOkEverywhere b s.mark old.known) (sym backing-is) (stands.known ok))
 
-    kept_contents : IsKeptAt x.backing (mark_in x s command) (contents_of new)
-    kept_contents = subst (λ b. IsKeptAt b (mark_in x s command) (contents_of new)) backing-is stops.contents
+    kept_contents : StopOkEverywhere x.backing (checkpoint_during x s command) (contents_of new)
+    kept_contents = subst (λ b. StopOkEverywhere b (checkpoint_during x s command) (contents_of new)) backing-is stops.contents
 
-    kept_known : new.is_sound → IsKeptAt x.backing (mark_in x s command) new.known
-    kept_known sound = subst (λ b. IsKeptAt b (mark_in x s command) new.known) backing-is (stops.known sound)
+    kept_known : new.is_sound → StopOkEverywhere x.backing (checkpoint_during x s command) new.known
+    kept_known sound = subst (λ b. StopOkEverywhere b (checkpoint_during x s command) new.known) backing-is (stops.known sound)
 
-    moments : Passing old.storage new.storage (λ c. IsStopAt x.backing (mark_in x s command) (byte_at c))
+    moments : Passing old.storage new.storage (λ c. StopOk x.backing (checkpoint_during x s command) (byte_at c))
     moments =
-        passes_if (λ c. IsStopAt x.backing (mark_in x s command) (byte_at c))
-        (λ c k. stop_of_kept x.backing (mark_in x s command) (byte_at c) (subst (λ b. IsKeptAt b (mark_in x s command) (byte_at c)) backing-is k)) stops.moments
+        passes_if (λ c. StopOk x.backing (checkpoint_during x s command) (byte_at c))
+        (λ c k. stop_of_kept x.backing (checkpoint_during x s command) (byte_at c) (subst (λ b. StopOkEverywhere b (checkpoint_during x s command) (byte_at c)) backing-is k)) stops.moments
 
-    safe_to : (after : Mark) → IsStopAt x.backing after (contents_of new) → IsSafeWhile x.backing old.storage new.storage s.is_failed (mark_in x s command) after
+    safe_to : (after : Checkpoint) → StopOk x.backing after (contents_of new) → IsSafeWhile x.backing old.storage new.storage s.is_failed (checkpoint_during x s command) after
     safe_to after at = record { moments = λ _. moments; at_return = at; silent = λ f. absurd (not_failed f); unchanged = λ f. absurd (not_failed f) }
 
-    failing : IsFaultReply reply → IsTrue new.is_failed → Goes x old new s command reply
+    failing : IsFaultReply reply → IsTrue new.is_failed → RefinesCommand x old new s command reply
     failing fault failed =
-        let at : IsStopAt x.backing (mark_after x s command reply s.guest) (contents_of new) =
-        subst (λ m. IsStopAt x.backing m (contents_of new)) (sym (mark_of_fault x s command reply s.guest fault)) (stop_of_kept x.backing (mark_in x s command) (contents_of new) kept_contents) in
+        let at : StopOk x.backing (checkpoint_after x s command reply s.guest) (contents_of new) =
+        subst (λ m. StopOk x.backing m (contents_of new)) (sym (mark_of_fault x s command reply s.guest fault)) (stop_of_kept x.backing (checkpoint_during x s command) (contents_of new) kept_contents) in
         record {
           end = stepped x s command reply s.guest true;
           step = inr (inr (ok, fault, refl));
@@ -95,23 +95,23 @@ module _ (x : Setting) (old new : View) (s : State) (command : Command) (reply :
             contents = λ e. absurd (cc);
             at_rest = at;
           };
-          safe = safe_to (mark_after x s command reply s.guest) at;
+          safe = safe_to (checkpoint_after x s command reply s.guest) at;
           found = λ e. absurd (cc);
           surplus = λ e. absurd (cc);
           since = λ _. ok;
         }
 
-    going : new.is_sound → Means x s.found s.guest command reply (guest_of new) → IsRightlyFound new.setting old.known new.known command reply
-        → ((mark_after x s command reply (guest_of new) ≡ mark_in x s command)
-        ⊎ ((mark_after x s command reply (guest_of new) ≡ marked (guest_of new).disk) × (IsKeptAt new.setting.backing (marked (guest_of new).disk) new.known × IsKeptAt new.setting.backing (marked (guest_of new).disk) (contents_of new))))
-        → Goes x old new s command reply
+    going : new.is_sound → CommandMeaning x s.found s.guest command reply (guest_of new) → IsRightlyFound new.setting old.known new.known command reply
+        → ((checkpoint_after x s command reply (guest_of new) ≡ checkpoint_during x s command)
+        ⊎ ((checkpoint_after x s command reply (guest_of new) ≡ checkpoint_at (guest_of new).disk) × (StopOkEverywhere new.setting.backing (checkpoint_at (guest_of new).disk) new.known × StopOkEverywhere new.setting.backing (checkpoint_at (guest_of new).disk) (contents_of new))))
+        → RefinesCommand x old new s command reply
     going sound means finds mark =
-        let after = mark_after x s command reply (guest_of new) in
-        let kept : IsKeptAt x.backing after (contents_of new) =
+        let after = checkpoint_after x s command reply (guest_of new) in
+        let kept : StopOkEverywhere x.backing after (contents_of new) =
         ⊎_elim
-        (λ (e : mark_after x s command reply (guest_of new) ≡ mark_in x s command). subst (λ m. IsKeptAt x.backing m (contents_of new)) (sym e) kept_contents)
-        (λ (f : (mark_after x s command reply (guest_of new) ≡ marked (guest_of new).disk) × (IsKeptAt new.setting.backing (marked (guest_of new).disk) new.known × IsKeptAt new.setting.backing (marked (guest_of new).disk) (contents_of new))).
-        subst (λ m. IsKeptAt x.backing m (contents_of new)) (sym f.0) (subst (λ b. IsKeptAt b (marked (guest_of new).disk) (contents_of new)) new_backing f.1.1)) mark in
+        (λ (e : checkpoint_after x s command reply (guest_of new) ≡ checkpoint_during x s command). subst (λ m. StopOkEverywhere x.backing m (contents_of new)) (sym e) kept_contents)
+        (λ (f : (checkpoint_after x s command reply (guest_of new) ≡ checkpoint_at (guest_of new).disk) × (StopOkEverywhere new.setting.backing (checkpoint_at (guest_of new).disk) new.known × StopOkEverywhere new.setting.backing (checkpoint_at (guest_of new).disk) (contents_of new))).
+        subst (λ m. StopOkEverywhere x.backing m (contents_of new)) (sym f.0) (subst (λ b. StopOkEverywhere b (checkpoint_at (guest_of new).disk) (contents_of new)) new_backing f.1.1)) mark in
         let at = stop_of_kept x.backing after (contents_of new) kept in
         record {
           end = stepped x s command reply (guest_of new) false;
@@ -122,9 +122,9 @@ module _ (x : Setting) (old new : View) (s : State) (command : Command) (reply :
             failed = λ e. absurd (let t : false ≡ true = e in cc);
             guest = λ _. refl;
             known = λ _. ⊎_elim
-                (λ (e : mark_after x s command reply (guest_of new) ≡ mark_in x s command). subst (λ m. IsKeptAt x.backing m new.known) (sym e) (kept_known sound))
-                (λ (f : (mark_after x s command reply (guest_of new) ≡ marked (guest_of new).disk) × (IsKeptAt new.setting.backing (marked (guest_of new).disk) new.known × IsKeptAt new.setting.backing (marked (guest_of new).disk) (contents_of new))).
-                subst (λ m. IsKeptAt x.backing m new.known) (sym f.0) (subst (λ b. IsKeptAt b (marked (guest_of new).disk) new.known) new_backing f.1.0)) mark;
+                (λ (e : checkpoint_after x s command reply (guest_of new) ≡ checkpoint_during x s command). subst (λ m. StopOkEverywhere x.backing m new.known) (sym e) (kept_known sound))
+                (λ (f : (checkpoint_after x s command reply (guest_of new) ≡ checkpoint_at (guest_of new).disk) × (StopOkEverywhere new.setting.backing (checkpoint_at (guest_of new).disk) new.known × StopOkEverywhere new.setting.backing (checkpoint_at (guest_of new).disk) (contents_of new))).
+                subst (λ m. StopOkEverywhere x.backing m new.known) (sym f.0) (subst (λ b. StopOkEverywhere b (checkpoint_at (guest_of new).disk) new.known) new_backing f.1.0)) mark;
             contents = λ _. kept;
             at_rest = at;
           };
@@ -135,7 +135,7 @@ module _ (x : Setting) (old new : View) (s : State) (command : Command) (reply :
         }
 
   -- the whole step, from what the call's contract says
-  pub called : Acts old new (given_by old.setting (guest_of old) command) (asked_by command) → (old.is_sound → Ends s.found old new command reply) → Goes x old new s command reply
+  pub called : Acts old new (given_by old.setting (guest_of old) command) (asked_by command) → (old.is_sound → Ends s.found old new command reply) → RefinesCommand x old new s command reply
   called acts ends = elim (bool_cases s.is_failed) [
     | inl failed ↦ rested failed (acts.rests (stands.failed failed))
     | inr ok ↦
@@ -144,27 +144,27 @@ module _ (x : Setting) (old new : View) (s : State) (command : Command) (reply :
         subst (λ y. Works old new (given_by y s.guest command) (asked_by command)) stands.setting
         (subst (λ h. Works old new (given_by old.setting h command) (asked_by command)) (stands.guest ok) (acts.works sound)) in
         ⊎_elim
-        (λ (done : new.is_sound × Means old.setting s.found (guest_of old) command reply (guest_of new)).
+        (λ (done : new.is_sound × CommandMeaning old.setting s.found (guest_of old) command reply (guest_of new)).
         going ok worked done.0
-        (subst (λ y. Means y s.found s.guest command reply (guest_of new)) stands.setting (subst (λ h. Means old.setting s.found h command reply (guest_of new)) (stands.guest ok) done.1))
+        (subst (λ y. CommandMeaning y s.found s.guest command reply (guest_of new)) stands.setting (subst (λ h. CommandMeaning old.setting s.found h command reply (guest_of new)) (stands.guest ok) done.1))
         ((ends sound).finds done.0) ((ends sound).mark x s done.0))
         (λ (broke : IsFaultReply reply × IsTrue new.is_failed). failing ok worked broke.0 broke.1)
         (ends sound).ends
   ]
 
 -- a call that was answered, and one that was refused
-pub done_as : (x : Setting) (old new : View) (s : State) (command is : Command) (reply : Reply) → command ≡ is → StandsAt x old s
-    → Does old new (given_by old.setting (guest_of old) is) (asked_by is) (Means old.setting s.found (guest_of old) is reply (guest_of new))
-    → ((x' : Setting) (s' : State) → mark_after x' s' is reply (guest_of new) ≡ mark_in x' s' is) → (old.is_sound → IsRightlyFound new.setting old.known new.known is reply) → Goes x old new s command reply
+pub done_as : (x : Setting) (old new : AbstractImage) (s : State) (command is : Command) (reply : Reply) → command ≡ is → RefinesState x old s
+    → Does old new (given_by old.setting (guest_of old) is) (asked_by is) (CommandMeaning old.setting s.found (guest_of old) is reply (guest_of new))
+    → ((x' : Setting) (s' : State) → checkpoint_after x' s' is reply (guest_of new) ≡ checkpoint_during x' s' is) → (old.is_sound → IsRightlyFound new.setting old.known new.known is reply) → RefinesCommand x old new s command reply
 done_as x old new s command is reply e stands does mark finds =
-    subst (λ q. Goes x old new s q reply) (sym e) (called x old new s is reply stands does.acts
+    subst (λ q. RefinesCommand x old new s q reply) (sym e) (called x old new s is reply stands does.acts
     (λ sound. record { ends = inl (does.answer sound); finds = λ _. finds sound; mark = λ x' s' _. inl (mark x' s') }))
 
-pub refused_as : (x : Setting) (old new : View) (s : State) (command is : Command) (reply : Reply) (error : Refusal) → command ≡ is → StandsAt x old s
-    → Refuses old new (given_by old.setting (guest_of old) is) (asked_by is) error (Means old.setting s.found (guest_of old) is reply (guest_of new)) → (IsFault error → IsFaultReply reply)
-    → ((x' : Setting) (s' : State) → mark_after x' s' is reply (guest_of new) ≡ mark_in x' s' is) → IsRightlyFound new.setting old.known new.known is reply → Goes x old new s command reply
+pub refused_as : (x : Setting) (old new : AbstractImage) (s : State) (command is : Command) (reply : Reply) (error : Refusal) → command ≡ is → RefinesState x old s
+    → Refuses old new (given_by old.setting (guest_of old) is) (asked_by is) error (CommandMeaning old.setting s.found (guest_of old) is reply (guest_of new)) → (IsFault error → IsFaultReply reply)
+    → ((x' : Setting) (s' : State) → checkpoint_after x' s' is reply (guest_of new) ≡ checkpoint_during x' s' is) → IsRightlyFound new.setting old.known new.known is reply → RefinesCommand x old new s command reply
 refused_as x old new s command is reply error e stands refuses fault mark finds =
-    subst (λ q. Goes x old new s q reply) (sym e) (called x old new s is reply stands refuses.acts
+    subst (λ q. RefinesCommand x old new s q reply) (sym e) (called x old new s is reply stands refuses.acts
     (λ sound. record {
       ends = ⊎_elim (λ h. inl h) (λ (b : IsFault error × IsTrue new.is_failed). inr (fault b.0, b.1)) (refuses.answer sound);
       finds = λ _. finds;
@@ -172,14 +172,14 @@ refused_as x old new s command is reply error e stands refuses fault mark finds 
     }))
 
 -- no call at all
-pub acts_none : (v : View) (given : List Gift) (asked : List ℕ) → Acts v v given asked
+pub acts_none : (v : AbstractImage) (given : List GivenBytes) (asked : List ℕ) → Acts v v given asked
 acts_none v given asked = record {
   number = refl;
   works = λ _. record {
     setting = refl;
     surplus = λ _. refl;
     stops = λ m starts. record {
-      moments = passes_none v.storage (λ c. IsKeptAt v.setting.backing (more given asked m) (byte_at c));
+      moments = passes_none v.storage (λ c. StopOkEverywhere v.setting.backing (checkpoint_with given asked m) (byte_at c));
       contents = kept_more v.setting.backing given asked m (contents_of v) starts.0;
       known = λ _. kept_more v.setting.backing given asked m v.known starts.1;
     };
@@ -188,19 +188,19 @@ acts_none v given asked = record {
 }
 
 -- a flush that succeeded: what is on the storage is what the guest sees
-kept_at_once : (v : View) (b : Bytes) → IsWhole v → b ≡ v.known → IsKeptAt v.setting.backing (marked (guest_of v).disk) b
+kept_at_once : (v : AbstractImage) (b : Bytes) → IsWhole v → b ≡ v.known → StopOkEverywhere v.setting.backing (checkpoint_at (guest_of v).disk) b
 kept_at_once v b whole same = record {
   consistent = subst (λ (a : Bytes). IsConsistent a) (sym same) whole.consistent;
   size = inl (ap (λ (a : Bytes). (disk a v.setting.backing).size) same);
   values = λ o. inl (ap (λ (a : Bytes). (disk a v.setting.backing).value o) same);
 }
 
-pub flushed_as : (x : Setting) (old new : View) (s : State) (command is : Command) (reply : Reply) → command ≡ is → StandsAt x old s
-    → Does old new (given_by old.setting (guest_of old) is) (asked_by is) ((new.known ≡ contents_of new) × Means old.setting s.found (guest_of old) is reply (guest_of new))
+pub flushed_as : (x : Setting) (old new : AbstractImage) (s : State) (command is : Command) (reply : Reply) → command ≡ is → RefinesState x old s
+    → Does old new (given_by old.setting (guest_of old) is) (asked_by is) ((new.known ≡ contents_of new) × CommandMeaning old.setting s.found (guest_of old) is reply (guest_of new))
     → (new.is_sound → IsWhole new)
-    → ((x' : Setting) (s' : State) → mark_after x' s' is reply (guest_of new) ≡ marked (guest_of new).disk) → IsRightlyFound new.setting old.known new.known is reply → Goes x old new s command reply
+    → ((x' : Setting) (s' : State) → checkpoint_after x' s' is reply (guest_of new) ≡ checkpoint_at (guest_of new).disk) → IsRightlyFound new.setting old.known new.known is reply → RefinesCommand x old new s command reply
 flushed_as x old new s command is reply e stands does whole mark finds =
-    subst (λ q. Goes x old new s q reply) (sym e) (called x old new s is reply stands does.acts
+    subst (λ q. RefinesCommand x old new s q reply) (sym e) (called x old new s is reply stands does.acts
     (λ sound. let a = does.answer sound in record {
       ends = inl (a.0, a.1.1);
       finds = λ _. finds;
@@ -208,16 +208,16 @@ flushed_as x old new s command is reply e stands does whole mark finds =
     }))
 
 -- a command that was misused: nothing is called
-pub none_as : (x : Setting) (v : View) (s : State) (command is : Command) (reply : Reply) → command ≡ is → StandsAt x v s
-    → (v.is_sound → Means v.setting s.found (guest_of v) is reply (guest_of v))
-    → ((x' : Setting) (s' : State) → mark_after x' s' is reply (guest_of v) ≡ mark_in x' s' is) → IsRightlyFound v.setting v.known v.known is reply → Goes x v v s command reply
+pub none_as : (x : Setting) (v : AbstractImage) (s : State) (command is : Command) (reply : Reply) → command ≡ is → RefinesState x v s
+    → (v.is_sound → CommandMeaning v.setting s.found (guest_of v) is reply (guest_of v))
+    → ((x' : Setting) (s' : State) → checkpoint_after x' s' is reply (guest_of v) ≡ checkpoint_during x' s' is) → IsRightlyFound v.setting v.known v.known is reply → RefinesCommand x v v s command reply
 none_as x v s command is reply e stands means mark finds =
-    subst (λ q. Goes x v v s q reply) (sym e) (called x v v s is reply stands
+    subst (λ q. RefinesCommand x v v s q reply) (sym e) (called x v v s is reply stands
     (acts_none v (given_by v.setting (guest_of v) is) (asked_by is))
     (λ sound. record { ends = inl (sound, means sound); finds = λ _. finds; mark = λ x' s' _. inl (mark x' s') }))
 
 -- where a run begins
-pub begins : (v : View) → v.is_sound → IsWhole v → v.known ≡ contents_of v → StandsAt v.setting v (started (guest_of v))
+pub begins : (v : AbstractImage) → v.is_sound → IsWhole v → v.known ≡ contents_of v → RefinesState v.setting v (started (guest_of v))
 begins v sound whole same = record {
   setting = refl;
   works = λ _. sound;
@@ -225,35 +225,35 @@ begins v sound whole same = record {
   guest = λ _. refl;
   known = λ _. kept_at_once v v.known whole refl;
   contents = λ _. kept_at_once v (contents_of v) whole (sym same);
-  at_rest = stop_of_kept v.setting.backing (marked (guest_of v).disk) (contents_of v) (kept_at_once v (contents_of v) whole (sym same));
+  at_rest = stop_of_kept v.setting.backing (checkpoint_at (guest_of v).disk) (contents_of v) (kept_at_once v (contents_of v) whole (sym same));
 }
 
 -- a run goes on by one step
 pub Run-push : (x : Setting) (old mid new : State) (commands : List Command) (replies : List Reply) (command : Command) (reply : Reply)
-    → Run x old commands replies mid → Step x mid command reply new → Run x old (commands ++ command ∷ []) (replies ++ reply ∷ []) new
-Run-push x old mid new [] [] command reply run step = (new, subst (λ s. Step x s command reply new) run step, refl)
+    → Run x old commands replies mid → CommandStep x mid command reply new → Run x old (commands ++ command ∷ []) (replies ++ reply ∷ []) new
+Run-push x old mid new [] [] command reply run step = (new, subst (λ s. CommandStep x s command reply new) run step, refl)
 Run-push x old mid new (c ∷ commands) (r ∷ replies) command reply run step =
     (run.0, run.1, Run-push x run.0 mid new commands replies command reply run.2 step)
 Run-push x old mid new [] (r ∷ replies) command reply run step = absurd run
 Run-push x old mid new (c ∷ commands) [] command reply run step = absurd run
 
 -- an image that stands at a place of a run is as the run says
-said_at : {x : Setting} {v : View} {s : State} (before : ℕ → ℕ) → StandsAt x v s → (s.is_failed ≡ false → v.surplus ≡ before) → IsAsSaid v s before
+said_at : {x : Setting} {v : AbstractImage} {s : State} (before : ℕ → ℕ) → RefinesState x v s → (s.is_failed ≡ false → v.surplus ≡ before) → RefinesGuest v s before
 said_at before stands same = record { works = stands.works; failed = stands.failed; guest = stands.guest; consistent = λ ok. (stands.known ok).consistent; surplus = same }
 
-module _ {D P : Type 0} (spec : Spec D P) (x : Setting) (before : ℕ → ℕ) where
+module _ {D P : Type 0} (spec : Abstraction D P) (x : Setting) (before : ℕ → ℕ) where
   -- so does the image along it
-  along_push : (old mid new : D) (out : List (Option P)) (s t end : State) (commands : List Command) (replies : List Reply) (command : Command) (reply : Reply) (run : Run x s commands replies t) (step : Step x t command reply end)
-      → HoldsAlong spec x before old mid s t commands replies run → IsAsSaid (view spec new out) end before → IsSafeWhile x.backing (spec.storage mid) (spec.storage new) t.is_failed (mark_in x t command) end.mark
+  along_push : (old mid new : D) (out : List (Option P)) (s t end : State) (commands : List Command) (replies : List Reply) (command : Command) (reply : Reply) (run : Run x s commands replies t) (step : CommandStep x t command reply end)
+      → RefinesAlong spec x before old mid s t commands replies run → RefinesGuest (abstract_image spec new out) end before → IsSafeWhile x.backing (spec.storage mid) (spec.storage new) t.is_failed (checkpoint_during x t command) end.mark
       → (end.is_failed ≡ false → IsRightlyFound x (spec.known mid) (spec.known new) command reply)
-      → HoldsAlong spec x before old new s end (commands ++ command ∷ []) (replies ++ reply ∷ []) (Run-push x s t end commands replies command reply run step)
+      → RefinesAlong spec x before old new s end (commands ++ command ∷ []) (replies ++ reply ∷ []) (Run-push x s t end commands replies command reply run step)
   unfolding Run-push
   along_push old mid new out s t end [] [] command reply run step same said safe finds = (
     new,
     out,
     said,
-    subst (λ (d : D). IsSafeWhile x.backing (spec.storage d) (spec.storage new) s.is_failed (mark_in x s command) end.mark) same
-        (subst (λ (r : State). IsSafeWhile x.backing (spec.storage mid) (spec.storage new) r.is_failed (mark_in x r command) end.mark) run safe),
+    subst (λ (d : D). IsSafeWhile x.backing (spec.storage d) (spec.storage new) s.is_failed (checkpoint_during x s command) end.mark) same
+        (subst (λ (r : State). IsSafeWhile x.backing (spec.storage mid) (spec.storage new) r.is_failed (checkpoint_during x r command) end.mark) run safe),
     λ ok. subst (λ (d : D). IsRightlyFound x (spec.known d) (spec.known new) command reply) same (finds ok),
     refl,
   )
@@ -263,43 +263,43 @@ module _ {D P : Type 0} (spec : Spec D P) (x : Setting) (before : ℕ → ℕ) w
   along_push old mid new out s t end (c ∷ commands) [] command reply run step so_far said safe finds = absurd run
 
   -- the moments of a run fall under its commands
-  within : (old new : D) (s end : State) (commands : List Command) (replies : List Reply) (run : Run x s commands replies end) → HoldsAlong spec x before old new s end commands replies run
-      → IsStopAt x.backing s.mark (byte_at (spec.storage old).contents) → Passing (spec.storage old) (spec.storage new) (λ c. IsStopIn x s end commands replies run (byte_at c))
-  within old new s end [] [] run same at = subst (λ (d : D). Passing (spec.storage old) (spec.storage d) (λ c. IsStopAt x.backing end.mark (byte_at c))) (sym same) (passes_none (spec.storage old) (λ c. IsStopAt x.backing end.mark (byte_at c)))
+  within : (old new : D) (s end : State) (commands : List Command) (replies : List Reply) (run : Run x s commands replies end) → RefinesAlong spec x before old new s end commands replies run
+      → StopOk x.backing s.mark (byte_at (spec.storage old).contents) → Passing (spec.storage old) (spec.storage new) (λ c. IsStopIn x s end commands replies run (byte_at c))
+  within old new s end [] [] run same at = subst (λ (d : D). Passing (spec.storage old) (spec.storage d) (λ c. StopOk x.backing end.mark (byte_at c))) (sym same) (passes_none (spec.storage old) (λ c. StopOk x.backing end.mark (byte_at c)))
   within old new s end (command ∷ commands) (reply ∷ replies) run safe at =
-      let here : Passing (spec.storage old) (spec.storage safe.0) (λ c. IsStopAt x.backing (mark_in x s command) (byte_at c)) = elim (bool_cases s.is_failed) [
-        | inl failed ↦ passes_if (λ c. IsStopAt x.backing (mark_in x s command) (byte_at c))
-            (λ c e. subst (λ k. IsStopAt x.backing (mark_in x s command) (byte_at k)) (sym e) (stop_more x.backing (given_by x s.guest command) (asked_by command) s.mark (byte_at (spec.storage old).contents) at)) (safe.3.silent failed)
+      let here : Passing (spec.storage old) (spec.storage safe.0) (λ c. StopOk x.backing (checkpoint_during x s command) (byte_at c)) = elim (bool_cases s.is_failed) [
+        | inl failed ↦ passes_if (λ c. StopOk x.backing (checkpoint_during x s command) (byte_at c))
+            (λ c e. subst (λ k. StopOk x.backing (checkpoint_during x s command) (byte_at k)) (sym e) (stop_more x.backing (given_by x s.guest command) (asked_by command) s.mark (byte_at (spec.storage old).contents) at)) (safe.3.silent failed)
         | inr ok ↦ safe.3.moments ok
       ] in
       passes_more here (within safe.0 new run.0 end commands replies run.2 safe.5 safe.3.at_return)
   within old new s end [] (reply ∷ replies) run safe at = absurd run
   within old new s end (command ∷ commands) [] run safe at = absurd run
 
-  stop_at_end : (s end : State) (commands : List Command) (replies : List Reply) (run : Run x s commands replies end) (b : Bytes) → IsStopAt x.backing end.mark b → IsStopIn x s end commands replies run b
+  stop_at_end : (s end : State) (commands : List Command) (replies : List Reply) (run : Run x s commands replies end) (b : Bytes) → StopOk x.backing end.mark b → IsStopIn x s end commands replies run b
   stop_at_end s end [] [] run b at = at
   stop_at_end s end (command ∷ commands) (reply ∷ replies) run b at = inr (stop_at_end run.0 end commands replies run.2 b at)
   stop_at_end s end [] (reply ∷ replies) run b at = absurd run
   stop_at_end s end (command ∷ commands) [] run b at = absurd run
 
-  rest_at_end : (old new : D) (s end : State) (commands : List Command) (replies : List Reply) (run : Run x s commands replies end) → HoldsAlong spec x before old new s end commands replies run
-      → IsStopAt x.backing s.mark (byte_at (spec.storage old).contents) → IsStopAt x.backing end.mark (byte_at (spec.storage new).contents)
-  rest_at_end old new s end [] [] run same at = subst (λ (d : D). IsStopAt x.backing end.mark (byte_at (spec.storage d).contents)) (sym same) (subst (λ (t : State). IsStopAt x.backing t.mark (byte_at (spec.storage old).contents)) (sym run) at)
+  rest_at_end : (old new : D) (s end : State) (commands : List Command) (replies : List Reply) (run : Run x s commands replies end) → RefinesAlong spec x before old new s end commands replies run
+      → StopOk x.backing s.mark (byte_at (spec.storage old).contents) → StopOk x.backing end.mark (byte_at (spec.storage new).contents)
+  rest_at_end old new s end [] [] run same at = subst (λ (d : D). StopOk x.backing end.mark (byte_at (spec.storage d).contents)) (sym same) (subst (λ (t : State). StopOk x.backing t.mark (byte_at (spec.storage old).contents)) (sym run) at)
   rest_at_end old new s end (command ∷ commands) (reply ∷ replies) run safe at = rest_at_end safe.0 new run.0 end commands replies run.2 safe.5 safe.3.at_return
   rest_at_end old new s end [] (reply ∷ replies) run safe at = absurd run
   rest_at_end old new s end (command ∷ commands) [] run safe at = absurd run
 
   -- what stood at its start falls under the first, or the end
-  first_in : (old new : D) (s end : State) (commands : List Command) (replies : List Reply) (run : Run x s commands replies end) → HoldsAlong spec x before old new s end commands replies run
-      → IsStopAt x.backing s.mark (byte_at (spec.storage old).contents) → IsStopIn x s end commands replies run (byte_at (spec.storage old).contents)
-  first_in old new s end [] [] run same at = subst (λ (t : State). IsStopAt x.backing t.mark (byte_at (spec.storage old).contents)) (sym run) at
+  first_in : (old new : D) (s end : State) (commands : List Command) (replies : List Reply) (run : Run x s commands replies end) → RefinesAlong spec x before old new s end commands replies run
+      → StopOk x.backing s.mark (byte_at (spec.storage old).contents) → IsStopIn x s end commands replies run (byte_at (spec.storage old).contents)
+  first_in old new s end [] [] run same at = subst (λ (t : State). StopOk x.backing t.mark (byte_at (spec.storage old).contents)) (sym run) at
   first_in old new s end (command ∷ commands) (reply ∷ replies) run safe at = inl (stop_more x.backing (given_by x s.guest command) (asked_by command) s.mark (byte_at (spec.storage old).contents) at)
   first_in old new s end [] (reply ∷ replies) run safe at = absurd run
   first_in old new s end (command ∷ commands) [] run safe at = absurd run
 
   -- and none but these since its start
   pub since_start : (old last new : D) (s end : State) (commands : List Command) (replies : List Reply) (run : Run x s commands replies end) → ((c : List ℕ) → (spec.storage old).had_since (spec.storage old).moment c → c ≡ (spec.storage old).contents)
-      → IsStopAt x.backing s.mark (byte_at (spec.storage old).contents) → HoldsAlong spec x before old last s end commands replies run → IsSafeWhile x.backing (spec.storage last) (spec.storage new) end.is_failed end.mark end.mark
+      → StopOk x.backing s.mark (byte_at (spec.storage old).contents) → RefinesAlong spec x before old last s end commands replies run → IsSafeWhile x.backing (spec.storage last) (spec.storage new) end.is_failed end.mark end.mark
       → (c : List ℕ) → (spec.storage new).had_since (spec.storage old).moment c → IsStopIn x s end commands replies run (byte_at c)
   since_start old last new s end commands replies run only at stops leaves c had =
       let In = λ (k : List ℕ). IsStopIn x s end commands replies run (byte_at k) in
@@ -311,13 +311,13 @@ module _ {D P : Type 0} (spec : Spec D P) (x : Setting) (before : ℕ → ℕ) w
       ⊎_elim (λ (e : c ≡ (spec.storage old).contents). subst In (sym e) (first_in old last s end commands replies run stops at))
       (λ (p : In c). p) (since_began only (passes_on In (within old last s end commands replies run stops at) ending (λ k h. h)) c had)
 
-module _ {D P : Type 0} (spec : Spec D P) where
-  pub ran_none : (x : Setting) (d : D) (out : List (Option P)) (s : State) → StandsAt x (view spec d out) s → Ran spec x d out d out s [] []
+module _ {D P : Type 0} (spec : Abstraction D P) where
+  pub ran_none : (x : Setting) (d : D) (out : List (Option P)) (s : State) → RefinesState x (abstract_image spec d out) s → RefinesRun spec x d out d out s [] []
   ran_none x d out s stands = record { end = s; run = refl; along = refl; stands = stands; surplus = λ _. refl }
 
   pub ran_more : (x : Setting) (old mid new : D) (before out out' : List (Option P)) (s : State) (commands : List Command) (replies : List Reply) (command : Command) (reply : Reply)
-      → (ran : Ran spec x old before mid out s commands replies) → Goes x (view spec mid out) (view spec new out') ran.end command reply
-      → Ran spec x old before new out' s (commands ++ command ∷ []) (replies ++ reply ∷ [])
+      → (ran : RefinesRun spec x old before mid out s commands replies) → RefinesCommand x (abstract_image spec mid out) (abstract_image spec new out') ran.end command reply
+      → RefinesRun spec x old before new out' s (commands ++ command ∷ []) (replies ++ reply ∷ [])
   ran_more x old mid new before out out' s commands replies command reply ran goes = record {
     end = goes.end;
     run = Run-push x s ran.end goes.end commands replies command reply ran.run goes.step;
@@ -328,15 +328,15 @@ module _ {D P : Type 0} (spec : Spec D P) where
   }
 
   -- a run whose mappings are let go at its end
-  module _ (x : Setting) (old last new : D) (before out : List (Option P)) (s : State) (commands : List Command) (replies : List Reply) (ran : Ran spec x old before last out s commands replies)
-      (does : Does (view spec last out) (view spec new []) [] [] ((guest_of (view spec new [])).disk ≡ (guest_of (view spec last out)).disk)) where
+  module _ (x : Setting) (old last new : D) (before out : List (Option P)) (s : State) (commands : List Command) (replies : List Reply) (ran : RefinesRun spec x old before last out s commands replies)
+      (does : Does (abstract_image spec last out) (abstract_image spec new []) [] [] ((guest_of (abstract_image spec new [])).disk ≡ (guest_of (abstract_image spec last out)).disk)) where
     backing_then : (spec.setting last).backing ≡ x.backing
     backing_then = ap (λ (y : Setting). y.backing) ran.stands.setting
 
-    at_end : ran.end.is_failed ≡ false → Stops (view spec last out) (view spec new []) [] [] ran.end.mark
+    at_end : ran.end.is_failed ≡ false → Stops (abstract_image spec last out) (abstract_image spec new []) [] [] ran.end.mark
     at_end ok =
         (does.acts.works (ran.stands.works ok)).stops ran.end.mark
-        (subst (λ b. IsKeptAt b ran.end.mark (byte_at (spec.storage last).contents)) (sym backing_then) (ran.stands.contents ok), subst (λ b. IsKeptAt b ran.end.mark (spec.known last)) (sym backing_then) (ran.stands.known ok))
+        (subst (λ b. StopOkEverywhere b ran.end.mark (byte_at (spec.storage last).contents)) (sym backing_then) (ran.stands.contents ok), subst (λ b. StopOkEverywhere b ran.end.mark (spec.known last)) (sym backing_then) (ran.stands.known ok))
 
     setting_then : spec.setting new ≡ x
     setting_then = elim (bool_cases ran.end.is_failed) [
@@ -344,24 +344,24 @@ module _ {D P : Type 0} (spec : Spec D P) where
       | inr ok ↦ (does.acts.works (ran.stands.works ok)).setting ∙ ran.stands.setting
     ]
 
-    kept_then : ran.end.is_failed ≡ false → IsKeptAt x.backing ran.end.mark (byte_at (spec.storage new).contents)
-    kept_then ok = subst (λ b. IsKeptAt b ran.end.mark (byte_at (spec.storage new).contents)) backing_then (at_end ok).contents
+    kept_then : ran.end.is_failed ≡ false → StopOkEverywhere x.backing ran.end.mark (byte_at (spec.storage new).contents)
+    kept_then ok = subst (λ b. StopOkEverywhere b ran.end.mark (byte_at (spec.storage new).contents)) backing_then (at_end ok).contents
 
-    resting : IsStopAt x.backing ran.end.mark (byte_at (spec.storage new).contents)
+    resting : StopOk x.backing ran.end.mark (byte_at (spec.storage new).contents)
     resting = elim (bool_cases ran.end.is_failed) [
-      | inl failed ↦ subst (λ k. IsStopAt x.backing ran.end.mark (byte_at k)) (sym (does.acts.rests (ran.stands.failed failed)).contents) ran.stands.at_rest
+      | inl failed ↦ subst (λ k. StopOk x.backing ran.end.mark (byte_at k)) (sym (does.acts.rests (ran.stands.failed failed)).contents) ran.stands.at_rest
       | inr ok ↦ stop_of_kept x.backing ran.end.mark (byte_at (spec.storage new).contents) (kept_then ok)
     ]
 
-    pub completes : ((k : ℕ) → (view spec new []).slots k ≡ None) → spec.surplus old before ≡ spec.surplus old [] → Completes spec x old new s commands replies
+    pub completes : ((k : ℕ) → (abstract_image spec new []).slots k ≡ None) → spec.surplus old before ≡ spec.surplus old [] → RefinesWholeRun spec x old new s commands replies
     completes empty same = record {
       end = ran.end;
       run = ran.run;
       last = last;
-      along = subst (λ (k : ℕ → ℕ). HoldsAlong spec x k old last s ran.end commands replies ran.run) same ran.along;
+      along = subst (λ (k : ℕ → ℕ). RefinesAlong spec x k old last s ran.end commands replies ran.run) same ran.along;
       leaves = record {
-        moments = λ ok. passes_if (λ c. IsStopAt x.backing ran.end.mark (byte_at c))
-            (λ c k. stop_of_kept x.backing ran.end.mark (byte_at c) (subst (λ b. IsKeptAt b ran.end.mark (byte_at c)) backing_then k)) (at_end ok).moments;
+        moments = λ ok. passes_if (λ c. StopOk x.backing ran.end.mark (byte_at c))
+            (λ c k. stop_of_kept x.backing ran.end.mark (byte_at c) (subst (λ b. StopOkEverywhere b ran.end.mark (byte_at c)) backing_then k)) (at_end ok).moments;
         at_return = resting;
         silent = λ failed. (does.acts.rests (ran.stands.failed failed)).moments;
         unchanged = λ failed. (does.acts.rests (ran.stands.failed failed)).contents;
@@ -371,9 +371,9 @@ module _ {D P : Type 0} (spec : Spec D P) where
         works = λ ok. (does.answer (ran.stands.works ok)).0;
         failed = λ failed. (does.acts.rests (ran.stands.failed failed)).failed;
         guest = λ ok.
-            ap (λ (f : ℕ → Option PreparedMapping). record (guest_of (view spec new [])) { slots = f }) (fun_ext empty)
+            ap (λ (f : ℕ → Option PreparedMapping). record (guest_of (abstract_image spec new [])) { slots = f }) (fun_ext empty)
             ∙ ap (λ (d : Disk). record { disk = d; slots = λ _. None }) ((does.answer (ran.stands.works ok)).1 ∙ ap (λ (g : Guest). g.disk) (ran.stands.guest ok));
-        known = λ ok. subst (λ b. IsKeptAt b ran.end.mark (spec.known new)) backing_then ((at_end ok).known (does.answer (ran.stands.works ok)).0);
+        known = λ ok. subst (λ b. StopOkEverywhere b ran.end.mark (spec.known new)) backing_then ((at_end ok).known (does.answer (ran.stands.works ok)).0);
         contents = kept_then;
         at_rest = resting;
       };
@@ -382,8 +382,8 @@ module _ {D P : Type 0} (spec : Spec D P) where
 
   -- a whole run of an image that was just opened
   pub means_the_disk : (old new : D) (commands : List Command) (replies : List Reply) → ((c : List ℕ) → (spec.storage old).had_since (spec.storage old).moment c → c ≡ (spec.storage old).contents)
-      → StandsAt (spec.setting old) (view spec old []) (started (guest_of (view spec old [])))
-      → Completes spec (spec.setting old) old new (started (guest_of (view spec old []))) commands replies → MeansTheDisk spec old new commands replies
+      → RefinesState (spec.setting old) (abstract_image spec old []) (started (guest_of (abstract_image spec old [])))
+      → RefinesWholeRun spec (spec.setting old) old new (started (guest_of (abstract_image spec old []))) commands replies → RefinesDisk spec old new commands replies
   means_the_disk old new commands replies only stands all = record {
     end = all.end;
     run = all.run;
@@ -392,5 +392,5 @@ module _ {D P : Type 0} (spec : Spec D P) where
     along = all.along;
     leaves = all.leaves;
     at_end = said_at (spec.surplus old []) all.stands all.surplus;
-    since_start = since_start spec (spec.setting old) (spec.surplus old []) old all.last new (started (guest_of (view spec old []))) all.end commands replies all.run only stands.at_rest all.along all.leaves;
+    since_start = since_start spec (spec.setting old) (spec.surplus old []) old all.last new (started (guest_of (abstract_image spec old []))) all.end commands replies all.run only stands.at_rest all.along all.leaves;
   }

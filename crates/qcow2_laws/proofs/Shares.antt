@@ -10,7 +10,7 @@ use Rattle.qcow2_metadata.specs.Entries.{l1_entry, reftable_entry, count, block_
 use Rattle.qcow2_metadata.specs.Cover.{cover}
 use Rattle.qcow2_metadata.specs.Named.{in_cluster, in_run, table_in, named_by_header, named_by_reftable, named_by_l1_table, named_for_tables}
 use Rattle.qcow2_laws.specs.Guests.{table_at}
-use Rattle.qcow2_laws.specs.Guard.{IsTop, SameTop, SameCovers, SameCounts, SameIn}
+use Rattle.qcow2_laws.specs.CrashInvariant.{IsTop, SameTop, SameCovers, SameCounts, SameIn}
 use Rattle.qcow2_laws.proofs.Sums.{term_le-sum_below, two_terms_le-sum_below}
 use Rattle.qcow2_laws.proofs.Places.{Sizes, Sizes-from, div_mono, SameFrom-in, l1-same, reftable-same, has_table, has_block, count-same, cover-same}
 use Rattle.qcow2_laws.proofs.Consistency.{in_own, table_in_own}

@@ -12,12 +12,12 @@ use Rattle.qcow2_metadata.specs.Consistent.{CoverIsAligned}
 use Rattle.qcow2_metadata.specs.declared.l2_mapping.L2Mapping.{L2Mapping}
 use Rattle.qcow2_metadata.specs.declared.l2_mapping.L2Mapping.TheVariants.{Data, Zero, Uncovered}
 use Rattle.qcow2_laws.specs.Disk.{Disk, disk}
-use Rattle.qcow2_laws.specs.Stops.{Gift}
+use Rattle.qcow2_laws.specs.Stops.{GivenBytes}
 use Rattle.qcow2_laws.specs.Guests.{over_guests, names, named_in_either}
-use Rattle.qcow2_laws.specs.Guard.{SameIn}
+use Rattle.qcow2_laws.specs.CrashInvariant.{SameIn}
 use Rattle.qcow2_laws.specs.Tops.{IsSameOutside}
 use Rattle.qcow2_laws.specs.Writes.{IsUnnamed}
-use Rattle.qcow2_laws.specs.Leads.{Stand, IsSound, Leads}
+use Rattle.qcow2_laws.specs.SafeSteps.{DriverState, StateInvariant, SafeStep}
 use Rattle.qcow2_laws.specs.Unseen.{IsUnseenBut, SameL1Table}
 use Rattle.qcow2_laws.proofs.Places.{in_one}
 use Rattle.qcow2_laws.proofs.Mixes.{tied}
@@ -28,7 +28,7 @@ use Rattle.qcow2_laws.proofs.Steps.{data_is_written}
 use Rattle.qcow2_laws.proofs.Unseen.{known_header, unseen_but_written, named_some, disk_stays}
 
 -- ---- what is read
-module _ (s : Stand) (sound : IsSound s) where
+module _ (s : DriverState) (sound : StateInvariant s) where
   pub shown_size : (backing : Bytes) → (disk s.known backing).size ≡ s.header.size
   shown_size backing = size_is s.header s.known backing (known_header s sound)
 
@@ -53,17 +53,17 @@ module _ (s : Stand) (sound : IsSound s) where
     data_named = ap (named_by_cover s.header (host / cluster_size s.header)) is ∙ in_own s.header host
 
     -- no table is laid over them
-    pub data_unlaid : (k : ℕ) → k < cluster_size s.header → s.base (host + k) ≡ s.known (host + k)
+    pub data_unlaid : (k : ℕ) → k < cluster_size s.header → s.on_storage (host + k) ≡ s.known (host + k)
     data_unlaid k lt =
         sound.unlaid (host + k) (
         let here = in_one (cluster_size s.header) host k data_aligned lt in
         let named = data_named in
         let some = named_some s s sound (host / cluster_size s.header) g (omega arith) in
-        let t = (tied s.header s.pending s.base s.known (host / cluster_size s.header)).known in
-        subst (λ n. 0 < named_in_either s.header s.base s.known n + s.pending.held n) (sym here) (omega arith))
+        let t = (tied s.header s.pending s.on_storage s.known (host / cluster_size s.header)).known in
+        subst (λ n. 0 < named_in_either s.header s.on_storage s.known n + s.pending.held n) (sym here) (omega arith))
 
   pub shown_data : (backing : Bytes) (o host : ℕ) (copied : Bool) → cover s.header s.known (o / cluster_size s.header) ≡ Data host copied
-      → (disk s.known backing).value o ≡ known_byte (s.base (host + o % cluster_size s.header))
+      → (disk s.known backing).value o ≡ known_byte (s.on_storage (host + o % cluster_size s.header))
   shown_data backing o host copied is =
       shown_under backing o (Data host copied) is
       ∙ ap known_byte (sym (data_unlaid (o / cluster_size s.header) host copied is (o % cluster_size s.header) (mod_below o (cluster_size s.header) (pow_pos s.header.cluster_bits))))
@@ -71,27 +71,27 @@ module _ (s : Stand) (sound : IsSound s) where
 -- ---- bytes are written to one cluster
 
 -- what a write of data does: what it gives, and what the guest's disk is then
-pub record Writes (c : ℕ) (old new : Stand) (given : Bytes → List Gift) (now : Bytes → Disk) : Type 0 where
-  pub leads : Leads old new given []
+pub record Writes (c : ℕ) (old new : DriverState) (given : Bytes → List GivenBytes) (now : Bytes → Disk) : Type 0 where
+  pub leads : SafeStep old new given []
   pub unseen : IsUnseenBut c old new
   pub l1 : SameL1Table old new
   pub shows : (backing : Bytes) → disk new.known backing ≡ now backing
 
-module _ (s : Stand) (base' known' : Bytes) (sound : IsSound s) where
+module _ (s : DriverState) (on_storage' known' : Bytes) (sound : StateInvariant s) where
   -- any other cluster is as before
-  pub same_elsewhere : (c k : ℕ) → k ≢ c → IsSameOutside (cluster_size s.header) c s.base base' → IsSameOutside (cluster_size s.header) c s.known known'
-      → SameIn (cluster_size s.header) k s.base base' × SameIn (cluster_size s.header) k s.known known'
+  pub same_elsewhere : (c k : ℕ) → k ≢ c → IsSameOutside (cluster_size s.header) c s.on_storage on_storage' → IsSameOutside (cluster_size s.header) c s.known known'
+      → SameIn (cluster_size s.header) k s.on_storage on_storage' × SameIn (cluster_size s.header) k s.known known'
   same_elsewhere c k other outside known_outside = ((λ o in_k. outside o (λ e. other (sym in_k ∙ e))), (λ o in_k. known_outside o (λ e. other (sym in_k ∙ e))))
 
-  pub private_written : (c : ℕ) → 0 < s.pending.held c → IsSameOutside (cluster_size s.header) c s.base base' → IsSameOutside (cluster_size s.header) c s.known known'
-      → ((o : ℕ) → s.base o ≡ s.known o → base' o ≡ known' o) → Writes c s (record s { base = base'; known = known' }) (λ _. []) (λ backing. disk s.known backing)
+  pub private_written : (c : ℕ) → 0 < s.pending.held c → IsSameOutside (cluster_size s.header) c s.on_storage on_storage' → IsSameOutside (cluster_size s.header) c s.known known'
+      → ((o : ℕ) → s.on_storage o ≡ s.known o → on_storage' o ≡ known' o) → Writes c s (record s { on_storage = on_storage'; known = known' }) (λ _. []) (λ backing. disk s.known backing)
   private_written c held outside known_outside agree =
-      let new : Stand = record s { base = base'; known = known' } in
-      let unnamed = held_is_unnamed s.header s.direction s.pending s.base s.known sound c held in
-      let leads : Leads s (record s { base = base'; known = known' }) (λ _. []) [] = data_is_written.written s base' known' [] sound (record {
+      let new : DriverState = record s { on_storage = on_storage'; known = known' } in
+      let unnamed = held_is_unnamed s.header s.direction s.pending s.on_storage s.known sound c held in
+      let leads : SafeStep s (record s { on_storage = on_storage'; known = known' }) (λ _. []) [] = data_is_written.written s on_storage' known' [] sound (record {
         agree = agree;
         each = λ k. elim (cases_eq k c) [
-          | inl e ↦ inr (inl (subst (IsUnnamed s.header s.base s.known) (sym e) unnamed))
+          | inl e ↦ inr (inl (subst (IsUnnamed s.header s.on_storage s.known) (sym e) unnamed))
           | inr ne ↦ inl (same_elsewhere c k ne outside known_outside)
         ];
       }) in
@@ -101,7 +101,7 @@ module _ (s : Stand) (base' known' : Bytes) (sound : IsSound s) where
         unseen = both.0;
         l1 = both.1;
         shows = λ backing. disk_stays s new sound leads.sound refl backing both.0.covers (λ place some. sym (known_outside place (λ e.
-            let t = (tied s.header s.pending s.base s.known c).known in
+            let t = (tied s.header s.pending s.on_storage s.known c).known in
             let none = unnamed.no_entry in
             let here = subst (λ n. 0 < over_guests s.header (names s.header s.known n)) e some in
             absurd (omega arith))));

@@ -2,7 +2,7 @@
 use Rattle.std.proofs.Common.{inl, inr, [], ◌∷◌, ◌++◌, refl, sym, subst}
 use Rattle.qcow2_metadata.specs.Header.{header}
 use Rattle.qcow2_laws.specs.Clusters.{L2DependsOnRb, RbDependsOnL2}
-use Rattle.qcow2_laws.specs.Guard.{IsGuarded}
+use Rattle.qcow2_laws.specs.CrashInvariant.{CrashInvariant}
 use Rattle.qcow2_laws.specs.Changes.{one_at, with_held, with_fresh, without_spent, without_dropped}
 use Rattle.qcow2_laws.specs.Laws.{SoundIsConsistent, MixIsSafe, TableIsWritten, CountIsChanged, PendingIsChanged, EntryIsChanged, DataIsWritten, TableIsNamed, HeaderIsWritten, StepsCompose}
 use Rattle.qcow2_laws.proofs.Stops.{stop_of_kept, kept_more}
@@ -19,147 +19,147 @@ use Rattle.qcow2_laws.proofs.Headers.{size_written, size_written_kept, size_writ
 use Rattle.qcow2_laws.proofs.L1Moves.{l1_moved, l1_moved_kept, l1_moved_known_kept}
 use Rattle.qcow2_laws.proofs.ReftableMoves.{reftable_moved, reftable_moved_kept, reftable_moved_known_kept}
 use Rattle.qcow2_laws.proofs.Caches.{block_written, table_written}
-use Rattle.qcow2_laws.proofs.Leads.{leads_then, leads_less}
+use Rattle.qcow2_laws.proofs.SafeSteps.{leads_then, leads_less}
 
 pub sound_is_consistent : SoundIsConsistent
 sound_is_consistent = record {
-  base = λ s sound. guarded_consistent s.header s.direction s.pending s.base s.known sound;
-  known = λ s sound. known_consistent s.header s.direction s.pending s.base s.known sound;
+  on_storage = λ s sound. guarded_consistent s.header s.direction s.pending s.on_storage s.known sound;
+  known = λ s sound. known_consistent s.header s.direction s.pending s.on_storage s.known sound;
   opened = λ b ok. opened_guarded (header b) b ok refl;
 }
 
 pub mix_is_safe : MixIsSafe
 mix_is_safe = record {
   mixed = λ s b sound mixed. record {
-    sound = mixed_guarded s.header s.direction s.pending s.base s.known b sound mixed;
-    base = λ backing m ok known_ok. mixed_kept s.header s.direction s.pending s.base s.known b sound mixed backing m ok known_ok;
+    sound = mixed_guarded s.header s.direction s.pending s.on_storage s.known b sound mixed;
+    on_storage = λ backing m ok known_ok. mixed_kept s.header s.direction s.pending s.on_storage s.known b sound mixed backing m ok known_ok;
     known = λ backing m ok known_ok. known_ok;
   };
   turned = λ s to sound may. record {
-    sound = turned_guarded s.header s.direction to s.pending s.base s.known may sound;
-    base = λ backing m ok known_ok. ok;
+    sound = turned_guarded s.header s.direction to s.pending s.on_storage s.known may sound;
+    on_storage = λ backing m ok known_ok. ok;
     known = λ backing m ok known_ok. known_ok;
   };
 }
 
 pub table_is_written : TableIsWritten
 table_is_written = record {
-  block = λ h d p l2s front back t t' base base' kept may so. block_written h d p l2s (front ++ t ∷ back) base kept front back t t' base' refl so may;
-  table = λ h d p front back rbs t t' base base' kept may so. table_written h d p (front ++ t ∷ back) rbs base kept front back t t' base' refl so may;
+  block = λ h d p l2s front back t t' on_storage on_storage' kept may so. block_written h d p l2s (front ++ t ∷ back) on_storage kept front back t t' on_storage' refl so may;
+  table = λ h d p front back rbs t t' on_storage on_storage' kept may so. table_written h d p (front ++ t ∷ back) rbs on_storage kept front back t t' on_storage' refl so may;
 }
 
 pub count_is_changed : CountIsChanged
 count_is_changed = record {
   data_allocated = λ s known' c sound is rises unlaid.
-      let now = data_allocated s.header s.direction s.pending s.base s.known known' sound c rises.real rises.outside rises.more rises.free is unlaid in
+      let now = data_allocated s.header s.direction s.pending s.on_storage s.known known' sound c rises.real rises.outside rises.more rises.free is unlaid in
       record {
-        sound = subst (λ d. IsGuarded s.header d (with_held s.pending (one_at c)) s.base known') (sym is) now;
-        base = λ backing m ok known_ok. ok;
-        known = λ backing m ok known_ok. counts_kept s.header s.direction s.pending s.base s.known known' sound c rises.real rises.outside L2DependsOnRb (with_held s.pending (one_at c)) now backing m known_ok;
+        sound = subst (λ d. CrashInvariant s.header d (with_held s.pending (one_at c)) s.on_storage known') (sym is) now;
+        on_storage = λ backing m ok known_ok. ok;
+        known = λ backing m ok known_ok. counts_kept s.header s.direction s.pending s.on_storage s.known known' sound c rises.real rises.outside L2DependsOnRb (with_held s.pending (one_at c)) now backing m known_ok;
       };
   table_allocated = λ s known' c sound rises.
-      let now = table_allocated s.header s.direction s.pending s.base s.known known' sound c rises.real rises.outside rises.more rises.free in
+      let now = table_allocated s.header s.direction s.pending s.on_storage s.known known' sound c rises.real rises.outside rises.more rises.free in
       record {
         sound = now;
-        base = λ backing m ok known_ok. ok;
-        known = λ backing m ok known_ok. counts_kept s.header s.direction s.pending s.base s.known known' sound c rises.real rises.outside s.direction (with_fresh s.pending (one_at c)) now backing m known_ok;
+        on_storage = λ backing m ok known_ok. ok;
+        known = λ backing m ok known_ok. counts_kept s.header s.direction s.pending s.on_storage s.known known' sound c rises.real rises.outside s.direction (with_fresh s.pending (one_at c)) now backing m known_ok;
       };
   table_freed = λ s known' c sound falls some.
-      let now = table_released s.header s.direction s.pending s.base s.known known' sound c falls.real falls.outside falls.less some in
+      let now = table_released s.header s.direction s.pending s.on_storage s.known known' sound c falls.real falls.outside falls.less some in
       record {
         sound = now;
-        base = λ backing m ok known_ok. ok;
-        known = λ backing m ok known_ok. counts_kept s.header s.direction s.pending s.base s.known known' sound c falls.real falls.outside s.direction (without_spent s.pending (one_at c)) now backing m known_ok;
+        on_storage = λ backing m ok known_ok. ok;
+        known = λ backing m ok known_ok. counts_kept s.header s.direction s.pending s.on_storage s.known known' sound c falls.real falls.outside s.direction (without_spent s.pending (one_at c)) now backing m known_ok;
       };
   data_freed = λ s known' c sound is falls some.
-      let now = data_released s.header s.direction s.pending s.base s.known known' sound c falls.real falls.outside falls.less is some in
+      let now = data_released s.header s.direction s.pending s.on_storage s.known known' sound c falls.real falls.outside falls.less is some in
       record {
-        sound = subst (λ d. IsGuarded s.header d (without_dropped s.pending (one_at c)) s.base known') (sym is) now;
-        base = λ backing m ok known_ok. ok;
-        known = λ backing m ok known_ok. counts_kept s.header s.direction s.pending s.base s.known known' sound c falls.real falls.outside RbDependsOnL2 (without_dropped s.pending (one_at c)) now backing m known_ok;
+        sound = subst (λ d. CrashInvariant s.header d (without_dropped s.pending (one_at c)) s.on_storage known') (sym is) now;
+        on_storage = λ backing m ok known_ok. ok;
+        known = λ backing m ok known_ok. counts_kept s.header s.direction s.pending s.on_storage s.known known' sound c falls.real falls.outside RbDependsOnL2 (without_dropped s.pending (one_at c)) now backing m known_ok;
       };
 }
 
 pub pending_is_changed : PendingIsChanged
 pending_is_changed = record {
   dropped = λ s n sound few some. record {
-    sound = dropped_instead s.header s.direction s.pending s.base s.known sound n few some;
-    base = λ backing m ok known_ok. ok;
+    sound = dropped_instead s.header s.direction s.pending s.on_storage s.known sound n few some;
+    on_storage = λ backing m ok known_ok. ok;
     known = λ backing m ok known_ok. known_ok;
   };
   undone = λ s n sound few some. record {
-    sound = spent_instead s.header s.direction s.pending s.base s.known sound n few some;
-    base = λ backing m ok known_ok. ok;
+    sound = spent_instead s.header s.direction s.pending s.on_storage s.known sound n few some;
+    on_storage = λ backing m ok known_ok. ok;
     known = λ backing m ok known_ok. known_ok;
   };
   abandoned = λ s n sound few some. record {
-    sound = never_named s.header s.direction s.pending s.base s.known sound n few some;
-    base = λ backing m ok known_ok. ok;
+    sound = never_named s.header s.direction s.pending s.on_storage s.known sound n few some;
+    on_storage = λ backing m ok known_ok. ok;
     known = λ backing m ok known_ok. known_ok;
   };
 }
 
 pub entry_is_changed : EntryIsChanged
 entry_is_changed s known' i j given sound changes shows = record {
-  sound = entry_set s.header s.direction s.pending s.base s.known known' sound i j changes.real changes.within changes.outside changes.entries changes.held changes.marked changes.aligned;
-  base = λ backing m ok known_ok. kept_more backing (given backing) [] m s.base ok;
+  sound = entry_set s.header s.direction s.pending s.on_storage s.known known' sound i j changes.real changes.within changes.outside changes.entries changes.held changes.marked changes.aligned;
+  on_storage = λ backing m ok known_ok. kept_more backing (given backing) [] m s.on_storage ok;
   known = λ backing m ok known_ok.
-      entry_kept s.header s.direction s.pending s.base s.known known' sound i j changes.real changes.within changes.outside changes.entries changes.held changes.marked changes.aligned
+      entry_kept s.header s.direction s.pending s.on_storage s.known known' sound i j changes.real changes.within changes.outside changes.entries changes.held changes.marked changes.aligned
       backing m (given backing) (shows backing) known_ok;
 }
 
 pub data_is_written : DataIsWritten
 data_is_written = record {
-  written = λ s base' known' given sound writes. record {
-    sound = written_guarded s.header s.direction s.pending s.base s.known base' known' given sound writes;
-    base = λ backing m ok known_ok. written_kept s.header s.direction s.pending s.base s.known base' known' given sound writes backing m ok;
-    known = λ backing m ok known_ok. written_known_kept s.header s.direction s.pending s.base s.known base' known' given sound writes backing m known_ok;
+  written = λ s on_storage' known' given sound writes. record {
+    sound = written_guarded s.header s.direction s.pending s.on_storage s.known on_storage' known' given sound writes;
+    on_storage = λ backing m ok known_ok. written_kept s.header s.direction s.pending s.on_storage s.known on_storage' known' given sound writes backing m ok;
+    known = λ backing m ok known_ok. written_known_kept s.header s.direction s.pending s.on_storage s.known on_storage' known' given sound writes backing m known_ok;
   };
-  held = λ s c sound some. held_is_unnamed s.header s.direction s.pending s.base s.known sound c some;
-  fresh = λ s c sound some written. fresh_is_unnamed s.header s.direction s.pending s.base s.known sound c some written;
-  unused = λ s c sound known_none base_none. unused_is_unnamed s.header s.direction s.pending s.base s.known sound c known_none base_none;
+  held = λ s c sound some. held_is_unnamed s.header s.direction s.pending s.on_storage s.known sound c some;
+  fresh = λ s c sound some written. fresh_is_unnamed s.header s.direction s.pending s.on_storage s.known sound c some written;
+  unused = λ s c sound known_none storage_none. unused_is_unnamed s.header s.direction s.pending s.on_storage s.known sound c known_none storage_none;
 }
 
 pub table_is_named : TableIsNamed
 table_is_named = record {
-  l2_table = λ s base' known' i entry sound writes new. record {
-    sound = l1_named s.header s.direction s.pending s.base s.known base' known' sound i entry writes new;
-    base = λ backing m ok known_ok. l1_named_kept s.header s.direction s.pending s.base s.known base' known' sound i entry writes new backing m ok;
-    known = λ backing m ok known_ok. l1_named_known_kept s.header s.direction s.pending s.base s.known base' known' sound i entry writes new backing m known_ok;
+  l2_table = λ s on_storage' known' i entry sound writes new. record {
+    sound = l1_named s.header s.direction s.pending s.on_storage s.known on_storage' known' sound i entry writes new;
+    on_storage = λ backing m ok known_ok. l1_named_kept s.header s.direction s.pending s.on_storage s.known on_storage' known' sound i entry writes new backing m ok;
+    known = λ backing m ok known_ok. l1_named_known_kept s.header s.direction s.pending s.on_storage s.known on_storage' known' sound i entry writes new backing m known_ok;
   };
-  refblock = λ s base' known' k entry sound writes new fresh counted written. record {
-    sound = block_named s.header s.direction s.pending s.base s.known base' known' sound k entry writes new fresh counted written;
-    base = λ backing m ok known_ok. block_named_kept s.header s.direction s.pending s.base s.known base' known' sound k entry writes new fresh counted written backing m ok;
-    known = λ backing m ok known_ok. block_named_known_kept s.header s.direction s.pending s.base s.known base' known' sound k entry writes new fresh counted written backing m known_ok;
+  refblock = λ s on_storage' known' k entry sound writes new fresh counted written. record {
+    sound = block_named s.header s.direction s.pending s.on_storage s.known on_storage' known' sound k entry writes new fresh counted written;
+    on_storage = λ backing m ok known_ok. block_named_kept s.header s.direction s.pending s.on_storage s.known on_storage' known' sound k entry writes new fresh counted written backing m ok;
+    known = λ backing m ok known_ok. block_named_known_kept s.header s.direction s.pending s.on_storage s.known on_storage' known' sound k entry writes new fresh counted written backing m known_ok;
   };
-  itself = λ s base' known' k entry sound writes new range. record {
-    sound = block_counts_itself s.header s.direction s.pending s.base s.known base' known' sound k entry writes new range;
-    base = λ backing m ok known_ok. block_counts_itself_kept s.header s.direction s.pending s.base s.known base' known' sound k entry writes new range backing m ok;
-    known = λ backing m ok known_ok. block_counts_itself_known_kept s.header s.direction s.pending s.base s.known base' known' sound k entry writes new range backing m known_ok;
+  itself = λ s on_storage' known' k entry sound writes new range. record {
+    sound = block_counts_itself s.header s.direction s.pending s.on_storage s.known on_storage' known' sound k entry writes new range;
+    on_storage = λ backing m ok known_ok. block_counts_itself_kept s.header s.direction s.pending s.on_storage s.known on_storage' known' sound k entry writes new range backing m ok;
+    known = λ backing m ok known_ok. block_counts_itself_known_kept s.header s.direction s.pending s.on_storage s.known on_storage' known' sound k entry writes new range backing m known_ok;
   };
 }
 
 pub header_is_written : HeaderIsWritten
 header_is_written = record {
-  size = λ s base' known' size autoclear sound writes. record {
-    sound = size_written s.header size autoclear s.direction s.pending s.base s.known base' known' sound writes;
-    base = λ backing m ok known_ok. size_written_kept s.header size autoclear s.direction s.pending s.base s.known base' known' sound writes backing m (size ∷ []) (inr (inl refl)) ok;
-    known = λ backing m ok known_ok. size_written_known_kept s.header size autoclear s.direction s.pending s.base s.known base' known' sound writes backing m (size ∷ []) (inr (inl refl)) known_ok;
+  size = λ s on_storage' known' size autoclear sound writes. record {
+    sound = size_written s.header size autoclear s.direction s.pending s.on_storage s.known on_storage' known' sound writes;
+    on_storage = λ backing m ok known_ok. size_written_kept s.header size autoclear s.direction s.pending s.on_storage s.known on_storage' known' sound writes backing m (size ∷ []) (inr (inl refl)) ok;
+    known = λ backing m ok known_ok. size_written_known_kept s.header size autoclear s.direction s.pending s.on_storage s.known on_storage' known' sound writes backing m (size ∷ []) (inr (inl refl)) known_ok;
   };
-  same_size = λ s base' known' autoclear sound writes. record {
-    sound = size_written s.header s.header.size autoclear s.direction s.pending s.base s.known base' known' sound writes;
-    base = λ backing m ok known_ok. size_written_kept s.header s.header.size autoclear s.direction s.pending s.base s.known base' known' sound writes backing m [] (inl refl) ok;
-    known = λ backing m ok known_ok. size_written_known_kept s.header s.header.size autoclear s.direction s.pending s.base s.known base' known' sound writes backing m [] (inl refl) known_ok;
+  same_size = λ s on_storage' known' autoclear sound writes. record {
+    sound = size_written s.header s.header.size autoclear s.direction s.pending s.on_storage s.known on_storage' known' sound writes;
+    on_storage = λ backing m ok known_ok. size_written_kept s.header s.header.size autoclear s.direction s.pending s.on_storage s.known on_storage' known' sound writes backing m [] (inl refl) ok;
+    known = λ backing m ok known_ok. size_written_known_kept s.header s.header.size autoclear s.direction s.pending s.on_storage s.known on_storage' known' sound writes backing m [] (inl refl) known_ok;
   };
-  l1_table = λ s base' known' offset entries sound writes new. record {
-    sound = l1_moved s.header offset entries s.direction s.pending s.base s.known base' known' sound writes new;
-    base = λ backing m ok known_ok. l1_moved_kept s.header offset entries s.direction s.pending s.base s.known base' known' sound writes new backing m ok;
-    known = λ backing m ok known_ok. l1_moved_known_kept s.header offset entries s.direction s.pending s.base s.known base' known' sound writes new backing m known_ok;
+  l1_table = λ s on_storage' known' offset entries sound writes new. record {
+    sound = l1_moved s.header offset entries s.direction s.pending s.on_storage s.known on_storage' known' sound writes new;
+    on_storage = λ backing m ok known_ok. l1_moved_kept s.header offset entries s.direction s.pending s.on_storage s.known on_storage' known' sound writes new backing m ok;
+    known = λ backing m ok known_ok. l1_moved_known_kept s.header offset entries s.direction s.pending s.on_storage s.known on_storage' known' sound writes new backing m known_ok;
   };
-  reftable = λ s base' known' offset clusters blocks counted sound writes new. record {
-    sound = reftable_moved s.header offset clusters blocks counted s.direction s.pending s.base s.known base' known' sound writes new;
-    base = λ backing m ok known_ok. reftable_moved_kept s.header offset clusters blocks counted s.direction s.pending s.base s.known base' known' sound writes new backing m ok;
-    known = λ backing m ok known_ok. reftable_moved_known_kept s.header offset clusters blocks counted s.direction s.pending s.base s.known base' known' sound writes new backing m known_ok;
+  reftable = λ s on_storage' known' offset clusters blocks counted sound writes new. record {
+    sound = reftable_moved s.header offset clusters blocks counted s.direction s.pending s.on_storage s.known on_storage' known' sound writes new;
+    on_storage = λ backing m ok known_ok. reftable_moved_kept s.header offset clusters blocks counted s.direction s.pending s.on_storage s.known on_storage' known' sound writes new backing m ok;
+    known = λ backing m ok known_ok. reftable_moved_known_kept s.header offset clusters blocks counted s.direction s.pending s.on_storage s.known on_storage' known' sound writes new backing m known_ok;
   };
 }
 

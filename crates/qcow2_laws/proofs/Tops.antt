@@ -8,7 +8,7 @@ use Rattle.qcow2_metadata.specs.Named.{named_for_tables, named_by_reftable, name
 use Rattle.qcow2_metadata.specs.Consistent.{IsAligned}
 use Rattle.qcow2_metadata.proofs.SameHeader.{header-same, well_formed-same}
 use Rattle.qcow2_laws.specs.Guests.{marked_by_l1_table}
-use Rattle.qcow2_laws.specs.Guard.{IsTop, SameTop}
+use Rattle.qcow2_laws.specs.CrashInvariant.{IsTop, SameTop}
 use Rattle.qcow2_laws.proofs.Sums.{sum_below-same}
 use Rattle.qcow2_laws.proofs.Places.{SameFrom-sym, Sizes, Sizes-from}
 

@@ -9,10 +9,10 @@ use Rattle.qcow2_metadata.specs.Cover.{cover}
 use Rattle.qcow2_metadata.specs.Named.{named_by_cover, named_for_tables}
 use Rattle.qcow2_laws.specs.Disk.{disk}
 use Rattle.qcow2_laws.specs.Guests.{over_guests, names, named_in_either}
-use Rattle.qcow2_laws.specs.Guard.{SameCovers, SameIn}
+use Rattle.qcow2_laws.specs.CrashInvariant.{SameCovers, SameIn}
 use Rattle.qcow2_laws.specs.Tops.{IsSameOutside, WritesL1Entry, IsNewTable, WritesReftableEntry}
 use Rattle.qcow2_laws.specs.Writes.{IsUnnamed}
-use Rattle.qcow2_laws.specs.Leads.{Stand, IsSound}
+use Rattle.qcow2_laws.specs.SafeSteps.{DriverState, StateInvariant}
 use Rattle.qcow2_laws.specs.Steps.{block_of}
 use Rattle.qcow2_laws.specs.Unseen.{used_by_guests, SameUsedBytes, SameUsedBytesBut, KeepsFormat, IsUnseen, IsUnseenBut, SameL1Table}
 use Rattle.qcow2_laws.proofs.Places.{Sizes-from}
@@ -31,11 +31,11 @@ use Rattle.qcow2_laws.proofs.NewTables.{outside_eight, known_covers}
 named_same : (h : HeaderFields) (known known' : Bytes) (c : ℕ) → SameCovers h known known' → over_guests h (names h known c) ≡ over_guests h (names h known' c)
 named_same h known known' c covers = over_guests-same h (names h known c) (names h known' c) (λ g. ap (named_by_cover h c) (covers g))
 
-pub unseen_none : (s : Stand) → IsUnseen s s
+pub unseen_none : (s : DriverState) → IsUnseen s s
 unseen_none s = record { header = format_refl s.header; covers = λ g. refl; bytes = λ o some. refl }
 
-module _ (a b : Stand) (header : KeepsFormat a.header b.header) (covers : SameCovers a.header a.known b.known) where
-  covers_then : (c : Stand) → SameCovers b.header b.known c.known → SameCovers a.header a.known c.known
+module _ (a b : DriverState) (header : KeepsFormat a.header b.header) (covers : SameCovers a.header a.known b.known) where
+  covers_then : (c : DriverState) → SameCovers b.header b.known c.known → SameCovers a.header a.known c.known
   covers_then c then g = covers g ∙ covers_format a.header b.header header b.known c.known then g
 
   -- what guests used they still use
@@ -49,7 +49,7 @@ module _ (a b : Stand) (header : KeepsFormat a.header b.header) (covers : SameCo
       guests_format a.header b.header header b.known (o / cluster_size a.header) in
       subst (λ (n : ℕ). 0 < over_guests b.header (names b.header b.known (o / n)) + b.pending.held (o / n)) size (omega (arith, is, used))
 
-pub unseen_then : (a b c : Stand) → IsUnseen a b → IsUnseen b c → ((k : ℕ) → 0 < a.pending.held k → 0 < b.pending.held k) → IsUnseen a c
+pub unseen_then : (a b c : DriverState) → IsUnseen a b → IsUnseen b c → ((k : ℕ) → 0 < a.pending.held k → 0 < b.pending.held k) → IsUnseen a c
 unseen_then a b c first then held = record {
   header = format_then a.header b.header c.header first.header then.header;
   covers = covers_then a b first.header first.covers c then.covers;
@@ -57,10 +57,10 @@ unseen_then a b c first then held = record {
 }
 
 -- the same, but for one cluster
-pub unseen_but : (n : ℕ) (old new : Stand) → IsUnseen old new → IsUnseenBut n old new
+pub unseen_but : (n : ℕ) (old new : DriverState) → IsUnseen old new → IsUnseenBut n old new
 unseen_but n old new unseen = record { header = unseen.header; covers = unseen.covers; bytes = λ o other some. unseen.bytes o some }
 
-pub unseen_but_then : (n : ℕ) (a b c : Stand) → IsUnseenBut n a b → IsUnseenBut n b c → ((k : ℕ) → 0 < a.pending.held k → 0 < b.pending.held k) → IsUnseenBut n a c
+pub unseen_but_then : (n : ℕ) (a b c : DriverState) → IsUnseenBut n a b → IsUnseenBut n b c → ((k : ℕ) → 0 < a.pending.held k → 0 < b.pending.held k) → IsUnseenBut n a c
 unseen_but_then n a b c first then held = record {
   header = format_then a.header b.header c.header first.header then.header;
   covers = covers_then a b first.header first.covers c then.covers;
@@ -69,141 +69,141 @@ unseen_but_then n a b c first then held = record {
       ∙ first.bytes o other some;
 }
 
-pub l1_same_none : (s : Stand) → SameL1Table s s
+pub l1_same_none : (s : DriverState) → SameL1Table s s
 l1_same_none s i = refl
 
-pub l1_same_then : (a b c : Stand) → KeepsFormat a.header b.header → SameL1Table a b → SameL1Table b c → SameL1Table a c
-l1_same_then a b c header first then i = sym (l1_format a.header b.header header c.base i) ∙ then i ∙ l1_format a.header b.header header b.base i ∙ first i
+pub l1_same_then : (a b c : DriverState) → KeepsFormat a.header b.header → SameL1Table a b → SameL1Table b c → SameL1Table a c
+l1_same_then a b c header first then i = sym (l1_format a.header b.header header c.on_storage i) ∙ then i ∙ l1_format a.header b.header header b.on_storage i ∙ first i
 
 -- ---- the same is known
-pub unseen_known : (old new : Stand) → new.header ≡ old.header → new.known ≡ old.known → IsUnseen old new
+pub unseen_known : (old new : DriverState) → new.header ≡ old.header → new.known ≡ old.known → IsUnseen old new
 unseen_known old new header same = record {
   header = format_same old.header new.header header;
   covers = λ g. ap (λ (b : Bytes). cover old.header b g) (sym same);
   bytes = λ o some. ap (λ (b : Bytes). b o) same;
 }
 
-pub l1_same_base : (old new : Stand) → new.base ≡ old.base → SameL1Table old new
-l1_same_base old new same i = ap (λ (b : Bytes). l1_entry old.header b i) same
+pub l1_same_storage : (old new : DriverState) → new.on_storage ≡ old.on_storage → SameL1Table old new
+l1_same_storage old new same i = ap (λ (b : Bytes). l1_entry old.header b i) same
 
 -- the storage has the L1 table that is known
-pub l1_same_known : (old new : Stand) → IsSound old → IsSound new → KeepsFormat old.header new.header → ((i : ℕ) → l1_entry old.header new.known i ≡ l1_entry old.header old.known i) → SameL1Table old new
+pub l1_same_known : (old new : DriverState) → StateInvariant old → StateInvariant new → KeepsFormat old.header new.header → ((i : ℕ) → l1_entry old.header new.known i ≡ l1_entry old.header old.known i) → SameL1Table old new
 l1_same_known old new sound sound' header same i =
-    sym (l1_format old.header new.header header new.base i) ∙ sound'.same_top.l1 i ∙ l1_format old.header new.header header new.known i ∙ same i ∙ sym (sound.same_top.l1 i)
+    sym (l1_format old.header new.header header new.on_storage i) ∙ sound'.same_top.l1 i ∙ l1_format old.header new.header header new.known i ∙ same i ∙ sym (sound.same_top.l1 i)
 
 -- ---- bytes change where guests use none
-pub known_header : (s : Stand) → IsSound s → header s.known ≡ s.header
-known_header s sound = (IsTop-top s.header s.base s.known sound.same_top sound.top).header_is
+pub known_header : (s : DriverState) → StateInvariant s → header s.known ≡ s.header
+known_header s sound = (IsTop-top s.header s.on_storage s.known sound.same_top sound.top).header_is
 
-module _ (old new : Stand) (sound : IsSound old) where
+module _ (old new : DriverState) (sound : StateInvariant old) where
   -- what guests use is named, on the storage or as known, or held
-  used_within : (c : ℕ) → 0 < used_by_guests old c → 0 < named_in_either old.header old.base old.known c + old.pending.held c
-  used_within c some = let t = (tied old.header old.pending old.base old.known c).known in omega arith
+  used_within : (c : ℕ) → 0 < used_by_guests old c → 0 < named_in_either old.header old.on_storage old.known c + old.pending.held c
+  used_within c some = let t = (tied old.header old.pending old.on_storage old.known c).known in omega arith
 
   -- in one cluster, where a table stands
-  pub table_bytes : (c : ℕ) → 0 < named_for_tables old.header old.base c → IsSameOutside (cluster_size old.header) c old.known new.known → SameUsedBytes old new
+  pub table_bytes : (c : ℕ) → 0 < named_for_tables old.header old.on_storage c → IsSameOutside (cluster_size old.header) c old.known new.known → SameUsedBytes old new
   table_bytes c fixed outside o some =
       sym (outside o (λ e.
-      let apart = table_apart old.header old.direction old.pending old.base old.known sound c fixed in
+      let apart = table_apart old.header old.direction old.pending old.on_storage old.known sound c fixed in
       let within = used_within (o / cluster_size old.header) some in
-      let here = subst (λ n. 0 < named_in_either old.header old.base old.known n + old.pending.held n) e within in
+      let here = subst (λ n. 0 < named_in_either old.header old.on_storage old.known n + old.pending.held n) e within in
       absurd (omega arith)))
 
   -- counts of one refblock change
   pub unseen_count : (c : ℕ) → new.header ≡ old.header → block_of old.header old.known c ≢ 0
       → IsSameOutside (cluster_size old.header) (block_of old.header old.known c / cluster_size old.header) old.known new.known → IsUnseen old new
   unseen_count c header real outside =
-      let fixed : 0 < named_for_tables old.header old.base (block_of old.header old.known c / cluster_size old.header) =
-      let e = for_tables-top old.header old.base old.known (block_of old.header old.known c / cluster_size old.header) sound.same_top in
+      let fixed : 0 < named_for_tables old.header old.on_storage (block_of old.header old.known c / cluster_size old.header) =
+      let e = for_tables-top old.header old.on_storage old.known (block_of old.header old.known c / cluster_size old.header) sound.same_top in
       let s = shares old.header old.known (block_of old.header old.known c / cluster_size old.header) in
       let one = block_has old.header old.known _ real in
       omega arith in
       record {
         header = format_same old.header new.header header;
-        covers = counted_covers old.header old.direction old.pending old.base old.known new.known sound c real outside;
+        covers = counted_covers old.header old.direction old.pending old.on_storage old.known new.known sound c real outside;
         bytes = table_bytes (block_of old.header old.known c / cluster_size old.header) fixed outside;
       }
 
   -- ---- an entry of the reftable, or of the L1 table, is written
-  once : (c : ℕ) → 0 < named_for_tables old.header old.base c → (named_for_tables old.header old.base c ≤ 1) × (named_for_tables old.header old.known c ≤ 1)
+  once : (c : ℕ) → 0 < named_for_tables old.header old.on_storage c → (named_for_tables old.header old.on_storage c ≤ 1) × (named_for_tables old.header old.known c ≤ 1)
   once c fixed =
-      let is = table_once old.header old.direction old.pending old.base old.known sound c fixed in
-      let e = for_tables-top old.header old.base old.known c sound.same_top in
+      let is = table_once old.header old.direction old.pending old.on_storage old.known sound c fixed in
+      let e = for_tables-top old.header old.on_storage old.known c sound.same_top in
       (omega arith, omega arith)
 
   outside_same : (c : ℕ) (b b' : Bytes) → IsSameOutside (cluster_size old.header) c b b' → (k : ℕ) → k ≢ c → SameIn (cluster_size old.header) k b b'
   outside_same c b b' outside k other o in_k = outside o (λ e. other (sym in_k ∙ e))
 
-  pub unseen_refblock : (k entry : ℕ) → new.header ≡ old.header → WritesReftableEntry old.header old.base old.known new.base new.known k entry → IsUnseen old new × SameL1Table old new
+  pub unseen_refblock : (k entry : ℕ) → new.header ≡ old.header → WritesReftableEntry old.header old.on_storage old.known new.on_storage new.known k entry → IsUnseen old new × SameL1Table old new
   unseen_refblock k entry header writes =
-      let sizes = Sizes-from old.header old.base sound.top.header_reads in
+      let sizes = Sizes-from old.header old.on_storage sound.top.header_reads in
       let c = (old.header.reftable_offset + 8 * k) / cluster_size old.header in
       let has = reftable_has old.header k sizes sound.top.reftable_aligned writes.within in
-      let parts = shares old.header old.base ((old.header.reftable_offset + 8 * k) / cluster_size old.header) in
-      let fixed : 0 < named_for_tables old.header old.base ((old.header.reftable_offset + 8 * k) / cluster_size old.header) = omega arith in
+      let parts = shares old.header old.on_storage ((old.header.reftable_offset + 8 * k) / cluster_size old.header) in
+      let fixed : 0 < named_for_tables old.header old.on_storage ((old.header.reftable_offset + 8 * k) / cluster_size old.header) = omega arith in
       let single = once c fixed in
-      let outside = outside_eight (cluster_size old.header) old.header.reftable_offset k old.base new.base sizes.whole sizes.some sound.top.reftable_aligned writes.others in
+      let outside = outside_eight (cluster_size old.header) old.header.reftable_offset k old.on_storage new.on_storage sizes.whole sizes.some sound.top.reftable_aligned writes.others in
       let known_outside = outside_eight (cluster_size old.header) old.header.reftable_offset k old.known new.known sizes.whole sizes.some sound.top.reftable_aligned writes.known_others in
-      let known_top = IsTop-top old.header old.base old.known sound.same_top sound.top in (
+      let known_top = IsTop-top old.header old.on_storage old.known sound.same_top sound.top in (
         record {
           header = format_same old.header new.header header;
           covers = reftable_covers old.header old.known new.known known_top c (omega arith) single.1 (outside_same c old.known new.known known_outside);
           bytes = table_bytes c fixed known_outside;
         },
-        (λ i. sym (reftable_l1 old.header old.base new.base sound.top c (omega arith) single.0 (outside_same c old.base new.base outside) i)),
+        (λ i. sym (reftable_l1 old.header old.on_storage new.on_storage sound.top c (omega arith) single.0 (outside_same c old.on_storage new.on_storage outside) i)),
       )
 
-  pub unseen_l2_table : (i entry : ℕ) → new.header ≡ old.header → WritesL1Entry old.header old.base old.known new.base new.known i entry
-      → IsNewTable old.header old.direction old.pending old.base old.known i entry → IsUnseen old new
+  pub unseen_l2_table : (i entry : ℕ) → new.header ≡ old.header → WritesL1Entry old.header old.on_storage old.known new.on_storage new.known i entry
+      → IsNewTable old.header old.direction old.pending old.on_storage old.known i entry → IsUnseen old new
   unseen_l2_table i entry header writes table =
-      let sizes = Sizes-from old.header old.base sound.top.header_reads in
+      let sizes = Sizes-from old.header old.on_storage sound.top.header_reads in
       let has = l1_has old.header i sizes sound.top.l1_aligned writes.within in
-      let parts = shares old.header old.base ((old.header.l1_offset + 8 * i) / cluster_size old.header) in
+      let parts = shares old.header old.on_storage ((old.header.l1_offset + 8 * i) / cluster_size old.header) in
       record {
         header = format_same old.header new.header header;
-        covers = known_covers old.header old.direction old.pending old.base old.known new.base new.known sound i entry writes table;
+        covers = known_covers old.header old.direction old.pending old.on_storage old.known new.on_storage new.known sound i entry writes table;
         bytes = table_bytes ((old.header.l1_offset + 8 * i) / cluster_size old.header) (omega arith)
             (outside_eight (cluster_size old.header) old.header.l1_offset i old.known new.known sizes.whole sizes.some sound.top.l1_aligned writes.known_others);
       }
 
   -- ---- bytes are written to clusters that nothing names, and that aren't held
-  module _ (each : (c : ℕ) → (SameIn (cluster_size old.header) c old.base new.base × SameIn (cluster_size old.header) c old.known new.known)
-      ⊎ (IsUnnamed old.header old.base old.known c × (old.pending.held c ≡ 0))) where
-    tables_stay : (c : ℕ) → 0 < named_for_tables old.header old.base c → SameIn (cluster_size old.header) c old.base new.base × SameIn (cluster_size old.header) c old.known new.known
+  module _ (each : (c : ℕ) → (SameIn (cluster_size old.header) c old.on_storage new.on_storage × SameIn (cluster_size old.header) c old.known new.known)
+      ⊎ (IsUnnamed old.header old.on_storage old.known c × (old.pending.held c ≡ 0))) where
+    tables_stay : (c : ℕ) → 0 < named_for_tables old.header old.on_storage c → SameIn (cluster_size old.header) c old.on_storage new.on_storage × SameIn (cluster_size old.header) c old.known new.known
     tables_stay c fixed = elim (each c) [ inl same ↦ same | inr free ↦ absurd (omega (arith, fixed, free.0.no_table)) ]
 
     pub unseen_written : new.header ≡ old.header → IsUnseen old new × SameL1Table old new
     unseen_written header =
-        let known_top = IsTop-top old.header old.base old.known sound.same_top sound.top in (
+        let known_top = IsTop-top old.header old.on_storage old.known sound.same_top sound.top in (
           record {
             header = format_same old.header new.header header;
-            covers = covers_stay old.header old.known new.known known_top (λ c fixed. (tables_stay c (let e = for_tables-top old.header old.base old.known c sound.same_top in omega arith)).1);
+            covers = covers_stay old.header old.known new.known known_top (λ c fixed. (tables_stay c (let e = for_tables-top old.header old.on_storage old.known c sound.same_top in omega arith)).1);
             bytes = λ o some. elim (each (o / cluster_size old.header)) [
               | inl same ↦ sym (same.1 o refl)
               | inr free ↦ absurd (let within = used_within (o / cluster_size old.header) some in let none = free.0.no_entry in let unheld = free.1 in omega arith)
             ];
           },
-          (λ i. sym ((top_stays old.header old.base new.base sound.top (λ c fixed. (tables_stay c fixed).0)).l1 i)),
+          (λ i. sym ((top_stays old.header old.on_storage new.on_storage sound.top (λ c fixed. (tables_stay c fixed).0)).l1 i)),
         )
 
   -- ---- bytes are written to one cluster that no table stands in
-  pub unseen_but_written : (c : ℕ) → new.header ≡ old.header → named_for_tables old.header old.base c ≡ 0 → IsSameOutside (cluster_size old.header) c old.base new.base
+  pub unseen_but_written : (c : ℕ) → new.header ≡ old.header → named_for_tables old.header old.on_storage c ≡ 0 → IsSameOutside (cluster_size old.header) c old.on_storage new.on_storage
       → IsSameOutside (cluster_size old.header) c old.known new.known → IsUnseenBut c old new × SameL1Table old new
   unseen_but_written c header none outside known_outside =
-      let known_top = IsTop-top old.header old.base old.known sound.same_top sound.top in
-      let apart : (k : ℕ) → 0 < named_for_tables old.header old.base k → k ≢ c = λ k some e. absurd (let here : named_for_tables old.header old.base k ≡ 0 = ap (named_for_tables old.header old.base) e ∙ none in omega arith) in
-      let known_apart : (k : ℕ) → 0 < named_for_tables old.header old.known k → k ≢ c = λ k some. apart k (let e = for_tables-top old.header old.base old.known k sound.same_top in omega arith) in (
+      let known_top = IsTop-top old.header old.on_storage old.known sound.same_top sound.top in
+      let apart : (k : ℕ) → 0 < named_for_tables old.header old.on_storage k → k ≢ c = λ k some e. absurd (let here : named_for_tables old.header old.on_storage k ≡ 0 = ap (named_for_tables old.header old.on_storage) e ∙ none in omega arith) in
+      let known_apart : (k : ℕ) → 0 < named_for_tables old.header old.known k → k ≢ c = λ k some. apart k (let e = for_tables-top old.header old.on_storage old.known k sound.same_top in omega arith) in (
         record {
           header = format_same old.header new.header header;
           covers = covers_stay old.header old.known new.known known_top (λ k some. outside_same c old.known new.known known_outside k (known_apart k some));
           bytes = λ o other some. sym (known_outside o other);
         },
-        (λ i. sym ((top_stays old.header old.base new.base sound.top (λ k some. outside_same c old.base new.base outside k (apart k some))).l1 i)),
+        (λ i. sym ((top_stays old.header old.on_storage new.on_storage sound.top (λ k some. outside_same c old.on_storage new.on_storage outside k (apart k some))).l1 i)),
       )
 
   -- ---- what is held for guests stays where only bytes of other clusters change, on the storage and as known
-  module _ (sound' : IsSound new) (header : KeepsFormat old.header new.header) (k : ℕ) (held : 0 < old.pending.held k) (still : 0 < new.pending.held k) where
-    pub held_stays_but : (c : ℕ) → k ≢ c → SameUsedBytesBut c old new → SameIn (cluster_size old.header) k old.base new.base × SameIn (cluster_size old.header) k old.known new.known
+  module _ (sound' : StateInvariant new) (header : KeepsFormat old.header new.header) (k : ℕ) (held : 0 < old.pending.held k) (still : 0 < new.pending.held k) where
+    pub held_stays_but : (c : ℕ) → k ≢ c → SameUsedBytesBut c old new → SameIn (cluster_size old.header) k old.on_storage new.on_storage × SameIn (cluster_size old.header) k old.known new.known
     held_stays_but c other bytes =
         let known : SameIn (cluster_size old.header) k old.known new.known = λ o in_k.
         let held_here : 0 < old.pending.held (o / cluster_size old.header) = subst (λ n. 0 < old.pending.held n) (sym in_k) held in
@@ -215,18 +215,18 @@ module _ (old new : Stand) (sound : IsSound old) where
           known,
         )
 
-    pub held_stays : SameUsedBytes old new → SameIn (cluster_size old.header) k old.base new.base × SameIn (cluster_size old.header) k old.known new.known
+    pub held_stays : SameUsedBytes old new → SameIn (cluster_size old.header) k old.on_storage new.on_storage × SameIn (cluster_size old.header) k old.known new.known
     held_stays bytes = held_stays_but (k + 1) (omega arith) (λ o other some. bytes o some)
 
   -- ---- the guest's disk stays
   -- what a guest cluster names is named
   pub named_some : (c g : ℕ) → 0 < names old.header old.known c g → 0 < over_guests old.header (names old.header old.known c)
   named_some c g some =
-      let within = names_within old.header old.known c g (Sizes-from old.header old.base sound.top.header_reads) some in
+      let within = names_within old.header old.known c g (Sizes-from old.header old.on_storage sound.top.header_reads) some in
       let le = guest_le old.header (names old.header old.known c) g within in
       omega arith
 
-  module _ (sound' : IsSound new) (header : KeepsFormat old.header new.header) (backing : Bytes) where
+  module _ (sound' : StateInvariant new) (header : KeepsFormat old.header new.header) (backing : Bytes) where
     pub size_stays : (disk new.known backing).size ≡ (disk old.known backing).size
     size_stays = size_is new.header new.known backing (known_header new sound') ∙ ap (λ (h : HeaderFields). h.size) header ∙ sym (size_is old.header old.known backing (known_header old sound))
 
@@ -248,5 +248,5 @@ module _ (old new : Stand) (sound : IsSound old) where
         value_stays o (covers (o / cluster_size old.header)) (λ place some. bytes place (named_some (place / cluster_size old.header) (o / cluster_size old.header) some))) in
         λ j. record { size = size_stays j; value = value j }
 
-  pub unseen_disk : IsSound new → IsUnseen old new → (backing : Bytes) → disk new.known backing ≡ disk old.known backing
+  pub unseen_disk : StateInvariant new → IsUnseen old new → (backing : Bytes) → disk new.known backing ≡ disk old.known backing
   unseen_disk sound' unseen backing = disk_stays sound' unseen.header backing unseen.covers (λ place some. unseen.bytes place (omega arith))

@@ -12,10 +12,10 @@ use Rattle.qcow2_metadata.specs.Consistent.{CoverIsAligned, IsConsistent}
 use Rattle.qcow2_metadata.specs.declared.l2_mapping.L2Mapping.{L2Mapping}
 use Rattle.qcow2_metadata.specs.declared.l2_mapping.L2Mapping.TheVariants.{Data, Zero, Compressed, Uncovered}
 use Rattle.qcow2_laws.specs.Disk.{disk}
-use Rattle.qcow2_laws.specs.Stops.{Gift, IsGiven, Mark, more, IsKeptAt}
+use Rattle.qcow2_laws.specs.Stops.{GivenBytes, IsGiven, Checkpoint, checkpoint_with, StopOkEverywhere}
 use Rattle.qcow2_laws.specs.Clusters.{Direction}
 use Rattle.qcow2_laws.specs.Guests.{names}
-use Rattle.qcow2_laws.specs.Guard.{Pending, IsGuarded, IsMixed}
+use Rattle.qcow2_laws.specs.CrashInvariant.{Pending, CrashInvariant, IsMixed}
 use Rattle.qcow2_laws.proofs.Places.{Sizes, Sizes-from, in_one, div_mono}
 use Rattle.qcow2_laws.proofs.Tops.{bytes_from-same, IsTop-top}
 use Rattle.qcow2_laws.proofs.Guests.{guest_le, names_within}
@@ -58,9 +58,9 @@ unfolding disk
 size_is h b backing is = ap (λ (t : HeaderFields). t.size) is
 
 -- an image that shows the same, but for what is given
-pub kept_shown : (h : HeaderFields) (backing : Bytes) (m : Mark) (given : List Gift) (b b' : Bytes) → header b ≡ h → header b' ≡ h → IsConsistent b'
+pub kept_shown : (h : HeaderFields) (backing : Bytes) (m : Checkpoint) (given : List GivenBytes) (b b' : Bytes) → header b ≡ h → header b' ≡ h → IsConsistent b'
     → ((o : ℕ) → (guest_value h b' b' backing o ≡ guest_value h b b backing o) ⊎ IsGiven given o (guest_value h b' b' backing o))
-    → IsKeptAt backing m b → IsKeptAt backing (more given [] m) b'
+    → StopOkEverywhere backing m b → StopOkEverywhere backing (checkpoint_with given [] m) b'
 kept_shown h backing m given b b' is is' consistent values kept =
     kept_on backing m given [] b b' consistent (inl (size_is h b' backing is' ∙ sym (size_is h b backing is)))
     (λ o. elim (values o) [
@@ -69,43 +69,43 @@ kept_shown h backing m given b b' is is' consistent values kept =
     ]) kept
 
 -- ---- a mix of what is on the storage and what is known
-module _ (h : HeaderFields) (d : Direction) (p : Pending) (base known b : Bytes) (guarded : IsGuarded h d p base known) (mixed : IsMixed h d base known b) where
+module _ (h : HeaderFields) (d : Direction) (p : Pending) (on_storage known b : Bytes) (guarded : CrashInvariant h d p on_storage known) (mixed : IsMixed h d on_storage known b) where
   sizes : Sizes h
-  sizes = Sizes-from h base guarded.top.header_reads
+  sizes = Sizes-from h on_storage guarded.top.header_reads
 
-  as_base : (place : ℕ) → base place ≡ known place → b place ≡ base place
-  as_base place same = elim (mixed.partly (place / cluster_size h)) [
+  as_on_storage : (place : ℕ) → on_storage place ≡ known place → b place ≡ on_storage place
+  as_on_storage place same = elim (mixed.partly (place / cluster_size h)) [
     | inl is ↦ is place refl
     | inr is ↦ is place refl ∙ sym same
   ]
 
   -- where a guest cluster names a cluster on the storage, or as known, no table is laid over it
-  unlaid_base : (g place : ℕ) → 0 < names h base (place / cluster_size h) g → base place ≡ known place
-  unlaid_base g place some =
-      guarded.unlaid place (let le = guest_le h (λ k. max (names h base (place / cluster_size h) k) (names h known (place / cluster_size h) k)) g (names_within h base (place / cluster_size h) g sizes some) in omega arith)
+  unlaid_storage : (g place : ℕ) → 0 < names h on_storage (place / cluster_size h) g → on_storage place ≡ known place
+  unlaid_storage g place some =
+      guarded.unlaid place (let le = guest_le h (λ k. max (names h on_storage (place / cluster_size h) k) (names h known (place / cluster_size h) k)) g (names_within h on_storage (place / cluster_size h) g sizes some) in omega arith)
 
-  unlaid_known : (g place : ℕ) → 0 < names h known (place / cluster_size h) g → base place ≡ known place
+  unlaid_known : (g place : ℕ) → 0 < names h known (place / cluster_size h) g → on_storage place ≡ known place
   unlaid_known g place some =
-      guarded.unlaid place (let le = guest_le h (λ k. max (names h base (place / cluster_size h) k) (names h known (place / cluster_size h) k)) g (names_within h known (place / cluster_size h) g sizes some) in omega arith)
+      guarded.unlaid place (let le = guest_le h (λ k. max (names h on_storage (place / cluster_size h) k) (names h known (place / cluster_size h) k)) g (names_within h known (place / cluster_size h) g sizes some) in omega arith)
 
-  either_value : (backing : Bytes) (o : ℕ) → (guest_value h b b backing o ≡ guest_value h base base backing o) ⊎ (guest_value h b b backing o ≡ guest_value h known known backing o)
+  either_value : (backing : Bytes) (o : ℕ) → (guest_value h b b backing o ≡ guest_value h on_storage on_storage backing o) ⊎ (guest_value h b b backing o ≡ guest_value h known known backing o)
   either_value backing o =
       let g = o / cluster_size h in
-      elim (either_cover h base known b guarded.top guarded.same_top mixed.partly (o / cluster_size h)) [
-        | inl same ↦ inl (sym (guest_value-same h base b backing o (sym same) (guarded.aligned g) (λ place some. sym (as_base place (unlaid_base g place some)))))
+      elim (either_cover h on_storage known b guarded.top guarded.same_top mixed.partly (o / cluster_size h)) [
+        | inl same ↦ inl (sym (guest_value-same h on_storage b backing o (sym same) (guarded.aligned g) (λ place some. sym (as_on_storage place (unlaid_storage g place some)))))
         | inr same ↦ inr (sym (guest_value-same h known b backing o (sym same) (guarded.known_aligned g)
-            (λ place some. let u = unlaid_known g place some in sym (as_base place u ∙ u))))
+            (λ place some. let u = unlaid_known g place some in sym (as_on_storage place u ∙ u))))
       ]
 
   -- what was kept is kept on the way
-  pub mixed_kept : (backing : Bytes) (m : Mark) → IsKeptAt backing m base → IsKeptAt backing m known → IsKeptAt backing m b
+  pub mixed_kept : (backing : Bytes) (m : Checkpoint) → StopOkEverywhere backing m on_storage → StopOkEverywhere backing m known → StopOkEverywhere backing m b
   mixed_kept backing m kept known_kept =
-      let now = mixed_guarded h d p base known b guarded mixed in
+      let now = mixed_guarded h d p on_storage known b guarded mixed in
       let at_b = now.top.header_is in
-      let at_base = guarded.top.header_is in
-      let at_known = (IsTop-top h base known guarded.same_top guarded.top).header_is in
-      kept_either backing m base known b (guarded_consistent h d p b known now) (size_is h b backing at_b ∙ sym (size_is h base backing at_base))
+      let at_storage = guarded.top.header_is in
+      let at_known = (IsTop-top h on_storage known guarded.same_top guarded.top).header_is in
+      kept_either backing m on_storage known b (guarded_consistent h d p b known now) (size_is h b backing at_b ∙ sym (size_is h on_storage backing at_storage))
       (λ o. elim (either_value backing o) [
-        | inl is ↦ inl (value_is h b backing o at_b ∙ is ∙ sym (value_is h base backing o at_base))
+        | inl is ↦ inl (value_is h b backing o at_b ∙ is ∙ sym (value_is h on_storage backing o at_storage))
         | inr is ↦ inr (value_is h b backing o at_b ∙ is ∙ sym (value_is h known backing o at_known))
       ]) kept known_kept

@@ -12,10 +12,10 @@ use Rattle.qcow2_metadata.specs.Named.{named_by_cover, named_for_tables, in_clus
 use Rattle.qcow2_metadata.specs.Consistent.{CoverIsAligned}
 use Rattle.qcow2_metadata.specs.declared.l2_mapping.L2Mapping.{L2Mapping}
 use Rattle.qcow2_metadata.specs.declared.l2_mapping.L2Mapping.TheVariants.{Data, Zero, Compressed, Uncovered}
-use Rattle.qcow2_laws.specs.Stops.{Gift, IsGiven, Mark, more, IsKeptAt}
+use Rattle.qcow2_laws.specs.Stops.{GivenBytes, IsGiven, Checkpoint, checkpoint_with, StopOkEverywhere}
 use Rattle.qcow2_laws.specs.Clusters.{Direction, Neither, L2DependsOnRb, RbDependsOnL2}
 use Rattle.qcow2_laws.specs.Guests.{over_guests, names, marks, named_in_either, marked_by_cover}
-use Rattle.qcow2_laws.specs.Guard.{Pending, cluster, IsGuarded, SameTop, SameCovers, SameCounts, SameIn}
+use Rattle.qcow2_laws.specs.CrashInvariant.{Pending, cluster, CrashInvariant, SameTop, SameCovers, SameCounts, SameIn}
 use Rattle.qcow2_laws.specs.Writes.{IsUnnamed, IsWritten}
 use Rattle.qcow2_laws.proofs.Clusters.{Good, Written, held_unnamed, fresh_unnamed, unused_unnamed, named_once}
 use Rattle.qcow2_laws.proofs.Places.{Sizes, Sizes-from, in_one}
@@ -27,40 +27,40 @@ use Rattle.qcow2_laws.proofs.Shares.{top_stays, covers_stay, counts_stay}
 use Rattle.qcow2_laws.proofs.Values.{shown, kept_shown}
 
 -- ---- two images that mean the same are guarded alike
-module _ (h : HeaderFields) (d : Direction) (p : Pending) (base known base' known' : Bytes) (guarded : IsGuarded h d p base known)
-    (top : SameTop h base base') (known_top : SameTop h known known') (covers : SameCovers h base base') (known_covers : SameCovers h known known')
-    (counts : SameCounts h base base') (known_counts : SameCounts h known known')
-    (unlaid : (o : ℕ) → 0 < named_in_either h base known (o / cluster_size h) + p.held (o / cluster_size h) → base' o ≡ known' o) where
-  either_same : (f : L2Mapping → ℕ) → over_guests h (λ g. max (f (cover h base' g)) (f (cover h known' g))) ≡ over_guests h (λ g. max (f (cover h base g)) (f (cover h known g)))
-  either_same f = over_guests-same h _ _ (λ g. ap (λ v. max (f v) (f (cover h known' g))) (sym (covers g)) ∙ ap (λ v. max (f (cover h base g)) (f v)) (sym (known_covers g)))
+module _ (h : HeaderFields) (d : Direction) (p : Pending) (on_storage known on_storage' known' : Bytes) (guarded : CrashInvariant h d p on_storage known)
+    (top : SameTop h on_storage on_storage') (known_top : SameTop h known known') (covers : SameCovers h on_storage on_storage') (known_covers : SameCovers h known known')
+    (counts : SameCounts h on_storage on_storage') (known_counts : SameCounts h known known')
+    (unlaid : (o : ℕ) → 0 < named_in_either h on_storage known (o / cluster_size h) + p.held (o / cluster_size h) → on_storage' o ≡ known' o) where
+  either_same : (f : L2Mapping → ℕ) → over_guests h (λ g. max (f (cover h on_storage' g)) (f (cover h known' g))) ≡ over_guests h (λ g. max (f (cover h on_storage g)) (f (cover h known g)))
+  either_same f = over_guests-same h _ _ (λ g. ap (λ v. max (f v) (f (cover h known' g))) (sym (covers g)) ∙ ap (λ v. max (f (cover h on_storage g)) (f v)) (sym (known_covers g)))
 
-  good_too : (c : ℕ) → Good d (cluster h p base' known' c) (p.surplus c)
+  good_too : (c : ℕ) → Good d (cluster h p on_storage' known' c) (p.surplus c)
   good_too c =
-      let fixed = for_tables-top h base base' c top in
-      let sole = sole-top h base base' c top in
-      let in_base = over_guests-same h (names h base c) (names h base' c) (λ g. ap (named_by_cover h c) (covers g)) in
+      let fixed = for_tables-top h on_storage on_storage' c top in
+      let sole = sole-top h on_storage on_storage' c top in
+      let in_storage = over_guests-same h (names h on_storage c) (names h on_storage' c) (λ g. ap (named_by_cover h c) (covers g)) in
       let in_known = over_guests-same h (names h known c) (names h known' c) (λ g. ap (named_by_cover h c) (known_covers g)) in
       let in_either = sym (either_same (named_by_cover h c)) in
-      let marks_base = over_guests-same h (marks h base c) (marks h base' c) (λ g. ap (marked_by_cover h c) (covers g)) in
+      let marks_in_storage = over_guests-same h (marks h on_storage c) (marks h on_storage' c) (λ g. ap (marked_by_cover h c) (covers g)) in
       let marks_known = over_guests-same h (marks h known c) (marks h known' c) (λ g. ap (marked_by_cover h c) (known_covers g)) in
       let marks_either = sym (either_same (marked_by_cover h c)) in
-      subst (λ k. Good d k (p.surplus c)) (λ j. record (cluster h p base' known' c) {
+      subst (λ k. Good d k (p.surplus c)) (λ j. record (cluster h p on_storage' known' c) {
         fixed = fixed j;
         sole = sole j;
-        in_base = in_base j;
+        in_storage = in_storage j;
         in_known = in_known j;
         in_either = in_either j;
-        marks_base = marks_base j;
+        marks_in_storage = marks_in_storage j;
         marks_known = marks_known j;
         marks_either = marks_either j;
-        base_count = counts c j;
+        storage_count = counts c j;
         known_count = known_counts c j;
-      }) (good h d p base known guarded c)
+      }) (good h d p on_storage known guarded c)
 
-  pub same_guarded : IsGuarded h d p base' known'
+  pub same_guarded : CrashInvariant h d p on_storage' known'
   same_guarded = record {
-    top = IsTop-top h base base' top guarded.top;
-    same_top = SameTop-trans h base' base known' (SameTop-sym h base base' top) (SameTop-trans h base known known' guarded.same_top known_top);
+    top = IsTop-top h on_storage on_storage' top guarded.top;
+    same_top = SameTop-trans h on_storage' on_storage known' (SameTop-sym h on_storage on_storage' top) (SameTop-trans h on_storage known known' guarded.same_top known_top);
     always = λ c. (good_too c).always;
     ordered = λ c. (good_too c).ordered;
     aligned = λ g. subst (CoverIsAligned h) (covers g) (guarded.aligned g);
@@ -71,46 +71,46 @@ module _ (h : HeaderFields) (d : Direction) (p : Pending) (base known base' know
   }
 
 -- ---- what is pending, or counted nowhere, is unnamed
-module _ (h : HeaderFields) (d : Direction) (p : Pending) (base known : Bytes) (guarded : IsGuarded h d p base known) (c : ℕ) where
-  pub held_is_unnamed : 0 < p.held c → IsUnnamed h base known c
+module _ (h : HeaderFields) (d : Direction) (p : Pending) (on_storage known : Bytes) (guarded : CrashInvariant h d p on_storage known) (c : ℕ) where
+  pub held_is_unnamed : 0 < p.held c → IsUnnamed h on_storage known c
   held_is_unnamed some =
-      let none = held_unnamed d (cluster h p base known c) (p.surplus c) (tied h p base known c) some (good h d p base known guarded c) in
+      let none = held_unnamed d (cluster h p on_storage known c) (p.surplus c) (tied h p on_storage known c) some (good h d p on_storage known guarded c) in
       record { no_table = none.1; no_entry = none.0 }
 
-  -- where what is known of entries is on the storage, no mix has more
-  pub written_covers : (d ≡ RbDependsOnL2 → SameCovers h base known) → Written d (cluster h p base known c)
+  -- where what is known of entries is on the storage, no mix has checkpoint_with
+  pub written_covers : (d ≡ RbDependsOnL2 → SameCovers h on_storage known) → Written d (cluster h p on_storage known c)
   written_covers = written d
     where
-      written : (e : Direction) → (e ≡ RbDependsOnL2 → SameCovers h base known) → Written e (cluster h p base known c)
+      written : (e : Direction) → (e ≡ RbDependsOnL2 → SameCovers h on_storage known) → Written e (cluster h p on_storage known c)
       written Neither covers = tt
       written L2DependsOnRb covers = tt
       written RbDependsOnL2 covers =
-          (as_known h known base (λ k. sym (covers refl k)) (named_by_cover h c), as_known h known base (λ k. sym (covers refl k)) (marked_by_cover h c))
+          (as_known h known on_storage (λ k. sym (covers refl k)) (named_by_cover h c), as_known h known on_storage (λ k. sym (covers refl k)) (marked_by_cover h c))
 
   -- a fresh cluster may still be named by an entry on the storage, unless L2 tables are written
-  pub fresh_is_unnamed : 0 < p.fresh c → (d ≡ RbDependsOnL2 → SameCovers h base known) → IsUnnamed h base known c
+  pub fresh_is_unnamed : 0 < p.fresh c → (d ≡ RbDependsOnL2 → SameCovers h on_storage known) → IsUnnamed h on_storage known c
   fresh_is_unnamed some covers =
-      let none = fresh_unnamed d (cluster h p base known c) (p.surplus c) (tied h p base known c) some (written_covers covers) (good h d p base known guarded c) in
+      let none = fresh_unnamed d (cluster h p on_storage known c) (p.surplus c) (tied h p on_storage known c) some (written_covers covers) (good h d p on_storage known guarded c) in
       record { no_table = none.1; no_entry = none.0 }
 
-  pub unused_is_unnamed : count h known c ≡ 0 → count h base c ≡ 0 → IsUnnamed h base known c
-  unused_is_unnamed known_none base_none =
-      let none = unused_unnamed d (cluster h p base known c) (p.surplus c) (tied h p base known c) known_none base_none (good h d p base known guarded c) in
+  pub unused_is_unnamed : count h known c ≡ 0 → count h on_storage c ≡ 0 → IsUnnamed h on_storage known c
+  unused_is_unnamed known_none storage_none =
+      let none = unused_unnamed d (cluster h p on_storage known c) (p.surplus c) (tied h p on_storage known c) known_none storage_none (good h d p on_storage known guarded c) in
       record { no_table = let t = (guarded.always c).tally in omega arith; no_entry = none }
 
-  pub marked_alone : (g : ℕ) → 0 < marks h known c g → (named_for_tables h base c ≡ 0) × (named_in_either h base known c ≤ 1)
+  pub marked_alone : (g : ℕ) → 0 < marks h known c g → (named_for_tables h on_storage c ≡ 0) × (named_in_either h on_storage known c ≤ 1)
   marked_alone g some =
-      let sizes = Sizes-from h base guarded.top.header_reads in
+      let sizes = Sizes-from h on_storage guarded.top.header_reads in
       let le = marks-le h c (cover h known g) in
       let inside = names_within h known c g sizes (omega arith) in
       let in_sum = guest_le h (marks h known c) g inside in
-      let in_either = guest_le h (λ k. max (names h base c k) (names h known c k)) g inside in
+      let in_either = guest_le h (λ k. max (names h on_storage c k) (names h known c k)) g inside in
       let table = (guarded.always c).table in
-      let once = named_once d (cluster h p base known c) (p.surplus c) (tied h p base known c) (omega arith) (good h d p base known guarded c) in
-      (elim (cases_lt 0 (named_for_tables h base c)) [ inl fixed ↦ absurd (let t = table fixed in omega arith) | inr none ↦ omega arith ], once)
+      let once = named_once d (cluster h p on_storage known c) (p.surplus c) (tied h p on_storage known c) (omega arith) (good h d p on_storage known guarded c) in
+      (elim (cases_lt 0 (named_for_tables h on_storage c)) [ inl fixed ↦ absurd (let t = table fixed in omega arith) | inr none ↦ omega arith ], once)
 
 -- ---- a value that is as before, or given
-shown_given : (h : HeaderFields) (b b' backing : Bytes) (o : ℕ) (given : List Gift) (v : L2Mapping) → CoverIsAligned h v
+shown_given : (h : HeaderFields) (b b' backing : Bytes) (o : ℕ) (given : List GivenBytes) (v : L2Mapping) → CoverIsAligned h v
     → ((place : ℕ) → 0 < named_by_cover h (place / cluster_size h) v
     → (b place ≡ b' place) ⊎ ((0 < marked_by_cover h (place / cluster_size h) v) × (place % cluster_size h ≡ o % cluster_size h → (b place ≡ b' place) ⊎ IsGiven given o (known_byte (b' place)))))
     → (value_under h b' b' backing o v ≡ value_under h b b backing o v) ⊎ IsGiven given o (value_under h b' b' backing o v)
@@ -131,7 +131,7 @@ shown_given h b b' backing o given (Compressed host sectors) aligned each =
     inl (sym (shown h b b' backing o (Compressed host sectors) tt (λ place some. elim (each place some) [ inl same ↦ same | inr change ↦ absurd (omega (arith, change.0)) ])))
 shown_given h b b' backing o given Uncovered aligned each = inl refl
 
-guest_given : (h : HeaderFields) (b b' backing : Bytes) (o : ℕ) (given : List Gift) → cover h b (o / cluster_size h) ≡ cover h b' (o / cluster_size h) → CoverIsAligned h (cover h b (o / cluster_size h))
+guest_given : (h : HeaderFields) (b b' backing : Bytes) (o : ℕ) (given : List GivenBytes) → cover h b (o / cluster_size h) ≡ cover h b' (o / cluster_size h) → CoverIsAligned h (cover h b (o / cluster_size h))
     → ((place : ℕ) → 0 < names h b (place / cluster_size h) (o / cluster_size h)
     → (b place ≡ b' place) ⊎ ((0 < marks h b (place / cluster_size h) (o / cluster_size h)) × (place % cluster_size h ≡ o % cluster_size h → (b place ≡ b' place) ⊎ IsGiven given o (known_byte (b' place)))))
     → (guest_value h b' b' backing o ≡ guest_value h b b backing o) ⊎ IsGiven given o (guest_value h b' b' backing o)
@@ -144,58 +144,58 @@ guest_given h b b' backing o given same aligned each =
     ]
 
 -- ---- a write of data
-module _ (h : HeaderFields) (d : Direction) (p : Pending) (base known base' known' : Bytes) (given : List Gift) (guarded : IsGuarded h d p base known)
-    (written : IsWritten h base known base' known' given) where
+module _ (h : HeaderFields) (d : Direction) (p : Pending) (on_storage known on_storage' known' : Bytes) (given : List GivenBytes) (guarded : CrashInvariant h d p on_storage known)
+    (written : IsWritten h on_storage known on_storage' known' given) where
   sizes : Sizes h
-  sizes = Sizes-from h base guarded.top.header_reads
+  sizes = Sizes-from h on_storage guarded.top.header_reads
 
-  stays : (c : ℕ) → 0 < named_for_tables h base c → SameIn (cluster_size h) c base base' × SameIn (cluster_size h) c known known'
+  stays : (c : ℕ) → 0 < named_for_tables h on_storage c → SameIn (cluster_size h) c on_storage on_storage' × SameIn (cluster_size h) c known known'
   stays c some = elim (written.each c) [
     | inl same ↦ same
     | inr change ↦ elim change [
       | inl unnamed ↦ absurd (omega (arith, some, unnamed.no_table))
-      | inr place ↦ absurd (let none = marked_alone h d p base known guarded c place.guest place.marked in omega (arith, some, none.0))
+      | inr place ↦ absurd (let none = marked_alone h d p on_storage known guarded c place.guest place.marked in omega (arith, some, none.0))
     ]
   ]
 
-  pub base_stays : (c : ℕ) → 0 < named_for_tables h base c → SameIn (cluster_size h) c base base'
-  base_stays c some = (stays c some).0
+  pub storage_stays : (c : ℕ) → 0 < named_for_tables h on_storage c → SameIn (cluster_size h) c on_storage on_storage'
+  storage_stays c some = (stays c some).0
 
   known_stays : (c : ℕ) → 0 < named_for_tables h known c → SameIn (cluster_size h) c known known'
-  known_stays c some = (stays c (let e = for_tables-top h base known c guarded.same_top in omega arith)).1
+  known_stays c some = (stays c (let e = for_tables-top h on_storage known c guarded.same_top in omega arith)).1
 
-  now_covers : SameCovers h base base'
-  now_covers = covers_stay h base base' guarded.top base_stays
+  now_covers : SameCovers h on_storage on_storage'
+  now_covers = covers_stay h on_storage on_storage' guarded.top storage_stays
 
   pub known_covers : SameCovers h known known'
-  known_covers = covers_stay h known known' (IsTop-top h base known guarded.same_top guarded.top) known_stays
+  known_covers = covers_stay h known known' (IsTop-top h on_storage known guarded.same_top guarded.top) known_stays
 
-  pub written_guarded : IsGuarded h d p base' known'
+  pub written_guarded : CrashInvariant h d p on_storage' known'
   written_guarded =
-      let known_top = IsTop-top h base known guarded.same_top guarded.top in
-      same_guarded h d p base known base' known' guarded
-      (top_stays h base base' guarded.top base_stays) (top_stays h known known' known_top known_stays) now_covers known_covers
-      (counts_stay h base base' guarded.top base_stays) (counts_stay h known known' known_top known_stays)
+      let known_top = IsTop-top h on_storage known guarded.same_top guarded.top in
+      same_guarded h d p on_storage known on_storage' known' guarded
+      (top_stays h on_storage on_storage' guarded.top storage_stays) (top_stays h known known' known_top known_stays) now_covers known_covers
+      (counts_stay h on_storage on_storage' guarded.top storage_stays) (counts_stay h known known' known_top known_stays)
       (λ o some. written.agree o (guarded.unlaid o some))
 
   -- a cluster that a guest cluster has to itself is named by no other
-  pub its_own : (c g g' : ℕ) → 0 < marks h known c g → 0 < names h base c g' + names h known c g' → g ≡ g'
+  pub its_own : (c g g' : ℕ) → 0 < marks h known c g → 0 < names h on_storage c g' + names h known c g' → g ≡ g'
   its_own c g g' marked some = elim (cases_eq g g') [
     | inl same ↦ same
     | inr other ↦ absurd (
         let le = marks-le h c (cover h known g) in
         let within = names_within h known c g sizes (omega arith) in
-        let once = marked_alone h d p base known guarded c g marked in
-        elim (cases_lt 0 (names h base c g')) [
-          | inl in_base ↦ let two = two_guests_le h (λ k. max (names h base c k) (names h known c k)) g g' within (names_within h base c g' sizes in_base) other in omega arith
-          | inr none ↦ let two = two_guests_le h (λ k. max (names h base c k) (names h known c k)) g g' within (names_within h known c g' sizes (omega arith)) other in omega arith
+        let once = marked_alone h d p on_storage known guarded c g marked in
+        elim (cases_lt 0 (names h on_storage c g')) [
+          | inl in_storage ↦ let two = two_guests_le h (λ k. max (names h on_storage c k) (names h known c k)) g g' within (names_within h on_storage c g' sizes in_storage) other in omega arith
+          | inr none ↦ let two = two_guests_le h (λ k. max (names h on_storage c k) (names h known c k)) g g' within (names_within h known c g' sizes (omega arith)) other in omega arith
         ])
   ]
 
-  named_too : (c g : ℕ) → 0 < names h base c g + names h known c g → 0 < named_in_either h base known c
-  named_too c g some = elim (cases_lt 0 (names h base c g)) [
-    | inl in_base ↦ let le = guest_le h (λ k. max (names h base c k) (names h known c k)) g (names_within h base c g sizes in_base) in omega arith
-    | inr none ↦ let le = guest_le h (λ k. max (names h base c k) (names h known c k)) g (names_within h known c g sizes (omega arith)) in omega arith
+  named_too : (c g : ℕ) → 0 < names h on_storage c g + names h known c g → 0 < named_in_either h on_storage known c
+  named_too c g some = elim (cases_lt 0 (names h on_storage c g)) [
+    | inl in_storage ↦ let le = guest_le h (λ k. max (names h on_storage c k) (names h known c k)) g (names_within h on_storage c g sizes in_storage) in omega arith
+    | inr none ↦ let le = guest_le h (λ k. max (names h on_storage c k) (names h known c k)) g (names_within h known c g sizes (omega arith)) in omega arith
   ]
 
   -- what was given for a guest cluster that has the place to itself
@@ -205,9 +205,9 @@ module _ (h : HeaderFields) (d : Direction) (p : Pending) (base known base' know
       let e : g * cluster_size h + place % cluster_size h ≡ o = ap (λ n. n * cluster_size h + place % cluster_size h) here ∙ ap (λ n. o / cluster_size h * cluster_size h + n) rest ∙ is in
       subst (λ n. IsGiven given n (known_byte (known' place))) e gift
 
-  base_place : (o place : ℕ) → 0 < names h base (place / cluster_size h) (o / cluster_size h)
-      → (base place ≡ base' place) ⊎ ((0 < marks h base (place / cluster_size h) (o / cluster_size h)) × (place % cluster_size h ≡ o % cluster_size h → (base place ≡ base' place) ⊎ IsGiven given o (known_byte (base' place))))
-  base_place o place some = elim (written.each (place / cluster_size h)) [
+  storage_place : (o place : ℕ) → 0 < names h on_storage (place / cluster_size h) (o / cluster_size h)
+      → (on_storage place ≡ on_storage' place) ⊎ ((0 < marks h on_storage (place / cluster_size h) (o / cluster_size h)) × (place % cluster_size h ≡ o % cluster_size h → (on_storage place ≡ on_storage' place) ⊎ IsGiven given o (known_byte (on_storage' place))))
+  storage_place o place some = elim (written.each (place / cluster_size h)) [
     | inl same ↦ inl (same.0 place refl)
     | inr change ↦ elim change [
       | inl unnamed ↦ absurd (let n = named_too (place / cluster_size h) (o / cluster_size h) (omega arith) in omega (arith, n, unnamed.no_entry))
@@ -215,7 +215,7 @@ module _ (h : HeaderFields) (d : Direction) (p : Pending) (base known base' know
           let here = its_own (place / cluster_size h) at.guest (o / cluster_size h) at.marked (omega arith) in
           let marked : 0 < marks h known (place / cluster_size h) (o / cluster_size h) = subst (λ n. 0 < marks h known (place / cluster_size h) n) here at.marked in
           let owns = guarded.own (o / cluster_size h) (place / cluster_size h) marked in
-          let both : base' place ≡ known' place = written.agree place (guarded.unlaid place (let n = named_too (place / cluster_size h) (o / cluster_size h) (omega arith) in omega arith)) in
+          let both : on_storage' place ≡ known' place = written.agree place (guarded.unlaid place (let n = named_too (place / cluster_size h) (o / cluster_size h) (omega arith) in omega arith)) in
           inr (
             omega arith,
             (λ rest. elim (at.gives place refl) [
@@ -245,13 +245,13 @@ module _ (h : HeaderFields) (d : Direction) (p : Pending) (base known base' know
     ]
   ]
 
-  pub written_kept : (backing : Bytes) (m : Mark) → IsKeptAt backing m base → IsKeptAt backing (more given [] m) base'
+  pub written_kept : (backing : Bytes) (m : Checkpoint) → StopOkEverywhere backing m on_storage → StopOkEverywhere backing (checkpoint_with given [] m) on_storage'
   written_kept backing m kept =
-      kept_shown h backing m given base base' guarded.top.header_is written_guarded.top.header_is (guarded_consistent h d p base' known' written_guarded)
-      (λ o. guest_given h base base' backing o given (now_covers (o / cluster_size h)) (guarded.aligned (o / cluster_size h)) (base_place o)) kept
+      kept_shown h backing m given on_storage on_storage' guarded.top.header_is written_guarded.top.header_is (guarded_consistent h d p on_storage' known' written_guarded)
+      (λ o. guest_given h on_storage on_storage' backing o given (now_covers (o / cluster_size h)) (guarded.aligned (o / cluster_size h)) (storage_place o)) kept
 
-  pub written_known_kept : (backing : Bytes) (m : Mark) → IsKeptAt backing m known → IsKeptAt backing (more given [] m) known'
+  pub written_known_kept : (backing : Bytes) (m : Checkpoint) → StopOkEverywhere backing m known → StopOkEverywhere backing (checkpoint_with given [] m) known'
   written_known_kept backing m kept =
-      kept_shown h backing m given known known' (IsTop-top h base known guarded.same_top guarded.top).header_is
-      (IsTop-top h base' known' written_guarded.same_top written_guarded.top).header_is (known_consistent h d p base' known' written_guarded)
+      kept_shown h backing m given known known' (IsTop-top h on_storage known guarded.same_top guarded.top).header_is
+      (IsTop-top h on_storage' known' written_guarded.same_top written_guarded.top).header_is (known_consistent h d p on_storage' known' written_guarded)
       (λ o. guest_given h known known' backing o given (known_covers (o / cluster_size h)) (guarded.known_aligned (o / cluster_size h)) (known_place o)) kept

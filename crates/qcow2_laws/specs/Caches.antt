@@ -5,10 +5,10 @@ use Rattle.qcow2_metadata.specs.declared.header.HeaderFields.{HeaderFields}
 use Rattle.qcow2_metadata.specs.Header.{cluster_size}
 use Rattle.qcow2_metadata.specs.Entries.{reftable_entry, block_offset}
 use Rattle.qcow2_metadata.specs.Tables.{CachedTable, known, overlays}
-use Rattle.qcow2_laws.specs.Stops.{Mark, IsKeptAt}
+use Rattle.qcow2_laws.specs.Stops.{Checkpoint, StopOkEverywhere}
 use Rattle.qcow2_laws.specs.Clusters.{Direction, Neither, L2DependsOnRb, RbDependsOnL2}
 use Rattle.qcow2_laws.specs.Guests.{table_at}
-use Rattle.qcow2_laws.specs.Guard.{Pending, IsGuarded}
+use Rattle.qcow2_laws.specs.CrashInvariant.{Pending, CrashInvariant}
 use Rattle.qcow2_laws.specs.Writes.{IsUnnamed}
 
 -- the contents with the modified tables of both caches laid over
@@ -41,12 +41,12 @@ abbrev pub HasBlock : HeaderFields → Bytes → ℕ → Type 0
 HasBlock h b c = (k : ℕ) × (block_offset (reftable_entry h b k) ≢ 0) × (block_offset (reftable_entry h b k) / cluster_size h ≡ c)
 
 -- What is kept of the L2 tables, the refblocks and the storage. A modified table stands where it is named; a refblock may be new, and stand where nothing is named.
-pub record IsKept (h : HeaderFields) (d : Direction) (p : Pending) (l2s rbs : List CachedTable) (base : Bytes) : Type 0 where
-  pub guarded : IsGuarded h d p base (known_bytes (cluster_size h) l2s rbs base)
+pub record CacheInvariantOver (h : HeaderFields) (d : Direction) (p : Pending) (l2s rbs : List CachedTable) (on_storage : Bytes) : Type 0 where
+  pub guarded : CrashInvariant h d p on_storage (known_bytes (cluster_size h) l2s rbs on_storage)
   pub l2_apart : AreApart (cluster_size h) l2s
   pub rb_apart : AreApart (cluster_size h) rbs
-  pub l2_stand : (c : ℕ) → IsFreeOf (cluster_size h) l2s c ⊎ HasL2 h base c
-  pub rb_stand : (c : ℕ) → IsFreeOf (cluster_size h) rbs c ⊎ (HasBlock h base c ⊎ IsUnnamed h base (known_bytes (cluster_size h) l2s rbs base) c)
+  pub l2_stand : (c : ℕ) → IsFreeOf (cluster_size h) l2s c ⊎ HasL2 h on_storage c
+  pub rb_stand : (c : ℕ) → IsFreeOf (cluster_size h) rbs c ⊎ (HasBlock h on_storage c ⊎ IsUnnamed h on_storage (known_bytes (cluster_size h) l2s rbs on_storage) c)
 
 -- what has to be written before refblocks, L2 tables may be
 abbrev pub BlocksMayGo : Direction → List CachedTable → Type 0
@@ -67,14 +67,14 @@ pub record IsWrittenSo (size : ℕ) (t t' : CachedTable) (b b' : Bytes) : Type 0
 
 -- what was kept of these two is kept of the third
 abbrev pub IsSafeBetween : Bytes → Bytes → Bytes → Type 0
-IsSafeBetween base known b = (backing : Bytes) (m : Mark) → IsKeptAt backing m base → IsKeptAt backing m known → IsKeptAt backing m b
+IsSafeBetween on_storage known b = (backing : Bytes) (m : Checkpoint) → StopOkEverywhere backing m on_storage → StopOkEverywhere backing m known → StopOkEverywhere backing m b
 
 -- one table more is written: all is kept, nothing known changes, and a stop is as safe as before
-pub record Keeps (h : HeaderFields) (d : Direction) (p : Pending) (l2s rbs : List CachedTable) (base : Bytes) (l2s' rbs' : List CachedTable) (base' : Bytes) : Type 0 where
-  pub kept : IsKept h d p l2s' rbs' base'
-  pub known : known_bytes (cluster_size h) l2s' rbs' base' ≡ known_bytes (cluster_size h) l2s rbs base
-  pub safe : IsSafeBetween base (known_bytes (cluster_size h) l2s rbs base) base'
+pub record UnseenTableWrite (h : HeaderFields) (d : Direction) (p : Pending) (l2s rbs : List CachedTable) (on_storage : Bytes) (l2s' rbs' : List CachedTable) (on_storage' : Bytes) : Type 0 where
+  pub kept : CacheInvariantOver h d p l2s' rbs' on_storage'
+  pub known : known_bytes (cluster_size h) l2s' rbs' on_storage' ≡ known_bytes (cluster_size h) l2s rbs on_storage
+  pub safe : IsSafeBetween on_storage (known_bytes (cluster_size h) l2s rbs on_storage) on_storage'
 
 -- no refblock is modified that nothing names yet
 abbrev pub AreSettled : HeaderFields → List CachedTable → Bytes → Type 0
-AreSettled h rbs base = (c : ℕ) → IsFreeOf (cluster_size h) rbs c ⊎ HasBlock h base c
+AreSettled h rbs on_storage = (c : ℕ) → IsFreeOf (cluster_size h) rbs c ⊎ HasBlock h on_storage c

@@ -7,10 +7,10 @@ use Rattle.qcow2_metadata.specs.Bytes.{byte_at}
 use Rattle.qcow2_metadata.specs.Header.{rounded_up}
 use Rattle.qcow2_metadata.specs.Guest.{known_byte}
 use Rattle.qcow2_laws.specs.Disk.{Disk, with_bytes, zeroed, uncovered, grown, shrunk}
-use Rattle.qcow2_laws.specs.Stops.{Gift, Mark, more, IsKeptAt}
+use Rattle.qcow2_laws.specs.Stops.{GivenBytes, Checkpoint, checkpoint_with, StopOkEverywhere}
 use Rattle.qcow2_laws.specs.Mappings.{PreparedMapping, gift_shown}
 use Rattle.qcow2_laws.specs.Rules.{touched_from, touched_to}
-use Rattle.qcow2_laws.specs.Views.{Setting, Guest, View, guest_of, contents_of}
+use Rattle.qcow2_laws.specs.AbstractImages.{Setting, Guest, AbstractImage, guest_of, contents_of}
 
 -- why a call was refused, as far as the state after it depends on that
 pub data Refusal : Type 0 where
@@ -27,46 +27,46 @@ IsFault (another number) = ⊥
 -- ---- what is said of every call
 
 -- where a stop may find the image, with what a call gives and asks
-pub record Stops (old new : View) (given : List Gift) (asked : List ℕ) (m : Mark) : Type 0 where
-  pub moments : Passing old.storage new.storage (λ c. IsKeptAt old.setting.backing (more given asked m) (byte_at c))
-  pub contents : IsKeptAt old.setting.backing (more given asked m) (contents_of new)
-  pub known : new.is_sound → IsKeptAt old.setting.backing (more given asked m) new.known
+pub record Stops (old new : AbstractImage) (given : List GivenBytes) (asked : List ℕ) (m : Checkpoint) : Type 0 where
+  pub moments : Passing old.storage new.storage (λ c. StopOkEverywhere old.setting.backing (checkpoint_with given asked m) (byte_at c))
+  pub contents : StopOkEverywhere old.setting.backing (checkpoint_with given asked m) (contents_of new)
+  pub known : new.is_sound → StopOkEverywhere old.setting.backing (checkpoint_with given asked m) new.known
 
-abbrev pub StartsAt : View → Mark → Type 0
-StartsAt v m = IsKeptAt v.setting.backing m (contents_of v) × IsKeptAt v.setting.backing m v.known
+abbrev pub StartsAt : AbstractImage → Checkpoint → Type 0
+StartsAt v m = StopOkEverywhere v.setting.backing m (contents_of v) × StopOkEverywhere v.setting.backing m v.known
 
 -- what a call does to a sound image
-pub record Works (old new : View) (given : List Gift) (asked : List ℕ) : Type 0 where
+pub record Works (old new : AbstractImage) (given : List GivenBytes) (asked : List ℕ) : Type 0 where
   pub setting : new.setting ≡ old.setting
   pub surplus : new.is_sound → new.surplus ≡ old.surplus
-  pub stops : (m : Mark) → StartsAt old m → Stops old new given asked m
+  pub stops : (m : Checkpoint) → StartsAt old m → Stops old new given asked m
 
--- a failed image writes nothing more
-pub record Rests (old new : View) : Type 0 where
+-- a failed image writes nothing checkpoint_with
+pub record Rests (old new : AbstractImage) : Type 0 where
   pub setting : new.setting ≡ old.setting
   pub failed : IsTrue new.is_failed
   pub contents : new.storage.contents ≡ old.storage.contents
   pub moments : Passing old.storage new.storage (λ c. c ≡ old.storage.contents)
 
 -- a call that gives these values and asks for these sizes
-pub record Acts (old new : View) (given : List Gift) (asked : List ℕ) : Type 0 where
+pub record Acts (old new : AbstractImage) (given : List GivenBytes) (asked : List ℕ) : Type 0 where
   pub number : new.number ≡ old.number
   pub works : old.is_sound → Works old new given asked
   pub rests : IsTrue old.is_failed → Rests old new
 
 -- it was answered: the image is sound, and this was done
-pub record Does (old new : View) (given : List Gift) (asked : List ℕ) (done : Type 0) : Type 0 where
+pub record Does (old new : AbstractImage) (given : List GivenBytes) (asked : List ℕ) (done : Type 0) : Type 0 where
   pub acts : Acts old new given asked
   pub answer : old.is_sound → new.is_sound × done
 
 -- it was refused: the image is sound, and this is so; or it failed, by a fault or want of memory. A fault always fails it.
-pub record Refuses (old new : View) (given : List Gift) (asked : List ℕ) (e : Refusal) (still : Type 0) : Type 0 where
+pub record Refuses (old new : AbstractImage) (given : List GivenBytes) (asked : List ℕ) (e : Refusal) (still : Type 0) : Type 0 where
   pub acts : Acts old new given asked
   pub answer : old.is_sound → (new.is_sound × still) ⊎ (IsFault e × IsTrue new.is_failed)
   pub fault : e ≡ storage → IsTrue new.is_failed
 
 -- the guest sees what it saw
-abbrev pub IsSame : View → View → Type 0
+abbrev pub IsSame : AbstractImage → AbstractImage → Type 0
 IsSame old new = guest_of new ≡ guest_of old
 
 -- ---- what single calls do
@@ -102,7 +102,7 @@ cleared x d to_zero from to = zeroed d from to
 abbrev pub cleared_at : Setting → Disk → Clearing → ℕ → ℕ → Disk
 cleared_at x d how offset n = cleared x d how (touched_from x.cluster_size offset) (touched_to x.cluster_size d.size offset n)
 
-abbrev pub gift_of_clear : Setting → Disk → Clearing → ℕ → ℕ → Gift
+abbrev pub gift_of_clear : Setting → Disk → Clearing → ℕ → ℕ → GivenBytes
 gift_of_clear x d how offset n = gift_shown (cleared_at x d how offset n) (touched_from x.cluster_size offset) (touched_to x.cluster_size d.size offset n)
 
 abbrev pub shows_old : PreallocateMode → Bool
@@ -119,7 +119,7 @@ pub record MayGrow (x : Setting) (old : Disk) (size : ℕ) (mode : PreallocateMo
       ⊎ ((shows_old mode ≡ false) × (old.size < size) × (old.size ≤ o) × (o < rounded_up x.cluster_size size) × (new.value o ≡ known_byte 0))
 
 -- a size that isn't larger gives nothing
-abbrev pub gift_of_grow : Setting → Disk → ℕ → PreallocateMode → List Gift
+abbrev pub gift_of_grow : Setting → Disk → ℕ → PreallocateMode → List GivenBytes
 gift_of_grow x d size mode =
     if nat_le size d.size || shows_old mode then [] else gift_shown (zeroed d d.size (rounded_up x.cluster_size size)) d.size (rounded_up x.cluster_size size) ∷ []
 
@@ -132,5 +132,5 @@ pub record IsShrunk (x : Setting) (old : Disk) (size answer : ℕ) (new : Disk) 
   pub no_smaller : old.size ≤ size → (answer ≡ old.size) × (new ≡ old)
   pub smaller : size < old.size → IsShrinkEnd x.cluster_size old.size size answer × (new ≡ shrunk x.cluster_size old x.backing size answer)
 
-abbrev pub gift_of_shrink : Setting → Disk → ℕ → Gift
+abbrev pub gift_of_shrink : Setting → Disk → ℕ → GivenBytes
 gift_of_shrink x d size = gift_shown (uncovered d x.backing (rounded_up x.cluster_size size) (rounded_up x.cluster_size d.size)) (rounded_up x.cluster_size size) (rounded_up x.cluster_size d.size)

@@ -1,6 +1,6 @@
 -- How calls change what is pending. Each number says how often a cluster is meant.
 use Rattle.std.specs.Prelude.{ℕ, ◌+◌, ◌-◌, ◌==◌, if◌then◌else◌}
-use Rattle.qcow2_laws.specs.Guard.{Pending}
+use Rattle.qcow2_laws.specs.CrashInvariant.{Pending}
 
 -- once the one cluster, and no other
 abbrev pub one_at : ℕ → ℕ → ℕ

@@ -12,14 +12,14 @@ pub record Cluster : Type 0 where
   pub fixed : ℕ
   pub sole : ℕ
   -- how often entries of L2 tables name it: those on the storage, the known ones, at most in a mix of both
-  pub in_base : ℕ
+  pub in_storage : ℕ
   pub in_known : ℕ
   pub in_either : ℕ
   -- how often they mark it copied
-  pub marks_base : ℕ
+  pub marks_in_storage : ℕ
   pub marks_known : ℕ
   pub marks_either : ℕ
-  pub base_count : ℕ
+  pub storage_count : ℕ
   pub known_count : ℕ
   -- pending: data not entered yet, tables not named yet, former tables to be freed, former data to be freed
   pub held : ℕ
@@ -28,9 +28,9 @@ pub record Cluster : Type 0 where
   pub dropped : ℕ
 
 -- entries may be written before counts
-pub record BaseCovers (k : Cluster) : Type 0 where
-  pub covers : k.fixed + k.in_either + k.held ≤ k.base_count
-  pub alone : 0 < k.sole + k.marks_either + k.held → k.base_count ≤ 1
+pub record StorageCovers (k : Cluster) : Type 0 where
+  pub covers : k.fixed + k.in_either + k.held ≤ k.storage_count
+  pub alone : 0 < k.sole + k.marks_either + k.held → k.storage_count ≤ 1
 
 -- counts may be written before entries
 pub record KnownCovers (k : Cluster) : Type 0 where
@@ -38,15 +38,15 @@ pub record KnownCovers (k : Cluster) : Type 0 where
   pub alone : 0 < k.sole + k.marks_either → k.known_count ≤ 1
 
 -- the storage is consistent as it is
-pub record BaseFits (k : Cluster) : Type 0 where
-  pub covers : k.fixed + k.in_base ≤ k.base_count
-  pub alone : 0 < k.sole + k.marks_base → k.base_count ≤ 1
+pub record StorageFits (k : Cluster) : Type 0 where
+  pub covers : k.fixed + k.in_storage ≤ k.storage_count
+  pub alone : 0 < k.sole + k.marks_in_storage → k.storage_count ≤ 1
 
 -- what the direction asks for
 abbrev pub Ordered : Direction → Cluster → Type 0
-Ordered Neither k = BaseCovers k × KnownCovers k
-Ordered L2DependsOnRb k = BaseFits k × KnownCovers k
-Ordered RbDependsOnL2 k = BaseCovers k × Unit {0}
+Ordered Neither k = StorageCovers k × KnownCovers k
+Ordered L2DependsOnRb k = StorageFits k × KnownCovers k
+Ordered RbDependsOnL2 k = StorageCovers k × Unit {0}
 
 -- what holds in every direction
 pub record Always (k : Cluster) (surplus : ℕ) : Type 0 where

@@ -37,7 +37,7 @@ marks h b cluster guest = marked_by_cover h cluster (cover h b guest)
 
 -- how often guest clusters name a host cluster at most, each in the one image or in the other
 abbrev pub named_in_either : HeaderFields → Bytes → Bytes → ℕ → ℕ
-named_in_either h base known cluster = over_guests h (λ g. max (names h base cluster g) (names h known cluster g))
+named_in_either h on_storage known cluster = over_guests h (λ g. max (names h on_storage cluster g) (names h known cluster g))
 
 -- the place of the L2 table of an L1 entry, 0 for none
 abbrev pub table_at : HeaderFields → Bytes → ℕ → ℕ

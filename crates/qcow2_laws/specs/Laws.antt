@@ -9,117 +9,117 @@ use Rattle.qcow2_metadata.specs.Consistent.{IsConsistent}
 use Rattle.qcow2_metadata.specs.Tables.{CachedTable}
 use Rattle.qcow2_metadata.specs.Guest.{Value}
 use Rattle.qcow2_laws.specs.Disk.{disk}
-use Rattle.qcow2_laws.specs.Stops.{Gift, IsGiven, Mark, IsStopAt, IsKeptAt}
+use Rattle.qcow2_laws.specs.Stops.{GivenBytes, IsGiven, Checkpoint, StopOk, StopOkEverywhere}
 use Rattle.qcow2_laws.specs.Clusters.{Direction, Neither, L2DependsOnRb, RbDependsOnL2}
 use Rattle.qcow2_laws.specs.Guests.{names, table_at}
-use Rattle.qcow2_laws.specs.Guard.{Pending, IsMixed, MayTurn, SameCovers}
+use Rattle.qcow2_laws.specs.CrashInvariant.{Pending, IsMixed, MayTurn, SameCovers}
 use Rattle.qcow2_laws.specs.Opened.{nothing_pending, surplus_of}
 use Rattle.qcow2_laws.specs.Changes.{one_at, with_held, with_fresh, without_spent, without_dropped, held_to_dropped, held_to_spent, fresh_to_spent, remapped, named_now, renamed}
 use Rattle.qcow2_laws.specs.Writes.{IsUnnamed, IsWritten}
 use Rattle.qcow2_laws.specs.Tops.{with_places, WritesL1Entry, IsNewTable, WritesReftableEntry, IsNewBlock, WritesHeader, resized, with_l1_at, IsNewL1, with_reftable_at, IsNewReftable}
-use Rattle.qcow2_laws.specs.Caches.{IsKept, BlocksMayGo, TablesMayGo, IsWrittenSo, Keeps}
-use Rattle.qcow2_laws.specs.Leads.{Stand, IsSound, Leads}
+use Rattle.qcow2_laws.specs.Caches.{CacheInvariantOver, BlocksMayGo, TablesMayGo, IsWrittenSo, UnseenTableWrite}
+use Rattle.qcow2_laws.specs.SafeSteps.{DriverState, StateInvariant, SafeStep}
 use Rattle.qcow2_laws.specs.Steps.{CountRises, CountFalls, guest_at, EntryChanges, ShowsGiven}
 
-abbrev pub nothing : Bytes → List Gift
+abbrev pub nothing : Bytes → List GivenBytes
 nothing backing = []
 
 -- an image as it is opened
-abbrev pub opened : Bytes → Stand
-opened b = record { header = header b; direction = Neither; pending = nothing_pending (surplus_of (header b) b); base = b; known = b }
+abbrev pub opened : Bytes → DriverState
+opened b = record { header = header b; direction = Neither; pending = nothing_pending (surplus_of (header b) b); on_storage = b; known = b }
 
 -- What is on the storage, and what is known, is consistent; and a consistent image is sound as it is opened.
 pub record SoundIsConsistent : Type 0 where
-  pub base : (s : Stand) → IsSound s → IsConsistent s.base
-  pub known : (s : Stand) → IsSound s → IsConsistent s.known
-  pub opened : (b : Bytes) → IsConsistent b → IsSound (opened b)
+  pub on_storage : (s : DriverState) → StateInvariant s → IsConsistent s.on_storage
+  pub known : (s : DriverState) → StateInvariant s → IsConsistent s.known
+  pub opened : (b : Bytes) → IsConsistent b → StateInvariant (opened b)
 
 -- Some cached tables are written in an order that the direction allows; or the direction turns.
 pub record MixIsSafe : Type 0 where
-  pub mixed : (s : Stand) (b : Bytes) → IsSound s → IsMixed s.header s.direction s.base s.known b → Leads s (record s { base = b }) nothing []
-  pub turned : (s : Stand) (to : Direction) → IsSound s → MayTurn s.direction to s.header s.base s.known → Leads s (record s { direction = to }) nothing []
+  pub mixed : (s : DriverState) (b : Bytes) → StateInvariant s → IsMixed s.header s.direction s.on_storage s.known b → SafeStep s (record s { on_storage = b }) nothing []
+  pub turned : (s : DriverState) (to : Direction) → StateInvariant s → MayTurn s.direction to s.header s.on_storage s.known → SafeStep s (record s { direction = to }) nothing []
 
 -- A cached table is written, or is not.
 pub record TableIsWritten : Type 0 where
-  pub block : (h : HeaderFields) (d : Direction) (p : Pending) (l2s front back : List CachedTable) (t t' : CachedTable) (base base' : Bytes) → IsKept h d p l2s (front ++ t ∷ back) base
-      → BlocksMayGo d l2s → IsWrittenSo (cluster_size h) t t' base base' → Keeps h d p l2s (front ++ t ∷ back) base l2s (front ++ t' ∷ back) base'
-  pub table : (h : HeaderFields) (d : Direction) (p : Pending) (front back rbs : List CachedTable) (t t' : CachedTable) (base base' : Bytes) → IsKept h d p (front ++ t ∷ back) rbs base
-      → TablesMayGo d rbs → IsWrittenSo (cluster_size h) t t' base base' → Keeps h d p (front ++ t ∷ back) rbs base (front ++ t' ∷ back) rbs base'
+  pub block : (h : HeaderFields) (d : Direction) (p : Pending) (l2s front back : List CachedTable) (t t' : CachedTable) (on_storage on_storage' : Bytes) → CacheInvariantOver h d p l2s (front ++ t ∷ back) on_storage
+      → BlocksMayGo d l2s → IsWrittenSo (cluster_size h) t t' on_storage on_storage' → UnseenTableWrite h d p l2s (front ++ t ∷ back) on_storage l2s (front ++ t' ∷ back) on_storage'
+  pub table : (h : HeaderFields) (d : Direction) (p : Pending) (front back rbs : List CachedTable) (t t' : CachedTable) (on_storage on_storage' : Bytes) → CacheInvariantOver h d p (front ++ t ∷ back) rbs on_storage
+      → TablesMayGo d rbs → IsWrittenSo (cluster_size h) t t' on_storage on_storage' → UnseenTableWrite h d p (front ++ t ∷ back) rbs on_storage (front ++ t' ∷ back) rbs on_storage'
 
 -- One count of a refblock changes.
 pub record CountIsChanged : Type 0 where
-  pub data_allocated : (s : Stand) (known' : Bytes) (c : ℕ) → IsSound s → s.direction ≡ L2DependsOnRb → CountRises s.header s.known known' c → ((o : ℕ) → o / cluster_size s.header ≡ c → s.base o ≡ s.known o)
-      → Leads s (record s { pending = with_held s.pending (one_at c); known = known' }) nothing []
-  pub table_allocated : (s : Stand) (known' : Bytes) (c : ℕ) → IsSound s → CountRises s.header s.known known' c
-      → Leads s (record s { pending = with_fresh s.pending (one_at c); known = known' }) nothing []
-  pub table_freed : (s : Stand) (known' : Bytes) (c : ℕ) → IsSound s → CountFalls s.header s.known known' c → 0 < s.pending.spent c
-      → Leads s (record s { pending = without_spent s.pending (one_at c); known = known' }) nothing []
-  pub data_freed : (s : Stand) (known' : Bytes) (c : ℕ) → IsSound s → s.direction ≡ RbDependsOnL2 → CountFalls s.header s.known known' c → 0 < s.pending.dropped c
-      → Leads s (record s { pending = without_dropped s.pending (one_at c); known = known' }) nothing []
+  pub data_allocated : (s : DriverState) (known' : Bytes) (c : ℕ) → StateInvariant s → s.direction ≡ L2DependsOnRb → CountRises s.header s.known known' c → ((o : ℕ) → o / cluster_size s.header ≡ c → s.on_storage o ≡ s.known o)
+      → SafeStep s (record s { pending = with_held s.pending (one_at c); known = known' }) nothing []
+  pub table_allocated : (s : DriverState) (known' : Bytes) (c : ℕ) → StateInvariant s → CountRises s.header s.known known' c
+      → SafeStep s (record s { pending = with_fresh s.pending (one_at c); known = known' }) nothing []
+  pub table_freed : (s : DriverState) (known' : Bytes) (c : ℕ) → StateInvariant s → CountFalls s.header s.known known' c → 0 < s.pending.spent c
+      → SafeStep s (record s { pending = without_spent s.pending (one_at c); known = known' }) nothing []
+  pub data_freed : (s : DriverState) (known' : Bytes) (c : ℕ) → StateInvariant s → s.direction ≡ RbDependsOnL2 → CountFalls s.header s.known known' c → 0 < s.pending.dropped c
+      → SafeStep s (record s { pending = without_dropped s.pending (one_at c); known = known' }) nothing []
 
 -- What is pending changes its kind.
 pub record PendingIsChanged : Type 0 where
-  pub dropped : (s : Stand) (n : ℕ → ℕ) → IsSound s → ((c : ℕ) → n c ≤ 1) → ((c : ℕ) → 0 < n c → 0 < s.pending.held c) → Leads s (record s { pending = held_to_dropped s.pending n }) nothing []
-  pub undone : (s : Stand) (n : ℕ → ℕ) → IsSound s → ((c : ℕ) → n c ≤ 1) → ((c : ℕ) → 0 < n c → 0 < s.pending.held c) → Leads s (record s { pending = held_to_spent s.pending n }) nothing []
-  pub abandoned : (s : Stand) (n : ℕ → ℕ) → IsSound s → ((c : ℕ) → n c ≤ 1) → ((c : ℕ) → 0 < n c → 0 < s.pending.fresh c) → Leads s (record s { pending = fresh_to_spent s.pending n }) nothing []
+  pub dropped : (s : DriverState) (n : ℕ → ℕ) → StateInvariant s → ((c : ℕ) → n c ≤ 1) → ((c : ℕ) → 0 < n c → 0 < s.pending.held c) → SafeStep s (record s { pending = held_to_dropped s.pending n }) nothing []
+  pub undone : (s : DriverState) (n : ℕ → ℕ) → StateInvariant s → ((c : ℕ) → n c ≤ 1) → ((c : ℕ) → 0 < n c → 0 < s.pending.held c) → SafeStep s (record s { pending = held_to_spent s.pending n }) nothing []
+  pub abandoned : (s : DriverState) (n : ℕ → ℕ) → StateInvariant s → ((c : ℕ) → n c ≤ 1) → ((c : ℕ) → 0 < n c → 0 < s.pending.fresh c) → SafeStep s (record s { pending = fresh_to_spent s.pending n }) nothing []
 
 -- One entry of an L2 table changes: a mapping is committed, zeroed or discarded.
 abbrev pub EntryIsChanged : Type 0
 EntryIsChanged =
-    (s : Stand) (known' : Bytes) (i j : ℕ) (given : Bytes → List Gift) → IsSound s → EntryChanges s known' i j → ShowsGiven s.header s.known known' (guest_at s.header i j) given
-    → Leads s (record s { pending = remapped s.pending (λ c. names s.header s.known c (guest_at s.header i j)) (λ c. names s.header known' c (guest_at s.header i j)); known = known' }) given []
+    (s : DriverState) (known' : Bytes) (i j : ℕ) (given : Bytes → List GivenBytes) → StateInvariant s → EntryChanges s known' i j → ShowsGiven s.header s.known known' (guest_at s.header i j) given
+    → SafeStep s (record s { pending = remapped s.pending (λ c. names s.header s.known c (guest_at s.header i j)) (λ c. names s.header known' c (guest_at s.header i j)); known = known' }) given []
 
 -- Bytes are written where no table stands: to clusters that nothing names, or in place. Which clusters nothing names.
 pub record DataIsWritten : Type 0 where
-  pub written : (s : Stand) (base' known' : Bytes) (given : List Gift) → IsSound s → IsWritten s.header s.base s.known base' known' given
-      → Leads s (record s { base = base'; known = known' }) (λ backing. given) []
-  pub held : (s : Stand) (c : ℕ) → IsSound s → 0 < s.pending.held c → IsUnnamed s.header s.base s.known c
-  pub fresh : (s : Stand) (c : ℕ) → IsSound s → 0 < s.pending.fresh c → (s.direction ≡ RbDependsOnL2 → SameCovers s.header s.base s.known) → IsUnnamed s.header s.base s.known c
-  pub unused : (s : Stand) (c : ℕ) → IsSound s → count s.header s.known c ≡ 0 → count s.header s.base c ≡ 0 → IsUnnamed s.header s.base s.known c
+  pub written : (s : DriverState) (on_storage' known' : Bytes) (given : List GivenBytes) → StateInvariant s → IsWritten s.header s.on_storage s.known on_storage' known' given
+      → SafeStep s (record s { on_storage = on_storage'; known = known' }) (λ backing. given) []
+  pub held : (s : DriverState) (c : ℕ) → StateInvariant s → 0 < s.pending.held c → IsUnnamed s.header s.on_storage s.known c
+  pub fresh : (s : DriverState) (c : ℕ) → StateInvariant s → 0 < s.pending.fresh c → (s.direction ≡ RbDependsOnL2 → SameCovers s.header s.on_storage s.known) → IsUnnamed s.header s.on_storage s.known c
+  pub unused : (s : DriverState) (c : ℕ) → StateInvariant s → count s.header s.known c ≡ 0 → count s.header s.on_storage c ≡ 0 → IsUnnamed s.header s.on_storage s.known c
 
 -- A table is named: an L2 table by an L1 entry, a refblock by a reftable entry.
 pub record TableIsNamed : Type 0 where
-  pub l2_table : (s : Stand) (base' known' : Bytes) (i entry : ℕ) → IsSound s → WritesL1Entry s.header s.base s.known base' known' i entry → IsNewTable s.header s.direction s.pending s.base s.known i entry
-      → Leads s (record s { pending = renamed s.pending (λ c. table_in s.header c (host_offset entry)) (λ c. table_in s.header c (table_at s.header s.base i)); base = base'; known = known' }) nothing []
-  pub refblock : (s : Stand) (base' known' : Bytes) (k entry : ℕ) → IsSound s → WritesReftableEntry s.header s.base s.known base' known' k entry → IsNewBlock s.header s.base s.known k entry (λ c. 0)
+  pub l2_table : (s : DriverState) (on_storage' known' : Bytes) (i entry : ℕ) → StateInvariant s → WritesL1Entry s.header s.on_storage s.known on_storage' known' i entry → IsNewTable s.header s.direction s.pending s.on_storage s.known i entry
+      → SafeStep s (record s { pending = renamed s.pending (λ c. table_in s.header c (host_offset entry)) (λ c. table_in s.header c (table_at s.header s.on_storage i)); on_storage = on_storage'; known = known' }) nothing []
+  pub refblock : (s : DriverState) (on_storage' known' : Bytes) (k entry : ℕ) → StateInvariant s → WritesReftableEntry s.header s.on_storage s.known on_storage' known' k entry → IsNewBlock s.header s.on_storage s.known k entry (λ c. 0)
       → 0 < s.pending.fresh (block_offset entry / cluster_size s.header)
-      → count s.header s.base (block_offset entry / cluster_size s.header) ≡ count s.header s.known (block_offset entry / cluster_size s.header)
-      → (s.direction ≡ RbDependsOnL2 → SameCovers s.header s.base s.known)
-      → Leads s (record s { pending = named_now s.pending (λ c. table_in s.header c (block_offset entry)); base = base'; known = known' }) nothing []
+      → count s.header s.on_storage (block_offset entry / cluster_size s.header) ≡ count s.header s.known (block_offset entry / cluster_size s.header)
+      → (s.direction ≡ RbDependsOnL2 → SameCovers s.header s.on_storage s.known)
+      → SafeStep s (record s { pending = named_now s.pending (λ c. table_in s.header c (block_offset entry)); on_storage = on_storage'; known = known' }) nothing []
   -- a refblock that counts itself alone
-  pub itself : (s : Stand) (base' known' : Bytes) (k entry : ℕ) → IsSound s → WritesReftableEntry s.header s.base s.known base' known' k entry
-      → IsNewBlock s.header s.base s.known k entry (λ c. table_in s.header c (block_offset entry))
+  pub itself : (s : DriverState) (on_storage' known' : Bytes) (k entry : ℕ) → StateInvariant s → WritesReftableEntry s.header s.on_storage s.known on_storage' known' k entry
+      → IsNewBlock s.header s.on_storage s.known k entry (λ c. table_in s.header c (block_offset entry))
       → block_offset entry / cluster_size s.header / counts_per_block s.header ≡ k
-      → Leads s (record s { base = base'; known = known' }) nothing []
+      → SafeStep s (record s { on_storage = on_storage'; known = known' }) nothing []
 
 -- The header is written: its size, or where the L1 table or the reftable stands.
 pub record HeaderIsWritten : Type 0 where
-  pub size : (s : Stand) (base' known' : Bytes) (size autoclear : ℕ) → IsSound s → WritesHeader s.header (resized s.header size autoclear) s.base s.known base' known'
-      → Leads s (record s { header = with_places s.header (resized s.header size autoclear); base = base'; known = known' }) nothing (size ∷ [])
-  pub same_size : (s : Stand) (base' known' : Bytes) (autoclear : ℕ) → IsSound s → WritesHeader s.header (resized s.header s.header.size autoclear) s.base s.known base' known'
-      → Leads s (record s { header = with_places s.header (resized s.header s.header.size autoclear); base = base'; known = known' }) nothing []
-  pub l1_table : (s : Stand) (base' known' : Bytes) (offset entries : ℕ) → IsSound s → WritesHeader s.header (with_l1_at s.header offset entries) s.base s.known base' known'
-      → IsNewL1 s.header s.direction s.pending s.base s.known offset entries
-      → Leads s (record s {
+  pub size : (s : DriverState) (on_storage' known' : Bytes) (size autoclear : ℕ) → StateInvariant s → WritesHeader s.header (resized s.header size autoclear) s.on_storage s.known on_storage' known'
+      → SafeStep s (record s { header = with_places s.header (resized s.header size autoclear); on_storage = on_storage'; known = known' }) nothing (size ∷ [])
+  pub same_size : (s : DriverState) (on_storage' known' : Bytes) (autoclear : ℕ) → StateInvariant s → WritesHeader s.header (resized s.header s.header.size autoclear) s.on_storage s.known on_storage' known'
+      → SafeStep s (record s { header = with_places s.header (resized s.header s.header.size autoclear); on_storage = on_storage'; known = known' }) nothing []
+  pub l1_table : (s : DriverState) (on_storage' known' : Bytes) (offset entries : ℕ) → StateInvariant s → WritesHeader s.header (with_l1_at s.header offset entries) s.on_storage s.known on_storage' known'
+      → IsNewL1 s.header s.direction s.pending s.on_storage s.known offset entries
+      → SafeStep s (record s {
         header = with_places s.header (with_l1_at s.header offset entries);
         pending = renamed s.pending (λ c. in_run s.header c offset (8 * entries)) (λ c. in_run s.header c s.header.l1_offset (8 * s.header.l1_entries));
-        base = base';
+        on_storage = on_storage';
         known = known';
       }) nothing []
-  pub reftable : (s : Stand) (base' known' : Bytes) (offset clusters : ℕ) (blocks counted : ℕ → ℕ) → IsSound s → WritesHeader s.header (with_reftable_at s.header offset clusters) s.base s.known base' known'
-      → IsNewReftable s.header s.direction s.pending s.base s.known offset clusters blocks counted
-      → Leads s (record s {
+  pub reftable : (s : DriverState) (on_storage' known' : Bytes) (offset clusters : ℕ) (blocks counted : ℕ → ℕ) → StateInvariant s → WritesHeader s.header (with_reftable_at s.header offset clusters) s.on_storage s.known on_storage' known'
+      → IsNewReftable s.header s.direction s.pending s.on_storage s.known offset clusters blocks counted
+      → SafeStep s (record s {
         header = with_places s.header (with_reftable_at s.header offset clusters);
         pending = renamed s.pending (λ c. in_run s.header c offset (clusters * cluster_size s.header) + blocks c - counted c)
             (λ c. in_run s.header c s.header.reftable_offset (s.header.reftable_clusters * cluster_size s.header));
-        base = base';
+        on_storage = on_storage';
         known = known';
       }) nothing []
 
 -- Steps one after another; and what is kept is what a stop may leave.
 pub record StepsCompose : Type 0 where
-  pub steps : (a b c : Stand) (first then : Bytes → List Gift) (asked asks : List ℕ) → Leads a b first asked → Leads b c then asks → Leads a c (λ backing. then backing ++ first backing) (asks ++ asked)
+  pub steps : (a b c : DriverState) (first then : Bytes → List GivenBytes) (asked asks : List ℕ) → SafeStep a b first asked → SafeStep b c then asks → SafeStep a c (λ backing. then backing ++ first backing) (asks ++ asked)
   -- what a step gives that was shown before isn't given
-  pub less : (a b : Stand) (given fewer : Bytes → List Gift) (asked : List ℕ) → ((backing : Bytes) (o : ℕ) (v : Value) → IsGiven (given backing) o v → (v ≡ (disk a.known backing).value o) ⊎ IsGiven (fewer backing) o v)
-      → Leads a b given asked → Leads a b fewer asked
-  pub stop : (backing b : Bytes) (m : Mark) → IsKeptAt backing m b → IsStopAt backing m b
+  pub less : (a b : DriverState) (given fewer : Bytes → List GivenBytes) (asked : List ℕ) → ((backing : Bytes) (o : ℕ) (v : Value) → IsGiven (given backing) o v → (v ≡ (disk a.known backing).value o) ⊎ IsGiven (fewer backing) o v)
+      → SafeStep a b given asked → SafeStep a b fewer asked
+  pub stop : (backing b : Bytes) (m : Checkpoint) → StopOkEverywhere backing m b → StopOk backing m b

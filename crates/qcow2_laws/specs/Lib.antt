@@ -2,14 +2,14 @@ pub mod Disk
 pub mod Stops
 pub mod Rules
 pub mod Mappings
-pub mod Views
+pub mod AbstractImages
 pub mod Calls
 pub mod Found
 pub mod Runs
 pub mod ForUsers
 pub mod Clusters
 pub mod Guests
-pub mod Guard
+pub mod CrashInvariant
 pub mod Opened
 pub mod Changes
 pub mod Writes
@@ -17,7 +17,7 @@ pub mod Tops
 pub mod Unseen
 pub mod Alike
 pub mod Caches
-pub mod Leads
+pub mod SafeSteps
 pub mod Steps
 pub mod NewImages
 pub mod Laws

@@ -8,7 +8,7 @@ use Rattle.qcow2_metadata.specs.declared.l2_mapping.L2Mapping.{L2Mapping}
 use Rattle.qcow2_metadata.specs.declared.l2_mapping.L2Mapping.TheVariants.{Data, Zero, Compressed, Uncovered}
 use Rattle.qcow2_metadata.specs.Guest.{Value, known_byte}
 use Rattle.qcow2_laws.specs.Disk.{Disk, with_bytes}
-use Rattle.qcow2_laws.specs.Stops.{Gift}
+use Rattle.qcow2_laws.specs.Stops.{GivenBytes}
 
 -- A guest range, which offsets are private to it, and what they will show. All others are in place.
 pub record PreparedMapping : Type 0 where
@@ -56,12 +56,12 @@ committed d m = record d { value = λ o. if m.is_private o then m.shown o else d
 -- ---- what calls give
 
 -- bytes that are written
-abbrev pub gift_of : ℕ → List ℕ → Gift
+abbrev pub gift_of : ℕ → List ℕ → GivenBytes
 gift_of offset bytes = record { from = offset; count = length bytes; value = λ i. known_byte (byte_at bytes i) }
 
 -- what a disk shows from one offset up to another
-abbrev pub gift_shown : Disk → ℕ → ℕ → Gift
+abbrev pub gift_shown : Disk → ℕ → ℕ → GivenBytes
 gift_shown d from to = record { from = from; count = to - from; value = λ i. d.value (from + i) }
 
-abbrev pub gift_of_commit : ℕ → Disk → PreparedMapping → Gift
+abbrev pub gift_of_commit : ℕ → Disk → PreparedMapping → GivenBytes
 gift_of_commit cluster_size d m = gift_shown (committed d m) (first_of cluster_size m) (end_of cluster_size m)

@@ -4,7 +4,7 @@ use Rattle.qcow2_metadata.specs.Bytes.{Bytes}
 use Rattle.qcow2_metadata.specs.declared.header.HeaderFields.{HeaderFields}
 use Rattle.qcow2_metadata.specs.Entries.{count}
 use Rattle.qcow2_metadata.specs.Named.{named}
-use Rattle.qcow2_laws.specs.Guard.{Pending}
+use Rattle.qcow2_laws.specs.CrashInvariant.{Pending}
 
 abbrev pub nothing_pending : (ℕ → ℕ) → Pending
 nothing_pending surplus = record { held = λ c. 0; fresh = λ c. 0; spent = λ c. 0; dropped = λ c. 0; surplus = surplus }

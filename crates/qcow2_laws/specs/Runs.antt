@@ -5,11 +5,11 @@ use Rattle.image_access.specs.declared.storage.PreallocateMode.{PreallocateMode}
 use Rattle.qcow2_metadata.specs.Bytes.{Bytes, byte_at}
 use Rattle.qcow2_metadata.specs.Consistent.{IsConsistent}
 use Rattle.qcow2_laws.specs.Disk.{Disk, with_bytes}
-use Rattle.qcow2_laws.specs.Stops.{Gift, Mark, marked, more, IsKeptAt, IsStopAt}
+use Rattle.qcow2_laws.specs.Stops.{GivenBytes, Checkpoint, checkpoint_at, checkpoint_with, StopOkEverywhere, StopOk}
 use Rattle.qcow2_laws.specs.Rules.{answered}
 use Rattle.qcow2_laws.specs.Mappings.{PreparedMapping, IsPrepared, put_mapping, put_disk, committed, gift_of, gift_of_commit}
 use Rattle.qcow2_laws.specs.Found.{Kind, IsFoundIn}
-use Rattle.qcow2_laws.specs.Views.{Setting, Guest, Spec, View, view, guest_of, contents_of}
+use Rattle.qcow2_laws.specs.AbstractImages.{Setting, Guest, Abstraction, AbstractImage, abstract_image, guest_of, contents_of}
 use Rattle.qcow2_laws.specs.Calls.{Refusal, IsFault, Shows, with_disk, with_slot, MayWrite, Clearing, cleared_at, gift_of_clear, grown_to, gift_of_grow, MayGrow, IsShrunk, gift_of_shrink}
 
 pub data Command : Type 0 where
@@ -49,12 +49,12 @@ pub record Found : Type 0 where
   pub from : ℕ
   pub length : ℕ
 
-abbrev pub given_at : Option PreparedMapping → (PreparedMapping → Gift) → List Gift
+abbrev pub given_at : Option PreparedMapping → (PreparedMapping → GivenBytes) → List GivenBytes
 given_at None gift = []
 given_at (Some m) gift = gift m ∷ []
 
 -- what a command gives, and which sizes it asks for
-abbrev pub given_by : Setting → Guest → Command → List Gift
+abbrev pub given_by : Setting → Guest → Command → List GivenBytes
 given_by x g (write offset bytes) = gift_of offset bytes ∷ []
 given_by x g (put slot at bytes) = given_at (g.slots slot) (λ m. gift_of (m.from + at) bytes)
 given_by x g (commit slot) = given_at (g.slots slot) (gift_of_commit x.cluster_size g.disk)
@@ -78,34 +78,34 @@ IsMisuse found g (discard slot) = g.slots slot ≡ None
 IsMisuse found g command = ⊥
 
 -- to this command the image may give this reply, and the guest then sees new; found is what was found last for each place
-abbrev pub Means : Setting → (ℕ → Option Found) → Guest → Command → Reply → Guest → Type 0
-Means x found old (read offset n) (bytes_are bytes) new = (length bytes ≡ n) × Shows old.disk offset bytes × (new ≡ old)
-Means x found old (write offset bytes) done new = new ≡ with_disk old (with_bytes old.disk offset bytes)
-Means x found old (write offset bytes) (write_refused e n) new = MayWrite e old offset bytes n new
-Means x found old (get_mapping place offset max) (mapping_is kind n) new = (n ≤ max) × (new ≡ old)
-Means x found old (read_mapped place at n) (bytes_are bytes) new =
+abbrev pub CommandMeaning : Setting → (ℕ → Option Found) → Guest → Command → Reply → Guest → Type 0
+CommandMeaning x found old (read offset n) (bytes_are bytes) new = (length bytes ≡ n) × Shows old.disk offset bytes × (new ≡ old)
+CommandMeaning x found old (write offset bytes) done new = new ≡ with_disk old (with_bytes old.disk offset bytes)
+CommandMeaning x found old (write offset bytes) (write_refused e n) new = MayWrite e old offset bytes n new
+CommandMeaning x found old (get_mapping place offset max) (mapping_is kind n) new = (n ≤ max) × (new ≡ old)
+CommandMeaning x found old (read_mapped place at n) (bytes_are bytes) new =
     (f : Found) × (found place ≡ Some f) × (length bytes ≡ n) × Shows old.disk (f.from + at) bytes × (new ≡ old)
-Means x found old (prepare slot offset n overwrite) (prepared_is count) new =
+CommandMeaning x found old (prepare slot offset n overwrite) (prepared_is count) new =
     (old.slots slot ≡ None) × ((m : PreparedMapping) × IsPrepared x.cluster_size old.disk offset n overwrite m × (m.length ≡ count) × (new ≡ with_slot old slot (Some m)))
-Means x found old (put slot at bytes) done new =
+CommandMeaning x found old (put slot at bytes) done new =
     (m : PreparedMapping) × (old.slots slot ≡ Some m) × (at + length bytes ≤ m.length)
     × (new ≡ with_slot (with_disk old (put_disk old.disk m at bytes)) slot (Some (put_mapping m at bytes)))
-Means x found old (commit slot) done new = (m : PreparedMapping) × (old.slots slot ≡ Some m) × (new ≡ with_slot (with_disk old (committed old.disk m)) slot None)
-Means x found old (discard slot) done new = (old.slots slot ≢ None) × (new ≡ with_slot old slot None)
-Means x found old (clear how offset n) (range_is from count) new =
+CommandMeaning x found old (commit slot) done new = (m : PreparedMapping) × (old.slots slot ≡ Some m) × (new ≡ with_slot (with_disk old (committed old.disk m)) slot None)
+CommandMeaning x found old (discard slot) done new = (old.slots slot ≢ None) × (new ≡ with_slot old slot None)
+CommandMeaning x found old (clear how offset n) (range_is from count) new =
     (from ≡ (answered x.cluster_size old.disk.size offset n).0) × (count ≡ (answered x.cluster_size old.disk.size offset n).1)
     × (new ≡ with_disk old (cleared_at x old.disk how offset n))
-Means x found old (read_special offset n) done new = (n ≡ 0) × (new ≡ old)
-Means x found old flush done new = new ≡ old
-Means x found old sync done new = new ≡ old
-Means x found old (grow size mode) done new = new ≡ with_disk old (grown_to x old.disk size mode)
-Means x found old (grow size mode) (refused e) new = (d : Disk) × MayGrow x old.disk size mode d × (new ≡ with_disk old d)
-Means x found old (shrink size) (number_is answer) new = (d : Disk) × IsShrunk x old.disk size answer d × (new ≡ with_disk old d)
-Means x found old get_size (number_is n) new = (n ≡ old.disk.size) × (new ≡ old)
-Means x found old get_leaked (number_is n) new = new ≡ old
-Means x found old command (refused e) new = new ≡ old
-Means x found old command misuse new = IsMisuse found old command × (new ≡ old)
-Means x found old command reply new = ⊥
+CommandMeaning x found old (read_special offset n) done new = (n ≡ 0) × (new ≡ old)
+CommandMeaning x found old flush done new = new ≡ old
+CommandMeaning x found old sync done new = new ≡ old
+CommandMeaning x found old (grow size mode) done new = new ≡ with_disk old (grown_to x old.disk size mode)
+CommandMeaning x found old (grow size mode) (refused e) new = (d : Disk) × MayGrow x old.disk size mode d × (new ≡ with_disk old d)
+CommandMeaning x found old (shrink size) (number_is answer) new = (d : Disk) × IsShrunk x old.disk size answer d × (new ≡ with_disk old d)
+CommandMeaning x found old get_size (number_is n) new = (n ≡ old.disk.size) × (new ≡ old)
+CommandMeaning x found old get_leaked (number_is n) new = new ≡ old
+CommandMeaning x found old command (refused e) new = new ≡ old
+CommandMeaning x found old command misuse new = IsMisuse found old command × (new ≡ old)
+CommandMeaning x found old command reply new = ⊥
 
 -- the storage failed, or memory was refused
 abbrev pub IsFaultReply : Reply → Type 0
@@ -122,10 +122,10 @@ pub record State : Type 0 where
   pub guest : Guest
   pub found : ℕ → Option Found
   pub is_failed : Bool
-  pub mark : Mark
+  pub mark : Checkpoint
 
 abbrev pub started : Guest → State
-started g = record { guest = g; found = λ _. None; is_failed = false; mark = marked g.disk }
+started g = record { guest = g; found = λ _. None; is_failed = false; mark = checkpoint_at g.disk }
 
 -- the same with nothing found yet
 abbrev pub begun : State → State
@@ -136,46 +136,46 @@ abbrev pub over : State → State
 over s = record s { guest = record s.guest { slots = λ _. None } }
 
 -- the mark of the call under way
-abbrev pub mark_in : Setting → State → Command → Mark
-mark_in x old command = more (given_by x old.guest command) (asked_by command) old.mark
+abbrev pub checkpoint_during : Setting → State → Command → Checkpoint
+checkpoint_during x old command = checkpoint_with (given_by x old.guest command) (asked_by command) old.mark
 
 -- a flush that succeeded is the last one from then on
-abbrev pub mark_after : Setting → State → Command → Reply → Guest → Mark
-mark_after x old flush done new = marked new.disk
-mark_after x old command reply new = mark_in x old command
+abbrev pub checkpoint_after : Setting → State → Command → Reply → Guest → Checkpoint
+checkpoint_after x old flush done new = checkpoint_at new.disk
+checkpoint_after x old command reply new = checkpoint_during x old command
 
 abbrev pub stepped : Setting → State → Command → Reply → Guest → Bool → State
 stepped x old command reply new failed = record {
   guest = new;
   found = found_after old.found command reply;
   is_failed = failed;
-  mark = mark_after x old command reply new;
+  mark = checkpoint_after x old command reply new;
 }
 
--- Once the image failed, which a fault or refused memory alone brings about, nothing more is said of replies.
-abbrev pub Step : Setting → State → Command → Reply → State → Type 0
-Step x old command reply new =
+-- Once the image failed, which a fault or refused memory alone brings about, nothing checkpoint_with is said of replies.
+abbrev pub CommandStep : Setting → State → Command → Reply → State → Type 0
+CommandStep x old command reply new =
     (IsTrue old.is_failed × (new ≡ old))
-    ⊎ ((old.is_failed ≡ false) × ((guest : Guest) × Means x old.found old.guest command reply guest × (new ≡ stepped x old command reply guest false))
+    ⊎ ((old.is_failed ≡ false) × ((guest : Guest) × CommandMeaning x old.found old.guest command reply guest × (new ≡ stepped x old command reply guest false))
     ⊎ ((old.is_failed ≡ false) × IsFaultReply reply × (new ≡ stepped x old command reply old.guest true)))
 
 abbrev pub Run : Setting → State → List Command → List Reply → State → Type 0
 Run x old [] [] new = new ≡ old
-Run x old (command ∷ commands) (reply ∷ replies) new = (mid : State) × Step x old command reply mid × Run x mid commands replies new
+Run x old (command ∷ commands) (reply ∷ replies) new = (mid : State) × CommandStep x old command reply mid × Run x mid commands replies new
 Run x old [] (reply ∷ replies) new = ⊥
 Run x old (command ∷ commands) [] new = ⊥
 
 -- ---- what a stop leaves on the way
 
 -- While a call is under way, at each moment the bytes are what a stop may leave at its mark; at its return, at the mark then. An image that has failed writes nothing.
-pub record IsSafeWhile (backing : Bytes) (old new : StorageView) (failed : Bool) (under after : Mark) : Type 0 where
-  pub moments : failed ≡ false → Passing old new (λ c. IsStopAt backing under (byte_at c))
-  pub at_return : IsStopAt backing after (byte_at new.contents)
+pub record IsSafeWhile (backing : Bytes) (old new : StorageView) (failed : Bool) (under after : Checkpoint) : Type 0 where
+  pub moments : failed ≡ false → Passing old new (λ c. StopOk backing under (byte_at c))
+  pub at_return : StopOk backing after (byte_at new.contents)
   pub silent : IsTrue failed → Passing old new (λ c. c ≡ old.contents)
   pub unchanged : IsTrue failed → new.contents ≡ old.contents
 
 -- An image at the return of a command: it is sound unless it failed; the guest sees what the run says, the known image is consistent, and nothing was lost or gained since the start.
-pub record IsAsSaid (v : View) (s : State) (before : ℕ → ℕ) : Type 0 where
+pub record RefinesGuest (v : AbstractImage) (s : State) (before : ℕ → ℕ) : Type 0 where
   pub works : s.is_failed ≡ false → v.is_sound
   pub failed : IsTrue s.is_failed → IsTrue v.is_failed
   pub guest : s.is_failed ≡ false → guest_of v ≡ s.guest
@@ -188,81 +188,81 @@ IsRightlyFound x before after (get_mapping place offset max) (mapping_is kind n)
 IsRightlyFound x before after command reply = Unit {0}
 
 -- Along a run: for each command there is the image at its return, with the mappings that are prepared then, what its storage had meanwhile is safe at the mark of that command, and what a lookup answered is found in it.
-abbrev pub HoldsAlong : {D P : Type 0} (spec : Spec D P) (x : Setting) (before : ℕ → ℕ) (old new : D) (s end : State) (commands : List Command) (replies : List Reply) → Run x s commands replies end → Type 0
-HoldsAlong spec x before old new s end [] [] run = new ≡ old
-HoldsAlong {D = D} {P = P} spec x before old new s end (command ∷ commands) (reply ∷ replies) run =
-    (mid : D) × (out : List (Option P)) × IsAsSaid (view spec mid out) run.0 before
-    × IsSafeWhile x.backing (spec.storage old) (spec.storage mid) s.is_failed (mark_in x s command) run.0.mark
+abbrev pub RefinesAlong : {D P : Type 0} (spec : Abstraction D P) (x : Setting) (before : ℕ → ℕ) (old new : D) (s end : State) (commands : List Command) (replies : List Reply) → Run x s commands replies end → Type 0
+RefinesAlong spec x before old new s end [] [] run = new ≡ old
+RefinesAlong {D = D} {P = P} spec x before old new s end (command ∷ commands) (reply ∷ replies) run =
+    (mid : D) × (out : List (Option P)) × RefinesGuest (abstract_image spec mid out) run.0 before
+    × IsSafeWhile x.backing (spec.storage old) (spec.storage mid) s.is_failed (checkpoint_during x s command) run.0.mark
     × (run.0.is_failed ≡ false → IsRightlyFound x (spec.known old) (spec.known mid) command reply)
-    × HoldsAlong spec x before mid new run.0 end commands replies run.2
-HoldsAlong spec x before old new s end [] (reply ∷ replies) run = ⊥
-HoldsAlong spec x before old new s end (command ∷ commands) [] run = ⊥
+    × RefinesAlong spec x before mid new run.0 end commands replies run.2
+RefinesAlong spec x before old new s end [] (reply ∷ replies) run = ⊥
+RefinesAlong spec x before old new s end (command ∷ commands) [] run = ⊥
 
 -- the bytes are what a stop may leave at the mark of one of a run's commands, or at its end
 abbrev pub IsStopIn : (x : Setting) (s end : State) (commands : List Command) (replies : List Reply) → Run x s commands replies end → Bytes → Type 0
-IsStopIn x s end [] [] run b = IsStopAt x.backing end.mark b
-IsStopIn x s end (command ∷ commands) (reply ∷ replies) run b = IsStopAt x.backing (mark_in x s command) b ⊎ IsStopIn x run.0 end commands replies run.2 b
+IsStopIn x s end [] [] run b = StopOk x.backing end.mark b
+IsStopIn x s end (command ∷ commands) (reply ∷ replies) run b = StopOk x.backing (checkpoint_during x s command) b ⊎ IsStopIn x run.0 end commands replies run.2 b
 IsStopIn x s end [] (reply ∷ replies) run b = ⊥
 IsStopIn x s end (command ∷ commands) [] run b = ⊥
 
 -- ---- what is said of runs
 
 -- the image stands at this place of a run
-pub record StandsAt (x : Setting) (v : View) (s : State) : Type 0 where
+pub record RefinesState (x : Setting) (v : AbstractImage) (s : State) : Type 0 where
   pub setting : v.setting ≡ x
   pub works : s.is_failed ≡ false → v.is_sound
   pub failed : IsTrue s.is_failed → IsTrue v.is_failed
   pub guest : s.is_failed ≡ false → guest_of v ≡ s.guest
-  pub known : s.is_failed ≡ false → IsKeptAt x.backing s.mark v.known
-  pub contents : s.is_failed ≡ false → IsKeptAt x.backing s.mark (contents_of v)
+  pub known : s.is_failed ≡ false → StopOkEverywhere x.backing s.mark v.known
+  pub contents : s.is_failed ≡ false → StopOkEverywhere x.backing s.mark (contents_of v)
   -- what a stop now leaves
-  pub at_rest : IsStopAt x.backing s.mark (contents_of v)
+  pub at_rest : StopOk x.backing s.mark (contents_of v)
 
 -- one step of a run, with the moments on the way
-pub record Goes (x : Setting) (old new : View) (s : State) (command : Command) (reply : Reply) : Type 0 where
+pub record RefinesCommand (x : Setting) (old new : AbstractImage) (s : State) (command : Command) (reply : Reply) : Type 0 where
   pub end : State
-  pub step : Step x s command reply end
-  pub stands : StandsAt x new end
-  pub safe : IsSafeWhile x.backing old.storage new.storage s.is_failed (mark_in x s command) end.mark
+  pub step : CommandStep x s command reply end
+  pub stands : RefinesState x new end
+  pub safe : IsSafeWhile x.backing old.storage new.storage s.is_failed (checkpoint_during x s command) end.mark
   pub found : end.is_failed ≡ false → IsRightlyFound x old.known new.known command reply
   pub surplus : end.is_failed ≡ false → new.surplus ≡ old.surplus
   pub since : end.is_failed ≡ false → s.is_failed ≡ false
 
-module _ {D P : Type 0} (spec : Spec D P) where
+module _ {D P : Type 0} (spec : Abstraction D P) where
   -- a whole run, from one image with its prepared mappings to another
-  pub record Ran (x : Setting) (old : D) (before : List (Option P)) (new : D) (out : List (Option P)) (s : State) (commands : List Command) (replies : List Reply) : Type 0 where
+  pub record RefinesRun (x : Setting) (old : D) (before : List (Option P)) (new : D) (out : List (Option P)) (s : State) (commands : List Command) (replies : List Reply) : Type 0 where
     pub end : State
     pub run : Run x s commands replies end
-    pub along : HoldsAlong spec x (spec.surplus old before) old new s end commands replies run
-    pub stands : StandsAt x (view spec new out) end
+    pub along : RefinesAlong spec x (spec.surplus old before) old new s end commands replies run
+    pub stands : RefinesState x (abstract_image spec new out) end
     pub surplus : end.is_failed ≡ false → spec.surplus new out ≡ spec.surplus old before
 
   -- a whole run, and then the mappings that are left are let go
-  pub record Completes (x : Setting) (old new : D) (s : State) (commands : List Command) (replies : List Reply) : Type 0 where
+  pub record RefinesWholeRun (x : Setting) (old new : D) (s : State) (commands : List Command) (replies : List Reply) : Type 0 where
     pub end : State
     pub run : Run x s commands replies end
     -- the image at the return of the last command
     pub last : D
-    pub along : HoldsAlong spec x (spec.surplus old []) old last s end commands replies run
+    pub along : RefinesAlong spec x (spec.surplus old []) old last s end commands replies run
     pub leaves : IsSafeWhile x.backing (spec.storage last) (spec.storage new) end.is_failed end.mark end.mark
-    pub stands : StandsAt x (view spec new []) (over end)
+    pub stands : RefinesState x (abstract_image spec new []) (over end)
     pub surplus : end.is_failed ≡ false → spec.surplus new [] ≡ spec.surplus old []
 
   -- what is said of any list of commands with its replies, of an image that was just opened
-  pub record MeansTheDisk (old new : D) (commands : List Command) (replies : List Reply) : Type 0 where
+  pub record RefinesDisk (old new : D) (commands : List Command) (replies : List Reply) : Type 0 where
     pub end : State
     -- the replies are a run of the disk
-    pub run : Run (spec.setting old) (started (guest_of (view spec old []))) commands replies end
+    pub run : Run (spec.setting old) (started (guest_of (abstract_image spec old []))) commands replies end
     -- Where it begins a stop is safe. Along it each moment is safe at the mark of the command under way, and at each return the guest sees what the run says.
-    pub at_start : IsStopAt (spec.setting old).backing (marked (guest_of (view spec old [])).disk) (byte_at (spec.storage old).contents)
+    pub at_start : StopOk (spec.setting old).backing (checkpoint_at (guest_of (abstract_image spec old [])).disk) (byte_at (spec.storage old).contents)
     pub last : D
-    pub along : HoldsAlong spec (spec.setting old) (spec.surplus old []) old last (started (guest_of (view spec old []))) end commands replies run
+    pub along : RefinesAlong spec (spec.setting old) (spec.surplus old []) old last (started (guest_of (abstract_image spec old []))) end commands replies run
     -- Then the mappings that are left are let go, as safely, and the guest still sees it.
     pub leaves : IsSafeWhile (spec.setting old).backing (spec.storage last) (spec.storage new) end.is_failed end.mark end.mark
-    pub at_end : IsAsSaid (view spec new []) (over end) (spec.surplus old [])
+    pub at_end : RefinesGuest (abstract_image spec new []) (over end) (spec.surplus old [])
     -- There is no other moment since it began.
-    pub since_start : (c : List ℕ) → (spec.storage new).had_since (spec.storage old).moment c → IsStopIn (spec.setting old) (started (guest_of (view spec old []))) end commands replies run (byte_at c)
+    pub since_start : (c : List ℕ) → (spec.storage new).had_since (spec.storage old).moment c → IsStopIn (spec.setting old) (started (guest_of (abstract_image spec old []))) end commands replies run (byte_at c)
 
 -- the prepared mappings are this image's own
-abbrev pub AreOwn : {D P : Type 0} → Spec D P → D → List (Option P) → Type 0
+abbrev pub AreOwn : {D P : Type 0} → Abstraction D P → D → List (Option P) → Type 0
 AreOwn {P = P} spec d out = (k : ℕ) (p : P) → slice_get out k ≡ Some (Some p) → spec.number_of p ≡ spec.number d

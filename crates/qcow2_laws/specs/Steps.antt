@@ -7,11 +7,11 @@ use Rattle.qcow2_metadata.specs.Entries.{l2_entry, reftable_entry, block_count, 
 use Rattle.qcow2_metadata.specs.Cover.{cover}
 use Rattle.qcow2_metadata.specs.Guest.{guest_value}
 use Rattle.qcow2_metadata.specs.Consistent.{CoverIsAligned}
-use Rattle.qcow2_laws.specs.Stops.{Gift, IsGiven}
+use Rattle.qcow2_laws.specs.Stops.{GivenBytes, IsGiven}
 use Rattle.qcow2_laws.specs.Guests.{names, marks, table_at}
 use Rattle.qcow2_laws.specs.Changes.{one_at}
 use Rattle.qcow2_laws.specs.Tops.{IsSameOutside}
-use Rattle.qcow2_laws.specs.Leads.{Stand}
+use Rattle.qcow2_laws.specs.SafeSteps.{DriverState}
 
 -- the refblock that counts a cluster
 abbrev pub block_of : HeaderFields → Bytes → ℕ → ℕ
@@ -37,7 +37,7 @@ abbrev pub guest_at : HeaderFields → ℕ → ℕ → ℕ
 guest_at h i j = i * entries_per_cluster h + j
 
 -- Entry j of the L2 table of L1 entry i changes, and no other. What it names now beside the old is held; what it marks now it named, and marked, or takes from what is held.
-pub record EntryChanges (s : Stand) (known' : Bytes) (i j : ℕ) : Type 0 where
+pub record EntryChanges (s : DriverState) (known' : Bytes) (i j : ℕ) : Type 0 where
   pub real : table_at s.header s.known i ≢ 0
   pub within : j < entries_per_cluster s.header
   pub outside : IsSameOutside (cluster_size s.header) (table_at s.header s.known i / cluster_size s.header) s.known known'
@@ -48,6 +48,6 @@ pub record EntryChanges (s : Stand) (known' : Bytes) (i j : ℕ) : Type 0 where
   pub aligned : CoverIsAligned s.header (cover s.header known' (guest_at s.header i j))
 
 -- each byte of a guest cluster is as it was, or given
-abbrev pub ShowsGiven : HeaderFields → Bytes → Bytes → ℕ → (Bytes → List Gift) → Type 0
+abbrev pub ShowsGiven : HeaderFields → Bytes → Bytes → ℕ → (Bytes → List GivenBytes) → Type 0
 ShowsGiven h known known' g given =
     (backing : Bytes) (o : ℕ) → o / cluster_size h ≡ g → (guest_value h known' known' backing o ≡ guest_value h known known backing o) ⊎ IsGiven (given backing) o (guest_value h known' known' backing o)

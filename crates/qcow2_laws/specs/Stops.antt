@@ -6,15 +6,15 @@ use Rattle.qcow2_metadata.specs.Consistent.{IsConsistent}
 use Rattle.qcow2_laws.specs.Disk.{Disk, disk}
 
 -- values that a call writes, zeroes or uncovers from an offset on
-pub record Gift : Type 0 where
+pub record GivenBytes : Type 0 where
   pub from : ℕ
   pub count : ℕ
   pub value : ℕ → Value
 
-abbrev pub IsIn : Gift → ℕ → Value → Type 0
+abbrev pub IsIn : GivenBytes → ℕ → Value → Type 0
 IsIn g o v = (g.from ≤ o) × (o < g.from + g.count) × (v ≡ g.value (o - g.from))
 
-abbrev pub IsGiven : List Gift → ℕ → Value → Type 0
+abbrev pub IsGiven : List GivenBytes → ℕ → Value → Type 0
 IsGiven [] o v = ⊥
 IsGiven (g ∷ gifts) o v = IsIn g o v ⊎ IsGiven gifts o v
 
@@ -23,27 +23,27 @@ IsAsked [] size = ⊥
 IsAsked (asked ∷ sizes) size = (size ≡ asked) ⊎ IsAsked sizes size
 
 -- what was flushed last, and what was given and asked since
-pub record Mark : Type 0 where
+pub record Checkpoint : Type 0 where
   pub last : Disk
-  pub given : List Gift
+  pub given : List GivenBytes
   pub asked : List ℕ
 
 -- nothing was given since
-abbrev pub marked : Disk → Mark
-marked d = record { last = d; given = []; asked = [] }
+abbrev pub checkpoint_at : Disk → Checkpoint
+checkpoint_at d = record { last = d; given = []; asked = [] }
 
-abbrev pub more : List Gift → List ℕ → Mark → Mark
-more given asked m = record m { given = given ++ m.given; asked = asked ++ m.asked }
+abbrev pub checkpoint_with : List GivenBytes → List ℕ → Checkpoint → Checkpoint
+checkpoint_with given asked m = record m { given = given ++ m.given; asked = asked ++ m.asked }
 
 -- The image is consistent. Its size is that of the last flush or one asked for since; each byte below both sizes is that of the last flush or one given since.
-pub record IsStopAt (backing : Bytes) (m : Mark) (image : Bytes) : Type 0 where
+pub record StopOk (backing : Bytes) (m : Checkpoint) (image : Bytes) : Type 0 where
   pub consistent : IsConsistent image
   pub size : ((disk image backing).size ≡ m.last.size) ⊎ IsAsked m.asked (disk image backing).size
   pub values : (o : ℕ) → o < (disk image backing).size → o < m.last.size
       → ((disk image backing).value o ≡ m.last.value o) ⊎ IsGiven m.given o ((disk image backing).value o)
 
 -- What calls keep: the same with values past both sizes too, since a size that grows again may show them.
-pub record IsKeptAt (backing : Bytes) (m : Mark) (image : Bytes) : Type 0 where
+pub record StopOkEverywhere (backing : Bytes) (m : Checkpoint) (image : Bytes) : Type 0 where
   pub consistent : IsConsistent image
   pub size : ((disk image backing).size ≡ m.last.size) ⊎ IsAsked m.asked (disk image backing).size
   pub values : (o : ℕ) → ((disk image backing).value o ≡ m.last.value o) ⊎ IsGiven m.given o ((disk image backing).value o)

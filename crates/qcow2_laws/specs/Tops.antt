@@ -8,7 +8,7 @@ use Rattle.qcow2_metadata.specs.Cover.{cover, entry_cover}
 use Rattle.qcow2_metadata.specs.Named.{in_run, named_by_reftable}
 use Rattle.qcow2_metadata.specs.Consistent.{IsAligned}
 use Rattle.qcow2_laws.specs.Clusters.{Direction, RbDependsOnL2}
-use Rattle.qcow2_laws.specs.Guard.{Pending, SameCovers}
+use Rattle.qcow2_laws.specs.CrashInvariant.{Pending, SameCovers}
 
 -- the numbers of a header that are written again after it was created
 pub record Places : Type 0 where
@@ -53,51 +53,51 @@ abbrev pub IsSameBut : ℕ → ℕ → Bytes → Bytes → Type 0
 IsSameBut place n b b' = (o : ℕ) → (o < place) ⊎ (place + n ≤ o) → b o ≡ b' o
 
 -- one entry of the L1 table is written, to the storage and to what is known
-pub record WritesL1Entry (h : HeaderFields) (base known base' known' : Bytes) (i entry : ℕ) : Type 0 where
+pub record WritesL1Entry (h : HeaderFields) (on_storage known on_storage' known' : Bytes) (i entry : ℕ) : Type 0 where
   pub within : i < h.l1_entries
-  pub others : IsSameBut (h.l1_offset + 8 * i) 8 base base'
+  pub others : IsSameBut (h.l1_offset + 8 * i) 8 on_storage on_storage'
   pub known_others : IsSameBut (h.l1_offset + 8 * i) 8 known known'
-  pub is : l1_entry h base' i ≡ entry
+  pub is : l1_entry h on_storage' i ≡ entry
   pub known_is : l1_entry h known' i ≡ entry
 
 -- the table that an L1 entry is to name: its cluster is fresh and counted on the storage, and it says what was said before
-pub record IsNewTable (h : HeaderFields) (d : Direction) (p : Pending) (base known : Bytes) (i entry : ℕ) : Type 0 where
+pub record IsNewTable (h : HeaderFields) (d : Direction) (p : Pending) (on_storage known : Bytes) (i entry : ℕ) : Type 0 where
   pub reads : L1EntryReads entry
   pub real : host_offset entry ≢ 0
   pub aligned : IsAligned h (host_offset entry)
   pub fresh : 0 < p.fresh (host_offset entry / cluster_size h)
-  pub counted : count h base (host_offset entry / cluster_size h) ≡ count h known (host_offset entry / cluster_size h)
+  pub counted : count h on_storage (host_offset entry / cluster_size h) ≡ count h known (host_offset entry / cluster_size h)
   -- then the L2 tables are written
-  pub written : d ≡ RbDependsOnL2 → SameCovers h base known
-  pub covers : (g : ℕ) → g / entries_per_cluster h ≡ i → cover h base g ≡ entry_cover h (l2_entry base (host_offset entry) (g % entries_per_cluster h))
+  pub written : d ≡ RbDependsOnL2 → SameCovers h on_storage known
+  pub covers : (g : ℕ) → g / entries_per_cluster h ≡ i → cover h on_storage g ≡ entry_cover h (l2_entry on_storage (host_offset entry) (g % entries_per_cluster h))
   pub known_covers : (g : ℕ) → g / entries_per_cluster h ≡ i → cover h known g ≡ entry_cover h (l2_entry known (host_offset entry) (g % entries_per_cluster h))
 
 -- one entry of the reftable is written, to the storage and to what is known
-pub record WritesReftableEntry (h : HeaderFields) (base known base' known' : Bytes) (k entry : ℕ) : Type 0 where
+pub record WritesReftableEntry (h : HeaderFields) (on_storage known on_storage' known' : Bytes) (k entry : ℕ) : Type 0 where
   pub within : k < reftable_entries h
-  pub others : IsSameBut (h.reftable_offset + 8 * k) 8 base base'
+  pub others : IsSameBut (h.reftable_offset + 8 * k) 8 on_storage on_storage'
   pub known_others : IsSameBut (h.reftable_offset + 8 * k) 8 known known'
-  pub is : reftable_entry h base' k ≡ entry
+  pub is : reftable_entry h on_storage' k ≡ entry
   pub known_is : reftable_entry h known' k ≡ entry
 
 -- the refblock that a reftable entry is to name where there is none, with these counts of its clusters
-pub record IsNewBlock (h : HeaderFields) (base known : Bytes) (k entry : ℕ) (counts : ℕ → ℕ) : Type 0 where
-  pub none : block_offset (reftable_entry h base k) ≡ 0
+pub record IsNewBlock (h : HeaderFields) (on_storage known : Bytes) (k entry : ℕ) (counts : ℕ → ℕ) : Type 0 where
+  pub none : block_offset (reftable_entry h on_storage k) ≡ 0
   pub reads : ReftableEntryReads entry
   pub real : block_offset entry ≢ 0
   pub aligned : IsAligned h (block_offset entry)
-  pub says : (c : ℕ) → c / counts_per_block h ≡ k → block_count base (count_width h) (block_offset entry) (c % counts_per_block h) ≡ counts c
+  pub says : (c : ℕ) → c / counts_per_block h ≡ k → block_count on_storage (count_width h) (block_offset entry) (c % counts_per_block h) ≡ counts c
   pub known_says : (c : ℕ) → c / counts_per_block h ≡ k → block_count known (count_width h) (block_offset entry) (c % counts_per_block h) ≡ counts c
 
 -- ---- the header's own numbers are written
 
 -- numbers of the header become these, on the storage and as known
-pub record WritesHeader (h : HeaderFields) (a : Places) (base known base' known' : Bytes) : Type 0 where
-  pub others : IsSameOutside (cluster_size h) 0 base base'
+pub record WritesHeader (h : HeaderFields) (a : Places) (on_storage known on_storage' known' : Bytes) : Type 0 where
+  pub others : IsSameOutside (cluster_size h) 0 on_storage on_storage'
   pub known_others : IsSameOutside (cluster_size h) 0 known known'
-  pub same_first : SameFrom 0 (cluster_size h) base' known'
-  pub is : header base' ≡ with_places h a
-  pub reads : HeaderReads (with_places h a) base'
+  pub same_first : SameFrom 0 (cluster_size h) on_storage' known'
+  pub is : header on_storage' ≡ with_places h a
+  pub reads : HeaderReads (with_places h a) on_storage'
 
 abbrev pub resized : HeaderFields → ℕ → ℕ → Places
 resized h size autoclear = record (places_of h) { size = size; autoclear = autoclear }
@@ -109,35 +109,35 @@ abbrev pub with_reftable_at : HeaderFields → ℕ → ℕ → Places
 with_reftable_at h offset clusters = record (places_of h) { reftable_offset = offset; reftable_clusters = clusters }
 
 -- an L1 table that stands in fresh clusters, counted on the storage, and has the entries of the old one, and then none
-pub record IsNewL1 (h : HeaderFields) (d : Direction) (p : Pending) (base known : Bytes) (offset entries : ℕ) : Type 0 where
+pub record IsNewL1 (h : HeaderFields) (d : Direction) (p : Pending) (on_storage known : Bytes) (offset entries : ℕ) : Type 0 where
   pub longer : h.l1_entries ≤ entries
   pub aligned : IsAligned h offset
-  pub same : (i : ℕ) → l1_entry (with_places h (with_l1_at h offset entries)) base i ≡ l1_entry h base i
+  pub same : (i : ℕ) → l1_entry (with_places h (with_l1_at h offset entries)) on_storage i ≡ l1_entry h on_storage i
   pub known_same : (i : ℕ) → l1_entry (with_places h (with_l1_at h offset entries)) known i ≡ l1_entry h known i
-  pub fresh : (c : ℕ) → 0 < in_run h c offset (8 * entries) → (0 < p.fresh c) × (count h base c ≡ count h known c)
-  pub written : d ≡ RbDependsOnL2 → SameCovers h base known
+  pub fresh : (c : ℕ) → 0 < in_run h c offset (8 * entries) → (0 < p.fresh c) × (count h on_storage c ≡ count h known c)
+  pub written : d ≡ RbDependsOnL2 → SameCovers h on_storage known
 
 -- A reftable that stands in other clusters and has the entries of the old one, and more. Of each cluster it is said how often new refblocks stand in it, and
 -- how often new refblocks count it, which no old one does. Each cluster of the table and of new refblocks is fresh, counted on the storage, or counted by new refblocks.
-pub record IsNewReftable (h : HeaderFields) (d : Direction) (p : Pending) (base known : Bytes) (offset clusters : ℕ) (blocks counted : ℕ → ℕ) : Type 0 where
+pub record IsNewReftable (h : HeaderFields) (d : Direction) (p : Pending) (on_storage known : Bytes) (offset clusters : ℕ) (blocks counted : ℕ → ℕ) : Type 0 where
   pub aligned : IsAligned h offset
-  pub same : (k : ℕ) → block_offset (reftable_entry h base k) ≢ 0 → reftable_entry (with_places h (with_reftable_at h offset clusters)) base k ≡ reftable_entry h base k
-  pub known_same : (k : ℕ) → reftable_entry (with_places h (with_reftable_at h offset clusters)) known k ≡ reftable_entry (with_places h (with_reftable_at h offset clusters)) base k
-  pub reads : (k : ℕ) → ReftableEntryReads (reftable_entry (with_places h (with_reftable_at h offset clusters)) base k)
-  pub blocks_aligned : (k : ℕ) → IsAligned h (block_offset (reftable_entry (with_places h (with_reftable_at h offset clusters)) base k))
-  pub blocks_are : (c : ℕ) → named_by_reftable (with_places h (with_reftable_at h offset clusters)) base c ≡ named_by_reftable h base c + blocks c
-  pub says : (c : ℕ) → block_offset (reftable_entry h base (c / counts_per_block h)) ≡ 0 → block_offset (reftable_entry (with_places h (with_reftable_at h offset clusters)) base (c / counts_per_block h)) ≢ 0
-      → (block_count base (count_width h) (block_offset (reftable_entry (with_places h (with_reftable_at h offset clusters)) base (c / counts_per_block h))) (c % counts_per_block h) ≡ counted c)
-      × (block_count known (count_width h) (block_offset (reftable_entry (with_places h (with_reftable_at h offset clusters)) base (c / counts_per_block h))) (c % counts_per_block h) ≡ counted c)
+  pub same : (k : ℕ) → block_offset (reftable_entry h on_storage k) ≢ 0 → reftable_entry (with_places h (with_reftable_at h offset clusters)) on_storage k ≡ reftable_entry h on_storage k
+  pub known_same : (k : ℕ) → reftable_entry (with_places h (with_reftable_at h offset clusters)) known k ≡ reftable_entry (with_places h (with_reftable_at h offset clusters)) on_storage k
+  pub reads : (k : ℕ) → ReftableEntryReads (reftable_entry (with_places h (with_reftable_at h offset clusters)) on_storage k)
+  pub blocks_aligned : (k : ℕ) → IsAligned h (block_offset (reftable_entry (with_places h (with_reftable_at h offset clusters)) on_storage k))
+  pub blocks_are : (c : ℕ) → named_by_reftable (with_places h (with_reftable_at h offset clusters)) on_storage c ≡ named_by_reftable h on_storage c + blocks c
+  pub says : (c : ℕ) → block_offset (reftable_entry h on_storage (c / counts_per_block h)) ≡ 0 → block_offset (reftable_entry (with_places h (with_reftable_at h offset clusters)) on_storage (c / counts_per_block h)) ≢ 0
+      → (block_count on_storage (count_width h) (block_offset (reftable_entry (with_places h (with_reftable_at h offset clusters)) on_storage (c / counts_per_block h))) (c % counts_per_block h) ≡ counted c)
+      × (block_count known (count_width h) (block_offset (reftable_entry (with_places h (with_reftable_at h offset clusters)) on_storage (c / counts_per_block h))) (c % counts_per_block h) ≡ counted c)
   pub counted_anew : (c : ℕ) → 0 < counted c
-      → (block_offset (reftable_entry h base (c / counts_per_block h)) ≡ 0) × (block_offset (reftable_entry (with_places h (with_reftable_at h offset clusters)) base (c / counts_per_block h)) ≢ 0)
+      → (block_offset (reftable_entry h on_storage (c / counts_per_block h)) ≡ 0) × (block_offset (reftable_entry (with_places h (with_reftable_at h offset clusters)) on_storage (c / counts_per_block h)) ≢ 0)
   pub once : (c : ℕ) → in_run h c offset (clusters * cluster_size h) + blocks c ≤ 1
   pub counted_there : (c : ℕ) → counted c ≤ in_run h c offset (clusters * cluster_size h) + blocks c
-  pub fresh : (c : ℕ) → counted c < in_run h c offset (clusters * cluster_size h) + blocks c → (0 < p.fresh c) × (count h base c ≡ count h known c)
-  pub written : d ≡ RbDependsOnL2 → SameCovers h base known
+  pub fresh : (c : ℕ) → counted c < in_run h c offset (clusters * cluster_size h) + blocks c → (0 < p.fresh c) × (count h on_storage c ≡ count h known c)
+  pub written : d ≡ RbDependsOnL2 → SameCovers h on_storage known
 
 -- n bytes from a place on become the same, on the storage and as known
-pub record WritesAt (place n : ℕ) (base known base' known' : Bytes) : Type 0 where
-  pub others : IsSameBut place n base base'
+pub record WritesAt (place n : ℕ) (on_storage known on_storage' known' : Bytes) : Type 0 where
+  pub others : IsSameBut place n on_storage on_storage'
   pub known_others : IsSameBut place n known known'
-  pub agree : (o : ℕ) → base o ≡ known o → base' o ≡ known' o
+  pub agree : (o : ℕ) → on_storage o ≡ known o → on_storage' o ≡ known' o

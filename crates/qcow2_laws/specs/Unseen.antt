@@ -7,15 +7,15 @@ use Rattle.qcow2_metadata.specs.Cover.{cover}
 use Rattle.qcow2_metadata.specs.Guest.{Value}
 use Rattle.qcow2_laws.specs.Disk.{Disk}
 use Rattle.qcow2_laws.specs.Guests.{over_guests, names}
-use Rattle.qcow2_laws.specs.Guard.{SameCovers}
-use Rattle.qcow2_laws.specs.Leads.{Stand}
+use Rattle.qcow2_laws.specs.CrashInvariant.{SameCovers}
+use Rattle.qcow2_laws.specs.SafeSteps.{DriverState}
 
 -- how often a cluster is known to be named by guest clusters, or is held for them
-abbrev pub used_by_guests : Stand → ℕ → ℕ
+abbrev pub used_by_guests : DriverState → ℕ → ℕ
 used_by_guests s c = over_guests s.header (names s.header s.known c) + s.pending.held c
 
 -- the same bytes in each cluster that guests use
-abbrev pub SameUsedBytes : Stand → Stand → Type 0
+abbrev pub SameUsedBytes : DriverState → DriverState → Type 0
 SameUsedBytes old new = (o : ℕ) → 0 < used_by_guests old (o / cluster_size old.header) → new.known o ≡ old.known o
 
 -- the header stays, but perhaps for where the reftable stands
@@ -23,29 +23,29 @@ abbrev pub KeepsFormat : HeaderFields → HeaderFields → Type 0
 KeepsFormat h h' = h' ≡ with_reftable h h'.reftable_offset h'.reftable_clusters
 
 -- so it does, and what stands for each guest cluster, with its bytes
-pub record IsUnseen (old new : Stand) : Type 0 where
+pub record IsUnseen (old new : DriverState) : Type 0 where
   pub header : KeepsFormat old.header new.header
   pub covers : SameCovers old.header old.known new.known
   pub bytes : SameUsedBytes old new
 
 -- the L1 table stays
-abbrev pub SameL1Table : Stand → Stand → Type 0
-SameL1Table old new = (i : ℕ) → l1_entry old.header new.base i ≡ l1_entry old.header old.base i
+abbrev pub SameL1Table : DriverState → DriverState → Type 0
+SameL1Table old new = (i : ℕ) → l1_entry old.header new.on_storage i ≡ l1_entry old.header old.on_storage i
 
 -- the same, but for the bytes of one host cluster
-abbrev pub SameUsedBytesBut : ℕ → Stand → Stand → Type 0
+abbrev pub SameUsedBytesBut : ℕ → DriverState → DriverState → Type 0
 SameUsedBytesBut c old new = (o : ℕ) → o / cluster_size old.header ≢ c → 0 < used_by_guests old (o / cluster_size old.header) → new.known o ≡ old.known o
 
-pub record IsUnseenBut (c : ℕ) (old new : Stand) : Type 0 where
+pub record IsUnseenBut (c : ℕ) (old new : DriverState) : Type 0 where
   pub header : KeepsFormat old.header new.header
   pub covers : SameCovers old.header old.known new.known
   pub bytes : SameUsedBytesBut c old new
 
 -- the same, but for what stands for one guest cluster
-abbrev pub SameOtherCovers : ℕ → Stand → Stand → Type 0
+abbrev pub SameOtherCovers : ℕ → DriverState → DriverState → Type 0
 SameOtherCovers guest old new = (g : ℕ) → g ≢ guest → cover old.header old.known g ≡ cover old.header new.known g
 
-pub record IsMappedAnew (guest : ℕ) (old new : Stand) : Type 0 where
+pub record IsMappedAnew (guest : ℕ) (old new : DriverState) : Type 0 where
   pub header : new.header ≡ old.header
   pub covers : SameOtherCovers guest old new
   pub bytes : SameUsedBytes old new

@@ -1,7 +1,7 @@
 -- Tables whose bytes stand in a file.
 use Rattle.std.proofs.Common.{◌≡◌, ℕ, zero, suc, ◌+◌, ◌*◌, ◌/◌, ◌%◌, ◌^◌, ◌<◌, ◌≤◌, List, Result, Ok, Err, length, sym, ap, ◌∙◌, arith, OnOk}
 use Rattle.image_access.specs.Contents.{bytes_at, overwritten}
-use Rattle.image_access.specs.Moments.{Becomes}
+use Rattle.image_access.specs.Moments.{ContentsBecome}
 use Rattle.image_access.specs.declared.error.StorageError.{StorageError}
 use Rattle.image_access.proofs.Bytes.{length-bytes_at, byte_at-bytes_at, byte_at-overwritten}
 use Rattle.qcow2_metadata.specs.Bytes.{Bytes, byte_at, number_at}
@@ -71,6 +71,6 @@ ref_block_at b place block is stands i lt =
 -- ---- after a write
 
 pub written_stands : {T : Type 0} (result : Result T StorageError) (old new : List ℕ) (at place : ℕ) (bytes held : List ℕ) (P : Bytes → Type 0)
-    → ((b : Bytes) → StandAt b place held → P b) → at ≡ place → bytes ≡ held → Becomes result old (overwritten old at bytes) new → OnOk result (P (byte_at new))
+    → ((b : Bytes) → StandAt b place held → P b) → at ≡ place → bytes ≡ held → ContentsBecome result old (overwritten old at bytes) new → OnOk result (P (byte_at new))
 written_stands (Ok _) old new at place bytes held P holds there same is = holds (byte_at new) (stand_at-written old new at place bytes held is there same)
 written_stands (Err _) old new at place bytes held P holds there same is = tt

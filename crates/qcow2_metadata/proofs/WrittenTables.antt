@@ -4,7 +4,7 @@ use Rattle.std.specs.Int.{w64, to_be_bytes}
 use Rattle.std.proofs.lemmas.Bool.{cases_eq, cases_lt, cond-false, cond-true, le-ltb, lt-ltb}
 use Rattle.std.proofs.lemmas.Nat.{from_be_bytes-to_be_bytes_8}
 use Rattle.image_access.specs.Contents.{overwritten}
-use Rattle.image_access.specs.Moments.{StorageView, Becomes, Changes}
+use Rattle.image_access.specs.Moments.{StorageView, ContentsBecome, Changes}
 use Rattle.image_access.specs.declared.error.StorageError.{StorageError}
 use Rattle.image_access.proofs.Bytes.{byte_at-overwritten, byte_at-overwritten_outside}
 use Rattle.qcow2_metadata.specs.Bytes.{byte_at, number_at}
@@ -17,7 +17,7 @@ use Rattle.qcow2_metadata.proofs.TableEntries.{number_at-moved}
 use Rattle.qcow2_metadata.proofs.EntryTables.{entry_at_past}
 
 -- what holds of the contents that are written holds after the write
-after_becomes : {T : Type 0} (result : Result T StorageError) (old changed new : List ℕ) (P : List ℕ → Type 0) → P changed → Becomes result old changed new → OnOk result (P new)
+after_becomes : {T : Type 0} (result : Result T StorageError) (old changed new : List ℕ) (P : List ℕ → Type 0) → P changed → ContentsBecome result old changed new → OnOk result (P new)
 after_becomes (Ok _) old changed new P holds is = subst P (sym is) holds
 after_becomes (Err _) old changed new P holds is = tt
 

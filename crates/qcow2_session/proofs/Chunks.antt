@@ -7,9 +7,9 @@ use Rattle.qcow2_metadata.specs.Bytes.{byte_at, laid_over, is_within}
 use Rattle.qcow2_metadata.specs.Header.{rounded_down}
 use Rattle.qcow2_metadata.specs.Guest.{Value, known_byte}
 use Rattle.qcow2_laws.specs.Disk.{Disk, with_bytes}
-use Rattle.qcow2_laws.specs.Stops.{Gift, IsGiven}
+use Rattle.qcow2_laws.specs.Stops.{GivenBytes, IsGiven}
 use Rattle.qcow2_laws.specs.Mappings.{PreparedMapping, IsPrepared, put_disk, put_mapping, committed, gift_of, gift_of_commit}
-use Rattle.qcow2_laws.specs.Views.{Spec, HasFreePlaces, Guest, view, guest_of}
+use Rattle.qcow2_laws.specs.AbstractImages.{Abstraction, HasFreePlaces, Guest, abstract_image, guest_of}
 use Rattle.qcow2_laws.specs.Calls.{Refusal, memory, storage, another, IsFault, Does, Refuses, IsSame, MayWrite, WritesSome, with_disk, with_slot}
 use Rattle.qcow2_laws.proofs.Lists.{within_is}
 use Rattle.qcow2_session.proofs.Bytes.{cut_long, cut_short, cut_part, byte_in, laid_in, laid_out, no_bytes, same_values, part_within}
@@ -118,7 +118,7 @@ shift g = record { disk = g.disk; slots = λ k. g.slots (suc k) }
 shift_slot : (g : Guest) (m : Option PreparedMapping) → shift (with_slot g 0 m) ≡ shift g
 shift_slot g m = ap (λ (f : ℕ → Option PreparedMapping). record g { slots = f }) (fun_ext (λ k. cond-false (eqb (suc k) 0) m (g.slots (suc k)) (ne_eqb (suc k) 0 (λ e. absurd (omega arith)))))
 
-module _ {D P : Type 0} (spec : Spec D P) (has : HasFreePlaces spec) (d0 d1 : D) (p : P) (out : List (Option P)) (offset n : ℕ) (bytes : List ℕ) (count : n ≡ min (length bytes) (spec.means d1 p).length) where
+module _ {D P : Type 0} (spec : Abstraction D P) (has : HasFreePlaces spec) (d0 d1 : D) (p : P) (out : List (Option P)) (offset n : ℕ) (bytes : List ℕ) (count : n ≡ min (length bytes) (spec.means d1 p).length) where
   -- as many of the first bytes as the mapping has room for
   abbrev chunk : List ℕ
   chunk = take n bytes
@@ -134,103 +134,103 @@ module _ {D P : Type 0} (spec : Spec D P) (has : HasFreePlaces spec) (d0 d1 : D)
 
   abbrev Ready : Type 0
   Ready =
-      IsPrepared (spec.setting d0).cluster_size (guest_of (view spec d0 (None ∷ out))).disk offset (length bytes) true (spec.means d1 p)
-      × (guest_of (view spec d1 (Some p ∷ out)) ≡ with_slot (guest_of (view spec d0 (None ∷ out))) 0 (Some (spec.means d1 p)))
+      IsPrepared (spec.setting d0).cluster_size (guest_of (abstract_image spec d0 (None ∷ out))).disk offset (length bytes) true (spec.means d1 p)
+      × (guest_of (abstract_image spec d1 (Some p ∷ out)) ≡ with_slot (guest_of (abstract_image spec d0 (None ∷ out))) 0 (Some (spec.means d1 p)))
 
-  abbrev gifts : List Gift
+  abbrev gifts : List GivenBytes
   gifts = gift_of offset bytes ∷ []
 
-  abbrev put_gifts : List Gift
+  abbrev put_gifts : List GivenBytes
   put_gifts = gift_of ((spec.means d1 p).from + 0) chunk ∷ []
 
-  guest1 : Ready → shift (guest_of (view spec d1 (Some p ∷ out))) ≡ guest_of (view spec d0 out)
-  guest1 r = ap shift r.1 ∙ shift_slot (guest_of (view spec d0 (None ∷ out))) (Some (spec.means d1 p))
+  guest1 : Ready → shift (guest_of (abstract_image spec d1 (Some p ∷ out))) ≡ guest_of (abstract_image spec d0 out)
+  guest1 r = ap shift r.1 ∙ shift_slot (guest_of (abstract_image spec d0 (None ∷ out))) (Some (spec.means d1 p))
 
-  puts_within : Ready → IsWithin (view spec d1 (Some p ∷ out)) put_gifts gifts
-  puts_within r o w h = inr (put_within (spec.setting d0).cluster_size (guest_of (view spec d0 out)).disk (spec.means d1 p) offset bytes chunk long short part r.0 o w h)
+  puts_within : Ready → IsWithin (abstract_image spec d1 (Some p ∷ out)) put_gifts gifts
+  puts_within r o w h = inr (put_within (spec.setting d0).cluster_size (guest_of (abstract_image spec d0 out)).disk (spec.means d1 p) offset bytes chunk long short part r.0 o w h)
 
-  module _ (prepares : Does (view spec d0 (None ∷ out)) (view spec d1 (Some p ∷ out)) [] [] Ready) where
-    ready : Does (view spec d0 out) (view spec d1 (Some p ∷ out)) gifts [] Ready
-    ready = does_if (λ a. a.1) (does_then (λ _. none_within (view spec d0 (None ∷ out)) gifts) (does_less (none_within (view spec d0 out) gifts) (enters spec has d0 out)) prepares)
+  module _ (prepares : Does (abstract_image spec d0 (None ∷ out)) (abstract_image spec d1 (Some p ∷ out)) [] [] Ready) where
+    ready : Does (abstract_image spec d0 out) (abstract_image spec d1 (Some p ∷ out)) gifts [] Ready
+    ready = does_if (λ a. a.1) (does_then (λ _. none_within (abstract_image spec d0 (None ∷ out)) gifts) (does_less (none_within (abstract_image spec d0 out) gifts) (enters spec has d0 out)) prepares)
 
     -- the put was refused
-    pub put_refused : (d2 d3 : D) (e : Refusal) → Refuses (view spec d1 (Some p ∷ out)) (view spec d2 (Some p ∷ out)) put_gifts [] e (IsSame (view spec d1 (Some p ∷ out)) (view spec d2 (Some p ∷ out)))
-        → Does (view spec d2 (Some p ∷ out)) (view spec d3 (None ∷ out)) [] [] (guest_of (view spec d3 (None ∷ out)) ≡ with_slot (guest_of (view spec d2 (Some p ∷ out))) 0 None)
-        → Refuses (view spec d0 out) (view spec d3 out) gifts [] e (MayWrite e (guest_of (view spec d0 out)) offset bytes 0 (guest_of (view spec d3 out)))
+    pub put_refused : (d2 d3 : D) (e : Refusal) → Refuses (abstract_image spec d1 (Some p ∷ out)) (abstract_image spec d2 (Some p ∷ out)) put_gifts [] e (IsSame (abstract_image spec d1 (Some p ∷ out)) (abstract_image spec d2 (Some p ∷ out)))
+        → Does (abstract_image spec d2 (Some p ∷ out)) (abstract_image spec d3 (None ∷ out)) [] [] (guest_of (abstract_image spec d3 (None ∷ out)) ≡ with_slot (guest_of (abstract_image spec d2 (Some p ∷ out))) 0 None)
+        → Refuses (abstract_image spec d0 out) (abstract_image spec d3 out) gifts [] e (MayWrite e (guest_of (abstract_image spec d0 out)) offset bytes 0 (guest_of (abstract_image spec d3 out)))
     put_refused d2 d3 e refuses discards =
-        refuses_if (λ h. may_write_none e (guest_of (view spec d0 out)) (guest_of (view spec d3 out)) offset bytes
-        (ap shift h.0.1 ∙ shift_slot (guest_of (view spec d2 (Some p ∷ out))) None ∙ ap shift h.0.0.1 ∙ guest1 h.0.0.0))
+        refuses_if (λ h. may_write_none e (guest_of (abstract_image spec d0 out)) (guest_of (abstract_image spec d3 out)) offset bytes
+        (ap shift h.0.1 ∙ shift_slot (guest_of (abstract_image spec d2 (Some p ∷ out))) None ∙ ap shift h.0.0.1 ∙ guest1 h.0.0.0))
         (refused_then (has.works d3 out) (refused_then (has.works d3 (None ∷ out)) (refuses_then puts_within ready refuses) discards) (leaves spec has d3 out))
 
-    module _ (d2 : D) (puts : Does (view spec d1 (Some p ∷ out)) (view spec d2 (Some p ∷ out)) put_gifts []
-        (guest_of (view spec d2 (Some p ∷ out)) ≡ with_slot (with_disk (guest_of (view spec d1 (Some p ∷ out))) (put_disk (guest_of (view spec d1 (Some p ∷ out))).disk (spec.means d1 p) 0 chunk)) 0 (Some (put_mapping (spec.means d1 p) 0 chunk)))) where
+    module _ (d2 : D) (puts : Does (abstract_image spec d1 (Some p ∷ out)) (abstract_image spec d2 (Some p ∷ out)) put_gifts []
+        (guest_of (abstract_image spec d2 (Some p ∷ out)) ≡ with_slot (with_disk (guest_of (abstract_image spec d1 (Some p ∷ out))) (put_disk (guest_of (abstract_image spec d1 (Some p ∷ out))).disk (spec.means d1 p) 0 chunk)) 0 (Some (put_mapping (spec.means d1 p) 0 chunk)))) where
       abbrev Put : Type 0
       Put =
-          Ready × (guest_of (view spec d2 (Some p ∷ out))
-          ≡ with_slot (with_disk (guest_of (view spec d1 (Some p ∷ out))) (put_disk (guest_of (view spec d1 (Some p ∷ out))).disk (spec.means d1 p) 0 chunk)) 0 (Some (put_mapping (spec.means d1 p) 0 chunk)))
+          Ready × (guest_of (abstract_image spec d2 (Some p ∷ out))
+          ≡ with_slot (with_disk (guest_of (abstract_image spec d1 (Some p ∷ out))) (put_disk (guest_of (abstract_image spec d1 (Some p ∷ out))).disk (spec.means d1 p) 0 chunk)) 0 (Some (put_mapping (spec.means d1 p) 0 chunk)))
 
       abbrev disk2 : Disk
-      disk2 = put_disk (guest_of (view spec d0 out)).disk (spec.means d1 p) 0 chunk
+      disk2 = put_disk (guest_of (abstract_image spec d0 out)).disk (spec.means d1 p) 0 chunk
 
       abbrev mapping2 : PreparedMapping
       mapping2 = put_mapping (spec.means d1 p) 0 chunk
 
-      put_done : Does (view spec d0 out) (view spec d2 (Some p ∷ out)) gifts [] Put
+      put_done : Does (abstract_image spec d0 out) (abstract_image spec d2 (Some p ∷ out)) gifts [] Put
       put_done = does_then puts_within ready puts
 
-      guest2 : Put → shift (guest_of (view spec d2 (Some p ∷ out))) ≡ with_disk (guest_of (view spec d0 out)) disk2
+      guest2 : Put → shift (guest_of (abstract_image spec d2 (Some p ∷ out))) ≡ with_disk (guest_of (abstract_image spec d0 out)) disk2
       guest2 h =
-          ap shift h.1 ∙ shift_slot (with_disk (guest_of (view spec d1 (Some p ∷ out))) (put_disk (guest_of (view spec d1 (Some p ∷ out))).disk (spec.means d1 p) 0 chunk)) (Some mapping2)
+          ap shift h.1 ∙ shift_slot (with_disk (guest_of (abstract_image spec d1 (Some p ∷ out))) (put_disk (guest_of (abstract_image spec d1 (Some p ∷ out))).disk (spec.means d1 p) 0 chunk)) (Some mapping2)
           ∙ ap (λ (g : Guest). with_disk g (put_disk g.disk (spec.means d1 p) 0 chunk)) (guest1 h.0)
 
       meaning2 : Put → spec.means d2 p ≡ mapping2
       meaning2 h = some_is (ap (λ (g : Guest). g.slots 0) h.1)
 
-      abbrev commit_gifts : List Gift
-      commit_gifts = gift_of_commit (spec.setting d2).cluster_size (guest_of (view spec d2 (Some p ∷ out))).disk (spec.means d2 p) ∷ []
+      abbrev commit_gifts : List GivenBytes
+      commit_gifts = gift_of_commit (spec.setting d2).cluster_size (guest_of (abstract_image spec d2 (Some p ∷ out))).disk (spec.means d2 p) ∷ []
 
-      commits_within : Put → IsWithin (view spec d2 (Some p ∷ out)) commit_gifts gifts
+      commits_within : Put → IsWithin (abstract_image spec d2 (Some p ∷ out)) commit_gifts gifts
       commits_within h o w given =
           let size = (spec.setting d2).cluster_size in
-          let disk-is : (guest_of (view spec d2 (Some p ∷ out))).disk ≡ disk2 = ap (λ (g : Guest). g.disk) (guest2 h) in
+          let disk-is : (guest_of (abstract_image spec d2 (Some p ∷ out))).disk ≡ disk2 = ap (λ (g : Guest). g.disk) (guest2 h) in
           let there : IsGiven (gift_of_commit size disk2 mapping2 ∷ []) o w =
           subst (λ (d : Disk). IsGiven (gift_of_commit size d mapping2 ∷ []) o w) disk-is
-          (subst (λ (m : PreparedMapping). IsGiven (gift_of_commit size (guest_of (view spec d2 (Some p ∷ out))).disk m ∷ []) o w) (meaning2 h) given) in
+          (subst (λ (m : PreparedMapping). IsGiven (gift_of_commit size (guest_of (abstract_image spec d2 (Some p ∷ out))).disk m ∷ []) o w) (meaning2 h) given) in
           ⊎_elim (λ (e : w ≡ disk2.value o). inl (e ∙ sym (ap (λ (d : Disk). d.value o) disk-is))) (λ g. inr g)
-          (commit_within (spec.setting d0).cluster_size (guest_of (view spec d0 out)).disk (spec.means d1 p) offset bytes chunk long short part h.0.0 size o w there)
+          (commit_within (spec.setting d0).cluster_size (guest_of (abstract_image spec d0 out)).disk (spec.means d1 p) offset bytes chunk long short part h.0.0 size o w there)
 
       -- all was done
-      pub written : (d3 : D) → Does (view spec d2 (Some p ∷ out)) (view spec d3 (None ∷ out)) commit_gifts []
-          (guest_of (view spec d3 (None ∷ out)) ≡ with_slot (with_disk (guest_of (view spec d2 (Some p ∷ out))) (committed (guest_of (view spec d2 (Some p ∷ out))).disk (spec.means d2 p))) 0 None)
-          → Does (view spec d0 out) (view spec d3 out) gifts [] (guest_of (view spec d3 out) ≡ with_disk (guest_of (view spec d0 out)) (with_bytes (guest_of (view spec d0 out)).disk offset chunk))
+      pub written : (d3 : D) → Does (abstract_image spec d2 (Some p ∷ out)) (abstract_image spec d3 (None ∷ out)) commit_gifts []
+          (guest_of (abstract_image spec d3 (None ∷ out)) ≡ with_slot (with_disk (guest_of (abstract_image spec d2 (Some p ∷ out))) (committed (guest_of (abstract_image spec d2 (Some p ∷ out))).disk (spec.means d2 p))) 0 None)
+          → Does (abstract_image spec d0 out) (abstract_image spec d3 out) gifts [] (guest_of (abstract_image spec d3 out) ≡ with_disk (guest_of (abstract_image spec d0 out)) (with_bytes (guest_of (abstract_image spec d0 out)).disk offset chunk))
       written d3 commits =
           does_if (λ h. let put = h.0.0 in
-          ap shift h.0.1 ∙ shift_slot (with_disk (guest_of (view spec d2 (Some p ∷ out))) (committed (guest_of (view spec d2 (Some p ∷ out))).disk (spec.means d2 p))) None
-          ∙ ap (λ (m : PreparedMapping). with_disk (shift (guest_of (view spec d2 (Some p ∷ out)))) (committed (guest_of (view spec d2 (Some p ∷ out))).disk m)) (meaning2 put)
+          ap shift h.0.1 ∙ shift_slot (with_disk (guest_of (abstract_image spec d2 (Some p ∷ out))) (committed (guest_of (abstract_image spec d2 (Some p ∷ out))).disk (spec.means d2 p))) None
+          ∙ ap (λ (m : PreparedMapping). with_disk (shift (guest_of (abstract_image spec d2 (Some p ∷ out)))) (committed (guest_of (abstract_image spec d2 (Some p ∷ out))).disk m)) (meaning2 put)
           ∙ ap (λ (g : Guest). with_disk g (committed g.disk mapping2)) (guest2 put)
-          ∙ ap (λ (d : Disk). with_disk (guest_of (view spec d0 out)) d) (chunk_disk (spec.setting d0).cluster_size (guest_of (view spec d0 out)).disk (spec.means d1 p) offset bytes chunk long short part put.0.0))
-          (does_then (λ _. none_within (view spec d3 (None ∷ out)) gifts) (does_then commits_within put_done commits) (leaves spec has d3 out))
+          ∙ ap (λ (d : Disk). with_disk (guest_of (abstract_image spec d0 out)) d) (chunk_disk (spec.setting d0).cluster_size (guest_of (abstract_image spec d0 out)).disk (spec.means d1 p) offset bytes chunk long short part put.0.0))
+          (does_then (λ _. none_within (abstract_image spec d3 (None ∷ out)) gifts) (does_then commits_within put_done commits) (leaves spec has d3 out))
 
       -- what was put in place may stay
-      ended : (d4 : D) (e : Refusal) → Refuses (view spec d0 out) (view spec d4 (None ∷ out)) gifts [] e
-          (Put × ((shift (guest_of (view spec d4 (None ∷ out))) ≡ shift (guest_of (view spec d2 (Some p ∷ out)))) × IsFault e))
-          → Refuses (view spec d0 out) (view spec d4 out) gifts [] e (MayWrite e (guest_of (view spec d0 out)) offset bytes 0 (guest_of (view spec d4 out)))
+      ended : (d4 : D) (e : Refusal) → Refuses (abstract_image spec d0 out) (abstract_image spec d4 (None ∷ out)) gifts [] e
+          (Put × ((shift (guest_of (abstract_image spec d4 (None ∷ out))) ≡ shift (guest_of (abstract_image spec d2 (Some p ∷ out)))) × IsFault e))
+          → Refuses (abstract_image spec d0 out) (abstract_image spec d4 out) gifts [] e (MayWrite e (guest_of (abstract_image spec d0 out)) offset bytes 0 (guest_of (abstract_image spec d4 out)))
       ended d4 e r =
-          refuses_fault (λ k. MayWrite k (guest_of (view spec d0 out)) offset bytes 0 (guest_of (view spec d4 out))) e (λ h. h.0.1.1)
-          (λ h. (omega arith, (disk2, put_some (spec.setting d0).cluster_size (guest_of (view spec d0 out)).disk (spec.means d1 p) offset bytes chunk long short part h.0.0.0.0, h.0.1.0 ∙ guest2 h.0.0)))
+          refuses_fault (λ k. MayWrite k (guest_of (abstract_image spec d0 out)) offset bytes 0 (guest_of (abstract_image spec d4 out))) e (λ h. h.0.1.1)
+          (λ h. (omega arith, (disk2, put_some (spec.setting d0).cluster_size (guest_of (abstract_image spec d0 out)).disk (spec.means d1 p) offset bytes chunk long short part h.0.0.0.0, h.0.1.0 ∙ guest2 h.0.0)))
           (refused_then (has.works d4 out) r (leaves spec has d4 out))
 
       -- the commit was refused, and spent the mapping
-      pub commit_spent : (d3 : D) (e : Refusal) → ((view spec d2 (Some p ∷ out)).is_sound → IsFault e)
-          → Refuses (view spec d2 (Some p ∷ out)) (view spec d3 (None ∷ out)) commit_gifts [] e (IsSame (view spec d2 (Some p ∷ out)) (view spec d3 (None ∷ out)))
-          → Refuses (view spec d0 out) (view spec d3 out) gifts [] e (MayWrite e (guest_of (view spec d0 out)) offset bytes 0 (guest_of (view spec d3 out)))
+      pub commit_spent : (d3 : D) (e : Refusal) → ((abstract_image spec d2 (Some p ∷ out)).is_sound → IsFault e)
+          → Refuses (abstract_image spec d2 (Some p ∷ out)) (abstract_image spec d3 (None ∷ out)) commit_gifts [] e (IsSame (abstract_image spec d2 (Some p ∷ out)) (abstract_image spec d3 (None ∷ out)))
+          → Refuses (abstract_image spec d0 out) (abstract_image spec d3 out) gifts [] e (MayWrite e (guest_of (abstract_image spec d0 out)) offset bytes 0 (guest_of (abstract_image spec d3 out)))
       commit_spent d3 e why refuses = ended d3 e (refuses_if (λ h. (h.0, (ap shift h.1.0, h.1.1))) (refuses_then commits_within put_done (refuses_why why refuses)))
 
       -- the commit was refused, and the mapping was let go
-      pub commit_kept : (d3 d4 : D) (e : Refusal) → ((view spec d2 (Some p ∷ out)).is_sound → IsFault e)
-          → Refuses (view spec d2 (Some p ∷ out)) (view spec d3 (Some p ∷ out)) commit_gifts [] e (IsSame (view spec d2 (Some p ∷ out)) (view spec d3 (Some p ∷ out)))
-          → Does (view spec d3 (Some p ∷ out)) (view spec d4 (None ∷ out)) [] [] (guest_of (view spec d4 (None ∷ out)) ≡ with_slot (guest_of (view spec d3 (Some p ∷ out))) 0 None)
-          → Refuses (view spec d0 out) (view spec d4 out) gifts [] e (MayWrite e (guest_of (view spec d0 out)) offset bytes 0 (guest_of (view spec d4 out)))
+      pub commit_kept : (d3 d4 : D) (e : Refusal) → ((abstract_image spec d2 (Some p ∷ out)).is_sound → IsFault e)
+          → Refuses (abstract_image spec d2 (Some p ∷ out)) (abstract_image spec d3 (Some p ∷ out)) commit_gifts [] e (IsSame (abstract_image spec d2 (Some p ∷ out)) (abstract_image spec d3 (Some p ∷ out)))
+          → Does (abstract_image spec d3 (Some p ∷ out)) (abstract_image spec d4 (None ∷ out)) [] [] (guest_of (abstract_image spec d4 (None ∷ out)) ≡ with_slot (guest_of (abstract_image spec d3 (Some p ∷ out))) 0 None)
+          → Refuses (abstract_image spec d0 out) (abstract_image spec d4 out) gifts [] e (MayWrite e (guest_of (abstract_image spec d0 out)) offset bytes 0 (guest_of (abstract_image spec d4 out)))
       commit_kept d3 d4 e why refuses discards =
-          ended d4 e (refuses_if (λ h. (h.0.0, (ap shift h.1 ∙ shift_slot (guest_of (view spec d3 (Some p ∷ out))) None ∙ ap shift h.0.1.0, h.0.1.1)))
+          ended d4 e (refuses_if (λ h. (h.0.0, (ap shift h.1 ∙ shift_slot (guest_of (abstract_image spec d3 (Some p ∷ out))) None ∙ ap shift h.0.1.0, h.0.1.1)))
           (refused_then (has.works d4 (None ∷ out)) (refuses_then commits_within put_done (refuses_why why refuses)) discards))

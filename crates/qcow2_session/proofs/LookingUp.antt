@@ -2,8 +2,8 @@
 use Rattle.std.proofs.Common.{◌≡◌, inl, inr, List, [], ◌∷◌, Bool, false, sym, ap, ◌∙◌, subst, ℕ, map}
 use Rattle.qcow2_metadata.specs.Bytes.{Bytes}
 use Rattle.qcow2_laws.specs.Found.{Kind, IsFoundIn}
-use Rattle.qcow2_laws.specs.Views.{Setting, Spec}
-use Rattle.qcow2_laws.specs.Runs.{Command, Reply, State, Step, Run, HoldsAlong, get_mapping, mapping_is}
+use Rattle.qcow2_laws.specs.AbstractImages.{Setting, Abstraction}
+use Rattle.qcow2_laws.specs.Runs.{Command, Reply, State, CommandStep, Run, RefinesAlong, get_mapping, mapping_is}
 use Rattle.qcow2_session.specs.Commands.{reply_of}
 use Rattle.qcow2_session.specs.Sessions.{LooksUp}
 use Rattle.qcow2_session.specs.declared.session.Reply.{Reply as SessionReply}
@@ -18,13 +18,13 @@ pub none_said : (b : Bytes) (is_backed : Bool) (commands : List Command) (replie
 none_said b is_backed commands replies none = subst (λ (l : List SessionReply). LooksUp b is_backed commands (map reply_of l)) (sym none) (none_looked b is_backed commands)
 
 -- a lookup that was answered doesn't fail a run
-still_works : (x : Setting) (s t : State) (place offset max : ℕ) (kind : Kind) (n : ℕ) → Step x s (get_mapping place offset max) (mapping_is kind n) t → s.is_failed ≡ false → t.is_failed ≡ false
+still_works : (x : Setting) (s t : State) (place offset max : ℕ) (kind : Kind) (n : ℕ) → CommandStep x s (get_mapping place offset max) (mapping_is kind n) t → s.is_failed ≡ false → t.is_failed ≡ false
 still_works x s t place offset max kind n (inl (failed, same)) ok = ap (λ (u : State). u.is_failed) same ∙ ok
 still_works x s t place offset max kind n (inr (inl (works, (guest, means, is)))) ok = ap (λ (u : State). u.is_failed) is
 still_works x s t place offset max kind n (inr (inr (works, fault, is))) ok = absurd fault
 
-module _ {D P : Type 0} (spec : Spec D P) (x : Setting) (before : ℕ → ℕ) (b : Bytes) where
-  pub looked_up : (old new : D) (s end : State) (commands : List Command) (replies : List Reply) (run : Run x s commands replies end) → HoldsAlong spec x before old new s end commands replies run
+module _ {D P : Type 0} (spec : Abstraction D P) (x : Setting) (before : ℕ → ℕ) (b : Bytes) where
+  pub looked_up : (old new : D) (s end : State) (commands : List Command) (replies : List Reply) (run : Run x s commands replies end) → RefinesAlong spec x before old new s end commands replies run
       → s.is_failed ≡ false → spec.known old ≡ b → LooksUp b x.is_backed commands replies
   looked_up old new s end (get_mapping place offset max ∷ commands) (mapping_is kind n ∷ replies) run along ok same =
       let works = still_works x s run.0 place offset max kind n run.1 ok in

@@ -4,26 +4,26 @@ use Rattle.std.specs.Prelude.{slice_get, slice_set, MatchOption, is_some, ◌==�
 use Rattle.std.proofs.lemmas.Bool.{cond-true, cond-false, cases_Bool, cases_eq, eq-eqb, ne_eqb}
 use Rattle.std.proofs.lemmas.Option.{slice_get-get_or, slice_get_read}
 use mathlib.Core.Path.{fun_ext}
-use Rattle.qcow2_laws.specs.Stops.{Gift}
+use Rattle.qcow2_laws.specs.Stops.{GivenBytes}
 use Rattle.qcow2_laws.specs.Mappings.{PreparedMapping, IsPrepared, put_mapping, put_disk, committed, gift_of, gift_of_commit}
-use Rattle.qcow2_laws.specs.Views.{Setting, Spec, View, view, guest_of, meaning_at}
+use Rattle.qcow2_laws.specs.AbstractImages.{Setting, Abstraction, AbstractImage, abstract_image, guest_of, meaning_at}
 use Rattle.qcow2_laws.specs.Calls.{Refusal, Acts, Does, Refuses, IsSame, with_disk, with_slot}
-use Rattle.qcow2_laws.specs.Runs.{Found, Command, Reply, State, StandsAt, Means, Step, found_after, given_at, given_by, put, commit, discard, prepare, done, prepared_is}
+use Rattle.qcow2_laws.specs.Runs.{Found, Command, Reply, State, RefinesState, CommandMeaning, CommandStep, found_after, given_at, given_by, put, commit, discard, prepare, done, prepared_is}
 use Rattle.qcow2_image.specs.declared.mapping.Mapping.{Mapping}
 use Rattle.qcow2_session.proofs.Places.{get_set_same}
 use Rattle.qcow2_session.specs.Sessions.{found_in, range_of}
 
-module _ {D P : Type 0} (spec : Spec D P) where
+module _ {D P : Type 0} (spec : Abstraction D P) where
   -- what a mapping at a place means
-  pub found_at : (d : D) (out : List (Option P)) (slot : ℕ) (p : P) → slice_get out slot ≡ Some (Some p) → (view spec d out).slots slot ≡ Some (spec.means d p)
+  pub found_at : (d : D) (out : List (Option P)) (slot : ℕ) (p : P) → slice_get out slot ≡ Some (Some p) → (abstract_image spec d out).slots slot ≡ Some (spec.means d p)
   found_at d out slot p e = ap (λ (o : Option (Option P)). meaning_at (spec.means d) o) e
 
-  pub none_at : (d : D) (out : List (Option P)) (slot : ℕ) → slice_get out slot ≡ Some None → (view spec d out).slots slot ≡ None
+  pub none_at : (d : D) (out : List (Option P)) (slot : ℕ) → slice_get out slot ≡ Some None → (abstract_image spec d out).slots slot ≡ None
   none_at d out slot e = ap (λ (o : Option (Option P)). meaning_at (spec.means d) o) e
 
   -- a place that was looked at
   module _ (d : D) (out : List (Option P)) (slot : ℕ) where
-    pub taken : (r : Option (Bor P)) → MatchOption r (slice_get out slot ≡ Some None) (λ p. slice_get out slot ≡ Some (Some p.now)) → is_some r ≡ true → (view spec d out).slots slot ≡ None → ⊥
+    pub taken : (r : Option (Bor P)) → MatchOption r (slice_get out slot ≡ Some None) (λ p. slice_get out slot ≡ Some (Some p.now)) → is_some r ≡ true → (abstract_image spec d out).slots slot ≡ None → ⊥
     taken None at is free = absurd cc
     taken (Some p) at is free = let e = found_at d out slot p.now at in let f : Some (spec.means d p.now) ≡ None = sym e ∙ free in cc
 
@@ -31,12 +31,12 @@ module _ {D P : Type 0} (spec : Spec D P) where
     untaken None at is = at
     untaken (Some p) at is = absurd cc
 
-module _ {old new : View} (found : ℕ → Option Found) (slot : ℕ) (m : PreparedMapping) (e : old.slots slot ≡ Some m) where
-  at_slot : (gift : PreparedMapping → Gift) → Acts old new (gift m ∷ []) [] → Acts old new (given_at (old.slots slot) gift) []
+module _ {old new : AbstractImage} (found : ℕ → Option Found) (slot : ℕ) (m : PreparedMapping) (e : old.slots slot ≡ Some m) where
+  at_slot : (gift : PreparedMapping → GivenBytes) → Acts old new (gift m ∷ []) [] → Acts old new (given_at (old.slots slot) gift) []
   at_slot gift acts = subst (λ (o : Option PreparedMapping). Acts old new (given_at o gift) []) (sym e) acts
 
   pub does_commit : Does old new (gift_of_commit old.setting.cluster_size (guest_of old).disk m ∷ []) [] (guest_of new ≡ with_slot (with_disk (guest_of old) (committed (guest_of old).disk m)) slot None)
-      → Does old new (given_by old.setting (guest_of old) (commit slot)) [] (Means old.setting found (guest_of old) (commit slot) done (guest_of new))
+      → Does old new (given_by old.setting (guest_of old) (commit slot)) [] (CommandMeaning old.setting found (guest_of old) (commit slot) done (guest_of new))
   does_commit does = record { acts = at_slot (gift_of_commit old.setting.cluster_size (guest_of old).disk) does.acts; answer = λ sound. let a = does.answer sound in (a.0, (m, e, a.1)) }
 
   pub refuses_commit : {error : Refusal} → Refuses old new (gift_of_commit old.setting.cluster_size (guest_of old).disk m ∷ []) [] error (IsSame old new)
@@ -45,19 +45,19 @@ module _ {old new : View} (found : ℕ → Option Found) (slot : ℕ) (m : Prepa
 
   module _ (at : ℕ) (bytes : List ℕ) where
     pub does_put : at + length bytes ≤ m.length → Does old new (gift_of (m.from + at) bytes ∷ []) [] (guest_of new ≡ with_slot (with_disk (guest_of old) (put_disk (guest_of old).disk m at bytes)) slot (Some (put_mapping m at bytes)))
-        → Does old new (given_by old.setting (guest_of old) (put slot at bytes)) [] (Means old.setting found (guest_of old) (put slot at bytes) done (guest_of new))
+        → Does old new (given_by old.setting (guest_of old) (put slot at bytes)) [] (CommandMeaning old.setting found (guest_of old) (put slot at bytes) done (guest_of new))
     does_put fits does = record { acts = at_slot (λ n. gift_of (n.from + at) bytes) does.acts; answer = λ sound. let a = does.answer sound in (a.0, (m, e, fits, a.1)) }
 
     pub refuses_put : {error : Refusal} → Refuses old new (gift_of (m.from + at) bytes ∷ []) [] error (IsSame old new)
         → Refuses old new (given_by old.setting (guest_of old) (put slot at bytes)) [] error (IsSame old new)
     refuses_put r = record { acts = at_slot (λ n. gift_of (n.from + at) bytes) r.acts; answer = r.answer; fault = r.fault }
 
-  pub does_discard : Does old new [] [] (guest_of new ≡ with_slot (guest_of old) slot None) → Does old new [] [] (Means old.setting found (guest_of old) (discard slot) done (guest_of new))
+  pub does_discard : Does old new [] [] (guest_of new ≡ with_slot (guest_of old) slot None) → Does old new [] [] (CommandMeaning old.setting found (guest_of old) (discard slot) done (guest_of new))
   does_discard does = record { acts = does.acts; answer = λ sound. let a = does.answer sound in (a.0, ((λ (h : old.slots slot ≡ None). cc), a.1)) }
 
-pub does_prepare : {old new : View} (found : ℕ → Option Found) (slot offset n : ℕ) (overwrite : Bool) (m : PreparedMapping) (count : ℕ) → old.slots slot ≡ None → m.length ≡ count
+pub does_prepare : {old new : AbstractImage} (found : ℕ → Option Found) (slot offset n : ℕ) (overwrite : Bool) (m : PreparedMapping) (count : ℕ) → old.slots slot ≡ None → m.length ≡ count
     → Does old new [] [] (IsPrepared old.setting.cluster_size (guest_of old).disk offset n overwrite m × (guest_of new ≡ with_slot (guest_of old) slot (Some m)))
-    → Does old new [] [] (Means old.setting found (guest_of old) (prepare slot offset n overwrite) (prepared_is count) (guest_of new))
+    → Does old new [] [] (CommandMeaning old.setting found (guest_of old) (prepare slot offset n overwrite) (prepared_is count) (guest_of new))
 does_prepare found slot offset n overwrite m count free long does = record { acts = does.acts; answer = λ sound. let a = does.answer sound in (a.0, (free, (m, a.1.0, long, a.1.1))) }
 
 -- a range that passes the end of what is at a place
@@ -92,7 +92,7 @@ pub found_here : (xs : List (Option Mapping)) (slot i : ℕ) (m : Option Mapping
 found_here xs slot i m same lt is = ap range_of (slice_get_read xs (length xs) slot m refl lt (subst (λ k. m ≡ get_or xs k m) same is))
 
 -- an image that works isn't in a run that failed
-pub live : {x : Setting} {v : View} {s : State} → StandsAt x v s → v.is_failed ≡ false → s.is_failed ≡ false
+pub live : {x : Setting} {v : AbstractImage} {s : State} → RefinesState x v s → v.is_failed ≡ false → s.is_failed ≡ false
 live {s = s} stands works = elim (cases_Bool s.is_failed) [
   | inl failed ↦ absurd (let e : true ≡ false = sym (stands.failed failed) ∙ works in cc)
   | inr ok ↦ ok
@@ -102,7 +102,7 @@ pub found_same : (f g : ℕ → Option Found) (command : Command) (reply : Reply
 found_same f g command reply same k = ap (λ (h : ℕ → Option Found). found_after h command reply k) (fun_ext same)
 
 -- after a step that didn't fail
-pub step_found : (x : Setting) (s t : State) (command : Command) (reply : Reply) → Step x s command reply t → t.is_failed ≡ false → (s.is_failed ≡ false) × (t.found ≡ found_after s.found command reply)
+pub step_found : (x : Setting) (s t : State) (command : Command) (reply : Reply) → CommandStep x s command reply t → t.is_failed ≡ false → (s.is_failed ≡ false) × (t.found ≡ found_after s.found command reply)
 step_found x s t command reply (inl (failed, same)) ok = absurd (let e : t.is_failed ≡ true = ap (λ (u : State). u.is_failed) same ∙ failed in cc)
 step_found x s t command reply (inr (inl (works, (guest, means, is)))) ok = (works, ap (λ (u : State). u.found) is)
 step_found x s t command reply (inr (inr (works, fault, is))) ok = absurd (let e : t.is_failed ≡ true = ap (λ (u : State). u.is_failed) is in cc)

@@ -5,7 +5,7 @@ use Rattle.std.proofs.lemmas.List.{append-nil}
 use mathlib.Core.Path.{fun_ext}
 use Rattle.image_access.proofs.Passing.{passes_none}
 use Rattle.qcow2_laws.specs.Mappings.{PreparedMapping}
-use Rattle.qcow2_laws.specs.Views.{Spec, HasFreePlaces, Guest, view, guest_of}
+use Rattle.qcow2_laws.specs.AbstractImages.{Abstraction, HasFreePlaces, Guest, abstract_image, guest_of}
 use Rattle.qcow2_laws.specs.Calls.{Does, with_slot}
 use Rattle.qcow2_session.proofs.Turns.{none_within, does_if, does_then}
 
@@ -40,10 +40,10 @@ set_last : {X : Type 0} (xs : List X) (y z : X) → slice_set (xs ++ y ∷ []) (
 set_last [] y z = refl
 set_last (x ∷ xs) y z = ap (λ ys. x ∷ ys) (set_last xs y z)
 
-module _ {D P : Type 0} (spec : Spec D P) (has : HasFreePlaces spec) where
+module _ {D P : Type 0} (spec : Abstraction D P) (has : HasFreePlaces spec) where
   -- the same image with other places
   pub does_none : (d : D) (out out' : List (Option P)) → (spec.is_sound d out → spec.is_sound d out') → spec.surplus d out' ≡ spec.surplus d out
-      → Does (view spec d out) (view spec d out') [] [] ((guest_of (view spec d out')).disk ≡ (guest_of (view spec d out)).disk)
+      → Does (abstract_image spec d out) (abstract_image spec d out') [] [] ((guest_of (abstract_image spec d out')).disk ≡ (guest_of (abstract_image spec d out)).disk)
   does_none d out out' sound same = record {
     acts = record {
       number = refl;
@@ -57,21 +57,21 @@ module _ {D P : Type 0} (spec : Spec D P) (has : HasFreePlaces spec) where
     answer = λ h. (sound h, refl);
   }
 
-  pub enters : (d : D) (out : List (Option P)) → Does (view spec d out) (view spec d (None ∷ out)) [] [] ((guest_of (view spec d (None ∷ out))).disk ≡ (guest_of (view spec d out)).disk)
+  pub enters : (d : D) (out : List (Option P)) → Does (abstract_image spec d out) (abstract_image spec d (None ∷ out)) [] [] ((guest_of (abstract_image spec d (None ∷ out))).disk ≡ (guest_of (abstract_image spec d out)).disk)
   enters d out = does_none d out (None ∷ out) (has.free d [] out) (has.surplus d [] out)
 
-  pub leaves : (d : D) (out : List (Option P)) → Does (view spec d (None ∷ out)) (view spec d out) [] [] ((guest_of (view spec d out)).disk ≡ (guest_of (view spec d (None ∷ out))).disk)
+  pub leaves : (d : D) (out : List (Option P)) → Does (abstract_image spec d (None ∷ out)) (abstract_image spec d out) [] [] ((guest_of (abstract_image spec d out)).disk ≡ (guest_of (abstract_image spec d (None ∷ out))).disk)
   leaves d out = does_none d (None ∷ out) out (has.left d [] out) (sym (has.surplus d [] out))
 
   -- ---- many free places
 
-  slots_none : (d : D) (n k : ℕ) → (view spec d []).slots k ≡ (view spec d (replicate n None)).slots k
+  slots_none : (d : D) (n k : ℕ) → (abstract_image spec d []).slots k ≡ (abstract_image spec d (replicate n None)).slots k
   slots_none d zero k = refl
   slots_none d (suc n) zero = refl
   slots_none d (suc n) (suc k) = slots_none d n k
 
-  pub guest_none : (d : D) (n : ℕ) → guest_of (view spec d []) ≡ guest_of (view spec d (replicate n None))
-  guest_none d n = ap (λ (f : ℕ → Option PreparedMapping). record (guest_of (view spec d [])) { slots = f }) (fun_ext (slots_none d n))
+  pub guest_none : (d : D) (n : ℕ) → guest_of (abstract_image spec d []) ≡ guest_of (abstract_image spec d (replicate n None))
+  guest_none d n = ap (λ (f : ℕ → Option PreparedMapping). record (guest_of (abstract_image spec d [])) { slots = f }) (fun_ext (slots_none d n))
 
   pub sound_none : (d : D) (n : ℕ) → spec.is_sound d [] → spec.is_sound d (replicate n None)
   sound_none d zero sound = sound
@@ -83,17 +83,17 @@ module _ {D P : Type 0} (spec : Spec D P) (has : HasFreePlaces spec) where
 
   -- ---- the last place is let go
 
-  pub last_none : (d : D) (out : List (Option P)) → Does (view spec d (out ++ None ∷ [])) (view spec d out) [] [] ((guest_of (view spec d out)).disk ≡ (guest_of (view spec d (out ++ None ∷ []))).disk)
+  pub last_none : (d : D) (out : List (Option P)) → Does (abstract_image spec d (out ++ None ∷ [])) (abstract_image spec d out) [] [] ((guest_of (abstract_image spec d out)).disk ≡ (guest_of (abstract_image spec d (out ++ None ∷ []))).disk)
   last_none d out =
-      let full = view spec d (out ++ None ∷ []) in
-      subst (λ (o : List (Option P)). Does full (view spec d o) [] [] ((guest_of (view spec d o)).disk ≡ (guest_of full).disk)) (append-nil out)
+      let full = abstract_image spec d (out ++ None ∷ []) in
+      subst (λ (o : List (Option P)). Does full (abstract_image spec d o) [] [] ((guest_of (abstract_image spec d o)).disk ≡ (guest_of full).disk)) (append-nil out)
       (does_none d (out ++ None ∷ []) (out ++ []) (has.left d out []) (sym (has.surplus d out [])))
 
-  pub last_let_go : (old new : D) (p : P) (out : List (Option P))
-      → ((o : List (Option P)) (k : ℕ) → slice_get o k ≡ Some (Some p) → Does (view spec old o) (view spec new (slice_set o k None)) [] [] (guest_of (view spec new (slice_set o k None)) ≡ with_slot (guest_of (view spec old o)) k None))
-      → Does (view spec old (out ++ Some p ∷ [])) (view spec new out) [] [] ((guest_of (view spec new out)).disk ≡ (guest_of (view spec old (out ++ Some p ∷ []))).disk)
-  last_let_go old new p out discards =
+  pub last_release : (old new : D) (p : P) (out : List (Option P))
+      → ((o : List (Option P)) (k : ℕ) → slice_get o k ≡ Some (Some p) → Does (abstract_image spec old o) (abstract_image spec new (slice_set o k None)) [] [] (guest_of (abstract_image spec new (slice_set o k None)) ≡ with_slot (guest_of (abstract_image spec old o)) k None))
+      → Does (abstract_image spec old (out ++ Some p ∷ [])) (abstract_image spec new out) [] [] ((guest_of (abstract_image spec new out)).disk ≡ (guest_of (abstract_image spec old (out ++ Some p ∷ []))).disk)
+  last_release old new p out discards =
       let full : List (Option P) = out ++ Some p ∷ [] in
-      let To = λ (o : List (Option P)). Does (view spec old full) (view spec new o) [] [] ((guest_of (view spec new o)).disk ≡ (guest_of (view spec old full)).disk) in
+      let To = λ (o : List (Option P)). Does (abstract_image spec old full) (abstract_image spec new o) [] [] ((guest_of (abstract_image spec new o)).disk ≡ (guest_of (abstract_image spec old full)).disk) in
       let first : To (out ++ None ∷ []) = subst To (set_last out (Some p) None) (does_if (λ e. ap (λ (h : Guest). h.disk) e) (discards full (length out) (get_last out (Some p)))) in
-      does_if (λ both. both.1 ∙ both.0) (does_then (λ _. none_within (view spec new (out ++ None ∷ [])) []) first (last_none new out))
+      does_if (λ both. both.1 ∙ both.0) (does_then (λ _. none_within (abstract_image spec new (out ++ None ∷ [])) []) first (last_none new out))

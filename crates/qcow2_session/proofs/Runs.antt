@@ -2,8 +2,8 @@
 use Rattle.std.proofs.Common.{◌≡◌, ℕ, zero, suc, ◌+◌, List, [], ◌∷◌, ◌++◌, false, refl, sym, ap, ◌∙◌, subst, Option, None, take, map}
 use Rattle.std.specs.Prelude.{replicate}
 use Rattle.std.proofs.lemmas.List.{map-append}
-use Rattle.qcow2_laws.specs.Views.{Setting, Spec, HasFreePlaces, view}
-use Rattle.qcow2_laws.specs.Runs.{Found, Command, Reply, State, StandsAt, Step, Goes, Run, Ran, begun, found_after}
+use Rattle.qcow2_laws.specs.AbstractImages.{Setting, Abstraction, HasFreePlaces, abstract_image}
+use Rattle.qcow2_laws.specs.Runs.{Found, Command, Reply, State, RefinesState, CommandStep, RefinesCommand, Run, RefinesRun, begun, found_after}
 use Rattle.qcow2_laws.proofs.RunSteps.{ran_none, ran_more}
 use Rattle.qcow2_image.specs.declared.mapping.Mapping.{Mapping}
 use Rattle.qcow2_session.specs.Sessions.{found_in}
@@ -12,18 +12,18 @@ use Rattle.qcow2_session.proofs.Places.{guest_none, sound_none}
 
 -- the last step of a run
 run_last : (x : Setting) (s : State) (commands : List Command) (replies : List Reply) (command : Command) (reply : Reply) (end : State)
-    → Run x s (commands ++ command ∷ []) (replies ++ reply ∷ []) end → (mid : State) × Run x s commands replies mid × Step x mid command reply end
-run_last x s [] [] command reply end run = (s, refl, subst (λ t. Step x s command reply t) (sym run.2) run.1)
+    → Run x s (commands ++ command ∷ []) (replies ++ reply ∷ []) end → (mid : State) × Run x s commands replies mid × CommandStep x mid command reply end
+run_last x s [] [] command reply end run = (s, refl, subst (λ t. CommandStep x s command reply t) (sym run.2) run.1)
 run_last x s (c ∷ commands) (r ∷ replies) command reply end run = let rest = run_last x run.0 commands replies command reply end run.2 in (rest.0, (run.0, run.1, rest.1), rest.2)
 run_last x s [] (r ∷ []) command reply end run = absurd run.2
 run_last x s [] (r ∷ (q ∷ replies)) command reply end run = absurd run.2
 run_last x s (c ∷ []) [] command reply end run = absurd run.2
 run_last x s (c ∷ (d ∷ commands)) [] command reply end run = absurd run.2
 
-module _ {D P : Type 0} (spec : Spec D P) where
+module _ {D P : Type 0} (spec : Abstraction D P) where
   -- a run so far, with what was found so far
   pub record GoesOn (x : Setting) (old : D) (before : List (Option P)) (new : D) (out : List (Option P)) (s : State) (commands : List Command) (replies : List Reply) (mappings : List (Option Mapping)) : Type 0 where
-    pub ran : Ran spec x old before new out s commands replies
+    pub ran : RefinesRun spec x old before new out s commands replies
     pub found : (end : State) → Run x s commands replies end → end.is_failed ≡ false → (k : ℕ) → end.found k ≡ found_in mappings k
 
 none_found : (n k : ℕ) → None ≡ found_in (replicate n None) k
@@ -31,11 +31,11 @@ none_found zero k = refl
 none_found (suc n) zero = refl
 none_found (suc n) (suc k) = none_found n k
 
-module _ {D P : Type 0} (spec : Spec D P) where
+module _ {D P : Type 0} (spec : Abstraction D P) where
   -- nothing was answered yet
   pub first_of_all : HasFreePlaces spec → (d : D) (n : ℕ) (x : Setting) (s : State) (out : List (Option P)) (mappings : List (Option Mapping)) (replies : List Reply)
       → out ≡ replicate n None → mappings ≡ replicate n None → replies ≡ []
-      → StandsAt x (view spec d []) s → GoesOn spec x d (replicate n None) d out (begun s) [] replies mappings
+      → RefinesState x (abstract_image spec d []) s → GoesOn spec x d (replicate n None) d out (begun s) [] replies mappings
   first_of_all has d n x s out mappings replies none nothing unanswered stands =
       let free : List (Option P) = replicate n None in
       subst (λ (o : List (Option P)). GoesOn spec x d free d o (begun s) [] replies mappings) (sym none)
@@ -57,7 +57,7 @@ module _ {D P : Type 0} (spec : Spec D P) where
   -- one command more
   pub goes_on : (x : Setting) (old mid new : D) (before out out' : List (Option P)) (s : State) (commands : List Command) (replies : List Reply) (mappings mappings' : List (Option Mapping)) (command : Command) (reply : Reply)
       → GoesOn spec x old before mid out s commands replies mappings
-      → ((s' : State) → StandsAt x (view spec mid out) s' → (s'.is_failed ≡ false → (k : ℕ) → s'.found k ≡ found_in mappings k) → Goes x (view spec mid out) (view spec new out') s' command reply)
+      → ((s' : State) → RefinesState x (abstract_image spec mid out) s' → (s'.is_failed ≡ false → (k : ℕ) → s'.found k ≡ found_in mappings k) → RefinesCommand x (abstract_image spec mid out) (abstract_image spec new out') s' command reply)
       → ((k : ℕ) → found_in mappings' k ≡ found_after (found_in mappings) command reply k)
       → GoesOn spec x old before new out' s (commands ++ command ∷ []) (replies ++ reply ∷ []) mappings'
   goes_on x old mid new before out out' s commands replies mappings mappings' command reply so_far steps finds =

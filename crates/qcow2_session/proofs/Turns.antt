@@ -4,8 +4,8 @@ use Rattle.std.specs.Prelude.{Option, Some, None, IfSome, Result, Ok, Err, IsErr
 use Rattle.image_access.proofs.Passing.{passes_on}
 use Rattle.qcow2_metadata.specs.Bytes.{byte_at}
 use Rattle.qcow2_metadata.specs.Guest.{Value}
-use Rattle.qcow2_laws.specs.Stops.{Gift, IsGiven, more, IsKeptAt}
-use Rattle.qcow2_laws.specs.Views.{View, guest_of}
+use Rattle.qcow2_laws.specs.Stops.{GivenBytes, IsGiven, checkpoint_with, StopOkEverywhere}
+use Rattle.qcow2_laws.specs.AbstractImages.{AbstractImage, guest_of}
 use Rattle.qcow2_laws.specs.Calls.{Refusal, memory, storage, another, IsFault, Works, Acts, Does, Refuses}
 use Rattle.qcow2_laws.proofs.Compose.{works_less, works_then, rests_then}
 
@@ -20,13 +20,13 @@ nothing_refused S X None r a early was = tt
 nothing_refused S X (Some x) r a early was = absurd (let no : Ok a ≡ Err x = sym was ∙ early.0 in cc)
 
 -- what a call gives was there already, or is given anyway
-abbrev pub IsWithin : View → List Gift → List Gift → Type 0
-IsWithin v more gs = (o : ℕ) (w : Value) → IsGiven more o w → (w ≡ (guest_of v).disk.value o) ⊎ IsGiven gs o w
+abbrev pub IsWithin : AbstractImage → List GivenBytes → List GivenBytes → Type 0
+IsWithin v checkpoint_with gs = (o : ℕ) (w : Value) → IsGiven checkpoint_with o w → (w ≡ (guest_of v).disk.value o) ⊎ IsGiven gs o w
 
-pub none_within : (v : View) (gs : List Gift) → IsWithin v [] gs
+pub none_within : (v : AbstractImage) (gs : List GivenBytes) → IsWithin v [] gs
 none_within v gs o w h = absurd h
 
-module _ {old new : View} {given : List Gift} {asked : List ℕ} {A B : Type 0} where
+module _ {old new : AbstractImage} {given : List GivenBytes} {asked : List ℕ} {A B : Type 0} where
   pub does_if : (A → B) → Does old new given asked A → Does old new given asked B
   does_if to d = record { acts = d.acts; answer = λ sound. let a = d.answer sound in (a.0, to a.1) }
 
@@ -40,17 +40,17 @@ module _ {old new : View} {given : List Gift} {asked : List ℕ} {A B : Type 0} 
   refuses_why why r = record { acts = r.acts; answer = λ sound. ⊎_elim (λ (a : new.is_sound × A). inl (a.0, (a.1, why sound))) (λ h. inr h) (r.answer sound); fault = r.fault }
 
 -- the session refuses by itself, after a call that was answered
-pub refuses_here : {old new : View} {given : List Gift} {asked : List ℕ} {A : Type 0} (e : Refusal) → (e ≡ storage → ⊥) → Does old new given asked A → Refuses old new given asked e A
+pub refuses_here : {old new : AbstractImage} {given : List GivenBytes} {asked : List ℕ} {A : Type 0} (e : Refusal) → (e ≡ storage → ⊥) → Does old new given asked A → Refuses old new given asked e A
 refuses_here e none d = record { acts = d.acts; answer = λ sound. inl (d.answer sound); fault = λ is. absurd (none is) }
 
 -- a fault fails the image, so only want of memory can leave it sound
-pub refuses_fault : {old new : View} {given : List Gift} {asked : List ℕ} {A : Type 0} (B : Refusal → Type 0) (e : Refusal) → (A → IsFault e) → (A → B memory)
+pub refuses_fault : {old new : AbstractImage} {given : List GivenBytes} {asked : List ℕ} {A : Type 0} (B : Refusal → Type 0) (e : Refusal) → (A → IsFault e) → (A → B memory)
     → Refuses old new given asked e A → Refuses old new given asked e (B e)
 refuses_fault B memory why to r = refuses_if to r
 refuses_fault B storage why to r = record { acts = r.acts; answer = λ sound. inr (tt, r.fault refl); fault = r.fault }
 refuses_fault {new = new} {A = A} B (another n) why to r = record { acts = r.acts; answer = λ sound. ⊎_elim (λ (a : new.is_sound × A). absurd (why a.1)) (λ h. inr h) (r.answer sound); fault = r.fault }
 
-module _ {old new : View} {gs fewer : List Gift} (within : IsWithin old gs fewer) where
+module _ {old new : AbstractImage} {gs fewer : List GivenBytes} (within : IsWithin old gs fewer) where
   acts_less : Acts old new gs [] → Acts old new fewer []
   acts_less a = record { number = a.number; works = λ sound. works_less old new gs fewer [] within (a.works sound); rests = a.rests }
 
@@ -61,18 +61,18 @@ module _ {old new : View} {gs fewer : List Gift} (within : IsWithin old gs fewer
   refuses_less r = record { acts = acts_less r.acts; answer = r.answer; fault = r.fault }
 
 -- a call after one that was answered
-module _ {old mid new : View} {gs more : List Gift} {A : Type 0} (within : A → IsWithin mid more gs) (first : Does old mid gs [] A) where
-  acts_then : Acts mid new more [] → Acts old new gs []
+module _ {old mid new : AbstractImage} {gs checkpoint_with : List GivenBytes} {A : Type 0} (within : A → IsWithin mid checkpoint_with gs) (first : Does old mid gs [] A) where
+  acts_then : Acts mid new checkpoint_with [] → Acts old new gs []
   acts_then acts = record {
     number = acts.number ∙ first.acts.number;
-    works = λ sound. let a = first.answer sound in works_then old mid new gs [] a.0 (first.acts.works sound) (works_less mid new more gs [] (within a.1) (acts.works a.0));
+    works = λ sound. let a = first.answer sound in works_then old mid new gs [] a.0 (first.acts.works sound) (works_less mid new checkpoint_with gs [] (within a.1) (acts.works a.0));
     rests = λ failed. let r = first.acts.rests failed in rests_then old mid new r (acts.rests r.failed);
   }
 
-  pub does_then : {B : Type 0} → Does mid new more [] B → Does old new gs [] (A × B)
+  pub does_then : {B : Type 0} → Does mid new checkpoint_with [] B → Does old new gs [] (A × B)
   does_then then = record { acts = acts_then then.acts; answer = λ sound. let a = first.answer sound in let b = then.answer a.0 in (b.0, (a.1, b.1)) }
 
-  pub refuses_then : {e : Refusal} {B : Type 0} → Refuses mid new more [] e B → Refuses old new gs [] e (A × B)
+  pub refuses_then : {e : Refusal} {B : Type 0} → Refuses mid new checkpoint_with [] e B → Refuses old new gs [] e (A × B)
   refuses_then {B = B} then = record {
     acts = acts_then then.acts;
     answer = λ sound. let a = first.answer sound in ⊎_elim (λ (b : new.is_sound × B). inl (b.0, (a.1, b.1))) (λ h. inr h) (then.answer a.0);
@@ -80,7 +80,7 @@ module _ {old mid new : View} {gs more : List Gift} {A : Type 0} (within : A →
   }
 
 -- a call that gives nothing, after one that was refused
-module _ {old mid new : View} {gs : List Gift} {e : Refusal} {A B : Type 0} (fine : new.is_sound → new.is_failed ≡ false) (first : Refuses old mid gs [] e A) (then : Does mid new [] [] B) where
+module _ {old mid new : AbstractImage} {gs : List GivenBytes} {e : Refusal} {A B : Type 0} (fine : new.is_sound → new.is_failed ≡ false) (first : Refuses old mid gs [] e A) (then : Does mid new [] [] B) where
   never : IsTrue mid.is_failed → new.is_sound → ⊥
   never failed sound = let t : new.is_failed ≡ true = (then.acts.rests failed).failed in let f : true ≡ false = sym t ∙ fine sound in cc
 
@@ -89,8 +89,8 @@ module _ {old mid new : View} {gs : List Gift} {e : Refusal} {A B : Type 0} (fin
     setting = r.setting ∙ w.setting;
     surplus = λ sound. absurd (never failed sound);
     stops = λ m starts. let s = w.stops m starts in record {
-      moments = passes_on (λ c. IsKeptAt old.setting.backing (more gs [] m) (byte_at c)) s.moments r.moments (λ c is. subst (λ k. IsKeptAt old.setting.backing (more gs [] m) (byte_at k)) (sym is) s.contents);
-      contents = subst (λ k. IsKeptAt old.setting.backing (more gs [] m) (byte_at k)) (sym r.contents) s.contents;
+      moments = passes_on (λ c. StopOkEverywhere old.setting.backing (checkpoint_with gs [] m) (byte_at c)) s.moments r.moments (λ c is. subst (λ k. StopOkEverywhere old.setting.backing (checkpoint_with gs [] m) (byte_at k)) (sym is) s.contents);
+      contents = subst (λ k. StopOkEverywhere old.setting.backing (checkpoint_with gs [] m) (byte_at k)) (sym r.contents) s.contents;
       known = λ sound. absurd (never failed sound);
     };
   }

@@ -5,7 +5,7 @@ use Rattle.std.proofs.lemmas.Grind.{common_steps}
 use Rattle.std.proofs.lemmas.List.{take-append-drop}
 use Rattle.qcow2_laws.specs.Disk.{Disk, with_bytes}
 use Rattle.qcow2_laws.specs.Mappings.{gift_of}
-use Rattle.qcow2_laws.specs.Views.{View, Guest, guest_of}
+use Rattle.qcow2_laws.specs.AbstractImages.{AbstractImage, Guest, guest_of}
 use Rattle.qcow2_laws.specs.Calls.{Refusal, memory, storage, another, Does, Refuses, MayWrite, WritesSome, with_disk}
 use Rattle.qcow2_session.proofs.Bytes.{no_bytes, with_both, part_within, rest_long, rest_part}
 use Rattle.qcow2_session.proofs.Turns.{IsWithin, does_if, refuses_if, does_then, refuses_then}
@@ -50,7 +50,7 @@ module _ (offset at count : ℕ) (bytes : List ℕ) (le : count ≤ length bytes
   may_write_more storage g g' new so_far may = (le, may.1 ∙ ap (λ (d : Disk). with_disk g' d) (no_more g'.disk) ∙ so_far)
   may_write_more (another n) g g' new so_far may = (le, may.1 ∙ ap (λ (d : Disk). with_disk g' d) (no_more g'.disk) ∙ so_far)
 
-  module _ (old mid new : View) (first : Does old mid (gift_of offset bytes ∷ []) [] (guest_of mid ≡ with_disk (guest_of old) (with_bytes (guest_of old).disk offset (take count bytes)))) where
+  module _ (old mid new : AbstractImage) (first : Does old mid (gift_of offset bytes ∷ []) [] (guest_of mid ≡ with_disk (guest_of old) (with_bytes (guest_of old).disk offset (take count bytes)))) where
     rest_within : IsWithin mid (gift_of at (drop count bytes) ∷ []) (gift_of offset bytes ∷ [])
     rest_within o w h = inr (part_within offset at count bytes (drop count bytes) there (rest_long count bytes le) (λ i lt. rest_part count bytes i le lt) o w h)
 

@@ -6,10 +6,10 @@ use Rattle.image_access.specs.Moments.{StorageView}
 use Rattle.qcow2_metadata.specs.Bytes.{Bytes}
 use Rattle.qcow2_laws.specs.Disk.{with_bytes}
 use Rattle.qcow2_laws.specs.Mappings.{gift_of}
-use Rattle.qcow2_laws.specs.Views.{Setting, Guest, guest_of, IsOpened}
+use Rattle.qcow2_laws.specs.AbstractImages.{Setting, Guest, guest_of, IsOpened}
 use Rattle.qcow2_laws.specs.Calls.{Does, Refuses, Shows, with_disk, MayWrite}
 use Rattle.qcow2_laws.specs.Found.{IsFoundIn}
-use Rattle.qcow2_laws.specs.Runs.{Command as RunCommand, Reply as RunReply, get_mapping, mapping_is, Found, State, StandsAt, Goes, Completes, MeansTheDisk, begun, found_after}
+use Rattle.qcow2_laws.specs.Runs.{Command as RunCommand, Reply as RunReply, get_mapping, mapping_is, Found, State, RefinesState, RefinesCommand, RefinesWholeRun, RefinesDisk, begun, found_after}
 use Rattle.qcow2_alloc.specs.declared.error.ImageError.{ImageError}
 use Rattle.qcow2_alloc.specs.declared.error.ImageError.TheVariants.{BeyondSize}
 use Rattle.qcow2_alloc.specs.ImageFile.{contents_in}
@@ -19,7 +19,7 @@ use Rattle.qcow2_image.specs.declared.prepared.Prepared.{Prepared}
 use Rattle.qcow2_image.specs.Calls.{Answers, refusal_of}
 use Rattle.qcow2_image.specs.Image.{size_of}
 use Rattle.qcow2_image.specs.Refusals.{passes}
-use Rattle.qcow2_image.specs.Views.{seen, image_spec}
+use Rattle.qcow2_image.specs.ImageInvariant.{abstract_of, image_abstraction}
 use Rattle.qcow2_session.specs.Commands.{command_of, reply_of}
 use Rattle.qcow2_session.specs.declared.session.Command.{Command}
 use Rattle.qcow2_session.specs.declared.session.Reply.{Reply}
@@ -59,7 +59,7 @@ module _ {S F : Type 0} (view : S → StorageView) (backing : F → BackingView)
   -- the bytes are there; or so many leading ones, where memory was refused perhaps more
   abbrev pub Writes : ℕ → List ℕ → Result (Unit {0}) (ImageError × ℕ) → Type 0
   Writes offset bytes (Ok done) = Answers view backing old new (gift_of offset bytes ∷ []) (λ _. HasWritten offset bytes) (Ok done)
-  Writes offset bytes (Err r) = (out : List (Option Prepared)) → let v = seen view backing old out in let w = seen view backing new out in Refuses v w (gift_of offset bytes ∷ []) [] (refusal_of r.0)
+  Writes offset bytes (Err r) = (out : List (Option Prepared)) → let v = abstract_of view backing old out in let w = abstract_of view backing new out in Refuses v w (gift_of offset bytes ∷ []) [] (refusal_of r.0)
       (MayWrite (refusal_of r.0) (guest_of v) offset bytes r.1 (guest_of w))
 
   -- so many of the first bytes were read
@@ -72,13 +72,13 @@ module _ {S F : Type 0} (view : S → StorageView) (backing : F → BackingView)
   WritesFirst offset bytes (Err e) = Writes offset bytes (Err (e, 0))
 
   -- one command is one step of each run that the image stands at with these mappings
-  abbrev pub Steps : Slots → Slots → Command → Reply → Type 0
-  Steps slots slots' command reply = (x : Setting) (s : State) → let v = seen view backing old slots.prepared.items in let w = seen view backing new slots'.prepared.items in
-      StandsAt x v s → HasFound s slots → Goes x v w s (command_of command) (reply_of reply)
+  abbrev pub CommandSteps : Slots → Slots → Command → Reply → Type 0
+  CommandSteps slots slots' command reply = (x : Setting) (s : State) → let v = abstract_of view backing old slots.prepared.items in let w = abstract_of view backing new slots'.prepared.items in
+      RefinesState x v s → HasFound s slots → RefinesCommand x v w s (command_of command) (reply_of reply)
 
   -- of the mappings that were out only these are left
-  abbrev pub LetsGo : List (Option Prepared) → List (Option Prepared) → Type 0
-  LetsGo out left = let v = seen view backing old out in let w = seen view backing new left in Does v w [] [] ((guest_of w).disk ≡ (guest_of v).disk)
+  abbrev pub ReleasesMappings : List (Option Prepared) → List (Option Prepared) → Type 0
+  ReleasesMappings out left = let v = abstract_of view backing old out in let w = abstract_of view backing new left in Does v w [] [] ((guest_of w).disk ≡ (guest_of v).disk)
 
   -- there was no room for the replies or the slots, and nothing was called
   abbrev pub IsUntouched : List Reply → Type 0
@@ -87,15 +87,15 @@ module _ {S F : Type 0} (view : S → StorageView) (backing : F → BackingView)
   -- the replies go on with each run that the image stands at, and then all mappings are let go
   abbrev pub RunsThrough : List Command → List Reply → Type 0
   RunsThrough commands replies = (x : Setting) (s : State) →
-      StandsAt x (seen view backing old []) s → IsUntouched replies ⊎ Completes (image_spec view backing) x old new (begun s) (map command_of commands) (map reply_of replies)
+      RefinesState x (abstract_of view backing old []) s → IsUntouched replies ⊎ RefinesWholeRun (image_abstraction view backing) x old new (begun s) (map command_of commands) (map reply_of replies)
 
   -- of an image that was just opened, what it is asked to look up first is found in the bytes of its file
-  abbrev pub TellsTheFile : List Command → List Reply → Type 0
-  TellsTheFile commands replies = IsOpened (seen view backing old []) → LooksUp (contents_in view old.file) (is_some old.backing) (map command_of commands) (map reply_of replies)
+  abbrev pub LookupsFindContents : List Command → List Reply → Type 0
+  LookupsFindContents commands replies = IsOpened (abstract_of view backing old []) → LooksUp (contents_in view old.file) (is_some old.backing) (map command_of commands) (map reply_of replies)
 
   -- of an image that was just opened they mean the disk
-  abbrev pub TellsTheDisk : List Command → List Reply → Type 0
-  TellsTheDisk commands replies = IsOpened (seen view backing old []) → IsUntouched replies ⊎ MeansTheDisk (image_spec view backing) old new (map command_of commands) (map reply_of replies)
+  abbrev pub RunRefinesDisk : List Command → List Reply → Type 0
+  RunRefinesDisk commands replies = IsOpened (abstract_of view backing old []) → IsUntouched replies ⊎ RefinesDisk (image_abstraction view backing) old new (map command_of commands) (map reply_of replies)
 
 -- the mappings that were found are those before, and what a command found
 abbrev pub Finds : Slots → Slots → Command → Reply → Type 0

@@ -4,7 +4,7 @@ ghost use Rattle.qcow2_image.specs.Image.{number_of, size_of};
 ghost use Rattle.qcow2_image.specs.Prepared.{image_of};
 ghost use Rattle.qcow2_image.specs.Calls.{Discards};
 ghost use Rattle.qcow2_image.specs.Refusals.{refuses_to_read, refuses_to_prepare};
-ghost use Rattle.qcow2_session.specs.Sessions.{IsRightlyBeyond, Reads, ReadsFirst, Writes, WritesFirst, Steps, Finds, LetsGo, RunsThrough, TellsTheDisk, TellsTheFile};
+ghost use Rattle.qcow2_session.specs.Sessions.{IsRightlyBeyond, Reads, ReadsFirst, Writes, WritesFirst, CommandSteps, Finds, ReleasesMappings, RunsThrough, RunRefinesDisk, LookupsFindContents};
 ghost use Rattle.qcow2_image.specs.declared.prepared.Prepared.{Prepared};
 
 use crate::slots::Slots;
@@ -171,21 +171,21 @@ fn write_some<S: Storage, F: WrappedFormat<S>>(
     let prepared = image.prepare_data_mapping(offset, bytes.len() as u64, true)?;
     let count = bytes.len().min(prepared.length() as usize);
     if let Err(refusal) = image.write_mapped(&prepared, 0, &bytes[..count]) {
-        let_go(image, prepared);
+        release(image, prepared);
         return Err(refusal);
     }
     match image.commit_data_mapping(prepared) {
         Ok(()) => Ok(count),
         Err(CommitRefused::Spent(refusal)) => Err(refusal),
         Err(CommitRefused::Kept(refusal, prepared)) => {
-            let_go(image, prepared);
+            release(image, prepared);
             Err(refusal)
         }
     }
 }
 
 // Discards a mapping of the image.
-fn let_go<S: Storage, F: WrappedFormat<S>>(image: &mut Qcow2<S, F>, prepared: Prepared)
+fn release<S: Storage, F: WrappedFormat<S>>(image: &mut Qcow2<S, F>, prepared: Prepared)
     requires { image_of prepared ≡ number_of image.old }
     ensures number { number_of image.new ≡ number_of image.old }
     ensures size { size_of image.new ≡ size_of image.old }
@@ -205,8 +205,8 @@ pub fn run<S: Storage, F: WrappedFormat<S>>(
 ) -> Vec<Reply>
     ensures count { (result.items ≡ []) ⊎ (vec_len result ≡ length commands.now) }
     ensures runs { RunsThrough S.view F.backing image.old image.new commands.now result.items }
-    ensures means { TellsTheDisk S.view F.backing image.old image.new commands.now result.items }
-    ensures maps { TellsTheFile S.view F.backing image.old image.new commands.now result.items }
+    ensures means { RunRefinesDisk S.view F.backing image.old image.new commands.now result.items }
+    ensures maps { LookupsFindContents S.view F.backing image.old image.new commands.now result.items }
 {
     let Ok(mut replies) = Vec::with_capacity(alloc, commands.len()) else {
         return Vec::new(alloc);
@@ -232,7 +232,7 @@ fn step<S: Storage, F: WrappedFormat<S>>(
     requires { slots.old.image ≡ number_of image.old }
     ensures number { number_of image.new ≡ number_of image.old }
     ensures slots { slots.new.image ≡ slots.old.image }
-    ensures goes { Steps S.view F.backing image.old image.new slots.old slots.new command.now result }
+    ensures goes { CommandSteps S.view F.backing image.old image.new slots.old slots.new command.now result }
     ensures finds { Finds slots.old slots.new command.now result }
 {
     match command {
@@ -273,7 +273,7 @@ fn get_mapping<S: Storage, F: WrappedFormat<S>>(
 ) -> Reply
     ensures number { number_of image.new ≡ number_of image.old }
     ensures slots { slots.new.image ≡ slots.old.image }
-    ensures goes { Steps S.view F.backing image.old image.new slots.old slots.new (Command.GetMapping slot offset max) result }
+    ensures goes { CommandSteps S.view F.backing image.old image.new slots.old slots.new (Command.GetMapping slot offset max) result }
     ensures finds { Finds slots.old slots.new (Command.GetMapping slot offset max) result }
 {
     match image.get_mapping(offset, max) {
@@ -294,7 +294,7 @@ fn read_mapped<S: Storage, F: WrappedFormat<S>>(
     length: u64,
 ) -> Reply
     ensures number { number_of image.new ≡ number_of image.old }
-    ensures goes { Steps S.view F.backing image.old image.new slots.now slots.now (Command.ReadMapped slot at length) result }
+    ensures goes { CommandSteps S.view F.backing image.old image.new slots.now slots.now (Command.ReadMapped slot at length) result }
     ensures finds { Finds slots.now slots.now (Command.ReadMapped slot at length) result }
 {
     let Some(mapping) = slots.mappings[usize::from(slot)] else {
@@ -337,7 +337,7 @@ fn prepare<S: Storage, F: WrappedFormat<S>>(
     requires { slots.old.image ≡ number_of image.old }
     ensures number { number_of image.new ≡ number_of image.old }
     ensures slots { slots.new.image ≡ slots.old.image }
-    ensures goes { Steps S.view F.backing image.old image.new slots.old slots.new (Command.PrepareDataMapping slot offset length overwrite) result }
+    ensures goes { CommandSteps S.view F.backing image.old image.new slots.old slots.new (Command.PrepareDataMapping slot offset length overwrite) result }
     ensures finds { Finds slots.old slots.new (Command.PrepareDataMapping slot offset length overwrite) result }
 {
     if slots.get(slot).is_some() {
@@ -365,7 +365,7 @@ fn write_mapped<S: Storage, F: WrappedFormat<S>>(
     bytes: &Vec<u8>,
 ) -> Reply
     ensures number { number_of image.new ≡ number_of image.old }
-    ensures goes { Steps S.view F.backing image.old image.new slots.now slots.now (Command.WriteMapped slot at bytes.now) result }
+    ensures goes { CommandSteps S.view F.backing image.old image.new slots.now slots.now (Command.WriteMapped slot at bytes.now) result }
     ensures finds { Finds slots.now slots.now (Command.WriteMapped slot at bytes.now) result }
 {
     let Some(prepared) = slots.get(slot) else {
@@ -389,7 +389,7 @@ fn commit<S: Storage, F: WrappedFormat<S>>(
     requires { slots.old.image ≡ number_of image.old }
     ensures number { number_of image.new ≡ number_of image.old }
     ensures slots { slots.new.image ≡ slots.old.image }
-    ensures goes { Steps S.view F.backing image.old image.new slots.old slots.new (Command.CommitDataMapping slot) result }
+    ensures goes { CommandSteps S.view F.backing image.old image.new slots.old slots.new (Command.CommitDataMapping slot) result }
     ensures finds { Finds slots.old slots.new (Command.CommitDataMapping slot) result }
 {
     let Some(prepared) = slots.put(slot, None) else {
@@ -413,13 +413,13 @@ fn discard<S: Storage, F: WrappedFormat<S>>(
     requires { slots.old.image ≡ number_of image.old }
     ensures number { number_of image.new ≡ number_of image.old }
     ensures slots { slots.new.image ≡ slots.old.image }
-    ensures goes { Steps S.view F.backing image.old image.new slots.old slots.new (Command.DiscardDataMapping slot) result }
+    ensures goes { CommandSteps S.view F.backing image.old image.new slots.old slots.new (Command.DiscardDataMapping slot) result }
     ensures finds { Finds slots.old slots.new (Command.DiscardDataMapping slot) result }
 {
     match slots.put(slot, None) {
         None => Reply::Misuse,
         Some(prepared) => {
-            let_go(image, prepared);
+            release(image, prepared);
             Reply::Done
         }
     }
@@ -427,7 +427,7 @@ fn discard<S: Storage, F: WrappedFormat<S>>(
 
 fn flush<S: Storage, F: WrappedFormat<S>>(image: &mut Qcow2<S, F>) -> Reply
     ensures number { number_of image.new ≡ number_of image.old }
-    ensures goes { (slots : Slots) → Steps S.view F.backing image.old image.new slots slots Command.Flush result }
+    ensures goes { (slots : Slots) → CommandSteps S.view F.backing image.old image.new slots slots Command.Flush result }
     ensures finds { (slots : Slots) → Finds slots slots Command.Flush result }
 {
     if let Err(refusal) = image.flush() {
@@ -437,20 +437,20 @@ fn flush<S: Storage, F: WrappedFormat<S>>(image: &mut Qcow2<S, F>) -> Reply
 }
 
 // Discards what stands in a slot.
-fn let_go_slot<S: Storage, F: WrappedFormat<S>>(image: &mut Qcow2<S, F>, slot: Option<Prepared>)
+fn release_slot<S: Storage, F: WrappedFormat<S>>(image: &mut Qcow2<S, F>, slot: Option<Prepared>)
     requires { IfSome slot (λ p. image_of p ≡ number_of image.old) }
     ensures number { number_of image.new ≡ number_of image.old }
-    ensures sees { (out : List (Option Prepared)) → LetsGo S.view F.backing image.old image.new (out ++ slot ∷ []) out }
+    ensures sees { (out : List (Option Prepared)) → ReleasesMappings S.view F.backing image.old image.new (out ++ slot ∷ []) out }
 {
     if let Some(prepared) = slot {
-        let_go(image, prepared);
+        release(image, prepared);
     }
 }
 
 // Discards what is left.
 fn discard_all<S: Storage, F: WrappedFormat<S>>(image: &mut Qcow2<S, F>, slots: Slots)
     requires { slots.image ≡ number_of image.old }
-    ensures { LetsGo S.view F.backing image.old image.new slots.prepared.items [] }
+    ensures { ReleasesMappings S.view F.backing image.old image.new slots.prepared.items [] }
 {
     let Slots {
         image: _,
@@ -458,7 +458,7 @@ fn discard_all<S: Storage, F: WrappedFormat<S>>(image: &mut Qcow2<S, F>, slots: 
         mappings: _,
     } = slots;
     while let Some(slot) = prepared.pop() {
-        let_go_slot(image, slot);
+        release_slot(image, slot);
     }
     prepared.destroy_empty();
 }

@@ -55,21 +55,21 @@ module _ {S K V E : Type 0} {steps : Steps S K V E} {eq : K → K → Bool} (law
   abbrev shown : Option (Slot V) → List ℕ → List ℕ
   shown o under = option_map_or (λ slot. laid_over is_modified bytes slot.value under) o under
 
-  abbrev pub Keeps : S → List (K × Slot V) → S → List (K × Slot V) → Type 0
-  Keeps = KeepsKnown eq is_modified bytes stored is_honest
+  abbrev pub KeepsKnownBytes : S → List (K × Slot V) → S → List (K × Slot V) → Type 0
+  KeepsKnownBytes = KeepsKnown eq is_modified bytes stored is_honest
 
-  keeps_then : (r s t : S) (ds es fs : List (K × Slot V)) → Keeps r ds s es → Keeps s es t fs → Keeps r ds t fs
+  keeps_then : (r s t : S) (ds es fs : List (K × Slot V)) → KeepsKnownBytes r ds s es → KeepsKnownBytes s es t fs → KeepsKnownBytes r ds t fs
   keeps_then r s t ds es fs g h = record { honest = λ x. h.honest (g.honest x); stays = λ x j. h.stays (g.honest x) j ∙ g.stays x j }
 
   -- nothing happens
-  pub keeps_none : (s t : S) (es fs : List (K × Slot V)) → t ≡ s → fs ≡ es → Keeps s es t fs
+  pub keeps_none : (s t : S) (es fs : List (K × Slot V)) → t ≡ s → fs ≡ es → KeepsKnownBytes s es t fs
   keeps_none s t es fs t_is fs_is = record { honest = λ x. subst is_honest (sym t_is) x; stays = λ x j. ap (λ u. seen u fs j) t_is ∙ ap (λ l. seen s l j) fs_is }
 
   -- the store changes at no key, and each key finds the same
-  keeps_store : (s t : S) (es fs : List (K × Slot V)) → (is_honest s → is_honest t × KeepsBytes stored s t) → ((j : K) → lookup (eq j) fs ≡ lookup (eq j) es) → Keeps s es t fs
+  keeps_store : (s t : S) (es fs : List (K × Slot V)) → (is_honest s → is_honest t × KeepsBytes stored s t) → ((j : K) → lookup (eq j) fs ≡ lookup (eq j) es) → KeepsKnownBytes s es t fs
   keeps_store s t es fs h same = record { honest = λ x. (h x).0; stays = λ x j. ap (λ o. shown o (stored t j)) (same j) ∙ ap (shown (lookup (eq j) es)) ((h x).1 j) }
 
-  pub hit_keeps : (s : S) (es : List (K × Slot V)) (k : K) → Keeps s es s (promoted (eq k) es)
+  pub hit_keeps : (s : S) (es : List (K × Slot V)) (k : K) → KeepsKnownBytes s es s (promoted (eq k) es)
   hit_keeps s es k = keeps_store s s es (promoted (eq k) es) (λ x. (x, λ j. refl)) (λ j. lookup-promoted laws es k j)
 
   -- the flushed value shows nothing of its own
@@ -105,7 +105,7 @@ module _ {S K V E : Type 0} {steps : Steps S K V E} {eq : K → K → Bool} (law
   failed_case s t es k d x found h honest j false other = ap (shown (lookup (eq j) es)) ((b.failed_flush_keeps s t k d.value x h honest).2 j other)
 
   -- a flush that fails
-  pub failed_keeps : (s t : S) (es : List (K × Slot V)) (k : K) (d : Slot V) (x : E) → lookup (eq k) es ≡ Some d → steps.flush_failed s k d.value x t → Keeps s es t es
+  pub failed_keeps : (s t : S) (es : List (K × Slot V)) (k : K) (d : Slot V) (x : E) → lookup (eq k) es ≡ Some d → steps.flush_failed s k d.value x t → KeepsKnownBytes s es t es
   failed_keeps s t es k d x found h = record {
     honest = λ honest. (b.failed_flush_keeps s t k d.value x h honest).0;
     stays = λ honest j. failed_case s t es k d x found h honest j (eq k j) refl;
@@ -119,7 +119,7 @@ module _ {S K V E : Type 0} {steps : Steps S K V E} {eq : K → K → Bool} (law
   set_case s t es k d w n found h x j false other = ap (shown (lookup (eq j) es)) (there s t k d.value w h x j other)
 
   -- a flush that succeeds, of an entry that stays
-  pub flush_keeps : (s t : S) (es : List (K × Slot V)) (k : K) (d : Slot V) (w : V) (n : ℕ) → lookup (eq k) es ≡ Some d → steps.flushed s k d.value w t → Keeps s es t (set_value (eq k) es (slot_of w n))
+  pub flush_keeps : (s t : S) (es : List (K × Slot V)) (k : K) (d : Slot V) (w : V) (n : ℕ) → lookup (eq k) es ≡ Some d → steps.flushed s k d.value w t → KeepsKnownBytes s es t (set_value (eq k) es (slot_of w n))
   flush_keeps s t es k d w n found h = record {
     honest = λ x. (b.flush_writes s t k d.value w h x).0;
     stays = λ x j.
@@ -128,41 +128,41 @@ module _ {S K V E : Type 0} {steps : Steps S K V E} {eq : K → K → Bool} (law
   }
 
   -- what `flush_key` leaves
-  flushed_entry : (s t : S) (c n : LruCache K (Slot V)) (k : K) (o : Option (Slot V)) → lookup (eq k) c.entries ≡ o → IfSome o (λ e. FlushesFound steps (eq k) k e s c None t n) → IsSome o → Keeps s c.entries t n.entries
+  flushed_entry : (s t : S) (c n : LruCache K (Slot V)) (k : K) (o : Option (Slot V)) → lookup (eq k) c.entries ≡ o → IfSome o (λ e. FlushesFound steps (eq k) k e s c None t n) → IsSome o → KeepsKnownBytes s c.entries t n.entries
   flushed_entry s t c n k None found h g = cc
   flushed_entry s t c n k (Some e) found h g =
-      subst (Keeps s c.entries t) (sym (ap (λ m. m.entries) h.entries)) (flush_keeps s t c.entries k e h.slot.value h.slot.pins found h.step.0)
+      subst (KeepsKnownBytes s c.entries t) (sym (ap (λ m. m.entries) h.entries)) (flush_keeps s t c.entries k e h.slot.value h.slot.pins found h.step.0)
 
-  pub flushed_entry_keeps : (s t : S) (c n : LruCache K (Slot V)) (k : K) → IfSome (lookup (eq k) c.entries) (λ e. FlushesFound steps (eq k) k e s c None t n) → IsSome (lookup (eq k) c.entries) → Keeps s c.entries t n.entries
+  pub flushed_entry_keeps : (s t : S) (c n : LruCache K (Slot V)) (k : K) → IfSome (lookup (eq k) c.entries) (λ e. FlushesFound steps (eq k) k e s c None t n) → IsSome (lookup (eq k) c.entries) → KeepsKnownBytes s c.entries t n.entries
   flushed_entry_keeps s t c n k = flushed_entry s t c n k (lookup (eq k) c.entries) refl
 
-  failed_entry : (s t : S) (c n : LruCache K (Slot V)) (k : K) (x : E) (o : Option (Slot V)) → lookup (eq k) c.entries ≡ o → IfSome o (λ e. FlushesFound steps (eq k) k e s c (Some x) t n) → IsSome o → Keeps s c.entries t n.entries
+  failed_entry : (s t : S) (c n : LruCache K (Slot V)) (k : K) (x : E) (o : Option (Slot V)) → lookup (eq k) c.entries ≡ o → IfSome o (λ e. FlushesFound steps (eq k) k e s c (Some x) t n) → IsSome o → KeepsKnownBytes s c.entries t n.entries
   failed_entry s t c n k x None found h g = cc
   failed_entry s t c n k x (Some e) found h g =
       let same : n.entries ≡ c.entries = ap (λ m. m.entries) h.entries ∙ ap (set_value (eq k) c.entries) h.step.1 ∙ set_value_same (eq k) c.entries e found in
-      subst (Keeps s c.entries t) (sym same) (failed_keeps s t c.entries k e x found h.step.0)
+      subst (KeepsKnownBytes s c.entries t) (sym same) (failed_keeps s t c.entries k e x found h.step.0)
 
-  pub failed_entry_keeps : (s t : S) (c n : LruCache K (Slot V)) (k : K) (x : E) → IfSome (lookup (eq k) c.entries) (λ e. FlushesFound steps (eq k) k e s c (Some x) t n) → IsSome (lookup (eq k) c.entries) → Keeps s c.entries t n.entries
+  pub failed_entry_keeps : (s t : S) (c n : LruCache K (Slot V)) (k : K) (x : E) → IfSome (lookup (eq k) c.entries) (λ e. FlushesFound steps (eq k) k e s c (Some x) t n) → IsSome (lookup (eq k) c.entries) → KeepsKnownBytes s c.entries t n.entries
   failed_entry_keeps s t c n k x = failed_entry s t c n k x (lookup (eq k) c.entries) refl
 
-  oldest_keeps : (size : ℕ) (may_flush : Bool) (s t : S) (es fs : List (K × Slot V)) → IsDistinct eq (keys_of es) → Evicts steps eq size may_flush s es t fs → Keeps s es t fs
+  oldest_keeps : (size : ℕ) (may_flush : Bool) (s t : S) (es fs : List (K × Slot V)) → IsDistinct eq (keys_of es) → Evicts steps eq size may_flush s es t fs → KeepsKnownBytes s es t fs
   oldest_keeps size may_flush s t es fs d h =
       let found = oldest_free-lookup laws es h.entry d h.goes in record {
         honest = λ x. (b.flush_writes s t h.entry.0 h.entry.1.value h.clean h.flushed x).0;
         stays = λ x j. ap (λ l. seen t l j) h.rest ∙ evict_case s t es h.entry h.clean d found h.flushed x j (eq h.entry.0 j) refl;
       }
 
-  pub room_keeps : (size : ℕ) (may_flush : Bool) (s t : S) (es fs : List (K × Slot V)) → IsDistinct eq (keys_of es) → HasRoom steps eq size may_flush s es t fs → Keeps s es t fs
+  pub room_keeps : (size : ℕ) (may_flush : Bool) (s t : S) (es fs : List (K × Slot V)) → IsDistinct eq (keys_of es) → HasRoom steps eq size may_flush s es t fs → KeepsKnownBytes s es t fs
   room_keeps size may_flush s t es fs d h = elim h [ inl r ↦ keeps_none s t es fs r.1 r.2 | inr r ↦ oldest_keeps size may_flush s t es fs d r ]
 
-  pub no_room_keeps : (size : ℕ) (may_flush : Bool) (s t : S) (es fs : List (K × Slot V)) (r : Result Bool (CacheError K E)) → IsDistinct eq (keys_of es) → HasNoRoom steps eq size may_flush s es r t fs → Keeps s es t fs
+  pub no_room_keeps : (size : ℕ) (may_flush : Bool) (s t : S) (es fs : List (K × Slot V)) (r : Result Bool (CacheError K E)) → IsDistinct eq (keys_of es) → HasNoRoom steps eq size may_flush s es r t fs → KeepsKnownBytes s es t fs
   no_room_keeps size may_flush s t es fs (Ok true) d h = absurd h
   no_room_keeps size may_flush s t es fs (Ok false) d h = keeps_none s t es fs h.2 h.3
   no_room_keeps size may_flush s t es fs (Err InUse) d h = keeps_none s t es fs h.2 h.3
   no_room_keeps size may_flush s t es fs (Err (StillInUse _)) d h = absurd h
   no_room_keeps size may_flush s t es fs (Err Memory) d h = absurd h
   no_room_keeps size may_flush s t es fs (Err (Backend x)) d h =
-      subst (Keeps s es t) (sym h.same) (failed_keeps s t es h.entry.0 h.entry.1 x (oldest_free-lookup laws es h.entry d h.goes) h.failed)
+      subst (KeepsKnownBytes s es t) (sym h.same) (failed_keeps s t es h.entry.0 h.entry.1 x (oldest_free-lookup laws es h.entry d h.goes) h.failed)
 
   load_case : (s t : S) (es : List (K × Slot V)) (k : K) (v : V) → steps.loaded s k v t → lookup (eq k) es ≡ None → is_honest s → (j : K) (c : Bool) → eq j k ≡ c
       → shown (cond c (Some (slot_of v 0)) (lookup (eq j) es)) (stored t j) ≡ seen s es j
@@ -171,15 +171,15 @@ module _ {S K V E : Type 0} {steps : Steps S K V E} {eq : K → K → Bool} (law
       rw (gone, b.load_gives s t k v h) ((b.load_reads s t k v h x).2 j)
   load_case s t es k v h none x j false other = ap (shown (lookup (eq j) es)) ((b.load_reads s t k v h x).2 j)
 
-  load_keeps : (s t : S) (es : List (K × Slot V)) (k : K) (v : V) → steps.loaded s k v t → lookup (eq k) es ≡ None → Keeps s es t ((k, slot_of v 0) ∷ es)
+  load_keeps : (s t : S) (es : List (K × Slot V)) (k : K) (v : V) → steps.loaded s k v t → lookup (eq k) es ≡ None → KeepsKnownBytes s es t ((k, slot_of v 0) ∷ es)
   load_keeps s t es k v h none = record { honest = λ x. (b.load_reads s t k v h x).0; stays = λ x j. load_case s t es k v h none x j (eq j k) refl }
 
   -- a load of a new key
   pub gets_keeps : (size : ℕ) (may_flush : Bool) (k : K) (s t : S) (es fs : List (K × Slot V)) (r : Result Bool (CacheError K E)) → IsDistinct eq (keys_of es) → lookup (eq k) es ≡ None
-      → GetsNew steps eq size may_flush k s es r t fs → Keeps s es t fs
+      → GetsNew steps eq size may_flush k s es r t fs → KeepsKnownBytes s es t fs
   gets_keeps size may_flush k s t es fs (Ok true) d none h =
       let gone = room_missing steps eq size may_flush k s es h.0 h.1 h.3 none in
-      subst (Keeps s es t) (sym h.5) (keeps_then s h.0 t es h.1 ((k, slot_of h.2 0) ∷ h.1) (room_keeps size may_flush s h.0 es h.1 d h.3) (load_keeps h.0 t h.1 k h.2 h.4 gone))
+      subst (KeepsKnownBytes s es t) (sym h.5) (keeps_then s h.0 t es h.1 ((k, slot_of h.2 0) ∷ h.1) (room_keeps size may_flush s h.0 es h.1 d h.3) (load_keeps h.0 t h.1 k h.2 h.4 gone))
   gets_keeps size may_flush k s t es fs (Ok false) d none h = no_room_keeps size may_flush s t es fs (Ok false) d h
   gets_keeps size may_flush k s t es fs (Err InUse) d none h = no_room_keeps size may_flush s t es fs (Err InUse) d h
   gets_keeps size may_flush k s t es fs (Err (StillInUse _)) d none h = absurd h
@@ -228,7 +228,7 @@ module _ {S K V E : Type 0} {steps : Steps S K V E} {eq : K → K → Bool} (law
       ]) refl
 
   -- a flush of all
-  pub all_keeps : (s : S) (es : List (K × Slot V)) (o : Option E) (t : S) (fs : List (K × Slot V)) → IsDistinct eq (keys_of es) → FlushesAll steps s es o t fs → Keeps s es t fs
+  pub all_keeps : (s : S) (es : List (K × Slot V)) (o : Option E) (t : S) (fs : List (K × Slot V)) → IsDistinct eq (keys_of es) → FlushesAll steps s es o t fs → KeepsKnownBytes s es t fs
   all_keeps s es o t fs d h = record { honest = λ x. (all_apart s es o t fs h x).0; stays = λ x. all_known s es o t fs d h x }
 
   abbrev pub Lays : K → V → S → List (K × Slot V) → S → List (K × Slot V) → Type 0
@@ -240,7 +240,7 @@ module _ {S K V E : Type 0} {steps : Steps S K V E} {eq : K → K → Bool} (law
   front_case t es k v none j false other = refl
 
   -- a new entry in front
-  front_lays : (s t : S) (es gs : List (K × Slot V)) (k : K) (v : V) → lookup (eq k) gs ≡ None → Keeps s es t gs → Lays k v s es t ((k, slot_of v 0) ∷ gs)
+  front_lays : (s t : S) (es gs : List (K × Slot V)) (k : K) (v : V) → lookup (eq k) gs ≡ None → KeepsKnownBytes s es t gs → Lays k v s es t ((k, slot_of v 0) ∷ gs)
   front_lays s t es gs k v none h = record {
     honest = h.honest;
     laid = λ x j.
@@ -250,7 +250,7 @@ module _ {S K V E : Type 0} {steps : Steps S K V E} {eq : K → K → Bool} (law
   }
 
   pub inserts_keeps : (size : ℕ) (may_flush : Bool) (k : K) (v : V) (s t : S) (es fs : List (K × Slot V)) (left : Option V) (r : Result Bool (CacheError K E)) → IsDistinct eq (keys_of es)
-      → InsertsNew steps eq size may_flush k v s es r t fs left → r ≢ Ok true → Keeps s es t fs
+      → InsertsNew steps eq size may_flush k v s es r t fs left → r ≢ Ok true → KeepsKnownBytes s es t fs
   inserts_keeps size may_flush k v s t es fs left (Ok true) d h ne = absurd (ne refl)
   inserts_keeps size may_flush k v s t es fs left (Ok false) d h ne = no_room_keeps size may_flush s t es fs (Ok false) d h.0
   inserts_keeps size may_flush k v s t es fs left (Err InUse) d h ne = no_room_keeps size may_flush s t es fs (Err InUse) d h.0
@@ -279,14 +279,14 @@ module _ {S K V E : Type 0} {steps : Steps S K V E} {eq : K → K → Bool} (law
     same_key : (j : K) → eq j e.0 ≡ eq k j
     same_key j = laws.symm j e.0 ∙ sym (laws.congr k e.0 j (Contains-lookup_entry (eq k) es e found).1)
 
-    pub replaces_keeps : (v : V) (may_flush : Bool) (s t : S) (fs : List (K × Slot V)) (left : Option V) (r : Result Bool (CacheError K E)) → Replaces steps k e others v may_flush s es r t fs left → r ≢ Ok true → Keeps s es t fs
+    pub replaces_keeps : (v : V) (may_flush : Bool) (s t : S) (fs : List (K × Slot V)) (left : Option V) (r : Result Bool (CacheError K E)) → Replaces steps k e others v may_flush s es r t fs left → r ≢ Ok true → KeepsKnownBytes s es t fs
     replaces_keeps v may_flush s t fs left (Ok true) h ne = absurd (ne refl)
     replaces_keeps v may_flush s t fs left (Ok false) h ne = keeps_none s t es fs h.1 h.2
     replaces_keeps v may_flush s t fs left (Err InUse) h ne = absurd h
     replaces_keeps v may_flush s t fs left (Err (StillInUse _)) h ne = absurd h
     replaces_keeps v may_flush s t fs left (Err Memory) h ne = absurd h
     replaces_keeps v may_flush s t fs left (Err (Backend x)) h ne =
-        subst (Keeps s es t) (in_front ∙ sym h.2) (keeps_then s t t es es (promoted (eq k) es) (failed_keeps s t es k e.1 x there_is h.1) (hit_keeps t es k))
+        subst (KeepsKnownBytes s es t) (in_front ∙ sym h.2) (keeps_then s t t es es (promoted (eq k) es) (failed_keeps s t es k e.1 x there_is h.1) (hit_keeps t es k))
 
     replaced_case : (v w : V) (n : ℕ) (s t : S) → steps.flushed s k e.1.value w t → is_honest s → (j : K) (c : Bool) → eq k j ≡ c
         → shown (cond c (Some (slot_of v n)) (lookup (eq j) others)) (stored t j) ≡ cond c (laid_over is_modified bytes v (seen s es j)) (seen s es j)
@@ -308,7 +308,7 @@ module _ {S K V E : Type 0} {steps : Steps S K V E} {eq : K → K → Bool} (law
   -- what `insert` leaves
   pub record HasInserted (k : K) (o : Option V) (s : S) (es : List (K × Slot V)) (r : Result Bool (CacheError K E)) (t : S) (fs : List (K × Slot V)) : Type 0 where
     pub laid : IfSome o (λ v. r ≡ Ok true → Lays k v s es t fs)
-    pub known : r ≢ Ok true → Keeps s es t fs
+    pub known : r ≢ Ok true → KeepsKnownBytes s es t fs
 
   pub inserted : (size : ℕ) (may_flush : Bool) (k : K) (o : Option V) (s t : S) (es fs : List (K × Slot V)) (left : Option V) (r : Result Bool (CacheError K E)) → IsDistinct eq (keys_of es) → lookup (eq k) es ≡ None → IsSome o
       → IfSome o (λ v. InsertsNew steps eq size may_flush k v s es r t fs left) → HasInserted k o s es r t fs

@@ -5,43 +5,43 @@ use Rattle.qcow2_metadata.specs.declared.header.HeaderFields.{HeaderFields}
 use Rattle.qcow2_metadata.specs.Header.{cluster_size}
 use Rattle.qcow2_metadata.specs.Entries.{l1_entry, reftable_entry, host_offset, block_offset}
 use Rattle.qcow2_metadata.specs.Named.{named_for_tables}
-use Rattle.qcow2_laws.specs.Guard.{Pending, IsGuarded, SameIn, SameTop}
+use Rattle.qcow2_laws.specs.CrashInvariant.{Pending, CrashInvariant, SameIn, SameTop}
 use Rattle.qcow2_laws.specs.Caches.{HasL2, HasBlock, AreSettled}
 use Rattle.qcow2_laws.proofs.KeptSteps.{kept_beside}
 use Rattle.qcow2_laws.proofs.Shares.{shares, top_stays, table_has, block_has}
 use Rattle.qcow2_alloc.specs.declared.cache.MetadataCaches.{MetadataCaches}
-use Rattle.qcow2_alloc.specs.MetadataCaches.{order_of, l2_tables, refblocks, known_of, AreSound}
+use Rattle.qcow2_alloc.specs.MetadataCaches.{order_of, l2_tables, refblocks, known_of, CacheInvariant}
 use Rattle.qcow2_alloc.proofs.KeptTables.Loaded.{loaded_beside}
 
-module _ {S : Type 0} (h : HeaderFields) (p p' : Pending) (caches : MetadataCaches S) (base base' : Bytes) (sound : AreSound h p caches base) (settled : AreSettled h (refblocks caches) base)
-    (each : (c : ℕ) → SameIn (cluster_size h) c base base' ⊎ (named_for_tables h base c ≡ 0)) where
+module _ {S : Type 0} (h : HeaderFields) (p p' : Pending) (caches : MetadataCaches S) (on_storage on_storage' : Bytes) (sound : CacheInvariant h p caches on_storage) (settled : AreSettled h (refblocks caches) on_storage)
+    (each : (c : ℕ) → SameIn (cluster_size h) c on_storage on_storage' ⊎ (named_for_tables h on_storage c ≡ 0)) where
   -- a cluster with a table stays
-  stays : (c : ℕ) → 0 < named_for_tables h base c → SameIn (cluster_size h) c base base'
+  stays : (c : ℕ) → 0 < named_for_tables h on_storage c → SameIn (cluster_size h) c on_storage on_storage'
   stays c some = elim (each c) [ inl same ↦ same | inr none ↦ absurd (omega arith) ]
 
-  pub top_beside : SameTop h base base'
-  top_beside = top_stays h base base' sound.kept.kept.guarded.top stays
+  pub top_beside : SameTop h on_storage on_storage'
+  top_beside = top_stays h on_storage on_storage' sound.kept.kept.guarded.top stays
 
-  table_still : (c : ℕ) → HasL2 h base c → HasL2 h base' c
+  table_still : (c : ℕ) → HasL2 h on_storage c → HasL2 h on_storage' c
   table_still c has = let e = ap host_offset (top_beside.l1 has.0) in (has.0, (λ none. has.1 (e ∙ none)), ap (λ n. n / cluster_size h) (sym e) ∙ has.2)
 
-  table_was : (c : ℕ) → HasL2 h base' c → HasL2 h base c
+  table_was : (c : ℕ) → HasL2 h on_storage' c → HasL2 h on_storage c
   table_was c has = let e = ap host_offset (sym (top_beside.l1 has.0)) in (has.0, (λ none. has.1 (e ∙ none)), ap (λ n. n / cluster_size h) (sym e) ∙ has.2)
 
-  block_still : (c : ℕ) → HasBlock h base c → HasBlock h base' c
+  block_still : (c : ℕ) → HasBlock h on_storage c → HasBlock h on_storage' c
   block_still c has = let e = ap block_offset (top_beside.reftable has.0) in (has.0, (λ none. has.1 (e ∙ none)), ap (λ n. n / cluster_size h) (sym e) ∙ has.2)
 
-  block_was : (c : ℕ) → HasBlock h base' c → HasBlock h base c
+  block_was : (c : ℕ) → HasBlock h on_storage' c → HasBlock h on_storage c
   block_was c has = let e = ap block_offset (sym (top_beside.reftable has.0)) in (has.0, (λ none. has.1 (e ∙ none)), ap (λ n. n / cluster_size h) (sym e) ∙ has.2)
 
-  back : (c : ℕ) → SameIn (cluster_size h) c base base' → SameIn (cluster_size h) c base' base
+  back : (c : ℕ) → SameIn (cluster_size h) c on_storage on_storage' → SameIn (cluster_size h) c on_storage' on_storage
   back c same o in_c = sym (same o in_c)
 
-  pub settled_beside_write : AreSettled h (refblocks caches) base'
+  pub settled_beside_write : AreSettled h (refblocks caches) on_storage'
   settled_beside_write c = elim (settled c) [ inl free ↦ inl free | inr has ↦ inr (block_still c has) ]
 
   -- so the caches are sound again, where the order of writes is kept
-  pub sound_beside : IsGuarded h (order_of caches) p' base' (known_of h caches base') → AreSound h p' caches base'
+  pub sound_beside : CrashInvariant h (order_of caches) p' on_storage' (known_of h caches on_storage') → CacheInvariant h p' caches on_storage'
   sound_beside guarded = record {
     l2_format = sound.l2_format;
     rb_format = sound.rb_format;
@@ -49,18 +49,18 @@ module _ {S : Type 0} (h : HeaderFields) (p p' : Pending) (caches : MetadataCach
     rb_fit = sound.rb_fit;
     kept = record {
       kept =
-          kept_beside h h (order_of caches) (order_of caches) p p' (l2_tables caches) (refblocks caches) base base' sound.kept.kept refl guarded
+          kept_beside h h (order_of caches) (order_of caches) p p' (l2_tables caches) (refblocks caches) on_storage on_storage' sound.kept.kept refl guarded
           (λ c has. inr (table_still c has))
           (λ c either. elim (settled c) [ inl free ↦ inl free | inr has ↦ inr (inl (block_still c has)) ]);
-      l2_loaded = loaded_beside (cluster_size h) (HasL2 h base) (HasL2 h base') base base' (l2_tables caches)
+      l2_loaded = loaded_beside (cluster_size h) (HasL2 h on_storage) (HasL2 h on_storage') on_storage on_storage' (l2_tables caches)
           (λ c has. let was = table_was c has in (was, back c (stays c (table_named c was)))) sound.kept.l2_loaded;
-      rb_loaded = loaded_beside (cluster_size h) (HasBlock h base) (HasBlock h base') base base' (refblocks caches)
+      rb_loaded = loaded_beside (cluster_size h) (HasBlock h on_storage) (HasBlock h on_storage') on_storage on_storage' (refblocks caches)
           (λ c has. let was = block_was c has in (was, back c (stays c (block_named c was)))) sound.kept.rb_loaded;
     };
   }
     where
-      table_named : (c : ℕ) → HasL2 h base c → 0 < named_for_tables h base c
-      table_named c has = subst (λ n. 0 < named_for_tables h base n) has.2 (let s = shares h base (host_offset (l1_entry h base has.0) / cluster_size h) in let one = table_has h base has.0 has.1 in omega arith)
+      table_named : (c : ℕ) → HasL2 h on_storage c → 0 < named_for_tables h on_storage c
+      table_named c has = subst (λ n. 0 < named_for_tables h on_storage n) has.2 (let s = shares h on_storage (host_offset (l1_entry h on_storage has.0) / cluster_size h) in let one = table_has h on_storage has.0 has.1 in omega arith)
 
-      block_named : (c : ℕ) → HasBlock h base c → 0 < named_for_tables h base c
-      block_named c has = subst (λ n. 0 < named_for_tables h base n) has.2 (let s = shares h base (block_offset (reftable_entry h base has.0) / cluster_size h) in let one = block_has h base has.0 has.1 in omega arith)
+      block_named : (c : ℕ) → HasBlock h on_storage c → 0 < named_for_tables h on_storage c
+      block_named c has = subst (λ n. 0 < named_for_tables h on_storage n) has.2 (let s = shares h on_storage (block_offset (reftable_entry h on_storage has.0) / cluster_size h) in let one = block_has h on_storage has.0 has.1 in omega arith)

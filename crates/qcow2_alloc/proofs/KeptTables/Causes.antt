@@ -12,7 +12,7 @@ use Rattle.qcow2_metadata.specs.declared.header.HeaderFields.{HeaderFields}
 use Rattle.qcow2_metadata.specs.L2Table.{L2TableView}
 use Rattle.qcow2_metadata.specs.RefBlock.{RefBlockView}
 use Rattle.qcow2_metadata.specs.TableBytes.{HasPlace, IsOfStorageOrMemory}
-use Rattle.qcow2_laws.specs.Guard.{Pending}
+use Rattle.qcow2_laws.specs.CrashInvariant.{Pending}
 use Rattle.qcow2_laws.specs.Caches.{HasL2, HasBlock, AreSettled}
 use Rattle.qcow2_alloc.specs.declared.async_lru_cache.slot.Slot.{Slot}
 use Rattle.qcow2_alloc.specs.declared.async_lru_cache.error.CacheError.{CacheError}
@@ -30,7 +30,7 @@ use Rattle.qcow2_alloc.specs.CacheMarks.{HasRoom, AreAllPinned, IsInUseOrFault}
 use Rattle.qcow2_alloc.specs.ImageError.{of_metadata, of_cache, IsFault}
 use Rattle.qcow2_alloc.specs.ImageStorage.{storage_of}
 use Rattle.qcow2_alloc.specs.TableCaches.{l2_steps, rb_steps, cleared_l2, cleared_rb, IsTableOf, IsBlockOf}
-use Rattle.qcow2_alloc.specs.MetadataCaches.{refblocks, AreSound}
+use Rattle.qcow2_alloc.specs.MetadataCaches.{refblocks, CacheInvariant}
 use Rattle.qcow2_alloc.proofs.CachedEntries.Pins.{free_goes, all_pinned}
 use Rattle.qcow2_alloc.proofs.KeptTables.Flushing.{table_still, block_still}
 use Rattle.qcow2_alloc.proofs.KeptTables.Inserting.{found_or_not, lookup_none}
@@ -99,7 +99,7 @@ module _ {S V E : Type 0} (steps : Steps S ℕ V E) (size : ℕ) (may_flush : Bo
       (λ none. (rw is at (rw is_value at (missing (rw (lookup_none (eqb key) es none) refl)))).0.3)
       (λ x some. (rw is at (rw is_value at (rw some at there))).2)
 
-module _ {S : Type 0} (view : S → StorageView) (old new : ImageStorage S) (caches : MetadataCaches S) (h : HeaderFields) (p : Pending) (base : Bytes) (sound : AreSound h p caches base) where
+module _ {S : Type 0} (view : S → StorageView) (old new : ImageStorage S) (caches : MetadataCaches S) (h : HeaderFields) (p : Pending) (on_storage : Bytes) (sound : CacheInvariant h p caches on_storage) where
   abbrev seen : ImageStorage S → StorageView
   seen s = view (storage_of s)
 
@@ -114,15 +114,15 @@ module _ {S : Type 0} (view : S → StorageView) (old new : ImageStorage S) (cac
       → (e : CacheError ℕ MetadataError) → answer ≡ Err e → IsFault (of_cache e)
   tables_flush_refused l2 answer flushes e is =
       fault_alone ⊥ e (λ none. none) (refused_by (IsCause ⊥) answer e is
-      (flush_cause seen caches.l2.backend.header.fields.cluster_bits (λ (t : L2TableView). t.bytes) (λ t. t.is_modified) cleared_l2 (IsTableOf caches.l2.backend.header.fields) (λ v. refl) (table_still caches.l2.backend.header.fields) (HasL2 h base)
-      (table_place h base caches.l2.backend.header.fields.cluster_bits sound.l2_format.bits) old new caches.l2.entries l2.entries answer (tables_stand h p caches base sound) flushes))
+      (flush_cause seen caches.l2.backend.header.fields.cluster_bits (λ (t : L2TableView). t.bytes) (λ t. t.is_modified) cleared_l2 (IsTableOf caches.l2.backend.header.fields) (λ v. refl) (table_still caches.l2.backend.header.fields) (HasL2 h on_storage)
+      (table_place h on_storage caches.l2.backend.header.fields.cluster_bits sound.l2_format.bits) old new caches.l2.entries l2.entries answer (tables_stand h p caches on_storage sound) flushes))
 
-  pub blocks_flush_refused : AreSettled h (refblocks caches) base → (rb : Cache (RefBlockCacheBackend S) ℕ RefBlockView) (answer : Result Unit₀ (CacheError ℕ MetadataError))
+  pub blocks_flush_refused : AreSettled h (refblocks caches) on_storage → (rb : Cache (RefBlockCacheBackend S) ℕ RefBlockView) (answer : Result Unit₀ (CacheError ℕ MetadataError))
       → Flushes (rb_steps seen caches.rb.backend.header.fields) old caches.rb.entries answer new rb.entries → (e : CacheError ℕ MetadataError) → answer ≡ Err e → IsFault (of_cache e)
   blocks_flush_refused settled rb answer flushes e is =
       fault_alone ⊥ e (λ none. none) (refused_by (IsCause ⊥) answer e is
-      (flush_cause seen caches.rb.backend.header.fields.cluster_bits (λ (b : RefBlockView). b.bytes) (λ b. b.is_modified) cleared_rb (IsBlockOf caches.rb.backend.header.fields) (λ v. refl) (block_still caches.rb.backend.header.fields) (HasBlock h base)
-      (block_place h base caches.rb.backend.header.fields.cluster_bits sound.rb_format.bits) old new caches.rb.entries rb.entries answer (blocks_stand h p caches base sound settled) flushes))
+      (flush_cause seen caches.rb.backend.header.fields.cluster_bits (λ (b : RefBlockView). b.bytes) (λ b. b.is_modified) cleared_rb (IsBlockOf caches.rb.backend.header.fields) (λ v. refl) (block_still caches.rb.backend.header.fields) (HasBlock h on_storage)
+      (block_place h on_storage caches.rb.backend.header.fields.cluster_bits sound.rb_format.bits) old new caches.rb.entries rb.entries answer (blocks_stand h p caches on_storage sound settled) flushes))
 
   module _ (may_flush : Bool) (key : ℕ) (answer : Result Bool (CacheError ℕ MetadataError)) (e : CacheError ℕ MetadataError) (is : answer ≡ Err e) where
     -- ---- a load
@@ -133,23 +133,23 @@ module _ {S : Type 0} (view : S → StorageView) (old new : ImageStorage S) (cac
     table_load_refused l2 here hit miss =
         let cause : IfErr answer (IsCause (IsFull caches.l2.size caches.l2.entries)) = elim (none_or_some (lookup (eqb key) caches.l2.entries)) [
           | inl there ↦ some_refused answer true (IsCause (IsFull caches.l2.size caches.l2.entries)) (hit there).0
-          | inr missing ↦ get_cause seen caches.l2.backend.header.fields.cluster_bits (λ (t : L2TableView). t.bytes) (λ t. t.is_modified) cleared_l2 (IsTableOf caches.l2.backend.header.fields) (λ v. refl) (table_still caches.l2.backend.header.fields) (HasL2 h base)
-              (table_place h base caches.l2.backend.header.fields.cluster_bits sound.l2_format.bits) caches.l2.size may_flush old new key caches.l2.entries l2.entries answer (subst (λ n. HasPlace n key) (sym sound.l2_format.bits) here) (tables_stand h p caches base sound) (miss missing)
+          | inr missing ↦ get_cause seen caches.l2.backend.header.fields.cluster_bits (λ (t : L2TableView). t.bytes) (λ t. t.is_modified) cleared_l2 (IsTableOf caches.l2.backend.header.fields) (λ v. refl) (table_still caches.l2.backend.header.fields) (HasL2 h on_storage)
+              (table_place h on_storage caches.l2.backend.header.fields.cluster_bits sound.l2_format.bits) caches.l2.size may_flush old new key caches.l2.entries l2.entries answer (subst (λ n. HasPlace n key) (sym sound.l2_format.bits) here) (tables_stand h p caches on_storage sound) (miss missing)
         ] in
         elim (fault_of (IsFull caches.l2.size caches.l2.entries) e (refused_by (IsCause (IsFull caches.l2.size caches.l2.entries)) answer e is cause)) [
           | inl used ↦ inl (used.0, is_all_pinned used.1)
           | inr fault ↦ inr fault
         ]
 
-    pub block_load_refused : HasRoom caches → AreSettled h (refblocks caches) base → (rb : Cache (RefBlockCacheBackend S) ℕ RefBlockView) → HasPlace h.cluster_bits key
+    pub block_load_refused : HasRoom caches → AreSettled h (refblocks caches) on_storage → (rb : Cache (RefBlockCacheBackend S) ℕ RefBlockView) → HasPlace h.cluster_bits key
         → (IsSome (lookup (eqb key) caches.rb.entries) → (answer ≡ Ok true) × (rb.entries ≡ promoted (eqb key) caches.rb.entries) × (new ≡ old))
         → (IsNone (lookup (eqb key) caches.rb.entries) → GetsNew (rb_steps seen caches.rb.backend.header.fields) eqb caches.rb.size may_flush key old caches.rb.entries answer new rb.entries)
         → IsFault (of_cache e)
     block_load_refused room settled rb here hit miss =
         let cause : IfErr answer (IsCause (IsFull caches.rb.size caches.rb.entries)) = elim (none_or_some (lookup (eqb key) caches.rb.entries)) [
           | inl there ↦ some_refused answer true (IsCause (IsFull caches.rb.size caches.rb.entries)) (hit there).0
-          | inr missing ↦ get_cause seen caches.rb.backend.header.fields.cluster_bits (λ (b : RefBlockView). b.bytes) (λ b. b.is_modified) cleared_rb (IsBlockOf caches.rb.backend.header.fields) (λ v. refl) (block_still caches.rb.backend.header.fields) (HasBlock h base)
-              (block_place h base caches.rb.backend.header.fields.cluster_bits sound.rb_format.bits) caches.rb.size may_flush old new key caches.rb.entries rb.entries answer (subst (λ n. HasPlace n key) (sym sound.rb_format.bits) here) (blocks_stand h p caches base sound settled) (miss missing)
+          | inr missing ↦ get_cause seen caches.rb.backend.header.fields.cluster_bits (λ (b : RefBlockView). b.bytes) (λ b. b.is_modified) cleared_rb (IsBlockOf caches.rb.backend.header.fields) (λ v. refl) (block_still caches.rb.backend.header.fields) (HasBlock h on_storage)
+              (block_place h on_storage caches.rb.backend.header.fields.cluster_bits sound.rb_format.bits) caches.rb.size may_flush old new key caches.rb.entries rb.entries answer (subst (λ n. HasPlace n key) (sym sound.rb_format.bits) here) (blocks_stand h p caches on_storage sound settled) (miss missing)
         ] in
         fault_alone (IsFull caches.rb.size caches.rb.entries) e (not_full room) (refused_by (IsCause (IsFull caches.rb.size caches.rb.entries)) answer e is cause)
 
@@ -161,28 +161,28 @@ module _ {S : Type 0} (view : S → StorageView) (old new : ImageStorage S) (cac
     table_put_refused l2 v value left is_value there missing =
         let cause : IfErr answer (IsCause (IsFull caches.l2.size caches.l2.entries)) =
         found_or_not (lookup_entry (eqb key) caches.l2.entries)
-        (λ none. insert_cause seen caches.l2.backend.header.fields.cluster_bits (λ (t : L2TableView). t.bytes) (λ t. t.is_modified) cleared_l2 (IsTableOf caches.l2.backend.header.fields) (λ v. refl) (table_still caches.l2.backend.header.fields) (HasL2 h base)
-        (table_place h base caches.l2.backend.header.fields.cluster_bits sound.l2_format.bits) caches.l2.size may_flush old new key v caches.l2.entries l2.entries answer left (tables_stand h p caches base sound)
+        (λ none. insert_cause seen caches.l2.backend.header.fields.cluster_bits (λ (t : L2TableView). t.bytes) (λ t. t.is_modified) cleared_l2 (IsTableOf caches.l2.backend.header.fields) (λ v. refl) (table_still caches.l2.backend.header.fields) (HasL2 h on_storage)
+        (table_place h on_storage caches.l2.backend.header.fields.cluster_bits sound.l2_format.bits) caches.l2.size may_flush old new key v caches.l2.entries l2.entries answer left (tables_stand h p caches on_storage sound)
         (rw is_value at (missing (rw (lookup_none (eqb key) caches.l2.entries none) refl))))
         (λ x some. less_cause (IsFull caches.l2.size caches.l2.entries) answer
-        (replace_cause seen caches.l2.backend.header.fields.cluster_bits (λ (t : L2TableView). t.bytes) (λ t. t.is_modified) cleared_l2 (IsTableOf caches.l2.backend.header.fields) (λ v. refl) (table_still caches.l2.backend.header.fields) (HasL2 h base)
-        (table_place h base caches.l2.backend.header.fields.cluster_bits sound.l2_format.bits) may_flush old new key v caches.l2.entries l2.entries x answer left some (tables_stand h p caches base sound) (rw is_value at (rw some at there)))) in
+        (replace_cause seen caches.l2.backend.header.fields.cluster_bits (λ (t : L2TableView). t.bytes) (λ t. t.is_modified) cleared_l2 (IsTableOf caches.l2.backend.header.fields) (λ v. refl) (table_still caches.l2.backend.header.fields) (HasL2 h on_storage)
+        (table_place h on_storage caches.l2.backend.header.fields.cluster_bits sound.l2_format.bits) may_flush old new key v caches.l2.entries l2.entries x answer left some (tables_stand h p caches on_storage sound) (rw is_value at (rw some at there)))) in
         elim (fault_of (IsFull caches.l2.size caches.l2.entries) e (refused_by (IsCause (IsFull caches.l2.size caches.l2.entries)) answer e is cause)) [
           | inl used ↦ inl (used.0, is_all_pinned used.1)
           | inr fault ↦ inr fault
         ]
 
-    pub block_put_refused : HasRoom caches → AreSettled h (refblocks caches) base → (rb : Cache (RefBlockCacheBackend S) ℕ RefBlockView) (v : RefBlockView) (value left : Option RefBlockView) → value ≡ Some v
+    pub block_put_refused : HasRoom caches → AreSettled h (refblocks caches) on_storage → (rb : Cache (RefBlockCacheBackend S) ℕ RefBlockView) (v : RefBlockView) (value left : Option RefBlockView) → value ≡ Some v
         → IfSome (lookup_entry (eqb key) caches.rb.entries) (λ e. IfSome value (λ v. Replaces (rb_steps seen caches.rb.backend.header.fields) key e (remove_entry (eqb key) caches.rb.entries) v may_flush old caches.rb.entries answer new rb.entries left))
         → (IsNone (lookup (eqb key) caches.rb.entries) → IfSome value (λ v. InsertsNew (rb_steps seen caches.rb.backend.header.fields) eqb caches.rb.size may_flush key v old caches.rb.entries answer new rb.entries left))
         → IsFault (of_cache e)
     block_put_refused room settled rb v value left is_value there missing =
         let cause : IfErr answer (IsCause (IsFull caches.rb.size caches.rb.entries)) =
         found_or_not (lookup_entry (eqb key) caches.rb.entries)
-        (λ none. insert_cause seen caches.rb.backend.header.fields.cluster_bits (λ (b : RefBlockView). b.bytes) (λ b. b.is_modified) cleared_rb (IsBlockOf caches.rb.backend.header.fields) (λ v. refl) (block_still caches.rb.backend.header.fields) (HasBlock h base)
-        (block_place h base caches.rb.backend.header.fields.cluster_bits sound.rb_format.bits) caches.rb.size may_flush old new key v caches.rb.entries rb.entries answer left (blocks_stand h p caches base sound settled)
+        (λ none. insert_cause seen caches.rb.backend.header.fields.cluster_bits (λ (b : RefBlockView). b.bytes) (λ b. b.is_modified) cleared_rb (IsBlockOf caches.rb.backend.header.fields) (λ v. refl) (block_still caches.rb.backend.header.fields) (HasBlock h on_storage)
+        (block_place h on_storage caches.rb.backend.header.fields.cluster_bits sound.rb_format.bits) caches.rb.size may_flush old new key v caches.rb.entries rb.entries answer left (blocks_stand h p caches on_storage sound settled)
         (rw is_value at (missing (rw (lookup_none (eqb key) caches.rb.entries none) refl))))
         (λ x some. less_cause (IsFull caches.rb.size caches.rb.entries) answer
-        (replace_cause seen caches.rb.backend.header.fields.cluster_bits (λ (b : RefBlockView). b.bytes) (λ b. b.is_modified) cleared_rb (IsBlockOf caches.rb.backend.header.fields) (λ v. refl) (block_still caches.rb.backend.header.fields) (HasBlock h base)
-        (block_place h base caches.rb.backend.header.fields.cluster_bits sound.rb_format.bits) may_flush old new key v caches.rb.entries rb.entries x answer left some (blocks_stand h p caches base sound settled) (rw is_value at (rw some at there)))) in
+        (replace_cause seen caches.rb.backend.header.fields.cluster_bits (λ (b : RefBlockView). b.bytes) (λ b. b.is_modified) cleared_rb (IsBlockOf caches.rb.backend.header.fields) (λ v. refl) (block_still caches.rb.backend.header.fields) (HasBlock h on_storage)
+        (block_place h on_storage caches.rb.backend.header.fields.cluster_bits sound.rb_format.bits) may_flush old new key v caches.rb.entries rb.entries x answer left some (blocks_stand h p caches on_storage sound settled) (rw is_value at (rw some at there)))) in
         fault_alone (IsFull caches.rb.size caches.rb.entries) e (not_full room) (refused_by (IsCause (IsFull caches.rb.size caches.rb.entries)) answer e is cause)

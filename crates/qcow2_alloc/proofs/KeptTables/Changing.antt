@@ -85,18 +85,18 @@ still_held key es v w found = let there = held key es v found in subst (λ (l : 
 
 -- ---- lists of loaded tables
 
-pub loaded_apart : (size : ℕ) (IsNamed : ℕ → Type 0) (base : Bytes) (ts : List CachedTable) → AreLoaded size IsNamed ts base → AreApart size ts
-loaded_apart size IsNamed base [] loaded = tt
-loaded_apart size IsNamed base (t ∷ ts) loaded = (
+pub loaded_apart : (size : ℕ) (IsNamed : ℕ → Type 0) (on_storage : Bytes) (ts : List CachedTable) → AreLoaded size IsNamed ts on_storage → AreApart size ts
+loaded_apart size IsNamed on_storage [] loaded = tt
+loaded_apart size IsNamed on_storage (t ∷ ts) loaded = (
   loaded.0,
-  (λ o over. free_elsewhere size IsNamed base ts t.place o loaded.0 loaded.1 loaded.3 (within_cluster t.place size o loaded.0 (overlays_within size t o over))),
-  loaded_apart size IsNamed base ts loaded.3,
+  (λ o over. free_elsewhere size IsNamed on_storage ts t.place o loaded.0 loaded.1 loaded.3 (within_cluster t.place size o loaded.0 (overlays_within size t o over))),
+  loaded_apart size IsNamed on_storage ts loaded.3,
 )
 
 -- one becomes another one that is modified
-pub loaded_changed : (size : ℕ) (IsNamed : ℕ → Type 0) (base : Bytes) (front back : List CachedTable) (t t' : CachedTable) → t'.place ≡ t.place → t'.is_modified ≡ true
-    → AreLoaded size IsNamed (front ++ t ∷ back) base → AreLoaded size IsNamed (front ++ t' ∷ back) base
-loaded_changed size IsNamed base [] back t t' place marked loaded = (
+pub loaded_changed : (size : ℕ) (IsNamed : ℕ → Type 0) (on_storage : Bytes) (front back : List CachedTable) (t t' : CachedTable) → t'.place ≡ t.place → t'.is_modified ≡ true
+    → AreLoaded size IsNamed (front ++ t ∷ back) on_storage → AreLoaded size IsNamed (front ++ t' ∷ back) on_storage
+loaded_changed size IsNamed on_storage [] back t t' place marked loaded = (
   ap (λ n. n % size) place ∙ loaded.0,
   subst (λ n. AreElsewhere n back) (sym place) loaded.1,
   (λ clean. absurd (differ t'.is_modified marked clean)),
@@ -105,28 +105,28 @@ loaded_changed size IsNamed base [] back t t' place marked loaded = (
   where
     differ : (b : Bool) → b ≡ true → b ≡ false → ⊥
     differ b is isnt = cc
-loaded_changed size IsNamed base (u ∷ front) back t t' place marked loaded =
-    (loaded.0, elsewhere_with u.place front back t t' place loaded.1, loaded.2, loaded_changed size IsNamed base front back t t' place marked loaded.3)
+loaded_changed size IsNamed on_storage (u ∷ front) back t t' place marked loaded =
+    (loaded.0, elsewhere_with u.place front back t t' place loaded.1, loaded.2, loaded_changed size IsNamed on_storage front back t t' place marked loaded.3)
 
-own_part : (size : ℕ) (IsNamed : ℕ → Type 0) (base : Bytes) (front back : List CachedTable) (t : CachedTable) → AreLoaded size IsNamed (front ++ t ∷ back) base
-    → (t.place % size ≡ 0) × (t.is_modified ≡ false → IsNamed (t.place / size) → IsCurrent size t base)
-own_part size IsNamed base [] back t loaded = (loaded.0, loaded.2)
-own_part size IsNamed base (u ∷ front) back t loaded = own_part size IsNamed base front back t loaded.3
+own_part : (size : ℕ) (IsNamed : ℕ → Type 0) (on_storage : Bytes) (front back : List CachedTable) (t : CachedTable) → AreLoaded size IsNamed (front ++ t ∷ back) on_storage
+    → (t.place % size ≡ 0) × (t.is_modified ≡ false → IsNamed (t.place / size) → IsCurrent size t on_storage)
+own_part size IsNamed on_storage [] back t loaded = (loaded.0, loaded.2)
+own_part size IsNamed on_storage (u ∷ front) back t loaded = own_part size IsNamed on_storage front back t loaded.3
 
-loaded_rest : (size : ℕ) (IsNamed : ℕ → Type 0) (base : Bytes) (front back : List CachedTable) (t : CachedTable) → AreLoaded size IsNamed (front ++ t ∷ back) base → AreLoaded size IsNamed (front ++ back) base
-loaded_rest size IsNamed base [] back t loaded = loaded.3
-loaded_rest size IsNamed base (u ∷ front) back t loaded = (loaded.0, without front loaded.1, loaded.2, loaded_rest size IsNamed base front back t loaded.3)
+loaded_rest : (size : ℕ) (IsNamed : ℕ → Type 0) (on_storage : Bytes) (front back : List CachedTable) (t : CachedTable) → AreLoaded size IsNamed (front ++ t ∷ back) on_storage → AreLoaded size IsNamed (front ++ back) on_storage
+loaded_rest size IsNamed on_storage [] back t loaded = loaded.3
+loaded_rest size IsNamed on_storage (u ∷ front) back t loaded = (loaded.0, without front loaded.1, loaded.2, loaded_rest size IsNamed on_storage front back t loaded.3)
   where
     without : (front : List CachedTable) → AreElsewhere u.place (front ++ t ∷ back) → AreElsewhere u.place (front ++ back)
     without [] away = away.1
     without (v ∷ front) away = (away.0, without front away.1)
 
 -- what a table that is named holds is known
-module _ (size : ℕ) (IsNamed : ℕ → Type 0) (base : Bytes) (front back : List CachedTable) (t : CachedTable) (loaded : AreLoaded size IsNamed (front ++ t ∷ back) base) where
+module _ (size : ℕ) (IsNamed : ℕ → Type 0) (on_storage : Bytes) (front back : List CachedTable) (t : CachedTable) (loaded : AreLoaded size IsNamed (front ++ t ∷ back) on_storage) where
   pub place_aligned : t.place % size ≡ 0
-  place_aligned = (own_part size IsNamed base front back t loaded).0
+  place_aligned = (own_part size IsNamed on_storage front back t loaded).0
 
-  pub list_knows : IsNamed (t.place / size) → (i : ℕ) → i < size → known size (front ++ t ∷ back) base (t.place + i) ≡ t.bytes i
+  pub list_knows : IsNamed (t.place / size) → (i : ℕ) → i < size → known size (front ++ t ∷ back) on_storage (t.place + i) ≡ t.bytes i
   list_knows named i lt =
       let here = in_own_cluster size t.place i place_aligned lt in
       let some : 0 < size = omega arith in
@@ -134,12 +134,12 @@ module _ (size : ℕ) (IsNamed : ℕ → Type 0) (base : Bytes) (front back : Li
         | inl modified ↦
             let over : overlays size t (t.place + i) ≡ true = ap (λ m. m && is_within t.place size (t.place + i)) modified ∙ cluster_within t.place size (t.place + i) some place_aligned here in
             let back_to : t.place + i - t.place ≡ i = omega arith in
-            known_there size front back t base (t.place + i) (loaded_apart size IsNamed base (front ++ t ∷ back) loaded) over ∙ ap t.bytes back_to
+            known_there size front back t on_storage (t.place + i) (loaded_apart size IsNamed on_storage (front ++ t ∷ back) loaded) over ∙ ap t.bytes back_to
         | inr clean ↦
-            let away = away_from front back t (loaded_distinct size IsNamed base (front ++ t ∷ back) loaded) in
-            known_elsewhere size front back t base (t.place + i) (unmodified_over size t (t.place + i) clean)
-            ∙ known-none size (front ++ back) base (t.place + i) (free_elsewhere size IsNamed base (front ++ back) t.place (t.place + i) place_aligned away (loaded_rest size IsNamed base front back t loaded) here)
-            ∙ sym ((own_part size IsNamed base front back t loaded).1 clean named i lt)
+            let away = away_from front back t (loaded_distinct size IsNamed on_storage (front ++ t ∷ back) loaded) in
+            known_elsewhere size front back t on_storage (t.place + i) (unmodified_over size t (t.place + i) clean)
+            ∙ known-none size (front ++ back) on_storage (t.place + i) (free_elsewhere size IsNamed on_storage (front ++ back) t.place (t.place + i) place_aligned away (loaded_rest size IsNamed on_storage front back t loaded) here)
+            ∙ sym ((own_part size IsNamed on_storage front back t loaded).1 clean named i lt)
       ]
 
 -- ---- the values of entries, of which one is changed

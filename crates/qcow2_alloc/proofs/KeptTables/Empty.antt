@@ -5,10 +5,10 @@ use Rattle.qcow2_metadata.specs.declared.header.HeaderFields.{HeaderFields}
 use Rattle.qcow2_metadata.specs.Header.{cluster_size, has_data_file}
 use Rattle.qcow2_metadata.specs.Tables.{known}
 use Rattle.qcow2_laws.specs.Clusters.{Neither}
-use Rattle.qcow2_laws.specs.Guard.{Pending, IsGuarded}
+use Rattle.qcow2_laws.specs.CrashInvariant.{Pending, CrashInvariant}
 use Rattle.qcow2_laws.specs.Caches.{known_bytes}
 use Rattle.qcow2_alloc.specs.declared.cache.MetadataCaches.{MetadataCaches}
-use Rattle.qcow2_alloc.specs.MetadataCaches.{HasFormat, order_of, known_of, AreSound}
+use Rattle.qcow2_alloc.specs.MetadataCaches.{HasFormat, order_of, known_of, CacheInvariant}
 
 -- no table is laid over the bytes
 pub known_empty : (size : ℕ) (b : Bytes) → known_bytes size [] [] b ≡ b
@@ -19,19 +19,19 @@ same_format : (g h : HeaderFields) → g ≡ h → HasFormat g h
 same_format g h same = record { bits = ap (λ f. f.cluster_bits) same; order = ap (λ f. f.refcount_order) same; zero_bit = ap (λ f. f.version == 3) same; external = ap (λ f. has_data_file f) same }
 
 module _ {S : Type 0} (h : HeaderFields) (caches : MetadataCaches S) (l2 : caches.l2.entries ≡ []) (rb : caches.rb.entries ≡ []) where
-  pub known_of_empty : (base : Bytes) → known_of h caches base ≡ base
-  known_of_empty base = rw (l2, rb) (known_empty (cluster_size h) base)
+  pub known_of_empty : (on_storage : Bytes) → known_of h caches on_storage ≡ on_storage
+  known_of_empty on_storage = rw (l2, rb) (known_empty (cluster_size h) on_storage)
 
   pub sound_empty : caches.l2.backend.header.fields ≡ h → caches.rb.backend.header.fields ≡ h → order_of caches ≡ Neither
-      → (p : Pending) (base : Bytes) → IsGuarded h Neither p base base → AreSound h p caches base
-  sound_empty l2_header rb_header none p base guarded = record {
+      → (p : Pending) (on_storage : Bytes) → CrashInvariant h Neither p on_storage on_storage → CacheInvariant h p caches on_storage
+  sound_empty l2_header rb_header none p on_storage guarded = record {
     l2_format = same_format caches.l2.backend.header.fields h l2_header;
     rb_format = same_format caches.rb.backend.header.fields h rb_header;
     l2_fit = rw l2 tt;
     rb_fit = rw rb tt;
     kept = rw (l2, rb, none) (record {
       kept = record {
-        guarded = subst (IsGuarded h Neither p base) (sym (known_empty (cluster_size h) base)) guarded;
+        guarded = subst (CrashInvariant h Neither p on_storage) (sym (known_empty (cluster_size h) on_storage)) guarded;
         l2_apart = tt;
         rb_apart = tt;
         l2_stand = λ c. inl (λ o _. tt);

@@ -51,14 +51,14 @@ module _ {S : Type 0} (view : S → StorageView) (old new : ImageStorage S) (cac
     pub table_got : (may_flush ≡ true → TablesMayGo (order_of caches) (refblocks caches)) → KeepSound view old caches new (record caches { l2 = l2 })
     table_got may = λ h p honest sound.
         let bits = caches.l2.backend.header.fields.cluster_bits in
-        let P : List CachedTable → Bytes → Type 0 = λ ts base. AreKept h (order_of caches) p ts (refblocks caches) base in
-        let all : List CachedTable → Bytes → Bytes = λ ts base. known_bytes (cluster_size h) ts (refblocks caches) base in
+        let P : List CachedTable → Bytes → Type 0 = λ ts on_storage. AreKept h (order_of caches) p ts (refblocks caches) on_storage in
+        let all : List CachedTable → Bytes → Bytes = λ ts on_storage. known_bytes (cluster_size h) ts (refblocks caches) on_storage in
         let same_backend : l2.backend ≡ caches.l2.backend = ap (λ c. c.backend) others in
-        let distinct : (ts : List CachedTable) (base : Bytes) → P ts base → AreDistinct ts = λ ts base are. loaded_distinct (cluster_size h) (HasL2 h base) base ts are.l2_loaded in
-        let add : (t : CachedTable) (ts : List CachedTable) (base : Bytes) → P ts base → t.place % 2 ^ bits ≡ 0 → AreElsewhere t.place ts → t.is_modified ≡ false → HoldsWhatStands all (2 ^ bits) t ts base
-        → P (t ∷ ts) base × (all (t ∷ ts) base ≡ all ts base) =
-        λ t ts base are aligned away clean current.
-        l2_add h (order_of caches) p (refblocks caches) t ts base are (subst (λ n. t.place % 2 ^ n ≡ 0) sound.l2_format.bits aligned) away clean (subst (λ n. HoldsWhatStands all (2 ^ n) t ts base) sound.l2_format.bits current) in
+        let distinct : (ts : List CachedTable) (on_storage : Bytes) → P ts on_storage → AreDistinct ts = λ ts on_storage are. loaded_distinct (cluster_size h) (HasL2 h on_storage) on_storage ts are.l2_loaded in
+        let add : (t : CachedTable) (ts : List CachedTable) (on_storage : Bytes) → P ts on_storage → t.place % 2 ^ bits ≡ 0 → AreElsewhere t.place ts → t.is_modified ≡ false → HoldsWhatStands all (2 ^ bits) t ts on_storage
+        → P (t ∷ ts) on_storage × (all (t ∷ ts) on_storage ≡ all ts on_storage) =
+        λ t ts on_storage are aligned away clean current.
+        l2_add h (order_of caches) p (refblocks caches) t ts on_storage are (subst (λ n. t.place % 2 ^ n ≡ 0) sound.l2_format.bits aligned) away clean (subst (λ n. HoldsWhatStands all (2 ^ n) t ts on_storage) sound.l2_format.bits current) in
         let f : Flushed seen bits (λ (t : L2TableView). t.bytes) (λ t. t.is_modified) cleared_l2 (IsTableOf caches.l2.backend.header.fields) (λ v. refl) (λ v. refl) P all old new (l2_tables caches)
         (cached_tables bits (λ (t : L2TableView). t.bytes) (λ t. t.is_modified) l2.entries) =
         elim (none_or_some (lookup (eqb key) caches.l2.entries)) [
@@ -90,14 +90,14 @@ module _ {S : Type 0} (view : S → StorageView) (old new : ImageStorage S) (cac
     pub block_got : (may_flush ≡ true → BlocksMayGo (order_of caches) (l2_tables caches)) → KeepSound view old caches new (record caches { rb = rb })
     block_got may = λ h p honest sound.
         let bits = caches.rb.backend.header.fields.cluster_bits in
-        let P : List CachedTable → Bytes → Type 0 = λ ts base. AreKept h (order_of caches) p (l2_tables caches) ts base in
-        let all : List CachedTable → Bytes → Bytes = λ ts base. known_bytes (cluster_size h) (l2_tables caches) ts base in
+        let P : List CachedTable → Bytes → Type 0 = λ ts on_storage. AreKept h (order_of caches) p (l2_tables caches) ts on_storage in
+        let all : List CachedTable → Bytes → Bytes = λ ts on_storage. known_bytes (cluster_size h) (l2_tables caches) ts on_storage in
         let same_backend : rb.backend ≡ caches.rb.backend = ap (λ c. c.backend) others in
-        let distinct : (ts : List CachedTable) (base : Bytes) → P ts base → AreDistinct ts = λ ts base are. loaded_distinct (cluster_size h) (HasBlock h base) base ts are.rb_loaded in
-        let add : (t : CachedTable) (ts : List CachedTable) (base : Bytes) → P ts base → t.place % 2 ^ bits ≡ 0 → AreElsewhere t.place ts → t.is_modified ≡ false → HoldsWhatStands all (2 ^ bits) t ts base
-        → P (t ∷ ts) base × (all (t ∷ ts) base ≡ all ts base) =
-        λ t ts base are aligned away clean current.
-        rb_add h (order_of caches) p (l2_tables caches) t ts base are (subst (λ n. t.place % 2 ^ n ≡ 0) sound.rb_format.bits aligned) away clean (subst (λ n. HoldsWhatStands all (2 ^ n) t ts base) sound.rb_format.bits current) in
+        let distinct : (ts : List CachedTable) (on_storage : Bytes) → P ts on_storage → AreDistinct ts = λ ts on_storage are. loaded_distinct (cluster_size h) (HasBlock h on_storage) on_storage ts are.rb_loaded in
+        let add : (t : CachedTable) (ts : List CachedTable) (on_storage : Bytes) → P ts on_storage → t.place % 2 ^ bits ≡ 0 → AreElsewhere t.place ts → t.is_modified ≡ false → HoldsWhatStands all (2 ^ bits) t ts on_storage
+        → P (t ∷ ts) on_storage × (all (t ∷ ts) on_storage ≡ all ts on_storage) =
+        λ t ts on_storage are aligned away clean current.
+        rb_add h (order_of caches) p (l2_tables caches) t ts on_storage are (subst (λ n. t.place % 2 ^ n ≡ 0) sound.rb_format.bits aligned) away clean (subst (λ n. HoldsWhatStands all (2 ^ n) t ts on_storage) sound.rb_format.bits current) in
         let f : Flushed seen bits (λ (b : RefBlockView). b.bytes) (λ b. b.is_modified) cleared_rb (IsBlockOf caches.rb.backend.header.fields) (λ v. refl) (λ v. refl) P all old new (refblocks caches)
         (cached_tables bits (λ (b : RefBlockView). b.bytes) (λ b. b.is_modified) rb.entries) =
         elim (none_or_some (lookup (eqb key) caches.rb.entries)) [

@@ -9,7 +9,7 @@ use Rattle.qcow2_metadata.specs.L2Table.{L2TableView}
 use Rattle.qcow2_metadata.specs.RefBlock.{RefBlockView}
 use Rattle.qcow2_metadata.specs.Tables.{CachedTable}
 use Rattle.qcow2_laws.specs.Clusters.{Direction}
-use Rattle.qcow2_laws.specs.Guard.{Pending}
+use Rattle.qcow2_laws.specs.CrashInvariant.{Pending}
 use Rattle.qcow2_laws.specs.Caches.{known_bytes, AreClean, BlocksMayGo, TablesMayGo, IsWrittenSo, IsSafeBetween, HasBlock}
 use Rattle.qcow2_alloc.specs.declared.async_lru_cache.slot.Slot.{Slot}
 use Rattle.qcow2_alloc.specs.declared.async_lru_cache.error.CacheError.{CacheError}
@@ -39,18 +39,18 @@ all_of steps s t es fs (Err (StillInUse _)) h = absurd h
 
 module _ (h : HeaderFields) (d : Direction) (p : Pending) (bits : ℕ) (same : bits ≡ h.cluster_bits) where
   -- one L2 table, one refblock is written
-  pub l2_step : (rbs : List CachedTable) → TablesMayGo d rbs → (front back : List CachedTable) (t t' : CachedTable) (base base' : Bytes) → AreKept h d p (front ++ t ∷ back) rbs base → IsWrittenSo (2 ^ bits) t t' base base'
-      → AreKept h d p (front ++ t' ∷ back) rbs base' × (known_bytes (cluster_size h) (front ++ t' ∷ back) rbs base' ≡ known_bytes (cluster_size h) (front ++ t ∷ back) rbs base)
-      × IsSafeBetween base (known_bytes (cluster_size h) (front ++ t ∷ back) rbs base) base'
-  l2_step rbs may front back t t' base base' kept so =
-      let w = l2_wrote h d p rbs front back t t' base base' kept may (subst (λ n. IsWrittenSo (2 ^ n) t t' base base') same so) in
+  pub l2_step : (rbs : List CachedTable) → TablesMayGo d rbs → (front back : List CachedTable) (t t' : CachedTable) (on_storage on_storage' : Bytes) → AreKept h d p (front ++ t ∷ back) rbs on_storage → IsWrittenSo (2 ^ bits) t t' on_storage on_storage'
+      → AreKept h d p (front ++ t' ∷ back) rbs on_storage' × (known_bytes (cluster_size h) (front ++ t' ∷ back) rbs on_storage' ≡ known_bytes (cluster_size h) (front ++ t ∷ back) rbs on_storage)
+      × IsSafeBetween on_storage (known_bytes (cluster_size h) (front ++ t ∷ back) rbs on_storage) on_storage'
+  l2_step rbs may front back t t' on_storage on_storage' kept so =
+      let w = l2_wrote h d p rbs front back t t' on_storage on_storage' kept may (subst (λ n. IsWrittenSo (2 ^ n) t t' on_storage on_storage') same so) in
       (w.kept, w.known, w.safe)
 
-  pub rb_step : (l2s : List CachedTable) → BlocksMayGo d l2s → (front back : List CachedTable) (t t' : CachedTable) (base base' : Bytes) → AreKept h d p l2s (front ++ t ∷ back) base → IsWrittenSo (2 ^ bits) t t' base base'
-      → AreKept h d p l2s (front ++ t' ∷ back) base' × (known_bytes (cluster_size h) l2s (front ++ t' ∷ back) base' ≡ known_bytes (cluster_size h) l2s (front ++ t ∷ back) base)
-      × IsSafeBetween base (known_bytes (cluster_size h) l2s (front ++ t ∷ back) base) base'
-  rb_step l2s may front back t t' base base' kept so =
-      let w = rb_wrote h d p l2s front back t t' base base' kept may (subst (λ n. IsWrittenSo (2 ^ n) t t' base base') same so) in
+  pub rb_step : (l2s : List CachedTable) → BlocksMayGo d l2s → (front back : List CachedTable) (t t' : CachedTable) (on_storage on_storage' : Bytes) → AreKept h d p l2s (front ++ t ∷ back) on_storage → IsWrittenSo (2 ^ bits) t t' on_storage on_storage'
+      → AreKept h d p l2s (front ++ t' ∷ back) on_storage' × (known_bytes (cluster_size h) l2s (front ++ t' ∷ back) on_storage' ≡ known_bytes (cluster_size h) l2s (front ++ t ∷ back) on_storage)
+      × IsSafeBetween on_storage (known_bytes (cluster_size h) l2s (front ++ t ∷ back) on_storage) on_storage'
+  rb_step l2s may front back t t' on_storage on_storage' kept so =
+      let w = rb_wrote h d p l2s front back t t' on_storage on_storage' kept may (subst (λ n. IsWrittenSo (2 ^ n) t t' on_storage on_storage') same so) in
       (w.kept, w.known, w.safe)
 
 -- a table that was written is of the same format
@@ -72,8 +72,8 @@ module _ {S : Type 0} (view : S → StorageView) (old new : ImageStorage S) (cac
         let bits = caches.l2.backend.header.fields.cluster_bits in
         let same_backend : l2.backend ≡ caches.l2.backend = ap (λ c. c.backend) others in
         let f = flushed_all seen bits (λ (t : L2TableView). t.bytes) (λ t. t.is_modified) cleared_l2 (IsTableOf caches.l2.backend.header.fields) (λ v. refl) (λ v. refl)
-        (λ ts base. AreKept h (order_of caches) p ts (refblocks caches) base)
-        (λ ts base. known_bytes (cluster_size h) ts (refblocks caches) base)
+        (λ ts on_storage. AreKept h (order_of caches) p ts (refblocks caches) on_storage)
+        (λ ts on_storage. known_bytes (cluster_size h) ts (refblocks caches) on_storage)
         (l2_step h (order_of caches) p bits sound.l2_format.bits (refblocks caches) may)
         old new [] caches.l2.entries l2.entries (all_of (l2_steps seen caches.l2.backend.header.fields) old new caches.l2.entries l2.entries answer flushes).0 honest sound.kept (all_of (l2_steps seen caches.l2.backend.header.fields) old new caches.l2.entries l2.entries answer flushes).1 in
         rw same_backend (record {
@@ -104,8 +104,8 @@ module _ {S : Type 0} (view : S → StorageView) (old new : ImageStorage S) (cac
         let bits = caches.rb.backend.header.fields.cluster_bits in
         let same_backend : rb.backend ≡ caches.rb.backend = ap (λ c. c.backend) others in
         let f = flushed_all seen bits (λ (b : RefBlockView). b.bytes) (λ b. b.is_modified) cleared_rb (IsBlockOf caches.rb.backend.header.fields) (λ v. refl) (λ v. refl)
-        (λ ts base. AreKept h (order_of caches) p (l2_tables caches) ts base)
-        (λ ts base. known_bytes (cluster_size h) (l2_tables caches) ts base)
+        (λ ts on_storage. AreKept h (order_of caches) p (l2_tables caches) ts on_storage)
+        (λ ts on_storage. known_bytes (cluster_size h) (l2_tables caches) ts on_storage)
         (rb_step h (order_of caches) p bits sound.rb_format.bits (l2_tables caches) may)
         old new [] caches.rb.entries rb.entries (all_of (rb_steps seen caches.rb.backend.header.fields) old new caches.rb.entries rb.entries answer flushes).0 honest sound.kept (all_of (rb_steps seen caches.rb.backend.header.fields) old new caches.rb.entries rb.entries answer flushes).1 in
         rw same_backend (record {

@@ -29,16 +29,16 @@ cluster_aligned k bits = let e : k * 2 ^ bits ≡ k * 2 ^ bits + 0 = omega arith
 
 -- it holds what stands in its cluster, or what is known of it
 abbrev pub HoldsWhatStands : (List CachedTable → Bytes → Bytes) → ℕ → CachedTable → List CachedTable → Bytes → Type 0
-HoldsWhatStands all size t ts base = IsCurrent size t base ⊎ ((i : ℕ) → i < size → t.bytes i ≡ all ts base (t.place + i))
+HoldsWhatStands all size t ts on_storage = IsCurrent size t on_storage ⊎ ((i : ℕ) → i < size → t.bytes i ≡ all ts on_storage (t.place + i))
 
 module _ {S V : Type 0} (view : S → StorageView) (bits : ℕ) (bytes : V → List ℕ) (is_modified : V → Bool) (cleared : V → V) (IsFit : V → Type 0)
     (unmodified : (v : V) → is_modified (cleared v) ≡ false) (same_bytes : (v : V) → bytes (cleared v) ≡ bytes v)
     (P : List CachedTable → Bytes → Type 0) (all : List CachedTable → Bytes → Bytes)
-    (distinct : (ts : List CachedTable) (base : Bytes) → P ts base → AreDistinct ts)
-    (drop_clean : (front back : List CachedTable) (t : CachedTable) (base : Bytes) → P (front ++ t ∷ back) base → t.is_modified ≡ false → P (front ++ back) base × (all (front ++ back) base ≡ all (front ++ t ∷ back) base))
-    (add : (t : CachedTable) (ts : List CachedTable) (base : Bytes) → P ts base → t.place % 2 ^ bits ≡ 0 → AreElsewhere t.place ts → t.is_modified ≡ false → HoldsWhatStands all (2 ^ bits) t ts base
-    → P (t ∷ ts) base × (all (t ∷ ts) base ≡ all ts base))
-    (promote : (front back : List CachedTable) (t : CachedTable) (base : Bytes) → P (front ++ t ∷ back) base → P (t ∷ (front ++ back)) base × (all (t ∷ (front ++ back)) base ≡ all (front ++ t ∷ back) base)) where
+    (distinct : (ts : List CachedTable) (on_storage : Bytes) → P ts on_storage → AreDistinct ts)
+    (drop_clean : (front back : List CachedTable) (t : CachedTable) (on_storage : Bytes) → P (front ++ t ∷ back) on_storage → t.is_modified ≡ false → P (front ++ back) on_storage × (all (front ++ back) on_storage ≡ all (front ++ t ∷ back) on_storage))
+    (add : (t : CachedTable) (ts : List CachedTable) (on_storage : Bytes) → P ts on_storage → t.place % 2 ^ bits ≡ 0 → AreElsewhere t.place ts → t.is_modified ≡ false → HoldsWhatStands all (2 ^ bits) t ts on_storage
+    → P (t ∷ ts) on_storage × (all (t ∷ ts) on_storage ≡ all ts on_storage))
+    (promote : (front back : List CachedTable) (t : CachedTable) (on_storage : Bytes) → P (front ++ t ∷ back) on_storage → P (t ∷ (front ++ back)) on_storage × (all (t ∷ (front ++ back)) on_storage ≡ all (front ++ t ∷ back) on_storage)) where
   abbrev tables : List (ℕ × Slot V) → List CachedTable
   tables = cached_tables bits bytes is_modified
 

@@ -13,7 +13,7 @@ use Rattle.qcow2_metadata.specs.L2Table.{L2TableView}
 use Rattle.qcow2_metadata.specs.RefBlock.{RefBlockView}
 use Rattle.qcow2_metadata.specs.Tables.{CachedTable}
 use Rattle.qcow2_laws.specs.Clusters.{Direction}
-use Rattle.qcow2_laws.specs.Guard.{IsMixed}
+use Rattle.qcow2_laws.specs.CrashInvariant.{IsMixed}
 use Rattle.qcow2_laws.specs.Caches.{known_bytes, BlocksMayGo, TablesMayGo, HasL2, HasBlock}
 use Rattle.qcow2_alloc.specs.declared.async_lru_cache.slot.Slot.{Slot}
 use Rattle.qcow2_alloc.specs.declared.async_lru_cache.error.CacheError.{CacheError}
@@ -75,26 +75,26 @@ module _ {S : Type 0} (view : S → StorageView) (old new : ImageStorage S) (cac
       → Flushes (l2_steps seen caches.l2.backend.header.fields) old caches.l2.entries answer new l2.entries → TablesMayGo (order_of caches) (refblocks caches) → WritesInOrder view old caches new
   tables_in_order l2 answer flushes may h p honest sound =
       let bits = caches.l2.backend.header.fields.cluster_bits in
-      let base = byte_at (seen old).contents in
+      let on_storage = byte_at (seen old).contents in
       let all = all_of (l2_steps seen caches.l2.backend.header.fields) old new caches.l2.entries l2.entries answer flushes in
       let f = flushed_all seen bits (λ (t : L2TableView). t.bytes) (λ t. t.is_modified) cleared_l2 (IsTableOf caches.l2.backend.header.fields) (λ v. refl) (λ v. refl)
-      (OrderedTables h (order_of caches) p base (known_of h caches base) sound.kept.kept.guarded bits sound.l2_format.bits (refblocks caches))
-      (λ ts base. known_bytes (cluster_size h) ts (refblocks caches) base)
-      (l2_step_ordered h (order_of caches) p base (known_of h caches base) sound.kept.kept.guarded bits sound.l2_format.bits (refblocks caches) may)
-      old new [] caches.l2.entries l2.entries all.0 honest (sound.kept, refl, mixed_same h (order_of caches) base (known_of h caches base)) all.1 in
+      (OrderedTables h (order_of caches) p on_storage (known_of h caches on_storage) sound.kept.kept.guarded bits sound.l2_format.bits (refblocks caches))
+      (λ ts on_storage. known_bytes (cluster_size h) ts (refblocks caches) on_storage)
+      (l2_step_ordered h (order_of caches) p on_storage (known_of h caches on_storage) sound.kept.kept.guarded bits sound.l2_format.bits (refblocks caches) may)
+      old new [] caches.l2.entries l2.entries all.0 honest (sound.kept, refl, mixed_same h (order_of caches) on_storage (known_of h caches on_storage)) all.1 in
       record { moments = passes_if _ (λ l now. now.1.2) f.moments; contents = f.kept.2 }
 
   pub blocks_in_order : (rb : Cache (RefBlockCacheBackend S) ℕ RefBlockView) (answer : Result Unit₀ (CacheError ℕ MetadataError))
       → Flushes (rb_steps seen caches.rb.backend.header.fields) old caches.rb.entries answer new rb.entries → BlocksMayGo (order_of caches) (l2_tables caches) → WritesInOrder view old caches new
   blocks_in_order rb answer flushes may h p honest sound =
       let bits = caches.rb.backend.header.fields.cluster_bits in
-      let base = byte_at (seen old).contents in
+      let on_storage = byte_at (seen old).contents in
       let all = all_of (rb_steps seen caches.rb.backend.header.fields) old new caches.rb.entries rb.entries answer flushes in
       let f = flushed_all seen bits (λ (b : RefBlockView). b.bytes) (λ b. b.is_modified) cleared_rb (IsBlockOf caches.rb.backend.header.fields) (λ v. refl) (λ v. refl)
-      (OrderedBlocks h (order_of caches) p base (known_of h caches base) sound.kept.kept.guarded bits sound.rb_format.bits (l2_tables caches))
-      (λ ts base. known_bytes (cluster_size h) (l2_tables caches) ts base)
-      (rb_step_ordered h (order_of caches) p base (known_of h caches base) sound.kept.kept.guarded bits sound.rb_format.bits (l2_tables caches) may)
-      old new [] caches.rb.entries rb.entries all.0 honest (sound.kept, refl, mixed_same h (order_of caches) base (known_of h caches base)) all.1 in
+      (OrderedBlocks h (order_of caches) p on_storage (known_of h caches on_storage) sound.kept.kept.guarded bits sound.rb_format.bits (l2_tables caches))
+      (λ ts on_storage. known_bytes (cluster_size h) (l2_tables caches) ts on_storage)
+      (rb_step_ordered h (order_of caches) p on_storage (known_of h caches on_storage) sound.kept.kept.guarded bits sound.rb_format.bits (l2_tables caches) may)
+      old new [] caches.rb.entries rb.entries all.0 honest (sound.kept, refl, mixed_same h (order_of caches) on_storage (known_of h caches on_storage)) all.1 in
       record { moments = passes_if _ (λ l now. now.1.2) f.moments; contents = f.kept.2 }
 
   -- ---- an L2 table
@@ -104,13 +104,13 @@ module _ {S : Type 0} (view : S → StorageView) (old new : ImageStorage S) (cac
       → (may_flush ≡ true → TablesMayGo (order_of caches) (refblocks caches)) → WritesInOrder view old caches new
   table_got_in_order may_flush key l2 answer hit miss may h p honest sound =
       let bits = caches.l2.backend.header.fields.cluster_bits in
-      let base = byte_at (seen old).contents in
+      let on_storage = byte_at (seen old).contents in
       elim (none_or_some (lookup (eqb key) caches.l2.entries)) [
         | inl there ↦ let is = hit there in rw is.2 (order_none view old caches h p honest sound)
         | inr missing ↦
-            let f = get_done seen bits (λ (t : L2TableView). t.bytes) (λ t. t.is_modified) cleared_l2 (IsTableOf caches.l2.backend.header.fields) (λ v. refl) (λ v. refl) (OrderedTables h (order_of caches) p base (known_of h caches base) sound.kept.kept.guarded bits sound.l2_format.bits (refblocks caches)) (λ ts base. known_bytes (cluster_size h) ts (refblocks caches) base) (λ ts base are. loaded_distinct (cluster_size h) (HasL2 h base) base ts are.0.l2_loaded) (l2_drop_ordered h (order_of caches) p base (known_of h caches base) sound.kept.kept.guarded bits sound.l2_format.bits (refblocks caches)) (l2_add_ordered h (order_of caches) p base (known_of h caches base) sound.kept.kept.guarded bits sound.l2_format.bits (refblocks caches)) (l2_promote_ordered h (order_of caches) p base (known_of h caches base) sound.kept.kept.guarded bits sound.l2_format.bits (refblocks caches)) caches.l2.size may_flush
-            (λ flush. l2_step_ordered h (order_of caches) p base (known_of h caches base) sound.kept.kept.guarded bits sound.l2_format.bits (refblocks caches) (may flush))
-            old new key caches.l2.entries l2.entries answer honest (sound.kept, refl, mixed_same h (order_of caches) base (known_of h caches base)) (is_none (lookup (eqb key) caches.l2.entries) missing) (miss missing) in
+            let f = get_done seen bits (λ (t : L2TableView). t.bytes) (λ t. t.is_modified) cleared_l2 (IsTableOf caches.l2.backend.header.fields) (λ v. refl) (λ v. refl) (OrderedTables h (order_of caches) p on_storage (known_of h caches on_storage) sound.kept.kept.guarded bits sound.l2_format.bits (refblocks caches)) (λ ts on_storage. known_bytes (cluster_size h) ts (refblocks caches) on_storage) (λ ts on_storage are. loaded_distinct (cluster_size h) (HasL2 h on_storage) on_storage ts are.0.l2_loaded) (l2_drop_ordered h (order_of caches) p on_storage (known_of h caches on_storage) sound.kept.kept.guarded bits sound.l2_format.bits (refblocks caches)) (l2_add_ordered h (order_of caches) p on_storage (known_of h caches on_storage) sound.kept.kept.guarded bits sound.l2_format.bits (refblocks caches)) (l2_promote_ordered h (order_of caches) p on_storage (known_of h caches on_storage) sound.kept.kept.guarded bits sound.l2_format.bits (refblocks caches)) caches.l2.size may_flush
+            (λ flush. l2_step_ordered h (order_of caches) p on_storage (known_of h caches on_storage) sound.kept.kept.guarded bits sound.l2_format.bits (refblocks caches) (may flush))
+            old new key caches.l2.entries l2.entries answer honest (sound.kept, refl, mixed_same h (order_of caches) on_storage (known_of h caches on_storage)) (is_none (lookup (eqb key) caches.l2.entries) missing) (miss missing) in
             record { moments = passes_if _ (λ l now. now.1.2) f.moments; contents = f.kept.2 }
       ]
 
@@ -120,13 +120,13 @@ module _ {S : Type 0} (view : S → StorageView) (old new : ImageStorage S) (cac
       → (may_flush ≡ true → TablesMayGo (order_of caches) (refblocks caches)) → WritesInOrder view old caches new
   table_put_in_order may_flush key l2 v value left is answer there missing may h p honest sound =
       let bits = caches.l2.backend.header.fields.cluster_bits in
-      let base = byte_at (seen old).contents in
-      since_put seen bits (λ (t : L2TableView). t.bytes) (λ t. t.is_modified) cleared_l2 (IsTableOf caches.l2.backend.header.fields) (λ v. refl) (λ v. refl) (OrderedTables h (order_of caches) p base (known_of h caches base) sound.kept.kept.guarded bits sound.l2_format.bits (refblocks caches)) (λ ts base. known_bytes (cluster_size h) ts (refblocks caches) base) key v old new caches.l2.entries l2.entries h (order_of caches) (known_of h caches base) (λ ts b now. now.2) answer
+      let on_storage = byte_at (seen old).contents in
+      since_put seen bits (λ (t : L2TableView). t.bytes) (λ t. t.is_modified) cleared_l2 (IsTableOf caches.l2.backend.header.fields) (λ v. refl) (λ v. refl) (OrderedTables h (order_of caches) p on_storage (known_of h caches on_storage) sound.kept.kept.guarded bits sound.l2_format.bits (refblocks caches)) (λ ts on_storage. known_bytes (cluster_size h) ts (refblocks caches) on_storage) key v old new caches.l2.entries l2.entries h (order_of caches) (known_of h caches on_storage) (λ ts b now. now.2) answer
       (found_or_not (lookup_entry (eqb key) caches.l2.entries)
-      (λ none. insert_put seen bits (λ (t : L2TableView). t.bytes) (λ t. t.is_modified) cleared_l2 (IsTableOf caches.l2.backend.header.fields) (λ v. refl) (λ v. refl) (OrderedTables h (order_of caches) p base (known_of h caches base) sound.kept.kept.guarded bits sound.l2_format.bits (refblocks caches)) (λ ts base. known_bytes (cluster_size h) ts (refblocks caches) base) (λ ts base are. loaded_distinct (cluster_size h) (HasL2 h base) base ts are.0.l2_loaded) (l2_drop_ordered h (order_of caches) p base (known_of h caches base) sound.kept.kept.guarded bits sound.l2_format.bits (refblocks caches)) (l2_add_ordered h (order_of caches) p base (known_of h caches base) sound.kept.kept.guarded bits sound.l2_format.bits (refblocks caches)) (l2_promote_ordered h (order_of caches) p base (known_of h caches base) sound.kept.kept.guarded bits sound.l2_format.bits (refblocks caches)) caches.l2.size may_flush (λ flush. l2_step_ordered h (order_of caches) p base (known_of h caches base) sound.kept.kept.guarded bits sound.l2_format.bits (refblocks caches) (may flush)) key v
-      old new caches.l2.entries l2.entries answer left honest (sound.kept, refl, mixed_same h (order_of caches) base (known_of h caches base)) (lookup_none (eqb key) caches.l2.entries none) (rw is at (missing (rw (lookup_none (eqb key) caches.l2.entries none) refl))))
-      (λ e some. replace_put seen bits (λ (t : L2TableView). t.bytes) (λ t. t.is_modified) cleared_l2 (IsTableOf caches.l2.backend.header.fields) (λ v. refl) (λ v. refl) (OrderedTables h (order_of caches) p base (known_of h caches base) sound.kept.kept.guarded bits sound.l2_format.bits (refblocks caches)) (λ ts base. known_bytes (cluster_size h) ts (refblocks caches) base) (λ ts base are. loaded_distinct (cluster_size h) (HasL2 h base) base ts are.0.l2_loaded) (l2_drop_ordered h (order_of caches) p base (known_of h caches base) sound.kept.kept.guarded bits sound.l2_format.bits (refblocks caches)) (l2_add_ordered h (order_of caches) p base (known_of h caches base) sound.kept.kept.guarded bits sound.l2_format.bits (refblocks caches)) (l2_promote_ordered h (order_of caches) p base (known_of h caches base) sound.kept.kept.guarded bits sound.l2_format.bits (refblocks caches)) caches.l2.size may_flush (λ flush. l2_step_ordered h (order_of caches) p base (known_of h caches base) sound.kept.kept.guarded bits sound.l2_format.bits (refblocks caches) (may flush)) key v
-      old new caches.l2.entries e some honest (sound.kept, refl, mixed_same h (order_of caches) base (known_of h caches base)) l2.entries answer left (rw is at (rw some at there))))
+      (λ none. insert_put seen bits (λ (t : L2TableView). t.bytes) (λ t. t.is_modified) cleared_l2 (IsTableOf caches.l2.backend.header.fields) (λ v. refl) (λ v. refl) (OrderedTables h (order_of caches) p on_storage (known_of h caches on_storage) sound.kept.kept.guarded bits sound.l2_format.bits (refblocks caches)) (λ ts on_storage. known_bytes (cluster_size h) ts (refblocks caches) on_storage) (λ ts on_storage are. loaded_distinct (cluster_size h) (HasL2 h on_storage) on_storage ts are.0.l2_loaded) (l2_drop_ordered h (order_of caches) p on_storage (known_of h caches on_storage) sound.kept.kept.guarded bits sound.l2_format.bits (refblocks caches)) (l2_add_ordered h (order_of caches) p on_storage (known_of h caches on_storage) sound.kept.kept.guarded bits sound.l2_format.bits (refblocks caches)) (l2_promote_ordered h (order_of caches) p on_storage (known_of h caches on_storage) sound.kept.kept.guarded bits sound.l2_format.bits (refblocks caches)) caches.l2.size may_flush (λ flush. l2_step_ordered h (order_of caches) p on_storage (known_of h caches on_storage) sound.kept.kept.guarded bits sound.l2_format.bits (refblocks caches) (may flush)) key v
+      old new caches.l2.entries l2.entries answer left honest (sound.kept, refl, mixed_same h (order_of caches) on_storage (known_of h caches on_storage)) (lookup_none (eqb key) caches.l2.entries none) (rw is at (missing (rw (lookup_none (eqb key) caches.l2.entries none) refl))))
+      (λ e some. replace_put seen bits (λ (t : L2TableView). t.bytes) (λ t. t.is_modified) cleared_l2 (IsTableOf caches.l2.backend.header.fields) (λ v. refl) (λ v. refl) (OrderedTables h (order_of caches) p on_storage (known_of h caches on_storage) sound.kept.kept.guarded bits sound.l2_format.bits (refblocks caches)) (λ ts on_storage. known_bytes (cluster_size h) ts (refblocks caches) on_storage) (λ ts on_storage are. loaded_distinct (cluster_size h) (HasL2 h on_storage) on_storage ts are.0.l2_loaded) (l2_drop_ordered h (order_of caches) p on_storage (known_of h caches on_storage) sound.kept.kept.guarded bits sound.l2_format.bits (refblocks caches)) (l2_add_ordered h (order_of caches) p on_storage (known_of h caches on_storage) sound.kept.kept.guarded bits sound.l2_format.bits (refblocks caches)) (l2_promote_ordered h (order_of caches) p on_storage (known_of h caches on_storage) sound.kept.kept.guarded bits sound.l2_format.bits (refblocks caches)) caches.l2.size may_flush (λ flush. l2_step_ordered h (order_of caches) p on_storage (known_of h caches on_storage) sound.kept.kept.guarded bits sound.l2_format.bits (refblocks caches) (may flush)) key v
+      old new caches.l2.entries e some honest (sound.kept, refl, mixed_same h (order_of caches) on_storage (known_of h caches on_storage)) l2.entries answer left (rw is at (rw some at there))))
 
   -- ---- a refblock
   pub block_got_in_order : (may_flush : Bool) (key : ℕ) (rb : Cache (RefBlockCacheBackend S) ℕ RefBlockView) (answer : Result Bool (CacheError ℕ MetadataError))
@@ -135,13 +135,13 @@ module _ {S : Type 0} (view : S → StorageView) (old new : ImageStorage S) (cac
       → (may_flush ≡ true → BlocksMayGo (order_of caches) (l2_tables caches)) → WritesInOrder view old caches new
   block_got_in_order may_flush key rb answer hit miss may h p honest sound =
       let bits = caches.rb.backend.header.fields.cluster_bits in
-      let base = byte_at (seen old).contents in
+      let on_storage = byte_at (seen old).contents in
       elim (none_or_some (lookup (eqb key) caches.rb.entries)) [
         | inl there ↦ let is = hit there in rw is.2 (order_none view old caches h p honest sound)
         | inr missing ↦
-            let f = get_done seen bits (λ (b : RefBlockView). b.bytes) (λ b. b.is_modified) cleared_rb (IsBlockOf caches.rb.backend.header.fields) (λ v. refl) (λ v. refl) (OrderedBlocks h (order_of caches) p base (known_of h caches base) sound.kept.kept.guarded bits sound.rb_format.bits (l2_tables caches)) (λ ts base. known_bytes (cluster_size h) (l2_tables caches) ts base) (λ ts base are. loaded_distinct (cluster_size h) (HasBlock h base) base ts are.0.rb_loaded) (rb_drop_ordered h (order_of caches) p base (known_of h caches base) sound.kept.kept.guarded bits sound.rb_format.bits (l2_tables caches)) (rb_add_ordered h (order_of caches) p base (known_of h caches base) sound.kept.kept.guarded bits sound.rb_format.bits (l2_tables caches)) (rb_promote_ordered h (order_of caches) p base (known_of h caches base) sound.kept.kept.guarded bits sound.rb_format.bits (l2_tables caches)) caches.rb.size may_flush
-            (λ flush. rb_step_ordered h (order_of caches) p base (known_of h caches base) sound.kept.kept.guarded bits sound.rb_format.bits (l2_tables caches) (may flush))
-            old new key caches.rb.entries rb.entries answer honest (sound.kept, refl, mixed_same h (order_of caches) base (known_of h caches base)) (is_none (lookup (eqb key) caches.rb.entries) missing) (miss missing) in
+            let f = get_done seen bits (λ (b : RefBlockView). b.bytes) (λ b. b.is_modified) cleared_rb (IsBlockOf caches.rb.backend.header.fields) (λ v. refl) (λ v. refl) (OrderedBlocks h (order_of caches) p on_storage (known_of h caches on_storage) sound.kept.kept.guarded bits sound.rb_format.bits (l2_tables caches)) (λ ts on_storage. known_bytes (cluster_size h) (l2_tables caches) ts on_storage) (λ ts on_storage are. loaded_distinct (cluster_size h) (HasBlock h on_storage) on_storage ts are.0.rb_loaded) (rb_drop_ordered h (order_of caches) p on_storage (known_of h caches on_storage) sound.kept.kept.guarded bits sound.rb_format.bits (l2_tables caches)) (rb_add_ordered h (order_of caches) p on_storage (known_of h caches on_storage) sound.kept.kept.guarded bits sound.rb_format.bits (l2_tables caches)) (rb_promote_ordered h (order_of caches) p on_storage (known_of h caches on_storage) sound.kept.kept.guarded bits sound.rb_format.bits (l2_tables caches)) caches.rb.size may_flush
+            (λ flush. rb_step_ordered h (order_of caches) p on_storage (known_of h caches on_storage) sound.kept.kept.guarded bits sound.rb_format.bits (l2_tables caches) (may flush))
+            old new key caches.rb.entries rb.entries answer honest (sound.kept, refl, mixed_same h (order_of caches) on_storage (known_of h caches on_storage)) (is_none (lookup (eqb key) caches.rb.entries) missing) (miss missing) in
             record { moments = passes_if _ (λ l now. now.1.2) f.moments; contents = f.kept.2 }
       ]
 
@@ -151,10 +151,10 @@ module _ {S : Type 0} (view : S → StorageView) (old new : ImageStorage S) (cac
       → (may_flush ≡ true → BlocksMayGo (order_of caches) (l2_tables caches)) → WritesInOrder view old caches new
   block_put_in_order may_flush key rb v value left is answer there missing may h p honest sound =
       let bits = caches.rb.backend.header.fields.cluster_bits in
-      let base = byte_at (seen old).contents in
-      since_put seen bits (λ (b : RefBlockView). b.bytes) (λ b. b.is_modified) cleared_rb (IsBlockOf caches.rb.backend.header.fields) (λ v. refl) (λ v. refl) (OrderedBlocks h (order_of caches) p base (known_of h caches base) sound.kept.kept.guarded bits sound.rb_format.bits (l2_tables caches)) (λ ts base. known_bytes (cluster_size h) (l2_tables caches) ts base) key v old new caches.rb.entries rb.entries h (order_of caches) (known_of h caches base) (λ ts b now. now.2) answer
+      let on_storage = byte_at (seen old).contents in
+      since_put seen bits (λ (b : RefBlockView). b.bytes) (λ b. b.is_modified) cleared_rb (IsBlockOf caches.rb.backend.header.fields) (λ v. refl) (λ v. refl) (OrderedBlocks h (order_of caches) p on_storage (known_of h caches on_storage) sound.kept.kept.guarded bits sound.rb_format.bits (l2_tables caches)) (λ ts on_storage. known_bytes (cluster_size h) (l2_tables caches) ts on_storage) key v old new caches.rb.entries rb.entries h (order_of caches) (known_of h caches on_storage) (λ ts b now. now.2) answer
       (found_or_not (lookup_entry (eqb key) caches.rb.entries)
-      (λ none. insert_put seen bits (λ (b : RefBlockView). b.bytes) (λ b. b.is_modified) cleared_rb (IsBlockOf caches.rb.backend.header.fields) (λ v. refl) (λ v. refl) (OrderedBlocks h (order_of caches) p base (known_of h caches base) sound.kept.kept.guarded bits sound.rb_format.bits (l2_tables caches)) (λ ts base. known_bytes (cluster_size h) (l2_tables caches) ts base) (λ ts base are. loaded_distinct (cluster_size h) (HasBlock h base) base ts are.0.rb_loaded) (rb_drop_ordered h (order_of caches) p base (known_of h caches base) sound.kept.kept.guarded bits sound.rb_format.bits (l2_tables caches)) (rb_add_ordered h (order_of caches) p base (known_of h caches base) sound.kept.kept.guarded bits sound.rb_format.bits (l2_tables caches)) (rb_promote_ordered h (order_of caches) p base (known_of h caches base) sound.kept.kept.guarded bits sound.rb_format.bits (l2_tables caches)) caches.rb.size may_flush (λ flush. rb_step_ordered h (order_of caches) p base (known_of h caches base) sound.kept.kept.guarded bits sound.rb_format.bits (l2_tables caches) (may flush)) key v
-      old new caches.rb.entries rb.entries answer left honest (sound.kept, refl, mixed_same h (order_of caches) base (known_of h caches base)) (lookup_none (eqb key) caches.rb.entries none) (rw is at (missing (rw (lookup_none (eqb key) caches.rb.entries none) refl))))
-      (λ e some. replace_put seen bits (λ (b : RefBlockView). b.bytes) (λ b. b.is_modified) cleared_rb (IsBlockOf caches.rb.backend.header.fields) (λ v. refl) (λ v. refl) (OrderedBlocks h (order_of caches) p base (known_of h caches base) sound.kept.kept.guarded bits sound.rb_format.bits (l2_tables caches)) (λ ts base. known_bytes (cluster_size h) (l2_tables caches) ts base) (λ ts base are. loaded_distinct (cluster_size h) (HasBlock h base) base ts are.0.rb_loaded) (rb_drop_ordered h (order_of caches) p base (known_of h caches base) sound.kept.kept.guarded bits sound.rb_format.bits (l2_tables caches)) (rb_add_ordered h (order_of caches) p base (known_of h caches base) sound.kept.kept.guarded bits sound.rb_format.bits (l2_tables caches)) (rb_promote_ordered h (order_of caches) p base (known_of h caches base) sound.kept.kept.guarded bits sound.rb_format.bits (l2_tables caches)) caches.rb.size may_flush (λ flush. rb_step_ordered h (order_of caches) p base (known_of h caches base) sound.kept.kept.guarded bits sound.rb_format.bits (l2_tables caches) (may flush)) key v
-      old new caches.rb.entries e some honest (sound.kept, refl, mixed_same h (order_of caches) base (known_of h caches base)) rb.entries answer left (rw is at (rw some at there))))
+      (λ none. insert_put seen bits (λ (b : RefBlockView). b.bytes) (λ b. b.is_modified) cleared_rb (IsBlockOf caches.rb.backend.header.fields) (λ v. refl) (λ v. refl) (OrderedBlocks h (order_of caches) p on_storage (known_of h caches on_storage) sound.kept.kept.guarded bits sound.rb_format.bits (l2_tables caches)) (λ ts on_storage. known_bytes (cluster_size h) (l2_tables caches) ts on_storage) (λ ts on_storage are. loaded_distinct (cluster_size h) (HasBlock h on_storage) on_storage ts are.0.rb_loaded) (rb_drop_ordered h (order_of caches) p on_storage (known_of h caches on_storage) sound.kept.kept.guarded bits sound.rb_format.bits (l2_tables caches)) (rb_add_ordered h (order_of caches) p on_storage (known_of h caches on_storage) sound.kept.kept.guarded bits sound.rb_format.bits (l2_tables caches)) (rb_promote_ordered h (order_of caches) p on_storage (known_of h caches on_storage) sound.kept.kept.guarded bits sound.rb_format.bits (l2_tables caches)) caches.rb.size may_flush (λ flush. rb_step_ordered h (order_of caches) p on_storage (known_of h caches on_storage) sound.kept.kept.guarded bits sound.rb_format.bits (l2_tables caches) (may flush)) key v
+      old new caches.rb.entries rb.entries answer left honest (sound.kept, refl, mixed_same h (order_of caches) on_storage (known_of h caches on_storage)) (lookup_none (eqb key) caches.rb.entries none) (rw is at (missing (rw (lookup_none (eqb key) caches.rb.entries none) refl))))
+      (λ e some. replace_put seen bits (λ (b : RefBlockView). b.bytes) (λ b. b.is_modified) cleared_rb (IsBlockOf caches.rb.backend.header.fields) (λ v. refl) (λ v. refl) (OrderedBlocks h (order_of caches) p on_storage (known_of h caches on_storage) sound.kept.kept.guarded bits sound.rb_format.bits (l2_tables caches)) (λ ts on_storage. known_bytes (cluster_size h) (l2_tables caches) ts on_storage) (λ ts on_storage are. loaded_distinct (cluster_size h) (HasBlock h on_storage) on_storage ts are.0.rb_loaded) (rb_drop_ordered h (order_of caches) p on_storage (known_of h caches on_storage) sound.kept.kept.guarded bits sound.rb_format.bits (l2_tables caches)) (rb_add_ordered h (order_of caches) p on_storage (known_of h caches on_storage) sound.kept.kept.guarded bits sound.rb_format.bits (l2_tables caches)) (rb_promote_ordered h (order_of caches) p on_storage (known_of h caches on_storage) sound.kept.kept.guarded bits sound.rb_format.bits (l2_tables caches)) caches.rb.size may_flush (λ flush. rb_step_ordered h (order_of caches) p on_storage (known_of h caches on_storage) sound.kept.kept.guarded bits sound.rb_format.bits (l2_tables caches) (may flush)) key v
+      old new caches.rb.entries e some honest (sound.kept, refl, mixed_same h (order_of caches) on_storage (known_of h caches on_storage)) rb.entries answer left (rw is at (rw some at there))))

@@ -7,7 +7,7 @@ use Rattle.std.proofs.lemmas.Bool.Decides.{nat_tests}
 use Rattle.image_access.specs.Moments.{StorageView}
 use Rattle.qcow2_metadata.specs.Bytes.{Bytes, byte_at}
 use Rattle.qcow2_metadata.specs.declared.header.HeaderFields.{HeaderFields}
-use Rattle.qcow2_laws.specs.Guard.{Pending}
+use Rattle.qcow2_laws.specs.CrashInvariant.{Pending}
 use Rattle.qcow2_metadata.specs.declared.error.MetadataError.{MetadataError}
 use Rattle.qcow2_metadata.specs.Header.{cluster_size}
 use Rattle.qcow2_metadata.specs.L2Table.{L2TableView}
@@ -26,7 +26,7 @@ use Rattle.qcow2_alloc.specs.CacheAnswers.{InsertsNew, Replaces}
 use Rattle.qcow2_alloc.specs.ImageStorage.{storage_of}
 use Rattle.qcow2_alloc.specs.TableCaches.{l2_steps, rb_steps, cleared_l2, cleared_rb, IsTableOf, IsBlockOf}
 use Rattle.qcow2_alloc.specs.KeptTables.{cached_tables, AllFit, AreElsewhere, AreKept}
-use Rattle.qcow2_alloc.specs.MetadataCaches.{HasFormat, order_of, l2_tables, refblocks, AreSound, StaySound, HoldsKnown}
+use Rattle.qcow2_alloc.specs.MetadataCaches.{HasFormat, order_of, l2_tables, refblocks, CacheInvariant, UnseenCacheStep, HoldsKnown}
 use Rattle.qcow2_alloc.proofs.CachedEntries.Lists.{lookup-from_entry}
 use Rattle.qcow2_alloc.proofs.KeptTables.Settled.{settled_beside, settled_anew, blocks_stand, block_place}
 use Rattle.qcow2_alloc.proofs.KeptTables.Standing.{clean_stands, insert_stands, replace_stands}
@@ -106,19 +106,19 @@ module _ {S : Type 0} (view : S → StorageView) (old new : ImageStorage S) (cac
         (λ e some. taken_place (l2_steps seen caches.l2.backend.header.fields) may_flush key v old new caches.l2.entries l2.entries e (remove_entry (eqb key) caches.l2.entries) answer left
         (Contains-lookup_entry (eqb key) caches.l2.entries e some).1 (rw is at (rw some at there)))
 
-    pub table_put : (may_flush ≡ true → TablesMayGo (order_of caches) (refblocks caches)) → (h : HeaderFields) (p : Pending) → (seen old).is_honest → AreSound h p caches (byte_at (seen old).contents)
-        → IsTableOf h v → v.is_modified ≡ false → HoldsKnown h caches (byte_at (seen old).contents) v.bytes key → StaySound h p (seen old) caches (seen new) (record caches { l2 = l2 })
+    pub table_put : (may_flush ≡ true → TablesMayGo (order_of caches) (refblocks caches)) → (h : HeaderFields) (p : Pending) → (seen old).is_honest → CacheInvariant h p caches (byte_at (seen old).contents)
+        → IsTableOf h v → v.is_modified ≡ false → HoldsKnown h caches (byte_at (seen old).contents) v.bytes key → UnseenCacheStep h p (seen old) caches (seen new) (record caches { l2 = l2 })
     table_put may h p honest sound fits clean holds =
         let of_format = table_as caches.l2.backend.header.fields h v sound.l2_format fits in
         let bits = caches.l2.backend.header.fields.cluster_bits in
-        let P : List CachedTable → Bytes → Type 0 = λ ts base. AreKept h (order_of caches) p ts (refblocks caches) base in
-        let all : List CachedTable → Bytes → Bytes = λ ts base. known_bytes (cluster_size h) ts (refblocks caches) base in
+        let P : List CachedTable → Bytes → Type 0 = λ ts on_storage. AreKept h (order_of caches) p ts (refblocks caches) on_storage in
+        let all : List CachedTable → Bytes → Bytes = λ ts on_storage. known_bytes (cluster_size h) ts (refblocks caches) on_storage in
         let same_backend : l2.backend ≡ caches.l2.backend = ap (λ c. c.backend) others in
-        let distinct : (ts : List CachedTable) (base : Bytes) → P ts base → AreDistinct ts = λ ts base are. loaded_distinct (cluster_size h) (HasL2 h base) base ts are.l2_loaded in
-        let add : (t : CachedTable) (ts : List CachedTable) (base : Bytes) → P ts base → t.place % 2 ^ bits ≡ 0 → AreElsewhere t.place ts → t.is_modified ≡ false → HoldsWhatStands all (2 ^ bits) t ts base
-        → P (t ∷ ts) base × (all (t ∷ ts) base ≡ all ts base) =
-        λ t ts base are aligned away clean current.
-        l2_add h (order_of caches) p (refblocks caches) t ts base are (subst (λ n. t.place % 2 ^ n ≡ 0) sound.l2_format.bits aligned) away clean (subst (λ n. HoldsWhatStands all (2 ^ n) t ts base) sound.l2_format.bits current) in
+        let distinct : (ts : List CachedTable) (on_storage : Bytes) → P ts on_storage → AreDistinct ts = λ ts on_storage are. loaded_distinct (cluster_size h) (HasL2 h on_storage) on_storage ts are.l2_loaded in
+        let add : (t : CachedTable) (ts : List CachedTable) (on_storage : Bytes) → P ts on_storage → t.place % 2 ^ bits ≡ 0 → AreElsewhere t.place ts → t.is_modified ≡ false → HoldsWhatStands all (2 ^ bits) t ts on_storage
+        → P (t ∷ ts) on_storage × (all (t ∷ ts) on_storage ≡ all ts on_storage) =
+        λ t ts on_storage are aligned away clean current.
+        l2_add h (order_of caches) p (refblocks caches) t ts on_storage are (subst (λ n. t.place % 2 ^ n ≡ 0) sound.l2_format.bits aligned) away clean (subst (λ n. HoldsWhatStands all (2 ^ n) t ts on_storage) sound.l2_format.bits current) in
         let holds' : (i : ℕ) → i < 2 ^ bits → byte_at v.bytes i ≡ all (l2_tables caches) (byte_at (seen old).contents) (key * 2 ^ bits + i) =
         subst (λ n. (i : ℕ) → i < 2 ^ n → byte_at v.bytes i ≡ all (l2_tables caches) (byte_at (seen old).contents) (key * 2 ^ n + i)) (sym sound.l2_format.bits) holds in
         let f : Flushed seen bits (λ (t : L2TableView). t.bytes) (λ t. t.is_modified) cleared_l2 (IsTableOf caches.l2.backend.header.fields) (λ v. refl) (λ v. refl) P all old new (l2_tables caches)
@@ -157,19 +157,19 @@ module _ {S : Type 0} (view : S → StorageView) (old new : ImageStorage S) (cac
         (λ e some. taken_place (rb_steps seen caches.rb.backend.header.fields) may_flush key v old new caches.rb.entries rb.entries e (remove_entry (eqb key) caches.rb.entries) answer left
         (Contains-lookup_entry (eqb key) caches.rb.entries e some).1 (rw is at (rw some at there)))
 
-    pub block_put : (may_flush ≡ true → BlocksMayGo (order_of caches) (l2_tables caches)) → (h : HeaderFields) (p : Pending) → (seen old).is_honest → AreSound h p caches (byte_at (seen old).contents)
-        → IsBlockOf h v → v.is_modified ≡ false → HoldsKnown h caches (byte_at (seen old).contents) v.bytes key → StaySound h p (seen old) caches (seen new) (record caches { rb = rb })
+    pub block_put : (may_flush ≡ true → BlocksMayGo (order_of caches) (l2_tables caches)) → (h : HeaderFields) (p : Pending) → (seen old).is_honest → CacheInvariant h p caches (byte_at (seen old).contents)
+        → IsBlockOf h v → v.is_modified ≡ false → HoldsKnown h caches (byte_at (seen old).contents) v.bytes key → UnseenCacheStep h p (seen old) caches (seen new) (record caches { rb = rb })
     block_put may h p honest sound fits clean holds =
         let of_format = block_as caches.rb.backend.header.fields h v sound.rb_format fits in
         let bits = caches.rb.backend.header.fields.cluster_bits in
-        let P : List CachedTable → Bytes → Type 0 = λ ts base. AreKept h (order_of caches) p (l2_tables caches) ts base in
-        let all : List CachedTable → Bytes → Bytes = λ ts base. known_bytes (cluster_size h) (l2_tables caches) ts base in
+        let P : List CachedTable → Bytes → Type 0 = λ ts on_storage. AreKept h (order_of caches) p (l2_tables caches) ts on_storage in
+        let all : List CachedTable → Bytes → Bytes = λ ts on_storage. known_bytes (cluster_size h) (l2_tables caches) ts on_storage in
         let same_backend : rb.backend ≡ caches.rb.backend = ap (λ c. c.backend) others in
-        let distinct : (ts : List CachedTable) (base : Bytes) → P ts base → AreDistinct ts = λ ts base are. loaded_distinct (cluster_size h) (HasBlock h base) base ts are.rb_loaded in
-        let add : (t : CachedTable) (ts : List CachedTable) (base : Bytes) → P ts base → t.place % 2 ^ bits ≡ 0 → AreElsewhere t.place ts → t.is_modified ≡ false → HoldsWhatStands all (2 ^ bits) t ts base
-        → P (t ∷ ts) base × (all (t ∷ ts) base ≡ all ts base) =
-        λ t ts base are aligned away clean current.
-        rb_add h (order_of caches) p (l2_tables caches) t ts base are (subst (λ n. t.place % 2 ^ n ≡ 0) sound.rb_format.bits aligned) away clean (subst (λ n. HoldsWhatStands all (2 ^ n) t ts base) sound.rb_format.bits current) in
+        let distinct : (ts : List CachedTable) (on_storage : Bytes) → P ts on_storage → AreDistinct ts = λ ts on_storage are. loaded_distinct (cluster_size h) (HasBlock h on_storage) on_storage ts are.rb_loaded in
+        let add : (t : CachedTable) (ts : List CachedTable) (on_storage : Bytes) → P ts on_storage → t.place % 2 ^ bits ≡ 0 → AreElsewhere t.place ts → t.is_modified ≡ false → HoldsWhatStands all (2 ^ bits) t ts on_storage
+        → P (t ∷ ts) on_storage × (all (t ∷ ts) on_storage ≡ all ts on_storage) =
+        λ t ts on_storage are aligned away clean current.
+        rb_add h (order_of caches) p (l2_tables caches) t ts on_storage are (subst (λ n. t.place % 2 ^ n ≡ 0) sound.rb_format.bits aligned) away clean (subst (λ n. HoldsWhatStands all (2 ^ n) t ts on_storage) sound.rb_format.bits current) in
         let holds' : (i : ℕ) → i < 2 ^ bits → byte_at v.bytes i ≡ all (refblocks caches) (byte_at (seen old).contents) (key * 2 ^ bits + i) =
         subst (λ n. (i : ℕ) → i < 2 ^ n → byte_at v.bytes i ≡ all (refblocks caches) (byte_at (seen old).contents) (key * 2 ^ n + i)) (sym sound.rb_format.bits) holds in
         let f : Flushed seen bits (λ (b : RefBlockView). b.bytes) (λ b. b.is_modified) cleared_rb (IsBlockOf caches.rb.backend.header.fields) (λ v. refl) (λ v. refl) P all old new (refblocks caches)

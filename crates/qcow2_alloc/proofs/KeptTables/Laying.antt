@@ -10,7 +10,7 @@ use Rattle.qcow2_metadata.specs.Entries.{host_offset}
 use Rattle.qcow2_metadata.specs.Named.{named_by_l1_table, named_by_reftable, named_by_cover}
 use Rattle.qcow2_metadata.specs.Tables.{CachedTable, known, overlays}
 use Rattle.qcow2_laws.specs.Clusters.{Direction}
-use Rattle.qcow2_laws.specs.Guard.{Pending, IsGuarded, SameCovers, SameIn}
+use Rattle.qcow2_laws.specs.CrashInvariant.{Pending, CrashInvariant, SameCovers, SameIn}
 use Rattle.qcow2_laws.specs.Guests.{names, table_at}
 use Rattle.qcow2_laws.specs.Writes.{IsUnnamed}
 use Rattle.qcow2_laws.specs.Caches.{known_bytes, IsFreeAt, AreSettled, HasL2, HasBlock}
@@ -34,19 +34,19 @@ unfolding known
 laid_first size t ts b = fun_ext (λ o. refl)
 
 -- under a list of which none lies there
-pub laid_under : (size : ℕ) (t : CachedTable) (l2s rbs : List CachedTable) (base : Bytes) → ((o : ℕ) → overlays size t o ≡ true → IsFreeAt size l2s o)
-    → known size l2s (known size (t ∷ rbs) base) ≡ known size (t ∷ []) (known size l2s (known size rbs base))
-laid_under size t l2s rbs base free = fun_ext (λ o. elim (cases_Bool (overlays size t o)) [
+pub laid_under : (size : ℕ) (t : CachedTable) (l2s rbs : List CachedTable) (on_storage : Bytes) → ((o : ℕ) → overlays size t o ≡ true → IsFreeAt size l2s o)
+    → known size l2s (known size (t ∷ rbs) on_storage) ≡ known size (t ∷ []) (known size l2s (known size rbs on_storage))
+laid_under size t l2s rbs on_storage free = fun_ext (λ o. elim (cases_Bool (overlays size t o)) [
   | inl over ↦
-      known-none size l2s (known size (t ∷ rbs) base) o (free o over) ∙ known_first size t rbs base o ∙ cond-true _ _ _ over
-      ∙ sym (known_first size t [] (known size l2s (known size rbs base)) o ∙ cond-true _ _ _ over)
+      known-none size l2s (known size (t ∷ rbs) on_storage) o (free o over) ∙ known_first size t rbs on_storage o ∙ cond-true _ _ _ over
+      ∙ sym (known_first size t [] (known size l2s (known size rbs on_storage)) o ∙ cond-true _ _ _ over)
   | inr past ↦
-      known-at size l2s (known size (t ∷ rbs) base) (known size rbs base) o (known_elsewhere size [] rbs t base o past)
-      ∙ sym (known_elsewhere size [] [] t (known size l2s (known size rbs base)) o past ∙ known-none size [] (known size l2s (known size rbs base)) o tt)
+      known-at size l2s (known size (t ∷ rbs) on_storage) (known size rbs on_storage) o (known_elsewhere size [] rbs t on_storage o past)
+      ∙ sym (known_elsewhere size [] [] t (known size l2s (known size rbs on_storage)) o past ∙ known-none size [] (known size l2s (known size rbs on_storage)) o tt)
 ])
 
 -- ---- what is kept
-module _ (h : HeaderFields) (d : Direction) (p : Pending) (l2s rbs : List CachedTable) (base : Bytes) (are : AreKept h d p l2s rbs base) (t : CachedTable) (aligned : t.place % cluster_size h ≡ 0) (marked : t.is_modified ≡ true) (p' : Pending) where
+module _ (h : HeaderFields) (d : Direction) (p : Pending) (l2s rbs : List CachedTable) (on_storage : Bytes) (are : AreKept h d p l2s rbs on_storage) (t : CachedTable) (aligned : t.place % cluster_size h ≡ 0) (marked : t.is_modified ≡ true) (p' : Pending) where
   abbrev size : ℕ
   size = cluster_size h
 
@@ -54,18 +54,18 @@ module _ (h : HeaderFields) (d : Direction) (p : Pending) (l2s rbs : List Cached
   past_other c other o in_c = no_overlay size t o (λ over. other (sym in_c ∙ within_cluster t.place size o aligned (overlays_within size t o over)))
 
   -- an L2 table that an L1 entry names
-  pub l2_laid : AreElsewhere t.place l2s → AreSettled h rbs base → HasL2 h base (t.place / size) → IsGuarded h d p' base (known_bytes size (t ∷ l2s) rbs base) → AreKept h d p' (t ∷ l2s) rbs base
+  pub l2_laid : AreElsewhere t.place l2s → AreSettled h rbs on_storage → HasL2 h on_storage (t.place / size) → CrashInvariant h d p' on_storage (known_bytes size (t ∷ l2s) rbs on_storage) → AreKept h d p' (t ∷ l2s) rbs on_storage
   l2_laid away settled has guarded = record {
     kept = record {
       guarded = guarded;
       l2_apart = (
         aligned,
-        (λ o over. free_elsewhere size (HasL2 h base) base l2s t.place o aligned away are.l2_loaded (within_cluster t.place size o aligned (overlays_within size t o over))),
+        (λ o over. free_elsewhere size (HasL2 h on_storage) on_storage l2s t.place o aligned away are.l2_loaded (within_cluster t.place size o aligned (overlays_within size t o over))),
         are.kept.l2_apart,
       );
       rb_apart = are.kept.rb_apart;
       l2_stand = λ c. elim (cases_eq c (t.place / size)) [
-        | inl here ↦ inr (subst (HasL2 h base) (sym here) has)
+        | inl here ↦ inr (subst (HasL2 h on_storage) (sym here) has)
         | inr other ↦ elim (are.kept.l2_stand c) [ inl free ↦ inl (λ o in_c. (past_other c other o in_c, free o in_c)) | inr named ↦ inr named ]
       ];
       rb_stand = λ c. elim (settled c) [ inl free ↦ inl free | inr named ↦ inr (inl named) ];
@@ -75,51 +75,51 @@ module _ (h : HeaderFields) (d : Direction) (p : Pending) (l2s rbs : List Cached
   }
 
   -- a refblock that the reftable names, or one where nothing is named
-  module _ (stands : HasBlock h base (t.place / size) ⊎ IsUnnamed h base (known_bytes size l2s (t ∷ rbs) base) (t.place / size)) (guarded : IsGuarded h d p' base (known_bytes size l2s (t ∷ rbs) base)) where
-    no_l2 : HasL2 h base (t.place / size) → ⊥
+  module _ (stands : HasBlock h on_storage (t.place / size) ⊎ IsUnnamed h on_storage (known_bytes size l2s (t ∷ rbs) on_storage) (t.place / size)) (guarded : CrashInvariant h d p' on_storage (known_bytes size l2s (t ∷ rbs) on_storage)) where
+    no_l2 : HasL2 h on_storage (t.place / size) → ⊥
     no_l2 has =
-        let s = shares h base (t.place / size) in
-        let table : 1 ≤ named_by_l1_table h base (t.place / size) = subst (λ n. 1 ≤ named_by_l1_table h base n) has.2 (table_has h base has.0 has.1) in
+        let s = shares h on_storage (t.place / size) in
+        let table : 1 ≤ named_by_l1_table h on_storage (t.place / size) = subst (λ n. 1 ≤ named_by_l1_table h on_storage n) has.2 (table_has h on_storage has.0 has.1) in
         elim stands [
           | inl block ↦
-              let also : 1 ≤ named_by_reftable h base (t.place / size) = subst (λ n. 1 ≤ named_by_reftable h base n) block.2 (block_has h base block.0 block.1) in
-              let once = table_once h d p' base (known_bytes size l2s (t ∷ rbs) base) guarded (t.place / size) (omega arith) in
+              let also : 1 ≤ named_by_reftable h on_storage (t.place / size) = subst (λ n. 1 ≤ named_by_reftable h on_storage n) block.2 (block_has h on_storage block.0 block.1) in
+              let once = table_once h d p' on_storage (known_bytes size l2s (t ∷ rbs) on_storage) guarded (t.place / size) (omega arith) in
               omega arith
           | inr unnamed ↦ let none = unnamed.no_table in omega arith
         ]
 
-    same_elsewhere : (c : ℕ) → c ≢ t.place / size → SameIn size c (known_bytes size l2s rbs base) (known_bytes size l2s (t ∷ rbs) base)
-    same_elsewhere c other o in_c = sym (known-at size l2s (known size (t ∷ rbs) base) (known size rbs base) o (known_elsewhere size [] rbs t base o (past_other c other o in_c)))
+    same_elsewhere : (c : ℕ) → c ≢ t.place / size → SameIn size c (known_bytes size l2s rbs on_storage) (known_bytes size l2s (t ∷ rbs) on_storage)
+    same_elsewhere c other o in_c = sym (known-at size l2s (known size (t ∷ rbs) on_storage) (known size rbs on_storage) o (known_elsewhere size [] rbs t on_storage o (past_other c other o in_c)))
 
-    same_covers : SameCovers h (known_bytes size l2s rbs base) (known_bytes size l2s (t ∷ rbs) base)
+    same_covers : SameCovers h (known_bytes size l2s rbs on_storage) (known_bytes size l2s (t ∷ rbs) on_storage)
     same_covers g =
         let i = g / entries_per_cluster h in
         let top = are.kept.guarded.same_top in
-        cover_stays h (known_bytes size l2s rbs base) (known_bytes size l2s (t ∷ rbs) base) (IsTop-top h base (known_bytes size l2s rbs base) top are.kept.guarded.top) g (sym (top.l1 i) ∙ guarded.same_top.l1 i)
-        (λ real. same_elsewhere (table_at h (known_bytes size l2s rbs base) i / size) (λ here. no_l2 (named_base i real here)))
+        cover_stays h (known_bytes size l2s rbs on_storage) (known_bytes size l2s (t ∷ rbs) on_storage) (IsTop-top h on_storage (known_bytes size l2s rbs on_storage) top are.kept.guarded.top) g (sym (top.l1 i) ∙ guarded.same_top.l1 i)
+        (λ real. same_elsewhere (table_at h (known_bytes size l2s rbs on_storage) i / size) (λ here. no_l2 (named_on_storage i real here)))
       where
-        named_base : (i : ℕ) → table_at h (known_bytes size l2s rbs base) i ≢ 0 → table_at h (known_bytes size l2s rbs base) i / size ≡ t.place / size → HasL2 h base (t.place / size)
-        named_base i real here = let e : table_at h base i ≡ table_at h (known_bytes size l2s rbs base) i = ap host_offset (are.kept.guarded.same_top.l1 i) in (i, (λ none. real (sym e ∙ none)), ap (λ n. n / size) e ∙ here)
+        named_on_storage : (i : ℕ) → table_at h (known_bytes size l2s rbs on_storage) i ≢ 0 → table_at h (known_bytes size l2s rbs on_storage) i / size ≡ t.place / size → HasL2 h on_storage (t.place / size)
+        named_on_storage i real here = let e : table_at h on_storage i ≡ table_at h (known_bytes size l2s rbs on_storage) i = ap host_offset (are.kept.guarded.same_top.l1 i) in (i, (λ none. real (sym e ∙ none)), ap (λ n. n / size) e ∙ here)
 
-    still_unnamed : (c : ℕ) → IsUnnamed h base (known_bytes size l2s rbs base) c → IsUnnamed h base (known_bytes size l2s (t ∷ rbs) base) c
+    still_unnamed : (c : ℕ) → IsUnnamed h on_storage (known_bytes size l2s rbs on_storage) c → IsUnnamed h on_storage (known_bytes size l2s (t ∷ rbs) on_storage) c
     still_unnamed c unnamed = record {
       no_table = unnamed.no_table;
-      no_entry = over_guests-same h _ _ (λ g. ap (λ (m : L2Mapping). max (names h base c g) (named_by_cover h c m)) (sym (same_covers g))) ∙ unnamed.no_entry;
+      no_entry = over_guests-same h _ _ (λ g. ap (λ (m : L2Mapping). max (names h on_storage c g) (named_by_cover h c m)) (sym (same_covers g))) ∙ unnamed.no_entry;
     }
 
-    pub rb_laid : AreElsewhere t.place rbs → AreKept h d p' l2s (t ∷ rbs) base
+    pub rb_laid : AreElsewhere t.place rbs → AreKept h d p' l2s (t ∷ rbs) on_storage
     rb_laid away = record {
       kept = record {
         guarded = guarded;
         l2_apart = are.kept.l2_apart;
         rb_apart = (
           aligned,
-          (λ o over. free_elsewhere size (HasBlock h base) base rbs t.place o aligned away are.rb_loaded (within_cluster t.place size o aligned (overlays_within size t o over))),
+          (λ o over. free_elsewhere size (HasBlock h on_storage) on_storage rbs t.place o aligned away are.rb_loaded (within_cluster t.place size o aligned (overlays_within size t o over))),
           are.kept.rb_apart,
         );
         l2_stand = are.kept.l2_stand;
         rb_stand = λ c. elim (cases_eq c (t.place / size)) [
-          | inl here ↦ inr (subst (λ n. HasBlock h base n ⊎ IsUnnamed h base (known_bytes size l2s (t ∷ rbs) base) n) (sym here) stands)
+          | inl here ↦ inr (subst (λ n. HasBlock h on_storage n ⊎ IsUnnamed h on_storage (known_bytes size l2s (t ∷ rbs) on_storage) n) (sym here) stands)
           | inr other ↦ elim (are.kept.rb_stand c) [
             | inl free ↦ inl (λ o in_c. (past_other c other o in_c, free o in_c))
             | inr more ↦ elim more [ inl has ↦ inr (inl has) | inr unnamed ↦ inr (inr (still_unnamed c unnamed)) ]

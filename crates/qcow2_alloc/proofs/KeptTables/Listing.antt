@@ -6,20 +6,20 @@ use Rattle.qcow2_metadata.specs.Header.{cluster_size}
 use Rattle.qcow2_metadata.specs.Named.{named_by_reftable, named_by_l1_table}
 use Rattle.qcow2_metadata.specs.Tables.{CachedTable, known, overlays}
 use Rattle.qcow2_laws.specs.Clusters.{Direction}
-use Rattle.qcow2_laws.specs.Guard.{Pending, IsGuarded}
+use Rattle.qcow2_laws.specs.CrashInvariant.{Pending, CrashInvariant}
 use Rattle.qcow2_laws.specs.Writes.{IsUnnamed}
-use Rattle.qcow2_laws.specs.Caches.{known_bytes, IsFreeAt, AreApart, HasL2, HasBlock, IsKept}
+use Rattle.qcow2_laws.specs.Caches.{known_bytes, IsFreeAt, AreApart, HasL2, HasBlock, CacheInvariantOver}
 use Rattle.qcow2_laws.proofs.Lists.{known_unmodified, known_promoted, unmodified_over, overlays_within, within_cluster, no_overlay, differs}
 use Rattle.qcow2_laws.proofs.Shares.{table_has, block_has}
 use Rattle.qcow2_laws.proofs.Caches.{rbs_free, l2s_free}
-use Rattle.qcow2_laws.proofs.KeptSteps.{known_is_base}
+use Rattle.qcow2_laws.proofs.KeptSteps.{known_is_on_storage}
 use Rattle.qcow2_alloc.specs.KeptTables.{AreElsewhere, IsCurrent, AreLoaded, AreKept}
 use Rattle.qcow2_alloc.proofs.KeptTables.Loaded.{one_place, in_own_cluster, loaded_without, loaded_promoted}
 use Rattle.qcow2_alloc.proofs.KeptTables.Entries.{AreDistinct}
 
-pub loaded_distinct : (size : ℕ) (IsNamed : ℕ → Type 0) (base : Bytes) (ts : List CachedTable) → AreLoaded size IsNamed ts base → AreDistinct ts
-loaded_distinct size IsNamed base [] loaded = tt
-loaded_distinct size IsNamed base (t ∷ ts) loaded = (loaded.1, loaded_distinct size IsNamed base ts loaded.3)
+pub loaded_distinct : (size : ℕ) (IsNamed : ℕ → Type 0) (on_storage : Bytes) (ts : List CachedTable) → AreLoaded size IsNamed ts on_storage → AreDistinct ts
+loaded_distinct size IsNamed on_storage [] loaded = tt
+loaded_distinct size IsNamed on_storage (t ∷ ts) loaded = (loaded.1, loaded_distinct size IsNamed on_storage ts loaded.3)
 
 -- ---- what another list keeps
 
@@ -29,11 +29,11 @@ pub record ShowsSame (size : ℕ) (ts us : List CachedTable) : Type 0 where
   pub apart : AreApart size us
   pub free : (o : ℕ) → IsFreeAt size ts o → IsFreeAt size us o
 
-pub l2_relisted : (h : HeaderFields) (d : Direction) (p : Pending) (l2s l2s' rbs : List CachedTable) (base : Bytes) → ShowsSame (cluster_size h) l2s l2s' → IsKept h d p l2s rbs base → IsKept h d p l2s' rbs base
-l2_relisted h d p l2s l2s' rbs base same kept =
-    let shows : known_bytes (cluster_size h) l2s' rbs base ≡ known_bytes (cluster_size h) l2s rbs base = same.known (known (cluster_size h) rbs base) in
+pub l2_relisted : (h : HeaderFields) (d : Direction) (p : Pending) (l2s l2s' rbs : List CachedTable) (on_storage : Bytes) → ShowsSame (cluster_size h) l2s l2s' → CacheInvariantOver h d p l2s rbs on_storage → CacheInvariantOver h d p l2s' rbs on_storage
+l2_relisted h d p l2s l2s' rbs on_storage same kept =
+    let shows : known_bytes (cluster_size h) l2s' rbs on_storage ≡ known_bytes (cluster_size h) l2s rbs on_storage = same.known (known (cluster_size h) rbs on_storage) in
     record {
-      guarded = subst (IsGuarded h d p base) (sym shows) kept.guarded;
+      guarded = subst (CrashInvariant h d p on_storage) (sym shows) kept.guarded;
       l2_apart = same.apart;
       rb_apart = kept.rb_apart;
       l2_stand = λ c. elim (kept.l2_stand c) [ inl free ↦ inl (λ o in_c. same.free o (free o in_c)) | inr has ↦ inr has ];
@@ -41,16 +41,16 @@ l2_relisted h d p l2s l2s' rbs base same kept =
         | inl free ↦ inl free
         | inr more ↦ elim more [
           | inl has ↦ inr (inl has)
-          | inr unnamed ↦ inr (inr (subst (λ (k : Bytes). IsUnnamed h base k c) (sym shows) unnamed))
+          | inr unnamed ↦ inr (inr (subst (λ (k : Bytes). IsUnnamed h on_storage k c) (sym shows) unnamed))
         ]
       ];
     }
 
-pub rb_relisted : (h : HeaderFields) (d : Direction) (p : Pending) (l2s rbs rbs' : List CachedTable) (base : Bytes) → ShowsSame (cluster_size h) rbs rbs' → IsKept h d p l2s rbs base → IsKept h d p l2s rbs' base
-rb_relisted h d p l2s rbs rbs' base same kept =
-    let shows : known_bytes (cluster_size h) l2s rbs' base ≡ known_bytes (cluster_size h) l2s rbs base = ap (known (cluster_size h) l2s) (same.known base) in
+pub rb_relisted : (h : HeaderFields) (d : Direction) (p : Pending) (l2s rbs rbs' : List CachedTable) (on_storage : Bytes) → ShowsSame (cluster_size h) rbs rbs' → CacheInvariantOver h d p l2s rbs on_storage → CacheInvariantOver h d p l2s rbs' on_storage
+rb_relisted h d p l2s rbs rbs' on_storage same kept =
+    let shows : known_bytes (cluster_size h) l2s rbs' on_storage ≡ known_bytes (cluster_size h) l2s rbs on_storage = ap (known (cluster_size h) l2s) (same.known on_storage) in
     record {
-      guarded = subst (IsGuarded h d p base) (sym shows) kept.guarded;
+      guarded = subst (CrashInvariant h d p on_storage) (sym shows) kept.guarded;
       l2_apart = kept.l2_apart;
       rb_apart = same.apart;
       l2_stand = kept.l2_stand;
@@ -58,7 +58,7 @@ rb_relisted h d p l2s rbs rbs' base same kept =
         | inl free ↦ inl (λ o in_c. same.free o (free o in_c))
         | inr more ↦ elim more [
           | inl has ↦ inr (inl has)
-          | inr unnamed ↦ inr (inr (subst (λ (k : Bytes). IsUnnamed h base k c) (sym shows) unnamed))
+          | inr unnamed ↦ inr (inr (subst (λ (k : Bytes). IsUnnamed h on_storage k c) (sym shows) unnamed))
         ]
       ];
     }
@@ -66,11 +66,11 @@ rb_relisted h d p l2s rbs rbs' base same kept =
 -- ---- the three changes
 
 -- where no table begins at the place, none lies in its cluster
-pub free_elsewhere : (size : ℕ) (IsNamed : ℕ → Type 0) (base : Bytes) (ts : List CachedTable) (place o : ℕ) → place % size ≡ 0 → AreElsewhere place ts → AreLoaded size IsNamed ts base → o / size ≡ place / size → IsFreeAt size ts o
-free_elsewhere size IsNamed base [] place o aligned away loaded here = tt
-free_elsewhere size IsNamed base (u ∷ ts) place o aligned away loaded here = (
+pub free_elsewhere : (size : ℕ) (IsNamed : ℕ → Type 0) (on_storage : Bytes) (ts : List CachedTable) (place o : ℕ) → place % size ≡ 0 → AreElsewhere place ts → AreLoaded size IsNamed ts on_storage → o / size ≡ place / size → IsFreeAt size ts o
+free_elsewhere size IsNamed on_storage [] place o aligned away loaded here = tt
+free_elsewhere size IsNamed on_storage (u ∷ ts) place o aligned away loaded here = (
   no_overlay size u o (λ over. away.0 (one_place size u.place place loaded.0 aligned (sym (within_cluster u.place size o loaded.0 (overlays_within size u o over)) ∙ here))),
-  free_elsewhere size IsNamed base ts place o aligned away.1 loaded.3 here,
+  free_elsewhere size IsNamed on_storage ts place o aligned away.1 loaded.3 here,
 )
 
 free_without : (size : ℕ) (front back : List CachedTable) (t : CachedTable) (o : ℕ) → IsFreeAt size (front ++ t ∷ back) o → IsFreeAt size (front ++ back) o
@@ -114,24 +114,24 @@ shows_promoted size front back t apart = record {
 
 -- ---- of the L2 tables, and of the refblocks
 module _ (h : HeaderFields) (d : Direction) (p : Pending) where
-  pub l2_drop : (rbs front back : List CachedTable) (t : CachedTable) (base : Bytes) → AreKept h d p (front ++ t ∷ back) rbs base → t.is_modified ≡ false
-      → AreKept h d p (front ++ back) rbs base × (known_bytes (cluster_size h) (front ++ back) rbs base ≡ known_bytes (cluster_size h) (front ++ t ∷ back) rbs base)
-  l2_drop rbs front back t base are clean =
+  pub l2_drop : (rbs front back : List CachedTable) (t : CachedTable) (on_storage : Bytes) → AreKept h d p (front ++ t ∷ back) rbs on_storage → t.is_modified ≡ false
+      → AreKept h d p (front ++ back) rbs on_storage × (known_bytes (cluster_size h) (front ++ back) rbs on_storage ≡ known_bytes (cluster_size h) (front ++ t ∷ back) rbs on_storage)
+  l2_drop rbs front back t on_storage are clean =
       let same = shows_without (cluster_size h) front back t clean are.kept.l2_apart in (
         record {
-          kept = l2_relisted h d p (front ++ t ∷ back) (front ++ back) rbs base same are.kept;
-          l2_loaded = loaded_without (cluster_size h) (HasL2 h base) base front back t are.l2_loaded;
+          kept = l2_relisted h d p (front ++ t ∷ back) (front ++ back) rbs on_storage same are.kept;
+          l2_loaded = loaded_without (cluster_size h) (HasL2 h on_storage) on_storage front back t are.l2_loaded;
           rb_loaded = are.rb_loaded;
         },
-        same.known (known (cluster_size h) rbs base),
+        same.known (known (cluster_size h) rbs on_storage),
       )
 
-  pub l2_add : (rbs : List CachedTable) (t : CachedTable) (ts : List CachedTable) (base : Bytes) → AreKept h d p ts rbs base → t.place % cluster_size h ≡ 0 → AreElsewhere t.place ts → t.is_modified ≡ false
-      → IsCurrent (cluster_size h) t base ⊎ ((i : ℕ) → i < cluster_size h → t.bytes i ≡ known_bytes (cluster_size h) ts rbs base (t.place + i)) → AreKept h d p (t ∷ ts) rbs base × (known_bytes (cluster_size h) (t ∷ ts) rbs base ≡ known_bytes (cluster_size h) ts rbs base)
-  l2_add rbs t ts base are aligned away clean holds =
+  pub l2_add : (rbs : List CachedTable) (t : CachedTable) (ts : List CachedTable) (on_storage : Bytes) → AreKept h d p ts rbs on_storage → t.place % cluster_size h ≡ 0 → AreElsewhere t.place ts → t.is_modified ≡ false
+      → IsCurrent (cluster_size h) t on_storage ⊎ ((i : ℕ) → i < cluster_size h → t.bytes i ≡ known_bytes (cluster_size h) ts rbs on_storage (t.place + i)) → AreKept h d p (t ∷ ts) rbs on_storage × (known_bytes (cluster_size h) (t ∷ ts) rbs on_storage ≡ known_bytes (cluster_size h) ts rbs on_storage)
+  l2_add rbs t ts on_storage are aligned away clean holds =
       let same = shows_more (cluster_size h) ts t clean aligned are.kept.l2_apart in (
         record {
-          kept = l2_relisted h d p ts (t ∷ ts) rbs base same are.kept;
+          kept = l2_relisted h d p ts (t ∷ ts) rbs on_storage same are.kept;
           l2_loaded = (
             aligned,
             away,
@@ -139,49 +139,49 @@ module _ (h : HeaderFields) (d : Direction) (p : Pending) where
               | inl current ↦ current
               | inr known ↦ λ i lt.
                   known i lt
-                  ∙ known_is_base (cluster_size h) ts rbs base (t.place + i)
-                  (free_elsewhere (cluster_size h) (HasL2 h base) base ts t.place (t.place + i) aligned away are.l2_loaded (in_own_cluster (cluster_size h) t.place i aligned lt))
-                  (rbs_free h d p ts rbs base are.kept (t.place / cluster_size h)
-                  (let one : 1 ≤ named_by_l1_table h base (t.place / cluster_size h) = subst (λ n. 1 ≤ named_by_l1_table h base n) has.2 (table_has h base has.0 has.1) in omega arith)
+                  ∙ known_is_on_storage (cluster_size h) ts rbs on_storage (t.place + i)
+                  (free_elsewhere (cluster_size h) (HasL2 h on_storage) on_storage ts t.place (t.place + i) aligned away are.l2_loaded (in_own_cluster (cluster_size h) t.place i aligned lt))
+                  (rbs_free h d p ts rbs on_storage are.kept (t.place / cluster_size h)
+                  (let one : 1 ≤ named_by_l1_table h on_storage (t.place / cluster_size h) = subst (λ n. 1 ≤ named_by_l1_table h on_storage n) has.2 (table_has h on_storage has.0 has.1) in omega arith)
                   (t.place + i) (in_own_cluster (cluster_size h) t.place i aligned lt))
             ]),
             are.l2_loaded,
           );
           rb_loaded = are.rb_loaded;
         },
-        same.known (known (cluster_size h) rbs base),
+        same.known (known (cluster_size h) rbs on_storage),
       )
 
-  pub l2_promote : (rbs front back : List CachedTable) (t : CachedTable) (base : Bytes) → AreKept h d p (front ++ t ∷ back) rbs base
-      → AreKept h d p (t ∷ (front ++ back)) rbs base × (known_bytes (cluster_size h) (t ∷ (front ++ back)) rbs base ≡ known_bytes (cluster_size h) (front ++ t ∷ back) rbs base)
-  l2_promote rbs front back t base are =
+  pub l2_promote : (rbs front back : List CachedTable) (t : CachedTable) (on_storage : Bytes) → AreKept h d p (front ++ t ∷ back) rbs on_storage
+      → AreKept h d p (t ∷ (front ++ back)) rbs on_storage × (known_bytes (cluster_size h) (t ∷ (front ++ back)) rbs on_storage ≡ known_bytes (cluster_size h) (front ++ t ∷ back) rbs on_storage)
+  l2_promote rbs front back t on_storage are =
       let same = shows_promoted (cluster_size h) front back t are.kept.l2_apart in (
         record {
-          kept = l2_relisted h d p (front ++ t ∷ back) (t ∷ (front ++ back)) rbs base same are.kept;
-          l2_loaded = loaded_promoted (cluster_size h) (HasL2 h base) base front back t are.l2_loaded;
+          kept = l2_relisted h d p (front ++ t ∷ back) (t ∷ (front ++ back)) rbs on_storage same are.kept;
+          l2_loaded = loaded_promoted (cluster_size h) (HasL2 h on_storage) on_storage front back t are.l2_loaded;
           rb_loaded = are.rb_loaded;
         },
-        same.known (known (cluster_size h) rbs base),
+        same.known (known (cluster_size h) rbs on_storage),
       )
 
-  pub rb_drop : (l2s front back : List CachedTable) (t : CachedTable) (base : Bytes) → AreKept h d p l2s (front ++ t ∷ back) base → t.is_modified ≡ false
-      → AreKept h d p l2s (front ++ back) base × (known_bytes (cluster_size h) l2s (front ++ back) base ≡ known_bytes (cluster_size h) l2s (front ++ t ∷ back) base)
-  rb_drop l2s front back t base are clean =
+  pub rb_drop : (l2s front back : List CachedTable) (t : CachedTable) (on_storage : Bytes) → AreKept h d p l2s (front ++ t ∷ back) on_storage → t.is_modified ≡ false
+      → AreKept h d p l2s (front ++ back) on_storage × (known_bytes (cluster_size h) l2s (front ++ back) on_storage ≡ known_bytes (cluster_size h) l2s (front ++ t ∷ back) on_storage)
+  rb_drop l2s front back t on_storage are clean =
       let same = shows_without (cluster_size h) front back t clean are.kept.rb_apart in (
         record {
-          kept = rb_relisted h d p l2s (front ++ t ∷ back) (front ++ back) base same are.kept;
+          kept = rb_relisted h d p l2s (front ++ t ∷ back) (front ++ back) on_storage same are.kept;
           l2_loaded = are.l2_loaded;
-          rb_loaded = loaded_without (cluster_size h) (HasBlock h base) base front back t are.rb_loaded;
+          rb_loaded = loaded_without (cluster_size h) (HasBlock h on_storage) on_storage front back t are.rb_loaded;
         },
-        ap (known (cluster_size h) l2s) (same.known base),
+        ap (known (cluster_size h) l2s) (same.known on_storage),
       )
 
-  pub rb_add : (l2s : List CachedTable) (t : CachedTable) (ts : List CachedTable) (base : Bytes) → AreKept h d p l2s ts base → t.place % cluster_size h ≡ 0 → AreElsewhere t.place ts → t.is_modified ≡ false
-      → IsCurrent (cluster_size h) t base ⊎ ((i : ℕ) → i < cluster_size h → t.bytes i ≡ known_bytes (cluster_size h) l2s ts base (t.place + i)) → AreKept h d p l2s (t ∷ ts) base × (known_bytes (cluster_size h) l2s (t ∷ ts) base ≡ known_bytes (cluster_size h) l2s ts base)
-  rb_add l2s t ts base are aligned away clean holds =
+  pub rb_add : (l2s : List CachedTable) (t : CachedTable) (ts : List CachedTable) (on_storage : Bytes) → AreKept h d p l2s ts on_storage → t.place % cluster_size h ≡ 0 → AreElsewhere t.place ts → t.is_modified ≡ false
+      → IsCurrent (cluster_size h) t on_storage ⊎ ((i : ℕ) → i < cluster_size h → t.bytes i ≡ known_bytes (cluster_size h) l2s ts on_storage (t.place + i)) → AreKept h d p l2s (t ∷ ts) on_storage × (known_bytes (cluster_size h) l2s (t ∷ ts) on_storage ≡ known_bytes (cluster_size h) l2s ts on_storage)
+  rb_add l2s t ts on_storage are aligned away clean holds =
       let same = shows_more (cluster_size h) ts t clean aligned are.kept.rb_apart in (
         record {
-          kept = rb_relisted h d p l2s ts (t ∷ ts) base same are.kept;
+          kept = rb_relisted h d p l2s ts (t ∷ ts) on_storage same are.kept;
           l2_loaded = are.l2_loaded;
           rb_loaded = (
             aligned,
@@ -190,26 +190,26 @@ module _ (h : HeaderFields) (d : Direction) (p : Pending) where
               | inl current ↦ current
               | inr known ↦ λ i lt.
                   known i lt
-                  ∙ known_is_base (cluster_size h) l2s ts base (t.place + i)
-                  (l2s_free h d p l2s ts base are.kept (t.place / cluster_size h)
-                  (let one : 1 ≤ named_by_reftable h base (t.place / cluster_size h) = subst (λ n. 1 ≤ named_by_reftable h base n) has.2 (block_has h base has.0 has.1) in omega arith)
+                  ∙ known_is_on_storage (cluster_size h) l2s ts on_storage (t.place + i)
+                  (l2s_free h d p l2s ts on_storage are.kept (t.place / cluster_size h)
+                  (let one : 1 ≤ named_by_reftable h on_storage (t.place / cluster_size h) = subst (λ n. 1 ≤ named_by_reftable h on_storage n) has.2 (block_has h on_storage has.0 has.1) in omega arith)
                   (t.place + i) (in_own_cluster (cluster_size h) t.place i aligned lt))
-                  (free_elsewhere (cluster_size h) (HasBlock h base) base ts t.place (t.place + i) aligned away are.rb_loaded (in_own_cluster (cluster_size h) t.place i aligned lt))
+                  (free_elsewhere (cluster_size h) (HasBlock h on_storage) on_storage ts t.place (t.place + i) aligned away are.rb_loaded (in_own_cluster (cluster_size h) t.place i aligned lt))
             ]),
             are.rb_loaded,
           );
         },
-        ap (known (cluster_size h) l2s) (same.known base),
+        ap (known (cluster_size h) l2s) (same.known on_storage),
       )
 
-  pub rb_promote : (l2s front back : List CachedTable) (t : CachedTable) (base : Bytes) → AreKept h d p l2s (front ++ t ∷ back) base
-      → AreKept h d p l2s (t ∷ (front ++ back)) base × (known_bytes (cluster_size h) l2s (t ∷ (front ++ back)) base ≡ known_bytes (cluster_size h) l2s (front ++ t ∷ back) base)
-  rb_promote l2s front back t base are =
+  pub rb_promote : (l2s front back : List CachedTable) (t : CachedTable) (on_storage : Bytes) → AreKept h d p l2s (front ++ t ∷ back) on_storage
+      → AreKept h d p l2s (t ∷ (front ++ back)) on_storage × (known_bytes (cluster_size h) l2s (t ∷ (front ++ back)) on_storage ≡ known_bytes (cluster_size h) l2s (front ++ t ∷ back) on_storage)
+  rb_promote l2s front back t on_storage are =
       let same = shows_promoted (cluster_size h) front back t are.kept.rb_apart in (
         record {
-          kept = rb_relisted h d p l2s (front ++ t ∷ back) (t ∷ (front ++ back)) base same are.kept;
+          kept = rb_relisted h d p l2s (front ++ t ∷ back) (t ∷ (front ++ back)) on_storage same are.kept;
           l2_loaded = are.l2_loaded;
-          rb_loaded = loaded_promoted (cluster_size h) (HasBlock h base) base front back t are.rb_loaded;
+          rb_loaded = loaded_promoted (cluster_size h) (HasBlock h on_storage) on_storage front back t are.rb_loaded;
         },
-        ap (known (cluster_size h) l2s) (same.known base),
+        ap (known (cluster_size h) l2s) (same.known on_storage),
       )

@@ -12,7 +12,7 @@ use Rattle.qcow2_metadata.specs.TableBytes.{entry_at, ChangesEntry}
 use Rattle.qcow2_metadata.specs.Tables.{CachedTable, known}
 use Rattle.qcow2_metadata.proofs.TableEntries.{number_at-moved}
 use Rattle.qcow2_laws.specs.Guests.{table_at}
-use Rattle.qcow2_laws.specs.Guard.{Pending, IsGuarded}
+use Rattle.qcow2_laws.specs.CrashInvariant.{Pending, CrashInvariant}
 use Rattle.qcow2_laws.specs.Tops.{IsSameOutside}
 use Rattle.qcow2_laws.specs.Caches.{known_bytes, HasL2, AreSettled}
 use Rattle.qcow2_laws.proofs.Places.{Sizes}
@@ -25,13 +25,13 @@ use Rattle.qcow2_alloc.specs.declared.cache.MetadataCaches.{MetadataCaches}
 use Rattle.qcow2_alloc.specs.AsyncLruCache.{slot_of, value_at, set_at, with_entries}
 use Rattle.qcow2_alloc.specs.TableCaches.{IsTableOf}
 use Rattle.qcow2_alloc.specs.KeptTables.{cached_table, cached_tables, AreKept, AreLoaded, AllFit}
-use Rattle.qcow2_alloc.specs.MetadataCaches.{order_of, l2_tables, refblocks, known_of, AreSound, IsEntryAt, MadeEntry, ShowsEntry, ShowsKnown}
+use Rattle.qcow2_alloc.specs.MetadataCaches.{order_of, l2_tables, refblocks, known_of, CacheInvariant, IsEntryAt, MadeEntry, ShowsEntry, ShowsKnown}
 use Rattle.qcow2_alloc.proofs.KeptTables.Entries.{tables_at}
 use Rattle.qcow2_alloc.proofs.KeptTables.Loaded.{in_own_cluster}
 use Rattle.qcow2_alloc.proofs.KeptTables.Changing.{Held, held, loaded_apart, loaded_changed, list_knows, fit_set, fit_held}
 
-module _ {S : Type 0} (h : HeaderFields) (p : Pending) (base : Bytes) (caches : MetadataCaches S) (sound : AreSound h p caches base) (key index : ℕ) (v : L2TableView)
-    (found : value_at (eqb key) caches.l2.entries ≡ Some v) (i : ℕ) (at : IsEntryAt h (known_of h caches base) i key index) where
+module _ {S : Type 0} (h : HeaderFields) (p : Pending) (on_storage : Bytes) (caches : MetadataCaches S) (sound : CacheInvariant h p caches on_storage) (key index : ℕ) (v : L2TableView)
+    (found : value_at (eqb key) caches.l2.entries ≡ Some v) (i : ℕ) (at : IsEntryAt h (known_of h caches on_storage) i key index) where
   abbrev bits : ℕ
   bits = caches.l2.backend.header.fields.cluster_bits
 
@@ -49,62 +49,62 @@ module _ {S : Type 0} (h : HeaderFields) (p : Pending) (base : Bytes) (caches : 
 
   -- what the refblocks lay over the storage
   abbrev under : Bytes
-  under = known (cluster_size h) (refblocks caches) base
+  under = known (cluster_size h) (refblocks caches) on_storage
 
   entries_is : l2_tables caches ≡ list_with v
   entries_is = ap tables there.is ∙ tables_at bits (λ (t : L2TableView). t.bytes) (λ t. t.is_modified) there.front there.back (key, slot_of v there.pins)
 
-  kept : AreKept h (order_of caches) p (list_with v) (refblocks caches) base
-  kept = subst (λ ts. AreKept h (order_of caches) p ts (refblocks caches) base) entries_is sound.kept
+  kept : AreKept h (order_of caches) p (list_with v) (refblocks caches) on_storage
+  kept = subst (λ ts. AreKept h (order_of caches) p ts (refblocks caches) on_storage) entries_is sound.kept
 
   sizes : Sizes h
-  sizes = kept_sizes h (order_of caches) p (list_with v) (refblocks caches) base kept.kept
+  sizes = kept_sizes h (order_of caches) p (list_with v) (refblocks caches) on_storage kept.kept
 
-  known_is : known_of h caches base ≡ known_bytes (cluster_size h) (list_with v) (refblocks caches) base
-  known_is = ap (λ ts. known_bytes (cluster_size h) ts (refblocks caches) base) entries_is
+  known_is : known_of h caches on_storage ≡ known_bytes (cluster_size h) (list_with v) (refblocks caches) on_storage
+  known_is = ap (λ ts. known_bytes (cluster_size h) ts (refblocks caches) on_storage) entries_is
 
-  place_is : (w : L2TableView) → (table w).place ≡ table_at h (known_of h caches base) i
+  place_is : (w : L2TableView) → (table w).place ≡ table_at h (known_of h caches on_storage) i
   place_is w = ap (λ n. key * 2 ^ n) sound.l2_format.bits ∙ sym at.place
 
-  same_entry : table_at h base i ≡ table_at h (known_of h caches base) i
+  same_entry : table_at h on_storage i ≡ table_at h (known_of h caches on_storage) i
   same_entry = ap host_offset (sound.kept.kept.guarded.same_top.l1 i)
 
-  has : (w : L2TableView) → HasL2 h base ((table w).place / cluster_size h)
+  has : (w : L2TableView) → HasL2 h on_storage ((table w).place / cluster_size h)
   has w = (i, (λ none. at.real (sym same_entry ∙ none)), ap (λ n. n / cluster_size h) (same_entry ∙ sym (place_is w)))
 
-  aligned_in : (w : L2TableView) (front : List CachedTable) → AreLoaded (cluster_size h) (HasL2 h base) (front ++ table w ∷ tables there.back) base → (table w).place % cluster_size h ≡ 0
+  aligned_in : (w : L2TableView) (front : List CachedTable) → AreLoaded (cluster_size h) (HasL2 h on_storage) (front ++ table w ∷ tables there.back) on_storage → (table w).place % cluster_size h ≡ 0
   aligned_in w [] l = l.0
   aligned_in w (u ∷ front) l = aligned_in w front l.3
 
-  rb_free : (w : L2TableView) (k : ℕ) → k < cluster_size h → (table w).place % cluster_size h ≡ 0 → under ((table w).place + k) ≡ base ((table w).place + k)
+  rb_free : (w : L2TableView) (k : ℕ) → k < cluster_size h → (table w).place % cluster_size h ≡ 0 → under ((table w).place + k) ≡ on_storage ((table w).place + k)
   rb_free w k lt aligned =
-      known-none (cluster_size h) (refblocks caches) base ((table w).place + k)
-      (rbs_free h (order_of caches) p (list_with v) (refblocks caches) base kept.kept ((table w).place / cluster_size h)
-      (let x = has w in let one : 1 ≤ named_by_l1_table h base ((table w).place / cluster_size h) = subst (λ n. 1 ≤ named_by_l1_table h base n) x.2 (table_has h base x.0 x.1) in omega arith)
+      known-none (cluster_size h) (refblocks caches) on_storage ((table w).place + k)
+      (rbs_free h (order_of caches) p (list_with v) (refblocks caches) on_storage kept.kept ((table w).place / cluster_size h)
+      (let x = has w in let one : 1 ≤ named_by_l1_table h on_storage ((table w).place / cluster_size h) = subst (λ n. 1 ≤ named_by_l1_table h on_storage n) x.2 (table_has h on_storage x.0 x.1) in omega arith)
       ((table w).place + k) (in_own_cluster (cluster_size h) (table w).place k aligned lt))
 
   -- a list with this table knows what it holds
-  knows : (w : L2TableView) → AreLoaded (cluster_size h) (HasL2 h base) (list_with w) base → (k : ℕ) → k < cluster_size h
-      → known_bytes (cluster_size h) (list_with w) (refblocks caches) base (table_at h (known_of h caches base) i + k) ≡ byte_at w.bytes k
+  knows : (w : L2TableView) → AreLoaded (cluster_size h) (HasL2 h on_storage) (list_with w) on_storage → (k : ℕ) → k < cluster_size h
+      → known_bytes (cluster_size h) (list_with w) (refblocks caches) on_storage (table_at h (known_of h caches on_storage) i + k) ≡ byte_at w.bytes k
   knows w loaded k lt =
       let aligned = aligned_in w (tables there.front) loaded in
-      ap (λ n. known_bytes (cluster_size h) (list_with w) (refblocks caches) base (n + k)) (sym (place_is w))
-      ∙ known-at (cluster_size h) (list_with w) under base ((table w).place + k) (rb_free w k lt aligned)
-      ∙ list_knows (cluster_size h) (HasL2 h base) base (tables there.front) (tables there.back) (table w) loaded (has w) k lt
+      ap (λ n. known_bytes (cluster_size h) (list_with w) (refblocks caches) on_storage (n + k)) (sym (place_is w))
+      ∙ known-at (cluster_size h) (list_with w) under on_storage ((table w).place + k) (rb_free w k lt aligned)
+      ∙ list_knows (cluster_size h) (HasL2 h on_storage) on_storage (tables there.front) (tables there.back) (table w) loaded (has w) k lt
 
   -- the entries that it holds are known
-  entries_known : (w : L2TableView) (b : Bytes) → AreLoaded (cluster_size h) (HasL2 h base) (list_with w) base → b ≡ known_bytes (cluster_size h) (list_with w) (refblocks caches) base → (k : ℕ) → k < entries_per_cluster h
-      → entry_at w.bytes k ≡ l2_entry b (table_at h (known_of h caches base) i) k
+  entries_known : (w : L2TableView) (b : Bytes) → AreLoaded (cluster_size h) (HasL2 h on_storage) (list_with w) on_storage → b ≡ known_bytes (cluster_size h) (list_with w) (refblocks caches) on_storage → (k : ℕ) → k < entries_per_cluster h
+      → entry_at w.bytes k ≡ l2_entry b (table_at h (known_of h caches on_storage) i) k
   unfolding l2_entry
   entries_known w b loaded is k lt =
-      number_at-moved (byte_at w.bytes) b (0 + 8 * k) (table_at h (known_of h caches base) i + 8 * k) 8 (λ n n_lt.
+      number_at-moved (byte_at w.bytes) b (0 + 8 * k) (table_at h (known_of h caches on_storage) i + 8 * k) 8 (λ n n_lt.
       let eights = sizes.eights in
       let front : 0 + 8 * k + n ≡ 8 * k + n = omega arith in
-      let behind : table_at h (known_of h caches base) i + 8 * k + n ≡ table_at h (known_of h caches base) i + (8 * k + n) = omega arith in
-      ap (byte_at w.bytes) front ∙ sym (knows w loaded (8 * k + n) (omega arith)) ∙ sym (ap (λ (m : Bytes). m (table_at h (known_of h caches base) i + (8 * k + n))) is) ∙ ap b (sym behind))
+      let behind : table_at h (known_of h caches on_storage) i + 8 * k + n ≡ table_at h (known_of h caches on_storage) i + (8 * k + n) = omega arith in
+      ap (byte_at w.bytes) front ∙ sym (knows w loaded (8 * k + n) (omega arith)) ∙ sym (ap (λ (m : Bytes). m (table_at h (known_of h caches on_storage) i + (8 * k + n))) is) ∙ ap b (sym behind))
 
-  was : (k : ℕ) → k < entries_per_cluster h → entry_at v.bytes k ≡ l2_entry (known_of h caches base) (table_at h (known_of h caches base) i) k
-  was = entries_known v (known_of h caches base) kept.l2_loaded known_is
+  was : (k : ℕ) → k < entries_per_cluster h → entry_at v.bytes k ≡ l2_entry (known_of h caches on_storage) (table_at h (known_of h caches on_storage) i) k
+  was = entries_known v (known_of h caches on_storage) kept.l2_loaded known_is
 
   own_fit : IsTableOf caches.l2.backend.header.fields v
   own_fit = fit_held (IsTableOf caches.l2.backend.header.fields) key there.front there.back v there.pins (subst (AllFit (IsTableOf caches.l2.backend.header.fields)) there.is sound.l2_fit)
@@ -120,10 +120,10 @@ module _ {S : Type 0} (h : HeaderFields) (p : Pending) (base : Bytes) (caches : 
   cover_is w fit = rw (fit.bits ∙ sound.l2_format.bits, fit.zero_bit ∙ sound.l2_format.zero_bit, fit.external ∙ sound.l2_format.external) refl
 
   -- what its entry covers is known
-  pub covers_known : cover_at v index ≡ entry_cover h (l2_entry (known_of h caches base) (table_at h (known_of h caches base) i) index)
+  pub covers_known : cover_at v index ≡ entry_cover h (l2_entry (known_of h caches on_storage) (table_at h (known_of h caches on_storage) i) index)
   covers_known = cover_is v own_fit ∙ ap (entry_cover h) (was index at.within)
 
-  pub entry_shown : ShowsEntry h (known_of h caches base) i index v
+  pub entry_shown : ShowsEntry h (known_of h caches on_storage) i index v
   entry_shown = record {
     format = record { bits = bits_is; zero_bit = own_fit.zero_bit ∙ sound.l2_format.zero_bit; external = own_fit.external ∙ sound.l2_format.external };
     entry = was index at.within;
@@ -135,19 +135,19 @@ module _ {S : Type 0} (h : HeaderFields) (p : Pending) (base : Bytes) (caches : 
     new_list : l2_tables (record caches { l2 = with_entries caches.l2 (set_at (eqb key) caches.l2.entries w) }) ≡ list_with w
     new_list = ap tables (there.set w) ∙ tables_at bits (λ (t : L2TableView). t.bytes) (λ t. t.is_modified) there.front there.back (key, slot_of w there.pins)
 
-    loaded' : AreLoaded (cluster_size h) (HasL2 h base) (list_with w) base
-    loaded' = loaded_changed (cluster_size h) (HasL2 h base) base (tables there.front) (tables there.back) (table v) (table w) refl marked kept.l2_loaded
+    loaded' : AreLoaded (cluster_size h) (HasL2 h on_storage) (list_with w) on_storage
+    loaded' = loaded_changed (cluster_size h) (HasL2 h on_storage) on_storage (tables there.front) (tables there.back) (table v) (table w) refl marked kept.l2_loaded
 
-    known' : known_of h caches' base ≡ known_bytes (cluster_size h) (list_with w) (refblocks caches) base
-    known' = rw (l2_is, rb_is) (ap (λ ts. known_bytes (cluster_size h) ts (refblocks caches) base) new_list)
+    known' : known_of h caches' on_storage ≡ known_bytes (cluster_size h) (list_with w) (refblocks caches) on_storage
+    known' = rw (l2_is, rb_is) (ap (λ ts. known_bytes (cluster_size h) ts (refblocks caches) on_storage) new_list)
 
-    now : (k : ℕ) → k < entries_per_cluster h → entry_at w.bytes k ≡ l2_entry (known_of h caches' base) (table_at h (known_of h caches base) i) k
-    now = entries_known w (known_of h caches' base) loaded' known'
+    now : (k : ℕ) → k < entries_per_cluster h → entry_at w.bytes k ≡ l2_entry (known_of h caches' on_storage) (table_at h (known_of h caches on_storage) i) k
+    now = entries_known w (known_of h caches' on_storage) loaded' known'
 
     aligned_v : (table v).place % cluster_size h ≡ 0
     aligned_v = aligned_in v (tables there.front) kept.l2_loaded
 
-    outside : IsSameOutside (cluster_size h) (table_at h (known_of h caches base) i / cluster_size h) (known_of h caches base) (known_of h caches' base)
+    outside : IsSameOutside (cluster_size h) (table_at h (known_of h caches on_storage) i / cluster_size h) (known_of h caches on_storage) (known_of h caches' on_storage)
     outside = λ o other.
         ap (λ (m : Bytes). m o) known_is
         ∙ changed_outside (cluster_size h) (tables there.front) (tables there.back) (table v) (table w) under refl aligned_v o (λ here. other (here ∙ ap (λ n. n / cluster_size h) (place_is v)))
@@ -156,12 +156,12 @@ module _ {S : Type 0} (h : HeaderFields) (p : Pending) (base : Bytes) (caches : 
     fit' : IsTableOf caches.l2.backend.header.fields w
     fit' = record { bits = same_bits ∙ own_fit.bits; zero_bit = same_zero ∙ own_fit.zero_bit; external = same_external ∙ own_fit.external }
 
-    sound_again : (p' : Pending) → AreSettled h (refblocks caches) base → IsGuarded h (order_of caches') p' base (known_of h caches' base) → AreSound h p' caches' base
+    sound_again : (p' : Pending) → AreSettled h (refblocks caches) on_storage → CrashInvariant h (order_of caches') p' on_storage (known_of h caches' on_storage) → CacheInvariant h p' caches' on_storage
     sound_again p' settled guarded =
-        let guarded' : IsGuarded h (order_of caches) p' base (known_bytes (cluster_size h) (list_with w) (refblocks caches) base) =
-        subst (λ (b : Bytes). IsGuarded h (order_of caches) p' base b) known' (rw direction_is at guarded) in
-        let again = l2_table_changed h (order_of caches) (order_of caches) p p' (tables there.front) (tables there.back) (refblocks caches) (table v) (table w) base kept.kept settled aligned_v (has w)
-        (loaded_apart (cluster_size h) (HasL2 h base) base (list_with w) loaded') guarded' in
+        let guarded' : CrashInvariant h (order_of caches) p' on_storage (known_bytes (cluster_size h) (list_with w) (refblocks caches) on_storage) =
+        subst (λ (b : Bytes). CrashInvariant h (order_of caches) p' on_storage b) known' (rw direction_is at guarded) in
+        let again = l2_table_changed h (order_of caches) (order_of caches) p p' (tables there.front) (tables there.back) (refblocks caches) (table v) (table w) on_storage kept.kept settled aligned_v (has w)
+        (loaded_apart (cluster_size h) (HasL2 h on_storage) on_storage (list_with w) loaded') guarded' in
         let all : AllFit (IsTableOf caches.l2.backend.header.fields) (set_at (eqb key) caches.l2.entries w) =
         subst (AllFit (IsTableOf caches.l2.backend.header.fields)) (sym (there.set w))
         (fit_set (IsTableOf caches.l2.backend.header.fields) key there.front there.back v w there.pins fit' (subst (AllFit (IsTableOf caches.l2.backend.header.fields)) there.is sound.l2_fit)) in
@@ -173,7 +173,7 @@ module _ {S : Type 0} (h : HeaderFields) (p : Pending) (base : Bytes) (caches : 
           kept = rw new_list (record { kept = again; l2_loaded = loaded'; rb_loaded = kept.rb_loaded });
         })
 
-    pub entry_made : (entry : ℕ) (answer : Option (ℕ × ℕ)) → ChangesEntry v.bytes w.bytes index entry → answer ≡ dropped_run v.cluster_bits (cover_at v index) (cover_at w index) → MadeEntry h caches caches' base i index entry answer
+    pub entry_made : (entry : ℕ) (answer : Option (ℕ × ℕ)) → ChangesEntry v.bytes w.bytes index entry → answer ≡ dropped_run v.cluster_bits (cover_at v index) (cover_at w index) → MadeEntry h caches caches' on_storage i index entry answer
     entry_made entry answer changes answered = record {
       change = record {
         outside = outside;
@@ -184,11 +184,11 @@ module _ {S : Type 0} (h : HeaderFields) (p : Pending) (base : Bytes) (caches : 
       answered =
           answered ∙ ap (λ n. dropped_run n (cover_at v index) (cover_at w index)) bits_is
           ∙ ap (λ c. dropped_run h.cluster_bits c (cover_at w index)) covers_known
-          ∙ ap (dropped_run h.cluster_bits (entry_cover h (l2_entry (known_of h caches base) (table_at h (known_of h caches base) i) index))) (cover_is w fit' ∙ ap (entry_cover h) changes.entry_is);
+          ∙ ap (dropped_run h.cluster_bits (entry_cover h (l2_entry (known_of h caches on_storage) (table_at h (known_of h caches on_storage) i) index))) (cover_is w fit' ∙ ap (entry_cover h) changes.entry_is);
       sound = sound_again;
     }
 
 -- what a peek shows
 pub shown_if : {S : Type 0} (caches : MetadataCaches S) (cluster : ℕ) (o : Option L2TableView) → o ≡ value_at (eqb cluster) caches.l2.entries → IfSome o (ShowsKnown caches cluster)
 shown_if caches cluster None is = tt
-shown_if caches cluster (Some t) is = λ h p base i index sound at. entry_shown h p base caches sound cluster index t (sym is) i at
+shown_if caches cluster (Some t) is = λ h p on_storage i index sound at. entry_shown h p on_storage caches sound cluster index t (sym is) i at

@@ -18,7 +18,7 @@ use Rattle.qcow2_metadata.specs.RefBlock.{RefBlockView}
 use Rattle.qcow2_metadata.specs.Named.{named_by_l1_table, named_by_cover}
 use Rattle.qcow2_metadata.specs.Tables.{CachedTable, known, overlays}
 use Rattle.qcow2_laws.specs.Clusters.{Direction}
-use Rattle.qcow2_laws.specs.Guard.{Pending, IsGuarded, IsPartly}
+use Rattle.qcow2_laws.specs.CrashInvariant.{Pending, CrashInvariant, IsPartly}
 use Rattle.qcow2_laws.specs.Guests.{named_in_either}
 use Rattle.qcow2_laws.specs.Writes.{IsUnnamed}
 use Rattle.qcow2_laws.specs.Caches.{known_bytes, IsFreeAt, IsFreeOf, AreApart, AreClean, AreSettled, HasL2, HasBlock}
@@ -41,7 +41,7 @@ use Rattle.qcow2_alloc.specs.CacheMarks.{HasRoom, KeepsMarks, LeavesPinned}
 use Rattle.qcow2_alloc.specs.TableLaws.{same_number}
 use Rattle.qcow2_alloc.specs.TableCaches.{IsTableOf, IsBlockOf}
 use Rattle.qcow2_alloc.specs.KeptTables.{cached_table, cached_tables, AreElsewhere, AreLoaded, AreKept, AllFit}
-use Rattle.qcow2_alloc.specs.MetadataCaches.{order_of, l2_tables, refblocks, rb_at, AreSound, TakenOff, TakesOff, TakenFrom, TakesBlock}
+use Rattle.qcow2_alloc.specs.MetadataCaches.{order_of, l2_tables, refblocks, rb_at, CacheInvariant, TakenOff, TakesOff, TakenFrom, TakesBlock}
 use Rattle.qcow2_alloc.proofs.CachedEntries.Knowing.{removed_apart}
 use Rattle.qcow2_alloc.proofs.CachedEntries.Lists.{lookup-from_entry}
 use Rattle.qcow2_alloc.proofs.CachedEntries.Pins.{removed_free}
@@ -115,11 +115,11 @@ module _ (size : ℕ) where
     | inr more ↦ subst (λ l. IsFreeAt size l o) (sym more.1) (all.0, some_free ts more.0 o more.2 all.1)
   ]
 
-  some_loaded : (IsNamed : ℕ → Type 0) (base : Bytes) (ts us : List CachedTable) → SomeOf ts us → AreLoaded size IsNamed ts base → AreLoaded size IsNamed us base
-  some_loaded IsNamed base [] us h all = subst (λ l. AreLoaded size IsNamed l base) (sym h) tt
-  some_loaded IsNamed base (t ∷ ts) us h all = elim h [
-    | inl less ↦ some_loaded IsNamed base ts us less all.3
-    | inr more ↦ subst (λ l. AreLoaded size IsNamed l base) (sym more.1) (all.0, some_elsewhere t.place ts more.0 more.2 all.1, all.2, some_loaded IsNamed base ts more.0 more.2 all.3)
+  some_loaded : (IsNamed : ℕ → Type 0) (on_storage : Bytes) (ts us : List CachedTable) → SomeOf ts us → AreLoaded size IsNamed ts on_storage → AreLoaded size IsNamed us on_storage
+  some_loaded IsNamed on_storage [] us h all = subst (λ l. AreLoaded size IsNamed l on_storage) (sym h) tt
+  some_loaded IsNamed on_storage (t ∷ ts) us h all = elim h [
+    | inl less ↦ some_loaded IsNamed on_storage ts us less all.3
+    | inr more ↦ subst (λ l. AreLoaded size IsNamed l on_storage) (sym more.1) (all.0, some_elsewhere t.place ts more.0 more.2 all.1, all.2, some_loaded IsNamed on_storage ts more.0 more.2 all.3)
   ]
 
   some_apart : (ts us : List CachedTable) → SomeOf ts us → AreApart size ts → AreApart size us
@@ -163,56 +163,56 @@ module _ (size : ℕ) where
   ]
 
 -- ---- of both caches
-module _ (h : HeaderFields) (d : Direction) (p : Pending) (l2s rbs l2s' rbs' : List CachedTable) (base : Bytes) (are : AreKept h d p l2s rbs base) (l2_some : SomeOf l2s l2s') (rb_some : SomeOf rbs rbs') where
+module _ (h : HeaderFields) (d : Direction) (p : Pending) (l2s rbs l2s' rbs' : List CachedTable) (on_storage : Bytes) (are : AreKept h d p l2s rbs on_storage) (l2_some : SomeOf l2s l2s') (rb_some : SomeOf rbs rbs') where
   abbrev size : ℕ
   size = cluster_size h
 
   some_bytes : 0 < size
-  some_bytes = (kept_sizes h d p l2s rbs base are.kept).some
+  some_bytes = (kept_sizes h d p l2s rbs on_storage are.kept).some
 
   either_free : (c : ℕ) → IsFreeOf size l2s c ⊎ IsFreeOf size rbs c
   either_free c = elim (are.kept.l2_stand c) [
     | inl free ↦ inl free
-    | inr has ↦ inr (rbs_free h d p l2s rbs base are.kept c (let one : 1 ≤ named_by_l1_table h base c = subst (λ n. 1 ≤ named_by_l1_table h base n) has.2 (table_has h base has.0 has.1) in omega arith))
+    | inr has ↦ inr (rbs_free h d p l2s rbs on_storage are.kept c (let one : 1 ≤ named_by_l1_table h on_storage c = subst (λ n. 1 ≤ named_by_l1_table h on_storage n) has.2 (table_has h on_storage has.0 has.1) in omega arith))
   ]
 
-  pub off_partly : IsPartly size base (known_bytes size l2s rbs base) (known_bytes size l2s' rbs' base)
+  pub off_partly : IsPartly size on_storage (known_bytes size l2s rbs on_storage) (known_bytes size l2s' rbs' on_storage)
   off_partly c = elim (either_free c) [
-    | inl free ↦ elim (some_known size some_bytes base rbs rbs' rb_some are.kept.rb_apart c) [
+    | inl free ↦ elim (some_known size some_bytes on_storage rbs rbs' rb_some are.kept.rb_apart c) [
       | inl stands ↦ inl (λ o in_c. new_free o (free o in_c) ∙ stands o in_c)
-      | inr same ↦ inr (λ o in_c. new_free o (free o in_c) ∙ same o in_c ∙ sym (known-none size l2s (known size rbs base) o (free o in_c)))
+      | inr same ↦ inr (λ o in_c. new_free o (free o in_c) ∙ same o in_c ∙ sym (known-none size l2s (known size rbs on_storage) o (free o in_c)))
     ]
-    | inr free ↦ elim (some_known size some_bytes base l2s l2s' l2_some are.kept.l2_apart c) [
+    | inr free ↦ elim (some_known size some_bytes on_storage l2s l2s' l2_some are.kept.l2_apart c) [
       | inl stands ↦ inl (λ o in_c. under l2s' rbs' o (some_free size rbs rbs' o rb_some (free o in_c)) ∙ stands o in_c)
       | inr same ↦ inr (λ o in_c. under l2s' rbs' o (some_free size rbs rbs' o rb_some (free o in_c)) ∙ same o in_c ∙ sym (under l2s rbs o (free o in_c)))
     ]
   ]
     where
-      new_free : (o : ℕ) → IsFreeAt size l2s o → known_bytes size l2s' rbs' base o ≡ known size rbs' base o
-      new_free o free = known-none size l2s' (known size rbs' base) o (some_free size l2s l2s' o l2_some free)
+      new_free : (o : ℕ) → IsFreeAt size l2s o → known_bytes size l2s' rbs' on_storage o ≡ known size rbs' on_storage o
+      new_free o free = known-none size l2s' (known size rbs' on_storage) o (some_free size l2s l2s' o l2_some free)
 
-      under : (ts us : List CachedTable) (o : ℕ) → IsFreeAt size us o → known_bytes size ts us base o ≡ known size ts base o
-      under ts us o free = known-at size ts (known size us base) base o (known-none size us base o free)
+      under : (ts us : List CachedTable) (o : ℕ) → IsFreeAt size us o → known_bytes size ts us on_storage o ≡ known size ts on_storage o
+      under ts us o free = known-at size ts (known size us on_storage) on_storage o (known-none size us on_storage o free)
 
   -- names that are no more than in either are none where these were none
   less_named : (f : L2Mapping → ℕ) (e b k : L2Mapping) → (e ≡ b) ⊎ (e ≡ k) → max (f b) (f e) ≤ max (f b) (f k)
   less_named f e b k (inl is) = let same : f e ≡ f b = ap f is in omega arith
   less_named f e b k (inr is) = let same : f e ≡ f k = ap f is in omega arith
 
-  still_unnamed : (c : ℕ) → IsUnnamed h base (known_bytes size l2s rbs base) c → IsUnnamed h base (known_bytes size l2s' rbs' base) c
+  still_unnamed : (c : ℕ) → IsUnnamed h on_storage (known_bytes size l2s rbs on_storage) c → IsUnnamed h on_storage (known_bytes size l2s' rbs' on_storage) c
   still_unnamed c unnamed = record {
     no_table = unnamed.no_table;
     no_entry =
-        let le : named_in_either h base (known_bytes size l2s' rbs' base) c ≤ named_in_either h base (known_bytes size l2s rbs base) c =
-        over_guests-le h _ _ (λ g. less_named (named_by_cover h c) _ _ _ (either_cover h base (known_bytes size l2s rbs base) (known_bytes size l2s' rbs' base) are.kept.guarded.top are.kept.guarded.same_top off_partly g)) in
+        let le : named_in_either h on_storage (known_bytes size l2s' rbs' on_storage) c ≤ named_in_either h on_storage (known_bytes size l2s rbs on_storage) c =
+        over_guests-le h _ _ (λ g. less_named (named_by_cover h c) _ _ _ (either_cover h on_storage (known_bytes size l2s rbs on_storage) (known_bytes size l2s' rbs' on_storage) are.kept.guarded.top are.kept.guarded.same_top off_partly g)) in
         let none = unnamed.no_entry in
         omega arith;
   }
 
-  pub off_settled : AreSettled h rbs base → AreSettled h rbs' base
+  pub off_settled : AreSettled h rbs on_storage → AreSettled h rbs' on_storage
   off_settled settled c = elim (settled c) [ inl free ↦ inl (λ o in_c. some_free size rbs rbs' o rb_some (free o in_c)) | inr has ↦ inr has ]
 
-  pub off_kept : (p' : Pending) → IsGuarded h d p' base (known_bytes size l2s' rbs' base) → AreKept h d p' l2s' rbs' base
+  pub off_kept : (p' : Pending) → CrashInvariant h d p' on_storage (known_bytes size l2s' rbs' on_storage) → AreKept h d p' l2s' rbs' on_storage
   off_kept p' guarded = record {
     kept = record {
       guarded = guarded;
@@ -224,60 +224,60 @@ module _ (h : HeaderFields) (d : Direction) (p : Pending) (l2s rbs l2s' rbs' : L
         | inr more ↦ elim more [ inl has ↦ inr (inl has) | inr unnamed ↦ inr (inr (still_unnamed c unnamed)) ]
       ];
     };
-    l2_loaded = some_loaded size (HasL2 h base) base l2s l2s' l2_some are.l2_loaded;
-    rb_loaded = some_loaded size (HasBlock h base) base rbs rbs' rb_some are.rb_loaded;
+    l2_loaded = some_loaded size (HasL2 h on_storage) on_storage l2s l2s' l2_some are.l2_loaded;
+    rb_loaded = some_loaded size (HasBlock h on_storage) on_storage rbs rbs' rb_some are.rb_loaded;
   }
 
 -- ---- the caches
-module _ {S : Type 0} (h : HeaderFields) (p : Pending) (base : Bytes) (caches : MetadataCaches S) (sound : AreSound h p caches base) where
+module _ {S : Type 0} (h : HeaderFields) (p : Pending) (on_storage : Bytes) (caches : MetadataCaches S) (sound : CacheInvariant h p caches on_storage) where
   -- some of the L2 tables stay
-  pub tables_off : (es : List (ℕ × Slot L2TableView)) → SomeOf caches.l2.entries es → TakenOff (AreClean (l2_tables caches)) h caches (record caches { l2 = with_entries caches.l2 es }) base
+  pub tables_off : (es : List (ℕ × Slot L2TableView)) → SomeOf caches.l2.entries es → TakenOff (AreClean (l2_tables caches)) h caches (record caches { l2 = with_entries caches.l2 es }) on_storage
   tables_off es some =
       let tables : List (ℕ × Slot L2TableView) → List CachedTable = cached_tables caches.l2.backend.header.fields.cluster_bits (λ (t : L2TableView). t.bytes) (λ t. t.is_modified) in
       let fewer : SomeOf (l2_tables caches) (tables es) = some_map (cached_table caches.l2.backend.header.fields.cluster_bits (λ (t : L2TableView). t.bytes) (λ t. t.is_modified)) caches.l2.entries es some in
       let all : SomeOf (refblocks caches) (refblocks caches) = some_all (refblocks caches) in
       record {
-        known = off_partly h (order_of caches) p (l2_tables caches) (refblocks caches) (tables es) (refblocks caches) base sound.kept fewer all;
+        known = off_partly h (order_of caches) p (l2_tables caches) (refblocks caches) (tables es) (refblocks caches) on_storage sound.kept fewer all;
         same = λ clean.
-            clean_known (cluster_size h) (tables es) (known (cluster_size h) (refblocks caches) base) (some_clean (l2_tables caches) (tables es) fewer clean)
-            ∙ sym (clean_known (cluster_size h) (l2_tables caches) (known (cluster_size h) (refblocks caches) base) clean);
+            clean_known (cluster_size h) (tables es) (known (cluster_size h) (refblocks caches) on_storage) (some_clean (l2_tables caches) (tables es) fewer clean)
+            ∙ sym (clean_known (cluster_size h) (l2_tables caches) (known (cluster_size h) (refblocks caches) on_storage) clean);
         settled = λ settled. settled;
         sound = λ p' guarded. record {
           l2_format = sound.l2_format;
           rb_format = sound.rb_format;
           l2_fit = some_fit (IsTableOf caches.l2.backend.header.fields) caches.l2.entries es some sound.l2_fit;
           rb_fit = sound.rb_fit;
-          kept = off_kept h (order_of caches) p (l2_tables caches) (refblocks caches) (tables es) (refblocks caches) base sound.kept fewer all p' guarded;
+          kept = off_kept h (order_of caches) p (l2_tables caches) (refblocks caches) (tables es) (refblocks caches) on_storage sound.kept fewer all p' guarded;
         };
       }
 
   -- some of the refblocks stay
   pub blocks_off : (Unmodified : Type 0) (es : List (ℕ × Slot RefBlockView)) → SomeOf caches.rb.entries es
-      → (Unmodified → known (cluster_size h) (refblocks (record caches { rb = with_entries caches.rb es })) base ≡ known (cluster_size h) (refblocks caches) base)
-      → TakenOff Unmodified h caches (record caches { rb = with_entries caches.rb es }) base
+      → (Unmodified → known (cluster_size h) (refblocks (record caches { rb = with_entries caches.rb es })) on_storage ≡ known (cluster_size h) (refblocks caches) on_storage)
+      → TakenOff Unmodified h caches (record caches { rb = with_entries caches.rb es }) on_storage
   blocks_off Unmodified es some same =
       let blocks : List (ℕ × Slot RefBlockView) → List CachedTable = cached_tables caches.rb.backend.header.fields.cluster_bits (λ (b : RefBlockView). b.bytes) (λ b. b.is_modified) in
       let fewer : SomeOf (refblocks caches) (blocks es) = some_map (cached_table caches.rb.backend.header.fields.cluster_bits (λ (b : RefBlockView). b.bytes) (λ b. b.is_modified)) caches.rb.entries es some in
       let all : SomeOf (l2_tables caches) (l2_tables caches) = some_all (l2_tables caches) in
       record {
-        known = off_partly h (order_of caches) p (l2_tables caches) (refblocks caches) (l2_tables caches) (blocks es) base sound.kept all fewer;
+        known = off_partly h (order_of caches) p (l2_tables caches) (refblocks caches) (l2_tables caches) (blocks es) on_storage sound.kept all fewer;
         same = λ clean. ap (known (cluster_size h) (l2_tables caches)) (same clean);
-        settled = off_settled h (order_of caches) p (l2_tables caches) (refblocks caches) (l2_tables caches) (blocks es) base sound.kept all fewer;
+        settled = off_settled h (order_of caches) p (l2_tables caches) (refblocks caches) (l2_tables caches) (blocks es) on_storage sound.kept all fewer;
         sound = λ p' guarded. record {
           l2_format = sound.l2_format;
           rb_format = sound.rb_format;
           l2_fit = sound.l2_fit;
           rb_fit = some_fit (IsBlockOf caches.rb.backend.header.fields) caches.rb.entries es some sound.rb_fit;
-          kept = off_kept h (order_of caches) p (l2_tables caches) (refblocks caches) (l2_tables caches) (blocks es) base sound.kept all fewer p' guarded;
+          kept = off_kept h (order_of caches) p (l2_tables caches) (refblocks caches) (l2_tables caches) (blocks es) on_storage sound.kept all fewer p' guarded;
         };
       }
 
-  pub blocks_off_clean : (es : List (ℕ × Slot RefBlockView)) → SomeOf caches.rb.entries es → TakenOff (AreClean (refblocks caches)) h caches (record caches { rb = with_entries caches.rb es }) base
+  pub blocks_off_clean : (es : List (ℕ × Slot RefBlockView)) → SomeOf caches.rb.entries es → TakenOff (AreClean (refblocks caches)) h caches (record caches { rb = with_entries caches.rb es }) on_storage
   blocks_off_clean es some =
       let blocks : List (ℕ × Slot RefBlockView) → List CachedTable = cached_tables caches.rb.backend.header.fields.cluster_bits (λ (b : RefBlockView). b.bytes) (λ b. b.is_modified) in
       let fewer : SomeOf (refblocks caches) (blocks es) = some_map (cached_table caches.rb.backend.header.fields.cluster_bits (λ (b : RefBlockView). b.bytes) (λ b. b.is_modified)) caches.rb.entries es some in
       blocks_off (AreClean (refblocks caches)) es some
-      (λ clean. clean_known (cluster_size h) (blocks es) base (some_clean (refblocks caches) (blocks es) fewer clean) ∙ sym (clean_known (cluster_size h) (refblocks caches) base clean))
+      (λ clean. clean_known (cluster_size h) (blocks es) on_storage (some_clean (refblocks caches) (blocks es) fewer clean) ∙ sym (clean_known (cluster_size h) (refblocks caches) on_storage clean))
 
   -- ---- the refblock of a cluster goes
   module _ (key : ℕ) (e : ℕ × Slot RefBlockView) (found : lookup_entry (eqb key) caches.rb.entries ≡ Some e) where
@@ -307,28 +307,28 @@ module _ {S : Type 0} (h : HeaderFields) (p : Pending) (base : Bytes) (caches : 
 
     place_is : block.place / cluster_size h ≡ key
     place_is =
-        let some : 0 < cluster_size h = (kept_sizes h (order_of caches) p (l2_tables caches) (refblocks caches) base sound.kept.kept).some in
+        let some : 0 < cluster_size h = (kept_sizes h (order_of caches) p (l2_tables caches) (refblocks caches) on_storage sound.kept.kept).some in
         let more : e.0 * cluster_size h ≡ e.0 * cluster_size h + 0 = omega arith in
         ap (λ n. e.0 * 2 ^ n / cluster_size h) sound.rb_format.bits ∙ ap (λ n. n / cluster_size h) more ∙ div-mul-add e.0 (cluster_size h) 0 some ∙ own_key
 
     modified_at : (IfSome (rb_at caches key) (λ (b : RefBlockView). b.is_modified ≡ false)) → e.1.value.is_modified ≡ false
     modified_at clean = rw (ap (option_map (λ (s : Slot RefBlockView). s.value)) (lookup-from_entry (eqb key) caches.rb.entries ∙ ap (option_map (λ (x : ℕ × Slot RefBlockView). x.1)) found)) at clean
 
-    pub block_off : TakenFrom h caches (record caches { rb = with_entries caches.rb (remove_entry (eqb key) caches.rb.entries) }) base key
+    pub block_off : TakenFrom h caches (record caches { rb = with_entries caches.rb (remove_entry (eqb key) caches.rb.entries) }) on_storage key
     block_off = record {
       off = blocks_off (IfSome (rb_at caches key) (λ (b : RefBlockView). b.is_modified ≡ false)) (remove_entry (eqb key) caches.rb.entries) (some_removed (eqb key) caches.rb.entries) (λ clean.
-          ap (λ ts. known (cluster_size h) ts base) after
-          ∙ sym (known_unmodified (cluster_size h) (blocks there.front) (blocks there.back) block base (modified_at clean))
-          ∙ sym (ap (λ ts. known (cluster_size h) ts base) before));
+          ap (λ ts. known (cluster_size h) ts on_storage) after
+          ∙ sym (known_unmodified (cluster_size h) (blocks there.front) (blocks there.back) block on_storage (modified_at clean))
+          ∙ sym (ap (λ ts. known (cluster_size h) ts on_storage) before));
       outside = λ o other.
-          known-at (cluster_size h) (l2_tables caches) (known (cluster_size h) (refblocks caches) base) (known (cluster_size h) (blocks (remove_entry (eqb key) caches.rb.entries)) base) o
-          (ap (λ ts. known (cluster_size h) ts base o) before
-          ∙ known_elsewhere (cluster_size h) (blocks there.front) (blocks there.back) block base o
+          known-at (cluster_size h) (l2_tables caches) (known (cluster_size h) (refblocks caches) on_storage) (known (cluster_size h) (blocks (remove_entry (eqb key) caches.rb.entries)) on_storage) o
+          (ap (λ ts. known (cluster_size h) ts on_storage o) before
+          ∙ known_elsewhere (cluster_size h) (blocks there.front) (blocks there.back) block on_storage o
           (no_overlay (cluster_size h) block o (λ over. other (within_cluster block.place (cluster_size h) o aligned (overlays_within (cluster_size h) block o over) ∙ place_is)))
-          ∙ sym (ap (λ ts. known (cluster_size h) ts base o) after));
+          ∙ sym (ap (λ ts. known (cluster_size h) ts on_storage o) after));
       gone = ap (option_map (λ (s : Slot RefBlockView). s.value)) (none_at key (remove_entry (eqb key) caches.rb.entries)
           (subst (AreElsewhere (key * 2 ^ bits)) (sym after) (subst (λ k. AreElsewhere (k * 2 ^ bits) (blocks there.front ++ blocks there.back)) own_key
-          (away_from (blocks there.front) (blocks there.back) block (subst AreDistinct before (loaded_distinct (cluster_size h) (HasBlock h base) base (refblocks caches) sound.kept.rb_loaded))))));
+          (away_from (blocks there.front) (blocks there.back) block (subst AreDistinct before (loaded_distinct (cluster_size h) (HasBlock h on_storage) on_storage (refblocks caches) sound.kept.rb_loaded))))));
     }
       where
         none_at : (k : ℕ) (es : List (ℕ × Slot RefBlockView)) → AreElsewhere (k * 2 ^ bits) (blocks es) → lookup (eqb k) es ≡ None
@@ -367,8 +367,8 @@ module _ {S : Type 0} (caches : MetadataCaches S) (key : ℕ) (b : Bool) (rb : C
       let missing = lookup-from_entry (eqb key) caches.rb.entries ∙ ap (option_map (λ (x : ℕ × Slot RefBlockView). x.1)) none in
       let can = sym went ∙ told in
       (let no = rw missing at can in cc))
-  found_of (Some e) some went = λ h p base sound.
-      subst (λ (c : Cache (RefBlockCacheBackend S) ℕ RefBlockView). TakenFrom h caches (record caches { rb = c }) base key) (sym (rw went at is)) (block_off h p base caches sound key e some)
+  found_of (Some e) some went = λ h p on_storage sound.
+      subst (λ (c : Cache (RefBlockCacheBackend S) ℕ RefBlockView). TakenFrom h caches (record caches { rb = c }) on_storage key) (sym (rw went at is)) (block_off h p on_storage caches sound key e some)
 
   pub removed_takes : IsTrue b → TakesBlock caches (record caches { rb = rb }) key
   removed_takes went = found_of (lookup_entry (eqb key) caches.rb.entries) refl went
@@ -399,13 +399,13 @@ left_err es fs r (Backend x) is h answer told = absurd (rw is at h)
 module _ {S : Type 0} (caches : MetadataCaches S) where
   -- of the L2 tables
   pub tables_taken : (l2 : Cache (L2CacheBackend S) ℕ L2TableView) → l2 ≡ with_entries caches.l2 l2.entries → SomeOf caches.l2.entries l2.entries → TakesOff (AreClean (l2_tables caches)) caches (record caches { l2 = l2 })
-  tables_taken l2 others some h p base sound =
-      subst (λ (c : Cache (L2CacheBackend S) ℕ L2TableView). TakenOff (AreClean (l2_tables caches)) h caches (record caches { l2 = c }) base) (sym others) (tables_off h p base caches sound l2.entries some)
+  tables_taken l2 others some h p on_storage sound =
+      subst (λ (c : Cache (L2CacheBackend S) ℕ L2TableView). TakenOff (AreClean (l2_tables caches)) h caches (record caches { l2 = c }) on_storage) (sym others) (tables_off h p on_storage caches sound l2.entries some)
 
   -- of the refblocks
   pub blocks_taken : (rb : Cache (RefBlockCacheBackend S) ℕ RefBlockView) → rb ≡ with_entries caches.rb rb.entries → SomeOf caches.rb.entries rb.entries → TakesOff (AreClean (refblocks caches)) caches (record caches { rb = rb })
-  blocks_taken rb others some h p base sound =
-      subst (λ (c : Cache (RefBlockCacheBackend S) ℕ RefBlockView). TakenOff (AreClean (refblocks caches)) h caches (record caches { rb = c }) base) (sym others) (blocks_off_clean h p base caches sound rb.entries some)
+  blocks_taken rb others some h p on_storage sound =
+      subst (λ (c : Cache (RefBlockCacheBackend S) ℕ RefBlockView). TakenOff (AreClean (refblocks caches)) h caches (record caches { rb = c }) on_storage) (sym others) (blocks_off_clean h p on_storage caches sound rb.entries some)
 
 -- an entry without a pin can be removed, so one that can't isn't there
 pub none_unremoved : {V : Type 0} (test : ℕ → Bool) (es : List (ℕ × Slot V)) → pinned es ≡ [] → can_remove test es ≡ false → value_at test es ≡ None
@@ -438,9 +438,9 @@ module _ {S : Type 0} (caches : MetadataCaches S) (key : ℕ) (b : Bool) (rb : C
   removed_clean all = subst (λ (x : Cache (RefBlockCacheBackend S) ℕ RefBlockView). AreClean (refblocks (record caches { rb = x }))) (sym is) (clean_case b caches.rb.backend.header.fields.cluster_bits caches.rb.entries all)
 
   -- it is no longer held
-  pub removed_gone : (h : HeaderFields) (p : Pending) (base : Bytes) → AreSound h p caches base → HasRoom caches → value_at (eqb key) rb.entries ≡ None
-  removed_gone h p base sound room = elim (cases_Bool b) [
-    | inl went ↦ (removed_takes caches key b rb told is went h p base sound).gone
+  pub removed_gone : (h : HeaderFields) (p : Pending) (on_storage : Bytes) → CacheInvariant h p caches on_storage → HasRoom caches → value_at (eqb key) rb.entries ≡ None
+  removed_gone h p on_storage sound room = elim (cases_Bool b) [
+    | inl went ↦ (removed_takes caches key b rb told is went h p on_storage sound).gone
     | inr stayed ↦
         ap (λ (x : Cache (RefBlockCacheBackend S) ℕ RefBlockView). value_at (eqb key) x.entries) is ∙ ap (λ c. value_at (eqb key) (cond c (remove_entry (eqb key) caches.rb.entries) caches.rb.entries)) stayed
         ∙ none_unremoved (eqb key) caches.rb.entries room.free (sym told ∙ stayed)

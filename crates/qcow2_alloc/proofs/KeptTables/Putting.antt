@@ -11,8 +11,8 @@ use Rattle.qcow2_metadata.specs.declared.error.MetadataError.{MetadataError}
 use Rattle.qcow2_metadata.specs.Header.{cluster_size}
 use Rattle.qcow2_metadata.specs.L2Table.{L2TableView}
 use Rattle.qcow2_metadata.specs.Tables.{CachedTable, known}
-use Rattle.qcow2_laws.specs.Stops.{IsKeptAt}
-use Rattle.qcow2_laws.specs.Guard.{Pending, IsGuarded}
+use Rattle.qcow2_laws.specs.Stops.{StopOkEverywhere}
+use Rattle.qcow2_laws.specs.CrashInvariant.{Pending, CrashInvariant}
 use Rattle.qcow2_laws.specs.Caches.{known_bytes, TablesMayGo, AreSettled, HasL2}
 use Rattle.qcow2_alloc.specs.declared.async_lru_cache.slot.Slot.{Slot}
 use Rattle.qcow2_alloc.specs.declared.async_lru_cache.error.CacheError.{CacheError}
@@ -24,7 +24,7 @@ use Rattle.qcow2_alloc.specs.CacheAnswers.{InsertsNew, Replaces}
 use Rattle.qcow2_alloc.specs.ImageStorage.{storage_of}
 use Rattle.qcow2_alloc.specs.TableCaches.{l2_steps, cleared_l2, IsTableOf}
 use Rattle.qcow2_alloc.specs.KeptTables.{cached_table, cached_tables, AllFit, AreElsewhere, AreKept}
-use Rattle.qcow2_alloc.specs.MetadataCaches.{laid_at, order_of, l2_tables, refblocks, AreSound, StaySound, LaidOver}
+use Rattle.qcow2_alloc.specs.MetadataCaches.{laid_at, order_of, l2_tables, refblocks, CacheInvariant, UnseenCacheStep, LaidOver}
 use Rattle.qcow2_alloc.proofs.KeptTables.Settled.{settled_beside}
 use Rattle.qcow2_alloc.proofs.KeptTables.Standing.{own_cluster}
 use Rattle.qcow2_alloc.proofs.KeptTables.Writing.{Flushed, Ready, Puts}
@@ -63,14 +63,14 @@ module _ {S V : Type 0} (view : S → StorageView) (bits : ℕ) (bytes : V → L
 
 -- ---- nothing new, and then a table is laid over
 module _ {S : Type 0} (view : S → StorageView) (h : HeaderFields) (p : Pending) (r s t : ImageStorage S) (a b c : MetadataCaches S) (table : CachedTable) (Stands : Bytes → Bytes → Type 0) (IsNamed : Bytes → Type 0) where
-  pub laid_then : StaySound h p (view (storage_of r)) a (view (storage_of s)) b → LaidOver Stands IsNamed h (view (storage_of s)) b (view (storage_of t)) c table → LaidOver Stands IsNamed h (view (storage_of r)) a (view (storage_of t)) c table
+  pub laid_then : UnseenCacheStep h p (view (storage_of r)) a (view (storage_of s)) b → LaidOver Stands IsNamed h (view (storage_of s)) b (view (storage_of t)) c table → LaidOver Stands IsNamed h (view (storage_of r)) a (view (storage_of t)) c table
   laid_then first second = record {
     honest = second.honest;
     known = second.known ∙ ap (known (cluster_size h) (table ∷ [])) first.known;
     since = record {
       moments = passes_on _ first.since.moments second.since.moments
-          (λ l safe backing m ok known_ok. safe backing m (first.since.contents backing m ok known_ok) (subst (IsKeptAt backing m) (sym first.known) known_ok));
-      contents = λ backing m ok known_ok. second.since.contents backing m (first.since.contents backing m ok known_ok) (subst (IsKeptAt backing m) (sym first.known) known_ok);
+          (λ l safe backing m ok known_ok. safe backing m (first.since.contents backing m ok known_ok) (subst (StopOkEverywhere backing m) (sym first.known) known_ok));
+      contents = λ backing m ok known_ok. second.since.contents backing m (first.since.contents backing m ok known_ok) (subst (StopOkEverywhere backing m) (sym first.known) known_ok);
     };
     settled = λ named settled. second.settled named (first.settled settled);
     sound = second.sound;
@@ -86,7 +86,7 @@ module _ {S : Type 0} (view : S → StorageView) (old new : ImageStorage S) (cac
       Replaces (l2_steps seen caches.l2.backend.header.fields) key e (remove_entry (eqb key) caches.l2.entries) v may_flush old caches.l2.entries answer new l2.entries left)))
       (missing : IsNone (lookup (eqb key) caches.l2.entries)
       → IfSome value (λ v. InsertsNew (l2_steps seen caches.l2.backend.header.fields) eqb caches.l2.size may_flush key v old caches.l2.entries answer new l2.entries left))
-      (may : may_flush ≡ true → TablesMayGo (order_of caches) (refblocks caches)) (h : HeaderFields) (p : Pending) (honest : (seen old).is_honest) (sound : AreSound h p caches (byte_at (seen old).contents)) where
+      (may : may_flush ≡ true → TablesMayGo (order_of caches) (refblocks caches)) (h : HeaderFields) (p : Pending) (honest : (seen old).is_honest) (sound : CacheInvariant h p caches (byte_at (seen old).contents)) where
     abbrev bits : ℕ
     bits = caches.l2.backend.header.fields.cluster_bits
 
@@ -94,21 +94,21 @@ module _ {S : Type 0} (view : S → StorageView) (old new : ImageStorage S) (cac
     IsFit = IsTableOf caches.l2.backend.header.fields
 
     abbrev P : List CachedTable → Bytes → Type 0
-    P ts base = AreKept h (order_of caches) p ts (refblocks caches) base
+    P ts on_storage = AreKept h (order_of caches) p ts (refblocks caches) on_storage
 
     abbrev all : List CachedTable → Bytes → Bytes
-    all ts base = known_bytes (cluster_size h) ts (refblocks caches) base
+    all ts on_storage = known_bytes (cluster_size h) ts (refblocks caches) on_storage
 
     abbrev tables : List (ℕ × Slot L2TableView) → List CachedTable
     tables = cached_tables bits (λ (t : L2TableView). t.bytes) (λ t. t.is_modified)
 
-    distinct : (ts : List CachedTable) (base : Bytes) → P ts base → AreDistinct ts
-    distinct ts base are = loaded_distinct (cluster_size h) (HasL2 h base) base ts are.l2_loaded
+    distinct : (ts : List CachedTable) (on_storage : Bytes) → P ts on_storage → AreDistinct ts
+    distinct ts on_storage are = loaded_distinct (cluster_size h) (HasL2 h on_storage) on_storage ts are.l2_loaded
 
-    add : (t : CachedTable) (ts : List CachedTable) (base : Bytes) → P ts base → t.place % 2 ^ bits ≡ 0 → AreElsewhere t.place ts → t.is_modified ≡ false → HoldsWhatStands all (2 ^ bits) t ts base
-        → P (t ∷ ts) base × (all (t ∷ ts) base ≡ all ts base)
-    add t ts base are aligned away clean current =
-        l2_add h (order_of caches) p (refblocks caches) t ts base are (subst (λ n. t.place % 2 ^ n ≡ 0) sound.l2_format.bits aligned) away clean (subst (λ n. HoldsWhatStands all (2 ^ n) t ts base) sound.l2_format.bits current)
+    add : (t : CachedTable) (ts : List CachedTable) (on_storage : Bytes) → P ts on_storage → t.place % 2 ^ bits ≡ 0 → AreElsewhere t.place ts → t.is_modified ≡ false → HoldsWhatStands all (2 ^ bits) t ts on_storage
+        → P (t ∷ ts) on_storage × (all (t ∷ ts) on_storage ≡ all ts on_storage)
+    add t ts on_storage are aligned away clean current =
+        l2_add h (order_of caches) p (refblocks caches) t ts on_storage are (subst (λ n. t.place % 2 ^ n ≡ 0) sound.l2_format.bits aligned) away clean (subst (λ n. HoldsWhatStands all (2 ^ n) t ts on_storage) sound.l2_format.bits current)
 
     puts : Puts seen bits (λ (t : L2TableView). t.bytes) (λ t. t.is_modified) cleared_l2 IsFit (λ v. refl) (λ v. refl) P all key v old new caches.l2.entries l2.entries answer
     puts = found_or_not (lookup_entry (eqb key) caches.l2.entries)
@@ -125,7 +125,7 @@ module _ {S : Type 0} (view : S → StorageView) (old new : ImageStorage S) (cac
         (λ none. insert_fits seen bits (λ (t : L2TableView). t.bytes) (λ t. t.is_modified) cleared_l2 IsFit (table_still caches.l2.backend.header.fields) caches.l2.size may_flush old new key v caches.l2.entries l2.entries answer left fits sound.l2_fit (rw is at (missing (rw (lookup_none (eqb key) caches.l2.entries none) refl))))
         (λ e some. replace_fits seen bits (λ (t : L2TableView). t.bytes) (λ t. t.is_modified) cleared_l2 IsFit (table_still caches.l2.backend.header.fields) may_flush old new key v caches.l2.entries l2.entries e answer left some fits sound.l2_fit (rw is at (rw some at there)))
 
-    pub table_kept : (answer ≡ Ok true → ⊥) → StaySound h p (seen old) caches (seen new) (record caches { l2 = l2 })
+    pub table_kept : (answer ≡ Ok true → ⊥) → UnseenCacheStep h p (seen old) caches (seen new) (record caches { l2 = l2 })
     table_kept isnt =
         let same_backend : l2.backend ≡ caches.l2.backend = ap (λ c. c.backend) others in
         let f = nothing_new seen bits (λ (t : L2TableView). t.bytes) (λ t. t.is_modified) cleared_l2 IsFit (λ v. refl) (λ v. refl) P all key v old new caches.l2.entries l2.entries answer isnt puts in
@@ -155,25 +155,25 @@ module _ {S : Type 0} (view : S → StorageView) (old new : ImageStorage S) (cac
       away : AreElsewhere (key * cluster_size h) (tables ready.rest)
       away = subst (λ n. AreElsewhere (key * 2 ^ n) (tables ready.rest)) sound.l2_format.bits ready.away
 
-      pub table_laid : LaidOver (λ base known. AreSettled h (refblocks caches) base × HasL2 h base key) (λ base. Unit {0}) h (seen old) caches (seen new) (record caches { l2 = l2 }) (laid_at h key v.bytes)
+      pub table_laid : LaidOver (λ on_storage known. AreSettled h (refblocks caches) on_storage × HasL2 h on_storage key) (λ on_storage. Unit {0}) h (seen old) caches (seen new) (record caches { l2 = l2 }) (laid_at h key v.bytes)
       table_laid =
           let whole : l2 ≡ with_entries caches.l2 entries = others ∙ ap (with_entries caches.l2) ready.is in
-          let base' = byte_at (seen new).contents in
-          subst (λ (c : Cache (L2CacheBackend S) ℕ L2TableView). LaidOver (λ base known. AreSettled h (refblocks caches) base × HasL2 h base key) (λ base. Unit {0}) h (seen old) caches (seen new) (record caches { l2 = c }) (laid_at h key v.bytes)) (sym whole)
+          let on_storage' = byte_at (seen new).contents in
+          subst (λ (c : Cache (L2CacheBackend S) ℕ L2TableView). LaidOver (λ on_storage known. AreSettled h (refblocks caches) on_storage × HasL2 h on_storage key) (λ on_storage. Unit {0}) h (seen old) caches (seen new) (record caches { l2 = c }) (laid_at h key v.bytes)) (sym whole)
           (record {
             honest = ready.done.honest;
-            known = ap (λ ts. known_bytes (cluster_size h) ts (refblocks caches) base') list_is ∙ laid_first (cluster_size h) (laid_at h key v.bytes) (tables ready.rest) (known (cluster_size h) (refblocks caches) base')
+            known = ap (λ ts. known_bytes (cluster_size h) ts (refblocks caches) on_storage') list_is ∙ laid_first (cluster_size h) (laid_at h key v.bytes) (tables ready.rest) (known (cluster_size h) (refblocks caches) on_storage')
                 ∙ ap (known (cluster_size h) (laid_at h key v.bytes ∷ [])) ready.done.known;
             since = ready.done.since;
-            settled = λ _. settled_beside h (order_of caches) (order_of caches) p p (l2_tables caches) (refblocks caches) (tables ready.rest) (refblocks caches) (byte_at (seen old).contents) base' sound.kept ready.done.kept ready.done.known;
+            settled = λ _. settled_beside h (order_of caches) (order_of caches) p p (l2_tables caches) (refblocks caches) (tables ready.rest) (refblocks caches) (byte_at (seen old).contents) on_storage' sound.kept ready.done.kept ready.done.known;
             sound = λ p' stands guarded. record {
               l2_format = sound.l2_format;
               rb_format = sound.rb_format;
               l2_fit = subst (AllFit IsFit) ready.is (fit (λ _. table_as caches.l2.backend.header.fields h v sound.l2_format fits));
               rb_fit = sound.rb_fit;
-              kept = subst (λ ts. AreKept h (order_of caches) p' ts (refblocks caches) base') (sym list_is)
-                  (l2_laid h (order_of caches) p (tables ready.rest) (refblocks caches) base' ready.done.kept (laid_at h key v.bytes) (mul-mod_left key (cluster_size h)) refl p' away stands.0
-                  (subst (HasL2 h base') (sym (own_cluster h.cluster_bits key)) stands.1)
-                  (subst (λ ts. IsGuarded h (order_of caches) p' base' (known_bytes (cluster_size h) ts (refblocks caches) base')) list_is guarded));
+              kept = subst (λ ts. AreKept h (order_of caches) p' ts (refblocks caches) on_storage') (sym list_is)
+                  (l2_laid h (order_of caches) p (tables ready.rest) (refblocks caches) on_storage' ready.done.kept (laid_at h key v.bytes) (mul-mod_left key (cluster_size h)) refl p' away stands.0
+                  (subst (HasL2 h on_storage') (sym (own_cluster h.cluster_bits key)) stands.1)
+                  (subst (λ ts. CrashInvariant h (order_of caches) p' on_storage' (known_bytes (cluster_size h) ts (refblocks caches) on_storage')) list_is guarded));
             };
           })

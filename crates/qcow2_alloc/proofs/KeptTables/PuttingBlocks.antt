@@ -11,7 +11,7 @@ use Rattle.qcow2_metadata.specs.declared.error.MetadataError.{MetadataError}
 use Rattle.qcow2_metadata.specs.Header.{cluster_size}
 use Rattle.qcow2_metadata.specs.RefBlock.{RefBlockView}
 use Rattle.qcow2_metadata.specs.Tables.{CachedTable, known}
-use Rattle.qcow2_laws.specs.Guard.{Pending, IsGuarded}
+use Rattle.qcow2_laws.specs.CrashInvariant.{Pending, CrashInvariant}
 use Rattle.qcow2_laws.specs.Writes.{IsUnnamed}
 use Rattle.qcow2_laws.specs.Caches.{known_bytes, BlocksMayGo, IsFreeOf, AreSettled, HasBlock}
 use Rattle.qcow2_laws.proofs.Tops.{SameTop-sym}
@@ -27,7 +27,7 @@ use Rattle.qcow2_alloc.specs.ImageStorage.{storage_of}
 use Rattle.qcow2_alloc.specs.TableLaws.{same_number}
 use Rattle.qcow2_alloc.specs.TableCaches.{rb_steps, cleared_rb, IsBlockOf}
 use Rattle.qcow2_alloc.specs.KeptTables.{cached_table, cached_tables, AllFit, AreElsewhere, AreKept}
-use Rattle.qcow2_alloc.specs.MetadataCaches.{laid_at, order_of, l2_tables, refblocks, AreSound, StaySound, LaidOver}
+use Rattle.qcow2_alloc.specs.MetadataCaches.{laid_at, order_of, l2_tables, refblocks, CacheInvariant, UnseenCacheStep, LaidOver}
 use Rattle.qcow2_alloc.proofs.KeptTables.Settled.{top_still, settled_anew, blocks_stand, block_place}
 use Rattle.qcow2_alloc.proofs.KeptTables.Standing.{IsStanding, AreStanding, own_cluster, insert_stands, replace_stands}
 use Rattle.qcow2_alloc.proofs.KeptTables.Writing.{block_named, Ready, Puts}
@@ -50,7 +50,7 @@ module _ {S : Type 0} (view : S → StorageView) (old new : ImageStorage S) (cac
       Replaces (rb_steps seen caches.rb.backend.header.fields) key e (remove_entry (eqb key) caches.rb.entries) v may_flush old caches.rb.entries answer new rb.entries left)))
       (missing : IsNone (lookup (eqb key) caches.rb.entries)
       → IfSome value (λ v. InsertsNew (rb_steps seen caches.rb.backend.header.fields) eqb caches.rb.size may_flush key v old caches.rb.entries answer new rb.entries left))
-      (may : may_flush ≡ true → BlocksMayGo (order_of caches) (l2_tables caches)) (h : HeaderFields) (p : Pending) (honest : (seen old).is_honest) (sound : AreSound h p caches (byte_at (seen old).contents)) where
+      (may : may_flush ≡ true → BlocksMayGo (order_of caches) (l2_tables caches)) (h : HeaderFields) (p : Pending) (honest : (seen old).is_honest) (sound : CacheInvariant h p caches (byte_at (seen old).contents)) where
     abbrev bits : ℕ
     bits = caches.rb.backend.header.fields.cluster_bits
 
@@ -58,10 +58,10 @@ module _ {S : Type 0} (view : S → StorageView) (old new : ImageStorage S) (cac
     IsFit = IsBlockOf caches.rb.backend.header.fields
 
     abbrev P : List CachedTable → Bytes → Type 0
-    P ts base = AreKept h (order_of caches) p (l2_tables caches) ts base
+    P ts on_storage = AreKept h (order_of caches) p (l2_tables caches) ts on_storage
 
     abbrev all : List CachedTable → Bytes → Bytes
-    all ts base = known_bytes (cluster_size h) (l2_tables caches) ts base
+    all ts on_storage = known_bytes (cluster_size h) (l2_tables caches) ts on_storage
 
     abbrev blocks : List (ℕ × Slot RefBlockView) → List CachedTable
     blocks = cached_tables bits (λ (b : RefBlockView). b.bytes) (λ b. b.is_modified)
@@ -69,16 +69,16 @@ module _ {S : Type 0} (view : S → StorageView) (old new : ImageStorage S) (cac
     abbrev Named : ℕ → Type 0
     Named = HasBlock h (byte_at (seen old).contents)
 
-    abbrev Stand : List (ℕ × Slot RefBlockView) → Type 0
-    Stand = AreStanding (λ (b : RefBlockView). b.is_modified) IsFit Named
+    abbrev BlocksStand : List (ℕ × Slot RefBlockView) → Type 0
+    BlocksStand = AreStanding (λ (b : RefBlockView). b.is_modified) IsFit Named
 
-    distinct : (ts : List CachedTable) (base : Bytes) → P ts base → AreDistinct ts
-    distinct ts base are = loaded_distinct (cluster_size h) (HasBlock h base) base ts are.rb_loaded
+    distinct : (ts : List CachedTable) (on_storage : Bytes) → P ts on_storage → AreDistinct ts
+    distinct ts on_storage are = loaded_distinct (cluster_size h) (HasBlock h on_storage) on_storage ts are.rb_loaded
 
-    add : (t : CachedTable) (ts : List CachedTable) (base : Bytes) → P ts base → t.place % 2 ^ bits ≡ 0 → AreElsewhere t.place ts → t.is_modified ≡ false → HoldsWhatStands all (2 ^ bits) t ts base
-        → P (t ∷ ts) base × (all (t ∷ ts) base ≡ all ts base)
-    add t ts base are aligned away clean current =
-        rb_add h (order_of caches) p (l2_tables caches) t ts base are (subst (λ n. t.place % 2 ^ n ≡ 0) sound.rb_format.bits aligned) away clean (subst (λ n. HoldsWhatStands all (2 ^ n) t ts base) sound.rb_format.bits current)
+    add : (t : CachedTable) (ts : List CachedTable) (on_storage : Bytes) → P ts on_storage → t.place % 2 ^ bits ≡ 0 → AreElsewhere t.place ts → t.is_modified ≡ false → HoldsWhatStands all (2 ^ bits) t ts on_storage
+        → P (t ∷ ts) on_storage × (all (t ∷ ts) on_storage ≡ all ts on_storage)
+    add t ts on_storage are aligned away clean current =
+        rb_add h (order_of caches) p (l2_tables caches) t ts on_storage are (subst (λ n. t.place % 2 ^ n ≡ 0) sound.rb_format.bits aligned) away clean (subst (λ n. HoldsWhatStands all (2 ^ n) t ts on_storage) sound.rb_format.bits current)
 
     puts : Puts seen bits (λ (b : RefBlockView). b.bytes) (λ b. b.is_modified) cleared_rb IsFit (λ v. refl) (λ v. refl) P all key v old new caches.rb.entries rb.entries answer
     puts = found_or_not (lookup_entry (eqb key) caches.rb.entries)
@@ -95,7 +95,7 @@ module _ {S : Type 0} (view : S → StorageView) (old new : ImageStorage S) (cac
         (λ none. insert_fits seen bits (λ (b : RefBlockView). b.bytes) (λ b. b.is_modified) cleared_rb IsFit (block_still caches.rb.backend.header.fields) caches.rb.size may_flush old new key v caches.rb.entries rb.entries answer left fits sound.rb_fit (rw is at (missing (rw (lookup_none (eqb key) caches.rb.entries none) refl))))
         (λ e some. replace_fits seen bits (λ (b : RefBlockView). b.bytes) (λ b. b.is_modified) cleared_rb IsFit (block_still caches.rb.backend.header.fields) may_flush old new key v caches.rb.entries rb.entries e answer left some fits sound.rb_fit (rw is at (rw some at there)))
 
-    stand : AreSettled h (refblocks caches) (byte_at (seen old).contents) → (answer ≡ Ok true → IsStanding (λ (b : RefBlockView). b.is_modified) IsFit Named key v) → Stand rb.entries
+    stand : AreSettled h (refblocks caches) (byte_at (seen old).contents) → (answer ≡ Ok true → IsStanding (λ (b : RefBlockView). b.is_modified) IsFit Named key v) → BlocksStand rb.entries
     stand settled stands = found_or_not (lookup_entry (eqb key) caches.rb.entries)
         (λ none. insert_stands seen bits (λ (b : RefBlockView). b.bytes) (λ b. b.is_modified) cleared_rb IsFit (λ v. refl) (block_still caches.rb.backend.header.fields) Named (block_place h (byte_at (seen old).contents) bits sound.rb_format.bits) caches.rb.size may_flush old new key v caches.rb.entries rb.entries answer left stands
         (blocks_stand h p caches (byte_at (seen old).contents) sound settled) (rw is at (missing (rw (lookup_none (eqb key) caches.rb.entries none) refl))))
@@ -103,7 +103,7 @@ module _ {S : Type 0} (view : S → StorageView) (old new : ImageStorage S) (cac
         (λ went. subst (λ n. IsStanding (λ (b : RefBlockView). b.is_modified) IsFit Named n v) (same_number key e.0 (Contains-lookup_entry (eqb key) caches.rb.entries e some).1) (stands went))
         (blocks_stand h p caches (byte_at (seen old).contents) sound settled) (rw is at (rw some at there)))
 
-    pub block_kept : (answer ≡ Ok true → ⊥) → StaySound h p (seen old) caches (seen new) (record caches { rb = rb })
+    pub block_kept : (answer ≡ Ok true → ⊥) → UnseenCacheStep h p (seen old) caches (seen new) (record caches { rb = rb })
     block_kept isnt =
         let same_backend : rb.backend ≡ caches.rb.backend = ap (λ c. c.backend) others in
         let f = nothing_new seen bits (λ (b : RefBlockView). b.bytes) (λ b. b.is_modified) cleared_rb IsFit (λ v. refl) (λ v. refl) P all key v old new caches.rb.entries rb.entries answer isnt puts in
@@ -147,32 +147,32 @@ module _ {S : Type 0} (view : S → StorageView) (old new : ImageStorage S) (cac
           key has
 
       pub block_laid : IsFreeOf (cluster_size h) (l2_tables caches) key
-          → LaidOver (λ base known. HasBlock h base key ⊎ IsUnnamed h base known key) (λ base. HasBlock h base key) h (seen old) caches (seen new) (record caches { rb = rb }) (laid_at h key v.bytes)
+          → LaidOver (λ on_storage known. HasBlock h on_storage key ⊎ IsUnnamed h on_storage known key) (λ on_storage. HasBlock h on_storage key) h (seen old) caches (seen new) (record caches { rb = rb }) (laid_at h key v.bytes)
       block_laid free =
           let whole : rb ≡ with_entries caches.rb entries = others ∙ ap (with_entries caches.rb) ready.is in
-          let base' = byte_at (seen new).contents in
+          let on_storage' = byte_at (seen new).contents in
           let own : key * cluster_size h / cluster_size h ≡ key = own_cluster h.cluster_bits key in
-          subst (λ (c : Cache (RefBlockCacheBackend S) ℕ RefBlockView). LaidOver (λ base known. HasBlock h base key ⊎ IsUnnamed h base known key) (λ base. HasBlock h base key) h (seen old) caches (seen new) (record caches { rb = c }) (laid_at h key v.bytes)) (sym whole)
+          subst (λ (c : Cache (RefBlockCacheBackend S) ℕ RefBlockView). LaidOver (λ on_storage known. HasBlock h on_storage key ⊎ IsUnnamed h on_storage known key) (λ on_storage. HasBlock h on_storage key) h (seen old) caches (seen new) (record caches { rb = c }) (laid_at h key v.bytes)) (sym whole)
           (record {
             honest = ready.done.honest;
-            known = ap (λ ts. known_bytes (cluster_size h) (l2_tables caches) ts base') list_is
-                ∙ laid_under (cluster_size h) (laid_at h key v.bytes) (l2_tables caches) (blocks ready.rest) base'
+            known = ap (λ ts. known_bytes (cluster_size h) (l2_tables caches) ts on_storage') list_is
+                ∙ laid_under (cluster_size h) (laid_at h key v.bytes) (l2_tables caches) (blocks ready.rest) on_storage'
                 (λ o over. free o (within_cluster (key * cluster_size h) (cluster_size h) o (mul-mod_left key (cluster_size h)) (overlays_within (cluster_size h) (laid_at h key v.bytes) o over) ∙ own))
                 ∙ ap (known (cluster_size h) (laid_at h key v.bytes ∷ [])) ready.done.known;
             since = ready.done.since;
             settled = λ named settled.
-                subst (λ es. AreSettled h (blocks es) base') ready.is
-                (settled_anew h (order_of caches) (order_of caches) p p (l2_tables caches) (refblocks caches) (l2_tables caches) (blocks ready.rest) (byte_at (seen old).contents) base' sound.kept ready.done.kept ready.done.known bits sound.rb_format.bits IsFit rb.entries
+                subst (λ es. AreSettled h (blocks es) on_storage') ready.is
+                (settled_anew h (order_of caches) (order_of caches) p p (l2_tables caches) (refblocks caches) (l2_tables caches) (blocks ready.rest) (byte_at (seen old).contents) on_storage' sound.kept ready.done.kept ready.done.known bits sound.rb_format.bits IsFit rb.entries
                 (stand settled (λ _. record { fits = own_fit; named = λ _. named_before named })));
             sound = λ p' stands guarded. record {
               l2_format = sound.l2_format;
               rb_format = sound.rb_format;
               l2_fit = sound.l2_fit;
               rb_fit = subst (AllFit IsFit) ready.is (fit (λ _. own_fit));
-              kept = subst (λ ts. AreKept h (order_of caches) p' (l2_tables caches) ts base') (sym list_is)
-                  (rb_laid h (order_of caches) p (l2_tables caches) (blocks ready.rest) base' ready.done.kept (laid_at h key v.bytes) (mul-mod_left key (cluster_size h)) refl p'
-                  (subst (λ n. HasBlock h base' n ⊎ IsUnnamed h base' (known_bytes (cluster_size h) (l2_tables caches) (laid_at h key v.bytes ∷ blocks ready.rest) base') n) (sym own)
-                  (subst (λ ts. HasBlock h base' key ⊎ IsUnnamed h base' (known_bytes (cluster_size h) (l2_tables caches) ts base') key) list_is stands))
-                  (subst (λ ts. IsGuarded h (order_of caches) p' base' (known_bytes (cluster_size h) (l2_tables caches) ts base')) list_is guarded) away);
+              kept = subst (λ ts. AreKept h (order_of caches) p' (l2_tables caches) ts on_storage') (sym list_is)
+                  (rb_laid h (order_of caches) p (l2_tables caches) (blocks ready.rest) on_storage' ready.done.kept (laid_at h key v.bytes) (mul-mod_left key (cluster_size h)) refl p'
+                  (subst (λ n. HasBlock h on_storage' n ⊎ IsUnnamed h on_storage' (known_bytes (cluster_size h) (l2_tables caches) (laid_at h key v.bytes ∷ blocks ready.rest) on_storage') n) (sym own)
+                  (subst (λ ts. HasBlock h on_storage' key ⊎ IsUnnamed h on_storage' (known_bytes (cluster_size h) (l2_tables caches) ts on_storage') key) list_is stands))
+                  (subst (λ ts. CrashInvariant h (order_of caches) p' on_storage' (known_bytes (cluster_size h) (l2_tables caches) ts on_storage')) list_is guarded) away);
             };
           })

@@ -4,7 +4,7 @@ use Rattle.std.specs.Option.{IfSome, IsNone, option_map}
 use Rattle.std.specs.Map.{lookup, lookup_entry, remove_entry}
 use Rattle.lru.specs.LruCache.{promoted}
 use Rattle.image_access.specs.declared.error.StorageError.{StorageError}
-use Rattle.image_access.specs.Moments.{StorageView, Calls, Keeps}
+use Rattle.image_access.specs.Moments.{StorageView, Calls, ContentsStay}
 use Rattle.image_access.proofs.Passing.{passes_none, passes_on, passes_if}
 use Rattle.qcow2_metadata.specs.declared.error.MetadataError.{MetadataError}
 use Rattle.qcow2_metadata.specs.L2Table.{L2TableView}
@@ -43,7 +43,7 @@ quiet_then a b c first second = record {
 }
 
 -- one call of the storage that changes nothing
-quiet_call : {T : Type 0} (a b : StorageView) (r : Result T StorageError) → Calls a b r → Keeps a b → a.is_honest → IsQuiet a b
+quiet_call : {T : Type 0} (a b : StorageView) (r : Result T StorageError) → Calls a b r → ContentsStay a b → a.is_honest → IsQuiet a b
 quiet_call a b r calls keeps honest = record {
   honest = calls.honest honest;
   contents = keeps honest;

@@ -10,69 +10,69 @@ use Rattle.qcow2_metadata.specs.RefBlock.{RefBlockView}
 use Rattle.qcow2_metadata.specs.TableBytes.{HasPlace}
 use Rattle.qcow2_metadata.specs.Tables.{CachedTable}
 use Rattle.qcow2_laws.specs.Clusters.{Direction}
-use Rattle.qcow2_laws.specs.Guard.{Pending, SameTop}
+use Rattle.qcow2_laws.specs.CrashInvariant.{Pending, SameTop}
 use Rattle.qcow2_laws.specs.Caches.{known_bytes, IsFreeOf, HasL2, HasBlock, AreSettled}
 use Rattle.qcow2_laws.proofs.Tops.{SameTop-sym, SameTop-trans}
 use Rattle.qcow2_alloc.specs.declared.async_lru_cache.slot.Slot.{Slot}
 use Rattle.qcow2_alloc.specs.declared.cache.MetadataCaches.{MetadataCaches}
 use Rattle.qcow2_alloc.specs.TableCaches.{IsTableOf, IsBlockOf}
 use Rattle.qcow2_alloc.specs.KeptTables.{cached_tables, AreKept}
-use Rattle.qcow2_alloc.specs.MetadataCaches.{l2_tables, refblocks, AreSound}
+use Rattle.qcow2_alloc.specs.MetadataCaches.{l2_tables, refblocks, CacheInvariant}
 use Rattle.qcow2_alloc.proofs.KeptTables.Standing.{AreStanding, standing_of, free_or_named}
 
 -- ---- where tables are named
 below_place : (place size k limit : ℕ) → place / size ≡ k → place < limit → k * size < limit
 below_place place size k limit at below = let e = div-add-mod' place size in let m : place / size * size ≡ k * size = ap (λ n. n * size) at in omega arith
 
-pub table_place : (h : HeaderFields) (base : Bytes) (bits : ℕ) → bits ≡ h.cluster_bits → (k : ℕ) → HasL2 h base k → HasPlace bits k
-table_place h base bits same k has =
-    let low : l1_entry h base has.0 / 2 ^ 9 % 2 ^ 47 < 2 ^ 47 = mod_below (l1_entry h base has.0 / 2 ^ 9) (2 ^ 47) (pow_pos 47) in
-    let below : host_offset (l1_entry h base has.0) < 2 ^ 64 = omega arith in
-    subst (λ n. HasPlace n k) (sym same) (below_place (host_offset (l1_entry h base has.0)) (cluster_size h) k (2 ^ 64) has.2 below)
+pub table_place : (h : HeaderFields) (on_storage : Bytes) (bits : ℕ) → bits ≡ h.cluster_bits → (k : ℕ) → HasL2 h on_storage k → HasPlace bits k
+table_place h on_storage bits same k has =
+    let low : l1_entry h on_storage has.0 / 2 ^ 9 % 2 ^ 47 < 2 ^ 47 = mod_below (l1_entry h on_storage has.0 / 2 ^ 9) (2 ^ 47) (pow_pos 47) in
+    let below : host_offset (l1_entry h on_storage has.0) < 2 ^ 64 = omega arith in
+    subst (λ n. HasPlace n k) (sym same) (below_place (host_offset (l1_entry h on_storage has.0)) (cluster_size h) k (2 ^ 64) has.2 below)
 
-pub block_place : (h : HeaderFields) (base : Bytes) (bits : ℕ) → bits ≡ h.cluster_bits → (k : ℕ) → HasBlock h base k → HasPlace bits k
-block_place h base bits same k has =
-    let low : reftable_entry h base has.0 / 2 ^ 9 % 2 ^ 55 < 2 ^ 55 = mod_below (reftable_entry h base has.0 / 2 ^ 9) (2 ^ 55) (pow_pos 55) in
-    let below : block_offset (reftable_entry h base has.0) < 2 ^ 64 = omega arith in
-    subst (λ n. HasPlace n k) (sym same) (below_place (block_offset (reftable_entry h base has.0)) (cluster_size h) k (2 ^ 64) has.2 below)
+pub block_place : (h : HeaderFields) (on_storage : Bytes) (bits : ℕ) → bits ≡ h.cluster_bits → (k : ℕ) → HasBlock h on_storage k → HasPlace bits k
+block_place h on_storage bits same k has =
+    let low : reftable_entry h on_storage has.0 / 2 ^ 9 % 2 ^ 55 < 2 ^ 55 = mod_below (reftable_entry h on_storage has.0 / 2 ^ 9) (2 ^ 55) (pow_pos 55) in
+    let below : block_offset (reftable_entry h on_storage has.0) < 2 ^ 64 = omega arith in
+    subst (λ n. HasPlace n k) (sym same) (below_place (block_offset (reftable_entry h on_storage has.0)) (cluster_size h) k (2 ^ 64) has.2 below)
 
 -- ---- the modified tables of sound caches stand there
-module _ {S : Type 0} (h : HeaderFields) (p : Pending) (caches : MetadataCaches S) (base : Bytes) (sound : AreSound h p caches base) where
-  pub tables_stand : AreStanding (λ (t : L2TableView). t.is_modified) (IsTableOf caches.l2.backend.header.fields) (HasL2 h base) caches.l2.entries
+module _ {S : Type 0} (h : HeaderFields) (p : Pending) (caches : MetadataCaches S) (on_storage : Bytes) (sound : CacheInvariant h p caches on_storage) where
+  pub tables_stand : AreStanding (λ (t : L2TableView). t.is_modified) (IsTableOf caches.l2.backend.header.fields) (HasL2 h on_storage) caches.l2.entries
   tables_stand =
-      standing_of caches.l2.backend.header.fields.cluster_bits (λ (t : L2TableView). t.bytes) (λ t. t.is_modified) (IsTableOf caches.l2.backend.header.fields) (HasL2 h base) caches.l2.entries sound.l2_fit
-      (subst (λ n. (c : ℕ) → IsFreeOf (2 ^ n) (l2_tables caches) c ⊎ HasL2 h base c) (sym sound.l2_format.bits) sound.kept.kept.l2_stand)
+      standing_of caches.l2.backend.header.fields.cluster_bits (λ (t : L2TableView). t.bytes) (λ t. t.is_modified) (IsTableOf caches.l2.backend.header.fields) (HasL2 h on_storage) caches.l2.entries sound.l2_fit
+      (subst (λ n. (c : ℕ) → IsFreeOf (2 ^ n) (l2_tables caches) c ⊎ HasL2 h on_storage c) (sym sound.l2_format.bits) sound.kept.kept.l2_stand)
 
-  pub blocks_stand : AreSettled h (refblocks caches) base → AreStanding (λ (b : RefBlockView). b.is_modified) (IsBlockOf caches.rb.backend.header.fields) (HasBlock h base) caches.rb.entries
+  pub blocks_stand : AreSettled h (refblocks caches) on_storage → AreStanding (λ (b : RefBlockView). b.is_modified) (IsBlockOf caches.rb.backend.header.fields) (HasBlock h on_storage) caches.rb.entries
   blocks_stand settled =
-      standing_of caches.rb.backend.header.fields.cluster_bits (λ (b : RefBlockView). b.bytes) (λ b. b.is_modified) (IsBlockOf caches.rb.backend.header.fields) (HasBlock h base) caches.rb.entries sound.rb_fit
-      (subst (λ n. (c : ℕ) → IsFreeOf (2 ^ n) (refblocks caches) c ⊎ HasBlock h base c) (sym sound.rb_format.bits) settled)
+      standing_of caches.rb.backend.header.fields.cluster_bits (λ (b : RefBlockView). b.bytes) (λ b. b.is_modified) (IsBlockOf caches.rb.backend.header.fields) (HasBlock h on_storage) caches.rb.entries sound.rb_fit
+      (subst (λ n. (c : ℕ) → IsFreeOf (2 ^ n) (refblocks caches) c ⊎ HasBlock h on_storage c) (sym sound.rb_format.bits) settled)
 
 -- refblocks that stand so are settled
-pub settled_in : (h : HeaderFields) (base : Bytes) (bits : ℕ) → bits ≡ h.cluster_bits → (IsFit : RefBlockView → Type 0) (es : List (ℕ × Slot RefBlockView)) → AreStanding (λ (b : RefBlockView). b.is_modified) IsFit (HasBlock h base) es
-    → AreSettled h (cached_tables bits (λ (b : RefBlockView). b.bytes) (λ b. b.is_modified) es) base
-settled_in h base bits same IsFit es stand c =
-    subst (λ n. IsFreeOf (2 ^ n) (cached_tables bits (λ (b : RefBlockView). b.bytes) (λ b. b.is_modified) es) c ⊎ HasBlock h base c) same
-    (free_or_named bits (λ (b : RefBlockView). b.bytes) (λ b. b.is_modified) IsFit (HasBlock h base) es stand c)
+pub settled_in : (h : HeaderFields) (on_storage : Bytes) (bits : ℕ) → bits ≡ h.cluster_bits → (IsFit : RefBlockView → Type 0) (es : List (ℕ × Slot RefBlockView)) → AreStanding (λ (b : RefBlockView). b.is_modified) IsFit (HasBlock h on_storage) es
+    → AreSettled h (cached_tables bits (λ (b : RefBlockView). b.bytes) (λ b. b.is_modified) es) on_storage
+settled_in h on_storage bits same IsFit es stand c =
+    subst (λ n. IsFreeOf (2 ^ n) (cached_tables bits (λ (b : RefBlockView). b.bytes) (λ b. b.is_modified) es) c ⊎ HasBlock h on_storage c) same
+    (free_or_named bits (λ (b : RefBlockView). b.bytes) (λ b. b.is_modified) IsFit (HasBlock h on_storage) es stand c)
 
 -- ---- over other bytes of which the same is known
-module _ (h : HeaderFields) (d d' : Direction) (p p' : Pending) (l2s rbs l2s' rbs' : List CachedTable) (base base' : Bytes) (kept : AreKept h d p l2s rbs base) (kept' : AreKept h d' p' l2s' rbs' base')
-    (known : known_bytes (cluster_size h) l2s' rbs' base' ≡ known_bytes (cluster_size h) l2s rbs base) where
-  pub top_still : SameTop h base base'
+module _ (h : HeaderFields) (d d' : Direction) (p p' : Pending) (l2s rbs l2s' rbs' : List CachedTable) (on_storage on_storage' : Bytes) (kept : AreKept h d p l2s rbs on_storage) (kept' : AreKept h d' p' l2s' rbs' on_storage')
+    (known : known_bytes (cluster_size h) l2s' rbs' on_storage' ≡ known_bytes (cluster_size h) l2s rbs on_storage) where
+  pub top_still : SameTop h on_storage on_storage'
   top_still =
-      SameTop-trans h base (known_bytes (cluster_size h) l2s rbs base) base' kept.kept.guarded.same_top
-      (SameTop-sym h base' (known_bytes (cluster_size h) l2s rbs base) (subst (SameTop h base') known kept'.kept.guarded.same_top))
+      SameTop-trans h on_storage (known_bytes (cluster_size h) l2s rbs on_storage) on_storage' kept.kept.guarded.same_top
+      (SameTop-sym h on_storage' (known_bytes (cluster_size h) l2s rbs on_storage) (subst (SameTop h on_storage') known kept'.kept.guarded.same_top))
 
-  block_still_named : (c : ℕ) → HasBlock h base c → HasBlock h base' c
+  block_still_named : (c : ℕ) → HasBlock h on_storage c → HasBlock h on_storage' c
   block_still_named c has =
       let e = ap block_offset (top_still.reftable has.0) in
       (has.0, (λ none. has.1 (e ∙ none)), ap (λ n. n / cluster_size h) (sym e) ∙ has.2)
 
   -- the same refblocks
-  pub settled_beside : AreSettled h rbs base → AreSettled h rbs base'
+  pub settled_beside : AreSettled h rbs on_storage → AreSettled h rbs on_storage'
   settled_beside settled c = elim (settled c) [ inl free ↦ inl free | inr has ↦ inr (block_still_named c has) ]
 
   -- others, of which those that are modified stand
-  pub settled_anew : (bits : ℕ) → bits ≡ h.cluster_bits → (IsFit : RefBlockView → Type 0) (es : List (ℕ × Slot RefBlockView)) → AreStanding (λ (b : RefBlockView). b.is_modified) IsFit (HasBlock h base) es
-      → AreSettled h (cached_tables bits (λ (b : RefBlockView). b.bytes) (λ b. b.is_modified) es) base'
-  settled_anew bits same IsFit es stand c = elim (settled_in h base bits same IsFit es stand c) [ inl free ↦ inl free | inr has ↦ inr (block_still_named c has) ]
+  pub settled_anew : (bits : ℕ) → bits ≡ h.cluster_bits → (IsFit : RefBlockView → Type 0) (es : List (ℕ × Slot RefBlockView)) → AreStanding (λ (b : RefBlockView). b.is_modified) IsFit (HasBlock h on_storage) es
+      → AreSettled h (cached_tables bits (λ (b : RefBlockView). b.bytes) (λ b. b.is_modified) es) on_storage'
+  settled_anew bits same IsFit es stand c = elim (settled_in h on_storage bits same IsFit es stand c) [ inl free ↦ inl free | inr has ↦ inr (block_still_named c has) ]

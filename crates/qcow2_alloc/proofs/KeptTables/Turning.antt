@@ -4,21 +4,21 @@ use Rattle.image_access.specs.Moments.{StorageView}
 use Rattle.image_access.proofs.Passing.{passes_none, passes_on}
 use Rattle.qcow2_metadata.specs.Bytes.{byte_at}
 use Rattle.qcow2_metadata.specs.declared.header.HeaderFields.{HeaderFields}
-use Rattle.qcow2_laws.specs.Stops.{IsKeptAt}
+use Rattle.qcow2_laws.specs.Stops.{StopOkEverywhere}
 use Rattle.qcow2_laws.specs.Clusters.{Direction, Neither, L2DependsOnRb, RbDependsOnL2}
-use Rattle.qcow2_laws.specs.Guard.{Pending, MayTurn}
+use Rattle.qcow2_laws.specs.CrashInvariant.{Pending, MayTurn}
 use Rattle.qcow2_laws.specs.Caches.{AreClean, BlocksMayGo, TablesMayGo}
 use Rattle.qcow2_laws.proofs.Caches.{clean_covers, clean_counts, kept_turned}
 use Rattle.qcow2_alloc.specs.declared.cache.Direction.TheVariants as D
 use Rattle.qcow2_alloc.specs.declared.cache.MetadataCaches.{MetadataCaches}
 use Rattle.qcow2_alloc.specs.declared.image_storage.ImageStorage.{ImageStorage}
 use Rattle.qcow2_alloc.specs.ImageStorage.{storage_of}
-use Rattle.qcow2_alloc.specs.MetadataCaches.{order, order_of, l2_tables, refblocks, known_of, AreAllWritten, AreSound, StaySound, KeepSound}
+use Rattle.qcow2_alloc.specs.MetadataCaches.{order, order_of, l2_tables, refblocks, known_of, AreAllWritten, CacheInvariant, UnseenCacheStep, KeepSound}
 
 module _ {S : Type 0} (view : S → StorageView) where
   -- nothing happens
-  pub stay_none : (h : HeaderFields) (p : Pending) (s : ImageStorage S) (c : MetadataCaches S) → (view (storage_of s)).is_honest → AreSound h p c (byte_at (view (storage_of s)).contents)
-      → StaySound h p (view (storage_of s)) c (view (storage_of s)) c
+  pub stay_none : (h : HeaderFields) (p : Pending) (s : ImageStorage S) (c : MetadataCaches S) → (view (storage_of s)).is_honest → CacheInvariant h p c (byte_at (view (storage_of s)).contents)
+      → UnseenCacheStep h p (view (storage_of s)) c (view (storage_of s)) c
   stay_none h p s c honest sound = record {
     honest = honest;
     sound = sound;
@@ -30,8 +30,8 @@ module _ {S : Type 0} (view : S → StorageView) where
   pub keep_none : (s : ImageStorage S) (c : MetadataCaches S) → KeepSound view s c s c
   keep_none s c h p honest sound = stay_none h p s c honest sound
 
-  pub stay_then : (h : HeaderFields) (p : Pending) (r s t : ImageStorage S) (a b c : MetadataCaches S) → StaySound h p (view (storage_of r)) a (view (storage_of s)) b
-      → StaySound h p (view (storage_of s)) b (view (storage_of t)) c → StaySound h p (view (storage_of r)) a (view (storage_of t)) c
+  pub stay_then : (h : HeaderFields) (p : Pending) (r s t : ImageStorage S) (a b c : MetadataCaches S) → UnseenCacheStep h p (view (storage_of r)) a (view (storage_of s)) b
+      → UnseenCacheStep h p (view (storage_of s)) b (view (storage_of t)) c → UnseenCacheStep h p (view (storage_of r)) a (view (storage_of t)) c
   stay_then h p r s t a b c first second = record {
     honest = second.honest;
     sound = second.sound;
@@ -39,8 +39,8 @@ module _ {S : Type 0} (view : S → StorageView) where
     settled = λ settled. second.settled (first.settled settled);
     since = record {
       moments = passes_on _ first.since.moments second.since.moments
-          (λ l safe backing m ok known_ok. safe backing m (first.since.contents backing m ok known_ok) (subst (IsKeptAt backing m) (sym first.known) known_ok));
-      contents = λ backing m ok known_ok. second.since.contents backing m (first.since.contents backing m ok known_ok) (subst (IsKeptAt backing m) (sym first.known) known_ok);
+          (λ l safe backing m ok known_ok. safe backing m (first.since.contents backing m ok known_ok) (subst (StopOkEverywhere backing m) (sym first.known) known_ok));
+      contents = λ backing m ok known_ok. second.since.contents backing m (first.since.contents backing m ok known_ok) (subst (StopOkEverywhere backing m) (sym first.known) known_ok);
     };
   }
 
@@ -51,7 +51,7 @@ module _ {S : Type 0} (view : S → StorageView) where
 
   -- then the direction turns
   pub keep_turned : (r s : ImageStorage S) (a b : MetadataCaches S) (to : _) → KeepSound view r a s b
-      → ((h : HeaderFields) (p : Pending) → AreSound h p b (byte_at (view (storage_of s)).contents)
+      → ((h : HeaderFields) (p : Pending) → CacheInvariant h p b (byte_at (view (storage_of s)).contents)
       → MayTurn (order_of b) (order to) h (byte_at (view (storage_of s)).contents) (known_of h b (byte_at (view (storage_of s)).contents)))
       → KeepSound view r a s (record b { direction = to })
   keep_turned r s a b to keeps may = λ h p honest sound.
@@ -76,23 +76,23 @@ module _ {S : Type 0} (view : S → StorageView) where
 
   -- from no direction, or once the L2 tables are written, refblocks may come first
   pub may_l2_depend : (b : MetadataCaches S) (s : ImageStorage S) → (order_of b ≡ Neither) ⊎ (order_of b ≡ RbDependsOnL2) × AreClean (l2_tables b) → (h : HeaderFields) (p : Pending)
-      → AreSound h p b (byte_at (view (storage_of s)).contents) → MayTurn (order_of b) L2DependsOnRb h (byte_at (view (storage_of s)).contents) (known_of h b (byte_at (view (storage_of s)).contents))
+      → CacheInvariant h p b (byte_at (view (storage_of s)).contents) → MayTurn (order_of b) L2DependsOnRb h (byte_at (view (storage_of s)).contents) (known_of h b (byte_at (view (storage_of s)).contents))
   may_l2_depend b s cases h p sound =
-      let base = byte_at (view (storage_of s)).contents in
+      let on_storage = byte_at (view (storage_of s)).contents in
       elim cases [
-        | inl none ↦ subst (λ (d : Direction). MayTurn d L2DependsOnRb h base (known_of h b base)) (sym none) tt
-        | inr turns ↦ subst (λ (d : Direction). MayTurn d L2DependsOnRb h base (known_of h b base)) (sym turns.0)
-            (clean_covers h (order_of b) p (l2_tables b) (refblocks b) base sound.kept.kept turns.1)
+        | inl none ↦ subst (λ (d : Direction). MayTurn d L2DependsOnRb h on_storage (known_of h b on_storage)) (sym none) tt
+        | inr turns ↦ subst (λ (d : Direction). MayTurn d L2DependsOnRb h on_storage (known_of h b on_storage)) (sym turns.0)
+            (clean_covers h (order_of b) p (l2_tables b) (refblocks b) on_storage sound.kept.kept turns.1)
       ]
 
   pub may_rb_depend : (b : MetadataCaches S) (s : ImageStorage S) → (order_of b ≡ Neither) ⊎ (order_of b ≡ L2DependsOnRb) × AreClean (refblocks b) → (h : HeaderFields) (p : Pending)
-      → AreSound h p b (byte_at (view (storage_of s)).contents) → MayTurn (order_of b) RbDependsOnL2 h (byte_at (view (storage_of s)).contents) (known_of h b (byte_at (view (storage_of s)).contents))
+      → CacheInvariant h p b (byte_at (view (storage_of s)).contents) → MayTurn (order_of b) RbDependsOnL2 h (byte_at (view (storage_of s)).contents) (known_of h b (byte_at (view (storage_of s)).contents))
   may_rb_depend b s cases h p sound =
-      let base = byte_at (view (storage_of s)).contents in
+      let on_storage = byte_at (view (storage_of s)).contents in
       elim cases [
-        | inl none ↦ subst (λ (d : Direction). MayTurn d RbDependsOnL2 h base (known_of h b base)) (sym none) tt
-        | inr turns ↦ subst (λ (d : Direction). MayTurn d RbDependsOnL2 h base (known_of h b base)) (sym turns.0)
-            (clean_counts h (order_of b) p (l2_tables b) (refblocks b) base sound.kept.kept turns.1)
+        | inl none ↦ subst (λ (d : Direction). MayTurn d RbDependsOnL2 h on_storage (known_of h b on_storage)) (sym none) tt
+        | inr turns ↦ subst (λ (d : Direction). MayTurn d RbDependsOnL2 h on_storage (known_of h b on_storage)) (sym turns.0)
+            (clean_counts h (order_of b) p (l2_tables b) (refblocks b) on_storage sound.kept.kept turns.1)
       ]
 
 -- ---- what may be written

@@ -14,10 +14,10 @@ use Rattle.qcow2_metadata.specs.Header.{cluster_size}
 use Rattle.qcow2_metadata.specs.Entries.{host_offset, block_offset}
 use Rattle.qcow2_metadata.specs.Named.{named_by_reftable, named_by_l1_table}
 use Rattle.qcow2_metadata.specs.Tables.{CachedTable, known}
-use Rattle.qcow2_laws.specs.Stops.{IsKeptAt}
+use Rattle.qcow2_laws.specs.Stops.{StopOkEverywhere}
 use Rattle.qcow2_laws.specs.Clusters.{Direction}
-use Rattle.qcow2_laws.specs.Guard.{Pending, SameTop}
-use Rattle.qcow2_laws.specs.Caches.{known_bytes, AreClean, HasL2, HasBlock, IsKept, BlocksMayGo, TablesMayGo, IsWrittenSo, IsSafeBetween, Keeps}
+use Rattle.qcow2_laws.specs.CrashInvariant.{Pending, SameTop}
+use Rattle.qcow2_laws.specs.Caches.{known_bytes, AreClean, HasL2, HasBlock, CacheInvariantOver, BlocksMayGo, TablesMayGo, IsWrittenSo, IsSafeBetween, UnseenTableWrite}
 use Rattle.qcow2_laws.proofs.Tops.{SameTop-sym, SameTop-trans}
 use Rattle.qcow2_laws.proofs.Shares.{table_has, block_has}
 use Rattle.qcow2_laws.proofs.Caches.{rbs_free, l2s_free}
@@ -34,75 +34,75 @@ use Rattle.qcow2_alloc.proofs.KeptTables.Loaded.{stays_free, loaded_written, loa
 -- ---- one table of either cache is written
 
 -- where two images are known alike, their header, L1 table and reftable are the same
-same_top : (h : HeaderFields) (d : Direction) (p : Pending) (l2s rbs l2s' rbs' : List CachedTable) (base base' : Bytes) → Keeps h d p l2s rbs base l2s' rbs' base' → IsKept h d p l2s rbs base → SameTop h base' base
-same_top h d p l2s rbs l2s' rbs' base base' keeps kept =
-    SameTop-trans h base' (known_bytes (cluster_size h) l2s rbs base) base
-    (subst (SameTop h base') keeps.known keeps.kept.guarded.same_top)
-    (SameTop-sym h base (known_bytes (cluster_size h) l2s rbs base) kept.guarded.same_top)
+same_top : (h : HeaderFields) (d : Direction) (p : Pending) (l2s rbs l2s' rbs' : List CachedTable) (on_storage on_storage' : Bytes) → UnseenTableWrite h d p l2s rbs on_storage l2s' rbs' on_storage' → CacheInvariantOver h d p l2s rbs on_storage → SameTop h on_storage' on_storage
+same_top h d p l2s rbs l2s' rbs' on_storage on_storage' keeps kept =
+    SameTop-trans h on_storage' (known_bytes (cluster_size h) l2s rbs on_storage) on_storage
+    (subst (SameTop h on_storage') keeps.known keeps.kept.guarded.same_top)
+    (SameTop-sym h on_storage (known_bytes (cluster_size h) l2s rbs on_storage) kept.guarded.same_top)
 
-l2_named : (h : HeaderFields) (base base' : Bytes) → SameTop h base' base → (c : ℕ) → HasL2 h base' c → HasL2 h base c
-l2_named h base base' top c has =
+l2_named : (h : HeaderFields) (on_storage on_storage' : Bytes) → SameTop h on_storage' on_storage → (c : ℕ) → HasL2 h on_storage' c → HasL2 h on_storage c
+l2_named h on_storage on_storage' top c has =
     let e = ap host_offset (top.l1 has.0) in
     (has.0, (λ none. has.1 (e ∙ none)), ap (λ n. n / cluster_size h) (sym e) ∙ has.2)
 
-pub block_named : (h : HeaderFields) (base base' : Bytes) → SameTop h base' base → (c : ℕ) → HasBlock h base' c → HasBlock h base c
-block_named h base base' top c has =
+pub block_named : (h : HeaderFields) (on_storage on_storage' : Bytes) → SameTop h on_storage' on_storage → (c : ℕ) → HasBlock h on_storage' c → HasBlock h on_storage c
+block_named h on_storage on_storage' top c has =
     let e = ap block_offset (top.reftable has.0) in
     (has.0, (λ none. has.1 (e ∙ none)), ap (λ n. n / cluster_size h) (sym e) ∙ has.2)
 
 -- what one write of a table leaves
-pub record Wrote (h : HeaderFields) (d : Direction) (p : Pending) (l2s rbs : List CachedTable) (base : Bytes) (l2s' rbs' : List CachedTable) (base' : Bytes) : Type 0 where
-  pub kept : AreKept h d p l2s' rbs' base'
-  pub known : known_bytes (cluster_size h) l2s' rbs' base' ≡ known_bytes (cluster_size h) l2s rbs base
-  pub safe : IsSafeBetween base (known_bytes (cluster_size h) l2s rbs base) base'
+pub record Wrote (h : HeaderFields) (d : Direction) (p : Pending) (l2s rbs : List CachedTable) (on_storage : Bytes) (l2s' rbs' : List CachedTable) (on_storage' : Bytes) : Type 0 where
+  pub kept : AreKept h d p l2s' rbs' on_storage'
+  pub known : known_bytes (cluster_size h) l2s' rbs' on_storage' ≡ known_bytes (cluster_size h) l2s rbs on_storage
+  pub safe : IsSafeBetween on_storage (known_bytes (cluster_size h) l2s rbs on_storage) on_storage'
 
-pub wrote_none : (h : HeaderFields) (d : Direction) (p : Pending) (l2s rbs : List CachedTable) (base : Bytes) → AreKept h d p l2s rbs base → Wrote h d p l2s rbs base l2s rbs base
-wrote_none h d p l2s rbs base kept = record { kept = kept; known = refl; safe = λ backing m ok known_ok. ok }
+pub wrote_none : (h : HeaderFields) (d : Direction) (p : Pending) (l2s rbs : List CachedTable) (on_storage : Bytes) → AreKept h d p l2s rbs on_storage → Wrote h d p l2s rbs on_storage l2s rbs on_storage
+wrote_none h d p l2s rbs on_storage kept = record { kept = kept; known = refl; safe = λ backing m ok known_ok. ok }
 
-pub wrote_then : (h : HeaderFields) (d : Direction) (p : Pending) (l2s rbs : List CachedTable) (base : Bytes) (l2s' rbs' : List CachedTable) (base' : Bytes) (l2s'' rbs'' : List CachedTable) (base'' : Bytes)
-    → Wrote h d p l2s rbs base l2s' rbs' base' → Wrote h d p l2s' rbs' base' l2s'' rbs'' base'' → Wrote h d p l2s rbs base l2s'' rbs'' base''
-wrote_then h d p l2s rbs base l2s' rbs' base' l2s'' rbs'' base'' first second = record {
+pub wrote_then : (h : HeaderFields) (d : Direction) (p : Pending) (l2s rbs : List CachedTable) (on_storage : Bytes) (l2s' rbs' : List CachedTable) (on_storage' : Bytes) (l2s'' rbs'' : List CachedTable) (on_storage'' : Bytes)
+    → Wrote h d p l2s rbs on_storage l2s' rbs' on_storage' → Wrote h d p l2s' rbs' on_storage' l2s'' rbs'' on_storage'' → Wrote h d p l2s rbs on_storage l2s'' rbs'' on_storage''
+wrote_then h d p l2s rbs on_storage l2s' rbs' on_storage' l2s'' rbs'' on_storage'' first second = record {
   kept = second.kept;
   known = second.known ∙ first.known;
-  safe = λ backing m ok known_ok. second.safe backing m (first.safe backing m ok known_ok) (subst (IsKeptAt backing m) (sym first.known) known_ok);
+  safe = λ backing m ok known_ok. second.safe backing m (first.safe backing m ok known_ok) (subst (StopOkEverywhere backing m) (sym first.known) known_ok);
 }
 
-pub l2_wrote : (h : HeaderFields) (d : Direction) (p : Pending) (rbs front back : List CachedTable) (t t' : CachedTable) (base base' : Bytes) → AreKept h d p (front ++ t ∷ back) rbs base
-    → TablesMayGo d rbs → IsWrittenSo (cluster_size h) t t' base base' → Wrote h d p (front ++ t ∷ back) rbs base (front ++ t' ∷ back) rbs base'
-l2_wrote h d p rbs front back t t' base base' are may so =
-    let k = table_is_written.table h d p front back rbs t t' base base' are.kept may so in
-    let top = same_top h d p (front ++ t ∷ back) rbs (front ++ t' ∷ back) rbs base base' k are.kept in
+pub l2_wrote : (h : HeaderFields) (d : Direction) (p : Pending) (rbs front back : List CachedTable) (t t' : CachedTable) (on_storage on_storage' : Bytes) → AreKept h d p (front ++ t ∷ back) rbs on_storage
+    → TablesMayGo d rbs → IsWrittenSo (cluster_size h) t t' on_storage on_storage' → Wrote h d p (front ++ t ∷ back) rbs on_storage (front ++ t' ∷ back) rbs on_storage'
+l2_wrote h d p rbs front back t t' on_storage on_storage' are may so =
+    let k = table_is_written.table h d p front back rbs t t' on_storage on_storage' are.kept may so in
+    let top = same_top h d p (front ++ t ∷ back) rbs (front ++ t' ∷ back) rbs on_storage on_storage' k are.kept in
     record {
       kept = record {
         kept = k.kept;
-        l2_loaded = loaded_written (cluster_size h) t t' base base' so (HasL2 h base) (HasL2 h base') front back (l2_named h base base' top) are.l2_loaded;
-        rb_loaded = loaded_beside (cluster_size h) (HasBlock h base) (HasBlock h base') base base' rbs (λ c is.
-            let has = block_named h base base' top c is in (
+        l2_loaded = loaded_written (cluster_size h) t t' on_storage on_storage' so (HasL2 h on_storage) (HasL2 h on_storage') front back (l2_named h on_storage on_storage' top) are.l2_loaded;
+        rb_loaded = loaded_beside (cluster_size h) (HasBlock h on_storage) (HasBlock h on_storage') on_storage on_storage' rbs (λ c is.
+            let has = block_named h on_storage on_storage' top c is in (
               has,
-              stays_free (cluster_size h) t t' base base' so front back c
-                  (l2s_free h d p (front ++ t ∷ back) rbs base are.kept c
-                  (let one : 1 ≤ named_by_reftable h base c = subst (λ n. 1 ≤ named_by_reftable h base n) has.2 (block_has h base has.0 has.1) in omega arith)),
+              stays_free (cluster_size h) t t' on_storage on_storage' so front back c
+                  (l2s_free h d p (front ++ t ∷ back) rbs on_storage are.kept c
+                  (let one : 1 ≤ named_by_reftable h on_storage c = subst (λ n. 1 ≤ named_by_reftable h on_storage n) has.2 (block_has h on_storage has.0 has.1) in omega arith)),
             )) are.rb_loaded;
       };
       known = k.known;
       safe = k.safe;
     }
 
-pub rb_wrote : (h : HeaderFields) (d : Direction) (p : Pending) (l2s front back : List CachedTable) (t t' : CachedTable) (base base' : Bytes) → AreKept h d p l2s (front ++ t ∷ back) base
-    → BlocksMayGo d l2s → IsWrittenSo (cluster_size h) t t' base base' → Wrote h d p l2s (front ++ t ∷ back) base l2s (front ++ t' ∷ back) base'
-rb_wrote h d p l2s front back t t' base base' are may so =
-    let k = table_is_written.block h d p l2s front back t t' base base' are.kept may so in
-    let top = same_top h d p l2s (front ++ t ∷ back) l2s (front ++ t' ∷ back) base base' k are.kept in
+pub rb_wrote : (h : HeaderFields) (d : Direction) (p : Pending) (l2s front back : List CachedTable) (t t' : CachedTable) (on_storage on_storage' : Bytes) → AreKept h d p l2s (front ++ t ∷ back) on_storage
+    → BlocksMayGo d l2s → IsWrittenSo (cluster_size h) t t' on_storage on_storage' → Wrote h d p l2s (front ++ t ∷ back) on_storage l2s (front ++ t' ∷ back) on_storage'
+rb_wrote h d p l2s front back t t' on_storage on_storage' are may so =
+    let k = table_is_written.block h d p l2s front back t t' on_storage on_storage' are.kept may so in
+    let top = same_top h d p l2s (front ++ t ∷ back) l2s (front ++ t' ∷ back) on_storage on_storage' k are.kept in
     record {
       kept = record {
         kept = k.kept;
-        rb_loaded = loaded_written (cluster_size h) t t' base base' so (HasBlock h base) (HasBlock h base') front back (block_named h base base' top) are.rb_loaded;
-        l2_loaded = loaded_beside (cluster_size h) (HasL2 h base) (HasL2 h base') base base' l2s (λ c is.
-            let has = l2_named h base base' top c is in (
+        rb_loaded = loaded_written (cluster_size h) t t' on_storage on_storage' so (HasBlock h on_storage) (HasBlock h on_storage') front back (block_named h on_storage on_storage' top) are.rb_loaded;
+        l2_loaded = loaded_beside (cluster_size h) (HasL2 h on_storage) (HasL2 h on_storage') on_storage on_storage' l2s (λ c is.
+            let has = l2_named h on_storage on_storage' top c is in (
               has,
-              stays_free (cluster_size h) t t' base base' so front back c
-                  (rbs_free h d p l2s (front ++ t ∷ back) base are.kept c
-                  (let one : 1 ≤ named_by_l1_table h base c = subst (λ n. 1 ≤ named_by_l1_table h base n) has.2 (table_has h base has.0 has.1) in omega arith)),
+              stays_free (cluster_size h) t t' on_storage on_storage' so front back c
+                  (rbs_free h d p l2s (front ++ t ∷ back) on_storage are.kept c
+                  (let one : 1 ≤ named_by_l1_table h on_storage c = subst (λ n. 1 ≤ named_by_l1_table h on_storage n) has.2 (table_has h on_storage has.0 has.1) in omega arith)),
             )) are.l2_loaded;
       };
       known = k.known;
@@ -188,8 +188,8 @@ module _ {S V : Type 0} (view : S → StorageView) (bits : ℕ) (bytes : V → L
     -- what the write of one table does
     abbrev pub WritesOne : Type 0
     WritesOne =
-        (front back : List CachedTable) (t t' : CachedTable) (base base' : Bytes) → P (front ++ t ∷ back) base → IsWrittenSo (2 ^ bits) t t' base base'
-        → P (front ++ t' ∷ back) base' × (all (front ++ t' ∷ back) base' ≡ all (front ++ t ∷ back) base) × IsSafeBetween base (all (front ++ t ∷ back) base) base'
+        (front back : List CachedTable) (t t' : CachedTable) (on_storage on_storage' : Bytes) → P (front ++ t ∷ back) on_storage → IsWrittenSo (2 ^ bits) t t' on_storage on_storage'
+        → P (front ++ t' ∷ back) on_storage' × (all (front ++ t' ∷ back) on_storage' ≡ all (front ++ t ∷ back) on_storage) × IsSafeBetween on_storage (all (front ++ t ∷ back) on_storage) on_storage'
 
     pub record Flushed (s t : S) (before after : List CachedTable) : Type 0 where
       pub honest : (view t).is_honest
@@ -228,8 +228,8 @@ module _ {S V : Type 0} (view : S → StorageView) (bits : ℕ) (bytes : V → L
       kept = g.kept;
       known = g.known ∙ f.known;
       since = record {
-        moments = passes_on _ f.since.moments g.since.moments (λ c safe backing m ok known_ok. safe backing m (f.since.contents backing m ok known_ok) (subst (IsKeptAt backing m) (sym f.known) known_ok));
-        contents = λ backing m ok known_ok. g.since.contents backing m (f.since.contents backing m ok known_ok) (subst (IsKeptAt backing m) (sym f.known) known_ok);
+        moments = passes_on _ f.since.moments g.since.moments (λ c safe backing m ok known_ok. safe backing m (f.since.contents backing m ok known_ok) (subst (StopOkEverywhere backing m) (sym f.known) known_ok));
+        contents = λ backing m ok known_ok. g.since.contents backing m (f.since.contents backing m ok known_ok) (subst (StopOkEverywhere backing m) (sym f.known) known_ok);
       };
       moments = passes_on _ f.moments g.moments (λ c now. now);
     }

@@ -9,8 +9,8 @@ use Rattle.qcow2_metadata.specs.Bytes.{byte_at}
 use Rattle.qcow2_metadata.specs.Header.{cluster_size}
 use Rattle.qcow2_metadata.specs.RefBlock.{RefBlockView}
 use Rattle.qcow2_laws.specs.Caches.{BlocksMayGo}
-use Rattle.qcow2_laws.specs.Guard.{Pending}
-use Rattle.qcow2_alloc.specs.Allocation.{placing, HasPlaceFor, StandAt, Becomes, WritesBlock}
+use Rattle.qcow2_laws.specs.CrashInvariant.{Pending}
+use Rattle.qcow2_alloc.specs.Allocation.{placing, HasPlaceFor, StandAt, UnseenAllocatorStep, WritesBlock}
 use Rattle.qcow2_alloc.specs.ImageError.{of_storage, IsFault}
 use Rattle.qcow2_alloc.specs.declared.cache.MetadataCaches.{MetadataCaches}
 use Rattle.qcow2_alloc.specs.declared.image_storage.ImageStorage.{ImageStorage}
@@ -18,7 +18,7 @@ use Rattle.qcow2_alloc.specs.CacheMarks.{KeepsMarks}
 use Rattle.qcow2_alloc.specs.declared.allocation.Allocator.{Allocator}
 use Rattle.qcow2_alloc.specs.declared.error.ImageError.{ImageError}
 use Rattle.qcow2_alloc.specs.declared.image_file.ImageFile.{ImageFile}
-use Rattle.qcow2_alloc.specs.ImageFile.{contents_in, IsSoundWith}
+use Rattle.qcow2_alloc.specs.ImageFile.{contents_in, AllocatorInvariant}
 use Rattle.qcow2_alloc.proofs.FileSteps.{moves_then}
 use Rattle.qcow2_alloc.specs.ImageStorage.{storage_of}
 use Rattle.qcow2_alloc.specs.MetadataCaches.{order_of, l2_tables, rb_at, KeepSound, PutSound, PutRefusesBy}
@@ -28,7 +28,7 @@ use Rattle.qcow2_alloc.proofs.PlacedBlocks.{IsFree, is_free, moves_rewritten, re
 use Rattle.qcow2_alloc.proofs.refblocks.write_block.Goals as goal
 
 -- all counts are written, and then the block's bytes, or they are not
-module _ {S : Type 0} (view : S → StorageView) (d : Bool) (p : Pending) (range at : ℕ) (old : ImageFile S) (t : Allocator) (storage : ImageStorage S) (caches : MetadataCaches S) (sound : IsSoundWith view t (placing d p at) old)
+module _ {S : Type 0} (view : S → StorageView) (d : Bool) (p : Pending) (range at : ℕ) (old : ImageFile S) (t : Allocator) (storage : ImageStorage S) (caches : MetadataCaches S) (sound : AllocatorInvariant view t (placing d p at) old)
     (keeps : KeepSound view old.storage old.caches storage caches) (marks : KeepsMarks old.caches caches) where
   abbrev q : Pending
   q = placing d p at
@@ -39,7 +39,7 @@ module _ {S : Type 0} (view : S → StorageView) (d : Bool) (p : Pending) (range
   abbrev flushed : ImageFile S
   flushed = record old { storage = storage; caches = caches }
 
-  counted : Becomes view q old t flushed q
+  counted : UnseenAllocatorStep view q old t flushed q
   counted = becomes_cached view q old t storage caches sound (keeps h q sound.sound.honest sound.sound.caches) marks
 
   module _ (asked : S) (after : ImageStorage S) (block : RefBlockView) (result : Result (Unit {0}) StorageError) (first : BlocksMayGo (order_of caches) (l2_tables caches)) (place : HasPlaceFor d h t.reftable range at)
@@ -64,7 +64,7 @@ module _ {S : Type 0} (view : S → StorageView) (d : Bool) (p : Pending) (range
     calls_now = subst (λ s. Calls (view s) (view (storage_of after)) result) same calls
 
     -- all is as sound as before, in either case
-    still : Becomes view q old t done q
+    still : UnseenAllocatorStep view q old t done q
     still = record {
       moves = moves_then view q q q old flushed done (λ k some. some) counted.moves (moves_rewritten view q flushed after at block.bytes result counted.moves.sound free long writes calls_now);
       reftable = reftable_rewritten view q flushed after at block.bytes result counted.moves.sound free long writes calls_now t.reftable counted.reftable;
@@ -76,7 +76,7 @@ module _ {S : Type 0} (view : S → StorageView) (d : Bool) (p : Pending) (range
         sym (ap (λ l. byte_at l (at * cluster_size h + i)) now ∙ byte_at-overwritten (view (storage_of storage)).contents (at * cluster_size h) block.bytes i lt)
 
 -- the answer at the end
-finish : {S : Type 0} (view : S → StorageView) (q : Pending) (old new : ImageFile S) (t : Allocator) (block : RefBlockView) (at : ℕ) (result : Result (Unit {0}) ImageError) → Becomes view q old t new q → IfErr result IsFault
+finish : {S : Type 0} (view : S → StorageView) (q : Pending) (old new : ImageFile S) (t : Allocator) (block : RefBlockView) (at : ℕ) (result : Result (Unit {0}) ImageError) → UnseenAllocatorStep view q old t new q → IfErr result IsFault
     → OnOk result (BlocksMayGo (order_of new.caches) (l2_tables new.caches)) → OnOk result (rb_at new.caches at ≡ Some (cleared_rb block))
     → (BlocksMayGo (order_of new.caches) (l2_tables new.caches) → StandAt (contents_in view new) (at * cluster_size new.header.fields) block.bytes) → WritesBlock view q old t new block at result
 finish view q old new t block at (Ok _) becomes faults first held stands = (becomes, record { held = held; stands = stands first })

@@ -1,5 +1,5 @@
 use Rattle.qcow2_alloc.specs.ImageStorage.{storage_of}
-use Rattle.qcow2_image.proofs.Cleared.{asked_first, cut_to_none}
+use Rattle.qcow2_image.proofs.Create.Cleared.{asked_first, cut_to_none}
 use Rattle.qcow2_image.proofs.builder.clear.Goals as goal
 
 pub returns-in_err-resize-clause-time : goal.returns-in_err-resize-clause-time

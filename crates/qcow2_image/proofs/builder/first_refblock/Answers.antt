@@ -1,5 +1,5 @@
 use Rattle.std.proofs.Common.{sym, subst, arith}
-use Rattle.qcow2_image.proofs.FirstBlocks.{Counts, many_counts, counts_next}
+use Rattle.qcow2_image.proofs.Create.FirstBlocks.{Counts, many_counts, counts_next}
 use Rattle.qcow2_image.proofs.builder.first_refblock.Goals.{then-index-counts, else-index-counts}
 use Rattle.qcow2_image.proofs.builder.first_refblock.Goals as goal
 

@@ -1,4 +1,4 @@
-use Rattle.qcow2_image.proofs.FirstBlocks.{Counts}
+use Rattle.qcow2_image.proofs.Create.FirstBlocks.{Counts}
 use Rattle.qcow2_image.proofs.builder.first_refblock.Given as goal
 
 abbrev pub invariant-loop-index : goal.invariant-loop-index

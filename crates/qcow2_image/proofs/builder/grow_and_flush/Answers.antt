@@ -1,4 +1,4 @@
-use Rattle.qcow2_image.proofs.Grown.{grown_whole}
+use Rattle.qcow2_image.proofs.Grow.Grown.{grown_whole}
 use Rattle.qcow2_image.proofs.builder.grow_and_flush.Goals as goal
 
 pub returns : goal.returns

@@ -1,4 +1,4 @@
-use Rattle.qcow2_image.proofs.Creating.{opening_stops, enlarged_so}
+use Rattle.qcow2_image.proofs.Create.Creating.{opening_stops, enlarged_so}
 use Rattle.qcow2_image.proofs.builder.grow_new_image.Goals as goal
 
 pub returns-in-Err : goal.returns-in-Err

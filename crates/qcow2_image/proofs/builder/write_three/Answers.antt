@@ -2,7 +2,7 @@ use Rattle.qcow2_alloc.specs.ImageError.{of_storage}
 use Rattle.qcow2_alloc.specs.ImageStorage.{storage_of}
 use Rattle.qcow2_alloc.proofs.AllocationSteps.{handed_on}
 use Rattle.qcow2_image.specs.Created.{WritesThree}
-use Rattle.qcow2_image.proofs.ThreeWrites.{stops_first, stops_second, stops_third, new_stands}
+use Rattle.qcow2_image.proofs.Create.ThreeWrites.{stops_first, stops_second, stops_third, new_stands}
 use Rattle.qcow2_image.proofs.builder.write_three.Goals as goal
 
 pub returns-in_err-write : goal.returns-in_err-write

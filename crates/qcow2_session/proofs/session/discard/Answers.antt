@@ -1,23 +1,23 @@
 use Rattle.std.proofs.Common.{refl, sym, subst, ◌∙◌, List, Option, None}
-use Rattle.qcow2_laws.specs.Runs.{Goes}
+use Rattle.qcow2_laws.specs.Runs.{RefinesCommand}
 use Rattle.qcow2_laws.proofs.RunSteps.{done_as, none_as}
-use Rattle.qcow2_image.specs.Views.{seen, image_spec}
+use Rattle.qcow2_image.specs.ImageInvariant.{abstract_of, image_abstraction}
 use Rattle.qcow2_laws.specs.Runs.{discard, done, misuse}
-use Rattle.qcow2_laws.specs.Views.{view}
+use Rattle.qcow2_laws.specs.AbstractImages.{abstract_image}
 use Rattle.qcow2_session.proofs.Places.{set_found}
 use Rattle.qcow2_session.proofs.Meanings.{found_at, none_at, does_discard}
 use Rattle.qcow2_session.proofs.session.discard.Goals as goal
 
 pub returns-in-None-clause-goes : goal.returns-in-None-clause-goes
 returns-in-None-clause-goes g c = λ x s stands founds.
-    let view = seen g.S.Storage.view g.F.BackingDisk.backing c.args.image.now in
+    let view = abstract_of g.S.Storage.view g.F.BackingDisk.backing c.args.image.now in
     let out = c.args.slots.now.prepared.items in
-    subst (λ (o : List (Option _)). Goes x (view out) (view o) s (discard c.args.slot) misuse) (sym (c.put.ensures.is ∙ set_found out c.args.slot None c.in-None.ensures.was))
-    (none_as x (view out) s _ _ misuse refl stands (λ _. (none_at (image_spec g.S.Storage.view g.F.BackingDisk.backing) c.args.image.now out c.args.slot c.in-None.ensures.was, refl)) (λ _ _. refl) tt)
+    subst (λ (o : List (Option _)). RefinesCommand x (view out) (view o) s (discard c.args.slot) misuse) (sym (c.put.ensures.is ∙ set_found out c.args.slot None c.in-None.ensures.was))
+    (none_as x (view out) s _ _ misuse refl stands (λ _. (none_at (image_abstraction g.S.Storage.view g.F.BackingDisk.backing) c.args.image.now out c.args.slot c.in-None.ensures.was, refl)) (λ _ _. refl) tt)
 
 pub returns-in-Some-clause-goes : goal.returns-in-Some-clause-goes
 returns-in-Some-clause-goes g c = λ x s stands founds.
-    let spec = image_spec g.S.Storage.view g.F.BackingDisk.backing in
+    let spec = image_abstraction g.S.Storage.view g.F.BackingDisk.backing in
     let out = c.args.slots.now.prepared.items in
-    subst (λ (o : List (Option _)). Goes x (view spec c.args.image.now out) (view spec c.let_go.new.image o) s (discard c.args.slot) done) (sym c.put.ensures.is)
-    (done_as x _ _ s _ _ _ refl stands (does_discard s.found c.args.slot _ (found_at spec c.args.image.now out c.args.slot c.in-Some.prepared c.in-Some.ensures.was) (c.let_go.ensures.sees out c.args.slot c.in-Some.ensures.was)) (λ _ _. refl) (λ _. tt))
+    subst (λ (o : List (Option _)). RefinesCommand x (abstract_image spec c.args.image.now out) (abstract_image spec c.release.new.image o) s (discard c.args.slot) done) (sym c.put.ensures.is)
+    (done_as x _ _ s _ _ _ refl stands (does_discard s.found c.args.slot _ (found_at spec c.args.image.now out c.args.slot c.in-Some.prepared c.in-Some.ensures.was) (c.release.ensures.sees out c.args.slot c.in-Some.ensures.was)) (λ _ _. refl) (λ _. tt))

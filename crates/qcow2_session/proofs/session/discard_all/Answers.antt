@@ -1,7 +1,7 @@
 use Rattle.std.proofs.Common.{◌≡◌, ◌∙◌, sym, subst, [], ◌∷◌, ◌++◌, Some}
 use Rattle.std.specs.Prelude.{slice_get}
-use Rattle.qcow2_image.specs.Views.{seen}
-use Rattle.qcow2_session.specs.Sessions.{LetsGo}
+use Rattle.qcow2_image.specs.ImageInvariant.{abstract_of}
+use Rattle.qcow2_session.specs.Sessions.{ReleasesMappings}
 use Rattle.qcow2_session.proofs.Places.{get_front}
 use Rattle.qcow2_session.proofs.Turns.{none_within, does_if, does_then}
 use Rattle.qcow2_session.proofs.session.discard_all.Goals as goal
@@ -12,8 +12,8 @@ loop-slot-preserved g c =
     let below = g.F.BackingDisk.backing in
     let rest = c.pop.new.self.items in
     record {
-      own = λ k p e. c.loop-slot.invariant.own k p (subst (λ o. slice_get o k ≡ Some (Some p)) (sym c.in-Some.ensures.items) (get_front rest (c.in-Some.slot ∷ []) k (Some p) e)) ∙ sym c.let_go_slot.ensures.number;
+      own = λ k p e. c.loop-slot.invariant.own k p (subst (λ o. slice_get o k ≡ Some (Some p)) (sym c.in-Some.ensures.items) (get_front rest (c.in-Some.slot ∷ []) k (Some p) e)) ∙ sym c.release_slot.ensures.number;
       gone = does_if (λ h. h.1 ∙ h.0)
-          (does_then (λ _. none_within (seen view below c.loop-slot.image (rest ++ c.in-Some.slot ∷ [])) [])
-          (subst (λ o. LetsGo view below c.args.image.now c.loop-slot.image c.args.slots.prepared.items o) c.in-Some.ensures.items c.loop-slot.invariant.gone) (c.let_go_slot.ensures.sees rest));
+          (does_then (λ _. none_within (abstract_of view below c.loop-slot.image (rest ++ c.in-Some.slot ∷ [])) [])
+          (subst (λ o. ReleasesMappings view below c.args.image.now c.loop-slot.image c.args.slots.prepared.items o) c.in-Some.ensures.items c.loop-slot.invariant.gone) (c.release_slot.ensures.sees rest));
     }

@@ -3,13 +3,13 @@ use Rattle.std.specs.Prelude.{Some, slice_get}
 use Rattle.qcow2_image.specs.Image.{number_of}
 use Rattle.qcow2_image.specs.Prepared.{image_of}
 use Rattle.qcow2_image.specs.declared.prepared.Prepared.{Prepared}
-use Rattle.qcow2_session.specs.Sessions.{LetsGo}
+use Rattle.qcow2_session.specs.Sessions.{ReleasesMappings}
 use Rattle.qcow2_session.proofs.session.discard_all.Given as goal
 
 abbrev pub invariant-loop-slot : goal.invariant-loop-slot
 invariant-loop-slot g l = record {
   own : (k : ℕ) (p : Prepared) → slice_get l.prepared.items k ≡ Some (Some p) → image_of p ≡ number_of l.image;
-  gone : LetsGo g.S.Storage.view g.F.BackingDisk.backing l.fn.image l.image l.fn.slots.prepared.items l.prepared.items;
+  gone : ReleasesMappings g.S.Storage.view g.F.BackingDisk.backing l.fn.image l.image l.fn.slots.prepared.items l.prepared.items;
 }
 
 abbrev pub decreases-loop-slot : goal.decreases-loop-slot

@@ -1,8 +1,8 @@
 use Rattle.std.proofs.Common.{◌≡◌, ◌∙◌, ◌+◌, ◌-◌, refl, length, IfErr, sym, subst, ap, [], take, drop, arith}
 use Rattle.std.proofs.lemmas.Grind.{common_steps}
 use Rattle.qcow2_laws.specs.Calls.{another, Shows}
-use Rattle.qcow2_laws.specs.Views.{Guest, guest_of}
-use Rattle.qcow2_image.specs.Views.{seen}
+use Rattle.qcow2_laws.specs.AbstractImages.{Guest, guest_of}
+use Rattle.qcow2_image.specs.ImageInvariant.{abstract_of}
 use Rattle.qcow2_session.specs.Sessions.{IsRightlyBeyond, Reads}
 use Rattle.qcow2_session.proofs.Bytes.{shows_as, shows_both, first_two}
 use Rattle.qcow2_session.proofs.Beyond.{part_refused}
@@ -17,7 +17,7 @@ returns-in_err-done-clause-sees g c =
     let view = g.S.Storage.view in
     let below = g.F.BackingDisk.backing in
     subst (λ r. Reads view below c.args.image.now c.read_some.new.image c.args.offset c.args.length r) (sym (refused_is _ c.in_err-done.field-0.0 c.from_residual-in_err-done.ensures))
-    (λ out. refuses_if (λ h. h.1 ∙ h.0.1) (refuses_then (λ _. none_within (seen view below c.loop-done.image out) []) (c.loop-done.invariant.shown out) (c.in_err-done.ensures.sees out)))
+    (λ out. refuses_if (λ h. h.1 ∙ h.0.1) (refuses_then (λ _. none_within (abstract_of view below c.loop-done.image out) []) (c.loop-done.invariant.shown out) (c.in_err-done.ensures.sees out)))
 
 pub loop-done-preserved : goal.loop-done-preserved
 loop-done-preserved g c = record {
@@ -32,17 +32,17 @@ loop-done-preserved g c = record {
       let first = take c.loop-done.done c.loop-done.bytes.items in
       let place : c.in-Some.at ≡ c.args.offset + length first = c.in-Some.ensures.1 ∙ grind (arith, common_steps) in
       does_if (λ h. (
-        subst (λ b. Shows (guest_of (seen view below c.args.image.now out)).disk c.args.offset b) (first_two c.loop-done.done n c.loop-done.bytes.len c.loop-done.bytes.items c.read_some.new.bytes _ _ (grind (arith, common_steps)) (grind (arith, common_steps)) (grind (arith, common_steps)) c.deref_mut.result.now c.deref_mut.ensures.value)
-            (shows_both (guest_of (seen view below c.args.image.now out)).disk c.args.offset first (take n c.read_some.new.bytes) h.0.0 (shows_as (ap (λ (v : Guest). v.disk) h.0.1) place refl h.1.0)),
+        subst (λ b. Shows (guest_of (abstract_of view below c.args.image.now out)).disk c.args.offset b) (first_two c.loop-done.done n c.loop-done.bytes.len c.loop-done.bytes.items c.read_some.new.bytes _ _ (grind (arith, common_steps)) (grind (arith, common_steps)) (grind (arith, common_steps)) c.deref_mut.result.now c.deref_mut.ensures.value)
+            (shows_both (guest_of (abstract_of view below c.args.image.now out)).disk c.args.offset first (take n c.read_some.new.bytes) h.0.0 (shows_as (ap (λ (v : Guest). v.disk) h.0.1) place refl h.1.0)),
         h.1.1 ∙ h.0.1,
       ))
-      (does_then (λ _. none_within (seen view below c.loop-done.image out) []) (c.loop-done.invariant.shown out) (c.in_ok-done.ensures.sees out));
+      (does_then (λ _. none_within (abstract_of view below c.loop-done.image out) []) (c.loop-done.invariant.shown out) (c.in_ok-done.ensures.sees out));
 }
 
 pub returns-clause-sees : goal.returns-clause-sees
 returns-clause-sees g c = λ out.
     let all : take c.loop-done.done c.loop-done.bytes.items ≡ c.loop-done.bytes.items = grind (arith, common_steps) in
-    does_if (λ h. (grind (arith, common_steps), subst (λ b. Shows (guest_of (seen g.S.Storage.view g.F.BackingDisk.backing c.args.image.now out)).disk c.args.offset b) all h.0, h.1)) (c.loop-done.invariant.shown out)
+    does_if (λ h. (grind (arith, common_steps), subst (λ b. Shows (guest_of (abstract_of g.S.Storage.view g.F.BackingDisk.backing c.args.image.now out)).disk c.args.offset b) all h.0, h.1)) (c.loop-done.invariant.shown out)
 
 pub returns-in_default-checked_add-clause-beyond : goal.returns-in_default-checked_add-clause-beyond
 returns-in_default-checked_add-clause-beyond g c = λ is. absurd (c.in_default-checked_add.ensures (omega (arith, c.in_ok-check_read.ensures.end, c.loop-done-test.true, c.in-Ok.ensures)))

@@ -1,9 +1,9 @@
 use Rattle.std.proofs.Common.{◌≡◌, ◌-◌, ◌≤◌, vec_len, [], take, List}
 use Rattle.qcow2_laws.specs.Calls.{Does, Shows}
-use Rattle.qcow2_laws.specs.Views.{guest_of}
+use Rattle.qcow2_laws.specs.AbstractImages.{guest_of}
 use Rattle.std.specs.Prelude.{Option}
 use Rattle.qcow2_image.specs.Image.{number_of, size_of}
-use Rattle.qcow2_image.specs.Views.{seen}
+use Rattle.qcow2_image.specs.ImageInvariant.{abstract_of}
 use Rattle.qcow2_image.specs.declared.prepared.Prepared.{Prepared}
 use Rattle.qcow2_session.proofs.session.read.Given as goal
 
@@ -13,7 +13,7 @@ invariant-loop-done g l = record {
   within : l.done ≤ l.count;
   number : number_of l.image ≡ number_of l.fn.image;
   size : size_of l.image ≡ size_of l.fn.image;
-  shown : (out : List (Option Prepared)) → let v = seen g.S.Storage.view g.F.BackingDisk.backing l.fn.image out in let w = seen g.S.Storage.view g.F.BackingDisk.backing l.image out in
+  shown : (out : List (Option Prepared)) → let v = abstract_of g.S.Storage.view g.F.BackingDisk.backing l.fn.image out in let w = abstract_of g.S.Storage.view g.F.BackingDisk.backing l.image out in
       Does v w [] [] (Shows (guest_of v).disk l.fn.offset (take l.done l.bytes.items) × (guest_of w ≡ guest_of v));
 }
 

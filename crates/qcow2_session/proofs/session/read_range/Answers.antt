@@ -1,8 +1,8 @@
 use Rattle.std.proofs.Common.{◌≡◌, ◌+◌, ◌++◌, take, drop, length, sym, subst, arith}
 use Rattle.std.proofs.lemmas.Grind.{common_steps}
 use Rattle.qcow2_laws.specs.Calls.{Shows}
-use Rattle.qcow2_laws.specs.Views.{guest_of}
-use Rattle.qcow2_image.specs.Views.{seen}
+use Rattle.qcow2_laws.specs.AbstractImages.{guest_of}
+use Rattle.qcow2_image.specs.ImageInvariant.{abstract_of}
 use Rattle.qcow2_session.specs.Sessions.{Reads}
 use Rattle.qcow2_session.proofs.Turns.{refused_is, does_if}
 use Rattle.qcow2_session.proofs.session.read_range.Goals as goal
@@ -15,4 +15,4 @@ returns-in_err-read_mapped-clause-sees g c =
 pub returns-clause-sees : goal.returns-clause-sees
 returns-clause-sees g c = λ out.
     let whole : take c.in_ok-bytes.bytes.len (c.read_mapped.new.bytes ++ drop (length c.read_mapped.new.bytes) c.in_ok-bytes.bytes.items) ≡ c.read_mapped.new.bytes = grind (arith, common_steps) in
-    does_if (λ h. (grind (arith, common_steps), subst (λ b. Shows (guest_of (seen g.S.Storage.view g.F.BackingDisk.backing c.args.image.now out)).disk (c.args.mapping.now.offset + c.args.at) b) (sym whole) h.1, h.0)) (c.in_ok-read_mapped.ensures.sees out)
+    does_if (λ h. (grind (arith, common_steps), subst (λ b. Shows (guest_of (abstract_of g.S.Storage.view g.F.BackingDisk.backing c.args.image.now out)).disk (c.args.mapping.now.offset + c.args.at) b) (sym whole) h.1, h.0)) (c.in_ok-read_mapped.ensures.sees out)

@@ -2,9 +2,9 @@ use Rattle.std.proofs.Common.{◌≡◌, ◌+◌, ◌∙◌, refl, sym, ap, inl,
 use Rattle.std.specs.Prelude.{replicate}
 use Rattle.std.proofs.lemmas.Grind.{common_steps}
 use Rattle.std.proofs.lemmas.List.{take_more, take_all, map-append}
-use Rattle.qcow2_image.specs.Views.{seen, image_spec}
-use Rattle.qcow2_laws.specs.Runs.{Completes, begun, started}
-use Rattle.qcow2_laws.specs.Views.{guest_of}
+use Rattle.qcow2_image.specs.ImageInvariant.{abstract_of, image_abstraction}
+use Rattle.qcow2_laws.specs.Runs.{RefinesWholeRun, begun, started}
+use Rattle.qcow2_laws.specs.AbstractImages.{guest_of}
 use Rattle.qcow2_laws.proofs.RunSteps.{begins, completes, means_the_disk}
 use Rattle.qcow2_session.specs.Commands.{command_of, reply_of}
 use Rattle.qcow2_image.proofs.Free.{free_places, nothing_since, whole}
@@ -21,7 +21,7 @@ loop-command-init g c = record {
   ran = λ x s stands.
       let view = g.S.Storage.view in
       let below = g.F.BackingDisk.backing in
-      first_of_all (image_spec view below) (free_places view below) c.args.image.now 256 x s _ _ _ c.in-Some.ensures.prepared c.in-Some.ensures.mappings (ap (λ l. map reply_of l) c.in-Ok.ensures.items) stands;
+      first_of_all (image_abstraction view below) (free_places view below) c.args.image.now 256 x s _ _ _ c.in-Some.ensures.prepared c.in-Some.ensures.mappings (ap (λ l. map reply_of l) c.in-Ok.ensures.items) stands;
 }
 
 pub loop-command-preserved : goal.loop-command-preserved
@@ -29,7 +29,7 @@ loop-command-preserved g c = record {
   own = c.step-reply.ensures.slots ∙ c.loop-command.invariant.own ∙ sym c.step-reply.ensures.number;
   answered = c.push_reserved.ensures.len ∙ ap (λ n. n + 1) c.loop-command.invariant.answered;
   ran = λ x s stands.
-      let spec = image_spec g.S.Storage.view g.F.BackingDisk.backing in
+      let spec = image_abstraction g.S.Storage.view g.F.BackingDisk.backing in
       let done = c.loop-command.command-index in
       let commands = c.args.commands.now in
       let replies = c.loop-command.replies.items in
@@ -49,12 +49,12 @@ pub returns-clause-runs : goal.returns-clause-runs
 returns-clause-runs g c = λ x s stands.
     let view = g.S.Storage.view in
     let below = g.F.BackingDisk.backing in
-    let spec = image_spec view below in
+    let spec = image_abstraction view below in
     let old = c.args.image.now in
     let new = c.discard_all.new.image in
     let replies = map reply_of c.loop-command.replies.items in
     let all : take c.loop-command.command-index c.args.commands.now ≡ c.args.commands.now = take_all c.loop-command.command-index c.args.commands.now c.loop-command-test.false in
-    inr (subst (λ k. Completes spec x old new (begun s) (map command_of k) replies) all
+    inr (subst (λ k. RefinesWholeRun spec x old new (begun s) (map command_of k) replies) all
     (completes spec x old c.loop-command.image new (replicate 256 None) c.loop-command.slots.prepared.items (begun s) (map command_of (take c.loop-command.command-index c.args.commands.now)) replies
     (c.loop-command.invariant.ran x s stands).ran c.discard_all.ensures (λ k. refl) (surplus_none spec (free_places view below) old 256)))
 
@@ -64,10 +64,10 @@ returns-clause-means g c = λ opened.
     let below = g.F.BackingDisk.backing in
     let old = c.args.image.now in
     let new = c.discard_all.new.image in
-    let before = seen view below old [] in
+    let before = abstract_of view below old [] in
     let stands = begins before opened.sound (whole view below old [] opened.sound) opened.clean in
     ⊎_elim (λ h. inl h)
-    (λ all. inr (means_the_disk (image_spec view below) old new (map command_of c.args.commands.now) (map reply_of c.loop-command.replies.items) (nothing_since view below g.S.Storage.only_now old) stands all))
+    (λ all. inr (means_the_disk (image_abstraction view below) old new (map command_of c.args.commands.now) (map reply_of c.loop-command.replies.items) (nothing_since view below g.S.Storage.only_now old) stands all))
     (returns-clause-runs g c before.setting (started (guest_of before)) stands)
 
 pub returns-in_default-clause-maps : goal.returns-in_default-clause-maps
@@ -82,10 +82,10 @@ pub returns-clause-maps : goal.returns-clause-maps
 returns-clause-maps g c = λ opened.
     let view = g.S.Storage.view in
     let old = c.args.image.now in
-    let spec = image_spec view g.F.BackingDisk.backing in
+    let spec = image_abstraction view g.F.BackingDisk.backing in
     let b = contents_in view old.file in
     let commands = map command_of c.args.commands.now in
     let replies = c.loop-command.replies.items in
     ⊎_elim (λ untouched. none_said b (is_some old.backing) commands replies untouched.0)
-    (λ means. looked_up spec (spec.setting old) (spec.surplus old []) b old means.last (started (guest_of (seen view g.F.BackingDisk.backing old []))) means.end commands (map reply_of replies) means.run means.along refl opened.clean)
+    (λ means. looked_up spec (spec.setting old) (spec.surplus old []) b old means.last (started (guest_of (abstract_of view g.F.BackingDisk.backing old []))) means.end commands (map reply_of replies) means.run means.along refl opened.clean)
     (returns-clause-means g c opened)

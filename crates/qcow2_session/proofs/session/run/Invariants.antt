@@ -1,9 +1,9 @@
 use Rattle.std.proofs.Common.{◌≡◌, vec_len, take, map, []}
 use Rattle.std.specs.Prelude.{None, replicate}
-use Rattle.qcow2_laws.specs.Runs.{State, StandsAt, begun}
-use Rattle.qcow2_laws.specs.Views.{Setting}
+use Rattle.qcow2_laws.specs.Runs.{State, RefinesState, begun}
+use Rattle.qcow2_laws.specs.AbstractImages.{Setting}
 use Rattle.qcow2_image.specs.Image.{number_of}
-use Rattle.qcow2_image.specs.Views.{seen, image_spec}
+use Rattle.qcow2_image.specs.ImageInvariant.{abstract_of, image_abstraction}
 use Rattle.qcow2_session.specs.Commands.{command_of, reply_of}
 use Rattle.qcow2_session.proofs.Runs.{GoesOn}
 use Rattle.qcow2_session.proofs.session.run.Given as goal
@@ -12,7 +12,7 @@ abbrev pub invariant-loop-command : goal.invariant-loop-command
 invariant-loop-command g l = record {
   own : l.slots.image ≡ number_of l.image;
   answered : vec_len l.replies ≡ l.command-index;
-  ran : (x : Setting) (s : State) → StandsAt x (seen g.S.Storage.view g.F.BackingDisk.backing l.fn.image []) s
-      → GoesOn (image_spec g.S.Storage.view g.F.BackingDisk.backing) x l.fn.image (replicate 256 None) l.image l.slots.prepared.items (begun s)
+  ran : (x : Setting) (s : State) → RefinesState x (abstract_of g.S.Storage.view g.F.BackingDisk.backing l.fn.image []) s
+      → GoesOn (image_abstraction g.S.Storage.view g.F.BackingDisk.backing) x l.fn.image (replicate 256 None) l.image l.slots.prepared.items (begun s)
       (map command_of (take l.command-index l.commands)) (map reply_of l.replies.items) l.slots.mappings.items;
 }

@@ -1,7 +1,7 @@
 use Rattle.std.proofs.Common.{refl, ap, sym, subst}
 use Rattle.qcow2_laws.proofs.RunSteps.{done_as, refused_as, none_as}
 use Rattle.qcow2_session.specs.Commands.{command_of}
-use Rattle.qcow2_session.specs.Sessions.{Steps}
+use Rattle.qcow2_session.specs.Sessions.{CommandSteps}
 use Rattle.qcow2_session.proofs.session.step.Goals as goal
 
 pub returns-in-Ok-clause-goes : goal.returns-in-Ok-clause-goes
@@ -17,25 +17,25 @@ pub returns-in-Err-write-clause-goes : goal.returns-in-Err-write-clause-goes
 returns-in-Err-write-clause-goes g c = λ x s stands founds. refused_as x _ _ s _ _ _ _ (ap command_of c.in-Write.is) stands (rw c.deref.ensures.value at (c.in-Err-write.ensures.sees c.args.slots.now.prepared.items)) (λ f. f) (λ _ _. refl) tt
 
 pub returns-in-Flush-clause-goes : goal.returns-in-Flush-clause-goes
-returns-in-Flush-clause-goes g c = subst (λ q. Steps g.S.Storage.view g.F.BackingDisk.backing c.args.image.now c.flush.new.image c.args.slots.now c.args.slots.now q c.flush.result) (sym c.in-Flush.is) (c.flush.ensures.goes c.args.slots.now)
+returns-in-Flush-clause-goes g c = subst (λ q. CommandSteps g.S.Storage.view g.F.BackingDisk.backing c.args.image.now c.flush.new.image c.args.slots.now c.args.slots.now q c.flush.result) (sym c.in-Flush.is) (c.flush.ensures.goes c.args.slots.now)
 
 pub returns-in-Size-clause-goes : goal.returns-in-Size-clause-goes
 returns-in-Size-clause-goes g c = λ x s stands founds. none_as x _ s _ _ _ (ap command_of c.in-Size.is) stands (λ sound. (c.size.ensures.sees c.args.slots.now.prepared.items sound, refl)) (λ _ _. refl) tt
 
 pub returns-in-GetMapping-clause-goes : goal.returns-in-GetMapping-clause-goes
-returns-in-GetMapping-clause-goes g c = subst (λ q. Steps g.S.Storage.view g.F.BackingDisk.backing c.args.image.now c.get_mapping.new.image c.args.slots.now c.get_mapping.new.slots q c.get_mapping.result) (sym c.in-GetMapping.is) c.get_mapping.ensures.goes
+returns-in-GetMapping-clause-goes g c = subst (λ q. CommandSteps g.S.Storage.view g.F.BackingDisk.backing c.args.image.now c.get_mapping.new.image c.args.slots.now c.get_mapping.new.slots q c.get_mapping.result) (sym c.in-GetMapping.is) c.get_mapping.ensures.goes
 
 pub returns-in-ReadMapped-clause-goes : goal.returns-in-ReadMapped-clause-goes
-returns-in-ReadMapped-clause-goes g c = subst (λ q. Steps g.S.Storage.view g.F.BackingDisk.backing c.args.image.now c.read_mapped.new.image c.args.slots.now c.args.slots.now q c.read_mapped.result) (sym c.in-ReadMapped.is) c.read_mapped.ensures.goes
+returns-in-ReadMapped-clause-goes g c = subst (λ q. CommandSteps g.S.Storage.view g.F.BackingDisk.backing c.args.image.now c.read_mapped.new.image c.args.slots.now c.args.slots.now q c.read_mapped.result) (sym c.in-ReadMapped.is) c.read_mapped.ensures.goes
 
 pub returns-in-PrepareDataMapping-clause-goes : goal.returns-in-PrepareDataMapping-clause-goes
-returns-in-PrepareDataMapping-clause-goes g c = subst (λ q. Steps g.S.Storage.view g.F.BackingDisk.backing c.args.image.now c.prepare.new.image c.args.slots.now c.prepare.new.slots q c.prepare.result) (sym c.in-PrepareDataMapping.is) c.prepare.ensures.goes
+returns-in-PrepareDataMapping-clause-goes g c = subst (λ q. CommandSteps g.S.Storage.view g.F.BackingDisk.backing c.args.image.now c.prepare.new.image c.args.slots.now c.prepare.new.slots q c.prepare.result) (sym c.in-PrepareDataMapping.is) c.prepare.ensures.goes
 
 pub returns-in-WriteMapped-clause-goes : goal.returns-in-WriteMapped-clause-goes
-returns-in-WriteMapped-clause-goes g c = subst (λ q. Steps g.S.Storage.view g.F.BackingDisk.backing c.args.image.now c.write_mapped.new.image c.args.slots.now c.args.slots.now q c.write_mapped.result) (sym c.in-WriteMapped.is) c.write_mapped.ensures.goes
+returns-in-WriteMapped-clause-goes g c = subst (λ q. CommandSteps g.S.Storage.view g.F.BackingDisk.backing c.args.image.now c.write_mapped.new.image c.args.slots.now c.args.slots.now q c.write_mapped.result) (sym c.in-WriteMapped.is) c.write_mapped.ensures.goes
 
 pub returns-in-CommitDataMapping-clause-goes : goal.returns-in-CommitDataMapping-clause-goes
-returns-in-CommitDataMapping-clause-goes g c = subst (λ q. Steps g.S.Storage.view g.F.BackingDisk.backing c.args.image.now c.commit.new.image c.args.slots.now c.commit.new.slots q c.commit.result) (sym c.in-CommitDataMapping.is) c.commit.ensures.goes
+returns-in-CommitDataMapping-clause-goes g c = subst (λ q. CommandSteps g.S.Storage.view g.F.BackingDisk.backing c.args.image.now c.commit.new.image c.args.slots.now c.commit.new.slots q c.commit.result) (sym c.in-CommitDataMapping.is) c.commit.ensures.goes
 
 pub returns-in-DiscardDataMapping-clause-goes : goal.returns-in-DiscardDataMapping-clause-goes
-returns-in-DiscardDataMapping-clause-goes g c = subst (λ q. Steps g.S.Storage.view g.F.BackingDisk.backing c.args.image.now c.discard.new.image c.args.slots.now c.discard.new.slots q c.discard.result) (sym c.in-DiscardDataMapping.is) c.discard.ensures.goes
+returns-in-DiscardDataMapping-clause-goes g c = subst (λ q. CommandSteps g.S.Storage.view g.F.BackingDisk.backing c.args.image.now c.discard.new.image c.args.slots.now c.discard.new.slots q c.discard.result) (sym c.in-DiscardDataMapping.is) c.discard.ensures.goes

@@ -3,8 +3,8 @@ use Rattle.std.proofs.lemmas.Grind.{common_steps}
 use Rattle.std.proofs.lemmas.List.{take_rest}
 use Rattle.qcow2_laws.specs.Calls.{another, with_disk}
 use Rattle.qcow2_laws.specs.Disk.{with_bytes}
-use Rattle.qcow2_laws.specs.Views.{guest_of}
-use Rattle.qcow2_image.specs.Views.{seen}
+use Rattle.qcow2_laws.specs.AbstractImages.{guest_of}
+use Rattle.qcow2_image.specs.ImageInvariant.{abstract_of}
 use Rattle.qcow2_image.specs.Calls.{refusal_of}
 use Rattle.qcow2_session.proofs.Writing.{writes_more, write_refused}
 use Rattle.qcow2_session.proofs.Beyond.{part_refused}
@@ -21,13 +21,13 @@ loop-done-preserved g c = record {
   size = c.write_some-in-loop-done.ensures.size ∙ c.loop-done.invariant.size;
   end = c.loop-done.invariant.end;
   written = λ out. writes_more c.args.offset c.in-Some.at c.loop-done.done c.args.bytes.now c.loop-done.invariant.within c.in-Some.ensures.1
-      (seen g.S.Storage.view g.F.BackingDisk.backing c.args.image.now out) (seen g.S.Storage.view g.F.BackingDisk.backing c.loop-done.image out) (seen g.S.Storage.view g.F.BackingDisk.backing c.write_some-in-loop-done.new.image out)
+      (abstract_of g.S.Storage.view g.F.BackingDisk.backing c.args.image.now out) (abstract_of g.S.Storage.view g.F.BackingDisk.backing c.loop-done.image out) (abstract_of g.S.Storage.view g.F.BackingDisk.backing c.write_some-in-loop-done.new.image out)
       (c.loop-done.invariant.written out) c.in-Ok-write_some.count (rw (take_rest c.args.bytes.now c.loop-done.done) at (c.in-Ok-write_some.ensures.sees out));
 }
 
 pub returns-in-Err-write_some-clause-sees : goal.returns-in-Err-write_some-clause-sees
 returns-in-Err-write_some-clause-sees g c = λ out. write_refused c.args.offset c.in-Some.at c.loop-done.done c.args.bytes.now c.loop-done.invariant.within c.in-Some.ensures.1
-    (seen g.S.Storage.view g.F.BackingDisk.backing c.args.image.now out) (seen g.S.Storage.view g.F.BackingDisk.backing c.loop-done.image out) (seen g.S.Storage.view g.F.BackingDisk.backing c.write_some-in-loop-done.new.image out)
+    (abstract_of g.S.Storage.view g.F.BackingDisk.backing c.args.image.now out) (abstract_of g.S.Storage.view g.F.BackingDisk.backing c.loop-done.image out) (abstract_of g.S.Storage.view g.F.BackingDisk.backing c.write_some-in-loop-done.new.image out)
     (c.loop-done.invariant.written out) (refusal_of c.in-Err-write_some.refusal) (rw (take_rest c.args.bytes.now c.loop-done.done) at (c.in-Err-write_some.ensures.sees out))
 
 pub returns-clause-sees : goal.returns-clause-sees
@@ -35,7 +35,7 @@ returns-clause-sees g c = λ out.
     let view = g.S.Storage.view in
     let below = g.F.BackingDisk.backing in
     let all : take c.loop-done.done c.args.bytes.now ≡ c.args.bytes.now = grind (arith, common_steps) in
-    does_if (λ e. subst (λ b. guest_of (seen view below c.loop-done.image out) ≡ with_disk (guest_of (seen view below c.args.image.now out)) (with_bytes (guest_of (seen view below c.args.image.now out)).disk c.args.offset b)) all e) (c.loop-done.invariant.written out)
+    does_if (λ e. subst (λ b. guest_of (abstract_of view below c.loop-done.image out) ≡ with_disk (guest_of (abstract_of view below c.args.image.now out)) (with_bytes (guest_of (abstract_of view below c.args.image.now out)).disk c.args.offset b)) all e) (c.loop-done.invariant.written out)
 
 pub returns-in_default-clause-beyond : goal.returns-in_default-clause-beyond
 returns-in_default-clause-beyond g c = λ is. absurd (c.in_default.ensures (omega (arith, c.loop-done.invariant.end, c.loop-done-test.true)))

@@ -3,9 +3,9 @@ use Rattle.std.specs.Prelude.{Option}
 use Rattle.qcow2_laws.specs.Calls.{Does, with_disk}
 use Rattle.qcow2_laws.specs.Disk.{with_bytes}
 use Rattle.qcow2_laws.specs.Mappings.{gift_of}
-use Rattle.qcow2_laws.specs.Views.{guest_of}
+use Rattle.qcow2_laws.specs.AbstractImages.{guest_of}
 use Rattle.qcow2_image.specs.Image.{number_of, size_of}
-use Rattle.qcow2_image.specs.Views.{seen}
+use Rattle.qcow2_image.specs.ImageInvariant.{abstract_of}
 use Rattle.qcow2_image.specs.declared.prepared.Prepared.{Prepared}
 use Rattle.qcow2_session.proofs.session.write.Given as goal
 
@@ -15,7 +15,7 @@ invariant-loop-done g l = record {
   number : number_of l.image ≡ number_of l.fn.image;
   size : size_of l.image ≡ size_of l.fn.image;
   end : l.fn.offset + length l.bytes < 2 ^ 64;
-  written : (out : List (Option Prepared)) → let v = seen g.S.Storage.view g.F.BackingDisk.backing l.fn.image out in let w = seen g.S.Storage.view g.F.BackingDisk.backing l.image out in
+  written : (out : List (Option Prepared)) → let v = abstract_of g.S.Storage.view g.F.BackingDisk.backing l.fn.image out in let w = abstract_of g.S.Storage.view g.F.BackingDisk.backing l.image out in
       Does v w (gift_of l.fn.offset l.bytes ∷ []) [] (guest_of w ≡ with_disk (guest_of v) (with_bytes (guest_of v).disk l.fn.offset (take l.done l.bytes)));
 }
 

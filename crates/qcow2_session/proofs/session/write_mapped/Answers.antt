@@ -1,6 +1,6 @@
 use Rattle.std.proofs.Common.{refl, length, arith}
 use Rattle.qcow2_laws.proofs.RunSteps.{done_as, refused_as, none_as}
-use Rattle.qcow2_image.specs.Views.{image_spec}
+use Rattle.qcow2_image.specs.ImageInvariant.{image_abstraction}
 use Rattle.qcow2_session.proofs.Meanings.{found_at, none_at, does_put, refuses_put, is_past}
 use Rattle.qcow2_laws.specs.Runs.{misuse}
 use Rattle.qcow2_session.proofs.session.write_mapped.Goals as goal
@@ -8,13 +8,13 @@ use Rattle.qcow2_session.proofs.session.write_mapped.Goals.{then-at-length-via-t
 
 pub returns-in_default-clause-goes : goal.returns-in_default-clause-goes
 returns-in_default-clause-goes g c = λ x s stands founds.
-    let spec = image_spec g.S.Storage.view g.F.BackingDisk.backing in
+    let spec = image_abstraction g.S.Storage.view g.F.BackingDisk.backing in
     let out = c.args.slots.now.prepared.items in
     none_as x _ s _ _ misuse refl stands (λ _. (is_past (c.args.at) (length c.args.bytes.now.items) (none_at spec c.args.image.now out c.args.slot c.in_default.ensures) tt, refl)) (λ _ _. refl) tt
 
 pub returns-then-at-length-clause-goes : goal.returns-then-at-length-clause-goes
 returns-then-at-length-clause-goes g c = λ x s stands founds.
-    let spec = image_spec g.S.Storage.view g.F.BackingDisk.backing in
+    let spec = image_abstraction g.S.Storage.view g.F.BackingDisk.backing in
     let out = c.args.slots.now.prepared.items in
     none_as x _ s _ _ misuse refl stands (λ _. (
       is_past c.args.at (length c.args.bytes.now.items) (found_at spec c.args.image.now out c.args.slot c.in-Some.prepared.now c.in-Some.ensures)
@@ -27,14 +27,14 @@ returns-then-at-length-clause-goes g c = λ x s stands founds.
 
 pub returns-in-Ok-clause-goes : goal.returns-in-Ok-clause-goes
 returns-in-Ok-clause-goes g c = λ x s stands founds.
-    let spec = image_spec g.S.Storage.view g.F.BackingDisk.backing in
+    let spec = image_abstraction g.S.Storage.view g.F.BackingDisk.backing in
     let out = c.args.slots.now.prepared.items in
     done_as x _ _ s _ _ _ refl stands (does_put s.found c.args.slot _ (found_at spec c.args.image.now out c.args.slot c.in-Some.prepared.now c.in-Some.ensures) c.args.at c.args.bytes.now.items (omega (arith, c.if-at-length.false, c.if-len-length.false, c.len.ensures, c.length-length.ensures))
     (rw c.deref.ensures.value at (c.in-Ok.ensures.sees out c.args.slot c.in-Some.ensures))) (λ _ _. refl) (λ _. tt)
 
 pub returns-in-Err-clause-goes : goal.returns-in-Err-clause-goes
 returns-in-Err-clause-goes g c = λ x s stands founds.
-    let spec = image_spec g.S.Storage.view g.F.BackingDisk.backing in
+    let spec = image_abstraction g.S.Storage.view g.F.BackingDisk.backing in
     let out = c.args.slots.now.prepared.items in
     refused_as x _ _ s _ _ _ _ refl stands (refuses_put s.found c.args.slot _ (found_at spec c.args.image.now out c.args.slot c.in-Some.prepared.now c.in-Some.ensures) c.args.at c.args.bytes.now.items
     (rw c.deref.ensures.value at (c.in-Err.ensures.sees out c.args.slot c.in-Some.ensures))) (λ f. f) (λ _ _. refl) tt

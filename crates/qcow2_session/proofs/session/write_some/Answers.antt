@@ -1,11 +1,11 @@
 use Rattle.std.proofs.Common.{◌≡◌, sym, subst, ap, ◌∙◌, Err, [], ◌∷◌, Some, None, min, length, refl}
 use Rattle.qcow2_laws.specs.Mappings.{gift_of}
-use Rattle.qcow2_laws.specs.Views.{guest_of}
+use Rattle.qcow2_laws.specs.AbstractImages.{guest_of}
 use Rattle.qcow2_image.specs.Calls.{refusal_of, Commits}
 use Rattle.qcow2_image.specs.Prepared.{IsKept}
 use Rattle.qcow2_image.specs.Refusals.{refuses_to_prepare}
 use Rattle.qcow2_image.specs.declared.prepared.CommitRefused.TheVariants.{Kept}
-use Rattle.qcow2_image.specs.Views.{seen, image_spec}
+use Rattle.qcow2_image.specs.ImageInvariant.{abstract_of, image_abstraction}
 use Rattle.qcow2_session.specs.Sessions.{WritesFirst}
 use Rattle.qcow2_session.proofs.Chunks.{may_write_none, put_refused, written, commit_spent, commit_kept}
 use Rattle.qcow2_image.proofs.Free.{free_places}
@@ -20,24 +20,24 @@ returns-in_err-prepared-clause-sees g c =
     let new = c.prepare_data_mapping.new.self in
     let e = c.in_err-prepared.field-0.0 in
     subst (λ r. WritesFirst view below old new c.args.offset c.args.bytes.now r) (sym (refused_is _ e c.from_residual.ensures))
-    (λ out. refuses_if (may_write_none (refusal_of e) (guest_of (seen view below old out)) (guest_of (seen view below new out)) c.args.offset c.args.bytes.now)
-    (refuses_less (none_within (seen view below old out) (gift_of c.args.offset c.args.bytes.now ∷ [])) (c.in_err-prepared.ensures.sees out)))
+    (λ out. refuses_if (may_write_none (refusal_of e) (guest_of (abstract_of view below old out)) (guest_of (abstract_of view below new out)) c.args.offset c.args.bytes.now)
+    (refuses_less (none_within (abstract_of view below old out) (gift_of c.args.offset c.args.bytes.now ∷ [])) (c.in_err-prepared.ensures.sees out)))
 
 pub returns-in-Err-clause-sees : goal.returns-in-Err-clause-sees
 returns-in-Err-clause-sees g c = λ out.
     let view = g.S.Storage.view in
     let below = g.F.BackingDisk.backing in
     let p = c.in_ok-prepared.prepared in
-    put_refused (image_spec view below) (free_places view below) c.args.image.now c.prepare_data_mapping.new.self p out c.args.offset c.min-count.result c.args.bytes.now
+    put_refused (image_abstraction view below) (free_places view below) c.args.image.now c.prepare_data_mapping.new.self p out c.args.offset c.min-count.result c.args.bytes.now
     (c.min-count.ensures ∙ ap (λ k. min (length c.args.bytes.now) k) c.length.ensures) (c.in_ok-prepared.ensures.sees (None ∷ out) 0 refl)
-    c.write_mapped.new.self c.let_go.new.image (refusal_of c.in-Err.refusal) (c.in-Err.ensures.sees (Some p ∷ out) 0 refl) (c.let_go.ensures.sees (Some p ∷ out) 0 refl)
+    c.write_mapped.new.self c.release.new.image (refusal_of c.in-Err.refusal) (c.in-Err.ensures.sees (Some p ∷ out) 0 refl) (c.release.ensures.sees (Some p ∷ out) 0 refl)
 
 pub returns-in-Ok-clause-sees : goal.returns-in-Ok-clause-sees
 returns-in-Ok-clause-sees g c = λ out.
     let view = g.S.Storage.view in
     let below = g.F.BackingDisk.backing in
     let p = c.in_ok-prepared.prepared in
-    written (image_spec view below) (free_places view below) c.args.image.now c.prepare_data_mapping.new.self p out c.args.offset c.min-count.result c.args.bytes.now
+    written (image_abstraction view below) (free_places view below) c.args.image.now c.prepare_data_mapping.new.self p out c.args.offset c.min-count.result c.args.bytes.now
     (c.min-count.ensures ∙ ap (λ k. min (length c.args.bytes.now) k) c.length.ensures) (c.in_ok-prepared.ensures.sees (None ∷ out) 0 refl)
     c.write_mapped.new.self (c.in_default.ensures.sees (Some p ∷ out) 0 refl) c.commit_data_mapping.new.self (c.in-Ok.ensures.sees (Some p ∷ out) 0 refl)
 
@@ -47,7 +47,7 @@ returns-in-Err-Spent-clause-sees g c = λ out.
     let below = g.F.BackingDisk.backing in
     let p = c.in_ok-prepared.prepared in
     let refused = subst (λ r. Commits view below c.write_mapped.new.self c.commit_data_mapping.new.self p (Err r)) c.in-Err-Spent.field-0-is c.in-Err-Spent.ensures.sees (Some p ∷ out) 0 refl in
-    commit_spent (image_spec view below) (free_places view below) c.args.image.now c.prepare_data_mapping.new.self p out c.args.offset c.min-count.result c.args.bytes.now
+    commit_spent (image_abstraction view below) (free_places view below) c.args.image.now c.prepare_data_mapping.new.self p out c.args.offset c.min-count.result c.args.bytes.now
     (c.min-count.ensures ∙ ap (λ k. min (length c.args.bytes.now) k) c.length.ensures) (c.in_ok-prepared.ensures.sees (None ∷ out) 0 refl)
     c.write_mapped.new.self (c.in_default.ensures.sees (Some p ∷ out) 0 refl) c.commit_data_mapping.new.self (refusal_of c.in-Err-Spent.refusal) refused.0 refused.1
 
@@ -58,10 +58,10 @@ returns-in-Err-Kept-clause-sees g c = λ out.
     let p = c.in_ok-prepared.prepared in
     let same : c.in-Err-Kept.prepared ≡ p = subst (λ r. IsKept p r) c.in-Err-Kept.field-0-is c.in-Err-Kept.ensures.kept in
     let refused = subst (λ r. Commits view below c.write_mapped.new.self c.commit_data_mapping.new.self p (Err r)) (c.in-Err-Kept.field-0-is ∙ ap (λ q. Kept c.in-Err-Kept.refusal q) same) c.in-Err-Kept.ensures.sees (Some p ∷ out) 0 refl in
-    commit_kept (image_spec view below) (free_places view below) c.args.image.now c.prepare_data_mapping.new.self p out c.args.offset c.min-count.result c.args.bytes.now
+    commit_kept (image_abstraction view below) (free_places view below) c.args.image.now c.prepare_data_mapping.new.self p out c.args.offset c.min-count.result c.args.bytes.now
     (c.min-count.ensures ∙ ap (λ k. min (length c.args.bytes.now) k) c.length.ensures) (c.in_ok-prepared.ensures.sees (None ∷ out) 0 refl)
-    c.write_mapped.new.self (c.in_default.ensures.sees (Some p ∷ out) 0 refl) c.commit_data_mapping.new.self c.let_go-in-Err-Kept.new.image (refusal_of c.in-Err-Kept.refusal) refused.0 refused.1
-    (c.let_go-in-Err-Kept.ensures.sees (Some p ∷ out) 0 (ap (λ q. Some (Some q)) (sym same)))
+    c.write_mapped.new.self (c.in_default.ensures.sees (Some p ∷ out) 0 refl) c.commit_data_mapping.new.self c.release-in-Err-Kept.new.image (refusal_of c.in-Err-Kept.refusal) refused.0 refused.1
+    (c.release-in-Err-Kept.ensures.sees (Some p ∷ out) 0 (ap (λ q. Some (Some q)) (sym same)))
 
 pub returns-in-Err-clause-early : goal.returns-in-Err-clause-early
 returns-in-Err-clause-early g c =

@@ -4,7 +4,7 @@ ghost use Rattle.qcow2_image.specs.Image.{number_of};
 ghost use Rattle.qcow2_image.specs.Prepared.{image_of};
 
 use super::{copied, fresh, number_at, opened, refusal, written};
-use crate::session::{let_go, read};
+use crate::session::{read, release};
 use image_access::Storage;
 use qcow2_image::{CommitRefused, ImageError, MappingKind, Prepared, Qcow2};
 use std::alloc::Global;
@@ -21,18 +21,18 @@ fn shown<S: Storage>(image: &Qcow2<S>, prepared: &Prepared) -> (u64, u64, bool, 
 }
 
 // Prepares a range and discards it.
-fn prepare_and_let_go<S: Storage>(
+fn prepare_and_release<S: Storage>(
     image: &mut Qcow2<S>,
     offset: u64,
     length: u64,
 ) -> Result<(u64, u64, bool, bool), ImageError> {
     let prepared = image.prepare_data_mapping(offset, length, true)?;
     let shown = shown(image, &prepared);
-    let_go(image, prepared);
+    release(image, prepared);
     Ok(shown)
 }
 
-fn prepared_and_let_go<S: Storage>(
+fn prepared_and_released<S: Storage>(
     alloc: Global,
     storage: S,
     writable: bool,
@@ -40,14 +40,14 @@ fn prepared_and_let_go<S: Storage>(
     length: u64,
 ) -> Result<(u64, u64, bool, bool), ImageError> {
     let mut image = opened(alloc, storage, writable)?;
-    prepare_and_let_go(&mut image, offset, length)
+    prepare_and_release(&mut image, offset, length)
 }
 
 #[test]
 fn a_prepared_range_ends_with_its_cluster(rt: HostRuntime) -> Result<(), Fail> {
     let alloc = rt.alloc();
     assert_eq!(rt;
-        prepared_and_let_go(alloc, fresh(alloc)?, true, 100, 100)?,
+        prepared_and_released(alloc, fresh(alloc)?, true, 100, 100)?,
         (2660, 412, false, true)
     );
     Ok(())
@@ -55,7 +55,7 @@ fn a_prepared_range_ends_with_its_cluster(rt: HostRuntime) -> Result<(), Fail> {
 
 // Where a range lies that is prepared, discarded and flushed.
 fn prepare_and_flush<S: Storage>(image: &mut Qcow2<S>, offset: u64) -> Result<u64, ImageError> {
-    let (at, _length, _existing, _own) = prepare_and_let_go(image, offset, 512)?;
+    let (at, _length, _existing, _own) = prepare_and_release(image, offset, 512)?;
     image.flush()?;
     Ok(at)
 }
@@ -81,7 +81,7 @@ fn a_discarded_cluster_is_free_after_a_flush(rt: HostRuntime) -> Result<(), Fail
 fn no_bytes_are_prepared_anywhere(rt: HostRuntime) -> Result<(), Fail> {
     let alloc = rt.alloc();
     assert_eq!(rt;
-        prepared_and_let_go(alloc, fresh(alloc)?, false, 1_000_000_000, 0)?,
+        prepared_and_released(alloc, fresh(alloc)?, false, 1_000_000_000, 0)?,
         (0, 0, true, true)
     );
     Ok(())
@@ -91,7 +91,7 @@ fn no_bytes_are_prepared_anywhere(rt: HostRuntime) -> Result<(), Fail> {
 fn an_image_opened_for_reading_is_not_written(rt: HostRuntime) -> Result<(), Fail> {
     let alloc = rt.alloc();
     assert_eq!(rt;
-        refusal(prepared_and_let_go(alloc, fresh(alloc)?, false, 0, 1)),
+        refusal(prepared_and_released(alloc, fresh(alloc)?, false, 0, 1)),
         1
     );
     Ok(())
@@ -115,7 +115,7 @@ fn commit_own<S: Storage>(image: &mut Qcow2<S>, prepared: Prepared) -> Result<()
         Ok(()) => Ok(()),
         Err(CommitRefused::Spent(refusal)) => Err(refusal),
         Err(CommitRefused::Kept(refusal, prepared)) => {
-            let_go(image, prepared);
+            release(image, prepared);
             Err(refusal)
         }
     }
@@ -170,7 +170,7 @@ fn commit_elsewhere<S: Storage>(
         Ok(()) => Ok(0),
         Err(CommitRefused::Spent(refusal)) => Err(refusal),
         Err(CommitRefused::Kept(refusal, prepared)) => {
-            let_go(first, prepared);
+            release(first, prepared);
             Ok(refusal.number())
         }
     }
@@ -222,7 +222,7 @@ fn another_images_mapping_comes_back(rt: HostRuntime) -> Result<(), Fail> {
 
 // Prepares a cluster and discards it; where it would be.
 fn dropped<S: Storage>(image: &mut Qcow2<S>, offset: u64) -> Result<u64, ImageError> {
-    let (at, _length, _existing, _own) = prepare_and_let_go(image, offset, 512)?;
+    let (at, _length, _existing, _own) = prepare_and_release(image, offset, 512)?;
     Ok(at)
 }
 

@@ -1,7 +1,7 @@
 use Rattle.std.proofs.Common.{sym, ap, ◌∙◌, inl, inr, refl, subst, ◌<◌}
 use Rattle.qcow2_alloc.specs.declared.clusters_to_free.ClustersToFreeEntry.{ClustersToFreeEntry}
-use Rattle.qcow2_alloc.specs.Allocation.{run_at, taken_as, is_data, BecomesOn}
-use Rattle.qcow2_alloc.specs.FreeList.{following}
+use Rattle.qcow2_alloc.specs.Allocation.{run_at, taken_as, is_data, UnseenAllocatorGrowth}
+use Rattle.qcow2_alloc.specs.FreeList.{pending_then}
 use Rattle.qcow2_alloc.specs.LowestRuns.{IsLowestRun}
 use Rattle.qcow2_alloc.proofs.AllocationSteps.{of_equal}
 use Rattle.qcow2_alloc.specs.Limits.{IsFaultOr, HasNoPlace}
@@ -12,7 +12,7 @@ returns-in-Ok-lowest_run-clause-sound g c = λ p sound may.
     let first = ap (λ (r : ClustersToFreeEntry). r.first_cluster) c.placed_at.ensures ∙ c.new-in-Ok-lowest_run.ensures in (
       ap (λ (r : ClustersToFreeEntry). r.count) c.placed_at.ensures ∙ ap (λ (r : ClustersToFreeEntry). r.count) c.in-Ok.ensures,
       ap (λ (r : ClustersToFreeEntry). r.kind) c.placed_at.ensures ∙ ap (λ (r : ClustersToFreeEntry). r.kind) c.in-Ok.ensures,
-      of_equal (λ f n. BecomesOn g.S.Storage.view p c.args.file.now c.lowest_run.new.self c.lowest_run.new.file (taken_as (is_data c.args.kind) (following p c.args.file.now.free_list c.lowest_run.new.file.free_list) (run_at f n))) c.placed_at.result.first_cluster c.in-Ok-lowest_run.first c.args.count c.value.result first (sym c.value.ensures)
+      of_equal (λ f n. UnseenAllocatorGrowth g.S.Storage.view p c.args.file.now c.lowest_run.new.self c.lowest_run.new.file (taken_as (is_data c.args.kind) (pending_then p c.args.file.now.free_list c.lowest_run.new.file.free_list) (run_at f n))) c.placed_at.result.first_cluster c.in-Ok-lowest_run.first c.args.count c.value.result first (sym c.value.ensures)
           (c.in-Ok-lowest_run.ensures.sound p (is_data c.args.kind) sound may),
     )
 

@@ -1,10 +1,10 @@
 use Rattle.std.proofs.Common.{inl, refl, sym, subst, Result}
-use Rattle.qcow2_laws.specs.Guard.{Pending}
+use Rattle.qcow2_laws.specs.CrashInvariant.{Pending}
 use Rattle.qcow2_alloc.specs.declared.clusters_to_free.ClusterKind.TheVariants.{Data}
 use Rattle.qcow2_alloc.specs.declared.image_file.ImageFile.{ImageFile}
-use Rattle.qcow2_alloc.specs.Allocation.{BecomesOn, Allocates}
-use Rattle.qcow2_alloc.specs.FreeList.{following}
-use Rattle.qcow2_alloc.specs.LowestRuns.{KeepsHint}
+use Rattle.qcow2_alloc.specs.Allocation.{UnseenAllocatorGrowth, Allocates}
+use Rattle.qcow2_alloc.specs.FreeList.{pending_then}
+use Rattle.qcow2_alloc.specs.LowestRuns.{KeepsNoFreeBelowHint}
 use Rattle.qcow2_alloc.proofs.Hints.{hint_stays}
 use Rattle.qcow2_alloc.proofs.AllocationSteps.{handed_on, on_of, becomes_cached, is_sound_now, allocates_then}
 use Rattle.qcow2_alloc.proofs.Following.{following_same}
@@ -18,21 +18,21 @@ pub returns-in_err-l2_depends_on_rb-clause-sound : goal.returns-in_err-l2_depend
 returns-in_err-l2_depends_on_rb-clause-sound g c = λ p sound.
     let one = becomes_cached g.S.Storage.view p c.args.file.now c.args.self.now c.l2_depends_on_rb.new.storage c.l2_depends_on_rb.new.self sound (c.l2_depends_on_rb.ensures.keeps c.args.file.now.header.fields p sound.sound.honest sound.sound.caches) c.l2_depends_on_rb.ensures.marks in
     let file : ImageFile g.row.S.Denot = record c.args.file.now { storage = c.l2_depends_on_rb.new.storage; caches = c.l2_depends_on_rb.new.self } in
-    handed_on (Allocates g.S.Storage.view p c.args.file.now c.args.self.now file (following p c.args.file.now.free_list c.args.file.now.free_list) Data c.args.count) c.from_residual.result c.in_err-l2_depends_on_rb.field-0.0 c.from_residual.ensures
-    (inl (subst (λ (r : Pending). BecomesOn g.S.Storage.view p c.args.file.now c.args.self.now file r) (sym (following_same p c.args.file.now.free_list c.args.file.now.free_list refl)) (on_of g.S.Storage.view p p c.args.file.now file c.args.self.now one)))
+    handed_on (Allocates g.S.Storage.view p c.args.file.now c.args.self.now file (pending_then p c.args.file.now.free_list c.args.file.now.free_list) Data c.args.count) c.from_residual.result c.in_err-l2_depends_on_rb.field-0.0 c.from_residual.ensures
+    (inl (subst (λ (r : Pending). UnseenAllocatorGrowth g.S.Storage.view p c.args.file.now c.args.self.now file r) (sym (following_same p c.args.file.now.free_list c.args.file.now.free_list refl)) (on_of g.S.Storage.view p p c.args.file.now file c.args.self.now one)))
 
 pub returns-clause-sound : goal.returns-clause-sound
 returns-clause-sound g c = λ p sound.
     let one = becomes_cached g.S.Storage.view p c.args.file.now c.args.self.now c.l2_depends_on_rb.new.storage c.l2_depends_on_rb.new.self sound (c.l2_depends_on_rb.ensures.keeps c.args.file.now.header.fields p sound.sound.honest sound.sound.caches) c.l2_depends_on_rb.ensures.marks in
     let file : ImageFile g.row.S.Denot = record c.args.file.now { storage = c.l2_depends_on_rb.new.storage; caches = c.l2_depends_on_rb.new.self } in
-    allocates_then g.S.Storage.view p (following p c.args.file.now.free_list c.allocate.new.file.free_list) c.args.file.now file c.allocate.new.file c.args.self.now c.allocate.new.self Data c.args.count c.allocate.result (on_of g.S.Storage.view p p c.args.file.now file c.args.self.now one)
+    allocates_then g.S.Storage.view p (pending_then p c.args.file.now.free_list c.allocate.new.file.free_list) c.args.file.now file c.allocate.new.file c.args.self.now c.allocate.new.self Data c.args.count c.allocate.result (on_of g.S.Storage.view p p c.args.file.now file c.args.self.now one)
     (c.allocate.ensures.sound p (is_sound_now g.S.Storage.view p p c.args.file.now file c.args.self.now one) c.in_ok-l2_depends_on_rb.ensures.order)
 
 pub returns-in_err-l2_depends_on_rb-clause-hint : goal.returns-in_err-l2_depends_on_rb-clause-hint
 returns-in_err-l2_depends_on_rb-clause-hint g c = λ p sound hint.
     let one = becomes_cached g.S.Storage.view p c.args.file.now c.args.self.now c.l2_depends_on_rb.new.storage c.l2_depends_on_rb.new.self sound (c.l2_depends_on_rb.ensures.keeps c.args.file.now.header.fields p sound.sound.honest sound.sound.caches) c.l2_depends_on_rb.ensures.marks in
     let file : ImageFile g.row.S.Denot = record c.args.file.now { storage = c.l2_depends_on_rb.new.storage; caches = c.l2_depends_on_rb.new.self } in
-    handed_on (KeepsHint g.S.Storage.view c.args.self.now file) c.from_residual.result c.in_err-l2_depends_on_rb.field-0.0 c.from_residual.ensures (λ other. hint_stays g.S.Storage.view p c.args.file.now file c.args.self.now c.args.self.now one refl hint)
+    handed_on (KeepsNoFreeBelowHint g.S.Storage.view c.args.self.now file) c.from_residual.result c.in_err-l2_depends_on_rb.field-0.0 c.from_residual.ensures (λ other. hint_stays g.S.Storage.view p c.args.file.now file c.args.self.now c.args.self.now one refl hint)
 
 pub returns-clause-lowest : goal.returns-clause-lowest
 returns-clause-lowest g c = λ p sound hint.

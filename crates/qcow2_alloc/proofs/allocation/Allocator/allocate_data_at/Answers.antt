@@ -1,11 +1,11 @@
 use Rattle.std.proofs.Common.{inl, inr, true, refl, sym, ap, ◌∙◌, subst, Result, Option}
 use Rattle.qcow2_laws.specs.Changes.{one_at}
-use Rattle.qcow2_laws.specs.Guard.{Pending}
+use Rattle.qcow2_laws.specs.CrashInvariant.{Pending}
 use Rattle.qcow2_alloc.specs.declared.clusters_to_free.ClustersToFreeEntry.{ClustersToFreeEntry}
 use Rattle.qcow2_alloc.specs.declared.image_file.ImageFile.{ImageFile}
-use Rattle.qcow2_alloc.specs.Allocation.{taken_as, BecomesOn, AllocatesAt}
-use Rattle.qcow2_alloc.specs.FreeList.{following}
-use Rattle.qcow2_alloc.specs.LowestRuns.{IsUsed, KeepsHint}
+use Rattle.qcow2_alloc.specs.Allocation.{taken_as, UnseenAllocatorGrowth, AllocatesAt}
+use Rattle.qcow2_alloc.specs.FreeList.{pending_then}
+use Rattle.qcow2_alloc.specs.LowestRuns.{IsUsed, KeepsNoFreeBelowHint}
 use Rattle.qcow2_alloc.proofs.AllocationSteps.{handed_on, on_of, becomes_on, becomes_cached, is_sound_now, leaves_on, of_equal}
 use Rattle.qcow2_alloc.proofs.Following.{following_same}
 use Rattle.qcow2_alloc.proofs.Hints.{hint_stays}
@@ -20,20 +20,20 @@ pub returns-in_err-l2_depends_on_rb-clause-sound : goal.returns-in_err-l2_depend
 returns-in_err-l2_depends_on_rb-clause-sound g c = λ p sound.
     let one = becomes_cached g.S.Storage.view p c.args.file.now c.args.self.now c.l2_depends_on_rb.new.storage c.l2_depends_on_rb.new.self sound (c.l2_depends_on_rb.ensures.keeps c.args.file.now.header.fields p sound.sound.honest sound.sound.caches) c.l2_depends_on_rb.ensures.marks in
     let file : ImageFile g.row.S.Denot = record c.args.file.now { storage = c.l2_depends_on_rb.new.storage; caches = c.l2_depends_on_rb.new.self } in
-    handed_on (AllocatesAt g.S.Storage.view p c.args.file.now c.args.self.now file (following p c.args.file.now.free_list c.args.file.now.free_list) c.args.cluster) c.from_residual.result c.in_err-l2_depends_on_rb.field-0.0 c.from_residual.ensures
-    (inl (subst (λ (r : Pending). BecomesOn g.S.Storage.view p c.args.file.now c.args.self.now file r) (sym (following_same p c.args.file.now.free_list c.args.file.now.free_list refl)) (on_of g.S.Storage.view p p c.args.file.now file c.args.self.now one)))
+    handed_on (AllocatesAt g.S.Storage.view p c.args.file.now c.args.self.now file (pending_then p c.args.file.now.free_list c.args.file.now.free_list) c.args.cluster) c.from_residual.result c.in_err-l2_depends_on_rb.field-0.0 c.from_residual.ensures
+    (inl (subst (λ (r : Pending). UnseenAllocatorGrowth g.S.Storage.view p c.args.file.now c.args.self.now file r) (sym (following_same p c.args.file.now.free_list c.args.file.now.free_list refl)) (on_of g.S.Storage.view p p c.args.file.now file c.args.self.now one)))
 
 pub returns-then-not-is_nameable-clause-sound : goal.returns-then-not-is_nameable-clause-sound
 returns-then-not-is_nameable-clause-sound g c = λ p sound.
     let one = becomes_cached g.S.Storage.view p c.args.file.now c.args.self.now c.l2_depends_on_rb.new.storage c.l2_depends_on_rb.new.self sound (c.l2_depends_on_rb.ensures.keeps c.args.file.now.header.fields p sound.sound.honest sound.sound.caches) c.l2_depends_on_rb.ensures.marks in
     let file : ImageFile g.row.S.Denot = record c.args.file.now { storage = c.l2_depends_on_rb.new.storage; caches = c.l2_depends_on_rb.new.self } in
-    subst (λ (r : Pending). BecomesOn g.S.Storage.view p c.args.file.now c.args.self.now file r) (sym (following_same p c.args.file.now.free_list c.args.file.now.free_list refl)) (on_of g.S.Storage.view p p c.args.file.now file c.args.self.now one)
+    subst (λ (r : Pending). UnseenAllocatorGrowth g.S.Storage.view p c.args.file.now c.args.self.now file r) (sym (following_same p c.args.file.now.free_list c.args.file.now.free_list refl)) (on_of g.S.Storage.view p p c.args.file.now file c.args.self.now one)
 
 pub returns-in_default-clause-sound : goal.returns-in_default-clause-sound
 returns-in_default-clause-sound g c = λ p sound.
     let one = becomes_cached g.S.Storage.view p c.args.file.now c.args.self.now c.l2_depends_on_rb.new.storage c.l2_depends_on_rb.new.self sound (c.l2_depends_on_rb.ensures.keeps c.args.file.now.header.fields p sound.sound.honest sound.sound.caches) c.l2_depends_on_rb.ensures.marks in
     let file : ImageFile g.row.S.Denot = record c.args.file.now { storage = c.l2_depends_on_rb.new.storage; caches = c.l2_depends_on_rb.new.self } in
-    inl (subst (λ (r : Pending). BecomesOn g.S.Storage.view p c.args.file.now c.args.self.now file r) (sym (following_same p c.args.file.now.free_list c.args.file.now.free_list refl)) (on_of g.S.Storage.view p p c.args.file.now file c.args.self.now one))
+    inl (subst (λ (r : Pending). UnseenAllocatorGrowth g.S.Storage.view p c.args.file.now c.args.self.now file r) (sym (following_same p c.args.file.now.free_list c.args.file.now.free_list refl)) (on_of g.S.Storage.view p p c.args.file.now file c.args.self.now one))
 
 pub returns-in-Ok-true-clause-sound : goal.returns-in-Ok-true-clause-sound
 returns-in-Ok-true-clause-sound g c = λ p sound.
@@ -41,12 +41,12 @@ returns-in-Ok-true-clause-sound g c = λ p sound.
     let file : ImageFile g.row.S.Denot = record c.args.file.now { storage = c.l2_depends_on_rb.new.storage; caches = c.l2_depends_on_rb.new.self } in
     let now = is_sound_now g.S.Storage.view p p c.args.file.now file c.args.self.now one in
     let two = rw c.in-Ok-true.field-0-test at (c.in-Ok-true.ensures.sound p true now c.in_ok-l2_depends_on_rb.ensures.order) in
-    let taken = becomes_on g.S.Storage.view p p (taken_as true (following p c.args.file.now.free_list c.take.new.file.free_list) (one_at c.value.result)) c.args.file.now file c.take.new.file c.args.self.now c.take.new.self (λ k some. some) (on_of g.S.Storage.view p p c.args.file.now file c.args.self.now one) two in (
+    let taken = becomes_on g.S.Storage.view p p (taken_as true (pending_then p c.args.file.now.free_list c.take.new.file.free_list) (one_at c.value.result)) c.args.file.now file c.take.new.file c.args.self.now c.take.new.self (λ k some. some) (on_of g.S.Storage.view p p c.args.file.now file c.args.self.now one) two in (
       ap (λ (r : ClustersToFreeEntry). r.first_cluster) (c.in-Ok.ensures ∙ c.data-entry.ensures),
       ap (λ (r : ClustersToFreeEntry). r.count) (c.in-Ok.ensures ∙ c.data-entry.ensures) ∙ c.new.ensures,
       ap (λ (r : ClustersToFreeEntry). r.kind) (c.in-Ok.ensures ∙ c.data-entry.ensures),
-      subst (λ (r : Pending). BecomesOn g.S.Storage.view p c.args.file.now c.take.new.self c.take.new.file r)
-          (ap (λ n. taken_as true (following p c.args.file.now.free_list c.take.new.file.free_list) (one_at n)) c.value.ensures ∙ taken_alone true (following p c.args.file.now.free_list c.take.new.file.free_list) c.args.cluster) taken,
+      subst (λ (r : Pending). UnseenAllocatorGrowth g.S.Storage.view p c.args.file.now c.take.new.self c.take.new.file r)
+          (ap (λ n. taken_as true (pending_then p c.args.file.now.free_list c.take.new.file.free_list) (one_at n)) c.value.ensures ∙ taken_alone true (pending_then p c.args.file.now.free_list c.take.new.file.free_list) c.args.cluster) taken,
     )
 
 pub returns-in-Ok-false-clause-sound : goal.returns-in-Ok-false-clause-sound
@@ -55,14 +55,14 @@ returns-in-Ok-false-clause-sound g c = λ p sound.
     let file : ImageFile g.row.S.Denot = record c.args.file.now { storage = c.l2_depends_on_rb.new.storage; caches = c.l2_depends_on_rb.new.self } in
     let now = is_sound_now g.S.Storage.view p p c.args.file.now file c.args.self.now one in
     let two = rw c.in-Ok-false.field-0-test at (c.in-Ok-false.ensures.sound p true now c.in_ok-l2_depends_on_rb.ensures.order) in
-    becomes_on g.S.Storage.view p p (following p c.args.file.now.free_list c.take.new.file.free_list) c.args.file.now file c.take.new.file c.args.self.now c.take.new.self (λ k some. some) (on_of g.S.Storage.view p p c.args.file.now file c.args.self.now one) two
+    becomes_on g.S.Storage.view p p (pending_then p c.args.file.now.free_list c.take.new.file.free_list) c.args.file.now file c.take.new.file c.args.self.now c.take.new.self (λ k some. some) (on_of g.S.Storage.view p p c.args.file.now file c.args.self.now one) two
 
 pub returns-in-Err-clause-sound : goal.returns-in-Err-clause-sound
 returns-in-Err-clause-sound g c = λ p sound.
     let one = becomes_cached g.S.Storage.view p c.args.file.now c.args.self.now c.l2_depends_on_rb.new.storage c.l2_depends_on_rb.new.self sound (c.l2_depends_on_rb.ensures.keeps c.args.file.now.header.fields p sound.sound.honest sound.sound.caches) c.l2_depends_on_rb.ensures.marks in
     let file : ImageFile g.row.S.Denot = record c.args.file.now { storage = c.l2_depends_on_rb.new.storage; caches = c.l2_depends_on_rb.new.self } in
     let now = is_sound_now g.S.Storage.view p p c.args.file.now file c.args.self.now one in
-    leaves_on g.S.Storage.view p p (following p c.args.file.now.free_list c.take.new.file.free_list) c.args.file.now file c.take.new.file c.args.self.now c.take.new.self c.in-Err.refusal (λ k some. some) (on_of g.S.Storage.view p p c.args.file.now file c.args.self.now one) (c.in-Err.ensures.sound p true now c.in_ok-l2_depends_on_rb.ensures.order)
+    leaves_on g.S.Storage.view p p (pending_then p c.args.file.now.free_list c.take.new.file.free_list) c.args.file.now file c.take.new.file c.args.self.now c.take.new.self c.in-Err.refusal (λ k some. some) (on_of g.S.Storage.view p p c.args.file.now file c.args.self.now one) (c.in-Err.ensures.sound p true now c.in_ok-l2_depends_on_rb.ensures.order)
 
 pub returns-in-Ok-false-clause-none : goal.returns-in-Ok-false-clause-none
 returns-in-Ok-false-clause-none g c = λ p sound _.
@@ -75,7 +75,7 @@ pub returns-in_err-l2_depends_on_rb-clause-hint : goal.returns-in_err-l2_depends
 returns-in_err-l2_depends_on_rb-clause-hint g c = λ p sound hint.
     let one = becomes_cached g.S.Storage.view p c.args.file.now c.args.self.now c.l2_depends_on_rb.new.storage c.l2_depends_on_rb.new.self sound (c.l2_depends_on_rb.ensures.keeps c.args.file.now.header.fields p sound.sound.honest sound.sound.caches) c.l2_depends_on_rb.ensures.marks in
     let file : ImageFile g.row.S.Denot = record c.args.file.now { storage = c.l2_depends_on_rb.new.storage; caches = c.l2_depends_on_rb.new.self } in
-    handed_on (KeepsHint g.S.Storage.view c.args.self.now file) c.from_residual.result c.in_err-l2_depends_on_rb.field-0.0 c.from_residual.ensures (λ other. hint_stays g.S.Storage.view p c.args.file.now file c.args.self.now c.args.self.now one refl hint)
+    handed_on (KeepsNoFreeBelowHint g.S.Storage.view c.args.self.now file) c.from_residual.result c.in_err-l2_depends_on_rb.field-0.0 c.from_residual.ensures (λ other. hint_stays g.S.Storage.view p c.args.file.now file c.args.self.now c.args.self.now one refl hint)
 
 pub returns-then-not-is_nameable-clause-hint : goal.returns-then-not-is_nameable-clause-hint
 returns-then-not-is_nameable-clause-hint g c = λ p sound hint.

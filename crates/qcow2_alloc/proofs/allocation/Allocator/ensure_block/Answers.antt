@@ -4,7 +4,7 @@ use Rattle.qcow2_metadata.specs.Header.{counts_per_block}
 use Rattle.qcow2_laws.specs.Changes.{one_at}
 use Rattle.qcow2_alloc.specs.Allocation.{taken_as, HasNone, GetsBlock}
 use Rattle.qcow2_alloc.specs.ImageFile.{IsFault}
-use Rattle.qcow2_alloc.specs.LowestRuns.{KeepsHint}
+use Rattle.qcow2_alloc.specs.LowestRuns.{KeepsNoFreeBelowHint}
 use Rattle.qcow2_alloc.proofs.FileSteps.{leaves_then}
 use Rattle.qcow2_alloc.proofs.Hints.{has_block, hint_got, hint_placed, hint_refused, hint_stays, ok_as, placed_block, range_as}
 use Rattle.qcow2_alloc.proofs.AllocationSteps.{handed_on, becomes_then, gets_then, gets_taken, is_sound_now, none_in_memory, stands_none, still_sound}
@@ -62,7 +62,7 @@ returns-else-ends_call-clause-sound g c = λ p sound.
 
 pub returns-in_err-load_block-clause-hint : goal.returns-in_err-load_block-clause-hint
 returns-in_err-load_block-clause-hint g c = λ p sound hint.
-    handed_on (KeepsHint g.S.Storage.view c.args.self.now c.load_block.new.file) c.from_residual.result c.in_err-load_block.field-0.0 c.from_residual.ensures
+    handed_on (KeepsNoFreeBelowHint g.S.Storage.view c.args.self.now c.load_block.new.file) c.from_residual.result c.in_err-load_block.field-0.0 c.from_residual.ensures
     (hint_refused g.S.Storage.view p c.args.file.now c.load_block.new.file c.args.self.now c.args.self.now c.in_err-load_block.field-0.0 refl (c.in_err-load_block.ensures.sound p sound).1 hint)
 
 pub returns-then-is_some-clause-has : goal.returns-then-is_some-clause-has

@@ -5,13 +5,13 @@ use Rattle.std.specs.Prelude.{IfErr, OnOk}
 use Rattle.qcow2_metadata.specs.Header.{HeaderView, counts_per_block, entries_per_cluster}
 use Rattle.qcow2_metadata.specs.EntryTable.{EntryTableView, entry_count}
 use Rattle.qcow2_metadata.specs.L2Mapping.{greatest_offset}
-use Rattle.qcow2_laws.specs.Guard.{Pending}
+use Rattle.qcow2_laws.specs.CrashInvariant.{Pending}
 use Rattle.qcow2_alloc.specs.declared.error.ImageError.{ImageError}
 use Rattle.qcow2_alloc.specs.declared.image_file.ImageFile.{ImageFile}
-use Rattle.qcow2_alloc.specs.Allocation.{Becomes}
+use Rattle.qcow2_alloc.specs.Allocation.{UnseenAllocatorStep}
 use Rattle.qcow2_alloc.specs.Growing.{IsCloneOf}
 use Rattle.qcow2_alloc.specs.GrownTables.{with_run, EntersReftable, NamesReftable}
-use Rattle.qcow2_alloc.specs.ImageFile.{IsSoundWith, KeepsHeader}
+use Rattle.qcow2_alloc.specs.ImageFile.{AllocatorInvariant, KeepsHeader}
 use Rattle.qcow2_alloc.specs.Limits.{IsFaultOr, nameable_clusters, HasNoRoom, HasNoRoomFor, LiesLowest}
 use Rattle.qcow2_alloc.specs.LowestRuns.{KeepsUsed}
 use Rattle.qcow2_alloc.specs.Rooms.{IsLonger, length_of, opened}
@@ -53,13 +53,13 @@ returns-clause-enters g c = λ p sound clone whole.
     let b : ImageFile g.row.S.Denot = record c.take_room.new.file { caches = c.note_change.new.self } in
     let taken = c.in_ok-room.ensures.sound p sound in
     let marked = becomes_marked view q c.take_room.new.file u c.note_change.new.self (is_sound_now view p q a c.take_room.new.file u taken) c.note_change.ensures.tables c.note_change.ensures.marks in
-    let room : Becomes view p a c.take_room.new.self b q = becomes_on view p q q a c.take_room.new.file b u u (λ k some. some) taken marked in
+    let room : UnseenAllocatorStep view p a c.take_room.new.self b q = becomes_on view p q q a c.take_room.new.file b u u (λ k some. some) taken marked in
     let now = is_sound_now view p (with_run p b.header.fields t first n) a b u (room_now view p a b c.write_reftable.new.file u c.write_reftable.new.self t first n c.take_room.ensures.header room) in
     let same = c.take_room.ensures.reftable in
     let longer : IsLonger b.header.fields c.take_room.new.self.reftable c.args.table c.in_ok-room.room.clusters =
     clone_is_longer view (with_run p b.header.fields t first n) b u.reftable c.args.table c.in_ok-room.room.clusters now.sound now.reftable (subst (λ (x : EntryTableView). IsCloneOf x c.args.table) (sym same) clone)
     (ap (λ (h : HeaderView). entry_count c.args.table % entries_per_cluster h.fields) c.take_room.ensures.header ∙ whole) (c.in_ok-room.ensures.clusters ∙ c.value.ensures ∙ c.cluster_count.ensures) in
-    let sound_now = subst (λ (x : EntryTableView). IsSoundWith view u (with_run p b.header.fields x first n) b) (sym same) now in
+    let sound_now = subst (λ (x : EntryTableView). AllocatorInvariant view u (with_run p b.header.fields x first n) b) (sym same) now in
     entered view p a b c.write_reftable.new.file u c.write_reftable.new.self t first n c.take_room.ensures.header room c.write_reftable.result
     (subst (λ (x : EntryTableView). NamesReftable view (with_run p b.header.fields x first n) p b c.write_reftable.new.self c.write_reftable.new.file c.write_reftable.result) same (c.write_reftable.ensures.sound p sound_now longer))
 
@@ -75,13 +75,13 @@ returns-clause-uses g c = λ p sound clone whole.
     let b : ImageFile g.row.S.Denot = record c.take_room.new.file { caches = c.note_change.new.self } in
     let taken = c.in_ok-room.ensures.sound p sound in
     let marked = becomes_marked view q c.take_room.new.file u c.note_change.new.self (is_sound_now view p q a c.take_room.new.file u taken) c.note_change.ensures.tables c.note_change.ensures.marks in
-    let room : Becomes view p a c.take_room.new.self b q = becomes_on view p q q a c.take_room.new.file b u u (λ k some. some) taken marked in
+    let room : UnseenAllocatorStep view p a c.take_room.new.self b q = becomes_on view p q q a c.take_room.new.file b u u (λ k some. some) taken marked in
     let now = is_sound_now view p (with_run p b.header.fields t first n) a b u (room_now view p a b c.write_reftable.new.file u c.write_reftable.new.self t first n c.take_room.ensures.header room) in
     let same = c.take_room.ensures.reftable in
     let longer : IsLonger b.header.fields c.take_room.new.self.reftable c.args.table c.in_ok-room.room.clusters =
     clone_is_longer view (with_run p b.header.fields t first n) b u.reftable c.args.table c.in_ok-room.room.clusters now.sound now.reftable (subst (λ (x : EntryTableView). IsCloneOf x c.args.table) (sym same) clone)
     (ap (λ (h : HeaderView). entry_count c.args.table % entries_per_cluster h.fields) c.take_room.ensures.header ∙ whole) (c.in_ok-room.ensures.clusters ∙ c.value.ensures ∙ c.cluster_count.ensures) in
-    let sound_now = subst (λ (x : EntryTableView). IsSoundWith view u (with_run p b.header.fields x first n) b) (sym same) now in
+    let sound_now = subst (λ (x : EntryTableView). AllocatorInvariant view u (with_run p b.header.fields x first n) b) (sym same) now in
     uses_entered view p a b c.write_reftable.new.file u c.write_reftable.new.self t first n c.take_room.ensures.header room c.write_reftable.result (c.write_reftable.ensures.uses p sound_now longer)
 
 pub returns-in_err-room-clause-limit : goal.returns-in_err-room-clause-limit
@@ -117,13 +117,13 @@ returns-clause-limit g c = λ p sound hint clone whole.
     let b : ImageFile g.row.S.Denot = record c.take_room.new.file { caches = c.note_change.new.self } in
     let taken = c.in_ok-room.ensures.sound p sound in
     let marked = becomes_marked view q c.take_room.new.file u c.note_change.new.self (is_sound_now view p q a c.take_room.new.file u taken) c.note_change.ensures.tables c.note_change.ensures.marks in
-    let room : Becomes view p a c.take_room.new.self b q = becomes_on view p q q a c.take_room.new.file b u u (λ k some. some) taken marked in
+    let room : UnseenAllocatorStep view p a c.take_room.new.self b q = becomes_on view p q q a c.take_room.new.file b u u (λ k some. some) taken marked in
     let now = is_sound_now view p (with_run p b.header.fields t first n) a b u (room_now view p a b c.write_reftable.new.file u c.write_reftable.new.self t first n c.take_room.ensures.header room) in
     let same = c.take_room.ensures.reftable in
     let longer : IsLonger b.header.fields c.take_room.new.self.reftable c.args.table c.in_ok-room.room.clusters =
     clone_is_longer view (with_run p b.header.fields t first n) b u.reftable c.args.table c.in_ok-room.room.clusters now.sound now.reftable (subst (λ (x : EntryTableView). IsCloneOf x c.args.table) (sym same) clone)
     (ap (λ (h : HeaderView). entry_count c.args.table % entries_per_cluster h.fields) c.take_room.ensures.header ∙ whole) (c.in_ok-room.ensures.clusters ∙ c.value.ensures ∙ c.cluster_count.ensures) in
-    let sound_now = subst (λ (x : EntryTableView). IsSoundWith view u (with_run p b.header.fields x first n) b) (sym same) now in
+    let sound_now = subst (λ (x : EntryTableView). AllocatorInvariant view u (with_run p b.header.fields x first n) b) (sym same) now in
     names_fault view (with_run p b.header.fields c.take_room.new.self.reftable first n) p b c.write_reftable.new.file c.write_reftable.new.self _ c.write_reftable.result (c.write_reftable.ensures.sound p sound_now longer)
 
 pub returns-in_err-room-clause-lowest : goal.returns-in_err-room-clause-lowest
@@ -142,13 +142,13 @@ returns-clause-lowest g c = λ p sound hint clone whole.
     let b : ImageFile g.row.S.Denot = record c.take_room.new.file { caches = c.note_change.new.self } in
     let taken = c.in_ok-room.ensures.sound p sound in
     let marked = becomes_marked view q c.take_room.new.file u c.note_change.new.self (is_sound_now view p q a c.take_room.new.file u taken) c.note_change.ensures.tables c.note_change.ensures.marks in
-    let room : Becomes view p a c.take_room.new.self b q = becomes_on view p q q a c.take_room.new.file b u u (λ k some. some) taken marked in
+    let room : UnseenAllocatorStep view p a c.take_room.new.self b q = becomes_on view p q q a c.take_room.new.file b u u (λ k some. some) taken marked in
     let now = is_sound_now view p (with_run p b.header.fields t first n) a b u (room_now view p a b c.write_reftable.new.file u c.write_reftable.new.self t first n c.take_room.ensures.header room) in
     let same = c.take_room.ensures.reftable in
     let longer : IsLonger b.header.fields c.take_room.new.self.reftable c.args.table c.in_ok-room.room.clusters =
     clone_is_longer view (with_run p b.header.fields t first n) b u.reftable c.args.table c.in_ok-room.room.clusters now.sound now.reftable (subst (λ (x : EntryTableView). IsCloneOf x c.args.table) (sym same) clone)
     (ap (λ (h : HeaderView). entry_count c.args.table % entries_per_cluster h.fields) c.take_room.ensures.header ∙ whole) (c.in_ok-room.ensures.clusters ∙ c.value.ensures ∙ c.cluster_count.ensures) in
-    let sound_now = subst (λ (x : EntryTableView). IsSoundWith view u (with_run p b.header.fields x first n) b) (sym same) now in
+    let sound_now = subst (λ (x : EntryTableView). AllocatorInvariant view u (with_run p b.header.fields x first n) b) (sym same) now in
     let uses = c.write_reftable.ensures.uses p sound_now longer in
     let new = c.write_reftable.new.file in
     let length : ℕ = entry_count c.args.table in

@@ -1,9 +1,9 @@
 use Rattle.std.proofs.Common.{◌≡◌, ◌++◌, refl, sym, ap, ◌∙◌, subst}
-use Rattle.qcow2_laws.specs.Guard.{Pending}
+use Rattle.qcow2_laws.specs.CrashInvariant.{Pending}
 use Rattle.qcow2_alloc.specs.declared.image_file.ImageFile.{ImageFile}
 use Rattle.qcow2_alloc.specs.Allocation.{Listed}
 use Rattle.qcow2_alloc.specs.FreeList.{with_listed}
-use Rattle.qcow2_alloc.specs.ImageFile.{IsSoundWith}
+use Rattle.qcow2_alloc.specs.ImageFile.{AllocatorInvariant}
 use Rattle.qcow2_alloc.proofs.AllocationSteps.{may_lower_still}
 use Rattle.qcow2_alloc.proofs.Freeing.{with_relisted, frees_as}
 use Rattle.qcow2_alloc.proofs.allocation.Allocator.free_kind.Goals as goal
@@ -15,7 +15,7 @@ returns-clause-sound g c = λ p sound may.
     let before : with_listed p (c.take-taken.new.self ++ c.take-taken.result) ≡ with_listed p c.args.file.now.free_list = ap (with_listed p) all in
     frees_as g.S.Storage.view (with_listed p (c.take-taken.new.self ++ c.take-taken.result)) (with_listed p c.args.file.now.free_list) (with_listed p (c.free_taken-done.new.file.free_list ++ c.free_taken-done.new.taken)) (with_listed p c.hand_back.new.list)
     c.args.file.now c.free_taken-done.new.file c.free_taken-done.new.self c.take-taken.new.self c.hand_back.new.list c.free_taken-done.result before (ap (with_listed p) (sym c.hand_back.ensures))
-    (c.free_taken-done.ensures.sound p (subst (λ (r : Pending). IsSoundWith g.S.Storage.view c.args.self.now r file) (sym before) (with_relisted g.S.Storage.view (with_listed p c.args.file.now.free_list) c.args.file.now c.args.self.now c.take-taken.new.self sound))
+    (c.free_taken-done.ensures.sound p (subst (λ (r : Pending). AllocatorInvariant g.S.Storage.view c.args.self.now r file) (sym before) (with_relisted g.S.Storage.view (with_listed p c.args.file.now.free_list) c.args.file.now c.args.self.now c.take-taken.new.self sound))
     (may_lower_still (Listed c.args.kind) c.args.file.now file refl may))
 
 pub returns-clause-hint : goal.returns-clause-hint
@@ -23,7 +23,7 @@ returns-clause-hint g c = λ p sound may hint.
     let file : ImageFile g.row.S.Denot = record c.args.file.now { free_list = c.take-taken.new.self } in
     let all : c.take-taken.new.self ++ c.take-taken.result ≡ c.args.file.now.free_list = ap (λ l. l ++ c.take-taken.result) c.take-taken.ensures.emptied ∙ c.take-taken.ensures.taken in
     let before : with_listed p (c.take-taken.new.self ++ c.take-taken.result) ≡ with_listed p c.args.file.now.free_list = ap (with_listed p) all in
-    (c.free_taken-done.ensures.hint p (subst (λ (r : Pending). IsSoundWith g.S.Storage.view c.args.self.now r file) (sym before) (with_relisted g.S.Storage.view (with_listed p c.args.file.now.free_list) c.args.file.now c.args.self.now c.take-taken.new.self sound))
+    (c.free_taken-done.ensures.hint p (subst (λ (r : Pending). AllocatorInvariant g.S.Storage.view c.args.self.now r file) (sym before) (with_relisted g.S.Storage.view (with_listed p c.args.file.now.free_list) c.args.file.now c.args.self.now c.take-taken.new.self sound))
     (may_lower_still (Listed c.args.kind) c.args.file.now file refl may) hint)
 
 pub returns-clause-leaks : goal.returns-clause-leaks
@@ -31,5 +31,5 @@ returns-clause-leaks g c = λ p sound may.
     let file : ImageFile g.row.S.Denot = record c.args.file.now { free_list = c.take-taken.new.self } in
     let all : c.take-taken.new.self ++ c.take-taken.result ≡ c.args.file.now.free_list = ap (λ l. l ++ c.take-taken.result) c.take-taken.ensures.emptied ∙ c.take-taken.ensures.taken in
     let before : with_listed p (c.take-taken.new.self ++ c.take-taken.result) ≡ with_listed p c.args.file.now.free_list = ap (with_listed p) all in
-    c.free_taken-done.ensures.leaks p (subst (λ (r : Pending). IsSoundWith g.S.Storage.view c.args.self.now r file) (sym before) (with_relisted g.S.Storage.view (with_listed p c.args.file.now.free_list) c.args.file.now c.args.self.now c.take-taken.new.self sound))
+    c.free_taken-done.ensures.leaks p (subst (λ (r : Pending). AllocatorInvariant g.S.Storage.view c.args.self.now r file) (sym before) (with_relisted g.S.Storage.view (with_listed p c.args.file.now.free_list) c.args.file.now c.args.self.now c.take-taken.new.self sound))
     (may_lower_still (Listed c.args.kind) c.args.file.now file refl may)

@@ -1,10 +1,10 @@
 use Rattle.std.proofs.Common.{◌≡◌, ◌≤◌}
-use Rattle.qcow2_laws.specs.Guard.{Pending}
-use Rattle.qcow2_alloc.specs.Allocation.{listed_as, MayFree, SameLeaks, Becomes}
+use Rattle.qcow2_laws.specs.CrashInvariant.{Pending}
+use Rattle.qcow2_alloc.specs.Allocation.{listed_as, MayFree, SameLeaks, UnseenAllocatorStep}
 use Rattle.qcow2_alloc.specs.CacheMarks.{KeepsMarks}
 use Rattle.qcow2_alloc.specs.FreeList.{run_of}
-use Rattle.qcow2_alloc.specs.ImageFile.{IsSoundWith}
-use Rattle.qcow2_alloc.specs.LowestRuns.{HasHint}
+use Rattle.qcow2_alloc.specs.ImageFile.{AllocatorInvariant}
+use Rattle.qcow2_alloc.specs.LowestRuns.{NoFreeBelowHint}
 use Rattle.qcow2_alloc.specs.MetadataCaches.{order_of}
 use Rattle.qcow2_alloc.proofs.allocation.Allocator.free_run.Given as goal
 
@@ -16,11 +16,11 @@ invariant-freeing g l = record {
   marks : KeepsMarks l.fn.file.caches l.file.caches;
   order : order_of l.file.caches ≡ order_of l.fn.file.caches;
   kind : l.run.kind ≡ l.fn.run.kind;
-  sound : (p : Pending) → IsSoundWith g.S.Storage.view l.fn.self (listed_as l.fn.run.kind p (run_of l.fn.run)) l.fn.file → MayFree l.fn.run.kind l.fn.file
-      → Becomes g.S.Storage.view (listed_as l.fn.run.kind p (run_of l.fn.run)) l.fn.file l.self l.file (listed_as l.fn.run.kind p (run_of l.run));
-  hint : (p : Pending) → IsSoundWith g.S.Storage.view l.fn.self (listed_as l.fn.run.kind p (run_of l.fn.run)) l.fn.file → MayFree l.fn.run.kind l.fn.file → HasHint g.S.Storage.view l.fn.self l.fn.file → HasHint g.S.Storage.view l.self l.file;
+  sound : (p : Pending) → AllocatorInvariant g.S.Storage.view l.fn.self (listed_as l.fn.run.kind p (run_of l.fn.run)) l.fn.file → MayFree l.fn.run.kind l.fn.file
+      → UnseenAllocatorStep g.S.Storage.view (listed_as l.fn.run.kind p (run_of l.fn.run)) l.fn.file l.self l.file (listed_as l.fn.run.kind p (run_of l.run));
+  hint : (p : Pending) → AllocatorInvariant g.S.Storage.view l.fn.self (listed_as l.fn.run.kind p (run_of l.fn.run)) l.fn.file → MayFree l.fn.run.kind l.fn.file → NoFreeBelowHint g.S.Storage.view l.fn.self l.fn.file → NoFreeBelowHint g.S.Storage.view l.self l.file;
   grows : l.fn.self.leaked_clusters ≤ l.self.leaked_clusters;
-  leaks : (p : Pending) → IsSoundWith g.S.Storage.view l.fn.self (listed_as l.fn.run.kind p (run_of l.fn.run)) l.fn.file → MayFree l.fn.run.kind l.fn.file → SameLeaks l.fn.self l.self;
+  leaks : (p : Pending) → AllocatorInvariant g.S.Storage.view l.fn.self (listed_as l.fn.run.kind p (run_of l.fn.run)) l.fn.file → MayFree l.fn.run.kind l.fn.file → SameLeaks l.fn.self l.self;
 }
 
 abbrev pub decreases-freeing : goal.decreases-freeing

@@ -1,6 +1,6 @@
 use Rattle.std.proofs.Common.{◌≡◌, ◌++◌, ◌∷◌, [], Ok, Err, refl, sym, ap, ◌∙◌, subst, append_assoc, arith}
-use Rattle.qcow2_laws.specs.Guard.{Pending}
-use Rattle.qcow2_alloc.specs.Allocation.{Listed, Becomes, Frees}
+use Rattle.qcow2_laws.specs.CrashInvariant.{Pending}
+use Rattle.qcow2_alloc.specs.Allocation.{Listed, UnseenAllocatorStep, Frees}
 use Rattle.qcow2_alloc.specs.FreeList.{with_listed, but}
 use Rattle.qcow2_alloc.proofs.AllocationSteps.{handed_on, may_lower_still, is_sound_now}
 use Rattle.qcow2_alloc.proofs.CacheMarks.{marks_then}
@@ -63,7 +63,7 @@ pub returns-clause-sound : goal.returns-clause-sound
 returns-clause-sound g c = λ p sound may.
     let q : Pending = with_listed p (c.args.file.now.free_list ++ c.args.taken.now) in
     let same : c.freeing.taken ≡ c.next_pending.new.self = (c.in_default.ensures.none refl).0 ∙ sym (c.in_default.ensures.none refl).1 in
-    subst (λ l. Becomes g.S.Storage.view q c.args.file.now c.freeing.self c.freeing.file (with_listed p (c.freeing.file.free_list ++ l))) same (c.freeing.invariant.sound p sound may)
+    subst (λ l. UnseenAllocatorStep g.S.Storage.view q c.args.file.now c.freeing.self c.freeing.file (with_listed p (c.freeing.file.free_list ++ l))) same (c.freeing.invariant.sound p sound may)
 
 pub returns-clause-hint : goal.returns-clause-hint
 returns-clause-hint g c = λ p sound may hint. c.freeing.invariant.hint p sound may hint

@@ -1,8 +1,8 @@
 use Rattle.std.proofs.Common.{◌≡◌, ◌+◌, ◌-◌, ◌<◌, inr, refl, sym, ◌∙◌, subst, arith}
 use Rattle.qcow2_laws.specs.Changes.{one_at}
-use Rattle.qcow2_laws.specs.Guard.{Pending}
-use Rattle.qcow2_alloc.specs.Allocation.{run_at, taken_as, Taken, BecomesOn, GivesBackAs}
-use Rattle.qcow2_alloc.specs.ImageFile.{IsSoundWith, MovesOn}
+use Rattle.qcow2_laws.specs.CrashInvariant.{Pending}
+use Rattle.qcow2_alloc.specs.Allocation.{run_at, taken_as, Taken, UnseenAllocatorGrowth, GivesBackAs}
+use Rattle.qcow2_alloc.specs.ImageFile.{AllocatorInvariant, UnseenFileGrowth}
 use Rattle.qcow2_alloc.proofs.CacheMarks.{marks_none, marks_then}
 use Rattle.qcow2_alloc.proofs.FileSteps.{moves_on, on_then, on_breaks_after}
 use Rattle.qcow2_alloc.proofs.AllocationSteps.{handed_on, is_sound_now}
@@ -11,7 +11,7 @@ use Rattle.qcow2_alloc.proofs.Runs.{taken_first, taken_none, held_more}
 use Rattle.qcow2_alloc.proofs.allocation.Allocator.give_back.Goals as goal
 
 pub returns-then-n-eq0-clause-sound : goal.returns-then-n-eq0-clause-sound
-returns-then-n-eq0-clause-sound g c = λ p p' d start held b noted. subst (λ (r : Pending). BecomesOn g.S.Storage.view p start c.args.self.now c.args.file.now r) (taken_none d p' c.args.first c.args.n c.if-n-eq0.true) b
+returns-then-n-eq0-clause-sound g c = λ p p' d start held b noted. subst (λ (r : Pending). UnseenAllocatorGrowth g.S.Storage.view p start c.args.self.now c.args.file.now r) (taken_none d p' c.args.first c.args.n c.if-n-eq0.true) b
 
 pub lowering-init : goal.lowering-init
 lowering-init g c = record {
@@ -22,12 +22,12 @@ lowering-init g c = record {
   reftable = refl;
   sound = λ p p' d start held b.
       let whole : c.args.n ≡ c.args.first + c.args.n - c.args.first = omega arith in
-      let moves = subst (λ m. MovesOn g.S.Storage.view p (taken_as d p' (run_at c.args.first m)) start c.args.file.now) whole b.moves in
+      let moves = subst (λ m. UnseenFileGrowth g.S.Storage.view p (taken_as d p' (run_at c.args.first m)) start c.args.file.now) whole b.moves in
       record { moves = moves; reftable = b.reftable };
   hint = λ p d sound hint. hint;
   kept = λ p d sound.
       let whole : c.args.n ≡ c.args.first + c.args.n - c.args.first = omega arith in
-      (subst (λ m. IsSoundWith g.S.Storage.view c.args.self.now (taken_as d p (run_at c.args.first m)) c.args.file.now) whole sound, λ k none used. used);
+      (subst (λ m. AllocatorInvariant g.S.Storage.view c.args.self.now (taken_as d p (run_at c.args.first m)) c.args.file.now) whole sound, λ k none used. used);
 }
 
 pub returns-in_err-lower-clause-sound : goal.returns-in_err-lower-clause-sound
@@ -35,7 +35,7 @@ returns-in_err-lower-clause-sound g c = λ p p' d start held b noted.
     let one = c.lowering.invariant.sound p p' d start held b in
     let q : Pending = (taken_as d p' (run_at (c.lowering.cluster + 1) ((c.args.first + c.args.n) - (c.lowering.cluster + 1)))) in
     let same = taken_first d p' c.lowering.cluster (c.args.first + c.args.n) c.lowering-test.true in
-    let moved = subst (λ (r : Pending). MovesOn g.S.Storage.view p r start c.lowering.file) (sym same) one.moves in
+    let moved = subst (λ (r : Pending). UnseenFileGrowth g.S.Storage.view p r start c.lowering.file) (sym same) one.moves in
     let low = c.in_err-lower.ensures.sound q (Taken d) (record { sound = moved.sound; reftable = one.reftable }) tt in
     handed_on (GivesBackAs g.S.Storage.view p start c.lower.new.self c.lower.new.file p') c.from_residual.result c.in_err-lower.field-0.0 c.from_residual.ensures (
       low.0,
@@ -54,7 +54,7 @@ lowering-preserved g c = record {
       let one = c.lowering.invariant.sound p p' d start held b in
       let q : Pending = (taken_as d p' (run_at (c.lowering.cluster + 1) ((c.args.first + c.args.n) - (c.lowering.cluster + 1)))) in
       let same = taken_first d p' c.lowering.cluster (c.args.first + c.args.n) c.lowering-test.true in
-      let moved = subst (λ (r : Pending). MovesOn g.S.Storage.view p r start c.lowering.file) (sym same) one.moves in
+      let moved = subst (λ (r : Pending). UnseenFileGrowth g.S.Storage.view p r start c.lowering.file) (sym same) one.moves in
       let low = c.in_ok-lower.ensures.sound q (Taken d) (record { sound = moved.sound; reftable = one.reftable }) tt in
       record {
         moves = on_then g.S.Storage.view p (taken_as d q (one_at c.lowering.cluster)) q start c.lowering.file c.lower.new.file
@@ -65,12 +65,12 @@ lowering-preserved g c = record {
       let one = c.lowering.invariant.kept p d sound in
       let q : Pending = (taken_as d p (run_at (c.lowering.cluster + 1) ((c.args.first + c.args.n) - (c.lowering.cluster + 1)))) in
       let same = taken_first d p c.lowering.cluster (c.args.first + c.args.n) c.lowering-test.true in
-      c.in_ok-lower.ensures.hint q (Taken d) (subst (λ (r : Pending). IsSoundWith g.S.Storage.view c.lowering.self r c.lowering.file) (sym same) one.0) tt (c.lowering.invariant.hint p d sound hint);
+      c.in_ok-lower.ensures.hint q (Taken d) (subst (λ (r : Pending). AllocatorInvariant g.S.Storage.view c.lowering.self r c.lowering.file) (sym same) one.0) tt (c.lowering.invariant.hint p d sound hint);
   kept = λ p d sound.
       let one = c.lowering.invariant.kept p d sound in
       let q : Pending = (taken_as d p (run_at (c.lowering.cluster + 1) ((c.args.first + c.args.n) - (c.lowering.cluster + 1)))) in
       let same = taken_first d p c.lowering.cluster (c.args.first + c.args.n) c.lowering-test.true in
-      let low = c.in_ok-lower.ensures.sound q (Taken d) (subst (λ (r : Pending). IsSoundWith g.S.Storage.view c.lowering.self r c.lowering.file) (sym same) one.0) tt in (
+      let low = c.in_ok-lower.ensures.sound q (Taken d) (subst (λ (r : Pending). AllocatorInvariant g.S.Storage.view c.lowering.self r c.lowering.file) (sym same) one.0) tt in (
         is_sound_now g.S.Storage.view (taken_as d q (one_at c.lowering.cluster)) q c.lowering.file c.lower.new.file c.lower.new.self low,
         λ k none used.
             let other = not_in_run c.args.first c.args.n c.lowering.cluster k c.lowering.auto.cluster c.lowering-test.true none in
@@ -81,7 +81,7 @@ lowering-preserved g c = record {
 
 pub returns-clause-sound : goal.returns-clause-sound
 returns-clause-sound g c = λ p p' d start held b noted.
-    subst (λ (r : Pending). BecomesOn g.S.Storage.view p start c.lowering.self c.lowering.file r)
+    subst (λ (r : Pending). UnseenAllocatorGrowth g.S.Storage.view p start c.lowering.self c.lowering.file r)
     (taken_none d p' c.lowering.cluster ((c.args.first + c.args.n) - c.lowering.cluster) (let past = c.lowering-test.false in omega arith)) (c.lowering.invariant.sound p p' d start held b)
 
 pub returns-clause-hint : goal.returns-clause-hint

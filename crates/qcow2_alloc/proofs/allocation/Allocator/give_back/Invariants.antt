@@ -1,10 +1,10 @@
 use Rattle.std.proofs.Common.{◌≡◌, ℕ, ◌+◌, ◌-◌, ◌<◌, Bool}
-use Rattle.qcow2_laws.specs.Guard.{Pending}
-use Rattle.qcow2_alloc.specs.Allocation.{run_at, taken_as, BecomesOn}
+use Rattle.qcow2_laws.specs.CrashInvariant.{Pending}
+use Rattle.qcow2_alloc.specs.Allocation.{run_at, taken_as, UnseenAllocatorGrowth}
 use Rattle.qcow2_alloc.specs.CacheMarks.{KeepsMarks}
 use Rattle.qcow2_alloc.specs.declared.image_file.ImageFile.{ImageFile}
-use Rattle.qcow2_alloc.specs.ImageFile.{IsSoundWith}
-use Rattle.qcow2_alloc.specs.LowestRuns.{HasHint, IsUsed}
+use Rattle.qcow2_alloc.specs.ImageFile.{AllocatorInvariant}
+use Rattle.qcow2_alloc.specs.LowestRuns.{NoFreeBelowHint, IsUsed}
 use Rattle.qcow2_alloc.specs.MetadataCaches.{order_of}
 use Rattle.qcow2_alloc.proofs.allocation.Allocator.give_back.Given as goal
 
@@ -16,10 +16,10 @@ invariant-lowering g l = record {
   marks : KeepsMarks l.fn.file.caches l.file.caches;
   order : order_of l.file.caches ≡ order_of l.fn.file.caches;
   reftable : l.self.reftable ≡ l.fn.self.reftable;
-  sound : (p p' : Pending) (d : Bool) (start : ImageFile g.row.S.Denot) → ((k : ℕ) → 0 < p.held k → 0 < p'.held k) → BecomesOn g.S.Storage.view p start l.fn.self l.fn.file (taken_as d p' (run_at l.fn.first l.fn.n))
-      → BecomesOn g.S.Storage.view p start l.self l.file (taken_as d p' (run_at l.cluster (l.fn.first + l.fn.n - l.cluster)));
-  hint : (p : Pending) (d : Bool) → IsSoundWith g.S.Storage.view l.fn.self (taken_as d p (run_at l.fn.first l.fn.n)) l.fn.file → HasHint g.S.Storage.view l.fn.self l.fn.file → HasHint g.S.Storage.view l.self l.file;
-  kept : (p : Pending) (d : Bool) → IsSoundWith g.S.Storage.view l.fn.self (taken_as d p (run_at l.fn.first l.fn.n)) l.fn.file
-      → IsSoundWith g.S.Storage.view l.self (taken_as d p (run_at l.cluster (l.fn.first + l.fn.n - l.cluster))) l.file
+  sound : (p p' : Pending) (d : Bool) (start : ImageFile g.row.S.Denot) → ((k : ℕ) → 0 < p.held k → 0 < p'.held k) → UnseenAllocatorGrowth g.S.Storage.view p start l.fn.self l.fn.file (taken_as d p' (run_at l.fn.first l.fn.n))
+      → UnseenAllocatorGrowth g.S.Storage.view p start l.self l.file (taken_as d p' (run_at l.cluster (l.fn.first + l.fn.n - l.cluster)));
+  hint : (p : Pending) (d : Bool) → AllocatorInvariant g.S.Storage.view l.fn.self (taken_as d p (run_at l.fn.first l.fn.n)) l.fn.file → NoFreeBelowHint g.S.Storage.view l.fn.self l.fn.file → NoFreeBelowHint g.S.Storage.view l.self l.file;
+  kept : (p : Pending) (d : Bool) → AllocatorInvariant g.S.Storage.view l.fn.self (taken_as d p (run_at l.fn.first l.fn.n)) l.fn.file
+      → AllocatorInvariant g.S.Storage.view l.self (taken_as d p (run_at l.cluster (l.fn.first + l.fn.n - l.cluster))) l.file
       × ((k : ℕ) → run_at l.fn.first l.fn.n k ≡ 0 → IsUsed g.S.Storage.view l.fn.file k → IsUsed g.S.Storage.view l.file k);
 }

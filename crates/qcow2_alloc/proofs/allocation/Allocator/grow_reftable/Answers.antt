@@ -2,11 +2,11 @@ use Rattle.std.proofs.Common.{◌≡◌, ℕ, ◌^◌, ◌≤◌, IsSome, inl, i
 use Rattle.std.specs.Prelude.{IfErr}
 use Rattle.qcow2_metadata.specs.EntryTable.{entry_count}
 use Rattle.qcow2_metadata.specs.Header.{HeaderView, counts_per_block, entries_per_cluster}
-use Rattle.qcow2_laws.specs.Guard.{Pending}
+use Rattle.qcow2_laws.specs.CrashInvariant.{Pending}
 use Rattle.qcow2_alloc.specs.declared.clusters_to_free.ClustersToFreeEntry.{ClustersToFreeEntry}
-use Rattle.qcow2_alloc.specs.Allocation.{BecomesOn, LeavesAs}
+use Rattle.qcow2_alloc.specs.Allocation.{UnseenAllocatorGrowth, RefusedGrowth}
 use Rattle.qcow2_alloc.specs.declared.error.ImageError.{ImageError}
-use Rattle.qcow2_alloc.specs.FreeList.{following}
+use Rattle.qcow2_alloc.specs.FreeList.{pending_then}
 use Rattle.qcow2_alloc.specs.Growing.{IsLongEnough}
 use Rattle.qcow2_alloc.specs.Limits.{IsFaultOr, HasNoRoomFor, CantGrow}
 use Rattle.qcow2_alloc.proofs.AllocationSteps.{handed_on}
@@ -24,7 +24,7 @@ returns-in-Ok-clause-sound g c = λ p sound.
     let becomes = c.in-Ok.ensures.enters p sound c.in_ok-table.ensures.entries c.in_ok-table.ensures.length.enough.whole in
     let run = rw sound.reftable.cluster at c.in_ok-former.ensures.run in
     let list = c.hand_back.ensures ∙ ap (λ (l : List ClustersToFreeEntry). l ++ former ∷ []) c.enter_reftable.ensures.list in
-    subst (λ (l : List ClustersToFreeEntry). BecomesOn view p old c.enter_reftable.new.self (record c.enter_reftable.new.file { free_list = l }) (following p old.free_list l)) (sym list)
+    subst (λ (l : List ClustersToFreeEntry). UnseenAllocatorGrowth view p old c.enter_reftable.new.self (record c.enter_reftable.new.file { free_list = l }) (pending_then p old.free_list l)) (sym list)
     (grown view p old c.enter_reftable.new.file c.enter_reftable.new.self c.args.self.now.reftable _ former sound.sound sound.reftable c.in_ok-former.ensures.is_table sound.reftable.cluster run becomes old.free_list)
 
 pub returns-in-Ok-clause-uses : goal.returns-in-Ok-clause-uses
@@ -32,7 +32,7 @@ returns-in-Ok-clause-uses g c = λ p sound. c.in-Ok.ensures.uses p sound c.in_ok
 
 pub returns-in-Err-clause-sound : goal.returns-in-Err-clause-sound
 returns-in-Err-clause-sound g c = λ p sound.
-    subst (λ (q : Pending). LeavesAs g.S.Storage.view p c.args.file.now c.enter_reftable.new.self c.enter_reftable.new.file q c.in-Err.refusal)
+    subst (λ (q : Pending). RefusedGrowth g.S.Storage.view p c.args.file.now c.enter_reftable.new.self c.enter_reftable.new.file q c.in-Err.refusal)
     (sym (following_same p c.args.file.now.free_list c.enter_reftable.new.file.free_list c.enter_reftable.ensures.list))
     (c.in-Err.ensures.enters p sound c.in_ok-table.ensures.entries c.in_ok-table.ensures.length.enough.whole)
 

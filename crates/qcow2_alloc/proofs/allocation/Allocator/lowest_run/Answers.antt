@@ -1,11 +1,11 @@
 use Rattle.std.proofs.Common.{inl, false, refl, sym, ap, ◌+◌, ◌/◌, ◌^◌, ◌∙◌, subst, arith, inr, Result, ℕ, ◌≤◌, ◌<◌}
 use Rattle.qcow2_metadata.specs.L2Mapping.{greatest_offset}
 use Rattle.std.proofs.Math.Nat.{div-le_self}
-use Rattle.qcow2_laws.specs.Guard.{Pending}
-use Rattle.qcow2_alloc.specs.LowestRuns.{KeepsHint}
+use Rattle.qcow2_laws.specs.CrashInvariant.{Pending}
+use Rattle.qcow2_alloc.specs.LowestRuns.{KeepsNoFreeBelowHint}
 use Rattle.qcow2_alloc.proofs.Hints.{lowest_behind, lowest_first, lowest_stays}
-use Rattle.qcow2_alloc.specs.Allocation.{run_at, BecomesOn, TakesSomeRun}
-use Rattle.qcow2_alloc.specs.FreeList.{following}
+use Rattle.qcow2_alloc.specs.Allocation.{run_at, UnseenAllocatorGrowth, TakesSomeRun}
+use Rattle.qcow2_alloc.specs.FreeList.{pending_then}
 use Rattle.qcow2_alloc.proofs.CacheMarks.{marks_none, marks_then}
 use Rattle.qcow2_alloc.proofs.AllocationSteps.{handed_on, may_still, on_none, is_sound_on}
 use Rattle.qcow2_alloc.proofs.Following.{header_same, header_then, lists_none, lists_then, following_same, then_none, then_taken, then_leaves, header_bits}
@@ -19,15 +19,15 @@ use Rattle.qcow2_alloc.proofs.allocation.Allocator.lowest_run.Goals as goal
 pub returns-in_err-taken-clause-sound : goal.returns-in_err-taken-clause-sound
 returns-in_err-taken-clause-sound g c = λ p d sound may.
     let before = c.search.invariant.sound p sound in
-    let q : Pending = following p c.args.file.now.free_list c.search.file.free_list in
+    let q : Pending = pending_then p c.args.file.now.free_list c.search.file.free_list in
     let now = is_sound_on g.S.Storage.view p q c.args.file.now c.search.file c.search.self before in
-    handed_on (TakesSomeRun g.S.Storage.view p c.args.file.now c.take_run.new.self c.take_run.new.file (following p c.args.file.now.free_list c.take_run.new.file.free_list) d c.args.n) c.from_residual.result c.in_err-taken.field-0.0 c.from_residual.ensures
+    handed_on (TakesSomeRun g.S.Storage.view p c.args.file.now c.take_run.new.self c.take_run.new.file (pending_then p c.args.file.now.free_list c.take_run.new.file.free_list) d c.args.n) c.from_residual.result c.in_err-taken.field-0.0 c.from_residual.ensures
     (then_leaves g.S.Storage.view p c.args.file.now c.search.file c.take_run.new.file c.search.self c.take_run.new.self c.search.invariant.list c.take_run.ensures.list before c.in_err-taken.field-0.0 (c.in_err-taken.ensures.sound q d now (may_still d c.args.file.now c.search.file c.search.invariant.order may)))
 
 pub returns-then-taken-n-clause-sound : goal.returns-then-taken-n-clause-sound
 returns-then-taken-n-clause-sound g c = λ p d sound may.
     let before = c.search.invariant.sound p sound in
-    let q : Pending = following p c.args.file.now.free_list c.search.file.free_list in
+    let q : Pending = pending_then p c.args.file.now.free_list c.search.file.free_list in
     let now = is_sound_on g.S.Storage.view p q c.args.file.now c.search.file c.search.self before in
     then_taken g.S.Storage.view p c.args.file.now c.search.file c.take_run.new.file c.search.self c.take_run.new.self c.search.invariant.list c.take_run.ensures.list before d (run_at c.search.first c.args.n)
     ((c.in_ok-taken.ensures.sound q d now (may_still d c.args.file.now c.search.file c.search.invariant.order may)).0 c.if-taken-n.true)
@@ -41,7 +41,7 @@ search-init g c = record {
   marks = marks_none c.args.file.now.caches;
   order = refl;
   sound = λ p sound.
-      subst (λ (r : Pending). BecomesOn g.S.Storage.view p c.args.file.now c.args.self.now c.args.file.now r) (sym (following_same p c.args.file.now.free_list c.args.file.now.free_list refl))
+      subst (λ (r : Pending). UnseenAllocatorGrowth g.S.Storage.view p c.args.file.now c.args.self.now c.args.file.now r) (sym (following_same p c.args.file.now.free_list c.args.file.now.free_list refl))
       (on_none g.S.Storage.view p c.args.file.now c.args.self.now sound);
   hint = λ p d sound may hint. hint;
   lowest = λ p d sound may hint some. lowest_first g.S.Storage.view c.args.file.now c.args.self.now c.args.n hint some;
@@ -57,18 +57,18 @@ search-preserved g c = record {
   order = c.take_run.ensures.order ∙ c.search.invariant.order;
   sound = λ p sound.
       let before = c.search.invariant.sound p sound in
-      let q : Pending = following p c.args.file.now.free_list c.search.file.free_list in
+      let q : Pending = pending_then p c.args.file.now.free_list c.search.file.free_list in
       let now = is_sound_on g.S.Storage.view p q c.args.file.now c.search.file c.search.self before in
       then_none g.S.Storage.view p c.args.file.now c.search.file c.take_run.new.file c.search.self c.take_run.new.self c.search.invariant.list c.take_run.ensures.list before ((c.in_ok-taken.ensures.sound q false now tt).1 c.if-taken-n.false);
   hint = λ p d sound may hint.
       let before = c.search.invariant.sound p sound in
-      let q : Pending = following p c.args.file.now.free_list c.search.file.free_list in
+      let q : Pending = pending_then p c.args.file.now.free_list c.search.file.free_list in
       let now = is_sound_on g.S.Storage.view p q c.args.file.now c.search.file c.search.self before in
       let may_now = may_still d c.args.file.now c.search.file c.search.invariant.order may in
       c.in_ok-taken.ensures.hint q d now may_now (c.search.invariant.hint p d sound may hint);
   lowest = λ p d sound may hint some.
       let before = c.search.invariant.sound p sound in
-      let q : Pending = following p c.args.file.now.free_list c.search.file.free_list in
+      let q : Pending = pending_then p c.args.file.now.free_list c.search.file.free_list in
       let now = is_sound_on g.S.Storage.view p q c.args.file.now c.search.file c.search.self before in
       let may_now = may_still d c.args.file.now c.search.file c.search.invariant.order may in
       lowest_behind g.S.Storage.view c.take_run.new.file c.search.first c.args.n c.in_ok-taken.taken c.in_ok-taken.ensures.within c.if-taken-n.false (c.in_ok-taken.ensures.used q d now may_now c.if-taken-n.false)
@@ -81,15 +81,15 @@ returns-clause-sound g c = λ p d sound may. inl (c.search.invariant.sound p sou
 pub returns-in_err-taken-clause-hint : goal.returns-in_err-taken-clause-hint
 returns-in_err-taken-clause-hint g c = λ p d sound may hint.
     let before = c.search.invariant.sound p sound in
-    let q : Pending = following p c.args.file.now.free_list c.search.file.free_list in
+    let q : Pending = pending_then p c.args.file.now.free_list c.search.file.free_list in
     let now = is_sound_on g.S.Storage.view p q c.args.file.now c.search.file c.search.self before in
     let may_now = may_still d c.args.file.now c.search.file c.search.invariant.order may in
-    handed_on (KeepsHint g.S.Storage.view c.take_run.new.self c.take_run.new.file) c.from_residual.result c.in_err-taken.field-0.0 c.from_residual.ensures (c.in_err-taken.ensures.hint q d now may_now (c.search.invariant.hint p d sound may hint))
+    handed_on (KeepsNoFreeBelowHint g.S.Storage.view c.take_run.new.self c.take_run.new.file) c.from_residual.result c.in_err-taken.field-0.0 c.from_residual.ensures (c.in_err-taken.ensures.hint q d now may_now (c.search.invariant.hint p d sound may hint))
 
 pub returns-then-taken-n-clause-lowest : goal.returns-then-taken-n-clause-lowest
 returns-then-taken-n-clause-lowest g c = λ p d sound may hint.
     let before = c.search.invariant.sound p sound in
-    let q : Pending = following p c.args.file.now.free_list c.search.file.free_list in
+    let q : Pending = pending_then p c.args.file.now.free_list c.search.file.free_list in
     let now = is_sound_on g.S.Storage.view p q c.args.file.now c.search.file c.search.self before in
     let may_now = may_still d c.args.file.now c.search.file c.search.invariant.order may in
     lowest_stays g.S.Storage.view c.search.file c.take_run.new.file c.search.first c.args.n (c.in_ok-taken.ensures.uses q d now may_now) (c.search.invariant.lowest p d sound may hint c.search-test.true)
@@ -97,7 +97,7 @@ returns-then-taken-n-clause-lowest g c = λ p d sound may hint.
 pub returns-then-taken-n-clause-hint : goal.returns-then-taken-n-clause-hint
 returns-then-taken-n-clause-hint g c = λ p d sound may hint.
     let before = c.search.invariant.sound p sound in
-    let q : Pending = following p c.args.file.now.free_list c.search.file.free_list in
+    let q : Pending = pending_then p c.args.file.now.free_list c.search.file.free_list in
     let now = is_sound_on g.S.Storage.view p q c.args.file.now c.search.file c.search.self before in
     let may_now = may_still d c.args.file.now c.search.file c.search.invariant.order may in
     c.in_ok-taken.ensures.hint q d now may_now (c.search.invariant.hint p d sound may hint)
@@ -114,7 +114,7 @@ returns-then-taken-n-clause-list g c = lists_then c.args.file.now.free_list c.se
 pub returns-in_err-taken-clause-limit : goal.returns-in_err-taken-clause-limit
 returns-in_err-taken-clause-limit g c = λ p d sound may hint some.
     let before = c.search.invariant.sound p sound in
-    let q : Pending = following p c.args.file.now.free_list c.search.file.free_list in
+    let q : Pending = pending_then p c.args.file.now.free_list c.search.file.free_list in
     let now = is_sound_on g.S.Storage.view p q c.args.file.now c.search.file c.search.self before in
     let may_now = may_still d c.args.file.now c.search.file c.search.invariant.order may in
     let bits = header_bits c.args.file.now.header c.search.file.header c.search.invariant.header in

@@ -1,11 +1,11 @@
 use Rattle.std.proofs.Common.{◌≡◌, ◌+◌, ◌-◌, ◌/◌, ◌^◌, ◌<◌, ◌≤◌, Bool}
 use Rattle.qcow2_metadata.specs.L2Mapping.{greatest_offset}
-use Rattle.qcow2_laws.specs.Guard.{Pending}
-use Rattle.qcow2_alloc.specs.Allocation.{BecomesOn, MayTake}
+use Rattle.qcow2_laws.specs.CrashInvariant.{Pending}
+use Rattle.qcow2_alloc.specs.Allocation.{UnseenAllocatorGrowth, MayTake}
 use Rattle.qcow2_alloc.specs.CacheMarks.{KeepsMarks}
-use Rattle.qcow2_alloc.specs.ImageFile.{IsSoundWith, KeepsHeader}
-use Rattle.qcow2_alloc.specs.FreeList.{following, ListsTables}
-use Rattle.qcow2_alloc.specs.LowestRuns.{HasHint, IsLowestRun}
+use Rattle.qcow2_alloc.specs.ImageFile.{AllocatorInvariant, KeepsHeader}
+use Rattle.qcow2_alloc.specs.FreeList.{pending_then, ListsTables}
+use Rattle.qcow2_alloc.specs.LowestRuns.{NoFreeBelowHint, IsLowestRun}
 use Rattle.qcow2_alloc.specs.MetadataCaches.{order_of}
 use Rattle.qcow2_alloc.proofs.allocation.Allocator.lowest_run.Given as goal
 
@@ -18,9 +18,9 @@ invariant-search g l = record {
   near : l.limit ≤ 2 ^ 57;
   marks : KeepsMarks l.fn.file.caches l.file.caches;
   order : order_of l.file.caches ≡ order_of l.fn.file.caches;
-  sound : (p : Pending) → IsSoundWith g.S.Storage.view l.fn.self p l.fn.file → BecomesOn g.S.Storage.view p l.fn.file l.self l.file (following p l.fn.file.free_list l.file.free_list);
-  hint : (p : Pending) (d : Bool) → IsSoundWith g.S.Storage.view l.fn.self p l.fn.file → MayTake d l.fn.file → HasHint g.S.Storage.view l.fn.self l.fn.file → HasHint g.S.Storage.view l.self l.file;
-  lowest : (p : Pending) (d : Bool) → IsSoundWith g.S.Storage.view l.fn.self p l.fn.file → MayTake d l.fn.file → HasHint g.S.Storage.view l.fn.self l.fn.file → 0 < l.fn.n → IsLowestRun g.S.Storage.view l.file l.first l.fn.n;
+  sound : (p : Pending) → AllocatorInvariant g.S.Storage.view l.fn.self p l.fn.file → UnseenAllocatorGrowth g.S.Storage.view p l.fn.file l.self l.file (pending_then p l.fn.file.free_list l.file.free_list);
+  hint : (p : Pending) (d : Bool) → AllocatorInvariant g.S.Storage.view l.fn.self p l.fn.file → MayTake d l.fn.file → NoFreeBelowHint g.S.Storage.view l.fn.self l.fn.file → NoFreeBelowHint g.S.Storage.view l.self l.file;
+  lowest : (p : Pending) (d : Bool) → AllocatorInvariant g.S.Storage.view l.fn.self p l.fn.file → MayTake d l.fn.file → NoFreeBelowHint g.S.Storage.view l.fn.self l.fn.file → 0 < l.fn.n → IsLowestRun g.S.Storage.view l.file l.first l.fn.n;
 }
 
 abbrev pub decreases-search : goal.decreases-search

@@ -11,7 +11,7 @@ use Rattle.qcow2_metadata.specs.Header.{cluster_size}
 use Rattle.qcow2_metadata.specs.RefBlock.{RefBlockView, IsRefBlock, count_at}
 use Rattle.qcow2_metadata.specs.TableBytes.{entry_at, ChangesEntry}
 use Rattle.qcow2_metadata.specs.Entries.{block_offset}
-use Rattle.qcow2_laws.specs.Guard.{Pending}
+use Rattle.qcow2_laws.specs.CrashInvariant.{Pending}
 use Rattle.qcow2_laws.specs.Caches.{AreClean, BlocksMayGo}
 use Rattle.qcow2_alloc.specs.declared.allocation.Allocator.{Allocator}
 use Rattle.qcow2_alloc.specs.declared.cache.MetadataCaches.{MetadataCaches}
@@ -19,7 +19,7 @@ use Rattle.qcow2_alloc.specs.declared.error.ImageError.{ImageError}
 use Rattle.qcow2_alloc.specs.declared.image_storage.ImageStorage.{ImageStorage}
 use Rattle.qcow2_alloc.specs.CacheMarks.{KeepsMarks, SameTables}
 use Rattle.qcow2_alloc.specs.declared.image_file.ImageFile.{ImageFile}
-use Rattle.qcow2_alloc.specs.Allocation.{placing, first_counts, HasPlaceFor, StandsAt, Becomes, HoldsBlock, PlacesBlock}
+use Rattle.qcow2_alloc.specs.Allocation.{placing, first_counts, HasPlaceFor, RefblockAt, UnseenAllocatorStep, HoldsBlock, PlacesBlock}
 use Rattle.qcow2_alloc.specs.ImageError.{of_storage, IsFault}
 use Rattle.qcow2_alloc.specs.ImageFile.{view_in}
 use Rattle.qcow2_alloc.specs.ImageStorage.{storage_of}
@@ -38,7 +38,7 @@ returns-in_err-write_block-clause-sound g c = λ p sound place.
 
 -- the last step: the entry is written, or is not
 module _ {S : Type 0} (view : S → StorageView) (d : Bool) (p : Pending) (range at : ℕ) (old file : ImageFile S) (t : Allocator) (t' : EntryTableView) (caches : MetadataCaches S) (storage : ImageStorage S) (asked : S) (block : RefBlockView)
-    (result : Result (Unit {0}) StorageError) (before : Becomes view (placing d p at) old t file (placing d p at) × HoldsBlock view (placing d p at) old t file block at) (counted : AreClean (refblocks file.caches)) (first : BlocksMayGo (order_of file.caches) (l2_tables file.caches))
+    (result : Result (Unit {0}) StorageError) (before : UnseenAllocatorStep view (placing d p at) old t file (placing d p at) × HoldsBlock view (placing d p at) old t file block at) (counted : AreClean (refblocks file.caches)) (first : BlocksMayGo (order_of file.caches) (l2_tables file.caches))
     (noted : caches ≡ record file.caches { is_changed = true }) (tables : SameTables file.caches caches) (marks : KeepsMarks file.caches caches) (place : HasPlaceFor d file.header.fields t.reftable range at) (within : range < entry_count t.reftable)
     (rest : t' ≡ record t.reftable { bytes = t'.bytes }) (enters : ChangesEntry t.reftable.bytes t'.bytes range (at * 2 ^ t.reftable.cluster_bits)) (offset : block_offset (entry_at t'.bytes range) ≡ at * 2 ^ t.reftable.cluster_bits)
     (fits : entry_at t'.bytes range < 2 ^ 64) (whole : IsRefBlock block) (format : IsBlockOf file.header.fields block) (counts : (i : ℕ) → count_at block i ≡ first_counts d i) (same : asked ≡ storage_of file.storage)
@@ -56,10 +56,10 @@ module _ {S : Type 0} (view : S → StorageView) (d : Bool) (p : Pending) (range
   abbrev named : ImageFile S
   named = record marked { storage = storage }
 
-  now : Becomes view q file t marked q
+  now : UnseenAllocatorStep view q file t marked q
   now = becomes_marked view q file t caches (is_sound_now view q q old file t before.0) tables marks
 
-  four : Becomes view q old t marked q
+  four : UnseenAllocatorStep view q old t marked q
   four = becomes_then view q q old file marked t t before.0 now
 
   changes : Changes (view_in view marked) (view (storage_of storage)) result (overwritten (view_in view marked).contents (h.reftable_offset + 8 * range) (to_be_bytes w64 (entry_at t'.bytes range)))
@@ -101,7 +101,7 @@ module _ {S : Type 0} (view : S → StorageView) (d : Bool) (p : Pending) (range
     })),
   )
 
-  is_placed : (x : Unit {0}) → result ≡ Ok x → Becomes view q old (record t { reftable = t' }) named p × StandsAt view named range (Some at)
+  is_placed : (x : Unit {0}) → result ≡ Ok x → UnseenAllocatorStep view q old (record t { reftable = t' }) named p × RefblockAt view named range (Some at)
   is_placed x done =
       let so = named_so view d p range at marked t.reftable t' block now.moves.sound now.reftable clean may there within rest entered at_place fits whole format counts held before.1.stands storage result calls_now changes x done in
       let some : 0 < at * cluster_size h = real view d p range at marked t.reftable t' block now.moves.sound now.reftable clean may there within rest entered at_place fits whole format counts held before.1.stands in (

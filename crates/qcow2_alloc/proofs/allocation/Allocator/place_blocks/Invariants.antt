@@ -1,11 +1,11 @@
 use Rattle.std.proofs.Common.{◌≡◌, ℕ, ◌+◌, ◌-◌, ◌^◌, ◌<◌, ◌≤◌, None, length}
 use Rattle.qcow2_metadata.specs.Header.{counts_per_block}
 use Rattle.qcow2_laws.specs.Caches.{AreClean, BlocksMayGo}
-use Rattle.qcow2_laws.specs.Guard.{Pending}
-use Rattle.qcow2_alloc.specs.Allocation.{run_at, Becomes}
+use Rattle.qcow2_laws.specs.CrashInvariant.{Pending}
+use Rattle.qcow2_alloc.specs.Allocation.{run_at, UnseenAllocatorStep}
 use Rattle.qcow2_alloc.specs.CacheMarks.{KeepsMarks}
 use Rattle.qcow2_alloc.specs.GrownTables.{with_run}
-use Rattle.qcow2_alloc.specs.ImageFile.{contents_in, IsSoundWith}
+use Rattle.qcow2_alloc.specs.ImageFile.{contents_in, AllocatorInvariant}
 use Rattle.qcow2_alloc.specs.MetadataCaches.{order_of, l2_tables, refblocks, rb_at}
 use Rattle.qcow2_alloc.specs.Rooms.{opened, length_of, IsLonger}
 use Rattle.qcow2_alloc.proofs.PlacedRooms.{EntersSo, Counting}
@@ -28,9 +28,9 @@ invariant-placing g l = record {
   low : l.fn.room.first ≤ l.at;
   high : l.at ≤ l.cluster;
   placed : l.at - l.fn.room.first ≡ opened l.fn.self.reftable (counts_per_block l.fn.file.header.fields) l.fn.room.first (l.cluster - l.fn.room.first);
-  sound : (p : Pending) → IsSoundWith g.S.Storage.view l.fn.self (with_run p l.fn.file.header.fields l.fn.self.reftable l.fn.room.first (length_of l.fn.room)) l.fn.file
+  sound : (p : Pending) → AllocatorInvariant g.S.Storage.view l.fn.self (with_run p l.fn.file.header.fields l.fn.self.reftable l.fn.room.first (length_of l.fn.room)) l.fn.file
       → BlocksMayGo (order_of l.fn.file.caches) (l2_tables l.fn.file.caches) → IsLonger l.fn.file.header.fields l.fn.self.reftable l.fn.table l.fn.room.clusters
-      → Becomes g.S.Storage.view (with_run p l.fn.file.header.fields l.fn.self.reftable l.fn.room.first (length_of l.fn.room)) l.fn.file l.fn.self l.file (with_run p l.fn.file.header.fields l.fn.self.reftable l.fn.room.first (length_of l.fn.room))
+      → UnseenAllocatorStep g.S.Storage.view (with_run p l.fn.file.header.fields l.fn.self.reftable l.fn.room.first (length_of l.fn.room)) l.fn.file l.fn.self l.file (with_run p l.fn.file.header.fields l.fn.self.reftable l.fn.room.first (length_of l.fn.room))
       × EntersSo l.fn.file.header.fields l.fn.self.reftable l.fn.table l.table l.fn.room.first (l.at - l.fn.room.first) l.cluster
       × Counting l.fn.file.header.fields (contents_in g.S.Storage.view l.file) l.fn.self.reftable l.table l.fn.room.first (length_of l.fn.room)
       × ((c : ℕ) → 0 < run_at l.fn.room.first (l.at - l.fn.room.first) c → rb_at l.file.caches c ≡ None);

@@ -1,9 +1,9 @@
 use Rattle.std.proofs.Common.{sym, ap, subst, ◌/◌, arith, ◌^◌, ◌∙◌, Result}
-use Rattle.qcow2_laws.specs.Guard.{Pending}
+use Rattle.qcow2_laws.specs.CrashInvariant.{Pending}
 use Rattle.qcow2_metadata.specs.Header.{counts_per_block}
 use Rattle.qcow2_alloc.specs.Allocation.{GrowsTable}
-use Rattle.qcow2_alloc.specs.FreeList.{following}
-use Rattle.qcow2_alloc.specs.LowestRuns.{KeepsHint, KeepsUsed}
+use Rattle.qcow2_alloc.specs.FreeList.{pending_then}
+use Rattle.qcow2_alloc.specs.LowestRuns.{KeepsNoFreeBelowHint, KeepsUsed}
 use Rattle.qcow2_alloc.proofs.AllocationSteps.{handed_on, is_sound_on}
 use Rattle.qcow2_alloc.proofs.Following.{following_same, grows_none, grows_on, header_counts, header_bits}
 use Rattle.qcow2_alloc.proofs.Hints.{hint_used, ok_as, range_as, uses_got, uses_then}
@@ -23,7 +23,7 @@ returns-then-in_bounds-clause-sound g c = λ p sound.
 
 pub returns-in_err-grow_reftable-clause-sound : goal.returns-in_err-grow_reftable-clause-sound
 returns-in_err-grow_reftable-clause-sound g c = λ p sound.
-    handed_on (GrowsTable g.S.Storage.view p c.args.file.now c.grow_reftable.new.self c.grow_reftable.new.file (following p c.args.file.now.free_list c.grow_reftable.new.file.free_list))
+    handed_on (GrowsTable g.S.Storage.view p c.args.file.now c.grow_reftable.new.self c.grow_reftable.new.file (pending_then p c.args.file.now.free_list c.grow_reftable.new.file.free_list))
     c.from_residual.result c.in_err-grow_reftable.field-0.0 c.from_residual.ensures (c.in_err-grow_reftable.ensures.sound p sound)
 
 pub returns-then-in_bounds-clause-uses : goal.returns-then-in_bounds-clause-uses
@@ -31,7 +31,7 @@ returns-then-in_bounds-clause-uses g c = λ p sound. uses_got g.S.Storage.view p
 
 pub returns-in_err-grow_reftable-clause-hint : goal.returns-in_err-grow_reftable-clause-hint
 returns-in_err-grow_reftable-clause-hint g c = λ p sound hint.
-    handed_on (KeepsHint g.S.Storage.view c.grow_reftable.new.self c.grow_reftable.new.file) c.from_residual.result c.in_err-grow_reftable.field-0.0 c.from_residual.ensures
+    handed_on (KeepsNoFreeBelowHint g.S.Storage.view c.grow_reftable.new.self c.grow_reftable.new.file) c.from_residual.result c.in_err-grow_reftable.field-0.0 c.from_residual.ensures
     (λ other. hint_used g.S.Storage.view c.args.file.now c.grow_reftable.new.file c.args.self.now c.grow_reftable.new.self c.grow_reftable.ensures.first (c.in_err-grow_reftable.ensures.uses p sound other) hint)
 
 pub returns-in_err-grow_reftable-clause-uses : goal.returns-in_err-grow_reftable-clause-uses
@@ -40,16 +40,16 @@ returns-in_err-grow_reftable-clause-uses g c = λ p sound.
 
 pub returns-clause-sound : goal.returns-clause-sound
 returns-clause-sound g c = λ p sound.
-    let q : Pending = following p c.args.file.now.free_list c.grow_reftable.new.file.free_list in
+    let q : Pending = pending_then p c.args.file.now.free_list c.grow_reftable.new.file.free_list in
     let grown = c.in_ok-grow_reftable.ensures.sound p sound in
     subst (λ (r : Pending). GrowsTable g.S.Storage.view p c.args.file.now c.ensure_block-2.new.self c.ensure_block-2.new.file r c.ensure_block-2.result)
-    (ap (following p c.args.file.now.free_list) (sym c.ensure_block-2.ensures.list))
+    (ap (pending_then p c.args.file.now.free_list) (sym c.ensure_block-2.ensures.list))
     (grows_on g.S.Storage.view p q c.args.file.now c.grow_reftable.new.file c.ensure_block-2.new.file c.grow_reftable.new.self c.ensure_block-2.new.self c.ensure_block-2.result (λ k some. some) grown
     (c.ensure_block-2.ensures.sound q (is_sound_on g.S.Storage.view p q c.args.file.now c.grow_reftable.new.file c.grow_reftable.new.self grown)))
 
 pub returns-clause-has : goal.returns-clause-has
 returns-clause-has g c = λ p sound.
-    let q : Pending = following p c.args.file.now.free_list c.grow_reftable.new.file.free_list in
+    let q : Pending = pending_then p c.args.file.now.free_list c.grow_reftable.new.file.free_list in
     ok_as _ _ c.ensure_block-2.result
     (range_as c.ensure_block-2.new.self.reftable c.args.cluster (counts_per_block c.grow_reftable.new.file.header.fields) (counts_per_block c.args.file.now.header.fields)
     (sym (header_counts c.args.file.now.header c.grow_reftable.new.file.header c.grow_reftable.ensures.header)))
@@ -57,13 +57,13 @@ returns-clause-has g c = λ p sound.
 
 pub returns-clause-hint : goal.returns-clause-hint
 returns-clause-hint g c = λ p sound hint.
-    let q : Pending = following p c.args.file.now.free_list c.grow_reftable.new.file.free_list in
+    let q : Pending = pending_then p c.args.file.now.free_list c.grow_reftable.new.file.free_list in
     c.ensure_block-2.ensures.hint q (is_sound_on g.S.Storage.view p q c.args.file.now c.grow_reftable.new.file c.grow_reftable.new.self (c.in_ok-grow_reftable.ensures.sound p sound))
     (hint_used g.S.Storage.view c.args.file.now c.grow_reftable.new.file c.args.self.now c.grow_reftable.new.self c.grow_reftable.ensures.first (c.in_ok-grow_reftable.ensures.uses p sound) hint)
 
 pub returns-clause-uses : goal.returns-clause-uses
 returns-clause-uses g c = λ p sound.
-    let q : Pending = following p c.args.file.now.free_list c.grow_reftable.new.file.free_list in
+    let q : Pending = pending_then p c.args.file.now.free_list c.grow_reftable.new.file.free_list in
     uses_then g.S.Storage.view c.args.file.now c.grow_reftable.new.file c.ensure_block-2.new.file c.ensure_block-2.result (c.in_ok-grow_reftable.ensures.uses p sound)
     (uses_got g.S.Storage.view q c.grow_reftable.new.file c.ensure_block-2.new.file c.ensure_block-2.new.self c.ensure_block-2.result
     (c.ensure_block-2.ensures.sound q (is_sound_on g.S.Storage.view p q c.args.file.now c.grow_reftable.new.file c.grow_reftable.new.self (c.in_ok-grow_reftable.ensures.sound p sound))))
@@ -81,7 +81,7 @@ returns-in_err-grow_reftable-clause-limit g c = λ p sound hint near.
 
 pub returns-clause-limit : goal.returns-clause-limit
 returns-clause-limit g c = λ p sound hint near.
-    let q : Pending = following p c.args.file.now.free_list c.grow_reftable.new.file.free_list in
+    let q : Pending = pending_then p c.args.file.now.free_list c.grow_reftable.new.file.free_list in
     let counts = header_counts c.args.file.now.header c.grow_reftable.new.file.header c.grow_reftable.ensures.header ∙ c.rb_bits.ensures.counts in
     fault_or c.ensure_block-2.result (CantCount g.S.Storage.view c.ensure_block-2.new.file (λ k. 0) c.ensure_block-2.new.self c.args.cluster)
     (c.ensure_block-2.ensures.fault q (is_sound_on g.S.Storage.view p q c.args.file.now c.grow_reftable.new.file c.grow_reftable.new.self (c.in_ok-grow_reftable.ensures.sound p sound))

@@ -1,10 +1,10 @@
 use Rattle.std.proofs.Common.{◌≡◌, ◌+◌, Ok, ap, refl, sym, subst, inl, Bool, Result}
-use Rattle.qcow2_laws.specs.Guard.{Pending}
+use Rattle.qcow2_laws.specs.CrashInvariant.{Pending}
 use Rattle.qcow2_metadata.specs.Header.{counts_per_block}
 use Rattle.qcow2_alloc.specs.declared.allocation.Allocator.{Allocator}
-use Rattle.qcow2_alloc.specs.Allocation.{LeavesAs, TakesCluster}
-use Rattle.qcow2_alloc.specs.FreeList.{following}
-use Rattle.qcow2_alloc.specs.LowestRuns.{HasHint, KeepsHint, KeepsUsed}
+use Rattle.qcow2_alloc.specs.Allocation.{RefusedGrowth, TakesCluster}
+use Rattle.qcow2_alloc.specs.FreeList.{pending_then}
+use Rattle.qcow2_alloc.specs.LowestRuns.{NoFreeBelowHint, KeepsNoFreeBelowHint, KeepsUsed}
 use Rattle.qcow2_alloc.proofs.Hints.{hint_more, hint_raised, hint_refused, raised_used, range_as, uses_raised, uses_refused}
 use Rattle.qcow2_alloc.proofs.AllocationSteps.{handed_on, leaves_as, leaves_on, may_still, is_sound_on, takes_on}
 use Rattle.qcow2_alloc.proofs.Following.{header_counts}
@@ -16,53 +16,53 @@ use Rattle.qcow2_alloc.proofs.allocation.Allocator.take.Goals as goal
 
 pub returns-in_err-reach_block-clause-sound : goal.returns-in_err-reach_block-clause-sound
 returns-in_err-reach_block-clause-sound g c = λ p d sound may.
-    handed_on (TakesCluster g.S.Storage.view p c.args.file.now c.reach_block.new.self c.reach_block.new.file (following p c.args.file.now.free_list c.reach_block.new.file.free_list) d c.args.cluster)
+    handed_on (TakesCluster g.S.Storage.view p c.args.file.now c.reach_block.new.self c.reach_block.new.file (pending_then p c.args.file.now.free_list c.reach_block.new.file.free_list) d c.args.cluster)
     c.from_residual.result c.in_err-reach_block.field-0.0 c.from_residual.ensures (c.in_err-reach_block.ensures.sound p sound)
 
 pub returns-in_err-taken-clause-sound : goal.returns-in_err-taken-clause-sound
 returns-in_err-taken-clause-sound g c = λ p d sound may.
-    let q : Pending = following p c.args.file.now.free_list c.reach_block.new.file.free_list in
+    let q : Pending = pending_then p c.args.file.now.free_list c.reach_block.new.file.free_list in
     let one = c.in_ok-reach_block.ensures.sound p sound in
-    handed_on (TakesCluster g.S.Storage.view p c.args.file.now c.raise.new.self c.raise.new.file (following p c.args.file.now.free_list c.raise.new.file.free_list) d c.args.cluster)
+    handed_on (TakesCluster g.S.Storage.view p c.args.file.now c.raise.new.self c.raise.new.file (pending_then p c.args.file.now.free_list c.raise.new.file.free_list) d c.args.cluster)
     c.from_residual-in_err-taken.result c.in_err-taken.field-0.0 c.from_residual-in_err-taken.ensures
-    (subst (λ (r : Pending). LeavesAs g.S.Storage.view p c.args.file.now c.raise.new.self c.raise.new.file r c.in_err-taken.field-0.0) (ap (following p c.args.file.now.free_list) (sym c.raise.ensures.list))
+    (subst (λ (r : Pending). RefusedGrowth g.S.Storage.view p c.args.file.now c.raise.new.self c.raise.new.file r c.in_err-taken.field-0.0) (ap (pending_then p c.args.file.now.free_list) (sym c.raise.ensures.list))
     (leaves_on g.S.Storage.view p q q c.args.file.now c.reach_block.new.file c.raise.new.file c.reach_block.new.self c.raise.new.self c.in_err-taken.field-0.0 (λ k some. some) one
     (leaves_as g.S.Storage.view q c.reach_block.new.file c.raise.new.file c.raise.new.self c.in_err-taken.field-0.0 (c.in_err-taken.ensures.sound q d (is_sound_on g.S.Storage.view p q c.args.file.now c.reach_block.new.file c.reach_block.new.self one) (may_still d c.args.file.now c.reach_block.new.file c.reach_block.ensures.order may)))))
 
 pub returns-clause-sound : goal.returns-clause-sound
 returns-clause-sound g c = λ p d sound may.
-    let q : Pending = following p c.args.file.now.free_list c.reach_block.new.file.free_list in
+    let q : Pending = pending_then p c.args.file.now.free_list c.reach_block.new.file.free_list in
     let one = c.in_ok-reach_block.ensures.sound p sound in
     let two = c.in_ok-taken.ensures.sound q d (is_sound_on g.S.Storage.view p q c.args.file.now c.reach_block.new.file c.reach_block.new.self one) (may_still d c.args.file.now c.reach_block.new.file c.reach_block.ensures.order may) in
     let same : c.if-cluster-self.self.reftable ≡ c.raise.new.self.reftable = elim c.if-cluster-self.branch [
       | then-cluster-self w ↦ ap (λ (t : Allocator). t.reftable) w.self-is
       | else-cluster-self w ↦ ap (λ (t : Allocator). t.reftable) w.self-is
     ] in
-    subst (λ (r : Pending). TakesCluster g.S.Storage.view p c.args.file.now c.if-cluster-self.self c.raise.new.file r d c.args.cluster (Ok c.in_ok-taken.taken)) (ap (following p c.args.file.now.free_list) (sym c.raise.ensures.list))
+    subst (λ (r : Pending). TakesCluster g.S.Storage.view p c.args.file.now c.if-cluster-self.self c.raise.new.file r d c.args.cluster (Ok c.in_ok-taken.taken)) (ap (pending_then p c.args.file.now.free_list) (sym c.raise.ensures.list))
     (takes_on g.S.Storage.view p q c.args.file.now c.reach_block.new.file c.raise.new.file c.reach_block.new.self c.raise.new.self c.if-cluster-self.self d c.args.cluster c.in_ok-taken.taken (λ k some. some) same one two)
 
 pub returns-in_err-reach_block-clause-hint : goal.returns-in_err-reach_block-clause-hint
 returns-in_err-reach_block-clause-hint g c = λ p d sound may hint.
-    handed_on (KeepsHint g.S.Storage.view c.reach_block.new.self c.reach_block.new.file) c.from_residual.result c.in_err-reach_block.field-0.0 c.from_residual.ensures (c.in_err-reach_block.ensures.hint p sound hint)
+    handed_on (KeepsNoFreeBelowHint g.S.Storage.view c.reach_block.new.self c.reach_block.new.file) c.from_residual.result c.in_err-reach_block.field-0.0 c.from_residual.ensures (c.in_err-reach_block.ensures.hint p sound hint)
 
 pub returns-in_err-taken-clause-hint : goal.returns-in_err-taken-clause-hint
 returns-in_err-taken-clause-hint g c = λ p d sound may hint.
-    let q : Pending = following p c.args.file.now.free_list c.reach_block.new.file.free_list in
+    let q : Pending = pending_then p c.args.file.now.free_list c.reach_block.new.file.free_list in
     let now = is_sound_on g.S.Storage.view p q c.args.file.now c.reach_block.new.file c.reach_block.new.self (c.in_ok-reach_block.ensures.sound p sound) in
-    handed_on (KeepsHint g.S.Storage.view c.raise.new.self c.raise.new.file) c.from_residual-in_err-taken.result c.in_err-taken.field-0.0 c.from_residual-in_err-taken.ensures
+    handed_on (KeepsNoFreeBelowHint g.S.Storage.view c.raise.new.self c.raise.new.file) c.from_residual-in_err-taken.result c.in_err-taken.field-0.0 c.from_residual-in_err-taken.ensures
     (hint_refused g.S.Storage.view q c.reach_block.new.file c.raise.new.file c.reach_block.new.self c.raise.new.self c.in_err-taken.field-0.0 (ap (λ (t : Allocator). t.first_free_cluster) c.raise.ensures.same)
     (c.in_err-taken.ensures.sound q d now (may_still d c.args.file.now c.reach_block.new.file c.reach_block.ensures.order may)) (c.in_ok-reach_block.ensures.hint p sound hint))
 
 pub returns-clause-used : goal.returns-clause-used
 returns-clause-used g c = λ p d sound may.
-    let q : Pending = following p c.args.file.now.free_list c.reach_block.new.file.free_list in
+    let q : Pending = pending_then p c.args.file.now.free_list c.reach_block.new.file.free_list in
     let now = is_sound_on g.S.Storage.view p q c.args.file.now c.reach_block.new.file c.reach_block.new.self (c.in_ok-reach_block.ensures.sound p sound) in
     c.in_ok-taken.ensures.used q now (range_as c.reach_block.new.self.reftable c.args.cluster (counts_per_block c.args.file.now.header.fields) (counts_per_block c.reach_block.new.file.header.fields)
     (header_counts c.args.file.now.header c.reach_block.new.file.header c.reach_block.ensures.header) (c.in_ok-reach_block.ensures.has p sound))
 
 pub returns-clause-hint : goal.returns-clause-hint
 returns-clause-hint g c = λ p d sound may hint.
-    let q : Pending = following p c.args.file.now.free_list c.reach_block.new.file.free_list in
+    let q : Pending = pending_then p c.args.file.now.free_list c.reach_block.new.file.free_list in
     let now = is_sound_on g.S.Storage.view p q c.args.file.now c.reach_block.new.file c.reach_block.new.self (c.in_ok-reach_block.ensures.sound p sound) in
     let two = c.in_ok-taken.ensures.sound q d now (may_still d c.args.file.now c.reach_block.new.file c.reach_block.ensures.order may) in
     let same = ap (λ (t : Allocator). t.first_free_cluster) c.raise.ensures.same in
@@ -70,9 +70,9 @@ returns-clause-hint g c = λ p d sound may hint.
     let used = raised_used g.S.Storage.view q d c.args.cluster c.reach_block.new.file c.raise.new.file c.raise.new.self c.in_ok-taken.taken two (returns-clause-used g c p d sound may) in
     elim c.if-cluster-self.branch [
       | then-cluster-self w ↦
-          subst (λ t. HasHint g.S.Storage.view t c.raise.new.file) (sym w.self-is)
+          subst (λ t. NoFreeBelowHint g.S.Storage.view t c.raise.new.file) (sym w.self-is)
           (hint_more g.S.Storage.view c.raise.new.file c.raise.new.self (record c.raise.new.self { first_free_cluster = c.args.cluster + 1 }) c.args.cluster raised (sym w.if-cluster-self.true) refl used)
-      | else-cluster-self w ↦ subst (λ t. HasHint g.S.Storage.view t c.raise.new.file) (sym w.self-is) raised
+      | else-cluster-self w ↦ subst (λ t. NoFreeBelowHint g.S.Storage.view t c.raise.new.file) (sym w.self-is) raised
     ]
 
 pub returns-in_err-reach_block-clause-uses : goal.returns-in_err-reach_block-clause-uses
@@ -81,7 +81,7 @@ returns-in_err-reach_block-clause-uses g c = λ p d sound may.
 
 pub returns-in_err-taken-clause-uses : goal.returns-in_err-taken-clause-uses
 returns-in_err-taken-clause-uses g c = λ p d sound may.
-    let q : Pending = following p c.args.file.now.free_list c.reach_block.new.file.free_list in
+    let q : Pending = pending_then p c.args.file.now.free_list c.reach_block.new.file.free_list in
     let now = is_sound_on g.S.Storage.view p q c.args.file.now c.reach_block.new.file c.reach_block.new.self (c.in_ok-reach_block.ensures.sound p sound) in
     handed_on (KeepsUsed g.S.Storage.view c.args.file.now c.raise.new.file) c.from_residual-in_err-taken.result c.in_err-taken.field-0.0 c.from_residual-in_err-taken.ensures
     (λ other k used. uses_refused g.S.Storage.view q c.reach_block.new.file c.raise.new.file c.raise.new.self c.in_err-taken.field-0.0
@@ -89,14 +89,14 @@ returns-in_err-taken-clause-uses g c = λ p d sound may.
 
 pub returns-clause-uses : goal.returns-clause-uses
 returns-clause-uses g c = λ p d sound may k used.
-    let q : Pending = following p c.args.file.now.free_list c.reach_block.new.file.free_list in
+    let q : Pending = pending_then p c.args.file.now.free_list c.reach_block.new.file.free_list in
     let now = is_sound_on g.S.Storage.view p q c.args.file.now c.reach_block.new.file c.reach_block.new.self (c.in_ok-reach_block.ensures.sound p sound) in
     uses_raised g.S.Storage.view q d c.args.cluster c.reach_block.new.file c.raise.new.file c.raise.new.self c.in_ok-taken.taken
     (c.in_ok-taken.ensures.sound q d now (may_still d c.args.file.now c.reach_block.new.file c.reach_block.ensures.order may)) k (c.in_ok-reach_block.ensures.uses p sound k used)
 
 pub returns-clause-free : goal.returns-clause-free
 returns-clause-free g c = λ p sound taken used.
-    let q : Pending = following p c.args.file.now.free_list c.reach_block.new.file.free_list in
+    let q : Pending = pending_then p c.args.file.now.free_list c.reach_block.new.file.free_list in
     c.in_ok-taken.ensures.free q (is_sound_on g.S.Storage.view p q c.args.file.now c.reach_block.new.file c.reach_block.new.self (c.in_ok-reach_block.ensures.sound p sound)) taken (c.in_ok-reach_block.ensures.uses p sound c.args.cluster used)
 
 pub returns-in_err-reach_block-clause-limit : goal.returns-in_err-reach_block-clause-limit
@@ -105,6 +105,6 @@ returns-in_err-reach_block-clause-limit g c = λ p d sound may hint near.
 
 pub returns-in_err-taken-clause-limit : goal.returns-in_err-taken-clause-limit
 returns-in_err-taken-clause-limit g c = λ p d sound may hint near.
-    let q : Pending = following p c.args.file.now.free_list c.reach_block.new.file.free_list in
+    let q : Pending = pending_then p c.args.file.now.free_list c.reach_block.new.file.free_list in
     handed_on (λ (r : Result Bool ImageError). IfErr r (IsFaultOr (CantCount g.S.Storage.view c.raise.new.file (λ k. 0) c.raise.new.self c.args.cluster))) c.from_residual-in_err-taken.result c.in_err-taken.field-0.0 c.from_residual-in_err-taken.ensures
     (inl (c.in_err-taken.ensures.fault q (is_sound_on g.S.Storage.view p q c.args.file.now c.reach_block.new.file c.reach_block.new.self (c.in_ok-reach_block.ensures.sound p sound))))

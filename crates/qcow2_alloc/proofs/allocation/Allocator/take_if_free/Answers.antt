@@ -3,8 +3,8 @@ use Rattle.std.proofs.lemmas.Bool.{eq-eqb}
 use Rattle.qcow2_metadata.specs.Entries.{block_offset}
 use Rattle.qcow2_metadata.specs.Header.{counts_per_block}
 use Rattle.qcow2_metadata.specs.TableBytes.{entry_at}
-use Rattle.qcow2_laws.specs.Guard.{Pending}
-use Rattle.qcow2_alloc.specs.Allocation.{Becomes}
+use Rattle.qcow2_laws.specs.CrashInvariant.{Pending}
+use Rattle.qcow2_alloc.specs.Allocation.{UnseenAllocatorStep}
 use Rattle.qcow2_alloc.specs.Rooms.{lacks}
 use Rattle.qcow2_alloc.proofs.AllocationSteps.{becomes_none, still_sound}
 use Rattle.qcow2_alloc.proofs.Rooms.{one_none, free_taken}
@@ -14,7 +14,7 @@ pub returns-then-lacks_block-clause-sound : goal.returns-then-lacks_block-clause
 returns-then-lacks_block-clause-sound g c = λ p sound.
     let t = c.args.self.now.reftable in
     let none = ap (λ n. lacks t (c.args.cluster / n)) c.requires.counts ∙ sym c.lacks_block.ensures ∙ c.if-lacks_block.true in
-    subst (λ (r : Pending). Becomes g.S.Storage.view p c.args.file.now c.args.self.now c.args.file.now r) (sym (one_none c.args.file.now.header.fields t p c.args.cluster none))
+    subst (λ (r : Pending). UnseenAllocatorStep g.S.Storage.view p c.args.file.now c.args.self.now c.args.file.now r) (sym (one_none c.args.file.now.header.fields t p c.args.cluster none))
     (becomes_none g.S.Storage.view p c.args.file.now c.args.self.now sound)
 
 pub returns-in-Ok-clause-sound : goal.returns-in-Ok-clause-sound

@@ -4,7 +4,7 @@ use Rattle.qcow2_laws.specs.Changes.{one_at}
 use Rattle.qcow2_alloc.specs.Allocation.{taken_as, KeepsEntries, TakesLowest}
 use Rattle.qcow2_alloc.specs.declared.allocation.Allocator.{Allocator}
 use Rattle.qcow2_alloc.proofs.CacheMarks.{marks_then}
-use Rattle.qcow2_alloc.specs.LowestRuns.{KeepsHint}
+use Rattle.qcow2_alloc.specs.LowestRuns.{KeepsNoFreeBelowHint}
 use Rattle.qcow2_alloc.proofs.FileSteps.{one_here, leaves_then}
 use Rattle.qcow2_alloc.proofs.Hints.{hint_stays, hint_taken, hint_more, hint_refused, range_as, taken_used}
 use Rattle.qcow2_alloc.proofs.AllocationSteps.{handed_on, entries_then, entries_less, other_range, becomes_as, becomes_then, is_sound_now}
@@ -63,7 +63,7 @@ search-preserved g c = record {
 pub returns-in_err-cover_range-clause-hint : goal.returns-in_err-cover_range-clause-hint
 returns-in_err-cover_range-clause-hint g c = λ p sound hint.
     let now = is_sound_now g.S.Storage.view p p c.args.file.now c.search.file c.search.self (c.search.invariant.sound p sound) in
-    handed_on (KeepsHint g.S.Storage.view c.cover_range.new.self c.cover_range.new.file) c.from_residual.result c.in_err-cover_range.field-0.0 c.from_residual.ensures
+    handed_on (KeepsNoFreeBelowHint g.S.Storage.view c.cover_range.new.self c.cover_range.new.file) c.from_residual.result c.in_err-cover_range.field-0.0 c.from_residual.ensures
     (hint_refused g.S.Storage.view p c.search.file c.cover_range.new.file c.search.self c.cover_range.new.self c.in_err-cover_range.field-0.0 c.cover_range.ensures.first (c.in_err-cover_range.ensures.sound p now) (c.search.invariant.hint p sound hint))
 
 pub returns-in_err-taken-clause-hint : goal.returns-in_err-taken-clause-hint
@@ -71,7 +71,7 @@ returns-in_err-taken-clause-hint g c = λ p sound hint.
     let now = is_sound_now g.S.Storage.view p p c.args.file.now c.search.file c.search.self (c.search.invariant.sound p sound) in
     let covered = c.in_ok-cover_range.ensures.sound p now in
     let one = hint_stays g.S.Storage.view p c.search.file c.cover_range.new.file c.search.self c.cover_range.new.self covered c.cover_range.ensures.first (c.search.invariant.hint p sound hint) in
-    handed_on (KeepsHint g.S.Storage.view c.raise.new.self c.raise.new.file) c.from_residual-in_err-taken.result c.in_err-taken.field-0.0 c.from_residual-in_err-taken.ensures
+    handed_on (KeepsNoFreeBelowHint g.S.Storage.view c.raise.new.self c.raise.new.file) c.from_residual-in_err-taken.result c.in_err-taken.field-0.0 c.from_residual-in_err-taken.ensures
     (hint_refused g.S.Storage.view p c.cover_range.new.file c.raise.new.file c.cover_range.new.self c.raise.new.self c.in_err-taken.field-0.0 (ap (λ (t : Allocator). t.first_free_cluster) c.raise.ensures.same)
     (c.in_err-taken.ensures.sound p false (is_sound_now g.S.Storage.view p p c.search.file c.cover_range.new.file c.cover_range.new.self covered) tt) one)
 

@@ -2,8 +2,8 @@ use Rattle.std.proofs.Common.{◌≡◌, ℕ, Result, inl, inr, ◌+◌, refl, s
 use Rattle.std.specs.Prelude.{IfErr}
 use Rattle.qcow2_metadata.specs.EntryTable.{EntryTableView}
 use Rattle.qcow2_metadata.specs.Header.{HeaderView, counts_per_block}
-use Rattle.qcow2_laws.specs.Guard.{Pending}
-use Rattle.qcow2_alloc.specs.Allocation.{Becomes}
+use Rattle.qcow2_laws.specs.CrashInvariant.{Pending}
+use Rattle.qcow2_alloc.specs.Allocation.{UnseenAllocatorStep}
 use Rattle.qcow2_alloc.specs.GrownTables.{with_run}
 use Rattle.qcow2_alloc.specs.declared.error.ImageError.{ImageError}
 use Rattle.qcow2_alloc.specs.declared.free_room.Room.{Room}
@@ -52,7 +52,7 @@ returns-then-reach-clusters-clause-sound g c = λ p sound.
     let t = c.args.self.now.reftable in
     let same = run_of_same p c.search.file.header.fields h c.search.self.reftable t c.search.first c.in_ok-reach.reach.taken (c.in_ok-reach.reach.blocks + c.args.clusters) (ap (λ x. x.fields) c.search.invariant.header) c.search.invariant.reftable c.if-reach-clusters.true in
     becomes_then view p (with_run p h t c.search.first (c.in_ok-reach.reach.blocks + c.args.clusters)) c.args.file.now c.search.file c.reach_room.new.file c.search.self c.reach_room.new.self before
-    (subst (λ (r : Pending). Becomes view p c.search.file c.reach_room.new.self c.reach_room.new.file r) same reached)
+    (subst (λ (r : Pending). UnseenAllocatorStep view p c.search.file c.reach_room.new.self c.reach_room.new.file r) same reached)
 
 pub returns-in_err-leave_run-clause-sound : goal.returns-in_err-leave_run-clause-sound
 returns-in_err-leave_run-clause-sound g c = λ p sound.
@@ -62,7 +62,7 @@ returns-in_err-leave_run-clause-sound g c = λ p sound.
     let t_same : c.search.self.reftable ≡ c.reach_room.new.self.reftable = ap (λ a. a.reftable) (sym c.reach_room.ensures.same) in
     let same = run_of_same p c.search.file.header.fields c.search.file.header.fields c.search.self.reftable c.reach_room.new.self.reftable c.search.first c.in_ok-reach.reach.taken c.in_ok-reach.reach.taken refl t_same refl in
     let noted = noted_of_same c.search.file.header.fields c.search.self.reftable c.reach_room.new.self.reftable c.search.first c.in_ok-reach.reach.taken c.reach_room.new.file.caches.is_changed t_same c.in_ok-reach.ensures.noted in
-    let back = c.in_err-leave_run.ensures.sound p c.search.file (sym c.reach_room.ensures.header) (subst (λ (r : Pending). Becomes view p c.search.file c.reach_room.new.self c.reach_room.new.file r) same reached) noted in
+    let back = c.in_err-leave_run.ensures.sound p c.search.file (sym c.reach_room.ensures.header) (subst (λ (r : Pending). UnseenAllocatorStep view p c.search.file c.reach_room.new.self c.reach_room.new.file r) same reached) noted in
     handed_on (TakesRoom view p c.args.file.now c.leave_run.new.self c.leave_run.new.file c.args.self.now.reftable) c.from_residual-in_err-leave_run.result c.in_err-leave_run.field-0.0 c.from_residual-in_err-leave_run.ensures
     (leaves_then view p c.args.file.now c.search.file c.leave_run.new.file c.leave_run.new.self c.in_err-leave_run.field-0.0 before.moves back.1)
 
@@ -83,7 +83,7 @@ search-preserved g c = record {
       let t_same : c.search.self.reftable ≡ c.reach_room.new.self.reftable = ap (λ a. a.reftable) (sym c.reach_room.ensures.same) in
       let same = run_of_same p c.search.file.header.fields c.search.file.header.fields c.search.self.reftable c.reach_room.new.self.reftable c.search.first c.in_ok-reach.reach.taken c.in_ok-reach.reach.taken refl t_same refl in
       let noted = noted_of_same c.search.file.header.fields c.search.self.reftable c.reach_room.new.self.reftable c.search.first c.in_ok-reach.reach.taken c.reach_room.new.file.caches.is_changed t_same c.in_ok-reach.ensures.noted in
-      let back = c.in_ok-leave_run.ensures.sound p c.search.file (sym c.reach_room.ensures.header) (subst (λ (r : Pending). Becomes view p c.search.file c.reach_room.new.self c.reach_room.new.file r) same reached) noted in
+      let back = c.in_ok-leave_run.ensures.sound p c.search.file (sym c.reach_room.ensures.header) (subst (λ (r : Pending). UnseenAllocatorStep view p c.search.file c.reach_room.new.self c.reach_room.new.file r) same reached) noted in
       becomes_then view p p c.args.file.now c.search.file c.leave_run.new.file c.search.self c.leave_run.new.self before back;
   full = λ p sound hint.
       let view = g.S.Storage.view in
@@ -97,7 +97,7 @@ search-preserved g c = record {
       let t_same : c.search.self.reftable ≡ c.reach_room.new.self.reftable = ap (λ a. a.reftable) (sym c.reach_room.ensures.same) in
       let same = run_of_same p c.search.file.header.fields c.search.file.header.fields c.search.self.reftable c.reach_room.new.self.reftable first taken taken refl t_same refl in
       let noted = noted_of_same c.search.file.header.fields c.search.self.reftable c.reach_room.new.self.reftable first taken c.reach_room.new.file.caches.is_changed t_same c.in_ok-reach.ensures.noted in
-      let run = subst (λ (r : Pending). Becomes view p c.search.file c.reach_room.new.self c.reach_room.new.file r) same reached in
+      let run = subst (λ (r : Pending). UnseenAllocatorStep view p c.search.file c.reach_room.new.self c.reach_room.new.file r) same reached in
       let back = c.in_ok-leave_run.ensures.sound p c.search.file (sym c.reach_room.ensures.header) run noted in
       let opened_same = λ (n : ℕ). ap (λ (h : HeaderView). opened c.search.self.reftable (counts_per_block h.fields) first n) c.search.invariant.header ∙ ap (λ (x : EntryTableView). opened x per first n) c.search.invariant.reftable in
       full_behind view c.leave_run.new.file t per c.args.clusters c.args.end first taken
@@ -126,7 +126,7 @@ returns-in_err-leave_run-clause-room g c = λ p sound hint.
     let t_same : c.search.self.reftable ≡ c.reach_room.new.self.reftable = ap (λ a. a.reftable) (sym c.reach_room.ensures.same) in
     let same = run_of_same p c.search.file.header.fields c.search.file.header.fields c.search.self.reftable c.reach_room.new.self.reftable c.search.first c.in_ok-reach.reach.taken c.in_ok-reach.reach.taken refl t_same refl in
     let noted = noted_of_same c.search.file.header.fields c.search.self.reftable c.reach_room.new.self.reftable c.search.first c.in_ok-reach.reach.taken c.reach_room.new.file.caches.is_changed t_same c.in_ok-reach.ensures.noted in
-    let back = c.in_err-leave_run.ensures.sound p c.search.file (sym c.reach_room.ensures.header) (subst (λ (r : Pending). Becomes view p c.search.file c.reach_room.new.self c.reach_room.new.file r) same reached) noted in
+    let back = c.in_err-leave_run.ensures.sound p c.search.file (sym c.reach_room.ensures.header) (subst (λ (r : Pending). UnseenAllocatorStep view p c.search.file c.reach_room.new.self c.reach_room.new.file r) same reached) noted in
     handed_on (λ (r : Result Room ImageError). IfErr r (IsFaultOr (HasNoRoom view c.leave_run.new.file (λ k. 0) c.args.self.now.reftable c.args.clusters c.args.end))) c.from_residual-in_err-leave_run.result c.in_err-leave_run.field-0.0 c.from_residual-in_err-leave_run.ensures
     (inl back.0)
 

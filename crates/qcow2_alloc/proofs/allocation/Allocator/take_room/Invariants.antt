@@ -1,10 +1,10 @@
 use Rattle.std.proofs.Common.{◌≡◌, ◌-◌, ◌<◌, ◌≤◌}
 use Rattle.qcow2_metadata.specs.Header.{counts_per_block}
-use Rattle.qcow2_laws.specs.Guard.{Pending}
-use Rattle.qcow2_alloc.specs.Allocation.{Becomes}
+use Rattle.qcow2_laws.specs.CrashInvariant.{Pending}
+use Rattle.qcow2_alloc.specs.Allocation.{UnseenAllocatorStep}
 use Rattle.qcow2_alloc.specs.CacheMarks.{KeepsMarks}
-use Rattle.qcow2_alloc.specs.ImageFile.{IsSoundWith}
-use Rattle.qcow2_alloc.specs.LowestRuns.{HasHint}
+use Rattle.qcow2_alloc.specs.ImageFile.{AllocatorInvariant}
+use Rattle.qcow2_alloc.specs.LowestRuns.{NoFreeBelowHint}
 use Rattle.qcow2_alloc.specs.MetadataCaches.{order_of}
 use Rattle.qcow2_alloc.proofs.FullRooms.{IsFullBelow}
 use Rattle.qcow2_alloc.proofs.allocation.Allocator.take_room.Given as goal
@@ -20,8 +20,8 @@ invariant-search g l = record {
   first_free : l.self.first_free_cluster ≡ l.fn.self.first_free_cluster;
   low : l.fn.self.first_free_cluster ≤ l.first;
   some : 0 < l.first;
-  sound : (p : Pending) → IsSoundWith g.S.Storage.view l.fn.self p l.fn.file → Becomes g.S.Storage.view p l.fn.file l.self l.file p;
-  full : (p : Pending) → IsSoundWith g.S.Storage.view l.fn.self p l.fn.file → HasHint g.S.Storage.view l.fn.self l.fn.file
+  sound : (p : Pending) → AllocatorInvariant g.S.Storage.view l.fn.self p l.fn.file → UnseenAllocatorStep g.S.Storage.view p l.fn.file l.self l.file p;
+  full : (p : Pending) → AllocatorInvariant g.S.Storage.view l.fn.self p l.fn.file → NoFreeBelowHint g.S.Storage.view l.fn.self l.fn.file
       → IsFullBelow g.S.Storage.view l.file l.fn.self.reftable (counts_per_block l.fn.file.header.fields) l.fn.clusters l.fn.end l.first;
 }
 

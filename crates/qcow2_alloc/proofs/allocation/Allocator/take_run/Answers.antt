@@ -1,17 +1,17 @@
 use Rattle.std.proofs.Common.{◌≡◌, inl, inr, ℕ, ◌+◌, ◌<◌, Bool, IsTrue, refl, sym, ap, ◌∙◌, subst, arith, Result}
 use Rattle.std.proofs.lemmas.Bool.{cases_eq, cases_lt}
 use Rattle.image_access.specs.Moments.{StorageView}
-use Rattle.qcow2_laws.specs.Guard.{Pending}
+use Rattle.qcow2_laws.specs.CrashInvariant.{Pending}
 use Rattle.qcow2_alloc.specs.declared.allocation.Allocator.{Allocator}
 use Rattle.qcow2_alloc.specs.declared.error.ImageError.{ImageError}
 use Rattle.qcow2_alloc.specs.declared.image_file.ImageFile.{ImageFile}
-use Rattle.qcow2_alloc.specs.Allocation.{run_at, taken_as, BecomesOn, LeavesAs, TakesRun}
-use Rattle.qcow2_alloc.specs.FreeList.{following, ListsTables}
+use Rattle.qcow2_alloc.specs.Allocation.{run_at, taken_as, UnseenAllocatorGrowth, RefusedGrowth, TakesRun}
+use Rattle.qcow2_alloc.specs.FreeList.{pending_then, ListsTables}
 use Rattle.qcow2_alloc.specs.ImageFile.{IsFault}
 use Rattle.qcow2_alloc.proofs.CacheMarks.{marks_none, marks_then}
 use Rattle.qcow2_alloc.proofs.AllocationSteps.{handed_on, of_equal, may_still, on_none, is_sound_on, still_as}
 use Rattle.qcow2_alloc.proofs.Following.{header_same, header_then, lists_none, lists_then, following_same, still_taken, more_taken, ends_taken, then_leaves, header_bits}
-use Rattle.qcow2_alloc.specs.LowestRuns.{HasHint, IsUsed, KeepsHint, KeepsUsed}
+use Rattle.qcow2_alloc.specs.LowestRuns.{NoFreeBelowHint, IsUsed, KeepsNoFreeBelowHint, KeepsUsed}
 use Rattle.qcow2_alloc.proofs.Runs.{none_there, run_after, run_last, run_none, taken_none}
 use Rattle.qcow2_alloc.proofs.allocation.Allocator.take_run.Goals.{then-not-ends_call+in_ok-give_back-in-Err, else-not-ends_call}
 use Rattle.std.specs.Prelude.{IfErr}
@@ -26,14 +26,14 @@ no_more n none = elim (cases_lt 0 n) [ inl some ↦ absurd (none some) | inr zer
 
 -- a fault breaks off, or comes before anything was taken
 ends_run : {S : Type 0} (view : S → StorageView) (d : Bool) (p : Pending) (from n : ℕ) (a b c : ImageFile S) (t t' : Allocator) (e : ImageError) (first : ListsTables a.free_list b.free_list) (then : ListsTables b.free_list c.free_list)
-    → BecomesOn view p a t b (taken_as d (following p a.free_list b.free_list) (run_at from n)) → (0 < n → IsTrue c.caches.is_changed) → IsFault e
-    → LeavesAs view (taken_as d (following p a.free_list b.free_list) (run_at from n)) b t' c (following (taken_as d (following p a.free_list b.free_list) (run_at from n)) b.free_list c.free_list) e
-    → LeavesAs view p a t' c (following p a.free_list c.free_list) e
+    → UnseenAllocatorGrowth view p a t b (taken_as d (pending_then p a.free_list b.free_list) (run_at from n)) → (0 < n → IsTrue c.caches.is_changed) → IsFault e
+    → RefusedGrowth view (taken_as d (pending_then p a.free_list b.free_list) (run_at from n)) b t' c (pending_then (taken_as d (pending_then p a.free_list b.free_list) (run_at from n)) b.free_list c.free_list) e
+    → RefusedGrowth view p a t' c (pending_then p a.free_list c.free_list) e
 ends_run view d p from n a b c t t' e first then before noted fault leaves = elim (cases_lt 0 n) [
   | inl some ↦ inr (ends_taken view d p (run_at from n) a b c t t' first then e before fault (noted some) _ leaves)
   | inr none ↦
-      let same = taken_none d (following p a.free_list b.free_list) from n (omega arith) in
-      then_leaves view p a b c t t' first then (subst (λ (r : Pending). BecomesOn view p a t b r) same before) e (subst (λ (r : Pending). LeavesAs view r b t' c (following r b.free_list c.free_list) e) same leaves)
+      let same = taken_none d (pending_then p a.free_list b.free_list) from n (omega arith) in
+      then_leaves view p a b c t t' first then (subst (λ (r : Pending). UnseenAllocatorGrowth view p a t b r) same before) e (subst (λ (r : Pending). RefusedGrowth view r b t' c (pending_then r b.free_list c.free_list) e) same leaves)
 ]
 
 pub taking-init : goal.taking-init
@@ -47,69 +47,69 @@ taking-init g c = record {
   uses = λ p d sound may k used. used;
   free = λ p d sound may k some used. let none = run_none c.args.first k in omega (arith, none, some);
   sound = λ p d sound may.
-      subst (λ (r : Pending). BecomesOn g.S.Storage.view p c.args.file.now c.args.self.now c.args.file.now r)
-      (sym (taken_none d (following p c.args.file.now.free_list c.args.file.now.free_list) c.args.first 0 refl ∙ following_same p c.args.file.now.free_list c.args.file.now.free_list refl)) (on_none g.S.Storage.view p c.args.file.now c.args.self.now sound);
+      subst (λ (r : Pending). UnseenAllocatorGrowth g.S.Storage.view p c.args.file.now c.args.self.now c.args.file.now r)
+      (sym (taken_none d (pending_then p c.args.file.now.free_list c.args.file.now.free_list) c.args.first 0 refl ∙ following_same p c.args.file.now.free_list c.args.file.now.free_list refl)) (on_none g.S.Storage.view p c.args.file.now c.args.self.now sound);
 }
 
 pub returns-in_err-give_back-in-Ok-false-clause-sound : goal.returns-in_err-give_back-in-Ok-false-clause-sound
 returns-in_err-give_back-in-Ok-false-clause-sound g c = λ p d sound may.
     let before = c.taking.invariant.sound p d sound may in
-    let q : Pending = taken_as d (following p c.args.file.now.free_list c.taking.file.free_list) (run_at c.args.first c.taking.taken) in
+    let q : Pending = taken_as d (pending_then p c.args.file.now.free_list c.taking.file.free_list) (run_at c.args.first c.taking.taken) in
     let now = is_sound_on g.S.Storage.view p q c.args.file.now c.taking.file c.taking.self before in
     let may_now = may_still d c.args.file.now c.taking.file c.taking.invariant.order may in
     let two = rw c.in-Ok-false.field-0-test at (c.in-Ok-false.ensures.sound q d now may_now) in
     let taken = still_taken g.S.Storage.view d p (run_at c.args.first c.taking.taken) c.args.file.now c.taking.file c.take.new.file c.taking.self c.take.new.self c.taking.invariant.list c.take.ensures.list before two in
-    handed_on (TakesRun g.S.Storage.view p c.args.file.now c.give_back.new.self c.give_back.new.file (following p c.args.file.now.free_list c.give_back.new.file.free_list) d c.args.first c.args.n)
+    handed_on (TakesRun g.S.Storage.view p c.args.file.now c.give_back.new.self c.give_back.new.file (pending_then p c.args.file.now.free_list c.give_back.new.file.free_list) d c.args.first c.args.n)
     c.from_residual.result c.in_err-give_back-in-Ok-false.field-0.0 c.from_residual.ensures
-    (subst (λ (r : Pending). LeavesAs g.S.Storage.view p c.args.file.now c.give_back.new.self c.give_back.new.file r c.in_err-give_back-in-Ok-false.field-0.0) (ap (following p c.args.file.now.free_list) (sym c.give_back.ensures.list))
-    (c.in_err-give_back-in-Ok-false.ensures.sound p (following p c.args.file.now.free_list c.take.new.file.free_list) d c.args.file.now (λ k some. some) taken (λ some. c.take.ensures.marks.changed (c.taking.invariant.noted some))).1)
+    (subst (λ (r : Pending). RefusedGrowth g.S.Storage.view p c.args.file.now c.give_back.new.self c.give_back.new.file r c.in_err-give_back-in-Ok-false.field-0.0) (ap (pending_then p c.args.file.now.free_list) (sym c.give_back.ensures.list))
+    (c.in_err-give_back-in-Ok-false.ensures.sound p (pending_then p c.args.file.now.free_list c.take.new.file.free_list) d c.args.file.now (λ k some. some) taken (λ some. c.take.ensures.marks.changed (c.taking.invariant.noted some))).1)
 
 pub returns-in-Ok-false-clause-sound : goal.returns-in-Ok-false-clause-sound
 returns-in-Ok-false-clause-sound g c = λ p d sound may.
     let before = c.taking.invariant.sound p d sound may in
-    let q : Pending = taken_as d (following p c.args.file.now.free_list c.taking.file.free_list) (run_at c.args.first c.taking.taken) in
+    let q : Pending = taken_as d (pending_then p c.args.file.now.free_list c.taking.file.free_list) (run_at c.args.first c.taking.taken) in
     let now = is_sound_on g.S.Storage.view p q c.args.file.now c.taking.file c.taking.self before in
     let may_now = may_still d c.args.file.now c.taking.file c.taking.invariant.order may in
     let two = rw c.in-Ok-false.field-0-test at (c.in-Ok-false.ensures.sound q d now may_now) in
     let taken = still_taken g.S.Storage.view d p (run_at c.args.first c.taking.taken) c.args.file.now c.taking.file c.take.new.file c.taking.self c.take.new.self c.taking.invariant.list c.take.ensures.list before two in (
       (λ all. absurd (let lt = c.taking-test.true in omega arith)),
-      (λ _. subst (λ (r : Pending). BecomesOn g.S.Storage.view p c.args.file.now c.give_back.new.self c.give_back.new.file r) (ap (following p c.args.file.now.free_list) (sym c.give_back.ensures.list))
-          (c.in_ok-give_back-in-Ok-false.ensures.sound p (following p c.args.file.now.free_list c.take.new.file.free_list) d c.args.file.now (λ k some. some) taken (λ some. c.take.ensures.marks.changed (c.taking.invariant.noted some)))),
+      (λ _. subst (λ (r : Pending). UnseenAllocatorGrowth g.S.Storage.view p c.args.file.now c.give_back.new.self c.give_back.new.file r) (ap (pending_then p c.args.file.now.free_list) (sym c.give_back.ensures.list))
+          (c.in_ok-give_back-in-Ok-false.ensures.sound p (pending_then p c.args.file.now.free_list c.take.new.file.free_list) d c.args.file.now (λ k some. some) taken (λ some. c.take.ensures.marks.changed (c.taking.invariant.noted some)))),
     )
 
 pub returns-in_err-give_back-in-Err-clause-sound : goal.returns-in_err-give_back-in-Err-clause-sound
 returns-in_err-give_back-in-Err-clause-sound g c = λ p d sound may.
     let before = c.taking.invariant.sound p d sound may in
-    let q : Pending = taken_as d (following p c.args.file.now.free_list c.taking.file.free_list) (run_at c.args.first c.taking.taken) in
+    let q : Pending = taken_as d (pending_then p c.args.file.now.free_list c.taking.file.free_list) (run_at c.args.first c.taking.taken) in
     let now = is_sound_on g.S.Storage.view p q c.args.file.now c.taking.file c.taking.self before in
     let may_now = may_still d c.args.file.now c.taking.file c.taking.invariant.order may in
-    let two = still_as g.S.Storage.view q (following q c.taking.file.free_list c.take.new.file.free_list) c.taking.file c.take.new.file c.take.new.self c.in-Err.refusal (λ fault. absurd (let yes_so = c.ends_call.ensures.ends fault in let none = c.if-not-ends_call.true in cc)) (c.in-Err.ensures.sound q d now may_now) in
+    let two = still_as g.S.Storage.view q (pending_then q c.taking.file.free_list c.take.new.file.free_list) c.taking.file c.take.new.file c.take.new.self c.in-Err.refusal (λ fault. absurd (let yes_so = c.ends_call.ensures.ends fault in let none = c.if-not-ends_call.true in cc)) (c.in-Err.ensures.sound q d now may_now) in
     let taken = still_taken g.S.Storage.view d p (run_at c.args.first c.taking.taken) c.args.file.now c.taking.file c.take.new.file c.taking.self c.take.new.self c.taking.invariant.list c.take.ensures.list before two in
-    handed_on (TakesRun g.S.Storage.view p c.args.file.now c.give_back-then-not-ends_call.new.self c.give_back-then-not-ends_call.new.file (following p c.args.file.now.free_list c.give_back-then-not-ends_call.new.file.free_list) d c.args.first c.args.n)
+    handed_on (TakesRun g.S.Storage.view p c.args.file.now c.give_back-then-not-ends_call.new.self c.give_back-then-not-ends_call.new.file (pending_then p c.args.file.now.free_list c.give_back-then-not-ends_call.new.file.free_list) d c.args.first c.args.n)
     c.from_residual-in_err-give_back-in-Err.result c.in_err-give_back-in-Err.field-0.0 c.from_residual-in_err-give_back-in-Err.ensures
-    (subst (λ (r : Pending). LeavesAs g.S.Storage.view p c.args.file.now c.give_back-then-not-ends_call.new.self c.give_back-then-not-ends_call.new.file r c.in_err-give_back-in-Err.field-0.0)
-    (ap (following p c.args.file.now.free_list) (sym c.give_back-then-not-ends_call.ensures.list))
-    (c.in_err-give_back-in-Err.ensures.sound p (following p c.args.file.now.free_list c.take.new.file.free_list) d c.args.file.now (λ k some. some) taken (λ some. c.take.ensures.marks.changed (c.taking.invariant.noted some))).1)
+    (subst (λ (r : Pending). RefusedGrowth g.S.Storage.view p c.args.file.now c.give_back-then-not-ends_call.new.self c.give_back-then-not-ends_call.new.file r c.in_err-give_back-in-Err.field-0.0)
+    (ap (pending_then p c.args.file.now.free_list) (sym c.give_back-then-not-ends_call.ensures.list))
+    (c.in_err-give_back-in-Err.ensures.sound p (pending_then p c.args.file.now.free_list c.take.new.file.free_list) d c.args.file.now (λ k some. some) taken (λ some. c.take.ensures.marks.changed (c.taking.invariant.noted some))).1)
 
 pub returns-in-Err-clause-sound : goal.returns-in-Err-clause-sound
 returns-in-Err-clause-sound g c = λ p d sound may.
     let before = c.taking.invariant.sound p d sound may in
-    let q : Pending = taken_as d (following p c.args.file.now.free_list c.taking.file.free_list) (run_at c.args.first c.taking.taken) in
+    let q : Pending = taken_as d (pending_then p c.args.file.now.free_list c.taking.file.free_list) (run_at c.args.first c.taking.taken) in
     let now = is_sound_on g.S.Storage.view p q c.args.file.now c.taking.file c.taking.self before in
     let may_now = may_still d c.args.file.now c.taking.file c.taking.invariant.order may in
     let leaves = c.in-Err.ensures.sound q d now may_now in
     let noted : 0 < c.taking.taken → IsTrue c.take.new.file.caches.is_changed = (λ some. c.take.ensures.marks.changed (c.taking.invariant.noted some)) in
     elim c.if-not-ends_call.branch [
       | then-not-ends_call+in_ok-give_back-in-Err w ↦
-          let two = still_as g.S.Storage.view q (following q c.taking.file.free_list c.take.new.file.free_list) c.taking.file c.take.new.file c.take.new.self c.in-Err.refusal
+          let two = still_as g.S.Storage.view q (pending_then q c.taking.file.free_list c.take.new.file.free_list) c.taking.file c.take.new.file c.take.new.self c.in-Err.refusal
           (λ fault. absurd (let yes_so = c.ends_call.ensures.ends fault in let none = w.if-not-ends_call.true in cc)) leaves in
           let taken = still_taken g.S.Storage.view d p (run_at c.args.first c.taking.taken) c.args.file.now c.taking.file c.take.new.file c.taking.self c.take.new.self c.taking.invariant.list c.take.ensures.list before two in
-          let back = w.in_ok-give_back-in-Err.ensures.sound p (following p c.args.file.now.free_list c.take.new.file.free_list) d c.args.file.now (λ k some. some) taken noted in
-          of_equal (λ t f. LeavesAs g.S.Storage.view p c.args.file.now t f (following p c.args.file.now.free_list f.free_list) c.in-Err.refusal) c.if-not-ends_call.self w.give_back-then-not-ends_call.new.self c.if-not-ends_call.file w.give_back-then-not-ends_call.new.file w.self-is w.file-is
-          (inl (subst (λ (r : Pending). BecomesOn g.S.Storage.view p c.args.file.now w.give_back-then-not-ends_call.new.self w.give_back-then-not-ends_call.new.file r)
-          (ap (following p c.args.file.now.free_list) (sym w.give_back-then-not-ends_call.ensures.list)) back))
+          let back = w.in_ok-give_back-in-Err.ensures.sound p (pending_then p c.args.file.now.free_list c.take.new.file.free_list) d c.args.file.now (λ k some. some) taken noted in
+          of_equal (λ t f. RefusedGrowth g.S.Storage.view p c.args.file.now t f (pending_then p c.args.file.now.free_list f.free_list) c.in-Err.refusal) c.if-not-ends_call.self w.give_back-then-not-ends_call.new.self c.if-not-ends_call.file w.give_back-then-not-ends_call.new.file w.self-is w.file-is
+          (inl (subst (λ (r : Pending). UnseenAllocatorGrowth g.S.Storage.view p c.args.file.now w.give_back-then-not-ends_call.new.self w.give_back-then-not-ends_call.new.file r)
+          (ap (pending_then p c.args.file.now.free_list) (sym w.give_back-then-not-ends_call.ensures.list)) back))
       | else-not-ends_call w ↦
-          of_equal (λ t f. LeavesAs g.S.Storage.view p c.args.file.now t f (following p c.args.file.now.free_list f.free_list) c.in-Err.refusal) c.if-not-ends_call.self c.take.new.self c.if-not-ends_call.file c.take.new.file w.self-is w.file-is
+          of_equal (λ t f. RefusedGrowth g.S.Storage.view p c.args.file.now t f (pending_then p c.args.file.now.free_list f.free_list) c.in-Err.refusal) c.if-not-ends_call.self c.take.new.self c.if-not-ends_call.file c.take.new.file w.self-is w.file-is
           (ends_run g.S.Storage.view d p c.args.first c.taking.taken c.args.file.now c.taking.file c.take.new.file c.taking.self c.take.new.self c.in-Err.refusal c.taking.invariant.list c.take.ensures.list before noted (c.ends_call.ensures.fault w.if-not-ends_call.false) leaves)
     ]
 
@@ -122,21 +122,21 @@ taking-preserved g c = record {
   noted = λ _. rw c.in-Ok-true.field-0-test at c.in-Ok-true.ensures.noted refl;
   sound = λ p d sound may.
       let before = c.taking.invariant.sound p d sound may in
-      let q : Pending = taken_as d (following p c.args.file.now.free_list c.taking.file.free_list) (run_at c.args.first c.taking.taken) in
+      let q : Pending = taken_as d (pending_then p c.args.file.now.free_list c.taking.file.free_list) (run_at c.args.first c.taking.taken) in
       let now = is_sound_on g.S.Storage.view p q c.args.file.now c.taking.file c.taking.self before in
       let may_now = may_still d c.args.file.now c.taking.file c.taking.invariant.order may in
       let two = rw c.in-Ok-true.field-0-test at (c.in-Ok-true.ensures.sound q d now may_now) in
       more_taken g.S.Storage.view d p (run_at c.args.first c.taking.taken) c.args.file.now c.taking.file c.take.new.file c.taking.self c.take.new.self c.taking.invariant.list c.take.ensures.list c.args.first c.taking.taken refl before two;
   hint = λ p d sound may hint.
-      let q : Pending = taken_as d (following p c.args.file.now.free_list c.taking.file.free_list) (run_at c.args.first c.taking.taken) in
+      let q : Pending = taken_as d (pending_then p c.args.file.now.free_list c.taking.file.free_list) (run_at c.args.first c.taking.taken) in
       (c.in-Ok-true.ensures.hint q d (is_sound_on g.S.Storage.view p q c.args.file.now c.taking.file c.taking.self (c.taking.invariant.sound p d sound may))
       (may_still d c.args.file.now c.taking.file c.taking.invariant.order may) (c.taking.invariant.hint p d sound may hint));
   uses = λ p d sound may k used.
-      let q : Pending = taken_as d (following p c.args.file.now.free_list c.taking.file.free_list) (run_at c.args.first c.taking.taken) in
+      let q : Pending = taken_as d (pending_then p c.args.file.now.free_list c.taking.file.free_list) (run_at c.args.first c.taking.taken) in
       c.in-Ok-true.ensures.uses q d (is_sound_on g.S.Storage.view p q c.args.file.now c.taking.file c.taking.self (c.taking.invariant.sound p d sound may))
       (may_still d c.args.file.now c.taking.file c.taking.invariant.order may) k (c.taking.invariant.uses p d sound may k used);
   free = λ p d sound may k some used.
-      let q : Pending = taken_as d (following p c.args.file.now.free_list c.taking.file.free_list) (run_at c.args.first c.taking.taken) in
+      let q : Pending = taken_as d (pending_then p c.args.file.now.free_list c.taking.file.free_list) (run_at c.args.first c.taking.taken) in
       let now = is_sound_on g.S.Storage.view p q c.args.file.now c.taking.file c.taking.self (c.taking.invariant.sound p d sound may) in
       elim (cases_eq k (c.args.first + c.taking.taken)) [
         | inl same ↦ c.in-Ok-true.ensures.free q now c.in-Ok-true.field-0-test (subst (λ n. IsUsed g.S.Storage.view c.taking.file n) same (c.taking.invariant.uses p d sound may k used))
@@ -147,7 +147,7 @@ taking-preserved g c = record {
 pub returns-clause-sound : goal.returns-clause-sound
 returns-clause-sound g c = λ p d sound may.
     let all : c.taking.taken ≡ c.args.n = let le = c.taking.auto.taken-end in let past = c.taking-test.false in omega arith in (
-      (λ _. subst (λ n. BecomesOn g.S.Storage.view p c.args.file.now c.taking.self c.taking.file (taken_as d (following p c.args.file.now.free_list c.taking.file.free_list) (run_at c.args.first n))) all (c.taking.invariant.sound p d sound may)),
+      (λ _. subst (λ n. UnseenAllocatorGrowth g.S.Storage.view p c.args.file.now c.taking.self c.taking.file (taken_as d (pending_then p c.args.file.now.free_list c.taking.file.free_list) (run_at c.args.first n))) all (c.taking.invariant.sound p d sound may)),
       (λ other. absurd (other refl)),
     )
 
@@ -155,61 +155,61 @@ returns-clause-sound g c = λ p d sound may.
 pub returns-in_err-give_back-in-Ok-false-clause-hint : goal.returns-in_err-give_back-in-Ok-false-clause-hint
 returns-in_err-give_back-in-Ok-false-clause-hint g c = λ p d sound may hint.
     let before = c.taking.invariant.sound p d sound may in
-    let q : Pending = taken_as d (following p c.args.file.now.free_list c.taking.file.free_list) (run_at c.args.first c.taking.taken) in
+    let q : Pending = taken_as d (pending_then p c.args.file.now.free_list c.taking.file.free_list) (run_at c.args.first c.taking.taken) in
     let now = is_sound_on g.S.Storage.view p q c.args.file.now c.taking.file c.taking.self before in
     let may_now = may_still d c.args.file.now c.taking.file c.taking.invariant.order may in
     let two = rw c.in-Ok-false.field-0-test at (c.in-Ok-false.ensures.sound q d now may_now) in
     let taken = still_taken g.S.Storage.view d p (run_at c.args.first c.taking.taken) c.args.file.now c.taking.file c.take.new.file c.taking.self c.take.new.self c.taking.invariant.list c.take.ensures.list before two in
-    let back = c.in_err-give_back-in-Ok-false.ensures.sound p (following p c.args.file.now.free_list c.take.new.file.free_list) d c.args.file.now (λ k some. some) taken (λ some. c.take.ensures.marks.changed (c.taking.invariant.noted some)) in
-    handed_on (KeepsHint g.S.Storage.view c.give_back.new.self c.give_back.new.file) c.from_residual.result c.in_err-give_back-in-Ok-false.field-0.0 c.from_residual.ensures (λ other. absurd (other back.0))
+    let back = c.in_err-give_back-in-Ok-false.ensures.sound p (pending_then p c.args.file.now.free_list c.take.new.file.free_list) d c.args.file.now (λ k some. some) taken (λ some. c.take.ensures.marks.changed (c.taking.invariant.noted some)) in
+    handed_on (KeepsNoFreeBelowHint g.S.Storage.view c.give_back.new.self c.give_back.new.file) c.from_residual.result c.in_err-give_back-in-Ok-false.field-0.0 c.from_residual.ensures (λ other. absurd (other back.0))
 
 pub returns-in-Ok-false-clause-used : goal.returns-in-Ok-false-clause-used
 returns-in-Ok-false-clause-used g c = λ p d sound may.
     let before = c.taking.invariant.sound p d sound may in
-    let q : Pending = taken_as d (following p c.args.file.now.free_list c.taking.file.free_list) (run_at c.args.first c.taking.taken) in
+    let q : Pending = taken_as d (pending_then p c.args.file.now.free_list c.taking.file.free_list) (run_at c.args.first c.taking.taken) in
     let now = is_sound_on g.S.Storage.view p q c.args.file.now c.taking.file c.taking.self before in
     let may_now = may_still d c.args.file.now c.taking.file c.taking.invariant.order may in
     let two = rw c.in-Ok-false.field-0-test at (c.in-Ok-false.ensures.sound q d now may_now) in
     let taken = still_taken g.S.Storage.view d p (run_at c.args.first c.taking.taken) c.args.file.now c.taking.file c.take.new.file c.taking.self c.take.new.self c.taking.invariant.list c.take.ensures.list before two in
     let used = c.in-Ok-false.ensures.used q d now may_now c.in-Ok-false.field-0-test in
-    λ _. c.in_ok-give_back-in-Ok-false.ensures.kept (following p c.args.file.now.free_list c.take.new.file.free_list) d (is_sound_on g.S.Storage.view p (taken_as d (following p c.args.file.now.free_list c.take.new.file.free_list) (run_at c.args.first c.taking.taken)) c.args.file.now c.take.new.file c.take.new.self taken) (c.args.first + c.taking.taken)
+    λ _. c.in_ok-give_back-in-Ok-false.ensures.kept (pending_then p c.args.file.now.free_list c.take.new.file.free_list) d (is_sound_on g.S.Storage.view p (taken_as d (pending_then p c.args.file.now.free_list c.take.new.file.free_list) (run_at c.args.first c.taking.taken)) c.args.file.now c.take.new.file c.take.new.self taken) (c.args.first + c.taking.taken)
     (run_after c.args.first c.taking.taken (c.args.first + c.taking.taken) (omega arith)) used
 
 pub returns-in-Ok-false-clause-hint : goal.returns-in-Ok-false-clause-hint
 returns-in-Ok-false-clause-hint g c = λ p d sound may hint.
     let before = c.taking.invariant.sound p d sound may in
-    let q : Pending = taken_as d (following p c.args.file.now.free_list c.taking.file.free_list) (run_at c.args.first c.taking.taken) in
+    let q : Pending = taken_as d (pending_then p c.args.file.now.free_list c.taking.file.free_list) (run_at c.args.first c.taking.taken) in
     let now = is_sound_on g.S.Storage.view p q c.args.file.now c.taking.file c.taking.self before in
     let may_now = may_still d c.args.file.now c.taking.file c.taking.invariant.order may in
     let two = rw c.in-Ok-false.field-0-test at (c.in-Ok-false.ensures.sound q d now may_now) in
     let taken = still_taken g.S.Storage.view d p (run_at c.args.first c.taking.taken) c.args.file.now c.taking.file c.take.new.file c.taking.self c.take.new.self c.taking.invariant.list c.take.ensures.list before two in
-    c.in_ok-give_back-in-Ok-false.ensures.hint (following p c.args.file.now.free_list c.take.new.file.free_list) d (is_sound_on g.S.Storage.view p (taken_as d (following p c.args.file.now.free_list c.take.new.file.free_list) (run_at c.args.first c.taking.taken)) c.args.file.now c.take.new.file c.take.new.self taken)
+    c.in_ok-give_back-in-Ok-false.ensures.hint (pending_then p c.args.file.now.free_list c.take.new.file.free_list) d (is_sound_on g.S.Storage.view p (taken_as d (pending_then p c.args.file.now.free_list c.take.new.file.free_list) (run_at c.args.first c.taking.taken)) c.args.file.now c.take.new.file c.take.new.self taken)
     (c.in-Ok-false.ensures.hint q d now may_now (c.taking.invariant.hint p d sound may hint))
 
 pub returns-in_err-give_back-in-Err-clause-hint : goal.returns-in_err-give_back-in-Err-clause-hint
 returns-in_err-give_back-in-Err-clause-hint g c = λ p d sound may hint.
     let before = c.taking.invariant.sound p d sound may in
-    let q : Pending = taken_as d (following p c.args.file.now.free_list c.taking.file.free_list) (run_at c.args.first c.taking.taken) in
+    let q : Pending = taken_as d (pending_then p c.args.file.now.free_list c.taking.file.free_list) (run_at c.args.first c.taking.taken) in
     let now = is_sound_on g.S.Storage.view p q c.args.file.now c.taking.file c.taking.self before in
     let may_now = may_still d c.args.file.now c.taking.file c.taking.invariant.order may in
-    let two = still_as g.S.Storage.view q (following q c.taking.file.free_list c.take.new.file.free_list) c.taking.file c.take.new.file c.take.new.self c.in-Err.refusal (λ fault. absurd (let yes_so = c.ends_call.ensures.ends fault in let none = c.if-not-ends_call.true in cc)) (c.in-Err.ensures.sound q d now may_now) in
+    let two = still_as g.S.Storage.view q (pending_then q c.taking.file.free_list c.take.new.file.free_list) c.taking.file c.take.new.file c.take.new.self c.in-Err.refusal (λ fault. absurd (let yes_so = c.ends_call.ensures.ends fault in let none = c.if-not-ends_call.true in cc)) (c.in-Err.ensures.sound q d now may_now) in
     let taken = still_taken g.S.Storage.view d p (run_at c.args.first c.taking.taken) c.args.file.now c.taking.file c.take.new.file c.taking.self c.take.new.self c.taking.invariant.list c.take.ensures.list before two in
-    let back = c.in_err-give_back-in-Err.ensures.sound p (following p c.args.file.now.free_list c.take.new.file.free_list) d c.args.file.now (λ k some. some) taken (λ some. c.take.ensures.marks.changed (c.taking.invariant.noted some)) in
-    handed_on (KeepsHint g.S.Storage.view c.give_back-then-not-ends_call.new.self c.give_back-then-not-ends_call.new.file) c.from_residual-in_err-give_back-in-Err.result c.in_err-give_back-in-Err.field-0.0 c.from_residual-in_err-give_back-in-Err.ensures (λ other. absurd (other back.0))
+    let back = c.in_err-give_back-in-Err.ensures.sound p (pending_then p c.args.file.now.free_list c.take.new.file.free_list) d c.args.file.now (λ k some. some) taken (λ some. c.take.ensures.marks.changed (c.taking.invariant.noted some)) in
+    handed_on (KeepsNoFreeBelowHint g.S.Storage.view c.give_back-then-not-ends_call.new.self c.give_back-then-not-ends_call.new.file) c.from_residual-in_err-give_back-in-Err.result c.in_err-give_back-in-Err.field-0.0 c.from_residual-in_err-give_back-in-Err.ensures (λ other. absurd (other back.0))
 
 pub returns-in-Err-clause-hint : goal.returns-in-Err-clause-hint
 returns-in-Err-clause-hint g c = λ p d sound may hint other.
     let before = c.taking.invariant.sound p d sound may in
-    let q : Pending = taken_as d (following p c.args.file.now.free_list c.taking.file.free_list) (run_at c.args.first c.taking.taken) in
+    let q : Pending = taken_as d (pending_then p c.args.file.now.free_list c.taking.file.free_list) (run_at c.args.first c.taking.taken) in
     let now = is_sound_on g.S.Storage.view p q c.args.file.now c.taking.file c.taking.self before in
     let may_now = may_still d c.args.file.now c.taking.file c.taking.invariant.order may in
-    let two = still_as g.S.Storage.view q (following q c.taking.file.free_list c.take.new.file.free_list) c.taking.file c.take.new.file c.take.new.self c.in-Err.refusal other (c.in-Err.ensures.sound q d now may_now) in
+    let two = still_as g.S.Storage.view q (pending_then q c.taking.file.free_list c.take.new.file.free_list) c.taking.file c.take.new.file c.take.new.self c.in-Err.refusal other (c.in-Err.ensures.sound q d now may_now) in
     let taken = still_taken g.S.Storage.view d p (run_at c.args.first c.taking.taken) c.args.file.now c.taking.file c.take.new.file c.taking.self c.take.new.self c.taking.invariant.list c.take.ensures.list before two in
     let here = c.in-Err.ensures.hint q d now may_now (c.taking.invariant.hint p d sound may hint) other in
     elim c.if-not-ends_call.branch [
       | then-not-ends_call+in_ok-give_back-in-Err w ↦
-          of_equal (λ t f. HasHint g.S.Storage.view t f) c.if-not-ends_call.self w.give_back-then-not-ends_call.new.self c.if-not-ends_call.file w.give_back-then-not-ends_call.new.file w.self-is w.file-is
-          (w.in_ok-give_back-in-Err.ensures.hint (following p c.args.file.now.free_list c.take.new.file.free_list) d (is_sound_on g.S.Storage.view p (taken_as d (following p c.args.file.now.free_list c.take.new.file.free_list) (run_at c.args.first c.taking.taken)) c.args.file.now c.take.new.file c.take.new.self taken) here)
+          of_equal (λ t f. NoFreeBelowHint g.S.Storage.view t f) c.if-not-ends_call.self w.give_back-then-not-ends_call.new.self c.if-not-ends_call.file w.give_back-then-not-ends_call.new.file w.self-is w.file-is
+          (w.in_ok-give_back-in-Err.ensures.hint (pending_then p c.args.file.now.free_list c.take.new.file.free_list) d (is_sound_on g.S.Storage.view p (taken_as d (pending_then p c.args.file.now.free_list c.take.new.file.free_list) (run_at c.args.first c.taking.taken)) c.args.file.now c.take.new.file c.take.new.self taken) here)
       | else-not-ends_call w ↦ absurd (other (c.ends_call.ensures.fault w.if-not-ends_call.false))
     ]
 
@@ -232,48 +232,48 @@ returns-in-Err-clause-list g c = elim c.if-not-ends_call.branch [
 pub returns-in_err-give_back-in-Ok-false-clause-uses : goal.returns-in_err-give_back-in-Ok-false-clause-uses
 returns-in_err-give_back-in-Ok-false-clause-uses g c = λ p d sound may.
     let before = c.taking.invariant.sound p d sound may in
-    let q : Pending = taken_as d (following p c.args.file.now.free_list c.taking.file.free_list) (run_at c.args.first c.taking.taken) in
+    let q : Pending = taken_as d (pending_then p c.args.file.now.free_list c.taking.file.free_list) (run_at c.args.first c.taking.taken) in
     let now = is_sound_on g.S.Storage.view p q c.args.file.now c.taking.file c.taking.self before in
     let may_now = may_still d c.args.file.now c.taking.file c.taking.invariant.order may in
     let two = rw c.in-Ok-false.field-0-test at (c.in-Ok-false.ensures.sound q d now may_now) in
     let taken = still_taken g.S.Storage.view d p (run_at c.args.first c.taking.taken) c.args.file.now c.taking.file c.take.new.file c.taking.self c.take.new.self c.taking.invariant.list c.take.ensures.list before two in
-    let back = c.in_err-give_back-in-Ok-false.ensures.sound p (following p c.args.file.now.free_list c.take.new.file.free_list) d c.args.file.now (λ k some. some) taken (λ some. c.take.ensures.marks.changed (c.taking.invariant.noted some)) in
+    let back = c.in_err-give_back-in-Ok-false.ensures.sound p (pending_then p c.args.file.now.free_list c.take.new.file.free_list) d c.args.file.now (λ k some. some) taken (λ some. c.take.ensures.marks.changed (c.taking.invariant.noted some)) in
     handed_on (KeepsUsed g.S.Storage.view c.args.file.now c.give_back.new.file) c.from_residual.result c.in_err-give_back-in-Ok-false.field-0.0 c.from_residual.ensures (λ other. absurd (other back.0))
 
 pub returns-in-Ok-false-clause-uses : goal.returns-in-Ok-false-clause-uses
 returns-in-Ok-false-clause-uses g c = λ p d sound may k used.
     let before = c.taking.invariant.sound p d sound may in
-    let q : Pending = taken_as d (following p c.args.file.now.free_list c.taking.file.free_list) (run_at c.args.first c.taking.taken) in
+    let q : Pending = taken_as d (pending_then p c.args.file.now.free_list c.taking.file.free_list) (run_at c.args.first c.taking.taken) in
     let now = is_sound_on g.S.Storage.view p q c.args.file.now c.taking.file c.taking.self before in
     let may_now = may_still d c.args.file.now c.taking.file c.taking.invariant.order may in
     let two = rw c.in-Ok-false.field-0-test at (c.in-Ok-false.ensures.sound q d now may_now) in
     let taken = still_taken g.S.Storage.view d p (run_at c.args.first c.taking.taken) c.args.file.now c.taking.file c.take.new.file c.taking.self c.take.new.self c.taking.invariant.list c.take.ensures.list before two in
-    c.in_ok-give_back-in-Ok-false.ensures.kept (following p c.args.file.now.free_list c.take.new.file.free_list) d (is_sound_on g.S.Storage.view p (taken_as d (following p c.args.file.now.free_list c.take.new.file.free_list) (run_at c.args.first c.taking.taken)) c.args.file.now c.take.new.file c.take.new.self taken) k
+    c.in_ok-give_back-in-Ok-false.ensures.kept (pending_then p c.args.file.now.free_list c.take.new.file.free_list) d (is_sound_on g.S.Storage.view p (taken_as d (pending_then p c.args.file.now.free_list c.take.new.file.free_list) (run_at c.args.first c.taking.taken)) c.args.file.now c.take.new.file c.take.new.self taken) k
     (no_more (run_at c.args.first c.taking.taken k) (λ some. c.taking.invariant.free p d sound may k some used)) (c.in-Ok-false.ensures.uses q d now may_now k (c.taking.invariant.uses p d sound may k used))
 
 pub returns-in_err-give_back-in-Err-clause-uses : goal.returns-in_err-give_back-in-Err-clause-uses
 returns-in_err-give_back-in-Err-clause-uses g c = λ p d sound may.
     let before = c.taking.invariant.sound p d sound may in
-    let q : Pending = taken_as d (following p c.args.file.now.free_list c.taking.file.free_list) (run_at c.args.first c.taking.taken) in
+    let q : Pending = taken_as d (pending_then p c.args.file.now.free_list c.taking.file.free_list) (run_at c.args.first c.taking.taken) in
     let now = is_sound_on g.S.Storage.view p q c.args.file.now c.taking.file c.taking.self before in
     let may_now = may_still d c.args.file.now c.taking.file c.taking.invariant.order may in
-    let two = still_as g.S.Storage.view q (following q c.taking.file.free_list c.take.new.file.free_list) c.taking.file c.take.new.file c.take.new.self c.in-Err.refusal (λ fault. absurd (let yes_so = c.ends_call.ensures.ends fault in let none = c.if-not-ends_call.true in cc)) (c.in-Err.ensures.sound q d now may_now) in
+    let two = still_as g.S.Storage.view q (pending_then q c.taking.file.free_list c.take.new.file.free_list) c.taking.file c.take.new.file c.take.new.self c.in-Err.refusal (λ fault. absurd (let yes_so = c.ends_call.ensures.ends fault in let none = c.if-not-ends_call.true in cc)) (c.in-Err.ensures.sound q d now may_now) in
     let taken = still_taken g.S.Storage.view d p (run_at c.args.first c.taking.taken) c.args.file.now c.taking.file c.take.new.file c.taking.self c.take.new.self c.taking.invariant.list c.take.ensures.list before two in
-    let back = c.in_err-give_back-in-Err.ensures.sound p (following p c.args.file.now.free_list c.take.new.file.free_list) d c.args.file.now (λ k some. some) taken (λ some. c.take.ensures.marks.changed (c.taking.invariant.noted some)) in
+    let back = c.in_err-give_back-in-Err.ensures.sound p (pending_then p c.args.file.now.free_list c.take.new.file.free_list) d c.args.file.now (λ k some. some) taken (λ some. c.take.ensures.marks.changed (c.taking.invariant.noted some)) in
     handed_on (KeepsUsed g.S.Storage.view c.args.file.now c.give_back-then-not-ends_call.new.file) c.from_residual-in_err-give_back-in-Err.result c.in_err-give_back-in-Err.field-0.0 c.from_residual-in_err-give_back-in-Err.ensures (λ other. absurd (other back.0))
 
 pub returns-in-Err-clause-uses : goal.returns-in-Err-clause-uses
 returns-in-Err-clause-uses g c = λ p d sound may other k used.
     let before = c.taking.invariant.sound p d sound may in
-    let q : Pending = taken_as d (following p c.args.file.now.free_list c.taking.file.free_list) (run_at c.args.first c.taking.taken) in
+    let q : Pending = taken_as d (pending_then p c.args.file.now.free_list c.taking.file.free_list) (run_at c.args.first c.taking.taken) in
     let now = is_sound_on g.S.Storage.view p q c.args.file.now c.taking.file c.taking.self before in
     let may_now = may_still d c.args.file.now c.taking.file c.taking.invariant.order may in
-    let two = still_as g.S.Storage.view q (following q c.taking.file.free_list c.take.new.file.free_list) c.taking.file c.take.new.file c.take.new.self c.in-Err.refusal other (c.in-Err.ensures.sound q d now may_now) in
+    let two = still_as g.S.Storage.view q (pending_then q c.taking.file.free_list c.take.new.file.free_list) c.taking.file c.take.new.file c.take.new.self c.in-Err.refusal other (c.in-Err.ensures.sound q d now may_now) in
     let taken = still_taken g.S.Storage.view d p (run_at c.args.first c.taking.taken) c.args.file.now c.taking.file c.take.new.file c.taking.self c.take.new.self c.taking.invariant.list c.take.ensures.list before two in
     elim c.if-not-ends_call.branch [
       | then-not-ends_call+in_ok-give_back-in-Err w ↦
           subst (λ f. IsUsed g.S.Storage.view f k) (sym w.file-is)
-          (w.in_ok-give_back-in-Err.ensures.kept (following p c.args.file.now.free_list c.take.new.file.free_list) d (is_sound_on g.S.Storage.view p (taken_as d (following p c.args.file.now.free_list c.take.new.file.free_list) (run_at c.args.first c.taking.taken)) c.args.file.now c.take.new.file c.take.new.self taken) k
+          (w.in_ok-give_back-in-Err.ensures.kept (pending_then p c.args.file.now.free_list c.take.new.file.free_list) d (is_sound_on g.S.Storage.view p (taken_as d (pending_then p c.args.file.now.free_list c.take.new.file.free_list) (run_at c.args.first c.taking.taken)) c.args.file.now c.take.new.file c.take.new.self taken) k
           (no_more (run_at c.args.first c.taking.taken k) (λ some. c.taking.invariant.free p d sound may k some used)) (c.in-Err.ensures.uses q d now may_now other k (c.taking.invariant.uses p d sound may k used)))
       | else-not-ends_call w ↦ absurd (other (c.ends_call.ensures.fault w.if-not-ends_call.false))
     ]
@@ -285,30 +285,30 @@ returns-clause-uses g c = λ p d sound may k used. c.taking.invariant.uses p d s
 pub returns-in_err-give_back-in-Ok-false-clause-limit : goal.returns-in_err-give_back-in-Ok-false-clause-limit
 returns-in_err-give_back-in-Ok-false-clause-limit g c = λ p d sound may hint near.
     let before = c.taking.invariant.sound p d sound may in
-    let q : Pending = taken_as d (following p c.args.file.now.free_list c.taking.file.free_list) (run_at c.args.first c.taking.taken) in
+    let q : Pending = taken_as d (pending_then p c.args.file.now.free_list c.taking.file.free_list) (run_at c.args.first c.taking.taken) in
     let now = is_sound_on g.S.Storage.view p q c.args.file.now c.taking.file c.taking.self before in
     let may_now = may_still d c.args.file.now c.taking.file c.taking.invariant.order may in
     let two = rw c.in-Ok-false.field-0-test at (c.in-Ok-false.ensures.sound q d now may_now) in
     let taken = still_taken g.S.Storage.view d p (run_at c.args.first c.taking.taken) c.args.file.now c.taking.file c.take.new.file c.taking.self c.take.new.self c.taking.invariant.list c.take.ensures.list before two in
-    let back = c.in_err-give_back-in-Ok-false.ensures.sound p (following p c.args.file.now.free_list c.take.new.file.free_list) d c.args.file.now (λ k some. some) taken (λ some. c.take.ensures.marks.changed (c.taking.invariant.noted some)) in
+    let back = c.in_err-give_back-in-Ok-false.ensures.sound p (pending_then p c.args.file.now.free_list c.take.new.file.free_list) d c.args.file.now (λ k some. some) taken (λ some. c.take.ensures.marks.changed (c.taking.invariant.noted some)) in
     handed_on (λ (r : Result ℕ ImageError). IfErr r (IsFaultOr (CantCountRun g.S.Storage.view c.give_back.new.file c.give_back.new.self c.args.first c.args.n))) c.from_residual.result c.in_err-give_back-in-Ok-false.field-0.0 c.from_residual.ensures (inl back.0)
 
 pub returns-in_err-give_back-in-Err-clause-limit : goal.returns-in_err-give_back-in-Err-clause-limit
 returns-in_err-give_back-in-Err-clause-limit g c = λ p d sound may hint near.
     let before = c.taking.invariant.sound p d sound may in
-    let q : Pending = taken_as d (following p c.args.file.now.free_list c.taking.file.free_list) (run_at c.args.first c.taking.taken) in
+    let q : Pending = taken_as d (pending_then p c.args.file.now.free_list c.taking.file.free_list) (run_at c.args.first c.taking.taken) in
     let now = is_sound_on g.S.Storage.view p q c.args.file.now c.taking.file c.taking.self before in
     let may_now = may_still d c.args.file.now c.taking.file c.taking.invariant.order may in
-    let two = still_as g.S.Storage.view q (following q c.taking.file.free_list c.take.new.file.free_list) c.taking.file c.take.new.file c.take.new.self c.in-Err.refusal (λ fault. absurd (let yes_so = c.ends_call.ensures.ends fault in let none = c.if-not-ends_call.true in cc)) (c.in-Err.ensures.sound q d now may_now) in
+    let two = still_as g.S.Storage.view q (pending_then q c.taking.file.free_list c.take.new.file.free_list) c.taking.file c.take.new.file c.take.new.self c.in-Err.refusal (λ fault. absurd (let yes_so = c.ends_call.ensures.ends fault in let none = c.if-not-ends_call.true in cc)) (c.in-Err.ensures.sound q d now may_now) in
     let taken = still_taken g.S.Storage.view d p (run_at c.args.first c.taking.taken) c.args.file.now c.taking.file c.take.new.file c.taking.self c.take.new.self c.taking.invariant.list c.take.ensures.list before two in
-    let back = c.in_err-give_back-in-Err.ensures.sound p (following p c.args.file.now.free_list c.take.new.file.free_list) d c.args.file.now (λ k some. some) taken (λ some. c.take.ensures.marks.changed (c.taking.invariant.noted some)) in
+    let back = c.in_err-give_back-in-Err.ensures.sound p (pending_then p c.args.file.now.free_list c.take.new.file.free_list) d c.args.file.now (λ k some. some) taken (λ some. c.take.ensures.marks.changed (c.taking.invariant.noted some)) in
     handed_on (λ (r : Result ℕ ImageError). IfErr r (IsFaultOr (CantCountRun g.S.Storage.view c.give_back-then-not-ends_call.new.file c.give_back-then-not-ends_call.new.self c.args.first c.args.n)))
     c.from_residual-in_err-give_back-in-Err.result c.in_err-give_back-in-Err.field-0.0 c.from_residual-in_err-give_back-in-Err.ensures (inl back.0)
 
 pub returns-in-Err-clause-limit : goal.returns-in-Err-clause-limit
 returns-in-Err-clause-limit g c = λ p d sound may hint near.
     let before = c.taking.invariant.sound p d sound may in
-    let q : Pending = taken_as d (following p c.args.file.now.free_list c.taking.file.free_list) (run_at c.args.first c.taking.taken) in
+    let q : Pending = taken_as d (pending_then p c.args.file.now.free_list c.taking.file.free_list) (run_at c.args.first c.taking.taken) in
     let now = is_sound_on g.S.Storage.view p q c.args.file.now c.taking.file c.taking.self before in
     let may_now = may_still d c.args.file.now c.taking.file c.taking.invariant.order may in
     let lt = c.taking-test.true in
@@ -317,11 +317,11 @@ returns-in-Err-clause-limit g c = λ p d sound may hint near.
     let why = c.in-Err.ensures.limit q d now may_now (c.taking.invariant.hint p d sound may hint) here in
     elim c.if-not-ends_call.branch [
       | then-not-ends_call+in_ok-give_back-in-Err w ↦
-          let two = still_as g.S.Storage.view q (following q c.taking.file.free_list c.take.new.file.free_list) c.taking.file c.take.new.file c.take.new.self c.in-Err.refusal
+          let two = still_as g.S.Storage.view q (pending_then q c.taking.file.free_list c.take.new.file.free_list) c.taking.file c.take.new.file c.take.new.self c.in-Err.refusal
           (λ fault. absurd (let yes_so = c.ends_call.ensures.ends fault in let none = w.if-not-ends_call.true in cc)) (c.in-Err.ensures.sound q d now may_now) in
           let taken = still_taken g.S.Storage.view d p (run_at c.args.first c.taking.taken) c.args.file.now c.taking.file c.take.new.file c.taking.self c.take.new.self c.taking.invariant.list c.take.ensures.list before two in
-          let kept = w.in_ok-give_back-in-Err.ensures.kept (following p c.args.file.now.free_list c.take.new.file.free_list) d
-          (is_sound_on g.S.Storage.view p (taken_as d (following p c.args.file.now.free_list c.take.new.file.free_list) (run_at c.args.first c.taking.taken)) c.args.file.now c.take.new.file c.take.new.self taken) in
+          let kept = w.in_ok-give_back-in-Err.ensures.kept (pending_then p c.args.file.now.free_list c.take.new.file.free_list) d
+          (is_sound_on g.S.Storage.view p (taken_as d (pending_then p c.args.file.now.free_list c.take.new.file.free_list) (run_at c.args.first c.taking.taken)) c.args.file.now c.take.new.file c.take.new.self taken) in
           of_equal (λ t f. IsFaultOr (CantCountRun g.S.Storage.view f t c.args.first c.args.n) c.in-Err.refusal) c.if-not-ends_call.self w.give_back-then-not-ends_call.new.self c.if-not-ends_call.file w.give_back-then-not-ends_call.new.file w.self-is w.file-is
           (cause_as (CantCount g.S.Storage.view c.take.new.file (λ k. 0) c.take.new.self (c.args.first + c.taking.taken)) (CantCountRun g.S.Storage.view w.give_back-then-not-ends_call.new.file w.give_back-then-not-ends_call.new.self c.args.first c.args.n) c.in-Err.refusal
           (λ not. (

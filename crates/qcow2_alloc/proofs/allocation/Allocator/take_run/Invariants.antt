@@ -1,10 +1,10 @@
 use Rattle.std.proofs.Common.{◌≡◌, ℕ, ◌<◌, Bool, IsTrue}
-use Rattle.qcow2_laws.specs.Guard.{Pending}
-use Rattle.qcow2_alloc.specs.Allocation.{run_at, taken_as, MayTake, BecomesOn}
+use Rattle.qcow2_laws.specs.CrashInvariant.{Pending}
+use Rattle.qcow2_alloc.specs.Allocation.{run_at, taken_as, MayTake, UnseenAllocatorGrowth}
 use Rattle.qcow2_alloc.specs.CacheMarks.{KeepsMarks}
-use Rattle.qcow2_alloc.specs.ImageFile.{IsSoundWith, KeepsHeader}
-use Rattle.qcow2_alloc.specs.FreeList.{following, ListsTables}
-use Rattle.qcow2_alloc.specs.LowestRuns.{HasHint, IsUsed}
+use Rattle.qcow2_alloc.specs.ImageFile.{AllocatorInvariant, KeepsHeader}
+use Rattle.qcow2_alloc.specs.FreeList.{pending_then, ListsTables}
+use Rattle.qcow2_alloc.specs.LowestRuns.{NoFreeBelowHint, IsUsed}
 use Rattle.qcow2_alloc.specs.MetadataCaches.{order_of}
 use Rattle.qcow2_alloc.proofs.allocation.Allocator.take_run.Given as goal
 
@@ -16,8 +16,8 @@ invariant-taking g l = record {
   marks : KeepsMarks l.fn.file.caches l.file.caches;
   order : order_of l.file.caches ≡ order_of l.fn.file.caches;
   noted : 0 < l.taken → IsTrue l.file.caches.is_changed;
-  sound : (p : Pending) (d : Bool) → IsSoundWith g.S.Storage.view l.fn.self p l.fn.file → MayTake d l.fn.file → BecomesOn g.S.Storage.view p l.fn.file l.self l.file (taken_as d (following p l.fn.file.free_list l.file.free_list) (run_at l.fn.first l.taken));
-  hint : (p : Pending) (d : Bool) → IsSoundWith g.S.Storage.view l.fn.self p l.fn.file → MayTake d l.fn.file → HasHint g.S.Storage.view l.fn.self l.fn.file → HasHint g.S.Storage.view l.self l.file;
-  uses : (p : Pending) (d : Bool) → IsSoundWith g.S.Storage.view l.fn.self p l.fn.file → MayTake d l.fn.file → (k : ℕ) → IsUsed g.S.Storage.view l.fn.file k → IsUsed g.S.Storage.view l.file k;
-  free : (p : Pending) (d : Bool) → IsSoundWith g.S.Storage.view l.fn.self p l.fn.file → MayTake d l.fn.file → (k : ℕ) → 0 < run_at l.fn.first l.taken k → ¬ IsUsed g.S.Storage.view l.fn.file k;
+  sound : (p : Pending) (d : Bool) → AllocatorInvariant g.S.Storage.view l.fn.self p l.fn.file → MayTake d l.fn.file → UnseenAllocatorGrowth g.S.Storage.view p l.fn.file l.self l.file (taken_as d (pending_then p l.fn.file.free_list l.file.free_list) (run_at l.fn.first l.taken));
+  hint : (p : Pending) (d : Bool) → AllocatorInvariant g.S.Storage.view l.fn.self p l.fn.file → MayTake d l.fn.file → NoFreeBelowHint g.S.Storage.view l.fn.self l.fn.file → NoFreeBelowHint g.S.Storage.view l.self l.file;
+  uses : (p : Pending) (d : Bool) → AllocatorInvariant g.S.Storage.view l.fn.self p l.fn.file → MayTake d l.fn.file → (k : ℕ) → IsUsed g.S.Storage.view l.fn.file k → IsUsed g.S.Storage.view l.file k;
+  free : (p : Pending) (d : Bool) → AllocatorInvariant g.S.Storage.view l.fn.self p l.fn.file → MayTake d l.fn.file → (k : ℕ) → 0 < run_at l.fn.first l.taken k → ¬ IsUsed g.S.Storage.view l.fn.file k;
 }

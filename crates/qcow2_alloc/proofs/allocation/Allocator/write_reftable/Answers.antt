@@ -6,7 +6,7 @@ use Rattle.qcow2_laws.specs.Caches.{AreClean}
 use Rattle.qcow2_alloc.specs.declared.cache.MetadataCaches.{MetadataCaches}
 use Rattle.qcow2_alloc.specs.Allocation.{run_at, StandAt}
 use Rattle.qcow2_alloc.specs.GrownTables.{with_run, NamesReftable, StandsGrown}
-use Rattle.qcow2_alloc.specs.ImageFile.{contents_in, IsSoundWith}
+use Rattle.qcow2_alloc.specs.ImageFile.{contents_in, AllocatorInvariant}
 use Rattle.qcow2_alloc.specs.LowestRuns.{KeepsUsed}
 use Rattle.qcow2_alloc.specs.MetadataCaches.{order_of, l2_tables, refblocks, rb_at}
 use Rattle.qcow2_alloc.specs.Rooms.{length_of, placed_at}
@@ -171,7 +171,7 @@ returns-clause-sound g c = λ p sound longer.
     let table_is : c.place_table.new.table ≡ placed_at c.place_blocks.new.table (c.args.room.first + c.args.room.blocks) = c.place_table.ensures.table ∙ ap (placed_at c.place_blocks.new.table) at_is in
     let ready = stands_ready view f3 h a.reftable t' first c.args.room.blocks c.args.room.clusters (sym header_three) placed.grown stands counts clean may_three uncached in
     let ready_table = subst (λ (x : EntryTableView). StandsGrown view f3 a.reftable x first c.args.room.blocks c.args.room.clusters) (sym table_is) ready in
-    let sound_three = subst (λ (k : HeaderFields). IsSoundWith view a (with_run p k a.reftable first n) f3) (sym header_three) (is_sound_now view q q old f3 a three) in
+    let sound_three = subst (λ (k : HeaderFields). AllocatorInvariant view a (with_run p k a.reftable first n) f3) (sym header_three) (is_sound_now view q q old f3 a three) in
     names_then view p old f3 c.name_reftable.new.file a c.name_reftable.new.self a.reftable first n header_three c.name_reftable.result three
     (c.name_reftable.ensures.names p first c.args.room.blocks c.args.room.clusters sound_three ready_table)
 
@@ -213,7 +213,7 @@ returns-clause-uses g c = λ p sound longer.
     let table_is : c.place_table.new.table ≡ placed_at c.place_blocks.new.table (c.args.room.first + c.args.room.blocks) = c.place_table.ensures.table ∙ ap (placed_at c.place_blocks.new.table) at_is in
     let ready = stands_ready view f3 h a.reftable t' first c.args.room.blocks c.args.room.clusters (sym header_three) placed.grown stands counts clean may_three uncached in
     let ready_table = subst (λ (x : EntryTableView). StandsGrown view f3 a.reftable x first c.args.room.blocks c.args.room.clusters) (sym table_is) ready in
-    let sound_three = subst (λ (k : HeaderFields). IsSoundWith view a (with_run p k a.reftable first n) f3) (sym header_three) (is_sound_now view q q old f3 a three) in
+    let sound_three = subst (λ (k : HeaderFields). AllocatorInvariant view a (with_run p k a.reftable first n) f3) (sym header_three) (is_sound_now view q q old f3 a three) in
     uses_after view q old f3 c.name_reftable.new.file a c.name_reftable.result three (c.name_reftable.ensures.uses p first c.args.room.blocks c.args.room.clusters sound_three ready_table)
 
 pub returns-clause-place : goal.returns-clause-place

@@ -26,10 +26,10 @@ returns-then-index-counts-clause-refused g c = λ _.
     ]
 
 pub returns-clause-counted : goal.returns-clause-counted
-returns-clause-counted g c = λ _ h p base k sound at.
+returns-clause-counted g c = λ _ h p on_storage k sound at.
     let found = sym c.peek_mut.ensures.value ∙ ap option_copied_mut c.in-Some.is in
     let same = c.decrement.ensures.same c.if-not-decrement.false in
-    lowered h p base c.args.self.now sound c.args.cluster c.args.index c.in-Some.block.now found k at c.decrement.new.self (ap (λ (b : RefBlockView). b.is_modified) same) (ap (λ (b : RefBlockView). b.cluster_bits) same) (ap (λ (b : RefBlockView). b.refcount_order) same) _ refl refl refl (c.decrement.ensures.counted c.if-not-decrement.false) (c.decrement.ensures.some c.if-not-decrement.false)
+    lowered h p on_storage c.args.self.now sound c.args.cluster c.args.index c.in-Some.block.now found k at c.decrement.new.self (ap (λ (b : RefBlockView). b.is_modified) same) (ap (λ (b : RefBlockView). b.cluster_bits) same) (ap (λ (b : RefBlockView). b.refcount_order) same) _ refl refl refl (c.decrement.ensures.counted c.if-not-decrement.false) (c.decrement.ensures.some c.if-not-decrement.false)
 
 pub returns-then-index-counts-clause-marks : goal.returns-then-index-counts-clause-marks
 returns-then-index-counts-clause-marks g c = elim c.then-index-counts.branch [
@@ -38,16 +38,16 @@ returns-then-index-counts-clause-marks g c = elim c.then-index-counts.branch [
 ]
 
 pub returns-then-index-counts-clause-made : goal.returns-then-index-counts-clause-made
-returns-then-index-counts-clause-made g c = λ h p base k sound at there counted.
+returns-then-index-counts-clause-made g c = λ h p on_storage k sound at there counted.
     let found = sym c.peek_mut.ensures.value ∙ ap option_copied_mut c.in-Some.is in
     absurd (elim c.then-index-counts.branch [
       | then-index-counts-via-then-index-counts w ↦
-          let fits = index_fits h p base c.args.self.now sound c.args.cluster c.args.index c.in-Some.block.now found k at in
+          let fits = index_fits h p on_storage c.args.self.now sound c.args.cluster c.args.index c.in-Some.block.now found k at in
           let count = c.counts.ensures.value in
           let past = w.if-index-counts.true in
           omega arith
       | then-index-counts-via-else-index-counts+then-not-decrement w ↦
-          counted (count_is h p base c.args.self.now sound c.args.cluster c.args.index c.in-Some.block.now found k at ∙ w.decrement.ensures.empty w.if-not-decrement.true)
+          counted (count_is h p on_storage c.args.self.now sound c.args.cluster c.args.index c.in-Some.block.now found k at ∙ w.decrement.ensures.empty w.if-not-decrement.true)
     ])
 
 pub returns-clause-marks : goal.returns-clause-marks

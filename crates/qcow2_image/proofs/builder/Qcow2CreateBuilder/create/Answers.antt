@@ -1,7 +1,7 @@
 use Rattle.std.proofs.Common.{Ok, sym, subst}
 use Rattle.qcow2_alloc.specs.ImageStorage.{storage_of}
 use Rattle.qcow2_image.specs.Created.{WritesThree}
-use Rattle.qcow2_image.proofs.Creating.{new_header_is, unwritten, creating_stops, created_so}
+use Rattle.qcow2_image.proofs.Create.Creating.{new_header_is, unwritten, creating_stops, created_so}
 use Rattle.qcow2_image.proofs.builder.Qcow2CreateBuilder.create.Goals as goal
 
 pub returns-clause-stops : goal.returns-clause-stops

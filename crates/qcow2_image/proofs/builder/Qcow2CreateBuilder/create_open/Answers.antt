@@ -1,4 +1,4 @@
-use Rattle.qcow2_image.proofs.Creating.{opened_unwritten}
+use Rattle.qcow2_image.proofs.Create.Creating.{opened_unwritten}
 use Rattle.qcow2_image.proofs.builder.Qcow2CreateBuilder.create_open.Goals as goal
 
 pub returns-clause-unwritten : goal.returns-clause-unwritten

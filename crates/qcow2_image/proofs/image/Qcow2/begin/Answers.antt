@@ -1,7 +1,7 @@
 use Rattle.std.proofs.Common.{ap}
 use Rattle.qcow2_alloc.specs.CacheMarks.{l2_pins}
 use Rattle.qcow2_alloc.specs.ImageFile.{view_in}
-use Rattle.qcow2_image.proofs.Loading.{caches_moved, stays}
+use Rattle.qcow2_image.proofs.Map.Loading.{caches_moved, stays}
 use Rattle.qcow2_image.proofs.image.Qcow2.begin.Goals as goal
 
 pub returns-clause-keeps : goal.returns-clause-keeps

@@ -1,6 +1,6 @@
 use Rattle.std.proofs.Common.{◌≡◌, IsTrue, true, false, sym, subst, arith}
 use Rattle.qcow2_image.specs.Found.{IsMappedAs}
-use Rattle.qcow2_image.proofs.Looked.{found_whole, mapped_as}
+use Rattle.qcow2_image.proofs.Map.Looked.{found_whole, mapped_as}
 use Rattle.qcow2_image.proofs.image.Qcow2.check_mapped.Goals.{else-found-length-via-then-found-length+else-is, else-found-length-via-else-found-length}
 use Rattle.qcow2_image.proofs.image.Qcow2.check_mapped.Goals as goal
 

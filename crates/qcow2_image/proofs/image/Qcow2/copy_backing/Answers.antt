@@ -1,9 +1,9 @@
 use Rattle.std.proofs.Common.{◌≡◌, ℕ, ◌+◌, List, length, replicate, refl, sym, ◌∙◌, subst, arith, rules, is_some, false}
 use Rattle.std.proofs.lemmas.List.{length-replicate, get_or-replicate}
 use Rattle.qcow2_alloc.specs.ImageFile.{view_in}
-use Rattle.qcow2_image.proofs.Going.{goes_kept, goes_then, goes_data, own_of, there_written}
-use Rattle.qcow2_image.proofs.Loading.{if_ok}
-use Rattle.qcow2_image.proofs.Reading.{none_below}
+use Rattle.qcow2_image.proofs.Prepare.Filling.{goes_kept, goes_then, goes_data, own_of, there_written}
+use Rattle.qcow2_image.proofs.Map.Loading.{if_ok}
+use Rattle.qcow2_image.proofs.Map.Reading.{none_below}
 use Rattle.qcow2_image.proofs.image.Qcow2.copy_backing.Goals as goal
 
 pub returns-then-is_none-clause-goes : goal.returns-then-is_none-clause-goes

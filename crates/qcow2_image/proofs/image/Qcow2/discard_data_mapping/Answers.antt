@@ -2,8 +2,8 @@ use Rattle.std.proofs.Common.{◌≡◌, ℕ, ◌-◌, sym, ap, ◌∙◌, subst
 use Rattle.qcow2_alloc.specs.CacheMarks.{SameTables, l2_pins}
 use Rattle.qcow2_image.specs.declared.image.Qcow2.{Qcow2}
 use Rattle.qcow2_image.specs.Calls.{Discards}
-use Rattle.qcow2_image.specs.Views.{pins_of}
-use Rattle.qcow2_image.proofs.LetGo.{discards}
+use Rattle.qcow2_image.specs.ImageInvariant.{pins_of}
+use Rattle.qcow2_image.proofs.Commit.LetGo.{discards}
 use Rattle.qcow2_image.proofs.image.Qcow2.discard_data_mapping.Goals as goal
 
 pub returns-clause-sees : goal.returns-clause-sees

@@ -1,11 +1,11 @@
 use Rattle.std.proofs.Common.{sym, subst}
 use Rattle.std.specs.Prelude.{Result}
-use Rattle.qcow2_laws.specs.Guard.{Pending}
+use Rattle.qcow2_laws.specs.CrashInvariant.{Pending}
 use Rattle.qcow2_image.specs.declared.image.Qcow2.{Qcow2}
 use Rattle.qcow2_image.specs.Image.{is_failed}
-use Rattle.qcow2_image.specs.Parts.{EndsFreeing}
-use Rattle.qcow2_image.specs.Views.{IsSoundAt}
-use Rattle.qcow2_image.proofs.Tidying.{all_listed, beside, ends_freeing}
+use Rattle.qcow2_image.specs.CallParts.{EndsFreeing}
+use Rattle.qcow2_image.specs.ImageInvariant.{ImageInvariant}
+use Rattle.qcow2_image.proofs.Flush.Freeing.{all_listed, beside, ends_freeing}
 use Rattle.qcow2_image.proofs.image.Qcow2.end_freeing.Goals as goal
 
 pub returns-clause-frees : goal.returns-clause-frees
@@ -16,8 +16,8 @@ returns-clause-frees g c = λ changed out sound.
     let new = c.free_listed-freed.new.self in
     let r = c.free_listed-freed.result in
     let p : Pending = beside view below old out in
-    let listed = subst (λ (x : Pending). IsSoundAt view below x old out) (all_listed view below old out) sound in
-    subst (λ (image : Qcow2 _ _). EndsFreeing view below old image out c.settled.result) (sym c.settled.ensures.rest)
-    (subst (λ (x : Result _ _). EndsFreeing view below old (record new { is_failed = is_failed c.settled.new.self }) out x) (sym c.settled.ensures.answer)
-    (ends_freeing view below old sound.works new (is_failed c.settled.new.self) c.free_listed-freed.ensures.stays.image.number out sound r c.settled.ensures.marks c.settled.ensures.memory (c.free_listed-freed.ensures.noted changed)
+    let listed = subst (λ (x : Pending). ImageInvariant view below x old out) (all_listed view below old out) sound in
+    subst (λ (image : Qcow2 _ _). EndsFreeing view below old image out c.mark_failure.result) (sym c.mark_failure.ensures.rest)
+    (subst (λ (x : Result _ _). EndsFreeing view below old (record new { is_failed = is_failed c.mark_failure.new.self }) out x) (sym c.mark_failure.ensures.answer)
+    (ends_freeing view below old sound.works new (is_failed c.mark_failure.new.self) c.free_listed-freed.ensures.stays.image.number out sound r c.mark_failure.ensures.marks c.mark_failure.ensures.memory (c.free_listed-freed.ensures.noted changed)
     (c.free_listed-freed.ensures.faults p out listed) (c.free_listed-freed.ensures.frees p out listed)))

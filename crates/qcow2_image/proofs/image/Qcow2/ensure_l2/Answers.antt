@@ -1,8 +1,8 @@
 use Rattle.std.proofs.Common.{inl}
 use Rattle.qcow2_alloc.proofs.AllocationSteps.{handed_on}
-use Rattle.qcow2_image.specs.Steps.{Ensures, following}
-use Rattle.qcow2_image.proofs.Loading.{with_caches}
-use Rattle.qcow2_image.proofs.Owning.{refused, keeps_loaded, holds_table}
+use Rattle.qcow2_image.specs.UnseenSteps.{Ensures, pending_then}
+use Rattle.qcow2_image.proofs.Map.Loading.{with_caches}
+use Rattle.qcow2_image.proofs.Prepare.Owning.{refused, keeps_loaded, holds_table}
 use Rattle.qcow2_image.proofs.image.Qcow2.ensure_l2.Goals as goal
 
 pub returns-in_err-cluster-clause-ready : goal.returns-in_err-cluster-clause-ready
@@ -15,17 +15,17 @@ returns-in_err-l2_get_or_insert-clause-ready g c = λ p out sound.
     let old = c.args.self.now in
     let mid = c.own_l2.new.self in
     let owned = c.in_ok-cluster.ensures.owns p out sound in
-    let loaded = with_caches g.S.Storage.view g.F.BackingDisk.backing mid out (following p old mid) owned.0.sound c.l2_get_or_insert.new.storage c.l2_get_or_insert.new.self in
+    let loaded = with_caches g.S.Storage.view g.F.BackingDisk.backing mid out (pending_then p old mid) owned.0.sound c.l2_get_or_insert.new.storage c.l2_get_or_insert.new.self in
     refused (Ensures g.S.Storage.view g.F.BackingDisk.backing p old loaded out c.args.offset) c.from_residual-in_err-l2_get_or_insert.result c.from_residual-in_err-l2_get_or_insert.ensures.0
     (λ e. inl (keeps_loaded g.S.Storage.view g.F.BackingDisk.backing out p old mid c.args.offset c.in_ok-cluster.cluster owned.0 c.l2_get_or_insert.new.storage c.l2_get_or_insert.new.self
-    (c.l2_get_or_insert.ensures.keeps mid.file.header.fields (following p old mid) owned.0.sound.file.honest owned.0.sound.file.caches) c.l2_get_or_insert.ensures.marks.room c.l2_get_or_insert.ensures.marks.pins))
+    (c.l2_get_or_insert.ensures.keeps mid.file.header.fields (pending_then p old mid) owned.0.sound.file.honest owned.0.sound.file.caches) c.l2_get_or_insert.ensures.marks.room c.l2_get_or_insert.ensures.marks.pins))
 
 pub returns-clause-ready : goal.returns-clause-ready
 returns-clause-ready g c = λ p out sound.
     let old = c.args.self.now in
     let mid = c.own_l2.new.self in
     let owned = c.in_ok-cluster.ensures.owns p out sound in
-    let stay = c.l2_get_or_insert.ensures.keeps mid.file.header.fields (following p old mid) owned.0.sound.file.honest owned.0.sound.file.caches in (
+    let stay = c.l2_get_or_insert.ensures.keeps mid.file.header.fields (pending_then p old mid) owned.0.sound.file.honest owned.0.sound.file.caches in (
       keeps_loaded g.S.Storage.view g.F.BackingDisk.backing out p old mid c.args.offset c.in_ok-cluster.cluster owned.0 c.l2_get_or_insert.new.storage c.l2_get_or_insert.new.self stay c.l2_get_or_insert.ensures.marks.room c.l2_get_or_insert.ensures.marks.pins,
       holds_table g.S.Storage.view g.F.BackingDisk.backing out p old mid c.args.offset c.in_ok-cluster.cluster owned.0 c.l2_get_or_insert.new.storage c.l2_get_or_insert.new.self stay c.l2_get_or_insert.ensures.marks.room c.l2_get_or_insert.ensures.marks.pins owned.1
           c.in_ok-l2_get_or_insert.ensures.held,

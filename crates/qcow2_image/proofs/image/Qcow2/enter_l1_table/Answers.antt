@@ -1,11 +1,11 @@
 use Rattle.std.proofs.Common.{sym, subst}
 use Rattle.std.specs.Prelude.{IfSome, Some, false}
-use Rattle.qcow2_alloc.specs.Allocation.{run_at, taken_as, BecomesOn}
-use Rattle.qcow2_alloc.specs.FreeList.{following}
+use Rattle.qcow2_alloc.specs.Allocation.{run_at, taken_as, UnseenAllocatorGrowth}
+use Rattle.qcow2_alloc.specs.FreeList.{pending_then}
 use Rattle.qcow2_alloc.specs.ImageFile.{HasReftable}
 use Rattle.qcow2_alloc.proofs.AllocationSteps.{handed_on}
 use Rattle.qcow2_image.specs.Growing.{TakesTable}
-use Rattle.qcow2_image.proofs.Grown.{lasts_untaken, table_taken}
+use Rattle.qcow2_image.proofs.Grow.Grown.{lasts_untaken, table_taken}
 use Rattle.qcow2_image.proofs.image.Qcow2.enter_l1_table.Goals as goal
 
 pub returns-in_err-pending-clause-takes : goal.returns-in_err-pending-clause-takes
@@ -22,17 +22,17 @@ returns-in-Ok-clause-takes g c = λ p sound longer.
     let old = c.args.self.now in
     let has = subst (λ o. IfSome o (λ x. HasReftable g.S.Storage.view old.file x.reftable)) c.in-Some.is sound.reftable in
     let took = c.in_ok-pending.ensures.sound p (record { sound = sound.file; reftable = has }) in
-    let becomes = subst (λ n. BecomesOn g.S.Storage.view p old.file c.allocate_meta.new.self c.allocate_meta.new.file (taken_as false (following p old.file.free_list c.allocate_meta.new.file.free_list) (run_at n c.cluster_count.result))) (sym c.cluster.ensures) took.2 in
+    let becomes = subst (λ n. UnseenAllocatorGrowth g.S.Storage.view p old.file c.allocate_meta.new.self c.allocate_meta.new.file (taken_as false (pending_then p old.file.free_list c.allocate_meta.new.file.free_list) (run_at n c.cluster_count.result))) (sym c.cluster.ensures) took.2 in
     subst (TakesTable g.S.Storage.view g.F.BackingDisk.backing p old c.write_l1_table.new.self) c.in-Ok.is
     (table_taken g.S.Storage.view g.F.BackingDisk.backing p old sound c.allocate_meta.new.file c.allocate_meta.new.self c.allocate_meta.ensures.marks c.allocate_meta.ensures.list c.allocate_meta.ensures.header
-    c.args.table c.cluster.result c.cluster_count.result c.cluster_count.ensures becomes longer c.write_l1_table.new.self c.write_l1_table.result c.write_l1_table.ensures.list (c.write_l1_table.ensures.names (following p old.file.free_list c.allocate_meta.new.file.free_list)))
+    c.args.table c.cluster.result c.cluster_count.result c.cluster_count.ensures becomes longer c.write_l1_table.new.self c.write_l1_table.result c.write_l1_table.ensures.list (c.write_l1_table.ensures.names (pending_then p old.file.free_list c.allocate_meta.new.file.free_list)))
 
 pub returns-in-Err-clause-takes : goal.returns-in-Err-clause-takes
 returns-in-Err-clause-takes g c = λ p sound longer.
     let old = c.args.self.now in
     let has = subst (λ o. IfSome o (λ x. HasReftable g.S.Storage.view old.file x.reftable)) c.in-Some.is sound.reftable in
     let took = c.in_ok-pending.ensures.sound p (record { sound = sound.file; reftable = has }) in
-    let becomes = subst (λ n. BecomesOn g.S.Storage.view p old.file c.allocate_meta.new.self c.allocate_meta.new.file (taken_as false (following p old.file.free_list c.allocate_meta.new.file.free_list) (run_at n c.cluster_count.result))) (sym c.cluster.ensures) took.2 in
+    let becomes = subst (λ n. UnseenAllocatorGrowth g.S.Storage.view p old.file c.allocate_meta.new.self c.allocate_meta.new.file (taken_as false (pending_then p old.file.free_list c.allocate_meta.new.file.free_list) (run_at n c.cluster_count.result))) (sym c.cluster.ensures) took.2 in
     subst (TakesTable g.S.Storage.view g.F.BackingDisk.backing p old c.write_l1_table.new.self) c.in-Err.is
     (table_taken g.S.Storage.view g.F.BackingDisk.backing p old sound c.allocate_meta.new.file c.allocate_meta.new.self c.allocate_meta.ensures.marks c.allocate_meta.ensures.list c.allocate_meta.ensures.header
-    c.args.table c.cluster.result c.cluster_count.result c.cluster_count.ensures becomes longer c.write_l1_table.new.self c.write_l1_table.result c.write_l1_table.ensures.list (c.write_l1_table.ensures.names (following p old.file.free_list c.allocate_meta.new.file.free_list)))
+    c.args.table c.cluster.result c.cluster_count.result c.cluster_count.ensures becomes longer c.write_l1_table.new.self c.write_l1_table.result c.write_l1_table.ensures.list (c.write_l1_table.ensures.names (pending_then p old.file.free_list c.allocate_meta.new.file.free_list)))

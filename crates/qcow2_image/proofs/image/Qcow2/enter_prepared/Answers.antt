@@ -1,5 +1,5 @@
 use Rattle.std.proofs.Common.{refl}
-use Rattle.qcow2_image.proofs.Entered.{enters, notes}
+use Rattle.qcow2_image.proofs.Commit.Entered.{enters, notes}
 use Rattle.qcow2_image.proofs.image.Qcow2.enter_prepared.Goals as goal
 
 pub returns-clause-commits : goal.returns-clause-commits

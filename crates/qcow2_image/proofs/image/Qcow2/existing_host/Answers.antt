@@ -4,7 +4,7 @@ use Rattle.qcow2_alloc.specs.ImageFile.{known_in}
 use Rattle.qcow2_laws.specs.Found.{rest_of_table}
 use Rattle.qcow2_image.specs.Found.{writable_place}
 use Rattle.qcow2_image.specs.Preparing.{IsPlaceOf}
-use Rattle.qcow2_image.proofs.Writable.{place_found, short_of}
+use Rattle.qcow2_image.proofs.Prepare.Writable.{place_found, short_of}
 use Rattle.qcow2_image.proofs.image.Qcow2.existing_host.Goals as goal
 
 pub returns-then-found-length-clause-place : goal.returns-then-found-length-clause-place

@@ -3,10 +3,10 @@ use Rattle.std.proofs.lemmas.Nat.{div-mul-add, div-add-mod', mod_below, pow_pos}
 use Rattle.qcow2_metadata.specs.Header.{cluster_size}
 use Rattle.qcow2_alloc.specs.ImageFile.{contents_in}
 use Rattle.qcow2_image.specs.CopyRange.{announced_range_of, copy_range_of}
-use Rattle.qcow2_image.specs.Views.{backing_bytes}
-use Rattle.qcow2_image.proofs.Copied.{copied, same_range}
-use Rattle.qcow2_image.proofs.Going.{goes_none}
-use Rattle.qcow2_image.proofs.Loading.{if_ok}
+use Rattle.qcow2_image.specs.ImageInvariant.{backing_bytes}
+use Rattle.qcow2_image.proofs.Prepare.Copied.{copied, same_range}
+use Rattle.qcow2_image.proofs.Prepare.Filling.{goes_none}
+use Rattle.qcow2_image.proofs.Map.Loading.{if_ok}
 use Rattle.qcow2_image.proofs.image.Qcow2.fill_cluster.Goals as goal
 
 pub returns-in_default-checked_add-clause-goes : goal.returns-in_default-checked_add-clause-goes

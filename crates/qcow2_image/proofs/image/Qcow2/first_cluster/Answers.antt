@@ -1,6 +1,6 @@
 use Rattle.std.proofs.Common.{◌≡◌, true, sym, ap, ◌∙◌}
 use Rattle.qcow2_metadata.specs.declared.l2_mapping.L2Mapping.TheVariants.{Data}
-use Rattle.qcow2_image.proofs.Looked.{held_says}
+use Rattle.qcow2_image.proofs.Map.Looked.{held_says}
 use Rattle.qcow2_image.proofs.image.Qcow2.first_cluster.Goals as goal
 
 pub returns-then-copied-clause-stands : goal.returns-then-copied-clause-stands

@@ -1,13 +1,13 @@
 use Rattle.std.proofs.Common.{[], sym, ◌∙◌, subst}
 use Rattle.std.specs.Prelude.{Result}
-use Rattle.qcow2_laws.specs.Guard.{Pending}
+use Rattle.qcow2_laws.specs.CrashInvariant.{Pending}
 use Rattle.qcow2_alloc.specs.FreeList.{with_listed}
 use Rattle.qcow2_image.specs.Calls.{Flushes}
 use Rattle.qcow2_image.specs.declared.image.Qcow2.{Qcow2}
 use Rattle.qcow2_image.specs.Image.{is_failed}
-use Rattle.qcow2_image.specs.Views.{IsSoundAt}
-use Rattle.qcow2_image.proofs.Grown.{written_back}
-use Rattle.qcow2_image.proofs.Tidying.{all_listed, beside, flushes_settled, frees_on}
+use Rattle.qcow2_image.specs.ImageInvariant.{ImageInvariant}
+use Rattle.qcow2_image.proofs.Grow.Grown.{written_back}
+use Rattle.qcow2_image.proofs.Flush.Freeing.{all_listed, beside, flushes_settled, frees_on}
 use Rattle.qcow2_image.proofs.image.Qcow2.flush.Goals as goal
 
 pub returns-clause-sees : goal.returns-clause-sees
@@ -18,15 +18,15 @@ returns-clause-sees g c =
     let mid = c.begin.new.self in
     let new = c.write_back-done.new.self in
     let r = c.write_back-done.result in
-    subst (λ (image : Qcow2 _ _). Flushes view below old image c.settled.result) (sym c.settled.ensures.rest)
-    (subst (λ (x : Result _ _). Flushes view below old (record new { is_failed = is_failed c.settled.new.self }) x) (sym c.settled.ensures.answer)
-    (flushes_settled view below old c.if-self.false new (is_failed c.settled.new.self) (c.write_back-done.ensures.stays.image.number ∙ c.begin.ensures.stays.image.number) r c.settled.ensures.marks c.settled.ensures.memory
+    subst (λ (image : Qcow2 _ _). Flushes view below old image c.mark_failure.result) (sym c.mark_failure.ensures.rest)
+    (subst (λ (x : Result _ _). Flushes view below old (record new { is_failed = is_failed c.mark_failure.new.self }) x) (sym c.mark_failure.ensures.answer)
+    (flushes_settled view below old c.if-self.false new (is_failed c.mark_failure.new.self) (c.write_back-done.ensures.stays.image.number ∙ c.begin.ensures.stays.image.number) r c.mark_failure.ensures.marks c.mark_failure.ensures.memory
     (λ out sound.
     let p : Pending = beside view below old out in
     let q : Pending = with_listed p old.file.free_list in
-    let first = c.begin.ensures.keeps q out (subst (λ (x : Pending). IsSoundAt view below x old out) (all_listed view below old out) sound) in
+    let first = c.begin.ensures.keeps q out (subst (λ (x : Pending). ImageInvariant view below x old out) (all_listed view below old out) sound) in
     frees_on view below out old mid new p r c.begin.ensures.list first
-    (c.write_back-done.ensures.frees p out (subst (λ l. IsSoundAt view below (with_listed p l) mid out) (sym c.begin.ensures.list) first.sound)))
+    (c.write_back-done.ensures.frees p out (subst (λ l. ImageInvariant view below (with_listed p l) mid out) (sym c.begin.ensures.list) first.sound)))
     c.write_back-done.ensures.written))
 
 pub returns-clause-writes : goal.returns-clause-writes
@@ -37,6 +37,6 @@ returns-clause-writes g c = λ p sound.
     let mid = c.begin.new.self in
     let new = c.write_back-done.new.self in
     let first = c.begin.ensures.keeps (with_listed p old.file.free_list) [] sound in
-    written_back view below p old new c.settled.new.self c.write_back-done.result c.settled.result
-    (frees_on view below [] old mid new p c.write_back-done.result c.begin.ensures.list first (c.write_back-done.ensures.frees p [] (subst (λ l. IsSoundAt view below (with_listed p l) mid []) (sym c.begin.ensures.list) first.sound)))
-    c.settled.ensures.answer c.settled.ensures.rest c.settled.ensures.marks
+    written_back view below p old new c.mark_failure.new.self c.write_back-done.result c.mark_failure.result
+    (frees_on view below [] old mid new p c.write_back-done.result c.begin.ensures.list first (c.write_back-done.ensures.frees p [] (subst (λ l. ImageInvariant view below (with_listed p l) mid []) (sym c.begin.ensures.list) first.sound)))
+    c.mark_failure.ensures.answer c.mark_failure.ensures.rest c.mark_failure.ensures.marks

@@ -1,17 +1,17 @@
 use Rattle.std.proofs.Common.{◌≡◌, [], sym, ap, ◌∙◌, subst, IfOk, is_some}
 use Rattle.qcow2_laws.specs.Calls.{Does, Refuses, IsSame}
-use Rattle.qcow2_laws.specs.Views.{guest_of}
+use Rattle.qcow2_laws.specs.AbstractImages.{guest_of}
 use Rattle.qcow2_image.specs.declared.image.Qcow2.{Qcow2}
 use Rattle.qcow2_laws.specs.Found.{IsFoundIn, IsFound as IsFoundOf}
 use Rattle.qcow2_laws.proofs.Unseen.{known_header}
-use Rattle.qcow2_alloc.specs.ImageFile.{known_in, stand_in}
+use Rattle.qcow2_alloc.specs.ImageFile.{known_in, state_in}
 use Rattle.qcow2_image.specs.Found.{IsFound, found_kind}
 use Rattle.qcow2_image.specs.Image.{is_failed}
 use Rattle.qcow2_image.specs.Refusals.{Marks}
-use Rattle.qcow2_image.specs.Views.{seen, pending_in}
+use Rattle.qcow2_image.specs.ImageInvariant.{abstract_of, pending_in}
 use Rattle.qcow2_image.specs.Calls.{refusal_of}
-use Rattle.qcow2_image.proofs.Answers.{answers_err, usable_works}
-use Rattle.qcow2_image.proofs.Called.{quietly_then, quiet_does, quiet_refuses}
+use Rattle.qcow2_image.proofs.Call.Answers.{answers_err, usable_works}
+use Rattle.qcow2_image.proofs.Call.Called.{quietly_then, quiet_does, quiet_refuses}
 use Rattle.qcow2_image.proofs.image.Qcow2.get_mapping.Goals as goal
 
 pub returns-in_err-kind-clause-sees : goal.returns-in_err-kind-clause-sees
@@ -21,12 +21,12 @@ returns-in_err-kind-clause-sees g c =
     let old = c.args.self.now in
     let new = c.look_up-found.new.self in
     let e = c.in_err-kind.field-0.0 in
-    let marks = subst (λ r. Marks r (is_failed new) (is_failed c.settled.new.self)) (sym c.settled.ensures.answer ∙ c.in_err-kind.was) c.settled.ensures.marks in
-    answers_err view below old c.settled.new.self [] (λ found was is. is ≡ was) c.from_residual-in_err-kind.result e c.from_residual-in_err-kind.ensures
+    let marks = subst (λ r. Marks r (is_failed new) (is_failed c.mark_failure.new.self)) (sym c.mark_failure.ensures.answer ∙ c.in_err-kind.was) c.mark_failure.ensures.marks in
+    answers_err view below old c.mark_failure.new.self [] (λ found was is. is ≡ was) c.from_residual-in_err-kind.result e c.from_residual-in_err-kind.ensures
     (λ out.
     let quiet = quietly_then view below out old c.begin.new.self new c.begin.ensures.keeps c.begin.ensures.list c.look_up-found.ensures.keeps c.look_up-found.ensures.list in
-    subst (λ (image : Qcow2 _ _). Refuses (seen view below old out) (seen view below image out) [] [] (refusal_of e) (IsSame (seen view below old out) (seen view below image out))) (sym c.settled.ensures.rest)
-    (quiet_refuses view below out old new quiet (is_failed c.settled.new.self) e marks (c.look_up-found.ensures.stays.image.number ∙ c.begin.ensures.stays.image.number)
+    subst (λ (image : Qcow2 _ _). Refuses (abstract_of view below old out) (abstract_of view below image out) [] [] (refusal_of e) (IsSame (abstract_of view below old out) (abstract_of view below image out))) (sym c.mark_failure.ensures.rest)
+    (quiet_refuses view below out old new quiet (is_failed c.mark_failure.new.self) e marks (c.look_up-found.ensures.stays.image.number ∙ c.begin.ensures.stays.image.number)
     (usable_works old c.check_usable.result c.in_ok-check_usable.was c.check_usable.ensures)))
 
 pub returns-clause-sees : goal.returns-clause-sees
@@ -36,9 +36,9 @@ returns-clause-sees g c = λ out.
     let old = c.args.self.now in
     let new = c.look_up-found.new.self in
     let quiet = quietly_then view below out old c.begin.new.self new c.begin.ensures.keeps c.begin.ensures.list c.look_up-found.ensures.keeps c.look_up-found.ensures.list in
-    let marks = subst (λ r. Marks r (is_failed new) (is_failed c.settled.new.self)) (sym c.settled.ensures.answer ∙ c.in_ok-kind.was) c.settled.ensures.marks in
-    let same : c.settled.new.self ≡ new = c.settled.ensures.rest ∙ ap (λ f. record new { is_failed = f }) marks in
-    subst (λ (image : Qcow2 _ _). Does (seen view below old out) (seen view below image out) [] [] (guest_of (seen view below image out) ≡ guest_of (seen view below old out))) (sym same)
+    let marks = subst (λ r. Marks r (is_failed new) (is_failed c.mark_failure.new.self)) (sym c.mark_failure.ensures.answer ∙ c.in_ok-kind.was) c.mark_failure.ensures.marks in
+    let same : c.mark_failure.new.self ≡ new = c.mark_failure.ensures.rest ∙ ap (λ f. record new { is_failed = f }) marks in
+    subst (λ (image : Qcow2 _ _). Does (abstract_of view below old out) (abstract_of view below image out) [] [] (guest_of (abstract_of view below image out) ≡ guest_of (abstract_of view below old out))) (sym same)
     (quiet_does view below out old new quiet (c.look_up-found.ensures.stays.image.number ∙ c.begin.ensures.stays.image.number) (usable_works old c.check_usable.result c.in_ok-check_usable.was c.check_usable.ensures))
 
 pub returns-clause-run : goal.returns-clause-run
@@ -47,23 +47,23 @@ returns-clause-run g c = λ out sound.
     let below = g.F.BackingDisk.backing in
     let new = c.look_up-found.new.self in
     let p = pending_in view below c.args.self.now out in
-    let marks = subst (λ r. Marks r (is_failed new) (is_failed c.settled.new.self)) (sym c.settled.ensures.answer ∙ c.in_ok-kind.was) c.settled.ensures.marks in
-    let same : c.settled.new.self ≡ new = c.settled.ensures.rest ∙ ap (λ f. record new { is_failed = f }) marks in
+    let marks = subst (λ r. Marks r (is_failed new) (is_failed c.mark_failure.new.self)) (sym c.mark_failure.ensures.answer ∙ c.in_ok-kind.was) c.mark_failure.ensures.marks in
+    let same : c.mark_failure.new.self ≡ new = c.mark_failure.ensures.rest ∙ ap (λ f. record new { is_failed = f }) marks in
     let begun = (c.begin.ensures.keeps p out sound).sound in
     let guarded = (c.look_up-found.ensures.keeps p out begun).sound.file.caches.kept.kept.guarded in
     let found : IsFound view new c.args.offset c.args.max c.in_ok-kind.kind c.in_ok-kind.length =
-    subst (λ r. IfOk r (λ x. IsFound view new c.args.offset c.args.max x.0 x.1)) (sym c.settled.ensures.answer ∙ c.in_ok-kind.was) (c.look_up-found.ensures.found p out begun) in
+    subst (λ r. IfOk r (λ x. IsFound view new c.args.offset c.args.max x.0 x.1)) (sym c.mark_failure.ensures.answer ∙ c.in_ok-kind.was) (c.look_up-found.ensures.found p out begun) in
     subst (λ (image : Qcow2 _ _). IsFoundIn (known_in view image.file) (is_some image.backing) c.args.offset c.args.max (found_kind c.in_ok-kind.kind) c.in_ok-kind.length) (sym same)
-    (subst (λ h. IsFoundOf h (known_in view new.file) (is_some new.backing) c.args.offset c.args.max (found_kind c.in_ok-kind.kind) c.in_ok-kind.length) (sym (known_header (stand_in view new.file p) guarded)) found)
+    (subst (λ h. IsFoundOf h (known_in view new.file) (is_some new.backing) c.args.offset c.args.max (found_kind c.in_ok-kind.kind) c.in_ok-kind.length) (sym (known_header (state_in view new.file p) guarded)) found)
 
 pub returns-in_err-kind-clause-known : goal.returns-in_err-kind-clause-known
 returns-in_err-kind-clause-known g c = λ out sound.
     let view = g.S.Storage.view in
     let p = pending_in view g.F.BackingDisk.backing c.args.self.now out in
-    ap (λ (image : Qcow2 _ _). known_in view image.file) c.settled.ensures.rest ∙ c.look_up-found.ensures.known p out (c.begin.ensures.keeps p out sound).sound ∙ c.begin.ensures.known p out sound
+    ap (λ (image : Qcow2 _ _). known_in view image.file) c.mark_failure.ensures.rest ∙ c.look_up-found.ensures.known p out (c.begin.ensures.keeps p out sound).sound ∙ c.begin.ensures.known p out sound
 
 pub returns-clause-known : goal.returns-clause-known
 returns-clause-known g c = λ out sound.
     let view = g.S.Storage.view in
     let p = pending_in view g.F.BackingDisk.backing c.args.self.now out in
-    ap (λ (image : Qcow2 _ _). known_in view image.file) c.settled.ensures.rest ∙ c.look_up-found.ensures.known p out (c.begin.ensures.keeps p out sound).sound ∙ c.begin.ensures.known p out sound
+    ap (λ (image : Qcow2 _ _). known_in view image.file) c.mark_failure.ensures.rest ∙ c.look_up-found.ensures.known p out (c.begin.ensures.keeps p out sound).sound ∙ c.begin.ensures.known p out sound

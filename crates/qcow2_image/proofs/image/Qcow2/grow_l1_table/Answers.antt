@@ -1,6 +1,6 @@
 use Rattle.std.proofs.Common.{◌≤◌, arith}
 use Rattle.qcow2_metadata.specs.EntryTable.{entry_count}
-use Rattle.qcow2_image.proofs.Grown.{is_longer, lengthened}
+use Rattle.qcow2_image.proofs.Grow.Grown.{is_longer, lengthened}
 use Rattle.qcow2_image.proofs.image.Qcow2.grow_l1_table.Goals as goal
 
 pub returns-in-Ok-clause-lengthens : goal.returns-in-Ok-clause-lengthens

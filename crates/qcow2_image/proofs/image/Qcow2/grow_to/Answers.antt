@@ -1,7 +1,7 @@
 use Rattle.qcow2_alloc.proofs.AllocationSteps.{handed_on}
 use Rattle.qcow2_image.specs.Growing.{Resizes}
-use Rattle.qcow2_image.specs.Steps.{following}
-use Rattle.qcow2_image.proofs.Grown.{lasts_more, resized_then}
+use Rattle.qcow2_image.specs.UnseenSteps.{pending_then}
+use Rattle.qcow2_image.proofs.Grow.Grown.{lasts_more, resized_then}
 use Rattle.qcow2_image.proofs.image.Qcow2.grow_to.Goals as goal
 
 pub returns-in_err-grow_l1_table-clause-resizes : goal.returns-in_err-grow_l1_table-clause-resizes
@@ -14,4 +14,4 @@ returns-clause-resizes g c = λ p sound.
     let old = c.args.self.now in
     let mid = c.grow_l1_table.new.self in
     let first = c.in_ok-grow_l1_table.ensures.lengthens p sound in
-    resized_then g.S.Storage.view g.F.BackingDisk.backing p old mid c.write_size.new.self c.args.size c.write_size.result first c.write_size.ensures.list (c.write_size.ensures.resizes (following p old mid) first.sound)
+    resized_then g.S.Storage.view g.F.BackingDisk.backing p old mid c.write_size.new.self c.args.size c.write_size.result first c.write_size.ensures.list (c.write_size.ensures.resizes (pending_then p old mid) first.sound)

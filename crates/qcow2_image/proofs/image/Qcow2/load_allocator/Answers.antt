@@ -1,6 +1,6 @@
 use Rattle.std.proofs.Common.{sym, ap, subst}
-use Rattle.qcow2_image.proofs.Opening.{fresh_read, fresh_then, stays_then, told_fresh, kept_then}
-use Rattle.qcow2_image.proofs.Clearing.{stays_after, kept_after}
+use Rattle.qcow2_image.proofs.Open.Opening.{fresh_read, fresh_then, stays_then, told_fresh, kept_then}
+use Rattle.qcow2_image.proofs.Open.Clearing.{stays_after, kept_after}
 use Rattle.qcow2_image.proofs.image.Qcow2.load_allocator.Goals as goal
 
 pub returns-clause-loaded : goal.returns-clause-loaded

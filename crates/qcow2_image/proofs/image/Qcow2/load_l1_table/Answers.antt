@@ -1,5 +1,5 @@
 use Rattle.std.proofs.Common.{sym, ◌∙◌}
-use Rattle.qcow2_image.proofs.Opening.{l1_cleared, l1_loaded}
+use Rattle.qcow2_image.proofs.Open.Opening.{l1_cleared, l1_loaded}
 use Rattle.qcow2_image.proofs.image.Qcow2.load_l1_table.Goals as goal
 
 pub returns-clause-table : goal.returns-clause-table

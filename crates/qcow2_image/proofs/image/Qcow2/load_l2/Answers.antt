@@ -1,5 +1,5 @@
-use Rattle.qcow2_image.proofs.Going.{same_held}
-use Rattle.qcow2_image.proofs.Loading.{caches_moved}
+use Rattle.qcow2_image.proofs.Prepare.Filling.{same_held}
+use Rattle.qcow2_image.proofs.Map.Loading.{caches_moved}
 use Rattle.qcow2_image.proofs.image.Qcow2.load_l2.Goals as goal
 
 pub returns-clause-keeps : goal.returns-clause-keeps

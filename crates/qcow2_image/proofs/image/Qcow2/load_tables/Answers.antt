@@ -1,4 +1,4 @@
-use Rattle.qcow2_image.proofs.Opening.{fresh_then, kept_read, kept_then}
+use Rattle.qcow2_image.proofs.Open.Opening.{fresh_then, kept_read, kept_then}
 use Rattle.qcow2_image.proofs.image.Qcow2.load_tables.Goals as goal
 
 pub returns-then-not-writable-clause-loaded : goal.returns-then-not-writable-clause-loaded

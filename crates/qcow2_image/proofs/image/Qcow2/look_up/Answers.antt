@@ -9,8 +9,8 @@ use Rattle.qcow2_laws.proofs.Tops.{IsTop-top}
 use Rattle.qcow2_alloc.specs.ImageFile.{contents_in, known_in}
 use Rattle.qcow2_laws.specs.Found.{kind_at, rest_of_table}
 use Rattle.qcow2_image.specs.Found.{l1_index_of, NamesTable, IsRunFrom}
-use Rattle.qcow2_image.proofs.Loading.{caches_moved, with_caches, if_ok}
-use Rattle.qcow2_image.proofs.Looked.{none_found}
+use Rattle.qcow2_image.proofs.Map.Loading.{caches_moved, with_caches, if_ok}
+use Rattle.qcow2_image.proofs.Map.Looked.{none_found}
 use Rattle.qcow2_image.proofs.image.Qcow2.look_up.Goals as goal
 
 pub returns-in_err-l2_get_or_insert-in-Some-clause-keeps :

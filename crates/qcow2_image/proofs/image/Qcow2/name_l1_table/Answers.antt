@@ -4,7 +4,7 @@ use Rattle.qcow2_alloc.specs.ImageError.{of_storage}
 use Rattle.qcow2_alloc.specs.ImageStorage.{storage_of}
 use Rattle.qcow2_alloc.proofs.AllocationSteps.{handed_on}
 use Rattle.qcow2_image.specs.Growing.{NamesTable}
-use Rattle.qcow2_image.proofs.NamedL1.{lasts_named, pointer_written_as, named_so}
+use Rattle.qcow2_image.proofs.Grow.NamedL1.{lasts_named, pointer_written_as, named_so}
 use Rattle.qcow2_image.proofs.image.Qcow2.name_l1_table.Goals as goal
 
 pub returns-in_err-write_l1_table_pointer-clause-names : goal.returns-in_err-write_l1_table_pointer-clause-names

@@ -2,7 +2,7 @@ use Rattle.qcow2_alloc.specs.ImageError.{of_storage}
 use Rattle.qcow2_alloc.specs.ImageStorage.{storage_of}
 use Rattle.qcow2_alloc.proofs.AllocationSteps.{handed_on, fault_of_storage}
 use Rattle.qcow2_image.specs.NewTables.{NamesNew}
-use Rattle.qcow2_image.proofs.Naming.{endures_named, named_so}
+use Rattle.qcow2_image.proofs.Prepare.Naming.{endures_named, named_so}
 use Rattle.qcow2_image.proofs.image.Qcow2.name_l2.Goals as goal
 
 pub returns-in_err-write_entry-clause-names : goal.returns-in_err-write_entry-clause-names

@@ -1,10 +1,10 @@
 use Rattle.std.proofs.Common.{◌≡◌, ◌<◌, inl, sym, ap, ◌∙◌, subst}
 use Rattle.qcow2_laws.specs.Changes.{with_held}
 use Rattle.qcow2_image.specs.declared.image.Qcow2.{Qcow2}
-use Rattle.qcow2_image.specs.Steps.{Goes, GoesBack, following}
-use Rattle.qcow2_image.specs.Views.{run_of, held_by, over_all}
-use Rattle.qcow2_image.proofs.Gaining.{following_on, goes_left, taken_held, taken_unused, still_holds, filled_as}
-use Rattle.qcow2_image.proofs.Going.{goes_then}
+use Rattle.qcow2_image.specs.UnseenSteps.{UnseenFillingStep, RefusedFillingStep, pending_then}
+use Rattle.qcow2_image.specs.ImageInvariant.{run_of, held_by, over_all}
+use Rattle.qcow2_image.proofs.Prepare.Gaining.{following_on, goes_left, taken_held, taken_unused, still_holds, filled_as}
+use Rattle.qcow2_image.proofs.Prepare.Filling.{goes_then}
 use Rattle.qcow2_image.proofs.image.Qcow2.new_cluster.Goals as goal
 
 pub returns-in-Ok-clause-gains : goal.returns-in-Ok-clause-gains
@@ -17,14 +17,14 @@ returns-in-Ok-clause-gains g c = λ p out sound holds.
     let n = c.in_ok-pending.pending in
     let took = c.in_ok-pending.ensures.takes p out sound holds in
     let unused = taken_unused view below out old mid p n took.0 holds took.2 in
-    let held = with_held (following p old mid) (run_of n) in
+    let held = with_held (pending_then p old mid) (run_of n) in
     let some : 0 < held.held c.cluster.result = subst (λ k. 0 < held.held k) (sym c.cluster.ensures) (taken_held view below out old mid p n took.0 holds took.2) in
     let free : over_all held_by out c.cluster.result ≡ 0 = ap (over_all held_by out) c.cluster.ensures ∙ unused in
     record {
       one = took.0;
       kind = took.1;
       unused = unused;
-      goes = subst (λ q. Goes view below p (with_held q (run_of n)) old new out) (following_on view below out p old mid new c.fill_cluster.ensures.list)
+      goes = subst (λ q. UnseenFillingStep view below p (with_held q (run_of n)) old new out) (following_on view below out p old mid new c.fill_cluster.ensures.list)
           (goes_then view below out old mid new p held held took.2 (c.fill_cluster.ensures.goes held out took.2.sound (still_holds view below out old mid p n took.0 holds took.2) some free));
       filled = filled_as view below mid old new c.cluster.result n.first_cluster c.args.offset c.args.length c.args.overwrite took.2.header took.2.below c.cluster.ensures (c.in-Ok.ensures.fills took.2.sound.file.honest took.2.sound.below);
     }
@@ -38,10 +38,10 @@ returns-in-Err-clause-gains g c = λ p out sound holds.
     let new = c.fill_cluster.new.self in
     let n = c.in_ok-pending.pending in
     let took = c.in_ok-pending.ensures.takes p out sound holds in
-    let held = with_held (following p old mid) (run_of n) in
+    let held = with_held (pending_then p old mid) (run_of n) in
     let some : 0 < held.held c.cluster.result = subst (λ k. 0 < held.held k) (sym c.cluster.ensures) (taken_held view below out old mid p n took.0 holds took.2) in
     let free : over_all held_by out c.cluster.result ≡ 0 = ap (over_all held_by out) c.cluster.ensures ∙ taken_unused view below out old mid p n took.0 holds took.2 in
     let filled = goes_then view below out old mid new p held held took.2 (c.fill_cluster.ensures.goes held out took.2.sound (still_holds view below out old mid p n took.0 holds took.2) some free) in
-    let gone = subst (λ q. Goes view below p (with_held q (run_of n)) old new out) (following_on view below out p old mid new c.fill_cluster.ensures.list) filled in
-    subst (λ (image : Qcow2 _ _). GoesBack view below p old image out c.in-Err.refusal) (sym c.hand_back.ensures)
+    let gone = subst (λ q. UnseenFillingStep view below p (with_held q (run_of n)) old new out) (following_on view below out p old mid new c.fill_cluster.ensures.list) filled in
+    subst (λ (image : Qcow2 _ _). RefusedFillingStep view below p old image out c.in-Err.refusal) (sym c.hand_back.ensures)
     (inl (goes_left view below out old new p n took.0 took.1 gone))

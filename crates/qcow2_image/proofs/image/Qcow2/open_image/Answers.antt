@@ -5,7 +5,7 @@ use Rattle.qcow2_laws.specs.Opened.{nothing_pending, surplus_of}
 use Rattle.qcow2_alloc.specs.declared.image_file.ImageFile.{ImageFile}
 use Rattle.qcow2_image.specs.declared.image.Qcow2.{Qcow2}
 use Rattle.qcow2_image.specs.Opened.{Opens, IsKeptSince, HasNamesIn}
-use Rattle.qcow2_image.proofs.Opening.{fresh_new, opened, kept_loaded, kept_opened, named_still}
+use Rattle.qcow2_image.proofs.Open.Opening.{fresh_new, opened, kept_loaded, kept_opened, named_still}
 use Rattle.qcow2_image.proofs.image.Qcow2.open_image.Goals as goal
 
 pub returns-in-Ok-load_tables-clause-opens : goal.returns-in-Ok-load_tables-clause-opens

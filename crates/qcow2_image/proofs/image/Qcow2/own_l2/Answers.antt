@@ -2,7 +2,7 @@ use Rattle.std.proofs.Common.{◌≡◌, ◌*◌, ◌/◌, ◌^◌, Ok, arith, s
 use Rattle.qcow2_metadata.specs.Entries.{host_offset, is_copied}
 use Rattle.qcow2_image.specs.Found.{l1_index_of}
 use Rattle.qcow2_image.specs.NewTables.{OwnsTable}
-use Rattle.qcow2_image.proofs.Owning.{refused, left_alone, may_none, says_none, entered_owns, owns_already}
+use Rattle.qcow2_image.proofs.Prepare.Owning.{refused, left_alone, may_none, says_none, entered_owns, owns_already}
 use Rattle.qcow2_image.proofs.image.Qcow2.own_l2.Goals as goal
 
 pub returns-then-not-in_bounds-clause-owns : goal.returns-then-not-in_bounds-clause-owns

@@ -3,9 +3,9 @@ use Rattle.qcow2_alloc.specs.ImageError.{of_storage}
 use Rattle.qcow2_alloc.specs.ImageStorage.{storage_of}
 use Rattle.qcow2_alloc.proofs.AllocationSteps.{handed_on}
 use Rattle.qcow2_image.specs.Growing.{with_table, IsLonger, PlacesTable}
-use Rattle.qcow2_image.proofs.Called.{keeps_then}
-use Rattle.qcow2_image.proofs.Loading.{caches_moved, with_caches}
-use Rattle.qcow2_image.proofs.LongerTables.{table_write_as, keeps_placed, stands_whole}
+use Rattle.qcow2_image.proofs.Call.Called.{keeps_then}
+use Rattle.qcow2_image.proofs.Map.Loading.{caches_moved, with_caches}
+use Rattle.qcow2_image.proofs.Grow.LongerTables.{table_write_as, keeps_placed, stands_whole}
 use Rattle.qcow2_image.proofs.image.Qcow2.place_l1_table.Goals as goal
 
 pub returns-in_err-flush_rb-clause-places : goal.returns-in_err-flush_rb-clause-places

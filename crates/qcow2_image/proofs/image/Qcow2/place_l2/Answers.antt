@@ -7,9 +7,9 @@ use Rattle.qcow2_alloc.specs.MetadataCaches.{l2_at, PutSound}
 use Rattle.qcow2_alloc.specs.TableCaches.{IsTableOf}
 use Rattle.qcow2_alloc.proofs.AllocationSteps.{handed_on}
 use Rattle.qcow2_image.specs.NewTables.{Places}
-use Rattle.qcow2_image.proofs.Called.{keeps_then}
-use Rattle.qcow2_image.proofs.Loading.{if_ok}
-use Rattle.qcow2_image.proofs.Placing.{holds, keeps_placed, keeps_put, keeps_stored, places_when, stands_ready, stands_there}
+use Rattle.qcow2_image.proofs.Call.Called.{keeps_then}
+use Rattle.qcow2_image.proofs.Map.Loading.{if_ok}
+use Rattle.qcow2_image.proofs.Prepare.Placing.{holds, keeps_placed, keeps_put, keeps_stored, places_when, stands_ready, stands_there}
 use Rattle.qcow2_image.proofs.image.Qcow2.place_l2.Goals as goal
 
 pub returns-in_err-write-clause-places : goal.returns-in_err-write-clause-places

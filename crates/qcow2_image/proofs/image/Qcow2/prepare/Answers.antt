@@ -1,14 +1,14 @@
 use Rattle.std.proofs.Common.{inl, sym, subst, arith}
 use Rattle.qcow2_alloc.specs.ImageFile.{known_in}
 use Rattle.qcow2_alloc.proofs.AllocationSteps.{handed_on}
-use Rattle.qcow2_image.specs.Parts.{PreparesRange}
+use Rattle.qcow2_image.specs.CallParts.{PreparesRange}
 use Rattle.qcow2_image.specs.Preparing.{IsPlaceOf, IsWritableAt}
-use Rattle.qcow2_image.specs.Views.{meaning, pending_in}
+use Rattle.qcow2_image.specs.ImageInvariant.{meaning, pending_in}
 use Rattle.qcow2_alloc.proofs.Following.{header_format}
-use Rattle.qcow2_image.proofs.PreparedAs.{answered_before, answered_existing, answered_format, answered_rest, rest_format, writable_format, if_ok_three, taken_before}
-use Rattle.qcow2_image.proofs.Preparing.{readied_existing}
-use Rattle.qcow2_image.proofs.Refused.{prepares_after, readied_after}
-use Rattle.qcow2_image.proofs.Taken.{if_err, taken_by}
+use Rattle.qcow2_image.proofs.Prepare.PreparedAs.{answered_before, answered_existing, answered_format, answered_rest, rest_format, writable_format, if_ok_three, taken_before}
+use Rattle.qcow2_image.proofs.Prepare.Preparing.{readied_existing}
+use Rattle.qcow2_image.proofs.Call.Refused.{prepares_after, readied_after}
+use Rattle.qcow2_image.proofs.Prepare.Taken.{if_err, taken_by}
 use Rattle.qcow2_image.proofs.image.Qcow2.prepare.Goals as goal
 
 pub returns-in_err-table-clause-readies : goal.returns-in_err-table-clause-readies

@@ -3,18 +3,18 @@ use Rattle.std.specs.Prelude.{IfErr, IfOk, Result}
 use Rattle.qcow2_alloc.specs.declared.error.ImageError.TheVariants.{TablePrepared}
 use Rattle.qcow2_alloc.specs.ImageFile.{known_in}
 use Rattle.qcow2_image.specs.Preparing.{IsAnswered, IsTaken}
-use Rattle.qcow2_image.proofs.Loading.{if_ok}
-use Rattle.qcow2_image.proofs.PreparedAs.{answered_before, taken_before}
-use Rattle.qcow2_image.proofs.Taken.{if_err}
+use Rattle.qcow2_image.proofs.Map.Loading.{if_ok}
+use Rattle.qcow2_image.proofs.Prepare.PreparedAs.{answered_before, taken_before}
+use Rattle.qcow2_image.proofs.Prepare.Taken.{if_err}
 use Rattle.qcow2_image.specs.declared.image.Qcow2.{Qcow2}
 use Rattle.qcow2_image.specs.Calls.{Prepares}
 use Rattle.qcow2_image.specs.Image.{is_failed}
-use Rattle.qcow2_image.specs.Parts.{IsExisting}
-use Rattle.qcow2_image.specs.Views.{meaning, pending_in}
-use Rattle.qcow2_image.proofs.Called.{listed}
-use Rattle.qcow2_image.proofs.Answers.{prepare_usable}
-use Rattle.qcow2_image.proofs.PrepareCalls.{prepares_nothing, prepares_settled}
-use Rattle.qcow2_image.proofs.Refused.{prepares_after, stays_kept}
+use Rattle.qcow2_image.specs.CallParts.{IsExisting}
+use Rattle.qcow2_image.specs.ImageInvariant.{meaning, pending_in}
+use Rattle.qcow2_image.proofs.Call.Called.{listed}
+use Rattle.qcow2_image.proofs.Call.Answers.{prepare_usable}
+use Rattle.qcow2_image.proofs.Prepare.PrepareCalls.{prepares_nothing, prepares_settled}
+use Rattle.qcow2_image.proofs.Call.Refused.{prepares_after, stays_kept}
 use Rattle.qcow2_image.proofs.image.Qcow2.prepare_data_mapping.Goals as goal
 
 pub returns-then-length-eq0-clause-sees : goal.returns-then-length-eq0-clause-sees
@@ -33,10 +33,10 @@ returns-clause-sees g c =
     let new = c.prepare-prepared.new.self in
     let r = c.prepare-prepared.result in
     let some : 0 < c.args.length = let isnt = c.if-length-eq0.false in omega arith in
-    subst (λ (image : Qcow2 _ _). Prepares view below old image c.args.offset c.args.length c.args.overwrite c.settled.result) (sym c.settled.ensures.rest)
-    (subst (λ (x : Result _ _). Prepares view below old (record new { is_failed = is_failed c.settled.new.self }) c.args.offset c.args.length c.args.overwrite x) (sym c.settled.ensures.answer)
-    (prepares_settled view below old (prepare_usable old c.args.offset c.args.length c.check_prepare.result c.in_ok-check_prepare.was c.check_prepare.ensures.refusal) new (is_failed c.settled.new.self)
-    (c.prepare-prepared.ensures.stays.image.number ∙ c.begin.ensures.stays.image.number) c.args.offset c.args.length c.args.overwrite r c.settled.ensures.marks c.settled.ensures.memory
+    subst (λ (image : Qcow2 _ _). Prepares view below old image c.args.offset c.args.length c.args.overwrite c.mark_failure.result) (sym c.mark_failure.ensures.rest)
+    (subst (λ (x : Result _ _). Prepares view below old (record new { is_failed = is_failed c.mark_failure.new.self }) c.args.offset c.args.length c.args.overwrite x) (sym c.mark_failure.ensures.answer)
+    (prepares_settled view below old (prepare_usable old c.args.offset c.args.length c.check_prepare.result c.in_ok-check_prepare.was c.check_prepare.ensures.refusal) new (is_failed c.mark_failure.new.self)
+    (c.prepare-prepared.ensures.stays.image.number ∙ c.begin.ensures.stays.image.number) c.args.offset c.args.length c.args.overwrite r c.mark_failure.ensures.marks c.mark_failure.ensures.memory
     (λ out sound.
     let kept = stays_kept view below out old mid sound (listed view below out old mid (λ s. record { keeps = c.begin.ensures.keeps (pending_in view below old out) out s; list = c.begin.ensures.list }) sound) in
     prepares_after view below out old mid new kept c.args.offset c.args.length c.args.overwrite r (c.prepare-prepared.ensures.readies some out kept.sound))))
@@ -50,8 +50,8 @@ returns-clause-maps g c = λ some out sound.
     let new = c.prepare-prepared.new.self in
     let now = known_in view new.file in
     let stays = stays_kept view below out old mid sound (listed view below out old mid (λ s. record { keeps = c.begin.ensures.keeps (pending_in view below old out) out s; list = c.begin.ensures.list }) sound) in
-    subst (λ (image : Qcow2 _ _). IfOk c.settled.result (λ p. IsAnswered old.file.header.fields (known_in view old.file) c.args.offset c.args.length image.file.header.fields (known_in view image.file) p (meaning view below image p))) (sym c.settled.ensures.rest)
-    (subst (λ r. IfOk r (λ p. IsAnswered old.file.header.fields (known_in view old.file) c.args.offset c.args.length new.file.header.fields now p (meaning view below new p))) (sym c.settled.ensures.answer)
+    subst (λ (image : Qcow2 _ _). IfOk c.mark_failure.result (λ p. IsAnswered old.file.header.fields (known_in view old.file) c.args.offset c.args.length image.file.header.fields (known_in view image.file) p (meaning view below image p))) (sym c.mark_failure.ensures.rest)
+    (subst (λ r. IfOk r (λ p. IsAnswered old.file.header.fields (known_in view old.file) c.args.offset c.args.length new.file.header.fields now p (meaning view below new p))) (sym c.mark_failure.ensures.answer)
     (if_ok c.prepare-prepared.result
     (λ p is. answered_before view old mid c.args.offset c.args.length stays.header stays.covers new.file.header.fields now p (meaning view below new p) is)
     (c.prepare-prepared.ensures.answers some out stays.sound)))
@@ -64,7 +64,7 @@ returns-clause-taken g c = λ may out sound.
     let mid = c.begin.new.self in
     let stays = stays_kept view below out old mid sound (listed view below out old mid (λ s. record { keeps = c.begin.ensures.keeps (pending_in view below old out) out s; list = c.begin.ensures.list }) sound) in
     let some : 0 < c.args.length = let isnt = c.if-length-eq0.false in omega arith in
-    subst (λ r. IfErr r (λ e. e ≡ TablePrepared → IsTaken old.file.header.fields (known_in view old.file) c.args.offset c.args.length out)) (sym c.settled.ensures.answer)
+    subst (λ r. IfErr r (λ e. e ≡ TablePrepared → IsTaken old.file.header.fields (known_in view old.file) c.args.offset c.args.length out)) (sym c.mark_failure.ensures.answer)
     (if_err c.prepare-prepared.result
     (λ e taken is. taken_before view old mid c.args.offset c.args.length stays.header stays.covers out (taken is))
     (c.prepare-prepared.ensures.taken some out stays.sound))

@@ -6,10 +6,10 @@ use Rattle.qcow2_image.specs.declared.mappings.FirstCluster.{FirstCluster}
 use Rattle.qcow2_image.specs.declared.prepared.Prepared.{Prepared}
 use Rattle.qcow2_image.specs.FirstCluster.{IsFirst}
 use Rattle.qcow2_image.specs.Found.{l1_index_of}
-use Rattle.qcow2_image.specs.Parts.{IsReadied, Readies}
-use Rattle.qcow2_image.specs.Views.{pending_in}
+use Rattle.qcow2_image.specs.CallParts.{IsReadied, Readies}
+use Rattle.qcow2_image.specs.ImageInvariant.{pending_in}
 use Rattle.qcow2_image.specs.Preparing.{IsRest}
-use Rattle.qcow2_image.proofs.ReadyingNew.{back_none, first_stands, not_pinned, readied_in_place}
+use Rattle.qcow2_image.proofs.Prepare.ReadyingNew.{back_none, first_stands, not_pinned, readied_in_place}
 use Rattle.qcow2_image.proofs.image.Qcow2.prepare_in.Goals as goal
 
 pub returns-then-l2_is_pinned-clause-readies : goal.returns-then-l2_is_pinned-clause-readies

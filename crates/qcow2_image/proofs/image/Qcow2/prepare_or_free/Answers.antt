@@ -1,4 +1,4 @@
-use Rattle.qcow2_image.proofs.Refused.{back_then_freed}
+use Rattle.qcow2_image.proofs.Call.Refused.{back_then_freed}
 use Rattle.qcow2_image.proofs.image.Qcow2.prepare_or_free.Goals as goal
 
 pub returns-in-Ok-clause-readies : goal.returns-in-Ok-clause-readies

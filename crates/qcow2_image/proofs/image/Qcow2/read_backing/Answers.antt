@@ -2,7 +2,7 @@ use Rattle.std.proofs.Common.{◌≡◌, ℕ, ◌+◌, ◌<◌, List, length, sy
 use Rattle.image_access.specs.Contents.{bytes_at}
 use Rattle.image_access.proofs.Bytes.{byte_at-bytes_at, length-bytes_at}
 use Rattle.qcow2_metadata.specs.Bytes.{byte_at}
-use Rattle.qcow2_image.specs.Views.{IsHonestBacking, backing_bytes}
+use Rattle.qcow2_image.specs.ImageInvariant.{IsHonestBacking, backing_bytes}
 use Rattle.qcow2_image.proofs.image.Qcow2.read_backing.Goals as goal
 
 pub returns-clause-reads : goal.returns-clause-reads

@@ -1,17 +1,17 @@
 use Rattle.std.proofs.Common.{◌≡◌, ◌+◌, ◌<◌, [], Err, sym, ap, ◌∙◌, subst, rules, length}
 use Rattle.std.specs.Prelude.{Result}
 use Rattle.qcow2_laws.specs.Calls.{Shows, IsSame}
-use Rattle.qcow2_laws.specs.Views.{guest_of}
+use Rattle.qcow2_laws.specs.AbstractImages.{guest_of}
 use Rattle.qcow2_image.specs.Calls.{Answers}
 use Rattle.qcow2_image.specs.declared.image.Qcow2.{Qcow2}
 use Rattle.qcow2_alloc.specs.declared.error.ImageError.TheVariants.{OutdatedMapping}
 use Rattle.qcow2_image.specs.Found.{IsFoundWhole, further_by}
 use Rattle.qcow2_image.specs.Image.{is_failed}
 use Rattle.qcow2_image.specs.Refusals.{Marks}
-use Rattle.qcow2_image.specs.Views.{pending_in}
-use Rattle.qcow2_image.proofs.Answers.{usable_works}
-use Rattle.qcow2_image.proofs.Called.{told_answers, tells_quietly, quietly_then}
-use Rattle.qcow2_image.proofs.Loading.{if_ok}
+use Rattle.qcow2_image.specs.ImageInvariant.{pending_in}
+use Rattle.qcow2_image.proofs.Call.Answers.{usable_works}
+use Rattle.qcow2_image.proofs.Call.Called.{told_answers, tells_quietly, quietly_then}
+use Rattle.qcow2_image.proofs.Map.Loading.{if_ok}
 use Rattle.qcow2_image.proofs.image.Qcow2.read_mapped.Goals as goal
 
 pub returns-clause-sees : goal.returns-clause-sees
@@ -23,11 +23,11 @@ returns-clause-sees g c =
     let shown = c.read_current-done.new.bytes in
     let place = c.args.mapping.now.offset + c.args.at in
     let some : 0 < length c.args.bytes.now = search rules in
-    subst (λ (image : Qcow2 _ _). Answers view below old image [] (λ done was is. (is ≡ was) × Shows was.disk place shown) c.settled.result) (sym c.settled.ensures.rest)
-    (subst (λ (r : Result _ _). Answers view below old (record new { is_failed = is_failed c.settled.new.self }) [] (λ done was is. (is ≡ was) × Shows was.disk place shown) r) (sym c.settled.ensures.answer)
-    (told_answers view below old (record new { is_failed = is_failed c.settled.new.self }) (λ done was is. (is ≡ was) × Shows was.disk place shown) c.read_current-done.result
+    subst (λ (image : Qcow2 _ _). Answers view below old image [] (λ done was is. (is ≡ was) × Shows was.disk place shown) c.mark_failure.result) (sym c.mark_failure.ensures.rest)
+    (subst (λ (r : Result _ _). Answers view below old (record new { is_failed = is_failed c.mark_failure.new.self }) [] (λ done was is. (is ≡ was) × Shows was.disk place shown) r) (sym c.mark_failure.ensures.answer)
+    (told_answers view below old (record new { is_failed = is_failed c.mark_failure.new.self }) (λ done was is. (is ≡ was) × Shows was.disk place shown) c.read_current-done.result
     (tells_quietly view below old new (λ out. quietly_then view below out old c.begin.new.self new c.begin.ensures.keeps c.begin.ensures.list c.read_current-done.ensures.keeps c.read_current-done.ensures.list)
-    (is_failed c.settled.new.self) (λ done v w. IsSame v w × Shows (guest_of v).disk place shown) c.read_current-done.result c.settled.ensures.marks (c.read_current-done.ensures.stays.image.number ∙ c.begin.ensures.stays.image.number)
+    (is_failed c.mark_failure.new.self) (λ done v w. IsSame v w × Shows (guest_of v).disk place shown) c.read_current-done.result c.mark_failure.ensures.marks (c.read_current-done.ensures.stays.image.number ∙ c.begin.ensures.stays.image.number)
     (usable_works old c.check_usable.result c.in_ok-check_usable.was c.check_usable.ensures)
     (λ out sound same. if_ok c.read_current-done.result (λ done shows. (same, subst (λ g. Shows g.disk place shown) same shows))
     (c.read_current-done.ensures.shows some (pending_in view below old out) out (c.begin.ensures.keeps (pending_in view below old out) out sound).sound)))))
@@ -38,8 +38,8 @@ returns-clause-outdated g c = λ out sound is whole.
     let p = pending_in view g.F.BackingDisk.backing c.args.self.now out in
     let new = c.read_current-done.new.self in
     let some : 0 < length c.args.bytes.now = search rules in
-    let answer : c.read_current-done.result ≡ Err OutdatedMapping = sym c.settled.ensures.answer ∙ is in
-    let marks : is_failed c.settled.new.self ≡ is_failed new = subst (λ r. Marks r (is_failed new) (is_failed c.settled.new.self)) answer c.settled.ensures.marks in
-    let same : c.settled.new.self ≡ new = c.settled.ensures.rest ∙ ap (λ f. record new { is_failed = f }) marks in
+    let answer : c.read_current-done.result ≡ Err OutdatedMapping = sym c.mark_failure.ensures.answer ∙ is in
+    let marks : is_failed c.mark_failure.new.self ≡ is_failed new = subst (λ r. Marks r (is_failed new) (is_failed c.mark_failure.new.self)) answer c.mark_failure.ensures.marks in
+    let same : c.mark_failure.new.self ≡ new = c.mark_failure.ensures.rest ∙ ap (λ f. record new { is_failed = f }) marks in
     c.read_current-done.ensures.outdated some p out (c.begin.ensures.keeps p out sound).sound answer
     (subst (λ (image : Qcow2 _ _). IsFoundWhole view image (c.args.mapping.now.offset + c.args.at) (further_by c.args.at c.args.mapping.now.kind) (length c.args.bytes.now)) same whole)

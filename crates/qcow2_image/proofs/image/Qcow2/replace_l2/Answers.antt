@@ -1,8 +1,8 @@
 use Rattle.std.proofs.Common.{inl, refl}
 use Rattle.qcow2_image.specs.NewTables.{OwnsTable}
-use Rattle.qcow2_image.proofs.Entering.{as_following}
-use Rattle.qcow2_image.proofs.Loading.{caches_moved, with_caches}
-use Rattle.qcow2_image.proofs.Owning.{refused, says_copy, shared_still, owned_then}
+use Rattle.qcow2_image.proofs.Prepare.Entering.{as_following}
+use Rattle.qcow2_image.proofs.Map.Loading.{caches_moved, with_caches}
+use Rattle.qcow2_image.proofs.Prepare.Owning.{refused, says_copy, shared_still, owned_then}
 use Rattle.qcow2_image.proofs.image.Qcow2.replace_l2.Goals as goal
 
 pub returns-in_err-l2_get_or_insert-clause-owns : goal.returns-in_err-l2_get_or_insert-clause-owns

@@ -7,7 +7,7 @@ use Rattle.qcow2_laws.proofs.Tops.{IsTop-top}
 use Rattle.qcow2_alloc.specs.ImageFile.{contents_in, known_in}
 use Rattle.qcow2_laws.specs.Found.{kind_at}
 use Rattle.qcow2_image.specs.Found.{mapping_of, l1_index_of, IsRunBehind}
-use Rattle.qcow2_image.proofs.Looked.{cluster_near, says_known, run_found}
+use Rattle.qcow2_image.proofs.Map.Looked.{cluster_near, says_known, run_found}
 use Rattle.qcow2_image.proofs.image.Qcow2.run_in_table.Goals as goal
 
 pub alike_behind-requires-clause-near : goal.alike_behind-requires-clause-near

@@ -1,6 +1,6 @@
 use Rattle.std.proofs.Common.{◌∙◌, sym}
-use Rattle.qcow2_image.proofs.Loading.{caches_moved, with_caches}
-use Rattle.qcow2_image.proofs.Storing.{said_of_none, stores_all, stores_counts}
+use Rattle.qcow2_image.proofs.Map.Loading.{caches_moved, with_caches}
+use Rattle.qcow2_image.proofs.Prepare.Storing.{said_of_none, stores_all, stores_counts}
 use Rattle.qcow2_image.proofs.image.Qcow2.store_first.Goals as goal
 
 pub returns-then-is_some-clause-stores : goal.returns-then-is_some-clause-stores

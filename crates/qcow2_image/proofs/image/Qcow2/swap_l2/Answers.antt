@@ -1,7 +1,7 @@
 use Rattle.std.proofs.Common.{ap, ◌∙◌}
 use Rattle.qcow2_alloc.specs.ClustersToFree.{metadata_entry}
 use Rattle.qcow2_image.specs.NewTables.{OwnsTable}
-use Rattle.qcow2_image.proofs.Owning.{refused, left_alone, swapped_owns}
+use Rattle.qcow2_image.proofs.Prepare.Owning.{refused, left_alone, swapped_owns}
 use Rattle.qcow2_image.proofs.image.Qcow2.swap_l2.Goals as goal
 
 pub returns-in-Err-clause-owns : goal.returns-in-Err-clause-owns

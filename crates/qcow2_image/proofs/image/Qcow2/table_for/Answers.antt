@@ -1,10 +1,10 @@
 use Rattle.std.proofs.Common.{Err, subst}
-use Rattle.qcow2_laws.specs.Guard.{Pending}
+use Rattle.qcow2_laws.specs.CrashInvariant.{Pending}
 use Rattle.qcow2_alloc.proofs.AllocationSteps.{handed_on}
-use Rattle.qcow2_image.specs.Parts.{FindsTable}
-use Rattle.qcow2_image.specs.Views.{IsSoundAt, pending_in}
-use Rattle.qcow2_image.proofs.Refused.{finds, finds_after, left_refused, stays_kept}
-use Rattle.qcow2_image.proofs.Tidying.{all_listed, beside, freed_refused, tidy_stays}
+use Rattle.qcow2_image.specs.CallParts.{FindsTable}
+use Rattle.qcow2_image.specs.ImageInvariant.{ImageInvariant, pending_in}
+use Rattle.qcow2_image.proofs.Call.Refused.{finds, finds_after, left_refused, stays_kept}
+use Rattle.qcow2_image.proofs.Flush.Freeing.{all_listed, beside, freed_refused, tidy_stays}
 use Rattle.qcow2_image.proofs.image.Qcow2.table_for.Goals as goal
 
 pub returns-then-has_own_l2-clause-finds : goal.returns-then-has_own_l2-clause-finds
@@ -30,7 +30,7 @@ returns-in_err-free_listed-clause-finds g c = λ out sound.
     let new = c.free_listed.new.self in
     let e = c.in_err-free_listed.field-0.0 in
     let first = stays_kept view below out old mid sound (c.in_ok-own_l2.ensures.owns (pending_in view below old out) out sound).0 in
-    let listed = subst (λ (x : Pending). IsSoundAt view below x mid out) (all_listed view below mid out) first.sound in
+    let listed = subst (λ (x : Pending). ImageInvariant view below x mid out) (all_listed view below mid out) first.sound in
     handed_on (FindsTable view below old new out c.args.offset) c.from_residual-in_err-free_listed.result e c.from_residual-in_err-free_listed.ensures
     (finds_after view below out old mid new first c.args.offset (Err e) (freed_refused view below mid out new e first.sound (c.in_err-free_listed.ensures.frees (beside view below mid out) out listed)))
 
@@ -43,7 +43,7 @@ returns-clause-finds g c = λ out sound.
     let freed = c.free_listed.new.self in
     let new = c.ensure_l2-2.new.self in
     let first = stays_kept view below out old mid sound (c.in_ok-own_l2.ensures.owns (pending_in view below old out) out sound).0 in
-    let listed = subst (λ (x : Pending). IsSoundAt view below x mid out) (all_listed view below mid out) first.sound in
+    let listed = subst (λ (x : Pending). ImageInvariant view below x mid out) (all_listed view below mid out) first.sound in
     let second = tidy_stays view below mid out freed first.sound (c.in_ok-free_listed.ensures.frees (beside view below mid out) out listed) in
     finds_after view below out old mid new first c.args.offset c.ensure_l2-2.result
     (finds_after view below out mid freed new second c.args.offset c.ensure_l2-2.result

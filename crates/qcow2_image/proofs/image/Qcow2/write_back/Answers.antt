@@ -1,12 +1,12 @@
 use Rattle.std.proofs.Common.{refl}
-use Rattle.qcow2_laws.specs.Guard.{Pending}
+use Rattle.qcow2_laws.specs.CrashInvariant.{Pending}
 use Rattle.qcow2_alloc.specs.FreeList.{with_listed}
 use Rattle.qcow2_alloc.specs.ImageFile.{contents_in}
 use Rattle.qcow2_alloc.proofs.AllocationSteps.{handed_on}
-use Rattle.qcow2_image.specs.Steps.{FreesListed}
-use Rattle.qcow2_image.proofs.Called.{keeps_then}
-use Rattle.qcow2_image.proofs.Loading.{with_caches, caches_moved, read_moved, all_known}
-use Rattle.qcow2_image.proofs.Tidying.{frees_any, tidies_on}
+use Rattle.qcow2_image.specs.UnseenSteps.{FreesListed}
+use Rattle.qcow2_image.proofs.Call.Called.{keeps_then}
+use Rattle.qcow2_image.proofs.Map.Loading.{with_caches, caches_moved, read_moved, all_known}
+use Rattle.qcow2_image.proofs.Flush.Freeing.{frees_any, tidies_on}
 use Rattle.qcow2_image.proofs.image.Qcow2.write_back.Goals as goal
 
 pub returns-in_err-free_listed-clause-frees : goal.returns-in_err-free_listed-clause-frees

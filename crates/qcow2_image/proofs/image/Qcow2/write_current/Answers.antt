@@ -7,11 +7,11 @@ use Rattle.qcow2_image.specs.declared.image.Qcow2.{Qcow2}
 use Rattle.qcow2_image.specs.declared.mapping.MappingKind.TheVariants.{Raw}
 use Rattle.qcow2_image.specs.declared.mapping.Place.TheVariants.{Image}
 use Rattle.qcow2_image.specs.Found.{IsFoundWhole, IsMappedAs}
-use Rattle.qcow2_image.specs.Parts.{PutsPart, IsWritten}
-use Rattle.qcow2_image.specs.Views.{pending_in}
-use Rattle.qcow2_image.proofs.PutParts.{puts_refused, puts_then, puts_written}
-use Rattle.qcow2_image.proofs.Near.{found_near}
-use Rattle.qcow2_image.proofs.Called.{Quietly, quiet_sound}
+use Rattle.qcow2_image.specs.CallParts.{PutsPart, IsWritten}
+use Rattle.qcow2_image.specs.ImageInvariant.{pending_in}
+use Rattle.qcow2_image.proofs.Write.PutParts.{puts_refused, puts_then, puts_written}
+use Rattle.qcow2_image.proofs.Map.Near.{found_near}
+use Rattle.qcow2_image.proofs.Call.Called.{Quietly, quiet_sound}
 use Rattle.qcow2_image.proofs.image.Qcow2.write_current.Goals as goal
 
 pub returns-in_err-check_in_place-clause-puts : goal.returns-in_err-check_in_place-clause-puts

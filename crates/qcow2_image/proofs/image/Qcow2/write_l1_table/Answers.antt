@@ -1,6 +1,6 @@
 use Rattle.qcow2_alloc.proofs.AllocationSteps.{handed_on}
 use Rattle.qcow2_image.specs.Growing.{NamesTable}
-use Rattle.qcow2_image.proofs.Grown.{named_then}
+use Rattle.qcow2_image.proofs.Grow.Grown.{named_then}
 use Rattle.qcow2_image.proofs.image.Qcow2.write_l1_table.Goals as goal
 
 pub returns-in_err-place_l1_table-clause-names : goal.returns-in_err-place_l1_table-clause-names

@@ -4,8 +4,8 @@ use Rattle.qcow2_alloc.proofs.AllocationSteps.{handed_on}
 use Rattle.qcow2_alloc.proofs.FileSteps.{one_here}
 use Rattle.qcow2_image.specs.declared.image.Qcow2.{Qcow2}
 use Rattle.qcow2_image.specs.NewTables.{WritesNew}
-use Rattle.qcow2_image.proofs.Called.{keeps_then}
-use Rattle.qcow2_image.proofs.Entering.{may_still, says_still, written_so}
+use Rattle.qcow2_image.proofs.Call.Called.{keeps_then}
+use Rattle.qcow2_image.proofs.Prepare.Entering.{may_still, says_still, written_so}
 use Rattle.qcow2_image.proofs.image.Qcow2.write_l2.Goals as goal
 
 pub returns-in_err-store_first-clause-writes : goal.returns-in_err-store_first-clause-writes

@@ -9,10 +9,10 @@ use Rattle.qcow2_image.specs.declared.mapping.Place.TheVariants.{Image}
 use Rattle.qcow2_image.specs.Found.{IsFoundWhole}
 use Rattle.qcow2_image.specs.Image.{is_failed}
 use Rattle.qcow2_image.specs.Refusals.{Marks}
-use Rattle.qcow2_image.specs.Views.{pending_in}
-use Rattle.qcow2_image.proofs.Answers.{usable_works}
-use Rattle.qcow2_image.proofs.Called.{Quietly, quiet_sound}
-use Rattle.qcow2_image.proofs.PutParts.{puts_none, puts_then, puts_settled}
+use Rattle.qcow2_image.specs.ImageInvariant.{pending_in}
+use Rattle.qcow2_image.proofs.Call.Answers.{usable_works}
+use Rattle.qcow2_image.proofs.Call.Called.{Quietly, quiet_sound}
+use Rattle.qcow2_image.proofs.Write.PutParts.{puts_none, puts_then, puts_settled}
 use Rattle.qcow2_image.proofs.image.Qcow2.write_mapped.Goals as goal
 
 pub returns-then-is_empty-clause-sees : goal.returns-then-is_empty-clause-sees
@@ -31,10 +31,10 @@ returns-clause-sees g c =
     let r = c.write_current-done.result in
     let some : 0 < length c.args.bytes.now = search rules in
     let quiet : (out : _) → _ → Quietly view below out old c.begin.new.self = λ out sound. record { keeps = c.begin.ensures.keeps (pending_in view below old out) out sound; list = c.begin.ensures.list } in
-    subst (λ (image : Qcow2 _ _). Puts view below old image p c.args.at bytes c.settled.result) (sym c.settled.ensures.rest)
-    (subst (λ (x : Result _ _). Puts view below old (record new { is_failed = is_failed c.settled.new.self }) p c.args.at bytes x) (sym c.settled.ensures.answer)
-    (puts_settled view below old p c.args.at bytes (usable_works old c.check_usable.result c.in_ok-check_usable.was c.check_usable.ensures) new (is_failed c.settled.new.self)
-    (c.write_current-done.ensures.stays.image.number ∙ c.begin.ensures.stays.image.number) r c.settled.ensures.marks
+    subst (λ (image : Qcow2 _ _). Puts view below old image p c.args.at bytes c.mark_failure.result) (sym c.mark_failure.ensures.rest)
+    (subst (λ (x : Result _ _). Puts view below old (record new { is_failed = is_failed c.mark_failure.new.self }) p c.args.at bytes x) (sym c.mark_failure.ensures.answer)
+    (puts_settled view below old p c.args.at bytes (usable_works old c.check_usable.result c.in_ok-check_usable.was c.check_usable.ensures) new (is_failed c.mark_failure.new.self)
+    (c.write_current-done.ensures.stays.image.number ∙ c.begin.ensures.stays.image.number) r c.mark_failure.ensures.marks
     (λ out k placed sound. puts_then view below out k p c.args.at bytes placed old c.begin.new.self new r (quiet out sound) sound
     (c.write_current-done.ensures.puts some c.requires out k placed (quiet_sound view below out old c.begin.new.self (quiet out) sound)))))
 
@@ -44,8 +44,8 @@ returns-clause-outdated g c = λ none out sound is whole.
     let p = pending_in view g.F.BackingDisk.backing c.args.self.now out in
     let new = c.write_current-done.new.self in
     let some : 0 < length c.args.bytes.now = search rules in
-    let answer : c.write_current-done.result ≡ Err OutdatedMapping = sym c.settled.ensures.answer ∙ is in
-    let marks : is_failed c.settled.new.self ≡ is_failed new = subst (λ r. Marks r (is_failed new) (is_failed c.settled.new.self)) answer c.settled.ensures.marks in
-    let same : c.settled.new.self ≡ new = c.settled.ensures.rest ∙ ap (λ f. record new { is_failed = f }) marks in
+    let answer : c.write_current-done.result ≡ Err OutdatedMapping = sym c.mark_failure.ensures.answer ∙ is in
+    let marks : is_failed c.mark_failure.new.self ≡ is_failed new = subst (λ r. Marks r (is_failed new) (is_failed c.mark_failure.new.self)) answer c.mark_failure.ensures.marks in
+    let same : c.mark_failure.new.self ≡ new = c.mark_failure.ensures.rest ∙ ap (λ f. record new { is_failed = f }) marks in
     c.write_current-done.ensures.outdated some none p out (c.begin.ensures.keeps p out sound).sound answer
     (subst (λ (image : Qcow2 _ _). IsFoundWhole view image (c.args.prepared.now.guest + c.args.at) (Raw Image (c.args.prepared.now.offset + c.args.at) true) (length c.args.bytes.now)) same whole)

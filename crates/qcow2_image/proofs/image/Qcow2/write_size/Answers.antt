@@ -2,7 +2,7 @@ use Rattle.qcow2_alloc.specs.ImageError.{of_storage}
 use Rattle.qcow2_alloc.specs.ImageStorage.{storage_of}
 use Rattle.qcow2_alloc.proofs.AllocationSteps.{handed_on}
 use Rattle.qcow2_image.specs.Growing.{Resizes}
-use Rattle.qcow2_image.proofs.Resized.{written_as, lasts_resized, resized_so}
+use Rattle.qcow2_image.proofs.Grow.Resized.{written_as, lasts_resized, resized_so}
 use Rattle.qcow2_image.proofs.image.Qcow2.write_size.Goals as goal
 
 pub returns-in_err-write_size-clause-resizes : goal.returns-in_err-write_size-clause-resizes

@@ -1,0 +1,133 @@
+-- Calls that no guest sees, from their parts.
+use Rattle.std.proofs.Common.{◌≡◌, inl, ℕ, ◌<◌, Bool, false, List, [], ◌++◌, refl, sym, ap, ◌∙◌, subst, arith}
+use Rattle.std.specs.Prelude.{Option, Result, Ok, Err, IfOk}
+use Rattle.std.proofs.lemmas.List.{append_assoc}
+use mathlib.Core.Path.{fun_ext}
+use Rattle.image_access.specs.Backing.{BackingView}
+use Rattle.image_access.specs.Moments.{StorageView}
+use Rattle.image_access.proofs.Passing.{passes_none}
+use Rattle.qcow2_metadata.specs.Entries.{l1_entry}
+use Rattle.qcow2_laws.specs.CrashInvariant.{Pending}
+use Rattle.qcow2_laws.specs.Unseen.{KeepsFormat}
+use Rattle.qcow2_laws.specs.AbstractImages.{Guest, AbstractImage, guest_of}
+use Rattle.qcow2_laws.specs.Calls.{Refusal, storage, Works, Does, Refuses, IsSame}
+use Rattle.qcow2_laws.proofs.Formats.{l1_format}
+use Rattle.qcow2_laws.proofs.SafeSteps.{leads_then, steps_endure}
+use Rattle.qcow2_laws.proofs.Unseen.{unseen_then}
+use Rattle.qcow2_alloc.specs.declared.error.ImageError.{ImageError}
+use Rattle.qcow2_alloc.specs.ImageFile.{state_in, view_in, nothing_given}
+use Rattle.qcow2_image.specs.declared.image.Qcow2.{Qcow2}
+use Rattle.qcow2_image.specs.declared.prepared.Prepared.{Prepared}
+use Rattle.qcow2_image.specs.Calls.{refusal_of, Answers}
+use Rattle.qcow2_image.specs.Image.{number_of, is_failed}
+use Rattle.qcow2_image.specs.Refusals.{failed_after, Marks}
+use Rattle.qcow2_image.specs.ImageInvariant.{of_data, of_tables, to_free, ImageInvariant, pending_in, abstract_of}
+use Rattle.qcow2_image.specs.UnseenSteps.{NamesOwn, KeepsCopied, pending_then, UnseenStep}
+use Rattle.qcow2_image.proofs.Call.Answered.{works_now, sound_now, same_now}
+use Rattle.qcow2_image.proofs.Call.Settled.{settled_does, settled_refuses}
+
+-- ---- a call that was refused before it did anything
+module _ (v : AbstractImage) where
+  pub works_none : v.is_sound → Works v v [] []
+  works_none sound = record {
+    setting = refl;
+    surplus = λ still. refl;
+    stops = λ m starts. record { moments = passes_none v.storage _; contents = starts.0; known = λ still. starts.1 };
+  }
+
+  pub refuses_early : (e : Refusal) → (e ≡ storage → ⊥) → Refuses v v [] [] e (IsSame v v)
+  refuses_early e none = record {
+    acts = record { number = refl; works = works_none; rests = λ failed. record { setting = refl; failed = failed; contents = refl; moments = passes_none v.storage _ } };
+    answer = λ sound. inl (sound, refl);
+    fault = λ is. absurd (none is);
+  }
+
+pub same_freed : (p q : Pending) → q ≡ record p { spent = q.spent; dropped = q.dropped } → p.spent ≡ q.spent → p.dropped ≡ q.dropped → p ≡ q
+same_freed p q rest spent dropped = ap (λ f. record p { spent = f }) spent ∙ ap (λ f. record p { spent = q.spent; dropped = f }) dropped ∙ sym rest
+
+module _ {S F : Type 0} (view : S → StorageView) (backing : F → BackingView) (out : List (Option Prepared)) where
+  -- one part after another
+  module _ (a b c : Qcow2 S F) (p p' p'' : Pending) where
+    pub copied_then : KeepsFormat a.file.header.fields b.file.header.fields → KeepsCopied (state_in view a.file p) (state_in view b.file p') → KeepsCopied (state_in view b.file p') (state_in view c.file p'')
+        → KeepsCopied (state_in view a.file p) (state_in view c.file p'')
+    copied_then header first then i is =
+        let read = l1_format a.file.header.fields b.file.header.fields header in
+        let moved : l1_entry b.file.header.fields (state_in view b.file p').on_storage i ≡ l1_entry a.file.header.fields (state_in view a.file p).on_storage i = read (state_in view b.file p').on_storage i ∙ first i is in
+        sym (read (state_in view c.file p'').on_storage i) ∙ then i (subst NamesOwn (sym moved) is) ∙ moved
+
+    pub keeps_then : ((k : ℕ) → 0 < p.held k → 0 < p'.held k) → UnseenStep view backing p p' a b out → UnseenStep view backing p' p'' b c out → UnseenStep view backing p p'' a c out
+    keeps_then held first then = record {
+      sound = then.sound;
+      leads = leads_then (state_in view a.file p) (state_in view b.file p') (state_in view c.file p'') nothing_given nothing_given [] [] first.leads then.leads;
+      since = steps_endure (view_in view a.file) (view_in view b.file) (view_in view c.file) (state_in view a.file p) (state_in view b.file p') nothing_given nothing_given [] [] refl first.since first.leads then.since;
+      unseen = unseen_then (state_in view a.file p) (state_in view b.file p') (state_in view c.file p'') first.unseen then.unseen held;
+      copied = copied_then first.unseen.header first.copied then.copied;
+      below = then.below ∙ first.below;
+      list = record { more = first.list.more ++ then.list.more; is = then.list.is ∙ ap (λ l. l ++ then.list.more) first.list.is ∙ append_assoc a.file.free_list first.list.more then.list.more };
+    }
+
+  -- ---- a call that frees nothing and holds nothing: what was pending is pending
+
+  module _ (old new : Qcow2 S F) where
+    -- nothing is held or to be freed in between, and no guest sees a change
+    pub record Quietly : Type 0 where
+      pub keeps : UnseenStep view backing (pending_in view backing old out) (pending_in view backing old out) old new out
+      pub list : new.file.free_list ≡ old.file.free_list
+
+    module _ (quiet : ImageInvariant view backing (pending_in view backing old out) old out → Quietly) where
+      unmoved : (sound : ImageInvariant view backing (pending_in view backing old out) old out) → pending_in view backing old out ≡ pending_then (pending_in view backing old out) old new
+      unmoved sound = same_freed (pending_in view backing old out) (pending_then (pending_in view backing old out) old new) refl
+          (fun_ext (λ k. let e = ap (λ l. to_free of_tables l k) (quiet sound).list in omega arith)) (fun_ext (λ k. let e = ap (λ l. to_free of_data l k) (quiet sound).list in omega arith))
+
+      pub listed : (sound : ImageInvariant view backing (pending_in view backing old out) old out) → UnseenStep view backing (pending_in view backing old out) (pending_then (pending_in view backing old out) old new) old new out
+      listed sound = subst (λ (q : Pending). UnseenStep view backing (pending_in view backing old out) q old new out) (unmoved sound) (quiet sound).keeps
+
+      pub quiet_works : ImageInvariant view backing (pending_in view backing old out) old out → Works (abstract_of view backing old out) (abstract_of view backing new out) [] []
+      quiet_works sound = works_now view backing old new out sound (listed sound)
+
+      pub quiet_sound : ImageInvariant view backing (pending_in view backing old out) old out → ImageInvariant view backing (pending_in view backing new out) new out
+      quiet_sound sound = sound_now view backing old new out sound (listed sound)
+
+      pub quiet_same : ImageInvariant view backing (pending_in view backing old out) old out → guest_of (abstract_of view backing new out) ≡ guest_of (abstract_of view backing old out)
+      quiet_same sound = same_now view backing old new out sound (listed sound)
+
+      -- it was answered
+      pub quiet_does : number_of new ≡ number_of old → is_failed old ≡ false → Does (abstract_of view backing old out) (abstract_of view backing new out) [] [] (IsSame (abstract_of view backing old out) (abstract_of view backing new out))
+      quiet_does number works = settled_does view backing old new out out [] quiet_works quiet_sound number works quiet_same
+
+      -- it was refused, and the image is marked as failed now or as before
+      pub quiet_refuses : (marked : Bool) (e : ImageError) → failed_after e (is_failed new) marked → number_of new ≡ number_of old → is_failed old ≡ false
+          → Refuses (abstract_of view backing old out) (abstract_of view backing (record new { is_failed = marked }) out) [] [] (refusal_of e) (IsSame (abstract_of view backing old out) (abstract_of view backing (record new { is_failed = marked }) out))
+      quiet_refuses marked e marks number works = settled_refuses view backing old new out out [] quiet_works quiet_sound number works marked e marks (λ sound. inl (quiet_same sound))
+
+module _ {S F : Type 0} (view : S → StorageView) (backing : F → BackingView) where
+  -- two parts after one another
+  pub quietly_then : (out : List (Option Prepared)) (a b c : Qcow2 S F)
+      → ((p : Pending) (out : List (Option Prepared)) → ImageInvariant view backing p a out → UnseenStep view backing p p a b out) → b.file.free_list ≡ a.file.free_list
+      → ((p : Pending) (out : List (Option Prepared)) → ImageInvariant view backing p b out → UnseenStep view backing p p b c out) → c.file.free_list ≡ b.file.free_list
+      → ImageInvariant view backing (pending_in view backing a out) a out → Quietly view backing out a c
+  quietly_then out a b c first listed then still sound =
+      let p = pending_in view backing a out in
+      let kept = first p out sound in
+      record { keeps = keeps_then view backing out a b c p p p (λ k h. h) kept (then p out kept.sound); list = still ∙ listed }
+
+  -- what an answer tells of a call that no guest sees
+  abbrev pub Tells : (old new : Qcow2 S F) {A : Type 0} → (A → AbstractImage → AbstractImage → Type 0) → Result A ImageError → Type 0
+  Tells old new Done (Ok a) = (out : List (Option Prepared)) → let v = abstract_of view backing old out in let w = abstract_of view backing new out in Does v w [] [] (Done a v w)
+  Tells old new Done (Err e) = (out : List (Option Prepared)) → let v = abstract_of view backing old out in let w = abstract_of view backing new out in Refuses v w [] [] (refusal_of e) (IsSame v w)
+
+  pub told_answers : (old new : Qcow2 S F) {A : Type 0} (Done : A → Guest → Guest → Type 0) (r : Result A ImageError) → Tells old new (λ a v w. Done a (guest_of v) (guest_of w)) r → Answers view backing old new [] Done r
+  told_answers old new Done (Ok a) told = told
+  told_answers old new Done (Err e) told = told
+
+  module _ (old new : Qcow2 S F) (quiet : (out : List (Option Prepared)) → ImageInvariant view backing (pending_in view backing old out) old out → Quietly view backing out old new) (marked : Bool) where
+    -- it gives its answer, or is refused
+    pub tells_quietly : {A : Type 0} (Done : A → AbstractImage → AbstractImage → Type 0) (done : Result A ImageError) → Marks done (is_failed new) marked → number_of new ≡ number_of old → is_failed old ≡ false
+        → ((out : List (Option Prepared)) → ImageInvariant view backing (pending_in view backing old out) old out → IsSame (abstract_of view backing old out) (abstract_of view backing new out)
+        → IfOk done (λ a. Done a (abstract_of view backing old out) (abstract_of view backing new out)))
+        → Tells old (record new { is_failed = marked }) Done done
+    tells_quietly Done (Ok a) marks number works done = λ out.
+        let does = quiet_does view backing out old new (quiet out) number works in
+        subst (λ (f : Bool). Does (abstract_of view backing old out) (abstract_of view backing (record new { is_failed = f }) out) [] [] (Done a (abstract_of view backing old out) (abstract_of view backing (record new { is_failed = f }) out))) (sym marks)
+        (record { acts = does.acts; answer = λ sound. let is = does.answer sound in (is.0, done out sound is.1) })
+    tells_quietly Done (Err e) marks number works done = λ out. quiet_refuses view backing out old new (quiet out) marked e marks number works

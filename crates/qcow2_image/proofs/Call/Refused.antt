@@ -1,0 +1,174 @@
+-- A call that was refused: all is as before but for what is to be freed, or it broke off.
+use Rattle.std.proofs.Common.{◌≡◌, ◌⊎◌, ⊎_elim, inl, inr, ℕ, Bool, true, false, List, [], Option, Some, refl, sym, ap, ◌∙◌, subst, arith}
+use Rattle.std.specs.Prelude.{Result, Ok, Err, IsTrue, slice_set}
+use Rattle.image_access.specs.Backing.{BackingView}
+use Rattle.image_access.specs.Moments.{StorageView}
+use Rattle.image_access.proofs.Passing.{passes_if}
+use Rattle.qcow2_metadata.specs.Bytes.{byte_at}
+use Rattle.qcow2_metadata.specs.declared.header.HeaderFields.{HeaderFields}
+use Rattle.qcow2_metadata.specs.Header.{cluster_size}
+use Rattle.qcow2_laws.specs.Calls.{IsFault, IsSame, Refuses, Works, with_slot}
+use Rattle.qcow2_laws.specs.Disk.{Disk}
+use Rattle.qcow2_laws.specs.Mappings.{IsPrepared}
+use Rattle.qcow2_laws.proofs.Compose.{works_then}
+use Rattle.qcow2_laws.proofs.Formats.{covers_format, format_then}
+use Rattle.qcow2_laws.specs.CrashInvariant.{Pending, SameCovers}
+use Rattle.qcow2_laws.specs.Stops.{StopOkEverywhere, checkpoint_with}
+use Rattle.qcow2_laws.specs.AbstractImages.{Guest, Setting, guest_of}
+use Rattle.qcow2_alloc.specs.ImageError.{IsFault as FaultOfTables}
+use Rattle.qcow2_alloc.specs.declared.error.ImageError.{ImageError}
+use Rattle.qcow2_alloc.specs.declared.error.ImageError.TheVariants as I
+use Rattle.qcow2_alloc.specs.ImageFile.{known_in, nothing_given}
+use Rattle.qcow2_image.specs.declared.image.Qcow2.{Qcow2}
+use Rattle.qcow2_image.specs.declared.prepared.Prepared.{Prepared}
+use Rattle.qcow2_image.specs.Calls.{refusal_of}
+use Rattle.qcow2_image.specs.Image.{number_of, is_failed, KeepsRestOn}
+use Rattle.qcow2_image.specs.Refusals.{failed_after}
+use Rattle.qcow2_image.specs.CallParts.{UnseenCall, InterruptedCall, RefusedCall, FindsTable, IsReadied, PreparesRange}
+use Rattle.qcow2_image.specs.UnseenSteps.{InterruptedStep, Ensures, UnseenFillingStep, RefusedFillingStep, UnseenStep, RefusedStep, pending_then}
+use Rattle.qcow2_image.specs.ImageInvariant.{of_data, of_tables, to_free, pending_in, abstract_of, meaning, backing_bytes, below_of, ImageInvariant}
+use Rattle.qcow2_image.proofs.Sound.{free_more}
+use Rattle.qcow2_image.proofs.Call.Answered.{same_setting, same_now, sound_now, works_now}
+use Rattle.qcow2_image.proofs.Call.Settled.{is_fault, outcome, settled_refuses}
+use Rattle.qcow2_image.proofs.Call.Stepped.{Steps, stepped_sound, stepped_works}
+
+-- a fault, or want of memory that was noted, marks the image
+pub marks_fault : (e : ImageError) (before marked noted : Bool) → FaultOfTables e → (e ≡ I.Memory → IsTrue noted) → failed_after e before marked → (e ≡ I.Memory → IsTrue noted → IsTrue marked) → IsTrue marked × IsFault (refusal_of e)
+marks_fault e before marked noted fault is marks memory = ⊎_elim
+    (λ (failed : e ≡ I.Storage). (subst (λ (x : ImageError). failed_after x before marked) failed marks, subst (λ (x : ImageError). IsFault (refusal_of x)) (sym failed) tt))
+    (λ (want : e ≡ I.Memory). (memory want (is want), subst (λ (x : ImageError). IsFault (refusal_of x)) (sym want) tt)) fault
+
+module _ {S F : Type 0} (view : S → StorageView) (backing : F → BackingView) (out : List (Option Prepared)) where
+  -- a step after which the guest sees what it saw
+  pub stays_stepped : (old new : Qcow2 S F) (p : Pending) → Steps view backing old new out out nothing_given p → guest_of (abstract_of view backing new out) ≡ guest_of (abstract_of view backing old out)
+      → SameCovers old.file.header.fields (known_in view old.file) (known_in view new.file) → UnseenCall view backing old new out
+  stays_stepped old new p steps same covers = record {
+    works = stepped_works view backing old new out out nothing_given p steps;
+    sound = stepped_sound view backing old new out out nothing_given p steps;
+    same = same;
+    header = steps.header;
+    covers = covers;
+  }
+
+  pub stays_kept : (old new : Qcow2 S F) → ImageInvariant view backing (pending_in view backing old out) old out → UnseenStep view backing (pending_in view backing old out) (pending_then (pending_in view backing old out) old new) old new out → UnseenCall view backing old new out
+  stays_kept old new sound keeps = record { works = works_now view backing old new out sound keeps; sound = sound_now view backing old new out sound keeps; same = same_now view backing old new out sound keeps; header = keeps.unseen.header; covers = keeps.unseen.covers }
+
+  -- it broke off
+  pub broke_off : (old new : Qcow2 S F) (e : ImageError) → InterruptedStep view backing old new e → InterruptedCall view backing old new out e
+  broke_off old new e broke = record {
+    fault = broke.breaks.fault;
+    noted = broke.breaks.noted;
+    works = record {
+      setting = same_setting _ _ (ap (λ (h : HeaderFields). cluster_size h) broke.header) broke.below;
+      surplus = λ now. absurd (let f : true ≡ false = now.works in cc);
+      stops = λ m starts. record {
+        moments = passes_if (λ c. StopOkEverywhere (backing_bytes view backing old.backing) (checkpoint_with [] [] m) (byte_at c)) (λ c kept. kept (backing_bytes view backing old.backing) m starts.0 starts.1) broke.breaks.since.moments;
+        contents = broke.breaks.since.contents (backing_bytes view backing old.backing) m starts.0 starts.1;
+        known = λ now. absurd (let f : true ≡ false = now.works in cc);
+      };
+    };
+  }
+
+  -- ---- one part after another
+  module _ (a b c : Qcow2 S F) (first : UnseenCall view backing a b out) where
+    pub stays_then : UnseenCall view backing b c out → UnseenCall view backing a c out
+    stays_then then = record {
+      works = works_then (abstract_of view backing a out) (abstract_of view backing b out) (abstract_of view backing c out) [] [] first.sound first.works then.works;
+      sound = then.sound;
+      same = then.same ∙ first.same;
+      header = format_then a.file.header.fields b.file.header.fields c.file.header.fields first.header then.header;
+      covers = λ g. first.covers g ∙ covers_format a.file.header.fields b.file.header.fields first.header (known_in view b.file) (known_in view c.file) then.covers g;
+    }
+
+    pub refused_then : (e : ImageError) → RefusedCall view backing b c out e → RefusedCall view backing a c out e
+    refused_then e (inl stays) = inl (stays_then stays)
+    refused_then e (inr breaks) = inr (record {
+      fault = breaks.fault;
+      noted = breaks.noted;
+      works = works_then (abstract_of view backing a out) (abstract_of view backing b out) (abstract_of view backing (record c { is_failed = true }) out) [] [] first.sound first.works breaks.works;
+    })
+
+    pub readied_after : (k offset n : ℕ) (overwrite : Bool) (p : Prepared) → IsReadied view backing b c out k offset n overwrite p → IsReadied view backing a c out k offset n overwrite p
+    readied_after k offset n overwrite p is = record {
+      works = works_then (abstract_of view backing a out) (abstract_of view backing b out) (abstract_of view backing c (slice_set out k (Some p))) [] [] first.sound first.works is.works;
+      sound = is.sound;
+      prepared = subst (λ (d : Disk). IsPrepared (cluster_size a.file.header.fields) d offset n overwrite (meaning view backing c p)) (ap (λ (g : Guest). g.disk) first.same)
+          (subst (λ size. IsPrepared size (guest_of (abstract_of view backing b out)).disk offset n overwrite (meaning view backing c p)) (ap (λ (x : Setting). x.cluster_size) first.works.setting) is.prepared);
+      is = is.is ∙ ap (λ (g : Guest). with_slot g k (Some (meaning view backing c p))) first.same;
+    }
+
+    pub prepares_after : (offset n : ℕ) (overwrite : Bool) (r : Result Prepared ImageError) → PreparesRange view backing b c out offset n overwrite r → PreparesRange view backing a c out offset n overwrite r
+    prepares_after offset n overwrite (Ok p) then = λ k free. readied_after k offset n overwrite p (then k free)
+    prepares_after offset n overwrite (Err e) then = refused_then e then
+
+    pub finds_after : (offset : ℕ) (r : Result ℕ ImageError) → FindsTable view backing b c out offset r → FindsTable view backing a c out offset r
+    finds_after offset (Ok table) then = (stays_then then.0, then.1)
+    finds_after offset (Err e) then = refused_then e then
+
+  -- a part that was refused
+  pub left_refused : (old new : Qcow2 S F) (e : ImageError) → ImageInvariant view backing (pending_in view backing old out) old out → KeepsRestOn old new → RefusedStep view backing (pending_in view backing old out) old new out e → RefusedCall view backing old new out e
+  left_refused old new e sound rest left = elim left [
+    | inl keeps ↦ inl (stays_kept old new sound keeps)
+    | inr breaks ↦ inr (broke_off old new e (record { breaks = breaks; header = ap (λ x. x.fields) rest.header; below = ap (below_of view backing) rest.backing }))
+  ]
+
+  -- the table of an offset is there
+  pub finds : (old new : Qcow2 S F) → ImageInvariant view backing (pending_in view backing old out) old out → KeepsRestOn old new → (offset : ℕ) (r : Result ℕ ImageError) → Ensures view backing (pending_in view backing old out) old new out offset r
+      → FindsTable view backing old new out offset r
+  finds old new sound rest offset (Ok table) ready = (stays_kept old new sound ready.0, ready.1)
+  finds old new sound rest offset (Err e) ready = left_refused old new e sound rest ready
+
+  -- a mapping was made ready, or that was refused
+  pub goes_stays : (old new : Qcow2 S F) → UnseenFillingStep view backing (pending_in view backing old out) (pending_then (pending_in view backing old out) old new) old new out → UnseenCall view backing old new out
+  goes_stays old new goes =
+      stays_stepped old new (pending_then (pending_in view backing old out) old new) (record {
+        sound = goes.sound;
+        only = record {
+          held = λ k. refl;
+          fresh = λ k. refl;
+          spent = λ k. let x = ap (λ l. to_free of_tables l k) goes.list.is ∙ free_more of_tables old.file.free_list goes.list.more k in omega arith;
+          dropped = λ k. let x = ap (λ l. to_free of_data l k) goes.list.is ∙ free_more of_data old.file.free_list goes.list.more k in omega arith;
+        };
+        leads = goes.leads;
+        since = goes.since;
+        header = goes.header;
+        below = goes.below;
+        surplus = refl;
+      }) goes.seen goes.covers
+
+  -- what is to be freed is freed after a refusal
+  pub back_then_freed : (old mid new : Qcow2 S F) (e e' : ImageError) → RefusedFillingStep view backing (pending_in view backing old out) old mid out e → (FaultOfTables e → (e' ≡ e) × (new ≡ mid))
+      → (ImageInvariant view backing (pending_in view backing mid out) mid out → RefusedCall view backing mid new out e') → RefusedCall view backing old new out e'
+  back_then_freed old mid new e e' back fault frees = elim back [
+    | inl goes ↦ let stays = goes_stays old mid goes in refused_then old mid new stays e' (frees stays.sound)
+    | inr broke ↦ let is = fault broke.breaks.fault in inr (subst (λ (x : ImageError). InterruptedCall view backing old new out x) (sym is.0) (subst (λ (image : Qcow2 S F). InterruptedCall view backing old image out e) (sym is.1) (broke_off old mid e broke)))
+  ]
+
+  -- ---- a whole call
+  module _ (old : Qcow2 S F) (usable : is_failed old ≡ false) (new : Qcow2 S F) (marked : Bool) (number : number_of new ≡ number_of old) (e : ImageError) (marks : failed_after e (is_failed new) marked) where
+    abbrev failed_now : Qcow2 S F
+    failed_now = record new { is_failed = marked }
+
+    refuses_stayed : UnseenCall view backing old new out → Refuses (abstract_of view backing old out) (abstract_of view backing failed_now out) [] [] (refusal_of e) (IsSame (abstract_of view backing old out) (abstract_of view backing failed_now out))
+    refuses_stayed stays = settled_refuses view backing old new out out [] (λ sound. stays.works) (λ sound. stays.sound) number usable marked e marks (λ sound. inl stays.same)
+
+    module _ (memory : e ≡ I.Memory → IsTrue new.file.caches.is_changed → IsTrue marked) where
+      is_marked : InterruptedCall view backing old new out e → IsTrue marked × IsFault (refusal_of e)
+      is_marked breaks = marks_fault e (is_failed new) marked new.file.caches.is_changed breaks.fault breaks.noted marks memory
+
+      refused_works : RefusedCall view backing old new out e → ImageInvariant view backing (pending_in view backing old out) old out → Works (abstract_of view backing old out) (abstract_of view backing failed_now out) [] []
+      refused_works (inl stays) sound = (refuses_stayed stays).acts.works sound
+      refused_works (inr breaks) sound = subst (λ (f : Bool). Works (abstract_of view backing old out) (abstract_of view backing (record new { is_failed = f }) out) [] []) (sym (is_marked breaks).0) breaks.works
+
+      refused_answer : RefusedCall view backing old new out e → ImageInvariant view backing (pending_in view backing old out) old out
+          → ((abstract_of view backing failed_now out).is_sound × IsSame (abstract_of view backing old out) (abstract_of view backing failed_now out)) ⊎ (IsFault (refusal_of e) × IsTrue marked)
+      refused_answer (inl stays) sound = (refuses_stayed stays).answer sound
+      refused_answer (inr breaks) sound = let is = is_marked breaks in inr (is.1, is.0)
+
+      pub refuses_left : (ImageInvariant view backing (pending_in view backing old out) old out → RefusedCall view backing old new out e)
+          → Refuses (abstract_of view backing old out) (abstract_of view backing failed_now out) [] [] (refusal_of e) (IsSame (abstract_of view backing old out) (abstract_of view backing failed_now out))
+      refuses_left left = record {
+        acts = record { number = number; works = λ sound. refused_works (left sound) sound; rests = λ failed. absurd (let f : true ≡ false = sym failed ∙ usable in cc) };
+        answer = λ sound. refused_answer (left sound) sound;
+        fault = is_fault e (is_failed new) marked (outcome e (is_failed new) marked marks);
+      }

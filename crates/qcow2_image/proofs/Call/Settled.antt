@@ -1,0 +1,89 @@
+-- A call is answered, or refused and the image marked as failed where that is told, from what its work did.
+use Rattle.std.proofs.Common.{◌≡◌, ◌⊎◌, inl, inr, Bool, true, false, List, [], refl, sym, ap, ◌∙◌, subst}
+use Rattle.std.specs.Prelude.{Option, IsTrue}
+use Rattle.image_access.specs.Backing.{BackingView}
+use Rattle.image_access.specs.Moments.{StorageView}
+use Rattle.qcow2_laws.specs.Stops.{GivenBytes}
+use Rattle.qcow2_laws.specs.Calls.{storage, IsFault, Works, Does, Refuses, IsSame}
+use Rattle.qcow2_alloc.specs.declared.error.ImageError.{ImageError}
+use Rattle.qcow2_alloc.specs.declared.error.ImageError.TheVariants as I
+use Rattle.qcow2_image.specs.declared.image.Qcow2.{Qcow2}
+use Rattle.qcow2_image.specs.declared.prepared.Prepared.{Prepared}
+use Rattle.qcow2_image.specs.Calls.{refusal_of}
+use Rattle.qcow2_image.specs.Image.{number_of, is_failed}
+use Rattle.qcow2_image.specs.Refusals.{failed_after}
+use Rattle.qcow2_image.specs.ImageInvariant.{ImageInvariant, pending_in, abstract_of}
+
+-- what a refusal leaves: a fault, or want of memory, that marks the image; or the image is marked as before, and no fault was told
+abbrev pub IsOutcome : ImageError → Bool → Bool → Type 0
+IsOutcome e before now = ((e ≡ I.Storage) × (now ≡ true)) ⊎ (((e ≡ I.Memory) × (now ≡ true)) ⊎ ((now ≡ before) × (refusal_of e ≡ storage → ⊥)))
+
+memory_outcome : (before now : Bool) → (now ≡ before) ⊎ (now ≡ true) → IsOutcome I.Memory before now
+memory_outcome before now (inl same) = inr (inr (same, λ is. absurd cc))
+memory_outcome before now (inr marked) = inr (inl (refl, marked))
+
+pub outcome : (e : ImageError) (before now : Bool) → failed_after e before now → IsOutcome e before now
+outcome I.ReadOnly before now m = inr (inr (m, λ is. absurd cc))
+outcome I.BeyondSize before now m = inr (inr (m, λ is. absurd cc))
+outcome I.Version before now m = inr (inr (m, λ is. absurd cc))
+outcome I.UnalignedTable before now m = inr (inr (m, λ is. absurd cc))
+outcome I.InvalidOption before now m = inr (inr (m, λ is. absurd cc))
+outcome I.Preallocation before now m = inr (inr (m, λ is. absurd cc))
+outcome I.Compressed before now m = inr (inr (m, λ is. absurd cc))
+outcome I.InUse before now m = inr (inr (m, λ is. absurd cc))
+outcome I.TablePrepared before now m = inr (inr (m, λ is. absurd cc))
+outcome I.OutdatedMapping before now m = inr (inr (m, λ is. absurd cc))
+outcome I.ForeignState before now m = inr (inr (m, λ is. absurd cc))
+outcome I.Dependency before now m = inr (inr (m, λ is. absurd cc))
+outcome I.Limit before now m = inr (inr (m, λ is. absurd cc))
+outcome I.Memory before now m = memory_outcome before now m
+outcome I.Storage before now m = inl (refl, m)
+outcome I.Failed before now m = inr (inr (m, λ is. absurd cc))
+outcome I.MappingPrepared before now m = inr (inr (m, λ is. absurd cc))
+outcome (I.NotCompressed offset) before now m = inr (inr (m, λ is. absurd cc))
+outcome I.Metadata before now m = inr (inr (m, λ is. absurd cc))
+outcome I.Overflow before now m = inr (inr (m, λ is. absurd cc))
+outcome (I.StillInUse tables) before now m = inr (inr (m, λ is. absurd cc))
+
+pub is_fault : (e : ImageError) (before now : Bool) → IsOutcome e before now → refusal_of e ≡ storage → IsTrue now
+is_fault e before now (inl failed) is = failed.1
+is_fault e before now (inr (inl failed)) is = failed.1
+is_fault e before now (inr (inr kept)) is = absurd (kept.1 is)
+
+module _ {S F : Type 0} (view : S → StorageView) (backing : F → BackingView) (old new : Qcow2 S F) (out out' : List (Option Prepared)) (given : List GivenBytes)
+    (acts : ImageInvariant view backing (pending_in view backing old out) old out → Works (abstract_of view backing old out) (abstract_of view backing new out') given [])
+    (still : ImageInvariant view backing (pending_in view backing old out) old out → ImageInvariant view backing (pending_in view backing new out') new out') (number : number_of new ≡ number_of old) (usable : is_failed old ≡ false) where
+  -- it was answered
+  pub settled_does : {done : Type 0} → (ImageInvariant view backing (pending_in view backing old out) old out → done) → Does (abstract_of view backing old out) (abstract_of view backing new out') given [] done
+  settled_does is = record {
+    acts = record { number = number; works = acts; rests = λ failed. absurd (let e : true ≡ false = sym failed ∙ usable in cc) };
+    answer = λ sound. (still sound, is sound);
+  }
+
+  -- it was refused, and the image is marked as failed now or as before
+  module _ (marked : Bool) where
+    still_sound : marked ≡ is_failed new → ImageInvariant view backing (pending_in view backing new out') new out'
+        → ImageInvariant view backing (pending_in view backing (record new { is_failed = marked }) out') (record new { is_failed = marked }) out'
+    still_sound same s = record { works = same ∙ s.works; file = s.file; l1_table = s.l1_table; reftable = s.reftable; below = s.below; ready = λ k q at. let r = s.ready k q at in record { own = r.own; mapped = r.mapped }; pinned = s.pinned; once = s.once }
+
+    still_works : ImageInvariant view backing (pending_in view backing old out) old out → Works (abstract_of view backing old out) (abstract_of view backing (record new { is_failed = marked }) out') given []
+    still_works sound = let w = acts sound in record {
+      setting = w.setting;
+      surplus = λ now. w.surplus (still sound);
+      stops = λ m starts. let t = w.stops m starts in record { moments = t.moments; contents = t.contents; known = λ now. t.known (still sound) };
+    }
+
+    answer_of : (e : ImageError) → IsOutcome e (is_failed new) marked → IsSame (abstract_of view backing old out) (abstract_of view backing new out') ⊎ (e ≡ I.Storage) → ImageInvariant view backing (pending_in view backing old out) old out
+        → ((abstract_of view backing (record new { is_failed = marked }) out').is_sound × IsSame (abstract_of view backing old out) (abstract_of view backing (record new { is_failed = marked }) out')) ⊎ (IsFault (refusal_of e) × IsTrue marked)
+    answer_of e (inl failed) is sound = inr (subst (λ (x : ImageError). IsFault (refusal_of x)) (sym failed.0) tt, failed.1)
+    answer_of e (inr (inl failed)) is sound = inr (subst (λ (x : ImageError). IsFault (refusal_of x)) (sym failed.0) tt, failed.1)
+    answer_of e (inr (inr kept)) (inl same) sound = inl (still_sound kept.0 (still sound), same)
+    answer_of e (inr (inr kept)) (inr fault) sound = absurd (kept.1 (ap refusal_of fault))
+
+    pub settled_refuses : (e : ImageError) → failed_after e (is_failed new) marked → (ImageInvariant view backing (pending_in view backing old out) old out → IsSame (abstract_of view backing old out) (abstract_of view backing new out') ⊎ (e ≡ I.Storage))
+        → Refuses (abstract_of view backing old out) (abstract_of view backing (record new { is_failed = marked }) out') given [] (refusal_of e) (IsSame (abstract_of view backing old out) (abstract_of view backing (record new { is_failed = marked }) out'))
+    settled_refuses e marks is = record {
+      acts = record { number = number; works = still_works; rests = λ failed. absurd (let f : true ≡ false = sym failed ∙ usable in cc) };
+      answer = λ sound. answer_of e (outcome e (is_failed new) marked marks) (is sound) sound;
+      fault = is_fault e (is_failed new) marked (outcome e (is_failed new) marked marks);
+    }

@@ -1,0 +1,59 @@
+-- Places of prepared mappings, one of which changes.
+use Rattle.std.proofs.Common.{◌≡◌, ◌⊎◌, ⊎_elim, inl, inr, ℕ, zero, suc, ◌+◌, ◌≤◌, List, [], ◌∷◌, refl, sym, ap, ◌∙◌, Option, Some, None, arith, cond, eqb}
+use Rattle.std.specs.Prelude.{slice_get, slice_set}
+use Rattle.std.specs.Option.{option_map_or}
+use Rattle.std.proofs.lemmas.Bool.{cases_eq, eq-eqb, ne_eqb, cond-true, cond-false}
+use Rattle.qcow2_laws.specs.Mappings.{PreparedMapping}
+use Rattle.qcow2_laws.specs.AbstractImages.{meaning_at}
+use Rattle.qcow2_image.specs.declared.prepared.Prepared.{Prepared}
+use Rattle.qcow2_image.specs.ImageInvariant.{over_all}
+use Rattle.qcow2_image.proofs.Call.Answered.{over_all_at}
+
+pub get_set : {X : Type 0} (xs : List X) (k j : ℕ) (a y : X) → slice_get (slice_set xs k a) j ≡ Some y → (y ≡ a) ⊎ (slice_get xs j ≡ Some y)
+get_set [] k j a y e = inr e
+get_set (x ∷ xs) zero zero a y e = inl (cc)
+get_set (x ∷ xs) zero (suc j) a y e = inr e
+get_set (x ∷ xs) (suc k) zero a y e = inr e
+get_set (x ∷ xs) (suc k) (suc j) a y e = get_set xs k j a y e
+
+pub get_set_same : {X : Type 0} (xs : List X) (k : ℕ) (a v : X) → slice_get xs k ≡ Some v → slice_get (slice_set xs k a) k ≡ Some a
+get_set_same [] k a v e = cc
+get_set_same (x ∷ xs) zero a v e = refl
+get_set_same (x ∷ xs) (suc k) a v e = get_set_same xs k a v e
+
+pub get_set_other : {X : Type 0} (xs : List X) (k j : ℕ) (a : X) → (j ≡ k → ⊥) → slice_get (slice_set xs k a) j ≡ slice_get xs j
+get_set_other [] k j a ne = refl
+get_set_other (x ∷ xs) zero zero a ne = absurd (ne refl)
+get_set_other (x ∷ xs) zero (suc j) a ne = refl
+get_set_other (x ∷ xs) (suc k) zero a ne = refl
+get_set_other (x ∷ xs) (suc k) (suc j) a ne = get_set_other xs k j a (λ e. ne (ap suc e))
+
+-- one of the mappings is let go
+pub others_left : (out : List (Option Prepared)) (k j : ℕ) (q : Prepared) → slice_get (slice_set out k None) j ≡ Some (Some q) → slice_get out j ≡ Some (Some q)
+others_left out k j q at = ⊎_elim (λ (none : Some q ≡ None). absurd cc) (λ same. same) (get_set out k j None (Some q) at)
+
+pub over_all_left : (f : Prepared → ℕ → ℕ) (out : List (Option Prepared)) (k : ℕ) (p : Prepared) → slice_get out k ≡ Some (Some p) → (c : ℕ) → over_all f (slice_set out k None) c + f p c ≡ over_all f out c
+over_all_left f [] k p at c = absurd cc
+over_all_left f (q ∷ out) zero p at c = let is : q ≡ Some p = cc in let one : option_map_or (λ r. f r c) q 0 ≡ f p c = ap (λ (m : Option Prepared). option_map_or (λ r. f r c) m 0) is in omega arith
+over_all_left f (q ∷ out) (suc k) p at c = let rest = over_all_left f out k p at c in omega arith
+
+-- one more comes to a free place
+pub over_all_put : (f : Prepared → ℕ → ℕ) (out : List (Option Prepared)) (k : ℕ) (p : Prepared) → slice_get out k ≡ Some None → (c : ℕ) → over_all f (slice_set out k (Some p)) c ≡ over_all f out c + f p c
+over_all_put f [] k p at c = absurd cc
+over_all_put f (q ∷ out) zero p at c = let is : q ≡ None = cc in let none : option_map_or (λ r. f r c) q 0 ≡ 0 = ap (λ (m : Option Prepared). option_map_or (λ r. f r c) m 0) is in omega arith
+over_all_put f (q ∷ out) (suc k) p at c = let rest = over_all_put f out k p at c in omega arith
+
+-- two of them hold no more than all
+pub over_all_two : (f : Prepared → ℕ → ℕ) (out : List (Option Prepared)) (k : ℕ) (p : Prepared) (j : ℕ) (q : Prepared) → slice_get out k ≡ Some (Some p) → (j ≡ k → ⊥) → slice_get out j ≡ Some (Some q) → (c : ℕ) → f p c + f q c ≤ over_all f out c
+over_all_two f out k p j q at apart there c =
+    let rest = over_all_left f out k p at c in
+    let its = over_all_at f (slice_set out k None) j q (get_set_other out k j None apart ∙ there) c in
+    omega arith
+
+-- or another comes to a place that is there
+pub slot_set : {P : Type 0} (means : P → PreparedMapping) (out : List (Option P)) (k : ℕ) (a v : Option P) → slice_get out k ≡ Some v
+    → (j : ℕ) → meaning_at means (slice_get (slice_set out k a) j) ≡ cond (eqb j k) (meaning_at means (Some a)) (meaning_at means (slice_get out j))
+slot_set means out k a v at j = elim (cases_eq j k) [
+  | inl here ↦ ap (λ (i : ℕ). meaning_at means (slice_get (slice_set out k a) i)) here ∙ ap (meaning_at means) (get_set_same out k a v at) ∙ sym (cond-true _ _ _ (eq-eqb _ _ here))
+  | inr other ↦ ap (meaning_at means) (get_set_other out k j a other) ∙ sym (cond-false _ _ _ (ne_eqb _ _ other))
+]

@@ -1,0 +1,50 @@
+-- What a call does, from one step of the driver and the mappings that are out then.
+use Rattle.std.proofs.Common.{◌≡◌, List, [], sym, ap, ◌∙◌, subst}
+use Rattle.std.specs.Prelude.{Option}
+use Rattle.image_access.specs.Backing.{BackingView}
+use Rattle.image_access.specs.Moments.{StorageView}
+use Rattle.image_access.proofs.Passing.{passes_if}
+use Rattle.qcow2_metadata.specs.Bytes.{Bytes, byte_at}
+use Rattle.qcow2_metadata.specs.declared.header.HeaderFields.{HeaderFields}
+use Rattle.qcow2_metadata.specs.Header.{cluster_size}
+use Rattle.qcow2_laws.specs.CrashInvariant.{Pending}
+use Rattle.qcow2_laws.specs.SafeSteps.{SafeStep, SafeThroughout}
+use Rattle.qcow2_laws.specs.Stops.{GivenBytes, StopOkEverywhere, checkpoint_with}
+use Rattle.qcow2_laws.specs.Calls.{Works}
+use Rattle.qcow2_laws.specs.Unseen.{KeepsFormat}
+use Rattle.qcow2_alloc.specs.ImageFile.{state_in, view_in, known_in}
+use Rattle.qcow2_image.specs.declared.image.Qcow2.{Qcow2}
+use Rattle.qcow2_image.specs.declared.prepared.Prepared.{Prepared}
+use Rattle.qcow2_image.specs.ImageInvariant.{backing_bytes, below_of, ImageInvariant, pending_in, abstract_of}
+use Rattle.qcow2_image.proofs.Call.Answered.{same_setting}
+use Rattle.qcow2_image.proofs.Sound.{IsOnly, pending_is}
+
+module _ {S F : Type 0} (view : S → StorageView) (backing : F → BackingView) (old new : Qcow2 S F) (out out' : List (Option Prepared)) where
+  -- From sound to sound, with what this gives. What was pending beyond what mappings hold and what is to be freed stays.
+  pub record Steps (given : Bytes → List GivenBytes) (p : Pending) : Type 0 where
+    pub sound : ImageInvariant view backing p new out'
+    pub only : IsOnly view backing new out' p
+    pub leads : SafeStep (state_in view old.file (pending_in view backing old out)) (state_in view new.file p) given []
+    pub since : SafeThroughout (view_in view old.file) (view_in view new.file) (known_in view old.file) given []
+    pub header : KeepsFormat old.file.header.fields new.file.header.fields
+    pub below : below_of view backing new.backing ≡ below_of view backing old.backing
+    pub surplus : p.surplus ≡ (pending_in view backing old out).surplus
+
+  module _ (given : Bytes → List GivenBytes) (p : Pending) (steps : Steps given p) where
+    pending_now : p ≡ pending_in view backing new out'
+    pending_now = pending_is view backing new out' p steps.leads.sound steps.only
+
+    pub stepped_sound : ImageInvariant view backing (pending_in view backing new out') new out'
+    stepped_sound = subst (λ (q : Pending). ImageInvariant view backing q new out') pending_now steps.sound
+
+    pub stepped_works : Works (abstract_of view backing old out) (abstract_of view backing new out') (given (backing_bytes view backing old.backing)) []
+    stepped_works = record {
+      setting = same_setting _ _ (ap (λ (h : HeaderFields). cluster_size h) steps.header) steps.below;
+      surplus = λ still. ap (λ (q : Pending). q.surplus) (sym pending_now) ∙ steps.surplus;
+      stops = λ m starts. record {
+        moments = passes_if (λ c. StopOkEverywhere (backing_bytes view backing old.backing) (checkpoint_with (given (backing_bytes view backing old.backing)) [] m) (byte_at c))
+            (λ c kept. kept (backing_bytes view backing old.backing) m starts.0 starts.1) steps.since.moments;
+        contents = steps.since.contents (backing_bytes view backing old.backing) m starts.0 starts.1;
+        known = λ still. steps.leads.known (backing_bytes view backing old.backing) m starts.0 starts.1;
+      };
+    }

@@ -1,0 +1,144 @@
+-- A prepared mapping is let go: its place is free, and its cluster is to be freed.
+use Rattle.std.proofs.Common.{◌≡◌, ℕ, ◌+◌, ◌-◌, ◌≤◌, Bool, true, false, List, [], ◌++◌, refl, sym, ap, ◌∙◌, subst, arith, cond}
+use Rattle.std.specs.Prelude.{Option, Some, None, slice_get, slice_set, nat_le, nat_lt, ◌&&◌}
+use Rattle.std.specs.Option.{option_map_or}
+use mathlib.Core.Path.{fun_ext}
+use Rattle.image_access.specs.Backing.{BackingView}
+use Rattle.image_access.specs.Moments.{StorageView}
+use Rattle.image_access.proofs.Passing.{passes_none}
+use Rattle.qcow2_metadata.specs.Bytes.{Bytes}
+use Rattle.qcow2_metadata.specs.declared.header.HeaderFields.{HeaderFields}
+use Rattle.qcow2_laws.specs.Changes.{held_to_dropped}
+use Rattle.qcow2_laws.specs.Disk.{disk}
+use Rattle.qcow2_laws.specs.CrashInvariant.{Pending, CrashInvariant}
+use Rattle.qcow2_laws.specs.SafeSteps.{DriverState, SafeStep}
+use Rattle.qcow2_laws.specs.Caches.{AreSettled}
+use Rattle.qcow2_laws.specs.AbstractImages.{guest_of}
+use Rattle.qcow2_laws.specs.Calls.{with_slot}
+use Rattle.qcow2_laws.proofs.SafeSteps.{endures_none}
+use Rattle.qcow2_laws.proofs.Steps.{pending_is_changed}
+use Rattle.qcow2_metadata.specs.Tables.{CachedTable}
+use Rattle.qcow2_alloc.specs.Allocation.{run_at}
+use Rattle.qcow2_alloc.specs.CacheMarks.{l2_pins, SameTables}
+use Rattle.qcow2_alloc.specs.declared.cache.MetadataCaches.{MetadataCaches}
+use Rattle.qcow2_alloc.specs.declared.clusters_to_free.ClusterKind.TheVariants as Kind
+use Rattle.qcow2_alloc.specs.MetadataCaches.{order_of, known_of, CacheInvariant}
+use Rattle.qcow2_alloc.specs.ImageFile.{state_in, view_in, contents_in, known_in, nothing_given}
+use Rattle.qcow2_image.specs.declared.image.Qcow2.{Qcow2}
+use Rattle.qcow2_image.specs.declared.prepared.Prepared.{Prepared}
+use Rattle.qcow2_image.specs.declared.prepared.NewCluster.{NewCluster}
+use Rattle.qcow2_image.specs.Calls.{Discards}
+use Rattle.qcow2_image.specs.UnseenSteps.{freed_by}
+use Rattle.qcow2_image.specs.ImageInvariant.{run_of, of_data, of_tables, to_free, held_by, pins_by, pending_in, abstract_of, meaning, backing_bytes, HasCluster, IsNewFor, IsReadyWith, ImageInvariant}
+use Rattle.qcow2_image.proofs.Call.Answered.{over_all_at, same_guest, ready_table}
+use Rattle.qcow2_image.proofs.Sound.{free_more}
+use Rattle.qcow2_image.proofs.Open.Reftables.{reftable_still}
+use Rattle.qcow2_image.proofs.Call.Slots.{others_left, over_all_left, slot_set}
+use Rattle.qcow2_image.proofs.Call.Stepped.{Steps, stepped_sound, stepped_works}
+
+-- what is kept of the caches is kept while something else is pending that is guarded too
+pub sound_while : {S : Type 0} (h : HeaderFields) (p q : Pending) (caches : MetadataCaches S) (on_storage : Bytes) → CrashInvariant h (order_of caches) q on_storage (known_of h caches on_storage) → CacheInvariant h p caches on_storage → CacheInvariant h q caches on_storage
+sound_while h p q caches on_storage guarded sound =
+    let k = sound.kept.kept in
+    record {
+      l2_format = sound.l2_format;
+      rb_format = sound.rb_format;
+      l2_fit = sound.l2_fit;
+      rb_fit = sound.rb_fit;
+      kept = record { kept = record { guarded = guarded; l2_apart = k.l2_apart; rb_apart = k.rb_apart; l2_stand = k.l2_stand; rb_stand = k.rb_stand }; l2_loaded = sound.kept.l2_loaded; rb_loaded = sound.kept.rb_loaded };
+    }
+
+pub run_few : (first n k : ℕ) → run_at first n k ≤ 1
+run_few first n k = elim (nat_le first k && nat_lt k (first + n)) as (λ (b : Bool). cond b 1 0 ≤ 1) [ true ↦ omega arith | false ↦ omega arith ]
+
+-- a mapping holds each cluster at most once
+pub held_few : (n : Option NewCluster) (c : ℕ) → option_map_or (λ (m : NewCluster). run_of m.pending c) n 0 ≤ 1
+held_few None c = omega arith
+held_few (Some n) c = run_few n.pending.first_cluster n.pending.count c
+
+-- it comes to the list of those to be freed as data
+freed_tables : (n : Option NewCluster) → ((m : NewCluster) → n ≡ Some m → m.pending.kind ≡ Kind.Data) → (c : ℕ) → to_free of_tables (freed_by n) c ≡ 0
+freed_tables None is c = refl
+freed_tables (Some n) is c = let e : of_tables n.pending.kind (run_of n.pending c) ≡ 0 = ap (λ k. of_tables k (run_of n.pending c)) (is n refl) in omega arith
+
+freed_data : (n : Option NewCluster) → ((m : NewCluster) → n ≡ Some m → m.pending.kind ≡ Kind.Data) → (c : ℕ) → to_free of_data (freed_by n) c ≡ option_map_or (λ (m : NewCluster). run_of m.pending c) n 0
+freed_data None is c = refl
+freed_data (Some n) is c = let e : of_data n.pending.kind (run_of n.pending c) ≡ run_of n.pending c = ap (λ k. of_data k (run_of n.pending c)) (is n refl) in omega arith
+
+module _ {S F : Type 0} (view : S → StorageView) (backing : F → BackingView) (old : Qcow2 S F) (p : Prepared) (caches : MetadataCaches S) (tables : SameTables old.file.caches caches)
+    (pins : (c : ℕ) → l2_pins caches c ≡ l2_pins old.file.caches c - pins_by p c) where
+  abbrev pub left : Qcow2 S F
+  left = record old { file = record old.file { free_list = old.file.free_list ++ freed_by p.new_cluster; caches = caches } }
+
+  abbrev h : HeaderFields
+  h = old.file.header.fields
+
+  same_known : known_in view left.file ≡ known_in view old.file
+  same_known = tables.known h (contents_in view old.file)
+
+  module _ (out : List (Option Prepared)) (k : ℕ) (at : slice_get out k ≡ Some (Some p)) where
+    abbrev after : Pending
+    after = held_to_dropped (pending_in view backing old out) (held_by p)
+
+    module _ (sound : ImageInvariant view backing (pending_in view backing old out) old out) where
+      abbrev before : DriverState
+      before = state_in view old.file (pending_in view backing old out)
+
+      same_stand : state_in view left.file after ≡ record before { pending = after }
+      same_stand = ap (λ d. record before { pending = after; direction = d; known = known_in view left.file }) tables.order ∙ ap (λ b. record before { pending = after; known = b }) same_known
+
+      let_go_leads : SafeStep before (state_in view left.file after) nothing_given []
+      let_go_leads = subst (λ s. SafeStep before s nothing_given []) (sym same_stand)
+          (pending_is_changed.dropped before (held_by p) sound.file.caches.kept.kept.guarded (held_few p.new_cluster) (λ c some. let all = over_all_at held_by out k p at c in omega arith))
+
+      as_data : (n : NewCluster) → p.new_cluster ≡ Some n → n.pending.kind ≡ Kind.Data
+      as_data n is =
+          let pending = ready_table view backing old old out p is (sound.ready k p at).mapped in
+          let new_for : IsNewFor h (known_in view old.file) (contents_in view old.file) p n = subst (HasCluster h (known_in view old.file) (contents_in view old.file) p) is pending.1.cluster in
+          new_for.kind
+
+      let_go_sound : ImageInvariant view backing after left (slice_set out k None)
+      let_go_sound = record {
+        works = sound.works;
+        file = record {
+          honest = sound.file.honest;
+          caches = sound_while h (pending_in view backing old out) after caches (contents_in view old.file) let_go_leads.sound (tables.sound h (pending_in view backing old out) (contents_in view old.file) sound.file.caches);
+          settled = subst (λ (ts : List CachedTable). AreSettled h ts (contents_in view old.file)) (sym tables.refblocks) sound.file.settled;
+          room = tables.room sound.file.room;
+        };
+        l1_table = record { cluster = sound.l1_table.cluster; bits = sound.l1_table.bits; count = sound.l1_table.count; entries = sound.l1_table.entries };
+        reftable = reftable_still view old.file left.file refl refl old.allocator sound.reftable;
+        below = sound.below;
+        ready = λ j q there. let r = sound.ready j q (others_left out k j q there) in record { own = r.own; mapped = subst (λ (b : Bytes). IsReadyWith h b (contents_in view old.file) q q.table) (sym same_known) r.mapped };
+        pinned = λ table. let all = over_all_left pins_by out k p at table in let was = sound.pinned table in let now = pins table in omega arith;
+        once = λ table. let all = over_all_left pins_by out k p at table in let was = sound.once table in omega arith;
+      }
+
+      let_go_steps : Steps view backing old left out (slice_set out k None) nothing_given after
+      let_go_steps = record {
+        sound = let_go_sound;
+        only = record {
+          held = λ c. let all = over_all_left held_by out k p at c in omega arith;
+          fresh = λ c. refl;
+          spent = λ c. let more = free_more of_tables old.file.free_list (freed_by p.new_cluster) c in let none = freed_tables p.new_cluster as_data c in omega arith;
+          dropped = λ c. let more = free_more of_data old.file.free_list (freed_by p.new_cluster) c in let one = freed_data p.new_cluster as_data c in omega arith;
+        };
+        leads = let_go_leads;
+        since = endures_none (view_in view old.file) (known_in view old.file);
+        header = refl;
+        below = refl;
+        surplus = refl;
+      }
+
+    slots_left : guest_of (abstract_of view backing left (slice_set out k None)) ≡ with_slot (guest_of (abstract_of view backing old out)) k None
+    slots_left = same_guest _ _ (ap (λ b. disk b (backing_bytes view backing old.backing)) same_known) (fun_ext (λ j. slot_set (meaning view backing old) out k None (Some p) at j))
+
+  pub discards : Discards view backing old left p
+  discards out k at = record {
+    acts = record {
+      number = refl;
+      works = λ sound. stepped_works view backing old left out (slice_set out k None) nothing_given (after out k at) (let_go_steps out k at sound);
+      rests = λ failed. record { setting = refl; failed = failed; contents = refl; moments = passes_none (view_in view old.file) _ };
+    };
+    answer = λ sound. (stepped_sound view backing old left out (slice_set out k None) nothing_given (after out k at) (let_go_steps out k at sound), slots_left out k at);
+  }

@@ -1,0 +1,155 @@
+-- An unwritten image is opened, made larger and flushed: what a stop leaves on the way, and what stands then.
+use Rattle.std.proofs.Common.{◌≡◌, ◌⊎◌, inl, inr, ⊎_elim, ℕ, ◌^◌, max, List, [], ◌∷◌, ◌++◌, None, Result, Ok, Err, refl, sym, ap, ◌∙◌, subst, arith}
+use Rattle.std.specs.Prelude.{IfOk}
+use Rattle.image_access.specs.Backing.{BackingView}
+use Rattle.image_access.specs.Moments.{StorageView}
+use Rattle.image_access.proofs.Passing.{passes_on, passes_if}
+use Rattle.qcow2_metadata.specs.Bytes.{Bytes, byte_at}
+use Rattle.qcow2_metadata.specs.Consistent.{IsConsistent}
+use Rattle.qcow2_metadata.specs.declared.header.HeaderFields.{HeaderFields}
+use Rattle.qcow2_metadata.specs.Header.{HeaderView, header}
+use Rattle.qcow2_metadata.specs.HeaderWrite.{new_header, new_fields, HasNewNames}
+use Rattle.qcow2_laws.specs.Disk.{disk}
+use Rattle.qcow2_laws.specs.SafeSteps.{SafeThroughout}
+use Rattle.qcow2_laws.specs.NewImages.{IsNewImage}
+use Rattle.qcow2_laws.specs.Stops.{Checkpoint, checkpoint_at, checkpoint_with, IsAsked, StopOkEverywhere}
+use Rattle.qcow2_laws.specs.Tops.{places_of, with_places}
+use Rattle.qcow2_laws.specs.AbstractImages.{IsOpened}
+use Rattle.qcow2_alloc.specs.declared.error.ImageError.{ImageError}
+use Rattle.qcow2_alloc.specs.ImageFile.{nothing_given, view_in}
+use Rattle.qcow2_image.specs.declared.builder.Qcow2CreateBuilder.{Qcow2CreateBuilder}
+use Rattle.qcow2_image.specs.declared.image.Qcow2.{Qcow2}
+use Rattle.qcow2_image.specs.Created.{IsUnwritten, IsStopOfCreating, StopsCreating, StaysCreating, IsNewHeader, IsCreated, Enlarges}
+use Rattle.qcow2_image.specs.Growing.{SameFormat, GrowsWhole}
+use Rattle.qcow2_image.specs.Image.{size_of, storage_of_image}
+use Rattle.qcow2_image.specs.Opened.{IsKeptSince, Opens, storage_after}
+use Rattle.qcow2_image.specs.ImageInvariant.{abstract_of}
+use Rattle.qcow2_image.proofs.Create.ThreeWrites.{new_unwritten}
+
+disk_size : (b backing : Bytes) → (disk b backing).size ≡ (header b).size
+unfolding disk
+disk_size b backing = refl
+
+-- what is kept of an unwritten image is unwritten
+module _ (n : ℕ) (old c : Bytes) (asked : List ℕ) (unwritten : IsUnwritten n old) (kept : (backing : Bytes) (m : Checkpoint) → StopOkEverywhere backing m old → StopOkEverywhere backing (checkpoint_with [] asked m) c) where
+  here : (backing : Bytes) → StopOkEverywhere backing (checkpoint_with [] asked (checkpoint_at (disk old backing))) c
+  here backing = kept backing (checkpoint_at (disk old backing)) (record { consistent = unwritten.consistent; size = inl refl; values = λ o. inl refl })
+
+  pub unwritten_as : (k : ℕ) → (header c).size ≡ k → IsUnwritten k c
+  unwritten_as k is = record {
+    consistent = (here (λ o. 0)).consistent;
+    size = is;
+    shows_below = λ backing o. ⊎_elim (λ same. same ∙ unwritten.shows_below backing o) (λ none. absurd none) ((here backing).values o);
+  }
+
+  pub size_then : ((header c).size ≡ n) ⊎ IsAsked (asked ++ []) ((header c).size)
+  size_then = ⊎_elim
+      (λ same. inl (sym (disk_size c (λ o. 0)) ∙ same ∙ disk_size old (λ o. 0) ∙ unwritten.size))
+      (λ a. inr (subst (IsAsked (asked ++ [])) (disk_size c (λ o. 0)) a))
+      (here (λ o. 0)).size
+
+-- nothing is asked for
+pub unwritten_still : (n : ℕ) (old c : Bytes) → IsUnwritten n old → ((backing : Bytes) (m : Checkpoint) → StopOkEverywhere backing m old → StopOkEverywhere backing (checkpoint_with [] [] m) c) → IsUnwritten n c
+unwritten_still n old c unwritten kept = ⊎_elim (λ same. unwritten_as n old c [] unwritten kept n same) (λ asked. absurd asked) (size_then n old c [] unwritten kept)
+
+-- a size is
+pub unwritten_either : (size : ℕ) (old c : Bytes) → IsUnwritten 0 old → ((backing : Bytes) (m : Checkpoint) → StopOkEverywhere backing m old → StopOkEverywhere backing (checkpoint_with [] (size ∷ []) m) c) → IsUnwritten 0 c ⊎ IsUnwritten size c
+unwritten_either size old c unwritten kept = ⊎_elim
+    (λ none. inl (unwritten_as 0 old c (size ∷ []) unwritten kept 0 none))
+    (λ asked. ⊎_elim (λ is. inr (unwritten_as 0 old c (size ∷ []) unwritten kept size is)) (λ none. absurd none) asked)
+    (size_then 0 old c (size ∷ []) unwritten kept)
+
+-- ---- it is opened
+pub opens_unwritten : (n : ℕ) (old new : StorageView) → IsUnwritten n (byte_at old.contents) → IsKeptSince old new → IsUnwritten n (byte_at new.contents)
+opens_unwritten n old new unwritten since = unwritten_still n (byte_at old.contents) (byte_at new.contents) unwritten (λ backing m ok. since.contents backing m ok ok)
+
+pub opening_stops : (size : ℕ) (old new : StorageView) → IsUnwritten 0 (byte_at old.contents) → IsKeptSince old new → StopsCreating size old new
+opening_stops size old new unwritten since =
+    passes_if (λ c. IsStopOfCreating size (byte_at c)) (λ c kept. inr (inl (unwritten_still 0 (byte_at old.contents) (byte_at c) unwritten (λ backing m ok. kept backing m ok ok)))) since.moments
+
+-- ---- it is made larger and flushed
+module _ (size : ℕ) (old new : StorageView) (known : Bytes) (unwritten : IsUnwritten 0 (byte_at old.contents)) (clean : known ≡ byte_at old.contents) (since : SafeThroughout old new known nothing_given (size ∷ [])) where
+  as_known : (backing : Bytes) (m : Checkpoint) → StopOkEverywhere backing m (byte_at old.contents) → StopOkEverywhere backing m known
+  as_known backing m ok = subst (StopOkEverywhere backing m) (sym clean) ok
+
+  pub growing_stops : StopsCreating size old new
+  growing_stops =
+      passes_if (λ c. IsStopOfCreating size (byte_at c)) (λ c kept. inr (unwritten_either size (byte_at old.contents) (byte_at c) unwritten (λ backing m ok. kept backing m ok (as_known backing m ok)))) since.moments
+
+  pub grown_unwritten : (header (byte_at new.contents)).size ≡ size → IsUnwritten size (byte_at new.contents)
+  grown_unwritten is = unwritten_as 0 (byte_at old.contents) (byte_at new.contents) (size ∷ []) unwritten (λ backing m ok. since.contents backing m ok (as_known backing m ok)) size is
+
+module _ {S F : Type 0} (view : S → StorageView) (backing : F → BackingView) (size : ℕ) (start : S) (mid new : Qcow2 S F) (unwritten : IsUnwritten 0 (byte_at (view start).contents)) (since : IsKeptSince (view start) (view (storage_of_image mid)))
+    (opened : IsOpened (abstract_of view backing mid [])) (format : SameFormat (header (byte_at (view start).contents)) mid.file.header.fields) where
+  unwritten_mid : IsUnwritten 0 (byte_at (view_in view mid.file).contents)
+  unwritten_mid = opens_unwritten 0 (view start) (view_in view mid.file) unwritten since
+
+  all_stops : StopsCreating size (view_in view mid.file) (view_in view new.file) → StopsCreating size (view start) (view_in view new.file)
+  all_stops then = passes_on (λ c. IsStopOfCreating size (byte_at c)) (opening_stops size (view start) (view_in view mid.file) unwritten since) then (λ c is. is)
+
+  enlarged : (r : Result (Unit {0}) ImageError) → GrowsWhole view backing mid new size r → Enlarges size (view start) (view_in view new.file) r
+  enlarged (Ok x) grows =
+      let extends = grows.1 in
+      let mid_is = opened.sound.file.caches.kept.kept.guarded.top.header_is in
+      let new_is = extends.sound.file.caches.kept.kept.guarded.top.header_is in
+      let none : size_of mid ≡ 0 = ap (λ (h : HeaderFields). h.size) (sym mid_is) ∙ unwritten_mid.size in
+      let is : (header (byte_at (view_in view new.file).contents)).size ≡ size = ap (λ (h : HeaderFields). h.size) new_is ∙ grows.2 ∙ ap (λ n. max n size) none ∙ omega arith in (
+        record { honest = extends.sound.file.honest; moments = all_stops (growing_stops size (view_in view mid.file) (view_in view new.file) _ unwritten_mid opened.clean extends.since) },
+        grown_unwritten size (view_in view mid.file) (view_in view new.file) _ unwritten_mid opened.clean extends.since is,
+        subst (λ (h : HeaderFields). SameFormat (header (byte_at (view start).contents)) h) (sym new_is) (extends.format ∙ ap (λ h. with_places h (places_of new.file.header.fields)) format),
+      )
+  enlarged (Err e) lasts = all_stops (growing_stops size (view_in view mid.file) (view_in view new.file) _ unwritten_mid opened.clean lasts)
+
+  pub enlarged_so : (last : S) (r : Result (Unit {0}) ImageError) → last ≡ storage_of_image new → GrowsWhole view backing mid new size r → Enlarges size (view start) (view last) r
+  enlarged_so last r is grows = subst (λ (s : S). Enlarges size (view start) (view s) r) (sym is) (enlarged r grows)
+
+-- ---- the whole call
+
+-- a stop that may leave an image of no bytes
+pub stops_at_none : (n : ℕ) (old new : StorageView) → StopsCreating 0 old new → StopsCreating n old new
+stops_at_none n old new stops = passes_if (λ c. IsStopOfCreating n (byte_at c)) (λ c stop. ⊎_elim (λ none. inl none) (λ either. ⊎_elim (λ u. inr (inl u)) (λ u. inr (inl u)) either) stop) stops
+
+pub new_header_is : (v : HeaderView) (bits order : ℕ) → v ≡ new_header bits order None None None → HasNewNames v → IsNewHeader v
+new_header_is v bits order is names = record {
+  is = is ∙ ap (λ b. new_header b order None None None) (sym (ap (λ (w : HeaderView). w.fields.cluster_bits) is)) ∙ ap (λ o. new_header v.fields.cluster_bits o None None None) (sym (ap (λ (w : HeaderView). w.fields.refcount_order) is));
+  names = names;
+}
+
+module _ {S : Type 0} (view : S → StorageView) (builder : Qcow2CreateBuilder S) (bits order : ℕ) (v : HeaderView) (is : v ≡ new_header bits order None None None) (start mid last : S) (same : start ≡ builder.image)
+    (three : StaysCreating 0 (view start) (view mid) × IsNewImage v.fields (byte_at (view mid).contents)) where
+  pub unwritten : IsUnwritten 0 (byte_at (view mid).contents)
+  unwritten = new_unwritten v.fields (byte_at (view mid).contents) three.1 (ap (λ (w : HeaderView). w.fields.size) is)
+
+  pub creating_stops : (r : Result (Unit {0}) ImageError) → Enlarges builder.size (view mid) (view last) r → StopsCreating builder.size (view builder.image) (view last)
+  creating_stops r enlarges =
+      subst (λ (s : S). StopsCreating builder.size (view s) (view last)) same
+      (passes_on (λ c. IsStopOfCreating builder.size (byte_at c)) (stops_at_none builder.size (view start) (view mid) three.0.moments) (stops_of r enlarges) (λ c stop. stop))
+    where
+      stops_of : (r : Result (Unit {0}) ImageError) → Enlarges builder.size (view mid) (view last) r → StopsCreating builder.size (view mid) (view last)
+      stops_of (Ok x) done = done.0.moments
+      stops_of (Err e) stops = stops
+
+  -- the header keeps what it was made of
+  header_then : SameFormat (header (byte_at (view mid).contents)) (header (byte_at (view last).contents)) → header (byte_at (view last).contents) ≡ with_places (new_fields bits order None None None) (places_of (header (byte_at (view last).contents)))
+  header_then format = format ∙ ap (λ h. with_places h (places_of (header (byte_at (view last).contents)))) (three.1.header_is ∙ ap (λ (w : HeaderView). w.fields) is)
+
+  pub created_so : builder.cluster_size ≡ 2 ^ bits → builder.refcount_width ≡ 2 ^ order → (r : Result (Unit {0}) ImageError) → Enlarges builder.size (view mid) (view last) r → IfOk r (λ done. IsCreated builder (view last))
+  created_so clusters counts (Ok x) done = let h = header_then done.2 in record {
+    honest = done.0.honest;
+    unwritten = done.1;
+    version = ap (λ (k : HeaderFields). k.version) h;
+    clusters = ap (λ (k : HeaderFields). 2 ^ k.cluster_bits) h ∙ sym clusters;
+    counts = ap (λ (k : HeaderFields). 2 ^ k.refcount_order) h ∙ sym counts;
+    no_backing_file = ap (λ (k : HeaderFields). k.backing_offset) h;
+  }
+  created_so clusters counts (Err e) stops = tt
+
+-- ---- and is opened then
+pub opened_unwritten : {S F : Type 0} (view : S → StorageView) (backing : F → BackingView) (builder : Qcow2CreateBuilder S) (storage : S) (done : Result (Unit {0}) ImageError) (x : Unit {0}) → done ≡ Ok x → IfOk done (λ d. IsCreated builder (view storage))
+    → (result : Result (Qcow2 S F) (S × ImageError)) → IfOk result (Opens view backing (view storage)) → ((view storage).is_honest → IsConsistent (byte_at (view storage).contents) → IsKeptSince (view storage) (view (storage_after result)))
+    → IfOk result (λ image. IsUnwritten builder.size (abstract_of view backing image []).known)
+opened_unwritten view backing builder storage done x is created (Err e) opens since = tt
+opened_unwritten view backing builder storage done x is created (Ok image) opens since =
+    let made : IsCreated builder (view storage) = subst (λ (r : Result (Unit {0}) ImageError). IfOk r (λ d. IsCreated builder (view storage))) is created in
+    let opened = opens made.honest made.unwritten.consistent in
+    subst (IsUnwritten builder.size) (sym opened.clean) (opens_unwritten builder.size (view storage) (view_in view image.file) made.unwritten (since made.honest made.unwritten.consistent))

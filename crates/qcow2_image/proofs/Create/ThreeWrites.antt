@@ -1,0 +1,141 @@
+-- The refblock, the reftable and the header of a new image are written one after another: what a stop may leave on the way.
+use Rattle.std.proofs.Common.{◌≡◌, inl, inr, ℕ, ◌*◌, ◌/◌, ◌^◌, ◌≤◌, List, [], Option, Result, Ok, Err, sym, ap, ◌∙◌, subst, arith}
+use Rattle.std.specs.Prelude.{IfSome, OnOk}
+use Rattle.image_access.specs.Contents.{overwritten}
+use Rattle.image_access.specs.Moments.{StorageView, Passing, Changes, Calls}
+use Rattle.image_access.specs.declared.error.StorageError.{StorageError}
+use Rattle.image_access.proofs.Passing.{passes_none, passes_on, passes_if, passes_change}
+use Rattle.qcow2_metadata.specs.Bytes.{Bytes, byte_at}
+use Rattle.qcow2_metadata.specs.declared.header.HeaderFields.{HeaderFields}
+use Rattle.qcow2_metadata.specs.Header.{HeaderView, header, cluster_size, entries_per_cluster}
+use Rattle.qcow2_metadata.specs.HeaderLoad.{IsHeaderIn}
+use Rattle.qcow2_metadata.specs.HeaderWrite.{header_written}
+use Rattle.qcow2_metadata.specs.Cover.{cover}
+use Rattle.qcow2_metadata.specs.Entries.{host_offset}
+use Rattle.qcow2_metadata.specs.EntryTable.{EntryTableView}
+use Rattle.qcow2_metadata.specs.Guest.{guest_value, value_under, known_byte}
+use Rattle.qcow2_metadata.specs.RefBlock.{RefBlockView, IsRefBlockAt}
+use Rattle.qcow2_metadata.specs.declared.l2_mapping.L2Mapping.{L2Mapping}
+use Rattle.qcow2_metadata.specs.declared.l2_mapping.L2Mapping.TheVariants.{Uncovered}
+use Rattle.qcow2_laws.specs.Disk.{disk}
+use Rattle.qcow2_laws.specs.NewImages.{IsNewImage}
+use Rattle.qcow2_laws.proofs.NewImages.{new_image_consistent}
+use Rattle.qcow2_laws.proofs.Places.{cover_none, l1_entry-past}
+use Rattle.qcow2_alloc.specs.declared.error.ImageError.{ImageError}
+use Rattle.qcow2_image.specs.Created.{IsUnwritten, IsStopOfCreating, StaysCreating, IsNewHeader, CountsThree, NamesOne, WritesThree}
+use Rattle.qcow2_image.proofs.Create.FirstImage.{IsBlank, no_image, blank_still, is_new_image}
+
+-- ---- a new image is unwritten
+uncovered_shows : (h : HeaderFields) (b backing : Bytes) (o : ℕ) → cover h b (o / cluster_size h) ≡ Uncovered → guest_value h b b backing o ≡ known_byte (backing o)
+unfolding guest_value
+uncovered_shows h b backing o none = ap (λ (m : L2Mapping). value_under h b b backing o m) none
+
+no_table_shows : (b backing : Bytes) (o : ℕ) → (header b).l1_entries ≡ 0 → (disk b backing).value o ≡ known_byte (backing o)
+unfolding disk
+no_table_shows b backing o none =
+    let h = header b in
+    uncovered_shows h b backing o (cover_none h b (o / cluster_size h) (ap host_offset (l1_entry-past h b (o / cluster_size h / entries_per_cluster h) (omega (arith, none)))))
+
+pub new_unwritten : (h : HeaderFields) (b : Bytes) → IsNewImage h b → h.size ≡ 0 → IsUnwritten 0 b
+new_unwritten h b new none = record {
+  consistent = new_image_consistent h b new;
+  size = ap (λ (k : HeaderFields). k.size) new.header_is ∙ none;
+  shows_below = λ backing o. no_table_shows b backing o (ap (λ (k : HeaderFields). k.l1_entries) new.header_is ∙ new.no_l1_table.0);
+}
+
+-- ---- moments
+pub stops_none : (n : ℕ) (v : StorageView) → v.is_honest → StaysCreating n v v
+stops_none n v honest = record { honest = honest; moments = passes_none v _ }
+
+pub stops_write : {T : Type 0} (result : Result T StorageError) (n : ℕ) (start old new : StorageView) (changed : List ℕ) → StaysCreating n start old → Calls old new result → Changes old new result changed → IsStopOfCreating n (byte_at old.contents)
+    → IsStopOfCreating n (byte_at changed) → StaysCreating n start new
+stops_write result n start old new changed stops calls changes before after =
+    record { honest = calls.honest stops.honest; moments = passes_change (λ c. IsStopOfCreating n (byte_at c)) changed stops.moments calls changes stops.honest before after }
+
+module _ {S : Type 0} (view : S → StorageView) (v : HeaderView) (new : IsNewHeader v) (block : RefBlockView) (counts : CountsThree v.fields block) (t : EntryTableView) (names : NamesOne v.fields t)
+    (start : S) (honest : (view start).is_honest) (empty : (view start).contents ≡ []) where
+  abbrev h : HeaderFields
+  h = v.fields
+
+  large : 4 ≤ cluster_size v.fields
+  large = omega (arith, new.names.room)
+
+  blank : IsBlank (view start).contents
+  blank i lt = ap (λ (l : List ℕ). byte_at l i) empty
+
+  module _ (told s1 : S) (same : told ≡ start) (r1 : Result (Unit {0}) StorageError)
+      (wrote : IfSome block.cluster (λ c. Changes (view told) (view s1) r1 (overwritten (view told).contents (c * 2 ^ block.cluster_bits) block.bytes))) (called : Calls (view told) (view s1) r1) where
+    abbrev c1 : List ℕ
+    c1 = overwritten (view start).contents (2 * cluster_size v.fields) block.bytes
+
+    writes_first : Changes (view start) (view s1) r1 c1
+    writes_first =
+        subst (λ (s : S). Changes (view s) (view s1) r1 (overwritten (view s).contents (2 * cluster_size h) block.bytes)) same
+        (subst (λ n. Changes (view told) (view s1) r1 (overwritten (view told).contents (2 * 2 ^ n) block.bytes)) counts.bits
+        (subst (λ (k : Option ℕ). IfSome k (λ c. Changes (view told) (view s1) r1 (overwritten (view told).contents (c * 2 ^ block.cluster_bits) block.bytes))) counts.cluster_is wrote))
+
+    blank_first : IsBlank c1
+    blank_first = blank_still (view start).contents (2 * cluster_size h) block.bytes (omega (arith, large)) blank
+
+    pub stops_first : StaysCreating 0 (view start) (view s1)
+    stops_first =
+        stops_write r1 0 (view start) (view start) (view s1) c1 (stops_none 0 (view start) honest) (subst (λ (s : S). Calls (view s) (view s1) r1) same called) writes_first (inl (no_image (view start).contents blank)) (inl (no_image c1 blank_first))
+
+    module _ (x : Unit {0}) (done : r1 ≡ Ok x) (s2 : S) (r2 : Result (Unit {0}) StorageError)
+        (wrote' : IfSome t.cluster (λ c. Changes (view s1) (view s2) r2 (overwritten (view s1).contents (c * 2 ^ t.cluster_bits) t.bytes))) (called' : Calls (view s1) (view s2) r2) where
+      first_is : (view s1).contents ≡ c1
+      first_is = rw done at (writes_first honest)
+
+      abbrev c2 : List ℕ
+      c2 = overwritten (view s1).contents (cluster_size v.fields) t.bytes
+
+      writes_second : Changes (view s1) (view s2) r2 c2
+      writes_second =
+          let once : 1 * cluster_size h ≡ cluster_size h = omega arith in
+          subst (λ n. Changes (view s1) (view s2) r2 (overwritten (view s1).contents n t.bytes)) once
+          (subst (λ n. Changes (view s1) (view s2) r2 (overwritten (view s1).contents (1 * 2 ^ n) t.bytes)) names.bits
+          (subst (λ (k : Option ℕ). IfSome k (λ c. Changes (view s1) (view s2) r2 (overwritten (view s1).contents (c * 2 ^ t.cluster_bits) t.bytes))) names.cluster_is wrote'))
+
+      blank_there : IsBlank (view s1).contents
+      blank_there = subst IsBlank (sym first_is) blank_first
+
+      blank_second : IsBlank c2
+      blank_second = blank_still (view s1).contents (cluster_size h) t.bytes large blank_there
+
+      pub stops_second : StaysCreating 0 (view start) (view s2)
+      stops_second = stops_write r2 0 (view start) (view s1) (view s2) c2 stops_first called' writes_second (inl (no_image (view s1).contents blank_there)) (inl (no_image c2 blank_second))
+
+      module _ (y : Unit {0}) (done' : r2 ≡ Ok y) (stands : (view told).is_honest → IfSome block.cluster (λ c. OnOk r1 (IsRefBlockAt (byte_at (view s1).contents) (c * 2 ^ block.cluster_bits) block)))
+          (s3 : S) (r3 : Result (Unit {0}) StorageError) (wrote'' : Changes (view s2) (view s3) r3 (header_written v (view s2).contents)) (called'' : Calls (view s2) (view s3) r3)
+          (there : IsHeaderIn v (header_written v (view s2).contents)) where
+        second_is : (view s2).contents ≡ c2
+        second_is = rw done' at (writes_second stops_first.honest)
+
+        block_stands : IsRefBlockAt (byte_at (view s1).contents) (2 * cluster_size h) block
+        block_stands =
+            let here = stands (subst (λ (s : S). (view s).is_honest) (sym same) honest) in
+            let two : OnOk r1 (IsRefBlockAt (byte_at (view s1).contents) (2 * 2 ^ block.cluster_bits) block) = subst (λ (k : Option ℕ). IfSome k (λ c. OnOk r1 (IsRefBlockAt (byte_at (view s1).contents) (c * 2 ^ block.cluster_bits) block))) counts.cluster_is here in
+            subst (λ n. IsRefBlockAt (byte_at (view s1).contents) (2 * 2 ^ n) block) counts.bits (rw done at two)
+
+        pub new_there : IsNewImage h (byte_at (header_written v (view s2).contents))
+        new_there = is_new_image v new block counts t names (view s1).contents (view s2).contents block_stands second_is there
+
+        pub stops_third : StaysCreating 0 (view start) (view s3)
+        stops_third =
+            let none : h.size ≡ 0 = ap (λ (w : HeaderView). w.fields.size) new.is in
+            stops_write r3 0 (view start) (view s2) (view s3) (header_written v (view s2).contents) stops_second called'' wrote'' (inl (no_image (view s2).contents (subst IsBlank (sym second_is) blank_second)))
+            (inr (inl (new_unwritten h (byte_at (header_written v (view s2).contents)) new_there none)))
+
+        pub new_stands : (z : Unit {0}) → r3 ≡ Ok z → IsNewImage h (byte_at (view s3).contents)
+        new_stands z done'' = let is = rw done'' at (wrote'' stops_second.honest) in subst (λ (l : List ℕ). IsNewImage h (byte_at l)) (sym is) new_there
+
+-- ---- one part after another
+pub stops_then : (n : ℕ) (old mid new : StorageView) → StaysCreating n old mid → StaysCreating n mid new → StaysCreating n old new
+stops_then n old mid new first then = record { honest = then.honest; moments = passes_on (λ c. IsStopOfCreating n (byte_at c)) first.moments then.moments (λ c is. is) }
+
+pub stops_cleared : (n : ℕ) (old new : StorageView) → new.is_honest → Passing old new (λ c. c ≡ []) → StaysCreating n old new
+stops_cleared n old new honest time = record { honest = honest; moments = passes_if (λ c. IsStopOfCreating n (byte_at c)) (λ c none. inl (no_image c (λ i lt. ap (λ (l : List ℕ). byte_at l i) none))) time }
+
+pub writes_then : (h : HeaderFields) (old mid new : StorageView) (r : Result (Unit {0}) ImageError) → StaysCreating 0 old mid → WritesThree h mid new r → WritesThree h old new r
+writes_then h old mid new (Ok x) first then = (stops_then 0 old mid new first then.0, then.1)
+writes_then h old mid new (Err e) first then = stops_then 0 old mid new first then

@@ -1,0 +1,145 @@
+-- Clusters that are listed are freed: no guest sees it.
+use Rattle.std.proofs.Common.{◌≡◌, inl, inr, ℕ, ◌<◌, Bool, false, List, [], Option, Some, refl, sym, ap, ◌∙◌, subst, arith}
+use Rattle.std.specs.Prelude.{Result, Ok, Err, IfOk, IfErr, IsTrue}
+use Rattle.image_access.specs.Backing.{BackingView}
+use Rattle.image_access.specs.Moments.{StorageView}
+use Rattle.qcow2_laws.specs.CrashInvariant.{Pending}
+use Rattle.qcow2_laws.specs.Calls.{Does, IsSame}
+use Rattle.qcow2_laws.specs.SafeSteps.{SafeStep}
+use Rattle.qcow2_laws.specs.AbstractImages.{contents_of}
+use Rattle.qcow2_laws.proofs.Formats.{format_same, format_then}
+use Rattle.qcow2_laws.proofs.SafeSteps.{leads_then, steps_endure}
+use Rattle.qcow2_laws.proofs.Unseen.{unseen_then}
+use Rattle.qcow2_alloc.specs.declared.allocation.Allocator.{Allocator}
+use Rattle.qcow2_alloc.specs.declared.error.ImageError.{ImageError}
+use Rattle.qcow2_alloc.specs.declared.image_file.ImageFile.{ImageFile}
+use Rattle.qcow2_alloc.specs.Allocation.{Frees}
+use Rattle.qcow2_alloc.specs.ImageError.{IsFault as FaultOfTables}
+use Rattle.qcow2_alloc.specs.CacheMarks.{l2_pins}
+use Rattle.qcow2_alloc.specs.FreeList.{with_listed}
+use Rattle.qcow2_alloc.specs.ImageFile.{state_in, view_in, contents_in, known_in, nothing_given}
+use Rattle.qcow2_alloc.specs.declared.error.ImageError.TheVariants as I
+use Rattle.qcow2_alloc.proofs.FileSteps.{moves_on, pending_same}
+use Rattle.qcow2_image.specs.declared.image.Qcow2.{Qcow2}
+use Rattle.qcow2_image.specs.declared.prepared.Prepared.{Prepared}
+use Rattle.qcow2_image.specs.CallParts.{EndsFreeing, RefusedCall, UnseenCall}
+use Rattle.qcow2_image.specs.UnseenSteps.{UnseenStep, UnseenFreeingStep, FreesListed}
+use Rattle.qcow2_image.specs.Calls.{Flushes}
+use Rattle.qcow2_image.specs.Image.{number_of, is_failed}
+use Rattle.qcow2_image.specs.Refusals.{Marks}
+use Rattle.qcow2_image.specs.ImageInvariant.{ImageInvariant, pending_in, abstract_of}
+use Rattle.qcow2_image.proofs.Call.Answered.{tidies_kept, still_seen}
+use Rattle.qcow2_image.proofs.Call.Called.{copied_then}
+use Rattle.qcow2_image.proofs.Moving.{file_tidied}
+use Rattle.qcow2_image.proofs.Call.Refused.{broke_off, marks_fault, refuses_left, stays_stepped}
+use Rattle.qcow2_image.proofs.Call.Settled.{settled_does}
+
+module _ {S F : Type 0} (view : S → StorageView) (backing : F → BackingView) (out : List (Option Prepared)) where
+  pub tidies_then : (a b c : Qcow2 S F) (p q r : Pending) → ((k : ℕ) → 0 < p.held k → 0 < q.held k) → UnseenFreeingStep view backing p q a b out → UnseenFreeingStep view backing q r b c out → UnseenFreeingStep view backing p r a c out
+  tidies_then a b c p q r held first then = record {
+    sound = then.sound;
+    leads = leads_then (state_in view a.file p) (state_in view b.file q) (state_in view c.file r) nothing_given nothing_given [] [] first.leads then.leads;
+    since = steps_endure (view_in view a.file) (view_in view b.file) (view_in view c.file) (state_in view a.file p) (state_in view b.file q) nothing_given nothing_given [] [] refl first.since first.leads then.since;
+    unseen = unseen_then (state_in view a.file p) (state_in view b.file q) (state_in view c.file r) first.unseen then.unseen held;
+    copied = copied_then view backing out a b c p q r first.unseen.header first.copied then.copied;
+    below = then.below ∙ first.below;
+  }
+
+  -- the allocator worked off the list
+  module _ (p : Pending) (old : Qcow2 S F) (sound : ImageInvariant view backing (with_listed p old.file.free_list) old out) (file : ImageFile S) (a : Allocator) (pins : (table : ℕ) → l2_pins file.caches table ≡ l2_pins old.file.caches table)
+      (header : file.header ≡ old.file.header) where
+    pub frees_listed : (r : Result (Unit {0}) ImageError) → Frees view (with_listed p old.file.free_list) old.file a file (with_listed p file.free_list) r → FreesListed view backing p old (record old { file = file; allocator = Some a }) out r
+    frees_listed (Ok _) frees = file_tidied view backing old out (with_listed p old.file.free_list) (with_listed p file.free_list) sound file (Some a) (moves_on view (with_listed p old.file.free_list) (with_listed p file.free_list) old.file file frees.moves) frees.reftable pins
+    frees_listed (Err e) frees = elim frees.1 [
+      | inl left ↦ inl (file_tidied view backing old out (with_listed p old.file.free_list) (with_listed p file.free_list) sound file (Some a) (moves_on view (with_listed p old.file.free_list) (with_listed p file.free_list) old.file file left.moves) left.reftable pins)
+      | inr breaks ↦ inr (record { breaks = breaks; header = format_same old.file.header.fields file.header.fields (ap (λ x. x.fields) header); below = refl })
+    ]
+
+  pub frees_fault : (p q : Pending) (old file : ImageFile S) (a : Allocator) (r : Result (Unit {0}) ImageError) → Frees view p old a file q r → IfErr r FaultOfTables
+  frees_fault p q old file a (Ok _) frees = tt
+  frees_fault p q old file a (Err e) frees = frees.0
+
+  -- whatever is answered
+  pub frees_any : (p : Pending) (old new : Qcow2 S F) (r : Result (Unit {0}) ImageError) → UnseenFreeingStep view backing (with_listed p old.file.free_list) (with_listed p new.file.free_list) old new out → FreesListed view backing p old new out r
+  frees_any p old new (Ok _) tidies = tidies
+  frees_any p old new (Err e) tidies = inl tidies
+
+  -- a part that leaves the list follows
+  pub tidies_on : (a b c : Qcow2 S F) (p : Pending) → c.file.free_list ≡ b.file.free_list → UnseenFreeingStep view backing (with_listed p a.file.free_list) (with_listed p b.file.free_list) a b out
+      → UnseenStep view backing (with_listed p b.file.free_list) (with_listed p b.file.free_list) b c out → UnseenFreeingStep view backing (with_listed p a.file.free_list) (with_listed p c.file.free_list) a c out
+  tidies_on a b c p listed first then =
+      subst (λ l. UnseenFreeingStep view backing (with_listed p a.file.free_list) (with_listed p l) a c out) (sym listed)
+      (tidies_then a b c (with_listed p a.file.free_list) (with_listed p b.file.free_list) (with_listed p b.file.free_list) (λ k some. some) first (tidies_kept view backing b c out (with_listed p b.file.free_list) (with_listed p b.file.free_list) then))
+
+  before : (a b c : Qcow2 S F) (p : Pending) → b.file.free_list ≡ a.file.free_list → UnseenStep view backing (with_listed p a.file.free_list) (with_listed p a.file.free_list) a b out
+      → UnseenFreeingStep view backing (with_listed p b.file.free_list) (with_listed p c.file.free_list) b c out → UnseenFreeingStep view backing (with_listed p a.file.free_list) (with_listed p c.file.free_list) a c out
+  before a b c p listed first then =
+      tidies_then a b c (with_listed p a.file.free_list) (with_listed p a.file.free_list) (with_listed p c.file.free_list) (λ k some. some) (tidies_kept view backing a b out (with_listed p a.file.free_list) (with_listed p a.file.free_list) first)
+      (subst (λ l. UnseenFreeingStep view backing (with_listed p l) (with_listed p c.file.free_list) b c out) listed then)
+
+  -- and one goes before
+  pub frees_on : (a b c : Qcow2 S F) (p : Pending) (r : Result (Unit {0}) ImageError) → b.file.free_list ≡ a.file.free_list → UnseenStep view backing (with_listed p a.file.free_list) (with_listed p a.file.free_list) a b out
+      → FreesListed view backing p b c out r → FreesListed view backing p a c out r
+  frees_on a b c p (Ok _) listed first then = before a b c p listed first then
+  frees_on a b c p (Err e) listed first then = elim then [
+    | inl left ↦ inl (before a b c p listed first left)
+    | inr broke ↦ inr (record {
+      breaks = record {
+        fault = broke.breaks.fault;
+        noted = broke.breaks.noted;
+        since = steps_endure (view_in view a.file) (view_in view b.file) (view_in view c.file) (state_in view a.file (with_listed p a.file.free_list)) (state_in view b.file (with_listed p a.file.free_list)) nothing_given nothing_given [] [] refl first.since first.leads broke.breaks.since;
+      };
+      header = format_then a.file.header.fields b.file.header.fields c.file.header.fields first.unseen.header broke.header;
+      below = broke.below ∙ first.below;
+    })
+  ]
+
+-- ---- a whole call
+
+module _ {S F : Type 0} (view : S → StorageView) (backing : F → BackingView) (old : Qcow2 S F) (out : List (Option Prepared)) where
+  -- what is pending beside the list
+  abbrev pub beside : Pending
+  beside = record (pending_in view backing old out) { spent = λ k. 0; dropped = λ k. 0 }
+
+  pub all_listed : pending_in view backing old out ≡ with_listed beside old.file.free_list
+  all_listed = pending_same (pending_in view backing old out) (with_listed beside old.file.free_list) (λ k. refl) (λ k. refl) (λ k. sym (omega arith)) (λ k. sym (omega arith)) (λ k. refl)
+
+  module _ (new : Qcow2 S F) (sound : ImageInvariant view backing (pending_in view backing old out) old out) (tidies : UnseenFreeingStep view backing (with_listed beside old.file.free_list) (with_listed beside new.file.free_list) old new out) where
+    pub tidy_stays : UnseenCall view backing old new out
+    tidy_stays =
+        stays_stepped view backing out old new (with_listed beside new.file.free_list) (record {
+          sound = tidies.sound;
+          only = record { held = λ k. refl; fresh = λ k. refl; spent = λ k. omega arith; dropped = λ k. omega arith };
+          leads = subst (λ (p : Pending). SafeStep (state_in view old.file p) (state_in view new.file (with_listed beside new.file.free_list)) nothing_given []) (sym all_listed) tidies.leads;
+          since = tidies.since;
+          header = tidies.unseen.header;
+          below = tidies.below;
+          surplus = refl;
+        })
+        (still_seen view backing old new out (with_listed beside old.file.free_list) (with_listed beside new.file.free_list) (subst (λ (p : Pending). ImageInvariant view backing p old out) all_listed sound) (λ k. omega arith) (λ k. omega arith) tidies) tidies.unseen.covers
+
+  -- what is listed was freed, or that was refused
+  pub freed_refused : (new : Qcow2 S F) (e : ImageError) → ImageInvariant view backing (pending_in view backing old out) old out → FreesListed view backing beside old new out (Err e) → RefusedCall view backing old new out e
+  freed_refused new e sound frees = elim frees [ inl tidies ↦ inl (tidy_stays new sound tidies) | inr broke ↦ inr (broke_off view backing out old new e broke) ]
+
+module _ {S F : Type 0} (view : S → StorageView) (backing : F → BackingView) (old : Qcow2 S F) (usable : is_failed old ≡ false) (new : Qcow2 S F) (marked : Bool) (number : number_of new ≡ number_of old) where
+  -- all that is known is written, and nothing is abstract_of of it; or it was refused
+  pub flushes_settled : (r : Result (Unit {0}) ImageError) → Marks r (is_failed new) marked → IfErr r (λ e. e ≡ I.Memory → IsTrue new.file.caches.is_changed → IsTrue marked)
+      → ((out : List (Option Prepared)) → ImageInvariant view backing (pending_in view backing old out) old out → FreesListed view backing (beside view backing old out) old new out r)
+      → IfOk r (λ done. known_in view new.file ≡ contents_in view new.file) → Flushes view backing old (record new { is_failed = marked }) r
+  flushes_settled (Ok done) marks memory frees written = λ out.
+      let stays : ImageInvariant view backing (pending_in view backing old out) old out → UnseenCall view backing old new out = λ sound. tidy_stays view backing old out new sound (frees out sound) in
+      subst (λ (f : Bool). let v = abstract_of view backing old out in let w = abstract_of view backing (record new { is_failed = f }) out in Does v w [] [] ((w.known ≡ contents_of w) × IsSame v w)) (sym marks)
+      (settled_does view backing old new out out [] (λ sound. (stays sound).works) (λ sound. (stays sound).sound) number usable (λ sound. (written, (stays sound).same)))
+  flushes_settled (Err e) marks memory frees written = λ out. refuses_left view backing out old usable new marked number e marks memory (λ sound. freed_refused view backing old out new e sound (frees out sound))
+
+  -- at the end of a call that changed an entry
+  module _ (out : List (Option Prepared)) (sound : ImageInvariant view backing (pending_in view backing old out) old out) where
+    pub ends_freeing : (r : Result (Unit {0}) ImageError) → Marks r (is_failed new) marked → IfErr r (λ e. e ≡ I.Memory → IsTrue new.file.caches.is_changed → IsTrue marked) → IsTrue new.file.caches.is_changed
+        → IfErr r FaultOfTables → FreesListed view backing (beside view backing old out) old new out r → EndsFreeing view backing old (record new { is_failed = marked }) out r
+    ends_freeing (Ok done) marks memory noted fault frees =
+        subst (λ (f : Bool). EndsFreeing view backing old (record new { is_failed = f }) out (Ok done)) (sym marks) (let stays = tidy_stays view backing old out new sound frees in record { works = stays.works; sound = stays.sound; same = stays.same; header = stays.header; covers = stays.covers })
+    ends_freeing (Err e) marks memory noted fault frees =
+        let is = marks_fault e (is_failed new) marked new.file.caches.is_changed fault (λ _. noted) marks memory in
+        let refuses = refuses_left view backing out old usable new marked number e marks memory (λ s. freed_refused view backing old out new e s frees) in
+        (refuses.acts.works sound, is.1, is.0)

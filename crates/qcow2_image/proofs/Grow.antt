@@ -1,0 +1,4 @@
+pub mod LongerTables
+pub mod NamedL1
+pub mod Resized
+pub mod Grown

@@ -1,0 +1,4 @@
+pub mod Looked
+pub mod Loading
+pub mod Reading
+pub mod Near

@@ -1,0 +1,154 @@
+-- Tables are loaded, written and evicted, and bytes are read: no guest sees it.
+use Rattle.std.proofs.Common.{◌≡◌, ℕ, List, [], refl, sym, ap, ◌∙◌, subst}
+use Rattle.std.specs.Prelude.{Option, Some, None, IfSome, Result, Ok, Err, IfOk, true}
+use Rattle.image_access.specs.Backing.{BackingView}
+use Rattle.image_access.specs.Moments.{StorageView}
+use Rattle.qcow2_metadata.specs.Bytes.{Bytes, byte_at}
+use Rattle.qcow2_metadata.specs.Entries.{l1_entry, reftable_entry}
+use Rattle.qcow2_metadata.specs.Cover.{cover}
+use Rattle.std.proofs.lemmas.List.{append-nil}
+use Rattle.qcow2_laws.specs.CrashInvariant.{Pending}
+use Rattle.qcow2_laws.specs.SafeSteps.{DriverState, StateInvariant}
+use Rattle.qcow2_laws.specs.Stops.{StopOkEverywhere}
+use Rattle.qcow2_laws.proofs.Unseen.{unseen_none, unseen_known}
+use Rattle.qcow2_alloc.specs.declared.cache.MetadataCaches.{MetadataCaches}
+use Rattle.qcow2_alloc.specs.declared.image_storage.ImageStorage.{ImageStorage}
+use Rattle.qcow2_alloc.specs.declared.allocation.Allocator.{Allocator}
+use Rattle.qcow2_alloc.specs.CacheMarks.{l2_pins, HasRoom, SameTables}
+use Rattle.qcow2_alloc.specs.ImageStorage.{storage_of}
+use Rattle.qcow2_metadata.specs.declared.header.HeaderFields.{HeaderFields}
+use Rattle.qcow2_metadata.specs.Header.{cluster_size}
+use Rattle.qcow2_metadata.specs.Tables.{CachedTable, known}
+use Rattle.qcow2_laws.proofs.Lists.{clean_known}
+use Rattle.qcow2_laws.specs.Caches.{AreSettled}
+use Rattle.image_access.specs.declared.error.StorageError.{StorageError}
+use Rattle.image_access.specs.Backing.{Stays}
+use Rattle.image_access.specs.Moments.{Calls, Passing, ContentsStay}
+use Rattle.image_access.proofs.Passing.{passes_none, passes_if}
+use Rattle.qcow2_laws.specs.Caches.{IsSafeBetween}
+use Rattle.qcow2_laws.proofs.SafeSteps.{leads_none, endures_none}
+use Rattle.qcow2_alloc.specs.MetadataCaches.{l2_tables, refblocks, known_of, AreAllWritten, CacheInvariant, UnseenCacheStep}
+use Rattle.qcow2_alloc.specs.ImageFile.{state_in, view_in, contents_in, known_in, HasReftable}
+use Rattle.qcow2_image.specs.declared.image.Qcow2.{Qcow2}
+use Rattle.qcow2_image.specs.declared.prepared.Prepared.{Prepared}
+use Rattle.qcow2_image.specs.ImageInvariant.{cluster_of, IsHonestBacking, ImageInvariant, below_of}
+use Rattle.qcow2_image.specs.UnseenSteps.{UnseenStep}
+use Rattle.qcow2_image.proofs.Ready.{still_ready}
+
+-- of two sound stands with the same header and the same known bytes the tables above are the same on the storage
+module _ (s s' : DriverState) (sound : StateInvariant s) (sound' : StateInvariant s') (header : s'.header ≡ s.header) (known : s'.known ≡ s.known) where
+  same_l1 : (i : ℕ) → l1_entry s.header s'.on_storage i ≡ l1_entry s.header s.on_storage i
+  same_l1 i = subst (λ h. l1_entry h s'.on_storage i ≡ l1_entry h s'.known i) header (sound'.same_top.l1 i) ∙ ap (λ b. l1_entry s.header b i) known ∙ sym (sound.same_top.l1 i)
+
+  same_reftable : (k : ℕ) → reftable_entry s.header s'.on_storage k ≡ reftable_entry s.header s.on_storage k
+  same_reftable k = subst (λ h. reftable_entry h s'.on_storage k ≡ reftable_entry h s'.known k) header (sound'.same_top.reftable k) ∙ ap (λ b. reftable_entry s.header b k) known ∙ sym (sound.same_top.reftable k)
+
+module _ {S F : Type 0} (view : S → StorageView) (backing : F → BackingView) (old : Qcow2 S F) (out : List (Option Prepared)) (p : Pending) (sound : ImageInvariant view backing p old out) where
+  abbrev pub with_caches : ImageStorage S → MetadataCaches S → Qcow2 S F
+  with_caches storage caches = record old { file = record old.file { storage = storage; caches = caches } }
+
+  module _ (storage' : ImageStorage S) (caches' : MetadataCaches S)
+      (stay : UnseenCacheStep old.file.header.fields p (view_in view old.file) old.file.caches (view (storage_of storage')) caches') (room : HasRoom old.file.caches → HasRoom caches')
+      (pins : (table : ℕ) → l2_pins caches' table ≡ l2_pins old.file.caches table) where
+    reftable_still : (a : Option Allocator) → IfSome a (λ x. HasReftable view old.file x.reftable) → IfSome a (λ x. HasReftable view (with_caches storage' caches').file x.reftable)
+    reftable_still None has = tt
+    reftable_still (Some a) has = record {
+      cluster = has.cluster;
+      bits = has.bits;
+      count = has.count;
+      entries = λ i. has.entries i ∙ sym (same_reftable (state_in view old.file p) (state_in view (with_caches storage' caches').file p) sound.file.caches.kept.kept.guarded stay.sound.kept.kept.guarded refl stay.known i);
+    }
+
+    l1_still : (i : ℕ) → l1_entry old.file.header.fields (contents_in view (with_caches storage' caches').file) i ≡ l1_entry old.file.header.fields (contents_in view old.file) i
+    l1_still i = same_l1 (state_in view old.file p) (state_in view (with_caches storage' caches').file p) sound.file.caches.kept.kept.guarded stay.sound.kept.kept.guarded refl stay.known i
+
+    pub caches_moved : UnseenStep view backing p p old (with_caches storage' caches') out
+    caches_moved = record {
+      sound = record {
+        works = sound.works;
+        file = record { honest = stay.honest; caches = stay.sound; settled = stay.settled sound.file.settled; room = room sound.file.room };
+        l1_table = record { cluster = sound.l1_table.cluster; bits = sound.l1_table.bits; count = sound.l1_table.count; entries = λ i. sound.l1_table.entries i ∙ sym (l1_still i) };
+        reftable = reftable_still old.allocator sound.reftable;
+        below = sound.below;
+        ready = λ k q at. let r = sound.ready k q at in record {
+          own = r.own;
+          mapped = still_ready old.file.header.fields (known_in view old.file) (contents_in view old.file) (known_in view (with_caches storage' caches').file) (contents_in view (with_caches storage' caches').file)
+              q (ap (λ b. cover old.file.header.fields b (cluster_of old.file.header.fields q)) (sym stay.known)) sound.file.caches.kept.kept.guarded.same_top.l1 stay.sound.kept.kept.guarded.same_top.l1 (λ i is. l1_still i) q.table r.mapped;
+        };
+        pinned = λ table. pins table ∙ sound.pinned table;
+        once = sound.once;
+      };
+      leads = record {
+        sound = stay.sound.kept.kept.guarded;
+        on_storage = λ bytes m kept known_kept. stay.since.contents bytes m kept known_kept;
+        known = λ bytes m kept known_kept. subst (λ b. StopOkEverywhere bytes m b) (sym stay.known) known_kept;
+      };
+      since = record { moments = stay.since.moments; contents = stay.since.contents };
+      unseen = unseen_known (state_in view old.file p) (state_in view (with_caches storage' caches').file p) refl stay.known;
+      copied = λ i is. l1_still i;
+      below = refl;
+      list = record { more = []; is = sym (append-nil old.file.free_list) };
+    }
+
+-- where all tables are written, what is known is what stands on the storage
+pub all_known : {S : Type 0} (h : HeaderFields) (caches : MetadataCaches S) (on_storage : Bytes) → AreAllWritten caches → known_of h caches on_storage ≡ on_storage
+all_known h caches on_storage written = clean_known (cluster_size h) (l2_tables caches) (known (cluster_size h) (refblocks caches) on_storage) written.0 ∙ clean_known (cluster_size h) (refblocks caches) on_storage written.1
+
+-- ---- where nothing is loaded or written
+
+module _ {S : Type 0} (h : HeaderFields) (p : Pending) (caches caches' : MetadataCaches S) (tables : SameTables caches caches') where
+  stays_at : (v : StorageView) → v.is_honest → CacheInvariant h p caches (byte_at v.contents) → UnseenCacheStep h p v caches v caches'
+  stays_at v honest sound = record {
+    honest = honest;
+    sound = tables.sound h p (byte_at v.contents) sound;
+    known = tables.known h (byte_at v.contents);
+    settled = λ settled. subst (λ (ts : List CachedTable). AreSettled h ts (byte_at v.contents)) (sym tables.refblocks) settled;
+    since = record { moments = passes_none v _; contents = λ bytes m kept known_kept. kept };
+  }
+
+  pub stays : (v v' : StorageView) → v' ≡ v → v.is_honest → CacheInvariant h p caches (byte_at v.contents) → UnseenCacheStep h p v caches v' caches'
+  stays v v' same honest sound = subst (λ (w : StorageView). UnseenCacheStep h p v caches w caches') (sym same) (stays_at v honest sound)
+
+-- what is so of an answer, of what follows of it
+pub if_ok : {A E : Type 0} {P Q : A → Type 0} (answer : Result A E) → ((x : A) → P x → Q x) → IfOk answer P → IfOk answer Q
+if_ok (Ok x) follows is = follows x is
+if_ok (Err e) follows is = tt
+
+-- ---- where the contents stay, while time goes on
+
+module _ {S : Type 0} (h : HeaderFields) (p : Pending) (caches : MetadataCaches S) (v v' : StorageView) where
+  pub stays_still : v'.is_honest → Passing v v' (λ c. c ≡ v'.contents) → v'.contents ≡ v.contents → CacheInvariant h p caches (byte_at v.contents) → UnseenCacheStep h p v caches v' caches
+  stays_still honest time same sound = record {
+    honest = honest;
+    sound = subst (λ c. CacheInvariant h p caches (byte_at c)) (sym same) sound;
+    known = ap (λ c. known_of h caches (byte_at c)) same;
+    settled = λ settled. subst (λ c. AreSettled h (refblocks caches) (byte_at c)) (sym same) settled;
+    since = record {
+      moments = passes_if (λ c. IsSafeBetween (byte_at v.contents) (known_of h caches (byte_at v.contents)) (byte_at c)) (λ c is bytes m kept known_kept. subst (λ x. StopOkEverywhere bytes m (byte_at x)) (sym (is ∙ same)) kept) time;
+      contents = λ bytes m kept known_kept. subst (λ x. StopOkEverywhere bytes m (byte_at x)) (sym same) kept;
+    };
+  }
+
+module _ {S F : Type 0} (view : S → StorageView) (backing : F → BackingView) (image : Qcow2 S F) (out : List (Option Prepared)) (p : Pending) (sound : ImageInvariant view backing p image out) where
+  pub still_moved : (storage' : ImageStorage S) → (view (storage_of storage')).is_honest → Passing (view_in view image.file) (view (storage_of storage')) (λ c. c ≡ (view (storage_of storage')).contents)
+      → (view (storage_of storage')).contents ≡ (view_in view image.file).contents → UnseenStep view backing p p image (with_caches view backing image out p sound storage' image.file.caches) out
+  still_moved storage' honest time same = caches_moved view backing image out p sound storage' image.file.caches
+      (stays_still image.file.header.fields p image.file.caches (view_in view image.file) (view (storage_of storage')) honest time same sound.file.caches) (λ room. room) (λ table. refl)
+
+  pub read_moved : {T : Type 0} {result : Result T StorageError} (storage' : ImageStorage S) → Calls (view_in view image.file) (view (storage_of storage')) result → ContentsStay (view_in view image.file) (view (storage_of storage'))
+      → UnseenStep view backing p p image (with_caches view backing image out p sound storage' image.file.caches) out
+  read_moved storage' calls keeps = still_moved storage' (calls.honest sound.file.honest) calls.time (keeps sound.file.honest)
+
+  pub backing_moved : {T : Type 0} {result : Result T StorageError} (f f' : F) → image.backing ≡ Some f → Stays (backing f) (backing f') result → UnseenStep view backing p p image (record image { backing = Some f' }) out
+  backing_moved f f' is stays =
+      let honest : (backing f).is_honest = subst (IsHonestBacking view backing) is sound.below in
+      let guarded = sound.file.caches.kept.kept.guarded in
+      record {
+        sound = record { works = sound.works; file = sound.file; l1_table = sound.l1_table; reftable = sound.reftable; below = stays.honest honest; ready = λ k q at. let r = sound.ready k q at in record { own = r.own; mapped = r.mapped }; pinned = sound.pinned; once = sound.once };
+        leads = leads_none (state_in view image.file p) guarded;
+        since = endures_none (view_in view image.file) (known_in view image.file);
+        unseen = unseen_none (state_in view image.file p);
+        copied = λ i copied. refl;
+        below = ap (λ b. (true, byte_at b)) (stays.bytes honest) ∙ ap (below_of view backing) (sym is);
+        list = record { more = []; is = sym (append-nil image.file.free_list) };
+      }

@@ -1,0 +1,196 @@
+-- What a lookup finds: the longest run of clusters that are mapped alike, within one L2 table.
+use Rattle.std.proofs.Common.{◌≡◌, ⊎_elim, ℕ, zero, suc, ◌+◌, ◌-◌, ◌*◌, ◌/◌, ◌%◌, ◌^◌, ◌<◌, ◌≤◌, ◌≢◌, refl, sym, ap, ◌∙◌, arith, subst, min, Bool, true, false, is_some}
+use Rattle.std.proofs.lemmas.Nat.{div-add-mod', div-mul-add, mod_below}
+use Rattle.std.specs.Prelude.{◌==◌, if◌then◌else◌}
+use Rattle.std.proofs.Math.Nat.{div-div-eq-div-mul, div-mul-le_self}
+use Rattle.std.proofs.Math.Pow.{pow_mono}
+use Rattle.qcow2_metadata.specs.Bytes.{Bytes}
+use Rattle.qcow2_metadata.specs.declared.header.HeaderFields.{HeaderFields}
+use Rattle.qcow2_metadata.specs.Header.{cluster_size, entries_per_cluster}
+use Rattle.qcow2_metadata.specs.Entries.{l2_entry}
+use Rattle.qcow2_metadata.specs.TableBytes.{entry_at}
+use Rattle.qcow2_metadata.specs.Cover.{cover, cover_of, entry_cover}
+use Rattle.qcow2_metadata.specs.L2Table.{L2TableView}
+use Rattle.qcow2_metadata.specs.declared.l2_mapping.L2Mapping.{L2Mapping}
+use Rattle.qcow2_metadata.specs.declared.l2_mapping.L2Mapping.TheVariants.{Data, Zero, Compressed, Uncovered}
+use Rattle.qcow2_laws.specs.Alike.{IsAlike, IsAlikeAt, IsAlikeRun, IsLongestRun}
+use Rattle.qcow2_laws.specs.Guests.{table_at}
+use Rattle.qcow2_laws.proofs.Places.{Sizes, cover_none, cover_in}
+use Rattle.qcow2_alloc.specs.TableCaches.{IsTableOf}
+use Rattle.qcow2_laws.proofs.Alike.{run_first, run_less, run_begins, clusters_on, clusters_end, run_longest}
+use Rattle.std.proofs.lemmas.Bool.{cases_lt}
+use Rattle.image_access.specs.Moments.{StorageView}
+use Rattle.qcow2_alloc.specs.ImageFile.{contents_in, known_in, FileInvariant}
+use Rattle.qcow2_alloc.specs.declared.image_file.ImageFile.{ImageFile}
+use Rattle.qcow2_alloc.specs.MetadataCaches.{IsEntryAt, ShowsKnown}
+use Rattle.qcow2_laws.specs.CrashInvariant.{Pending}
+use Rattle.qcow2_laws.proofs.Places.{Sizes-from}
+use Rattle.qcow2_laws.proofs.Tops.{IsTop-top}
+use Rattle.qcow2_image.specs.declared.image.Qcow2.{Qcow2}
+use Rattle.qcow2_image.specs.declared.mapping.MappingKind.{MappingKind}
+use Rattle.qcow2_image.specs.declared.mapping.MappingKind.TheVariants as M
+use Rattle.qcow2_image.specs.Image.{size_of}
+use Rattle.qcow2_laws.specs.Found.{Kind, raw, indirect, zeros, special, eof, kind_at, rest_of_table}
+use Rattle.qcow2_image.specs.declared.mapping.Place.TheVariants.{Image, DataFile}
+use Rattle.qcow2_image.specs.Found.{found_kind, mapping_of, l1_index_of, AreAlikeBehind, IsAlikeTo, IsRunBehind, IsFound, IsFoundWhole, IsMappedAs}
+
+pub product_le : (m n k : ℕ) → m ≤ n → m * k ≤ n * k
+product_le m n k le = let e : n ≡ m + (n - m) = omega (arith, le) in let f : n * k ≡ m * k + (n - m) * k = ap (λ x. x * k) e ∙ omega arith in omega arith
+
+-- a cluster's number isn't large
+pub cluster_near : (offset bits : ℕ) → offset < 2 ^ 64 → 9 ≤ bits → offset / 2 ^ bits < 2 ^ 62
+cluster_near offset bits lt le =
+    let large : 2 ^ 9 ≤ 2 ^ bits = pow_mono le in
+    let within = div-mul-le_self offset (2 ^ bits) in
+    let much = product_le (2 ^ 9) (2 ^ bits) (offset / 2 ^ bits) large in
+    omega (arith, lt)
+
+-- a table with the known entries says what is known of each cluster that it covers
+pub says_known : (h : HeaderFields) (known : Bytes) (t : L2TableView) (i : ℕ) → Sizes h → table_at h known i ≢ 0 → IsTableOf h t
+    → ((index : ℕ) → index < entries_per_cluster h → entry_at t.bytes index ≡ l2_entry known (table_at h known i) index) → (g : ℕ) → g / entries_per_cluster h ≡ i → mapping_of t g ≡ cover h known g
+says_known h known t i sizes real format entries g is =
+    let here : entry_at t.bytes (g % (2 ^ t.cluster_bits / 8)) ≡ l2_entry known (table_at h known (g / entries_per_cluster h)) (g % entries_per_cluster h) =
+    ap (λ b. entry_at t.bytes (g % (2 ^ b / 8))) format.bits ∙ entries (g % entries_per_cluster h) (mod_below g (entries_per_cluster h) sizes.entries) ∙ ap (λ k. l2_entry known (table_at h known k) (g % entries_per_cluster h)) (sym is) in
+    ap (λ b. cover_of b t.has_zero_bit t.data_is_external (entry_at t.bytes (g % (2 ^ t.cluster_bits / 8)))) format.bits
+    ∙ ap (λ z. cover_of h.cluster_bits z t.data_is_external (entry_at t.bytes (g % (2 ^ t.cluster_bits / 8)))) format.zero_bit
+    ∙ ap (λ x. cover_of h.cluster_bits (h.version == 3) x (entry_at t.bytes (g % (2 ^ t.cluster_bits / 8)))) format.external
+    ∙ ap (λ e. entry_cover h e) here
+    ∙ sym (cover_in h known g (λ none. real (ap (table_at h known) (sym is) ∙ none)))
+
+module _ (h : HeaderFields) (offset : ℕ) (sizes : Sizes h) where
+  -- what lies within the reach of an offset's L2 table has the same L1 entry
+  pub same_table : (i : ℕ) → i < rest_of_table h offset → l1_index_of h (offset + i) ≡ l1_index_of h offset
+  same_table i lt =
+      let whole = cluster_size h * entries_per_cluster h in
+      let split : offset / whole * whole + offset % whole ≡ offset = div-add-mod' offset whole in
+      let e : offset + i ≡ offset / whole * whole + (offset % whole + i) = omega arith in
+      div-div-eq-div-mul (offset + i) (cluster_size h) (entries_per_cluster h) ∙ ap (λ n. n / whole) e ∙ div-mul-add (offset / whole) whole (offset % whole + i) (omega (arith, lt))
+      ∙ sym (div-div-eq-div-mul offset (cluster_size h) (entries_per_cluster h))
+
+  -- without an L2 table all of it is uncovered
+  pub none_found : (known : Bytes) (limit : ℕ) → limit ≤ rest_of_table h offset → table_at h known (l1_index_of h offset) ≡ 0 → IsLongestRun h known offset limit limit
+  none_found known limit le none =
+      let here : cover h known (offset / cluster_size h) ≡ Uncovered = cover_none h known (offset / cluster_size h) none in
+      record {
+        within = omega arith;
+        alike = λ i lt.
+            let there : cover h known ((offset + i) / cluster_size h) ≡ Uncovered = cover_none h known ((offset + i) / cluster_size h) (ap (table_at h known) (same_table i (omega (arith, lt, le))) ∙ none) in
+            subst (λ (v : L2Mapping). IsAlike (((offset + i) / cluster_size h - offset / cluster_size h) * cluster_size h) v (cover h known ((offset + i) / cluster_size h))) (sym here)
+            (subst (λ (v : L2Mapping). IsAlike (((offset + i) / cluster_size h - offset / cluster_size h) * cluster_size h) Uncovered v) (sym there) tt);
+        longest = λ lt. absurd (omega (arith, lt));
+      }
+
+  -- a table that says what is known of the clusters that it covers
+  module _ (known : Bytes) (t : L2TableView) (bits : t.cluster_bits ≡ h.cluster_bits) (says : (g : ℕ) → g / entries_per_cluster h ≡ l1_index_of h offset → mapping_of t g ≡ cover h known g) (max : ℕ)
+      (within : max ≤ rest_of_table h offset) where
+    abbrev pub rest : ℕ
+    rest = cluster_size h - offset % cluster_size h
+
+    -- the cluster behind so many bytes, as the table says
+    said : (k : ℕ) → rest + k * cluster_size h < max → mapping_of t (offset / cluster_size h + k + 1) ≡ cover h known (offset / cluster_size h + k + 1)
+    said k lt =
+        let begins = run_begins h known offset k in
+        let at : (offset + (cluster_size h - offset % cluster_size h + k * cluster_size h)) / cluster_size h ≡ offset / cluster_size h + k + 1 =
+        ap (λ n. n / cluster_size h) (begins ∙ omega arith) ∙ div-mul-add (offset / cluster_size h + k + 1) (cluster_size h) 0 sizes.some in
+        says (offset / cluster_size h + k + 1) (ap (λ n. n / entries_per_cluster h) (sym at) ∙ same_table (cluster_size h - offset % cluster_size h + k * cluster_size h) (omega (arith, lt, within)))
+
+    -- the table's word of a cluster behind is the word of what is known
+    alike_there : (k : ℕ) → rest + k * cluster_size h < max → IsAlikeTo t (offset / cluster_size h) (k + 1)
+        → IsAlike (k * cluster_size h + cluster_size h) (cover h known (offset / cluster_size h)) (cover h known (offset / cluster_size h + k + 1))
+    alike_there k lt alike =
+        let far : (k + 1) * 2 ^ t.cluster_bits ≡ k * cluster_size h + cluster_size h = ap (λ n. (k + 1) * 2 ^ n) bits ∙ omega arith in
+        let next : offset / cluster_size h + (k + 1) ≡ offset / cluster_size h + k + 1 = omega arith in
+        subst (λ (v : L2Mapping). IsAlike (k * cluster_size h + cluster_size h) v (cover h known (offset / cluster_size h + k + 1))) (says (offset / cluster_size h) refl)
+        (subst (λ (v : L2Mapping). IsAlike (k * cluster_size h + cluster_size h) (mapping_of t (offset / cluster_size h)) v) (said k lt)
+        (subst (λ n. IsAlike (k * cluster_size h + cluster_size h) (mapping_of t (offset / cluster_size h)) (mapping_of t n)) next
+        (subst (λ n. IsAlike n (mapping_of t (offset / cluster_size h)) (mapping_of t (offset / cluster_size h + (k + 1)))) far alike)))
+
+    back_there : (k : ℕ) → rest + k * cluster_size h < max
+        → IsAlike (k * cluster_size h + cluster_size h) (cover h known (offset / cluster_size h)) (cover h known (offset / cluster_size h + k + 1)) → IsAlikeTo t (offset / cluster_size h) (k + 1)
+    back_there k lt alike =
+        let far : (k + 1) * 2 ^ t.cluster_bits ≡ k * cluster_size h + cluster_size h = ap (λ n. (k + 1) * 2 ^ n) bits ∙ omega arith in
+        let next : offset / cluster_size h + (k + 1) ≡ offset / cluster_size h + k + 1 = omega arith in
+        subst (λ n. IsAlike n (mapping_of t (offset / cluster_size h)) (mapping_of t (offset / cluster_size h + (k + 1)))) (sym far)
+        (subst (λ n. IsAlike (k * cluster_size h + cluster_size h) (mapping_of t (offset / cluster_size h)) (mapping_of t n)) (sym next)
+        (subst (λ (v : L2Mapping). IsAlike (k * cluster_size h + cluster_size h) (mapping_of t (offset / cluster_size h)) v) (sym (said k lt))
+        (subst (λ (v : L2Mapping). IsAlike (k * cluster_size h + cluster_size h) v (cover h known (offset / cluster_size h + k + 1))) (sym (says (offset / cluster_size h) refl)) alike)))
+
+    module _ (count : ℕ) (near : count * cluster_size h < max - rest + cluster_size h) (alike : AreAlikeBehind t (offset / cluster_size h) count) where
+      before_max : (k : ℕ) → k + 1 ≤ count → rest + k * cluster_size h < max
+      before_max k le = let p = product_le (k + 1) count (cluster_size h) le in let e : (k + 1) * cluster_size h ≡ k * cluster_size h + cluster_size h = omega arith in omega (arith, near)
+
+      alike_upto : (k : ℕ) → k ≤ count → IsAlikeRun h known offset (rest + k * cluster_size h)
+      alike_upto zero le = run_first h known offset (cluster_size h - offset % cluster_size h + 0 * cluster_size h) (omega arith)
+      alike_upto (suc k) le =
+          let step = clusters_on h known offset k (alike_there k (before_max k (omega (arith, le))) (alike (k + 1) (omega arith) (omega (arith, le)))) (alike_upto k (omega (arith, le))) in
+          let e : cluster_size h - offset % cluster_size h + (k * cluster_size h + cluster_size h) ≡ cluster_size h - offset % cluster_size h + suc k * cluster_size h = omega arith in
+          subst (IsAlikeRun h known offset) e step
+
+    pub run_found : (n : ℕ) → IsRunBehind t (offset / cluster_size h) (max - rest) n → IsLongestRun h known offset max (min (rest + n) max)
+    run_found n run =
+        let size : 2 ^ t.cluster_bits ≡ cluster_size h = ap (λ k. 2 ^ k) bits in
+        let whole : n ≡ run.count * cluster_size h = run.whole ∙ ap (λ k. run.count * k) size in
+        let near : run.count * cluster_size h < max - rest + cluster_size h = let l = run.near in omega arith in
+        let all : IsAlikeRun h known offset (rest + n) = subst (λ m. IsAlikeRun h known offset (rest + m)) (sym whole) (alike_upto run.count near run.alike run.count (omega arith)) in
+        run_longest h known offset max (rest + n) all (λ lt at.
+        clusters_end h known offset run.count (λ next. run.longest (omega (arith, lt)) (back_there run.count (omega (arith, lt, whole)) next)) (subst (λ m. IsAlikeAt h known offset (rest + m)) whole at))
+
+-- a range that isn't longer than what was found is mapped so
+pub mapped_as : {S F : Type 0} (view : S → StorageView) (image : Qcow2 S F) (offset n : ℕ) (kind : MappingKind) (found : ℕ) → 0 < n → n ≤ found → IsFound view image offset n kind found → IsMappedAs view image offset kind n
+mapped_as view image offset n kind found some le is = ⊎_elim
+    (λ lt. let run = is.run lt in record { kind_is = run.kind_is; alike = run_less image.file.header.fields (known_in view image.file) offset n found le run.longest.alike })
+    (λ past. absurd (let none = (is.past past).1 in omega arith)) (cases_lt offset (size_of image))
+
+-- what a held table says of a guest cluster is known
+pub held_says : {S : Type 0} (view : S → StorageView) (file : ImageFile S) (p : Pending) (t : L2TableView) (table i cluster : ℕ) → FileInvariant view p file → ShowsKnown file.caches table t
+    → IsEntryAt file.header.fields (known_in view file) i table (cluster % entries_per_cluster file.header.fields) → cluster / entries_per_cluster file.header.fields ≡ i → mapping_of t cluster ≡ cover file.header.fields (known_in view file) cluster
+held_says view file p t table i cluster sound shows at here =
+    let h = file.header.fields in
+    let guarded = sound.caches.kept.kept.guarded in
+    let sizes = Sizes-from h (known_in view file) (IsTop-top h (contents_in view file) (known_in view file) guarded.same_top guarded.top).header_reads in
+    let each = λ (index : ℕ) (lt : index < entries_per_cluster h). shows h p (contents_in view file) i index sound.caches (record { real = at.real; place = at.place; within = lt }) in
+    says_known h (known_in view file) t i sizes at.real (each (cluster % entries_per_cluster h) at.within).format (λ index lt. (each index lt).entry) cluster here
+
+-- the mapping that is told so
+abbrev told_of : Kind → MappingKind
+told_of (raw external offset writable) = M.Raw (if external then DataFile else Image) offset writable
+told_of (indirect offset) = M.Indirect offset
+told_of (zeros explicit) = M.Zero explicit
+told_of (special offset) = M.Special offset
+told_of eof = M.Eof
+
+told_back : (k : MappingKind) → told_of (found_kind k) ≡ k
+told_back (M.Raw Image offset writable) = refl
+told_back (M.Raw DataFile offset writable) = refl
+told_back (M.Indirect offset) = refl
+told_back (M.Zero explicit) = refl
+told_back (M.Special offset) = refl
+told_back M.Eof = refl
+
+-- kinds that are told alike are the same
+pub same_kind : (a b : MappingKind) → found_kind a ≡ found_kind b → a ≡ b
+same_kind a b same = sym (told_back a) ∙ ap told_of same ∙ told_back b
+
+-- a whole range that was found as it is wanted is the longest run
+pub found_whole : {S F : Type 0} (view : S → StorageView) (image : Qcow2 S F) (offset n : ℕ) (kind wanted : MappingKind) (found : ℕ) → IsFound view image offset n kind found → IsFoundWhole view image offset wanted n
+    → (wanted ≡ kind) × (n ≤ found)
+found_whole view image offset n kind wanted found is whole = ⊎_elim
+    (λ lt.
+    let run = is.run lt in
+    let all = whole.run lt in
+    (same_kind wanted kind (all.kind_is ∙ sym run.kind_is), ⊎_elim (λ (short : found < n). absurd (run.longest.longest (omega (arith, short, all.longest.within)) (all.longest.alike found short))) (λ le. le) (cases_lt found n)))
+    (λ past. (same_kind wanted kind ((whole.past past).0 ∙ sym (is.past past).0), let none = (whole.past past).1 in omega arith)) (cases_lt offset (size_of image))
+
+-- no cluster is mapped as what lies past the end
+kind_within : (h : HeaderFields) (backed : Bool) (offset : ℕ) (m : L2Mapping) → eof ≡ kind_at h backed offset m → ⊥
+kind_within h backed offset (Data host copied) is = absurd cc
+kind_within h backed offset (Zero kept) is = absurd cc
+kind_within h backed offset (Compressed host sectors) is = absurd cc
+kind_within h true offset Uncovered is = absurd cc
+kind_within h false offset Uncovered is = absurd cc
+
+-- so no range is found whole so
+pub none_past : {S F : Type 0} (view : S → StorageView) (image : Qcow2 S F) (offset n : ℕ) → 0 < n → IsFoundWhole view image offset M.Eof n → ⊥
+none_past view image offset n some whole = ⊎_elim
+    (λ lt. kind_within image.file.header.fields (is_some image.backing) offset (cover image.file.header.fields (known_in view image.file) (offset / cluster_size image.file.header.fields)) (whole.run lt).kind_is)
+    (λ past. absurd (let none = (whole.past past).1 in omega arith)) (cases_lt offset (size_of image))

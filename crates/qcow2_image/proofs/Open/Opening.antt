@@ -1,0 +1,172 @@
+-- The header and the tables are loaded as they stand on the storage, and the autoclear bits are cleared: the file is as sound as before.
+use Rattle.std.proofs.Common.{◌≡◌, ℕ, ◌*◌, ◌/◌, ◌^◌, [], List, Result, length, refl, sym, ap, ◌∙◌, subst, arith}
+use Rattle.std.specs.Prelude.{Some, None, false}
+use Rattle.image_access.specs.Backing.{BackingView}
+use Rattle.image_access.specs.Moments.{StorageView, Passing}
+use Rattle.image_access.proofs.Passing.{passes_if, passes_on}
+use Rattle.qcow2_metadata.specs.Bytes.{Bytes, byte_at}
+use Rattle.qcow2_metadata.specs.Header.{HeaderView, cluster_size}
+use Rattle.qcow2_metadata.specs.Consistent.{Consistent, IsConsistent}
+use Rattle.qcow2_metadata.specs.Entries.{l1_entry, reftable_entry}
+use Rattle.qcow2_metadata.specs.EntryTable.{EntryTableView, entry_table, NamesL1Table, IsL1TableOf}
+use Rattle.qcow2_metadata.specs.HeaderLoad.{IsHeaderIn}
+use Rattle.qcow2_metadata.specs.TableBytes.{entry_at}
+use Rattle.qcow2_metadata.specs.MetadataError.{OnlyReads}
+use Rattle.qcow2_metadata.specs.declared.error.MetadataError.{MetadataError}
+use Rattle.qcow2_laws.specs.Caches.{AreSettled}
+use Rattle.qcow2_laws.specs.Clusters.{Neither}
+use Rattle.qcow2_laws.specs.CrashInvariant.{Pending, CrashInvariant}
+use Rattle.qcow2_laws.specs.Opened.{nothing_pending, surplus_of}
+use Rattle.qcow2_laws.specs.Stops.{StopOkEverywhere}
+use Rattle.qcow2_laws.specs.AbstractImages.{IsOpened}
+use Rattle.qcow2_laws.proofs.Opened.{opened_guarded}
+use Rattle.qcow2_laws.proofs.Places.{l1_entry-past}
+use Rattle.qcow2_alloc.specs.declared.image_file.ImageFile.{ImageFile}
+use Rattle.qcow2_alloc.specs.declared.image_storage.ImageStorage.{ImageStorage}
+use Rattle.qcow2_alloc.specs.ImageFile.{l2_pins, HasRoom, view_in, contents_in}
+use Rattle.qcow2_alloc.specs.ImageStorage.{storage_of}
+use Rattle.qcow2_alloc.specs.MetadataCaches.{refblocks, known_of, CacheInvariant}
+use Rattle.qcow2_alloc.proofs.KeptTables.Standing.{own_cluster}
+use Rattle.qcow2_image.specs.declared.image.Qcow2.{Qcow2}
+use Rattle.qcow2_image.specs.Image.{is_failed}
+use Rattle.qcow2_image.specs.Opened.{IsFresh, StaysFresh, IsLoaded, IsKeptSince, SameNames, HasNamesIn}
+use Rattle.qcow2_image.specs.ImageInvariant.{HasL1Table, IsHonestBacking, ImageInvariant, of_data, of_tables, to_free, pending_in, abstract_of}
+use Rattle.qcow2_image.proofs.Sound.{pending_is}
+
+-- names that stay are still those that stand there
+pub named_still : (old new : HeaderView) (contents : List ℕ) → IsHeaderIn old contents → SameNames old new → HasNamesIn new contents
+named_still old new contents is same = record { fields = refl; reads = is.reads; backing_name = same.0 ∙ is.backing_name; backing_format = same.1 ∙ is.backing_format; data_file_name = same.2 ∙ is.data_file_name }
+
+-- ---- what is kept
+pub kept_read : (old new : StorageView) → Passing old new (λ c. c ≡ new.contents) → new.contents ≡ old.contents → IsKeptSince old new
+kept_read old new time same = record {
+  moments = passes_if _ (λ c is backing m ok known_ok. subst (λ (l : List ℕ). StopOkEverywhere backing m (byte_at l)) (sym (is ∙ same)) ok) time;
+  contents = λ backing m ok known_ok. subst (λ (l : List ℕ). StopOkEverywhere backing m (byte_at l)) (sym same) ok;
+}
+
+pub kept_then : (old mid new : StorageView) → IsKeptSince old mid → IsKeptSince mid new → IsKeptSince old new
+kept_then old mid new first second = record {
+  moments = passes_on _ first.moments second.moments (λ l kept backing m ok known_ok. let here = first.contents backing m ok ok in kept backing m here here);
+  contents = λ backing m ok known_ok. let here = first.contents backing m ok ok in second.contents backing m here here;
+}
+
+pub kept_loaded : {T : Type 0} {result : Result T MetadataError} (old new : StorageView) → OnlyReads old new result → old.is_honest → IsKeptSince old new
+kept_loaded old new reads honest = kept_read old new (passes_if _ (λ c is. is ∙ sym (reads.same honest)) (reads.time honest)) (reads.same honest)
+
+module _ {S F : Type 0} (view : S → StorageView) (backing : F → BackingView) where
+  -- ---- the L1 table
+  pub l1_cleared : (file : ImageFile S) (t : EntryTableView) → file.header.fields.l1_entries ≡ 0 → t ≡ entry_table file.header.fields None [] → ((i : ℕ) → entry_at t.bytes i ≡ 0) → HasL1Table view backing file t
+  l1_cleared file t none is zeros = record {
+    cluster = λ some. absurd (omega arith);
+    bits = ap (λ (x : EntryTableView). x.cluster_bits) is;
+    count = ap (λ (x : EntryTableView). length x.bytes / 8) is ∙ sym none;
+    entries = λ i. zeros i ∙ sym (l1_entry-past file.header.fields (contents_in view file) i (omega arith));
+  }
+
+  pub l1_loaded : (file : ImageFile S) (storage : ImageStorage S) (t : EntryTableView) (cluster bits entries offset : ℕ) → t ≡ entry_table file.header.fields (Some cluster) t.bytes → length t.bytes ≡ 8 * entries → bits ≡ file.header.fields.cluster_bits
+      → cluster * 2 ^ bits ≡ offset → offset ≡ file.header.fields.l1_offset → entries ≡ file.header.fields.l1_entries
+      → (NamesL1Table file.header.fields (cluster * cluster_size file.header.fields) entries → IsL1TableOf file.header.fields (contents_in view file) t) → (view (storage_of storage)).contents ≡ (view_in view file).contents
+      → HasL1Table view backing (record file { storage = storage }) t
+  l1_loaded file storage t cluster bits entries offset is long same_bits at is_offset is_entries of_image same =
+      let place : cluster * cluster_size file.header.fields ≡ file.header.fields.l1_offset = ap (λ n. cluster * 2 ^ n) (sym same_bits) ∙ at ∙ is_offset in
+      let named = of_image (sym place, sym is_entries) in record {
+        cluster = λ some. ap (λ (x : EntryTableView). x.cluster) is ∙ ap (λ n. Some n) (sym (own_cluster file.header.fields.cluster_bits cluster) ∙ ap (λ n. n / cluster_size file.header.fields) place);
+        bits = ap (λ (x : EntryTableView). x.cluster_bits) is;
+        count = omega (arith, long, is_entries);
+        entries = λ k. named k ∙ ap (λ (c : List ℕ). l1_entry file.header.fields (byte_at c) k) (sym same);
+      }
+
+  -- ---- a storage that was read
+  pub fresh_read : (p : Pending) (file : ImageFile S) (storage : ImageStorage S) → IsFresh view backing p file → (view (storage_of storage)).is_honest → (view (storage_of storage)).contents ≡ (view_in view file).contents
+      → StaysFresh view backing p file (record file { storage = storage })
+  fresh_read p file storage fresh honest same = record {
+    fresh = record {
+      sound = record {
+        honest = honest;
+        caches = subst (λ (c : List ℕ). CacheInvariant file.header.fields p file.caches (byte_at c)) (sym same) fresh.sound.caches;
+        settled = subst (λ (c : List ℕ). AreSettled file.header.fields (refblocks file.caches) (byte_at c)) (sym same) fresh.sound.settled;
+        room = fresh.sound.room;
+      };
+      header = subst (λ (c : List ℕ). IsHeaderIn file.header c) (sym same) fresh.header;
+      clean = fresh.clean;
+      unpinned = fresh.unpinned;
+      list = fresh.list;
+    };
+    l1_table = λ t has. record { cluster = has.cluster; bits = has.bits; count = has.count; entries = λ k. has.entries k ∙ ap (λ (c : List ℕ). l1_entry file.header.fields (byte_at c) k) (sym same) };
+    reftable = λ t has. record { cluster = has.cluster; bits = has.bits; count = has.count; entries = λ k. has.entries k ∙ ap (λ (c : List ℕ). reftable_entry file.header.fields (byte_at c) k) (sym same) };
+  }
+
+  pub fresh_then : (p : Pending) (old new : ImageFile S) → IsFresh view backing p old → new ≡ record old { storage = new.storage } → ((view_in view old).is_honest → (view_in view new).is_honest)
+      → ((view_in view old).is_honest → (view_in view new).contents ≡ (view_in view old).contents) → StaysFresh view backing p old new
+  fresh_then p old new fresh rest honest same =
+      subst (StaysFresh view backing p old) (sym rest) (fresh_read p old new.storage fresh (honest fresh.sound.honest) (same fresh.sound.honest))
+
+  -- the storage is told what is written next
+  pub told_fresh : (p : Pending) (old file : ImageFile S) (told : ImageStorage S) → IsFresh view backing p old → file ≡ record old { storage = file.storage } → ((view_in view old).is_honest → (view_in view file).is_honest)
+      → ((view_in view old).is_honest → (view_in view file).contents ≡ (view_in view old).contents) → Passing (view_in view old) (view_in view file) (λ c. c ≡ (view_in view file).contents) → storage_of told ≡ storage_of file.storage
+      → IsFresh view backing p (record file { storage = told }) × IsKeptSince (view_in view old) (view (storage_of told))
+  told_fresh p old file told fresh rest honest same time is =
+      let read = fresh_then p old file fresh rest honest same in (
+        (fresh_read p file told read.fresh (subst (λ s. (view s).is_honest) (sym is) read.fresh.sound.honest) (ap (λ s. (view s).contents) is)).fresh,
+        subst (λ s. IsKeptSince (view_in view old) (view s)) (sym is) (kept_read (view_in view old) (view_in view file) time (same fresh.sound.honest)),
+      )
+
+  -- after the header the tables are loaded
+  pub kept_opened : {T : Type 0} (result : Result T MetadataError) (first old last : S) (file new : ImageFile S) → first ≡ old → last ≡ storage_of new.storage → OnlyReads (view first) (view_in view file) result
+      → ((view first).is_honest → IsConsistent (byte_at (view first).contents) → IsKeptSince (view_in view file) (view_in view new)) → (view old).is_honest → IsConsistent (byte_at (view old).contents) → IsKeptSince (view old) (view last)
+  kept_opened result first old last file new same_old same_last reads rest =
+      subst (λ s. (view s).is_honest → IsConsistent (byte_at (view s).contents) → IsKeptSince (view s) (view last)) same_old
+      (λ honest consistent. subst (λ s. IsKeptSince (view first) (view s)) (sym same_last)
+      (kept_then (view first) (view_in view file) (view_in view new) (kept_loaded {result = result} (view first) (view_in view file) reads honest) (rest honest consistent)))
+
+  pub stays_then : (p : Pending) (a b c : ImageFile S) → StaysFresh view backing p a b → StaysFresh view backing p b c → StaysFresh view backing p a c
+  stays_then p a b c first second = record {
+    fresh = second.fresh;
+    l1_table = λ t has. second.l1_table t (first.l1_table t has);
+    reftable = λ t has. second.reftable t (first.reftable t has);
+  }
+
+  -- ---- the image
+  -- the header of a consistent image, and new caches
+  pub fresh_new : (contents : List ℕ) (file : ImageFile S) → IsConsistent (byte_at contents) → (view_in view file).is_honest → (view_in view file).contents ≡ contents → IsHeaderIn file.header contents
+      → ((p : Pending) (on_storage : Bytes) → CrashInvariant file.header.fields Neither p on_storage on_storage → CacheInvariant file.header.fields p file.caches on_storage)
+      → ((on_storage : Bytes) → known_of file.header.fields file.caches on_storage ≡ on_storage) → ((on_storage : Bytes) → AreSettled file.header.fields (refblocks file.caches) on_storage)
+      → HasRoom file.caches → ((cluster : ℕ) → l2_pins file.caches cluster ≡ 0) → file.free_list ≡ [] → IsFresh view backing (nothing_pending (surplus_of file.header.fields (byte_at contents))) file
+  fresh_new contents file consistent honest same there sound known settled room pins list =
+      let h = file.header.fields in
+      let p = nothing_pending (surplus_of file.header.fields (byte_at contents)) in
+      let guarded : CrashInvariant h Neither p (byte_at contents) (byte_at contents) =
+      opened_guarded file.header.fields (byte_at contents) (subst (λ k. Consistent k (byte_at contents)) (sym there.fields) consistent) (sym there.fields) in record {
+        sound = record {
+          honest = honest;
+          caches = subst (λ (c : List ℕ). CacheInvariant file.header.fields (nothing_pending (surplus_of file.header.fields (byte_at contents))) file.caches (byte_at c)) (sym same) (sound p (byte_at contents) guarded);
+          settled = settled (contents_in view file);
+          room = room;
+        };
+        header = subst (IsHeaderIn file.header) (sym same) there;
+        clean = known;
+        unpinned = pins;
+        list = list;
+      }
+
+  pub opened : (image : Qcow2 S F) (surplus : ℕ → ℕ) → is_failed image ≡ false → IsHonestBacking view backing image.backing → IsLoaded view backing (nothing_pending surplus) image.file image.l1_table image.allocator
+      → IsOpened (abstract_of view backing image [])
+  opened image surplus works below loaded =
+      let p = nothing_pending surplus in
+      let at : ImageInvariant view backing p image [] = record {
+        works = works;
+        file = loaded.fresh.sound;
+        l1_table = loaded.l1_table;
+        reftable = loaded.reftable;
+        below = below;
+        ready = λ k q none. absurd cc;
+        pinned = loaded.fresh.unpinned;
+        once = λ table. omega arith;
+      } in
+      let is : p ≡ pending_in view backing image [] = pending_is view backing image [] p loaded.fresh.sound.caches.kept.kept.guarded (record {
+        held = λ k. refl;
+        fresh = λ k. refl;
+        spent = λ k. ap (λ l. to_free of_tables l k) (sym loaded.fresh.list);
+        dropped = λ k. ap (λ l. to_free of_data l k) (sym loaded.fresh.list);
+      }) in
+      record { sound = subst (λ q. ImageInvariant view backing q image []) is at; clean = loaded.fresh.clean (contents_in view image.file) }

@@ -1,0 +1,15 @@
+pub mod Storing
+pub mod Placing
+pub mod Naming
+pub mod Entering
+pub mod Owning
+pub mod Gaining
+pub mod Filling
+pub mod Copied
+pub mod Readying
+pub mod ReadyingNew
+pub mod Preparing
+pub mod PrepareCalls
+pub mod Writable
+pub mod PreparedAs
+pub mod Taken

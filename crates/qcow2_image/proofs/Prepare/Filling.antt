@@ -1,0 +1,182 @@
+-- Parts of a call that a guest doesn't see: what was pending may change, and clusters may be written that no mapping has.
+use Rattle.std.proofs.Common.{◌≡◌, ◌≢◌, ◌⊎◌, ⊎_elim, inl, inr, ℕ, ◌+◌, ◌-◌, ◌/◌, ◌<◌, ◌≤◌, List, length, [], ◌++◌, refl, sym, ap, ◌∙◌, subst, arith}
+use Rattle.std.specs.Prelude.{Option, Result, Ok, Err, IfOk, slice_get}
+use Rattle.std.proofs.lemmas.Bool.{cases_lt}
+use Rattle.std.proofs.lemmas.List.{append_assoc, append-nil}
+use mathlib.Core.Path.{fun_ext}
+use Rattle.image_access.specs.Backing.{BackingView}
+use Rattle.image_access.specs.Contents.{overwritten}
+use Rattle.image_access.specs.Moments.{StorageView, Passing}
+use Rattle.image_access.proofs.Bytes.{byte_at-overwritten}
+use Rattle.qcow2_metadata.specs.Bytes.{byte_at}
+use Rattle.qcow2_metadata.specs.declared.header.HeaderFields.{HeaderFields}
+use Rattle.qcow2_metadata.specs.Header.{cluster_size}
+use Rattle.qcow2_metadata.specs.Named.{named_for_tables}
+use Rattle.qcow2_laws.specs.Disk.{disk}
+use Rattle.qcow2_laws.specs.CrashInvariant.{Pending}
+use Rattle.qcow2_laws.specs.Tops.{WritesAt}
+use Rattle.qcow2_laws.specs.Writes.{IsUnnamed}
+use Rattle.qcow2_laws.proofs.Formats.{covers_format, format_then, size_format}
+use Rattle.qcow2_laws.proofs.SafeSteps.{leads_none, leads_then, endures_none, steps_endure}
+use Rattle.qcow2_laws.proofs.Shown.{Writes, private_written}
+use Rattle.qcow2_laws.proofs.Writes.{held_is_unnamed}
+use Rattle.qcow2_alloc.specs.declared.error.ImageError.{ImageError}
+use Rattle.qcow2_alloc.specs.declared.error.ImageError.TheVariants as I
+use Rattle.qcow2_alloc.specs.declared.image_storage.ImageStorage.{ImageStorage}
+use Rattle.qcow2_alloc.specs.ImageStorage.{storage_of}
+use Rattle.qcow2_alloc.specs.MetadataCaches.{order_of}
+use Rattle.qcow2_alloc.specs.ImageFile.{state_in, view_in, contents_in, known_in, nothing_given}
+use Rattle.qcow2_image.specs.declared.image.Qcow2.{Qcow2}
+use Rattle.qcow2_image.specs.declared.prepared.Prepared.{Prepared}
+use Rattle.qcow2_image.specs.CallParts.{IsWritten, WritesBytes}
+use Rattle.qcow2_image.specs.UnseenSteps.{AreThere, UnseenStep, UnseenFillingStep, HoldsAll, IsOwn, SameHeld}
+use Rattle.qcow2_image.specs.ImageInvariant.{held_by, over_all, backing_bytes, ImageInvariant}
+use Rattle.qcow2_image.proofs.Call.Answered.{same_guest, same_slot, tidies_kept, still_seen}
+use Rattle.qcow2_image.proofs.Call.Called.{copied_then}
+use Rattle.qcow2_image.proofs.Map.Loading.{still_moved}
+use Rattle.qcow2_image.proofs.Write.Written.{written, writes, sound_written, since_written, same_l1_written}
+
+module _ {S F : Type 0} (view : S → StorageView) (backing : F → BackingView) (out : List (Option Prepared)) where
+  pub goes_kept : (a b : Qcow2 S F) (p p' : Pending) → ImageInvariant view backing p a out → HoldsAll view backing p out → HoldsAll view backing p' out → UnseenStep view backing p p' a b out → UnseenFillingStep view backing p p' a b out
+  goes_kept a b p p' sound holds still keeps = record {
+    sound = keeps.sound;
+    leads = keeps.leads;
+    since = keeps.since;
+    header = keeps.unseen.header;
+    covers = keeps.unseen.covers;
+    copied = keeps.copied;
+    below = keeps.below;
+    list = keeps.list;
+    seen = still_seen view backing a b out p p' sound holds still (tidies_kept view backing a b out p p' keeps);
+  }
+
+  pub goes_none : (a : Qcow2 S F) (p : Pending) → ImageInvariant view backing p a out → UnseenFillingStep view backing p p a a out
+  goes_none a p sound = record {
+    sound = sound;
+    leads = leads_none (state_in view a.file p) sound.file.caches.kept.kept.guarded;
+    since = endures_none (view_in view a.file) (known_in view a.file);
+    header = refl;
+    covers = λ g. refl;
+    copied = λ i copied. refl;
+    below = refl;
+    list = record { more = []; is = sym (append-nil a.file.free_list) };
+    seen = refl;
+  }
+
+  pub goes_then : (a b c : Qcow2 S F) (p q r : Pending) → UnseenFillingStep view backing p q a b out → UnseenFillingStep view backing q r b c out → UnseenFillingStep view backing p r a c out
+  goes_then a b c p q r first then = record {
+    sound = then.sound;
+    leads = leads_then (state_in view a.file p) (state_in view b.file q) (state_in view c.file r) nothing_given nothing_given [] [] first.leads then.leads;
+    since = steps_endure (view_in view a.file) (view_in view b.file) (view_in view c.file) (state_in view a.file p) (state_in view b.file q) nothing_given nothing_given [] [] refl first.since first.leads then.since;
+    header = format_then a.file.header.fields b.file.header.fields c.file.header.fields first.header then.header;
+    covers = λ g. first.covers g ∙ covers_format a.file.header.fields b.file.header.fields first.header (known_in view b.file) (known_in view c.file) then.covers g;
+    copied = copied_then view backing out a b c p q r first.header first.copied then.copied;
+    below = then.below ∙ first.below;
+    list = record { more = first.list.more ++ then.list.more; is = then.list.is ∙ ap (λ l. l ++ then.list.more) first.list.is ∙ append_assoc a.file.free_list first.list.more then.list.more };
+    seen = then.seen ∙ first.seen;
+  }
+
+  -- clusters that are held have the same bytes where no guest sees a change
+  pub same_held : (a b : Qcow2 S F) (p : Pending) → ImageInvariant view backing p a out → UnseenStep view backing p p a b out → SameHeld view backing p a b
+  same_held a b p sound keeps o some =
+      let before : contents_in view a.file o ≡ known_in view a.file o = sound.file.caches.kept.kept.guarded.unlaid o (omega (arith, some)) in
+      let here : 0 < p.held (o / cluster_size b.file.header.fields) = subst (λ n. 0 < p.held (o / n)) (sym (size_format a.file.header.fields b.file.header.fields keeps.unseen.header)) some in
+      let after : contents_in view b.file o ≡ known_in view b.file o = keeps.sound.file.caches.kept.kept.guarded.unlaid o (omega (arith, here)) in
+      after ∙ keeps.unseen.bytes o (omega (arith, some)) ∙ sym before
+
+  -- bytes are written to a cluster that is held, and that no mapping has yet
+  module _ (old : Qcow2 S F) (p : Pending) (sound : ImageInvariant view backing p old out) (cluster at : ℕ) (bytes : List ℕ) (own : IsOwn view backing p old out cluster at (length bytes))
+      (storage : ImageStorage S) (honest : (view (storage_of storage)).is_honest) (time : Passing (view_in view old.file) (view (storage_of storage)) (λ c. c ≡ (view (storage_of storage)).contents))
+      (is : (view (storage_of storage)).contents ≡ overwritten (view_in view old.file).contents at bytes) where
+    abbrev h : HeaderFields
+    h = old.file.header.fields
+
+    abbrev new : Qcow2 S F
+    new = written view backing old out sound storage at bytes is
+
+    unnamed : IsUnnamed h (contents_in view old.file) (known_in view old.file) cluster
+    unnamed = held_is_unnamed h (order_of old.file.caches) p (contents_in view old.file) (known_in view old.file) sound.file.caches.kept.kept.guarded cluster own.held
+
+    no_table : (i : ℕ) → i < length bytes → named_for_tables h (contents_in view old.file) ((at + i) / cluster_size h) ≡ 0
+    no_table i lt = ap (named_for_tables h (contents_in view old.file)) (own.inside i lt) ∙ unnamed.no_table
+
+    outside : (o : ℕ) → o / cluster_size h ≢ cluster → (o < at) ⊎ (at + length bytes ≤ o)
+    outside o other = elim (cases_lt o at) [
+      | inl below ↦ inl below
+      | inr above ↦ elim (cases_lt o (at + length bytes)) [
+        | inr past ↦ inr past
+        | inl lt ↦ absurd (let e : at + (o - at) ≡ o = omega arith in other (ap (λ i. i / cluster_size h) (sym e) ∙ own.inside (o - at) (omega arith)))
+      ]
+    ]
+
+    alone : WritesAt at (length bytes) (contents_in view old.file) (known_in view old.file) (contents_in view new.file) (known_in view new.file)
+    alone = writes view backing old out sound storage at bytes is no_table
+
+    apart : Writes cluster (state_in view old.file p) (state_in view new.file p) (λ _. []) (λ below. disk (known_in view old.file) below)
+    apart = private_written (state_in view old.file p) (contents_in view new.file) (known_in view new.file) sound.file.caches.kept.kept.guarded cluster own.held
+        (λ o other. alone.others o (outside o other)) (λ o other. alone.known_others o (outside o other)) alone.agree
+
+    goes_written : UnseenFillingStep view backing p p old new out
+    goes_written = record {
+      sound = sound_written view backing old out sound storage at bytes is no_table (λ _. []) honest time apart.leads apart.unseen.covers;
+      leads = apart.leads;
+      since = since_written view backing old out sound storage at bytes is no_table (λ _. []) honest time apart.leads apart.unseen.covers;
+      header = refl;
+      covers = apart.unseen.covers;
+      copied = λ i copied. same_l1_written view backing old out sound storage at bytes is no_table (λ _. []) honest time apart.leads apart.unseen.covers i;
+      below = refl;
+      list = record { more = []; is = sym (append-nil old.file.free_list) };
+      seen = same_guest _ _ (apart.shows (backing_bytes view backing old.backing))
+          (fun_ext (λ k. same_slot view backing old new out p sound refl
+          (λ o some. sym (alone.others o (outside o (λ here. let none = own.unused in let used = subst (λ c. 0 < over_all held_by out c) here some in absurd (omega arith))))) k (slice_get out k) refl));
+    }
+
+  -- whether the write is there or isn't
+  module _ (old new : Qcow2 S F) (p : Pending) (sound : ImageInvariant view backing p old out) (cluster at : ℕ) (bytes : List ℕ) (own : IsOwn view backing p old out cluster at (length bytes)) (holds : HoldsAll view backing p out)
+      (r : Result (Unit {0}) ImageError) (w : WritesBytes view old new at bytes r) where
+    still : (view_in view new.file).contents ≡ (view_in view old.file).contents → UnseenFillingStep view backing p p old (record old { file = record old.file { storage = new.file.storage } }) out
+    still same = goes_kept old (record old { file = record old.file { storage = new.file.storage } }) p p sound holds holds (still_moved view backing old out p sound new.file.storage (w.honest sound.file.honest) w.time same)
+
+    by_answer : (x : Result (Unit {0}) ImageError) → IsWritten x (view_in view old.file).contents (overwritten (view_in view old.file).contents at bytes) (view_in view new.file).contents
+        → ((view_in view new.file).contents ≡ (view_in view old.file).contents) ⊎ ((view_in view new.file).contents ≡ overwritten (view_in view old.file).contents at bytes)
+    by_answer (Ok done) is = inr is
+    by_answer (Err I.Storage) is = is
+    by_answer (Err I.ReadOnly) is = inl is
+    by_answer (Err I.BeyondSize) is = inl is
+    by_answer (Err I.Version) is = inl is
+    by_answer (Err I.UnalignedTable) is = inl is
+    by_answer (Err I.InvalidOption) is = inl is
+    by_answer (Err I.Preallocation) is = inl is
+    by_answer (Err I.Compressed) is = inl is
+    by_answer (Err I.InUse) is = inl is
+    by_answer (Err I.TablePrepared) is = inl is
+    by_answer (Err I.OutdatedMapping) is = inl is
+    by_answer (Err I.ForeignState) is = inl is
+    by_answer (Err I.Dependency) is = inl is
+    by_answer (Err I.Limit) is = inl is
+    by_answer (Err I.Memory) is = inl is
+    by_answer (Err I.Failed) is = inl is
+    by_answer (Err I.MappingPrepared) is = inl is
+    by_answer (Err (I.NotCompressed offset)) is = inl is
+    by_answer (Err I.Metadata) is = inl is
+    by_answer (Err I.Overflow) is = inl is
+    by_answer (Err (I.StillInUse tables)) is = inl is
+
+    pub goes_data : UnseenFillingStep view backing p p old new out
+    goes_data = subst (λ (image : Qcow2 S F). UnseenFillingStep view backing p p old image out) (sym w.rest)
+        (⊎_elim still (λ (is : (view_in view new.file).contents ≡ overwritten (view_in view old.file).contents at bytes). goes_written old p sound cluster at bytes own new.file.storage (w.honest sound.file.honest) w.time is) (by_answer r (w.written sound.file.honest)))
+
+-- a range of the same length in an image of the same file
+pub own_of : {S F : Type 0} (view : S → StorageView) (backing : F → BackingView) (p : Pending) (old new : Qcow2 S F) (out : List (Option Prepared)) (cluster at n m : ℕ) → m ≡ n → new.file ≡ old.file
+    → IsOwn view backing p old out cluster at n → IsOwn view backing p new out cluster at m
+own_of view backing p old new out cluster at n m same file own = record {
+  held = own.held;
+  unused = own.unused;
+  inside = λ i lt. ap (λ f. (at + i) / cluster_size f.header.fields) file ∙ own.inside i (omega (arith, same));
+}
+
+-- what was written is there
+pub there_written : {S F : Type 0} (view : S → StorageView) (old new : Qcow2 S F) (at : ℕ) (bytes : List ℕ) (r : Result (Unit {0}) ImageError) → WritesBytes view old new at bytes r → (view_in view old.file).is_honest
+    → IfOk r (λ done. AreThere view new.file at (length bytes) (byte_at bytes))
+there_written view old new at bytes (Ok done) w honest = λ i lt. ap (λ c. byte_at c (at + i)) (w.written honest) ∙ byte_at-overwritten (view_in view old.file).contents at bytes i lt
+there_written view old new at bytes (Err e) w honest = tt

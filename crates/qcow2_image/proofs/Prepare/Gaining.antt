@@ -1,0 +1,170 @@
+-- A cluster is taken for data, and what is left where that is refused.
+use Rattle.std.proofs.Common.{◌≡◌, inl, inr, ℕ, ◌+◌, ◌-◌, ◌*◌, ◌%◌, ◌<◌, Bool, false, List, [], ◌∷◌, ◌++◌, Option, Some, refl, sym, ap, ◌∙◌, subst, arith}
+use Rattle.std.specs.Prelude.{Result, Ok, Err}
+use Rattle.image_access.specs.Backing.{BackingView}
+use Rattle.image_access.specs.Moments.{StorageView}
+use Rattle.qcow2_metadata.specs.Bytes.{Bytes}
+use Rattle.qcow2_metadata.specs.declared.header.HeaderFields.{HeaderFields}
+use Rattle.qcow2_metadata.specs.Header.{cluster_size}
+use Rattle.qcow2_laws.specs.Changes.{with_held, held_to_dropped}
+use Rattle.qcow2_laws.specs.CrashInvariant.{Pending}
+use Rattle.qcow2_laws.specs.SafeSteps.{SafeStep}
+use Rattle.qcow2_laws.specs.Unseen.{KeepsFormat}
+use Rattle.qcow2_laws.proofs.SafeSteps.{endures_none}
+use Rattle.qcow2_laws.proofs.Steps.{pending_is_changed}
+use Rattle.qcow2_alloc.specs.Allocation.{run_at, Allocates, RefusedGrowth}
+use Rattle.qcow2_alloc.specs.CacheMarks.{KeepsMarks}
+use Rattle.qcow2_alloc.specs.declared.allocation.Allocator.{Allocator}
+use Rattle.qcow2_alloc.specs.declared.clusters_to_free.ClusterKind.TheVariants as Kind
+use Rattle.qcow2_alloc.specs.declared.clusters_to_free.ClustersToFreeEntry.{ClustersToFreeEntry}
+use Rattle.qcow2_alloc.specs.declared.error.ImageError.{ImageError}
+use Rattle.qcow2_alloc.specs.declared.image_file.ImageFile.{ImageFile}
+use Rattle.qcow2_alloc.specs.FreeList.{ListsTables, pending_then as since_listed}
+use Rattle.qcow2_alloc.specs.ImageFile.{state_in, view_in, contents_in, known_in, nothing_given, KeepsHeader, UnseenFileGrowth, HasReftable}
+use Rattle.qcow2_alloc.proofs.FileSteps.{pending_same}
+use Rattle.qcow2_alloc.proofs.Following.{header_format, following_same as same_list}
+use Rattle.qcow2_alloc.proofs.Runs.{run_in}
+use Rattle.qcow2_image.specs.declared.image.Qcow2.{Qcow2}
+use Rattle.qcow2_image.specs.declared.prepared.Prepared.{Prepared}
+use Rattle.qcow2_image.specs.UnseenSteps.{pending_then, is_announced, IsFilled, UnseenFillingStep, RefusedFillingStep, HoldsAll, ListGrows, TakesData}
+use Rattle.qcow2_image.specs.ImageInvariant.{run_of, of_data, of_tables, to_free, held_by, over_all, backing_bytes, below_of, ImageInvariant}
+use Rattle.qcow2_image.proofs.Formats.{lists_grow}
+use Rattle.qcow2_image.proofs.Prepare.Filling.{goes_kept, goes_then}
+use Rattle.qcow2_image.proofs.Commit.LetGo.{run_few, sound_while}
+use Rattle.qcow2_image.proofs.Moving.{file_moved_on}
+use Rattle.qcow2_image.proofs.Open.Reftables.{reftable_still}
+use Rattle.qcow2_image.proofs.Sound.{free_more}
+
+module _ {S F : Type 0} (view : S → StorageView) (backing : F → BackingView) (out : List (Option Prepared)) where
+  -- with the same list all is pending that was
+  pub following_same : (p : Pending) (old new : Qcow2 S F) → new.file.free_list ≡ old.file.free_list → pending_then p old new ≡ p
+  following_same p old new list = same_list p old.file.free_list new.file.free_list list
+
+  -- with the list of another image what is pending is the same
+  pub following_on : (p : Pending) (old mid new : Qcow2 S F) → new.file.free_list ≡ mid.file.free_list → pending_then p old mid ≡ pending_then p old new
+  following_on p old mid new list = ap (λ l. since_listed p old.file.free_list l) (sym list)
+
+  -- ---- by the allocator
+  module _ (old : Qcow2 S F) (p : Pending) (sound : ImageInvariant view backing p old out) (holds : HoldsAll view backing p out) (file : ImageFile S) (a : Allocator) (marks : KeepsMarks old.file.caches file.caches) (lists : ListsTables old.file.free_list file.free_list) (header : KeepsHeader old.file.header file.header) where
+    abbrev taken : Qcow2 S F
+    taken = record old { file = file; allocator = Some a }
+
+    -- what is pending then, beside what is taken
+    abbrev since : Pending
+    since = pending_then p old taken
+
+    -- from what is pending to what is
+    goes_moved : (q : Pending) → HoldsAll view backing q out → UnseenFileGrowth view p q old.file file → HasReftable view file a.reftable → UnseenFillingStep view backing p q old taken out
+    goes_moved q still moves reftable = goes_kept view backing out old taken p q sound holds still (file_moved_on view backing old out p q sound file (Some a) moves reftable marks.pins (lists_grow old taken lists))
+
+    goes_back : (e : ImageError) → RefusedGrowth view p old.file a file since e → RefusedFillingStep view backing p old taken out e
+    goes_back e (inl kept) = inl (goes_moved since holds kept.moves kept.reftable)
+    goes_back e (inr broken) = inr (record { breaks = broken; header = header_format old.file.header file.header header; below = refl })
+
+    pub takes_data : (r : Result ClustersToFreeEntry ImageError) → Allocates view p old.file a file since Kind.Data 1 r → TakesData view backing p old taken out r
+    takes_data (Ok n) is =
+        let count = is.0 in
+        let run : run_at n.first_cluster 1 ≡ run_of n = ap (λ m. run_at n.first_cluster m) (sym count) in
+        let becomes = is.2 in (
+          count,
+          is.1,
+          subst (λ f. UnseenFillingStep view backing p (with_held since f) old taken out) run
+              (goes_moved (with_held since (run_at n.first_cluster 1)) (λ k. let h = holds k in omega arith)
+              becomes.moves becomes.reftable),
+        )
+    takes_data (Err e) is = goes_back e is
+
+  -- ---- what was taken is handed back
+  module _ (old : Qcow2 S F) (p : Pending) (n : ClustersToFreeEntry) (one : n.count ≡ 1) (kind : n.kind ≡ Kind.Data) (sound : ImageInvariant view backing (with_held p (run_of n)) old out) where
+    abbrev pub left : Qcow2 S F
+    left = record old { file = record old.file { free_list = old.file.free_list ++ n ∷ [] } }
+
+    abbrev held : Pending
+    held = with_held p (run_of n)
+
+    abbrev after : Pending
+    after = held_to_dropped (with_held p (run_of n)) (run_of n)
+
+    leads : SafeStep (state_in view old.file held) (state_in view left.file after) nothing_given []
+    leads = pending_is_changed.dropped (state_in view old.file held) (run_of n) sound.file.caches.kept.kept.guarded (λ c. run_few n.first_cluster n.count c) (λ c some. omega arith)
+
+    pub goes_handed_back : UnseenFillingStep view backing held after old left out
+    goes_handed_back = record {
+      sound = record {
+        works = sound.works;
+        file = record {
+          honest = sound.file.honest;
+          caches = sound_while old.file.header.fields held after old.file.caches (contents_in view old.file) leads.sound sound.file.caches;
+          settled = sound.file.settled;
+          room = sound.file.room;
+        };
+        l1_table = record { cluster = sound.l1_table.cluster; bits = sound.l1_table.bits; count = sound.l1_table.count; entries = sound.l1_table.entries };
+        reftable = reftable_still view old.file left.file refl refl old.allocator sound.reftable;
+        below = sound.below;
+        ready = λ k q at. let r = sound.ready k q at in record { own = r.own; mapped = r.mapped };
+        pinned = sound.pinned;
+        once = sound.once;
+      };
+      leads = leads;
+      since = endures_none (view_in view old.file) (known_in view old.file);
+      header = refl;
+      covers = λ g. refl;
+      copied = λ i copied. refl;
+      below = refl;
+      list = record { more = n ∷ []; is = refl };
+      seen = refl;
+    }
+
+  -- what is pending then is what was before, with that
+  after_is : (start old : Qcow2 S F) (p : Pending) (n : ClustersToFreeEntry) (one : n.count ≡ 1) (kind : n.kind ≡ Kind.Data) (sound : ImageInvariant view backing (with_held (pending_then p start old) (run_of n)) old out) → ListGrows start old
+      → after old (pending_then p start old) n one kind sound ≡ pending_then p start (left old (pending_then p start old) n one kind sound)
+  after_is start old p n one kind sound grows =
+      let final = left old (pending_then p start old) n one kind sound in
+      pending_same (after old (pending_then p start old) n one kind sound) (pending_then p start final)
+      (λ k. omega arith)
+      (λ k. refl)
+      (λ k.
+      let since = ap (λ l. to_free of_tables l k) grows.is ∙ free_more of_tables start.file.free_list grows.more k in
+      let e = free_more of_tables old.file.free_list (n ∷ []) k in
+      let none : of_tables n.kind (run_of n k) ≡ 0 = ap (λ x. of_tables x (run_of n k)) kind in
+      omega arith)
+      (λ k.
+      let since = ap (λ l. to_free of_data l k) grows.is ∙ free_more of_data start.file.free_list grows.more k in
+      let e = free_more of_data old.file.free_list (n ∷ []) k in
+      let some : of_data n.kind (run_of n k) ≡ run_of n k = ap (λ x. of_data x (run_of n k)) kind in
+      omega arith)
+      (λ k. refl)
+
+  -- all of it
+  pub goes_left : (start old : Qcow2 S F) (p : Pending) (n : ClustersToFreeEntry) (one : n.count ≡ 1) (kind : n.kind ≡ Kind.Data) → (goes : UnseenFillingStep view backing p (with_held (pending_then p start old) (run_of n)) start old out)
+      → let end = left old (pending_then p start old) n one kind goes.sound in UnseenFillingStep view backing p (pending_then p start end) start end out
+  goes_left start old p n one kind goes =
+      let q = pending_then p start old in
+      let end = left old q n one kind goes.sound in
+      subst (λ r. UnseenFillingStep view backing p r start end out) (after_is start old p n one kind goes.sound goes.list)
+      (goes_then view backing out start old end p (with_held q (run_of n)) (after old q n one kind goes.sound) goes (goes_handed_back old q n one kind goes.sound))
+
+  -- ---- a cluster that was taken is new
+  module _ (old mid : Qcow2 S F) (p : Pending) (n : ClustersToFreeEntry) (one : n.count ≡ 1) (holds : HoldsAll view backing p out) (goes : UnseenFillingStep view backing p (with_held (pending_then p old mid) (run_of n)) old mid out) where
+    pub taken_held : 0 < (with_held (pending_then p old mid) (run_of n)).held n.first_cluster
+    taken_held = let once = run_in n.first_cluster n.count n.first_cluster (omega arith) (omega (arith, one)) in omega arith
+
+    pub taken_unused : over_all held_by out n.first_cluster ≡ 0
+    taken_unused =
+        let once = run_in n.first_cluster n.count n.first_cluster (omega arith) (omega (arith, one)) in
+        let always = goes.sound.file.caches.kept.kept.guarded.always n.first_cluster in
+        let tally = always.tally in
+        let few = always.pending (omega arith) in
+        let all = holds n.first_cluster in
+        omega arith
+
+    pub still_holds : HoldsAll view backing (with_held (pending_then p old mid) (run_of n)) out
+    still_holds k = let h = holds k in omega arith
+
+-- what was filled in an image of the same format over the same disk
+pub filled_as : {S F : Type 0} (view : S → StorageView) (backing : F → BackingView) (mid old new : Qcow2 S F) (cluster first offset length : ℕ) (overwrite : Bool) → KeepsFormat old.file.header.fields mid.file.header.fields
+    → below_of view backing mid.backing ≡ below_of view backing old.backing → cluster ≡ first → IsFilled view backing mid new cluster offset length overwrite → IsFilled view backing old new first offset length overwrite
+filled_as view backing mid old new cluster first offset length overwrite header below same filled =
+    let Fills : HeaderFields → Bytes → ℕ → Type 0 = λ h b c. (i : ℕ) → i < cluster_size h → is_announced (cluster_size h) offset length overwrite i ≡ false → contents_in view new.file (c * cluster_size h + i) ≡ b (offset - offset % cluster_size h + i) in
+    subst (λ c. Fills old.file.header.fields (backing_bytes view backing old.backing) c) same
+    (subst (λ b. Fills old.file.header.fields b.1 cluster) below (subst (λ h. Fills h (backing_bytes view backing mid.backing) cluster) header filled))

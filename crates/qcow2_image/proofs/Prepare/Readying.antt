@@ -1,0 +1,181 @@
+-- A mapping of the rest of a cluster is made ready: its table is pinned, and it is put at a free place.
+use Rattle.std.proofs.Common.{◌≡◌, ⊎_elim, inl, inr, ℕ, ◌+◌, ◌-◌, ◌*◌, ◌/◌, ◌%◌, ◌<◌, ◌≤◌, Bool, true, false, List, [], Option, Some, None, refl, sym, ap, ◌∙◌, subst, arith, is_some, cond}
+use Rattle.std.specs.Prelude.{IsTrue, min, slice_get, slice_set, ◌&&◌, ◌==◌}
+use mathlib.Core.Path.{fun_ext}
+use Rattle.std.proofs.lemmas.Bool.{cases_eq, cond-false, eqb-true, ne_eqb}
+use Rattle.std.proofs.lemmas.Nat.{div-add-mod', mod_below, pow_pos}
+use Rattle.image_access.specs.Backing.{BackingView}
+use Rattle.image_access.specs.Moments.{StorageView}
+use Rattle.qcow2_metadata.specs.Bytes.{Bytes, is_within}
+use Rattle.qcow2_metadata.specs.declared.header.HeaderFields.{HeaderFields}
+use Rattle.qcow2_metadata.specs.Header.{cluster_size}
+use Rattle.qcow2_metadata.specs.Tables.{CachedTable}
+use Rattle.qcow2_laws.specs.Caches.{AreSettled}
+use Rattle.qcow2_laws.specs.Calls.{with_slot}
+use Rattle.qcow2_laws.specs.Disk.{disk}
+use Rattle.qcow2_laws.specs.CrashInvariant.{Pending}
+use Rattle.qcow2_laws.specs.SafeSteps.{SafeStep}
+use Rattle.qcow2_laws.specs.Mappings.{IsPrepared}
+use Rattle.qcow2_laws.specs.AbstractImages.{Guest, guest_of}
+use Rattle.qcow2_alloc.specs.CacheMarks.{l2_pins, SameTables}
+use Rattle.qcow2_alloc.specs.declared.cache.MetadataCaches.{MetadataCaches}
+use Rattle.qcow2_alloc.specs.ImageFile.{state_in, contents_in, known_in, nothing_given}
+use Rattle.qcow2_image.specs.declared.image.Qcow2.{Qcow2}
+use Rattle.qcow2_image.specs.declared.mapping.Place.TheVariants.{Image}
+use Rattle.qcow2_image.specs.declared.prepared.Prepared.{Prepared}
+use Rattle.qcow2_image.specs.declared.prepared.NewCluster.{NewCluster}
+use Rattle.qcow2_image.specs.Image.{number_of}
+use Rattle.qcow2_image.specs.CallParts.{IsReadied}
+use Rattle.qcow2_image.specs.UnseenSteps.{UnseenFillingStep, HoldsTable}
+use Rattle.qcow2_image.specs.ImageInvariant.{to_free, of_data, of_tables, held_by, pins_by, pins_of, over_all, pending_in, abstract_of, meaning, is_private, backing_bytes, HasCluster, IsPending, IsReadyWith, ImageInvariant}
+use Rattle.qcow2_image.proofs.Call.Answered.{same_guest}
+use Rattle.qcow2_image.proofs.Commit.Committing.{rounds_up}
+use Rattle.qcow2_image.proofs.Open.Reftables.{reftable_still}
+use Rattle.qcow2_image.proofs.Call.Slots.{get_set, over_all_put, slot_set}
+use Rattle.qcow2_image.proofs.Call.Stepped.{Steps, stepped_sound, stepped_works}
+
+-- the mapping of the rest of a guest cluster that stands at a place
+abbrev pub mapping_at : HeaderFields → ℕ → ℕ → ℕ → ℕ → Option NewCluster → Prepared
+mapping_at h number table offset host new_cluster = record {
+  image = number;
+  guest = offset;
+  place = Image;
+  offset = host + offset % cluster_size h;
+  length = cluster_size h - offset % cluster_size h;
+  table = Some table;
+  new_cluster = new_cluster;
+}
+
+-- what is pending once it is out
+pub record IsNowPending {S F : Type 0} (old : Qcow2 S F) (out : List (Option Prepared)) (p : Prepared) (q : Pending) (more : ℕ → ℕ) : Type 0 where
+  pub held : (c : ℕ) → q.held c ≡ over_all held_by out c + held_by p c
+  pub fresh : (c : ℕ) → q.fresh c ≡ 0
+  pub spent : (c : ℕ) → q.spent c ≡ to_free of_tables old.file.free_list c
+  pub dropped : (c : ℕ) → q.dropped c ≡ to_free of_data old.file.free_list c
+  pub surplus : q.surplus ≡ more
+
+module _ {S F : Type 0} (view : S → StorageView) (backing : F → BackingView) (old mid : Qcow2 S F) (out : List (Option Prepared)) (k : ℕ) (free : slice_get out k ≡ Some None) (q : Pending)
+    (goes : UnseenFillingStep view backing (pending_in view backing old out) q old mid out) (offset table host : ℕ) (new_cluster : Option NewCluster) (holds : HoldsTable view backing mid offset table) (unpinned : l2_pins mid.file.caches table ≡ 0)
+    (stands : HasCluster mid.file.header.fields (known_in view mid.file) (contents_in view mid.file) (mapping_at mid.file.header.fields (number_of mid) table offset host new_cluster) new_cluster)
+    (caches : MetadataCaches S) (tables : SameTables mid.file.caches caches) (pins : (c : ℕ) → l2_pins caches c ≡ l2_pins mid.file.caches c + pins_of (Some table) c)
+    (is : IsNowPending mid out (mapping_at mid.file.header.fields (number_of mid) table offset host new_cluster) q (pending_in view backing old out).surplus) where
+  abbrev h : HeaderFields
+  h = mid.file.header.fields
+
+  abbrev p : Prepared
+  p = mapping_at h (number_of mid) table offset host new_cluster
+
+  abbrev new : Qcow2 S F
+  new = record mid { file = record mid.file { caches = caches } }
+
+  abbrev now : List (Option Prepared)
+  now = slice_set out k (Some p)
+
+  same_known : known_in view new.file ≡ known_in view mid.file
+  same_known = tables.known h (contents_in view mid.file)
+
+  same_stand : state_in view new.file q ≡ state_in view mid.file q
+  same_stand = ap (λ d. record (state_in view mid.file q) { direction = d; known = known_in view new.file }) tables.order ∙ ap (λ b. record (state_in view mid.file q) { known = b }) same_known
+
+  some_left : 0 < cluster_size h - offset % cluster_size h
+  some_left = let lt = mod_below offset (cluster_size h) (pow_pos h.cluster_bits) in omega arith
+
+  own_ready : IsPending h (known_in view mid.file) (contents_in view mid.file) p table
+  own_ready = record {
+    some = some_left;
+    within = let lt = mod_below offset (cluster_size h) (pow_pos h.cluster_bits) in omega arith;
+    named = holds.entry;
+    copied = holds.copied;
+    cluster = stands;
+  }
+
+  ready_now : (j : ℕ) (r : Prepared) → slice_get now j ≡ Some (Some r) → IsReadyWith h (known_in view mid.file) (contents_in view mid.file) r r.table × (r.image ≡ number_of mid)
+  ready_now j r at = ⊎_elim
+      (λ (e : Some r ≡ Some p). let same : r ≡ p = cc in subst (λ (x : Prepared). IsReadyWith h (known_in view mid.file) (contents_in view mid.file) x x.table × (x.image ≡ number_of mid)) (sym same) (own_ready, refl))
+      (λ there. let ready = goes.sound.ready j r there in (ready.mapped, ready.own)) (get_set out k j (Some p) (Some r) at)
+
+  -- its table wasn't pinned
+  no_pins : over_all pins_by out table ≡ 0
+  no_pins = sym (goes.sound.pinned table) ∙ unpinned
+
+  pinned_few : (c : ℕ) → pins_of (Some table) c ≤ 1
+  pinned_few c = elim (table == c) as (λ (b : Bool). cond b 1 0 ≤ 1) [ true ↦ omega arith | false ↦ omega arith ]
+
+  pinned_once : (c : ℕ) → over_all pins_by now c ≤ 1
+  pinned_once c =
+      let more = over_all_put pins_by out k p free c in
+      let few = pinned_few c in
+      let once = goes.sound.once c in
+      elim (cases_eq table c) [
+        | inl here ↦ let none : over_all pins_by out c ≡ 0 = ap (over_all pins_by out) (sym here) ∙ no_pins in omega arith
+        | inr other ↦ let none : pins_of (Some table) c ≡ 0 = cond-false {A = ℕ} _ 1 0 (ne_eqb table c other) in omega arith
+      ]
+
+  sound_now : ImageInvariant view backing q new now
+  sound_now = record {
+    works = goes.sound.works;
+    file = record {
+      honest = goes.sound.file.honest;
+      caches = tables.sound h q (contents_in view mid.file) goes.sound.file.caches;
+      settled = subst (λ (ts : List CachedTable). AreSettled h ts (contents_in view mid.file)) (sym tables.refblocks) goes.sound.file.settled;
+      room = tables.room goes.sound.file.room;
+    };
+    l1_table = record { cluster = goes.sound.l1_table.cluster; bits = goes.sound.l1_table.bits; count = goes.sound.l1_table.count; entries = goes.sound.l1_table.entries };
+    reftable = reftable_still view mid.file new.file refl refl mid.allocator goes.sound.reftable;
+    below = goes.sound.below;
+    ready = λ j r at. let ready = ready_now j r at in record { own = ready.1; mapped = subst (λ (b : Bytes). IsReadyWith h b (contents_in view mid.file) r r.table) (sym same_known) ready.0 };
+    pinned = λ c. let more = over_all_put pins_by out k p free c in let was = goes.sound.pinned c in let n = pins c in omega arith;
+    once = pinned_once;
+  }
+
+  steps : Steps view backing old new out now nothing_given q
+  steps = record {
+    sound = sound_now;
+    only = record {
+      held = λ c. is.held c ∙ sym (over_all_put held_by out k p free c);
+      fresh = is.fresh;
+      spent = is.spent;
+      dropped = is.dropped;
+    };
+    leads = subst (λ s. SafeStep (state_in view old.file (pending_in view backing old out)) s nothing_given []) (sym same_stand) goes.leads;
+    since = record { moments = goes.since.moments; contents = goes.since.contents };
+    header = goes.header;
+    below = goes.below;
+    surplus = is.surplus;
+  }
+
+  seen_now : guest_of (abstract_of view backing new now) ≡ with_slot (guest_of (abstract_of view backing old out)) k (Some (meaning view backing new p))
+  seen_now =
+      same_guest _ (with_slot (guest_of (abstract_of view backing mid out)) k (Some (meaning view backing new p))) (ap (λ b. disk b (backing_bytes view backing mid.backing)) same_known) (fun_ext (λ j. slot_set (meaning view backing mid) out k (Some p) None free j))
+      ∙ ap (λ (x : Guest). with_slot x k (Some (meaning view backing new p))) goes.seen
+
+  pub readied : (n : ℕ) (overwrite : Bool) → IsPrepared (cluster_size old.file.header.fields) (guest_of (abstract_of view backing old out)).disk offset n overwrite (meaning view backing new p) → IsReadied view backing old new out k offset n overwrite p
+  readied n overwrite prepared = record {
+    works = stepped_works view backing old new out now nothing_given q steps;
+    sound = stepped_sound view backing old new out now nothing_given q steps;
+    prepared = prepared;
+    is = seen_now;
+  }
+
+  -- what is private lies in its cluster
+  pub private_inside : (o : ℕ) → IsTrue (is_private view backing new p o) → o / cluster_size h ≡ offset / cluster_size h
+  private_inside o is_so = in_cluster (is_some new_cluster) is_so where
+    in_cluster : (b : Bool) → IsTrue (b && o / cluster_size h == offset / cluster_size h) → o / cluster_size h ≡ offset / cluster_size h
+    in_cluster true yes_so = eqb-true _ _ yes_so
+    in_cluster false never = absurd (let e : false ≡ true = never in cc)
+
+  pub prepared_by : (n : ℕ) (overwrite : Bool) → ((o : ℕ) → IsTrue (is_private view backing new p o) → (overwrite && is_within offset (min n (cluster_size h - offset % cluster_size h)) o ≡ false)
+      → (meaning view backing new p).shown o ≡ (guest_of (abstract_of view backing old out)).disk.value o) → IsPrepared (cluster_size old.file.header.fields) (guest_of (abstract_of view backing old out)).disk offset n overwrite (meaning view backing new p)
+  prepared_by n overwrite olds = subst (λ (x : HeaderFields). IsPrepared (cluster_size x) (guest_of (abstract_of view backing old out)).disk offset n overwrite (meaning view backing new p)) goes.header (record {
+    from = refl;
+    some = λ any. some_left;
+    inside = λ o private.
+        let here = private_inside o private in
+        let lt = mod_below offset (cluster_size h) (pow_pos h.cluster_bits) in
+        let o_is : o / cluster_size h * cluster_size h + o % cluster_size h ≡ o = div-add-mod' o (cluster_size h) in
+        let o_lt = mod_below o (cluster_size h) (pow_pos h.cluster_bits) in
+        let same : o / cluster_size h * cluster_size h ≡ offset / cluster_size h * cluster_size h = ap (λ c. c * cluster_size h) here in
+        let up = rounds_up (cluster_size h) offset (cluster_size h - offset % cluster_size h) (pow_pos h.cluster_bits) some_left (omega arith) in
+        (omega arith, omega arith);
+    old_values = olds;
+  })

@@ -1,0 +1,221 @@
+-- A mapping is made ready in a new cluster, or in place.
+use Rattle.std.proofs.Common.{◌≡◌, inl, inr, ℕ, ◌+◌, ◌-◌, ◌*◌, ◌/◌, ◌%◌, ◌<◌, Bool, true, false, List, Option, Some, None, refl, sym, ap, ◌∙◌, subst, arith}
+use Rattle.qcow2_alloc.specs.declared.error.ImageError.{ImageError}
+use Rattle.qcow2_image.specs.declared.mappings.FirstCluster.{FirstCluster}
+use Rattle.qcow2_image.specs.FirstCluster.{IsFirst}
+use Rattle.std.specs.Prelude.{◌↔◌, IsSome, IsTrue, min, nat_le, nat_lt, slice_get, ◌&&◌}
+use Rattle.std.proofs.lemmas.Bool.{cases_lt, cond-true, le-leb, lt-ltb, lt-leb, le-ltb}
+use Rattle.std.proofs.lemmas.Nat.{div-mul-add, div-add-mod', mod_below, pow_pos}
+use Rattle.image_access.specs.Backing.{BackingView}
+use Rattle.image_access.specs.Moments.{StorageView}
+use Rattle.qcow2_metadata.specs.Bytes.{is_within}
+use Rattle.qcow2_metadata.specs.declared.header.HeaderFields.{HeaderFields}
+use Rattle.qcow2_metadata.specs.Header.{cluster_size, entries_per_cluster}
+use Rattle.qcow2_metadata.specs.Entries.{l1_entry, host_offset, is_copied}
+use Rattle.qcow2_metadata.specs.Cover.{cover}
+use Rattle.qcow2_metadata.specs.Guest.{known_byte}
+use Rattle.qcow2_metadata.specs.L2Mapping.{IsHostCluster}
+use Rattle.qcow2_metadata.specs.declared.l2_mapping.L2Mapping.TheVariants.{Data, Uncovered}
+use Rattle.qcow2_laws.specs.Changes.{with_held}
+use Rattle.qcow2_laws.specs.CrashInvariant.{Pending}
+use Rattle.qcow2_laws.specs.Guests.{table_at}
+use Rattle.qcow2_laws.specs.AbstractImages.{guest_of}
+use Rattle.qcow2_laws.proofs.Formats.{cover_format, l1_format, size_format}
+use Rattle.qcow2_laws.proofs.Shown.{shown_uncovered}
+use Rattle.qcow2_alloc.specs.CacheMarks.{l2_pins}
+use Rattle.qcow2_alloc.specs.MetadataCaches.{IsEntryAt, l2_at}
+use Rattle.qcow2_alloc.specs.ImageFile.{state_in, contents_in, known_in}
+use Rattle.qcow2_image.specs.declared.image.Qcow2.{Qcow2}
+use Rattle.qcow2_image.specs.declared.prepared.Prepared.{Prepared}
+use Rattle.qcow2_image.specs.declared.prepared.NewCluster.{NewCluster}
+use Rattle.qcow2_image.specs.Found.{l1_index_of, l2_index_of}
+use Rattle.qcow2_image.specs.Image.{number_of}
+use Rattle.qcow2_image.specs.CallParts.{IsReadied}
+use Rattle.qcow2_image.specs.UnseenSteps.{is_announced, UnseenFillingStep, RefusedFillingStep, HoldsAll, HoldsTable, IsGained, UnseenStep, Pins, SameHeld, pending_then}
+use Rattle.qcow2_image.specs.ImageInvariant.{run_of, to_free, of_data, of_tables, pending_in, abstract_of, meaning, is_private, begin_of, backing_bytes, IsInPlace, IsNewFor, ImageInvariant}
+use Rattle.qcow2_image.proofs.Formats.{entry_at_format, l1_shared}
+use Rattle.qcow2_image.proofs.Prepare.Gaining.{following_same, still_holds, taken_held}
+use Rattle.qcow2_image.proofs.Prepare.Filling.{goes_kept, goes_none, goes_then}
+use Rattle.qcow2_image.proofs.Sound.{free_more}
+use Rattle.qcow2_image.proofs.Prepare.Readying.{mapping_at, IsNowPending, readied, prepared_by, private_inside}
+
+-- a place within a range, both so many bytes further on
+le_shift : (g a i : ℕ) → nat_le (g + a) (g + i) ≡ nat_le a i
+le_shift g a i = elim (cases_lt i a) [
+  | inl below ↦ lt-leb (g + a) (g + i) (omega arith) ∙ sym (lt-leb a i below)
+  | inr above ↦ le-leb (g + a) (g + i) (omega arith) ∙ sym (le-leb a i above)
+]
+
+lt_shift : (g i b : ℕ) → nat_lt (g + i) (g + b) ≡ nat_lt i b
+lt_shift g i b = elim (cases_lt i b) [
+  | inl below ↦ lt-ltb (g + i) (g + b) (omega arith) ∙ sym (lt-ltb i b below)
+  | inr above ↦ le-ltb (g + i) (g + b) (omega arith) ∙ sym (le-ltb i b above)
+]
+
+within_shift : (g a m i : ℕ) → is_within (g + a) m (g + i) ≡ is_within a m i
+within_shift g a m i = let e : g + a + m ≡ g + (a + m) = omega arith in ap (λ b. b && nat_lt (g + i) (g + a + m)) (le_shift g a i) ∙ ap (λ n. nat_le a i && nat_lt (g + i) n) e ∙ ap (λ b. nat_le a i && b) (lt_shift g i (a + m))
+
+within_cluster : (size offset m o : ℕ) → o / size ≡ offset / size → is_within offset m o ≡ is_within (offset % size) m (o % size)
+within_cluster size offset m o here =
+    let g = offset / size * size in
+    let offset_is : offset / size * size + offset % size ≡ offset = div-add-mod' offset size in
+    let o_is : o / size * size + o % size ≡ o = div-add-mod' o size in
+    let same : o ≡ offset / size * size + o % size = sym o_is ∙ ap (λ c. c * size + o % size) here in
+    ap (λ x. is_within x m o) (sym offset_is) ∙ ap (λ y. is_within (offset / size * size + offset % size) m y) same ∙ within_shift (offset / size * size) (offset % size) m (o % size)
+
+-- no pin
+pub not_pinned : (n : ℕ) (b : Bool) → (IsTrue b ↔ (0 < n)) → b ≡ false → n ≡ 0
+not_pinned n b iff isnt = elim (cases_lt 0 n) [
+  | inl some ↦ absurd (let yes : b ≡ true = iff.1 some in let e : true ≡ false = sym yes ∙ isnt in cc)
+  | inr none ↦ omega arith
+]
+
+-- what the first cluster of an offset has, in a table that is held for it
+pub first_stands : {S F : Type 0} (view : S → StorageView) (backing : F → BackingView) (old : Qcow2 S F) (p : Pending) (offset table cluster : ℕ) (first : FirstCluster) → cluster ≡ offset / cluster_size old.file.header.fields
+    → HoldsTable view backing old offset table
+    → (IsEntryAt old.file.header.fields (known_in view old.file) (l1_index_of old.file.header.fields offset) table (cluster % entries_per_cluster old.file.header.fields) → cluster / entries_per_cluster old.file.header.fields ≡ l1_index_of old.file.header.fields offset
+    → IsFirst old.file.header.fields (known_in view old.file) cluster first)
+    → IsFirst old.file.header.fields (known_in view old.file) (offset / cluster_size old.file.header.fields) first
+first_stands view backing old p offset table cluster first is holds stands =
+    let h = old.file.header.fields in
+    subst (λ g. IsFirst old.file.header.fields (known_in view old.file) g first) is
+    (stands (subst (λ g. IsEntryAt old.file.header.fields (known_in view old.file) (l1_index_of old.file.header.fields offset) table (g % entries_per_cluster old.file.header.fields)) (sym is) holds.entry)
+    (ap (λ g. g / entries_per_cluster old.file.header.fields) is))
+
+module _ {S F : Type 0} (view : S → StorageView) (backing : F → BackingView) (out : List (Option Prepared)) where
+  -- a table that is held and marked copied is named as before
+  pub holds_still : (old new : Qcow2 S F) (p q : Pending) (offset table : ℕ) → ImageInvariant view backing p old out → UnseenFillingStep view backing p q old new out → HoldsTable view backing old offset table → IsSome (l2_at new.file.caches table) → HoldsTable view backing new offset table
+  holds_still old new p q offset table sound goes holds held =
+      let h = old.file.header.fields in
+      let i = l1_index_of h offset in
+      let on_storage = contents_in view new.file in
+      let known = known_in view new.file in
+      let moved : l1_entry h on_storage (l1_index_of h offset) ≡ l1_entry h (contents_in view old.file) (l1_index_of h offset) =
+      goes.copied (l1_index_of h offset) ((λ none. holds.entry.real (ap host_offset (sym (sound.file.caches.kept.kept.guarded.same_top.l1 (l1_index_of h offset))) ∙ none)), holds.copied) in
+      let top : l1_entry h on_storage (l1_index_of h offset) ≡ l1_entry h known (l1_index_of h offset) =
+      l1_shared h new.file.header.fields goes.header on_storage known (l1_index_of h offset) (goes.sound.file.caches.kept.kept.guarded.same_top.l1 (l1_index_of h offset)) in
+      let there : table_at h known (l1_index_of h offset) ≡ table_at h (known_in view old.file) (l1_index_of h offset) =
+      ap host_offset (sym top ∙ moved ∙ sound.file.caches.kept.kept.guarded.same_top.l1 (l1_index_of h offset)) in
+      record {
+        entry = subst (λ (x : HeaderFields). IsEntryAt new.file.header.fields known (l1_index_of x offset) table (l2_index_of x offset)) (sym goes.header)
+            (entry_at_format h new.file.header.fields goes.header known on_storage (l1_index_of h offset) table (l2_index_of h offset)
+            (record { real = λ none. holds.entry.real (sym there ∙ none); place = there ∙ holds.entry.place; within = holds.entry.within }));
+        copied = subst (λ (x : HeaderFields). is_copied (l1_entry new.file.header.fields on_storage (l1_index_of x offset)) ≡ true) (sym goes.header) (ap is_copied (l1_format h new.file.header.fields goes.header on_storage (l1_index_of h offset) ∙ moved) ∙ holds.copied);
+        held = held;
+      }
+
+  -- a refusal that changed nothing
+  pub back_none : (old : Qcow2 S F) (p : Pending) → ImageInvariant view backing p old out → (e : ImageError) → RefusedFillingStep view backing p old old out e
+  back_none old p sound e = inl (subst (λ q. UnseenFillingStep view backing p q old old out) (sym (following_same view backing out p old old refl)) (goes_none view backing out old p sound))
+
+  -- ---- in place
+  pub readied_in_place : (old new : Qcow2 S F) (k offset n table host : ℕ) (overwrite : Bool) → slice_get out k ≡ Some None → ImageInvariant view backing (pending_in view backing old out) old out → HoldsTable view backing old offset table
+      → l2_pins old.file.caches table ≡ 0 → cover old.file.header.fields (known_in view old.file) (offset / cluster_size old.file.header.fields) ≡ Data host true → Pins table old new
+      → IsReadied view backing old new out k offset n overwrite (mapping_at old.file.header.fields (number_of old) table offset host None)
+  readied_in_place old new k offset n table host overwrite free sound holds unpinned is pins =
+      let p = mapping_at old.file.header.fields (number_of old) table offset host None in
+      let q = pending_in view backing old out in
+      let goes = goes_none view backing out old q sound in
+      let begin : begin_of old.file.header.fields (mapping_at old.file.header.fields (number_of old) table offset host None) ≡ host = omega arith in
+      let stands : IsInPlace old.file.header.fields (known_in view old.file) (contents_in view old.file) (mapping_at old.file.header.fields (number_of old) table offset host None) =
+      record { begins = omega arith; entry = is ∙ ap (λ b. Data b true) (sym begin) } in
+      let now : IsNowPending old out (mapping_at old.file.header.fields (number_of old) table offset host None) q q.surplus = record { held = λ c. omega arith; fresh = λ c. refl; spent = λ c. refl; dropped = λ c. refl; surplus = refl } in
+      let caches = new.file.caches in
+      let more = pins.pins holds.held unpinned in
+      subst (λ (image : Qcow2 S F). IsReadied view backing old image out k offset n overwrite (mapping_at old.file.header.fields (number_of old) table offset host None)) (sym pins.rest)
+      (readied view backing old old out k free q goes offset table host None holds unpinned stands new.file.caches pins.tables more now n overwrite
+      (prepared_by view backing old old out k free q goes offset table host None holds unpinned stands new.file.caches pins.tables more now n overwrite (λ o private. absurd (let e : false ≡ true = private in cc))))
+
+  -- ---- in a new cluster
+  module _ (old filled mid : Qcow2 S F) (n : NewCluster) (k offset length table host : ℕ) (overwrite : Bool) (free : slice_get out k ≡ Some None) (sound : ImageInvariant view backing (pending_in view backing old out) old out)
+      (holds : HoldsTable view backing old offset table) (unpinned : l2_pins old.file.caches table ≡ 0) (uncovered : cover old.file.header.fields (known_in view old.file) (offset / cluster_size old.file.header.fields) ≡ Uncovered)
+      (gained : IsGained view backing (pending_in view backing old out) old filled out offset length overwrite n.pending) (nameable : IsHostCluster old.file.header.fields.cluster_bits n.pending.first_cluster)
+      (keeps : UnseenStep view backing (with_held (pending_then (pending_in view backing old out) old filled) (run_of n.pending)) (with_held (pending_then (pending_in view backing old out) old filled) (run_of n.pending)) filled mid out)
+      (list : mid.file.free_list ≡ filled.file.free_list) (found : IsSome (l2_at mid.file.caches table)) (host_is : host ≡ n.pending.first_cluster * cluster_size mid.file.header.fields)
+      (index_is : n.index ≡ l2_index_of mid.file.header.fields offset) (same : SameHeld view backing (with_held (pending_then (pending_in view backing old out) old filled) (run_of n.pending)) filled mid) where
+    abbrev before : Pending
+    before = pending_in view backing old out
+
+    abbrev q : Pending
+    q = with_held (pending_then before old filled) (run_of n.pending)
+
+    all_held : HoldsAll view backing before out
+    all_held c = omega arith
+
+    pub goes_on : UnseenFillingStep view backing before q old mid out
+    goes_on = goes_then view backing out old filled mid before q q gained.goes
+        (goes_kept view backing out filled mid q q gained.goes.sound (still_holds view backing out old filled before n.pending gained.one all_held gained.goes) (still_holds view backing out old filled before n.pending gained.one all_held gained.goes) keeps)
+
+    abbrev hm : HeaderFields
+    hm = mid.file.header.fields
+
+    abbrev p : Prepared
+    p = mapping_at hm (number_of mid) table offset host (Some n)
+
+    holds_now : HoldsTable view backing mid offset table
+    holds_now = holds_still old mid before q offset table sound goes_on holds found
+
+    unpinned_now : l2_pins mid.file.caches table ≡ 0
+    unpinned_now = goes_on.sound.pinned table ∙ sym (sound.pinned table) ∙ unpinned
+
+    stands : IsNewFor hm (known_in view mid.file) (contents_in view mid.file) p n
+    stands = record {
+      begins = ap (λ x. x + offset % cluster_size hm) (sym host_is);
+      one = gained.one;
+      kind = gained.kind;
+      nameable = subst (λ (x : HeaderFields). IsHostCluster x.cluster_bits n.pending.first_cluster) (sym goes_on.header) nameable;
+      index = index_is;
+      entry = ap (λ size. cover hm (known_in view mid.file) (offset / size)) (size_format old.file.header.fields hm goes_on.header) ∙ cover_format old.file.header.fields hm goes_on.header (known_in view mid.file) (offset / cluster_size old.file.header.fields)
+          ∙ sym (goes_on.covers (offset / cluster_size old.file.header.fields)) ∙ uncovered;
+    }
+
+    now : IsNowPending mid out p q before.surplus
+    now = record {
+      held = λ c. refl;
+      fresh = λ c. refl;
+      spent = λ c. let same = ap (λ l. to_free of_tables l c) list in let more = ap (λ l. to_free of_tables l c) gained.goes.list.is ∙ free_more of_tables old.file.free_list gained.goes.list.more c in omega arith;
+      dropped = λ c. let same = ap (λ l. to_free of_data l c) list in let more = ap (λ l. to_free of_data l c) gained.goes.list.is ∙ free_more of_data old.file.free_list gained.goes.list.more c in omega arith;
+      surplus = refl;
+    }
+
+    -- its bytes are those that the guest saw
+    module _ (new : Qcow2 S F) (pins : Pins table mid new) where
+      abbrev pinned : Qcow2 S F
+      pinned = record mid { file = record mid.file { caches = new.file.caches } }
+
+      byte_of : (size : ℕ) → size ≡ cluster_size old.file.header.fields → (o : ℕ) → o / size ≡ offset / size → (overwrite && is_within offset (min length (size - offset % size)) o ≡ false)
+          → known_byte (contents_in view filled.file (n.pending.first_cluster * size + o % size)) ≡ (guest_of (abstract_of view backing old out)).disk.value o
+      byte_of size is o here opened =
+          let h = old.file.header.fields in
+          let open_there : is_announced (cluster_size h) offset length overwrite (o % cluster_size h) ≡ false =
+          subst (λ x. is_announced x offset length overwrite (o % x) ≡ false) is (ap (λ b. overwrite && b) (sym (within_cluster size offset (min length (size - offset % size)) o here)) ∙ opened) in
+          let same_guest : o / cluster_size h ≡ offset / cluster_size h = subst (λ x. o / x ≡ offset / x) is here in
+          let o_is : o / cluster_size h * cluster_size h + o % cluster_size h ≡ o = div-add-mod' o (cluster_size h) in
+          let offset_is : offset / cluster_size h * cluster_size h + offset % cluster_size h ≡ offset = div-add-mod' offset (cluster_size h) in
+          let product : o / cluster_size h * cluster_size h ≡ offset / cluster_size h * cluster_size h = ap (λ c. c * cluster_size h) same_guest in
+          let place : offset - offset % cluster_size h + o % cluster_size h ≡ o = omega arith in
+          let below = backing_bytes view backing old.backing in
+          ap (λ x. known_byte (contents_in view filled.file (n.pending.first_cluster * x + o % x))) is
+          ∙ ap known_byte (gained.filled (o % cluster_size h) (mod_below o (cluster_size h) (pow_pos h.cluster_bits)) open_there ∙ ap (backing_bytes view backing old.backing) place)
+          ∙ sym (shown_uncovered (state_in view old.file before) sound.file.caches.kept.kept.guarded (backing_bytes view backing old.backing) o (ap (cover h (known_in view old.file)) same_guest ∙ uncovered))
+
+      held_place : (o : ℕ) → 0 < q.held ((n.pending.first_cluster * cluster_size hm + o % cluster_size hm) / cluster_size filled.file.header.fields)
+      held_place o =
+          let size : cluster_size filled.file.header.fields ≡ cluster_size hm = size_format old.file.header.fields filled.file.header.fields gained.goes.header ∙ sym (size_format old.file.header.fields hm goes_on.header) in
+          let there = div-mul-add n.pending.first_cluster (cluster_size hm) (o % cluster_size hm) (mod_below o (cluster_size hm) (pow_pos hm.cluster_bits)) in
+          subst (λ c. 0 < q.held c) (sym (ap (λ x. (n.pending.first_cluster * cluster_size hm + o % cluster_size hm) / x) size ∙ there)) (taken_held view backing out old filled before n.pending gained.one all_held gained.goes)
+
+      old_values : (o : ℕ) → IsTrue (is_private view backing pinned p o) → (overwrite && is_within offset (min length (cluster_size hm - offset % cluster_size hm)) o ≡ false) → (meaning view backing pinned p).shown o ≡ (guest_of (abstract_of view backing old out)).disk.value o
+      old_values o private opened =
+          let more = pins.pins found unpinned_now in
+          let here = private_inside view backing old mid out k free q goes_on offset table host (Some n) holds_now unpinned_now stands new.file.caches pins.tables more now o private in
+          let begin : begin_of hm p + o % cluster_size hm ≡ n.pending.first_cluster * cluster_size hm + o % cluster_size hm = omega (arith, host_is) in
+          ap known_byte (cond-true _ _ _ private ∙ ap (contents_in view mid.file) begin ∙ same (n.pending.first_cluster * cluster_size hm + o % cluster_size hm) (held_place o))
+          ∙ byte_of (cluster_size hm) (ap (λ (x : HeaderFields). cluster_size x) goes_on.header) o here opened
+
+      pub readied_new : IsReadied view backing old new out k offset length overwrite p
+      readied_new =
+          let more = pins.pins found unpinned_now in
+          subst (λ (image : Qcow2 S F). IsReadied view backing old image out k offset length overwrite p) (sym pins.rest)
+          (readied view backing old mid out k free q goes_on offset table host (Some n) holds_now unpinned_now stands new.file.caches pins.tables more now length overwrite
+          (prepared_by view backing old mid out k free q goes_on offset table host (Some n) holds_now unpinned_now stands new.file.caches pins.tables more now length overwrite old_values))

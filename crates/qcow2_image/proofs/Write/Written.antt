@@ -1,0 +1,146 @@
+-- Bytes are written where no table stands: in place over data, or to the private cluster of a prepared mapping.
+use Rattle.std.proofs.Common.{◌≡◌, ◌⊎◌, inl, inr, ℕ, ◌+◌, ◌-◌, ◌/◌, ◌<◌, List, length, [], refl, sym, ap, ◌∙◌, subst, arith}
+use Rattle.std.specs.Prelude.{Option, Some, None, IfSome}
+use Rattle.std.proofs.lemmas.Bool.{cases_lt}
+use Rattle.image_access.specs.Backing.{BackingView}
+use Rattle.image_access.specs.Contents.{overwritten}
+use Rattle.image_access.specs.Moments.{StorageView, Passing}
+use Rattle.image_access.proofs.Bytes.{byte_at-overwritten}
+use Rattle.image_access.proofs.Passing.{passes_if}
+use Rattle.qcow2_metadata.specs.Bytes.{Bytes, byte_at}
+use Rattle.qcow2_metadata.specs.declared.header.HeaderFields.{HeaderFields}
+use Rattle.qcow2_metadata.specs.Header.{cluster_size}
+use Rattle.qcow2_metadata.specs.Named.{named_for_tables}
+use Rattle.qcow2_laws.specs.CrashInvariant.{Pending, SameIn, SameCovers}
+use Rattle.qcow2_laws.specs.SafeSteps.{SafeThroughout, SafeStep}
+use Rattle.qcow2_laws.specs.Stops.{GivenBytes, StopOkEverywhere, checkpoint_with}
+use Rattle.qcow2_metadata.specs.Entries.{l1_entry}
+use Rattle.qcow2_laws.specs.Tops.{IsSameBut, WritesAt}
+use Rattle.qcow2_laws.proofs.Beside.{overwritten_but}
+use Rattle.qcow2_laws.proofs.Caches.{unnamed_free_l2, unnamed_free_rb}
+use Rattle.qcow2_laws.proofs.KeptSteps.{known_beside, still_agree}
+use Rattle.qcow2_alloc.specs.declared.allocation.Allocator.{Allocator}
+use Rattle.qcow2_alloc.specs.declared.image_storage.ImageStorage.{ImageStorage}
+use Rattle.qcow2_alloc.specs.ImageStorage.{storage_of}
+use Rattle.qcow2_alloc.specs.MetadataCaches.{order_of, l2_tables, refblocks}
+use Rattle.qcow2_alloc.specs.ImageFile.{state_in, view_in, contents_in, known_in, HasReftable}
+use Rattle.qcow2_alloc.proofs.KeptTables.Beside.{top_beside, settled_beside_write, sound_beside}
+use Rattle.qcow2_image.specs.declared.image.Qcow2.{Qcow2}
+use Rattle.qcow2_image.specs.declared.prepared.Prepared.{Prepared}
+use Rattle.qcow2_image.specs.ImageInvariant.{cluster_of, pending_in, ImageInvariant}
+use Rattle.qcow2_image.proofs.Ready.{still_ready}
+use Rattle.qcow2_image.proofs.Call.Stepped.{Steps}
+
+module _ {S F : Type 0} {p : Pending} (view : S → StorageView) (backing : F → BackingView) (old : Qcow2 S F) (out : List (Option Prepared)) (sound : ImageInvariant view backing p old out)
+    (storage : ImageStorage S) (host : ℕ) (bytes : List ℕ) (is : (view (storage_of storage)).contents ≡ overwritten (view_in view old.file).contents host bytes) where
+  abbrev pub written : Qcow2 S F
+  written = record old { file = record old.file { storage = storage } }
+
+  abbrev h : HeaderFields
+  h = old.file.header.fields
+
+  pub but : IsSameBut host (length bytes) (contents_in view old.file) (contents_in view written.file)
+  but = subst (λ c. IsSameBut host (length bytes) (contents_in view old.file) (byte_at c)) (sym is) (overwritten_but (view_in view old.file).contents host bytes)
+
+  pub there : (i : ℕ) → i < length bytes → contents_in view written.file (host + i) ≡ byte_at bytes i
+  there i lt = ap (λ c. byte_at c (host + i)) is ∙ byte_at-overwritten (view_in view old.file).contents host bytes i lt
+
+  -- no table stands where a byte is written
+  module _ (free : (i : ℕ) → i < length bytes → named_for_tables h (contents_in view old.file) ((host + i) / cluster_size h) ≡ 0) where
+    free_at : (o : ℕ) → (contents_in view old.file o ≡ contents_in view written.file o) ⊎ (named_for_tables h (contents_in view old.file) (o / cluster_size h) ≡ 0)
+    free_at o = elim (cases_lt o host) [
+      | inl below ↦ inl (but o (inl below))
+      | inr above ↦ elim (cases_lt o (host + length bytes)) [
+        | inr past ↦ inl (but o (inr past))
+        | inl inside ↦
+            let e : host + (o - host) ≡ o = omega arith in
+            inr (ap (λ k. named_for_tables h (contents_in view old.file) (k / cluster_size h)) (sym e) ∙ free (o - host) (omega arith))
+      ]
+    ]
+
+    tables_stay : (c : ℕ) → SameIn (cluster_size h) c (contents_in view old.file) (contents_in view written.file) ⊎ (named_for_tables h (contents_in view old.file) c ≡ 0)
+    tables_stay c = elim (cases_lt 0 (named_for_tables h (contents_in view old.file) c)) [
+      | inr none ↦ inr (omega arith)
+      | inl some ↦ inl (λ o in_c. elim (free_at o) [
+        | inl same ↦ same
+        | inr none ↦ absurd (let here = ap (named_for_tables h (contents_in view old.file)) in_c in omega arith)
+      ])
+    ]
+
+    pub writes : WritesAt host (length bytes) (contents_in view old.file) (known_in view old.file) (contents_in view written.file) (known_in view written.file)
+    writes = record {
+      others = but;
+      known_others = λ o outside. known_beside (cluster_size h) (l2_tables old.file.caches) (refblocks old.file.caches) (contents_in view old.file) (contents_in view written.file) o (but o outside);
+      agree = still_agree (cluster_size h) (l2_tables old.file.caches) (refblocks old.file.caches) (contents_in view old.file) (contents_in view written.file) (λ o. elim (free_at o) [
+        | inl same ↦ inl same
+        | inr none ↦ inr (
+          unnamed_free_l2 h (order_of old.file.caches) p (l2_tables old.file.caches) (refblocks old.file.caches) (contents_in view old.file) sound.file.caches.kept.kept (o / cluster_size h) none o refl,
+          unnamed_free_rb h (order_of old.file.caches) p (l2_tables old.file.caches) (refblocks old.file.caches) (contents_in view old.file) sound.file.caches.kept.kept sound.file.settled
+              (o / cluster_size h) none o refl,
+        )
+      ]);
+    }
+
+    -- a step that keeps what stands for each guest cluster
+    module _ (given : Bytes → List GivenBytes) (honest : (view (storage_of storage)).is_honest) (time : Passing (view_in view old.file) (view (storage_of storage)) (λ c. c ≡ (view (storage_of storage)).contents))
+        (leads : SafeStep (state_in view old.file p) (state_in view written.file p) given [])
+        (covers : SameCovers h (known_in view old.file) (known_in view written.file)) where
+      reftable_written : (a : Option Allocator) → IfSome a (λ x. HasReftable view old.file x.reftable) → IfSome a (λ x. HasReftable view written.file x.reftable)
+      reftable_written None has = tt
+      reftable_written (Some a) has = record {
+        cluster = has.cluster;
+        bits = has.bits;
+        count = has.count;
+        entries = λ k. has.entries k
+            ∙ (top_beside h p p old.file.caches (contents_in view old.file) (contents_in view written.file) sound.file.caches sound.file.settled tables_stay).reftable k;
+      }
+
+      pub sound_written : ImageInvariant view backing p written out
+      sound_written =
+          let top = top_beside h p p old.file.caches (contents_in view old.file) (contents_in view written.file) sound.file.caches sound.file.settled tables_stay in
+          record {
+            works = sound.works;
+            file = record {
+              honest = honest;
+              caches = sound_beside h p p old.file.caches (contents_in view old.file) (contents_in view written.file) sound.file.caches sound.file.settled tables_stay leads.sound;
+              settled = settled_beside_write h p p old.file.caches (contents_in view old.file) (contents_in view written.file) sound.file.caches sound.file.settled tables_stay;
+              room = sound.file.room;
+            };
+            l1_table = record { cluster = sound.l1_table.cluster; bits = sound.l1_table.bits; count = sound.l1_table.count; entries = λ i. sound.l1_table.entries i ∙ top.l1 i };
+            reftable = reftable_written old.allocator sound.reftable;
+            below = sound.below;
+            ready = λ k q at. let r = sound.ready k q at in record {
+              own = r.own;
+              mapped = still_ready h (known_in view old.file) (contents_in view old.file) (known_in view written.file) (contents_in view written.file) q (covers (cluster_of h q))
+                  sound.file.caches.kept.kept.guarded.same_top.l1 leads.sound.same_top.l1 (λ i copied. sym (top.l1 i)) q.table r.mapped;
+            };
+            pinned = sound.pinned;
+            once = sound.once;
+          }
+
+      pub since_written : SafeThroughout (view_in view old.file) (view_in view written.file) (known_in view old.file) given []
+      since_written = record {
+        moments = passes_if _ (λ c now b m ok known_ok. subst (λ l. StopOkEverywhere b (checkpoint_with (given b) [] m) (byte_at l)) (sym now) (leads.on_storage b m ok known_ok)) time;
+        contents = λ b m ok known_ok. leads.on_storage b m ok known_ok;
+      }
+
+      pub same_l1_written : (i : ℕ) → l1_entry h (contents_in view written.file) i ≡ l1_entry h (contents_in view old.file) i
+      same_l1_written i = sym ((top_beside h p p old.file.caches (contents_in view old.file) (contents_in view written.file) sound.file.caches sound.file.settled tables_stay).l1 i)
+
+-- so where nothing but what mappings hold and what is to be freed is pending
+pub steps_written : {S F : Type 0} (view : S → StorageView) (backing : F → BackingView) (old : Qcow2 S F) (out : List (Option Prepared)) (sound : ImageInvariant view backing (pending_in view backing old out) old out)
+    (storage : ImageStorage S) (host : ℕ) (bytes : List ℕ) (is : (view (storage_of storage)).contents ≡ overwritten (view_in view old.file).contents host bytes)
+    (free : (i : ℕ) → i < length bytes → named_for_tables old.file.header.fields (contents_in view old.file) ((host + i) / cluster_size old.file.header.fields) ≡ 0)
+    (given : Bytes → List GivenBytes) (honest : (view (storage_of storage)).is_honest) (time : Passing (view_in view old.file) (view (storage_of storage)) (λ c. c ≡ (view (storage_of storage)).contents))
+    (leads : SafeStep (state_in view old.file (pending_in view backing old out)) (state_in view (written view backing old out sound storage host bytes is).file (pending_in view backing old out)) given [])
+    (covers : SameCovers old.file.header.fields (known_in view old.file) (known_in view (written view backing old out sound storage host bytes is).file))
+    → Steps view backing old (written view backing old out sound storage host bytes is) out out given (pending_in view backing old out)
+steps_written view backing old out sound storage host bytes is free given honest time leads covers = record {
+  sound = sound_written view backing old out sound storage host bytes is free given honest time leads covers;
+  only = record { held = λ k. refl; fresh = λ k. refl; spent = λ k. refl; dropped = λ k. refl };
+  leads = leads;
+  since = since_written view backing old out sound storage host bytes is free given honest time leads covers;
+  header = refl;
+  below = refl;
+  surplus = refl;
+}

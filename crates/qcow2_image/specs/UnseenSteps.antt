@@ -1,0 +1,186 @@
+-- What the parts of a call do to a sound image.
+use Rattle.qcow2_metadata.specs.Bytes.{is_within}
+use Rattle.std.specs.Prelude.{ℕ, ◌+◌, ◌-◌, ◌*◌, ◌%◌, ◌&&◌, min, Bool, false, ◌/◌, ◌<◌, ◌≤◌, ◌≡◌, ◌⊎◌, ◌++◌, true, List, [], ◌∷◌, Option, Some, None, IsSome, Result, Ok, Err, ◌≢◌}
+use Rattle.image_access.specs.Backing.{BackingView}
+use Rattle.image_access.specs.Moments.{StorageView}
+use Rattle.qcow2_metadata.specs.Entries.{l1_entry, host_offset, is_copied}
+use Rattle.qcow2_laws.specs.CrashInvariant.{Pending}
+use Rattle.qcow2_laws.specs.SafeSteps.{DriverState, SafeStep, SafeThroughout}
+use Rattle.qcow2_laws.specs.Unseen.{KeepsFormat, IsUnseen}
+use Rattle.qcow2_alloc.specs.declared.clusters_to_free.ClustersToFreeEntry.{ClustersToFreeEntry}
+use Rattle.qcow2_alloc.specs.declared.error.ImageError.{ImageError}
+use Rattle.qcow2_alloc.specs.declared.image_file.ImageFile.{ImageFile}
+use Rattle.qcow2_alloc.specs.ImageFile.{view_in, contents_in, known_in, state_in, nothing_given, InterruptedFileStep}
+use Rattle.qcow2_image.specs.Found.{l1_index_of, l2_index_of}
+use Rattle.qcow2_image.specs.declared.image.Qcow2.{Qcow2}
+use Rattle.qcow2_image.specs.declared.prepared.Prepared.{Prepared}
+use Rattle.qcow2_alloc.specs.CacheMarks.{l2_pins, KeepsMarks, SameTables}
+use Rattle.qcow2_alloc.specs.FreeList.{with_listed, pending_then as since_listed}
+use Rattle.qcow2_alloc.specs.MetadataCaches.{order_of, l2_at, IsEntryAt, MapsEntry, NotesEntry}
+use Rattle.qcow2_image.specs.declared.prepared.NewCluster.{NewCluster}
+use Rattle.qcow2_laws.specs.CrashInvariant.{SameCovers}
+use Rattle.qcow2_laws.specs.AbstractImages.{guest_of}
+use Rattle.qcow2_metadata.specs.Header.{cluster_size}
+use Rattle.qcow2_laws.specs.Changes.{with_held}
+use Rattle.qcow2_alloc.specs.declared.clusters_to_free.ClusterKind.TheVariants as Kind
+use Rattle.qcow2_image.specs.ImageInvariant.{run_of, held_by, over_all, pins_of, backing_bytes, below_of, abstract_of, ImageInvariant}
+
+-- an L1 entry names a table and is marked copied
+abbrev pub NamesOwn : ℕ → Type 0
+NamesOwn entry = (host_offset entry ≢ 0) × (is_copied entry ≡ true)
+
+-- an L2 table that is marked copied stays where it is
+abbrev pub KeepsCopied : DriverState → DriverState → Type 0
+KeepsCopied old new = (i : ℕ) → NamesOwn (l1_entry old.header old.on_storage i) → l1_entry old.header new.on_storage i ≡ l1_entry old.header old.on_storage i
+
+-- a byte of the cluster of an offset is announced as overwritten
+abbrev pub is_announced : ℕ → ℕ → ℕ → Bool → ℕ → Bool
+is_announced size offset length overwrite i = overwrite && is_within (offset % size) (min length (size - offset % size)) i
+
+-- so many bytes stand in a file from a place on
+abbrev pub AreThere : {S : Type 0} → (S → StorageView) → ImageFile S → ℕ → ℕ → (ℕ → ℕ) → Type 0
+AreThere view file at n values = (i : ℕ) → i < n → contents_in view file (at + i) ≡ values i
+
+-- what becomes of the cluster of a mapping that is dropped
+abbrev pub freed_by : Option NewCluster → List ClustersToFreeEntry
+freed_by None = []
+freed_by (Some n) = n.pending ∷ []
+
+module _ {S F : Type 0} where
+  -- clusters are put on the list of those to be freed, and nothing else changes
+  abbrev pub FreesLater : List ClustersToFreeEntry → Qcow2 S F → Qcow2 S F → Type 0
+  FreesLater more old new = new ≡ record old { file = record old.file { free_list = old.file.free_list ++ more } }
+
+  -- an entry of a cached table, where one is named, is made copied data at a host cluster, and nothing else changes
+  pub record EntersCluster (table : Option ℕ) (index host : ℕ) (old new : Qcow2 S F) : Type 0 where
+    pub rest : new ≡ record old { file = record old.file { caches = new.file.caches } }
+    pub order : order_of new.file.caches ≡ order_of old.file.caches
+    pub marks : KeepsMarks old.file.caches new.file.caches
+    pub entered : (t : ℕ) → table ≡ Some t → (answer : Option (ℕ × ℕ)) × MapsEntry old.file.caches new.file.caches t index host answer
+    pub noted : (t : ℕ) → table ≡ Some t → NotesEntry old.file.caches new.file.caches t index host
+
+  -- so is that of a new cluster, where there is one
+  abbrev pub EntersNew : Option ℕ → Option NewCluster → Qcow2 S F → Qcow2 S F → Type 0
+  EntersNew table None old new = new ≡ old
+  EntersNew table (Some n) old new = EntersCluster table n.index n.pending.first_cluster old new
+
+  -- an L2 table has one pin less, where one is named, and nothing else changes
+  pub record Unpins (table : Option ℕ) (old new : Qcow2 S F) : Type 0 where
+    pub rest : new ≡ record old { file = record old.file { caches = new.file.caches } }
+    pub tables : SameTables old.file.caches new.file.caches
+    pub pins : (c : ℕ) → l2_pins new.file.caches c ≡ l2_pins old.file.caches c - pins_of table c
+    pub changed : new.file.caches.is_changed ≡ old.file.caches.is_changed
+
+  -- an L2 table that is held has one pin more, and nothing else changes
+  pub record Pins (table : ℕ) (old new : Qcow2 S F) : Type 0 where
+    pub rest : new ≡ record old { file = record old.file { caches = new.file.caches } }
+    pub tables : SameTables old.file.caches new.file.caches
+    pub pins : IsSome (l2_at old.file.caches table) → l2_pins old.file.caches table ≡ 0 → (c : ℕ) → l2_pins new.file.caches c ≡ l2_pins old.file.caches c + pins_of (Some table) c
+
+  -- more clusters are to be freed than before
+  pub record ListGrows (old new : Qcow2 S F) : Type 0 where
+    pub more : List ClustersToFreeEntry
+    pub is : new.file.free_list ≡ old.file.free_list ++ more
+
+  -- what is pending, with those
+  abbrev pub pending_then : Pending → Qcow2 S F → Qcow2 S F → Pending
+  pending_then p old new = since_listed p old.file.free_list new.file.free_list
+
+  module _ (view : S → StorageView) (backing : F → BackingView) where
+    -- Nothing changes that a guest sees, and all is sound again, from what was pending to what is. At each moment what was kept is kept.
+    pub record UnseenStep (p p' : Pending) (old new : Qcow2 S F) (out : List (Option Prepared)) : Type 0 where
+      pub sound : ImageInvariant view backing p' new out
+      pub leads : SafeStep (state_in view old.file p) (state_in view new.file p') nothing_given []
+      pub since : SafeThroughout (view_in view old.file) (view_in view new.file) (known_in view old.file) nothing_given []
+      pub unseen : IsUnseen (state_in view old.file p) (state_in view new.file p')
+      pub copied : KeepsCopied (state_in view old.file p) (state_in view new.file p')
+      pub below : below_of view backing new.backing ≡ below_of view backing old.backing
+      pub list : ListGrows old new
+
+    -- The same, whatever becomes of the list of clusters that are to be freed.
+    pub record UnseenFreeingStep (p p' : Pending) (old new : Qcow2 S F) (out : List (Option Prepared)) : Type 0 where
+      pub sound : ImageInvariant view backing p' new out
+      pub leads : SafeStep (state_in view old.file p) (state_in view new.file p') nothing_given []
+      pub since : SafeThroughout (view_in view old.file) (view_in view new.file) (known_in view old.file) nothing_given []
+      pub unseen : IsUnseen (state_in view old.file p) (state_in view new.file p')
+      pub copied : KeepsCopied (state_in view old.file p) (state_in view new.file p')
+      pub below : below_of view backing new.backing ≡ below_of view backing old.backing
+
+    -- a part of a call that was refused: all is sound as before but for what is to be freed; or it broke off
+    abbrev pub RefusedStep : Pending → Qcow2 S F → Qcow2 S F → List (Option Prepared) → ImageError → Type 0
+    RefusedStep p old new out e = UnseenStep p (pending_then p old new) old new out ⊎ InterruptedFileStep view old.file new.file e
+
+    -- the L2 table of an offset is held in this cluster, and named by an L1 entry that is marked copied
+    pub record HoldsTable (image : Qcow2 S F) (offset table : ℕ) : Type 0 where
+      pub entry : IsEntryAt image.file.header.fields (known_in view image.file) (l1_index_of image.file.header.fields offset) table (l2_index_of image.file.header.fields offset)
+      pub copied : is_copied (l1_entry image.file.header.fields (contents_in view image.file) (l1_index_of image.file.header.fields offset)) ≡ true
+      pub held : IsSome (l2_at image.file.caches table)
+
+    -- a part of a call that sees to it: no guest sees it
+    abbrev pub Ensures : Pending → Qcow2 S F → Qcow2 S F → List (Option Prepared) → ℕ → Result ℕ ImageError → Type 0
+    Ensures p old new out offset (Ok table) = UnseenStep p (pending_then p old new) old new out × HoldsTable new offset table
+    Ensures p old new out offset (Err e) = RefusedStep p old new out e
+
+    -- A part that the guest doesn't see, who may see clusters written that none of these mappings has. All is sound again, from what was pending to what is.
+    pub record UnseenFillingStep (p p' : Pending) (old new : Qcow2 S F) (out : List (Option Prepared)) : Type 0 where
+      pub sound : ImageInvariant view backing p' new out
+      pub leads : SafeStep (state_in view old.file p) (state_in view new.file p') nothing_given []
+      pub since : SafeThroughout (view_in view old.file) (view_in view new.file) (known_in view old.file) nothing_given []
+      pub header : KeepsFormat old.file.header.fields new.file.header.fields
+      pub covers : SameCovers old.file.header.fields (known_in view old.file) (known_in view new.file)
+      pub copied : KeepsCopied (state_in view old.file p) (state_in view new.file p')
+      pub below : below_of view backing new.backing ≡ below_of view backing old.backing
+      pub list : ListGrows old new
+      pub seen : guest_of (abstract_of view backing new out) ≡ guest_of (abstract_of view backing old out)
+
+    -- it broke off: the image keeps its header, but perhaps for where the reftable stands, and its backing disk, and at each moment what was kept is kept
+    pub record InterruptedStep (old new : Qcow2 S F) (e : ImageError) : Type 0 where
+      pub breaks : InterruptedFileStep view old.file new.file e
+      pub header : KeepsFormat old.file.header.fields new.file.header.fields
+      pub below : below_of view backing new.backing ≡ below_of view backing old.backing
+
+    -- Clusters that are listed are freed. What is listed afterwards is pending still; or it broke off.
+    abbrev pub FreesListed : Pending → Qcow2 S F → Qcow2 S F → List (Option Prepared) → Result (Unit {0}) ImageError → Type 0
+    FreesListed p old new out (Ok _) = UnseenFreeingStep (with_listed p old.file.free_list) (with_listed p new.file.free_list) old new out
+    FreesListed p old new out (Err e) = UnseenFreeingStep (with_listed p old.file.free_list) (with_listed p new.file.free_list) old new out ⊎ InterruptedStep old new e
+
+    -- so does a part that was refused, but for what is to be freed; or it broke off
+    abbrev pub RefusedFillingStep : Pending → Qcow2 S F → Qcow2 S F → List (Option Prepared) → ImageError → Type 0
+    RefusedFillingStep p old new out e = UnseenFillingStep p (pending_then p old new) old new out ⊎ InterruptedStep old new e
+
+    -- clusters that are held have the bytes that they had
+    abbrev pub SameHeld : Pending → Qcow2 S F → Qcow2 S F → Type 0
+    SameHeld p old new = (o : ℕ) → 0 < p.held (o / cluster_size old.file.header.fields) → contents_in view new.file o ≡ contents_in view old.file o
+
+    -- what mappings hold is pending
+    abbrev pub HoldsAll : Pending → List (Option Prepared) → Type 0
+    HoldsAll p out = (k : ℕ) → over_all held_by out k ≤ p.held k
+
+    -- a range of the file lies in a cluster that is held, and that no mapping has yet
+    pub record IsOwn (p : Pending) (image : Qcow2 S F) (out : List (Option Prepared)) (cluster at n : ℕ) : Type 0 where
+      pub held : 0 < p.held cluster
+      pub unused : over_all held_by out cluster ≡ 0
+      pub inside : (i : ℕ) → i < n → (at + i) / cluster_size image.file.header.fields ≡ cluster
+
+    -- A new cluster has what the disk below has for the guest cluster of an offset, but where it is announced as overwritten.
+    abbrev pub IsFilled : Qcow2 S F → Qcow2 S F → ℕ → ℕ → ℕ → Bool → Type 0
+    IsFilled old new cluster offset length overwrite =
+        let size = cluster_size old.file.header.fields in
+        (i : ℕ) → i < size → is_announced size offset length overwrite i ≡ false → contents_in view new.file (cluster * size + i) ≡ backing_bytes view backing old.backing (offset - offset % size + i)
+
+    -- a cluster is taken for data
+    abbrev pub TakesData : Pending → Qcow2 S F → Qcow2 S F → List (Option Prepared) → Result ClustersToFreeEntry ImageError → Type 0
+    TakesData p old new out (Ok n) = (n.count ≡ 1) × (n.kind ≡ Kind.Data) × UnseenFillingStep p (with_held (pending_then p old new) (run_of n)) old new out
+    TakesData p old new out (Err e) = RefusedFillingStep p old new out e
+
+    -- a new cluster that no mapping has yet
+    pub record IsGained (p : Pending) (old new : Qcow2 S F) (out : List (Option Prepared)) (offset length : ℕ) (overwrite : Bool) (n : ClustersToFreeEntry) : Type 0 where
+      pub one : n.count ≡ 1
+      pub kind : n.kind ≡ Kind.Data
+      pub unused : over_all held_by out n.first_cluster ≡ 0
+      pub goes : UnseenFillingStep p (with_held (pending_then p old new) (run_of n)) old new out
+      pub filled : IsFilled old new n.first_cluster offset length overwrite
+
+    abbrev pub Gains : Pending → Qcow2 S F → Qcow2 S F → List (Option Prepared) → ℕ → ℕ → Bool → Result ClustersToFreeEntry ImageError → Type 0
+    Gains p old new out offset length overwrite (Ok n) = IsGained p old new out offset length overwrite n
+    Gains p old new out offset length overwrite (Err e) = RefusedFillingStep p old new out e

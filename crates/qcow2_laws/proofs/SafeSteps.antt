@@ -1,0 +1,124 @@
+-- Steps one after another, and the moments of a storage on the way.
+use Rattle.std.proofs.Common.{◌≡◌, ◌⊎◌, inl, inr, ⊎_elim, ℕ, List, [], ◌++◌, Result, sym, ◌∙◌, subst, append_assoc}
+use Rattle.image_access.specs.declared.error.StorageError.{StorageError}
+use Rattle.image_access.specs.Moments.{StorageView, Calls, Changes}
+use Rattle.image_access.proofs.Passing.{whole_or_nothing, passes_none, passes_on, passes_if, passes_change}
+use Rattle.qcow2_metadata.specs.Bytes.{Bytes, byte_at}
+use Rattle.qcow2_metadata.specs.Guest.{Value}
+use Rattle.qcow2_laws.specs.Disk.{disk}
+use Rattle.qcow2_laws.specs.Stops.{GivenBytes, IsGiven, Checkpoint, checkpoint_with, StopOkEverywhere}
+use Rattle.qcow2_laws.specs.SafeSteps.{DriverState, StateInvariant, SafeStep, SafeThroughout}
+use Rattle.qcow2_laws.proofs.Stops.{given_more, given_front, given_split, kept_more}
+
+-- what two steps give and ask
+abbrev pub both_given : (Bytes → List GivenBytes) → (Bytes → List GivenBytes) → Bytes → List GivenBytes
+both_given first then backing = then backing ++ first backing
+
+pub more_twice : (gs hs : List GivenBytes) (ns ms : List ℕ) (m : Checkpoint) → checkpoint_with (hs ++ gs) (ms ++ ns) m ≡ checkpoint_with hs ms (checkpoint_with gs ns m)
+more_twice gs hs ns ms m =
+    let given : (hs ++ gs) ++ m.given ≡ hs ++ (gs ++ m.given) = append_assoc hs gs m.given in
+    let asked : (ms ++ ns) ++ m.asked ≡ ms ++ (ns ++ m.asked) = append_assoc ms ns m.asked in
+    λ i. record m { given = given i; asked = asked i }
+
+pub leads_none : (s : DriverState) → StateInvariant s → SafeStep s s (λ _. []) []
+leads_none s sound = record { sound = sound; on_storage = λ backing m ok known_ok. ok; known = λ backing m ok known_ok. known_ok }
+
+pub leads_then : (a b c : DriverState) (first then : Bytes → List GivenBytes) (asked asks : List ℕ) → SafeStep a b first asked → SafeStep b c then asks → SafeStep a c (both_given first then) (asks ++ asked)
+leads_then a b c first then asked asks one two = record {
+  sound = two.sound;
+  on_storage = λ backing m ok known_ok.
+      subst (λ k. StopOkEverywhere backing k c.on_storage) (sym (more_twice (first backing) (then backing) asked asks m))
+      (two.on_storage backing (checkpoint_with (first backing) asked m) (one.on_storage backing m ok known_ok) (one.known backing m ok known_ok));
+  known = λ backing m ok known_ok.
+      subst (λ k. StopOkEverywhere backing k c.known) (sym (more_twice (first backing) (then backing) asked asks m))
+      (two.known backing (checkpoint_with (first backing) asked m) (one.on_storage backing m ok known_ok) (one.known backing m ok known_ok));
+}
+
+-- ---- moments
+
+pub endures_none : (view : StorageView) (known : Bytes) → SafeThroughout view view known (λ _. []) []
+endures_none view known = record { moments = passes_none view _; contents = λ backing m ok known_ok. ok }
+
+-- one write of the storage, whatever it answers
+pub endures_write : {T : Type 0} {result : Result T StorageError} (old new : StorageView) (known : Bytes) (given : Bytes → List GivenBytes) (asked : List ℕ) (changed : List ℕ) → Calls old new result → Changes old new result changed → old.is_honest
+    → ((backing : Bytes) (m : Checkpoint) → StopOkEverywhere backing m (byte_at old.contents) → StopOkEverywhere backing m known → StopOkEverywhere backing (checkpoint_with (given backing) asked m) (byte_at changed))
+    → SafeThroughout old new known given asked
+endures_write {result = result} old new known given asked changed call changes honest step =
+    let P : List ℕ → Type 0 = λ c. (backing : Bytes) (m : Checkpoint) → StopOkEverywhere backing m (byte_at old.contents) → StopOkEverywhere backing m known → StopOkEverywhere backing (checkpoint_with (given backing) asked m) (byte_at c) in
+    let before : P old.contents = λ backing m ok known_ok. kept_more backing (given backing) asked m (byte_at old.contents) ok in
+    record {
+      moments = passes_change P changed (passes_none old P) call changes honest before step;
+      contents = ⊎_elim
+          (λ (e : new.contents ≡ old.contents). subst P (sym e) before)
+          (λ (e : new.contents ≡ changed). subst P (sym e) step)
+          (whole_or_nothing result old.contents changed new.contents (changes honest));
+    }
+
+-- one run of calls after another, from where a step led
+pub endures_then : (old mid new : StorageView) (known known' : Bytes) (first then : Bytes → List GivenBytes) (asked asks : List ℕ) → SafeThroughout old mid known first asked
+    → ((backing : Bytes) (m : Checkpoint) → StopOkEverywhere backing m (byte_at old.contents) → StopOkEverywhere backing m known → StopOkEverywhere backing (checkpoint_with (first backing) asked m) known')
+    → SafeThroughout mid new known' then asks → SafeThroughout old new known (both_given first then) (asks ++ asked)
+endures_then old mid new known known' first then asked asks one step two =
+    let P : List ℕ → Type 0 = λ c. (backing : Bytes) (m : Checkpoint) → StopOkEverywhere backing m (byte_at old.contents) → StopOkEverywhere backing m known → StopOkEverywhere backing (checkpoint_with (both_given first then backing) (asks ++ asked) m) (byte_at c) in
+    let join = λ (backing : Bytes) (m : Checkpoint). sym (more_twice (first backing) (then backing) asked asks m) in
+    record {
+      moments = passes_on P
+          (passes_if P (λ c (kept : (backing : Bytes) (m : Checkpoint) → StopOkEverywhere backing m (byte_at old.contents) → StopOkEverywhere backing m known → StopOkEverywhere backing (checkpoint_with (first backing) asked m) (byte_at c)).
+          λ backing m ok known_ok. subst (λ k. StopOkEverywhere backing k (byte_at c)) (join backing m) (kept_more backing (then backing) asks (checkpoint_with (first backing) asked m) (byte_at c) (kept backing m ok known_ok))) one.moments)
+          two.moments
+          (λ c kept backing m ok known_ok. subst (λ k. StopOkEverywhere backing k (byte_at c)) (join backing m)
+          (kept backing (checkpoint_with (first backing) asked m) (one.contents backing m ok known_ok) (step backing m ok known_ok)));
+      contents = λ backing m ok known_ok. subst (λ k. StopOkEverywhere backing k (byte_at new.contents)) (join backing m)
+          (two.contents backing (checkpoint_with (first backing) asked m) (one.contents backing m ok known_ok) (step backing m ok known_ok));
+    }
+
+-- one write of the storage that makes a step's change, whatever it answers
+pub step_endures : {T : Type 0} {result : Result T StorageError} (old new : StorageView) (s s' : DriverState) (given : Bytes → List GivenBytes) (asked : List ℕ) (changed : List ℕ) → Calls old new result → Changes old new result changed → old.is_honest
+    → s.on_storage ≡ byte_at old.contents → s'.on_storage ≡ byte_at changed → SafeStep s s' given asked → SafeThroughout old new s.known given asked
+step_endures {result = result} old new s s' given asked changed call changes honest is is' leads =
+    endures_write {result = result} old new s.known given asked changed call changes honest (λ backing m ok known_ok.
+    subst (λ (b : Bytes). StopOkEverywhere backing (checkpoint_with (given backing) asked m) b) is' (leads.on_storage backing m (subst (StopOkEverywhere backing m) (sym is) ok) known_ok))
+
+-- checkpoint_with calls after a step
+pub steps_endure : (old mid new : StorageView) (s s' : DriverState) (first then : Bytes → List GivenBytes) (asked asks : List ℕ) → s.on_storage ≡ byte_at old.contents
+    → SafeThroughout old mid s.known first asked → SafeStep s s' first asked → SafeThroughout mid new s'.known then asks → SafeThroughout old new s.known (both_given first then) (asks ++ asked)
+steps_endure old mid new s s' first then asked asks is one leads two =
+    endures_then old mid new s.known s'.known first then asked asks one (λ backing m ok known_ok. leads.known backing m (subst (StopOkEverywhere backing m) (sym is) ok) known_ok) two
+
+-- ---- what is given beside what is shown already
+
+kept_less : (backing : Bytes) (given fewer : List GivenBytes) (asked : List ℕ) (m : Checkpoint) (known b : Bytes) → ((o : ℕ) (v : Value) → IsGiven given o v → (v ≡ (disk known backing).value o) ⊎ IsGiven fewer o v)
+    → StopOkEverywhere backing m known → StopOkEverywhere backing (checkpoint_with given asked m) b → StopOkEverywhere backing (checkpoint_with fewer asked m) b
+kept_less backing given fewer asked m known b within known_kept kept = record {
+  consistent = kept.consistent;
+  size = kept.size;
+  values = λ o. ⊎_elim (λ same. inl same)
+      (λ any. ⊎_elim
+      (λ g. ⊎_elim
+      (λ (e : (disk b backing).value o ≡ (disk known backing).value o). ⊎_elim (λ (l : (disk known backing).value o ≡ m.last.value o). inl (e ∙ l))
+      (λ (q : IsGiven m.given o ((disk known backing).value o)). inr (given_more fewer m.given o _ (subst (λ v. IsGiven m.given o v) (sym e) q))) (known_kept.values o))
+      (λ (f : IsGiven fewer o ((disk b backing).value o)). inr (given_front fewer m.given o _ f))
+      (within o _ g))
+      (λ q. inr (given_more fewer m.given o _ q))
+      (given_split given m.given o _ any))
+      (kept.values o);
+}
+
+-- a step that gives only what is shown already, or is one of fewer gifts, gives those
+pub leads_less : (s s' : DriverState) (given fewer : Bytes → List GivenBytes) (asked : List ℕ) → ((backing : Bytes) (o : ℕ) (v : Value) → IsGiven (given backing) o v → (v ≡ (disk s.known backing).value o) ⊎ IsGiven (fewer backing) o v)
+    → SafeStep s s' given asked → SafeStep s s' fewer asked
+leads_less s s' given fewer asked within leads = record {
+  sound = leads.sound;
+  on_storage = λ backing m ok known_ok. kept_less backing (given backing) (fewer backing) asked m s.known s'.on_storage (within backing) known_ok (leads.on_storage backing m ok known_ok);
+  known = λ backing m ok known_ok. kept_less backing (given backing) (fewer backing) asked m s.known s'.known (within backing) known_ok (leads.known backing m ok known_ok);
+}
+
+pub endures_less : (old new : StorageView) (known : Bytes) (given fewer : Bytes → List GivenBytes) (asked : List ℕ) → ((backing : Bytes) (o : ℕ) (v : Value) → IsGiven (given backing) o v → (v ≡ (disk known backing).value o) ⊎ IsGiven (fewer backing) o v)
+    → SafeThroughout old new known given asked → SafeThroughout old new known fewer asked
+endures_less old new known given fewer asked within endures =
+    let P : List ℕ → Type 0 = λ c. (backing : Bytes) (m : Checkpoint) → StopOkEverywhere backing m (byte_at old.contents) → StopOkEverywhere backing m known → StopOkEverywhere backing (checkpoint_with (fewer backing) asked m) (byte_at c) in
+    record {
+      moments = passes_if P (λ c (kept : (backing : Bytes) (m : Checkpoint) → StopOkEverywhere backing m (byte_at old.contents) → StopOkEverywhere backing m known → StopOkEverywhere backing (checkpoint_with (given backing) asked m) (byte_at c)).
+          λ backing m ok known_ok. kept_less backing (given backing) (fewer backing) asked m known (byte_at c) (within backing) known_ok (kept backing m ok known_ok)) endures.moments;
+      contents = λ backing m ok known_ok. kept_less backing (given backing) (fewer backing) asked m known (byte_at new.contents) (within backing) known_ok (endures.contents backing m ok known_ok);
+    }

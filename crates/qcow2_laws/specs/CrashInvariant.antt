@@ -1,0 +1,105 @@
+-- What is kept at every write, so that a stop leaves a consistent image.
+use Rattle.std.specs.Prelude.{ℕ, ◌+◌, ◌/◌, ◌<◌, ◌≤◌, ◌≡◌, ◌⊎◌, max}
+use Rattle.qcow2_metadata.specs.Bytes.{Bytes, SameFrom}
+use Rattle.qcow2_metadata.specs.declared.header.HeaderFields.{HeaderFields}
+use Rattle.qcow2_metadata.specs.Header.{header, HeaderReads, cluster_size, reftable_entries}
+use Rattle.qcow2_metadata.specs.Entries.{l1_entry, reftable_entry, count, block_offset, L1EntryReads, ReftableEntryReads}
+use Rattle.qcow2_metadata.specs.Cover.{cover}
+use Rattle.qcow2_metadata.specs.Named.{named_for_tables}
+use Rattle.qcow2_metadata.specs.Consistent.{CoverIsAligned, IsAligned}
+use Rattle.qcow2_laws.specs.Clusters.{Direction, Neither, L2DependsOnRb, RbDependsOnL2, Cluster, Always, Ordered}
+use Rattle.qcow2_laws.specs.Guests.{over_guests, names, marks, named_in_either, table_at, marked_by_l1_table}
+
+-- header, L1 table and reftable read, and tables are aligned
+pub record IsTop (h : HeaderFields) (b : Bytes) : Type 0 where
+  pub header_is : header b ≡ h
+  pub header_reads : HeaderReads h b
+  pub l1_reads : (i : ℕ) → i < h.l1_entries → L1EntryReads (l1_entry h b i)
+  pub reftable_reads : (k : ℕ) → k < reftable_entries h → ReftableEntryReads (reftable_entry h b k)
+  pub no_snapshots : h.snapshots ≡ 0
+  pub no_data_file : h.incompatible ≡ 0
+  pub l1_aligned : IsAligned h h.l1_offset
+  pub reftable_aligned : IsAligned h h.reftable_offset
+  pub l2_tables_aligned : (i : ℕ) → i < h.l1_entries → IsAligned h (table_at h b i)
+  pub refblocks_aligned : (k : ℕ) → k < reftable_entries h → IsAligned h (block_offset (reftable_entry h b k))
+
+-- two images have the same header, L1 table and reftable
+pub record SameTop (h : HeaderFields) (b c : Bytes) : Type 0 where
+  pub first_cluster : SameFrom 0 (cluster_size h) b c
+  pub l1 : (i : ℕ) → l1_entry h b i ≡ l1_entry h c i
+  pub reftable : (k : ℕ) → reftable_entry h b k ≡ reftable_entry h c k
+
+-- the same stands for each guest cluster; each cluster is counted as often
+abbrev pub SameCovers : HeaderFields → Bytes → Bytes → Type 0
+SameCovers h b c = (g : ℕ) → cover h b g ≡ cover h c g
+
+abbrev pub SameCounts : HeaderFields → Bytes → Bytes → Type 0
+SameCounts h b c = (cluster : ℕ) → count h b cluster ≡ count h c cluster
+
+-- clusters that a call or the image holds and no table names, by kind, and how much more than all this each is counted
+pub record Pending : Type 0 where
+  pub held : ℕ → ℕ
+  pub fresh : ℕ → ℕ
+  pub spent : ℕ → ℕ
+  pub dropped : ℕ → ℕ
+  pub surplus : ℕ → ℕ
+
+-- on_storage is what is on the storage, known what is there with the modified tables laid over
+abbrev pub cluster : HeaderFields → Pending → Bytes → Bytes → ℕ → Cluster
+cluster h p on_storage known c = record {
+  fixed = named_for_tables h on_storage c;
+  sole = marked_by_l1_table h on_storage c;
+  in_storage = over_guests h (names h on_storage c);
+  in_known = over_guests h (names h known c);
+  in_either = named_in_either h on_storage known c;
+  marks_in_storage = over_guests h (marks h on_storage c);
+  marks_known = over_guests h (marks h known c);
+  marks_either = over_guests h (λ g. max (marks h on_storage c g) (marks h known c g));
+  storage_count = count h on_storage c;
+  known_count = count h known c;
+  held = p.held c;
+  fresh = p.fresh c;
+  spent = p.spent c;
+  dropped = p.dropped c;
+}
+
+pub record CrashInvariant (h : HeaderFields) (d : Direction) (p : Pending) (on_storage known : Bytes) : Type 0 where
+  pub top : IsTop h on_storage
+  pub same_top : SameTop h on_storage known
+  pub always : (c : ℕ) → Always (cluster h p on_storage known c) (p.surplus c)
+  pub ordered : (c : ℕ) → Ordered d (cluster h p on_storage known c)
+  pub aligned : (g : ℕ) → CoverIsAligned h (cover h on_storage g)
+  pub known_aligned : (g : ℕ) → CoverIsAligned h (cover h known g)
+  -- where a guest cluster has a host cluster to itself, its entry on the storage has it so too, or doesn't name it
+  pub own : (g c : ℕ) → 0 < marks h known c g → names h on_storage c g ≤ marks h on_storage c g
+  -- no table is laid over what entries name, or what is held for them
+  pub unlaid : (o : ℕ) → 0 < named_in_either h on_storage known (o / cluster_size h) + p.held (o / cluster_size h) → on_storage o ≡ known o
+
+-- the same bytes in a cluster
+abbrev pub SameIn : ℕ → ℕ → Bytes → Bytes → Type 0
+SameIn size c b b' = (o : ℕ) → o / size ≡ c → b o ≡ b' o
+
+-- each cluster is that of the one or of the other
+abbrev pub IsPartly : ℕ → Bytes → Bytes → Bytes → Type 0
+IsPartly size on_storage known b = (c : ℕ) → SameIn size c b on_storage ⊎ SameIn size c b known
+
+-- the one kind is as on the storage unless the other kind is written already
+abbrev pub IsInOrder : Direction → HeaderFields → Bytes → Bytes → Bytes → Type 0
+IsInOrder Neither h on_storage known b = Unit {0}
+IsInOrder L2DependsOnRb h on_storage known b = SameCovers h on_storage b ⊎ SameCounts h known b
+IsInOrder RbDependsOnL2 h on_storage known b = SameCounts h on_storage b ⊎ SameCovers h known b
+
+-- some of the tables are written
+pub record IsMixed (h : HeaderFields) (d : Direction) (on_storage known b : Bytes) : Type 0 where
+  pub partly : IsPartly (cluster_size h) on_storage known b
+  pub ordered : IsInOrder d h on_storage known b
+
+-- when one direction may follow another
+abbrev pub MayTurn : Direction → Direction → HeaderFields → Bytes → Bytes → Type 0
+MayTurn Neither to h on_storage known = Unit {0}
+MayTurn L2DependsOnRb L2DependsOnRb h on_storage known = Unit {0}
+MayTurn L2DependsOnRb RbDependsOnL2 h on_storage known = SameCounts h on_storage known
+MayTurn RbDependsOnL2 RbDependsOnL2 h on_storage known = Unit {0}
+MayTurn RbDependsOnL2 L2DependsOnRb h on_storage known = SameCovers h on_storage known
+MayTurn L2DependsOnRb Neither h on_storage known = SameCounts h on_storage known × SameCovers h on_storage known
+MayTurn RbDependsOnL2 Neither h on_storage known = SameCounts h on_storage known × SameCovers h on_storage known
