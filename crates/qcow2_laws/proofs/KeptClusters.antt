@@ -1,9 +1,8 @@
 -- A cluster that a zero entry keeps: bytes are written into it, and it becomes data.
-use Rattle.std.proofs.Common.{◌≡◌, ℕ, ◌+◌, ◌-◌, ◌*◌, ◌/◌, ◌%◌, ◌<◌, ◌≤◌, ◌≢◌, ◌⊎◌, true, List, [], ◌∷◌, length, refl, sym, ap, ◌∙◌, arith, inl, inr, subst}
+use Rattle.std.proofs.Common.{◌≡◌, ℕ, ◌+◌, ◌-◌, ◌*◌, ◌/◌, ◌%◌, ◌<◌, ◌≤◌, ◌⊎◌, true, List, [], ◌∷◌, length, sym, ap, ◌∙◌, arith, inl, inr, subst}
 use Rattle.std.specs.Prelude.{Some}
 use mathlib.Core.Path.{fun_ext}
-use Rattle.std.proofs.lemmas.Bool.{cases_eq}
-use Rattle.std.proofs.lemmas.Nat.{div-add-mod', div-mul-add, mod-mul-add, mod_below, pow_pos}
+use Rattle.std.proofs.lemmas.Nat.{div-mul-add, mod-mul-add, mod_below, pow_pos}
 use Rattle.qcow2_metadata.specs.Bytes.{Bytes, byte_at}
 use Rattle.qcow2_metadata.specs.Header.{cluster_size}
 use Rattle.qcow2_metadata.specs.Cover.{cover}
@@ -15,23 +14,19 @@ use Rattle.qcow2_laws.specs.Disk.{disk}
 use Rattle.qcow2_laws.specs.Stops.{IsGiven}
 use Rattle.qcow2_laws.specs.Mappings.{gift_of}
 use Rattle.qcow2_laws.specs.Guests.{names, marks, marked_by_cover, named_in_either}
-use Rattle.qcow2_laws.specs.CrashInvariant.{Pending, SameCovers}
+use Rattle.qcow2_laws.specs.CrashInvariant.{Pending}
 use Rattle.qcow2_laws.specs.Tops.{WritesAt}
-use Rattle.qcow2_laws.specs.Writes.{IsWritten}
 use Rattle.qcow2_laws.specs.SafeSteps.{DriverState, StateInvariant, SafeStep}
 use Rattle.qcow2_laws.specs.Steps.{guest_at, EntryChanges}
 use Rattle.qcow2_laws.specs.Unseen.{used_by_guests}
-use Rattle.qcow2_laws.specs.GuestLaws.{KeptClusterIsWritten, KeptClusterIsCommitted}
+use Rattle.qcow2_laws.specs.GuestLaws.{Kept, IsHostedAt, WritesRun, KeptClusterIsWritten, KeptClusterIsCommitted}
 use Rattle.qcow2_laws.proofs.Places.{in_one}
 use Rattle.qcow2_laws.proofs.Mixes.{tied}
 use Rattle.qcow2_laws.proofs.Consistency.{in_own}
-use Rattle.qcow2_laws.proofs.Writes.{storage_stays, known_covers, its_own}
-use Rattle.qcow2_laws.proofs.Shares.{top_stays}
-use Rattle.qcow2_laws.proofs.Steps.{data_is_written}
 use Rattle.qcow2_laws.proofs.SafeSteps.{leads_less}
-use Rattle.qcow2_laws.proofs.Unseen.{named_some, size_stays, value_stays}
-use Rattle.qcow2_laws.proofs.Shown.{Writes, shown_zero}
-use Rattle.qcow2_laws.proofs.Overwritten.{in_range}
+use Rattle.qcow2_laws.proofs.Unseen.{named_some}
+use Rattle.qcow2_laws.proofs.Shown.{shown_zero}
+use Rattle.qcow2_laws.proofs.PutRuns.{run_written, gift_has}
 use Rattle.qcow2_laws.proofs.MappedAnew.{Maps, pending_after, entry_unseen, entry_maps}
 
 module _ (s : DriverState) (sound : StateInvariant s) (g host : ℕ) (is : cover s.header s.known g ≡ Zero (Some (host, true))) where
@@ -58,81 +53,16 @@ module _ (s : DriverState) (sound : StateInvariant s) (g host : ℕ) (is : cover
 -- ---- bytes are written into it
 module _ (s : DriverState) (on_storage' known' : Bytes) (sound : StateInvariant s) (g host at : ℕ) (bytes : List ℕ) (is : cover s.header s.known g ≡ Zero (Some (host, true))) (fits : at + length bytes ≤ cluster_size s.header)
     (writes : WritesAt (host + at) (length bytes) s.on_storage s.known on_storage' known') (there : (i : ℕ) → i < length bytes → on_storage' (host + at + i) ≡ byte_at bytes i) where
-  outside_in : (o : ℕ) → o / cluster_size s.header ≢ host / cluster_size s.header → (o < host + at) ⊎ (host + at + length bytes ≤ o)
-  outside_in o other = elim (in_range o (host + at) (length bytes)) [
-    | inl out ↦ out
-    | inr j ↦ absurd (
-        let lt = j.1 in
-        let e : host + (at + j.0) ≡ o = let from = j.2 in omega arith in
-        other (ap (λ n. n / cluster_size s.header) (sym e) ∙ in_one (cluster_size s.header) host (at + j.0) (kept_aligned s sound g host is) (omega arith)))
-  ]
+  kept_there : (i : ℕ) → i < length bytes → IsHostedAt s Kept (g * cluster_size s.header + at + i) (host + at + i)
+  kept_there i lt =
+      let e : g * cluster_size s.header + at + i ≡ g * cluster_size s.header + (at + i) = omega arith in
+      let here : (g * cluster_size s.header + at + i) / cluster_size s.header ≡ g = ap (λ n. n / cluster_size s.header) e ∙ div-mul-add g (cluster_size s.header) (at + i) (omega arith) in
+      let rest : (g * cluster_size s.header + at + i) % cluster_size s.header ≡ at + i = ap (λ n. n % cluster_size s.header) e ∙ mod-mul-add g (cluster_size s.header) (at + i) (omega arith) in
+      (host, ap (cover s.header s.known) here ∙ is, omega arith)
 
-  known_there : (i : ℕ) → i < length bytes → known' (host + at + i) ≡ byte_at bytes i
-  known_there i lt =
-      let e : host + (at + i) ≡ host + at + i = omega arith in
-      sym (writes.agree (host + at + i) (subst (λ o. s.on_storage o ≡ s.known o) e (kept_unlaid s sound g host is (at + i) (omega arith)))) ∙ there i lt
-
-  rest_of : (i : ℕ) → at + i < cluster_size s.header → (host + at + i) % cluster_size s.header ≡ at + i
-  rest_of i lt =
-      let h_is : host / cluster_size s.header * cluster_size s.header + host % cluster_size s.header ≡ host = div-add-mod' host (cluster_size s.header) in
-      let aligned = kept_aligned s sound g host is in
-      let e : host + at + i ≡ host / cluster_size s.header * cluster_size s.header + (at + i) = omega arith in
-      ap (λ n. n % cluster_size s.header) e ∙ mod-mul-add (host / cluster_size s.header) (cluster_size s.header) (at + i) lt
-
-  gives : (o : ℕ) → ((s.on_storage o ≡ on_storage' o) × (s.known o ≡ known' o))
-      ⊎ IsGiven (gift_of (g * cluster_size s.header + at) bytes ∷ []) (g * cluster_size s.header + o % cluster_size s.header) (known_byte (known' o))
-  gives o = elim (in_range o (host + at) (length bytes)) [
-    | inl out ↦ inl (writes.others o out, writes.known_others o out)
-    | inr j ↦
-        let lt = j.1 in
-        let rest : o % cluster_size s.header ≡ at + j.0 = ap (λ n. n % cluster_size s.header) (sym j.2) ∙ rest_of j.0 (omega arith) in
-        let j_is : j.0 ≡ g * cluster_size s.header + o % cluster_size s.header - (g * cluster_size s.header + at) = omega arith in
-        inr (inl (omega arith, omega arith, ap known_byte (ap known' (sym j.2) ∙ known_there j.0 j.1 ∙ ap (byte_at bytes) j_is)))
-  ]
-
-  written : IsWritten s.header s.on_storage s.known on_storage' known' (gift_of (g * cluster_size s.header + at) bytes ∷ [])
-  written = record {
-    agree = writes.agree;
-    each = λ k. elim (cases_eq k (host / cluster_size s.header)) [
-      | inl here ↦ inr (inr (record {
-        guest = g;
-        marked = subst (λ c. 0 < marks s.header s.known c g) (sym here) (let one = kept_marked s sound g host is in omega arith);
-        gives = λ o in_k. gives o;
-      }))
-      | inr other ↦ inl (
-        (λ o in_k. writes.others o (outside_in o (λ e. other (sym in_k ∙ e)))),
-        (λ o in_k. writes.known_others o (outside_in o (λ e. other (sym in_k ∙ e)))),
-      )
-    ];
-  }
-
-  covers_stay : SameCovers s.header s.known known'
-  covers_stay = known_covers s.header s.direction s.pending s.on_storage s.known on_storage' known' (gift_of (g * cluster_size s.header + at) bytes ∷ []) sound written
-
-  -- only its guest cluster names it, and that shows zeros
-  value_now : StateInvariant (record s { on_storage = on_storage'; known = known' }) → (backing : Bytes) (o : ℕ) → (disk known' backing).value o ≡ (disk s.known backing).value o
-  value_now sound' backing o = elim (cases_eq (o / cluster_size s.header) g) [
-    | inl here ↦
-        let cover_is : cover s.header s.known (o / cluster_size s.header) ≡ Zero (Some (host, true)) = ap (cover s.header s.known) here ∙ is in
-        shown_zero (record s { on_storage = on_storage'; known = known' }) sound' backing o (Some (host, true)) (sym (covers_stay (o / cluster_size s.header)) ∙ cover_is)
-        ∙ sym (shown_zero s sound backing o (Some (host, true)) cover_is)
-    | inr other ↦ value_stays s (record s { on_storage = on_storage'; known = known' }) sound sound' refl backing o (covers_stay (o / cluster_size s.header)) (λ place some.
-        sym (writes.known_others place (outside_in place (λ e. other (sym (its_own s.header s.direction s.pending s.on_storage s.known on_storage' known' (gift_of (g * cluster_size s.header + at) bytes ∷ []) sound written
-        (host / cluster_size s.header) g (o / cluster_size s.header) (let one = kept_marked s sound g host is in omega arith) (let named = subst (λ c. 0 < names s.header s.known c (o / cluster_size s.header)) e some in omega arith)))))))
-  ]
-
-  pub kept_written : Writes (host / cluster_size s.header) s (record s { on_storage = on_storage'; known = known' }) (λ _. gift_of (g * cluster_size s.header + at) bytes ∷ []) (λ backing. disk s.known backing)
+  pub kept_written : WritesRun (λ _. Kept) (g * cluster_size s.header + at) (host + at) bytes (gift_of (g * cluster_size s.header + at) bytes ∷ []) s (record s { on_storage = on_storage'; known = known' })
   kept_written =
-      let leads : SafeStep s (record s { on_storage = on_storage'; known = known' }) (λ _. gift_of (g * cluster_size s.header + at) bytes ∷ []) [] =
-      data_is_written.written s on_storage' known' (gift_of (g * cluster_size s.header + at) bytes ∷ []) sound written in
-      record {
-        leads = leads;
-        unseen = record { header = refl; covers = covers_stay; bytes = λ o other some. sym (writes.known_others o (outside_in o other)) };
-        l1 = λ i. sym ((top_stays s.header s.on_storage on_storage' sound.top (storage_stays s.header s.direction s.pending s.on_storage s.known on_storage' known' (gift_of (g * cluster_size s.header + at) bytes ∷ []) sound written)).l1 i);
-        shows = λ backing.
-            let value : (disk known' backing).value ≡ (disk s.known backing).value = fun_ext (value_now leads.sound backing) in
-            λ j. record { size = size_stays s (record s { on_storage = on_storage'; known = known' }) sound leads.sound refl backing j; value = value j };
-      }
+      run_written s on_storage' known' (λ _. Kept) (g * cluster_size s.header + at) (host + at) bytes (gift_of (g * cluster_size s.header + at) bytes ∷ []) sound kept_there (gift_has (g * cluster_size s.header + at) bytes) writes there
 
   -- zeros are what is shown there
   zeros_shown : ((i : ℕ) → i < length bytes → byte_at bytes i ≡ 0) → (backing : Bytes) (o : ℕ) (v : Value) → IsGiven (gift_of (g * cluster_size s.header + at) bytes ∷ []) o v

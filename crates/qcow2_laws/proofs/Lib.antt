@@ -36,7 +36,7 @@ pub mod HeaderWrites
 pub mod Unseen
 pub mod Shown
 pub mod Alike
-pub mod Overwritten
+pub mod PutRuns
 pub mod MappedAnew
 pub mod MappedRanges
 pub mod KeptClusters

@@ -1,7 +1,6 @@
 -- What guests read, and what they see of bytes that are written to one cluster that is held for them.
-use Rattle.std.proofs.Common.{◌≡◌, ℕ, ◌+◌, ◌/◌, ◌%◌, ◌<◌, ◌≢◌, Bool, List, [], refl, sym, ap, ◌∙◌, arith, inl, inr, subst}
+use Rattle.std.proofs.Common.{◌≡◌, ℕ, ◌+◌, ◌/◌, ◌%◌, ◌<◌, Bool, List, [], sym, ap, ◌∙◌, arith, subst}
 use Rattle.std.specs.Prelude.{Option}
-use Rattle.std.proofs.lemmas.Bool.{cases_eq}
 use Rattle.std.proofs.lemmas.Nat.{mod_below, pow_pos}
 use Rattle.qcow2_metadata.specs.Bytes.{Bytes}
 use Rattle.qcow2_metadata.specs.Header.{cluster_size}
@@ -13,19 +12,14 @@ use Rattle.qcow2_metadata.specs.declared.l2_mapping.L2Mapping.{L2Mapping}
 use Rattle.qcow2_metadata.specs.declared.l2_mapping.L2Mapping.TheVariants.{Data, Zero, Uncovered}
 use Rattle.qcow2_laws.specs.Disk.{Disk, disk}
 use Rattle.qcow2_laws.specs.Stops.{GivenBytes}
-use Rattle.qcow2_laws.specs.Guests.{over_guests, names, named_in_either}
-use Rattle.qcow2_laws.specs.CrashInvariant.{SameIn}
-use Rattle.qcow2_laws.specs.Tops.{IsSameOutside}
-use Rattle.qcow2_laws.specs.Writes.{IsUnnamed}
+use Rattle.qcow2_laws.specs.Guests.{names, named_in_either}
 use Rattle.qcow2_laws.specs.SafeSteps.{DriverState, StateInvariant, SafeStep}
 use Rattle.qcow2_laws.specs.Unseen.{IsUnseenBut, SameL1Table}
 use Rattle.qcow2_laws.proofs.Places.{in_one}
 use Rattle.qcow2_laws.proofs.Mixes.{tied}
 use Rattle.qcow2_laws.proofs.Consistency.{in_own}
 use Rattle.qcow2_laws.proofs.Values.{value_is, size_is}
-use Rattle.qcow2_laws.proofs.Writes.{held_is_unnamed}
-use Rattle.qcow2_laws.proofs.Steps.{data_is_written}
-use Rattle.qcow2_laws.proofs.Unseen.{known_header, unseen_but_written, named_some, disk_stays}
+use Rattle.qcow2_laws.proofs.Unseen.{known_header, named_some}
 
 -- ---- what is read
 module _ (s : DriverState) (sound : StateInvariant s) where
@@ -76,33 +70,3 @@ pub record Writes (c : ℕ) (old new : DriverState) (given : Bytes → List Give
   pub unseen : IsUnseenBut c old new
   pub l1 : SameL1Table old new
   pub shows : (backing : Bytes) → disk new.known backing ≡ now backing
-
-module _ (s : DriverState) (on_storage' known' : Bytes) (sound : StateInvariant s) where
-  -- any other cluster is as before
-  pub same_elsewhere : (c k : ℕ) → k ≢ c → IsSameOutside (cluster_size s.header) c s.on_storage on_storage' → IsSameOutside (cluster_size s.header) c s.known known'
-      → SameIn (cluster_size s.header) k s.on_storage on_storage' × SameIn (cluster_size s.header) k s.known known'
-  same_elsewhere c k other outside known_outside = ((λ o in_k. outside o (λ e. other (sym in_k ∙ e))), (λ o in_k. known_outside o (λ e. other (sym in_k ∙ e))))
-
-  pub private_written : (c : ℕ) → 0 < s.pending.held c → IsSameOutside (cluster_size s.header) c s.on_storage on_storage' → IsSameOutside (cluster_size s.header) c s.known known'
-      → ((o : ℕ) → s.on_storage o ≡ s.known o → on_storage' o ≡ known' o) → Writes c s (record s { on_storage = on_storage'; known = known' }) (λ _. []) (λ backing. disk s.known backing)
-  private_written c held outside known_outside agree =
-      let new : DriverState = record s { on_storage = on_storage'; known = known' } in
-      let unnamed = held_is_unnamed s.header s.direction s.pending s.on_storage s.known sound c held in
-      let leads : SafeStep s (record s { on_storage = on_storage'; known = known' }) (λ _. []) [] = data_is_written.written s on_storage' known' [] sound (record {
-        agree = agree;
-        each = λ k. elim (cases_eq k c) [
-          | inl e ↦ inr (inl (subst (IsUnnamed s.header s.on_storage s.known) (sym e) unnamed))
-          | inr ne ↦ inl (same_elsewhere c k ne outside known_outside)
-        ];
-      }) in
-      let both = unseen_but_written s new sound c refl unnamed.no_table outside known_outside in
-      record {
-        leads = leads;
-        unseen = both.0;
-        l1 = both.1;
-        shows = λ backing. disk_stays s new sound leads.sound refl backing both.0.covers (λ place some. sym (known_outside place (λ e.
-            let t = (tied s.header s.pending s.on_storage s.known c).known in
-            let none = unnamed.no_entry in
-            let here = subst (λ n. 0 < over_guests s.header (names s.header s.known n)) e some in
-            absurd (omega arith))));
-      }

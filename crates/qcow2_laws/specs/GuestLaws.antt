@@ -1,22 +1,24 @@
 -- The laws of what guests see while steps are made: where tables move, and between flushes.
-use Rattle.std.specs.Prelude.{ℕ, zero, suc, ◌+◌, ◌*◌, ◌%◌, ◌<◌, ◌≤◌, ◌≡◌, true, List, [], ◌∷◌, length, Some}
+use Rattle.std.specs.Prelude.{ℕ, zero, suc, ◌+◌, ◌*◌, ◌/◌, ◌%◌, ◌<◌, ◌≤◌, ◌≡◌, ◌≢◌, Bool, true, false, List, [], ◌∷◌, length, Some, if◌then◌else◌}
 use Rattle.image_access.specs.Moments.{StorageView, Passing}
 use Rattle.qcow2_metadata.specs.Bytes.{Bytes, byte_at}
 use Rattle.qcow2_metadata.specs.Header.{header, cluster_size}
 use Rattle.qcow2_metadata.specs.Cover.{cover}
 use Rattle.qcow2_metadata.specs.Guest.{known_byte}
-use Rattle.qcow2_metadata.specs.Named.{in_run}
+use Rattle.qcow2_metadata.specs.Named.{in_run, named_for_tables}
 use Rattle.qcow2_metadata.specs.declared.l2_mapping.L2Mapping.{L2Mapping}
 use Rattle.qcow2_metadata.specs.declared.l2_mapping.L2Mapping.TheVariants.{Data, Zero, Compressed, Uncovered}
-use Rattle.qcow2_laws.specs.Disk.{Disk, disk, zeroed, uncovered}
-use Rattle.qcow2_laws.specs.Stops.{GivenBytes, Checkpoint, checkpoint_with, StopOkEverywhere}
+use Rattle.qcow2_laws.specs.Disk.{Disk, disk, with_bytes, zeroed, uncovered}
+use Rattle.qcow2_laws.specs.Stops.{GivenBytes, IsGiven, Checkpoint, checkpoint_with, StopOkEverywhere}
 use Rattle.qcow2_laws.specs.Mappings.{gift_of, gift_shown}
 use Rattle.qcow2_laws.specs.Guests.{names}
+use Rattle.qcow2_laws.specs.CrashInvariant.{SameCovers, SameIn}
 use Rattle.qcow2_laws.specs.Steps.{guest_at, EntryChanges}
 use Rattle.qcow2_laws.specs.Changes.{renamed, remapped}
 use Rattle.qcow2_laws.specs.Tops.{with_places, with_l1_at, WritesHeader, IsNewL1, WritesAt}
 use Rattle.qcow2_laws.specs.SafeSteps.{DriverState, StateInvariant, SafeStep}
-use Rattle.qcow2_laws.specs.Unseen.{used_by_guests, SameUsedBytes, with_cluster}
+use Rattle.qcow2_laws.specs.Unseen.{used_by_guests, SameUsedBytes, SameL1Table, with_cluster}
+use Rattle.qcow2_laws.specs.Alike.{IsDataAt}
 
 -- where the image stands once its header names an L1 table at another place, of so many entries
 abbrev pub with_l1_table : DriverState → (offset entries : ℕ) → (on_storage' known' : Bytes) → DriverState
@@ -108,3 +110,57 @@ KeptClusterIsCommitted =
     → SafeStep s (record s { known = known' })
     (λ backing. gift_shown (disk known' backing) (guest_at s.header i j * cluster_size s.header) (guest_at s.header i j * cluster_size s.header + cluster_size s.header) ∷ []) []
     × ((backing : Bytes) → disk known' backing ≡ with_cluster (cluster_size s.header) (disk s.known backing) (guest_at s.header i j) (λ o. known_byte (s.on_storage (host + o % cluster_size s.header))))
+
+-- ---- one storage write over a run of clusters
+
+-- How a guest byte has a place to itself: it is copied data there; the zero entry of its cluster keeps the place; or the place is held, and nothing names it.
+pub data Hosting : Type 0 where
+  InPlace : Hosting
+  Kept : Hosting
+  Held : Hosting
+
+abbrev pub IsHostedAt : DriverState → Hosting → (o place : ℕ) → Type 0
+IsHostedAt s InPlace o place = IsDataAt s.header s.known true o place
+IsHostedAt s Kept o place = (host : ℕ) × (cover s.header s.known (o / cluster_size s.header) ≡ Zero (Some (host, true))) × (host + o % cluster_size s.header ≡ place)
+IsHostedAt s Held o place = 0 < s.pending.held (place / cluster_size s.header)
+
+abbrev pub IsHeld : Hosting → Type 0
+IsHeld InPlace = ⊥
+IsHeld Kept = ⊥
+IsHeld Held = Unit {0}
+
+-- what isn't in place is seen by no guest until it is committed
+abbrev pub is_private : Hosting → Bool
+is_private InPlace = false
+is_private Kept = true
+is_private Held = true
+
+-- a byte is given where a stop may leave it to be seen: what is held is in no entry on the storage
+abbrev pub IsGivenAt : List GivenBytes → Hosting → (o byte : ℕ) → Type 0
+IsGivenAt given InPlace o byte = IsGiven given o (known_byte byte)
+IsGivenAt given Kept o byte = IsGiven given o (known_byte byte)
+IsGivenAt given Held o byte = Unit {0}
+
+-- of bytes that are written from an offset on, guests see those in place
+abbrev pub with_seen_bytes : (ℕ → Hosting) → Disk → ℕ → List ℕ → Disk
+with_seen_bytes hosting d offset bytes = record d { value = λ o. if is_private (hosting o) then d.value o else (with_bytes d offset bytes).value o }
+
+-- Bytes were written to the places of a guest range. All entries stay, and so does each byte that another guest cluster has, or that is held elsewhere.
+pub record WritesRun (hosting : ℕ → Hosting) (offset place : ℕ) (bytes : List ℕ) (given : List GivenBytes) (old new : DriverState) : Type 0 where
+  pub leads : SafeStep old new (λ _. given) []
+  pub covers : SameCovers old.header old.known new.known
+  pub l1 : SameL1Table old new
+  pub there : (i : ℕ) → i < length bytes → new.known (place + i) ≡ byte_at bytes i
+  pub others : (g : ℕ) → ((i : ℕ) → i < length bytes → (offset + i) / cluster_size old.header ≢ g) → (o : ℕ) → 0 < names old.header old.known (o / cluster_size old.header) g → new.known o ≡ old.known o
+  pub held : (k : ℕ) → 0 < old.pending.held k → ((i : ℕ) → i < length bytes → IsHeld (hosting (offset + i)) → (place + i) / cluster_size old.header ≢ k)
+      → SameIn (cluster_size old.header) k old.on_storage new.on_storage × SameIn (cluster_size old.header) k old.known new.known
+  pub shows : (backing : Bytes) → disk new.known backing ≡ with_seen_bytes hosting (disk old.known backing) offset bytes
+
+-- One storage write goes over a run of clusters, each of them data in place, kept or held: guests see at once what is in place, and nothing else of it. No table stands at such a place.
+pub record RunIsWritten : Type 0 where
+  pub written : (s : DriverState) (on_storage' known' : Bytes) (hosting : ℕ → Hosting) (offset place : ℕ) (bytes : List ℕ) (given : List GivenBytes) → StateInvariant s
+      → ((i : ℕ) → i < length bytes → IsHostedAt s (hosting (offset + i)) (offset + i) (place + i))
+      → ((i : ℕ) → i < length bytes → IsGivenAt given (hosting (offset + i)) (offset + i) (byte_at bytes i))
+      → WritesAt place (length bytes) s.on_storage s.known on_storage' known' → ((i : ℕ) → i < length bytes → on_storage' (place + i) ≡ byte_at bytes i)
+      → WritesRun hosting offset place bytes given s (record s { on_storage = on_storage'; known = known' })
+  pub beside_tables : (s : DriverState) (hosting : Hosting) (o place : ℕ) → StateInvariant s → IsHostedAt s hosting o place → named_for_tables s.header s.on_storage (place / cluster_size s.header) ≡ 0

@@ -6,7 +6,7 @@ ghost use Rattle.qcow2_metadata.specs.Consistent.{IsConsistent};
 ghost use Rattle.qcow2_metadata.specs.declared.header.HeaderFields.{HeaderFields};
 ghost use Rattle.qcow2_laws.specs.Samples.{empty_image};
 ghost use Rattle.qcow2_laws.specs.NewImages.{IsNewImage};
-ghost use Rattle.qcow2_laws.specs.GuestLaws.{ClustersInTurnAreARange, KeptClusterIsCommitted, KeptClusterIsWritten, LongerL1TableKeepsGuests, SizeStaysUnlessAsked};
+ghost use Rattle.qcow2_laws.specs.GuestLaws.{ClustersInTurnAreARange, KeptClusterIsCommitted, KeptClusterIsWritten, LongerL1TableKeepsGuests, RunIsWritten, SizeStaysUnlessAsked};
 ghost use Rattle.qcow2_laws.specs.Laws.{SoundIsConsistent, MixIsSafe, TableIsWritten, CountIsChanged, PendingIsChanged, EntryIsChanged, DataIsWritten, TableIsNamed, HeaderIsWritten, StepsCompose};
 
 /// Preparing, writing to private clusters and discarding leaves every guest byte.
@@ -102,6 +102,11 @@ pub fn kept_cluster_is_written()
 /// A cluster that a zero entry keeps becomes data.
 pub fn kept_cluster_is_committed()
     ensures { KeptClusterIsCommitted }
+{}
+
+/// One storage write goes over clusters that are each data in place, kept by a zero entry or held: guests see at once what is in place, and nothing else of it.
+pub fn run_is_written()
+    ensures { RunIsWritten }
 {}
 
 /// The image of three clusters that creating begins with is consistent, of whatever size clusters and counts are.

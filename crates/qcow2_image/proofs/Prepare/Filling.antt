@@ -18,7 +18,8 @@ use Rattle.qcow2_laws.specs.Tops.{WritesAt}
 use Rattle.qcow2_laws.specs.Writes.{IsUnnamed}
 use Rattle.qcow2_laws.proofs.Formats.{covers_format, format_then, size_format}
 use Rattle.qcow2_laws.proofs.SafeSteps.{leads_none, leads_then, endures_none, steps_endure}
-use Rattle.qcow2_laws.proofs.Shown.{Writes, private_written}
+use Rattle.qcow2_laws.proofs.PutRuns.{private_written}
+use Rattle.qcow2_laws.proofs.Shown.{Writes}
 use Rattle.qcow2_laws.proofs.Writes.{held_is_unnamed}
 use Rattle.qcow2_alloc.specs.declared.error.ImageError.{ImageError}
 use Rattle.qcow2_alloc.specs.declared.error.ImageError.TheVariants as I

@@ -13,23 +13,20 @@ use Rattle.qcow2_metadata.specs.declared.header.HeaderFields.{HeaderFields}
 use Rattle.qcow2_metadata.specs.Header.{cluster_size}
 use Rattle.qcow2_metadata.specs.Guest.{known_byte}
 use Rattle.qcow2_metadata.specs.Named.{named_for_tables}
-use Rattle.qcow2_laws.specs.Alike.{IsDataAt, AreDataAt}
+use Rattle.qcow2_laws.specs.Alike.{AreDataAt}
 use Rattle.qcow2_laws.specs.Calls.{Works, with_disk}
 use Rattle.qcow2_laws.specs.Disk.{Disk, disk, with_bytes}
 use Rattle.qcow2_laws.specs.CrashInvariant.{Pending}
-use Rattle.qcow2_laws.specs.Guests.{marks, marked_by_cover}
-use Rattle.qcow2_laws.specs.SafeSteps.{DriverState, StateInvariant}
 use Rattle.qcow2_laws.specs.Mappings.{PreparedMapping, gift_of, put_mapping, put_disk}
 use Rattle.qcow2_laws.specs.AbstractImages.{Guest, guest_of, meaning_at}
-use Rattle.qcow2_laws.proofs.Alike.{at_cluster}
-use Rattle.qcow2_laws.proofs.Consistency.{in_own}
 use Rattle.qcow2_laws.proofs.Compose.{works_less}
 use Rattle.qcow2_laws.proofs.ForUsers.{laid_inside, laid_outside}
-use Rattle.qcow2_laws.proofs.Overwritten.{WritesOver, written_over}
-use Rattle.qcow2_laws.proofs.Shown.{Writes, private_written}
+use Rattle.qcow2_laws.specs.GuestLaws.{InPlace, WritesRun}
+use Rattle.qcow2_laws.proofs.PutRuns.{beside_tables, private_written, written_over}
+use Rattle.qcow2_laws.proofs.Shown.{Writes}
 use Rattle.qcow2_laws.specs.Tops.{WritesAt}
 use Rattle.qcow2_laws.specs.Writes.{IsUnnamed}
-use Rattle.qcow2_laws.proofs.Writes.{marked_alone, held_is_unnamed}
+use Rattle.qcow2_laws.proofs.Writes.{held_is_unnamed}
 use Rattle.qcow2_alloc.specs.declared.image_storage.ImageStorage.{ImageStorage}
 use Rattle.qcow2_alloc.specs.ImageStorage.{storage_of}
 use Rattle.qcow2_alloc.specs.MetadataCaches.{order_of}
@@ -43,13 +40,6 @@ use Rattle.qcow2_image.proofs.Call.Answered.{same_guest, same_mapping, same_mean
 use Rattle.qcow2_image.proofs.Call.Slots.{over_all_two}
 use Rattle.qcow2_image.proofs.Call.Stepped.{Steps, stepped_works, stepped_sound}
 use Rattle.qcow2_image.proofs.Write.Written.{written, writes, there, steps_written}
-
--- a byte in place stands in a cluster that its guest cluster has to itself
-at_marked : (s : DriverState) → StateInvariant s → (o place : ℕ) → IsDataAt s.header s.known true o place → 0 < marks s.header s.known (place / cluster_size s.header) (o / cluster_size s.header)
-at_marked s sound o place at =
-    let one : marks s.header s.known (place / cluster_size s.header) (o / cluster_size s.header) ≡ 1 =
-    ap (λ c. marks s.header s.known c (o / cluster_size s.header)) (at_cluster s sound true o place at) ∙ ap (marked_by_cover s.header (at.0 / cluster_size s.header)) at.1 ∙ in_own s.header at.0 in
-    omega arith
 
 -- what lies over counts alone where it lies
 laid_same : {A : Type 0} (place n : ℕ) (top under under' : ℕ → A) (o : ℕ) → under o ≡ under' o → laid_over place n top under o ≡ laid_over place n top under' o
@@ -80,12 +70,9 @@ module _ {S F : Type 0} (view : S → StorageView) (backing : F → BackingView)
   -- ---- over data in place
   module _ (offset : ℕ) (are : AreDataAt old.file.header.fields (known_in view old.file) true offset host (length bytes)) where
     no_table : (i : ℕ) → i < length bytes → named_for_tables old.file.header.fields (contents_in view old.file) ((host + i) / cluster_size old.file.header.fields) ≡ 0
-    no_table i lt =
-        let s = state_in view old.file before in
-        (marked_alone s.header s.direction s.pending s.on_storage s.known sound.file.caches.kept.kept.guarded ((host + i) / cluster_size s.header) ((offset + i) / cluster_size s.header)
-        (at_marked s sound.file.caches.kept.kept.guarded (offset + i) (host + i) (are i lt))).0
+    no_table i lt = beside_tables (state_in view old.file before) InPlace (offset + i) (host + i) sound.file.caches.kept.kept.guarded (are i lt)
 
-    over : WritesOver (state_in view old.file before) (state_in view new.file before) (λ _. gift_of offset bytes ∷ []) (λ below. with_bytes (disk (known_in view old.file) below) offset bytes)
+    over : WritesRun (λ _. InPlace) offset host bytes (gift_of offset bytes ∷ []) (state_in view old.file before) (state_in view new.file before)
     over = written_over (state_in view old.file before) (contents_in view new.file) (known_in view new.file) sound.file.caches.kept.kept.guarded offset host bytes are
         (writes view backing old out sound storage host bytes is no_table) (there view backing old out sound storage host bytes is)
 
@@ -100,7 +87,7 @@ module _ {S F : Type 0} (view : S → StorageView) (backing : F → BackingView)
 
     pub over_seen : guest_of (abstract_of view backing new out) ≡ with_disk (guest_of (abstract_of view backing old out)) (with_bytes (guest_of (abstract_of view backing old out)).disk offset bytes)
     over_seen = same_guest _ _ (over.shows (backing_bytes view backing old.backing))
-        (fun_ext (λ k. same_slot view backing old new out before sound refl (λ o some. sym ((over.held (o / cluster_size old.file.header.fields) some).0 o refl)) k (slice_get out k) refl))
+        (fun_ext (λ k. same_slot view backing old new out before sound refl (λ o some. sym ((over.held (o / cluster_size old.file.header.fields) some (λ i lt none. absurd none)).0 o refl)) k (slice_get out k) refl))
 
     pub put_in_place_seen : (k : ℕ) (q : Prepared) (at : ℕ) → slice_get out k ≡ Some (Some q) → q.new_cluster ≡ None → offset ≡ q.guest + at
         → guest_of (abstract_of view backing new out) ≡ put_guest (guest_of (abstract_of view backing old out)) k (meaning view backing old q) at bytes
