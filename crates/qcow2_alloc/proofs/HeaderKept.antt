@@ -4,9 +4,9 @@ use Rattle.image_access.specs.Moments.{StorageView}
 use Rattle.qcow2_metadata.specs.Bytes.{Bytes}
 use Rattle.qcow2_metadata.specs.declared.header.HeaderFields.{HeaderFields}
 use Rattle.qcow2_metadata.specs.Header.{cluster_size}
-use Rattle.qcow2_metadata.specs.Entries.{l1_entry, reftable_entry, host_offset, block_offset}
+use Rattle.qcow2_metadata.specs.Entries.{is_copied, l1_entry, reftable_entry, host_offset, block_offset}
 use Rattle.qcow2_metadata.specs.Named.{in_cluster, named_for_tables, named_by_l1_table, named_by_reftable}
-use Rattle.qcow2_laws.specs.Caches.{CacheInvariantOver, HasL2, HasBlock, AreSettled}
+use Rattle.qcow2_laws.specs.Caches.{CacheInvariantOver, HasL2, HasOwnL2, HasBlock, AreSettled}
 use Rattle.qcow2_laws.specs.CrashInvariant.{Pending, CrashInvariant, SameIn}
 use Rattle.qcow2_laws.specs.Tops.{Places, WritesHeader, with_places}
 use Rattle.qcow2_laws.proofs.Blocks.{table_once}
@@ -29,6 +29,11 @@ pub has_table : (h h' : HeaderFields) (b b' : Bytes) (c : ℕ) → cluster_size 
 has_table h h' b b' c size same has =
     let e = ap host_offset (same has.0) in
     (has.0, (λ none. has.1 (sym e ∙ none)), ap (λ n. n / cluster_size h') e ∙ ap (λ n. host_offset (l1_entry h b has.0) / n) size ∙ has.2)
+
+has_own_table : (h h' : HeaderFields) (b b' : Bytes) (c : ℕ) → cluster_size h' ≡ cluster_size h → ((i : ℕ) → l1_entry h' b' i ≡ l1_entry h b i) → HasOwnL2 h b c → HasOwnL2 h' b' c
+has_own_table h h' b b' c size same has =
+    let e = ap host_offset (same has.0) in
+    (has.0, (λ none. has.1 (sym e ∙ none)), ap (λ n. n / cluster_size h') e ∙ ap (λ n. host_offset (l1_entry h b has.0) / n) size ∙ has.2, ap is_copied (same has.0) ∙ has.3)
 
 -- an entry that is the same names the same cluster
 pub same_block : (h h' : HeaderFields) (b b' : Bytes) (c : ℕ) → cluster_size h' ≡ cluster_size h → (has : HasBlock h b c) → reftable_entry h' b' has.0 ≡ reftable_entry h b has.0 → HasBlock h' b' c
@@ -87,7 +92,7 @@ module _ {S : Type 0} (view : S → StorageView) (p p' : Pending) (file : ImageF
     kept = record {
       kept =
           kept_beside h h' (order_of file.caches) (order_of file.caches) p p' (l2_tables file.caches) (refblocks file.caches) on_storage on_storage' kept refl guarded
-          (λ c has. inr (has_table h h' on_storage on_storage' c refl l1_still has))
+          (λ c has. inr (has_own_table h h' on_storage on_storage' c refl l1_still has))
           (λ c either. elim (sound.settled c) [ inl free ↦ inl free | inr has ↦ inr (inl (rb_still c has)) ]);
       l2_loaded = loaded_beside (cluster_size h) (HasL2 h on_storage) (HasL2 h' on_storage') on_storage on_storage' (l2_tables file.caches)
           (λ c has. let was = has_table h' h on_storage' on_storage c refl (λ i. sym (l1_still i)) has in (was, table_stays c was)) sound.caches.kept.l2_loaded;

@@ -14,7 +14,7 @@ use Rattle.qcow2_metadata.specs.RefBlock.{RefBlockView, IsRefBlock, count_at}
 use Rattle.qcow2_metadata.specs.TableBytes.{entry_at, ChangesEntry}
 use Rattle.qcow2_metadata.specs.declared.header.HeaderFields.{HeaderFields}
 use Rattle.qcow2_metadata.specs.Header.{cluster_size, counts_per_block, count_width, reftable_entries}
-use Rattle.qcow2_metadata.specs.Entries.{reftable_entry, block_offset, block_count, host_offset}
+use Rattle.qcow2_metadata.specs.Entries.{is_copied, reftable_entry, block_offset, block_count, host_offset}
 use Rattle.qcow2_metadata.specs.Named.{table_in, in_cluster, named_for_tables, named_by_l1_table, named_by_reftable}
 use Rattle.qcow2_metadata.proofs.EntryTables.{on_sector}
 use Rattle.qcow2_metadata.proofs.TablesAt.{ref_block_at}
@@ -22,7 +22,7 @@ use Rattle.qcow2_metadata.proofs.WrittenTables.{IsRefTableOf-written_entry}
 use Rattle.qcow2_laws.specs.Stops.{Checkpoint, StopOkEverywhere}
 use Rattle.qcow2_laws.specs.Changes.{one_at, with_fresh, named_now}
 use Rattle.qcow2_laws.specs.CrashInvariant.{Pending, SameIn}
-use Rattle.qcow2_laws.specs.Caches.{AreClean, BlocksMayGo, HasL2, HasBlock}
+use Rattle.qcow2_laws.specs.Caches.{AreClean, BlocksMayGo, HasL2, HasOwnL2, HasBlock}
 use Rattle.qcow2_laws.specs.Guests.{table_at}
 use Rattle.qcow2_laws.specs.SafeSteps.{SafeStep, SafeThroughout}
 use Rattle.qcow2_laws.specs.Unseen.{IsUnseen, SameL1Table}
@@ -243,8 +243,8 @@ module _ {S : Type 0} (view : S → StorageView) (d : Bool) (p : Pending) (range
     l2_same : (i : ℕ) → table_at h on_storage' i ≡ table_at h on_storage i
     l2_same i = ap host_offset (unseen.1 i)
 
-    l2_still : (c : ℕ) → HasL2 h on_storage c → HasL2 h on_storage' c
-    l2_still c has = (has.0, (λ none. has.1 (sym (l2_same has.0) ∙ none)), ap (λ n. n / cluster_size h) (l2_same has.0) ∙ has.2)
+    l2_still : (c : ℕ) → HasOwnL2 h on_storage c → HasOwnL2 h on_storage' c
+    l2_still c has = (has.0, (λ none. has.1 (sym (l2_same has.0) ∙ none)), ap (λ n. n / cluster_size h) (l2_same has.0) ∙ has.2, ap is_copied (unseen.1 has.0) ∙ has.3)
 
     l2_now : (c : ℕ) → HasL2 h on_storage' c → (HasL2 h on_storage c × SameIn (cluster_size h) c on_storage' on_storage) ⊎ AreCurrentIn (cluster_size h) c (l2_tables file.caches) on_storage'
     l2_now c has =

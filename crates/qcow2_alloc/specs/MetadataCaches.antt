@@ -4,7 +4,7 @@ use Rattle.image_access.specs.Moments.{StorageView}
 use Rattle.qcow2_metadata.specs.Bytes.{Bytes, byte_at}
 use Rattle.qcow2_metadata.specs.declared.header.HeaderFields.{HeaderFields}
 use Rattle.qcow2_metadata.specs.Header.{cluster_size, entries_per_cluster, counts_per_block, has_data_file}
-use Rattle.qcow2_metadata.specs.Entries.{count, l2_entry}
+use Rattle.qcow2_metadata.specs.Entries.{count, is_copied, l1_entry, l2_entry}
 use Rattle.qcow2_metadata.specs.Cover.{entry_cover}
 use Rattle.qcow2_metadata.specs.L2Mapping.{IsHostCluster, dropped_run}
 use Rattle.qcow2_metadata.specs.L2Table.{L2TableView, copied_entry, zero_entry, copied_host}
@@ -15,7 +15,7 @@ use Rattle.qcow2_laws.specs.Clusters as Order
 use Rattle.qcow2_laws.specs.CrashInvariant.{Pending, CrashInvariant, IsPartly}
 use Rattle.qcow2_laws.specs.Steps.{block_of, CountRises, CountFalls}
 use Rattle.qcow2_laws.specs.Writes.{IsUnnamed}
-use Rattle.qcow2_laws.specs.Caches.{known_bytes, IsFreeOf, AreClean, AreSettled, HasL2, HasBlock}
+use Rattle.qcow2_laws.specs.Caches.{known_bytes, IsFreeOf, AreClean, AreSettled, HasOwnL2, HasBlock}
 use Rattle.qcow2_laws.specs.Guests.{table_at}
 use Rattle.qcow2_laws.specs.Tops.{IsSameOutside}
 use Rattle.qcow2_alloc.specs.AsyncLruCache.{value_at}
@@ -193,22 +193,22 @@ module _ {S : Type 0} where
     pub answered : answer ≡ dropped_run h.cluster_bits (entry_cover h (l2_entry (known_of h caches on_storage) (table_at h (known_of h caches on_storage) i) j)) (entry_cover h entry)
     pub sound : (p : Pending) → AreSettled h (refblocks caches) on_storage → CrashInvariant h (order_of caches') p on_storage (known_of h caches' on_storage) → CacheInvariant h p caches' on_storage
 
-  -- an entry of the held table of a cluster becomes copied data at a host cluster
+  -- an entry of the held table of a cluster, whose L1 entry is marked copied, becomes copied data at a host cluster
   abbrev pub MapsEntry : MetadataCaches S → MetadataCaches S → ℕ → ℕ → ℕ → Option (ℕ × ℕ) → Type 0
   MapsEntry caches caches' table index host answer =
-      (h : HeaderFields) (p : Pending) (on_storage : Bytes) (i : ℕ) → CacheInvariant h p caches on_storage → IsEntryAt h (known_of h caches on_storage) i table index → IsSome (l2_at caches table) → IsHostCluster h.cluster_bits host
+      (h : HeaderFields) (p : Pending) (on_storage : Bytes) (i : ℕ) → CacheInvariant h p caches on_storage → IsEntryAt h (known_of h caches on_storage) i table index → is_copied (l1_entry h on_storage i) ≡ true → IsSome (l2_at caches table) → IsHostCluster h.cluster_bits host
       → MadeEntry h caches caches' on_storage i index (copied_entry (host * cluster_size h)) answer
 
   -- it becomes zero; where it is to keep its host cluster, and that is marked copied, it keeps it
   abbrev pub ZeroesEntry : MetadataCaches S → MetadataCaches S → ℕ → ℕ → Bool → Option (ℕ × ℕ) → Type 0
   ZeroesEntry caches caches' table index keep answer =
-      (h : HeaderFields) (p : Pending) (on_storage : Bytes) (i : ℕ) → CacheInvariant h p caches on_storage → IsEntryAt h (known_of h caches on_storage) i table index → IsSome (l2_at caches table)
+      (h : HeaderFields) (p : Pending) (on_storage : Bytes) (i : ℕ) → CacheInvariant h p caches on_storage → IsEntryAt h (known_of h caches on_storage) i table index → is_copied (l1_entry h on_storage i) ≡ true → IsSome (l2_at caches table)
       → MadeEntry h caches caches' on_storage i index (zero_entry (if keep then copied_host (entry_cover h (l2_entry (known_of h caches on_storage) (table_at h (known_of h caches on_storage) i) index)) else None)) answer
 
   -- it becomes uncovered
   abbrev pub DiscardsEntry : MetadataCaches S → MetadataCaches S → ℕ → ℕ → Option (ℕ × ℕ) → Type 0
   DiscardsEntry caches caches' table index answer =
-      (h : HeaderFields) (p : Pending) (on_storage : Bytes) (i : ℕ) → CacheInvariant h p caches on_storage → IsEntryAt h (known_of h caches on_storage) i table index → IsSome (l2_at caches table)
+      (h : HeaderFields) (p : Pending) (on_storage : Bytes) (i : ℕ) → CacheInvariant h p caches on_storage → IsEntryAt h (known_of h caches on_storage) i table index → is_copied (l1_entry h on_storage i) ≡ true → IsSome (l2_at caches table)
       → MadeEntry h caches caches' on_storage i index 0 answer
 
   -- a change of it is noted
@@ -262,11 +262,11 @@ module _ {S : Type 0} where
     pub sound : (p : Pending) → Stands (byte_at new.contents) (known_of h caches' (byte_at new.contents)) → CrashInvariant h (order_of caches') p (byte_at new.contents) (known_of h caches' (byte_at new.contents))
         → CacheInvariant h p caches' (byte_at new.contents)
 
-  -- an L2 table, whose cluster an L1 entry names, while no refblock is new
+  -- an L2 table, whose cluster an L1 entry names that is marked copied, while no refblock is new
   abbrev pub LaysTable : (S → StorageView) → ImageStorage S → MetadataCaches S → ImageStorage S → MetadataCaches S → L2TableView → Type 0
   LaysTable view old caches new caches' t =
       (h : HeaderFields) (p : Pending) → (view (storage_of old)).is_honest → CacheInvariant h p caches (byte_at (view (storage_of old)).contents) → IsTableOf h t → t.is_modified ≡ true
-      → IfSome t.cluster (λ cluster. LaidOver (λ on_storage known. AreSettled h (refblocks caches') on_storage × HasL2 h on_storage cluster) (λ on_storage. Unit {0}) h (view (storage_of old)) caches (view (storage_of new)) caches' (laid_at h cluster t.bytes))
+      → IfSome t.cluster (λ cluster. LaidOver (λ on_storage known. AreSettled h (refblocks caches') on_storage × HasOwnL2 h on_storage cluster) (λ on_storage. Unit {0}) h (view (storage_of old)) caches (view (storage_of new)) caches' (laid_at h cluster t.bytes))
 
   -- a refblock, whose cluster the reftable names, or nothing does, where no modified L2 table lies
   abbrev pub LaysBlock : (S → StorageView) → ImageStorage S → MetadataCaches S → ImageStorage S → MetadataCaches S → RefBlockView → Type 0

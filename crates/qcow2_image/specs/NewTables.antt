@@ -29,15 +29,14 @@ pub record SaysKnown (h : HeaderFields) (known : Bytes) (index : ℕ) (t : L2Tab
   pub says : (g : ℕ) → g / entries_per_cluster h ≡ index → cover h known g ≡ entry_cover h (entry_at t.bytes (g % entries_per_cluster h))
 
 module _ {S F : Type 0} (view : S → StorageView) where
-  -- What has to stand on the storage before an L1 entry names a new table: counts, what the order of writes asks for, and L2 tables where the entry names one already.
-  pub record IsStored (image : Qcow2 S F) (index : ℕ) : Type 0 where
+  -- what has to stand on the storage before an L1 entry names a new table: counts, and what the order of writes asks for
+  pub record IsStored (image : Qcow2 S F) : Type 0 where
     pub counts : AreClean (refblocks image.file.caches)
     pub first : BlocksMayGo (order_of image.file.caches) (l2_tables image.file.caches)
-    pub others : (table_at image.file.header.fields (contents_in view image.file) index ≡ 0) ⊎ AreClean (l2_tables image.file.caches)
 
   -- then the table's bytes stand in a cluster, and are held for it
-  pub record StandsReady (image : Qcow2 S F) (index cluster : ℕ) (bytes : List ℕ) : Type 0 where
-    pub stored : IsStored image index
+  pub record StandsReady (image : Qcow2 S F) (cluster : ℕ) (bytes : List ℕ) : Type 0 where
+    pub stored : IsStored image
     pub held : (t : L2TableView) × (l2_at image.file.caches cluster ≡ Some t) × (t.bytes ≡ bytes)
     pub stands : StandAt (contents_in view image.file) (cluster * cluster_size image.file.header.fields) bytes
 
@@ -62,14 +61,14 @@ module _ {S F : Type 0} (view : S → StorageView) where
 
   module _ (backing : F → BackingView) where
     -- all is written that has to stand before an L1 entry
-    abbrev pub Stores : Pending → Qcow2 S F → Qcow2 S F → List (Option Prepared) → ℕ → Result (Unit {0}) ImageError → Type 0
-    Stores p old new out index (Ok _) = UnseenStep view backing p p old new out × IsStored new index
-    Stores p old new out index (Err e) = UnseenStep view backing p p old new out
+    abbrev pub Stores : Pending → Qcow2 S F → Qcow2 S F → List (Option Prepared) → Result (Unit {0}) ImageError → Type 0
+    Stores p old new out (Ok _) = UnseenStep view backing p p old new out × IsStored new
+    Stores p old new out (Err e) = UnseenStep view backing p p old new out
 
     -- the bytes of a table are written to its cluster, and then it is put into its cache
-    abbrev pub Places : Pending → Qcow2 S F → Qcow2 S F → List (Option Prepared) → ℕ → ℕ → List ℕ → Result (Unit {0}) ImageError → Type 0
-    Places p old new out index cluster bytes (Ok _) = UnseenStep view backing p p old new out × StandsReady new index cluster bytes
-    Places p old new out index cluster bytes (Err e) = UnseenStep view backing p p old new out
+    abbrev pub Places : Pending → Qcow2 S F → Qcow2 S F → List (Option Prepared) → ℕ → List ℕ → Result (Unit {0}) ImageError → Type 0
+    Places p old new out cluster bytes (Ok _) = UnseenStep view backing p p old new out × StandsReady new cluster bytes
+    Places p old new out cluster bytes (Err e) = UnseenStep view backing p p old new out
 
     -- an L1 entry is written that names a new table
     abbrev pub NamesNew : Pending → Qcow2 S F → Qcow2 S F → List (Option Prepared) → ℕ → ℕ → Result (Unit {0}) ImageError → Type 0

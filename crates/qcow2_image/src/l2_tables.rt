@@ -1,10 +1,12 @@
 //! The L2 table of a range: found, made, or put in the place of one that others may name too.
-ghost use Rattle.std.specs.Prelude.{ℕ, List, Option, is_some, ◌≡◌, ◌-◌, ◌/◌, Some, ◌^◌, ◌<◌, IfErr, IsSome, IsTrue, Ok, Err, length};
+ghost use Rattle.std.specs.Prelude.{ℕ, List, Option, is_some, ◌≡◌, ◌≢◌, ◌-◌, ◌/◌, Some, ◌^◌, ◌<◌, IfErr, IsSome, IsTrue, Ok, Err, length};
 ghost use Rattle.qcow2_metadata.specs.L2Mapping.{IsHostCluster};
 ghost use Rattle.qcow2_metadata.specs.EntryTable.{entry_count};
 ghost use Rattle.qcow2_image.specs.Image.{Stays, KeepsRest, KeepsRestOn, is_writable};
 ghost use Rattle.qcow2_laws.specs.CrashInvariant.{Pending};
 ghost use Rattle.qcow2_alloc.specs.ImageFile.{known_in};
+ghost use Rattle.qcow2_alloc.specs.MetadataCaches.{order_of};
+ghost use Rattle.qcow2_laws.specs.Clusters.{RbDependsOnL2};
 ghost use Rattle.qcow2_image.specs.declared.prepared.Prepared.{Prepared};
 ghost use Rattle.qcow2_image.specs.CallParts.{Enters, FindsTable};
 ghost use Rattle.qcow2_image.specs.Found.{l1_index_of};
@@ -177,25 +179,22 @@ impl<S: Storage, F: WrappedFormat<S>> Qcow2<S, F> {
         if !self.can_enter(index, cluster) {
             return Err(ImageError::Limit);
         }
-        self.store_first(index)?;
+        self.store_first()?;
         self.place_l2(cluster, table)?;
         self.name_l2(index, cluster)
     }
 
-    // Writes what has to stand on the storage before an L1 entry names a new table: counts, and all tables where it names one already.
-    fn store_first(&mut self, index: usize) -> Result<(), ImageError>
+    // Writes what has to stand on the storage before an L1 entry names a new table: counts, and the L2 tables before them where the direction asks for it.
+    fn store_first(&mut self) -> Result<(), ImageError>
         ensures stays { Stays self.old self.new }
         ensures keeps_rest { KeepsRest self.old self.new }
         ensures cause { IfErr result IsMet }
         ensures rest { self.new ≡ record self.old { file = record self.old.file { storage = self.new.file.storage; caches = self.new.file.caches } } }
         ensures noted { IsTrue self.old.file.caches.is_changed → IsTrue self.new.file.caches.is_changed }
-        ensures stores { (p : Pending) (out : List (Option Prepared)) → ImageInvariant S.view F.backing p self.old out → Stores S.view F.backing p self.old self.new out index result }
+        ensures stores { (p : Pending) (out : List (Option Prepared)) → ImageInvariant S.view F.backing p self.old out → Stores S.view F.backing p self.old self.new out result }
+        ensures tables { order_of self.old.file.caches ≢ RbDependsOnL2 → self.new.file.caches.l2 ≡ self.old.file.caches.l2 }
     {
-        if self.l1_table.get(index).is_some() {
-            self.file.caches.flush_all(&mut self.file.storage)
-        } else {
-            self.file.caches.flush_rb(&mut self.file.storage)
-        }
+        self.file.caches.flush_rb(&mut self.file.storage)
     }
 
     // Writes a table's bytes to a cluster, and puts the table into its cache.
@@ -206,8 +205,8 @@ impl<S: Storage, F: WrappedFormat<S>> Qcow2<S, F> {
         ensures rest { self.new ≡ record self.old { file = record self.old.file { storage = self.new.file.storage; caches = self.new.file.caches } } }
         ensures noted { IsTrue self.old.file.caches.is_changed → IsTrue self.new.file.caches.is_changed }
         ensures long { length table.bytes ≡ 2 ^ table.cluster_bits }
-        ensures places { (p : Pending) (out : List (Option Prepared)) (index : ℕ) → ImageInvariant S.view F.backing p self.old out → 0 < p.fresh cluster → IsTableOf self.old.file.header.fields table
-            → IsStored S.view self.old index → Places S.view F.backing p self.old self.new out index cluster table.bytes result }
+        ensures places { (p : Pending) (out : List (Option Prepared)) → ImageInvariant S.view F.backing p self.old out → 0 < p.fresh cluster → IsTableOf self.old.file.header.fields table
+            → IsStored S.view self.old → Places S.view F.backing p self.old self.new out cluster table.bytes result }
     {
         if !cluster.is_nameable(table.cluster_bits()) {
             return Err(ImageError::Limit);
@@ -229,7 +228,7 @@ impl<S: Storage, F: WrappedFormat<S>> Qcow2<S, F> {
         ensures cause { IfErr result IsMet }
         ensures list { self.new.file.free_list ≡ self.old.file.free_list }
         ensures names { (p : Pending) (out : List (Option Prepared)) (table : L2TableView) → ImageInvariant S.view F.backing (with_fresh p (one_at cluster)) self.old out → MayName S.view self.old index → IsTrue self.old.file.caches.is_changed
-            → SaysKnown self.old.file.header.fields (known_in S.view self.old.file) index table → length table.bytes ≡ 2 ^ table.cluster_bits → StandsReady S.view self.old index cluster table.bytes → NamesNew S.view F.backing p self.old self.new out index cluster result }
+            → SaysKnown self.old.file.header.fields (known_in S.view self.old.file) index table → length table.bytes ≡ 2 ^ table.cluster_bits → StandsReady S.view self.old cluster table.bytes → NamesNew S.view F.backing p self.old self.new out index cluster result }
     {
         self.file.storage.will_write(WriteKind::Other);
         self.l1_table.enter_l2_table(index, cluster);

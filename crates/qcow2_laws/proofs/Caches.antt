@@ -1,10 +1,12 @@
 -- A cached table is written: all is kept, nothing known changes, and a stop is as safe as before.
-use Rattle.std.proofs.Common.{◌≡◌, ℕ, ◌+◌, ◌/◌, ◌<◌, ◌≤◌, ◌⊎◌, inl, inr, List, ◌∷◌, ◌++◌, refl, sym, ap, subst, ◌∙◌, arith}
+use Rattle.std.proofs.Common.{◌≡◌, ℕ, ◌+◌, ◌/◌, ◌<◌, ◌≤◌, ◌≢◌, ◌⊎◌, inl, inr, List, ◌∷◌, ◌++◌, true, refl, sym, ap, subst, ◌∙◌, arith}
 use mathlib.Core.Path.{fun_ext}
+use Rattle.std.proofs.lemmas.Bool.{cases_eq}
 use Rattle.qcow2_metadata.specs.Bytes.{Bytes}
 use Rattle.qcow2_metadata.specs.declared.header.HeaderFields.{HeaderFields}
 use Rattle.qcow2_metadata.specs.Header.{cluster_size, entries_per_cluster, counts_per_block}
-use Rattle.qcow2_metadata.specs.Entries.{reftable_entry, host_offset, block_offset}
+use Rattle.qcow2_metadata.specs.Entries.{l1_entry, is_copied, reftable_entry, host_offset, block_offset}
+use Rattle.qcow2_metadata.specs.Cover.{cover}
 use Rattle.qcow2_metadata.specs.Named.{in_cluster, named_for_tables, named_by_reftable, named_by_l1_table}
 use Rattle.qcow2_metadata.specs.Tables.{CachedTable, known}
 use Rattle.qcow2_laws.specs.Stops.{StopOkEverywhere}
@@ -12,13 +14,13 @@ use Rattle.qcow2_laws.specs.Clusters.{Direction, Neither, L2DependsOnRb, RbDepen
 use Rattle.qcow2_laws.specs.Guests.{table_at}
 use Rattle.qcow2_laws.specs.CrashInvariant.{Pending, CrashInvariant, SameTop, SameIn, IsPartly, SameCovers, SameCounts, IsInOrder, IsMixed, MayTurn}
 use Rattle.qcow2_laws.specs.Writes.{IsUnnamed}
-use Rattle.qcow2_laws.specs.Caches.{known_bytes, IsFreeAt, IsFreeOf, AreApart, AreClean, HasL2, HasBlock, CacheInvariantOver, BlocksMayGo, TablesMayGo, IsWrittenSo, UnseenTableWrite, AreSettled}
+use Rattle.qcow2_laws.specs.Caches.{known_bytes, IsFreeAt, IsFreeOf, AreApart, AreClean, HasOwnL2, HasBlock, CacheInvariantOver, BlocksMayGo, TablesMayGo, IsWrittenSo, UnseenTableWrite, AreSettled}
 use Rattle.qcow2_laws.proofs.Places.{Sizes, Sizes-from}
 use Rattle.qcow2_laws.proofs.Tops.{for_tables-top}
 use Rattle.qcow2_laws.proofs.Mixes.{top_kept, mixed_guarded, mixed_either, turned_guarded}
 use Rattle.qcow2_laws.proofs.Values.{mixed_kept}
 use Rattle.qcow2_laws.proofs.Blocks.{table_once}
-use Rattle.qcow2_laws.proofs.Shares.{shares, in_l1, in_reftable, table_has, block_has, cover_stays, count_stays}
+use Rattle.qcow2_laws.proofs.Shares.{shares, in_l1, in_reftable, two_tables, table_has, block_has, cover_stays, count_stays}
 use Rattle.qcow2_laws.proofs.Lists.{known-at, known-none, clean_known, free_too, apart_too, written_partly, written_known}
 
 module _ (h : HeaderFields) (d : Direction) (p : Pending) (l2s rbs : List CachedTable) (on_storage : Bytes) (kept : CacheInvariantOver h d p l2s rbs on_storage) where
@@ -31,7 +33,7 @@ module _ (h : HeaderFields) (d : Direction) (p : Pending) (l2s rbs : List Cached
   -- ---- which clusters no modified table lies in
 
   -- one kind of table alone stands in a cluster
-  l2_share : (c : ℕ) → HasL2 h on_storage c → 1 ≤ named_by_l1_table h on_storage c
+  l2_share : (c : ℕ) → HasOwnL2 h on_storage c → 1 ≤ named_by_l1_table h on_storage c
   l2_share c has = subst (λ n. 1 ≤ named_by_l1_table h on_storage n) has.2 (table_has h on_storage has.0 has.1)
 
   block_share : (c : ℕ) → HasBlock h on_storage c → 1 ≤ named_by_reftable h on_storage c
@@ -138,6 +140,29 @@ module _ (h : HeaderFields) (d : Direction) (p : Pending) (l2s rbs : List Cached
       subst (λ (b : Bytes). SameCounts h on_storage (known (cluster_size h) l2s b)) (sym (clean_known (cluster_size h) rbs on_storage clean))
       (tables_counts (known (cluster_size h) l2s on_storage) (λ c. inr (λ o in_c. refl)))
 
+  -- the L2 table of an L1 entry that isn't marked copied is not modified: it is known as it stands on the storage
+  shared_free : (i : ℕ) → (is_copied (l1_entry h on_storage i) ≡ true → ⊥) → table_at h on_storage i ≢ 0 → IsFreeOf (cluster_size h) l2s (table_at h on_storage i / cluster_size h)
+  shared_free i shared real = elim (kept.l2_stand (table_at h on_storage i / cluster_size h)) [
+    | inl free ↦ free
+    | inr has ↦ elim (cases_eq has.0 i) [
+      | inl same ↦ absurd (shared (ap (λ k. is_copied (l1_entry h on_storage k)) (sym same) ∙ has.3))
+      | inr other ↦ absurd (
+          let two = two_tables h on_storage (table_at h on_storage i / cluster_size h) has.0 i other has.1 real has.2 refl in
+          let s = shares h on_storage (table_at h on_storage i / cluster_size h) in
+          let one = once_at (table_at h on_storage i / cluster_size h) (omega arith) in
+          omega arith)
+    ]
+  ]
+
+  pub shared_covers : (i : ℕ) → (is_copied (l1_entry h on_storage i) ≡ true → ⊥) → (g : ℕ) → g / entries_per_cluster h ≡ i → cover h on_storage g ≡ cover h (known_bytes (cluster_size h) l2s rbs on_storage) g
+  shared_covers i shared g here =
+      cover_stays h on_storage (known_bytes (cluster_size h) l2s rbs on_storage) kept.guarded.top g (kept.guarded.same_top.l1 (g / entries_per_cluster h)) (λ real o in_c.
+      let c = table_at h on_storage (g / entries_per_cluster h) / cluster_size h in
+      let l2_free : IsFreeOf (cluster_size h) l2s (table_at h on_storage (g / entries_per_cluster h) / cluster_size h) =
+      shared_free (g / entries_per_cluster h) (λ copied. shared (ap (λ k. is_copied (l1_entry h on_storage k)) (sym here) ∙ copied)) real in
+      let rb_free = rbs_free c (let t = table_has h on_storage (g / entries_per_cluster h) real in omega arith) in
+      sym (known-none (cluster_size h) l2s (known (cluster_size h) rbs on_storage) o (l2_free o in_c) ∙ known-none (cluster_size h) rbs on_storage o (rb_free o in_c)))
+
   blocks_order : (e : Direction) → BlocksMayGo e l2s → (b : Bytes) → IsPartly (cluster_size h) on_storage (known (cluster_size h) rbs on_storage) b → IsInOrder e h on_storage (known_bytes (cluster_size h) l2s rbs on_storage) b
   blocks_order Neither may b partly = tt
   blocks_order L2DependsOnRb may b partly = inl (blocks_covers b partly)
@@ -149,10 +174,10 @@ module _ (h : HeaderFields) (d : Direction) (p : Pending) (l2s rbs : List Cached
   tables_order RbDependsOnL2 may b partly = inl (tables_counts b partly)
 
   -- ---- what stands where, in a mix
-  l2_stands : (b : Bytes) → SameTop h on_storage b → (c : ℕ) → HasL2 h on_storage c → HasL2 h b c
+  l2_stands : (b : Bytes) → SameTop h on_storage b → (c : ℕ) → HasOwnL2 h on_storage c → HasOwnL2 h b c
   l2_stands b top c has =
       let e = ap host_offset (top.l1 has.0) in
-      (has.0, (λ none. has.1 (e ∙ none)), ap (λ n. n / cluster_size h) (sym e) ∙ has.2)
+      (has.0, (λ none. has.1 (e ∙ none)), ap (λ n. n / cluster_size h) (sym e) ∙ has.2, ap is_copied (sym (top.l1 has.0)) ∙ has.3)
 
   block_stands : (b : Bytes) → SameTop h on_storage b → (c : ℕ) → HasBlock h on_storage c → HasBlock h b c
   block_stands b top c has =

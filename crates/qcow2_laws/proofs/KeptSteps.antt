@@ -10,7 +10,7 @@ use Rattle.qcow2_laws.specs.Clusters.{Direction}
 use Rattle.qcow2_laws.specs.Guests.{names}
 use Rattle.qcow2_laws.specs.CrashInvariant.{Pending, CrashInvariant, SameCovers}
 use Rattle.qcow2_laws.specs.Writes.{IsUnnamed}
-use Rattle.qcow2_laws.specs.Caches.{known_bytes, IsFreeAt, IsFreeOf, AreApart, HasL2, HasBlock, CacheInvariantOver, AreSettled}
+use Rattle.qcow2_laws.specs.Caches.{known_bytes, IsFreeAt, IsFreeOf, AreApart, HasOwnL2, HasBlock, CacheInvariantOver, AreSettled}
 use Rattle.qcow2_laws.proofs.Guests.{over_guests-same}
 use Rattle.qcow2_laws.proofs.Lists.{known-at, known-none, no_overlay, overlays_within, within_cluster}
 
@@ -55,14 +55,14 @@ refblock_changed h d d' p p' l2s front back t t' on_storage kept aligned stands 
 
 -- ---- a cached L2 table changes, while no refblock is unnamed
 pub l2_table_changed : (h : HeaderFields) (d d' : Direction) (p p' : Pending) (front back rbs : List CachedTable) (t t' : CachedTable) (on_storage : Bytes) → CacheInvariantOver h d p (front ++ t ∷ back) rbs on_storage
-    → AreSettled h rbs on_storage → t'.place % cluster_size h ≡ 0 → HasL2 h on_storage (t'.place / cluster_size h) → AreApart (cluster_size h) (front ++ t' ∷ back)
+    → AreSettled h rbs on_storage → t'.place % cluster_size h ≡ 0 → HasOwnL2 h on_storage (t'.place / cluster_size h) → AreApart (cluster_size h) (front ++ t' ∷ back)
     → CrashInvariant h d' p' on_storage (known_bytes (cluster_size h) (front ++ t' ∷ back) rbs on_storage) → CacheInvariantOver h d' p' (front ++ t' ∷ back) rbs on_storage
 l2_table_changed h d d' p p' front back rbs t t' on_storage kept settled aligned stands apart guarded = record {
   guarded = guarded;
   l2_apart = apart;
   rb_apart = kept.rb_apart;
   l2_stand = λ c. elim (cases_eq c (t'.place / cluster_size h)) [
-    | inl here ↦ inr (subst (HasL2 h on_storage) (sym here) stands)
+    | inl here ↦ inr (subst (HasOwnL2 h on_storage) (sym here) stands)
     | inr other ↦ elim (kept.l2_stand c) [
       | inl free ↦ inl (elsewhere_free (cluster_size h) front back t t' c aligned other free)
       | inr has ↦ inr has
@@ -91,7 +91,7 @@ still_agree size l2s rbs on_storage on_storage' each o same = elim (each o) [
 -- what stands where is kept by what names it, before and after
 pub kept_beside : (h h' : HeaderFields) (d d' : Direction) (p p' : Pending) (l2s rbs : List CachedTable) (on_storage on_storage' : Bytes) → CacheInvariantOver h d p l2s rbs on_storage → cluster_size h' ≡ cluster_size h
     → CrashInvariant h' d' p' on_storage' (known_bytes (cluster_size h') l2s rbs on_storage')
-    → ((c : ℕ) → HasL2 h on_storage c → IsFreeOf (cluster_size h) l2s c ⊎ HasL2 h' on_storage' c)
+    → ((c : ℕ) → HasOwnL2 h on_storage c → IsFreeOf (cluster_size h) l2s c ⊎ HasOwnL2 h' on_storage' c)
     → ((c : ℕ) → HasBlock h on_storage c ⊎ IsUnnamed h on_storage (known_bytes (cluster_size h) l2s rbs on_storage) c
     → IsFreeOf (cluster_size h) rbs c ⊎ (HasBlock h' on_storage' c ⊎ IsUnnamed h' on_storage' (known_bytes (cluster_size h') l2s rbs on_storage') c))
     → CacheInvariantOver h' d' p' l2s rbs on_storage'

@@ -3,7 +3,7 @@ use Rattle.std.specs.Prelude.{ℕ, ◌/◌, ◌%◌, ◌≡◌, ◌≢◌, ◌�
 use Rattle.qcow2_metadata.specs.Bytes.{Bytes}
 use Rattle.qcow2_metadata.specs.declared.header.HeaderFields.{HeaderFields}
 use Rattle.qcow2_metadata.specs.Header.{cluster_size}
-use Rattle.qcow2_metadata.specs.Entries.{reftable_entry, block_offset}
+use Rattle.qcow2_metadata.specs.Entries.{l1_entry, is_copied, reftable_entry, block_offset}
 use Rattle.qcow2_metadata.specs.Tables.{CachedTable, known, overlays}
 use Rattle.qcow2_laws.specs.Stops.{Checkpoint, StopOkEverywhere}
 use Rattle.qcow2_laws.specs.Clusters.{Direction, Neither, L2DependsOnRb, RbDependsOnL2}
@@ -40,12 +40,16 @@ HasL2 h b c = (i : ℕ) × (table_at h b i ≢ 0) × (table_at h b i / cluster_s
 abbrev pub HasBlock : HeaderFields → Bytes → ℕ → Type 0
 HasBlock h b c = (k : ℕ) × (block_offset (reftable_entry h b k) ≢ 0) × (block_offset (reftable_entry h b k) / cluster_size h ≡ c)
 
--- What is kept of the L2 tables, the refblocks and the storage. A modified table stands where it is named; a refblock may be new, and stand where nothing is named.
+-- an L2 table stands there whose L1 entry is marked copied
+abbrev pub HasOwnL2 : HeaderFields → Bytes → ℕ → Type 0
+HasOwnL2 h b c = (i : ℕ) × (table_at h b i ≢ 0) × (table_at h b i / cluster_size h ≡ c) × (is_copied (l1_entry h b i) ≡ true)
+
+-- What is kept of the L2 tables, the refblocks and the storage. A modified L2 table stands where an L1 entry that is marked copied names it. So does a refblock by its entry, or it may be new, and stand where nothing is named.
 pub record CacheInvariantOver (h : HeaderFields) (d : Direction) (p : Pending) (l2s rbs : List CachedTable) (on_storage : Bytes) : Type 0 where
   pub guarded : CrashInvariant h d p on_storage (known_bytes (cluster_size h) l2s rbs on_storage)
   pub l2_apart : AreApart (cluster_size h) l2s
   pub rb_apart : AreApart (cluster_size h) rbs
-  pub l2_stand : (c : ℕ) → IsFreeOf (cluster_size h) l2s c ⊎ HasL2 h on_storage c
+  pub l2_stand : (c : ℕ) → IsFreeOf (cluster_size h) l2s c ⊎ HasOwnL2 h on_storage c
   pub rb_stand : (c : ℕ) → IsFreeOf (cluster_size h) rbs c ⊎ (HasBlock h on_storage c ⊎ IsUnnamed h on_storage (known_bytes (cluster_size h) l2s rbs on_storage) c)
 
 -- what has to be written before refblocks, L2 tables may be

@@ -3,10 +3,10 @@ use Rattle.std.proofs.Common.{◌≡◌, ◌⊎◌, inl, inr, ℕ, ◌/◌, ◌<
 use Rattle.qcow2_metadata.specs.Bytes.{Bytes}
 use Rattle.qcow2_metadata.specs.declared.header.HeaderFields.{HeaderFields}
 use Rattle.qcow2_metadata.specs.Header.{cluster_size}
-use Rattle.qcow2_metadata.specs.Entries.{l1_entry, reftable_entry, host_offset, block_offset}
+use Rattle.qcow2_metadata.specs.Entries.{l1_entry, reftable_entry, host_offset, block_offset, is_copied}
 use Rattle.qcow2_metadata.specs.Named.{named_for_tables}
 use Rattle.qcow2_laws.specs.CrashInvariant.{Pending, CrashInvariant, SameIn, SameTop}
-use Rattle.qcow2_laws.specs.Caches.{HasL2, HasBlock, AreSettled}
+use Rattle.qcow2_laws.specs.Caches.{HasL2, HasOwnL2, HasBlock, AreSettled}
 use Rattle.qcow2_laws.proofs.KeptSteps.{kept_beside}
 use Rattle.qcow2_laws.proofs.Shares.{shares, top_stays, table_has, block_has}
 use Rattle.qcow2_alloc.specs.declared.cache.MetadataCaches.{MetadataCaches}
@@ -22,11 +22,13 @@ module _ {S : Type 0} (h : HeaderFields) (p p' : Pending) (caches : MetadataCach
   pub top_beside : SameTop h on_storage on_storage'
   top_beside = top_stays h on_storage on_storage' sound.kept.kept.guarded.top stays
 
-  table_still : (c : ℕ) → HasL2 h on_storage c → HasL2 h on_storage' c
-  table_still c has = let e = ap host_offset (top_beside.l1 has.0) in (has.0, (λ none. has.1 (e ∙ none)), ap (λ n. n / cluster_size h) (sym e) ∙ has.2)
-
   table_was : (c : ℕ) → HasL2 h on_storage' c → HasL2 h on_storage c
   table_was c has = let e = ap host_offset (sym (top_beside.l1 has.0)) in (has.0, (λ none. has.1 (e ∙ none)), ap (λ n. n / cluster_size h) (sym e) ∙ has.2)
+
+  own_still : (c : ℕ) → HasOwnL2 h on_storage c → HasOwnL2 h on_storage' c
+  own_still c has =
+      let e = ap host_offset (top_beside.l1 has.0) in
+      (has.0, (λ none. has.1 (e ∙ none)), ap (λ n. n / cluster_size h) (sym e) ∙ has.2, ap is_copied (sym (top_beside.l1 has.0)) ∙ has.3)
 
   block_still : (c : ℕ) → HasBlock h on_storage c → HasBlock h on_storage' c
   block_still c has = let e = ap block_offset (top_beside.reftable has.0) in (has.0, (λ none. has.1 (e ∙ none)), ap (λ n. n / cluster_size h) (sym e) ∙ has.2)
@@ -50,7 +52,7 @@ module _ {S : Type 0} (h : HeaderFields) (p p' : Pending) (caches : MetadataCach
     kept = record {
       kept =
           kept_beside h h (order_of caches) (order_of caches) p p' (l2_tables caches) (refblocks caches) on_storage on_storage' sound.kept.kept refl guarded
-          (λ c has. inr (table_still c has))
+          (λ c has. inr (own_still c has))
           (λ c either. elim (settled c) [ inl free ↦ inl free | inr has ↦ inr (inl (block_still c has)) ]);
       l2_loaded = loaded_beside (cluster_size h) (HasL2 h on_storage) (HasL2 h on_storage') on_storage on_storage' (l2_tables caches)
           (λ c has. let was = table_was c has in (was, back c (stays c (table_named c was)))) sound.kept.l2_loaded;

@@ -3,7 +3,7 @@ use Rattle.std.proofs.Common.{◌≡◌, ℕ, ◌+◌, ◌*◌, ◌/◌, ◌%◌
 use Rattle.qcow2_metadata.specs.Bytes.{Bytes, byte_at}
 use Rattle.qcow2_metadata.specs.declared.header.HeaderFields.{HeaderFields}
 use Rattle.qcow2_metadata.specs.Header.{cluster_size, entries_per_cluster}
-use Rattle.qcow2_metadata.specs.Entries.{l2_entry, host_offset}
+use Rattle.qcow2_metadata.specs.Entries.{l1_entry, l2_entry, host_offset, is_copied}
 use Rattle.qcow2_metadata.specs.Cover.{entry_cover}
 use Rattle.qcow2_metadata.specs.Named.{named_by_l1_table}
 use Rattle.qcow2_metadata.specs.L2Mapping.{dropped_run}
@@ -14,7 +14,7 @@ use Rattle.qcow2_metadata.proofs.TableEntries.{number_at-moved}
 use Rattle.qcow2_laws.specs.Guests.{table_at}
 use Rattle.qcow2_laws.specs.CrashInvariant.{Pending, CrashInvariant}
 use Rattle.qcow2_laws.specs.Tops.{IsSameOutside}
-use Rattle.qcow2_laws.specs.Caches.{known_bytes, HasL2, AreSettled}
+use Rattle.qcow2_laws.specs.Caches.{known_bytes, HasL2, HasOwnL2, AreSettled}
 use Rattle.qcow2_laws.proofs.Places.{Sizes}
 use Rattle.qcow2_laws.proofs.Lists.{known-at, known-none, changed_outside}
 use Rattle.qcow2_laws.proofs.Shares.{table_has}
@@ -130,7 +130,7 @@ module _ {S : Type 0} (h : HeaderFields) (p : Pending) (on_storage : Bytes) (cac
   }
 
   -- ---- another table in its place
-  module _ (w : L2TableView) (marked : w.is_modified ≡ true) (same_bits : w.cluster_bits ≡ v.cluster_bits) (same_zero : w.has_zero_bit ≡ v.has_zero_bit) (same_external : w.data_is_external ≡ v.data_is_external)
+  module _ (own : is_copied (l1_entry h on_storage i) ≡ true) (w : L2TableView) (marked : w.is_modified ≡ true) (same_bits : w.cluster_bits ≡ v.cluster_bits) (same_zero : w.has_zero_bit ≡ v.has_zero_bit) (same_external : w.data_is_external ≡ v.data_is_external)
       (caches' : MetadataCaches S) (l2_is : caches'.l2 ≡ with_entries caches.l2 (set_at (eqb key) caches.l2.entries w)) (rb_is : caches'.rb ≡ caches.rb) (direction_is : caches'.direction ≡ caches.direction) where
     new_list : l2_tables (record caches { l2 = with_entries caches.l2 (set_at (eqb key) caches.l2.entries w) }) ≡ list_with w
     new_list = ap tables (there.set w) ∙ tables_at bits (λ (t : L2TableView). t.bytes) (λ t. t.is_modified) there.front there.back (key, slot_of w there.pins)
@@ -153,6 +153,9 @@ module _ {S : Type 0} (h : HeaderFields) (p : Pending) (on_storage : Bytes) (cac
         ∙ changed_outside (cluster_size h) (tables there.front) (tables there.back) (table v) (table w) under refl aligned_v o (λ here. other (here ∙ ap (λ n. n / cluster_size h) (place_is v)))
         ∙ sym (ap (λ (m : Bytes). m o) known')
 
+    has_own : HasOwnL2 h on_storage ((table w).place / cluster_size h)
+    has_own = (i, (λ none. at.real (sym same_entry ∙ none)), ap (λ n. n / cluster_size h) (same_entry ∙ sym (place_is w)), own)
+
     fit' : IsTableOf caches.l2.backend.header.fields w
     fit' = record { bits = same_bits ∙ own_fit.bits; zero_bit = same_zero ∙ own_fit.zero_bit; external = same_external ∙ own_fit.external }
 
@@ -160,7 +163,7 @@ module _ {S : Type 0} (h : HeaderFields) (p : Pending) (on_storage : Bytes) (cac
     sound_again p' settled guarded =
         let guarded' : CrashInvariant h (order_of caches) p' on_storage (known_bytes (cluster_size h) (list_with w) (refblocks caches) on_storage) =
         subst (λ (b : Bytes). CrashInvariant h (order_of caches) p' on_storage b) known' (rw direction_is at guarded) in
-        let again = l2_table_changed h (order_of caches) (order_of caches) p p' (tables there.front) (tables there.back) (refblocks caches) (table v) (table w) on_storage kept.kept settled aligned_v (has w)
+        let again = l2_table_changed h (order_of caches) (order_of caches) p p' (tables there.front) (tables there.back) (refblocks caches) (table v) (table w) on_storage kept.kept settled aligned_v has_own
         (loaded_apart (cluster_size h) (HasL2 h on_storage) on_storage (list_with w) loaded') guarded' in
         let all : AllFit (IsTableOf caches.l2.backend.header.fields) (set_at (eqb key) caches.l2.entries w) =
         subst (AllFit (IsTableOf caches.l2.backend.header.fields)) (sym (there.set w))

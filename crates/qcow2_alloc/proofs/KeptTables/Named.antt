@@ -7,7 +7,7 @@ use Rattle.qcow2_metadata.specs.declared.header.HeaderFields.{HeaderFields}
 use Rattle.qcow2_metadata.specs.Header.{cluster_size}
 use Rattle.qcow2_metadata.specs.Tables.{CachedTable}
 use Rattle.qcow2_laws.specs.CrashInvariant.{Pending, CrashInvariant, SameIn}
-use Rattle.qcow2_laws.specs.Caches.{HasL2, HasBlock, AreSettled}
+use Rattle.qcow2_laws.specs.Caches.{HasL2, HasOwnL2, HasBlock, AreSettled}
 use Rattle.qcow2_laws.proofs.KeptSteps.{kept_beside}
 use Rattle.qcow2_alloc.specs.declared.async_lru_cache.slot.Slot.{Slot}
 use Rattle.qcow2_alloc.specs.declared.cache.MetadataCaches.{MetadataCaches}
@@ -85,7 +85,7 @@ current_none {V = V} bits bytes is_modified IsNamed on_storage on_storage' key e
 
 -- ---- tables are named that are in their caches, and no other one is named or changed
 module _ {S : Type 0} (h : HeaderFields) (p p' : Pending) (caches : MetadataCaches S) (on_storage on_storage' : Bytes) (sound : CacheInvariant h p caches on_storage) (settled : AreSettled h (refblocks caches) on_storage)
-    (l2_still : (c : ℕ) → HasL2 h on_storage c → HasL2 h on_storage' c) (rb_still : (c : ℕ) → HasBlock h on_storage c → HasBlock h on_storage' c)
+    (l2_still : (c : ℕ) → HasOwnL2 h on_storage c → HasOwnL2 h on_storage' c) (rb_still : (c : ℕ) → HasBlock h on_storage c → HasBlock h on_storage' c)
     (l2_now : (c : ℕ) → HasL2 h on_storage' c → (HasL2 h on_storage c × SameIn (cluster_size h) c on_storage' on_storage) ⊎ AreCurrentIn (cluster_size h) c (l2_tables caches) on_storage')
     (rb_now : (c : ℕ) → HasBlock h on_storage' c → (HasBlock h on_storage c × SameIn (cluster_size h) c on_storage' on_storage) ⊎ AreCurrentIn (cluster_size h) c (refblocks caches) on_storage') where
   pub settled_named : AreSettled h (refblocks caches) on_storage'

@@ -41,7 +41,8 @@ module _ {S : Type 0} (h : HeaderFields) (p : Pending) (caches : MetadataCaches 
   pub tables_stand : AreStanding (λ (t : L2TableView). t.is_modified) (IsTableOf caches.l2.backend.header.fields) (HasL2 h on_storage) caches.l2.entries
   tables_stand =
       standing_of caches.l2.backend.header.fields.cluster_bits (λ (t : L2TableView). t.bytes) (λ t. t.is_modified) (IsTableOf caches.l2.backend.header.fields) (HasL2 h on_storage) caches.l2.entries sound.l2_fit
-      (subst (λ n. (c : ℕ) → IsFreeOf (2 ^ n) (l2_tables caches) c ⊎ HasL2 h on_storage c) (sym sound.l2_format.bits) sound.kept.kept.l2_stand)
+      (subst (λ n. (c : ℕ) → IsFreeOf (2 ^ n) (l2_tables caches) c ⊎ HasL2 h on_storage c) (sym sound.l2_format.bits)
+      (λ c. elim (sound.kept.kept.l2_stand c) [ inl free ↦ inl free | inr has ↦ inr (has.0, has.1, has.2) ]))
 
   pub blocks_stand : AreSettled h (refblocks caches) on_storage → AreStanding (λ (b : RefBlockView). b.is_modified) (IsBlockOf caches.rb.backend.header.fields) (HasBlock h on_storage) caches.rb.entries
   blocks_stand settled =

@@ -137,7 +137,7 @@ module _ {S F : Type 0} (view : S → StorageView) (backing : F → BackingView)
   at_entry = subst (λ x. IsEntryAt h s.known i t x) (sym new_for.index) pending.named
 
   entry : MadeEntry h old.file.caches mid s.on_storage i n.index (copied_entry host) answer
-  entry = maps h before s.on_storage i sound.file.caches at_entry found new_for.nameable
+  entry = maps h before s.on_storage i sound.file.caches at_entry pending.copied found new_for.nameable
 
   guest_is : guest_at h i n.index ≡ cluster_of h p
   guest_is = ap (λ x. i * entries_per_cluster h + x) new_for.index ∙ div-add-mod' (cluster_of h p) (entries_per_cluster h)

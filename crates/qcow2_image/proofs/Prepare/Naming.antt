@@ -27,7 +27,7 @@ use Rattle.qcow2_laws.specs.Stops.{Checkpoint, StopOkEverywhere}
 use Rattle.qcow2_laws.specs.Changes.{one_at, with_fresh, renamed}
 use Rattle.qcow2_laws.specs.CrashInvariant.{Pending, SameIn}
 use Rattle.qcow2_laws.specs.Guests.{table_at}
-use Rattle.qcow2_laws.specs.Caches.{AreClean, IsFreeAt, IsFreeOf, HasL2, HasBlock}
+use Rattle.qcow2_laws.specs.Caches.{AreClean, IsFreeAt, IsFreeOf, HasL2, HasOwnL2, HasBlock}
 use Rattle.qcow2_laws.specs.SafeSteps.{SafeStep, SafeThroughout}
 use Rattle.qcow2_laws.specs.Tops.{IsSameBut, IsSameOutside, WritesL1Entry, IsNewTable}
 use Rattle.qcow2_laws.specs.Unseen.{IsUnseen}
@@ -36,7 +36,7 @@ use Rattle.qcow2_laws.proofs.Blocks.{table_once}
 use Rattle.qcow2_laws.proofs.KeptSteps.{kept_beside}
 use Rattle.qcow2_laws.proofs.Lists.{unmodified_over}
 use Rattle.qcow2_laws.proofs.NewTables.{outside_eight, other_l1}
-use Rattle.qcow2_laws.proofs.Caches.{clean_counts, clean_covers}
+use Rattle.qcow2_laws.proofs.Caches.{clean_counts, shared_covers}
 use Rattle.qcow2_laws.proofs.Places.{Sizes, cover_none}
 use Rattle.qcow2_laws.proofs.Shares.{shares, in_l1, l1_has, l1_reftable, table_has, block_has}
 use Rattle.qcow2_laws.proofs.Steps.{table_is_named}
@@ -82,7 +82,7 @@ table_alone h at c real =
 
 module _ {S F : Type 0} (view : S → StorageView) (backing : F → BackingView) (old : Qcow2 S F) (out : List (Option Prepared)) (p : Pending) (index at : ℕ) (t' : EntryTableView) (table : L2TableView)
     (sound : ImageInvariant view backing (with_fresh p (one_at at)) old out) (may : MayName view old index) (says : SaysKnown old.file.header.fields (known_in view old.file) index table) (whole : length table.bytes ≡ 2 ^ table.cluster_bits)
-    (ready : StandsReady view old index at table.bytes) (within : index < entry_count old.l1_table) (nameable : IsHostCluster old.l1_table.cluster_bits at) (same : t' ≡ record old.l1_table { bytes = t'.bytes })
+    (ready : StandsReady view old at table.bytes) (within : index < entry_count old.l1_table) (nameable : IsHostCluster old.l1_table.cluster_bits at) (same : t' ≡ record old.l1_table { bytes = t'.bytes })
     (enters : ChangesEntry old.l1_table.bytes t'.bytes index (copied_entry (at * 2 ^ old.l1_table.cluster_bits))) (offset : host_offset (entry_at t'.bytes index) ≡ at * 2 ^ old.l1_table.cluster_bits)
     (copied : is_copied (entry_at t'.bytes index) ≡ true) (fits : entry_at t'.bytes index < 2 ^ 64) where
   abbrev h : HeaderFields
@@ -107,7 +107,7 @@ module _ {S F : Type 0} (view : S → StorageView) (backing : F → BackingView)
   some = let own = one_here at in omega (arith, own)
 
   free : IsFree view q old.file at
-  free = free_here view backing old out q sound index ready.stored at some
+  free = free_here view backing old out q sound ready.stored at some
 
   place : host_offset entry ≡ at * cluster_size h
   place = offset ∙ ap (λ n. at * 2 ^ n) sound.l1_table.bits
@@ -150,12 +150,12 @@ module _ {S F : Type 0} (view : S → StorageView) (backing : F → BackingView)
 
   -- what is known of the guest clusters of the entry stands on the storage
   stored : (g : ℕ) → g / entries_per_cluster h ≡ index → cover h on_storage g ≡ cover h known g
-  stored g here = elim ready.stored.others [
+  stored g here = elim (cases_eq (table_at h on_storage index) 0) [
     | inl none ↦
         let at_storage : table_at h on_storage (g / entries_per_cluster h) ≡ 0 = ap (table_at h on_storage) here ∙ none in
         let at_known = ap host_offset (sym (sound.file.caches.kept.kept.guarded.same_top.l1 (g / entries_per_cluster h))) ∙ at_storage in
         cover_none h on_storage g at_storage ∙ sym (cover_none h known g at_known)
-    | inr clean ↦ clean_covers h (order_of old.file.caches) q (l2_tables old.file.caches) (refblocks old.file.caches) on_storage sound.file.caches.kept.kept clean g
+    | inr real ↦ shared_covers h (order_of old.file.caches) q (l2_tables old.file.caches) (refblocks old.file.caches) on_storage sound.file.caches.kept.kept index (λ copied. may (real, copied)) g here
   ]
 
   covers : (g : ℕ) → g / entries_per_cluster h ≡ index → cover h on_storage g ≡ entry_cover h (l2_entry on_storage (host_offset entry) (g % entries_per_cluster h))
@@ -259,14 +259,13 @@ module _ {S F : Type 0} (view : S → StorageView) (backing : F → BackingView)
         (subst (λ n. (i : ℕ) → i < 2 ^ n → byte_at held.0.bytes i ≡ on_storage' (at * 2 ^ n + i)) (sym same_bits) there)
         (subst (λ n. AreLoaded (2 ^ n) (HasL2 h on_storage) (l2_tables old.file.caches) on_storage) (sym same_bits) sound.file.caches.kept.l2_loaded))
 
-    -- where a modified table stands, one is named still
-    still_named : (c : ℕ) → HasL2 h on_storage c → IsFreeOf (cluster_size h) (l2_tables old.file.caches) c ⊎ HasL2 h on_storage' c
-    still_named c has = elim ready.stored.others [
-      | inr clean ↦ inl (clean_free (cluster_size h) (l2_tables old.file.caches) clean c)
-      | inl none ↦
-          let e : table_at h on_storage has.0 ≡ table_at h on_storage' has.0 = ap host_offset (other_l1 h on_storage on_storage' index has.0 but (λ here. has.1 (ap (table_at h on_storage) here ∙ none))) in
-          inr (has.0, (λ gone. has.1 (e ∙ gone)), ap (λ n. n / cluster_size h) (sym e) ∙ has.2)
-    ]
+    -- a table whose entry is marked copied is named still
+    still_named : (c : ℕ) → HasOwnL2 h on_storage c → HasOwnL2 h on_storage' c
+    still_named c has =
+        let same : l1_entry h on_storage has.0 ≡ l1_entry h on_storage' has.0 = other_l1 h on_storage on_storage' index has.0 but (λ here.
+        may ((λ none. has.1 (ap (table_at h on_storage) here ∙ none)), ap (λ k. is_copied (l1_entry h on_storage k)) (sym here) ∙ has.3)) in
+        let e : table_at h on_storage has.0 ≡ table_at h on_storage' has.0 = ap host_offset same in
+        (has.0, (λ gone. has.1 (e ∙ gone)), ap (λ n. n / cluster_size h) (sym e) ∙ has.2, ap is_copied (sym same) ∙ has.3)
 
     l2_now : (c : ℕ) → HasL2 h on_storage' c → (HasL2 h on_storage c × SameIn (cluster_size h) c on_storage' on_storage) ⊎ AreCurrentIn (cluster_size h) c (l2_tables old.file.caches) on_storage'
     l2_now c has = elim (cases_eq has.0 index) [
@@ -294,7 +293,7 @@ module _ {S F : Type 0} (view : S → StorageView) (backing : F → BackingView)
       kept = record {
         kept =
             kept_beside h h (order_of old.file.caches) (order_of old.file.caches) q (replacing view p old index) (l2_tables old.file.caches) (refblocks old.file.caches) on_storage on_storage' sound.file.caches.kept.kept refl leads.sound
-            still_named (λ c either. inl (clean_free (cluster_size h) (refblocks old.file.caches) ready.stored.counts c));
+            (λ c has. inr (still_named c has)) (λ c either. inl (clean_free (cluster_size h) (refblocks old.file.caches) ready.stored.counts c));
         l2_loaded = loaded_named (cluster_size h) (HasL2 h on_storage) (HasL2 h on_storage') on_storage on_storage' (l2_tables old.file.caches) l2_now sound.file.caches.kept.l2_loaded;
         rb_loaded = loaded_named (cluster_size h) (HasBlock h on_storage) (HasBlock h on_storage') on_storage on_storage' (refblocks old.file.caches) rb_now sound.file.caches.kept.rb_loaded;
       };

@@ -1,5 +1,5 @@
 -- The bytes of a new L2 table are written to its cluster, and then it is put into its cache.
-use Rattle.std.proofs.Common.{◌≡◌, inl, inr, ℕ, ◌+◌, ◌*◌, ◌^◌, ◌<◌, List, length, Option, None, Result, Ok, refl, sym, ap, ◌∙◌, subst, arith}
+use Rattle.std.proofs.Common.{◌≡◌, ℕ, ◌+◌, ◌*◌, ◌^◌, ◌<◌, List, length, Option, None, Result, Ok, refl, sym, ap, ◌∙◌, subst, arith}
 use Rattle.std.specs.Prelude.{Err, IfSome, OnOk, Some}
 use Rattle.qcow2_alloc.specs.declared.error.ImageError.{ImageError}
 use Rattle.image_access.specs.Backing.{BackingView}
@@ -22,19 +22,17 @@ use Rattle.qcow2_alloc.specs.Allocation.{StandAt}
 use Rattle.qcow2_alloc.specs.CacheMarks.{l2_pins, HasRoom}
 use Rattle.qcow2_alloc.specs.declared.cache.MetadataCaches.{MetadataCaches}
 use Rattle.qcow2_laws.specs.Caches.{AreClean, BlocksMayGo}
-use Rattle.qcow2_metadata.specs.Entries.{host_offset}
 use Rattle.qcow2_alloc.proofs.PlacedBlocks.{IsFree, covers_written, in_own, known_there, moves_rewritten, reftable_rewritten}
 use Rattle.qcow2_image.specs.declared.image.Qcow2.{Qcow2}
 use Rattle.qcow2_image.specs.declared.prepared.Prepared.{Prepared}
 use Rattle.qcow2_image.specs.NewTables.{IsStored, Places, StandsReady}
 use Rattle.qcow2_image.specs.UnseenSteps.{UnseenStep}
 use Rattle.qcow2_image.specs.ImageInvariant.{ImageInvariant}
-use Rattle.qcow2_image.proofs.Prepare.Entering.{same_l1}
 use Rattle.qcow2_image.proofs.Map.Loading.{caches_moved, with_caches}
 use Rattle.qcow2_image.proofs.Moving.{file_moved}
 
 module _ {S F : Type 0} (view : S → StorageView) (backing : F → BackingView) (old : Qcow2 S F) (out : List (Option Prepared)) (p : Pending) (sound : ImageInvariant view backing p old out)
-    (index : ℕ) (stored : IsStored view old index) (at : ℕ) (some : 0 < p.fresh at) where
+    (stored : IsStored view old) (at : ℕ) (some : 0 < p.fresh at) where
   abbrev h : HeaderFields
   h = old.file.header.fields
 
@@ -82,57 +80,49 @@ module _ {S F : Type 0} (view : S → StorageView) (backing : F → BackingView)
         sym (ap (λ l. byte_at l (at * cluster_size h + i)) now ∙ byte_at-overwritten (view_in view old.file).contents (at * cluster_size h) bytes i lt)
 
     -- it is as before, and what stood before stands
-    pub keeps_stored : IsStored view placed index
+    pub keeps_stored : IsStored view placed
     keeps_stored = record {
       counts = stored.counts;
       first = stored.first;
-      others = elim stored.others [
-        | inl none ↦ inl (ap host_offset (same_l1 view backing out p p old placed sound keeps_placed.sound refl index) ∙ none)
-        | inr clean ↦ inr clean
-      ];
     }
 
 -- ---- the table is put into its cache
 module _ {S F : Type 0} (view : S → StorageView) (backing : F → BackingView) (old : Qcow2 S F) (out : List (Option Prepared)) (p : Pending) (sound : ImageInvariant view backing p old out)
-    (index : ℕ) (stored : IsStored view old index) (at : ℕ) (some : 0 < p.fresh at) (bytes : List ℕ) (long : length bytes ≡ cluster_size old.file.header.fields)
+    (stored : IsStored view old) (at : ℕ) (some : 0 < p.fresh at) (bytes : List ℕ) (long : length bytes ≡ cluster_size old.file.header.fields)
     (stands : StandAt (contents_in view old.file) (at * cluster_size old.file.header.fields) bytes) where
   pub holds : HoldsKnown old.file.header.fields old.file.caches (contents_in view old.file) bytes at
   holds i lt =
       let h = old.file.header.fields in
-      let there = known_there view p old.file at sound.file (free_here view backing old out p sound index stored at some) in
+      let there = known_there view p old.file at sound.file (free_here view backing old out p sound stored at some) in
       stands i (subst (λ n. i < n) (sym long) lt) ∙ sym (there (at * cluster_size h + i) (in_own h.cluster_bits at i lt))
 
   module _ (storage : ImageStorage S) (caches : MetadataCaches S) (stays : UnseenCacheStep old.file.header.fields p (view_in view old.file) old.file.caches (view (storage_of storage)) caches) (room : HasRoom old.file.caches → HasRoom caches)
       (pins : (table : ℕ) → l2_pins caches table ≡ l2_pins old.file.caches table) (blocks : AreClean (refblocks old.file.caches) → AreClean (refblocks caches))
-      (first : BlocksMayGo (order_of old.file.caches) (l2_tables old.file.caches) → BlocksMayGo (order_of caches) (l2_tables caches)) (clean : AreClean (l2_tables old.file.caches) → AreClean (l2_tables caches)) where
+      (first : BlocksMayGo (order_of old.file.caches) (l2_tables old.file.caches) → BlocksMayGo (order_of caches) (l2_tables caches)) where
     abbrev pub put : Qcow2 S F
     put = with_caches view backing old out p sound storage caches
 
     pub keeps_put : UnseenStep view backing p p old put out
     keeps_put = caches_moved view backing old out p sound storage caches stays room pins
 
-    stored_put : IsStored view put index
+    stored_put : IsStored view put
     stored_put = record {
       counts = blocks stored.counts;
       first = first stored.first;
-      others = elim stored.others [
-        | inl none ↦ inl (ap host_offset (same_l1 view backing out p p old put sound keeps_put.sound refl index) ∙ none)
-        | inr all ↦ inr (clean all)
-      ];
     }
 
     stands_put : StandAt (contents_in view put.file) (at * cluster_size old.file.header.fields) bytes
     stands_put i lt =
         let h = old.file.header.fields in
         let inside = subst (λ n. i < n) long lt in
-        let there = known_there view p put.file at keeps_put.sound.file (free_here view backing put out p keeps_put.sound index stored_put at some) in
+        let there = known_there view p put.file at keeps_put.sound.file (free_here view backing put out p keeps_put.sound stored_put at some) in
         holds i inside ∙ ap (λ (b : Bytes). b (at * cluster_size h + i)) (sym stays.known) ∙ there (at * cluster_size h + i) (in_own h.cluster_bits at i inside)
 
-    pub stands_ready : (t : L2TableView) → l2_at caches at ≡ Some t → t.bytes ≡ bytes → StandsReady view put index at bytes
+    pub stands_ready : (t : L2TableView) → l2_at caches at ≡ Some t → t.bytes ≡ bytes → StandsReady view put at bytes
     stands_ready t held is = record { stored = stored_put; held = (t, held, is); stands = stands_put }
 
 -- it is placed, or it isn't
-pub places_when : {S F : Type 0} (view : S → StorageView) (backing : F → BackingView) (old new : Qcow2 S F) (out : List (Option Prepared)) (p : Pending) (index at : ℕ) (bytes : List ℕ) (r : Result (Unit {0}) ImageError)
-    → UnseenStep view backing p p old new out → OnOk r (StandsReady view new index at bytes) → Places view backing p old new out index at bytes r
-places_when view backing old new out p index at _ (Ok x) keeps ready = (keeps, ready)
-places_when view backing old new out p index at _ (Err e) keeps ready = keeps
+pub places_when : {S F : Type 0} (view : S → StorageView) (backing : F → BackingView) (old new : Qcow2 S F) (out : List (Option Prepared)) (p : Pending) (at : ℕ) (bytes : List ℕ) (r : Result (Unit {0}) ImageError)
+    → UnseenStep view backing p p old new out → OnOk r (StandsReady view new at bytes) → Places view backing p old new out at bytes r
+places_when view backing old new out p at _ (Ok x) keeps ready = (keeps, ready)
+places_when view backing old new out p at _ (Err e) keeps ready = keeps

@@ -22,7 +22,7 @@ returns-then-index-entries-clause-marks g c =
     marks_tables c.args.self.now (with_entries c.args.self.now.l2 (set_at (eqb c.args.cluster) c.args.self.now.l2.entries c.in_ok-table.table.now)) (set_keeps_pins c.args.cluster c.args.self.now.l2.entries c.in_ok-table.table.now)
 
 pub returns-then-index-entries-clause-discarded : goal.returns-then-index-entries-clause-discarded
-returns-then-index-entries-clause-discarded g c = λ h p on_storage i sound at there.
+returns-then-index-entries-clause-discarded g c = λ h p on_storage i sound at own there.
     let found = sym c.peek_mut.ensures.value ∙ ap option_copied_mut c.in_ok-table.was in
     let fits = index_fits h p on_storage c.args.self.now sound c.args.cluster c.args.index c.in_ok-table.table.now found i at in
     absurd (let count = c.entries.ensures.value in let past = c.if-index-entries.true in omega arith)
@@ -39,10 +39,10 @@ returns-clause-marks g c =
     (marks_tables c.args.self.now (with_entries c.args.self.now.l2 (set_at (eqb c.args.cluster) c.args.self.now.l2.entries c.discard_cluster.new.self)) (set_keeps_pins c.args.cluster c.args.self.now.l2.entries c.discard_cluster.new.self))
 
 pub returns-clause-discarded : goal.returns-clause-discarded
-returns-clause-discarded g c = λ h p on_storage i sound at there.
+returns-clause-discarded g c = λ h p on_storage i sound at own there.
     let found = sym c.peek_mut.ensures.value ∙ ap option_copied_mut c.in_ok-table.was in
     let same = c.discard_cluster.ensures.same in
-    entry_made h p on_storage c.args.self.now sound c.args.cluster c.args.index c.in_ok-table.table.now found i at c.discard_cluster.new.self
+    entry_made h p on_storage c.args.self.now sound c.args.cluster c.args.index c.in_ok-table.table.now found i at own c.discard_cluster.new.self
     (ap (λ (t : L2TableView). t.is_modified) same) (ap (λ (t : L2TableView). t.cluster_bits) same) (ap (λ (t : L2TableView). t.has_zero_bit) same) (ap (λ (t : L2TableView). t.data_is_external) same)
     _ refl refl refl 0 c.discard_cluster.result c.discard_cluster.ensures.changed c.discard_cluster.ensures.dropped
 

@@ -27,7 +27,7 @@ nameable : (b : Bool) {P : Type 0} → (IsTrue b ↔ P) → b ≡ true → P
 nameable b iff is = iff.0 is
 
 pub returns-then-index-entries-clause-mapped : goal.returns-then-index-entries-clause-mapped
-returns-then-index-entries-clause-mapped g c = λ h p on_storage i sound at there host.
+returns-then-index-entries-clause-mapped g c = λ h p on_storage i sound at own there host.
     let found = sym c.peek_mut.ensures.value ∙ ap option_copied_mut c.in_ok-table.was in
     let fits = index_fits h p on_storage c.args.self.now sound c.args.cluster c.args.index c.in_ok-table.table.now found i at in
     let bits = c.cluster_bits-bits.ensures.value ∙ bits_is h p on_storage c.args.self.now sound c.args.cluster c.args.index c.in_ok-table.table.now found i at in
@@ -37,12 +37,12 @@ returns-then-index-entries-clause-mapped g c = λ h p on_storage i sound at ther
     ]
 
 pub returns-clause-mapped : goal.returns-clause-mapped
-returns-clause-mapped g c = λ h p on_storage i sound at there host.
+returns-clause-mapped g c = λ h p on_storage i sound at own there host.
     let found = sym c.peek_mut.ensures.value ∙ ap option_copied_mut c.in_ok-table.was in
     let v : L2TableView = c.in_ok-table.table.now in
     let same = c.map_cluster.ensures.same in
     let bits = bits_is h p on_storage c.args.self.now sound c.args.cluster c.args.index c.in_ok-table.table.now found i at in
-    entry_made h p on_storage c.args.self.now sound c.args.cluster c.args.index c.in_ok-table.table.now found i at c.map_cluster.new.self
+    entry_made h p on_storage c.args.self.now sound c.args.cluster c.args.index c.in_ok-table.table.now found i at own c.map_cluster.new.self
     (ap (λ (t : L2TableView). t.is_modified) same) (ap (λ (t : L2TableView). t.cluster_bits) same) (ap (λ (t : L2TableView). t.has_zero_bit) same) (ap (λ (t : L2TableView). t.data_is_external) same)
     _ refl refl refl (copied_entry (c.args.host * 2 ^ h.cluster_bits)) c.map_cluster.result
     (subst (λ n. ChangesEntry c.in_ok-table.table.now.bytes c.map_cluster.new.self.bytes c.args.index (copied_entry (c.args.host * 2 ^ n))) bits c.map_cluster.ensures.changed) c.map_cluster.ensures.dropped

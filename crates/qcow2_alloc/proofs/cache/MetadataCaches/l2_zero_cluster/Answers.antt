@@ -24,7 +24,7 @@ returns-then-index-entries-clause-marks g c =
     marks_tables c.args.self.now (with_entries c.args.self.now.l2 (set_at (eqb c.args.cluster) c.args.self.now.l2.entries c.in_ok-table.table.now)) (set_keeps_pins c.args.cluster c.args.self.now.l2.entries c.in_ok-table.table.now)
 
 pub returns-then-index-entries-clause-zeroed : goal.returns-then-index-entries-clause-zeroed
-returns-then-index-entries-clause-zeroed g c = λ h p on_storage i sound at there.
+returns-then-index-entries-clause-zeroed g c = λ h p on_storage i sound at own there.
     let found = sym c.peek_mut.ensures.value ∙ ap option_copied_mut c.in_ok-table.was in
     let fits = index_fits h p on_storage c.args.self.now sound c.args.cluster c.args.index c.in_ok-table.table.now found i at in
     absurd (let count = c.entries.ensures.value in let past = c.if-index-entries.true in omega arith)
@@ -41,11 +41,11 @@ returns-clause-marks g c =
     (marks_tables c.args.self.now (with_entries c.args.self.now.l2 (set_at (eqb c.args.cluster) c.args.self.now.l2.entries c.zero_cluster.new.self)) (set_keeps_pins c.args.cluster c.args.self.now.l2.entries c.zero_cluster.new.self))
 
 pub returns-clause-zeroed : goal.returns-clause-zeroed
-returns-clause-zeroed g c = λ h p on_storage i sound at there.
+returns-clause-zeroed g c = λ h p on_storage i sound at own there.
     let found = sym c.peek_mut.ensures.value ∙ ap option_copied_mut c.in_ok-table.was in
     let same = c.zero_cluster.ensures.same in
     let covers = covers_known h p on_storage c.args.self.now sound c.args.cluster c.args.index c.in_ok-table.table.now found i at in
-    entry_made h p on_storage c.args.self.now sound c.args.cluster c.args.index c.in_ok-table.table.now found i at c.zero_cluster.new.self
+    entry_made h p on_storage c.args.self.now sound c.args.cluster c.args.index c.in_ok-table.table.now found i at own c.zero_cluster.new.self
     (ap (λ (t : L2TableView). t.is_modified) same) (ap (λ (t : L2TableView). t.cluster_bits) same) (ap (λ (t : L2TableView). t.has_zero_bit) same) (ap (λ (t : L2TableView). t.data_is_external) same)
     _ refl refl refl _ c.zero_cluster.result
     (subst (λ (m : L2Mapping). ChangesEntry c.in_ok-table.table.now.bytes c.zero_cluster.new.self.bytes c.args.index (zero_entry (if c.args.keep then copied_host m else None))) covers c.zero_cluster.ensures.changed) c.zero_cluster.ensures.dropped

@@ -26,7 +26,7 @@ returns-in_err-place_l2-clause-writes g c = λ p out sound may noted says.
     let format = (says_still view below out q q old mid c.args.index c.args.table stored.0 says).format in
     handed_on (WritesNew view below p old c.place_l2.new.self out c.args.index c.args.cluster)
     c.from_residual-in_err-place_l2.result c.in_err-place_l2.field-0.0 c.from_residual-in_err-place_l2.ensures
-    (inl (keeps_then view below out old mid c.place_l2.new.self q q q (λ k h. h) stored.0 (c.in_err-place_l2.ensures.places q out c.args.index stored.0.sound (omega (arith, own)) format stored.1)))
+    (inl (keeps_then view below out old mid c.place_l2.new.self q q q (λ k h. h) stored.0 (c.in_err-place_l2.ensures.places q out stored.0.sound (omega (arith, own)) format stored.1)))
 
 pub returns-clause-writes : goal.returns-clause-writes
 returns-clause-writes g c = λ p out sound may noted says.
@@ -40,7 +40,7 @@ returns-clause-writes g c = λ p out sound may noted says.
     let same = ap (λ (x : Qcow2 _ _). x.l1_table) c.place_l2.ensures.rest ∙ ap (λ (x : Qcow2 _ _). x.l1_table) c.store_first.ensures.rest in
     let stored = c.in_ok-store_first.ensures.stores q out sound in
     let format = (says_still view below out q q old first c.args.index c.args.table stored.0 says).format in
-    let placed = c.in_ok-place_l2.ensures.places q out c.args.index stored.0.sound (omega (arith, own)) format stored.1 in
+    let placed = c.in_ok-place_l2.ensures.places q out stored.0.sound (omega (arith, own)) format stored.1 in
     let kept = keeps_then view below out old first mid q q q (λ k h. h) stored.0 placed.0 in
     written_so view below out p old mid c.name_l2.new.self c.args.index c.args.cluster c.name_l2.result sound same kept
     (c.name_l2.ensures.names p out c.args.table kept.sound (may_still view below out q q old mid sound kept.sound same c.args.index may) (c.in_ok-place_l2.ensures.noted (c.in_ok-store_first.ensures.noted noted))
