@@ -10,7 +10,7 @@ use Rattle.qcow2_laws.specs.Stops.{GivenBytes, Checkpoint, checkpoint_at, checkp
 use Rattle.qcow2_laws.specs.Mappings.{PreparedMapping}
 use Rattle.qcow2_laws.specs.AbstractImages.{Setting, Guest, Abstraction, AbstractImage, abstract_image, guest_of, contents_of, IsWhole}
 use Rattle.qcow2_laws.specs.Calls.{Refusal, Acts, Does, Refuses, IsFault, Works, Rests, Stops}
-use Rattle.qcow2_laws.specs.Runs.{Command, Reply, Found, CommandMeaning, IsFaultReply, IsRightlyFound, State, CommandStep, Run, IsSafeWhile, RefinesGuest, RefinesAlong, IsStopIn, RefinesState, RefinesCommand, RefinesRun, RefinesWholeRun, RefinesDisk, started, checkpoint_during, checkpoint_after, stepped, given_by, asked_by, flush, done}
+use Rattle.qcow2_laws.specs.Runs.{Command, Reply, Found, CommandMeaning, IsFaultReply, IsRightlyFound, State, CommandStep, Run, IsSafeWhile, RefinesGuest, RefinesAlong, IsStopIn, RefinesState, RefinesCommand, RefinesRun, RefinesWholeRun, RefinesDisk, started, checkpoint_during, checkpoint_after, stepped, given_by, asked_by, flush, shrink, done, number_is}
 use Rattle.qcow2_laws.proofs.Stops.{stop_of_kept, stop_more, kept_more}
 
 bool_cases : (b : Bool) → (b ≡ true) ⊎ (b ≡ false)
@@ -22,11 +22,12 @@ pub record Ends (found : ℕ → Option Found) (old new : AbstractImage) (comman
   pub ends : (new.is_sound × CommandMeaning old.setting found (guest_of old) command reply (guest_of new)) ⊎ (IsFaultReply reply × IsTrue new.is_failed)
   pub finds : new.is_sound → IsRightlyFound new.setting old.known new.known command reply
   pub mark : (x : Setting) (s : State) → new.is_sound → (checkpoint_after x s command reply (guest_of new) ≡ checkpoint_during x s command)
-      ⊎ ((checkpoint_after x s command reply (guest_of new) ≡ checkpoint_at (guest_of new).disk) × (StopOkEverywhere new.setting.backing (checkpoint_at (guest_of new).disk) new.known × StopOkEverywhere new.setting.backing (checkpoint_at (guest_of new).disk) (contents_of new)))
+      ⊎ (StopOkEverywhere new.setting.backing (checkpoint_after x s command reply (guest_of new)) new.known × StopOkEverywhere new.setting.backing (checkpoint_after x s command reply (guest_of new)) (contents_of new))
 
--- a fault isn't an answered flush
+-- a fault isn't an answer
 mark_of_fault : (x : Setting) (s : State) (command : Command) (reply : Reply) (new : Guest) → IsFaultReply reply → checkpoint_after x s command reply new ≡ checkpoint_during x s command
 mark_of_fault x s flush done new fault = absurd fault
+mark_of_fault x s (shrink size) (number_is answer) new fault = absurd fault
 mark_of_fault x s command reply new fault = refl
 
 module _ (x : Setting) (old new : AbstractImage) (s : State) (command : Command) (reply : Reply) (stands : RefinesState x old s) where
@@ -103,15 +104,15 @@ module _ (x : Setting) (old new : AbstractImage) (s : State) (command : Command)
 
     going : new.is_sound → CommandMeaning x s.found s.guest command reply (guest_of new) → IsRightlyFound new.setting old.known new.known command reply
         → ((checkpoint_after x s command reply (guest_of new) ≡ checkpoint_during x s command)
-        ⊎ ((checkpoint_after x s command reply (guest_of new) ≡ checkpoint_at (guest_of new).disk) × (StopOkEverywhere new.setting.backing (checkpoint_at (guest_of new).disk) new.known × StopOkEverywhere new.setting.backing (checkpoint_at (guest_of new).disk) (contents_of new))))
+        ⊎ (StopOkEverywhere new.setting.backing (checkpoint_after x s command reply (guest_of new)) new.known × StopOkEverywhere new.setting.backing (checkpoint_after x s command reply (guest_of new)) (contents_of new)))
         → RefinesCommand x old new s command reply
     going sound means finds mark =
         let after = checkpoint_after x s command reply (guest_of new) in
         let kept : StopOkEverywhere x.backing after (contents_of new) =
         ⊎_elim
         (λ (e : checkpoint_after x s command reply (guest_of new) ≡ checkpoint_during x s command). subst (λ m. StopOkEverywhere x.backing m (contents_of new)) (sym e) kept_contents)
-        (λ (f : (checkpoint_after x s command reply (guest_of new) ≡ checkpoint_at (guest_of new).disk) × (StopOkEverywhere new.setting.backing (checkpoint_at (guest_of new).disk) new.known × StopOkEverywhere new.setting.backing (checkpoint_at (guest_of new).disk) (contents_of new))).
-        subst (λ m. StopOkEverywhere x.backing m (contents_of new)) (sym f.0) (subst (λ b. StopOkEverywhere b (checkpoint_at (guest_of new).disk) (contents_of new)) new_backing f.1.1)) mark in
+        (λ (f : StopOkEverywhere new.setting.backing (checkpoint_after x s command reply (guest_of new)) new.known × StopOkEverywhere new.setting.backing (checkpoint_after x s command reply (guest_of new)) (contents_of new)).
+        subst (λ b. StopOkEverywhere b (checkpoint_after x s command reply (guest_of new)) (contents_of new)) new_backing f.1) mark in
         let at = stop_of_kept x.backing after (contents_of new) kept in
         record {
           end = stepped x s command reply (guest_of new) false;
@@ -123,8 +124,8 @@ module _ (x : Setting) (old new : AbstractImage) (s : State) (command : Command)
             guest = λ _. refl;
             known = λ _. ⊎_elim
                 (λ (e : checkpoint_after x s command reply (guest_of new) ≡ checkpoint_during x s command). subst (λ m. StopOkEverywhere x.backing m new.known) (sym e) (kept_known sound))
-                (λ (f : (checkpoint_after x s command reply (guest_of new) ≡ checkpoint_at (guest_of new).disk) × (StopOkEverywhere new.setting.backing (checkpoint_at (guest_of new).disk) new.known × StopOkEverywhere new.setting.backing (checkpoint_at (guest_of new).disk) (contents_of new))).
-                subst (λ m. StopOkEverywhere x.backing m new.known) (sym f.0) (subst (λ b. StopOkEverywhere b (checkpoint_at (guest_of new).disk) new.known) new_backing f.1.0)) mark;
+                (λ (f : StopOkEverywhere new.setting.backing (checkpoint_after x s command reply (guest_of new)) new.known × StopOkEverywhere new.setting.backing (checkpoint_after x s command reply (guest_of new)) (contents_of new)).
+                subst (λ b. StopOkEverywhere b (checkpoint_after x s command reply (guest_of new)) new.known) new_backing f.0) mark;
             contents = λ _. kept;
             at_rest = at;
           };
@@ -204,7 +205,10 @@ flushed_as x old new s command is reply e stands does whole mark finds =
     (λ sound. let a = does.answer sound in record {
       ends = inl (a.0, a.1.1);
       finds = λ _. finds;
-      mark = λ x' s' _. inr (mark x' s', (kept_at_once new new.known (whole a.0) refl, kept_at_once new (contents_of new) (whole a.0) (sym a.1.0)));
+      mark = λ x' s' _. inr (
+        subst (λ m. StopOkEverywhere new.setting.backing m new.known) (sym (mark x' s')) (kept_at_once new new.known (whole a.0) refl),
+        subst (λ m. StopOkEverywhere new.setting.backing m (contents_of new)) (sym (mark x' s')) (kept_at_once new (contents_of new) (whole a.0) (sym a.1.0)),
+      );
     }))
 
 -- a command that was misused: nothing is called

@@ -123,14 +123,20 @@ abbrev pub gift_of_grow : Setting → Disk → ℕ → PreallocateMode → List 
 gift_of_grow x d size mode =
     if nat_le size d.size || shows_old mode then [] else gift_shown (zeroed d d.size (rounded_up x.cluster_size size)) d.size (rounded_up x.cluster_size size) ∷ []
 
--- where a shrink may end: at the old size, or earlier, at a boundary of clusters past the new size
+-- Where a shrink may end: at the old size; at the new one, where nothing was uncovered; or between, at the end of the clusters that were.
 abbrev pub IsShrinkEnd : ℕ → (old size answer : ℕ) → Type 0
-IsShrinkEnd cluster_size old size answer = (answer ≡ old) ⊎ ((rounded_up cluster_size answer ≡ answer) × (rounded_up cluster_size size ≤ answer) × (answer < old))
+IsShrinkEnd cluster_size old size answer = (answer ≡ old) ⊎ ((answer ≡ size) ⊎ ((rounded_up cluster_size answer ≡ answer) × (rounded_up cluster_size size < answer) × (answer < old)))
 
 -- the new size, and the backing's bytes on whole clusters up to where it ends
 pub record IsShrunk (x : Setting) (old : Disk) (size answer : ℕ) (new : Disk) : Type 0 where
   pub no_smaller : old.size ≤ size → (answer ≡ old.size) × (new ≡ old)
   pub smaller : size < old.size → IsShrinkEnd x.cluster_size old.size size answer × (new ≡ shrunk x.cluster_size old x.backing size answer)
 
+-- what it uncovers at most
 abbrev pub gift_of_shrink : Setting → Disk → ℕ → GivenBytes
 gift_of_shrink x d size = gift_shown (uncovered d x.backing (rounded_up x.cluster_size size) (rounded_up x.cluster_size d.size)) (rounded_up x.cluster_size size) (rounded_up x.cluster_size d.size)
+
+-- what an answered one uncovered: the old size counts to its cluster's end
+abbrev pub gift_of_shrunk : Setting → Disk → (size answer : ℕ) → GivenBytes
+gift_of_shrunk x d size answer =
+    gift_shown (shrunk x.cluster_size d x.backing size answer) (rounded_up x.cluster_size size) (if answer == d.size then rounded_up x.cluster_size answer else answer)

@@ -10,7 +10,7 @@ use Rattle.qcow2_laws.specs.Rules.{answered}
 use Rattle.qcow2_laws.specs.Mappings.{PreparedMapping, IsPrepared, put_mapping, put_disk, committed, gift_of, gift_of_commit}
 use Rattle.qcow2_laws.specs.Found.{Kind, IsFoundIn}
 use Rattle.qcow2_laws.specs.AbstractImages.{Setting, Guest, Abstraction, AbstractImage, abstract_image, guest_of, contents_of}
-use Rattle.qcow2_laws.specs.Calls.{Refusal, IsFault, Shows, with_disk, with_slot, MayWrite, Clearing, cleared_at, gift_of_clear, grown_to, gift_of_grow, MayGrow, IsShrunk, gift_of_shrink}
+use Rattle.qcow2_laws.specs.Calls.{Refusal, IsFault, Shows, with_disk, with_slot, MayWrite, Clearing, cleared_at, gift_of_clear, grown_to, gift_of_grow, MayGrow, IsShrunk, gift_of_shrink, gift_of_shrunk}
 
 pub data Command : Type 0 where
   read : (offset length : ℕ) → Command
@@ -139,9 +139,10 @@ over s = record s { guest = record s.guest { slots = λ _. None } }
 abbrev pub checkpoint_during : Setting → State → Command → Checkpoint
 checkpoint_during x old command = checkpoint_with (given_by x old.guest command) (asked_by command) old.mark
 
--- a flush that succeeded is the last one from then on
+-- a flush that succeeded is the last one from then on; a shrink that was answered gave what it uncovered
 abbrev pub checkpoint_after : Setting → State → Command → Reply → Guest → Checkpoint
 checkpoint_after x old flush done new = checkpoint_at new.disk
+checkpoint_after x old (shrink size) (number_is answer) new = checkpoint_with (gift_of_shrunk x old.guest.disk size answer ∷ []) (asked_by (shrink size)) old.mark
 checkpoint_after x old command reply new = checkpoint_during x old command
 
 abbrev pub stepped : Setting → State → Command → Reply → Guest → Bool → State
