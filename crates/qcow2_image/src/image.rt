@@ -35,7 +35,7 @@ struct Tables {
 
 #[tactic(auto, using(crate::proofs::Call::MetErrors::tables_met, crate::proofs::Call::MetErrors::storage_met, crate::proofs::Call::MetErrors::metadata_met))]
 impl<S: Storage, F: WrappedFormat<S>> Qcow2<S, F> {
-    ghost use Rattle.std.specs.Prelude.{◌≡◌, [], IfOk, IfErr, OnOk, IsTrue, MatchOption, Ok, Err, Some, None, false, nat_le, option_map, if◌then◌else◌};
+    ghost use Rattle.std.specs.Prelude.{◌≡◌, ◌≤◌, [], IfOk, IfErr, OnOk, IsTrue, MatchOption, Ok, Err, Some, None, false, nat_le, option_map, if◌then◌else◌};
     ghost use Rattle.std.specs.String.{string_bytes};
     ghost use Rattle.qcow2_metadata.specs.Header.{header, cluster_size};
     ghost use Rattle.qcow2_alloc.specs.declared.error.ImageError.TheVariants.{Failed, Memory};
@@ -229,6 +229,15 @@ impl<S: Storage, F: WrappedFormat<S>> Qcow2<S, F> {
         ensures { result ≡ is_writable self.now }
     {
         self.allocator.is_some()
+    }
+
+    /// The size of a cluster, in bytes: a power of two from 512 to 2 MiB.
+    pub fn cluster_size(&self) -> u64
+        ensures value { result ≡ cluster_size self.now.file.header.fields }
+        ensures low { 512 ≤ result }
+        ensures high { result ≤ 2097152 }
+    {
+        self.file.header.cluster_size()
     }
 
     /// How many bytes are zeroed at least: a cluster, from version 3 on.

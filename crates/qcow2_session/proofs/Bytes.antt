@@ -2,7 +2,7 @@
 use Rattle.std.proofs.Common.{◌≡◌, ◌⊎◌, inl, inr, ⊎_elim, ℕ, ◌+◌, ◌-◌, ◌<◌, ◌≤◌, leb, ltb, min, List, [], ◌∷◌, ◌++◌, take, drop, length, true, false, refl, sym, ap, ◌∙◌, subst, arith}
 use Rattle.std.proofs.lemmas.Bool.{cond-true, cond-false, cases_Bool, leb-true, ltb-true, leb-false, ltb-false}
 use Rattle.std.proofs.Math.Seq.{take-append-add}
-use Rattle.std.proofs.lemmas.List.{take-take, take-append-le, length-take-le}
+use Rattle.std.proofs.lemmas.List.{take-append-le, length-take-le}
 use Rattle.std.proofs.lemmas.Grind.{common_steps}
 use mathlib.Core.Path.{fun_ext}
 use Rattle.qcow2_metadata.specs.Bytes.{byte_at, laid_over, is_within}
@@ -99,21 +99,11 @@ shows_both d offset a b first second i lt =
     ]
 
 -- a buffer whose first bytes stay, and the next are read
-pub first_two : (count n m : ℕ) (old new post tail : List ℕ) → count ≤ length old → n ≤ length new → count + length new ≤ m → (whole : List ℕ) → whole ≡ old
-    → take count old ++ take n new ≡ take (count + n) (take m ((take count whole ++ (new ++ post)) ++ tail))
-first_two count n m old new post tail le short fits whole is =
-    let first = take count whole in
-    let long : length first ≡ count = length-take-le count whole (let l : length whole ≡ length old = ap (λ (k : List ℕ). length k) is in omega (arith, le, l)) in
-    let behind = new ++ post in
-    let longer = long_both new post in
-    let longest = long_both first behind in
-    sym (
-    take-take (count + n) m ((first ++ behind) ++ tail) (omega (arith, short, fits))
-    ∙ take-append-le (count + n) (first ++ behind) tail (omega (arith, short, long, longer, longest))
-    ∙ ap (λ k. take (k + n) (first ++ behind)) (sym long)
-    ∙ take-append-add first behind n
-    ∙ ap (λ k. first ++ k) (take-append-le n new post short)
-    ∙ ap (λ k. take count k ++ take n new) is)
+pub first_two : (count n : ℕ) (old new post : List ℕ) → count ≤ length old → n ≤ length new → take count old ++ take n new ≡ take (count + n) (take count old ++ (new ++ post))
+first_two count n old new post le short =
+    let first = take count old in
+    let long : length first ≡ count = length-take-le count old le in
+    sym (ap (λ k. take (k + n) (first ++ (new ++ post))) (sym long) ∙ take-append-add first (new ++ post) n ∙ ap (λ k. first ++ k) (take-append-le n new post short))
 
 -- ---- what a part gives
 

@@ -5,5 +5,6 @@ mod Beyond
 mod Meanings
 mod Chunks
 mod Writing
+mod Reading
 mod Runs
 mod LookingUp

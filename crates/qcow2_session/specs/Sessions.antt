@@ -1,9 +1,10 @@
 -- What a session does to an image: its reads and writes, and its runs of commands.
-use Rattle.std.specs.Prelude.{ℕ, ◌≡◌, ◌⊎◌, IsTrue, false, List, [], ◌∷◌, length, map, take, Vec, Bool, Option, Some, None, is_some, Result, Ok, Err, slice_get}
+use Rattle.std.specs.Prelude.{ℕ, ◌%◌, ◌≡◌, ◌⊎◌, IsTrue, false, List, [], ◌∷◌, length, map, take, Vec, Bool, Option, Some, None, is_some, Result, Ok, Err, slice_get}
 use Rattle.std.specs.Global.{Global}
 use Rattle.image_access.specs.Backing.{BackingView}
 use Rattle.image_access.specs.Moments.{StorageView}
 use Rattle.qcow2_metadata.specs.Bytes.{Bytes}
+use Rattle.qcow2_metadata.specs.Header.{cluster_size}
 use Rattle.qcow2_laws.specs.Disk.{with_bytes}
 use Rattle.qcow2_laws.specs.Mappings.{gift_of}
 use Rattle.qcow2_laws.specs.AbstractImages.{Setting, Guest, guest_of, IsOpened}
@@ -51,10 +52,22 @@ HasWritten offset bytes old new = new ≡ with_disk old (with_bytes old.disk off
 abbrev pub IsRightlyBeyond : {S F : Type 0} → Qcow2 S F → ℕ → ℕ → ImageError → Type 0
 IsRightlyBeyond image offset n e = e ≡ BeyondSize → IsTrue (passes (size_of image) offset n)
 
+-- the size of an image's clusters, in bytes
+abbrev pub cluster_size_of : {S F : Type 0} → Qcow2 S F → ℕ
+cluster_size_of image = cluster_size image.file.header.fields
+
+-- so far one of its clusters reaches
+abbrev pub EndsCluster : {S F : Type 0} → Qcow2 S F → ℕ → Type 0
+EndsCluster image place = place % cluster_size_of image ≡ 0
+
 module _ {S F : Type 0} (view : S → StorageView) (backing : F → BackingView) (old new : Qcow2 S F) where
   -- the bytes that were read are the disk's
   abbrev pub Reads : ℕ → ℕ → Result (Vec ℕ Global) ImageError → Type 0
   Reads offset n result = Answers view backing old new [] (λ bytes old new. (length bytes.items ≡ n) × Shows old.disk offset bytes.items × (new ≡ old)) result
+
+  -- so are those that a buffer was filled with
+  abbrev pub ReadsInto : ℕ → List ℕ → Result (Unit {0}) ImageError → Type 0
+  ReadsInto offset bytes result = Answers view backing old new [] (λ _ old new. Shows old.disk offset bytes × (new ≡ old)) result
 
   -- the bytes are there; or so many leading ones, where memory was refused perhaps more
   abbrev pub Writes : ℕ → List ℕ → Result (Unit {0}) (ImageError × ℕ) → Type 0

@@ -4,4 +4,4 @@
 pub mod session;
 mod slots;
 
-pub use session::{Command, Reply, read, run, write};
+pub use session::{Command, Reply, read, read_into, run, write};

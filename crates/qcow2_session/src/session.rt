@@ -2,9 +2,10 @@
 ghost use Rattle.std.specs.Prelude.{◌≡◌, ◌+◌, ◌^◌, ◌≤◌, ◌⊎◌, ◌<◌, ◌++◌, ◌∷◌, ℕ, List, [], length, vec_len, IfSome, IfErr, IfOk, Option, Err};
 ghost use Rattle.qcow2_image.specs.Image.{number_of, size_of};
 ghost use Rattle.qcow2_image.specs.Prepared.{image_of};
+ghost use Rattle.qcow2_image.specs.ImageInvariant.{abstract_of};
 ghost use Rattle.qcow2_image.specs.Calls.{Discards};
 ghost use Rattle.qcow2_image.specs.Refusals.{refuses_to_read, refuses_to_prepare};
-ghost use Rattle.qcow2_session.specs.Sessions.{IsRightlyBeyond, Reads, ReadsFirst, Writes, WritesFirst, CommandSteps, Finds, ReleasesMappings, RunsThrough, RunRefinesDisk, LookupsFindContents};
+ghost use Rattle.qcow2_session.specs.Sessions.{IsRightlyBeyond, EndsCluster, Reads, ReadsInto, ReadsFirst, Writes, WritesFirst, CommandSteps, Finds, ReleasesMappings, RunsThrough, RunRefinesDisk, LookupsFindContents};
 ghost use Rattle.qcow2_image.specs.declared.prepared.Prepared.{Prepared};
 
 use crate::slots::Slots;
@@ -76,7 +77,8 @@ pub enum Reply {
     Misuse,
 }
 
-/// Reads so many bytes of the guest's disk.
+/// Reads so many bytes of the guest's disk, from an offset in bytes on. It is refused as `read_into` is, and as want of memory
+/// where the bytes have no room.
 pub fn read<S: Storage, F: WrappedFormat<S>>(
     alloc: Global,
     image: &mut Qcow2<S, F>,
@@ -93,14 +95,32 @@ pub fn read<S: Storage, F: WrappedFormat<S>>(
         return Err(ImageError::Memory);
     };
     let mut bytes = vec![in alloc; 0; count]?;
+    read_into(image, offset, &mut bytes)?;
+    Ok(bytes)
+}
+
+/// Fills the buffer with the guest's bytes, from an offset in bytes on, whatever clusters and tables they lie in. A failed image
+/// (16), a missing data file (12) and a range of one byte or more that passes the size (2) are refused first; then what the work
+/// meets, such as compressed data (7). After a refusal the buffer may hold any bytes.
+pub fn read_into<S: Storage, F: WrappedFormat<S>>(
+    image: &mut Qcow2<S, F>,
+    offset: u64,
+    bytes: &mut [u8],
+) -> Result<(), ImageError>
+    ensures number { number_of image.new ≡ number_of image.old }
+    ensures early { IfSome (refuses_to_read image.old offset (length bytes.old)) (λ e. (result ≡ Err e) × (image.new ≡ image.old)) }
+    ensures beyond { IfErr result (IsRightlyBeyond image.old offset (length bytes.old)) }
+    ensures sees { ReadsInto S.view F.backing image.old image.new offset bytes.new result }
+{
+    image.check_read(offset, bytes.len() as u64)?;
     let mut done = 0;
-    while done < count {
+    while done < bytes.len() {
         let Some(at) = offset.checked_add(done as u64) else {
             return Err(ImageError::BeyondSize);
         };
         done += read_some(image, at, &mut bytes[done..])?;
     }
-    Ok(bytes)
+    Ok(())
 }
 
 // Reads the first bytes at least, and answers how many.
@@ -125,7 +145,8 @@ fn read_some<S: Storage, F: WrappedFormat<S>>(
     Ok(count)
 }
 
-/// Writes bytes to the guest's disk. A refusal says how many leading bytes were written.
+/// Writes bytes to the guest's disk. A refusal says how many leading bytes were written; of a sound image they are none, or end
+/// where a cluster does.
 pub fn write<S: Storage, F: WrappedFormat<S>>(
     image: &mut Qcow2<S, F>,
     offset: u64,
@@ -135,6 +156,7 @@ pub fn write<S: Storage, F: WrappedFormat<S>>(
     ensures early { IfSome (refuses_to_prepare image.old offset (length bytes.now)) (λ e. (result ≡ Err (e, 0)) × (image.new ≡ image.old)) }
     ensures within { IfErr result (λ (e, n). n ≤ length bytes.now) }
     ensures beyond { IfErr result (λ (e, n). IsRightlyBeyond image.old offset (length bytes.now) e) }
+    ensures ends { (out : List (Option Prepared)) → (abstract_of S.view F.backing image.old out).is_sound → IfErr result (λ (e, n). 0 < n → (n < length bytes.now) × EndsCluster image.old (offset + n)) }
     ensures sees { Writes S.view F.backing image.old image.new offset bytes.now result }
 {
     let mut done = match write_some(image, offset, bytes) {
@@ -166,6 +188,7 @@ fn write_some<S: Storage, F: WrappedFormat<S>>(
     ensures size { size_of image.new ≡ size_of image.old }
     ensures beyond { IfErr result (IsRightlyBeyond image.old offset (length bytes.now)) }
     ensures end { IfOk result (λ n. offset + length bytes.now < 2 ^ 64) }
+    ensures ends { (out : List (Option Prepared)) → (abstract_of S.view F.backing image.old out).is_sound → IfOk result (λ n. n < length bytes.now → EndsCluster image.old (offset + n)) }
     ensures sees { WritesFirst S.view F.backing image.old image.new offset bytes.now result }
 {
     let prepared = image.prepare_data_mapping(offset, bytes.len() as u64, true)?;

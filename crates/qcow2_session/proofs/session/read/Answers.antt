@@ -1,57 +1,18 @@
-use Rattle.std.proofs.Common.{◌≡◌, ◌∙◌, ◌+◌, ◌-◌, refl, length, IfErr, sym, subst, ap, [], take, drop, arith}
+use Rattle.std.proofs.Common.{◌≡◌, length, sym, subst, take, drop, ◌++◌, arith}
 use Rattle.std.proofs.lemmas.Grind.{common_steps}
-use Rattle.qcow2_laws.specs.Calls.{another, Shows}
-use Rattle.qcow2_laws.specs.AbstractImages.{Guest, guest_of}
+use Rattle.qcow2_laws.specs.Calls.{Shows}
+use Rattle.qcow2_laws.specs.AbstractImages.{guest_of}
 use Rattle.qcow2_image.specs.ImageInvariant.{abstract_of}
-use Rattle.qcow2_session.specs.Sessions.{IsRightlyBeyond, Reads}
-use Rattle.qcow2_session.proofs.Bytes.{shows_as, shows_both, first_two}
-use Rattle.qcow2_session.proofs.Beyond.{part_refused}
-use Rattle.qcow2_session.proofs.Turns.{refused_is, refuses_here, none_within, does_if, refuses_if, does_then, refuses_then}
+use Rattle.qcow2_session.specs.Sessions.{Reads}
+use Rattle.qcow2_session.proofs.Turns.{refused_is, does_if}
 use Rattle.qcow2_session.proofs.session.read.Goals as goal
 
-pub returns-in_default-checked_add-clause-sees : goal.returns-in_default-checked_add-clause-sees
-returns-in_default-checked_add-clause-sees g c = λ out. refuses_if (λ h. h.1) (refuses_here (another 2) (λ is. absurd cc) (c.loop-done.invariant.shown out))
-
-pub returns-in_err-done-clause-sees : goal.returns-in_err-done-clause-sees
-returns-in_err-done-clause-sees g c =
-    let view = g.S.Storage.view in
-    let below = g.F.BackingDisk.backing in
-    subst (λ r. Reads view below c.args.image.now c.read_some.new.image c.args.offset c.args.length r) (sym (refused_is _ c.in_err-done.field-0.0 c.from_residual-in_err-done.ensures))
-    (λ out. refuses_if (λ h. h.1 ∙ h.0.1) (refuses_then (λ _. none_within (abstract_of view below c.loop-done.image out) []) (c.loop-done.invariant.shown out) (c.in_err-done.ensures.sees out)))
-
-pub loop-done-preserved : goal.loop-done-preserved
-loop-done-preserved g c = record {
-  long = c.loop-done.invariant.long;
-  within = grind (arith, common_steps);
-  number = c.read_some.ensures.number ∙ c.loop-done.invariant.number;
-  size = c.read_some.ensures.size ∙ c.loop-done.invariant.size;
-  shown = λ out.
-      let view = g.S.Storage.view in
-      let below = g.F.BackingDisk.backing in
-      let n = c.in_ok-done.field-0 in
-      let first = take c.loop-done.done c.loop-done.bytes.items in
-      let place : c.in-Some.at ≡ c.args.offset + length first = c.in-Some.ensures.1 ∙ grind (arith, common_steps) in
-      does_if (λ h. (
-        subst (λ b. Shows (guest_of (abstract_of view below c.args.image.now out)).disk c.args.offset b) (first_two c.loop-done.done n c.loop-done.bytes.len c.loop-done.bytes.items c.read_some.new.bytes _ _ (grind (arith, common_steps)) (grind (arith, common_steps)) (grind (arith, common_steps)) c.deref_mut.result.now c.deref_mut.ensures.value)
-            (shows_both (guest_of (abstract_of view below c.args.image.now out)).disk c.args.offset first (take n c.read_some.new.bytes) h.0.0 (shows_as (ap (λ (v : Guest). v.disk) h.0.1) place refl h.1.0)),
-        h.1.1 ∙ h.0.1,
-      ))
-      (does_then (λ _. none_within (abstract_of view below c.loop-done.image out) []) (c.loop-done.invariant.shown out) (c.in_ok-done.ensures.sees out));
-}
+pub returns-in_err-read_into-clause-sees : goal.returns-in_err-read_into-clause-sees
+returns-in_err-read_into-clause-sees g c =
+    subst (λ r. Reads g.S.Storage.view g.F.BackingDisk.backing c.args.image.now c.read_into.new.image c.args.offset c.args.length r)
+    (sym (refused_is _ c.in_err-read_into.field-0.0 c.from_residual-in_err-read_into.ensures)) c.in_err-read_into.ensures.sees
 
 pub returns-clause-sees : goal.returns-clause-sees
 returns-clause-sees g c = λ out.
-    let all : take c.loop-done.done c.loop-done.bytes.items ≡ c.loop-done.bytes.items = grind (arith, common_steps) in
-    does_if (λ h. (grind (arith, common_steps), subst (λ b. Shows (guest_of (abstract_of g.S.Storage.view g.F.BackingDisk.backing c.args.image.now out)).disk c.args.offset b) all h.0, h.1)) (c.loop-done.invariant.shown out)
-
-pub returns-in_default-checked_add-clause-beyond : goal.returns-in_default-checked_add-clause-beyond
-returns-in_default-checked_add-clause-beyond g c = λ is. absurd (c.in_default-checked_add.ensures (omega (arith, c.in_ok-check_read.ensures.end, c.loop-done-test.true, c.in-Ok.ensures)))
-
-pub returns-in_err-done-clause-beyond : goal.returns-in_err-done-clause-beyond
-returns-in_err-done-clause-beyond g c =
-    subst (λ r. IfErr r (IsRightlyBeyond c.args.image.now c.args.offset c.args.length)) (sym (refused_is _ c.in_err-done.field-0.0 c.from_residual-in_err-done.ensures))
-    (let whole : length c.deref_mut.result.now ≡ c.loop-done.bytes.len = grind (arith, common_steps) in
-    let part = take (length c.deref_mut.result.now - c.loop-done.done) (drop c.loop-done.done c.deref_mut.result.now) in
-    let rest : length part ≡ c.loop-done.bytes.len - c.loop-done.done = grind (arith, common_steps) in
-    part_refused c.args.image.now c.loop-done.image c.args.offset c.args.length c.in-Some.at (length part) c.in_err-done.field-0.0 c.loop-done.invariant.size (omega (arith, c.in-Some.ensures.1))
-    (omega (arith, rest, c.in-Some.ensures.1, c.loop-done.invariant.long, c.loop-done.invariant.within, c.in-Ok.ensures)) (c.in_err-done.ensures.beyond (omega (arith, rest, c.loop-done.invariant.long, c.loop-done-test.true))))
+    let whole : take c.in_ok-bytes.bytes.len (c.read_into.new.bytes ++ drop (length c.read_into.new.bytes) c.in_ok-bytes.bytes.items) ≡ c.read_into.new.bytes = grind (arith, common_steps) in
+    does_if (λ h. (grind (arith, common_steps), subst (λ b. Shows (guest_of (abstract_of g.S.Storage.view g.F.BackingDisk.backing c.args.image.now out)).disk c.args.offset b) (sym whole) h.0, h.1)) (c.in_ok-read_into.ensures.sees out)

@@ -7,6 +7,7 @@ use Rattle.qcow2_laws.specs.AbstractImages.{guest_of}
 use Rattle.qcow2_image.specs.Image.{number_of, size_of}
 use Rattle.qcow2_image.specs.ImageInvariant.{abstract_of}
 use Rattle.qcow2_image.specs.declared.prepared.Prepared.{Prepared}
+use Rattle.qcow2_session.specs.Sessions.{EndsCluster}
 use Rattle.qcow2_session.proofs.session.write.Given as goal
 
 abbrev pub invariant-loop-done : goal.invariant-loop-done
@@ -14,6 +15,7 @@ invariant-loop-done g l = record {
   within : l.done ≤ length l.bytes;
   number : number_of l.image ≡ number_of l.fn.image;
   size : size_of l.image ≡ size_of l.fn.image;
+  ends : (out : List (Option Prepared)) → (abstract_of g.S.Storage.view g.F.BackingDisk.backing l.fn.image out).is_sound → l.done < length l.bytes → EndsCluster l.fn.image (l.fn.offset + l.done);
   end : l.fn.offset + length l.bytes < 2 ^ 64;
   written : (out : List (Option Prepared)) → let v = abstract_of g.S.Storage.view g.F.BackingDisk.backing l.fn.image out in let w = abstract_of g.S.Storage.view g.F.BackingDisk.backing l.image out in
       Does v w (gift_of l.fn.offset l.bytes ∷ []) [] (guest_of w ≡ with_disk (guest_of v) (with_bytes (guest_of v).disk l.fn.offset (take l.done l.bytes)));

@@ -1,13 +1,14 @@
-use Rattle.std.proofs.Common.{◌≡◌, sym, subst, ap, ◌∙◌, Err, [], ◌∷◌, Some, None, min, length, refl}
+use Rattle.std.proofs.Common.{◌≡◌, sym, subst, ap, ◌∙◌, Err, [], ◌∷◌, Some, None, min, length, refl, arith}
 use Rattle.qcow2_laws.specs.Mappings.{gift_of}
 use Rattle.qcow2_laws.specs.AbstractImages.{guest_of}
 use Rattle.qcow2_image.specs.Calls.{refusal_of, Commits}
-use Rattle.qcow2_image.specs.Prepared.{IsKept}
+use Rattle.qcow2_image.specs.Prepared.{IsKept, length_of, table_of}
 use Rattle.qcow2_image.specs.Refusals.{refuses_to_prepare}
 use Rattle.qcow2_image.specs.declared.prepared.CommitRefused.TheVariants.{Kept}
 use Rattle.qcow2_image.specs.ImageInvariant.{abstract_of, image_abstraction}
 use Rattle.qcow2_session.specs.Sessions.{WritesFirst}
 use Rattle.qcow2_session.proofs.Chunks.{may_write_none, put_refused, written, commit_spent, commit_kept}
+use Rattle.qcow2_session.proofs.Writing.{chunk_ends}
 use Rattle.qcow2_image.proofs.Free.{free_places}
 use Rattle.qcow2_session.proofs.Turns.{refused_is, none_within, refuses_if, refuses_less, nothing_refused}
 use Rattle.qcow2_session.proofs.session.write_some.Goals as goal
@@ -66,3 +67,9 @@ returns-in-Err-Kept-clause-sees g c = λ out.
 pub returns-in-Err-clause-early : goal.returns-in-Err-clause-early
 returns-in-Err-clause-early g c =
     nothing_refused _ _ (refuses_to_prepare c.args.image.now c.args.offset (length c.args.bytes.now)) c.prepare_data_mapping.result c.in_ok-prepared.prepared c.prepare_data_mapping.ensures.early c.in_ok-prepared.was
+
+pub returns-in-Ok-clause-ends : goal.returns-in-Ok-clause-ends
+returns-in-Ok-clause-ends g c = λ out sound short.
+    let maps = c.in_ok-prepared.ensures.maps (omega arith) out sound in
+    chunk_ends c.args.image.now c.args.offset (length c.args.bytes.now) c.min-count.result (length_of c.in_ok-prepared.prepared) (table_of c.in_ok-prepared.prepared)
+    (c.min-count.ensures ∙ ap (λ k. min (length c.args.bytes.now) k) c.length.ensures) short maps.whole maps.rest

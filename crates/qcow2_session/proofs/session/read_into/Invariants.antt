@@ -1,21 +1,21 @@
-use Rattle.std.proofs.Common.{◌≡◌, ◌-◌, ◌≤◌, vec_len, [], take, List}
+use Rattle.std.proofs.Common.{◌≡◌, ◌-◌, ◌≤◌, length, ◌+◌, ◌^◌, ◌<◌, [], take, List}
 use Rattle.qcow2_laws.specs.Calls.{Does, Shows}
 use Rattle.qcow2_laws.specs.AbstractImages.{guest_of}
 use Rattle.std.specs.Prelude.{Option}
 use Rattle.qcow2_image.specs.Image.{number_of, size_of}
 use Rattle.qcow2_image.specs.ImageInvariant.{abstract_of}
 use Rattle.qcow2_image.specs.declared.prepared.Prepared.{Prepared}
-use Rattle.qcow2_session.proofs.session.read.Given as goal
+use Rattle.qcow2_session.proofs.session.read_into.Given as goal
 
 abbrev pub invariant-loop-done : goal.invariant-loop-done
 invariant-loop-done g l = record {
-  long : vec_len l.bytes ≡ l.count;
-  within : l.done ≤ l.count;
+  within : l.done ≤ length l.bytes;
+  end : l.fn.offset + length l.bytes < 2 ^ 64;
   number : number_of l.image ≡ number_of l.fn.image;
   size : size_of l.image ≡ size_of l.fn.image;
   shown : (out : List (Option Prepared)) → let v = abstract_of g.S.Storage.view g.F.BackingDisk.backing l.fn.image out in let w = abstract_of g.S.Storage.view g.F.BackingDisk.backing l.image out in
-      Does v w [] [] (Shows (guest_of v).disk l.fn.offset (take l.done l.bytes.items) × (guest_of w ≡ guest_of v));
+      Does v w [] [] (Shows (guest_of v).disk l.fn.offset (take l.done l.bytes) × (guest_of w ≡ guest_of v));
 }
 
 abbrev pub decreases-loop-done : goal.decreases-loop-done
-decreases-loop-done g l = l.count - l.done
+decreases-loop-done g l = length l.bytes - l.done

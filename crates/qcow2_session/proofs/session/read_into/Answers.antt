@@ -1,0 +1,57 @@
+use Rattle.std.proofs.Common.{◌≡◌, ◌∙◌, ◌+◌, ◌-◌, refl, length, IfErr, sym, subst, ap, [], take, drop, arith}
+use Rattle.std.proofs.lemmas.Grind.{common_steps}
+use Rattle.qcow2_laws.specs.Calls.{another, Shows}
+use Rattle.qcow2_laws.specs.AbstractImages.{Guest, guest_of}
+use Rattle.qcow2_image.specs.ImageInvariant.{abstract_of}
+use Rattle.qcow2_session.specs.Sessions.{IsRightlyBeyond}
+use Rattle.qcow2_session.proofs.Bytes.{shows_as, shows_both, first_two}
+use Rattle.qcow2_session.proofs.Beyond.{part_refused}
+use Rattle.qcow2_session.proofs.Reading.{reads_refused}
+use Rattle.qcow2_session.proofs.Turns.{refused_is, refuses_here, none_within, does_if, refuses_if, does_then, refuses_then}
+use Rattle.qcow2_session.proofs.session.read_into.Goals as goal
+
+pub returns-in_default-clause-sees : goal.returns-in_default-clause-sees
+returns-in_default-clause-sees g c = λ out. refuses_if (λ h. h.1) (refuses_here (another 2) (λ is. absurd cc) (c.loop-done.invariant.shown out))
+
+pub returns-in_err-done-clause-sees : goal.returns-in_err-done-clause-sees
+returns-in_err-done-clause-sees g c =
+    let view = g.S.Storage.view in
+    let below = g.F.BackingDisk.backing in
+    reads_refused view below c.args.image.now c.read_some.new.image c.args.offset _ c.in_err-done.field-0.0 _ (refused_is _ c.in_err-done.field-0.0 c.from_residual-in_err-done.ensures)
+    (λ out. refuses_if (λ h. h.1 ∙ h.0.1) (refuses_then (λ _. none_within (abstract_of view below c.loop-done.image out) []) (c.loop-done.invariant.shown out) (c.in_err-done.ensures.sees out)))
+
+pub loop-done-preserved : goal.loop-done-preserved
+loop-done-preserved g c = record {
+  within = grind (arith, common_steps);
+  end = grind (arith, common_steps);
+  number = c.read_some.ensures.number ∙ c.loop-done.invariant.number;
+  size = c.read_some.ensures.size ∙ c.loop-done.invariant.size;
+  shown = λ out.
+      let view = g.S.Storage.view in
+      let below = g.F.BackingDisk.backing in
+      let n = c.in_ok-done.field-0 in
+      let first = take c.loop-done.done c.loop-done.bytes in
+      let place : c.in-Some.at ≡ c.args.offset + length first = c.in-Some.ensures.1 ∙ grind (arith, common_steps) in
+      does_if (λ h. (
+        subst (λ b. Shows (guest_of (abstract_of view below c.args.image.now out)).disk c.args.offset b) (first_two c.loop-done.done n c.loop-done.bytes c.read_some.new.bytes _ (grind (arith, common_steps)) (grind (arith, common_steps)))
+            (shows_both (guest_of (abstract_of view below c.args.image.now out)).disk c.args.offset first (take n c.read_some.new.bytes) h.0.0 (shows_as (ap (λ (v : Guest). v.disk) h.0.1) place refl h.1.0)),
+        h.1.1 ∙ h.0.1,
+      ))
+      (does_then (λ _. none_within (abstract_of view below c.loop-done.image out) []) (c.loop-done.invariant.shown out) (c.in_ok-done.ensures.sees out));
+}
+
+pub returns-clause-sees : goal.returns-clause-sees
+returns-clause-sees g c = λ out.
+    let all : take c.loop-done.done c.loop-done.bytes ≡ c.loop-done.bytes = grind (arith, common_steps) in
+    does_if (λ h. (subst (λ b. Shows (guest_of (abstract_of g.S.Storage.view g.F.BackingDisk.backing c.args.image.now out)).disk c.args.offset b) all h.0, h.1)) (c.loop-done.invariant.shown out)
+
+pub returns-in_default-clause-beyond : goal.returns-in_default-clause-beyond
+returns-in_default-clause-beyond g c = λ is. absurd (c.in_default.ensures (omega (arith, c.loop-done.invariant.end, c.loop-done-test.true)))
+
+pub returns-in_err-done-clause-beyond : goal.returns-in_err-done-clause-beyond
+returns-in_err-done-clause-beyond g c =
+    subst (λ r. IfErr r (IsRightlyBeyond c.args.image.now c.args.offset (length c.args.bytes.now))) (sym (refused_is _ c.in_err-done.field-0.0 c.from_residual-in_err-done.ensures))
+    (let part = take (length c.loop-done.bytes - c.loop-done.done) (drop c.loop-done.done c.loop-done.bytes) in
+    let rest : length part ≡ length c.loop-done.bytes - c.loop-done.done = grind (arith, common_steps) in
+    part_refused c.args.image.now c.loop-done.image c.args.offset (length c.args.bytes.now) c.in-Some.at (length part) c.in_err-done.field-0.0 c.loop-done.invariant.size (omega (arith, c.in-Some.ensures.1))
+    (omega (arith, rest, c.in-Some.ensures.1, c.loop-done.invariant.within, c.loop-done.auto.bytes)) (c.in_err-done.ensures.beyond (omega (arith, rest, c.loop-done-test.true))))
