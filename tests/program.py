@@ -147,6 +147,10 @@ def keeps_what_was_written():
     answers(file, [("read 0 512", hex_of(b"\x11" * 512)), ("read 512 2", "data 0000")])
     run(file, "write 60000 abcdef")
     answers(file, [("read 59999 5", "data 00abcdef00"), ("read 0 2", "data 1111")])
+    answers(file, [("write 1022 01020304", "ok"), ("read 1020 8", "data 0000010203040000")])
+    # Over the end of what the first L2 table covers.
+    run(file, "write 32766 05060708", "flush")
+    answers(file, [("read 32764 8", "data 0000050607080000")])
 
 
 def writes_the_bytes_of_a_cluster():
@@ -286,8 +290,8 @@ def stops_at_a_bad_line_without_its_end():
 
 def a_bad_line_goes_before_a_refusal():
     disk()
-    given = b"read 65536 1\nno\n"
-    equal(qimg("run", "disk", given=given), (2, "refused 2 beyond size\nbad line 2\n"))
+    for given in (b"read 65536 1\nno\n", b"read 65536 1\n\nsize\n"):
+        equal(qimg("run", "disk", given=given), (2, "refused 2 beyond size\nbad line 2\n"))
 
 
 def a_read_that_fails_is_a_bad_line():

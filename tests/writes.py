@@ -6,7 +6,7 @@ import re
 import subprocess
 
 import checks
-from checks import create, equal
+from checks import answers, create, equal, number_at, put, run
 
 WRITE = re.compile(r'pwrite64\(\d+, "((?:\\x[0-9a-f]{2})*)", (\d+), (\d+)\)\s+= (\d+)')
 
@@ -33,6 +33,12 @@ def places(writes):
 def content(file):
     with open(file, "rb") as f:
         return f.read()
+
+
+def numbers_at(file, *places_):
+    """Numbers of eight bytes in a file, 0 past its end."""
+    held = content(file)
+    return [number_at((held + bytes(place + 8))[place:place + 8], 0) for place in places_]
 
 
 def leave(file, before, writes):
@@ -65,6 +71,9 @@ def creates_in_order():
     leave("again", b"", writes)
     equal(content("disk")[:1552], content("again")[:1552], "the writes make the file")
     # Before the header there is no image, and then one of no bytes, up to the write of the size.
+    for stop in range(3):
+        leave("stopped", b"", writes[:stop])
+        equal(checks.qimg("run", "stopped", given=b"size\n"), (1, "refused 19 metadata\n"), f"a stop after {stop} writes")
     for stop in range(3, len(writes) + 1):
         leave("stopped", b"", writes[:stop])
         is_consistent("stopped", f"a stop after {stop} writes")
@@ -86,11 +95,50 @@ def writes_in_order():
     equal(writes[3][1], b"\x11" * 512, "guest bytes")
     equal(writes[4][1][:14], bytes.fromhex("000100010001000100010001") + bytes(2), "counts before the mapping")
     equal(writes[5][1], bytes.fromhex("8000000000000a00") + bytes(504), "L2 entry")
-    for stop in range(len(writes) + 1):
+    l1, l2 = 0x8000000000000800, 0x8000000000000a00
+    left = [(0, 0, 0), (1 << 48, 0, 0), (1 << 48, 0, 0), (1 << 48, l1, 0), (1 << 48, l1, 0), (0x10001 << 32, l1, 0), (0x10001 << 32, l1, l2)]
+    for stop, numbers in enumerate(left):
         leave("stopped", before, writes[:stop])
+        equal(numbers_at("stopped", 1032, 1536, 2048), list(numbers), f"the last counts and the two entries after {stop} writes")
         is_consistent("stopped", f"a stop after {stop} writes")
         value = "11" if stop == len(writes) else "00"
         equal(checks.qimg("run", "stopped", given=b"read 0 4\n"), (0, f"data {value * 4}\n"), f"a stop after {stop} writes")
+    equal(numbers_at("disk", 1024), [0x0001000100010001], "the first counts")
+
+
+def makes_refblocks_on_the_way():
+    create("disk", 65536, 512, 64)
+    run("disk", *[f"fill {cluster * 512} 512 44" for cluster in range(60)], "flush")
+    equal(numbers_at("disk", 520, 32768, 32776, 32784), [32768, 1, 1, 0], "the second refblock")
+    answers("disk", [("map 29696 512", "raw image 32256 512 rw"), ("map 30208 512", "raw image 33280 512 rw")])
+
+
+def names_a_refblock_before_its_clusters_are_used():
+    # With counts of 64 bits the first refblock is full then.
+    create("disk", 65536, 512, 64)
+    run("disk", *[f"fill {cluster * 512} 512 44" for cluster in range(59)], "flush")
+    before = content("disk")
+    said, writes = written(["run", "disk"], b"fill 30208 512 55\nflush\n")
+    equal(said, "ok\nok\n", "output")
+    equal([at for at, _ in writes], [32768, 520, 33280, 32768, 2048], "offsets")
+    for stop in range(len(writes) + 1):
+        leave("stopped", before, writes[:stop])
+        # The refblock counts itself, then it is named, and the new cluster is counted before it is.
+        numbers = [32768 if stop > 1 else 0, 1 if stop else 0, 1 if stop > 3 else 0, 0x8000000000008200 if stop > 4 else 0]
+        equal(numbers_at("stopped", 520, 32768, 32776, 2520), numbers, f"entries and counts after {stop} writes")
+        is_consistent("stopped", f"a stop after {stop} writes")
+        value = "55" if stop == len(writes) else "00"
+        equal(run("stopped", "read 30208 1"), [f"data {value}"], f"a stop after {stop} writes")
+
+
+def a_former_tables_cluster_takes_a_new_table():
+    create("disk", 65536, 512)
+    run("disk", "fill 0 512 11", "flush")
+    # The L1 entry isn't marked copied any more: its table is replaced.
+    put("disk", 1536, b"\0")
+    run("disk", "fill 0 512 22", "flush", "fill 32768 512 33", "flush")
+    equal(numbers_at("disk", 1536, 1544, 1032, 1040), [0x8000000000000c00, 0x8000000000000800, 0x0001000100010001, 0], "entries and counts")
+    answers("disk", [("read 32768 1", "data 33"), ("read 0 1", "data 22")])
 
 
 def stops_leave_leaks_at_worst(size, cluster, width, lines, is_old_or_given):
@@ -115,6 +163,9 @@ def main():
     tests = checks.Checks()
     tests.run("creates in order", creates_in_order)
     tests.run("writes in order", writes_in_order)
+    tests.run("makes refblocks on the way", makes_refblocks_on_the_way)
+    tests.run("names a refblock before its clusters are used", names_a_refblock_before_its_clusters_are_used)
+    tests.run("a former table's cluster takes a new table", a_former_tables_cluster_takes_a_new_table)
     for width in (1, 8, 16, 64):
         tests.run(f"stops, width {width}", stops_leave_leaks_at_worst, 65536, 512, width,
                   b"".join(b"fill %d 512 %02x\n" % (at * 512, at + 1) for at in range(0, 128, 9)) + b"flush\nfill 0 512 99\nflush\n",
