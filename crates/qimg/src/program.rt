@@ -198,6 +198,3 @@ fn print_answers<W: Write>(
     print_replies(output, replies)?;
     Ok(!any_refused(replies))
 }
-
-#[cfg(test)]
-mod tests;
