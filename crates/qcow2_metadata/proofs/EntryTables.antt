@@ -7,7 +7,7 @@ use Rattle.std.proofs.lemmas.Nat.{and_block, and_le_l, and_mask, mod_below, pow-
 use Rattle.image_access.specs.Contents.{bytes_at, overwritten}
 use Rattle.image_access.proofs.Bytes.{byte_at_past, length-bytes_at, put_mid-overwritten}
 use Rattle.qcow2_metadata.specs.Bytes.{byte_at, number_at}
-use Rattle.qcow2_metadata.specs.Header.{HeaderFields}
+use Rattle.qcow2_metadata.specs.Header.{HeaderFields, reftable_entries}
 use Rattle.qcow2_metadata.specs.Entries.{l1_entry, l2_entry, reftable_entry, L1EntryReads, ReftableEntryReads}
 use Rattle.qcow2_metadata.specs.TableBytes.{entry_at, ChangesEntry}
 use Rattle.qcow2_metadata.specs.EntryTable.{EntryTableView, EachReads, IsClear, IsL1TableOf, IsReasonNotToLoad, IsRefTableOf, NamesL1Table, NamesRefTable, SomeUnread}
@@ -109,6 +109,16 @@ loaded contents at n bytes is i = ap (λ (l : List ℕ). entry_at l i) is ∙ el
   | inl within ↦ entry_at-loaded contents at (8 * n) i (omega arith) ∙ sym (cond-true _ _ _ (lt-ltb i n within))
   | inr past ↦ entry_at_past _ i (omega (arith, length-bytes_at contents at (8 * n))) ∙ sym (cond-false _ _ _ (le-ltb i n past))
 ]
+
+pub l1_entries-loaded : (h : HeaderFields) (contents bytes : List ℕ) → bytes ≡ bytes_at contents h.l1_offset (8 * h.l1_entries)
+    → (i : ℕ) → entry_at bytes i ≡ l1_entry h (byte_at contents) i
+unfolding l1_entry
+l1_entries-loaded h contents bytes is = loaded contents h.l1_offset h.l1_entries bytes is
+
+pub reftable_entries-loaded : (h : HeaderFields) (contents bytes : List ℕ) → bytes ≡ bytes_at contents h.reftable_offset (8 * reftable_entries h)
+    → (i : ℕ) → entry_at bytes i ≡ reftable_entry h (byte_at contents) i
+unfolding reftable_entry
+reftable_entries-loaded h contents bytes is = loaded contents h.reftable_offset (reftable_entries h) bytes is
 
 pub IsL1TableOf-loaded : (h : HeaderFields) (contents : List ℕ) (place entries : ℕ) (t : EntryTableView) → NamesL1Table h place entries → t.bytes ≡ bytes_at contents place (8 * entries) → IsL1TableOf h (byte_at contents) t
 unfolding l1_entry

@@ -6,7 +6,7 @@ use Rattle.std.proofs.lemmas.List.FromFn.{length-map-range_with_len, get_or-map-
 use Rattle.std.proofs.lemmas.Bool.{cases_eq, eq-eqb}
 use Rattle.qcow2_metadata.specs.Bytes.{Bytes, byte_at, bytes_from, number_at}
 use Rattle.qcow2_metadata.specs.Header.{HeaderFields, HeaderView, header, cluster_size, backing_name, IsInRange, IsExtension, AreExtensions, BackingNameReads, IsWellFormed, HeaderReads, behind_extension}
-use Rattle.qcow2_metadata.specs.HeaderLoad.{IsHeaderOf, IsReasonToRefuse}
+use Rattle.qcow2_metadata.specs.HeaderLoad.{IsHeaderOf, IsReasonToRefuse, IsReasonNotToRead}
 use Rattle.qcow2_metadata.specs.declared.error.MetadataError.{MetadataError}
 use Rattle.qcow2_metadata.specs.declared.error.MetadataError.TheVariants.{Storage, Memory, Version, Unaligned, Limit, Format}
 use Rattle.image_access.specs.Contents.{bytes_at}
@@ -98,7 +98,7 @@ module _ (h : HeaderFields) (b c : Bytes) (same : SameBetween h.header_length (c
     | inr some ↦ ap (λ l. if h.backing_offset == 0 then None else Some l) (name-same reads some)
   ]
 
-  reads-same : HeaderReads h b → HeaderReads h c
+  pub reads-same : HeaderReads h b → HeaderReads h c
   reads-same reads = record { well_formed = well_formed-same reads.well_formed; within_limits = reads.within_limits }
 
   pub is_header_of-same : (loaded : HeaderView) → IsHeaderOf loaded h b → IsHeaderOf loaded h c
@@ -118,6 +118,14 @@ reason-same h b c same writable Unaligned is = (reads-same h b c same is.0, is.1
 reason-same h b c same writable Version is = is
 reason-same h b c same writable Memory is = is
 reason-same h b c same writable (Storage e) is = is
+
+pub unread-same : (h : HeaderFields) (b c : Bytes) → SameBetween h.header_length (cluster_size h) b c → (e : MetadataError) → IsReasonNotToRead h b e → IsReasonNotToRead h c e
+unread-same h b c same Format is = λ formed. is (well_formed-same h c b (other_way _ _ b c same) formed)
+unread-same h b c same Limit is = (well_formed-same h b c same is.0, is.1)
+unread-same h b c same Unaligned is = is
+unread-same h b c same Version is = is
+unread-same h b c same Memory is = is
+unread-same h b c same (Storage e) is = is
 
 -- a read of the first bytes
 pub same_read : (contents buf : List ℕ) (n : ℕ) → buf ≡ bytes_at contents 0 n → SameBelow n (byte_at buf) (byte_at contents)
@@ -139,3 +147,9 @@ module _ (contents buf : List ℕ) (h : HeaderFields) (is : buf ≡ bytes_at con
 
   pub refused : (writable : Bool) (e : MetadataError) → IsReasonToRefuse h (byte_at buf) writable e → IsReasonToRefuse (header (byte_at contents)) (byte_at contents) writable e
   refused writable e there = subst (λ k. IsReasonToRefuse k (byte_at contents) writable e) fields (reason-same h _ _ (λ i le. same_read contents buf _ is i) writable e there)
+
+  pub reads : HeaderReads h (byte_at buf) → HeaderReads h (byte_at contents)
+  reads there = reads-same h _ _ (λ i le. same_read contents buf _ is i) there
+
+  pub unread : (e : MetadataError) → IsReasonNotToRead h (byte_at buf) e → IsReasonNotToRead (header (byte_at contents)) (byte_at contents) e
+  unread e there = subst (λ k. IsReasonNotToRead k (byte_at contents) e) fields (unread-same h _ _ (λ i le. same_read contents buf _ is i) e there)

@@ -33,6 +33,15 @@ pub record HasAlignedTables (h : HeaderFields) (writable : Bool) : Type 0 where
   pub l1_table : IsAligned h h.l1_offset
   pub reftable : IsTrue writable → IsAligned h h.reftable_offset
 
+-- Why the header doesn't read.
+abbrev pub IsReasonNotToRead : HeaderFields → Bytes → MetadataError → Type 0
+IsReasonNotToRead h b Format = ¬ IsWellFormed h b
+IsReasonNotToRead h b Limit = IsWellFormed h b × ¬ IsWithinLimits h
+IsReasonNotToRead h b Unaligned = ⊥
+IsReasonNotToRead h b Version = ⊥
+IsReasonNotToRead h b Memory = ⊤
+IsReasonNotToRead h b (Storage e) = ⊤
+
 -- Why the bytes are refused: what doesn't read goes before a limit, and a limit before an offset.
 abbrev pub IsReasonToRefuse : HeaderFields → Bytes → Bool → MetadataError → Type 0
 IsReasonToRefuse h b writable Format = ¬ IsWellFormed h b

@@ -23,6 +23,22 @@ IsInReach (Zero kept) = KeptIsInReach kept
 IsInReach (Compressed place sectors) = (place < 2 ^ 61) × (0 < sectors) × (sectors ≤ 2 ^ 14)
 IsInReach Uncovered = ⊤
 
+-- the host offset of its data, or one that it keeps
+abbrev pub host_of : L2Mapping → Option ℕ
+host_of (Data host copied) = Some host
+host_of (Zero None) = None
+host_of (Zero (Some k)) = Some k.0
+host_of (Compressed place sectors) = None
+host_of Uncovered = None
+
+-- it is marked copied, with that host offset
+abbrev pub is_marked : L2Mapping → Bool
+is_marked (Data host copied) = copied
+is_marked (Zero None) = false
+is_marked (Zero (Some k)) = k.1
+is_marked (Compressed place sectors) = false
+is_marked Uncovered = false
+
 abbrev pub KeptIsAligned : ℕ → Option (ℕ × Bool) → Type 0
 KeptIsAligned cluster_bits None = ⊤
 KeptIsAligned cluster_bits (Some k) = k.0 % 2 ^ cluster_bits ≡ 0

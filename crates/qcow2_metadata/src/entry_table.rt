@@ -71,7 +71,7 @@ fn place(cluster: HostCluster, cluster_bits: u32, length: u64) -> Option<u64>
 }
 
 /// So many bytes of a storage, which isn't asked for none.
-fn load_bytes<S: Storage>(
+pub(crate) fn load_bytes<S: Storage>(
     alloc: Global,
     storage: &mut S,
     at: u64,
@@ -91,7 +91,7 @@ fn load_bytes<S: Storage>(
 }
 
 /// Whether none of these bits is set in any entry.
-fn is_clear(bytes: &[u8], reserved: u64) -> bool
+pub(crate) fn is_clear(bytes: &[u8], reserved: u64) -> bool
     requires { length bytes.now % 8 ≡ 0 }
     ensures clear { OnTrue result (EachReads (IsClear reserved) bytes.now) }
     ensures set { OnFalse result (SomeUnread (IsClear reserved) bytes.now) }

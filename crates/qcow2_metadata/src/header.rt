@@ -8,6 +8,7 @@ mod load;
 mod write;
 
 use crate::{HostOffset, MetadataError};
+pub(crate) use load::{cluster_bytes, read_first_cluster, require_readable};
 use std::marker::Model;
 
 /// The numbers of a header, at the places that the format gives them.

@@ -23,7 +23,7 @@ use std::marker::Model;
 const MAX_ENTRIES: usize = 4_194_304;
 
 /// Bits 0 to 8 and 56 to 62, which have no meaning.
-const RESERVED: u64 = 0x7f00_0000_0000_01ff;
+pub(crate) const RESERVED: u64 = 0x7f00_0000_0000_01ff;
 
 /// What an entry of the L1 table names.
 #[derive(Clone, Copy, Debug, PartialEq, Eq)]

@@ -4,7 +4,7 @@ ghost use Rattle.qcow2_metadata.specs.Entries.{host_offset as host_offset_of};
 ghost use Rattle.qcow2_metadata.specs.Cover.{cover_of, sectors_bit};
 ghost use Rattle.qcow2_metadata.specs.Header.{HeaderFields};
 ghost use Rattle.qcow2_metadata.specs.Named.{named_by_cover};
-ghost use Rattle.qcow2_metadata.specs.L2Mapping.{greatest_offset, IsInReach, HasAlignedHost, named_run, run_has, dropped_run};
+ghost use Rattle.qcow2_metadata.specs.L2Mapping.{greatest_offset, IsInReach, HasAlignedHost, host_of, is_marked, named_run, run_has, dropped_run};
 
 use crate::{ClusterCount, HostCluster, HostOffset};
 
@@ -29,15 +29,16 @@ pub(crate) const ZERO: u64 = 1;
 
 const HOST_OFFSET: u64 = 0x00ff_ffff_ffff_fe00;
 
-/// The bits of an entry that are a host offset.
-pub(crate) fn host_offset(entry: u64) -> u64
+/// The bits of an L1 or L2 entry that are a host offset.
+pub fn host_offset(entry: u64) -> u64
     ensures value { result ≡ host_offset_of entry }
     ensures reach { result ≤ greatest_offset }
 {
     entry & HOST_OFFSET
 }
 
-pub(crate) fn is_copied(entry: u64) -> bool
+/// Whether an L1 or L2 entry is marked copied.
+pub fn is_copied(entry: u64) -> bool
     ensures { result ≡ has_bit entry 63 }
 {
     entry & COPIED != 0
@@ -85,7 +86,7 @@ fn run_of_bytes(first: u64, last: u64, cluster_bits: u32) -> (HostCluster, Clust
 impl L2Mapping {
     /// What an L2 entry says.
     #[tactic(auto, unfolding(crate::specs::Cover::cover_of))]
-    pub(crate) fn of_entry(
+    pub fn of_entry(
         entry: u64,
         cluster_bits: u32,
         has_zero_bit: bool,
@@ -111,6 +112,34 @@ impl L2Mapping {
             L2Mapping::Data { host, copied }
         } else {
             L2Mapping::Uncovered
+        }
+    }
+
+    /// The host offset of its data, or one that it keeps.
+    pub fn host(&self) -> Option<HostOffset>
+        ensures { result ≡ host_of self.now }
+    {
+        match *self {
+            L2Mapping::Data { host, .. } => Some(host),
+            L2Mapping::Zero { kept } => {
+                let (host, _) = kept?;
+                Some(host)
+            }
+            L2Mapping::Compressed { .. } | L2Mapping::Uncovered => None,
+        }
+    }
+
+    /// Whether it is marked copied, with that host offset.
+    pub fn is_marked_copied(&self) -> bool
+        ensures { result ≡ is_marked self.now }
+    {
+        match *self {
+            L2Mapping::Data { copied, .. } => copied,
+            L2Mapping::Zero { kept } => match kept {
+                Some((_, copied)) => copied,
+                None => false,
+            },
+            L2Mapping::Compressed { .. } | L2Mapping::Uncovered => false,
         }
     }
 

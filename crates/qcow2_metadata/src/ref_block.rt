@@ -79,8 +79,8 @@ fn with_field(byte: u8, bit: u32, width: u32, value: u8) -> u8
     byte - (field(byte, bit, width) << bit) + (value << bit)
 }
 
-/// Count `index` of a refblock.
-fn read_count(block: &[u8], order: u32, index: usize) -> u64
+/// Count `index` of a refblock, whose counts are of two to `order` bits.
+pub fn read_count(block: &[u8], order: u32, index: usize) -> u64
     requires order { order ≤ 6 }
     requires whole { length block.now % 8 ≡ 0 }
     requires inside { index < length block.now * 8 / 2 ^ order }

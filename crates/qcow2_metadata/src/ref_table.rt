@@ -21,7 +21,7 @@ use std::marker::Model;
 const MAX_ENTRIES: usize = 1_048_576;
 
 /// Bits 0 to 8, which have no meaning.
-const RESERVED: u64 = 0x1ff;
+pub(crate) const RESERVED: u64 = 0x1ff;
 
 /// The table that names the refblocks.
 #[derive(Drop)]
@@ -41,8 +41,8 @@ impl Model for RefTable {
     ghost invariant = { λ t. (entry_count t.table ≤ 1048576) × EachReads ReftableEntryReads t.table.bytes };
 }
 
-/// The bits of an entry that are the offset of a refblock, 0 for none.
-fn block_offset(entry: u64) -> u64
+/// The bits of an entry of the reftable that are the offset of a refblock, 0 for none.
+pub fn block_offset(entry: u64) -> u64
     ensures { result ≡ block_offset_of entry }
 {
     entry & 0xffff_ffff_ffff_fe00

@@ -44,9 +44,9 @@ pub(crate) fn put(within: &mut [u8], place: usize, bytes: &[u8])
     within[place..end].copy_from_slice(bytes);
 }
 
-/// Entry `index` of a table.
+/// Entry `index` of a table of 64-bit entries.
 #[tactic(auto, unfolding(crate::specs::Entries::l2_entry))]
-pub(crate) fn entry_at(table: &[u8], index: usize) -> u64
+pub fn entry_at(table: &[u8], index: usize) -> u64
     requires { 8 * index + 8 ≤ length table.now }
     ensures { result ≡ entry_of table.now index }
 {

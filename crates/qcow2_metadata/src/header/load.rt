@@ -3,8 +3,8 @@
 ghost use Rattle.std.specs.Prelude.{◌≡◌, ◌≢◌, ◌+◌, ◌*◌, ◌^◌, ◌≤◌, ◌<◌, length, Bool, IsTrue, ◌⊎◌, IfOk, IfErr, OnOk, ◌↔◌, option_copied, option_map};
 ghost use Rattle.std.specs.String.{string_bytes};
 ghost use Rattle.qcow2_metadata.specs.Bytes.{byte_at};
-ghost use Rattle.qcow2_metadata.specs.Header.{header, cluster_size, backing_name, IsInRange, IsWithinLimits, BackingNameReads};
-ghost use Rattle.qcow2_metadata.specs.HeaderLoad.{HasAlignedTables, IsHeaderOf, IsHeaderIn, IsReasonToRefuse};
+ghost use Rattle.qcow2_metadata.specs.Header.{header, cluster_size, backing_name, HeaderReads, IsInRange, IsWithinLimits, BackingNameReads};
+ghost use Rattle.qcow2_metadata.specs.HeaderLoad.{HasAlignedTables, IsHeaderOf, IsHeaderIn, IsReasonToRefuse, IsReasonNotToRead};
 ghost use Rattle.qcow2_metadata.specs.MetadataError.{OnlyReads};
 ghost use Rattle.image_access.specs.Contents.{bytes_at};
 ghost use Rattle.image_access.specs.declared.error.StorageError.{StorageError};
@@ -59,7 +59,7 @@ fn read_fields(bytes: &[u8]) -> HeaderFields
 }
 
 /// The bytes of a cluster.
-pub(super) fn cluster_bytes(cluster_bits: u32) -> u64
+pub(crate) fn cluster_bytes(cluster_bits: u32) -> u64
     requires { cluster_bits ≤ 21 }
     ensures value { result ≡ 2 ^ cluster_bits }
     ensures small { result ≤ 2097152 }
@@ -151,7 +151,7 @@ fn owned(alloc: Global, text: Option<&str>) -> Result<Option<String>, AllocError
 }
 
 /// Reads the numbers, and then the whole of cluster 0.
-fn read_first_cluster<S: Storage>(
+pub(crate) fn read_first_cluster<S: Storage>(
     alloc: Global,
     storage: &mut S,
 ) -> Result<(HeaderFields, Vec<u8>), MetadataError>
@@ -161,6 +161,8 @@ fn read_first_cluster<S: Storage>(
     ensures bytes { (S.view storage.old).is_honest → IfOk result (λ r. r.1.items ≡ bytes_at (S.view storage.old).contents 0 (cluster_size r.0)) }
     ensures refused { (S.view storage.old).is_honest → IfErr result (λ e. (writable : Bool)
         → IsReasonToRefuse (header (byte_at (S.view storage.old).contents)) (byte_at (S.view storage.old).contents) writable e) }
+    ensures unread { (S.view storage.old).is_honest
+        → IfErr result (IsReasonNotToRead (header (byte_at (S.view storage.old).contents)) (byte_at (S.view storage.old).contents)) }
     ensures reads { OnlyReads (S.view storage.old) (S.view storage.new) result }
 {
     let mut start = [0; 104];
@@ -173,6 +175,22 @@ fn read_first_cluster<S: Storage>(
     let mut cluster = vec![in alloc; 0u8; size as usize]?;
     storage.read(0, &mut cluster)?;
     Ok((fields, cluster))
+}
+
+/// Refuses a header that doesn't read, by its numbers and the bytes of cluster 0.
+pub(crate) fn require_readable(fields: &HeaderFields, cluster: &[u8]) -> Result<(), MetadataError>
+    requires in_range { IsInRange fields.now }
+    requires whole { length cluster.now ≡ cluster_size fields.now }
+    ensures ok { OnOk result (HeaderReads fields.now (byte_at cluster.now)) }
+    ensures refused { IfErr result (IsReasonNotToRead fields.now (byte_at cluster.now)) }
+    ensures own { IfErr result (λ e. (fault : StorageError) → e ≢ MetadataError.Storage fault) }
+{
+    read_extensions(cluster, fields.header_length as usize)?;
+    read_backing_name(cluster, fields)?;
+    if !is_within_limits(fields) {
+        return Err(MetadataError::Limit);
+    }
+    Ok(())
 }
 
 /// The header with these numbers and the names that stand in cluster 0.

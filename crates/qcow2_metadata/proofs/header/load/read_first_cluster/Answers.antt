@@ -10,3 +10,8 @@ returns-then-not-is_in_range-clause-refused g c honest writable =
 
 pub returns-clause-fields : goal.returns-clause-fields
 returns-clause-fields g c honest = c.read_fields-fields.ensures ∙ header_read _ _ (c.in_ok-read.ensures.read honest)
+
+pub returns-then-not-is_in_range-clause-unread : goal.returns-then-not-is_in_range-clause-unread
+returns-then-not-is_in_range-clause-unread g c honest =
+    let out : IsInRange c.read_fields-fields.result → ⊥ = search (rules, tests) in
+    not_formed _ _ _ out (c.read_fields-fields.ensures ∙ header_read _ _ (c.in_ok-read.ensures.read honest))
