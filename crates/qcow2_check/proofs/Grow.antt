@@ -1,0 +1,43 @@
+-- Steps of a map of tallies.
+use Rattle.std.proofs.Common.{◌≡◌, ℕ, ◌+◌, arith, refl, sym, ap, ◌∙◌}
+use Rattle.std.specs.BTreeMap.{BTreeMap}
+use Rattle.qcow2_metadata.specs.Bytes.{Bytes}
+use Rattle.qcow2_metadata.specs.Entries.{l2_entry}
+use Rattle.qcow2_metadata.specs.Cover.{entry_cover}
+use Rattle.qcow2_metadata.specs.Named.{named_by_cover}
+use Rattle.qcow2_metadata.specs.declared.l2_mapping.L2Mapping.{L2Mapping}
+use Rattle.qcow2_metadata.specs.declared.header.HeaderFields.{HeaderFields}
+use Rattle.qcow2_check.proofs.Sums.{sum_below_none, sum_below_more}
+use Rattle.qcow2_check.specs.declared.tally.Tally.{Tally}
+use Rattle.qcow2_check.specs.Tallies.{Grows}
+use Rattle.qcow2_check.specs.Marks.{marked_by_cover, named_by_entries, marked_by_entries}
+
+pub grows_none : (m : BTreeMap ℕ Tally) (f g k : ℕ → ℕ) → ((q : ℕ) → f q ≡ 0) → ((q : ℕ) → g q ≡ 0) → ((q : ℕ) → k q ≡ 0) → Grows m m f g k
+grows_none m f g k f0 g0 k0 = record {
+  more_named = λ q. omega (arith, f0 q);
+  more_for_tables = λ q. omega (arith, g0 q);
+  more_marked = λ q. omega (arith, k0 q);
+  same_count = λ q. refl;
+}
+
+pub grows_more : (old mid new : BTreeMap ℕ Tally) (f1 g1 k1 f2 g2 k2 f g k : ℕ → ℕ) → Grows old mid f1 g1 k1 → Grows mid new f2 g2 k2
+    → ((q : ℕ) → f q ≡ f1 q + f2 q) → ((q : ℕ) → g q ≡ g1 q + g2 q) → ((q : ℕ) → k q ≡ k1 q + k2 q) → Grows old new f g k
+grows_more old mid new f1 g1 k1 f2 g2 k2 f g k one two fs gs ks = record {
+  more_named = λ q. omega (arith, one.more_named q, two.more_named q, fs q);
+  more_for_tables = λ q. omega (arith, one.more_for_tables q, two.more_for_tables q, gs q);
+  more_marked = λ q. omega (arith, one.more_marked q, two.more_marked q, ks q);
+  same_count = λ q. two.same_count q ∙ one.same_count q;
+}
+
+pub l2_table_none : (h : HeaderFields) (b : Bytes) (m : BTreeMap ℕ Tally) → Grows m m (named_by_entries h b 0 0) (λ _. 0) (marked_by_entries h b 0 0)
+l2_table_none h b m = grows_none m _ _ _ (λ q. sum_below_none _) (λ q. omega arith) (λ q. sum_below_none _)
+
+pub l2_table_more : (h : HeaderFields) (b : Bytes) (j : ℕ) (cover : L2Mapping) (old mid new : BTreeMap ℕ Tally) → cover ≡ entry_cover h (l2_entry b 0 j)
+    → Grows old mid (named_by_entries h b 0 j) (λ _. 0) (marked_by_entries h b 0 j)
+    → Grows mid new (λ q. named_by_cover h q cover) (λ _. 0) (λ q. marked_by_cover h q cover)
+    → Grows old new (named_by_entries h b 0 (j + 1)) (λ _. 0) (marked_by_entries h b 0 (j + 1))
+l2_table_more h b j cover old mid new is so_far next =
+    grows_more old mid new _ _ _ _ _ _ _ _ _ so_far next
+    (λ q. sum_below_more j (λ j. named_by_cover h q (entry_cover h (l2_entry b 0 j))) ∙ ap (λ v. named_by_entries h b 0 j q + named_by_cover h q v) (sym is))
+    (λ q. omega arith)
+    (λ q. sum_below_more j (λ j. marked_by_cover h q (entry_cover h (l2_entry b 0 j))) ∙ ap (λ v. marked_by_entries h b 0 j q + marked_by_cover h q v) (sym is))

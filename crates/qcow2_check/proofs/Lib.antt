@@ -1,0 +1,12 @@
+pub mod Clusters
+pub mod CountSteps
+pub mod Covers
+pub mod Grow
+pub mod GrowL1
+pub mod Reading
+pub mod Refusals
+pub mod Reported
+pub mod Rising
+pub mod Shifts
+pub mod Sums
+pub mod Totals

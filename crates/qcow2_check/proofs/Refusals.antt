@@ -1,0 +1,65 @@
+-- Why there is no report.
+use Rattle.std.proofs.Common.{ℕ, ◌+◌, ◌*◌, ◌^◌, ◌≤◌, List, refl, sym, subst, arith}
+use Rattle.image_access.specs.Contents.{bytes_at}
+use Rattle.image_access.proofs.Bytes.{length-bytes_at}
+use Rattle.qcow2_metadata.specs.Bytes.{Bytes, byte_at}
+use Rattle.qcow2_metadata.specs.declared.header.HeaderFields.{HeaderFields}
+use Rattle.qcow2_metadata.specs.Header.{reftable_entries}
+use Rattle.qcow2_metadata.specs.HeaderLoad.{IsReasonNotToRead}
+use Rattle.qcow2_metadata.specs.Entries.{L1EntryReads, ReftableEntryReads}
+use Rattle.qcow2_metadata.specs.EntryTable.{SomeUnread, IsReasonNotToLoad}
+use Rattle.qcow2_metadata.specs.TableBytes.{IsOfStorageOrMemory}
+use Rattle.qcow2_metadata.specs.declared.error.MetadataError.{MetadataError}
+use Rattle.qcow2_metadata.specs.declared.error.MetadataError.TheVariants.{Storage, Memory, Version, Unaligned, Limit, Format}
+use Rattle.qcow2_metadata.proofs.EntryTables.{l1_entries-loaded, reftable_entries-loaded}
+use Rattle.qcow2_check.specs.Report.{IsReasonNotToCount, IsReasonNotToCheck}
+
+pub l1_unread : (h : HeaderFields) (contents : List ℕ) (e : MetadataError) (honest : Type 0) → honest
+    → IsReasonNotToLoad (2 ^ 64 ≤ h.l1_offset + 8 * h.l1_entries) (honest → SomeUnread L1EntryReads (bytes_at contents h.l1_offset (8 * h.l1_entries))) e
+    → IsReasonNotToCount h (byte_at contents) e
+l1_unread h contents (Storage _) honest here why = tt
+l1_unread h contents Memory honest here why = tt
+l1_unread h contents Limit honest here why = λ fits. absurd (omega (arith, why, fits.l1_table))
+l1_unread h contents Format honest here why = λ reads.
+    let some = why here in
+    some.2 (subst L1EntryReads (sym (l1_entries-loaded h contents _ refl some.0))
+    (reads.l1_entries some.0 (omega (arith, some.1, length-bytes_at contents h.l1_offset (8 * h.l1_entries)))))
+l1_unread h contents Version honest here why = why
+l1_unread h contents Unaligned honest here why = why
+
+pub reftable_unread : (h : HeaderFields) (contents : List ℕ) (e : MetadataError) (honest : Type 0) → honest
+    → IsReasonNotToLoad (2 ^ 64 ≤ h.reftable_offset + 8 * reftable_entries h) (honest → SomeUnread ReftableEntryReads (bytes_at contents h.reftable_offset (8 * reftable_entries h))) e
+    → IsReasonNotToCount h (byte_at contents) e
+reftable_unread h contents (Storage _) honest here why = tt
+reftable_unread h contents Memory honest here why = tt
+reftable_unread h contents Limit honest here why = λ fits. absurd (omega (arith, why, fits.reftable))
+reftable_unread h contents Format honest here why = λ reads.
+    let some = why here in
+    some.2 (subst ReftableEntryReads (sym (reftable_entries-loaded h contents _ refl some.0))
+    (reads.reftable some.0 (omega (arith, some.1, length-bytes_at contents h.reftable_offset (8 * reftable_entries h)))))
+reftable_unread h contents Version honest here why = why
+reftable_unread h contents Unaligned honest here why = why
+
+pub uncounted : (h : HeaderFields) (b : Bytes) (e : MetadataError) → IsOfStorageOrMemory e → IsReasonNotToCount h b e
+uncounted h b (Storage _) why = tt
+uncounted h b Memory why = tt
+uncounted h b Limit why = absurd why
+uncounted h b Format why = absurd why
+uncounted h b Version why = why
+uncounted h b Unaligned why = why
+
+pub unread_header : (h : HeaderFields) (b : Bytes) (e : MetadataError) → IsReasonNotToRead h b e → IsReasonNotToCheck h b e
+unread_header h b (Storage _) why = tt
+unread_header h b Memory why = tt
+unread_header h b Limit why = λ fits. why.1 fits.0
+unread_header h b Format why = λ reads. why reads.0
+unread_header h b Version why = why
+unread_header h b Unaligned why = why
+
+pub unread_tables : (h : HeaderFields) (b : Bytes) (e : MetadataError) → IsReasonNotToCount h b e → IsReasonNotToCheck h b e
+unread_tables h b (Storage _) why = tt
+unread_tables h b Memory why = tt
+unread_tables h b Limit why = λ fits. why fits.1
+unread_tables h b Format why = λ reads. why reads.1
+unread_tables h b Version why = why
+unread_tables h b Unaligned why = why

@@ -1,0 +1,79 @@
+use Rattle.std.proofs.Common.{ℕ, ◌≡◌, ◌/◌, List, length, ap, sym, subst, ◌∙◌, arith}
+use Rattle.std.proofs.lemmas.Result.{err_from_is_err_and}
+use Rattle.qcow2_metadata.specs.Bytes.{byte_at}
+use Rattle.qcow2_metadata.specs.Entries.{l1_entry, reftable_entry, count}
+use Rattle.qcow2_metadata.specs.TableBytes.{entry_at}
+use Rattle.qcow2_check.specs.declared.tally.Tally.{Tally}
+use Rattle.qcow2_check.specs.Tallies.{Grows, CountsAll}
+use Rattle.qcow2_check.specs.Marks.{named_below, tables_below, marked_below}
+use Rattle.qcow2_check.specs.Report.{IsReasonNotToCount}
+use Rattle.qcow2_check.proofs.Refusals.{l1_unread, reftable_unread, uncounted}
+use Rattle.qcow2_check.proofs.Totals.{few_reftable_clusters, all_tallies}
+use Rattle.qcow2_check.proofs.checker.tallies.Goals as goal
+
+pub returns-in_err-l1-clause-refused : goal.returns-in_err-l1-clause-refused
+returns-in_err-l1-clause-refused g c honest =
+    let p = err_from_is_err_and c.from_residual.result c.from_residual.ensures.1 in
+    let view = g.S.Storage.view c.args.storage.now in
+    rw (p.1, p.2) (l1_unread c.args.header.now view.contents _ view.is_honest honest c.in_err-l1.ensures.err)
+
+pub returns-in_err-reftable-clause-refused : goal.returns-in_err-reftable-clause-refused
+returns-in_err-reftable-clause-refused g c honest =
+    let p = err_from_is_err_and c.from_residual-in_err-reftable.result c.from_residual-in_err-reftable.ensures.1 in
+    let h = c.args.header.now in
+    let view = g.S.Storage.view c.load_l1_entries.new.storage in
+    let there : IsReasonNotToCount h (byte_at view.contents) c.in_err-reftable.field-0.0 =
+    reftable_unread h view.contents _ view.is_honest (c.in_ok-l1.ensures.reading.honest honest) c.in_err-reftable.ensures.err in
+    let P : List ℕ → Type 0 = λ b. IsReasonNotToCount h (byte_at b) c.in_err-reftable.field-0.0 in
+    rw (p.1, p.2) (subst P (c.in_ok-l1.ensures.reading.same honest) there)
+
+pub names_of_header-requires-clause-few_clusters :
+    goal.names_of_header-requires-clause-few_clusters
+names_of_header-requires-clause-few_clusters g c = few_reftable_clusters c.args.header.now c.requires.in_range.cluster_bits.0 c.requires.within_limits.few_reftable_entries
+
+pub returns-in_err-names_of_l1_table-clause-refused :
+    goal.returns-in_err-names_of_l1_table-clause-refused
+returns-in_err-names_of_l1_table-clause-refused g c honest =
+    let p = err_from_is_err_and c.from_residual-in_err-names_of_l1_table.result c.from_residual-in_err-names_of_l1_table.ensures.1 in
+    rw (p.1, p.2) (uncounted _ _ _ c.in_err-names_of_l1_table.ensures.causes)
+
+pub counts_of_reftable-requires-clause-fresh : goal.counts_of_reftable-requires-clause-fresh
+counts_of_reftable-requires-clause-fresh g c q =
+    c.in_ok-names_of_l1_table.ensures.counts q ∙ c.in_ok-names_of_reftable.ensures.grows.same_count q ∙ c.in_ok-names_of_header.ensures.grows.same_count q
+    ∙ ap (λ (t : Tally). t.count) (c.new-names.ensures.none q)
+
+pub returns-in_err-counts_of_reftable-clause-refused :
+    goal.returns-in_err-counts_of_reftable-clause-refused
+returns-in_err-counts_of_reftable-clause-refused g c honest =
+    let p = err_from_is_err_and c.from_residual-in_err-counts_of_reftable.result c.from_residual-in_err-counts_of_reftable.ensures.1 in
+    rw (p.1, p.2) (uncounted _ _ _ c.in_err-counts_of_reftable.ensures.causes)
+
+pub returns-clause-tallies : goal.returns-clause-tallies
+returns-clause-tallies g c honest =
+    let h = c.args.header.now in
+    let b = (g.S.Storage.view c.args.storage.now).contents in
+    let l1 = c.deref-2.result.now in
+    let blocks = c.deref.result.now in
+    let honest1 = c.in_ok-l1.ensures.reading.honest honest in
+    let honest2 = c.in_ok-reftable.ensures.reading.honest honest1 in
+    let honest3 = c.in_ok-names_of_l1_table.ensures.reading.honest honest2 in
+    let same1 : (g.S.Storage.view c.load_l1_entries.new.storage).contents ≡ b = c.in_ok-l1.ensures.reading.same honest in
+    let same2 : (g.S.Storage.view c.load_reftable_entries.new.storage).contents ≡ b = c.in_ok-reftable.ensures.reading.same honest1 ∙ same1 in
+    let same3 : (g.S.Storage.view c.names_of_l1_table.new.storage).contents ≡ b = c.in_ok-names_of_l1_table.ensures.reading.same honest2 ∙ same2 in
+    let L1 : List ℕ → Type 0 = λ b. (i : ℕ) → entry_at l1 i ≡ l1_entry h (byte_at b) i in
+    let l1_is : L1 b = λ i. ap (λ t. entry_at t i) c.deref-2.ensures.value ∙ c.in_ok-l1.ensures.entries honest i in
+    let R : List ℕ → List ℕ → Type 0 = λ t b. (k : ℕ) → entry_at t k ≡ reftable_entry h (byte_at b) k in
+    let reftable_is : R c.in_ok-reftable.reftable.items b = subst (R c.in_ok-reftable.reftable.items) same1 (c.in_ok-reftable.ensures.entries honest1) in
+    let blocks_are : R blocks b = subst (λ t. R t b) (sym c.deref.ensures.value) reftable_is in
+    let counts_are : R c.deref-3.result.now b = subst (λ t. R t b) (sym c.deref-3.ensures.value) reftable_is in
+    let m2 = c.names_of_reftable.new.names.clusters in
+    let m3 = c.names_of_l1_table.new.names.clusters in
+    let G : List ℕ → Type 0 = λ b. Grows m2 m3 (named_below h (byte_at b) (length l1 / 8)) (tables_below h (byte_at b) (length l1 / 8)) (marked_below h (byte_at b) (length l1 / 8)) in
+    let C : List ℕ → Type 0 = λ b. CountsAll m3 c.counts_of_reftable.new.names.clusters (count h (byte_at b)) in
+    all_tallies h (byte_at b) l1 blocks _ _ _ _ _
+    (omega (arith, c.in_ok-l1.ensures.length, ap length c.deref-2.ensures.value))
+    (omega (arith, c.in_ok-reftable.ensures.length, ap length c.deref.ensures.value))
+    blocks_are
+    c.new-names.ensures.none c.in_ok-names_of_header.ensures.grows c.in_ok-names_of_reftable.ensures.grows
+    (subst G same2 (c.in_ok-names_of_l1_table.ensures.grows honest2 (subst L1 (sym same2) l1_is)))
+    (subst C same3 (c.in_ok-counts_of_reftable.ensures.counts honest3 (subst (R c.deref-3.result.now) (sym same3) counts_are)))

@@ -1,0 +1,11 @@
+use Rattle.std.proofs.Common.{◌+◌, ◌*◌, ◌^◌, ◌≤◌}
+use Rattle.qcow2_metadata.specs.Bytes.{byte_at}
+use Rattle.qcow2_check.specs.Tallies.{Grows}
+use Rattle.qcow2_check.specs.Marks.{named_by_entries, marked_by_entries}
+use Rattle.qcow2_check.proofs.entries.names_of_l2_table.Given as goal
+
+abbrev pub invariant-loop-j : goal.invariant-loop-j
+invariant-loop-j l = record {
+  grows : Grows l.initial.names.clusters l.names.clusters (named_by_entries l.header (byte_at l.table) 0 l.j) (λ _. 0) (marked_by_entries l.header (byte_at l.table) 0 l.j);
+  total : l.names.total ≤ l.initial.names.total + l.j * 2 ^ 15;
+}

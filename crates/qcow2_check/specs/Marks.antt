@@ -1,0 +1,59 @@
+-- How often a cluster is named by an entry that is marked copied.
+use Rattle.std.specs.Prelude.{ℕ, ◌+◌, ◌-◌, ◌*◌, ◌/◌, Bool, ◌==◌, ◌&&◌, Option, Some, None, if◌then◌else◌}
+use Rattle.qcow2_metadata.specs.Bytes.{Bytes, sum_below, one_if}
+use Rattle.qcow2_metadata.specs.declared.header.HeaderFields.{HeaderFields}
+use Rattle.qcow2_metadata.specs.Header.{cluster_size, entries_per_cluster}
+use Rattle.qcow2_metadata.specs.Entries.{l1_entry, l2_entry, host_offset, is_copied}
+use Rattle.qcow2_metadata.specs.Cover.{entry_cover}
+use Rattle.qcow2_metadata.specs.Named.{named_by_cover, named_by_l2_table, table_in, touched_by}
+use Rattle.qcow2_metadata.specs.declared.l2_mapping.L2Mapping.{L2Mapping}
+use Rattle.qcow2_metadata.specs.declared.l2_mapping.L2Mapping.TheVariants.{Data, Zero, Compressed, Uncovered}
+
+-- 1 where the place lies in the cluster and is marked copied
+abbrev pub marked_at : HeaderFields → ℕ → ℕ → Bool → ℕ
+marked_at h cluster place copied = one_if (place / cluster_size h == cluster && copied)
+
+abbrev pub marked_by_kept : HeaderFields → ℕ → Option (ℕ × Bool) → ℕ
+marked_by_kept h cluster None = 0
+marked_by_kept h cluster (Some k) = marked_at h cluster k.0 k.1
+
+abbrev pub marked_by_cover : HeaderFields → ℕ → L2Mapping → ℕ
+marked_by_cover h cluster (Data host copied) = marked_at h cluster host copied
+marked_by_cover h cluster (Zero kept) = marked_by_kept h cluster kept
+marked_by_cover h cluster (Compressed place sectors) = 0
+marked_by_cover h cluster Uncovered = 0
+
+-- how often compressed data touch a cluster
+abbrev pub named_by_compressed : HeaderFields → ℕ → L2Mapping → ℕ
+named_by_compressed h cluster (Data host copied) = 0
+named_by_compressed h cluster (Zero kept) = 0
+named_by_compressed h cluster (Compressed place sectors) = touched_by h cluster place ((place / 512 + sectors) * 512 - 1)
+named_by_compressed h cluster Uncovered = 0
+
+-- what the first n entries of an L2 table name
+abbrev pub named_by_entries : HeaderFields → Bytes → ℕ → ℕ → ℕ → ℕ
+named_by_entries h b table n cluster = sum_below n (λ j. named_by_cover h cluster (entry_cover h (l2_entry b table j)))
+
+abbrev pub marked_by_entries : HeaderFields → Bytes → ℕ → ℕ → ℕ → ℕ
+marked_by_entries h b table n cluster = sum_below n (λ j. marked_by_cover h cluster (entry_cover h (l2_entry b table j)))
+
+-- by the first n L1 entries: for the L2 tables, by the entries of these, and by those marked copied
+abbrev pub table_under : HeaderFields → ℕ → ℕ → ℕ
+table_under h entry cluster = table_in h cluster (host_offset entry)
+
+abbrev pub named_under : HeaderFields → Bytes → ℕ → ℕ → ℕ
+named_under h b entry cluster = table_in h cluster (host_offset entry) + named_by_l2_table h b cluster (host_offset entry)
+
+abbrev pub marked_under : HeaderFields → Bytes → ℕ → ℕ → ℕ
+marked_under h b entry cluster =
+    if host_offset entry == 0 then 0
+    else marked_at h cluster (host_offset entry) (is_copied entry) + marked_by_entries h b (host_offset entry) (entries_per_cluster h) cluster
+
+abbrev pub tables_below : HeaderFields → Bytes → ℕ → ℕ → ℕ
+tables_below h b n cluster = sum_below n (λ i. table_under h (l1_entry h b i) cluster)
+
+abbrev pub named_below : HeaderFields → Bytes → ℕ → ℕ → ℕ
+named_below h b n cluster = sum_below n (λ i. named_under h b (l1_entry h b i) cluster)
+
+abbrev pub marked_below : HeaderFields → Bytes → ℕ → ℕ → ℕ
+marked_below h b n cluster = sum_below n (λ i. marked_under h b (l1_entry h b i) cluster)

@@ -1,0 +1,54 @@
+-- How often each cluster was named so far, as a map says it.
+use Rattle.std.specs.Prelude.{ℕ, ◌+◌, ◌^◌, ◌≡◌, ◌≢◌, ◌<◌, ◌≤◌, ◌==◌, ◌&&◌, Bool, unwrap_or}
+use Rattle.std.specs.BTreeMap.{BTreeMap, get}
+use Rattle.std.specs.Ordering.{nat_cmp}
+use Rattle.qcow2_metadata.specs.Bytes.{one_if}
+use Rattle.qcow2_check.specs.declared.tally.Tally.{Tally}
+
+abbrev pub no_tally : Tally
+no_tally = record { named = 0; for_tables = 0; marked = 0; count = 0 }
+
+abbrev pub tally_in : BTreeMap ℕ Tally → ℕ → Tally
+tally_in m q = unwrap_or (get nat_cmp m q) no_tally
+
+-- each cluster is named at most so often
+abbrev pub IsSmall : BTreeMap ℕ Tally → ℕ → Type 0
+IsSmall m total =
+    (q : ℕ) → ((tally_in m q).named ≤ total) × (((tally_in m q).for_tables ≤ total) × ((tally_in m q).marked ≤ total))
+
+-- no cluster past the numbers of 64 bits is named or counted
+abbrev pub IsNear : BTreeMap ℕ Tally → Type 0
+IsNear m = (q : ℕ) → 2 ^ 64 ≤ q → tally_in m q ≡ no_tally
+
+-- each cluster is named so much more often
+pub record Grows (old new : BTreeMap ℕ Tally) (named for_tables marked : ℕ → ℕ) : Type 0 where
+  pub more_named : (q : ℕ) → (tally_in new q).named ≡ (tally_in old q).named + named q
+  pub more_for_tables : (q : ℕ) → (tally_in new q).for_tables ≡ (tally_in old q).for_tables + for_tables q
+  pub more_marked : (q : ℕ) → (tally_in new q).marked ≡ (tally_in old q).marked + marked q
+  pub same_count : (q : ℕ) → (tally_in new q).count ≡ (tally_in old q).count
+
+-- one cluster is named once more
+abbrev pub Adds : BTreeMap ℕ Tally → BTreeMap ℕ Tally → ℕ → Bool → Bool → Type 0
+Adds old new cluster for_table marked =
+    Grows old new (λ q. one_if (cluster == q)) (λ q. one_if (cluster == q && for_table)) (λ q. one_if (cluster == q && marked))
+
+abbrev pub names_of : Tally → ℕ × (ℕ × ℕ)
+names_of t = (t.named, (t.for_tables, t.marked))
+
+-- one cluster has this count, and nothing else changes
+pub record Counts (old new : BTreeMap ℕ Tally) (cluster count : ℕ) : Type 0 where
+  pub same_names : (q : ℕ) → names_of (tally_in new q) ≡ names_of (tally_in old q)
+  pub new_count : (tally_in new cluster).count ≡ count
+  pub other_counts : (q : ℕ) → q ≢ cluster → (tally_in new q).count ≡ (tally_in old q).count
+
+-- the counts of n clusters from a first one on, and nothing else changes
+pub record CountsRange (old new : BTreeMap ℕ Tally) (first n : ℕ) (count : ℕ → ℕ) : Type 0 where
+  pub same_names : (q : ℕ) → names_of (tally_in new q) ≡ names_of (tally_in old q)
+  pub new_counts : (j : ℕ) → j < n → (tally_in new (first + j)).count ≡ count j
+  pub counts_below : (q : ℕ) → q < first → (tally_in new q).count ≡ (tally_in old q).count
+  pub counts_above : (q : ℕ) → first + n ≤ q → (tally_in new q).count ≡ (tally_in old q).count
+
+-- each cluster has its count, and nothing else changes
+pub record CountsAll (old new : BTreeMap ℕ Tally) (count : ℕ → ℕ) : Type 0 where
+  pub same_names : (q : ℕ) → names_of (tally_in new q) ≡ names_of (tally_in old q)
+  pub counts : (q : ℕ) → (tally_in new q).count ≡ count q

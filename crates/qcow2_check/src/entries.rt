@@ -1,0 +1,92 @@
+//! What entries name.
+
+ghost use Rattle.std.specs.Prelude.{ℕ, ◌≡◌, ◌+◌, ◌-◌, ◌*◌, ◌/◌, ◌<◌, ◌≤◌, ◌^◌, OnOk, OnErr, length};
+ghost use Rattle.qcow2_metadata.specs.Bytes.{byte_at};
+ghost use Rattle.qcow2_metadata.specs.Header.{cluster_size, entries_per_cluster, has_data_file};
+ghost use Rattle.qcow2_metadata.specs.L2Mapping.{IsInReach};
+ghost use Rattle.qcow2_metadata.specs.Named.{named_by_cover};
+ghost use Rattle.qcow2_check.specs.Tallies.{Grows};
+ghost use Rattle.qcow2_check.specs.Marks.{marked_by_cover, named_by_compressed, named_by_entries, marked_by_entries};
+
+use crate::names::Names;
+use qcow2_metadata::{HeaderFields, L2Mapping, entry_at};
+use std::alloc::AllocError;
+
+/// The clusters that compressed data touch.
+fn names_of_compressed(
+    names: &mut Names,
+    header: &HeaderFields,
+    cover: &L2Mapping,
+) -> Result<(), AllocError>
+    requires low { 9 ≤ header.now.cluster_bits }
+    requires bits { header.now.cluster_bits ≤ 21 }
+    requires near { IsInReach cover.now }
+    requires room { names.old.total < 2 ^ 62 }
+    ensures grows { OnOk result (Grows names.old.clusters names.new.clusters (λ q. named_by_compressed header.now q cover.now) (λ _. 0) (λ _. 0)) }
+    ensures total { OnOk result (names.new.total ≤ names.old.total + 2 ^ 15) }
+{
+    let size: u64 = 1 << header.cluster_bits;
+    match *cover {
+        L2Mapping::Compressed { host, sectors } => {
+            let first = host.value();
+            let end = (first / 512 + sectors) * 512;
+            names.add_range(first / size, (end - 1) / size)
+        }
+        L2Mapping::Data { .. } | L2Mapping::Zero { .. } | L2Mapping::Uncovered => Ok(()),
+    }
+}
+
+/// The clusters that an L2 entry names.
+fn names_of_cover(
+    names: &mut Names,
+    header: &HeaderFields,
+    cover: &L2Mapping,
+) -> Result<(), AllocError>
+    requires low { 9 ≤ header.now.cluster_bits }
+    requires bits { header.now.cluster_bits ≤ 21 }
+    requires near { IsInReach cover.now }
+    requires room { names.old.total < 2 ^ 62 }
+    ensures grows { OnOk result (Grows names.old.clusters names.new.clusters
+        (λ q. named_by_cover header.now q cover.now) (λ _. 0) (λ q. marked_by_cover header.now q cover.now)) }
+    ensures total { OnOk result (names.new.total ≤ names.old.total + 2 ^ 15) }
+{
+    let copied = cover.is_marked_copied();
+    match cover.host() {
+        Some(host) => {
+            let cluster = host.value() / (1 << header.cluster_bits);
+            names.add(cluster, false, copied)
+        }
+        None => names_of_compressed(names, header, cover),
+    }
+}
+
+/// Whether the header has the bit of an external data file.
+fn has_external_data(header: &HeaderFields) -> bool
+    ensures { result ≡ has_data_file header.now }
+{
+    header.incompatible / 4 % 2 == 1
+}
+
+/// The clusters that the entries of an L2 table name.
+pub(crate) fn names_of_l2_table(
+    names: &mut Names,
+    header: &HeaderFields,
+    table: &[u8],
+) -> Result<(), AllocError>
+    requires low { 9 ≤ header.now.cluster_bits }
+    requires bits { header.now.cluster_bits ≤ 21 }
+    requires whole { length table.now ≡ cluster_size header.now }
+    requires room { names.old.total < 2 ^ 61 }
+    ensures grows { OnOk result (Grows names.old.clusters names.new.clusters
+        (named_by_entries header.now (byte_at table.now) 0 (entries_per_cluster header.now)) (λ _. 0)
+        (marked_by_entries header.now (byte_at table.now) 0 (entries_per_cluster header.now))) }
+    ensures total { OnOk result (names.new.total ≤ names.old.total + 2 ^ 33) }
+{
+    let external = has_external_data(header);
+    for j in 0..table.len() / 8 {
+        let entry = entry_at(table, j);
+        let cover = L2Mapping::of_entry(entry, header.cluster_bits, header.version == 3, external);
+        names_of_cover(names, header, &cover)?;
+    }
+    Ok(())
+}

@@ -1,0 +1,16 @@
+//! The report of an image: whether it is consistent, each breach, and each cluster that is counted more often than it is named.
+#![tactic(auto)]
+
+mod checker;
+mod counts;
+mod entries;
+mod header;
+mod l1;
+mod lines;
+mod names;
+mod report;
+mod source;
+mod tally;
+
+pub use checker::{Report, check};
+pub use report::{Breach, Kind, Leak};

@@ -1,0 +1,117 @@
+//! The lines of a report.
+
+ghost use Rattle.std.specs.Prelude.{◌≡◌, ◌++◌, ◌^◌, OnOk};
+ghost use Rattle.std.specs.BTreeMap.{IsOrdered};
+ghost use Rattle.std.specs.Ordering.{nat_cmp};
+ghost use Rattle.qcow2_check.specs.Tallies.{tally_in};
+ghost use Rattle.qcow2_check.specs.Lines.{lines, lines_of, is_under, is_shared, is_miscopied, is_leaked, under_line, shared_line, copied_line, leak_line, header_lines};
+
+use crate::names::Names;
+use crate::report::{Breach, Leak};
+use qcow2_metadata::HeaderFields;
+use std::alloc::AllocError;
+
+/// A line for each cluster that is named more often than counted.
+fn push_under(breaches: &mut Vec<Breach>, names: &Names) -> Result<(), AllocError>
+    ensures sorted { IsOrdered nat_cmp names.now.clusters }
+    ensures lines { OnOk result (breaches.new.items ≡ breaches.old.items ++ lines_of is_under under_line names.now.clusters.entries) }
+{
+    for (cluster, tally) in &names.clusters {
+        if tally.named > tally.count {
+            breaches.push(Breach::Under {
+                cluster: *cluster,
+                count: tally.count,
+                named: tally.named,
+            })?;
+        }
+    }
+    Ok(())
+}
+
+/// A line for each cluster of a table that is named more than once.
+fn push_shared(breaches: &mut Vec<Breach>, names: &Names) -> Result<(), AllocError>
+    ensures sorted { IsOrdered nat_cmp names.now.clusters }
+    ensures lines { OnOk result (breaches.new.items ≡ breaches.old.items ++ lines_of is_shared shared_line names.now.clusters.entries) }
+{
+    for (cluster, tally) in &names.clusters {
+        if tally.for_tables != 0 && tally.named > 1 {
+            breaches.push(Breach::Shared {
+                cluster: *cluster,
+                named: tally.named,
+            })?;
+        }
+    }
+    Ok(())
+}
+
+/// A line for each cluster marked copied that is not named once and counted once.
+fn push_copied(breaches: &mut Vec<Breach>, names: &Names) -> Result<(), AllocError>
+    ensures sorted { IsOrdered nat_cmp names.now.clusters }
+    ensures lines { OnOk result (breaches.new.items ≡ breaches.old.items ++ lines_of is_miscopied copied_line names.now.clusters.entries) }
+{
+    for (cluster, tally) in &names.clusters {
+        if tally.marked != 0 && !(tally.named == 1 && tally.count == 1) {
+            breaches.push(Breach::Copied {
+                cluster: *cluster,
+                count: tally.count,
+                named: tally.named,
+            })?;
+        }
+    }
+    Ok(())
+}
+
+/// A line for each cluster that is counted more often than named.
+fn push_leaks(leaks: &mut Vec<Leak>, names: &Names) -> Result<(), AllocError>
+    ensures sorted { IsOrdered nat_cmp names.now.clusters }
+    ensures lines { OnOk result (leaks.new.items ≡ leaks.old.items ++ lines_of is_leaked leak_line names.now.clusters.entries) }
+{
+    for (cluster, tally) in &names.clusters {
+        if tally.count > tally.named {
+            leaks.push(Leak {
+                cluster: *cluster,
+                count: tally.count,
+                named: tally.named,
+            })?;
+        }
+    }
+    Ok(())
+}
+
+/// A line for the header's snapshots, and one for its data file.
+pub(crate) fn add_header_lines(
+    breaches: &mut Vec<Breach>,
+    header: &HeaderFields,
+) -> Result<(), AllocError>
+    ensures { OnOk result (breaches.new.items ≡ breaches.old.items ++ header_lines header.now) }
+{
+    if header.snapshots != 0 {
+        let count = header.snapshots;
+        breaches.push(Breach::Snapshots { count })?;
+    }
+    if header.incompatible != 0 {
+        breaches.push(Breach::External)?;
+    }
+    Ok(())
+}
+
+/// The lines on the counts of clusters.
+pub(crate) fn add_breaches(breaches: &mut Vec<Breach>, names: &Names) -> Result<(), AllocError>
+    ensures { OnOk result (breaches.new.items ≡ breaches.old.items
+        ++ (lines (2 ^ 64) is_under under_line (tally_in names.now.clusters)
+        ++ (lines (2 ^ 64) is_shared shared_line (tally_in names.now.clusters)
+        ++ lines (2 ^ 64) is_miscopied copied_line (tally_in names.now.clusters)))) }
+{
+    push_under(breaches, names)?;
+    push_shared(breaches, names)?;
+    push_copied(breaches, names)?;
+    Ok(())
+}
+
+/// The leaked clusters.
+pub(crate) fn add_leaks(leaks: &mut Vec<Leak>, names: &Names) -> Result<(), AllocError>
+    ensures { OnOk result (leaks.new.items ≡ leaks.old.items ++ lines (2 ^ 64) is_leaked leak_line (tally_in names.now.clusters)) }
+{
+    push_leaks(leaks, names)?;
+    Ok(())
+}
