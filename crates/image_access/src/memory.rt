@@ -18,12 +18,14 @@ impl Model for MemStorage {
 }
 
 impl MemStorage {
+    /// A storage that holds these bytes.
     pub fn new(bytes: Vec<u8>) -> Self
         ensures { result ≡ bytes.items }
     {
         MemStorage { bytes }
     }
 
+    /// All its bytes.
     pub fn as_slice(&self) -> &[u8]
         ensures { result.now ≡ self.now }
     {

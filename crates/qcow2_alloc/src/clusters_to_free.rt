@@ -60,11 +60,11 @@ pub struct ClustersToFreeList {
 impl Drop for ClustersToFreeList {
     fn drop(self) {
         let ClustersToFreeList { newest } = self;
-        let_go(newest);
+        drop_nodes(newest);
     }
 }
 
-fn let_go(newest: Option<Box<Node>>) {
+fn drop_nodes(newest: Option<Box<Node>>) {
     let mut rest = newest;
     while let Some(node) = rest {
         let Node { entry: _, next } = Box::into_inner(node);
@@ -100,12 +100,14 @@ impl Model for PendingClusters {
 }
 
 impl ClustersToFreeList {
+    /// A list of no clusters.
     pub fn new() -> ClustersToFreeList
         ensures { result ≡ [] }
     {
         ClustersToFreeList { newest: None }
     }
 
+    /// Whether no cluster is to be freed.
     pub fn is_empty(&self) -> bool
         ensures { result ≡ (length self.now == 0) }
     {
@@ -136,12 +138,13 @@ impl ClustersToFreeList {
             Ok(node) => Ok(PendingClusters { node }),
             Err(refused) => {
                 let Node { entry: _, next } = refused.value;
-                let_go(next);
+                drop_nodes(next);
                 Err(AllocError)
             }
         }
     }
 
+    /// Puts a run of clusters at the end. Refused memory leaves the list as it was.
     pub fn push(&mut self, alloc: Global, entry: ClustersToFreeEntry) -> Result<(), AllocError>
         ensures ok { OnOk result (self.new ≡ self.old ++ entry ∷ []) }
         ensures err { OnErr result (self.new ≡ self.old) }
@@ -175,7 +178,7 @@ pub struct TakenClusters {
 impl Drop for TakenClusters {
     fn drop(self) {
         let TakenClusters { oldest } = self;
-        let_go(oldest);
+        drop_nodes(oldest);
     }
 }
 
@@ -202,7 +205,7 @@ impl Iterator for TakenClusters {
             None => None,
             Some(node) => {
                 let Node { entry, next } = Box::into_inner(node);
-                let_go(std::mem::replace(&mut self.oldest, next));
+                drop_nodes(std::mem::replace(&mut self.oldest, next));
                 Some(entry)
             }
         }
@@ -218,7 +221,7 @@ impl TakenClusters {
         match std::mem::replace(&mut self.oldest, None) {
             None => None,
             Some(mut node) => {
-                let_go(std::mem::replace(&mut self.oldest, node.next.take()));
+                drop_nodes(std::mem::replace(&mut self.oldest, node.next.take()));
                 Some(PendingClusters { node })
             }
         }
@@ -236,18 +239,21 @@ impl TakenClusters {
 }
 
 impl PendingClusters {
+    /// The first cluster of the run.
     pub fn cluster(&self) -> HostCluster
         ensures { result ≡ self.now.first_cluster }
     {
         self.node.entry.first_cluster
     }
 
+    /// How many clusters the run has.
     pub fn count(&self) -> ClusterCount
         ensures { result ≡ self.now.count }
     {
         self.node.entry.count
     }
 
+    /// Whether its clusters held data or tables.
     pub fn kind(&self) -> ClusterKind
         ensures { result ≡ self.now.kind }
     {
@@ -277,15 +283,16 @@ impl PendingClusters {
     /// The clusters are named now, and stay.
     pub fn make_persistent(self) {
         let PendingClusters { node } = self;
-        let_go(Some(node));
+        drop_nodes(Some(node));
     }
 
+    /// Puts the run at the end of the list. It takes no memory.
     pub fn hand_back(self, list: &mut ClustersToFreeList)
         ensures { list.new ≡ list.old ++ self ∷ [] }
     {
         let PendingClusters { mut node } = self;
         let later = std::mem::replace(&mut node.next, list.newest.take());
-        let_go(later);
-        let_go(std::mem::replace(&mut list.newest, Some(node)));
+        drop_nodes(later);
+        drop_nodes(std::mem::replace(&mut list.newest, Some(node)));
     }
 }

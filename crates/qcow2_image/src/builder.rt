@@ -91,6 +91,7 @@ impl<S: Storage> Qcow2CreateBuilder<S> {
         self
     }
 
+    /// The size of the disk that was asked for, in bytes.
     pub fn get_size(&self) -> u64
         ensures { result ≡ self.now.size }
     {

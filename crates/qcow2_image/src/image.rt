@@ -210,6 +210,7 @@ impl<S: Storage, F: WrappedFormat<S>> Qcow2<S, F> {
         self.number
     }
 
+    /// The format: qcow2.
     pub fn format(&self) -> Format
         ensures { result ≡ Format.Qcow2 }
     {

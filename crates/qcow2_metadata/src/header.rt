@@ -68,6 +68,7 @@ const MAX_L1_ENTRIES: u32 = 4_194_304;
 const MAX_REFTABLE_ENTRIES: u64 = 1_048_576;
 
 impl Header {
+    /// All numbers of the header.
     pub fn fields(&self) -> HeaderFields
         ensures value { result ≡ self.now.fields }
         ensures in_range { IsInRange result }
@@ -76,12 +77,14 @@ impl Header {
         self.fields
     }
 
+    /// The magic number that an image begins with.
     pub fn magic(&self) -> u32
         ensures { result ≡ self.now.fields.magic }
     {
         self.fields.magic
     }
 
+    /// The version: 2 or 3.
     pub fn version(&self) -> u32
         ensures value { result ≡ self.now.fields.version }
         ensures low { 2 ≤ result }
@@ -97,12 +100,14 @@ impl Header {
         self.fields.backing_offset
     }
 
+    /// The length of the backing file's name, in bytes; 0 for none.
     pub fn backing_length(&self) -> u32
         ensures { result ≡ self.now.fields.backing_length }
     {
         self.fields.backing_length
     }
 
+    /// The logarithm of the cluster size: 9 to 21.
     pub fn cluster_bits(&self) -> u32
         ensures value { result ≡ self.now.fields.cluster_bits }
         ensures low { 9 ≤ result }
@@ -118,12 +123,14 @@ impl Header {
         self.fields.size
     }
 
+    /// How data are encrypted: 0 for not at all.
     pub fn crypt_method(&self) -> u32
         ensures { result ≡ self.now.fields.crypt_method }
     {
         self.fields.crypt_method
     }
 
+    /// How many entries the L1 table has.
     pub fn l1_table_entries(&self) -> u32
         ensures value { result ≡ self.now.fields.l1_entries }
         ensures limit { result ≤ 4194304 }
@@ -131,18 +138,21 @@ impl Header {
         self.fields.l1_entries
     }
 
+    /// Where the L1 table stands in the file.
     pub fn l1_table_offset(&self) -> HostOffset
         ensures { result ≡ self.now.fields.l1_offset }
     {
         HostOffset::new(self.fields.l1_offset)
     }
 
+    /// Where the reftable stands in the file.
     pub fn reftable_offset(&self) -> HostOffset
         ensures { result ≡ self.now.fields.reftable_offset }
     {
         HostOffset::new(self.fields.reftable_offset)
     }
 
+    /// How many clusters the reftable has.
     pub fn reftable_clusters(&self) -> u32
         ensures { result ≡ self.now.fields.reftable_clusters }
     {
@@ -156,30 +166,35 @@ impl Header {
         self.fields.snapshots
     }
 
+    /// Where the table of snapshots stands in the file; without snapshots it means nothing.
     pub fn snapshots_offset(&self) -> u64
         ensures { result ≡ self.now.fields.snapshots_offset }
     {
         self.fields.snapshots_offset
     }
 
+    /// The bits of features that a driver must know; 0 in version 2.
     pub fn incompatible(&self) -> u64
         ensures { result ≡ self.now.fields.incompatible }
     {
         self.fields.incompatible
     }
 
+    /// The bits of features that a driver may pass over; 0 in version 2.
     pub fn compatible(&self) -> u64
         ensures { result ≡ self.now.fields.compatible }
     {
         self.fields.compatible
     }
 
+    /// The bits of features that a writer which does not know them clears; 0 in version 2.
     pub fn autoclear(&self) -> u64
         ensures { result ≡ self.now.fields.autoclear }
     {
         self.fields.autoclear
     }
 
+    /// The logarithm of the bits of a count: 0 to 6, and 4 in version 2.
     pub fn refcount_order(&self) -> u32
         ensures value { result ≡ self.now.fields.refcount_order }
         ensures high { result ≤ 6 }
@@ -187,24 +202,28 @@ impl Header {
         self.fields.refcount_order
     }
 
+    /// The length of the header, in bytes: 72 in version 2, at least 104 in version 3.
     pub fn header_length(&self) -> u32
         ensures { result ≡ self.now.fields.header_length }
     {
         self.fields.header_length
     }
 
+    /// The name of the backing file, as the image has it.
     pub fn backing_name(&self) -> Option<&String>
         ensures { option_map (λ s. string_bytes s.now) result ≡ self.now.backing_name }
     {
         self.backing_name.as_ref()
     }
 
+    /// The format of the backing file, as the image has it.
     pub fn backing_format(&self) -> Option<&String>
         ensures { option_map (λ s. string_bytes s.now) result ≡ self.now.backing_format }
     {
         self.backing_format.as_ref()
     }
 
+    /// The name of the data file, as the image has it.
     pub fn data_file_name(&self) -> Option<&String>
         ensures { option_map (λ s. string_bytes s.now) result ≡ self.now.data_file_name }
     {
@@ -274,6 +293,7 @@ impl Header {
         Ok(())
     }
 
+    /// Sets the size of the guest's disk, in bytes, in memory alone.
     pub fn set_size(&mut self, size: u64)
         ensures { self.new ≡ with_fields self.old (with_size self.old.fields size) }
     {

@@ -114,6 +114,7 @@ impl L1Table {
         Ok(L1Table { table })
     }
 
+    /// The logarithm of the cluster size.
     pub fn cluster_bits(&self) -> u32
         ensures value { result ≡ self.now.cluster_bits }
         ensures is_table { IsL1Table self.now }
@@ -130,6 +131,7 @@ impl L1Table {
         self.table.len()
     }
 
+    /// Whether the table has an entry of this index.
     pub fn in_bounds(&self, index: usize) -> bool
         ensures { IsTrue result ↔ (index < entry_count self.now) }
     {
@@ -217,6 +219,7 @@ impl L1Table {
         self.table.cluster_count()
     }
 
+    /// The length of the table, in bytes.
     pub fn byte_size(&self) -> u64
         ensures value { result ≡ length self.now.bytes }
         ensures entries { result ≡ 8 * entry_count self.now }
@@ -233,6 +236,7 @@ impl L1Table {
         self.table.get_cluster()
     }
 
+    /// Notes the cluster that it stands in from now on.
     pub fn set_cluster(&mut self, cluster: HostCluster)
         requires { IsHostCluster self.old.cluster_bits cluster }
         ensures { self.new ≡ record self.old { cluster = Some cluster } }
@@ -240,6 +244,7 @@ impl L1Table {
         self.table.set_cluster(cluster);
     }
 
+    /// Notes that it stands in no cluster.
     pub fn unset_cluster(&mut self)
         ensures { self.new ≡ record self.old { cluster = None } }
     {

@@ -301,6 +301,7 @@ impl L2Table {
         (1usize << self.cluster_bits) / 8
     }
 
+    /// Whether it was changed since it was read or written.
     pub fn is_modified(&self) -> bool
         ensures value { result ≡ self.now.is_modified }
         ensures whole { IsL2Table self.now }
@@ -308,12 +309,14 @@ impl L2Table {
         self.is_modified
     }
 
+    /// Notes that it was written.
     pub fn clear_modified(&mut self)
         ensures { self.new ≡ record self.old { is_modified = false } }
     {
         self.is_modified = false;
     }
 
+    /// The cluster that it stands in, if it does.
     pub fn get_cluster(&self) -> Option<HostCluster>
         ensures value { result ≡ self.now.cluster }
         ensures whole { IsL2Table self.now }
@@ -321,6 +324,7 @@ impl L2Table {
         self.cluster
     }
 
+    /// Notes the cluster that it stands in from now on.
     pub fn set_cluster(&mut self, cluster: HostCluster)
         requires { HasPlace self.old.cluster_bits cluster }
         ensures { self.new ≡ record self.old { cluster = Some cluster } }
@@ -328,6 +332,7 @@ impl L2Table {
         self.cluster = Some(cluster);
     }
 
+    /// Notes that it stands in no cluster.
     pub fn unset_cluster(&mut self)
         ensures { self.new ≡ record self.old { cluster = None } }
     {

@@ -51,12 +51,14 @@ impl Model for HostOffset {
 }
 
 impl HostOffset {
+    /// The offset of so many bytes in the file.
     pub fn new(bytes: u64) -> HostOffset
         ensures { result ≡ bytes }
     {
         HostOffset { bytes }
     }
 
+    /// The offset, in bytes.
     pub fn value(self) -> u64
         ensures { result ≡ self }
     {
@@ -107,12 +109,14 @@ impl Model for HostCluster {
 }
 
 impl HostCluster {
+    /// The file's cluster of this index.
     pub fn new(index: u64) -> HostCluster
         ensures { result ≡ index }
     {
         HostCluster { index }
     }
 
+    /// The index of the cluster.
     pub fn value(self) -> u64
         ensures { result ≡ self }
     {
@@ -225,12 +229,14 @@ impl Model for GuestOffset {
 }
 
 impl GuestOffset {
+    /// The offset of so many bytes on the guest's disk.
     pub fn new(bytes: u64) -> GuestOffset
         ensures { result ≡ bytes }
     {
         GuestOffset { bytes }
     }
 
+    /// The offset, in bytes.
     pub fn value(self) -> u64
         ensures { result ≡ self }
     {
@@ -308,12 +314,14 @@ impl Model for GuestCluster {
 }
 
 impl GuestCluster {
+    /// The cluster of this index on the guest's disk.
     pub fn new(index: u64) -> GuestCluster
         ensures { result ≡ index }
     {
         GuestCluster { index }
     }
 
+    /// The index of the cluster.
     pub fn value(self) -> u64
         ensures { result ≡ self }
     {
@@ -406,12 +414,14 @@ impl Model for ClusterCount {
 }
 
 impl ClusterCount {
+    /// So many clusters.
     pub fn new(clusters: u64) -> ClusterCount
         ensures { result ≡ clusters }
     {
         ClusterCount { clusters }
     }
 
+    /// How many clusters.
     pub fn value(self) -> u64
         ensures { result ≡ self }
     {

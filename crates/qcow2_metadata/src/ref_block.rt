@@ -213,6 +213,7 @@ impl RefBlock {
         read_count(&self.bytes, self.refcount_order, index)
     }
 
+    /// Whether the count of this index is 0.
     pub fn is_zero(&self, index: usize) -> bool
         requires { index < counts_of self.now }
         ensures { IsTrue result ↔ (count_at self.now index ≡ 0) }
@@ -281,6 +282,7 @@ impl RefBlock {
         ((1usize << self.cluster_bits) * 8) >> self.refcount_order
     }
 
+    /// Whether it was changed since it was read or written.
     pub fn is_modified(&self) -> bool
         ensures value { result ≡ self.now.is_modified }
         ensures whole { IsRefBlock self.now }
@@ -288,12 +290,14 @@ impl RefBlock {
         self.is_modified
     }
 
+    /// Notes that it was written.
     pub fn clear_modified(&mut self)
         ensures { self.new ≡ record self.old { is_modified = false } }
     {
         self.is_modified = false;
     }
 
+    /// The cluster that it stands in, if it does.
     pub fn get_cluster(&self) -> Option<HostCluster>
         ensures value { result ≡ self.now.cluster }
         ensures whole { IsRefBlock self.now }
@@ -301,6 +305,7 @@ impl RefBlock {
         self.cluster
     }
 
+    /// Notes the cluster that it stands in from now on.
     pub fn set_cluster(&mut self, cluster: HostCluster)
         requires { HasPlace self.old.cluster_bits cluster }
         ensures { self.new ≡ record self.old { cluster = Some cluster } }
@@ -308,6 +313,7 @@ impl RefBlock {
         self.cluster = Some(cluster);
     }
 
+    /// Notes that it stands in no cluster.
     pub fn unset_cluster(&mut self)
         ensures { self.new ≡ record self.old { cluster = None } }
     {

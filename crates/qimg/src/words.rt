@@ -4,6 +4,7 @@ ghost use Rattle.qimg.specs.Words.{asked, asked_by};
 
 use crate::numbers::number;
 
+/// The line that is printed where the words are not understood.
 pub const USAGE: &str = "usage: qimg create FILE SIZE CLUSTER WIDTH MODE | run FILE | check FILE";
 
 /// What the words of the command line ask for.
