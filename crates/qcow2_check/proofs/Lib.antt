@@ -3,6 +3,7 @@ pub mod CountSteps
 pub mod Covers
 pub mod Grow
 pub mod GrowL1
+pub mod OffsetSteps
 pub mod Reading
 pub mod Refusals
 pub mod Reported

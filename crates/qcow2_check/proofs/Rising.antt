@@ -160,3 +160,7 @@ glue o u s k u' s' k' a b c one two three eu es ek =
     three ∙ ap (λ l. l ++ k) (two ∙ ap (λ l. l ++ s) (one ∙ ap (λ v. o ++ v) eu))
     ∙ ap (λ v. ((o ++ u') ++ s) ++ v) ek ∙ ap (λ v. ((o ++ u') ++ v) ++ k') es
     ∙ append_assoc (o ++ u') s' k' ∙ append_assoc o u' (s' ++ k')
+
+-- one group of lines more
+pub before : {L : Type 0} (o a b mid items : List L) → mid ≡ o ++ a → items ≡ mid ++ b → items ≡ o ++ (a ++ b)
+before o a b mid items one rest = rest ∙ ap (λ m. m ++ b) one ∙ append_assoc o a b

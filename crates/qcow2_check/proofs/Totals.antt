@@ -105,14 +105,14 @@ few_reftable_clusters h low few =
 make : ℕ × (ℕ × ℕ) → ℕ → Tally
 make n k = record { named = n.0; for_tables = n.1.0; marked = n.1.1; count = k }
 
-tally_same : (s t : Tally) → names_of s ≡ names_of t → s.count ≡ t.count → s ≡ t
+pub tally_same : (s t : Tally) → names_of s ≡ names_of t → s.count ≡ t.count → s ≡ t
 unfolding make
 tally_same s t names counts = ap (λ n. make n s.count) names ∙ ap (make (names_of t)) counts
 
-abbrev trio : ℕ → ℕ → ℕ → ℕ × (ℕ × ℕ)
+abbrev pub trio : ℕ → ℕ → ℕ → ℕ × (ℕ × ℕ)
 trio a b c = (a, (b, c))
 
-triple : (a a' b b' c c' : ℕ) → a ≡ a' → b ≡ b' → c ≡ c' → trio a b c ≡ trio a' b' c'
+pub triple : (a a' b b' c c' : ℕ) → a ≡ a' → b ≡ b' → c ≡ c' → trio a b c ≡ trio a' b' c'
 triple a a' b b' c c' p q r = ap (λ x. trio x b c) p ∙ ap (λ x. trio a' x c) q ∙ ap (λ x. trio a' b' x) r
 
 -- what the passes over an image leave

@@ -1,10 +1,13 @@
 -- The lines of a report, by the tallies of clusters.
-use Rattle.std.specs.Prelude.{ℕ, zero, suc, Bool, ◌==◌, ◌&&◌, not, nat_lt, List, [], ◌∷◌, ◌++◌, map, if◌then◌else◌}
+use Rattle.std.specs.Prelude.{ℕ, zero, suc, Bool, ◌==◌, ◌&&◌, not, nat_lt, List, [], ◌∷◌, ◌++◌, map, if◌then◌else◌, ◌%◌, ◌^◌}
 use Rattle.qcow2_metadata.specs.declared.header.HeaderFields.{HeaderFields}
+use Rattle.qcow2_metadata.specs.Header.{cluster_size}
 use Rattle.qcow2_check.specs.declared.tally.Tally.{Tally}
 use Rattle.qcow2_check.specs.declared.report.Leak.{Leak}
+use Rattle.qcow2_check.specs.declared.report.Kind.{Kind}
+use Rattle.qcow2_check.specs.declared.report.Kind.TheVariants.{L1, Reftable, L2, Refblock, Data}
 use Rattle.qcow2_check.specs.declared.report.Breach.{Breach}
-use Rattle.qcow2_check.specs.declared.report.Breach.TheVariants.{Snapshots, External, Under, Shared, Copied}
+use Rattle.qcow2_check.specs.declared.report.Breach.TheVariants.{Snapshots, External, Unaligned, Under, Shared, Copied}
 
 -- the numbers below a limit that pass a test, rising
 unfoldable pub rising : ℕ → (ℕ → Bool) → List ℕ
@@ -29,6 +32,26 @@ external_lines h = if h.incompatible == 0 then [] else External ∷ []
 
 abbrev pub header_lines : HeaderFields → List Breach
 header_lines h = snapshot_lines h ++ external_lines h
+
+-- a line for a table that isn't on a cluster
+abbrev pub table_offset_lines : HeaderFields → Kind → ℕ → List Breach
+table_offset_lines h kind place = if place % cluster_size h == 0 then [] else Unaligned kind place ∷ []
+
+abbrev pub is_named : Tally → Bool
+is_named t = not (t.named == 0)
+
+abbrev pub unaligned_line : Kind → ℕ → Tally → Breach
+unaligned_line kind offset t = Unaligned kind offset
+
+-- a line for each offset that is named
+abbrev pub offset_lines : Kind → (ℕ → Tally) → List Breach
+offset_lines kind t = lines (2 ^ 64) is_named (unaligned_line kind) t
+
+-- for these offsets of L2 tables, refblocks and data
+abbrev pub unaligned_lines : HeaderFields → (ℕ → Tally) → (ℕ → Tally) → (ℕ → Tally) → List Breach
+unaligned_lines h l2_tables refblocks data' =
+    table_offset_lines h L1 h.l1_offset ++ (table_offset_lines h Reftable h.reftable_offset
+    ++ (offset_lines L2 l2_tables ++ (offset_lines Refblock refblocks ++ offset_lines Data data')))
 
 abbrev pub is_under : Tally → Bool
 is_under t = nat_lt t.count t.named

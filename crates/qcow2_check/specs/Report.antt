@@ -1,5 +1,5 @@
 -- What a report says of an image, and why there is none.
-use Rattle.std.specs.Prelude.{ℕ, ◌+◌, ◌*◌, ◌^◌, ◌<◌, List, ◌++◌, ⊤}
+use Rattle.std.specs.Prelude.{ℕ, ◌≡◌, ◌+◌, ◌*◌, ◌^◌, ◌<◌, List, ◌++◌, ⊤}
 use Rattle.qcow2_metadata.specs.Bytes.{Bytes}
 use Rattle.qcow2_metadata.specs.declared.header.HeaderFields.{HeaderFields}
 use Rattle.qcow2_metadata.specs.Header.{reftable_entries, IsWellFormed, IsWithinLimits}
@@ -11,11 +11,19 @@ use Rattle.qcow2_check.specs.declared.tally.Tally.{Tally}
 use Rattle.qcow2_check.specs.declared.report.Leak.{Leak}
 use Rattle.qcow2_check.specs.declared.report.Breach.{Breach}
 use Rattle.qcow2_check.specs.Marks.{marked_below}
-use Rattle.qcow2_check.specs.Lines.{lines, header_lines, is_under, under_line, is_shared, shared_line, is_miscopied, copied_line, is_leaked, leak_line}
+use Rattle.qcow2_check.specs.Offsets.{times, off_l2_tables, off_refblocks, data_off_below}
+use Rattle.qcow2_check.specs.Lines.{lines, header_lines, unaligned_lines, is_under, under_line, is_shared, shared_line, is_miscopied, copied_line, is_leaked, leak_line}
 
 -- what the bytes say of a cluster
 abbrev pub tally : HeaderFields → Bytes → ℕ → Tally
 tally h b c = record { named = named h b c; for_tables = named_for_tables h b c; marked = marked_below h b h.l1_entries c; count = count h b c }
+
+-- these are the tallies of clusters, and of the offsets off a cluster of L2 tables, refblocks and data
+pub record ArePassed (h : HeaderFields) (b : Bytes) (clusters l2_tables refblocks data' : ℕ → Tally) : Type 0 where
+  pub clusters_are : clusters ≡ tally h b
+  pub l2_tables_are : l2_tables ≡ times (off_l2_tables h b)
+  pub refblocks_are : refblocks ≡ times (off_refblocks h b)
+  pub data_are : data' ≡ times (data_off_below h b h.l1_entries)
 
 -- the lines for these tallies, the kinds in the order of the report
 abbrev pub cluster_lines : (ℕ → Tally) → List Breach
@@ -25,7 +33,8 @@ abbrev pub leak_lines_of : (ℕ → Tally) → List Leak
 leak_lines_of t = lines (2 ^ 64) is_leaked leak_line t
 
 unfoldable pub breach_lines : HeaderFields → Bytes → List Breach
-breach_lines h b = header_lines h ++ cluster_lines (tally h b)
+breach_lines h b =
+    header_lines h ++ (unaligned_lines h (times (off_l2_tables h b)) (times (off_refblocks h b)) (times (data_off_below h b h.l1_entries)) ++ cluster_lines (tally h b))
 
 unfoldable pub leak_lines : HeaderFields → Bytes → List Leak
 leak_lines h b = leak_lines_of (tally h b)

@@ -5,13 +5,14 @@ ghost use Rattle.qcow2_metadata.specs.Bytes.{byte_at};
 ghost use Rattle.qcow2_metadata.specs.Header.{header, IsInRange, IsWithinLimits};
 ghost use Rattle.qcow2_metadata.specs.MetadataError.{OnlyReads};
 ghost use Rattle.qcow2_check.specs.Tallies.{tally_in};
-ghost use Rattle.qcow2_check.specs.Report.{tally, breach_lines, leak_lines, IsReasonNotToCheck, IsReasonNotToCount};
+ghost use Rattle.qcow2_check.specs.Report.{ArePassed, breach_lines, leak_lines, IsReasonNotToCheck, IsReasonNotToCount};
 
 use crate::counts::counts_of_reftable;
 use crate::header::{names_of_header, names_of_reftable};
 use crate::l1::names_of_l1_table;
-use crate::lines::{add_breaches, add_header_lines, add_leaks};
+use crate::lines::{add_breaches, add_header_lines, add_leaks, add_unaligned};
 use crate::names::Names;
+use crate::offsets::{Offsets, offsets_of_l1_table, offsets_of_reftable};
 use crate::report::{Breach, Leak};
 use image_access::Storage;
 use qcow2_metadata::{HeaderFields, MetadataError};
@@ -24,33 +25,50 @@ pub struct Report {
     pub leaks: Vec<Leak>,
 }
 
+/// What one walk over an image finds.
+#[derive(Drop)]
+struct Findings {
+    names: Names,
+    offsets: Offsets,
+}
+
 /// How often each cluster of an image is named, marked copied and counted.
 fn tallies<S: Storage>(
     alloc: Global,
     storage: &mut S,
     header: &HeaderFields,
-) -> Result<Names, MetadataError>
+) -> Result<Findings, MetadataError>
     requires in_range { IsInRange header.now }
     requires within_limits { IsWithinLimits header.now }
-    ensures tallies { (S.view storage.old).is_honest → IfOk result (λ names. tally_in names.clusters ≡ tally header.now (byte_at (S.view storage.old).contents)) }
+    ensures tallies { (S.view storage.old).is_honest → IfOk result (λ f. ArePassed header.now (byte_at (S.view storage.old).contents) (tally_in f.names.clusters)
+        (tally_in f.offsets.l2_tables.clusters) (tally_in f.offsets.refblocks.clusters) (tally_in f.offsets.data.clusters)) }
     ensures refused { (S.view storage.old).is_honest → IfErr result (IsReasonNotToCount header.now (byte_at (S.view storage.old).contents)) }
     ensures reading { OnlyReads (S.view storage.old) (S.view storage.new) result }
 {
     let l1 = header.load_l1_entries(alloc, storage)?;
     let reftable = header.load_reftable_entries(alloc, storage)?;
     let mut names = Names::new(alloc);
+    let mut offsets = Offsets::new(alloc);
+    offsets_of_l1_table(&mut offsets.l2_tables, header, &l1)?;
+    offsets_of_reftable(&mut offsets.refblocks, header, &reftable)?;
     names_of_header(&mut names, header)?;
     names_of_reftable(&mut names, header, &reftable)?;
     let size: usize = 1 << header.cluster_bits;
     let mut buf = vec![in alloc; 0; size]?;
-    names_of_l1_table(&mut names, header, storage, &l1, buf.as_mut_slice())?;
+    names_of_l1_table(
+        &mut names,
+        &mut offsets.data,
+        header,
+        storage,
+        &l1,
+        buf.as_mut_slice(),
+    )?;
     counts_of_reftable(&mut names, header, storage, &reftable, buf.as_mut_slice())?;
-    Ok(names)
+    Ok(Findings { names, offsets })
 }
 
-/// What the bytes of an image say of its clusters: its snapshots and its data file, each cluster that is named more often than counted, shared by a table, or marked copied without being
-/// its entry's own, and each cluster that is counted more often than named; each kind by rising number. Offsets that aren't on a cluster have no lines yet.
-/// Refused `Format` for a header, L1 table or reftable that doesn't read, and `Limit` for one that is too long or ends past 64 bits.
+/// What is wrong with the image on a storage, by its bytes alone: each breach, in the order of `Breach` and then by rising number, and each cluster that is counted more often than
+/// named. Refused `Format` for a header, L1 table or reftable that doesn't read, and `Limit` for one that is too long or ends past 64 bits.
 pub fn check<S: Storage>(alloc: Global, storage: &mut S) -> Result<Report, MetadataError>
     ensures breaches { (S.view storage.old).is_honest → IfOk result (λ r. r.breaches.items
         ≡ breach_lines (header (byte_at (S.view storage.old).contents)) (byte_at (S.view storage.old).contents)) }
@@ -61,11 +79,12 @@ pub fn check<S: Storage>(alloc: Global, storage: &mut S) -> Result<Report, Metad
     ensures reading { OnlyReads (S.view storage.old) (S.view storage.new) result }
 {
     let header = HeaderFields::load(alloc, storage)?;
-    let names = tallies(alloc, storage, &header)?;
+    let findings = tallies(alloc, storage, &header)?;
     let mut breaches = Vec::new(alloc);
     add_header_lines(&mut breaches, &header)?;
-    add_breaches(&mut breaches, &names)?;
+    add_unaligned(&mut breaches, &header, &findings.offsets)?;
+    add_breaches(&mut breaches, &findings.names)?;
     let mut leaks = Vec::new(alloc);
-    add_leaks(&mut leaks, &names)?;
+    add_leaks(&mut leaks, &findings.names)?;
     Ok(Report { breaches, leaks })
 }

@@ -61,7 +61,7 @@ fn names_of_cover(
 }
 
 /// Whether the header has the bit of an external data file.
-fn has_external_data(header: &HeaderFields) -> bool
+pub(crate) fn has_external_data(header: &HeaderFields) -> bool
     ensures { result ≡ has_data_file header.now }
 {
     header.incompatible / 4 % 2 == 1

@@ -8,6 +8,7 @@ mod header;
 mod l1;
 mod lines;
 mod names;
+mod offsets;
 mod report;
 mod source;
 mod tally;

@@ -1,13 +1,14 @@
 //! The lines of a report.
 
-ghost use Rattle.std.specs.Prelude.{◌≡◌, ◌++◌, ◌^◌, OnOk};
+ghost use Rattle.std.specs.Prelude.{◌≡◌, ◌++◌, ◌^◌, ◌≤◌, OnOk};
 ghost use Rattle.std.specs.BTreeMap.{IsOrdered};
 ghost use Rattle.std.specs.Ordering.{nat_cmp};
 ghost use Rattle.qcow2_check.specs.Tallies.{tally_in};
-ghost use Rattle.qcow2_check.specs.Lines.{lines, lines_of, is_under, is_shared, is_miscopied, is_leaked, under_line, shared_line, copied_line, leak_line, header_lines};
+ghost use Rattle.qcow2_check.specs.Lines.{lines, lines_of, is_under, is_shared, is_miscopied, is_leaked, under_line, shared_line, copied_line, leak_line, header_lines, is_named, unaligned_line, offset_lines, table_offset_lines, unaligned_lines};
 
 use crate::names::Names;
-use crate::report::{Breach, Leak};
+use crate::offsets::Offsets;
+use crate::report::{Breach, Kind, Leak};
 use qcow2_metadata::HeaderFields;
 use std::alloc::AllocError;
 
@@ -92,6 +93,67 @@ pub(crate) fn add_header_lines(
     if header.incompatible != 0 {
         breaches.push(Breach::External)?;
     }
+    Ok(())
+}
+
+/// A line for a table that isn't on a cluster.
+fn add_table_offset(
+    breaches: &mut Vec<Breach>,
+    header: &HeaderFields,
+    kind: Kind,
+    offset: u64,
+) -> Result<(), AllocError>
+    requires bits { header.now.cluster_bits ≤ 21 }
+    ensures { OnOk result (breaches.new.items ≡ breaches.old.items ++ table_offset_lines header.now kind offset) }
+{
+    if offset % (1 << header.cluster_bits) != 0 {
+        breaches.push(Breach::Unaligned { kind, offset })?;
+    }
+    Ok(())
+}
+
+/// A line for each of these offsets.
+fn push_offsets(breaches: &mut Vec<Breach>, kind: Kind, offsets: &Names) -> Result<(), AllocError>
+    ensures sorted { IsOrdered nat_cmp offsets.now.clusters }
+    ensures lines { OnOk result (breaches.new.items ≡ breaches.old.items ++ lines_of is_named (unaligned_line kind) offsets.now.clusters.entries) }
+{
+    for (offset, tally) in &offsets.clusters {
+        if tally.named != 0 {
+            breaches.push(Breach::Unaligned {
+                kind,
+                offset: *offset,
+            })?;
+        }
+    }
+    Ok(())
+}
+
+fn add_offset_lines(
+    breaches: &mut Vec<Breach>,
+    kind: Kind,
+    offsets: &Names,
+) -> Result<(), AllocError>
+    ensures { OnOk result (breaches.new.items ≡ breaches.old.items ++ offset_lines kind (tally_in offsets.now.clusters)) }
+{
+    push_offsets(breaches, kind, offsets)?;
+    Ok(())
+}
+
+/// The lines on offsets that aren't on a cluster.
+pub(crate) fn add_unaligned(
+    breaches: &mut Vec<Breach>,
+    header: &HeaderFields,
+    offsets: &Offsets,
+) -> Result<(), AllocError>
+    requires bits { header.now.cluster_bits ≤ 21 }
+    ensures { OnOk result (breaches.new.items ≡ breaches.old.items ++ unaligned_lines header.now
+        (tally_in offsets.now.l2_tables.clusters) (tally_in offsets.now.refblocks.clusters) (tally_in offsets.now.data.clusters)) }
+{
+    add_table_offset(breaches, header, Kind::L1, header.l1_offset)?;
+    add_table_offset(breaches, header, Kind::Reftable, header.reftable_offset)?;
+    add_offset_lines(breaches, Kind::L2, &offsets.l2_tables)?;
+    add_offset_lines(breaches, Kind::Refblock, &offsets.refblocks)?;
+    add_offset_lines(breaches, Kind::Data, &offsets.data)?;
     Ok(())
 }
 

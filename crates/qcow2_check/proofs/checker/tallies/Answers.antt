@@ -5,7 +5,10 @@ use Rattle.qcow2_metadata.specs.Entries.{l1_entry, reftable_entry, count}
 use Rattle.qcow2_metadata.specs.TableBytes.{entry_at}
 use Rattle.qcow2_check.specs.declared.tally.Tally.{Tally}
 use Rattle.qcow2_check.specs.Tallies.{Grows, CountsAll}
+use Rattle.qcow2_check.specs.Offsets.{tables_off, blocks_off, off_l2_tables, off_refblocks, data_off_below}
+use Rattle.qcow2_check.proofs.OffsetSteps.{counted_off, all_tables_off, all_blocks_off}
 use Rattle.qcow2_check.specs.Marks.{named_below, tables_below, marked_below}
+use Rattle.qcow2_metadata.specs.Header.{reftable_entries}
 use Rattle.qcow2_check.specs.Report.{IsReasonNotToCount}
 use Rattle.qcow2_check.proofs.Refusals.{l1_unread, reftable_unread, uncounted}
 use Rattle.qcow2_check.proofs.Totals.{few_reftable_clusters, all_tallies}
@@ -52,8 +55,8 @@ pub returns-clause-tallies : goal.returns-clause-tallies
 returns-clause-tallies g c honest =
     let h = c.args.header.now in
     let b = (g.S.Storage.view c.args.storage.now).contents in
-    let l1 = c.deref-2.result.now in
-    let blocks = c.deref.result.now in
+    let l1 = c.deref-4.result.now in
+    let blocks = c.deref-3.result.now in
     let honest1 = c.in_ok-l1.ensures.reading.honest honest in
     let honest2 = c.in_ok-reftable.ensures.reading.honest honest1 in
     let honest3 = c.in_ok-names_of_l1_table.ensures.reading.honest honest2 in
@@ -61,19 +64,35 @@ returns-clause-tallies g c honest =
     let same2 : (g.S.Storage.view c.load_reftable_entries.new.storage).contents ≡ b = c.in_ok-reftable.ensures.reading.same honest1 ∙ same1 in
     let same3 : (g.S.Storage.view c.names_of_l1_table.new.storage).contents ≡ b = c.in_ok-names_of_l1_table.ensures.reading.same honest2 ∙ same2 in
     let L1 : List ℕ → Type 0 = λ b. (i : ℕ) → entry_at l1 i ≡ l1_entry h (byte_at b) i in
-    let l1_is : L1 b = λ i. ap (λ t. entry_at t i) c.deref-2.ensures.value ∙ c.in_ok-l1.ensures.entries honest i in
+    let l1_is : L1 b = λ i. ap (λ t. entry_at t i) c.deref-4.ensures.value ∙ c.in_ok-l1.ensures.entries honest i in
     let R : List ℕ → List ℕ → Type 0 = λ t b. (k : ℕ) → entry_at t k ≡ reftable_entry h (byte_at b) k in
     let reftable_is : R c.in_ok-reftable.reftable.items b = subst (R c.in_ok-reftable.reftable.items) same1 (c.in_ok-reftable.ensures.entries honest1) in
-    let blocks_are : R blocks b = subst (λ t. R t b) (sym c.deref.ensures.value) reftable_is in
-    let counts_are : R c.deref-3.result.now b = subst (λ t. R t b) (sym c.deref-3.ensures.value) reftable_is in
+    let blocks_are : R blocks b = subst (λ t. R t b) (sym c.deref-3.ensures.value) reftable_is in
+    let counts_are : R c.deref-5.result.now b = subst (λ t. R t b) (sym c.deref-5.ensures.value) reftable_is in
     let m2 = c.names_of_reftable.new.names.clusters in
     let m3 = c.names_of_l1_table.new.names.clusters in
     let G : List ℕ → Type 0 = λ b. Grows m2 m3 (named_below h (byte_at b) (length l1 / 8)) (tables_below h (byte_at b) (length l1 / 8)) (marked_below h (byte_at b) (length l1 / 8)) in
     let C : List ℕ → Type 0 = λ b. CountsAll m3 c.counts_of_reftable.new.names.clusters (count h (byte_at b)) in
-    all_tallies h (byte_at b) l1 blocks _ _ _ _ _
-    (omega (arith, c.in_ok-l1.ensures.length, ap length c.deref-2.ensures.value))
-    (omega (arith, c.in_ok-reftable.ensures.length, ap length c.deref.ensures.value))
-    blocks_are
-    c.new-names.ensures.none c.in_ok-names_of_header.ensures.grows c.in_ok-names_of_reftable.ensures.grows
-    (subst G same2 (c.in_ok-names_of_l1_table.ensures.grows honest2 (subst L1 (sym same2) l1_is)))
-    (subst C same3 (c.in_ok-counts_of_reftable.ensures.counts honest3 (subst (R c.deref-3.result.now) (sym same3) counts_are)))
+    let T : List ℕ → Type 0 = λ b. Grows c.new-offsets.result.data.clusters c.names_of_l1_table.new.offsets.clusters (data_off_below h (byte_at b) (length l1 / 8)) (λ _. 0) (λ _. 0) in
+    let l1_long : length l1 / 8 ≡ h.l1_entries = omega (arith, c.in_ok-l1.ensures.length, ap length c.deref-4.ensures.value) in
+    let head_l1 : (i : ℕ) → entry_at c.deref.result.now i ≡ l1_entry h (byte_at b) i = λ i. ap (λ t. entry_at t i) c.deref.ensures.value ∙ c.in_ok-l1.ensures.entries honest i in
+    let head_long : length c.deref.result.now / 8 ≡ h.l1_entries = omega (arith, c.in_ok-l1.ensures.length, ap length c.deref.ensures.value) in
+    let head_blocks : R c.deref-2.result.now b = subst (λ t. R t b) (sym c.deref-2.ensures.value) reftable_is in
+    let head_blocks_long : length c.deref-2.result.now / 8 ≡ reftable_entries h = omega (arith, c.in_ok-reftable.ensures.length, ap length c.deref-2.ensures.value) in
+    record {
+      clusters_are =
+          all_tallies h (byte_at b) l1 blocks _ _ _ _ _
+          (omega (arith, c.in_ok-l1.ensures.length, ap length c.deref-4.ensures.value))
+          (omega (arith, c.in_ok-reftable.ensures.length, ap length c.deref-3.ensures.value))
+          blocks_are
+          c.new-names.ensures.none c.in_ok-names_of_header.ensures.grows c.in_ok-names_of_reftable.ensures.grows
+          (subst G same2 (c.in_ok-names_of_l1_table.ensures.grows honest2 (subst L1 (sym same2) l1_is)))
+          (subst C same3 (c.in_ok-counts_of_reftable.ensures.counts honest3 (subst (R c.deref-5.result.now) (sym same3) counts_are)));
+      l2_tables_are = counted_off (tables_off h c.deref.result.now (length c.deref.result.now / 8)) (off_l2_tables h (byte_at b)) _ _ c.new-offsets.ensures.l2_tables
+          (all_tables_off h (byte_at b) c.deref.result.now head_long head_l1) c.in_ok-offsets_of_l1_table.ensures.grows;
+      refblocks_are = counted_off (blocks_off h c.deref-2.result.now (length c.deref-2.result.now / 8)) (off_refblocks h (byte_at b)) _ _ c.new-offsets.ensures.refblocks
+          (all_blocks_off h (byte_at b) c.deref-2.result.now head_blocks_long head_blocks) c.in_ok-offsets_of_reftable.ensures.grows;
+      data_are = counted_off (data_off_below h (byte_at b) (length l1 / 8)) (data_off_below h (byte_at b) h.l1_entries) _ _ c.new-offsets.ensures.data
+          (λ q. ap (λ n. data_off_below h (byte_at b) n q) l1_long)
+          (subst T same2 (c.in_ok-names_of_l1_table.ensures.offsets honest2 (subst L1 (sym same2) l1_is)));
+    }

@@ -4,6 +4,7 @@ use Rattle.qcow2_metadata.specs.Bytes.{byte_at}
 use Rattle.qcow2_metadata.specs.Entries.{host_offset}
 use Rattle.qcow2_metadata.proofs.TablesAt.{stand_at-loaded}
 use Rattle.qcow2_check.proofs.GrowL1.{no_table, one_table}
+use Rattle.qcow2_check.proofs.OffsetSteps.{no_data, data_part}
 use Rattle.qcow2_check.proofs.l1.names_of_l1_entry.Goals as goal
 
 pub returns-then-offset-eq0-clause-grows : goal.returns-then-offset-eq0-clause-grows
@@ -25,3 +26,15 @@ returns-clause-grows g c honest =
 
 pub returns-clause-counts : goal.returns-clause-counts
 returns-clause-counts g c q = c.in_ok-names_of_l2_table.ensures.grows.same_count q ∙ c.in_ok-add.ensures.adds.same_count q
+
+pub returns-then-offset-eq0-clause-offsets : goal.returns-then-offset-eq0-clause-offsets
+returns-then-offset-eq0-clause-offsets g c honest =
+    no_data c.args.header.now (byte_at (g.S.Storage.view c.args.storage.now).contents) c.args.entry _ (sym c.host_offset-offset.ensures.value ∙ c.if-offset-eq0.true)
+
+pub returns-clause-offsets : goal.returns-clause-offsets
+returns-clause-offsets g c honest =
+    data_part c.args.header.now (byte_at (g.S.Storage.view c.args.storage.now).contents) c.read_at.new.buf c.args.entry _ _
+    (λ zero. c.if-offset-eq0.false (c.host_offset-offset.ensures.value ∙ zero))
+    (stand_at-loaded (g.S.Storage.view c.args.storage.now).contents _ _ _ c.read_at.new.buf (c.in_ok-read_at.ensures.read honest) c.host_offset-offset.ensures.value)
+    (omega arith)
+    c.in_ok-offsets_of_l2_table.ensures.grows

@@ -1,0 +1,107 @@
+-- Steps over offsets.
+use Rattle.std.proofs.Common.{◌≡◌, ◌≢◌, ℕ, ◌+◌, ◌*◌, ◌/◌, ◌%◌, ◌<◌, ◌≤◌, ◌&&◌, Bool, true, false, eqb, List, length, refl, sym, ap, ◌∙◌, arith}
+use Rattle.std.specs.Prelude.{not}
+use Rattle.std.proofs.Math.Nat.{div-mul-le_self}
+use Rattle.std.proofs.lemmas.Bool.{cond-true, cond-false, eq-eqb, ne_eqb}
+use Rattle.std.specs.BTreeMap.{BTreeMap}
+use mathlib.Core.Path.{fun_ext}
+use Rattle.qcow2_metadata.specs.Bytes.{Bytes, byte_at, one_if, sum_below}
+use Rattle.qcow2_metadata.specs.declared.header.HeaderFields.{HeaderFields}
+use Rattle.qcow2_metadata.specs.Header.{cluster_size, entries_per_cluster, reftable_entries}
+use Rattle.qcow2_metadata.specs.Entries.{l1_entry, l2_entry, reftable_entry, host_offset, block_offset}
+use Rattle.qcow2_metadata.specs.Cover.{entry_cover}
+use Rattle.qcow2_metadata.specs.L2Mapping.{host_of}
+use Rattle.qcow2_metadata.specs.TableBytes.{entry_at}
+use Rattle.qcow2_metadata.proofs.TablesAt.{StandAt, entry_stands}
+use Rattle.qcow2_check.specs.declared.tally.Tally.{Tally}
+use Rattle.qcow2_check.specs.Tallies.{Grows, Adds, tally_in, no_tally}
+use Rattle.qcow2_check.specs.Offsets.{off_cluster, off_cluster_if, tables_off, blocks_off, off_l2_tables, off_refblocks, data_off, data_off_under, times}
+use Rattle.qcow2_check.proofs.Grow.{grows_none, grows_more}
+use Rattle.qcow2_check.proofs.Sums.{sum_below_none, sum_below_more, sum_below-same}
+use Rattle.qcow2_check.proofs.Totals.{tally_same, triple}
+
+never : (b : Bool) → one_if (b && false) ≡ 0
+never true = refl
+never false = refl
+
+always : (b : Bool) → one_if (b && true) ≡ one_if b
+always true = refl
+always false = refl
+
+pub on_cluster : (h : HeaderFields) (place size : ℕ) (m : BTreeMap ℕ Tally) → size ≡ cluster_size h → place % size ≡ 0 → Grows m m (λ o. off_cluster h o place) (λ _. 0) (λ _. 0)
+on_cluster h place size m is zero =
+    let test : eqb (place % cluster_size h) 0 ≡ true = eq-eqb _ 0 (ap (λ s. place % s) (sym is) ∙ zero) in
+    grows_none m _ _ _ (λ o. ap (λ t. one_if (eqb place o && not t)) test ∙ never (eqb place o)) (λ o. omega arith) (λ o. omega arith)
+
+pub off_one : (h : HeaderFields) (place size : ℕ) (old new : BTreeMap ℕ Tally) → size ≡ cluster_size h → place % size ≢ 0 → Adds old new place false false
+    → Grows old new (λ o. off_cluster h o place) (λ _. 0) (λ _. 0)
+off_one h place size old new is some adds =
+    let test : eqb (place % cluster_size h) 0 ≡ false = ne_eqb _ 0 (λ zero. some (ap (λ s. place % s) is ∙ zero)) in
+    record {
+      more_named = λ o. adds.more_named o ∙ ap (λ n. (tally_in old o).named + n) (sym (ap (λ t. one_if (eqb place o && not t)) test ∙ always (eqb place o)));
+      more_for_tables = λ o. adds.more_for_tables o ∙ ap (λ n. (tally_in old o).for_tables + n) (never (eqb place o));
+      more_marked = λ o. adds.more_marked o ∙ ap (λ n. (tally_in old o).marked + n) (never (eqb place o));
+      same_count = adds.same_count;
+    }
+
+-- a sum of terms for each offset
+pub terms_none : (f : ℕ → ℕ → ℕ) (m : BTreeMap ℕ Tally) → Grows m m (λ o. sum_below 0 (λ i. f o i)) (λ _. 0) (λ _. 0)
+terms_none f m = grows_none m _ _ _ (λ o. sum_below_none _) (λ o. omega arith) (λ o. omega arith)
+
+pub terms_more : (f : ℕ → ℕ → ℕ) (i : ℕ) (term : ℕ → ℕ) (old mid new : BTreeMap ℕ Tally) → ((o : ℕ) → term o ≡ f o i)
+    → Grows old mid (λ o. sum_below i (λ i. f o i)) (λ _. 0) (λ _. 0) → Grows mid new term (λ _. 0) (λ _. 0)
+    → Grows old new (λ o. sum_below (i + 1) (λ i. f o i)) (λ _. 0) (λ _. 0)
+terms_more f i term old mid new is so_far next =
+    grows_more old mid new _ _ _ _ _ _ _ _ _ so_far next
+    (λ o. sum_below_more i (λ i. f o i) ∙ ap (λ v. sum_below i (λ i. f o i) + v) (sym (is o))) (λ o. omega arith) (λ o. omega arith)
+
+pub no_data : (h : HeaderFields) (b : Bytes) (entry : ℕ) (m : BTreeMap ℕ Tally) → host_offset entry ≡ 0 → Grows m m (data_off_under h b entry) (λ _. 0) (λ _. 0)
+no_data h b entry m none = grows_none m _ _ _ (λ o. cond-true _ _ _ (eq-eqb (host_offset entry) 0 none)) (λ o. omega arith) (λ o. omega arith)
+
+inside : (size j : ℕ) → j < size / 8 → 8 * j + 8 ≤ size
+inside size j lt = let down = div-mul-le_self size 8 in omega arith
+
+pub grows_as : (old new : BTreeMap ℕ Tally) (f g : ℕ → ℕ) → ((q : ℕ) → f q ≡ g q) → Grows old new f (λ _. 0) (λ _. 0) → Grows old new g (λ _. 0) (λ _. 0)
+grows_as old new f g same grows = record {
+  more_named = λ q. grows.more_named q ∙ ap (λ n. (tally_in old q).named + n) (same q);
+  more_for_tables = grows.more_for_tables;
+  more_marked = grows.more_marked;
+  same_count = grows.same_count;
+}
+
+pub data_part : (h : HeaderFields) (b : Bytes) (bytes : List ℕ) (entry : ℕ) (old new : BTreeMap ℕ Tally) → host_offset entry ≢ 0
+    → StandAt b (host_offset entry) bytes → length bytes ≡ cluster_size h
+    → Grows old new (data_off h (byte_at bytes) 0 (entries_per_cluster h)) (λ _. 0) (λ _. 0)
+    → Grows old new (data_off_under h b entry) (λ _. 0) (λ _. 0)
+data_part h b bytes entry old new some stands whole grows =
+    grows_as old new _ _ (λ o.
+    sum_below-same (entries_per_cluster h) (λ j. off_cluster_if h o (host_of (entry_cover h (l2_entry (byte_at bytes) 0 j))))
+    (λ j. off_cluster_if h o (host_of (entry_cover h (l2_entry b (host_offset entry) j))))
+    (λ j lt. ap (λ e. off_cluster_if h o (host_of (entry_cover h e)))
+    (let within = inside (cluster_size h) j lt in entry_stands b (host_offset entry) bytes j stands (omega (arith, within, whole))))
+    ∙ sym (cond-false _ _ _ (ne_eqb (host_offset entry) 0 some))) grows
+
+-- the tallies of offsets that were counted from none
+pub counted_off : (f g : ℕ → ℕ) (m0 m1 : BTreeMap ℕ Tally) → ((q : ℕ) → tally_in m0 q ≡ no_tally) → ((q : ℕ) → f q ≡ g q) → Grows m0 m1 f (λ _. 0) (λ _. 0) → tally_in m1 ≡ times g
+counted_off f g m0 m1 none same grows = fun_ext (λ q.
+    let start = none q in
+    let named0 : (tally_in m0 q).named ≡ 0 = ap (λ (t : Tally). t.named) start in
+    let tables0 : (tally_in m0 q).for_tables ≡ 0 = ap (λ (t : Tally). t.for_tables) start in
+    let marked0 : (tally_in m0 q).marked ≡ 0 = ap (λ (t : Tally). t.marked) start in
+    tally_same (tally_in m1 q) (times g q)
+    (triple _ _ _ _ _ _ (omega (arith, grows.more_named q, same q, named0)) (omega (arith, grows.more_for_tables q, tables0)) (omega (arith, grows.more_marked q, marked0)))
+    (grows.same_count q ∙ ap (λ (t : Tally). t.count) start))
+
+pub all_tables_off : (h : HeaderFields) (b : Bytes) (entries : List ℕ) → length entries / 8 ≡ h.l1_entries → ((i : ℕ) → entry_at entries i ≡ l1_entry h b i)
+    → (o : ℕ) → tables_off h entries (length entries / 8) o ≡ off_l2_tables h b o
+all_tables_off h b entries long are o =
+    sum_below-same (length entries / 8) (λ i. off_cluster h o (host_offset (entry_at entries i))) (λ i. off_cluster h o (host_offset (l1_entry h b i)))
+    (λ i lt. ap (λ e. off_cluster h o (host_offset e)) (are i))
+    ∙ ap (λ n. sum_below n (λ i. off_cluster h o (host_offset (l1_entry h b i)))) long
+
+pub all_blocks_off : (h : HeaderFields) (b : Bytes) (entries : List ℕ) → length entries / 8 ≡ reftable_entries h → ((k : ℕ) → entry_at entries k ≡ reftable_entry h b k)
+    → (o : ℕ) → blocks_off h entries (length entries / 8) o ≡ off_refblocks h b o
+all_blocks_off h b entries long are o =
+    sum_below-same (length entries / 8) (λ k. off_cluster h o (block_offset (entry_at entries k))) (λ k. off_cluster h o (block_offset (reftable_entry h b k)))
+    (λ k lt. ap (λ e. off_cluster h o (block_offset e)) (are k))
+    ∙ ap (λ n. sum_below n (λ k. off_cluster h o (block_offset (reftable_entry h b k)))) long
