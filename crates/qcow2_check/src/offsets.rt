@@ -112,7 +112,7 @@ impl Offsets {
     pub(crate) fn new(alloc: Global) -> Offsets
         ensures l2_tables { (q : ℕ) → tally_in result.l2_tables.clusters q ≡ no_tally }
         ensures refblocks { (q : ℕ) → tally_in result.refblocks.clusters q ≡ no_tally }
-        ensures data { (q : ℕ) → tally_in result.data.clusters q ≡ no_tally }
+        ensures of_data { (q : ℕ) → tally_in result.data.clusters q ≡ no_tally }
         ensures totals { (result.l2_tables.total ≡ 0) × (result.refblocks.total ≡ 0) × (result.data.total ≡ 0) }
     {
         Offsets {

@@ -92,7 +92,7 @@ returns-clause-tallies g c honest =
           (all_tables_off h (byte_at b) c.deref.result.now head_long head_l1) c.in_ok-offsets_of_l1_table.ensures.grows;
       refblocks_are = counted_off (blocks_off h c.deref-2.result.now (length c.deref-2.result.now / 8)) (off_refblocks h (byte_at b)) _ _ c.new-offsets.ensures.refblocks
           (all_blocks_off h (byte_at b) c.deref-2.result.now head_blocks_long head_blocks) c.in_ok-offsets_of_reftable.ensures.grows;
-      data_are = counted_off (data_off_below h (byte_at b) (length l1 / 8)) (data_off_below h (byte_at b) h.l1_entries) _ _ c.new-offsets.ensures.data
+      data_are = counted_off (data_off_below h (byte_at b) (length l1 / 8)) (data_off_below h (byte_at b) h.l1_entries) _ _ c.new-offsets.ensures.of_data
           (λ q. ap (λ n. data_off_below h (byte_at b) n q) l1_long)
           (subst T same2 (c.in_ok-names_of_l1_table.ensures.offsets honest2 (subst L1 (sym same2) l1_is)));
     }
