@@ -1,0 +1,8 @@
+//! Examples of programs over the driver, as `docs/GUIDE.md` tells them.
+#![tactic(auto)]
+
+pub mod block_server;
+pub mod copying;
+pub mod opening;
+#[cfg(test)]
+mod tests;

@@ -1,0 +1,26 @@
+//! Opening an image in a storage, or making one.
+use image_access::Storage;
+use qcow2_image::{ImageError, Qcow2, Qcow2CreateBuilder};
+use std::alloc::Global;
+
+/// Opens an image for writing. Images that are open together have different numbers.
+pub fn open<S: Storage>(alloc: Global, storage: S, number: u64) -> Result<Qcow2<S>, ImageError> {
+    match Qcow2::open_image(alloc, storage, true, number) {
+        Ok(image) => Ok(image),
+        Err((_storage, refusal)) => Err(refusal),
+    }
+}
+
+/// Makes an image of so many bytes, in clusters of 65,536 bytes, and opens it.
+pub fn make<S: Storage>(
+    alloc: Global,
+    storage: S,
+    size: u64,
+    number: u64,
+) -> Result<Qcow2<S>, ImageError> {
+    let builder = Qcow2CreateBuilder::new(storage).size(size);
+    match builder.create_open(alloc, number) {
+        Ok(image) => Ok(image),
+        Err((_storage, refusal)) => Err(refusal),
+    }
+}
