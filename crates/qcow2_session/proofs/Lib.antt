@@ -8,3 +8,5 @@ mod Writing
 mod Reading
 mod Runs
 mod LookingUp
+mod Converting
+mod Exporting

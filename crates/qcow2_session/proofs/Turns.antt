@@ -51,7 +51,7 @@ refuses_fault B storage why to r = record { acts = r.acts; answer = λ sound. in
 refuses_fault {new = new} {A = A} B (another n) why to r = record { acts = r.acts; answer = λ sound. ⊎_elim (λ (a : new.is_sound × A). absurd (why a.1)) (λ h. inr h) (r.answer sound); fault = r.fault }
 
 module _ {old new : AbstractImage} {gs fewer : List GivenBytes} (within : IsWithin old gs fewer) where
-  acts_less : Acts old new gs [] → Acts old new fewer []
+  pub acts_less : Acts old new gs [] → Acts old new fewer []
   acts_less a = record { number = a.number; works = λ sound. works_less old new gs fewer [] within (a.works sound); rests = a.rests }
 
   pub does_less : {A : Type 0} → Does old new gs [] A → Does old new fewer [] A
@@ -62,7 +62,7 @@ module _ {old new : AbstractImage} {gs fewer : List GivenBytes} (within : IsWith
 
 -- a call after one that was answered
 module _ {old mid new : AbstractImage} {gs checkpoint_with : List GivenBytes} {A : Type 0} (within : A → IsWithin mid checkpoint_with gs) (first : Does old mid gs [] A) where
-  acts_then : Acts mid new checkpoint_with [] → Acts old new gs []
+  pub acts_then : Acts mid new checkpoint_with [] → Acts old new gs []
   acts_then acts = record {
     number = acts.number ∙ first.acts.number;
     works = λ sound. let a = first.answer sound in works_then old mid new gs [] a.0 (first.acts.works sound) (works_less mid new checkpoint_with gs [] (within a.1) (acts.works a.0));

@@ -54,7 +54,7 @@ module _ (offset at count : ℕ) (bytes : List ℕ) (le : count ≤ length bytes
   no_more d = no_bytes d at (take 0 (drop count bytes)) (grind (arith, common_steps))
 
   -- the rest was refused before any of it was written, or where memory is missing after some
-  may_write_more : (e : Refusal) (g g' new : Guest) → g' ≡ with_disk g (with_bytes g.disk offset (take count bytes)) → MayWrite e g' at (drop count bytes) 0 new → MayWrite e g offset bytes count new
+  pub may_write_more : (e : Refusal) (g g' new : Guest) → g' ≡ with_disk g (with_bytes g.disk offset (take count bytes)) → MayWrite e g' at (drop count bytes) 0 new → MayWrite e g offset bytes count new
   may_write_more memory g g' new so_far may =
       let d : Disk = may.1.0 in
       let some : WritesSome g'.disk at (drop count bytes) 0 d = may.1.1 in

@@ -1,6 +1,7 @@
 //! Commands on a qcow2 image, and what they are answered.
 #![tactic(auto)]
 
+pub mod convert;
 pub mod session;
 mod slots;
 

@@ -1,0 +1,85 @@
+-- A raw disk is made as an image's disk is, range by range.
+use Rattle.std.proofs.Common.{◌≡◌, ◌⊎◌, inl, inr, ℕ, ◌+◌, ◌-◌, ◌<◌, ◌≤◌, List, [], length, replicate, refl, sym, ap, ◌∙◌, subst, arith}
+use Rattle.std.proofs.lemmas.Bool.{cases_lt}
+use Rattle.std.proofs.lemmas.List.{length-replicate, get_or-replicate}
+use Rattle.std.specs.Prelude.{Option, Result, Err}
+use Rattle.image_access.specs.Backing.{BackingView}
+use Rattle.image_access.specs.Contents.{overwritten, resized}
+use Rattle.image_access.specs.Moments.{StorageView}
+use Rattle.image_access.proofs.Bytes.{length-resized, byte_at-resized, byte_at-resized_past, length-overwritten_within, byte_at-overwritten, byte_at-overwritten_below, byte_at-overwritten_behind}
+use Rattle.qcow2_metadata.specs.Bytes.{byte_at}
+use Rattle.qcow2_metadata.specs.Guest.{known_byte}
+use Rattle.qcow2_laws.specs.Disk.{Disk}
+use Rattle.qcow2_laws.specs.AbstractImages.{Guest, guest_of}
+use Rattle.qcow2_laws.specs.Calls.{Does, Shows, IsSame}
+use Rattle.qcow2_alloc.specs.declared.error.ImageError.{ImageError}
+use Rattle.qcow2_image.specs.Calls.{refusal_of}
+use Rattle.qcow2_image.specs.declared.image.Qcow2.{Qcow2}
+use Rattle.qcow2_image.specs.declared.prepared.Prepared.{Prepared}
+use Rattle.qcow2_image.specs.ImageInvariant.{abstract_of}
+use Rattle.qcow2_session.specs.Conversions.{BreaksOff, IsRawOf, IsUnchanged, IsFilled, Fills}
+
+-- a range of zeros isn't written
+pub filled_same : (d : Disk) (size at n : ℕ) (contents bytes : List ℕ) → IsFilled d size at contents → Shows d at bytes → bytes ≡ replicate n 0 → IsFilled d size (at + n) contents
+filled_same d size at n contents bytes filled shows zeros = record {
+  long = filled.long;
+  front = λ o lt. elim (cases_lt o at) [
+    | inl below ↦ filled.front o below
+    | inr past ↦
+        let long : length bytes ≡ n = ap length zeros ∙ length-replicate {A = ℕ} n 0 in
+        let place : at + (o - at) ≡ o = omega (arith, past) in
+        ap d.value (sym place) ∙ shows (o - at) (omega (arith, past, lt, long))
+        ∙ ap known_byte (ap (λ b. byte_at b (o - at)) zeros ∙ get_or-replicate n (o - at) 0 0 (omega (arith, past, lt)) ∙ sym (filled.behind o past))
+  ];
+  behind = λ o le. filled.behind o (omega (arith, le));
+}
+
+-- any other is
+pub filled_more : (d : Disk) (size at : ℕ) (contents bytes : List ℕ) → IsFilled d size at contents → Shows d at bytes → at + length bytes ≤ size → IsFilled d size (at + length bytes) (overwritten contents at bytes)
+filled_more d size at contents bytes filled shows within = record {
+  long = length-overwritten_within contents at bytes (omega (arith, filled.long, within)) ∙ filled.long;
+  front = λ o lt. elim (cases_lt o at) [
+    | inl below ↦ filled.front o below ∙ ap known_byte (sym (byte_at-overwritten_below contents at bytes o below))
+    | inr past ↦
+        let place : at + (o - at) ≡ o = omega (arith, past) in
+        let inside : o - at < length bytes = omega (arith, past, lt) in
+        ap d.value (sym place) ∙ shows (o - at) inside ∙ ap known_byte (sym (ap (byte_at (overwritten contents at bytes)) (sym place) ∙ byte_at-overwritten contents at bytes (o - at) inside))
+  ];
+  behind = λ o le. byte_at-overwritten_behind contents at bytes o le ∙ filled.behind o (omega (arith, le));
+}
+
+-- cut to nothing and grown
+pub filled_first : (d : Disk) (c a b : List ℕ) (size : ℕ) → a ≡ resized c 0 → b ≡ resized a size → IsFilled d size 0 b
+filled_first d c a b size cut grown =
+    subst (λ k. IsFilled d size 0 k) (sym (grown ∙ ap (λ k. resized k size) cut))
+    (record {
+      long = length-resized (resized c 0) size;
+      front = λ o lt. absurd (omega (arith, lt));
+      behind = λ o le. elim (cases_lt o size) [
+        | inl within ↦ byte_at-resized (resized c 0) size o within ∙ byte_at-resized_past c 0 o le
+        | inr past ↦ byte_at-resized_past (resized c 0) size o past
+      ];
+    })
+
+-- all is written
+pub filled_all : (d : Disk) (size : ℕ) (bytes : List ℕ) → IsFilled d size size bytes → size ≡ d.size → (size ≡ length bytes) × IsRawOf d bytes
+filled_all d size bytes filled is =
+    (sym filled.long, (filled.long ∙ is, λ i lt. let at : 0 + i ≡ i = omega arith in ap d.value at ∙ filled.front i (omega (arith, lt, filled.long))))
+
+module _ {S F : Type 0} (view : S → StorageView) (backing : F → BackingView) (old new : Qcow2 S F) where
+  -- a refusal that was passed on
+  pub unchanged_refused : {A : Type 0} (e : ImageError) (r : Result A ImageError) → r ≡ Err e
+      → ((out : List (Option Prepared)) → BreaksOff (abstract_of view backing old out) (abstract_of view backing new out) [] (refusal_of e) (IsSame (abstract_of view backing old out) (abstract_of view backing new out)))
+      → IsUnchanged view backing old new r
+  unchanged_refused e r is off = subst (λ x. IsUnchanged view backing old new x) (sym is) off
+
+  -- one range after others; here new is the image between them
+  pub fills_more : (from at n m : ℕ) (a b c : List ℕ) → ((out : List (Option Prepared)) → Does (abstract_of view backing old out) (abstract_of view backing new out) [] [] (guest_of (abstract_of view backing new out) ≡ guest_of (abstract_of view backing old out)))
+      → Fills view backing old from at a b → Fills view backing new at (at + n) b c → n ≡ m → Fills view backing old from (at + m) a c
+  fills_more from at n m a b c same first next count out sound size le filled =
+      let mid = (same out).answer sound in
+      let d : Disk = (guest_of (abstract_of view backing old out)).disk in
+      let disk-is : (guest_of (abstract_of view backing new out)).disk ≡ d = ap (λ (x : Guest). x.disk) mid.1 in
+      subst (λ k. IsFilled d size (at + k) c) count
+      (subst (λ (k : Disk). IsFilled k size (at + n) c) disk-is
+      (next out mid.0 size (omega (arith, le, count)) (subst (λ (k : Disk). IsFilled k size at b) (sym disk-is) (first out sound size (omega (arith, le)) filled))))

@@ -1,0 +1,35 @@
+use Rattle.std.proofs.Common.{◌≡◌, ◌∙◌, [], length, take, subst, arith}
+use Rattle.std.proofs.lemmas.Grind.{common_steps}
+use Rattle.qcow2_image.specs.ImageInvariant.{abstract_of}
+use Rattle.qcow2_session.specs.Conversions.{Fills}
+use Rattle.qcow2_session.proofs.Converting.{breaks_if, breaks_then}
+use Rattle.qcow2_session.proofs.Exporting.{unchanged_refused, fills_more}
+use Rattle.qcow2_session.proofs.Turns.{refused_is, none_within, does_if, does_then}
+use Rattle.qcow2_session.proofs.convert.export_all.Goals as goal
+
+pub returns-in_err-export_at-clause-same : goal.returns-in_err-export_at-clause-same
+returns-in_err-export_at-clause-same g c =
+    let view = g.S.Storage.view in
+    let below = g.F.BackingDisk.backing in
+    unchanged_refused view below c.args.image.now c.export_at.new.image c.in_err-export_at.field-0.0 _ (refused_is _ c.in_err-export_at.field-0.0 c.from_residual.ensures)
+    (λ out. breaks_if (λ h. h.1 ∙ h.0) (breaks_then {more = []} (λ _. none_within (abstract_of view below c.loop-at.image out) []) (c.loop-at.invariant.same out) (c.in_err-export_at.ensures.same out)))
+
+pub loop-at-preserved : goal.loop-at-preserved
+loop-at-preserved g c =
+    let view = g.S.Storage.view in
+    let below = g.F.BackingDisk.backing in
+    record {
+      within = grind (arith, common_steps);
+      number = c.export_at.ensures.number ∙ c.loop-at.invariant.number;
+      honest = λ h. c.export_at.ensures.honest (c.loop-at.invariant.honest h);
+      same = λ out. does_if (λ h. h.1 ∙ h.0) (does_then {more = []} (λ _. none_within (abstract_of view below c.loop-at.image out) []) (c.loop-at.invariant.same out) (c.in_ok-export_at.ensures.same out));
+      filled = λ h.
+          let long : length (take c.min-count.result c.loop-at.bytes) ≡ c.min-count.result = grind (arith, common_steps) in
+          fills_more view below c.args.image.now c.loop-at.image 0 c.loop-at.at (length (take c.min-count.result c.loop-at.bytes)) c.min-count.result (g.R.Storage.view c.args.raw.now).contents (g.R.Storage.view c.loop-at.raw).contents (g.R.Storage.view c.export_at.new.raw).contents
+          c.loop-at.invariant.same (c.loop-at.invariant.filled h) (c.in_ok-export_at.ensures.sees (c.loop-at.invariant.honest h)) long;
+    }
+
+pub returns-clause-sees : goal.returns-clause-sees
+returns-clause-sees g c = λ h.
+    let done : c.loop-at.at ≡ c.args.size = omega (arith, c.loop-at.invariant.within, c.loop-at-test.false) in
+    subst (λ k. Fills g.S.Storage.view g.F.BackingDisk.backing c.args.image.now 0 k (g.R.Storage.view c.args.raw.now).contents (g.R.Storage.view c.loop-at.raw).contents) done (c.loop-at.invariant.filled h)

@@ -1,0 +1,42 @@
+use Rattle.std.proofs.Common.{◌≡◌, ◌+◌, ◌∙◌, length, sym, ap, subst, arith}
+use Rattle.std.proofs.lemmas.Grind.{common_steps}
+use Rattle.image_access.specs.Contents.{overwritten}
+use Rattle.qcow2_alloc.specs.ImageError.{of_storage}
+use Rattle.qcow2_laws.specs.AbstractImages.{guest_of}
+use Rattle.qcow2_image.specs.Calls.{refusal_of}
+use Rattle.qcow2_image.specs.ImageInvariant.{abstract_of}
+use Rattle.qcow2_session.specs.Conversions.{IsFilled}
+use Rattle.qcow2_session.proofs.Converting.{breaks, breaks_here}
+use Rattle.qcow2_session.proofs.Exporting.{filled_same, filled_more, unchanged_refused}
+use Rattle.qcow2_session.proofs.Turns.{refused_is, does_if}
+use Rattle.qcow2_session.proofs.convert.export_at.Goals as goal
+
+pub returns-in_err-read_into-clause-same : goal.returns-in_err-read_into-clause-same
+returns-in_err-read_into-clause-same g c =
+    unchanged_refused g.S.Storage.view g.F.BackingDisk.backing c.args.image.now c.read_into.new.image c.in_err-read_into.field-0.0 _ (refused_is _ c.in_err-read_into.field-0.0 c.from_residual.ensures) (λ out. breaks (c.in_err-read_into.ensures.sees out))
+
+pub returns-then-is_same-clause-same : goal.returns-then-is_same-clause-same
+returns-then-is_same-clause-same g c = λ out. does_if (λ h. h.1) (c.in_ok-read_into.ensures.sees out)
+
+pub returns-then-is_same-clause-sees : goal.returns-then-is_same-clause-sees
+returns-then-is_same-clause-sees g c = λ honest out sound size le filled.
+    let shows = (c.in_ok-read_into.ensures.sees out).answer sound in
+    filled_same (guest_of (abstract_of g.S.Storage.view g.F.BackingDisk.backing c.args.image.now out)).disk size c.args.at (length c.args.bytes.now) (g.R.Storage.view c.args.raw.now).contents c.read_into.new.bytes filled shows.1.0 (c.is_same.ensures c.if-is_same.true ∙ c.requires)
+
+pub returns-in_err-write-clause-same : goal.returns-in_err-write-clause-same
+returns-in_err-write-clause-same g c =
+    let e = of_storage c.in_err-write.field-0.0 in
+    unchanged_refused g.S.Storage.view g.F.BackingDisk.backing c.args.image.now c.read_into.new.image e _ (refused_is _ e c.from_residual-in_err-write.ensures)
+    (λ out. breaks_here (refusal_of e) (does_if (λ h. h.1) (c.in_ok-read_into.ensures.sees out)))
+
+pub returns-clause-same : goal.returns-clause-same
+returns-clause-same g c = λ out. does_if (λ h. h.1) (c.in_ok-read_into.ensures.sees out)
+
+pub returns-clause-sees : goal.returns-clause-sees
+returns-clause-sees g c = λ honest out sound size le filled.
+    let shows = (c.in_ok-read_into.ensures.sees out).answer sound in
+    let d = (guest_of (abstract_of g.S.Storage.view g.F.BackingDisk.backing c.args.image.now out)).disk in
+    let long : length c.read_into.new.bytes ≡ length c.args.bytes.now = grind (arith, common_steps) in
+    subst (λ b. IsFilled d size (c.args.at + length c.args.bytes.now) b) (sym (c.in_ok-write.ensures.written honest))
+    (subst (λ n. IsFilled d size (c.args.at + n) (overwritten (g.R.Storage.view c.args.raw.now).contents c.args.at c.read_into.new.bytes)) long
+    (filled_more d size c.args.at (g.R.Storage.view c.args.raw.now).contents c.read_into.new.bytes filled shows.1.0 (omega (arith, le, long))))

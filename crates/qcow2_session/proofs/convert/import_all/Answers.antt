@@ -1,0 +1,65 @@
+use Rattle.std.proofs.Common.{◌≡◌, ◌+◌, ◌-◌, ◌%◌, ◌<◌, ◌≤◌, ◌++◌, drop, length, take, refl, sym, ap, ◌∙◌, subst, arith, min, List, ℕ}
+use Rattle.std.proofs.Math.Nat.{zero-mod, add-mod_right}
+use Rattle.std.proofs.lemmas.Grind.{common_steps}
+use Rattle.image_access.specs.Contents.{bytes_at}
+use Rattle.qcow2_laws.specs.Calls.{with_disk}
+use Rattle.qcow2_laws.specs.Disk.{with_bytes}
+use Rattle.qcow2_laws.specs.AbstractImages.{guest_of}
+use Rattle.qcow2_image.specs.ImageInvariant.{abstract_of}
+use Rattle.qcow2_session.specs.Sessions.{cluster_size_of}
+use Rattle.qcow2_session.proofs.Converting.{imports_none, all_more, all_refused, same_range}
+use Rattle.qcow2_session.proofs.Turns.{refused_is, does_if}
+use Rattle.qcow2_session.proofs.convert.import_all.Goals as goal
+
+pub loop-at-init : goal.loop-at-init
+loop-at-init g c = record {
+  within = omega arith;
+  aligned = λ lt. zero-mod (length c.args.wanted.now);
+  number = refl;
+  raw = λ honest. (honest, refl);
+  written = λ honest size out. imports_none (abstract_of g.S.Storage.view g.F.BackingDisk.backing c.args.image.now out) (g.R.Storage.view c.args.raw.now).contents;
+}
+
+-- a whole cluster more
+next_aligned : (at count long size : ℕ) → count ≡ min long (size - at) → at % long ≡ 0 → at + count < size → (at + count) % long ≡ 0
+next_aligned at count long size is start more =
+    let whole : count ≡ long = omega (arith, is, more) in
+    ap (λ k. (at + k) % long) whole ∙ add-mod_right at long ∙ start
+
+pub loop-at-preserved : goal.loop-at-preserved
+loop-at-preserved g c =
+    let kept : length c.import_at.new.wanted ≡ c.min-count.result = grind (arith, common_steps) in
+    let whole : length c.loop-at.wanted ≡ length (c.import_at.new.wanted ++ drop c.min-count.result c.loop-at.wanted) = grind (arith, common_steps) in
+    record {
+      within = grind (arith, common_steps);
+      aligned = λ more. subst (λ k. (c.loop-at.at + c.min-count.result) % k ≡ 0) whole
+          (next_aligned c.loop-at.at c.min-count.result (length c.loop-at.wanted) c.args.size c.min-count.ensures (c.loop-at.invariant.aligned c.loop-at-test.true) more);
+      number = c.import_at.ensures.number ∙ c.loop-at.invariant.number;
+      raw = λ honest. let before = c.loop-at.invariant.raw honest in let after = c.import_at.ensures.raw before.0 in (after.0, after.1 ∙ before.1);
+      written = λ honest size.
+          let before = c.loop-at.invariant.raw honest in
+          let long : length (take c.min-count.result c.loop-at.wanted) ≡ c.min-count.result = grind (arith, common_steps) in
+          all_more g.S.Storage.view g.F.BackingDisk.backing c.args.image.now (g.R.Storage.view c.args.raw.now).contents c.loop-at.image c.import_at.new.image c.loop-at.at c.min-count.result
+          (omega (arith, c.min-count.ensures, c.loop-at-test.true, size))
+          (bytes_at (g.R.Storage.view c.loop-at.raw).contents c.loop-at.at (length (take c.min-count.result c.loop-at.wanted)))
+          (same_range (g.R.Storage.view c.loop-at.raw).contents (g.R.Storage.view c.args.raw.now).contents c.loop-at.at (length (take c.min-count.result c.loop-at.wanted)) c.min-count.result before.1 long)
+          (c.loop-at.invariant.written honest size) (c.in_ok-import_at.ensures.sees before.0);
+    }
+
+pub returns-in_err-import_at-clause-sees : goal.returns-in_err-import_at-clause-sees
+returns-in_err-import_at-clause-sees g c = λ honest size.
+    let before = c.loop-at.invariant.raw honest in
+    let long : length (take c.min-count.result c.loop-at.wanted) ≡ c.min-count.result = grind (arith, common_steps) in
+    all_refused g.S.Storage.view g.F.BackingDisk.backing c.args.image.now (g.R.Storage.view c.args.raw.now).contents c.loop-at.image c.import_at.new.image c.loop-at.at c.min-count.result
+    (omega (arith, c.min-count.ensures, c.loop-at-test.true, size))
+    (bytes_at (g.R.Storage.view c.loop-at.raw).contents c.loop-at.at (length (take c.min-count.result c.loop-at.wanted)))
+    (same_range (g.R.Storage.view c.loop-at.raw).contents (g.R.Storage.view c.args.raw.now).contents c.loop-at.at (length (take c.min-count.result c.loop-at.wanted)) c.min-count.result before.1 long)
+    (c.loop-at.invariant.written honest size) c.in_err-import_at.field-0.0 _ (refused_is _ c.in_err-import_at.field-0.0 c.from_residual.ensures)
+    (subst (λ k. c.loop-at.at % k ≡ 0) (c.loop-at.auto.wanted ∙ c.requires.wanted) (c.loop-at.invariant.aligned c.loop-at-test.true)) (omega (arith, c.min-count.ensures, c.loop-at.auto.wanted, c.requires.wanted)) (c.in_err-import_at.ensures.sees before.0)
+
+pub returns-clause-sees : goal.returns-clause-sees
+returns-clause-sees g c = λ honest size out.
+    let contents = (g.R.Storage.view c.args.raw.now).contents in
+    let all : take c.loop-at.at contents ≡ contents = grind (arith, common_steps, size, c.loop-at.invariant.within, c.loop-at-test.false) in
+    does_if (λ e. subst (λ b. guest_of (abstract_of g.S.Storage.view g.F.BackingDisk.backing c.loop-at.image out) ≡ with_disk (guest_of (abstract_of g.S.Storage.view g.F.BackingDisk.backing c.args.image.now out)) (with_bytes (guest_of (abstract_of g.S.Storage.view g.F.BackingDisk.backing c.args.image.now out)).disk 0 b)) all e)
+    (c.loop-at.invariant.written honest size out)

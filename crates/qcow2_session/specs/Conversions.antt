@@ -1,0 +1,76 @@
+-- What converting does: an image's disk is made as a raw disk is, or a raw disk as an image's disk is.
+use Rattle.std.specs.Prelude.{ℕ, ◌+◌, ◌%◌, ◌≡◌, ◌⊎◌, ◌≤◌, ◌<◌, IsTrue, List, [], ◌∷◌, length, Option, Result, Ok, Err}
+use Rattle.image_access.specs.Backing.{BackingView}
+use Rattle.image_access.specs.Moments.{StorageView}
+use Rattle.qcow2_metadata.specs.Bytes.{byte_at}
+use Rattle.qcow2_metadata.specs.Guest.{known_byte}
+use Rattle.qcow2_laws.specs.Disk.{Disk}
+use Rattle.qcow2_laws.specs.Stops.{GivenBytes}
+use Rattle.qcow2_laws.specs.Mappings.{gift_of}
+use Rattle.qcow2_laws.specs.AbstractImages.{Guest, AbstractImage, guest_of, contents_of}
+use Rattle.qcow2_laws.specs.Calls.{Refusal, IsFault, Acts, Does, IsSame, Shows, MayWrite}
+use Rattle.qcow2_alloc.specs.declared.error.ImageError.{ImageError}
+use Rattle.qcow2_image.specs.declared.image.Qcow2.{Qcow2}
+use Rattle.qcow2_image.specs.declared.prepared.Prepared.{Prepared}
+use Rattle.qcow2_image.specs.Calls.{refusal_of}
+use Rattle.qcow2_image.specs.ImageInvariant.{abstract_of}
+use Rattle.qcow2_session.specs.Sessions.{HasWritten, cluster_size_of}
+
+-- the bytes of a disk below its size are these
+abbrev pub IsRawOf : Disk → List ℕ → Type 0
+IsRawOf d bytes = (length bytes ≡ d.size) × Shows d 0 bytes
+
+-- an honest storage keeps its contents
+abbrev pub IsLeft : StorageView → StorageView → Type 0
+IsLeft old new = old.is_honest → new.is_honest × (new.contents ≡ old.contents)
+
+-- It was refused, by the image or by the raw disk: the image is sound, and this is so; or it failed, by a fault or want of memory.
+pub record BreaksOff (old new : AbstractImage) (given : List GivenBytes) (e : Refusal) (still : Type 0) : Type 0 where
+  pub acts : Acts old new given []
+  pub answer : old.is_sound → (new.is_sound × still) ⊎ (IsFault e × IsTrue new.is_failed)
+
+-- The disk has the leading bytes, up to a cluster's start or all of them. Where memory was refused, of those behind them any may be there.
+abbrev pub HasSome : ℕ → List ℕ → Refusal → Guest → Guest → Type 0
+HasSome size bytes e old new = (n : ℕ) × ((n % size ≡ 0) ⊎ (n ≡ length bytes)) × MayWrite e old 0 bytes n new
+
+module _ {S F : Type 0} (view : S → StorageView) (backing : F → BackingView) (old new : Qcow2 S F) where
+  -- the disk has all of a raw disk's bytes and nothing else changed, and all is on the storage; or it has some
+  abbrev pub Imports : List ℕ → Result ℕ ImageError → Type 0
+  Imports bytes (Ok n) = (out : List (Option Prepared)) → let v = abstract_of view backing old out in let w = abstract_of view backing new out in
+      Does v w (gift_of 0 bytes ∷ []) [] ((n ≡ length bytes) × IsRawOf (guest_of w).disk bytes × HasWritten 0 bytes (guest_of v) (guest_of w) × (w.known ≡ contents_of w))
+  Imports bytes (Err e) = (out : List (Option Prepared)) → let v = abstract_of view backing old out in let w = abstract_of view backing new out in
+      BreaksOff v w (gift_of 0 bytes ∷ []) (refusal_of e) (HasSome (cluster_size_of old) bytes (refusal_of e) (guest_of v) (guest_of w))
+
+  -- so it is before the flush
+  abbrev pub ImportsAll : List ℕ → Result (Unit {0}) ImageError → Type 0
+  ImportsAll bytes (Ok _) = (out : List (Option Prepared)) → let v = abstract_of view backing old out in let w = abstract_of view backing new out in
+      Does v w (gift_of 0 bytes ∷ []) [] (HasWritten 0 bytes (guest_of v) (guest_of w))
+  ImportsAll bytes (Err e) = Imports bytes (Err e)
+
+  -- and of one range; where it lies within a cluster, a refusal leaves it as it was
+  abbrev pub ImportsAt : ℕ → List ℕ → Result (Unit {0}) ImageError → Type 0
+  ImportsAt at bytes (Ok _) = (out : List (Option Prepared)) → let v = abstract_of view backing old out in let w = abstract_of view backing new out in
+      Does v w (gift_of at bytes ∷ []) [] (HasWritten at bytes (guest_of v) (guest_of w))
+  ImportsAt at bytes (Err e) = (out : List (Option Prepared)) → let v = abstract_of view backing old out in let w = abstract_of view backing new out in
+      BreaksOff v w (gift_of at bytes ∷ []) (refusal_of e) (at % cluster_size_of old ≡ 0 → length bytes ≤ cluster_size_of old → MayWrite (refusal_of e) (guest_of v) at bytes 0 (guest_of w))
+
+  -- the guest sees what it saw
+  abbrev pub IsUnchanged : {A : Type 0} → Result A ImageError → Type 0
+  IsUnchanged (Ok a) = (out : List (Option Prepared)) → let v = abstract_of view backing old out in let w = abstract_of view backing new out in Does v w [] [] (IsSame v w)
+  IsUnchanged (Err e) = (out : List (Option Prepared)) → let v = abstract_of view backing old out in let w = abstract_of view backing new out in BreaksOff v w [] (refusal_of e) (IsSame v w)
+
+-- So far a raw disk of this size has the disk's bytes, and zeros behind them.
+pub record IsFilled (d : Disk) (size at : ℕ) (bytes : List ℕ) : Type 0 where
+  pub long : length bytes ≡ size
+  pub front : (o : ℕ) → o < at → d.value o ≡ known_byte (byte_at bytes o)
+  pub behind : (o : ℕ) → at ≤ o → byte_at bytes o ≡ 0
+
+module _ {S F : Type 0} (view : S → StorageView) (backing : F → BackingView) (old : Qcow2 S F) where
+  -- a raw disk is filled further
+  abbrev pub Fills : ℕ → ℕ → List ℕ → List ℕ → Type 0
+  Fills from to bytes bytes' = (out : List (Option Prepared)) → let v = abstract_of view backing old out in
+      v.is_sound → (size : ℕ) → to ≤ size → IsFilled (guest_of v).disk size from bytes → IsFilled (guest_of v).disk size to bytes'
+
+  -- a raw disk has all bytes of the disk
+  abbrev pub Exports : List ℕ → ℕ → Type 0
+  Exports bytes n = (out : List (Option Prepared)) → let v = abstract_of view backing old out in v.is_sound → (n ≡ length bytes) × IsRawOf (guest_of v).disk bytes

@@ -1,0 +1,165 @@
+//! Images of raw disks, and raw disks of images.
+ghost use Rattle.std.specs.Prelude.{◌≡◌, ◌≢◌, ◌+◌, ◌<◌, Err, length, replicate, IfSome, IfOk, OnOk, IsErr, IsTrue};
+ghost use Rattle.image_access.specs.Contents.{bytes_at};
+ghost use Rattle.qcow2_image.specs.Image.{number_of, size_of};
+ghost use Rattle.qcow2_image.specs.Refusals.{refuses_to_read};
+ghost use Rattle.qcow2_session.specs.Sessions.{cluster_size_of};
+ghost use Rattle.qcow2_session.specs.Conversions.{IsLeft, IsUnchanged, Imports, ImportsAll, ImportsAt, Fills, Exports};
+
+use crate::session::{read_into, write};
+use image_access::{Storage, StoragePreallocate, WrappedFormat};
+use qcow2_image::{ImageError, Qcow2};
+use std::alloc::Global;
+
+/// Makes an image's disk as a raw disk of the same size is, cluster by cluster, and flushes the image. The answer is the number
+/// of bytes. Only a cluster that differs is written, so where both read zero nothing is. Before any work a failed image (16), a
+/// missing data file (12) and unequal sizes (5) are refused. After a refusal other than 14 and 15 the disk has the raw disk's
+/// bytes up to a cluster's start, and its own from there on.
+pub fn to_qcow2<R: Storage, S: Storage, F: WrappedFormat<S>>(
+    alloc: Global,
+    raw: &mut R,
+    image: &mut Qcow2<S, F>,
+) -> Result<u64, ImageError>
+    ensures number { number_of image.new ≡ number_of image.old }
+    ensures early { IfSome (refuses_to_read image.old 0 0) (λ e. (result ≡ Err e) × (image.new ≡ image.old) × (raw.new ≡ raw.old)) }
+    ensures unequal { (R.view raw.old).is_honest → length (R.view raw.old).contents ≢ size_of image.old → IsErr result × (image.new ≡ image.old) }
+    ensures raw { IsLeft (R.view raw.old) (R.view raw.new) }
+    ensures sees { (R.view raw.old).is_honest → Imports S.view F.backing image.old image.new (R.view raw.old).contents result }
+{
+    image.check_read(0, 0)?;
+    let size = raw.size()?;
+    if size != image.size() {
+        return Err(ImageError::InvalidOption);
+    }
+    let cluster = image.cluster_size() as usize;
+    let mut wanted = vec![in alloc; 0; cluster]?;
+    let mut present = vec![in alloc; 0; cluster]?;
+    import_all(raw, image, size, &mut wanted, &mut present)?;
+    image.flush()?;
+    Ok(size)
+}
+
+// Makes all clusters as the raw disk is. The buffers are of one cluster each.
+fn import_all<R: Storage, S: Storage, F: WrappedFormat<S>>(
+    raw: &mut R,
+    image: &mut Qcow2<S, F>,
+    size: u64,
+    wanted: &mut [u8],
+    present: &mut [u8],
+) -> Result<(), ImageError>
+    requires wanted { length wanted.old ≡ cluster_size_of image.old }
+    requires present { length present.old ≡ cluster_size_of image.old }
+    requires some { 0 < length wanted.old }
+    ensures number { number_of image.new ≡ number_of image.old }
+    ensures raw { IsLeft (R.view raw.old) (R.view raw.new) }
+    ensures sees { (R.view raw.old).is_honest → size ≡ length (R.view raw.old).contents → ImportsAll S.view F.backing image.old image.new (R.view raw.old).contents result }
+{
+    let mut at = 0;
+    while at < size {
+        let count = wanted.len().min((size - at) as usize);
+        import_at(raw, image, at, &mut wanted[..count], &mut present[..count])?;
+        at += count as u64;
+    }
+    Ok(())
+}
+
+// Makes a range within one cluster as the raw disk is.
+fn import_at<R: Storage, S: Storage, F: WrappedFormat<S>>(
+    raw: &mut R,
+    image: &mut Qcow2<S, F>,
+    at: u64,
+    wanted: &mut [u8],
+    present: &mut [u8],
+) -> Result<(), ImageError>
+    requires { length present.old ≡ length wanted.old }
+    ensures number { number_of image.new ≡ number_of image.old }
+    ensures raw { IsLeft (R.view raw.old) (R.view raw.new) }
+    ensures sees { (R.view raw.old).is_honest → ImportsAt S.view F.backing image.old image.new at (bytes_at (R.view raw.old).contents at (length wanted.old)) result }
+{
+    raw.read(at, wanted)?;
+    read_into(image, at, present)?;
+    if is_same(wanted, present) {
+        return Ok(());
+    }
+    match write(image, at, wanted) {
+        Ok(()) => Ok(()),
+        Err((refusal, _done)) => Err(refusal),
+    }
+}
+
+/// Makes a raw disk as an image's disk is, cluster by cluster: it is resized to no bytes, then to the disk's size, and each cluster
+/// that isn't all zeros is written. The answer is the number of bytes. Before any work a failed image (16) and a missing data
+/// file (12) are refused, and want of memory. After another refusal the raw disk may have any bytes. What the image's guest sees stays.
+pub fn to_raw<S: Storage, F: WrappedFormat<S>, R: Storage>(
+    alloc: Global,
+    image: &mut Qcow2<S, F>,
+    raw: &mut R,
+) -> Result<u64, ImageError>
+    ensures number { number_of image.new ≡ number_of image.old }
+    ensures early { IfSome (refuses_to_read image.old 0 0) (λ e. (result ≡ Err e) × (image.new ≡ image.old) × (raw.new ≡ raw.old)) }
+    ensures same { IsUnchanged S.view F.backing image.old image.new result }
+    ensures honest { (R.view raw.old).is_honest → (R.view raw.new).is_honest }
+    ensures sees { (R.view raw.old).is_honest → IfOk result (λ n. Exports S.view F.backing image.old (R.view raw.new).contents n) }
+{
+    image.check_read(0, 0)?;
+    let size = image.size();
+    let cluster = image.cluster_size() as usize;
+    let zeros = vec![in alloc; 0; cluster]?;
+    let mut bytes = vec![in alloc; 0; cluster]?;
+    raw.resize(0, StoragePreallocate::None)?;
+    raw.resize(size, StoragePreallocate::None)?;
+    export_all(image, raw, size, &mut bytes, &zeros)?;
+    Ok(size)
+}
+
+// Writes all clusters that aren't zeros. The buffers are of one cluster each.
+fn export_all<S: Storage, F: WrappedFormat<S>, R: Storage>(
+    image: &mut Qcow2<S, F>,
+    raw: &mut R,
+    size: u64,
+    bytes: &mut [u8],
+    zeros: &[u8],
+) -> Result<(), ImageError>
+    requires some { 0 < length bytes.old }
+    requires zeros { zeros.now ≡ replicate (length bytes.old) 0 }
+    ensures number { number_of image.new ≡ number_of image.old }
+    ensures same { IsUnchanged S.view F.backing image.old image.new result }
+    ensures honest { (R.view raw.old).is_honest → (R.view raw.new).is_honest }
+    ensures sees { (R.view raw.old).is_honest → OnOk result (Fills S.view F.backing image.old 0 size (R.view raw.old).contents (R.view raw.new).contents) }
+{
+    let mut at = 0;
+    while at < size {
+        let count = bytes.len().min((size - at) as usize);
+        export_at(image, raw, at, &mut bytes[..count], &zeros[..count])?;
+        at += count as u64;
+    }
+    Ok(())
+}
+
+// Writes a range, unless it is zeros.
+fn export_at<S: Storage, F: WrappedFormat<S>, R: Storage>(
+    image: &mut Qcow2<S, F>,
+    raw: &mut R,
+    at: u64,
+    bytes: &mut [u8],
+    zeros: &[u8],
+) -> Result<(), ImageError>
+    requires { zeros.now ≡ replicate (length bytes.old) 0 }
+    ensures number { number_of image.new ≡ number_of image.old }
+    ensures same { IsUnchanged S.view F.backing image.old image.new result }
+    ensures honest { (R.view raw.old).is_honest → (R.view raw.new).is_honest }
+    ensures sees { (R.view raw.old).is_honest → OnOk result (Fills S.view F.backing image.old at (at + length bytes.old) (R.view raw.old).contents (R.view raw.new).contents) }
+{
+    read_into(image, at, bytes)?;
+    if is_same(bytes, zeros) {
+        return Ok(());
+    }
+    raw.write(at, bytes)?;
+    Ok(())
+}
+
+fn is_same(left: &[u8], right: &[u8]) -> bool
+    ensures { IsTrue result → left.now ≡ right.now }
+{
+    left == right
+}
