@@ -3,7 +3,7 @@ use Rattle.std.proofs.Common.{◌≡◌, ◌⊎◌, ⊎_elim, inl, inr, ℕ, ◌
 use Rattle.std.proofs.Math.Nat.{div-add-mod, mod-eq_of_lt, zero-mod, mul-add-mod_self_left}
 use Rattle.std.proofs.lemmas.Bool.{cases_lt}
 use Rattle.std.proofs.lemmas.Grind.{common_steps}
-use Rattle.std.specs.Prelude.{IsTrue, Option, Result, Ok, Err}
+use Rattle.std.specs.Prelude.{Option, Result, Ok, Err}
 use Rattle.image_access.specs.Contents.{bytes_at}
 use Rattle.image_access.proofs.Bytes.{same_contents, length-bytes_at, byte_at-bytes_at}
 use Rattle.image_access.proofs.Passing.{passes_none}
@@ -13,7 +13,7 @@ use Rattle.qcow2_laws.specs.Disk.{Disk, with_bytes}
 use Rattle.qcow2_laws.specs.Stops.{GivenBytes, IsGiven}
 use Rattle.qcow2_laws.specs.Mappings.{gift_of}
 use Rattle.qcow2_laws.specs.AbstractImages.{Setting, AbstractImage, Guest, guest_of}
-use Rattle.qcow2_laws.specs.Calls.{Refusal, memory, storage, another, IsFault, Acts, Does, Refuses, Shows, MayWrite, WritesSome, IsSame, with_disk}
+use Rattle.qcow2_laws.specs.Calls.{Refusal, memory, storage, another, Does, Refuses, Shows, MayWrite, WritesSome, IsSame, with_disk}
 use Rattle.image_access.specs.Backing.{BackingView}
 use Rattle.image_access.specs.Moments.{StorageView}
 use Rattle.qcow2_alloc.specs.declared.error.ImageError.{ImageError}

@@ -1,4 +1,4 @@
-use Rattle.std.proofs.Common.{◌≡◌, ◌-◌, ◌≤◌, length, [], List}
+use Rattle.std.proofs.Common.{◌≡◌, ◌-◌, ◌≤◌, [], List}
 use Rattle.std.specs.Prelude.{Option}
 use Rattle.qcow2_laws.specs.Calls.{Does}
 use Rattle.qcow2_laws.specs.AbstractImages.{guest_of}

@@ -1,4 +1,4 @@
-use Rattle.std.proofs.Common.{◌≡◌, ◌+◌, ◌-◌, ◌%◌, ◌<◌, ◌≤◌, ◌++◌, drop, length, take, refl, sym, ap, ◌∙◌, subst, arith, min, List, ℕ}
+use Rattle.std.proofs.Common.{◌≡◌, ◌+◌, ◌-◌, ◌%◌, ◌<◌, ◌++◌, drop, length, take, refl, ap, ◌∙◌, subst, arith, min, ℕ}
 use Rattle.std.proofs.Math.Nat.{zero-mod, add-mod_right}
 use Rattle.std.proofs.lemmas.Grind.{common_steps}
 use Rattle.image_access.specs.Contents.{bytes_at}
@@ -6,7 +6,6 @@ use Rattle.qcow2_laws.specs.Calls.{with_disk}
 use Rattle.qcow2_laws.specs.Disk.{with_bytes}
 use Rattle.qcow2_laws.specs.AbstractImages.{guest_of}
 use Rattle.qcow2_image.specs.ImageInvariant.{abstract_of}
-use Rattle.qcow2_session.specs.Sessions.{cluster_size_of}
 use Rattle.qcow2_session.proofs.Converting.{imports_none, all_more, all_refused, same_range}
 use Rattle.qcow2_session.proofs.Turns.{refused_is, does_if}
 use Rattle.qcow2_session.proofs.convert.import_all.Goals as goal

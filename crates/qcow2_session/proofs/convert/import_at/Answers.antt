@@ -1,5 +1,3 @@
-use Rattle.std.proofs.Common.{◌≡◌, refl, length, []}
-use Rattle.image_access.specs.Contents.{bytes_at}
 use Rattle.qcow2_alloc.specs.ImageError.{of_storage}
 use Rattle.qcow2_image.specs.ImageInvariant.{abstract_of}
 use Rattle.qcow2_session.proofs.Converting.{does_nothing, breaks, breaks_here, at_refused, at_shown, at_written, at_unwritten}
