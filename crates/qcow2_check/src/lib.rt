@@ -12,6 +12,8 @@ mod offsets;
 mod report;
 mod source;
 mod tally;
+#[cfg(test)]
+mod tests;
 
 pub use checker::{Report, check};
 pub use report::{Breach, Kind, Leak};
