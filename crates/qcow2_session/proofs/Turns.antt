@@ -21,7 +21,7 @@ nothing_refused S X (Some x) r a early was = absurd (let no : Ok a ≡ Err x = s
 
 -- what a call gives was there already, or is given anyway
 abbrev pub IsWithin : AbstractImage → List GivenBytes → List GivenBytes → Type 0
-IsWithin v checkpoint_with gs = (o : ℕ) (w : Value) → IsGiven checkpoint_with o w → (w ≡ (guest_of v).disk.value o) ⊎ IsGiven gs o w
+IsWithin v more gs = (o : ℕ) (w : Value) → IsGiven more o w → (w ≡ (guest_of v).disk.value o) ⊎ IsGiven gs o w
 
 pub none_within : (v : AbstractImage) (gs : List GivenBytes) → IsWithin v [] gs
 none_within v gs o w h = absurd h
@@ -61,18 +61,18 @@ module _ {old new : AbstractImage} {gs fewer : List GivenBytes} (within : IsWith
   refuses_less r = record { acts = acts_less r.acts; answer = r.answer; fault = r.fault }
 
 -- a call after one that was answered
-module _ {old mid new : AbstractImage} {gs checkpoint_with : List GivenBytes} {A : Type 0} (within : A → IsWithin mid checkpoint_with gs) (first : Does old mid gs [] A) where
-  pub acts_then : Acts mid new checkpoint_with [] → Acts old new gs []
+module _ {old mid new : AbstractImage} {gs more : List GivenBytes} {A : Type 0} (within : A → IsWithin mid more gs) (first : Does old mid gs [] A) where
+  pub acts_then : Acts mid new more [] → Acts old new gs []
   acts_then acts = record {
     number = acts.number ∙ first.acts.number;
-    works = λ sound. let a = first.answer sound in works_then old mid new gs [] a.0 (first.acts.works sound) (works_less mid new checkpoint_with gs [] (within a.1) (acts.works a.0));
+    works = λ sound. let a = first.answer sound in works_then old mid new gs [] a.0 (first.acts.works sound) (works_less mid new more gs [] (within a.1) (acts.works a.0));
     rests = λ failed. let r = first.acts.rests failed in rests_then old mid new r (acts.rests r.failed);
   }
 
-  pub does_then : {B : Type 0} → Does mid new checkpoint_with [] B → Does old new gs [] (A × B)
+  pub does_then : {B : Type 0} → Does mid new more [] B → Does old new gs [] (A × B)
   does_then then = record { acts = acts_then then.acts; answer = λ sound. let a = first.answer sound in let b = then.answer a.0 in (b.0, (a.1, b.1)) }
 
-  pub refuses_then : {e : Refusal} {B : Type 0} → Refuses mid new checkpoint_with [] e B → Refuses old new gs [] e (A × B)
+  pub refuses_then : {e : Refusal} {B : Type 0} → Refuses mid new more [] e B → Refuses old new gs [] e (A × B)
   refuses_then {B = B} then = record {
     acts = acts_then then.acts;
     answer = λ sound. let a = first.answer sound in ⊎_elim (λ (b : new.is_sound × B). inl (b.0, (a.1, b.1))) (λ h. inr h) (then.answer a.0);
