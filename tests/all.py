@@ -10,7 +10,7 @@ import time
 
 ROOT = os.path.dirname(os.path.dirname(os.path.abspath(__file__)))
 FAILURES = re.compile(r"NOT PROVED|NOT REFUSED|BAD EDIT|FAILED|: error")
-SCRIPTS = ["tests/program.py", "tests/causes.py", "tests/writes.py", "tests/failures.py", "tests/caches.py", "tests/stops.py", "tests/interop/write.py", "tests/interop/growing.py", "tests/interop/open.py", "tests/interop/versions.py"]
+SCRIPTS = ["tests/program.py", "tests/causes.py", "tests/writes.py", "tests/failures.py", "tests/caches.py", "tests/stops.py", "tests/interop/write.py", "tests/interop/growing.py", "tests/interop/open.py", "tests/interop/versions.py", "tests/hostile.py"]
 
 
 def counts(words, told):

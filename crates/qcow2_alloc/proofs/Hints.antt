@@ -7,10 +7,13 @@ use Rattle.image_access.specs.Moments.{StorageView}
 use Rattle.qcow2_metadata.specs.Entries.{block_offset, reftable_entry, count}
 use Rattle.qcow2_metadata.specs.EntryTable.{EntryTableView}
 use Rattle.qcow2_metadata.specs.TableBytes.{entry_at}
-use Rattle.qcow2_metadata.specs.Header.{cluster_size}
-use Rattle.qcow2_metadata.specs.Named.{named_by_reftable}
+use Rattle.qcow2_metadata.specs.Header.{cluster_size, counts_per_block}
+use Rattle.qcow2_metadata.specs.Named.{named_by_reftable, in_cluster}
 use Rattle.std.proofs.lemmas.Nat.{div-mul-add, pow_pos}
+use Rattle.std.proofs.Math.Nat.{zero-div}
 use Rattle.qcow2_laws.proofs.Shares.{shares, block_has}
+use Rattle.qcow2_laws.proofs.Consistency.{in_own}
+use Rattle.qcow2_laws.proofs.Places.{count_none}
 use Rattle.qcow2_laws.specs.Changes.{one_at}
 use Rattle.qcow2_laws.specs.CrashInvariant.{Pending}
 use Rattle.qcow2_alloc.specs.declared.allocation.Allocator.{Allocator}
@@ -135,6 +138,32 @@ module _ {S : Type 0} (view : S → StorageView) where
       let parts = shares h (contents_in view file) at in
       let tally = (guarded.always at).tally in
       absurd (omega (arith, one, parts, tally, zero))
+
+  -- cluster 0 is the header's, so it is in use
+  pub header_used : (p : Pending) (file : ImageFile S) → FileInvariant view p file → IsUsed view file 0
+  header_used p file sound zero =
+      let h = file.header.fields in
+      let one : in_cluster h 0 0 ≡ 1 = subst (λ n. in_cluster h n 0 ≡ 1) (zero-div (cluster_size h)) (in_own h 0) in
+      let parts = shares h (contents_in view file) 0 in
+      let tally = (sound.caches.kept.kept.guarded.always 0).tally in
+      absurd (omega (arith, one, parts, tally, zero))
+
+  -- a search may begin behind the header
+  pub hint_header : (p : Pending) (file : ImageFile S) (t t' : Allocator) → FileInvariant view p file → ((k : ℕ) → 0 < k → k < t'.first_free_cluster → k < t.first_free_cluster) → NoFreeBelowHint view t file → NoFreeBelowHint view t' file
+  hint_header p file t t' sound above hint k below = elim (cases_eq k 0) [
+    | inl zero ↦ subst (IsUsed view file) (sym zero) (header_used p file sound)
+    | inr some ↦ hint k (above k (omega (arith, some)) below)
+  ]
+
+  -- a range without a refblock isn't the first one
+  pub lacking_above : (p : Pending) (file : ImageFile S) (range : ℕ) → FileInvariant view p file → RefblockAt view file range None → 0 < range
+  lacking_above p file range sound none = elim (cases_eq range 0) [
+    | inl zero ↦
+        let h = file.header.fields in
+        let same : range ≡ 0 / counts_per_block h = zero ∙ sym (zero-div (counts_per_block h)) in
+        absurd (header_used p file sound (count_none h (known_in view file) 0 (subst (λ n. block_offset (reftable_entry h (known_in view file) n) ≡ 0) same none)))
+    | inr some ↦ omega (arith, some)
+  ]
 
   -- a refblock was placed in a cluster that was taken for it
   pub hint_placed : (p : Pending) (mid new : ImageFile S) (t t' : Allocator) (range at : ℕ) (result : Result (Unit {0}) ImageError) → t'.first_free_cluster ≡ t.first_free_cluster

@@ -49,10 +49,10 @@ range_near h h' cluster bits same counts near =
     subst (λ (k : HeaderFields). IsHostCluster k.cluster_bits (cluster / 2 ^ bits * counts_per_block k)) (sym same) (host_below h.cluster_bits (cluster / 2 ^ bits * counts_per_block h) cluster (omega (arith, e, le)) near)
 
 -- a reftable of a sound file has a place, and clusters of the file's size
-pub is_able : {S : Type 0} (view : S → StorageView) (p : Pending) (file : ImageFile S) (t : Allocator) (bits c : ℕ) (Able : Type 0) → AllocatorInvariant view t p file → bits ≡ file.header.fields.cluster_bits → IsHostCluster file.header.fields.cluster_bits c
-    → (IsSome t.reftable.cluster → IsHostCluster t.reftable.cluster_bits c → IsHostCluster bits c → Able) → Able
-is_able view p file t bits c Able sound same near able =
-    able (subst (λ (o : Option ℕ). IsSome o) (sym sound.reftable.cluster) refl) (subst (λ n. IsHostCluster n c) (sym sound.reftable.bits) near) (subst (λ n. IsHostCluster n c) (sym same) near)
+pub is_able : {S : Type 0} (view : S → StorageView) (p : Pending) (file : ImageFile S) (t : Allocator) (bits c : ℕ) (Able : Type 0) → AllocatorInvariant view t p file → bits ≡ file.header.fields.cluster_bits → IsHostCluster file.header.fields.cluster_bits c → 0 < c
+    → (0 < c → IsSome t.reftable.cluster → IsHostCluster t.reftable.cluster_bits c → IsHostCluster bits c → Able) → Able
+is_able view p file t bits c Able sound same near some able =
+    able some (subst (λ (o : Option ℕ). IsSome o) (sym sound.reftable.cluster) refl) (subst (λ n. IsHostCluster n c) (sym sound.reftable.bits) near) (subst (λ n. IsHostCluster n c) (sym same) near)
 
 -- a refblock is placed, or a fault comes
 pub placed_fault : {S : Type 0} (view : S → StorageView) (p p' : Pending) (old new : ImageFile S) (t : Allocator) (range at : ℕ) (result : Result (Unit {0}) ImageError) → PlacesBlock view p old t new p' range at result → IfErr result IsFault

@@ -203,7 +203,7 @@ impl Allocator {
         }
     }
 
-    // Takes the lowest free cluster below an end, on the way making refblocks that count themselves.
+    // Takes the lowest free cluster below an end, on the way making refblocks that count themselves. Cluster 0 is the header's.
     fn take_lowest_below<S: Storage>(
         &mut self,
         file: &mut ImageFile<S>,
@@ -213,7 +213,7 @@ impl Allocator {
         ensures marks { KeepsMarks file.old.caches file.new.caches }
         ensures order { order_of file.new.caches ≡ order_of file.old.caches }
         ensures noted { IfOk result (λ at. IsSome at → IsTrue file.new.caches.is_changed) }
-        ensures below { IfOk result (λ at. IfSome at (λ at. at < end)) }
+        ensures below { IfOk result (λ at. IfSome at (λ at. (0 < at) × (at < end))) }
         ensures entries { KeepsEntries (λ k. end ≤ k * counts_per_block file.old.header.fields) self.old.reftable self.new.reftable }
         ensures sound { (p : Pending) → AllocatorInvariant S.view self.old p file.old → TakesLowest S.view p file.old self.new file.new result }
         ensures header { file.new.header ≡ file.old.header }
@@ -222,6 +222,7 @@ impl Allocator {
         ensures hint { (p : Pending) → AllocatorInvariant S.view self.old p file.old → NoFreeBelowHint S.view self.old file.old → KeepsNoFreeBelowHint S.view self.new file.new result }
     {
         let bits = file.header.rb_bits();
+        self.first_free_cluster = self.first_free_cluster.max(1);
         'search: while self.first_free_cluster < end {
             let cluster = self.first_free_cluster;
             self.cover_range(file, cluster >> bits)?;
@@ -274,6 +275,7 @@ impl Allocator {
     ) -> Result<(), ImageError>
         requires within { range < entry_count self.old.reftable }
         requires placed { IsSome self.old.reftable.cluster }
+        requires elsewhere { 0 < at }
         requires nameable { IsHostCluster self.old.reftable.cluster_bits at }
         requires nameable_here { IsHostCluster file.old.header.fields.cluster_bits at }
         ensures marks { KeepsMarks file.old.caches file.new.caches }
@@ -298,16 +300,18 @@ impl Allocator {
         Ok(())
     }
 
-    // Whether the reftable has a place for the refblock of a range, and that may lie in a cluster.
+    // Whether the reftable has a place for the refblock of a range, and that may lie in a cluster: never in cluster 0, which is the header's.
     fn can_name(&self, cluster_bits: u32, index: usize, cluster: HostCluster) -> bool
         requires { cluster_bits < 64 }
         ensures within { IsTrue result → index < entry_count self.now.reftable }
         ensures placed { IsTrue result → IsSome self.now.reftable.cluster }
+        ensures elsewhere { IsTrue result → 0 < cluster }
         ensures nameable { IsTrue result → IsHostCluster self.now.reftable.cluster_bits cluster }
         ensures nameable_here { IsTrue result → IsHostCluster cluster_bits cluster }
-        ensures able { index < entry_count self.now.reftable → IsSome self.now.reftable.cluster → IsHostCluster self.now.reftable.cluster_bits cluster → IsHostCluster cluster_bits cluster → IsTrue result }
+        ensures able { index < entry_count self.now.reftable → 0 < cluster → IsSome self.now.reftable.cluster → IsHostCluster self.now.reftable.cluster_bits cluster → IsHostCluster cluster_bits cluster → IsTrue result }
     {
         self.reftable.in_bounds(index)
+            && cluster.value() > 0
             && self.reftable.get_cluster().is_some()
             && cluster.is_nameable(self.reftable.cluster_bits())
             && cluster.is_nameable(cluster_bits)

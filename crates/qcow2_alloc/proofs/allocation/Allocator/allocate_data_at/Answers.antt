@@ -8,7 +8,7 @@ use Rattle.qcow2_alloc.specs.FreeList.{pending_then}
 use Rattle.qcow2_alloc.specs.LowestRuns.{IsUsed, KeepsNoFreeBelowHint}
 use Rattle.qcow2_alloc.proofs.AllocationSteps.{handed_on, on_of, becomes_on, becomes_cached, is_sound_now, leaves_on, of_equal}
 use Rattle.qcow2_alloc.proofs.Following.{following_same}
-use Rattle.qcow2_alloc.proofs.Hints.{hint_stays}
+use Rattle.qcow2_alloc.proofs.Hints.{header_used, hint_stays}
 use Rattle.qcow2_alloc.proofs.Runs.{taken_alone}
 use Rattle.std.specs.Prelude.{IfErr}
 use Rattle.qcow2_alloc.specs.declared.error.ImageError.{ImageError}
@@ -28,6 +28,24 @@ returns-then-not-is_nameable-clause-sound g c = λ p sound.
     let one = becomes_cached g.S.Storage.view p c.args.file.now c.args.self.now c.l2_depends_on_rb.new.storage c.l2_depends_on_rb.new.self sound (c.l2_depends_on_rb.ensures.keeps c.args.file.now.header.fields p sound.sound.honest sound.sound.caches) c.l2_depends_on_rb.ensures.marks in
     let file : ImageFile g.row.S.Denot = record c.args.file.now { storage = c.l2_depends_on_rb.new.storage; caches = c.l2_depends_on_rb.new.self } in
     subst (λ (r : Pending). UnseenAllocatorGrowth g.S.Storage.view p c.args.file.now c.args.self.now file r) (sym (following_same p c.args.file.now.free_list c.args.file.now.free_list refl)) (on_of g.S.Storage.view p p c.args.file.now file c.args.self.now one)
+
+pub returns-then-at-eq0-clause-sound : goal.returns-then-at-eq0-clause-sound
+returns-then-at-eq0-clause-sound g c = λ p sound.
+    let one = becomes_cached g.S.Storage.view p c.args.file.now c.args.self.now c.l2_depends_on_rb.new.storage c.l2_depends_on_rb.new.self sound (c.l2_depends_on_rb.ensures.keeps c.args.file.now.header.fields p sound.sound.honest sound.sound.caches) c.l2_depends_on_rb.ensures.marks in
+    let file : ImageFile g.row.S.Denot = record c.args.file.now { storage = c.l2_depends_on_rb.new.storage; caches = c.l2_depends_on_rb.new.self } in
+    subst (λ (r : Pending). UnseenAllocatorGrowth g.S.Storage.view p c.args.file.now c.args.self.now file r) (sym (following_same p c.args.file.now.free_list c.args.file.now.free_list refl)) (on_of g.S.Storage.view p p c.args.file.now file c.args.self.now one)
+
+pub returns-then-at-eq0-clause-hint : goal.returns-then-at-eq0-clause-hint
+returns-then-at-eq0-clause-hint g c = λ p sound hint.
+    let one = becomes_cached g.S.Storage.view p c.args.file.now c.args.self.now c.l2_depends_on_rb.new.storage c.l2_depends_on_rb.new.self sound (c.l2_depends_on_rb.ensures.keeps c.args.file.now.header.fields p sound.sound.honest sound.sound.caches) c.l2_depends_on_rb.ensures.marks in
+    let file : ImageFile g.row.S.Denot = record c.args.file.now { storage = c.l2_depends_on_rb.new.storage; caches = c.l2_depends_on_rb.new.self } in
+    hint_stays g.S.Storage.view p c.args.file.now file c.args.self.now c.args.self.now one refl hint
+
+pub returns-then-at-eq0-clause-none : goal.returns-then-at-eq0-clause-none
+returns-then-at-eq0-clause-none g c = λ p sound _.
+    let one = becomes_cached g.S.Storage.view p c.args.file.now c.args.self.now c.l2_depends_on_rb.new.storage c.l2_depends_on_rb.new.self sound (c.l2_depends_on_rb.ensures.keeps c.args.file.now.header.fields p sound.sound.honest sound.sound.caches) c.l2_depends_on_rb.ensures.marks in
+    let file : ImageFile g.row.S.Denot = record c.args.file.now { storage = c.l2_depends_on_rb.new.storage; caches = c.l2_depends_on_rb.new.self } in
+    inr (subst (λ n. IsUsed g.S.Storage.view file n) (sym c.if-at-eq0.true ∙ c.value-at.ensures) (header_used g.S.Storage.view p file (is_sound_now g.S.Storage.view p p c.args.file.now file c.args.self.now one).sound))
 
 pub returns-in_default-clause-sound : goal.returns-in_default-clause-sound
 returns-in_default-clause-sound g c = λ p sound.

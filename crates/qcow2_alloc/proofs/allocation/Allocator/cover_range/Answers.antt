@@ -1,10 +1,11 @@
-use Rattle.std.proofs.Common.{◌≡◌, inl, true, false, ◌*◌, ◌^◌, sym, ap, ◌∙◌, arith, Result, IsTrue}
+use Rattle.std.proofs.Common.{◌≡◌, mul-pos, inl, true, false, ◌*◌, ◌<◌, ◌^◌, sym, ap, ◌∙◌, arith, Result, IsTrue}
 use Rattle.qcow2_metadata.specs.Header.{counts_per_block}
 use Rattle.qcow2_alloc.specs.Allocation.{GetsBlock}
-use Rattle.qcow2_alloc.proofs.Hints.{has_block, placed_block}
+use Rattle.qcow2_alloc.proofs.Hints.{has_block, lacking_above, placed_block}
 use Rattle.qcow2_alloc.proofs.AllocationSteps.{handed_on, gets_placed, gets_then, is_sound_now, none_in_memory, stands_none}
 use Rattle.std.specs.Prelude.{IfErr}
 use Rattle.qcow2_alloc.specs.ImageError.{IsFault}
+use Rattle.std.proofs.lemmas.Nat.{pow_pos}
 use Rattle.qcow2_alloc.specs.declared.error.ImageError.{ImageError}
 use Rattle.qcow2_alloc.proofs.Limits.{placed_fault, host_below, is_able}
 use Rattle.qcow2_alloc.proofs.allocation.Allocator.cover_range.Goals as goal
@@ -58,8 +59,12 @@ returns-clause-fault g c = λ p sound within near.
 pub returns-then-not-can_name-clause-fault : goal.returns-then-not-can_name-clause-fault
 returns-then-not-can_name-clause-fault g c = λ p sound within near.
     let counts : c.args.range * 2 ^ c.rb_bits.result ≡ c.args.range * counts_per_block c.args.file.now.header.fields = ap (λ n. c.args.range * n) (sym c.rb_bits.ensures.counts) ∙ ap (λ h. c.args.range * counts_per_block h.fields) c.load_block.ensures.header in
+    let l = c.in_ok-load_block.ensures.sound p sound in
+    let above = lacking_above g.S.Storage.view p c.load_block.new.file c.args.range l.0.moves.sound (stands_none g.S.Storage.view c.load_block.new.file c.args.range c.in_ok-load_block.field-0 (sym c.is_some.ensures ∙ c.if-is_some.false) l.1) in
+    let some : 0 < c.args.range * 2 ^ c.rb_bits.result = mul-pos above (pow_pos c.rb_bits.result) in
+    let elsewhere : 0 < c.new.result = let is = c.new.ensures in let small = c.requires in omega (arith, is, counts, some, small) in
     let here = host_below c.args.file.now.header.fields.cluster_bits c.new.result (c.args.range * counts_per_block c.args.file.now.header.fields) (let is = c.new.ensures in omega (arith, is, counts)) near in
     let able = is_able g.S.Storage.view p c.args.file.now c.args.self.now c.cluster_bits-bits.result c.new.result (IsTrue c.can_name.result) sound
-    (c.cluster_bits-bits.ensures.value ∙ ap (λ h. h.fields.cluster_bits) c.load_block.ensures.header) here (c.can_name.ensures.able within) in
+    (c.cluster_bits-bits.ensures.value ∙ ap (λ h. h.fields.cluster_bits) c.load_block.ensures.header) here elsewhere (c.can_name.ensures.able within) in
     let not = c.if-not-can_name.true in
     absurd (let bad : true ≡ false = sym able ∙ not in cc)

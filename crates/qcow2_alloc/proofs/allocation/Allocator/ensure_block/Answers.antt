@@ -1,4 +1,4 @@
-use Rattle.std.proofs.Common.{◌≡◌, ◌≤◌, inl, ◌*◌, ◌/◌, ◌%◌, ◌^◌, false, sym, ap, ◌∙◌, refl, arith, Result, IsTrue, true}
+use Rattle.std.proofs.Common.{◌≡◌, mul-pos, ◌≤◌, ◌<◌, inl, ◌*◌, ◌/◌, ◌%◌, ◌^◌, false, sym, ap, ◌∙◌, refl, arith, Result, IsTrue, true}
 use Rattle.qcow2_metadata.specs.Entries.{block_offset}
 use Rattle.qcow2_metadata.specs.Header.{counts_per_block}
 use Rattle.qcow2_laws.specs.Changes.{one_at}
@@ -6,10 +6,11 @@ use Rattle.qcow2_alloc.specs.Allocation.{taken_as, HasNone, GetsBlock}
 use Rattle.qcow2_alloc.specs.ImageFile.{IsFault}
 use Rattle.qcow2_alloc.specs.LowestRuns.{KeepsNoFreeBelowHint}
 use Rattle.qcow2_alloc.proofs.FileSteps.{leaves_then}
-use Rattle.qcow2_alloc.proofs.Hints.{has_block, hint_got, hint_placed, hint_refused, hint_stays, ok_as, placed_block, range_as}
+use Rattle.qcow2_alloc.proofs.Hints.{has_block, lacking_above, hint_got, hint_placed, hint_refused, hint_stays, ok_as, placed_block, range_as}
 use Rattle.qcow2_alloc.proofs.AllocationSteps.{handed_on, becomes_then, gets_then, gets_taken, is_sound_now, none_in_memory, stands_none, still_sound}
 use Rattle.std.specs.Prelude.{IfErr}
 use Rattle.std.proofs.Math.Nat.{div-mul-le_self}
+use Rattle.std.proofs.lemmas.Nat.{pow_pos}
 use Rattle.qcow2_alloc.specs.declared.error.ImageError.{ImageError}
 use Rattle.qcow2_alloc.proofs.Limits.{host_below, is_able, placed_fault, range_near}
 use Rattle.qcow2_alloc.proofs.allocation.Allocator.ensure_block.Goals as goal
@@ -150,8 +151,12 @@ pub returns-then-not-can_name-clause-fault : goal.returns-then-not-can_name-clau
 returns-then-not-can_name-clause-fault g c = λ p sound within near.
     let here = host_below c.args.file.now.header.fields.cluster_bits c.new-first.result c.args.cluster (let is = c.new-first.ensures in let le = div-mul-le_self c.args.cluster (2 ^ c.rb_bits-bits.result) in omega (arith, is, le)) near in
     let range = ap (λ n. c.args.cluster / n) c.rb_bits-bits.ensures.counts in
+    let l = c.in_ok-load_block.ensures.sound p sound in
+    let above = lacking_above g.S.Storage.view p c.load_block.new.file (c.args.cluster / 2 ^ c.rb_bits-bits.result) l.0.moves.sound (stands_none g.S.Storage.view c.load_block.new.file _ c.in_ok-load_block.field-0 (sym c.is_some.ensures ∙ c.if-is_some.false) l.1) in
+    let some : 0 < c.args.cluster / 2 ^ c.rb_bits-bits.result * 2 ^ c.rb_bits-bits.result = mul-pos above (pow_pos c.rb_bits-bits.result) in
+    let elsewhere : 0 < c.new-first.result = let is = c.new-first.ensures in let le = div-mul-le_self c.args.cluster (2 ^ c.rb_bits-bits.result) in let small = c.requires in omega (arith, is, le, some, small) in
     let able = is_able g.S.Storage.view p c.args.file.now c.args.self.now c.cluster_bits.result c.new-first.result (IsTrue c.can_name.result) sound
-    (c.cluster_bits.ensures.value ∙ ap (λ h. h.fields.cluster_bits) c.load_block.ensures.header) here (c.can_name.ensures.able (omega (arith, range, within))) in
+    (c.cluster_bits.ensures.value ∙ ap (λ h. h.fields.cluster_bits) c.load_block.ensures.header) here elsewhere (c.can_name.ensures.able (omega (arith, range, within))) in
     let not = c.if-not-can_name.true in
     absurd (let bad : true ≡ false = sym able ∙ not in cc)
 

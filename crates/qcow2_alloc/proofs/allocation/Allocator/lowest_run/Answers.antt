@@ -3,7 +3,8 @@ use Rattle.qcow2_metadata.specs.L2Mapping.{greatest_offset}
 use Rattle.std.proofs.Math.Nat.{div-le_self}
 use Rattle.qcow2_laws.specs.CrashInvariant.{Pending}
 use Rattle.qcow2_alloc.specs.LowestRuns.{KeepsNoFreeBelowHint}
-use Rattle.qcow2_alloc.proofs.Hints.{lowest_behind, lowest_first, lowest_stays}
+use Rattle.qcow2_alloc.specs.declared.allocation.Allocator.{Allocator}
+use Rattle.qcow2_alloc.proofs.Hints.{hint_header, lowest_behind, lowest_first, lowest_stays}
 use Rattle.qcow2_alloc.specs.Allocation.{run_at, UnseenAllocatorGrowth, TakesSomeRun}
 use Rattle.qcow2_alloc.specs.FreeList.{pending_then}
 use Rattle.qcow2_alloc.proofs.CacheMarks.{marks_none, marks_then}
@@ -41,10 +42,13 @@ search-init g c = record {
   marks = marks_none c.args.file.now.caches;
   order = refl;
   sound = λ p sound.
-      subst (λ (r : Pending). UnseenAllocatorGrowth g.S.Storage.view p c.args.file.now c.args.self.now c.args.file.now r) (sym (following_same p c.args.file.now.free_list c.args.file.now.free_list refl))
-      (on_none g.S.Storage.view p c.args.file.now c.args.self.now sound);
-  hint = λ p d sound may hint. hint;
-  lowest = λ p d sound may hint some. lowest_first g.S.Storage.view c.args.file.now c.args.self.now c.args.n hint some;
+      subst (λ (r : Pending). UnseenAllocatorGrowth g.S.Storage.view p c.args.file.now (record c.args.self.now { first_free_cluster = c.max-self.result }) c.args.file.now r) (sym (following_same p c.args.file.now.free_list c.args.file.now.free_list refl))
+      (on_none g.S.Storage.view p c.args.file.now (record c.args.self.now { first_free_cluster = c.max-self.result }) (record { sound = sound.sound; reftable = sound.reftable }));
+  above = let first = c.max-self.ensures in omega (arith, first);
+  hint = λ p d sound may hint. hint_header g.S.Storage.view p c.args.file.now c.args.self.now (record c.args.self.now { first_free_cluster = c.max-self.result }) sound.sound (λ k some below. let first = c.max-self.ensures in omega (arith, first, some, below)) hint;
+  lowest = λ p d sound may hint some.
+      let begin : Allocator = record c.args.self.now { first_free_cluster = c.max-self.result } in
+      lowest_first g.S.Storage.view c.args.file.now begin c.args.n (hint_header g.S.Storage.view p c.args.file.now c.args.self.now begin sound.sound (λ k some below. let first = c.max-self.ensures in omega (arith, first, some, below)) hint) some;
 }
 
 pub search-preserved : goal.search-preserved
@@ -53,6 +57,7 @@ search-preserved g c = record {
   list = lists_then c.args.file.now.free_list c.search.file.free_list c.take_run.new.file.free_list c.search.invariant.list c.take_run.ensures.list;
   limit = c.search.invariant.limit;
   near = c.search.invariant.near;
+  above = let above = c.search.invariant.above in omega (arith, above);
   marks = marks_then c.args.file.now.caches c.search.file.caches c.take_run.new.file.caches c.search.invariant.marks c.take_run.ensures.marks;
   order = c.take_run.ensures.order ∙ c.search.invariant.order;
   sound = λ p sound.

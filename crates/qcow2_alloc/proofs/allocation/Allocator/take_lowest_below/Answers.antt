@@ -3,11 +3,11 @@ use Rattle.qcow2_metadata.specs.Header.{counts_per_block}
 use Rattle.qcow2_laws.specs.Changes.{one_at}
 use Rattle.qcow2_alloc.specs.Allocation.{taken_as, KeepsEntries, TakesLowest}
 use Rattle.qcow2_alloc.specs.declared.allocation.Allocator.{Allocator}
-use Rattle.qcow2_alloc.proofs.CacheMarks.{marks_then}
+use Rattle.qcow2_alloc.proofs.CacheMarks.{marks_none, marks_then}
 use Rattle.qcow2_alloc.specs.LowestRuns.{KeepsNoFreeBelowHint}
 use Rattle.qcow2_alloc.proofs.FileSteps.{one_here, leaves_then}
-use Rattle.qcow2_alloc.proofs.Hints.{hint_stays, hint_taken, hint_more, hint_refused, range_as, taken_used}
-use Rattle.qcow2_alloc.proofs.AllocationSteps.{handed_on, entries_then, entries_less, other_range, becomes_as, becomes_then, is_sound_now}
+use Rattle.qcow2_alloc.proofs.Hints.{hint_header, hint_stays, hint_taken, hint_more, hint_refused, range_as, taken_used}
+use Rattle.qcow2_alloc.proofs.AllocationSteps.{becomes_none, handed_on, entries_then, entries_less, other_range, becomes_as, becomes_then, is_sound_now}
 use Rattle.qcow2_alloc.proofs.allocation.Allocator.take_lowest_below.Goals as goal
 
 pub returns-in_err-cover_range-clause-sound : goal.returns-in_err-cover_range-clause-sound
@@ -31,6 +31,18 @@ returns-then-taken-clause-sound g c = λ p sound.
     becomes_as g.S.Storage.view p (taken_as false p (one_at c.search.self.first_free_cluster)) c.args.file.now c.raise.new.file c.raise.new.self _ refl
     (becomes_then g.S.Storage.view p (taken_as false p (one_at c.search.self.first_free_cluster)) c.args.file.now c.cover_range.new.file c.raise.new.file c.cover_range.new.self c.raise.new.self covered taken)
 
+pub search-init : goal.search-init
+search-init g c = record {
+  header = refl;
+  list = refl;
+  marks = marks_none c.args.file.now.caches;
+  order = refl;
+  above = let first = c.max-self.ensures in omega (arith, first);
+  entries = record { cluster = refl; bits = refl; count = refl; others = λ k past. refl };
+  sound = λ p sound. becomes_none g.S.Storage.view p c.args.file.now (record c.args.self.now { first_free_cluster = c.max-self.result }) (record { sound = sound.sound; reftable = sound.reftable });
+  hint = λ p sound hint. hint_header g.S.Storage.view p c.args.file.now c.args.self.now (record c.args.self.now { first_free_cluster = c.max-self.result }) sound.sound (λ k some below. let first = c.max-self.ensures in omega (arith, first, some, below)) hint;
+}
+
 pub search-preserved : goal.search-preserved
 search-preserved g c = record {
   header = c.raise.ensures.header ∙ c.cover_range.ensures.header ∙ c.search.invariant.header;
@@ -42,6 +54,7 @@ search-preserved g c = record {
       subst (λ (t : Allocator). KeepsEntries Stays c.args.self.now.reftable t.reftable) (sym c.raise.ensures.same)
       (entries_then Stays c.args.self.now.reftable c.search.self.reftable c.cover_range.new.self.reftable c.search.invariant.entries
       (entries_less _ Stays c.search.self.reftable c.cover_range.new.self.reftable (λ k past. other_range c.search.self.first_free_cluster c.args.end (2 ^ c.rb_bits-bits.result) (counts_per_block c.args.file.now.header.fields) k c.search-test.true c.rb_bits-bits.ensures.counts past) c.cover_range.ensures.entries));
+  above = omega arith;
   sound = λ p sound.
       let before = c.search.invariant.sound p sound in
       let covered = becomes_then g.S.Storage.view p p c.args.file.now c.search.file c.cover_range.new.file c.search.self c.cover_range.new.self before (c.in_ok-cover_range.ensures.sound p (is_sound_now g.S.Storage.view p p c.args.file.now c.search.file c.search.self before)) in

@@ -1,0 +1,57 @@
+#!/usr/bin/env -S python3 -B
+"""Images that aren't consistent: what is refused, and what of the file stays as it was."""
+
+from checks import Checks, answers, contents, create, equal, put
+
+POINTERS = slice(48, 60)
+
+
+def without_pointers(header):
+    """The bytes of the first cluster, but for where the reftable stands."""
+    return header[:POINTERS.start] + header[POINTERS.stop:]
+
+
+def a_header_that_is_not_counted():
+    create("disk", 65536, 512)
+    put("disk", 1024, bytes(2))
+    before = contents("disk")
+    answers("disk", [("fill 0 512 11", "ok"), ("map 0 512", "raw image 2560 512 rw"), ("flush", "ok")])
+    equal(contents("disk")[:512], before[:512], "the first cluster")
+    answers("disk", [("read 510 4", "data 11110000"), ("fill 512 512 22", "ok"), ("read 510 4", "data 11112222")])
+    equal(contents("disk")[:512], before[:512], "the first cluster")
+
+
+def nothing_is_counted():
+    create("disk", 65536, 512)
+    put("disk", 1024, bytes(512))
+    before = contents("disk")
+    answers("disk", [("fill 0 512 11", "ok"), ("flush", "ok")])
+    equal(contents("disk")[:512], before[:512], "the first cluster")
+
+
+def a_reftable_without_clusters():
+    create("disk", 65536, 512)
+    put("disk", POINTERS.start + 8, bytes(4))
+    before = contents("disk")
+    answers("disk", [("fill 0 512 11", "ok"), ("flush", "ok")])
+    equal(without_pointers(contents("disk")[:512]), without_pointers(before[:512]), "the first cluster")
+
+
+def a_first_range_without_a_refblock(cluster, width):
+    create("disk", 4 * cluster, cluster, width)
+    put("disk", cluster, bytes(8))
+    before = contents("disk")
+    answers("disk", [("fill 0 1 11", "refused 13 limit"), ("read 0 2", "data 0000"), ("flush", "ok")], status=1)
+    equal(contents("disk"), before, "the contents")
+
+
+def main():
+    checks = Checks()
+    for check in (a_header_that_is_not_counted, nothing_is_counted, a_reftable_without_clusters):
+        checks.run(check.__name__, check)
+    for cluster, width in ((512, 16), (512, 64), (65536, 16), (2 << 20, 1)):
+        checks.run(f"a first range without a refblock, {cluster} {width}", a_first_range_without_a_refblock, cluster, width)
+    checks.done()
+
+
+main()
