@@ -1,4 +1,5 @@
 pub mod Opening
+pub mod SameHeaders
 pub mod Clearing
 pub mod HeaderKept
 pub mod Probing

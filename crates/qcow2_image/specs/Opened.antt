@@ -1,11 +1,12 @@
 -- What opening an image gives: its header and its tables as they stand on the storage, and nothing modified.
-use Rattle.std.specs.Prelude.{ℕ, ◌≡◌, IfSome, List, [], Option, Result, Ok, Err}
+use Rattle.std.specs.Prelude.{ℕ, ◌≡◌, ◌⊎◌, ◌||◌, Bool, true, IfSome, List, [], Option, Result, Ok, Err}
+use Rattle.std.specs.Option.{is_some}
 use Rattle.image_access.specs.Backing.{BackingView}
 use Rattle.image_access.specs.Moments.{StorageView}
 use Rattle.qcow2_metadata.specs.Bytes.{Bytes, byte_at}
 use Rattle.qcow2_metadata.specs.Consistent.{IsConsistent}
 use Rattle.qcow2_metadata.specs.EntryTable.{EntryTableView}
-use Rattle.qcow2_metadata.specs.Header.{HeaderView, header, with_fields}
+use Rattle.qcow2_metadata.specs.Header.{HeaderView, header, with_fields, has_data_file}
 use Rattle.qcow2_metadata.specs.HeaderLoad.{IsHeaderIn}
 use Rattle.qcow2_laws.specs.CrashInvariant.{Pending}
 use Rattle.qcow2_laws.specs.SafeSteps.{SafeThroughout}
@@ -13,6 +14,8 @@ use Rattle.qcow2_laws.specs.AbstractImages.{IsOpened}
 use Rattle.qcow2_alloc.specs.declared.allocation.Allocator.{Allocator}
 use Rattle.qcow2_alloc.specs.declared.error.ImageError.{ImageError}
 use Rattle.qcow2_alloc.specs.declared.image_file.ImageFile.{ImageFile}
+use Rattle.qcow2_alloc.specs.declared.error.ImageError.TheVariants.{Dependency, UnalignedTable}
+use Rattle.qcow2_alloc.specs.ImageError.{IsFault}
 use Rattle.qcow2_alloc.specs.ImageFile.{l2_pins, nothing_given, view_in, FileInvariant, HasReftable}
 use Rattle.qcow2_alloc.specs.MetadataCaches.{known_of}
 use Rattle.qcow2_image.specs.declared.image.Qcow2.{Qcow2}
@@ -30,6 +33,21 @@ SameNames old new = (new.backing_name ≡ old.backing_name) × (new.backing_form
 -- they are those that these contents hold
 abbrev pub HasNamesIn : HeaderView → List ℕ → Type 0
 HasNamesIn v contents = IsHeaderIn (with_fields v (header (byte_at contents))) contents
+
+-- its data stand in another file, or it names one: that of its data, or one below it
+abbrev pub needs_another : HeaderView → Bool
+needs_another v = has_data_file v.fields || is_some v.data_file_name || is_some v.backing_name
+
+-- the header that stands in these contents needs another file
+pub record NeedsAnother (contents : List ℕ) : Type 0 where
+  pub header : HeaderView
+  pub stands : IsHeaderIn header contents
+  pub needs : needs_another header ≡ true
+
+-- refused 12, but for an offset of a table, a fault and want of memory, which are met before
+abbrev pub IsRefusedAlone : {S F : Type 0} → Result (Qcow2 S F) (S × ImageError) → Type 0
+IsRefusedAlone (Ok image) = ⊥
+IsRefusedAlone (Err refused) = (refused.1 ≡ Dependency) ⊎ (refused.1 ≡ UnalignedTable) ⊎ IsFault refused.1
 
 -- the storage that an opened image stands in, or that a refusal hands back
 abbrev pub storage_after : {S F : Type 0} → Result (Qcow2 S F) (S × ImageError) → S

@@ -1,3 +1,6 @@
+ghost use Rattle.std.specs.Prelude.{◌≡◌, ◌&&◌};
+ghost use Rattle.qcow2_image.specs.Opened.{needs_another as needs_another_of};
+
 use image_access::{BackingDisk, Format, Storage, WrappedFormat};
 use qcow2_alloc::{
     Allocator, ClustersToFreeList, ImageError, ImageFile, ImageStorage, MetadataCaches, WriteKind,
@@ -33,12 +36,26 @@ struct Tables {
     allocator: Option<Allocator>,
 }
 
+// Whether the data stand in another file, or the header names one.
+fn needs_another(header: &Header) -> bool
+    ensures { result ≡ needs_another_of header.now }
+{
+    header.has_data_file() || header.data_file_name().is_some() || header.backing_name().is_some()
+}
+
+// Whether an image that is to be opened alone needs another file.
+fn lacks_another(alone: bool, header: &Header) -> bool
+    ensures { result ≡ (alone && needs_another_of header.now) }
+{
+    alone && needs_another(header)
+}
+
 #[tactic(auto, using(crate::proofs::Call::MetErrors::tables_met, crate::proofs::Call::MetErrors::storage_met, crate::proofs::Call::MetErrors::metadata_met))]
 impl<S: Storage, F: WrappedFormat<S>> Qcow2<S, F> {
     ghost use Rattle.std.specs.Prelude.{◌≡◌, ◌≤◌, [], IfOk, IfErr, OnOk, IsTrue, MatchOption, Ok, Err, Some, None, false, nat_le, option_map, if◌then◌else◌};
     ghost use Rattle.std.specs.String.{string_bytes};
     ghost use Rattle.qcow2_metadata.specs.Header.{header, cluster_size};
-    ghost use Rattle.qcow2_alloc.specs.declared.error.ImageError.TheVariants.{Failed, Memory};
+    ghost use Rattle.qcow2_alloc.specs.declared.error.ImageError.TheVariants.{Dependency, Failed, Memory};
     ghost use Rattle.qcow2_image.specs.Image.{storage_of_image, HasNothingToFree, Stays, KeepsRest, IsSameImage, is_failed, is_writable, is_external, leaked_in, number_of, size_of};
     ghost use Rattle.std.specs.Prelude.{List, Option};
     ghost use Rattle.qcow2_laws.specs.AbstractImages.{guest_of};
@@ -59,7 +76,7 @@ impl<S: Storage, F: WrappedFormat<S>> Qcow2<S, F> {
     ghost use Rattle.qcow2_image.specs.ImageInvariant.{HasL1Table};
     ghost use Rattle.qcow2_image.specs.Created.{begins_image};
     ghost use Rattle.qcow2_image.specs.Growing.{SameFormat, WritesBack};
-    ghost use Rattle.qcow2_image.specs.Opened.{IsFresh, StaysFresh, IsLoaded, IsKeptSince, SameNames, HasNamesIn, storage_after, Opens};
+    ghost use Rattle.qcow2_image.specs.Opened.{IsFresh, StaysFresh, IsLoaded, IsKeptSince, SameNames, HasNamesIn, NeedsAnother, IsRefusedAlone, storage_after, Opens};
     ghost use Rattle.std.specs.Option.{is_some};
 
     /// Whether the first bytes of a storage are those of an image of version 2 or 3.
@@ -77,7 +94,8 @@ impl<S: Storage, F: WrappedFormat<S>> Qcow2<S, F> {
         Ok(magic == MAGIC && (version == 2 || version == 3))
     }
 
-    /// Opens an image. A refusal hands the storage back. Images that are open together have different numbers.
+    /// Opens an image. Other files that its header names or requires aren't asked for. A refusal hands the storage back. Images that are open
+    /// together have different numbers.
     pub fn open_image(
         alloc: Global,
         metadata: S,
@@ -91,12 +109,58 @@ impl<S: Storage, F: WrappedFormat<S>> Qcow2<S, F> {
         ensures below { IfOk result (λ image. is_some image.backing ≡ false) }
         ensures names { (S.view metadata).is_honest → IfOk result (λ image. HasNamesIn image.file.header (S.view metadata).contents) }
         ensures reading { writable ≡ false → ContentsStay (S.view metadata) (S.view (storage_after result)) }
+        ensures unasked { IfErr result (λ refused. refused.1 ≡ Dependency → ⊥) }
+    {
+        Self::open(alloc, metadata, writable, number, false)
+    }
+
+    /// Opens an image that needs no other file. One whose data stand in another, or whose header names one, is refused 12 before anything is
+    /// written. Else as `open_image`.
+    pub fn open_alone(
+        alloc: Global,
+        metadata: S,
+        writable: bool,
+        number: u64,
+    ) -> Result<Qcow2<S, F>, (S, ImageError)>
+        ensures opens { IfOk result (Opens S.view F.backing (S.view metadata)) }
+        ensures since { (S.view metadata).is_honest → IsConsistent (byte_at (S.view metadata).contents) → IsKeptSince (S.view metadata) (S.view (storage_after result)) }
+        ensures format { (S.view metadata).is_honest → IfOk result (λ image. SameFormat (header (byte_at (S.view metadata).contents)) image.file.header.fields) }
+        ensures ok { IfOk result (λ image. (number_of image ≡ number) × (is_failed image ≡ false) × (is_writable image ≡ writable)) }
+        ensures below { IfOk result (λ image. is_some image.backing ≡ false) }
+        ensures names { (S.view metadata).is_honest → IfOk result (λ image. HasNamesIn image.file.header (S.view metadata).contents) }
+        ensures reading { writable ≡ false → ContentsStay (S.view metadata) (S.view (storage_after result)) }
+        ensures another { (S.view metadata).is_honest → NeedsAnother (S.view metadata).contents → IsRefusedAlone result × ContentsStay (S.view metadata) (S.view (storage_after result)) }
+        ensures dependency { IfErr result (λ refused. refused.1 ≡ Dependency → (S.view metadata).is_honest → NeedsAnother (S.view metadata).contents) }
+    {
+        Self::open(alloc, metadata, writable, number, true)
+    }
+
+    // Opens an image, alone or whatever other files it needs.
+    fn open(
+        alloc: Global,
+        metadata: S,
+        writable: bool,
+        number: u64,
+        alone: bool,
+    ) -> Result<Qcow2<S, F>, (S, ImageError)>
+        ensures opens { IfOk result (Opens S.view F.backing (S.view metadata)) }
+        ensures since { (S.view metadata).is_honest → IsConsistent (byte_at (S.view metadata).contents) → IsKeptSince (S.view metadata) (S.view (storage_after result)) }
+        ensures format { (S.view metadata).is_honest → IfOk result (λ image. SameFormat (header (byte_at (S.view metadata).contents)) image.file.header.fields) }
+        ensures ok { IfOk result (λ image. (number_of image ≡ number) × (is_failed image ≡ false) × (is_writable image ≡ writable)) }
+        ensures below { IfOk result (λ image. is_some image.backing ≡ false) }
+        ensures names { (S.view metadata).is_honest → IfOk result (λ image. HasNamesIn image.file.header (S.view metadata).contents) }
+        ensures reading { writable ≡ false → ContentsStay (S.view metadata) (S.view (storage_after result)) }
+        ensures another { IsTrue alone → (S.view metadata).is_honest → NeedsAnother (S.view metadata).contents → IsRefusedAlone result × ContentsStay (S.view metadata) (S.view (storage_after result)) }
+        ensures dependency { IfErr result (λ refused. refused.1 ≡ Dependency → IsTrue alone × ((S.view metadata).is_honest → NeedsAnother (S.view metadata).contents)) }
     {
         let mut storage = ImageStorage::new(metadata);
         let header = match Header::load(alloc, &mut storage, writable) {
             Ok(header) => header,
             Err(e) => return Err((storage.into_inner(), ImageError::from(e))),
         };
+        if lacks_another(alone, &header) {
+            return Err((storage.into_inner(), ImageError::Dependency));
+        }
         let caches = match MetadataCaches::new(alloc, &header, L2_TABLES, REFBLOCKS) {
             Ok(caches) => caches,
             Err(e) => return Err((storage.into_inner(), ImageError::from(e))),
@@ -133,6 +197,7 @@ impl<S: Storage, F: WrappedFormat<S>> Qcow2<S, F> {
         ensures same { ContentsStay (view_in S.view file.old) (view_in S.view file.new) }
         ensures time { Passing (view_in S.view file.old) (view_in S.view file.new) (λ c. c ≡ (view_in S.view file.new).contents) }
         ensures table { (view_in S.view file.old).is_honest → IfOk result (HasL1Table S.view F.backing file.new) }
+        ensures cause { IfErr result IsMet }
     {
         let bits = file.header.cluster_bits();
         let Some(cluster) = file.header.l1_table_offset().checked_cluster(bits) else {
@@ -158,6 +223,7 @@ impl<S: Storage, F: WrappedFormat<S>> Qcow2<S, F> {
         ensures names { OnOk result (SameNames file.old.header file.new.header) }
         ensures since { (p : Pending) → IsFresh S.view F.backing p file.old → IsKeptSince (view_in S.view file.old) (view_in S.view file.new) }
         ensures loaded { (p : Pending) → IsFresh S.view F.backing p file.old → IfOk result (λ allocator. StaysFresh S.view F.backing p file.old file.new × HasReftable S.view file.new allocator.reftable) }
+        ensures cause { IfErr result IsMet }
     {
         let allocator = Allocator::new(file)?;
         file.storage.will_write(WriteKind::Other);
@@ -173,6 +239,7 @@ impl<S: Storage, F: WrappedFormat<S>> Qcow2<S, F> {
         ensures names { OnOk result (SameNames file.old.header file.new.header) }
         ensures since { (p : Pending) → IsFresh S.view F.backing p file.old → IsKeptSince (view_in S.view file.old) (view_in S.view file.new) }
         ensures loaded { (p : Pending) → IsFresh S.view F.backing p file.old → IfOk result (λ tables. IsLoaded S.view F.backing p file.new tables.l1_table tables.allocator) }
+        ensures cause { IfErr result IsMet }
     {
         let l1_table = Self::load_l1_table(file)?;
         if !writable {

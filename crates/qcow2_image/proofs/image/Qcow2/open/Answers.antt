@@ -1,4 +1,4 @@
-use Rattle.std.proofs.Common.{sym, refl, arith, subst}
+use Rattle.std.proofs.Common.{◌≡◌, ◌⊎◌, sym, refl, arith, subst, inl, inr, ◌∙◌, List, ℕ}
 use Rattle.std.specs.Prelude.{None, false}
 use Rattle.qcow2_metadata.specs.Bytes.{byte_at}
 use Rattle.qcow2_laws.specs.Opened.{nothing_pending, surplus_of}
@@ -6,7 +6,14 @@ use Rattle.qcow2_alloc.specs.declared.image_file.ImageFile.{ImageFile}
 use Rattle.qcow2_image.specs.declared.image.Qcow2.{Qcow2}
 use Rattle.qcow2_image.specs.Opened.{Opens, IsKeptSince, HasNamesIn}
 use Rattle.qcow2_image.proofs.Open.Opening.{fresh_new, opened, kept_loaded, kept_opened, named_still}
-use Rattle.qcow2_image.proofs.image.Qcow2.open_image.Goals as goal
+use Rattle.qcow2_metadata.specs.HeaderLoad.{IsHeaderIn, IsReasonToRefuse}
+use Rattle.qcow2_metadata.specs.Header.{HeaderReads, header}
+use Rattle.qcow2_alloc.specs.declared.error.ImageError.{ImageError}
+use Rattle.qcow2_alloc.specs.declared.error.ImageError.TheVariants.{Dependency, UnalignedTable}
+use Rattle.qcow2_alloc.specs.ImageError.{of_metadata, IsFault}
+use Rattle.qcow2_image.proofs.Call.MetErrors.{metadata_met}
+use Rattle.qcow2_image.proofs.Open.SameHeaders.{both, not_both, not_missing, not_needed, refused_before, stays_so}
+use Rattle.qcow2_image.proofs.image.Qcow2.open.Goals as goal
 
 pub returns-in-Ok-load_tables-clause-opens : goal.returns-in-Ok-load_tables-clause-opens
 returns-in-Ok-load_tables-clause-opens g c =
@@ -64,3 +71,51 @@ returns-in-Ok-load_tables-clause-names g c =
     let view = g.S.Storage.view in
     subst (λ s. (view s).is_honest → HasNamesIn c.load_tables.new.file.header (view s).contents) c.new-storage.ensures.storage
     (λ honest. named_still c.in-Ok.header c.load_tables.new.file.header (view c.new-storage.result.storage).contents (c.in-Ok.ensures.ok honest) c.in-Ok-load_tables.ensures.names)
+
+pub returns-in-Err-clause-another : goal.returns-in-Err-clause-another
+returns-in-Err-clause-another g c = λ alone honest needs.
+    let view = g.S.Storage.view in
+    let reads : HeaderReads (header (byte_at (view c.args.metadata).contents)) (byte_at (view c.args.metadata).contents) = needs.stands.reads in
+    let why = subst (λ s. (view s).is_honest → IsReasonToRefuse (header (byte_at (view s).contents)) (byte_at (view s).contents) c.args.writable c.in-Err.e) c.new-storage.ensures.storage c.in-Err.ensures.refused honest in
+    (subst (λ (e : ImageError). (e ≡ Dependency) ⊎ (e ≡ UnalignedTable) ⊎ IsFault e) (sym c.from.ensures) (inr (refused_before _ _ c.args.writable c.in-Err.e reads why)), stays_so view c.args.metadata c.new-storage.result.storage c.load.new.storage.storage _ c.new-storage.ensures.storage c.into_inner.ensures c.load.ensures.reads.same)
+
+pub returns-in-Err-clause-dependency : goal.returns-in-Err-clause-dependency
+returns-in-Err-clause-dependency g c = λ is. absurd (not_missing (of_metadata c.in-Err.e) (metadata_met c.in-Err.e) (sym c.from.ensures ∙ is))
+
+pub returns-then-lacks_another-clause-since : goal.returns-then-lacks_another-clause-since
+returns-then-lacks_another-clause-since g c = λ honest consistent.
+    let view = g.S.Storage.view in
+    subst (λ s. IsKeptSince (view c.args.metadata) (view s)) (sym c.into_inner-then-lacks_another.ensures)
+    (subst (λ s. (view s).is_honest → IsKeptSince (view s) (view c.load.new.storage.storage)) c.new-storage.ensures.storage (kept_loaded {result = c.load.result} (view c.new-storage.result.storage) (view c.load.new.storage.storage) c.load.ensures.reads) honest)
+
+pub returns-then-lacks_another-clause-another : goal.returns-then-lacks_another-clause-another
+returns-then-lacks_another-clause-another g c = λ alone honest needs.
+    let view = g.S.Storage.view in
+    (inl refl, stays_so view c.args.metadata c.new-storage.result.storage c.load.new.storage.storage _ c.new-storage.ensures.storage c.into_inner-then-lacks_another.ensures c.load.ensures.reads.same)
+
+pub returns-then-lacks_another-clause-dependency : goal.returns-then-lacks_another-clause-dependency
+returns-then-lacks_another-clause-dependency g c = λ is.
+    let view = g.S.Storage.view in
+    let so = both c.args.alone _ (sym c.lacks_another.ensures ∙ c.if-lacks_another.true) in
+    (so.0, λ honest. record { header = c.in-Ok.header; stands = subst (λ s. (view s).is_honest → IsHeaderIn c.in-Ok.header (view s).contents) c.new-storage.ensures.storage c.in-Ok.ensures.ok honest; needs = so.1 })
+
+pub returns-in-Err-new-clause-another : goal.returns-in-Err-new-clause-another
+returns-in-Err-new-clause-another g c = λ alone honest needs.
+    let view = g.S.Storage.view in
+    let stands = subst (λ s. (view s).is_honest → IsHeaderIn c.in-Ok.header (view s).contents) c.new-storage.ensures.storage c.in-Ok.ensures.ok honest in
+    absurd (not_needed c.in-Ok.header (view c.args.metadata).contents stands (not_both c.args.alone _ (sym c.lacks_another.ensures ∙ c.if-lacks_another.false) alone) needs)
+
+pub returns-in-Ok-load_tables-clause-another : goal.returns-in-Ok-load_tables-clause-another
+returns-in-Ok-load_tables-clause-another g c = λ alone honest needs.
+    let view = g.S.Storage.view in
+    let stands = subst (λ s. (view s).is_honest → IsHeaderIn c.in-Ok.header (view s).contents) c.new-storage.ensures.storage c.in-Ok.ensures.ok honest in
+    absurd (not_needed c.in-Ok.header (view c.args.metadata).contents stands (not_both c.args.alone _ (sym c.lacks_another.ensures ∙ c.if-lacks_another.false) alone) needs)
+
+pub returns-in-Err-load_tables-clause-another : goal.returns-in-Err-load_tables-clause-another
+returns-in-Err-load_tables-clause-another g c = λ alone honest needs.
+    let view = g.S.Storage.view in
+    let stands = subst (λ s. (view s).is_honest → IsHeaderIn c.in-Ok.header (view s).contents) c.new-storage.ensures.storage c.in-Ok.ensures.ok honest in
+    absurd (not_needed c.in-Ok.header (view c.args.metadata).contents stands (not_both c.args.alone _ (sym c.lacks_another.ensures ∙ c.if-lacks_another.false) alone) needs)
+
+pub returns-in-Err-load_tables-clause-dependency : goal.returns-in-Err-load_tables-clause-dependency
+returns-in-Err-load_tables-clause-dependency g c = λ is. absurd (not_missing _ c.in-Err-load_tables.ensures.cause is)

@@ -1,0 +1,80 @@
+-- The header that stands in an image's bytes is one alone; and an image that needs another file is refused for that.
+use Rattle.std.proofs.Common.{◌≡◌, ◌≢◌, ◌⊎◌, ℕ, ◌+◌, ◌≤◌, List, [], ◌∷◌, Option, true, false, length, Bool, refl, sym, ap, ◌∙◌, subst, inl, inr, arith}
+use Rattle.std.specs.Prelude.{◌&&◌}
+use Rattle.image_access.specs.Moments.{StorageView, ContentsStay}
+use Rattle.qcow2_metadata.specs.Bytes.{Bytes, byte_at, number_at, bytes_from}
+use Rattle.qcow2_metadata.specs.Header.{HeaderView, HeaderReads, AreExtensions, IsExtension, behind_extension, first_of_kind, data_file_kind, has_data_file}
+use Rattle.qcow2_metadata.specs.declared.header.HeaderFields.{HeaderFields}
+use Rattle.qcow2_metadata.specs.HeaderLoad.{IsHeaderOf, IsHeaderIn, IsReasonToRefuse}
+use Rattle.qcow2_metadata.specs.declared.error.MetadataError.{MetadataError}
+use Rattle.qcow2_metadata.specs.declared.error.MetadataError.TheVariants as M
+use Rattle.image_access.specs.declared.error.StorageError.{StorageError}
+use Rattle.image_access.specs.declared.error.StorageError.TheVariants as T
+use Rattle.qcow2_alloc.specs.declared.error.ImageError.{ImageError}
+use Rattle.qcow2_alloc.specs.declared.error.ImageError.TheVariants.{Dependency, UnalignedTable}
+use Rattle.qcow2_alloc.specs.ImageError.{of_storage, of_metadata, IsFault}
+use Rattle.qcow2_image.specs.Opened.{needs_another, NeedsAnother}
+use Rattle.qcow2_image.specs.Refusals.{IsMet}
+
+abbrev made : ℕ → List ℕ → ℕ × List ℕ
+made kind bytes = (kind, bytes)
+
+same_pair : (k k' : ℕ) (d d' : List ℕ) → k ≡ k' → d ≡ d' → made k d ≡ made k' d'
+same_pair k k' d d' kinds texts = ap (λ (n : ℕ). made n d) kinds ∙ ap (made k') texts
+
+-- one extension stands at a place
+one_extension : (b : Bytes) (limit place : ℕ) (e f : ℕ × List ℕ) → IsExtension b limit place e → IsExtension b limit place f → e ≡ f
+one_extension b limit place (k, d) (k', d') is it =
+    let long : length d ≡ length d' = sym is.size ∙ it.size in
+    same_pair k k' d d' (sym is.kind ∙ it.kind) (sym is.bytes ∙ ap (bytes_from b (place + 8)) long ∙ it.bytes)
+
+-- and one list of them
+pub one_list : (b : Bytes) (limit place : ℕ) (l m : List (ℕ × List ℕ)) → AreExtensions b limit place l → AreExtensions b limit place m → l ≡ m
+one_list b limit place [] [] are they = refl
+one_list b limit place [] (f ∷ s) are they = absurd (they.0.not_the_end (sym they.0.kind ∙ are.1))
+one_list b limit place (e ∷ r) [] are they = absurd (are.0.not_the_end (sym are.0.kind ∙ they.1))
+one_list b limit place (e ∷ r) (f ∷ s) are they =
+    let same = one_extension b limit place e f are.0 they.0 in
+    let rest = one_list b limit (behind_extension place (length e.1)) r s are.2 (subst (λ (x : ℕ × List ℕ). AreExtensions b limit (behind_extension place (length x.1)) s) (sym same) they.2) in
+    ap (λ (x : ℕ × List ℕ). x ∷ r) same ∙ ap (λ (t : List (ℕ × List ℕ)). f ∷ t) rest
+
+-- what it needs is the same for both
+pub needs_so : (v w : HeaderView) (contents : List ℕ) → IsHeaderIn v contents → IsHeaderIn w contents → needs_another v ≡ needs_another w
+needs_so v w contents is it =
+    let b = byte_at contents in
+    let fields : v.fields ≡ w.fields = is.fields ∙ sym it.fields in
+    let below : v.backing_name ≡ w.backing_name = is.backing_name ∙ sym it.backing_name in
+    let list = one_list _ _ _ is.reads.well_formed.extensions.list it.reads.well_formed.extensions.list is.reads.well_formed.extensions.stand it.reads.well_formed.extensions.stand in
+    let file : v.data_file_name ≡ w.data_file_name = is.data_file_name ∙ ap (first_of_kind data_file_kind) list ∙ sym it.data_file_name in
+    cc
+
+-- no header that reads is refused but for an offset, a fault or want of memory
+pub refused_before : (h : HeaderFields) (b : Bytes) (writable : Bool) (e : MetadataError) → HeaderReads h b → IsReasonToRefuse h b writable e → (of_metadata e ≡ UnalignedTable) ⊎ IsFault (of_metadata e)
+refused_before h b writable (M.Storage T.Fault) reads why = inr (inl refl)
+refused_before h b writable (M.Storage T.Memory) reads why = inr (inr refl)
+refused_before h b writable M.Memory reads why = inr (inr refl)
+refused_before h b writable M.Version reads why = absurd why
+refused_before h b writable M.Unaligned reads why = inl refl
+refused_before h b writable M.Limit reads why = absurd (why.1 reads.within_limits)
+refused_before h b writable M.Format reads why = absurd (why reads.well_formed)
+
+pub both : (a b : Bool) → (a && b) ≡ true → (a ≡ true) × (b ≡ true)
+both true true e = (refl, refl)
+both true false e = absurd (let bad : false ≡ true = e in cc)
+both false b e = absurd (let bad : false ≡ true = e in cc)
+
+pub not_both : (a b : Bool) → (a && b) ≡ false → a ≡ true → b ≡ false
+not_both true b e so = e
+not_both false b e so = absurd (let bad : false ≡ true = so in cc)
+
+-- what is met where the work is isn't a missing file
+pub not_missing : (e : ImageError) → IsMet e → e ≡ Dependency → ⊥
+not_missing e met is = subst IsMet is met
+
+-- a header that needs no other file isn't that of an image that does
+pub not_needed : (v : HeaderView) (contents : List ℕ) → IsHeaderIn v contents → needs_another v ≡ false → NeedsAnother contents → ⊥
+not_needed v contents is none needs = let same = needs_so v needs.header contents is needs.stands in let some = needs.needs in let bad : true ≡ false = sym some ∙ sym same ∙ none in cc
+
+-- a storage that was read, as it was handed in and is handed back
+pub stays_so : {S : Type 0} (view : S → StorageView) (old mid last out : S) → mid ≡ old → out ≡ last → ((view mid).is_honest → (view last).contents ≡ (view mid).contents) → ContentsStay (view old) (view out)
+stays_so view old mid last out is at same = subst (λ s. ContentsStay (view s) (view out)) is (subst (λ s. ContentsStay (view mid) (view s)) (sym at) same)
