@@ -45,12 +45,41 @@ def a_first_range_without_a_refblock(cluster, width):
     equal(contents("disk"), before, "the contents")
 
 
+def needs_a_data_file(file):
+    put(file, 72, (4).to_bytes(8, "big"))
+
+
+def names_a_data_file(file):
+    put(file, 104, b"DATA" + (4).to_bytes(4, "big") + b"data" + bytes(12))
+
+
+def names_a_backing_file(file):
+    put(file, 8, (128).to_bytes(8, "big") + (4).to_bytes(4, "big"))
+    put(file, 128, b"base")
+
+
+def needs_nothing(_):
+    pass
+
+
+def an_image_with_a_bitmap(needs, answer, bits, status):
+    create("disk", 65536, 512)
+    needs("disk")
+    put("disk", 88, b"\xff" * 8)
+    before = contents("disk")
+    answers("disk", [("size", answer)], status=status)
+    equal(contents("disk"), before[:88] + bits + before[96:], "the contents")
+
+
 def main():
     checks = Checks()
     for check in (a_header_that_is_not_counted, nothing_is_counted, a_reftable_without_clusters):
         checks.run(check.__name__, check)
     for cluster, width in ((512, 16), (512, 64), (65536, 16), (2 << 20, 1)):
         checks.run(f"a first range without a refblock, {cluster} {width}", a_first_range_without_a_refblock, cluster, width)
+    for needs in (needs_a_data_file, names_a_data_file, names_a_backing_file):
+        checks.run(f"an image that {needs.__name__}", an_image_with_a_bitmap, needs, "refused 12 dependency", b"\xff" * 8, 1)
+    checks.run("an image that needs nothing", an_image_with_a_bitmap, needs_nothing, "size 65536", bytes(8), 0)
     checks.done()
 
 

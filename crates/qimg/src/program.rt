@@ -1,5 +1,7 @@
 ghost use Rattle.std.specs.Prelude.{◌≡◌, ◌≤◌, ◌∷◌, ◌++◌, [], true, false, codes, length, vec_len, IfSome, IsOk};
 ghost use Rattle.std.specs.Io.KnownBytes.{Appends, Keeps};
+ghost use Rattle.image_access.specs.Moments.{ContentsStay};
+ghost use Rattle.qcow2_image.specs.Opened.{NeedsAnother};
 ghost use Rattle.qimg.specs.Program.{IsAnswered, IsAnsweredOnce};
 
 use crate::messages::{report_bad_line, report_refused};
@@ -54,7 +56,8 @@ pub fn create<S: Storage, W: Write>(
 }
 
 /// Reads commands from the input, runs them on the image in the storage, prints their answers, and answers the exit status,
-/// with the storage. Messages name the lines that were refused or couldn't be read.
+/// with the storage. Messages name the lines that were refused or couldn't be read. An image that needs another file is refused, and
+/// stays as it is.
 pub fn script<S: Storage, R: BufRead, W: Write, M: Write>(
     alloc: Global,
     storage: S,
@@ -64,6 +67,7 @@ pub fn script<S: Storage, R: BufRead, W: Write, M: Write>(
 ) -> (u8, S)
     ensures bound { result.0 ≤ 2 }
     ensures done { result.0 ≡ 0 → IfSome (R.remaining input.old) (λ text. IsAnswered text (W.contents output.old) (W.contents output.new)) }
+    ensures another { (S.view storage).is_honest → NeedsAnother (S.view storage).contents → ContentsStay (S.view storage) (S.view result.1) }
 {
     let Ok(script) = read_script(alloc, input) else {
         return (refuse(output, &ImageError::Memory), storage);
@@ -119,7 +123,8 @@ fn run_script<S: Storage, W: Write, M: Write>(
     output: &mut W,
     messages: &mut M,
 ) -> (io::Result<bool>, S)
-    ensures { result.0 ≡ Ok true → (script.now.is_cut ≡ false) × IsAnsweredOnce (vec_len script.now.commands) (W.contents output.old) (W.contents output.new) }
+    ensures done { result.0 ≡ Ok true → (script.now.is_cut ≡ false) × IsAnsweredOnce (vec_len script.now.commands) (W.contents output.old) (W.contents output.new) }
+    ensures another { (S.view storage).is_honest → NeedsAnother (S.view storage).contents → ContentsStay (S.view storage) (S.view result.1) }
 {
     let (printed, storage) = open_and_run(alloc, storage, &script.commands, output, messages);
     if !script.is_cut {
@@ -139,9 +144,10 @@ fn open_and_run<S: Storage, W: Write, M: Write>(
     output: &mut W,
     messages: &mut M,
 ) -> (io::Result<bool>, S)
-    ensures { result.0 ≡ Ok true → IsAnsweredOnce (length commands.now) (W.contents output.old) (W.contents output.new) }
+    ensures done { result.0 ≡ Ok true → IsAnsweredOnce (length commands.now) (W.contents output.old) (W.contents output.new) }
+    ensures another { (S.view storage).is_honest → NeedsAnother (S.view storage).contents → ContentsStay (S.view storage) (S.view result.1) }
 {
-    match Qcow2::<S>::open_image(alloc, storage, true, 1) {
+    match Qcow2::<S>::open_alone(alloc, storage, true, 1) {
         Ok(mut image) => {
             let printed = run_on(alloc, &mut image, commands, output, messages);
             (printed, image.into_storage())
@@ -160,10 +166,6 @@ fn run_on<S: Storage, W: Write, M: Write>(
 ) -> io::Result<bool>
     ensures { result ≡ Ok true → IsAnsweredOnce (length commands.now) (W.contents output.old) (W.contents output.new) }
 {
-    if needs_a_file(image) {
-        print_refusal(output, &ImageError::Dependency)?;
-        return Ok(false);
-    }
     let replies = run(alloc, image, commands);
     report_refused(messages, &replies);
     let printed = print_answers(output, commands, &replies);
@@ -174,12 +176,6 @@ fn run_on<S: Storage, W: Write, M: Write>(
         return Ok(false);
     }
     Ok(is_accepted)
-}
-
-fn needs_a_file<S: Storage>(image: &Qcow2<S>) -> bool {
-    image.requires_external_data_file()
-        || image.implicit_external_data_file().is_some()
-        || image.implicit_backing_file().is_some()
 }
 
 #[tactic(auto, using(crate::proofs::Replies::answered))]
