@@ -1,9 +1,10 @@
 #!/usr/bin/env python3
-"""qimg and qemu-io side by side on the same work: time and peak memory of each, and their ratios.
+"""qimg and QEMU's tools side by side on the same work: time and peak memory of each, and their ratios.
 
 qemu-io runs with the cache mode `unsafe`: a flush hands the tables to the operating system, as qimg's does,
 and doesn't wait for the device. Then qimg alone on a small image and on a large one, with the same amount of work: its peak memory
-is to stay the same. Each figure is the median of three runs, each on a new image."""
+is to stay the same. Then raw disks made into images and back beside qemu-img convert, and qimg check beside qemu-img check.
+Each figure is the median of three runs, each on a new image. The words `convert` or `check` do those parts alone."""
 
 import os
 import random
@@ -111,10 +112,93 @@ def of_two_sizes(cluster):
     return None if None in results else [memory for _, memory in results]
 
 
+def timed(words, made=None):
+    """Seconds and peak memory in KiB of a program that must succeed: the medians of some runs. What it makes is removed before each."""
+    results = []
+    for _ in range(RUNS):
+        if made and os.path.exists(made):
+            os.remove(made)
+        start = time.monotonic()
+        subprocess.run(["/usr/bin/time", "-f", "%M", "-o", "memory", *words], check=True, stdout=subprocess.DEVNULL)
+        seconds = time.monotonic() - start
+        with open("memory") as it:
+            results.append((seconds, int(it.read())))
+    return [statistics.median(column) for column in zip(*results)]
+
+
+def tell(name, own, other, tool):
+    """Prints what both took, and the ratios."""
+    print(name)
+    for what, index, unit, scale in (("time", 0, "ms", 1000), ("memory", 1, "MiB", 1 / 1024)):
+        print(f"  {what:7}qimg {own[index] * scale:8.1f} {unit}   {tool} {other[index] * scale:8.1f} {unit}   ratio {own[index] / other[index]:.2f}", flush=True)
+
+
+def fill(file, size):
+    """A raw disk of random bytes."""
+    chosen = random.Random(size)
+    with open(file, "wb") as it:
+        for _ in range(size // MIB):
+            it.write(chosen.randbytes(MIB))
+
+
+def sparse(file):
+    """A raw disk of 64 GiB with 1 MiB of data in its middle."""
+    with open(file, "wb") as it:
+        it.truncate(64 * 1024 * MIB)
+        it.seek(30000 * MIB)
+        it.write(random.Random(1).randbytes(MIB))
+
+
+def converted(name, cluster):
+    """The raw disk is made into an image, and the image into a raw disk."""
+    own = timed([QIMG, "import", "raw", "disk", str(cluster), "16"], "disk")
+    other = timed(["qemu-img", "convert", "-f", "raw", "-O", "qcow2", "-o", f"cluster_size={cluster}", "raw", "by_qemu"], "by_qemu")
+    tell(f"import: {name}, clusters of {cluster}", own, other, "qemu-img convert")
+    own = timed([QIMG, "export", "disk", "back"], "back")
+    other = timed(["qemu-img", "convert", "-f", "qcow2", "-O", "raw", "disk", "back_by_qemu"], "back_by_qemu")
+    tell(f"export: {name}, clusters of {cluster}", own, other, "qemu-img convert")
+
+
+def conversions():
+    fill("raw", 256 * MIB)
+    for cluster in (65536, 4096):
+        converted("256 MiB of data", cluster)
+    sparse("raw")
+    converted("64 GiB with 1 MiB of data", 65536)
+
+
+def checks():
+    fill("raw", LARGE)
+    for cluster in (65536, 4096, 512):
+        subprocess.run([QIMG, "import", "raw", "disk", str(cluster), "16"], check=True, stdout=subprocess.DEVNULL)
+        tell(f"check: 1 GiB of data, clusters of {cluster}", timed([QIMG, "check", "disk"]), timed(["qemu-img", "check", "-f", "qcow2", "disk"]), "qemu-img check")
+
+
+def in_a_room(part):
+    """Does a part in a new folder, which is gone in the end."""
+    here, room = os.getcwd(), tempfile.mkdtemp(prefix="qimg-bench-")
+    os.chdir(room)
+    try:
+        part()
+    finally:
+        os.chdir(here)
+        shutil.rmtree(room)
+
+
 def main():
     if not os.access("/usr/bin/time", os.X_OK):
         print("/usr/bin/time is missing: install the package time")
         return 1
+    parts = sys.argv[1:] or ["scripts", "convert", "check"]
+    failed = "scripts" in parts and scripts()
+    for word, part in (("convert", conversions), ("check", checks)):
+        if word in parts:
+            in_a_room(part)
+    return 1 if failed else 0
+
+
+def scripts():
+    """Scripts for qimg and for qemu-io. Whether one didn't do its work."""
     failed = False
     for name, shape, steps in WORK:
         print(name)
@@ -131,7 +215,7 @@ def main():
             failed = True
             continue
         print(f"  memory qimg {memory[0] / 1024:8.1f} MiB   qimg    {memory[1] / 1024:8.1f} MiB   ratio {memory[1] / memory[0]:.2f}")
-    return 1 if failed else 0
+    return failed
 
 
 sys.exit(main())

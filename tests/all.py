@@ -1,5 +1,5 @@
 #!/usr/bin/env python3
-"""Runs the merge gate, then the wrong bodies, then the scripts on real files. At the end stands how long each part took; the last line sums what passed and what failed."""
+"""Runs the merge gate, then the wrong bodies, then the tests of the crates, then the scripts on real files. At the end stands how long each part took; the last line sums what passed and what failed."""
 
 import os
 import re
@@ -10,7 +10,7 @@ import time
 
 ROOT = os.path.dirname(os.path.dirname(os.path.abspath(__file__)))
 FAILURES = re.compile(r"NOT PROVED|NOT REFUSED|BAD EDIT|FAILED|: error")
-SCRIPTS = ["tests/program.py", "tests/causes.py", "tests/writes.py", "tests/failures.py", "tests/caches.py", "tests/stops.py", "tests/interop/write.py", "tests/interop/growing.py", "tests/interop/open.py", "tests/interop/versions.py", "tests/hostile.py"]
+SCRIPTS = ["tests/program.py", "tests/causes.py", "tests/writes.py", "tests/prepared.py", "tests/failures.py", "tests/caches.py", "tests/stops.py", "tests/interop/write.py", "tests/interop/growing.py", "tests/interop/open.py", "tests/interop/versions.py", "tests/hostile.py", "tests/convert.py", "tests/check.py", "tests/tools.py"]
 
 
 def counts(words, told):
@@ -40,13 +40,13 @@ def succeeds(words):
     return subprocess.run(words, cwd=ROOT).returncode == 0
 
 
-def has_program():
-    """Takes the program that the gate has proved and built, or builds it."""
-    built = f"{ROOT}/crates/qimg/out/qimg"
+def has_program(crate, name, target):
+    """Takes a program that the gate has proved and built, or builds it."""
+    built = f"{ROOT}/crates/{crate}/out/{crate}"
     if not os.path.isfile(built):
-        return succeeds(["make", "-s", "qimg"])
+        return succeeds(["make", "-s", target])
     os.makedirs(f"{ROOT}/build", exist_ok=True)
-    shutil.copy(built, f"{ROOT}/build/qimg")
+    shutil.copy(built, f"{ROOT}/build/{name}")
     return True
 
 
@@ -80,8 +80,8 @@ class Parts:
 
 def scripts(parts):
     """Runs the scripts on real files, those that need QEMU's tools only where these are there."""
-    if not has_program():
-        print("the program wasn't built", flush=True)
+    if not (has_program("qimg", "qimg", "qimg") and has_program("qimg_tools", "qimg-tools", "tools")):
+        print("a program wasn't built", flush=True)
         parts.run("scripts", lambda: (0, len(SCRIPTS)))
     elif not succeeds(["tests/install.sh"]):
         parts.command(SCRIPTS[0], [SCRIPTS[0]])
@@ -95,6 +95,7 @@ def main():
     parts = Parts()
     parts.command("the gate", ["rt", "ci"])
     parts.command("the wrong bodies", ["tests/wrong_bodies.py"])
+    parts.command("the tests of the crates", ["tests/units.py"])
     scripts(parts)
     return int(parts.tell())
 

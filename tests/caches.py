@@ -14,6 +14,7 @@ CLUSTERS_OF_A_TABLE = 11
 
 
 def is_clean(file):
+    checks.consistent(file, 0)
     done = subprocess.run(["qemu-img", "check", "-f", "qcow2", file], stdout=subprocess.PIPE, stderr=subprocess.STDOUT)
     if done.returncode != 0:
         raise AssertionError(f"qemu-img check ended with {done.returncode}: {done.stdout.decode(errors='replace')}")

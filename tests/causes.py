@@ -5,14 +5,15 @@ import fcntl
 import os
 import subprocess
 
-from checks import QIMG, Checks, answers, contents, create, equal, run
+from checks import QIMG, Checks, answers, consistent, contents, create, equal, kept, run
 
 STORAGE = "refused 15 storage\n"
 
 
 def said(*words, given=b""):
     """The status of the program, what it printed, and what it said on standard error."""
-    done = subprocess.run([QIMG, *words], input=given, capture_output=True, timeout=600)
+    with kept(words[1] if len(words) > 1 else ""):
+        done = subprocess.run([QIMG, *words], input=given, capture_output=True, timeout=600)
     return done.returncode, done.stdout.decode(), done.stderr.decode()
 
 
@@ -89,6 +90,7 @@ def a_file_that_may_not_grow():
     equal((output[0], output[1][:18]), ("size 65536", "refused 15 storage"), "the output")
     equal(messages[0][:32], "qimg: line 2: refused 15 storage", "the line")
     equal(messages[1][:26], "qimg: disk: File too large", "the cause")
+    consistent("disk")
 
 
 def loop_device(size):

@@ -1,14 +1,16 @@
-"""What the scripts share: running the program, and counting what passed."""
+"""What the scripts share: running the program, what its checker says of the images that a run leaves, and counting what passed."""
 
 import os
+import re
 import shutil
 import subprocess
 import sys
 import tempfile
+from contextlib import contextmanager
 
 ROOT = os.path.dirname(os.path.dirname(os.path.abspath(__file__)))
 QIMG = os.environ.get("QIMG", os.path.join(ROOT, "build", "qimg"))
-USAGE = "usage: qimg create FILE SIZE CLUSTER WIDTH MODE | run FILE | check FILE"
+USAGE = "usage: qimg create FILE SIZE CLUSTER WIDTH MODE | run FILE | check FILE | import RAW FILE CLUSTER WIDTH | export FILE RAW"
 
 
 class Checks:
@@ -47,13 +49,85 @@ def shown(value):
     return text if len(text) < 400 else text[:400] + ".."
 
 
+BREACH = re.compile(r"snapshots \d+|external|unaligned (l1|reftable|l2|refblock|data) \d+|under \d+ \d+ \d+|shared \d+ \d+|copied \d+ \d+ \d+")
+LEAK = re.compile(r"leak (\d+) (\d+) (\d+)")
+IMAGE_WORD = {"create": 1, "run": 1, "import": 2, "export": 1}
+
+
+class Report:
+    """What `qimg check` says of an image: it is consistent, broken or refused, and how much more often each leaked cluster is counted than named."""
+
+    def __init__(self, file):
+        done = subprocess.run([QIMG, "check", file], stdout=subprocess.PIPE, stderr=subprocess.DEVNULL, timeout=600)
+        self.lines = done.stdout.decode().splitlines()
+        self.status = done.returncode
+        leaks = [LEAK.fullmatch(line) for line in self.lines]
+        self.surplus = {int(leak[1]): int(leak[2]) - int(leak[3]) for leak in leaks if leak}
+        self.breaches = sum(bool(BREACH.fullmatch(line)) for line in self.lines)
+        if not self.is_well_formed():
+            raise AssertionError(f"qimg check ended with status {self.status} and {shown(self.lines)}")
+
+    def is_well_formed(self):
+        if self.is_refused():
+            return self.status == 1 and len(self.lines) == 1
+        last = f"broken, {self.breaches} breaches" if self.breaches else f"consistent, {len(self.surplus)} leaked"
+        return self.status == (1 if self.breaches else 0) and len(self.lines) == self.breaches + len(self.surplus) + 1 and self.lines[-1] == last
+
+    def is_refused(self):
+        return bool(self.lines) and self.lines[0].startswith("refused ")
+
+    def is_consistent(self):
+        return self.status == 0
+
+
+def consistent(file, leaks=None):
+    """The checker finds the image consistent, and, where that is given, so many clusters leaked. Answers what it says."""
+    told = Report(file)
+    if not told.is_consistent() or leaks not in (None, len(told.surplus)):
+        raise AssertionError(f"qimg check of {file}: {shown(told.lines)}")
+    return told
+
+
+def reported(file):
+    return Report(file) if os.path.isfile(file) else None
+
+
+@contextmanager
+def kept(file):
+    """What a run does to an image, whatever becomes of the run: one that is consistent stays so."""
+    before = reported(file)
+    yield before
+    after = reported(file)
+    if before and before.is_consistent() and not after.is_consistent():
+        raise AssertionError(f"the image was consistent before the run: {shown(after.lines)}")
+
+
+def ended_well(words, before, file):
+    """A run with status 0 leaves each surplus of a consistent image, and a new image has none."""
+    if words[0] in ("create", "import"):
+        consistent(file, 0)
+    elif before and before.is_consistent():
+        equal(Report(file).surplus, before.surplus, "the surpluses")
+
+
+def ran(*words, **how):
+    done = subprocess.run([QIMG, *words], **how)
+    return done.returncode, (done.stdout or b"").decode()
+
+
 def qimg(*words, given=b"", **how):
-    """Runs the program, and answers its status and the text that it printed."""
+    """Runs the program, and answers its status and the text that it printed. The checker looks at the image before and after."""
     how = {"input": given, "stdout": subprocess.PIPE, "stderr": subprocess.DEVNULL, "timeout": 600, **how}
     if "stdin" in how:
         del how["input"]
-    done = subprocess.run([QIMG, *words], **how)
-    return done.returncode, (done.stdout or b"").decode()
+    place = IMAGE_WORD.get(words[0] if words else "")
+    if place is None or len(words) <= place or not os.path.isfile(words[place]) and words[0] in ("run", "export"):
+        return ran(*words, **how)
+    with kept(words[place]) as before:
+        status, text = ran(*words, **how)
+    if status == 0 and os.path.isfile(words[place]):
+        ended_well(words, before, words[place])
+    return status, text
 
 
 def create(file, size, cluster, width=16):

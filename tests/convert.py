@@ -3,12 +3,15 @@
 
 import os
 import random
+import signal
+import subprocess
 import sys
+import time
 
 sys.path.insert(0, os.path.join(os.path.dirname(os.path.abspath(__file__)), "interop"))
 
 from qemu import tool  # noqa: E402
-from checks import USAGE, Checks, answers, contents, create, equal, qimg  # noqa: E402
+from checks import QIMG, Checks, answers, consistent, contents, create, equal, kept, put, qimg  # noqa: E402
 
 ROW = b"\x11" * 512 + b"\x00" * 512 + b"\x22" * 276
 STORAGE = (1, "refused 15 storage\n")
@@ -30,7 +33,8 @@ def imported(data, cluster, width):
 
 
 def is_clean(image):
-    """QEMU finds no error and no leak."""
+    """The checker and QEMU find no error and no leak."""
+    consistent(image, 0)
     check = tool("qemu-img", "check", "-f", "qcow2", image)
     if "No errors were found" not in check:
         raise AssertionError(f"qemu-img check: {check}")
@@ -59,7 +63,8 @@ def of_size(size, cluster):
 def of_zeros(size, cluster):
     """No cluster is mapped, and the file has no more clusters than an image without data."""
     imported(bytes(size), cluster, 16)
-    answers("disk", [(f"map 0 {min(size, 1048576)}", f"zero {min(size, 1048576)} implicit")])
+    length = min(size, cluster * cluster // 8)
+    answers("disk", [(f"map 0 {size}", f"zero {length} implicit")])
     create("empty", size, cluster)
     equal(os.path.getsize("disk"), os.path.getsize("empty"), "the length of the file")
     is_clean("disk")
@@ -98,26 +103,73 @@ def a_compressed_image():
     equal(contents("disk"), before, "the image")
 
 
-def a_missing_raw_disk():
-    """The raw disk is opened first, so no image is made."""
-    equal(qimg("import", "missing", "disk", "512", "16"), STORAGE, "import")
+def a_raw_disk_that_is_not_opened():
+    """The raw disk is opened first, so no image is made, and one that is there stays."""
+    equal(qimg("import", "missing", "disk", "512", "16"), STORAGE, "a missing one")
+    equal(qimg("import", ".", "disk", "512", "16"), STORAGE, "a folder")
     equal(os.listdir("."), [], "the files")
+    create("disk", 65536, 512)
+    before = contents("disk")
+    equal(qimg("import", "missing", "disk", "512", "16"), STORAGE, "a missing one")
+    equal(contents("disk"), before, "the image")
 
 
-def a_missing_image():
-    equal(qimg("export", "missing", "raw"), STORAGE, "export")
+def an_image_that_is_not_opened():
+    """The image is opened first, so no raw disk is made, and one that is there stays."""
+    equal(qimg("export", "missing", "raw"), STORAGE, "a missing one")
+    equal(qimg("export", ".", "raw"), STORAGE, "a folder")
+    equal(os.listdir("."), [], "the files")
+    has("raw", ROW)
+    equal(qimg("export", "missing", "raw"), STORAGE, "a missing one")
+    equal(contents("raw"), ROW, "the raw disk")
 
 
-def no_image():
-    has("disk", b"no image" * 100)
-    status, text = qimg("export", "disk", "raw")
-    equal((status, text.split()[0]), (1, "refused"), "export")
+def what_is_no_image():
+    """It is refused, and the raw disk stays."""
+    has("raw", ROW)
+    for data, answer in ((b"no image" * 100, "refused 19 metadata\n"), (b"", "refused 19 metadata\n")):
+        has("disk", data)
+        equal(qimg("export", "disk", "raw"), (1, answer), "export")
+        equal((contents("disk"), contents("raw")), (data, ROW), "the files")
+
+
+def an_image_that_needs_another_file():
+    has("raw", ROW)
+    create("disk", 65536, 512)
+    put("disk", 79, b"\x04")
+    equal(qimg("export", "disk", "raw"), (1, "refused 12 dependency\n"), "export")
+    equal(contents("raw"), ROW, "the raw disk")
+
+
+def one_file_for_both():
+    """A file that is read isn't written at the same time."""
+    has("raw", ROW)
+    equal(qimg("import", "raw", "raw", "512", "16"), STORAGE, "import")
+    equal(contents("raw"), ROW, "the raw disk")
+    create("disk", 65536, 512)
+    before = contents("disk")
+    equal(qimg("export", "disk", "disk"), STORAGE, "export")
+    equal(contents("disk"), before, "the image")
+
+
+def files_that_may_not_be_written():
+    """A raw disk to be imported and an image to be exported are only read."""
+    imported(ROW, 512, 16)
+    os.chmod("raw", 0o444)
+    os.chmod("disk", 0o444)
+    unprivileged = {} if os.getuid() else {"user": 65534}
+    os.chmod(".", 0o777)
+    equal(qimg("import", "raw", "other", "512", "16", **unprivileged), (0, "imported 1300\n"), "import")
+    equal(qimg("export", "disk", "another", **unprivileged), (0, "exported 1300\n"), "export")
+    equal(contents("another"), ROW, "what came back")
 
 
 def clusters_that_no_image_has():
     has("raw", ROW)
+    has("disk", b"some bytes")
     for cluster, width in (("513", "16"), ("256", "16"), ("4194304", "16"), ("512", "3"), ("512", "128")):
         equal(qimg("import", "raw", "disk", cluster, width), (1, "refused 5 invalid option\n"), f"import {cluster} {width}")
+    equal(contents("disk"), b"some bytes", "the file")
 
 
 def full_devices():
@@ -128,10 +180,142 @@ def full_devices():
     answers("disk", [("read 0 4", "data 11111111")])
 
 
-def words_that_are_missing():
-    for words in (["import"], ["import", "raw"], ["import", "raw", "disk", "512"], ["import", "raw", "disk", "512", "16", "none"],
-                  ["import", "raw", "disk", "x", "16"], ["export"], ["export", "disk"], ["export", "disk", "raw", "512"]):
-        equal(qimg(*words), (2, USAGE + "\n"), f"{words}")
+def full_devices_for_output():
+    """A line that can't be written is status 1; the work is done."""
+    has("raw", ROW)
+    with open("/dev/full", "wb") as full:
+        equal(qimg("import", "raw", "disk", "512", "16", stdout=full)[0], 1, "import")
+        equal(qimg("export", "disk", "back", stdout=full)[0], 1, "export")
+    equal(contents("back"), ROW, "what came back")
+
+
+def with_calls_that(inject, file, *words):
+    """The status and the output of the program while its system calls on a file are made to fail or to stop."""
+    words = ["strace", "-f", "-qq", "-o", "calls", "-P", file, "-e", f"inject={inject}", QIMG, *words]
+    done = subprocess.run(words, stdout=subprocess.PIPE, stderr=subprocess.DEVNULL, timeout=600)
+    return done.returncode, done.stdout.decode()
+
+
+def each_read_of_the_raw_disk_fails():
+    """The image is then consistent, and has the raw disk's bytes up to a cluster's start, and zeros from there on."""
+    data = b"\x11" * 512 * 6
+    has("raw", data)
+    for number in range(1, 7):
+        has("disk", b"")
+        equal(with_calls_that(f"pread64:error=EIO:when={number}", "raw", "import", "raw", "disk", "512", "16"), STORAGE, f"read {number}")
+        consistent("disk")
+        equal(qimg("export", "disk", "back")[0], 0, "export")
+        back = contents("back")
+        equal(len(back), len(data), "the size")
+        if not any(back == data[:512 * n] + bytes(len(data) - 512 * n) for n in range(number)):
+            raise AssertionError(f"read {number}: {back[::512]}")
+
+
+def each_write_of_the_image_fails():
+    """What is left is no image, or a consistent one."""
+    has("raw", ROW)
+    for number in range(1, 40):
+        has("disk", b"")
+        status, text = with_calls_that(f"pwrite64:error=ENOSPC:when={number}", "disk", "import", "raw", "disk", "512", "16")
+        if status == 0:
+            break
+        equal((status, text), STORAGE, f"write {number}")
+        equal(contents("raw"), ROW, "the raw disk")
+        if contents("disk")[:4] == b"QFI\xfb":
+            consistent("disk")
+    equal((status, text), (0, "imported 1300\n"), "where none failed")
+
+
+def each_write_of_an_export_fails():
+    imported(ROW, 512, 16)
+    before = contents("disk")
+    for number in range(1, 20):
+        has("back", b"")
+        status, text = with_calls_that(f"pwrite64:error=ENOSPC:when={number}", "back", "export", "disk", "back")
+        equal(contents("disk"), before, "the image")
+        if status == 0:
+            break
+        equal((status, text), STORAGE, f"write {number}")
+    equal((number, text, contents("back")), (3, "exported 1300\n", ROW), "where none failed")
+
+
+def stopped_in_a_read(count):
+    """An import that stands still in a read of its raw disk, so many after the first."""
+    words = ["strace", "-f", "-qq", "-o", "calls", "-P", "raw", "-e", f"inject=pread64:signal=SIGSTOP:when={count}", QIMG, "import", "raw", "disk", "512", "16"]
+    traced = subprocess.Popen(words, stdout=subprocess.PIPE, stderr=subprocess.DEVNULL)
+    limit = time.monotonic() + 60
+    while time.monotonic() < limit:
+        for child in children_of(traced.pid):
+            if state_of(child) in ("T", "t") and was_stopped():
+                return traced, child
+        time.sleep(0.01)
+    traced.kill()
+    raise AssertionError("the import didn't stop")
+
+
+def children_of(pid):
+    with open(f"/proc/{pid}/task/{pid}/children") as it:
+        return it.read().split()
+
+
+def state_of(pid):
+    """The state of a process as its letter; None of one that has ended, such as strace's own first child."""
+    try:
+        with open(f"/proc/{pid}/stat") as it:
+            return it.read().rsplit(")", 1)[1].split()[0]
+    except (FileNotFoundError, ProcessLookupError):
+        return None
+
+
+def was_stopped():
+    """The stop stands in strace's record."""
+    with open("calls") as it:
+        return "stopped by SIGSTOP" in it.read()
+
+
+def a_raw_disk_that_is_cut():
+    """A raw disk that is cut while it is read is no longer what was to be imported: refused, and the image is consistent."""
+    data = b"\x11" * 512 * 8
+    has("raw", data)
+    traced, child = stopped_in_a_read(4)
+    os.truncate("raw", 512 * 5)
+    os.kill(int(child), signal.SIGCONT)
+    text = traced.communicate(timeout=60)[0].decode()
+    equal((traced.returncode, text), STORAGE, "import")
+    consistent("disk")
+    equal(qimg("export", "disk", "back")[0], 0, "export")
+    equal(contents("back"), data[:512 * 5] + bytes(512 * 3), "what was imported")
+
+
+def killed(words, seconds):
+    """A run that is killed after so many seconds; whether it was still running."""
+    program = subprocess.Popen([QIMG, *words], stdout=subprocess.DEVNULL)
+    time.sleep(seconds)
+    was_running = program.poll() is None
+    program.kill()
+    program.wait()
+    return was_running
+
+
+def kills():
+    """An import that is killed leaves no image, or a consistent one whose bytes are the raw disk's or zeros; an export leaves the image."""
+    data = random.Random(6).randbytes(512) * 16384
+    has("raw", data)
+    begun = time.monotonic()
+    qimg("import", "raw", "whole", "512", "16")
+    whole, chosen, running = time.monotonic() - begun, random.Random(5), 0
+    for _ in range(30):
+        running += killed(["import", "raw", "disk", "512", "16"], chosen.random() * whole / 2)
+        if os.path.isfile("disk") and contents("disk")[:4] == b"QFI\xfb":
+            consistent("disk")
+            equal(qimg("export", "disk", "back")[0], 0, "export")
+            back = contents("back")
+            if len(back) not in (0, len(data)) or any(back[at:at + 512] not in (data[at:at + 512], bytes(512)) for at in range(0, len(back), 512)):
+                raise AssertionError("bytes of no moment")
+        with kept("whole"):
+            killed(["export", "whole", "back"], chosen.random() * whole / 4)
+    if running < 5:
+        raise AssertionError(f"{running} of 30 imports were still running")
 
 
 def main():
@@ -147,7 +331,11 @@ def main():
             checks.run(f"runs: clusters of {cluster}, counts of {width}", of_runs, cluster, width)
     for options in ("cluster_size=512", "cluster_size=4096,compat=0.10", "cluster_size=65536,refcount_bits=1", "preallocation=metadata"):
         checks.run(f"made by QEMU: {options}", of_an_image_by_qemu, options)
-    for check in (a_compressed_image, a_missing_raw_disk, a_missing_image, no_image, clusters_that_no_image_has, full_devices, words_that_are_missing):
+    for check in (
+        a_compressed_image, a_raw_disk_that_is_not_opened, an_image_that_is_not_opened, what_is_no_image, an_image_that_needs_another_file, one_file_for_both,
+        files_that_may_not_be_written, clusters_that_no_image_has, full_devices, full_devices_for_output, each_read_of_the_raw_disk_fails, each_write_of_the_image_fails,
+        each_write_of_an_export_fails, a_raw_disk_that_is_cut, kills,
+    ):
         checks.run(check.__name__, check)
     checks.done()
 

@@ -14,7 +14,8 @@ FAILED = "refused 16 failed\n"
 def failing(file, call, number, words, error="EIO", **how):
     """The status and the output of the program where its call of that number on a file fails."""
     strace = ["strace", "-f", "-qq", "-o", "calls", "-P", file, "-e", f"trace={call}", "-e", f"inject={call}:error={error}:when={number}"]
-    done = subprocess.run([*strace, checks.QIMG, *words], stdout=subprocess.PIPE, stderr=subprocess.DEVNULL, timeout=600, **how)
+    with checks.kept(file):
+        done = subprocess.run([*strace, checks.QIMG, *words], stdout=subprocess.PIPE, stderr=subprocess.DEVNULL, timeout=600, **how)
     return done.returncode, done.stdout.decode()
 
 
@@ -62,6 +63,36 @@ def each_write_of_a_write():
         equal(checks.qimg("run", "disk", given=b"read 0 1\n")[1], "data 11\n" if number == 7 else "data 00\n", f"at write {number}")
 
 
+RANGES = [
+    ("prepare 0 100 1000 keep", "prepared 2660 1000"), ("put 0 0 " + "11" * 1000, "ok"), ("commit 0", "ok"), ("flush", "ok"),
+    ("prepare 1 2048 1536 overwrite", "prepared 4096 1536"), ("put 1 0 " + "22" * 1536, "ok"), ("drop 1", "ok"), ("flush", "ok"),
+]
+
+
+def each_write_of_ranges():
+    """Two ranges of three clusters, one that is committed and one that is dropped. What stands afterwards has the first as a whole or not at all, and nothing of the second."""
+    given = "".join(f"{line}\n" for line, _ in RANGES).encode()
+    wanted = [answer for _, answer in RANGES]
+    for number in range(1, 60):
+        disk()
+        status, output = failing("disk", "pwrite64", number, ["run", "disk"], input=given)
+        answers = output.splitlines()
+        if answers == wanted:
+            equal((status, number > 8), (0, True), "where none failed")
+            return
+        equal(status, 1, f"the status at write {number}")
+        failed = answers.index(STORAGE.strip())
+        equal(answers[:failed], wanted[:failed], f"before write {number}")
+        later = [answer for (line, _), answer in zip(RANGES[failed + 1:], answers[failed + 1:]) if not line.startswith("drop")]
+        equal(set(later + answers[len(RANGES):]) - {FAILED.strip(), "misuse"}, set(), f"after write {number}")
+        checks.consistent("disk")
+        told = checks.qimg("run", "disk", given=b"read 0 100\nread 100 1000\nread 1100 4000\n")[1].splitlines()
+        equal((told[0], told[2]), ("data " + "00" * 100, "data " + "00" * 4000), f"the other bytes after write {number}")
+        equal(told[1] in ("data " + "00" * 1000, "data " + "11" * 1000), True, f"the range after write {number}")
+        equal(told[1] == "data " + "11" * 1000, failed > 3, f"whether the range is there after write {number}")
+    raise AssertionError("more than 60 writes")
+
+
 def a_failed_image_answers_little():
     disk()
     given = b"fill 0 512 11\nread 0 1\nflush\nsize\n"
@@ -88,6 +119,7 @@ def a_line_that_has_no_room():
         with open("output", "wb") as output:
             done = subprocess.run([checks.QIMG, "run", "disk"], input=given, stdout=output, stderr=subprocess.DEVNULL, preexec_fn=limited(room), restore_signals=False, timeout=600)
         equal(done.returncode, want, f"{given} with room for {room} bytes")
+        checks.consistent("disk", 0)
 
 
 def main():
@@ -96,6 +128,7 @@ def main():
         each_read_of_opening,
         each_write_of_creating,
         each_write_of_a_write,
+        each_write_of_ranges,
         a_failed_image_answers_little,
         a_read_of_the_script_fails,
         a_line_that_has_no_room,

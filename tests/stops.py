@@ -90,9 +90,11 @@ def killed(steps, text, seconds):
     was_running = program.poll() is None
     program.send_signal(signal.SIGKILL)
     program.wait()
+    leaks = checks.consistent("disk").surplus
     done = subprocess.run(["qemu-img", "check", "-f", "qcow2", "disk"], stdout=subprocess.PIPE, stderr=subprocess.STDOUT)
     if done.returncode not in (0, 3):
         raise AssertionError(f"after {seconds:.4f} s: qemu-img check ended with {done.returncode}: {done.stdout.decode(errors='replace')}")
+    checks.equal(done.returncode, 3 if leaks else 0, f"after {seconds:.4f} s: the status of qemu-img check beside {checks.shown(leaks)}")
     found = bytes_of("disk")
     if not whole_parts(found) or not may_be_found(steps, found):
         raise AssertionError(f"after {seconds:.4f} s the image shows bytes of no moment")

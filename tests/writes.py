@@ -11,12 +11,13 @@ from checks import answers, create, equal, number_at, put, run
 WRITE = re.compile(r'pwrite64\(\d+, "((?:\\x[0-9a-f]{2})*)", (\d+), (\d+)\)\s+= (\d+)')
 
 
-def written(words, given=b""):
-    """Runs the program, and answers each write to a file: where, and the bytes."""
+def written(words, given=b"", leaks=0):
+    """Runs the program, after which so many clusters are leaked, and answers each write to a file: where, and the bytes."""
     done = subprocess.run(
         ["strace", "-f", "-qq", "-xx", "-s", "1000000", "-e", "trace=pwrite64", "-o", "calls", checks.QIMG, *words],
         input=given, stdout=subprocess.PIPE, timeout=600)
     equal(done.returncode, 0, "status")
+    checks.consistent(words[1], leaks)
     answered = []
     with open("calls") as calls:
         for text, length, at, gone in WRITE.findall(calls.read()):
@@ -52,7 +53,8 @@ def leave(file, before, writes):
 
 
 def is_consistent(file, what):
-    """QEMU's check finds leaks at worst."""
+    """The checker and QEMU's check find leaks at worst."""
+    checks.consistent(file)
     done = subprocess.run(["qemu-img", "check", "-f", "qcow2", file], stdout=subprocess.PIPE, stderr=subprocess.STDOUT)
     if done.returncode not in (0, 3):
         raise AssertionError(f"{what}: qemu-img check ended with {done.returncode}: {done.stdout.decode(errors='replace')}")
@@ -131,6 +133,27 @@ def names_a_refblock_before_its_clusters_are_used():
         equal(run("stopped", "read 30208 1"), [f"data {value}"], f"a stop after {stop} writes")
 
 
+def a_shared_cluster_is_copied():
+    create("disk", 65536, 512)
+    run("disk", "fill 0 512 11", "flush")
+    # Cluster 5 is counted twice, and its entry isn't marked copied.
+    put("disk", 1035, b"\2")
+    put("disk", 2048, b"\0")
+    lines = [("map 0 512", "raw image 2560 512 ro"), ("write 100 22222222", "ok"), ("map 0 512", "raw image 3072 512 rw"), ("read 98 8", "data 1111222222221111"), ("flush", "ok")]
+    said, writes = written(["run", "disk"], "".join(f"{line}\n" for line, _ in lines).encode(), leaks=1)
+    equal(said.splitlines(), [answer for _, answer in lines], "answers")
+    equal(numbers_at("disk", 1032, 2048), [0x0001000100010000, 0x8000000000000c00], "counts of clusters 4 to 7, and the entry")
+
+
+def zeros_are_copied():
+    create("disk", 65536, 512)
+    run("disk", "fill 0 512 11", "flush")
+    put("disk", 2048, (1).to_bytes(8, "big"))
+    put("disk", 1034, bytes(2))
+    answers("disk", [("map 0 512", "zero 512 explicit"), ("write 100 2222", "ok"), ("read 98 6", "data 000022220000"), ("flush", "ok")])
+    is_consistent("disk", "a copied cluster of zeros")
+
+
 def a_former_tables_cluster_takes_a_new_table():
     create("disk", 65536, 512)
     run("disk", "fill 0 512 11", "flush")
@@ -165,6 +188,8 @@ def main():
     tests.run("writes in order", writes_in_order)
     tests.run("makes refblocks on the way", makes_refblocks_on_the_way)
     tests.run("names a refblock before its clusters are used", names_a_refblock_before_its_clusters_are_used)
+    tests.run("a shared cluster is copied", a_shared_cluster_is_copied)
+    tests.run("zeros are copied", zeros_are_copied)
     tests.run("a former table's cluster takes a new table", a_former_tables_cluster_takes_a_new_table)
     for width in (1, 8, 16, 64):
         tests.run(f"stops, width {width}", stops_leave_leaks_at_worst, 65536, 512, width,

@@ -2,7 +2,8 @@
 #![tactic(auto)]
 
 pub mod block_server;
+pub mod checking;
+pub mod converting;
 pub mod copying;
 pub mod opening;
-#[cfg(test)]
-mod tests;
+pub mod overlays;

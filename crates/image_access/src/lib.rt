@@ -23,6 +23,3 @@ pub use mem_backing::MemBacking;
 pub use memory::MemStorage;
 pub use storage::{Format, PreallocateMode, Storage, StoragePreallocate};
 pub use trace::TraceStorage;
-
-#[cfg(test)]
-mod tests;

@@ -1,4 +1,5 @@
 -- Facts about the entries of a cache.
+pub mod FirstPinned
 pub mod Flushing
 pub mod Going
 pub mod Knowing

@@ -3,6 +3,7 @@ pub mod CacheFaults
 pub mod CacheMarks
 pub mod TableFlush
 pub mod TableErrors
+pub mod Faults
 pub mod KeptTables
 pub mod FileSteps
 pub mod AllocationSteps
@@ -28,4 +29,5 @@ pub mod PlacedRooms
 pub mod RoomSteps
 pub mod RoomTables
 pub mod GrownReftables
+pub mod FormerReftables
 pub mod Limits

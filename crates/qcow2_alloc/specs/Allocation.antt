@@ -1,5 +1,5 @@
 -- What the allocator's calls take, and what they leave of an image's file.
-use Rattle.std.specs.Prelude.{ℕ, ◌+◌, ◌*◌, ◌<◌, ◌≡◌, ◌≢◌, ◌⊎◌, ◌&&◌, nat_le, nat_lt, Bool, true, false, List, length, Option, Some, None, Result, Ok, Err, IsSome, IsTrue, if◌then◌else◌}
+use Rattle.std.specs.Prelude.{ℕ, ◌+◌, ◌*◌, ◌%◌, ◌<◌, ◌≡◌, ◌≢◌, ◌⊎◌, ◌&&◌, nat_le, nat_lt, Bool, true, false, List, length, Option, Some, None, Result, Ok, Err, IsSome, IsTrue, if◌then◌else◌}
 use Rattle.image_access.specs.Moments.{StorageView}
 use Rattle.qcow2_metadata.specs.declared.header.HeaderFields.{HeaderFields}
 use Rattle.qcow2_metadata.specs.Bytes.{Bytes, byte_at}
@@ -75,6 +75,16 @@ StandAt b place bytes = (i : ℕ) → i < length bytes → byte_at bytes i ≡ b
 -- the reftable names no refblock for the range
 abbrev pub HasNone : EntryTableView → ℕ → Type 0
 HasNone reftable range = block_offset (entry_at reftable.bytes range) ≡ 0
+
+-- what an entry of the reftable says: it names nothing, or the refblock that begins at its offset
+abbrev pub NamesBlock : HeaderFields → EntryTableView → ℕ → Option ℕ → Type 0
+NamesBlock h reftable range None = HasNone reftable range
+NamesBlock h reftable range (Some block) = block * cluster_size h ≡ block_offset (entry_at reftable.bytes range)
+
+-- the entry of a range names a refblock that isn't on a cluster
+pub record IsUnaligned (h : HeaderFields) (reftable : EntryTableView) (range : ℕ) : Type 0 where
+  pub within : range < entry_count reftable
+  pub off : block_offset (entry_at reftable.bytes range) % cluster_size h ≢ 0
 
 -- a range that has no refblock, which may be placed in the cluster
 pub record HasPlaceFor (counts_itself : Bool) (h : HeaderFields) (reftable : EntryTableView) (range at : ℕ) : Type 0 where

@@ -1,10 +1,12 @@
 -- The clusters that are listed to be freed.
-use Rattle.std.specs.Prelude.{◌≡◌, ◌⊎◌, ℕ, ◌+◌, ◌-◌, ◌++◌, Bool, true, false, List, [], ◌∷◌, if◌then◌else◌}
+use Rattle.std.specs.Prelude.{◌≡◌, ◌⊎◌, ℕ, ◌+◌, ◌-◌, ◌*◌, ◌/◌, ◌^◌, ◌≤◌, ◌++◌, Some, Bool, true, false, List, [], ◌∷◌, if◌then◌else◌}
+use Rattle.qcow2_metadata.specs.EntryTable.{EntryTableView, entry_count}
 use Rattle.qcow2_laws.specs.CrashInvariant.{Pending}
 use Rattle.qcow2_alloc.specs.declared.clusters_to_free.ClusterKind.{ClusterKind}
 use Rattle.qcow2_alloc.specs.declared.clusters_to_free.ClusterKind.TheVariants as Kind
 use Rattle.qcow2_alloc.specs.declared.clusters_to_free.ClustersToFreeEntry.{ClustersToFreeEntry}
-use Rattle.qcow2_alloc.specs.Allocation.{run_at}
+use Rattle.qcow2_alloc.specs.Allocation.{run_at, KeepsEntries}
+use Rattle.qcow2_alloc.specs.ClustersToFree.{metadata_entry}
 
 -- 1 for each cluster of a run
 abbrev pub run_of : ClustersToFreeEntry → ℕ → ℕ
@@ -54,3 +56,24 @@ pub record ListsTables (old new : List ClustersToFreeEntry) : Type 0 where
   pub more : List ClustersToFreeEntry
   pub is : new ≡ old ++ more
   pub tables : but Kind.Metadata more ≡ []
+
+-- a reftable of the same place and length
+abbrev pub SamePlace : EntryTableView → EntryTableView → Type 0
+SamePlace old new = KeepsEntries (λ k. ⊥) old new
+
+-- an entry for just the clusters of a reftable
+pub record IsRunOfTable (t : EntryTableView) (e : ClustersToFreeEntry) : Type 0 where
+  pub cluster : ℕ
+  pub placed : t.cluster ≡ Some cluster
+  pub run : e ≡ metadata_entry cluster ((8 * entry_count t + 2 ^ t.cluster_bits - 1) / 2 ^ t.cluster_bits)
+
+-- one reftable after the other gave way to one that isn't shorter, and these entries are for the clusters of those that went
+abbrev pub GaveWay : EntryTableView → List ClustersToFreeEntry → EntryTableView → Type 0
+GaveWay old [] new = SamePlace old new
+GaveWay old (e ∷ es) new = IsRunOfTable old e × (next : EntryTableView) × (entry_count old ≤ entry_count next) × GaveWay next es new
+
+-- what is listed behind what was listed are the clusters of former reftables, and nothing else
+pub record ListsReftables (old new : EntryTableView) (list list' : List ClustersToFreeEntry) : Type 0 where
+  pub more : List ClustersToFreeEntry
+  pub is : list' ≡ list ++ more
+  pub gone : GaveWay old more new

@@ -23,3 +23,4 @@ pub mod Leaks
 pub mod GrownTables
 pub mod Rooms
 pub mod Limits
+pub mod Faults

@@ -3,7 +3,7 @@ ghost use Rattle.std.specs.Prelude.{◌≡◌, ◌≢◌, ◌<◌, ◌≤◌, �
 ghost use Rattle.std.specs.List.{IsDistinct};
 ghost use Rattle.std.specs.Map.{keys_of, lookup, lookup_entry, remove_entry};
 ghost use Rattle.lru.specs.LruCache.{promoted};
-ghost use Rattle.qcow2_alloc.specs.AsyncLruCache.{cache_of, with_entries, value_at, is_pinned, can_pin, pin_at, can_unpin, unpin_at, can_remove, oldest_free, pins_at, IsInFront, OnlyOldestGoes, OthersStay, KeepsPins};
+ghost use Rattle.qcow2_alloc.specs.AsyncLruCache.{cache_of, with_entries, value_at, is_pinned, can_pin, pin_at, can_unpin, unpin_at, can_remove, oldest_free, pinned, pins_at, IsInFront, OnlyOldestGoes, OthersStay, KeepsPins};
 ghost use Rattle.qcow2_alloc.specs.AsyncLruCacheBackend.{KeepsKnown, LaysOver};
 ghost use Rattle.qcow2_alloc.specs.CacheAnswers.{Invalidates, Flushes, FlushesKey, GetsNew, InsertsNew, Replaces};
 
@@ -11,13 +11,11 @@ mod backend;
 mod entries;
 mod error;
 mod slot;
-#[cfg(test)]
-mod tests;
 
 pub use backend::AsyncLruCacheBackend;
 use entries::{
-    evict_entry, evict_free, flush_all, flush_entry, insert_new, load_new, oldest_free,
-    pinned_keys, replace_entry,
+    evict_entry, evict_free, first_pinned, flush_all, flush_entry, insert_new, load_new,
+    oldest_free, pinned_keys, replace_entry,
 };
 pub use error::CacheError;
 use lru::LruCache;
@@ -203,6 +201,14 @@ impl<B: AsyncLruCacheBackend> AsyncLruCache<B> {
             Some(slot) => slot.pins > 0,
             None => false,
         }
+    }
+
+    /// The key of some entry with a pin. None where there is no such entry.
+    pub fn first_pinned(&self) -> Option<B::Key>
+        ensures none { IsNone result → pinned self.now.entries ≡ [] }
+        ensures some { IfSome result (λ key. 0 < pins_at (B.Key.eq key) self.now.entries) }
+    {
+        first_pinned(&self.entries)
     }
 
     /// Flushes each entry, the most recently used first, also past a failure. The first failure is answered.

@@ -15,11 +15,10 @@ ghost use Rattle.qcow2_metadata.specs.L2Mapping.{IsHostCluster};
 ghost use Rattle.qcow2_metadata.specs.L2Table.{entries_of, cover_at, copied_entry, zero_entry, copied_host};
 ghost use Rattle.qcow2_alloc.specs.TableChanges.{CountsMore, CountsLess, SetsEntry};
 ghost use Rattle.qcow2_alloc.specs.Quiet.{WritesNothing, GetsTableQuietly, GetsBlockQuietly, PutsTableQuietly, PutsBlockQuietly, OtherTablesStay, OtherBlocksStay};
+ghost use Rattle.qcow2_alloc.specs.Faults.{CountsFaults};
 ghost use Rattle.qcow2_alloc.specs.CacheMarks.{l2_pins, HasRoom, KeepsMarks, SameTables, SetsPins, IsInUseOrFault, LeavesPinned};
 
 mod backends;
-#[cfg(test)]
-mod tests;
 
 use crate::async_lru_cache::AsyncLruCache;
 use crate::{ImageError, ImageStorage};
@@ -76,6 +75,7 @@ impl<S: Storage> MetadataCaches<S> {
     // Writes the modified L2 tables.
     fn write_tables(&mut self, storage: &mut ImageStorage<S>) -> Result<(), ImageError>
         ensures cause { IfErr result IsOfTables }
+        ensures storage_faults { CountsFaults S.view storage.old storage.new result }
         ensures direction { self.new.direction ≡ self.old.direction }
         ensures refblocks { self.new.rb ≡ self.old.rb }
         ensures written { OnOk result (AreClean (l2_tables self.new)) }
@@ -93,6 +93,7 @@ impl<S: Storage> MetadataCaches<S> {
     // Writes the modified refblocks.
     fn write_blocks(&mut self, storage: &mut ImageStorage<S>) -> Result<(), ImageError>
         ensures cause { IfErr result IsOfTables }
+        ensures storage_faults { CountsFaults S.view storage.old storage.new result }
         ensures direction { self.new.direction ≡ self.old.direction }
         ensures tables { self.new.l2 ≡ self.old.l2 }
         ensures written { OnOk result (AreClean (refblocks self.new)) }
@@ -110,6 +111,7 @@ impl<S: Storage> MetadataCaches<S> {
     /// From here on refblocks are written before L2 tables.
     pub fn l2_depends_on_rb(&mut self, storage: &mut ImageStorage<S>) -> Result<(), ImageError>
         ensures cause { IfErr result IsOfTables }
+        ensures storage_faults { CountsFaults S.view storage.old storage.new result }
         ensures order { OnOk result (order_of self.new ≡ L2DependsOnRb) }
         ensures refused { OnErr result (order_of self.new ≡ order_of self.old) }
         ensures marks { KeepsMarks self.old self.new }
@@ -133,6 +135,7 @@ impl<S: Storage> MetadataCaches<S> {
     /// From here on L2 tables are written before refblocks.
     pub fn rb_depends_on_l2(&mut self, storage: &mut ImageStorage<S>) -> Result<(), ImageError>
         ensures cause { IfErr result IsOfTables }
+        ensures storage_faults { CountsFaults S.view storage.old storage.new result }
         ensures order { OnOk result (order_of self.new ≡ RbDependsOnL2) }
         ensures refused { OnErr result (order_of self.new ≡ order_of self.old) }
         ensures marks { KeepsMarks self.old self.new }
@@ -156,6 +159,7 @@ impl<S: Storage> MetadataCaches<S> {
     /// Writes both caches, in the order that the direction asks for.
     pub fn flush_all(&mut self, storage: &mut ImageStorage<S>) -> Result<(), ImageError>
         ensures cause { IfErr result IsOfTables }
+        ensures storage_faults { CountsFaults S.view storage.old storage.new result }
         ensures order { order_of self.new ≡ order_of self.old }
         ensures written { OnOk result (AreAllWritten self.new) }
         ensures marks { KeepsMarks self.old self.new }
@@ -179,6 +183,7 @@ impl<S: Storage> MetadataCaches<S> {
     /// Writes the refblocks, and the L2 tables before them where the direction asks for it.
     pub fn flush_rb(&mut self, storage: &mut ImageStorage<S>) -> Result<(), ImageError>
         ensures cause { IfErr result IsOfTables }
+        ensures storage_faults { CountsFaults S.view storage.old storage.new result }
         ensures order { order_of self.new ≡ order_of self.old }
         ensures written { OnOk result (AreClean (refblocks self.new)) }
         ensures first { OnOk result (BlocksMayGo (order_of self.new) (l2_tables self.new)) }
@@ -201,6 +206,7 @@ impl<S: Storage> MetadataCaches<S> {
     // What has to be written before an L2 table goes.
     fn before_l2(&mut self, storage: &mut ImageStorage<S>) -> Result<(), ImageError>
         ensures cause { IfErr result IsOfTables }
+        ensures storage_faults { CountsFaults S.view storage.old storage.new result }
         ensures order { order_of self.new ≡ order_of self.old }
         ensures tables { self.new.l2 ≡ self.old.l2 }
         ensures blocks { AreClean (refblocks self.old) → AreClean (refblocks self.new) }
@@ -221,6 +227,7 @@ impl<S: Storage> MetadataCaches<S> {
     // What has to be written before a refblock goes.
     fn before_rb(&mut self, storage: &mut ImageStorage<S>) -> Result<(), ImageError>
         ensures cause { IfErr result IsOfTables }
+        ensures storage_faults { CountsFaults S.view storage.old storage.new result }
         ensures order { order_of self.new ≡ order_of self.old }
         ensures refblocks { self.new.rb ≡ self.old.rb }
         ensures free { (size cluster : ℕ) → IsFreeOf size (l2_tables self.old) cluster → IsFreeOf size (l2_tables self.new) cluster }
@@ -245,6 +252,7 @@ impl<S: Storage> MetadataCaches<S> {
         cluster: HostCluster,
     ) -> Result<(), ImageError>
         ensures cause { IfErr result IsOfTables }
+        ensures storage_faults { CountsFaults S.view storage.old storage.new result }
         ensures order { order_of self.new ≡ order_of self.old }
         ensures held { OnOk result (IsSome (l2_at self.new cluster)) }
         ensures marks { KeepsMarks self.old self.new }
@@ -270,6 +278,7 @@ impl<S: Storage> MetadataCaches<S> {
         cluster: HostCluster,
     ) -> Result<(), ImageError>
         ensures cause { IfErr result IsOfTables }
+        ensures storage_faults { CountsFaults S.view storage.old storage.new result }
         ensures order { order_of self.new ≡ order_of self.old }
         ensures held { OnOk result (IsSome (rb_at self.new cluster)) }
         ensures marks { KeepsMarks self.old self.new }
@@ -296,6 +305,7 @@ impl<S: Storage> MetadataCaches<S> {
     ) -> Result<(), ImageError>
         requires { IsSome table.cluster }
         ensures cause { IfErr result IsOfTables }
+        ensures storage_faults { CountsFaults S.view storage.old storage.new result }
         ensures order { order_of self.new ≡ order_of self.old }
         ensures held { OnOk result (IfSome table.cluster (λ cluster. l2_at self.new cluster ≡ Some table)) }
         ensures marks { KeepsMarks self.old self.new }
@@ -332,6 +342,7 @@ impl<S: Storage> MetadataCaches<S> {
     ) -> Result<(), ImageError>
         requires { IsSome block.cluster }
         ensures cause { IfErr result IsOfTables }
+        ensures storage_faults { CountsFaults S.view storage.old storage.new result }
         ensures order { order_of self.new ≡ order_of self.old }
         ensures held { OnOk result (IfSome block.cluster (λ cluster. rb_at self.new cluster ≡ Some block)) }
         ensures marks { KeepsMarks self.old self.new }
@@ -442,6 +453,14 @@ impl<S: Storage> MetadataCaches<S> {
         ensures { IsTrue result ↔ (0 < l2_pins self.now cluster) }
     {
         self.l2.is_pinned(cluster)
+    }
+
+    /// The cluster of some L2 table with a pin. None where no L2 table has one.
+    pub fn first_pinned_l2(&self) -> Option<HostCluster>
+        ensures none { IsNone result → (cluster : ℕ) → l2_pins self.now cluster ≡ 0 }
+        ensures some { IfSome result (λ cluster. 0 < l2_pins self.now cluster) }
+    {
+        self.l2.first_pinned()
     }
 
     /// From here on it is noted anew whether a table is changed.

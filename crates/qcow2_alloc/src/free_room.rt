@@ -4,6 +4,7 @@ ghost use Rattle.qcow2_metadata.specs.Header.{counts_per_block};
 ghost use Rattle.qcow2_laws.specs.CrashInvariant.{Pending};
 ghost use Rattle.qcow2_alloc.specs.Allocation.{run_at, UnseenAllocatorStep, GivesBack};
 ghost use Rattle.qcow2_alloc.specs.CacheMarks.{KeepsMarks};
+ghost use Rattle.qcow2_alloc.specs.Faults.{CountsFaults};
 ghost use Rattle.qcow2_alloc.specs.GrownTables.{counted_run, with_run};
 ghost use Rattle.qcow2_alloc.specs.ImageError.{IsOfTables};
 ghost use Rattle.qcow2_alloc.specs.ImageFile.{AllocatorInvariant};
@@ -55,6 +56,7 @@ impl Allocator {
         ensures header { file.new.header ≡ file.old.header }
         ensures list { file.new.free_list ≡ file.old.free_list }
         ensures cause { IfErr result IsOfTables }
+        ensures storage_faults { CountsFaults S.view file.old.storage file.new.storage result }
         ensures room { (p : Pending) → AllocatorInvariant S.view self.old p file.old → NoFreeBelowHint S.view self.old file.old → IfErr result (IsFaultOr (HasNoRoom S.view file.new (λ k. 0) self.old.reftable clusters end)) }
     {
         let mut first = self.first_free_cluster.max(1);
@@ -95,6 +97,7 @@ impl Allocator {
         ensures header { file.new.header ≡ file.old.header }
         ensures list { file.new.free_list ≡ file.old.free_list }
         ensures cause { IfErr result IsOfTables }
+        ensures storage_faults { CountsFaults S.view file.old.storage file.new.storage result }
         ensures short { IfOk result (λ reach. reach.taken ≢ reach.blocks + clusters → (n : ℕ) → n ≤ reach.taken → n < opened self.old.reftable (counts_per_block file.old.header.fields) first n + clusters) }
         ensures stopped { (p : Pending) → AllocatorInvariant S.view self.old p file.old → IfOk result (λ reach. reach.taken ≢ reach.blocks + clusters → first + reach.taken < end → IsUsed S.view file.new (first + reach.taken)) }
     {
@@ -129,6 +132,7 @@ impl Allocator {
         ensures header { file.new.header ≡ file.old.header }
         ensures list { file.new.free_list ≡ file.old.free_list }
         ensures cause { IfErr result IsOfTables }
+        ensures storage_faults { CountsFaults S.view file.old.storage file.new.storage result }
         ensures used { (p : Pending) → AllocatorInvariant S.view self.old p file.old → IfOk result (λ taken. taken ≡ false → IsUsed S.view file.new cluster) }
     {
         if self.lacks_block(cluster >> bits) {
@@ -163,6 +167,7 @@ impl Allocator {
         ensures header { file.new.header ≡ file.old.header }
         ensures list { file.new.free_list ≡ file.old.free_list }
         ensures cause { IfErr result IsOfTables }
+        ensures storage_faults { CountsFaults S.view file.old.storage file.new.storage result }
         ensures kept { (p : Pending) (start : ImageFile S) → start.header ≡ file.old.header → UnseenAllocatorStep S.view p start self.old file.old (with_run p start.header.fields self.old.reftable first n)
             → OnOk result ((k : ℕ) → run_at first n k ≡ 0 → IsUsed S.view file.old k → IsUsed S.view file.new k) }
     {

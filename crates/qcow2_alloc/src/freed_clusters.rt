@@ -5,14 +5,12 @@ ghost use Rattle.qcow2_laws.specs.CrashInvariant.{Pending};
 ghost use Rattle.qcow2_alloc.specs.Allocation.{run_at, taken_as, MayFree, Owed, listed_as, owed_as, MayLower, SameLeaks, Frees, LowersOne, GivesBack, GivesBackRun};
 ghost use Rattle.qcow2_alloc.specs.FreeList.{run_of, with_listed, but, GoOffInOrder};
 ghost use Rattle.qcow2_alloc.specs.CacheMarks.{KeepsMarks};
+ghost use Rattle.qcow2_alloc.specs.Faults.{CountsFaults};
 ghost use Rattle.qcow2_alloc.specs.Leaks.{TriesToLower, LowersOrLeaks};
 ghost use Rattle.qcow2_alloc.specs.LowestRuns.{NoFreeBelowHint, IsUsed};
 ghost use Rattle.qcow2_alloc.specs.ImageError.{IsOfTables};
 ghost use Rattle.qcow2_alloc.specs.ImageFile.{AllocatorInvariant};
 ghost use Rattle.qcow2_alloc.specs.MetadataCaches.{order_of};
-
-#[cfg(test)]
-mod tests;
 
 use crate::allocation::ends_call;
 use crate::{Allocator, ClusterKind, ImageError, ImageFile, PendingClusters, TakenClusters};
@@ -36,6 +34,7 @@ impl Allocator {
         ensures header { file.new.header ≡ file.old.header }
         ensures list { file.new.free_list ≡ file.old.free_list }
         ensures cause { IfErr result IsOfTables }
+        ensures storage_faults { CountsFaults S.view file.old.storage file.new.storage result }
         ensures hint { (p : Pending) (is_data : Bool) → AllocatorInvariant S.view self.old (taken_as is_data p (run_at first n)) file.old → NoFreeBelowHint S.view self.old file.old → OnOk result (NoFreeBelowHint S.view self.new file.new) }
         ensures kept { (p : Pending) (is_data : Bool) → AllocatorInvariant S.view self.old (taken_as is_data p (run_at first n)) file.old → OnOk result ((k : ℕ) → run_at first n k ≡ 0 → IsUsed S.view file.old k → IsUsed S.view file.new k) }
     {
@@ -66,6 +65,7 @@ impl Allocator {
         ensures header { file.new.header ≡ file.old.header }
         ensures list { file.new.free_list ≡ file.old.free_list }
         ensures cause { IfErr result IsOfTables }
+        ensures storage_faults { CountsFaults S.view file.old.storage file.new.storage result }
         ensures hint { (p : Pending) (owed : Owed) → AllocatorInvariant S.view self.old (owed_as owed p (one_at cluster)) file.old → MayLower owed file.old → NoFreeBelowHint S.view self.old file.old → OnOk result (NoFreeBelowHint S.view self.new file.new) }
     {
         match self.try_lower(file, cluster) {
@@ -93,6 +93,7 @@ impl Allocator {
         ensures grows { self.old.leaked_clusters ≤ self.new.leaked_clusters }
         ensures header { file.new.header ≡ file.old.header }
         ensures cause { IfErr result IsOfTables }
+        ensures storage_faults { CountsFaults S.view file.old.storage file.new.storage result }
         ensures hint { (p : Pending) → AllocatorInvariant S.view self.old (with_listed p file.old.free_list) file.old → NoFreeBelowHint S.view self.old file.old → OnOk result (NoFreeBelowHint S.view self.new file.new) }
     {
         self.free_kind(file, ClusterKind::Metadata)?;
@@ -119,6 +120,7 @@ impl Allocator {
         ensures grows { self.old.leaked_clusters ≤ self.new.leaked_clusters }
         ensures header { file.new.header ≡ file.old.header }
         ensures cause { IfErr result IsOfTables }
+        ensures storage_faults { CountsFaults S.view file.old.storage file.new.storage result }
         ensures hint { (p : Pending) → AllocatorInvariant S.view self.old (with_listed p file.old.free_list) file.old → MayFree kind file.old → NoFreeBelowHint S.view self.old file.old → OnOk result (NoFreeBelowHint S.view self.new file.new) }
     {
         let mut taken = file.free_list.take();
@@ -145,6 +147,7 @@ impl Allocator {
         ensures grows { self.old.leaked_clusters ≤ self.new.leaked_clusters }
         ensures header { file.new.header ≡ file.old.header }
         ensures cause { IfErr result IsOfTables }
+        ensures storage_faults { CountsFaults S.view file.old.storage file.new.storage result }
         ensures hint { (p : Pending) → AllocatorInvariant S.view self.old (with_listed p (file.old.free_list ++ taken.old)) file.old → MayFree kind file.old → NoFreeBelowHint S.view self.old file.old → OnOk result (NoFreeBelowHint S.view self.new file.new) }
     {
         'freeing: while let Some(pending) = taken.next_pending() {
@@ -170,6 +173,7 @@ impl Allocator {
         ensures grows { self.old.leaked_clusters ≤ self.new.leaked_clusters }
         ensures header { file.new.header ≡ file.old.header }
         ensures cause { IfErr result IsOfTables }
+        ensures storage_faults { CountsFaults S.view file.old.storage file.new.storage result }
         ensures hint { (p : Pending) → AllocatorInvariant S.view self.old (with_listed p (file.old.free_list ++ pending ∷ [])) file.old → MayFree kind file.old → NoFreeBelowHint S.view self.old file.old → OnOk result (NoFreeBelowHint S.view self.new file.new) }
     {
         if pending.kind() == kind {
@@ -195,6 +199,7 @@ impl Allocator {
         ensures grows { self.old.leaked_clusters ≤ self.new.leaked_clusters }
         ensures header { file.new.header ≡ file.old.header }
         ensures cause { IfErr result IsOfTables }
+        ensures storage_faults { CountsFaults S.view file.old.storage file.new.storage result }
         ensures hint { (p : Pending) → AllocatorInvariant S.view self.old (with_listed p (file.old.free_list ++ pending ∷ [])) file.old → MayFree pending.kind file.old → NoFreeBelowHint S.view self.old file.old → OnOk result (NoFreeBelowHint S.view self.new file.new) }
     {
         let mut run = pending;
@@ -227,6 +232,7 @@ impl Allocator {
         ensures header { file.new.header ≡ file.old.header }
         ensures list { file.new.free_list ≡ file.old.free_list }
         ensures cause { IfErr result IsOfTables }
+        ensures storage_faults { CountsFaults S.view file.old.storage file.new.storage result }
         ensures hint { (p : Pending) → AllocatorInvariant S.view self.old (listed_as run.old.kind p (run_of run.old)) file.old → MayFree run.old.kind file.old → NoFreeBelowHint S.view self.old file.old → OnOk result (NoFreeBelowHint S.view self.new file.new) }
     {
         'freeing: while run.count().value() > 0 {
@@ -253,6 +259,7 @@ impl Allocator {
         ensures header { file.new.header ≡ file.old.header }
         ensures list { file.new.free_list ≡ file.old.free_list }
         ensures cause { IfErr result IsOfTables }
+        ensures storage_faults { CountsFaults S.view file.old.storage file.new.storage result }
         ensures hint { (p : Pending) (owed : Owed) → AllocatorInvariant S.view self.old (owed_as owed p (one_at cluster)) file.old → MayLower owed file.old → NoFreeBelowHint S.view self.old file.old → OnOk result (NoFreeBelowHint S.view self.new file.new) }
     {
         let bits = file.header.rb_bits();

@@ -15,8 +15,6 @@ mod refblocks;
 mod reftable_growth;
 mod reftable_length;
 mod reftable_naming;
-#[cfg(test)]
-mod test_files;
 
 pub use allocation::{Allocator, MAX_HOST_OFFSET};
 pub use cache::{Direction, L2CacheBackend, MetadataCaches, RefBlockCacheBackend};

@@ -1,5 +1,5 @@
 //! The refblocks that a longer reftable needs.
-ghost use Rattle.std.specs.Prelude.{◌≡◌, ℕ, ◌+◌, ◌-◌, ◌*◌, ◌/◌, ◌^◌, ◌<◌, ◌≤◌, length, Some, IfOk, IfErr, OnOk, IsTrue};
+ghost use Rattle.std.specs.Prelude.{◌≡◌, ℕ, ◌+◌, ◌-◌, ◌*◌, ◌/◌, ◌^◌, ◌<◌, ◌≤◌, length, Some, IfOk, IfErr, OnOk, OnErr, IsTrue};
 ghost use Rattle.qcow2_metadata.specs.EntryTable.{entry_count};
 ghost use Rattle.qcow2_metadata.specs.Header.{cluster_size, counts_per_block};
 ghost use Rattle.qcow2_metadata.specs.L2Mapping.{IsHostCluster, greatest_offset};
@@ -9,6 +9,7 @@ ghost use Rattle.qcow2_laws.specs.Caches.{AreClean, BlocksMayGo};
 ghost use Rattle.qcow2_laws.specs.CrashInvariant.{Pending};
 ghost use Rattle.qcow2_alloc.specs.Allocation.{run_at};
 ghost use Rattle.qcow2_alloc.specs.CacheMarks.{KeepsMarks};
+ghost use Rattle.qcow2_alloc.specs.Faults.{CountsFaults};
 ghost use Rattle.qcow2_alloc.specs.GrownTables.{with_run, NamesReftable};
 ghost use Rattle.qcow2_alloc.specs.ImageError.{IsOfTables};
 ghost use Rattle.qcow2_alloc.specs.ImageFile.{AllocatorInvariant, KeepsHeader};
@@ -73,6 +74,7 @@ fn write_new_block<S: Storage>(
     ensures header { file.new.header ≡ file.old.header }
     ensures list { file.new.free_list ≡ file.old.free_list }
     ensures cause { IfErr result IsOfTables }
+    ensures storage_faults { CountsFaults S.view file.old.storage file.new.storage result }
 {
     file.caches.rb_remove(cluster);
     file.storage.will_write(WriteKind::Other);
@@ -97,6 +99,7 @@ pub(crate) fn place_table<S: Storage>(
     ensures header { file.new.header ≡ file.old.header }
     ensures list { file.new.free_list ≡ file.old.free_list }
     ensures cause { IfErr result IsOfTables }
+    ensures storage_faults { CountsFaults S.view file.old.storage file.new.storage result }
 {
     table.set_cluster(cluster);
     file.storage.will_write(WriteKind::Other);
@@ -130,6 +133,7 @@ impl Allocator {
         ensures header { file.new.header ≡ file.old.header }
         ensures list { file.new.free_list ≡ file.old.free_list }
         ensures cause { IfErr result IsOfTables }
+        ensures storage_faults { CountsFaults S.view file.old.storage file.new.storage result }
     {
         let bits = file.header.rb_bits();
         let end = room.first + room.blocks + room.clusters;
@@ -181,6 +185,8 @@ impl Allocator {
         ensures header { KeepsHeader file.old.header file.new.header }
         ensures list { file.new.free_list ≡ file.old.free_list }
         ensures cause { IfErr result IsOfTables }
+        ensures kept { OnErr result (self.new.reftable ≡ self.old.reftable) }
+        ensures storage_faults { CountsFaults S.view file.old.storage file.new.storage result }
     {
         let mut table = table;
         file.caches.flush_rb(&mut file.storage)?;

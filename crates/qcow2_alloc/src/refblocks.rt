@@ -1,9 +1,10 @@
 //! Refblocks: loading one, counting a cluster in it, and making one that is missing.
-ghost use Rattle.std.specs.Prelude.{◌≡◌, ◌≢◌, ◌/◌, false, ℕ, ◌*◌, ◌^◌, ◌<◌, ◌≤◌, Bool, Some, IfSome, IfOk, IfErr, OnOk, IsSome, IsTrue};
+ghost use Rattle.std.specs.Prelude.{◌≡◌, ◌≢◌, ◌/◌, false, ℕ, ◌*◌, ◌^◌, ◌<◌, ◌≤◌, Bool, Some, IfSome, IfOk, IfErr, OnOk, IsErrOf, IsSome, IsTrue};
 ghost use Rattle.qcow2_laws.specs.CrashInvariant.{Pending};
-ghost use Rattle.qcow2_alloc.specs.Allocation.{placing, first_counts, HasPlaceFor, KeepsEntries, MayTake, LoadsBlock, WritesBlock, PlacesBlock, TakesOne, HasNone, GetsBlock, TakesLowest, GrowsTable};
-ghost use Rattle.qcow2_alloc.specs.FreeList.{pending_then, ListsTables};
+ghost use Rattle.qcow2_alloc.specs.Allocation.{placing, first_counts, HasPlaceFor, KeepsEntries, MayTake, LoadsBlock, WritesBlock, PlacesBlock, NamesBlock, IsUnaligned, TakesOne, HasNone, GetsBlock, TakesLowest, GrowsTable};
+ghost use Rattle.qcow2_alloc.specs.FreeList.{pending_then, ListsTables, SamePlace, ListsReftables};
 ghost use Rattle.qcow2_alloc.specs.CacheMarks.{KeepsMarks, LeavesPinned};
+ghost use Rattle.qcow2_alloc.specs.Faults.{CountsFaults};
 ghost use Rattle.qcow2_alloc.specs.Limits.{IsFaultOr, CantCount};
 ghost use Rattle.qcow2_alloc.specs.LowestRuns.{NoFreeBelowHint, IsUsed, KeepsNoFreeBelowHint, KeepsUsed};
 ghost use Rattle.qcow2_alloc.specs.ImageError.{IsOfTables, IsFault};
@@ -61,6 +62,7 @@ fn write_block<S: Storage>(file: &mut ImageFile<S>, mut block: RefBlock) -> Resu
     ensures header { file.new.header ≡ file.old.header }
     ensures list { file.new.free_list ≡ file.old.free_list }
     ensures cause { IfErr result IsOfTables }
+    ensures storage_faults { CountsFaults S.view file.old.storage file.new.storage result }
 {
     file.caches.flush_rb(&mut file.storage)?;
     file.storage.will_write(WriteKind::Other);
@@ -102,6 +104,9 @@ impl Allocator {
         ensures header { file.new.header ≡ file.old.header }
         ensures list { file.new.free_list ≡ file.old.free_list }
         ensures cause { IfErr result IsOfTables }
+        ensures unaligned { IsUnaligned file.old.header.fields self.now.reftable range → IsErrOf result ImageError.UnalignedTable }
+        ensures names { IfOk result (NamesBlock file.old.header.fields self.now.reftable range) }
+        ensures storage_faults { CountsFaults S.view file.old.storage file.new.storage result }
     {
         let Some(offset) = self.reftable.get(range as usize) else {
             return Ok(None);
@@ -127,6 +132,7 @@ impl Allocator {
         ensures header { file.new.header ≡ file.old.header }
         ensures list { file.new.free_list ≡ file.old.free_list }
         ensures cause { IfErr result IsOfTables }
+        ensures storage_faults { CountsFaults S.view file.old.storage file.new.storage result }
         ensures fault { (p : Pending) → AllocatorInvariant S.view self.old p file.old → IfErr result IsFault }
         ensures used { (p : Pending) → AllocatorInvariant S.view self.old p file.old → (HasNone self.old.reftable (cluster / counts_per_block file.old.header.fields) → ⊥) → IfOk result (λ taken. taken ≡ false → IsUsed S.view file.new cluster) }
         ensures free { (p : Pending) → AllocatorInvariant S.view self.old p file.old → IfOk result (λ taken. IsTrue taken → ¬ IsUsed S.view file.old cluster) }
@@ -152,6 +158,9 @@ impl Allocator {
         ensures header { KeepsHeader file.old.header file.new.header }
         ensures list { ListsTables file.old.free_list file.new.free_list }
         ensures cause { IfErr result IsOfTables }
+        ensures unaligned { IsUnaligned file.old.header.fields self.old.reftable (cluster / counts_per_block file.old.header.fields) → IsErrOf result ImageError.UnalignedTable }
+        ensures former { ListsReftables self.old.reftable self.new.reftable file.old.free_list file.new.free_list }
+        ensures storage_faults { CountsFaults S.view file.old.storage file.new.storage result }
         ensures limit { (p : Pending) → AllocatorInvariant S.view self.old p file.old → NoFreeBelowHint S.view self.old file.old → IsHostCluster file.old.header.fields.cluster_bits cluster → IfErr result (IsFaultOr (CantCount S.view file.new (λ k. 0) self.new cluster)) }
         ensures has { (p : Pending) → AllocatorInvariant S.view self.old p file.old → OnOk result (HasNone self.new.reftable (cluster / counts_per_block file.old.header.fields) → ⊥) }
         ensures hint { (p : Pending) → AllocatorInvariant S.view self.old p file.old → NoFreeBelowHint S.view self.old file.old → KeepsNoFreeBelowHint S.view self.new file.new result }
@@ -178,6 +187,9 @@ impl Allocator {
         ensures header { file.new.header ≡ file.old.header }
         ensures list { file.new.free_list ≡ file.old.free_list }
         ensures cause { IfErr result IsOfTables }
+        ensures unaligned { IsUnaligned file.old.header.fields self.old.reftable (cluster / counts_per_block file.old.header.fields) → IsErrOf result ImageError.UnalignedTable }
+        ensures place { SamePlace self.old.reftable self.new.reftable }
+        ensures storage_faults { CountsFaults S.view file.old.storage file.new.storage result }
         ensures fault { (p : Pending) → AllocatorInvariant S.view self.old p file.old → cluster / counts_per_block file.old.header.fields < entry_count self.old.reftable → IsHostCluster file.old.header.fields.cluster_bits cluster → IfErr result IsFault }
         ensures has { (p : Pending) → AllocatorInvariant S.view self.old p file.old → OnOk result (HasNone self.new.reftable (cluster / counts_per_block file.old.header.fields) → ⊥) }
         ensures hint { (p : Pending) → AllocatorInvariant S.view self.old p file.old → NoFreeBelowHint S.view self.old file.old → KeepsNoFreeBelowHint S.view self.new file.new result }
@@ -219,6 +231,7 @@ impl Allocator {
         ensures header { file.new.header ≡ file.old.header }
         ensures list { file.new.free_list ≡ file.old.free_list }
         ensures cause { IfErr result IsOfTables }
+        ensures storage_faults { CountsFaults S.view file.old.storage file.new.storage result }
         ensures hint { (p : Pending) → AllocatorInvariant S.view self.old p file.old → NoFreeBelowHint S.view self.old file.old → KeepsNoFreeBelowHint S.view self.new file.new result }
     {
         let bits = file.header.rb_bits();
@@ -249,6 +262,7 @@ impl Allocator {
         ensures header { file.new.header ≡ file.old.header }
         ensures list { file.new.free_list ≡ file.old.free_list }
         ensures cause { IfErr result IsOfTables }
+        ensures storage_faults { CountsFaults S.view file.old.storage file.new.storage result }
         ensures fault { (p : Pending) → AllocatorInvariant S.view self.old p file.old → range < entry_count self.old.reftable → IsHostCluster file.old.header.fields.cluster_bits (range * counts_per_block file.old.header.fields) → IfErr result IsFault }
         ensures first { self.new.first_free_cluster ≡ self.old.first_free_cluster }
         ensures has { (p : Pending) → AllocatorInvariant S.view self.old p file.old → OnOk result (HasNone self.new.reftable range → ⊥) }
@@ -287,6 +301,7 @@ impl Allocator {
         ensures header { file.new.header ≡ file.old.header }
         ensures list { file.new.free_list ≡ file.old.free_list }
         ensures cause { IfErr result IsOfTables }
+        ensures storage_faults { CountsFaults S.view file.old.storage file.new.storage result }
         ensures first { self.new.first_free_cluster ≡ self.old.first_free_cluster }
     {
         let cluster = HostCluster::new(at);

@@ -1,14 +1,15 @@
 //! A longer reftable.
-ghost use Rattle.std.specs.Prelude.{◌≡◌, ℕ, ◌+◌, ◌-◌, ◌*◌, ◌/◌, ◌%◌, ◌^◌, ◌<◌, ◌≤◌, length, IfOk, IfErr, IfSome, IsSome, OnOk, IsTrue};
+ghost use Rattle.std.specs.Prelude.{◌≡◌, ℕ, ◌+◌, ◌-◌, ◌*◌, ◌/◌, ◌%◌, ◌^◌, ◌<◌, ◌≤◌, length, IfOk, IfErr, IfSome, IsSome, OnOk, OnErr, IsErrOf, IsTrue};
 ghost use Rattle.qcow2_laws.specs.CrashInvariant.{Pending};
 ghost use Rattle.qcow2_metadata.specs.EntryTable.{entry_count, IsRefTable};
 ghost use Rattle.qcow2_metadata.specs.Header.{entries_per_cluster, counts_per_block};
 ghost use Rattle.qcow2_metadata.specs.TableBytes.{entry_at};
 ghost use Rattle.qcow2_alloc.specs.Allocation.{GrowsTable};
 ghost use Rattle.qcow2_alloc.specs.CacheMarks.{KeepsMarks};
+ghost use Rattle.qcow2_alloc.specs.Faults.{CountsFaults};
 ghost use Rattle.qcow2_alloc.specs.ClustersToFree.{metadata_entry};
 ghost use Rattle.qcow2_alloc.specs.declared.clusters_to_free.ClusterKind.TheVariants.{Metadata};
-ghost use Rattle.qcow2_alloc.specs.FreeList.{pending_then, ListsTables};
+ghost use Rattle.qcow2_alloc.specs.FreeList.{pending_then, ListsTables, IsRunOfTable, ListsReftables};
 ghost use Rattle.qcow2_alloc.specs.GrownTables.{EntersReftable};
 ghost use Rattle.qcow2_alloc.specs.Growing.{IsLongEnough, IsLeastLength, IsCloneOf};
 ghost use Rattle.qcow2_alloc.specs.ImageError.{IsOfTables};
@@ -25,9 +26,6 @@ use crate::{
 use image_access::Storage;
 use qcow2_metadata::{Header, RefTable};
 use std::alloc::Global;
-
-#[cfg(test)]
-mod tests;
 
 #[tactic(auto, using(crate::proofs::TableErrors::metadata_of_tables))]
 impl Allocator {
@@ -47,6 +45,8 @@ impl Allocator {
         ensures length { OnOk result (IsLeastLength (entry_count self.old.reftable) index (entries_per_cluster file.old.header.fields) (counts_per_block file.old.header.fields) (entry_count self.new.reftable)) }
         ensures lowest { (p : Pending) → AllocatorInvariant S.view self.old p file.old → NoFreeBelowHint S.view self.old file.old → OnOk result (LiesLowest S.view file.new self.old.reftable self.new.reftable) }
         ensures cause { IfErr result IsOfTables }
+        ensures former { ListsReftables self.old.reftable self.new.reftable file.old.free_list file.new.free_list }
+        ensures storage_faults { CountsFaults S.view file.old.storage file.new.storage result }
         ensures limit { (p : Pending) → AllocatorInvariant S.view self.old p file.old → NoFreeBelowHint S.view self.old file.old → IfErr result (IsFaultOr ((self.new.reftable ≡ self.old.reftable) × CantGrow S.view file.new (λ k. 0) self.old.reftable index)) }
         ensures first { self.new.first_free_cluster ≡ self.old.first_free_cluster }
         ensures uses { (p : Pending) → AllocatorInvariant S.view self.old p file.old → KeepsUsed S.view file.old file.new result }
@@ -75,6 +75,7 @@ impl Allocator {
         ensures length { IfOk result (λ t. IsLeastLength (entry_count self.now.reftable) index (entries_per_cluster header.now.fields) (counts_per_block header.now.fields) (entry_count t)) }
         ensures entries { IfOk result (IsCloneOf self.now.reftable) }
         ensures cause { IfErr result IsOfTables }
+        ensures no_fault { IsErrOf result ImageError.Storage → ⊥ }
         ensures limit { IfErr result (IsFaultOr ((entries : ℕ) → entries ≤ 2 ^ 20 → IsLongEnough (entry_count self.now.reftable) index (entries_per_cluster header.now.fields) (counts_per_block header.now.fields) entries → ⊥)) }
     {
         let index = index as u64;
@@ -97,6 +98,8 @@ impl Allocator {
         ensures kind { IfOk result (λ former. former.kind ≡ Metadata) }
         ensures is_table { IsRefTable self.now.reftable }
         ensures cause { IfErr result IsOfTables }
+        ensures of_table { IfOk result (IsRunOfTable self.now.reftable) }
+        ensures no_fault { IsErrOf result ImageError.Storage → ⊥ }
         ensures placed { IsSome self.now.reftable.cluster → IfErr result (λ e. e ≡ ImageError.Memory) }
     {
         let Some(cluster) = self.reftable.get_cluster() else {
@@ -127,6 +130,8 @@ impl Allocator {
         ensures table { OnOk result (entry_count self.new.reftable ≡ entry_count table) }
         ensures first { self.new.first_free_cluster ≡ self.old.first_free_cluster }
         ensures cause { IfErr result IsOfTables }
+        ensures kept { OnErr result (self.new.reftable ≡ self.old.reftable) }
+        ensures storage_faults { CountsFaults S.view file.old.storage file.new.storage result }
         ensures limit { (p : Pending) → AllocatorInvariant S.view self.old p file.old → NoFreeBelowHint S.view self.old file.old → IsCloneOf self.old.reftable table → entry_count table % entries_per_cluster file.old.header.fields ≡ 0
             → IfErr result (IsFaultOr ((self.new.reftable ≡ self.old.reftable) × HasNoRoomFor S.view file.new (λ k. 0) self.old.reftable (entry_count table))) }
     {

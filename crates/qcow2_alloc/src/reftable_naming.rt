@@ -1,7 +1,8 @@
 //! The header's pointer to a longer reftable.
-ghost use Rattle.std.specs.Prelude.{◌≡◌, ℕ, ◌+◌, OnOk, IfErr, IsTrue};
+ghost use Rattle.std.specs.Prelude.{◌≡◌, ℕ, ◌+◌, OnOk, OnErr, IfErr, IsTrue};
 ghost use Rattle.qcow2_laws.specs.CrashInvariant.{Pending};
 ghost use Rattle.qcow2_alloc.specs.CacheMarks.{KeepsMarks};
+ghost use Rattle.qcow2_alloc.specs.Faults.{CountsFaults};
 ghost use Rattle.qcow2_alloc.specs.GrownTables.{with_run, StandsGrown, NamesReftable};
 ghost use Rattle.qcow2_alloc.specs.ImageError.{IsOfTables};
 ghost use Rattle.qcow2_alloc.specs.ImageFile.{AllocatorInvariant, KeepsHeader};
@@ -32,6 +33,8 @@ impl Allocator {
         ensures table { OnOk result (self.new.reftable ≡ table) }
         ensures first { self.new.first_free_cluster ≡ self.old.first_free_cluster }
         ensures cause { IfErr result IsOfTables }
+        ensures kept { OnErr result (self.new.reftable ≡ self.old.reftable) }
+        ensures storage_faults { CountsFaults S.view file.old.storage file.new.storage result }
     {
         let Some(cluster) = table.get_cluster() else {
             return Err(ImageError::Limit);

@@ -1,5 +1,5 @@
 -- What an entry names, by its host offset or as compressed data.
-use Rattle.std.proofs.Common.{◌≡◌, ℕ, ◌+◌, ◌/◌, ◌&&◌, Bool, true, false, eqb, Some, None, unwrap_or, refl, sym, ap, ◌∙◌}
+use Rattle.std.proofs.Common.{◌≡◌, ℕ, ◌+◌, ◌*◌, ◌/◌, ◌&&◌, Bool, true, false, eqb, Some, None, unwrap_or, refl, sym, ap, ◌∙◌, arith}
 use Rattle.std.specs.BTreeMap.{BTreeMap}
 use Rattle.qcow2_metadata.specs.Bytes.{one_if}
 use Rattle.qcow2_metadata.specs.declared.header.HeaderFields.{HeaderFields}
@@ -9,7 +9,7 @@ use Rattle.qcow2_metadata.specs.Named.{named_by_cover}
 use Rattle.qcow2_metadata.specs.declared.l2_mapping.L2Mapping.{L2Mapping}
 use Rattle.qcow2_metadata.specs.declared.l2_mapping.L2Mapping.TheVariants.{Data, Zero, Compressed, Uncovered}
 use Rattle.qcow2_check.specs.declared.tally.Tally.{Tally}
-use Rattle.qcow2_check.specs.Tallies.{Grows, Adds, tally_in}
+use Rattle.qcow2_check.specs.Tallies.{Grows, AddsTimes, tally_in}
 use Rattle.qcow2_check.specs.Marks.{marked_by_cover, named_by_compressed}
 
 named_at : (h : HeaderFields) (q host : ℕ) (cover : L2Mapping) → host_of cover ≡ Some host → named_by_cover h q cover ≡ one_if (eqb (host / cluster_size h) q)
@@ -44,23 +44,29 @@ never : (b : Bool) → one_if (b && false) ≡ 0
 never true = refl
 never false = refl
 
-pub at_host : (h : HeaderFields) (old new : BTreeMap ℕ Tally) (cover : L2Mapping) (host cluster : ℕ) (copied : Bool) → host_of cover ≡ Some host
-    → cluster ≡ host / cluster_size h → copied ≡ is_marked cover → Adds old new cluster false copied
-    → Grows old new (λ q. named_by_cover h q cover) (λ _. 0) (λ q. marked_by_cover h q cover)
-at_host h old new cover host cluster copied is place mark adds = record {
-  more_named = λ q. adds.more_named q ∙ ap (λ n. (tally_in old q).named + n) (ap (λ c. one_if (eqb c q)) place ∙ sym (named_at h q host cover is));
-  more_for_tables = λ q. adds.more_for_tables q ∙ ap (λ n. (tally_in old q).for_tables + n) (never (eqb cluster q));
-  more_marked = λ q. adds.more_marked q ∙ ap (λ n. (tally_in old q).marked + n)
+times_zero : (times : ℕ) → times * 0 ≡ 0
+times_zero times = omega arith
+
+pub never_times : (times : ℕ) (b : Bool) → times * one_if (b && false) ≡ 0
+never_times times b = ap (λ n. times * n) (never b) ∙ omega arith
+
+pub at_host : (h : HeaderFields) (old new : BTreeMap ℕ Tally) (cover : L2Mapping) (host cluster times : ℕ) (copied : Bool) → host_of cover ≡ Some host
+    → cluster ≡ host / cluster_size h → copied ≡ is_marked cover → AddsTimes old new cluster times false copied
+    → Grows old new (λ q. times * named_by_cover h q cover) (λ _. 0) (λ q. times * marked_by_cover h q cover)
+at_host h old new cover host cluster times copied is place mark adds = record {
+  more_named = λ q. adds.more_named q ∙ ap (λ n. (tally_in old q).named + times * n) (ap (λ c. one_if (eqb c q)) place ∙ sym (named_at h q host cover is));
+  more_for_tables = λ q. adds.more_for_tables q ∙ ap (λ n. (tally_in old q).for_tables + n) (never_times times (eqb cluster q));
+  more_marked = λ q. adds.more_marked q ∙ ap (λ n. (tally_in old q).marked + times * n)
       (ap (λ c. one_if (eqb c q && copied)) place ∙ ap (λ m. one_if (eqb (host / cluster_size h) q && m)) mark ∙ sym (marked_here h q host cover is));
   same_count = adds.same_count;
 }
 
-pub without_host : (h : HeaderFields) (old new : BTreeMap ℕ Tally) (cover : L2Mapping) → host_of cover ≡ None
-    → Grows old new (λ q. named_by_compressed h q cover) (λ _. 0) (λ _. 0)
-    → Grows old new (λ q. named_by_cover h q cover) (λ _. 0) (λ q. marked_by_cover h q cover)
-without_host h old new cover is grows = record {
-  more_named = λ q. grows.more_named q ∙ ap (λ n. (tally_in old q).named + n) (sym (named_else h q cover is));
+pub without_host : (h : HeaderFields) (old new : BTreeMap ℕ Tally) (cover : L2Mapping) (times : ℕ) → host_of cover ≡ None
+    → Grows old new (λ q. times * named_by_compressed h q cover) (λ _. 0) (λ _. 0)
+    → Grows old new (λ q. times * named_by_cover h q cover) (λ _. 0) (λ q. times * marked_by_cover h q cover)
+without_host h old new cover times is grows = record {
+  more_named = λ q. grows.more_named q ∙ ap (λ n. (tally_in old q).named + times * n) (sym (named_else h q cover is));
   more_for_tables = grows.more_for_tables;
-  more_marked = λ q. grows.more_marked q ∙ ap (λ n. (tally_in old q).marked + n) (sym (none_marked h q cover is));
+  more_marked = λ q. grows.more_marked q ∙ ap (λ n. (tally_in old q).marked + n) (sym (ap (λ n. times * n) (none_marked h q cover is) ∙ times_zero times));
   same_count = grows.same_count;
 }

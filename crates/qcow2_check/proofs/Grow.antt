@@ -1,7 +1,7 @@
 -- Steps of a map of tallies.
-use Rattle.std.proofs.Common.{◌≡◌, ℕ, ◌+◌, arith, refl, sym, ap, ◌∙◌}
+use Rattle.std.proofs.Common.{◌≡◌, ℕ, ◌+◌, ◌*◌, arith, refl, sym, ap, ◌∙◌}
 use Rattle.std.specs.BTreeMap.{BTreeMap}
-use Rattle.qcow2_metadata.specs.Bytes.{Bytes}
+use Rattle.qcow2_metadata.specs.Bytes.{Bytes, sum_below}
 use Rattle.qcow2_metadata.specs.Entries.{l2_entry}
 use Rattle.qcow2_metadata.specs.Cover.{entry_cover}
 use Rattle.qcow2_metadata.specs.Named.{named_by_cover}
@@ -29,15 +29,23 @@ grows_more old mid new f1 g1 k1 f2 g2 k2 f g k one two fs gs ks = record {
   same_count = λ q. two.same_count q ∙ one.same_count q;
 }
 
-pub l2_table_none : (h : HeaderFields) (b : Bytes) (m : BTreeMap ℕ Tally) → Grows m m (named_by_entries h b 0 0) (λ _. 0) (marked_by_entries h b 0 0)
-l2_table_none h b m = grows_none m _ _ _ (λ q. sum_below_none _) (λ q. omega arith) (λ q. sum_below_none _)
+-- a sum of terms, so many times
+pub times_none : (times : ℕ) (f : ℕ → ℕ) → times * sum_below 0 f ≡ 0
+times_none times f = ap (λ v. times * v) (sum_below_none f) ∙ omega arith
 
-pub l2_table_more : (h : HeaderFields) (b : Bytes) (j : ℕ) (cover : L2Mapping) (old mid new : BTreeMap ℕ Tally) → cover ≡ entry_cover h (l2_entry b 0 j)
-    → Grows old mid (named_by_entries h b 0 j) (λ _. 0) (marked_by_entries h b 0 j)
-    → Grows mid new (λ q. named_by_cover h q cover) (λ _. 0) (λ q. marked_by_cover h q cover)
-    → Grows old new (named_by_entries h b 0 (j + 1)) (λ _. 0) (marked_by_entries h b 0 (j + 1))
-l2_table_more h b j cover old mid new is so_far next =
+pub times_more : (times n : ℕ) (f : ℕ → ℕ) (term : ℕ) → term ≡ f n → times * sum_below (n + 1) f ≡ times * sum_below n f + times * term
+times_more times n f term is = ap (λ v. times * v) (sum_below_more n f ∙ ap (λ v. sum_below n f + v) (sym is)) ∙ omega arith
+
+pub l2_table_none : (h : HeaderFields) (b : Bytes) (times : ℕ) (m : BTreeMap ℕ Tally)
+    → Grows m m (λ q. times * named_by_entries h b 0 0 q) (λ _. 0) (λ q. times * marked_by_entries h b 0 0 q)
+l2_table_none h b times m = grows_none m _ _ _ (λ q. times_none times _) (λ q. omega arith) (λ q. times_none times _)
+
+pub l2_table_more : (h : HeaderFields) (b : Bytes) (times j : ℕ) (cover : L2Mapping) (old mid new : BTreeMap ℕ Tally) → cover ≡ entry_cover h (l2_entry b 0 j)
+    → Grows old mid (λ q. times * named_by_entries h b 0 j q) (λ _. 0) (λ q. times * marked_by_entries h b 0 j q)
+    → Grows mid new (λ q. times * named_by_cover h q cover) (λ _. 0) (λ q. times * marked_by_cover h q cover)
+    → Grows old new (λ q. times * named_by_entries h b 0 (j + 1) q) (λ _. 0) (λ q. times * marked_by_entries h b 0 (j + 1) q)
+l2_table_more h b times j cover old mid new is so_far next =
     grows_more old mid new _ _ _ _ _ _ _ _ _ so_far next
-    (λ q. sum_below_more j (λ j. named_by_cover h q (entry_cover h (l2_entry b 0 j))) ∙ ap (λ v. named_by_entries h b 0 j q + named_by_cover h q v) (sym is))
+    (λ q. times_more times j (λ j. named_by_cover h q (entry_cover h (l2_entry b 0 j))) _ (ap (named_by_cover h q) is))
     (λ q. omega arith)
-    (λ q. sum_below_more j (λ j. marked_by_cover h q (entry_cover h (l2_entry b 0 j))) ∙ ap (λ v. marked_by_entries h b 0 j q + marked_by_cover h q v) (sym is))
+    (λ q. times_more times j (λ j. marked_by_cover h q (entry_cover h (l2_entry b 0 j))) _ (ap (marked_by_cover h q) is))

@@ -1,16 +1,17 @@
 -- Steps over the L1 table.
-use Rattle.std.proofs.Common.{◌≡◌, ◌≢◌, ℕ, ◌+◌, ◌/◌, List, length, Bool, true, false, ◌&&◌, eqb, refl, sym, ap, ◌∙◌, arith}
+use Rattle.std.proofs.Common.{◌≡◌, ◌≢◌, ℕ, ◌+◌, ◌*◌, ◌/◌, List, length, Bool, true, false, ◌&&◌, eqb, refl, sym, ap, ◌∙◌, arith}
 use Rattle.std.proofs.lemmas.Bool.{cond-true, cond-false, eq-eqb, ne_eqb}
 use Rattle.std.specs.BTreeMap.{BTreeMap}
 use Rattle.qcow2_metadata.specs.Bytes.{Bytes, one_if}
 use Rattle.qcow2_metadata.specs.declared.header.HeaderFields.{HeaderFields}
 use Rattle.qcow2_metadata.specs.Header.{cluster_size, entries_per_cluster}
-use Rattle.qcow2_metadata.specs.Entries.{l1_entry, host_offset, is_copied}
+use Rattle.qcow2_metadata.specs.Entries.{host_offset, is_copied}
 use Rattle.qcow2_metadata.specs.Named.{named_by_l2_table, table_in}
 use Rattle.qcow2_check.proofs.Sums.{sum_below_none, sum_below_more}
 use Rattle.qcow2_check.specs.declared.tally.Tally.{Tally}
-use Rattle.qcow2_check.specs.Tallies.{Grows, Adds}
-use Rattle.qcow2_check.specs.Marks.{named_by_entries, marked_by_entries, marked_at, named_under, table_under, marked_under, named_below, tables_below, marked_below}
+use Rattle.qcow2_check.specs.Tallies.{Grows, Adds, tally_in}
+use Rattle.qcow2_metadata.specs.TableBytes.{entry_at}
+use Rattle.qcow2_check.specs.Marks.{named_by_entries, marked_by_entries, marked_by_l2_table, mark_of_entry, tables_among, marks_among}
 use Rattle.qcow2_check.proofs.Grow.{grows_none, grows_more}
 use Rattle.qcow2_metadata.specs.Bytes.{byte_at}
 use Rattle.qcow2_metadata.proofs.TablesAt.{StandAt}
@@ -20,44 +21,64 @@ pub one_if-and_true : (b : Bool) → one_if (b && true) ≡ one_if b
 one_if-and_true true = refl
 one_if-and_true false = refl
 
-pub l1_none : (h : HeaderFields) (b : Bytes) (m : BTreeMap ℕ Tally) → Grows m m (named_below h b 0) (tables_below h b 0) (marked_below h b 0)
-l1_none h b m = grows_none m _ _ _ (λ q. sum_below_none _) (λ q. sum_below_none _) (λ q. sum_below_none _)
+-- ---- the entries of the L1 table
 
--- one more L1 entry
-pub l1_more : (h : HeaderFields) (b : Bytes) (i entry : ℕ) (old mid new : BTreeMap ℕ Tally) → entry ≡ l1_entry h b i
-    → Grows old mid (named_below h b i) (tables_below h b i) (marked_below h b i)
-    → Grows mid new (named_under h b entry) (table_under h entry) (marked_under h b entry)
-    → Grows old new (named_below h b (i + 1)) (tables_below h b (i + 1)) (marked_below h b (i + 1))
-l1_more h b i entry old mid new is so_far next =
-    grows_more old mid new _ _ _ _ _ _ _ _ _ so_far next
-    (λ q. sum_below_more i (λ i. named_under h b (l1_entry h b i) q) ∙ ap (λ e. named_below h b i q + named_under h b e q) (sym is))
-    (λ q. sum_below_more i (λ i. table_under h (l1_entry h b i) q) ∙ ap (λ e. tables_below h b i q + table_under h e q) (sym is))
-    (λ q. sum_below_more i (λ i. marked_under h b (l1_entry h b i) q) ∙ ap (λ e. marked_below h b i q + marked_under h b e q) (sym is))
-
--- an entry without a table
-pub no_table : (h : HeaderFields) (b : Bytes) (entry : ℕ) (m : BTreeMap ℕ Tally) → host_offset entry ≡ 0 → Grows m m (named_under h b entry) (table_under h entry) (marked_under h b entry)
-unfolding named_by_l2_table
-no_table h b entry m none =
+pub entry_without_table : (h : HeaderFields) (entry : ℕ) (m : BTreeMap ℕ Tally) → host_offset entry ≡ 0
+    → Grows m m (λ q. table_in h q (host_offset entry)) (λ q. table_in h q (host_offset entry)) (mark_of_entry h entry)
+entry_without_table h entry m none =
     let is = eq-eqb (host_offset entry) 0 none in
-    grows_none m _ _ _
-    (λ q. let one : table_in h q (host_offset entry) ≡ 0 = cond-true _ _ _ is in let two : named_by_l2_table h b q (host_offset entry) ≡ 0 = cond-true _ _ _ is in omega arith)
-    (λ q. cond-true _ _ _ is) (λ q. cond-true _ _ _ is)
+    grows_none m _ _ _ (λ q. cond-true _ _ _ is) (λ q. cond-true _ _ _ is) (λ q. cond-true _ _ _ is)
 
--- an entry with a table, which was read into c
-pub one_table : (h : HeaderFields) (b : Bytes) (bytes : List ℕ) (entry cluster : ℕ) (copied : Bool) (old mid new : BTreeMap ℕ Tally)
-    → host_offset entry ≢ 0 → cluster ≡ host_offset entry / cluster_size h → copied ≡ is_copied entry
-    → Adds old mid cluster true copied → StandAt b (host_offset entry) bytes → length bytes ≡ cluster_size h
-    → Grows mid new (named_by_entries h (byte_at bytes) 0 (entries_per_cluster h)) (λ _. 0) (marked_by_entries h (byte_at bytes) 0 (entries_per_cluster h))
-    → Grows old new (named_under h b entry) (table_under h entry) (marked_under h b entry)
-unfolding named_by_l2_table
-one_table h b bytes entry cluster copied old mid new some is mark add stands whole table =
+pub entry_with_table : (h : HeaderFields) (entry cluster : ℕ) (copied : Bool) (old new : BTreeMap ℕ Tally)
+    → host_offset entry ≢ 0 → cluster ≡ host_offset entry / cluster_size h → copied ≡ is_copied entry → Adds old new cluster true copied
+    → Grows old new (λ q. table_in h q (host_offset entry)) (λ q. table_in h q (host_offset entry)) (mark_of_entry h entry)
+entry_with_table h entry cluster copied old new some is mark adds =
     let test = ne_eqb (host_offset entry) 0 some in
     let at : (q : ℕ) → table_in h q (host_offset entry) ≡ one_if (eqb cluster q) = λ q. cond-false _ _ _ test ∙ ap (λ c. one_if (eqb c q)) (sym is) in
-    grows_more old mid new _ _ _ _ _ _ _ _ _ add table
-    (λ q. let first = at q in let second : named_by_l2_table h b q (host_offset entry) ≡ named_by_entries h (byte_at bytes) 0 (entries_per_cluster h) q = cond-false _ _ _ test ∙ sym (named_by_part h b bytes (host_offset entry) q stands whole) in omega arith)
-    (λ q. let first = at q in let second = one_if-and_true (eqb cluster q) in omega arith)
-    (λ q.
-    let first : marked_at h q (host_offset entry) (is_copied entry) ≡ one_if (eqb cluster q && copied) = ap (λ c. one_if (eqb c q && is_copied entry)) (sym is) ∙ ap (λ m. one_if (eqb cluster q && m)) (sym mark) in
-    let second = marked_by_part h b bytes (host_offset entry) q stands whole in
-    let whole : marked_under h b entry q ≡ marked_at h q (host_offset entry) (is_copied entry) + marked_by_entries h b (host_offset entry) (entries_per_cluster h) q = cond-false _ _ _ test in
-    omega arith)
+    record {
+      more_named = λ q. adds.more_named q ∙ ap (λ n. (tally_in old q).named + n) (sym (at q));
+      more_for_tables = λ q. adds.more_for_tables q ∙ ap (λ n. (tally_in old q).for_tables + n) (one_if-and_true (eqb cluster q) ∙ sym (at q));
+      more_marked = λ q. adds.more_marked q ∙ ap (λ n. (tally_in old q).marked + n)
+          (ap (λ c. one_if (eqb c q && copied)) is ∙ ap (λ m. one_if (eqb (host_offset entry / cluster_size h) q && m)) mark ∙ sym (cond-false _ _ _ test));
+      same_count = adds.same_count;
+    }
+
+pub entries_none : (h : HeaderFields) (l1 : List ℕ) (m : BTreeMap ℕ Tally) → Grows m m (tables_among h l1 0) (tables_among h l1 0) (marks_among h l1 0)
+entries_none h l1 m = grows_none m _ _ _ (λ q. sum_below_none _) (λ q. sum_below_none _) (λ q. sum_below_none _)
+
+pub entries_more : (h : HeaderFields) (l1 : List ℕ) (i entry : ℕ) (old mid new : BTreeMap ℕ Tally) → entry ≡ entry_at l1 i
+    → Grows old mid (tables_among h l1 i) (tables_among h l1 i) (marks_among h l1 i)
+    → Grows mid new (λ q. table_in h q (host_offset entry)) (λ q. table_in h q (host_offset entry)) (mark_of_entry h entry)
+    → Grows old new (tables_among h l1 (i + 1)) (tables_among h l1 (i + 1)) (marks_among h l1 (i + 1))
+entries_more h l1 i entry old mid new is so_far next =
+    let tables : (q : ℕ) → tables_among h l1 (i + 1) q ≡ tables_among h l1 i q + table_in h q (host_offset entry) =
+    λ q. sum_below_more i (λ i. table_in h q (host_offset (entry_at l1 i))) ∙ ap (λ e. tables_among h l1 i q + table_in h q (host_offset e)) (sym is) in
+    grows_more old mid new _ _ _ _ _ _ _ _ _ so_far next tables tables
+    (λ q. sum_below_more i (λ i. mark_of_entry h (entry_at l1 i) q) ∙ ap (λ e. marks_among h l1 i q + mark_of_entry h e q) (sym is))
+
+-- ---- an L2 table, so many times
+
+times_zero : (times : ℕ) → times * 0 ≡ 0
+times_zero times = omega arith
+
+pub no_table : (h : HeaderFields) (b : Bytes) (place times : ℕ) (m : BTreeMap ℕ Tally) → place ≡ 0
+    → Grows m m (λ q. times * named_by_l2_table h b q place) (λ _. 0) (λ q. times * marked_by_l2_table h b q place)
+unfolding named_by_l2_table
+no_table h b place times m none =
+    let is = eq-eqb place 0 none in
+    grows_none m _ _ _ (λ q. ap (λ n. times * n) (cond-true _ _ _ is) ∙ times_zero times) (λ q. omega arith) (λ q. ap (λ n. times * n) (cond-true _ _ _ is) ∙ times_zero times)
+
+-- it was read into these bytes
+pub one_table : (h : HeaderFields) (b : Bytes) (bytes : List ℕ) (place times : ℕ) (old new : BTreeMap ℕ Tally)
+    → place ≢ 0 → StandAt b place bytes → length bytes ≡ cluster_size h
+    → Grows old new (λ q. times * named_by_entries h (byte_at bytes) 0 (entries_per_cluster h) q) (λ _. 0) (λ q. times * marked_by_entries h (byte_at bytes) 0 (entries_per_cluster h) q)
+    → Grows old new (λ q. times * named_by_l2_table h b q place) (λ _. 0) (λ q. times * marked_by_l2_table h b q place)
+unfolding named_by_l2_table
+one_table h b bytes place times old new some stands whole table =
+    let test = ne_eqb place 0 some in
+    record {
+      more_named = λ q. table.more_named q ∙ ap (λ n. (tally_in old q).named + times * n) (named_by_part h b bytes place q stands whole ∙ sym (cond-false _ _ _ test));
+      more_for_tables = table.more_for_tables;
+      more_marked = λ q. table.more_marked q ∙ ap (λ n. (tally_in old q).marked + times * n) (marked_by_part h b bytes place q stands whole ∙ sym (cond-false _ _ _ test));
+      same_count = table.same_count;
+    }

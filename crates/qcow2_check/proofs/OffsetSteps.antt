@@ -14,9 +14,9 @@ use Rattle.qcow2_metadata.specs.L2Mapping.{host_of}
 use Rattle.qcow2_metadata.specs.TableBytes.{entry_at}
 use Rattle.qcow2_metadata.proofs.TablesAt.{StandAt, entry_stands}
 use Rattle.qcow2_check.specs.declared.tally.Tally.{Tally}
-use Rattle.qcow2_check.specs.Tallies.{Grows, Adds, tally_in, no_tally}
-use Rattle.qcow2_check.specs.Offsets.{off_cluster, off_cluster_if, tables_off, blocks_off, off_l2_tables, off_refblocks, data_off, data_off_under, times}
-use Rattle.qcow2_check.proofs.Grow.{grows_none, grows_more}
+use Rattle.qcow2_check.specs.Tallies.{Grows, AddsTimes, tally_in, no_tally}
+use Rattle.qcow2_check.specs.Offsets.{off_cluster, off_cluster_if, tables_off, blocks_off, off_l2_tables, off_refblocks, data_off, data_off_at, times}
+use Rattle.qcow2_check.proofs.Grow.{grows_none, grows_more, times_none, times_more}
 use Rattle.qcow2_check.proofs.Sums.{sum_below_none, sum_below_more, sum_below-same}
 use Rattle.qcow2_check.proofs.Totals.{tally_same, triple}
 
@@ -28,19 +28,26 @@ always : (b : Bool) → one_if (b && true) ≡ one_if b
 always true = refl
 always false = refl
 
-pub on_cluster : (h : HeaderFields) (place size : ℕ) (m : BTreeMap ℕ Tally) → size ≡ cluster_size h → place % size ≡ 0 → Grows m m (λ o. off_cluster h o place) (λ _. 0) (λ _. 0)
-on_cluster h place size m is zero =
-    let test : eqb (place % cluster_size h) 0 ≡ true = eq-eqb _ 0 (ap (λ s. place % s) (sym is) ∙ zero) in
-    grows_none m _ _ _ (λ o. ap (λ t. one_if (eqb place o && not t)) test ∙ never (eqb place o)) (λ o. omega arith) (λ o. omega arith)
+pub once : (n : ℕ) → 1 * n ≡ n
+once n = omega arith
 
-pub off_one : (h : HeaderFields) (place size : ℕ) (old new : BTreeMap ℕ Tally) → size ≡ cluster_size h → place % size ≢ 0 → Adds old new place false false
-    → Grows old new (λ o. off_cluster h o place) (λ _. 0) (λ _. 0)
-off_one h place size old new is some adds =
+times_zero : (times : ℕ) → times * 0 ≡ 0
+times_zero times = omega arith
+
+pub on_cluster : (h : HeaderFields) (place size times : ℕ) (m : BTreeMap ℕ Tally) → size ≡ cluster_size h → place % size ≡ 0
+    → Grows m m (λ o. times * off_cluster h o place) (λ _. 0) (λ _. 0)
+on_cluster h place size times m is zero =
+    let test : eqb (place % cluster_size h) 0 ≡ true = eq-eqb _ 0 (ap (λ s. place % s) (sym is) ∙ zero) in
+    grows_none m _ _ _ (λ o. ap (λ t. times * one_if (eqb place o && not t)) test ∙ ap (λ n. times * n) (never (eqb place o)) ∙ times_zero times) (λ o. omega arith) (λ o. omega arith)
+
+pub off_one : (h : HeaderFields) (place size times : ℕ) (old new : BTreeMap ℕ Tally) → size ≡ cluster_size h → place % size ≢ 0 → AddsTimes old new place times false false
+    → Grows old new (λ o. times * off_cluster h o place) (λ _. 0) (λ _. 0)
+off_one h place size times old new is some adds =
     let test : eqb (place % cluster_size h) 0 ≡ false = ne_eqb _ 0 (λ zero. some (ap (λ s. place % s) is ∙ zero)) in
     record {
-      more_named = λ o. adds.more_named o ∙ ap (λ n. (tally_in old o).named + n) (sym (ap (λ t. one_if (eqb place o && not t)) test ∙ always (eqb place o)));
-      more_for_tables = λ o. adds.more_for_tables o ∙ ap (λ n. (tally_in old o).for_tables + n) (never (eqb place o));
-      more_marked = λ o. adds.more_marked o ∙ ap (λ n. (tally_in old o).marked + n) (never (eqb place o));
+      more_named = λ o. adds.more_named o ∙ ap (λ n. (tally_in old o).named + times * n) (sym (ap (λ t. one_if (eqb place o && not t)) test ∙ always (eqb place o)));
+      more_for_tables = λ o. adds.more_for_tables o ∙ ap (λ n. (tally_in old o).for_tables + n) (ap (λ n. times * n) (never (eqb place o)) ∙ times_zero times);
+      more_marked = λ o. adds.more_marked o ∙ ap (λ n. (tally_in old o).marked + n) (ap (λ n. times * n) (never (eqb place o)) ∙ times_zero times);
       same_count = adds.same_count;
     }
 
@@ -55,8 +62,18 @@ terms_more f i term old mid new is so_far next =
     grows_more old mid new _ _ _ _ _ _ _ _ _ so_far next
     (λ o. sum_below_more i (λ i. f o i) ∙ ap (λ v. sum_below i (λ i. f o i) + v) (sym (is o))) (λ o. omega arith) (λ o. omega arith)
 
-pub no_data : (h : HeaderFields) (b : Bytes) (entry : ℕ) (m : BTreeMap ℕ Tally) → host_offset entry ≡ 0 → Grows m m (data_off_under h b entry) (λ _. 0) (λ _. 0)
-no_data h b entry m none = grows_none m _ _ _ (λ o. cond-true _ _ _ (eq-eqb (host_offset entry) 0 none)) (λ o. omega arith) (λ o. omega arith)
+pub times_terms_none : (times : ℕ) (f : ℕ → ℕ → ℕ) (m : BTreeMap ℕ Tally) → Grows m m (λ o. times * sum_below 0 (λ i. f o i)) (λ _. 0) (λ _. 0)
+times_terms_none times f m = grows_none m _ _ _ (λ o. times_none times (λ i. f o i)) (λ o. omega arith) (λ o. omega arith)
+
+pub times_terms_more : (times : ℕ) (f : ℕ → ℕ → ℕ) (i : ℕ) (term : ℕ → ℕ) (old mid new : BTreeMap ℕ Tally) → ((o : ℕ) → term o ≡ f o i)
+    → Grows old mid (λ o. times * sum_below i (λ i. f o i)) (λ _. 0) (λ _. 0) → Grows mid new (λ o. times * term o) (λ _. 0) (λ _. 0)
+    → Grows old new (λ o. times * sum_below (i + 1) (λ i. f o i)) (λ _. 0) (λ _. 0)
+times_terms_more times f i term old mid new is so_far next =
+    grows_more old mid new _ _ _ _ _ _ _ _ _ so_far next (λ o. times_more times i (λ i. f o i) (term o) (is o)) (λ o. omega arith) (λ o. omega arith)
+
+pub no_data : (h : HeaderFields) (b : Bytes) (place times : ℕ) (m : BTreeMap ℕ Tally) → place ≡ 0 → Grows m m (λ o. times * data_off_at h b o place) (λ _. 0) (λ _. 0)
+no_data h b place times m none =
+    grows_none m _ _ _ (λ o. ap (λ n. times * n) (cond-true _ _ _ (eq-eqb place 0 none)) ∙ times_zero times) (λ o. omega arith) (λ o. omega arith)
 
 inside : (size j : ℕ) → j < size / 8 → 8 * j + 8 ≤ size
 inside size j lt = let down = div-mul-le_self size 8 in omega arith
@@ -69,17 +86,17 @@ grows_as old new f g same grows = record {
   same_count = grows.same_count;
 }
 
-pub data_part : (h : HeaderFields) (b : Bytes) (bytes : List ℕ) (entry : ℕ) (old new : BTreeMap ℕ Tally) → host_offset entry ≢ 0
-    → StandAt b (host_offset entry) bytes → length bytes ≡ cluster_size h
-    → Grows old new (data_off h (byte_at bytes) 0 (entries_per_cluster h)) (λ _. 0) (λ _. 0)
-    → Grows old new (data_off_under h b entry) (λ _. 0) (λ _. 0)
-data_part h b bytes entry old new some stands whole grows =
-    grows_as old new _ _ (λ o.
+pub data_part : (h : HeaderFields) (b : Bytes) (bytes : List ℕ) (place times : ℕ) (old new : BTreeMap ℕ Tally) → place ≢ 0
+    → StandAt b place bytes → length bytes ≡ cluster_size h
+    → Grows old new (λ o. times * data_off h (byte_at bytes) 0 (entries_per_cluster h) o) (λ _. 0) (λ _. 0)
+    → Grows old new (λ o. times * data_off_at h b o place) (λ _. 0) (λ _. 0)
+data_part h b bytes place times old new some stands whole grows =
+    grows_as old new _ _ (λ o. ap (λ n. times * n) (
     sum_below-same (entries_per_cluster h) (λ j. off_cluster_if h o (host_of (entry_cover h (l2_entry (byte_at bytes) 0 j))))
-    (λ j. off_cluster_if h o (host_of (entry_cover h (l2_entry b (host_offset entry) j))))
+    (λ j. off_cluster_if h o (host_of (entry_cover h (l2_entry b place j))))
     (λ j lt. ap (λ e. off_cluster_if h o (host_of (entry_cover h e)))
-    (let within = inside (cluster_size h) j lt in entry_stands b (host_offset entry) bytes j stands (omega (arith, within, whole))))
-    ∙ sym (cond-false _ _ _ (ne_eqb (host_offset entry) 0 some))) grows
+    (let within = inside (cluster_size h) j lt in entry_stands b place bytes j stands (omega (arith, within, whole))))
+    ∙ sym (cond-false _ _ _ (ne_eqb place 0 some)))) grows
 
 -- the tallies of offsets that were counted from none
 pub counted_off : (f g : ℕ → ℕ) (m0 m1 : BTreeMap ℕ Tally) → ((q : ℕ) → tally_in m0 q ≡ no_tally) → ((q : ℕ) → f q ≡ g q) → Grows m0 m1 f (λ _. 0) (λ _. 0) → tally_in m1 ≡ times g

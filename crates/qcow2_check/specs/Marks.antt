@@ -1,10 +1,11 @@
 -- How often a cluster is named by an entry that is marked copied.
-use Rattle.std.specs.Prelude.{ℕ, ◌+◌, ◌-◌, ◌*◌, ◌/◌, Bool, ◌==◌, ◌&&◌, Option, Some, None, if◌then◌else◌}
+use Rattle.std.specs.Prelude.{ℕ, ◌+◌, ◌-◌, ◌*◌, ◌/◌, Bool, ◌==◌, ◌&&◌, List, sum_by, Option, Some, None, if◌then◌else◌}
 use Rattle.qcow2_metadata.specs.Bytes.{Bytes, sum_below, one_if}
 use Rattle.qcow2_metadata.specs.declared.header.HeaderFields.{HeaderFields}
 use Rattle.qcow2_metadata.specs.Header.{cluster_size, entries_per_cluster}
 use Rattle.qcow2_metadata.specs.Entries.{l1_entry, l2_entry, host_offset, is_copied}
 use Rattle.qcow2_metadata.specs.Cover.{entry_cover}
+use Rattle.qcow2_metadata.specs.TableBytes.{entry_at}
 use Rattle.qcow2_metadata.specs.Named.{named_by_cover, named_by_l2_table, table_in, touched_by}
 use Rattle.qcow2_metadata.specs.declared.l2_mapping.L2Mapping.{L2Mapping}
 use Rattle.qcow2_metadata.specs.declared.l2_mapping.L2Mapping.TheVariants.{Data, Zero, Compressed, Uncovered}
@@ -37,23 +38,41 @@ named_by_entries h b table n cluster = sum_below n (λ j. named_by_cover h clust
 abbrev pub marked_by_entries : HeaderFields → Bytes → ℕ → ℕ → ℕ → ℕ
 marked_by_entries h b table n cluster = sum_below n (λ j. marked_by_cover h cluster (entry_cover h (l2_entry b table j)))
 
--- by the first n L1 entries: for the L2 tables, by the entries of these, and by those marked copied
-abbrev pub table_under : HeaderFields → ℕ → ℕ → ℕ
-table_under h entry cluster = table_in h cluster (host_offset entry)
+-- what the entries of the L2 table at a place mark, 0 for no table
+abbrev pub marked_by_l2_table : HeaderFields → Bytes → ℕ → ℕ → ℕ
+marked_by_l2_table h b cluster place = if place == 0 then 0 else marked_by_entries h b place (entries_per_cluster h) cluster
 
+-- 1 where an L1 entry marks the cluster of its L2 table
+abbrev pub mark_of_entry : HeaderFields → ℕ → ℕ → ℕ
+mark_of_entry h entry cluster = if host_offset entry == 0 then 0 else marked_at h cluster (host_offset entry) (is_copied entry)
+
+-- by an L1 entry and its L2 table
 abbrev pub named_under : HeaderFields → Bytes → ℕ → ℕ → ℕ
 named_under h b entry cluster = table_in h cluster (host_offset entry) + named_by_l2_table h b cluster (host_offset entry)
 
 abbrev pub marked_under : HeaderFields → Bytes → ℕ → ℕ → ℕ
-marked_under h b entry cluster =
-    if host_offset entry == 0 then 0
-    else marked_at h cluster (host_offset entry) (is_copied entry) + marked_by_entries h b (host_offset entry) (entries_per_cluster h) cluster
+marked_under h b entry cluster = mark_of_entry h entry cluster + marked_by_l2_table h b cluster (host_offset entry)
 
+-- by the first n L1 entries: for the L2 tables, with the entries of these, and by those marked copied
 abbrev pub tables_below : HeaderFields → Bytes → ℕ → ℕ → ℕ
-tables_below h b n cluster = sum_below n (λ i. table_under h (l1_entry h b i) cluster)
+tables_below h b n cluster = sum_below n (λ i. table_in h cluster (host_offset (l1_entry h b i)))
 
 abbrev pub named_below : HeaderFields → Bytes → ℕ → ℕ → ℕ
 named_below h b n cluster = sum_below n (λ i. named_under h b (l1_entry h b i) cluster)
 
 abbrev pub marked_below : HeaderFields → Bytes → ℕ → ℕ → ℕ
 marked_below h b n cluster = sum_below n (λ i. marked_under h b (l1_entry h b i) cluster)
+
+-- by the first n entries of an L1 table in these bytes alone
+abbrev pub tables_among : HeaderFields → List ℕ → ℕ → ℕ → ℕ
+tables_among h entries n cluster = sum_below n (λ i. table_in h cluster (host_offset (entry_at entries i)))
+
+abbrev pub marks_among : HeaderFields → List ℕ → ℕ → ℕ → ℕ
+marks_among h entries n cluster = sum_below n (λ i. mark_of_entry h (entry_at entries i) cluster)
+
+-- by the L2 tables at these places, each as often as its place is there
+abbrev pub named_by_tables : HeaderFields → Bytes → List ℕ → ℕ → ℕ
+named_by_tables h b places cluster = sum_by (λ place. named_by_l2_table h b cluster place) places
+
+abbrev pub marked_by_tables : HeaderFields → Bytes → List ℕ → ℕ → ℕ
+marked_by_tables h b places cluster = sum_by (λ place. marked_by_l2_table h b cluster place) places

@@ -1,5 +1,5 @@
 -- Offsets that aren't on a cluster, and how often each is named.
-use Rattle.std.specs.Prelude.{ℕ, ◌%◌, ◌==◌, ◌&&◌, not, List, Option, Some, None, if◌then◌else◌}
+use Rattle.std.specs.Prelude.{ℕ, ◌%◌, ◌==◌, ◌&&◌, not, List, sum_by, Option, Some, None, if◌then◌else◌}
 use Rattle.qcow2_metadata.specs.Bytes.{Bytes, sum_below, one_if}
 use Rattle.qcow2_metadata.specs.declared.header.HeaderFields.{HeaderFields}
 use Rattle.qcow2_metadata.specs.Header.{cluster_size, entries_per_cluster, reftable_entries}
@@ -28,11 +28,16 @@ tables_off h entries n o = sum_below n (λ i. off_cluster h o (host_offset (entr
 abbrev pub data_off : HeaderFields → Bytes → ℕ → ℕ → ℕ → ℕ
 data_off h b table n o = sum_below n (λ j. off_cluster_if h o (host_of (entry_cover h (l2_entry b table j))))
 
-abbrev pub data_off_under : HeaderFields → Bytes → ℕ → ℕ → ℕ
-data_off_under h b entry o = if host_offset entry == 0 then 0 else data_off h b (host_offset entry) (entries_per_cluster h) o
+-- by the L2 table at a place, none at 0
+abbrev pub data_off_at : HeaderFields → Bytes → ℕ → ℕ → ℕ
+data_off_at h b o place = if place == 0 then 0 else data_off h b place (entries_per_cluster h) o
 
 abbrev pub data_off_below : HeaderFields → Bytes → ℕ → ℕ → ℕ
-data_off_below h b n o = sum_below n (λ i. data_off_under h b (l1_entry h b i) o)
+data_off_below h b n o = sum_below n (λ i. data_off_at h b o (host_offset (l1_entry h b i)))
+
+-- by the L2 tables at these places, each as often as its place is there
+abbrev pub data_off_by_tables : HeaderFields → Bytes → List ℕ → ℕ → ℕ
+data_off_by_tables h b places o = sum_by (λ place. data_off_at h b o place) places
 
 -- by the whole reftable, and by the whole L1 table
 abbrev pub off_refblocks : HeaderFields → Bytes → ℕ → ℕ

@@ -1,5 +1,5 @@
 -- How often each cluster was named so far, as a map says it.
-use Rattle.std.specs.Prelude.{ℕ, ◌+◌, ◌^◌, ◌≡◌, ◌≢◌, ◌<◌, ◌≤◌, ◌==◌, ◌&&◌, Bool, unwrap_or}
+use Rattle.std.specs.Prelude.{ℕ, ◌+◌, ◌*◌, ◌^◌, ◌≡◌, ◌≢◌, ◌≤◌, ◌==◌, ◌&&◌, Bool, unwrap_or}
 use Rattle.std.specs.BTreeMap.{BTreeMap, get}
 use Rattle.std.specs.Ordering.{nat_cmp}
 use Rattle.qcow2_metadata.specs.Bytes.{one_if}
@@ -32,6 +32,11 @@ abbrev pub Adds : BTreeMap ℕ Tally → BTreeMap ℕ Tally → ℕ → Bool →
 Adds old new cluster for_table marked =
     Grows old new (λ q. one_if (cluster == q)) (λ q. one_if (cluster == q && for_table)) (λ q. one_if (cluster == q && marked))
 
+-- one cluster is named so many times more
+abbrev pub AddsTimes : BTreeMap ℕ Tally → BTreeMap ℕ Tally → ℕ → ℕ → Bool → Bool → Type 0
+AddsTimes old new cluster times for_table marked =
+    Grows old new (λ q. times * one_if (cluster == q)) (λ q. times * one_if (cluster == q && for_table)) (λ q. times * one_if (cluster == q && marked))
+
 abbrev pub names_of : Tally → ℕ × (ℕ × ℕ)
 names_of t = (t.named, (t.for_tables, t.marked))
 
@@ -40,13 +45,6 @@ pub record Counts (old new : BTreeMap ℕ Tally) (cluster count : ℕ) : Type 0 
   pub same_names : (q : ℕ) → names_of (tally_in new q) ≡ names_of (tally_in old q)
   pub new_count : (tally_in new cluster).count ≡ count
   pub other_counts : (q : ℕ) → q ≢ cluster → (tally_in new q).count ≡ (tally_in old q).count
-
--- the counts of n clusters from a first one on, and nothing else changes
-pub record CountsRange (old new : BTreeMap ℕ Tally) (first n : ℕ) (count : ℕ → ℕ) : Type 0 where
-  pub same_names : (q : ℕ) → names_of (tally_in new q) ≡ names_of (tally_in old q)
-  pub new_counts : (j : ℕ) → j < n → (tally_in new (first + j)).count ≡ count j
-  pub counts_below : (q : ℕ) → q < first → (tally_in new q).count ≡ (tally_in old q).count
-  pub counts_above : (q : ℕ) → first + n ≤ q → (tally_in new q).count ≡ (tally_in old q).count
 
 -- each cluster has its count, and nothing else changes
 pub record CountsAll (old new : BTreeMap ℕ Tally) (count : ℕ → ℕ) : Type 0 where

@@ -1,11 +1,12 @@
 //! The report of an image.
 
-ghost use Rattle.std.specs.Prelude.{ℕ, ◌≡◌, ◌<◌, ◌≤◌, ◌^◌, IfOk, IfErr};
+ghost use Rattle.std.specs.Prelude.{◌≡◌, ◌↔◌, [], IfOk, IfErr, OnOk};
 ghost use Rattle.qcow2_metadata.specs.Bytes.{byte_at};
 ghost use Rattle.qcow2_metadata.specs.Header.{header, IsInRange, IsWithinLimits};
+ghost use Rattle.qcow2_metadata.specs.Consistent.{IsConsistent};
 ghost use Rattle.qcow2_metadata.specs.MetadataError.{OnlyReads};
 ghost use Rattle.qcow2_check.specs.Tallies.{tally_in};
-ghost use Rattle.qcow2_check.specs.Report.{ArePassed, breach_lines, leak_lines, IsReasonNotToCheck, IsReasonNotToCount};
+ghost use Rattle.qcow2_check.specs.Report.{ArePassed, TablesRead, breach_lines, leak_lines, IsReasonNotToCheck, IsReasonNotToCount};
 
 use crate::counts::counts_of_reftable;
 use crate::header::{names_of_header, names_of_reftable};
@@ -42,6 +43,7 @@ fn tallies<S: Storage>(
     requires within_limits { IsWithinLimits header.now }
     ensures tallies { (S.view storage.old).is_honest → IfOk result (λ f. ArePassed header.now (byte_at (S.view storage.old).contents) (tally_in f.names.clusters)
         (tally_in f.offsets.l2_tables.clusters) (tally_in f.offsets.refblocks.clusters) (tally_in f.offsets.data.clusters)) }
+    ensures tables { (S.view storage.old).is_honest → OnOk result (TablesRead header.now (byte_at (S.view storage.old).contents)) }
     ensures refused { (S.view storage.old).is_honest → IfErr result (IsReasonNotToCount header.now (byte_at (S.view storage.old).contents)) }
     ensures reading { OnlyReads (S.view storage.old) (S.view storage.new) result }
 {
@@ -56,6 +58,7 @@ fn tallies<S: Storage>(
     let size: usize = 1 << header.cluster_bits;
     let mut buf = vec![in alloc; 0; size]?;
     names_of_l1_table(
+        alloc,
         &mut names,
         &mut offsets.data,
         header,
@@ -63,15 +66,23 @@ fn tallies<S: Storage>(
         &l1,
         buf.as_mut_slice(),
     )?;
-    counts_of_reftable(&mut names, header, storage, &reftable, buf.as_mut_slice())?;
+    counts_of_reftable(
+        alloc,
+        &mut names,
+        header,
+        storage,
+        &reftable,
+        buf.as_mut_slice(),
+    )?;
     Ok(Findings { names, offsets })
 }
 
 /// What is wrong with the image on a storage, by its bytes alone: each breach, in the order of `Breach` and then by rising number, and each cluster that is counted more often than
-/// named. Refused `Format` for a header, L1 table or reftable that doesn't read, and `Limit` for one that is too long or ends past 64 bits.
+/// named. There is no breach exactly where the image is consistent. Refused `Format` for a header, L1 table or reftable that doesn't read, and `Limit` for one that is too long or ends past 64 bits.
 pub fn check<S: Storage>(alloc: Global, storage: &mut S) -> Result<Report, MetadataError>
     ensures breaches { (S.view storage.old).is_honest → IfOk result (λ r. r.breaches.items
         ≡ breach_lines (header (byte_at (S.view storage.old).contents)) (byte_at (S.view storage.old).contents)) }
+    ensures consistent { (S.view storage.old).is_honest → IfOk result (λ r. (r.breaches.items ≡ []) ↔ IsConsistent (byte_at (S.view storage.old).contents)) }
     ensures leaks { (S.view storage.old).is_honest → IfOk result (λ r. r.leaks.items
         ≡ leak_lines (header (byte_at (S.view storage.old).contents)) (byte_at (S.view storage.old).contents)) }
     ensures refused { (S.view storage.old).is_honest

@@ -1,71 +1,39 @@
-//! The counts of clusters.
+//! The counts of clusters, each refblock read once.
 
-ghost use Rattle.std.specs.Prelude.{ℕ, ◌≡◌, ◌+◌, ◌*◌, ◌/◌, ◌<◌, ◌≤◌, ◌^◌, OnOk, IfErr, length};
-ghost use Rattle.qcow2_metadata.specs.Bytes.{byte_at};
+ghost use Rattle.std.specs.Prelude.{ℕ, ◌≡◌, ◌≢◌, ◌+◌, ◌*◌, ◌/◌, ◌<◌, ◌≤◌, ◌^◌, OnOk, IfOk, IfErr, IsSorted, length, sum_by, slice_index_or};
+ghost use Rattle.qcow2_metadata.specs.Bytes.{byte_at, sum_below};
 ghost use Rattle.qcow2_metadata.specs.Header.{cluster_size, count_width, counts_per_block, reftable_entries};
-ghost use Rattle.qcow2_metadata.specs.Entries.{block_count, count as count_of, reftable_entry};
+ghost use Rattle.qcow2_metadata.specs.Entries.{block_count, block_offset as place_of, count as count_of, reftable_entry};
 ghost use Rattle.qcow2_metadata.specs.MetadataError.{OnlyReads};
 ghost use Rattle.qcow2_metadata.specs.TableBytes.{entry_at as entry_of, IsOfStorageOrMemory};
-ghost use Rattle.qcow2_check.specs.Tallies.{tally_in, CountsRange, CountsAll};
-ghost use Rattle.qcow2_check.specs.Counted.{count_of_entry};
+ghost use Rattle.qcow2_check.specs.Tallies.{tally_in, CountsAll};
+ghost use Rattle.qcow2_check.specs.Counted.{count_at, number_of, HasCounts, Corrects, CorrectsUnder, IsRightOrNone};
 
 use crate::names::Names;
 use crate::source::read_at;
 use image_access::Storage;
 use qcow2_metadata::{HeaderFields, MetadataError, block_offset, entry_at, read_count};
-use std::alloc::AllocError;
+use std::alloc::{AllocError, Global};
 
-/// The counts of a refblock, of clusters from a first one on.
-pub(crate) fn counts_of_block(
+/// This count for count j under each of these entries of the reftable.
+fn set_counts(
     names: &mut Names,
-    header: &HeaderFields,
-    block: &[u8],
-    first: u64,
+    entries: &[(u64, u64)],
+    per_block: u64,
+    j: u64,
+    count: u64,
 ) -> Result<(), AllocError>
-    requires low { 9 ≤ header.now.cluster_bits }
-    requires bits { header.now.cluster_bits ≤ 21 }
-    requires order { header.now.refcount_order ≤ 6 }
-    requires whole { length block.now ≡ cluster_size header.now }
-    requires near { first < 2 ^ 62 }
-    requires fresh { (q : ℕ) → first ≤ q → (tally_in names.old.clusters q).count ≡ 0 }
-    ensures counts { OnOk result (CountsRange names.old.clusters names.new.clusters first (counts_per_block header.now)
-        (block_count (byte_at block.now) (count_width header.now) 0)) }
+    requires low { (i : ℕ) → number_of entries.now i < 2 ^ 20 }
+    requires few { per_block ≤ 2 ^ 24 }
+    requires inside { j < per_block }
+    ensures corrects { (truth : ℕ → ℕ) → ((i : ℕ) → i < length entries.now → truth (number_of entries.now i * per_block + j) ≡ count)
+        → OnOk result (Corrects names.old.clusters names.new.clusters truth) }
+    ensures counts { OnOk result ((i : ℕ) → i < length entries.now → (tally_in names.new.clusters (number_of entries.now i * per_block + j)).count ≡ count) }
     ensures total { names.new.total ≡ names.old.total }
 {
-    for j in 0..block.len() * 8 / (1 << header.refcount_order) {
-        let count = read_count(block, header.refcount_order, j);
-        names.set_count(first + j as u64, count)?;
+    for (_, entry) in entries {
+        names.set_count(*entry * per_block + j, count)?;
     }
-    Ok(())
-}
-
-/// The counts of the refblock that an entry of the reftable names, of clusters from a first one on.
-fn counts_of_entry<S: Storage>(
-    names: &mut Names,
-    header: &HeaderFields,
-    storage: &mut S,
-    entry: u64,
-    first: u64,
-    buf: &mut [u8],
-) -> Result<(), MetadataError>
-    requires low { 9 ≤ header.now.cluster_bits }
-    requires bits { header.now.cluster_bits ≤ 21 }
-    requires order { header.now.refcount_order ≤ 6 }
-    requires whole { length buf.old ≡ cluster_size header.now }
-    requires near { first < 2 ^ 62 }
-    requires fresh { (q : ℕ) → first ≤ q → (tally_in names.old.clusters q).count ≡ 0 }
-    ensures counts { (S.view storage.old).is_honest → OnOk result (CountsRange names.old.clusters names.new.clusters first (counts_per_block header.now)
-        (count_of_entry header.now (byte_at (S.view storage.old).contents) entry)) }
-    ensures beyond { OnOk result ((q : ℕ) → first + counts_per_block header.now ≤ q → (tally_in names.new.clusters q).count ≡ (tally_in names.old.clusters q).count) }
-    ensures causes { IfErr result IsOfStorageOrMemory }
-    ensures reading { OnlyReads (S.view storage.old) (S.view storage.new) result }
-{
-    let block = block_offset(entry);
-    if block == 0 {
-        return Ok(());
-    }
-    read_at(storage, block, buf)?;
-    counts_of_block(names, header, buf, first)?;
     Ok(())
 }
 
@@ -82,8 +50,79 @@ fn counts_per_block_of(header: &HeaderFields) -> u64
     size * 8 / (1 << header.refcount_order)
 }
 
+/// The counts of a refblock, under each of these entries of the reftable.
+fn counts_of_block(
+    names: &mut Names,
+    header: &HeaderFields,
+    block: &[u8],
+    entries: &[(u64, u64)],
+) -> Result<(), AllocError>
+    requires low { 9 ≤ header.now.cluster_bits }
+    requires bits { header.now.cluster_bits ≤ 21 }
+    requires order { header.now.refcount_order ≤ 6 }
+    requires whole { length block.now ≡ cluster_size header.now }
+    requires numbers { (i : ℕ) → number_of entries.now i < 2 ^ 20 }
+    ensures corrects { (truth : ℕ → ℕ) → HasCounts entries.now (counts_per_block header.now) truth (block_count (byte_at block.now) (count_width header.now) 0)
+        → IsRightOrNone names.old.clusters truth
+        → OnOk result (CorrectsUnder names.old.clusters names.new.clusters truth entries.now (counts_per_block header.now) (counts_per_block header.now)) }
+    ensures total { names.new.total ≡ names.old.total }
+{
+    let per_block = counts_per_block_of(header);
+    for j in 0..block.len() * 8 / (1 << header.refcount_order) {
+        let count = read_count(block, header.refcount_order, j);
+        if count == 0 {
+            continue;
+        }
+        set_counts(names, entries, per_block, j as u64, count)?;
+    }
+    Ok(())
+}
+
+/// The counts of the refblock at a place, under each of these entries of the reftable; none for 0.
+fn counts_of_block_at<S: Storage>(
+    names: &mut Names,
+    header: &HeaderFields,
+    storage: &mut S,
+    entries: &[(u64, u64)],
+    place: u64,
+    buf: &mut [u8],
+) -> Result<(), MetadataError>
+    requires low { 9 ≤ header.now.cluster_bits }
+    requires bits { header.now.cluster_bits ≤ 21 }
+    requires order { header.now.refcount_order ≤ 6 }
+    requires whole { length buf.old ≡ cluster_size header.now }
+    requires numbers { (i : ℕ) → number_of entries.now i < 2 ^ 20 }
+    ensures corrects { (S.view storage.old).is_honest → (truth : ℕ → ℕ)
+        → HasCounts entries.now (counts_per_block header.now) truth (count_at header.now (byte_at (S.view storage.old).contents) place)
+        → IsRightOrNone names.old.clusters truth
+        → OnOk result (CorrectsUnder names.old.clusters names.new.clusters truth entries.now (counts_per_block header.now) (counts_per_block header.now)) }
+    ensures causes { IfErr result IsOfStorageOrMemory }
+    ensures reading { OnlyReads (S.view storage.old) (S.view storage.new) result }
+{
+    if place == 0 {
+        return Ok(());
+    }
+    read_at(storage, place, buf)?;
+    counts_of_block(names, header, buf, entries)?;
+    Ok(())
+}
+
+/// The places of the refblocks, rising, each with the number of its entry in the reftable, and 0 for each entry without one.
+fn block_places(alloc: Global, reftable: &[u8]) -> Result<Vec<(u64, u64)>, AllocError>
+    ensures sums { IfOk result (λ places. (f : ℕ × ℕ → ℕ) → sum_by f places.items ≡ sum_below (length reftable.now / 8) (λ k. f (place_of (entry_of reftable.now k), k))) }
+{
+    let mut places = Vec::new(alloc);
+    for k in 0..reftable.len() / 8 {
+        let entry = entry_at(reftable, k);
+        places.push((block_offset(entry), k as u64))?;
+    }
+    places.sort_unstable();
+    Ok(places)
+}
+
 /// The counts of all clusters.
 pub(crate) fn counts_of_reftable<S: Storage>(
+    alloc: Global,
     names: &mut Names,
     header: &HeaderFields,
     storage: &mut S,
@@ -102,10 +141,18 @@ pub(crate) fn counts_of_reftable<S: Storage>(
     ensures causes { IfErr result IsOfStorageOrMemory }
     ensures reading { OnlyReads (S.view storage.old) (S.view storage.new) result }
 {
-    let per_block = counts_per_block_of(header);
-    for k in 0..reftable.len() / 8 {
-        let entry = entry_at(reftable, k);
-        counts_of_entry(names, header, storage, entry, k as u64 * per_block, buf)?;
+    let places = block_places(alloc, reftable)?;
+    let mut start = 0;
+    let mut place = 0;
+    for i in 0..places.len() {
+        let (next, _) = places[i];
+        if next == place {
+            continue;
+        }
+        counts_of_block_at(names, header, storage, &places[start..i], place, buf)?;
+        start = i;
+        place = next;
     }
+    counts_of_block_at(names, header, storage, &places[start..], place, buf)?;
     Ok(())
 }

@@ -12,51 +12,55 @@ use crate::names::Names;
 use qcow2_metadata::{HeaderFields, L2Mapping, entry_at};
 use std::alloc::AllocError;
 
-/// The clusters that compressed data touch.
+/// The clusters that compressed data touch, so many times.
 fn names_of_compressed(
     names: &mut Names,
     header: &HeaderFields,
     cover: &L2Mapping,
+    times: u64,
 ) -> Result<(), AllocError>
     requires low { 9 ≤ header.now.cluster_bits }
     requires bits { header.now.cluster_bits ≤ 21 }
     requires near { IsInReach cover.now }
-    requires room { names.old.total < 2 ^ 62 }
-    ensures grows { OnOk result (Grows names.old.clusters names.new.clusters (λ q. named_by_compressed header.now q cover.now) (λ _. 0) (λ _. 0)) }
-    ensures total { OnOk result (names.new.total ≤ names.old.total + 2 ^ 15) }
+    requires few { times ≤ 2 ^ 22 }
+    requires room { names.old.total < 2 ^ 61 }
+    ensures grows { OnOk result (Grows names.old.clusters names.new.clusters (λ q. times * named_by_compressed header.now q cover.now) (λ _. 0) (λ _. 0)) }
+    ensures total { OnOk result (names.new.total ≤ names.old.total + times * 2 ^ 15) }
 {
     let size: u64 = 1 << header.cluster_bits;
     match *cover {
         L2Mapping::Compressed { host, sectors } => {
             let first = host.value();
             let end = (first / 512 + sectors) * 512;
-            names.add_range(first / size, (end - 1) / size)
+            names.add_range(first / size, (end - 1) / size, times)
         }
         L2Mapping::Data { .. } | L2Mapping::Zero { .. } | L2Mapping::Uncovered => Ok(()),
     }
 }
 
-/// The clusters that an L2 entry names.
+/// The clusters that an L2 entry names, so many times.
 fn names_of_cover(
     names: &mut Names,
     header: &HeaderFields,
     cover: &L2Mapping,
+    times: u64,
 ) -> Result<(), AllocError>
     requires low { 9 ≤ header.now.cluster_bits }
     requires bits { header.now.cluster_bits ≤ 21 }
     requires near { IsInReach cover.now }
-    requires room { names.old.total < 2 ^ 62 }
+    requires few { times ≤ 2 ^ 22 }
+    requires room { names.old.total < 2 ^ 61 }
     ensures grows { OnOk result (Grows names.old.clusters names.new.clusters
-        (λ q. named_by_cover header.now q cover.now) (λ _. 0) (λ q. marked_by_cover header.now q cover.now)) }
-    ensures total { OnOk result (names.new.total ≤ names.old.total + 2 ^ 15) }
+        (λ q. times * named_by_cover header.now q cover.now) (λ _. 0) (λ q. times * marked_by_cover header.now q cover.now)) }
+    ensures total { OnOk result (names.new.total ≤ names.old.total + times * 2 ^ 15) }
 {
     let copied = cover.is_marked_copied();
     match cover.host() {
         Some(host) => {
             let cluster = host.value() / (1 << header.cluster_bits);
-            names.add(cluster, false, copied)
+            names.add_times(cluster, times, false, copied)
         }
-        None => names_of_compressed(names, header, cover),
+        None => names_of_compressed(names, header, cover, times),
     }
 }
 
@@ -67,26 +71,28 @@ pub(crate) fn has_external_data(header: &HeaderFields) -> bool
     header.incompatible / 4 % 2 == 1
 }
 
-/// The clusters that the entries of an L2 table name.
+/// The clusters that the entries of an L2 table name, so many times.
 pub(crate) fn names_of_l2_table(
     names: &mut Names,
     header: &HeaderFields,
     table: &[u8],
+    times: u64,
 ) -> Result<(), AllocError>
     requires low { 9 ≤ header.now.cluster_bits }
     requires bits { header.now.cluster_bits ≤ 21 }
     requires whole { length table.now ≡ cluster_size header.now }
-    requires room { names.old.total < 2 ^ 61 }
+    requires few { times ≤ 2 ^ 22 }
+    requires room { names.old.total < 2 ^ 60 }
     ensures grows { OnOk result (Grows names.old.clusters names.new.clusters
-        (named_by_entries header.now (byte_at table.now) 0 (entries_per_cluster header.now)) (λ _. 0)
-        (marked_by_entries header.now (byte_at table.now) 0 (entries_per_cluster header.now))) }
-    ensures total { OnOk result (names.new.total ≤ names.old.total + 2 ^ 33) }
+        (λ q. times * named_by_entries header.now (byte_at table.now) 0 (entries_per_cluster header.now) q) (λ _. 0)
+        (λ q. times * marked_by_entries header.now (byte_at table.now) 0 (entries_per_cluster header.now) q)) }
+    ensures total { OnOk result (names.new.total ≤ names.old.total + times * 2 ^ 33) }
 {
     let external = has_external_data(header);
     for j in 0..table.len() / 8 {
         let entry = entry_at(table, j);
         let cover = L2Mapping::of_entry(entry, header.cluster_bits, header.version == 3, external);
-        names_of_cover(names, header, &cover)?;
+        names_of_cover(names, header, &cover, times)?;
     }
     Ok(())
 }

@@ -1,62 +1,76 @@
 //! What the L1 table and its L2 tables name.
 
-ghost use Rattle.std.specs.Prelude.{ℕ, ◌≡◌, ◌+◌, ◌*◌, ◌/◌, ◌<◌, ◌≤◌, ◌^◌, OnOk, IfErr, length};
-ghost use Rattle.qcow2_metadata.specs.Bytes.{byte_at};
+ghost use Rattle.std.specs.Prelude.{ℕ, ◌≡◌, ◌+◌, ◌*◌, ◌/◌, ◌<◌, ◌≤◌, ◌^◌, OnOk, IfOk, IfErr, length, sum_by, IsSorted};
+ghost use Rattle.std.specs.Ordering.{nat_cmp};
+ghost use Rattle.qcow2_metadata.specs.Bytes.{byte_at, sum_below};
 ghost use Rattle.qcow2_metadata.specs.Header.{cluster_size};
-ghost use Rattle.qcow2_metadata.specs.Entries.{l1_entry};
+ghost use Rattle.qcow2_metadata.specs.Entries.{l1_entry, host_offset as place_of};
+ghost use Rattle.qcow2_metadata.specs.Named.{table_in};
 ghost use Rattle.qcow2_metadata.specs.MetadataError.{OnlyReads};
-ghost use Rattle.qcow2_metadata.specs.TableBytes.{entry_at as entry_of, IsOfStorageOrMemory};
+ghost use Rattle.qcow2_metadata.specs.TableBytes.{entry_at as entry_of, IsClusterBits, IsOfStorageOrMemory};
 ghost use Rattle.qcow2_check.specs.Tallies.{tally_in, Grows};
-ghost use Rattle.qcow2_check.specs.Offsets.{data_off_under, data_off_below};
-ghost use Rattle.qcow2_check.specs.Marks.{named_below, tables_below, marked_below, named_under, table_under, marked_under};
+ghost use Rattle.qcow2_check.specs.Offsets.{data_off_below};
+ghost use Rattle.qcow2_check.specs.Marks.{named_below, tables_below, marked_below, mark_of_entry, tables_among, marks_among};
 
-use crate::entries::names_of_l2_table;
+use crate::l2::names_of_l2_tables;
 use crate::names::Names;
-use crate::offsets::offsets_of_l2_table;
-use crate::source::read_at;
 use image_access::Storage;
 use qcow2_metadata::{HeaderFields, MetadataError, entry_at, host_offset, is_copied};
+use std::alloc::{AllocError, Global};
 
-/// The clusters that an L1 entry and its L2 table name. The buffer is of one cluster.
-fn names_of_l1_entry<S: Storage>(
-    names: &mut Names,
-    offsets: &mut Names,
-    header: &HeaderFields,
-    storage: &mut S,
-    entry: u64,
-    buf: &mut [u8],
-) -> Result<(), MetadataError>
-    requires low { 9 ≤ header.now.cluster_bits }
+/// The cluster of the L2 table that an L1 entry names, and the entry's mark.
+fn names_of_l1_entry(names: &mut Names, header: &HeaderFields, entry: u64) -> Result<(), AllocError>
     requires bits { header.now.cluster_bits ≤ 21 }
-    requires whole { length buf.old ≡ cluster_size header.now }
-    requires room { names.old.total < 2 ^ 60 }
-    requires offset_room { offsets.old.total < 2 ^ 60 }
-    ensures grows { (S.view storage.old).is_honest → OnOk result (Grows names.old.clusters names.new.clusters
-        (named_under header.now (byte_at (S.view storage.old).contents) entry)
-        (table_under header.now entry)
-        (marked_under header.now (byte_at (S.view storage.old).contents) entry)) }
-    ensures offsets { (S.view storage.old).is_honest → OnOk result (Grows offsets.old.clusters offsets.new.clusters
-        (data_off_under header.now (byte_at (S.view storage.old).contents) entry) (λ _. 0) (λ _. 0)) }
-    ensures total { OnOk result (names.new.total ≤ names.old.total + 2 ^ 34) }
-    ensures offset_total { OnOk result (offsets.new.total ≤ offsets.old.total + 2 ^ 34) }
-    ensures counts { OnOk result ((q : ℕ) → (tally_in names.new.clusters q).count ≡ (tally_in names.old.clusters q).count) }
-    ensures causes { IfErr result IsOfStorageOrMemory }
-    ensures reading { OnlyReads (S.view storage.old) (S.view storage.new) result }
+    requires room { names.old.total < 2 ^ 61 }
+    ensures grows { OnOk result (Grows names.old.clusters names.new.clusters
+        (λ q. table_in header.now q (place_of entry)) (λ q. table_in header.now q (place_of entry)) (mark_of_entry header.now entry)) }
+    ensures total { OnOk result (names.new.total ≤ names.old.total + 1) }
 {
-    let offset = host_offset(entry);
-    if offset == 0 {
+    let place = host_offset(entry);
+    if place == 0 {
         return Ok(());
     }
-    let cluster = offset / (1 << header.cluster_bits);
-    names.add(cluster, true, is_copied(entry))?;
-    read_at(storage, offset, buf)?;
-    names_of_l2_table(names, header, buf)?;
-    offsets_of_l2_table(offsets, header, buf)?;
+    names.add(place / (1 << header.cluster_bits), true, is_copied(entry))
+}
+
+/// The clusters of the L2 tables that the L1 table names, and its marks.
+fn names_of_l1_entries(
+    names: &mut Names,
+    header: &HeaderFields,
+    l1: &[u8],
+) -> Result<(), AllocError>
+    requires bits { header.now.cluster_bits ≤ 21 }
+    requires few { length l1.now ≤ 2 ^ 25 }
+    requires room { names.old.total < 2 ^ 59 }
+    ensures grows { OnOk result (Grows names.old.clusters names.new.clusters (tables_among header.now l1.now (length l1.now / 8))
+        (tables_among header.now l1.now (length l1.now / 8)) (marks_among header.now l1.now (length l1.now / 8))) }
+    ensures total { OnOk result (names.new.total ≤ names.old.total + 2 ^ 22) }
+{
+    for i in 0..l1.len() / 8 {
+        let entry = entry_at(l1, i);
+        names_of_l1_entry(names, header, entry)?;
+    }
     Ok(())
+}
+
+/// The places of the L2 tables, rising, each as often as an L1 entry names it, and 0 for each entry without one.
+fn table_places(alloc: Global, l1: &[u8]) -> Result<Vec<u64>, AllocError>
+    ensures long { IfOk result (λ places. length places.items ≡ length l1.now / 8) }
+    ensures rising { IfOk result (λ places. IsSorted nat_cmp places.items) }
+    ensures sums { IfOk result (λ places. (f : ℕ → ℕ) → sum_by f places.items ≡ sum_below (length l1.now / 8) (λ i. f (place_of (entry_of l1.now i)))) }
+{
+    let mut places = Vec::new(alloc);
+    for i in 0..l1.len() / 8 {
+        let entry = entry_at(l1, i);
+        places.push(host_offset(entry))?;
+    }
+    places.sort_unstable();
+    Ok(places)
 }
 
 /// The clusters that the L1 table and the L2 tables name. The buffer is of one cluster.
 pub(crate) fn names_of_l1_table<S: Storage>(
+    alloc: Global,
     names: &mut Names,
     offsets: &mut Names,
     header: &HeaderFields,
@@ -64,12 +78,10 @@ pub(crate) fn names_of_l1_table<S: Storage>(
     l1: &[u8],
     buf: &mut [u8],
 ) -> Result<(), MetadataError>
-    requires low { 9 ≤ header.now.cluster_bits }
-    requires bits { header.now.cluster_bits ≤ 21 }
+    requires bits { IsClusterBits header.now.cluster_bits }
     requires whole { length buf.old ≡ cluster_size header.now }
     requires few { length l1.now ≤ 2 ^ 25 }
-    requires room { names.old.total < 2 ^ 59 }
-    requires offset_room { offsets.old.total < 2 ^ 59 }
+    requires room { (names.old.total < 2 ^ 58) × (offsets.old.total < 2 ^ 58) }
     ensures grows { (S.view storage.old).is_honest → ((i : ℕ) → entry_of l1.now i ≡ l1_entry header.now (byte_at (S.view storage.old).contents) i)
         → OnOk result (Grows names.old.clusters names.new.clusters
         (named_below header.now (byte_at (S.view storage.old).contents) (length l1.now / 8))
@@ -77,14 +89,12 @@ pub(crate) fn names_of_l1_table<S: Storage>(
         (marked_below header.now (byte_at (S.view storage.old).contents) (length l1.now / 8))) }
     ensures offsets { (S.view storage.old).is_honest → ((i : ℕ) → entry_of l1.now i ≡ l1_entry header.now (byte_at (S.view storage.old).contents) i)
         → OnOk result (Grows offsets.old.clusters offsets.new.clusters (data_off_below header.now (byte_at (S.view storage.old).contents) (length l1.now / 8)) (λ _. 0) (λ _. 0)) }
-    ensures total { OnOk result (names.new.total ≤ names.old.total + 2 ^ 57) }
     ensures counts { OnOk result ((q : ℕ) → (tally_in names.new.clusters q).count ≡ (tally_in names.old.clusters q).count) }
     ensures causes { IfErr result IsOfStorageOrMemory }
     ensures reading { OnlyReads (S.view storage.old) (S.view storage.new) result }
 {
-    for i in 0..l1.len() / 8 {
-        let entry = entry_at(l1, i);
-        names_of_l1_entry(names, offsets, header, storage, entry, buf)?;
-    }
+    names_of_l1_entries(names, header, l1)?;
+    let places = table_places(alloc, l1)?;
+    names_of_l2_tables(names, offsets, header, storage, &places, buf)?;
     Ok(())
 }

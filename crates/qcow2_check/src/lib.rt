@@ -6,14 +6,13 @@ mod counts;
 mod entries;
 mod header;
 mod l1;
+mod l2;
 mod lines;
 mod names;
 mod offsets;
 mod report;
 mod source;
 mod tally;
-#[cfg(test)]
-mod tests;
 
 pub use checker::{Report, check};
 pub use report::{Breach, Kind, Leak};

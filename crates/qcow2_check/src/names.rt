@@ -1,8 +1,8 @@
 //! The clusters that an image names.
 
-ghost use Rattle.std.specs.Prelude.{ℕ, ◌≡◌, ◌+◌, ◌-◌, ◌<◌, ◌≤◌, ◌^◌, ◌&&◌, nat_le, nat_lt, OnOk, OnErr};
+ghost use Rattle.std.specs.Prelude.{ℕ, ◌≡◌, ◌+◌, ◌-◌, ◌*◌, ◌<◌, ◌≤◌, ◌^◌, ◌&&◌, nat_le, nat_lt, OnOk, OnErr};
 ghost use Rattle.qcow2_metadata.specs.Bytes.{one_if};
-ghost use Rattle.qcow2_check.specs.Tallies.{tally_in, no_tally, Adds, Counts, Grows, IsNear, IsSmall};
+ghost use Rattle.qcow2_check.specs.Tallies.{tally_in, no_tally, Adds, AddsTimes, Counts, Grows, IsNear, IsSmall};
 
 use crate::tally::Tally;
 use std::alloc::{AllocError, Global};
@@ -15,6 +15,13 @@ pub(crate) struct Names {
     pub(crate) total: u64,
     ghost bounded: { IsSmall clusters total },
     ghost near: { IsNear clusters },
+}
+
+/// So many, or none.
+fn times_if(times: u64, is: bool) -> u64
+    ensures { result ≡ times * one_if is }
+{
+    if is { times } else { 0 }
 }
 
 impl Names {
@@ -35,65 +42,60 @@ impl Names {
         for_table: bool,
         marked: bool,
     ) -> Result<(), AllocError>
-        requires room { self.old.total < 2 ^ 63 }
+        requires room { self.old.total < 2 ^ 62 }
         ensures adds { OnOk result (Adds self.old.clusters self.new.clusters cluster for_table marked) }
         ensures total { OnOk result (self.new.total ≡ self.old.total + 1) }
     {
-        let tally = match self.clusters.get(&cluster) {
-            Some(tally) => *tally,
-            None => Tally {
-                named: 0,
-                for_tables: 0,
-                marked: 0,
-                count: 0,
-            },
-        };
-        let next = Tally {
-            named: tally.named + 1,
-            for_tables: tally.for_tables + u64::from(for_table),
-            marked: tally.marked + u64::from(marked),
+        self.add_times(cluster, 1, for_table, marked)
+    }
+
+    /// So many more names of a cluster.
+    pub(crate) fn add_times(
+        &mut self,
+        cluster: u64,
+        times: u64,
+        for_table: bool,
+        marked: bool,
+    ) -> Result<(), AllocError>
+        requires room { self.old.total < 2 ^ 62 }
+        requires few { times ≤ 2 ^ 22 }
+        ensures adds { OnOk result (AddsTimes self.old.clusters self.new.clusters cluster times for_table marked) }
+        ensures total { OnOk result (self.new.total ≡ self.old.total + times) }
+    {
+        let tally = self.clusters.entry(cluster)?.or_insert(Tally::NONE);
+        *tally = Tally {
+            named: tally.named + times,
+            for_tables: tally.for_tables + times_if(times, for_table),
+            marked: tally.marked + times_if(times, marked),
             count: tally.count,
         };
-        self.clusters.insert(cluster, next)?;
-        self.total += 1;
+        self.total += times;
         Ok(())
     }
 
-    /// One more name of each cluster from the first to the last.
-    pub(crate) fn add_range(&mut self, first: u64, last: u64) -> Result<(), AllocError>
+    /// So many more names of each cluster from the first to the last.
+    pub(crate) fn add_range(&mut self, first: u64, last: u64, times: u64) -> Result<(), AllocError>
         requires some { first ≤ last }
-        requires few { last < first + 2 ^ 15 }
+        requires narrow { last < first + 2 ^ 15 }
         requires end { last < 2 ^ 63 }
-        requires room { self.old.total < 2 ^ 62 }
-        ensures grows { OnOk result (Grows self.old.clusters self.new.clusters (λ q. one_if (nat_le first q && nat_le q last)) (λ _. 0) (λ _. 0)) }
-        ensures total { OnOk result (self.new.total ≤ self.old.total + 2 ^ 15) }
+        requires few { times ≤ 2 ^ 22 }
+        requires room { self.old.total < 2 ^ 61 }
+        ensures grows { OnOk result (Grows self.old.clusters self.new.clusters (λ q. times * one_if (nat_le first q && nat_le q last)) (λ _. 0) (λ _. 0)) }
+        ensures total { OnOk result (self.new.total ≤ self.old.total + times * 2 ^ 15) }
     {
         for cluster in first..last + 1 {
-            self.add(cluster, false, false)?;
+            self.add_times(cluster, times, false, false)?;
         }
         Ok(())
     }
 
-    /// The count of a cluster that had none.
+    /// The count of a cluster.
     pub(crate) fn set_count(&mut self, cluster: u64, count: u64) -> Result<(), AllocError>
-        requires fresh { (tally_in self.old.clusters cluster).count ≡ 0 }
         ensures counts { OnOk result (Counts self.old.clusters self.new.clusters cluster count) }
         ensures total { self.new.total ≡ self.old.total }
     {
-        if count == 0 {
-            return Ok(());
-        }
-        let tally = match self.clusters.get(&cluster) {
-            Some(tally) => *tally,
-            None => Tally {
-                named: 0,
-                for_tables: 0,
-                marked: 0,
-                count: 0,
-            },
-        };
-        let next = Tally { count, ..tally };
-        self.clusters.insert(cluster, next)?;
+        let tally = self.clusters.entry(cluster)?.or_insert(Tally::NONE);
+        tally.count = count;
         Ok(())
     }
 

@@ -20,17 +20,23 @@ pub(crate) struct Offsets {
     pub(crate) data: Names,
 }
 
-/// An offset, where it isn't on a cluster.
-fn add_offset(offsets: &mut Names, header: &HeaderFields, place: u64) -> Result<(), AllocError>
+/// An offset so many times, where it isn't on a cluster.
+fn add_offset(
+    offsets: &mut Names,
+    header: &HeaderFields,
+    place: u64,
+    times: u64,
+) -> Result<(), AllocError>
     requires bits { header.now.cluster_bits ≤ 21 }
-    requires room { offsets.old.total < 2 ^ 62 }
-    ensures grows { OnOk result (Grows offsets.old.clusters offsets.new.clusters (λ o. off_cluster header.now o place) (λ _. 0) (λ _. 0)) }
-    ensures total { OnOk result (offsets.new.total ≤ offsets.old.total + 1) }
+    requires few { times ≤ 2 ^ 22 }
+    requires room { offsets.old.total < 2 ^ 61 }
+    ensures grows { OnOk result (Grows offsets.old.clusters offsets.new.clusters (λ o. times * off_cluster header.now o place) (λ _. 0) (λ _. 0)) }
+    ensures total { OnOk result (offsets.new.total ≤ offsets.old.total + times) }
 {
     if place % (1 << header.cluster_bits) == 0 {
         return Ok(());
     }
-    offsets.add(place, false, false)
+    offsets.add_times(place, times, false, false)
 }
 
 /// The offsets of refblocks.
@@ -46,7 +52,7 @@ pub(crate) fn offsets_of_reftable(
 {
     for k in 0..reftable.len() / 8 {
         let entry = entry_at(reftable, k);
-        add_offset(offsets, header, block_offset(entry))?;
+        add_offset(offsets, header, block_offset(entry), 1)?;
     }
     Ok(())
 }
@@ -64,46 +70,51 @@ pub(crate) fn offsets_of_l1_table(
 {
     for i in 0..l1.len() / 8 {
         let entry = entry_at(l1, i);
-        add_offset(offsets, header, host_offset(entry))?;
+        add_offset(offsets, header, host_offset(entry), 1)?;
     }
     Ok(())
 }
 
-/// The offset of data, or one that a zero entry keeps.
+/// The offset of data, or one that a zero entry keeps, so many times.
 fn offset_of_cover(
     offsets: &mut Names,
     header: &HeaderFields,
     cover: &L2Mapping,
+    times: u64,
 ) -> Result<(), AllocError>
     requires bits { header.now.cluster_bits ≤ 21 }
-    requires room { offsets.old.total < 2 ^ 62 }
-    ensures grows { OnOk result (Grows offsets.old.clusters offsets.new.clusters (λ o. off_cluster_if header.now o (host_of cover.now)) (λ _. 0) (λ _. 0)) }
-    ensures total { OnOk result (offsets.new.total ≤ offsets.old.total + 1) }
+    requires few { times ≤ 2 ^ 22 }
+    requires room { offsets.old.total < 2 ^ 61 }
+    ensures grows { OnOk result (Grows offsets.old.clusters offsets.new.clusters (λ o. times * off_cluster_if header.now o (host_of cover.now)) (λ _. 0) (λ _. 0)) }
+    ensures total { OnOk result (offsets.new.total ≤ offsets.old.total + times) }
 {
     match cover.host() {
-        Some(host) => add_offset(offsets, header, host.value()),
+        Some(host) => add_offset(offsets, header, host.value(), times),
         None => Ok(()),
     }
 }
 
-/// The offsets that the entries of an L2 table name.
+/// The offsets that the entries of an L2 table name, so many times.
 pub(crate) fn offsets_of_l2_table(
     offsets: &mut Names,
     header: &HeaderFields,
     table: &[u8],
+    times: u64,
 ) -> Result<(), AllocError>
     requires low { 9 ≤ header.now.cluster_bits }
     requires bits { header.now.cluster_bits ≤ 21 }
     requires whole { length table.now ≡ cluster_size header.now }
-    requires room { offsets.old.total < 2 ^ 61 }
-    ensures grows { OnOk result (Grows offsets.old.clusters offsets.new.clusters (data_off header.now (byte_at table.now) 0 (entries_per_cluster header.now)) (λ _. 0) (λ _. 0)) }
-    ensures total { OnOk result (offsets.new.total ≤ offsets.old.total + 2 ^ 33) }
+    requires few { times ≤ 2 ^ 22 }
+    requires room { offsets.old.total < 2 ^ 60 }
+    ensures grows { OnOk result (Grows offsets.old.clusters offsets.new.clusters
+        (λ o. times * data_off header.now (byte_at table.now) 0 (entries_per_cluster header.now) o) (λ _. 0) (λ _. 0)) }
+    ensures total { OnOk result (offsets.new.total ≤ offsets.old.total + times * 2 ^ 33) }
 {
     let external = has_external_data(header);
     for j in 0..table.len() / 8 {
         let entry = entry_at(table, j);
         let cover = L2Mapping::of_entry(entry, header.cluster_bits, header.version == 3, external);
-        offset_of_cover(offsets, header, &cover)?;
+        offset_of_cover(offsets, header, &cover, times)?;
     }
     Ok(())
 }

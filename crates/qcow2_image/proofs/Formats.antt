@@ -13,10 +13,11 @@ use Rattle.qcow2_alloc.specs.FreeList.{ListsTables}
 use Rattle.qcow2_alloc.specs.MetadataCaches.{IsEntryAt}
 use Rattle.qcow2_image.specs.declared.image.Qcow2.{Qcow2}
 use Rattle.qcow2_image.specs.declared.prepared.Prepared.{Prepared}
-use Rattle.qcow2_image.specs.declared.prepared.NewCluster.{NewCluster}
+use Rattle.qcow2_image.specs.declared.prepared.Share.{Share}
+use Rattle.qcow2_image.specs.declared.prepared.Share.TheVariants.{InPlace, Kept, New}
 use Rattle.qcow2_image.specs.NewTables.{SaysKnown}
 use Rattle.qcow2_image.specs.UnseenSteps.{ListGrows}
-use Rattle.qcow2_image.specs.ImageInvariant.{HasCluster, IsReadyWith}
+use Rattle.qcow2_image.specs.ImageInvariant.{IsShareAt, IsReadyWith}
 
 -- ---- what is read with it
 module _ (h : HeaderFields) (offset clusters : ℕ) (known on_storage : Bytes) where
@@ -24,20 +25,24 @@ module _ (h : HeaderFields) (offset clusters : ℕ) (known on_storage : Bytes) w
   unfolding l1_entry
   entry_with i table j is = record { real = is.real; place = is.place; within = is.within }
 
-  cluster_with : (q : Prepared) (n : Option NewCluster) → HasCluster h known on_storage q n → HasCluster (with_reftable h offset clusters) known on_storage q n
+  share_with : (q : Prepared) (i : ℕ) (share : Share) → IsShareAt h known on_storage q i share → IsShareAt (with_reftable h offset clusters) known on_storage q i share
   unfolding cover cover_under l1_entry
-  cluster_with q None is = record { begins = is.begins; entry = is.entry }
-  cluster_with q (Some n) is = record { begins = is.begins; one = is.one; kind = is.kind; nameable = is.nameable; index = is.index; entry = is.entry }
+  share_with q i InPlace is = is
+  share_with q i Kept is = record { first = is.first; place = is.place; nameable = is.nameable; entry = is.entry }
+  share_with q i (New taken dropped) is = record { first = is.first; is = is.is; place = is.place; nameable = is.nameable; entry = is.entry; reach = is.reach; drops = is.drops }
 
   ready_with : (q : Prepared) (t : Option ℕ) → IsReadyWith h known on_storage q t → IsReadyWith (with_reftable h offset clusters) known on_storage q t
   unfolding l1_entry
   ready_with q None is = is
   ready_with q (Some table) is = record {
     some = is.some;
+    begins = is.begins;
+    enough = is.enough;
+    no_more = is.no_more;
     within = is.within;
     named = record { real = is.named.real; place = is.named.place; within = is.named.within };
     copied = is.copied;
-    cluster = cluster_with q q.new_cluster is.cluster;
+    each = λ i share at. share_with q i share (is.each i share at);
   }
 
   says_with : (i : ℕ) (t : L2TableView) → SaysKnown h known i t → SaysKnown (with_reftable h offset clusters) known i t

@@ -1,8 +1,13 @@
 pub mod Sound
 pub mod Formats
 pub mod Ready
+pub mod Shares
+pub mod Apart
 pub mod Moving
 pub mod Free
+pub mod HiddenBytes
+pub mod Sizes
+pub mod Backings
 pub mod Open
 pub mod Create
 pub mod Grow
@@ -12,3 +17,4 @@ pub mod Prepare
 pub mod Commit
 pub mod Flush
 pub mod Call
+pub mod Clear

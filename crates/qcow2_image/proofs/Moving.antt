@@ -1,5 +1,5 @@
 -- A step on an image's file that no guest sees, as one on the image.
-use Rattle.std.proofs.Common.{◌≡◌, ℕ, ◌/◌, ◌<◌, List, [], Option, Some, refl, sym, ap, ◌∙◌, subst}
+use Rattle.std.proofs.Common.{◌≡◌, ℕ, ◌+◌, ◌/◌, ◌<◌, List, [], Option, Some, refl, sym, ap, ◌∙◌, subst}
 use Rattle.std.specs.Prelude.{IfSome}
 use Rattle.std.proofs.lemmas.List.{append-nil}
 use Rattle.image_access.specs.Backing.{BackingView}
@@ -41,8 +41,8 @@ module _ {S F : Type 0} (view : S → StorageView) (backing : F → BackingView)
   ready_moved : (k : ℕ) (q : Prepared) → IsReadyWith h (known_in view old.file) (contents_in view old.file) q q.table → IsReadyWith file.header.fields (known_in view file) (contents_in view file) q q.table
   ready_moved k q ready =
       ready_format h file.header.fields header (known_in view file) (contents_in view file) q q.table
-      (still_ready h (known_in view old.file) (contents_in view old.file) (known_in view file) (contents_in view file) q (moves.unseen.covers (cluster_of h q)) sound.file.caches.kept.kept.guarded.same_top.l1
-      (λ i. l1_shared h file.header.fields header (contents_in view file) (known_in view file) i (moves.sound.caches.kept.kept.guarded.same_top.l1 i)) (λ i copied. moves.l1_table i) q.table ready)
+      (still_ready h (known_in view old.file) (contents_in view old.file) (known_in view file) (contents_in view file) q sound.file.caches.kept.kept.guarded.same_top.l1
+      (λ i. l1_shared h file.header.fields header (contents_in view file) (known_in view file) i (moves.sound.caches.kept.kept.guarded.same_top.l1 i)) (λ i copied. moves.l1_table i) (λ i. moves.unseen.covers (cluster_of h q + i)) q.table ready)
 
   pub file_tidied : UnseenFreeingStep view backing p p' old (record old { file = file; allocator = allocator }) out
   file_tidied = record {

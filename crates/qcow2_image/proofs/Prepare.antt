@@ -13,3 +13,6 @@ pub mod PrepareCalls
 pub mod Writable
 pub mod PreparedAs
 pub mod Taken
+pub mod Extending
+pub mod Behind
+pub mod Onward

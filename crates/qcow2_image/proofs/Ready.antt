@@ -1,6 +1,6 @@
 -- Prepared mappings stand ready where what stands for guest clusters stays, and so do the L2 tables that are marked copied.
-use Rattle.std.proofs.Common.{◌≡◌, ℕ, ◌/◌, sym, ap, ◌∙◌}
-use Rattle.std.specs.Prelude.{Option, Some, None}
+use Rattle.std.proofs.Common.{◌≡◌, ℕ, ◌+◌, ◌/◌, sym, ap, ◌∙◌, subst}
+use Rattle.std.specs.Prelude.{Option, Some, None, slice_get}
 use Rattle.qcow2_metadata.specs.Bytes.{Bytes}
 use Rattle.qcow2_metadata.specs.declared.header.HeaderFields.{HeaderFields}
 use Rattle.qcow2_metadata.specs.Header.{entries_per_cluster}
@@ -8,29 +8,45 @@ use Rattle.qcow2_metadata.specs.Entries.{l1_entry, host_offset, is_copied}
 use Rattle.qcow2_metadata.specs.Cover.{cover}
 use Rattle.qcow2_laws.specs.Guests.{table_at}
 use Rattle.qcow2_image.specs.declared.prepared.Prepared.{Prepared}
-use Rattle.qcow2_image.specs.declared.prepared.NewCluster.{NewCluster}
+use Rattle.qcow2_image.specs.declared.prepared.Share.{Share}
+use Rattle.qcow2_image.specs.declared.prepared.Share.TheVariants.{InPlace, Kept, New}
 use Rattle.qcow2_image.specs.UnseenSteps.{NamesOwn}
-use Rattle.qcow2_image.specs.ImageInvariant.{cluster_of, HasCluster, IsPending, IsReadyWith}
+use Rattle.qcow2_metadata.specs.L2Mapping.{IsInReach, named_run}
+use Rattle.qcow2_laws.specs.Mappings.{is_copied_data}
+use Rattle.qcow2_image.specs.ImageInvariant.{cluster_of, listed_run, IsShareAt, IsPending, IsReadyWith}
 
-module _ (h : HeaderFields) (known on_storage known' on_storage' : Bytes) (q : Prepared) (covers : cover h known (cluster_of h q) ≡ cover h known' (cluster_of h q)) (top : (i : ℕ) → l1_entry h on_storage i ≡ l1_entry h known i) (top' : (i : ℕ) → l1_entry h on_storage' i ≡ l1_entry h known' i)
+-- a share stays where its cover does
+pub still_share : (h : HeaderFields) (known on_storage known' on_storage' : Bytes) (q : Prepared) (i : ℕ) → cover h known (cluster_of h q + i) ≡ cover h known' (cluster_of h q + i) → (share : Share) → IsShareAt h known on_storage q i share → IsShareAt h known' on_storage' q i share
+still_share h known on_storage known' on_storage' q i same InPlace is = sym same ∙ is
+still_share h known on_storage known' on_storage' q i same Kept is = record { first = is.first; place = is.place; nameable = is.nameable; entry = sym same ∙ is.entry }
+still_share h known on_storage known' on_storage' q i same (New taken dropped) is = record {
+  first = is.first;
+  is = is.is;
+  place = is.place;
+  nameable = is.nameable;
+  entry = ap is_copied_data (sym same) ∙ is.entry;
+  reach = subst IsInReach same is.reach;
+  drops = is.drops ∙ ap (λ v. listed_run (named_run h.cluster_bits v)) same;
+}
+
+module _ (h : HeaderFields) (known on_storage known' on_storage' : Bytes) (q : Prepared) (top : (i : ℕ) → l1_entry h on_storage i ≡ l1_entry h known i) (top' : (i : ℕ) → l1_entry h on_storage' i ≡ l1_entry h known' i)
     (copied : (i : ℕ) → NamesOwn (l1_entry h on_storage i) → l1_entry h on_storage' i ≡ l1_entry h on_storage i) where
-  still_placed : (n : Option NewCluster) → HasCluster h known on_storage q n → HasCluster h known' on_storage' q n
-  still_placed None is = record { begins = is.begins; entry = sym covers ∙ is.entry }
-  still_placed (Some n) is = record { begins = is.begins; one = is.one; kind = is.kind; nameable = is.nameable; index = is.index; entry = sym covers ∙ is.entry }
-
-  still_pending : (table : ℕ) → IsPending h known on_storage q table → IsPending h known' on_storage' q table
-  still_pending table is =
+  pub still_pending : (table : ℕ) → ((i : ℕ) (share : Share) → slice_get q.shares.items i ≡ Some share → IsShareAt h known' on_storage' q i share) → IsPending h known on_storage q table → IsPending h known' on_storage' q table
+  still_pending table shares is =
       let i = cluster_of h q / entries_per_cluster h in
       let same : l1_entry h on_storage' i ≡ l1_entry h on_storage i = copied i ((λ none. is.named.real (ap host_offset (sym (top i)) ∙ none)), is.copied) in
       let there : table_at h known' i ≡ table_at h known i = ap host_offset (sym (top' i) ∙ same ∙ top i) in
       record {
         some = is.some;
+        begins = is.begins;
+        enough = is.enough;
+        no_more = is.no_more;
         within = is.within;
         named = record { real = λ none. is.named.real (sym there ∙ none); place = there ∙ is.named.place; within = is.named.within };
         copied = ap is_copied same ∙ is.copied;
-        cluster = still_placed q.new_cluster is.cluster;
+        each = shares;
       }
 
-  pub still_ready : (table : Option ℕ) → IsReadyWith h known on_storage q table → IsReadyWith h known' on_storage' q table
-  still_ready None is = is
-  still_ready (Some table) is = still_pending table is
+  pub still_ready : ((i : ℕ) → cover h known (cluster_of h q + i) ≡ cover h known' (cluster_of h q + i)) → (table : Option ℕ) → IsReadyWith h known on_storage q table → IsReadyWith h known' on_storage' q table
+  still_ready covers None is = is
+  still_ready covers (Some table) is = still_pending table (λ i share at. still_share h known on_storage known' on_storage' q i (covers i) share (is.each i share at)) is

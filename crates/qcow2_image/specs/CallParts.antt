@@ -2,22 +2,21 @@
 use Rattle.qcow2_metadata.specs.Header.{cluster_size}
 use Rattle.qcow2_image.specs.UnseenSteps.{RefusedFillingStep, HoldsTable}
 use Rattle.qcow2_alloc.specs.ImageError.{IsFault as IsFaultOfTables}
-use Rattle.std.specs.Prelude.{Bool, true, ℕ, ◌+◌, ◌≡◌, ◌⊎◌, List, [], ◌∷◌, Option, Some, None, IfSome, IsSome, IsTrue, Result, Ok, Err, slice_get, slice_set}
+use Rattle.std.specs.Prelude.{Bool, true, false, ℕ, ◌+◌, ◌≡◌, ◌==◌, ◌⊎◌, List, [], ◌∷◌, Option, Some, None, IsSome, IsTrue, Result, Ok, Err, slice_get, slice_set, if◌then◌else◌}
 use Rattle.image_access.specs.Backing.{BackingView}
 use Rattle.image_access.specs.Contents.{overwritten}
 use Rattle.image_access.specs.Moments.{StorageView, Passing}
 use Rattle.qcow2_laws.specs.CrashInvariant.{SameCovers}
-use Rattle.qcow2_laws.specs.Calls.{IsFault, IsSame, Works, with_disk, with_slot}
-use Rattle.qcow2_laws.specs.Mappings.{PreparedMapping, IsPrepared, gift_of, gift_of_commit, put_mapping, put_disk, committed}
+use Rattle.qcow2_laws.specs.Calls.{IsFault, IsSame, Refuses, Works, with_disk, with_slot}
+use Rattle.qcow2_laws.specs.Mappings.{PreparedMapping, IsPrepared, gift_of_commit, put_mapping, put_disk, committed}
 use Rattle.qcow2_laws.specs.Unseen.{KeepsFormat}
 use Rattle.qcow2_laws.specs.AbstractImages.{Guest, guest_of}
 use Rattle.qcow2_alloc.specs.declared.error.ImageError.{ImageError}
 use Rattle.qcow2_alloc.specs.declared.error.ImageError.TheVariants as I
 use Rattle.qcow2_alloc.specs.ImageFile.{view_in, known_in}
-use Rattle.qcow2_alloc.specs.MetadataCaches.{l2_at}
 use Rattle.qcow2_image.specs.declared.image.Qcow2.{Qcow2}
 use Rattle.qcow2_image.specs.declared.prepared.Prepared.{Prepared}
-use Rattle.qcow2_image.specs.Calls.{refusal_of}
+use Rattle.qcow2_image.specs.Calls.{refusal_of, gifts_of_put}
 use Rattle.qcow2_image.specs.Image.{is_failed}
 use Rattle.qcow2_image.specs.ImageInvariant.{meaning, pending_in, abstract_of, ImageInvariant}
 
@@ -36,13 +35,22 @@ abbrev pub IsPut : Result (Unit {0}) ImageError → Guest → Guest → Guest �
 IsPut (Ok _) old put new = new ≡ put
 IsPut (Err e) old put new = (new ≡ old) ⊎ (e ≡ I.Storage)
 
+-- Of what a mapping at a place had private, what isn't private any more is visible, and all else is as before.
+pub record ShowsPart (old new : Guest) (k : ℕ) (m m' : PreparedMapping) : Type 0 where
+  pub slots : (j : ℕ) → new.slots j ≡ (if j == k then Some m' else old.slots j)
+  pub size : new.disk.size ≡ old.disk.size
+  pub from : m'.from ≡ m.from
+  pub length : m'.length ≡ m.length
+  pub private : (o : ℕ) → IsTrue (m'.is_private o) → IsTrue (m.is_private o) × (m'.shown o ≡ m.shown o) × (new.disk.value o ≡ old.disk.value o)
+  pub visible : (o : ℕ) → m'.is_private o ≡ false → new.disk.value o ≡ (committed old.disk m).value o
+
 -- a mapping of copied data that stands where it is, of which nothing is kept
 pub record IsExisting (p : Prepared) (number guest length : ℕ) : Type 0 where
   pub image : p.image ≡ number
   pub guest_is : p.guest ≡ guest
   pub length_is : p.length ≡ length
   pub table : p.table ≡ None
-  pub cluster : p.new_cluster ≡ None
+  pub shares : p.shares.items ≡ []
 
 module _ {S F : Type 0} (view : S → StorageView) where
   -- bytes are written to the storage, and nothing else changes
@@ -55,25 +63,25 @@ module _ {S F : Type 0} (view : S → StorageView) where
   module _ (backing : F → BackingView) where
     -- bytes are put into a mapping that is out
     pub record PutsPart (old new : Qcow2 S F) (out : List (Option Prepared)) (k : ℕ) (p : Prepared) (at : ℕ) (bytes : List ℕ) (result : Result (Unit {0}) ImageError) : Type 0 where
-      pub works : Works (abstract_of view backing old out) (abstract_of view backing new out) (gift_of (p.guest + at) bytes ∷ []) []
+      pub works : Works (abstract_of view backing old out) (abstract_of view backing new out) (gifts_of_put view backing old new (abstract_of view backing old out) p at bytes) []
       pub sound : ImageInvariant view backing (pending_in view backing new out) new out
       pub is : IsPut result (guest_of (abstract_of view backing old out)) (put_guest (guest_of (abstract_of view backing old out)) k (meaning view backing old p) at bytes) (guest_of (abstract_of view backing new out))
 
-    -- what was private is visible
-    pub record Committed (old new : Qcow2 S F) (out : List (Option Prepared)) (k : ℕ) (p : Prepared) : Type 0 where
-      pub works : Works (abstract_of view backing old out) (abstract_of view backing new (slice_set out k None)) (gift_of_commit (abstract_of view backing old out).setting.cluster_size (guest_of (abstract_of view backing old out)).disk (meaning view backing old p) ∷ []) []
-      pub sound : ImageInvariant view backing (pending_in view backing new (slice_set out k None)) new (slice_set out k None)
-      pub is : guest_of (abstract_of view backing new (slice_set out k None)) ≡ with_slot (with_disk (guest_of (abstract_of view backing old out)) (committed (guest_of (abstract_of view backing old out)).disk (meaning view backing old p))) k None
+    -- A mapping that is out is committed in part, and is out still as what is left of it.
+    pub record CommitsPart (old new : Qcow2 S F) (out : List (Option Prepared)) (k : ℕ) (p q : Prepared) : Type 0 where
+      pub works : Works (abstract_of view backing old out) (abstract_of view backing new (slice_set out k (Some q))) (gift_of_commit (abstract_of view backing old out).setting.cluster_size (guest_of (abstract_of view backing old out)).disk (meaning view backing old p) ∷ []) []
+      pub sound : ImageInvariant view backing (pending_in view backing new (slice_set out k (Some q))) new (slice_set out k (Some q))
+      pub shows : ShowsPart (guest_of (abstract_of view backing old out)) (guest_of (abstract_of view backing new (slice_set out k (Some q)))) k (meaning view backing old p) (meaning view backing new q)
 
-    -- a mapping that is out becomes visible, and its place is free
-    abbrev pub Enters : Qcow2 S F → Qcow2 S F → Prepared → Type 0
-    Enters old new p = (out : List (Option Prepared)) (k : ℕ) → slice_get out k ≡ Some (Some p) → IfSome p.table (λ t. IsSome (l2_at old.file.caches t)) → ImageInvariant view backing (pending_in view backing old out) old out
-        → Committed old new out k p
+    -- All of it is: nothing of it is private then.
+    pub record CommitsAll (old new : Qcow2 S F) (out : List (Option Prepared)) (k : ℕ) (p q : Prepared) : Type 0 where
+      pub part : CommitsPart old new out k p q
+      pub visible : (o : ℕ) → (meaning view backing new q).is_private o ≡ false
 
-    -- where it has a new cluster, a change is noted
-    abbrev pub NotesNew : Qcow2 S F → Qcow2 S F → Prepared → Type 0
-    NotesNew old new p = (out : List (Option Prepared)) (k : ℕ) → slice_get out k ≡ Some (Some p) → IfSome p.table (λ t. IsSome (l2_at old.file.caches t)) → ImageInvariant view backing (pending_in view backing old out) old out
-        → IsSome p.new_cluster → IsTrue new.file.caches.is_changed
+    -- the shares of a mapping that isn't existing are entered, with a change noted where one isn't in place
+    abbrev pub EntersAll : Qcow2 S F → Qcow2 S F → Prepared → Prepared → Bool → Type 0
+    EntersAll old new p q entered = (out : List (Option Prepared)) (k : ℕ) → slice_get out k ≡ Some (Some p) → IsSome p.table → ImageInvariant view backing (pending_in view backing old out) old out
+        → CommitsAll old new out k p q × (IsTrue entered → IsTrue new.file.caches.is_changed)
 
     -- The image is sound, and the guest sees what it saw: the same stands for each guest cluster.
     pub record UnseenCall (old new : Qcow2 S F) (out : List (Option Prepared)) : Type 0 where
@@ -93,10 +101,12 @@ module _ {S F : Type 0} (view : S → StorageView) where
     abbrev pub RefusedCall : Qcow2 S F → Qcow2 S F → List (Option Prepared) → ImageError → Type 0
     RefusedCall old new out e = UnseenCall old new out ⊎ InterruptedCall old new out e
 
-    -- At the end of a call that changed an entry clusters are freed, which no guest sees; or the image failed.
+    -- At the end of a call clusters are freed, which no guest sees. A fault refuses that, or want of memory; where a change was noted, the image failed then.
     abbrev pub EndsFreeing : Qcow2 S F → Qcow2 S F → List (Option Prepared) → Result (Unit {0}) ImageError → Type 0
     EndsFreeing old new out (Ok _) = UnseenCall old new out
-    EndsFreeing old new out (Err e) = Works (abstract_of view backing old out) (abstract_of view backing new out) [] [] × IsFault (refusal_of e) × IsTrue (is_failed new)
+    EndsFreeing old new out (Err e) =
+        Refuses (abstract_of view backing old out) (abstract_of view backing new out) [] [] (refusal_of e) (IsSame (abstract_of view backing old out) (abstract_of view backing new out))
+        × IsFault (refusal_of e) × (IsTrue old.file.caches.is_changed → IsTrue (is_failed new))
 
     -- the L2 table of an offset is found or made
     abbrev pub FindsTable : Qcow2 S F → Qcow2 S F → List (Option Prepared) → ℕ → Result ℕ ImageError → Type 0
@@ -107,6 +117,8 @@ module _ {S F : Type 0} (view : S → StorageView) where
     pub record IsReadied (old new : Qcow2 S F) (out : List (Option Prepared)) (k offset n : ℕ) (overwrite : Bool) (p : Prepared) : Type 0 where
       pub works : Works (abstract_of view backing old out) (abstract_of view backing new (slice_set out k (Some p))) [] []
       pub sound : ImageInvariant view backing (pending_in view backing new (slice_set out k (Some p))) new (slice_set out k (Some p))
+      pub header : KeepsFormat old.file.header.fields new.file.header.fields
+      pub covers : SameCovers old.file.header.fields (known_in view old.file) (known_in view new.file)
       pub prepared : IsPrepared (cluster_size old.file.header.fields) (guest_of (abstract_of view backing old out)).disk offset n overwrite (meaning view backing new p)
       pub is : guest_of (abstract_of view backing new (slice_set out k (Some p))) ≡ with_slot (guest_of (abstract_of view backing old out)) k (Some (meaning view backing new p))
 

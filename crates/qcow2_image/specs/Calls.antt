@@ -5,7 +5,7 @@ use Rattle.image_access.specs.Moments.{StorageView}
 use Rattle.qcow2_alloc.specs.declared.error.ImageError.{ImageError}
 use Rattle.qcow2_alloc.specs.declared.error.ImageError.TheVariants as I
 use Rattle.qcow2_laws.specs.Stops.{GivenBytes}
-use Rattle.qcow2_laws.specs.Mappings.{IsPrepared, put_mapping, put_disk, committed, gift_of, gift_of_commit}
+use Rattle.qcow2_laws.specs.Mappings.{IsPrepared, put_mapping, put_disk, committed, gift_of_put, gift_of_commit}
 use Rattle.qcow2_laws.specs.AbstractImages.{Guest, AbstractImage, guest_of, contents_of}
 use Rattle.qcow2_laws.specs.Calls.{Refusal, memory, storage, another, IsFault, Does, Refuses, IsSame, with_disk, with_slot}
 use Rattle.qcow2_image.specs.declared.image.Qcow2.{Qcow2}
@@ -56,13 +56,17 @@ module _ {S F : Type 0} (view : S → StorageView) (backing : F → BackingView)
       (IsPrepared v.setting.cluster_size (guest_of v).disk offset n overwrite (meaning view backing new p) × (guest_of w ≡ with_slot (guest_of v) k (Some (meaning view backing new p))))
   Prepares offset n overwrite (Err e) = (out : List (Option Prepared)) → let v = abstract_of view backing old out in let w = abstract_of view backing new out in Refuses v w [] [] (refusal_of e) (IsSame v w)
 
+  -- what a put gives: nothing that is hidden until the commit
+  abbrev pub gifts_of_put : AbstractImage → Prepared → ℕ → List ℕ → List GivenBytes
+  gifts_of_put v p at bytes = gift_of_put (guest_of v).disk (meaning view backing old p) at bytes ∷ []
+
   -- bytes are put into a mapping that is out: private ones are kept for the commit, all others are written to the disk
   abbrev pub Puts : Prepared → ℕ → List ℕ → Result (Unit {0}) ImageError → Type 0
   Puts p at bytes (Ok _) = (out : List (Option Prepared)) (k : ℕ) → slice_get out k ≡ Some (Some p)
-      → let v = abstract_of view backing old out in let w = abstract_of view backing new out in let m = meaning view backing old p in Does v w (gift_of (m.from + at) bytes ∷ []) []
+      → let v = abstract_of view backing old out in let w = abstract_of view backing new out in let m = meaning view backing old p in Does v w (gifts_of_put v p at bytes) []
       (guest_of w ≡ with_slot (with_disk (guest_of v) (put_disk (guest_of v).disk m at bytes)) k (Some (put_mapping m at bytes)))
   Puts p at bytes (Err e) = (out : List (Option Prepared)) (k : ℕ) → slice_get out k ≡ Some (Some p)
-      → let v = abstract_of view backing old out in let w = abstract_of view backing new out in Refuses v w (gift_of ((meaning view backing old p).from + at) bytes ∷ []) [] (refusal_of e) (IsSame v w)
+      → let v = abstract_of view backing old out in let w = abstract_of view backing new out in Refuses v w (gifts_of_put v p at bytes) [] (refusal_of e) (IsSame v w)
 
   -- what a commit gives: what the disk shows in the mapping's whole clusters
   abbrev pub gifts_of_commit : AbstractImage → Prepared → List GivenBytes

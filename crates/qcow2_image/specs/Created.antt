@@ -13,7 +13,7 @@ use Rattle.qcow2_metadata.specs.TableBytes.{entry_at}
 use Rattle.qcow2_laws.specs.Disk.{disk}
 use Rattle.qcow2_laws.specs.NewImages.{IsNewImage}
 use Rattle.qcow2_alloc.specs.declared.error.ImageError.{ImageError}
-use Rattle.qcow2_image.specs.Growing.{SameFormat}
+use Rattle.qcow2_image.specs.Growing.{SameFormat, ReachesSize}
 use Rattle.qcow2_image.specs.declared.builder.Qcow2CreateBuilder.{Qcow2CreateBuilder}
 
 -- the first eight bytes are the magic, and version 2 or 3
@@ -57,6 +57,8 @@ module _ {S : Type 0} where
     pub version : (header (byte_at storage.contents)).version ≡ 3
     pub clusters : cluster_size (header (byte_at storage.contents)) ≡ builder.cluster_size
     pub counts : count_width (header (byte_at storage.contents)) ≡ builder.refcount_width
+    -- as QEMU asks for
+    pub reaches : ReachesSize (header (byte_at storage.contents))
     pub no_backing_file : (header (byte_at storage.contents)).backing_offset ≡ 0
 
 -- ---- its parts
@@ -87,5 +89,5 @@ WritesThree h old new (Err _) = StaysCreating 0 old new
 
 -- it is opened, made larger and flushed, or a stop is as said above
 abbrev pub Enlarges : ℕ → StorageView → StorageView → Result (Unit {0}) ImageError → Type 0
-Enlarges n old new (Ok _) = StaysCreating n old new × IsUnwritten n (byte_at new.contents) × SameFormat (header (byte_at old.contents)) (header (byte_at new.contents))
+Enlarges n old new (Ok _) = StaysCreating n old new × IsUnwritten n (byte_at new.contents) × SameFormat (header (byte_at old.contents)) (header (byte_at new.contents)) × ReachesSize (header (byte_at new.contents))
 Enlarges n old new (Err _) = StopsCreating n old new

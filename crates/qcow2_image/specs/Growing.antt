@@ -11,8 +11,10 @@ use Rattle.qcow2_metadata.specs.TableBytes.{entry_at}
 use Rattle.qcow2_laws.specs.Changes.{with_fresh}
 use Rattle.qcow2_laws.specs.Clusters.{RbDependsOnL2}
 use Rattle.qcow2_laws.specs.CrashInvariant.{Pending, SameCovers, SameCounts}
+use Rattle.qcow2_laws.specs.Guests.{guests}
 use Rattle.qcow2_laws.specs.SafeSteps.{SafeStep, SafeThroughout}
 use Rattle.qcow2_laws.specs.Tops.{places_of, with_places, with_l1_at}
+use Rattle.qcow2_laws.specs.Unseen.{KeepsFormat}
 use Rattle.qcow2_alloc.specs.Allocation.{run_at}
 use Rattle.qcow2_alloc.specs.FreeList.{with_listed}
 use Rattle.qcow2_alloc.specs.MetadataCaches.{order_of}
@@ -28,6 +30,10 @@ use Rattle.qcow2_image.specs.ImageInvariant.{ImageInvariant, pending_in}
 -- the header differs only in numbers that are written again after it was created
 abbrev pub SameFormat : HeaderFields → HeaderFields → Type 0
 SameFormat h h' = h' ≡ with_places h (places_of h')
+
+-- the L1 table has an entry for each byte of the disk
+abbrev pub ReachesSize : HeaderFields → Type 0
+ReachesSize h = h.size ≤ guests h * cluster_size h
 
 -- how many clusters a table needs
 abbrev pub clusters_of : EntryTableView → ℕ
@@ -105,17 +111,19 @@ module _ {S F : Type 0} where
       Resizes p old new size (Ok _) = Extends p (pending_then p old new) old new (size ∷ []) × (size_of new ≡ size)
       Resizes p old new size (Err e) = Lasts old new (size ∷ [])
 
-      -- the disk has this size then, unless it was larger
+      -- The disk has this size then, unless it was larger. Where the L1 table reached its end it does so still.
       abbrev pub Grows : Qcow2 S F → Qcow2 S F → ℕ → Result (Unit {0}) ImageError → Type 0
       Grows old new size (Ok _) = Extends (pending_in view backing old []) (pending_in view backing new []) old new (size ∷ []) × (size_of new ≡ max (size_of old) size)
+          × (ReachesSize old.file.header.fields → ReachesSize new.file.header.fields)
       Grows old new size (Err e) = Lasts old new (size ∷ [])
 
       -- what is listed is freed, and all tables are written; what is listed then is pending still
       abbrev pub WritesBack : Pending → Qcow2 S F → Qcow2 S F → Result (Unit {0}) ImageError → Type 0
-      WritesBack p old new (Ok _) = Extends (with_listed p old.file.free_list) (with_listed p new.file.free_list) old new []
+      WritesBack p old new (Ok _) = Extends (with_listed p old.file.free_list) (with_listed p new.file.free_list) old new [] × KeepsFormat old.file.header.fields new.file.header.fields
       WritesBack p old new (Err e) = Lasts old new []
 
       -- so they are of a disk that was made larger
       abbrev pub GrowsWhole : Qcow2 S F → Qcow2 S F → ℕ → Result (Unit {0}) ImageError → Type 0
       GrowsWhole old new size (Ok _) = (p : Pending) × Extends (pending_in view backing old []) p old new (size ∷ []) × (size_of new ≡ max (size_of old) size)
+          × (ReachesSize old.file.header.fields → ReachesSize new.file.header.fields)
       GrowsWhole old new size (Err e) = Lasts old new (size ∷ [])

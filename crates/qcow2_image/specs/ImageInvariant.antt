@@ -1,5 +1,5 @@
 -- What contracts see of an open image: its disk, its prepared mappings, what is pending, and when it is sound.
-use Rattle.std.specs.Prelude.{ℕ, ◌+◌, ◌-◌, ◌*◌, ◌/◌, ◌%◌, ◌≡◌, ◌<◌, ◌≤◌, ◌==◌, ◌&&◌, Bool, true, false, is_some, IfSome, List, [], ◌∷◌, Option, None, Some, slice_get, if◌then◌else◌}
+use Rattle.std.specs.Prelude.{ℕ, ◌+◌, ◌-◌, ◌*◌, ◌/◌, ◌%◌, ◌≡◌, ◌<◌, ◌≤◌, ◌==◌, Bool, true, false, is_some, is_none, IfSome, List, [], ◌∷◌, length, nat_le, Option, None, Some, slice_get, if◌then◌else◌}
 use Rattle.std.specs.Option.{option_map_or}
 use Rattle.image_access.specs.Backing.{BackingView}
 use Rattle.image_access.specs.Moments.{StorageView}
@@ -11,22 +11,24 @@ use Rattle.qcow2_metadata.specs.Cover.{cover}
 use Rattle.qcow2_metadata.specs.Named.{named}
 use Rattle.qcow2_metadata.specs.Guest.{known_byte}
 use Rattle.qcow2_metadata.specs.EntryTable.{EntryTableView, IsL1TableOf, entry_count}
-use Rattle.qcow2_metadata.specs.L2Mapping.{IsHostCluster}
-use Rattle.qcow2_metadata.specs.declared.l2_mapping.L2Mapping.TheVariants.{Data, Uncovered}
+use Rattle.qcow2_metadata.specs.L2Mapping.{IsHostCluster, IsInReach, named_run}
+use Rattle.qcow2_metadata.specs.declared.l2_mapping.L2Mapping.TheVariants.{Data, Zero}
 use Rattle.qcow2_laws.specs.Disk.{Disk, disk}
 use Rattle.qcow2_laws.specs.CrashInvariant.{Pending}
-use Rattle.qcow2_laws.specs.Mappings.{PreparedMapping}
+use Rattle.qcow2_laws.specs.Mappings.{PreparedMapping, is_copied_data}
 use Rattle.qcow2_laws.specs.AbstractImages.{Abstraction, AbstractImage, abstract_image as view_of}
-use Rattle.qcow2_alloc.specs.declared.clusters_to_free.ClusterKind.TheVariants as Kind
+use Rattle.qcow2_alloc.specs.declared.clusters_to_free.ClustersToFreeEntry.{ClustersToFreeEntry}
+use Rattle.qcow2_alloc.specs.ClustersToFree.{data_entry}
 use Rattle.qcow2_alloc.specs.declared.image_file.ImageFile.{ImageFile}
 pub use Rattle.qcow2_alloc.specs.FreeList.{run_of, of_data, of_tables, to_free}
 use Rattle.qcow2_alloc.specs.MetadataCaches.{IsEntryAt}
 use Rattle.qcow2_alloc.specs.ImageFile.{l2_pins, view_in, contents_in, known_in, FileInvariant, HasReftable}
 use Rattle.qcow2_image.specs.declared.image.Qcow2.{Qcow2}
-use Rattle.qcow2_image.specs.declared.prepared.NewCluster.{NewCluster}
 use Rattle.qcow2_image.specs.declared.prepared.Prepared.{Prepared}
-use Rattle.qcow2_image.specs.Image.{number_of, is_failed}
-use Rattle.qcow2_image.specs.Prepared.{image_of}
+use Rattle.qcow2_image.specs.declared.prepared.Share.{Share}
+use Rattle.qcow2_image.specs.declared.prepared.Share.TheVariants.{InPlace, Kept, New}
+use Rattle.qcow2_image.specs.Image.{number_of, is_failed, is_writable}
+use Rattle.qcow2_image.specs.Prepared.{image_of, offset_of, length_of, table_of}
 
 -- ---- what is pending
 
@@ -34,12 +36,24 @@ use Rattle.qcow2_image.specs.Prepared.{image_of}
 abbrev pub pins_of : Option ℕ → ℕ → ℕ
 pins_of pinned table = option_map_or (λ t. one_if (t == table)) pinned 0
 
+-- how often shares hold a cluster
+abbrev pub held_in : List Share → ℕ → ℕ
+held_in [] k = 0
+held_in (InPlace ∷ shares) k = held_in shares k
+held_in (Kept ∷ shares) k = held_in shares k
+held_in (New taken dropped ∷ shares) k = to_free of_data taken k + held_in shares k
+
 -- how often a prepared mapping holds the cluster, and how often it pins the L2 table of a cluster
 abbrev pub held_by : Prepared → ℕ → ℕ
-held_by p k = option_map_or (λ (n : NewCluster). run_of n.pending k) p.new_cluster 0
+held_by p k = held_in p.shares.items k
 
 abbrev pub pins_by : Prepared → ℕ → ℕ
 pins_by p table = pins_of p.table table
+
+-- a run of clusters that is to be freed
+abbrev pub listed_run : Option (ℕ × ℕ) → List ClustersToFreeEntry
+listed_run None = []
+listed_run (Some run) = data_entry run.0 run.1 ∷ []
 
 -- how often all do
 abbrev pub over_all : (Prepared → ℕ → ℕ) → List (Option Prepared) → ℕ → ℕ
@@ -48,42 +62,75 @@ over_all f (p ∷ out) k = option_map_or (λ q. f q k) p 0 + over_all f out k
 
 -- ---- prepared mappings over the bytes of an image: those on the storage, and those known
 
+-- what isn't in place becomes visible as it is entered
+abbrev pub is_entered : Share → Bool
+is_entered InPlace = false
+is_entered Kept = true
+is_entered (New taken dropped) = true
+
+-- nothing on the storage names a new cluster
+abbrev pub is_new : Share → Bool
+is_new InPlace = false
+is_new Kept = false
+is_new (New taken dropped) = true
+
 module _ (h : HeaderFields) where
-  -- the guest cluster that a mapping lies in, and where its cluster begins in the file
+  -- the first guest cluster of a mapping, and where its cluster begins in the file
   abbrev pub cluster_of : Prepared → ℕ
   cluster_of p = p.guest / cluster_size h
 
   abbrev pub begin_of : Prepared → ℕ
   begin_of p = p.offset - p.guest % cluster_size h
 
+  -- where the i-th cluster of a mapping begins in the file: they follow one another
+  abbrev pub host_of : Prepared → ℕ → ℕ
+  host_of p i = begin_of p + i * cluster_size h
+
+  -- where a guest byte of it stands
+  abbrev pub place_of : Prepared → ℕ → ℕ
+  place_of p o = begin_of p + (o - cluster_of p * cluster_size h)
+
+  -- the share of a guest cluster, where it has one
+  abbrev pub share_of : Prepared → ℕ → Option Share
+  share_of p g = if nat_le (cluster_of p) g then slice_get p.shares.items (g - cluster_of p) else None
+
   module _ (known on_storage : Bytes) (p : Prepared) where
-    -- what its L2 entry says: copied data at its place, or nothing yet for a new cluster
-    pub record IsInPlace : Type 0 where
-      pub begins : begin_of p + p.guest % cluster_size h ≡ p.offset
-      pub entry : cover h known (cluster_of p) ≡ Data (begin_of p) true
+    -- what the L2 entry of its i-th guest cluster says: for a new cluster, what isn't copied data; what it names is dropped
+    pub record IsNewAt (i : ℕ) (taken dropped : List ClustersToFreeEntry) : Type 0 where
+      pub first : ℕ
+      pub is : taken ≡ data_entry first 1 ∷ []
+      pub place : first * cluster_size h ≡ host_of p i
+      pub nameable : IsHostCluster h.cluster_bits first
+      pub entry : is_copied_data (cover h known (cluster_of p + i)) ≡ false
+      pub reach : IsInReach (cover h known (cluster_of p + i))
+      pub drops : dropped ≡ listed_run (named_run h.cluster_bits (cover h known (cluster_of p + i)))
 
-    pub record IsNewFor (n : NewCluster) : Type 0 where
-      pub begins : n.pending.first_cluster * cluster_size h + p.guest % cluster_size h ≡ p.offset
-      pub one : n.pending.count ≡ 1
-      pub kind : n.pending.kind ≡ Kind.Data
-      pub nameable : IsHostCluster h.cluster_bits n.pending.first_cluster
-      pub index : n.index ≡ cluster_of p % entries_per_cluster h
-      pub entry : cover h known (cluster_of p) ≡ Uncovered
+    -- zeros, whose entry keeps the host cluster
+    pub record IsKeptAt (i : ℕ) : Type 0 where
+      pub first : ℕ
+      pub place : first * cluster_size h ≡ host_of p i
+      pub nameable : IsHostCluster h.cluster_bits first
+      pub entry : cover h known (cluster_of p + i) ≡ Zero (Some (host_of p i, true))
 
-    abbrev pub HasCluster : Option NewCluster → Type 0
-    HasCluster None = IsInPlace
-    HasCluster (Some n) = IsNewFor n
+    -- or copied data, where it stands
+    abbrev pub IsShareAt : ℕ → Share → Type 0
+    IsShareAt i InPlace = cover h known (cluster_of p + i) ≡ Data (host_of p i) true
+    IsShareAt i Kept = IsKeptAt i
+    IsShareAt i (New taken dropped) = IsNewAt i taken dropped
 
-    -- a mapping that isn't existing lies within one cluster, whose L2 table is the pinned one and marked copied
+    -- a mapping that isn't existing has a share for each cluster that it touches, all under one L2 table, which is the pinned one and marked copied
     pub record IsPending (table : ℕ) : Type 0 where
       pub some : 0 < p.length
-      pub within : p.guest % cluster_size h + p.length ≤ cluster_size h
+      pub begins : begin_of p + p.guest % cluster_size h ≡ p.offset
+      pub enough : p.guest % cluster_size h + p.length ≤ length p.shares.items * cluster_size h
+      pub no_more : length p.shares.items * cluster_size h < p.guest % cluster_size h + p.length + cluster_size h
+      pub within : cluster_of p % entries_per_cluster h + length p.shares.items ≤ entries_per_cluster h
       pub named : IsEntryAt h known (cluster_of p / entries_per_cluster h) table (cluster_of p % entries_per_cluster h)
       pub copied : is_copied (l1_entry h on_storage (cluster_of p / entries_per_cluster h)) ≡ true
-      pub cluster : HasCluster p.new_cluster
+      pub each : (i : ℕ) (share : Share) → slice_get p.shares.items i ≡ Some share → IsShareAt i share
 
     abbrev pub IsReadyWith : Option ℕ → Type 0
-    IsReadyWith None = p.new_cluster ≡ None
+    IsReadyWith None = p.shares.items ≡ []
     IsReadyWith (Some table) = IsPending table
 
 module _ {S F : Type 0} (view : S → StorageView) (backing : F → BackingView) where
@@ -103,16 +150,20 @@ module _ {S F : Type 0} (view : S → StorageView) (backing : F → BackingView)
 
   -- ---- prepared mappings
 
-  -- what it means: a new cluster is private until it is committed, and shows its bytes then
+  -- what it means: what isn't in place is private until it is committed, and shows its bytes then; what is new is hidden from stops too
   abbrev pub is_private : Qcow2 S F → Prepared → ℕ → Bool
-  is_private image p o = is_some p.new_cluster && o / cluster_size image.file.header.fields == cluster_of image.file.header.fields p
+  is_private image p o = option_map_or is_entered (share_of image.file.header.fields p (o / cluster_size image.file.header.fields)) false
+
+  abbrev pub is_hidden : Qcow2 S F → Prepared → ℕ → Bool
+  is_hidden image p o = option_map_or is_new (share_of image.file.header.fields p (o / cluster_size image.file.header.fields)) false
 
   abbrev pub meaning : Qcow2 S F → Prepared → PreparedMapping
   meaning image p = record {
     from = p.guest;
     length = p.length;
     is_private = is_private image p;
-    shown = λ o. known_byte (if is_private image p o then contents_in view image.file (begin_of image.file.header.fields p + o % cluster_size image.file.header.fields) else 0);
+    is_hidden = is_hidden image p;
+    shown = λ o. known_byte (if is_private image p o then contents_in view image.file (place_of image.file.header.fields p o) else 0);
   }
 
   -- it is this image's own, and its clusters stand ready
@@ -167,7 +218,9 @@ module _ {S F : Type 0} (view : S → StorageView) (backing : F → BackingView)
     known = λ image. known_in view image.file;
     is_sound = λ image out. ImageInvariant (pending_in image out) image out;
     surplus = surplus_in;
+    to_be_freed = λ image k. if is_writable image then to_free of_tables image.file.free_list k + to_free of_data image.file.free_list k else 0;
     means = meaning;
+    host = λ p. record { offset = offset_of p; length = length_of p; is_existing = is_none (table_of p) };
   }
 
   -- the disk that a guest knows

@@ -1,5 +1,4 @@
 pub mod CopyRange
-pub mod FirstCluster
 pub mod Image
 pub mod Prepared
 pub mod Refusals
@@ -13,3 +12,6 @@ pub mod Opened
 pub mod Preparing
 pub mod Created
 pub mod Growing
+pub mod Backings
+pub mod Ranges
+pub mod Clearing

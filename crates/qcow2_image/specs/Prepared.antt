@@ -1,5 +1,5 @@
 -- What a contract sees of a prepared mapping.
-use Rattle.std.specs.Prelude.{◌≡◌, ℕ, Option, IsSome}
+use Rattle.std.specs.Prelude.{◌≡◌, ℕ, Option}
 use Rattle.qcow2_image.specs.declared.prepared.Prepared.{Prepared}
 use Rattle.qcow2_image.specs.declared.prepared.CommitRefused.{CommitRefused}
 use Rattle.qcow2_image.specs.declared.prepared.CommitRefused.TheVariants.{Kept, Spent}
@@ -18,10 +18,6 @@ length_of p = p.length
 -- the cluster of the L2 table that is kept as it is for it; an existing mapping has none
 abbrev pub table_of : Prepared → Option ℕ
 table_of p = p.table
-
--- it has a new cluster, which a commit enters in its table
-abbrev pub HasNewCluster : Prepared → Type 0
-HasNewCluster p = IsSome p.table × IsSome p.new_cluster
 
 -- a refused commit that hands a mapping back hands back this one
 abbrev pub IsKept : Prepared → CommitRefused → Type 0

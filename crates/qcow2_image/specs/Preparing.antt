@@ -1,17 +1,18 @@
 -- What is answered of a range that is to be written, by what was known before.
-use Rattle.std.specs.Prelude.{ℕ, ◌+◌, ◌-◌, ◌*◌, ◌/◌, ◌%◌, ◌<◌, ◌≤◌, ◌≡◌, ◌↔◌, true, false, List, slice_get, Option, Some, None, IfSome, IsNone, IsSome, IsTrue}
+use Rattle.std.specs.Prelude.{ℕ, ◌+◌, ◌-◌, ◌*◌, ◌/◌, ◌%◌, ◌<◌, ◌≤◌, ◌≡◌, ◌↔◌, ◌⊎◌, true, false, List, slice_get, Option, Some, None, IsNone, IsSome, IsTrue}
 use Rattle.qcow2_metadata.specs.Bytes.{Bytes}
 use Rattle.qcow2_metadata.specs.Header.{cluster_size}
 use Rattle.qcow2_metadata.specs.Cover.{cover}
 use Rattle.qcow2_metadata.specs.Entries.{count}
 use Rattle.qcow2_metadata.specs.Named.{named}
 use Rattle.qcow2_metadata.specs.declared.header.HeaderFields.{HeaderFields}
+use Rattle.qcow2_metadata.specs.declared.l2_mapping.L2Mapping.TheVariants.{Zero}
 use Rattle.qcow2_laws.specs.Alike.{IsDataAt, AreDataAt}
-use Rattle.qcow2_laws.specs.Mappings.{PreparedMapping, is_copied_data, IsPrivateIn}
-use Rattle.qcow2_image.specs.declared.prepared.NewCluster.{NewCluster}
+use Rattle.qcow2_laws.specs.Mappings.{PreparedMapping, IsPrivateIn}
 use Rattle.qcow2_image.specs.declared.prepared.Prepared.{Prepared}
 use Rattle.qcow2_laws.specs.Found.{rest_of_table}
 use Rattle.qcow2_image.specs.Found.{l1_index_of}
+use Rattle.qcow2_image.specs.Ranges.{EndsAt}
 use Rattle.qcow2_image.specs.Prepared.{length_of, offset_of, table_of}
 
 -- an existing mapping of no byte, at offset 0
@@ -22,9 +23,9 @@ IsOfNothing p = IsNone (table_of p) × (offset_of p ≡ 0) × (length_of p ≡ 0
 abbrev pub IsHeldAlone : HeaderFields → Bytes → ℕ → Type 0
 IsHeldAlone h known host = (count h known host ≡ 1) × (named h known host ≡ 0)
 
--- so is the new cluster of a mapping, where it has one
-abbrev pub HasItsOwn : HeaderFields → Bytes → Option NewCluster → Type 0
-HasItsOwn h known cluster = IfSome cluster (λ n. IsHeldAlone h known n.pending.first_cluster)
+-- a host cluster that the zero entry of a guest cluster keeps
+abbrev pub IsKeptBy : HeaderFields → Bytes → ℕ → ℕ → Type 0
+IsKeptBy h known guest host = cover h known guest ≡ Zero (Some (host * cluster_size h, true))
 
 module _ (h : HeaderFields) (known : Bytes) (offset : ℕ) where
   -- n bytes may be written where they are: within one L2 table, and copied data in a row from a place on
@@ -32,14 +33,19 @@ module _ (h : HeaderFields) (known : Bytes) (offset : ℕ) where
   IsWritableAt n place = (n ≤ rest_of_table h offset) × AreDataAt h known true offset place n
 
   -- The mapping p of n bytes, which means m. It is existing exactly where all of them may be written where they are, and is just that range then.
-  -- Else it is the rest of the first cluster. What is copied data is in place, where it is; all else is private, at the same byte of a cluster that is its own by the header and what is known now.
+  -- Else it is the rest of the first cluster at least, and behind that as much of the range as can stand in a row, within one L2 table; where it is shorter than the range, there is a cause.
+  -- What is copied data is in place, where it is; all else is private, at the same byte of a cluster that is its own by the header and what is known now, or that its zero entry keeps.
   pub record IsAnswered (n : ℕ) (h' : HeaderFields) (now : Bytes) (p : Prepared) (m : PreparedMapping) : Type 0 where
     pub existing : IsNone (table_of p) ↔ ((place : ℕ) × IsWritableAt n place)
     pub whole : IsNone (table_of p) → length_of p ≡ n
-    pub rest : IsSome (table_of p) → length_of p ≡ cluster_size h - offset % cluster_size h
+    pub first : IsSome (table_of p) → cluster_size h - offset % cluster_size h ≤ length_of p
+    pub most : IsSome (table_of p) → n < length_of p → length_of p ≡ cluster_size h - offset % cluster_size h
+    pub within : length_of p ≤ rest_of_table h offset
+    pub short : length_of p < n → EndsAt h' now (offset + length_of p) (offset_of p + length_of p)
     pub private : IsPrivateIn h known m
     pub in_place : (i : ℕ) → i < length_of p → m.is_private (offset + i) ≡ false → IsDataAt h known true (offset + i) (offset_of p + i)
-    pub in_new : IsTrue (m.is_private offset) → (offset_of p % cluster_size h ≡ offset % cluster_size h) × IsHeldAlone h' now (offset_of p / cluster_size h)
+    pub own : (i : ℕ) → i < length_of p → IsTrue (m.is_private (offset + i))
+        → ((offset_of p + i) % cluster_size h ≡ (offset + i) % cluster_size h) × (IsHeldAlone h' now ((offset_of p + i) / cluster_size h) ⊎ IsKeptBy h known ((offset + i) / cluster_size h) ((offset_of p + i) / cluster_size h))
 
   -- why the mapping may be refused as of a prepared table: one that is out, and isn't existing, lies in the same L2 table, and not all of the range may be written where it is
   pub record IsTaken (n : ℕ) (out : List (Option Prepared)) : Type 0 where
@@ -56,15 +62,3 @@ module _ (h : HeaderFields) (known : Bytes) (offset : ℕ) where
   abbrev pub IsPlaceOf : ℕ → Option ℕ → Type 0
   IsPlaceOf n None = (place : ℕ) → ¬ IsWritableAt n place
   IsPlaceOf n (Some place) = IsWritableAt n place
-
-  -- copied data where it is, or the same byte of a new cluster for what isn't copied data
-  abbrev pub IsHostOf : ℕ → Option NewCluster → Type 0
-  IsHostOf place None = IsDataAt h known true offset place
-  IsHostOf place (Some n) = (is_copied_data (cover h known (offset / cluster_size h)) ≡ false) × (place ≡ n.pending.first_cluster * cluster_size h + offset % cluster_size h)
-
-  -- a mapping of the rest of the first cluster, which isn't existing
-  pub record IsRest (p : Prepared) : Type 0 where
-    pub guest : p.guest ≡ offset
-    pub table : IsSome p.table
-    pub length : p.length ≡ cluster_size h - offset % cluster_size h
-    pub host : IsHostOf p.offset p.new_cluster

@@ -1,6 +1,6 @@
 -- What the parts of a call do to a sound image.
 use Rattle.qcow2_metadata.specs.Bytes.{is_within}
-use Rattle.std.specs.Prelude.{ℕ, ◌+◌, ◌-◌, ◌*◌, ◌%◌, ◌&&◌, min, Bool, false, ◌/◌, ◌<◌, ◌≤◌, ◌≡◌, ◌⊎◌, ◌++◌, true, List, [], ◌∷◌, Option, Some, None, IsSome, Result, Ok, Err, ◌≢◌}
+use Rattle.std.specs.Prelude.{ℕ, ◌+◌, ◌-◌, ◌*◌, ◌%◌, ◌^◌, ◌&&◌, min, Bool, false, ◌/◌, ◌<◌, ◌≤◌, ◌≡◌, ◌⊎◌, ◌++◌, true, List, [], ◌∷◌, Option, Some, IsSome, IsTrue, Result, Ok, Err, ◌≢◌, slice_get, slice_set}
 use Rattle.image_access.specs.Backing.{BackingView}
 use Rattle.image_access.specs.Moments.{StorageView}
 use Rattle.qcow2_metadata.specs.Entries.{l1_entry, host_offset, is_copied}
@@ -17,13 +17,17 @@ use Rattle.qcow2_image.specs.declared.prepared.Prepared.{Prepared}
 use Rattle.qcow2_alloc.specs.CacheMarks.{l2_pins, KeepsMarks, SameTables}
 use Rattle.qcow2_alloc.specs.FreeList.{with_listed, pending_then as since_listed}
 use Rattle.qcow2_alloc.specs.MetadataCaches.{order_of, l2_at, IsEntryAt, MapsEntry, NotesEntry}
-use Rattle.qcow2_image.specs.declared.prepared.NewCluster.{NewCluster}
+use Rattle.qcow2_image.specs.declared.prepared.Share.{Share}
+use Rattle.qcow2_image.specs.declared.prepared.Share.TheVariants.{InPlace, Kept, New}
 use Rattle.qcow2_laws.specs.CrashInvariant.{SameCovers}
 use Rattle.qcow2_laws.specs.AbstractImages.{guest_of}
+use Rattle.qcow2_metadata.specs.Cover.{cover}
+use Rattle.qcow2_metadata.specs.Guest.{known_byte}
 use Rattle.qcow2_metadata.specs.Header.{cluster_size}
+use Rattle.qcow2_metadata.specs.declared.l2_mapping.L2Mapping.{L2Mapping}
 use Rattle.qcow2_laws.specs.Changes.{with_held}
 use Rattle.qcow2_alloc.specs.declared.clusters_to_free.ClusterKind.TheVariants as Kind
-use Rattle.qcow2_image.specs.ImageInvariant.{run_of, held_by, over_all, pins_of, backing_bytes, below_of, abstract_of, ImageInvariant}
+use Rattle.qcow2_image.specs.ImageInvariant.{run_of, held_by, is_entered, over_all, pins_of, below_of, disk_of, abstract_of, ImageInvariant}
 
 -- an L1 entry names a table and is marked copied
 abbrev pub NamesOwn : ℕ → Type 0
@@ -41,10 +45,18 @@ is_announced size offset length overwrite i = overwrite && is_within (offset % s
 abbrev pub AreThere : {S : Type 0} → (S → StorageView) → ImageFile S → ℕ → ℕ → (ℕ → ℕ) → Type 0
 AreThere view file at n values = (i : ℕ) → i < n → contents_in view file (at + i) ≡ values i
 
--- what becomes of the cluster of a mapping that is dropped
-abbrev pub freed_by : Option NewCluster → List ClustersToFreeEntry
-freed_by None = []
-freed_by (Some n) = n.pending ∷ []
+-- what becomes of the new clusters of shares that are dropped
+abbrev pub freed_by : List Share → List ClustersToFreeEntry
+freed_by [] = []
+freed_by (InPlace ∷ shares) = freed_by shares
+freed_by (Kept ∷ shares) = freed_by shares
+freed_by (New taken dropped ∷ shares) = taken ++ freed_by shares
+
+-- what stood there before a share is entered
+abbrev pub dropped_by : Share → List ClustersToFreeEntry
+dropped_by InPlace = []
+dropped_by Kept = []
+dropped_by (New taken dropped) = dropped
 
 module _ {S F : Type 0} where
   -- clusters are put on the list of those to be freed, and nothing else changes
@@ -59,10 +71,16 @@ module _ {S F : Type 0} where
     pub entered : (t : ℕ) → table ≡ Some t → (answer : Option (ℕ × ℕ)) × MapsEntry old.file.caches new.file.caches t index host answer
     pub noted : (t : ℕ) → table ≡ Some t → NotesEntry old.file.caches new.file.caches t index host
 
-  -- so is that of a new cluster, where there is one
-  abbrev pub EntersNew : Option ℕ → Option NewCluster → Qcow2 S F → Qcow2 S F → Type 0
-  EntersNew table None old new = new ≡ old
-  EntersNew table (Some n) old new = EntersCluster table n.index n.pending.first_cluster old new
+  -- A share that isn't in place is entered in the table of its mapping, where its cluster stands in the file, and is in place then. What stood there before is to be freed. Nothing else changes.
+  pub record EntersShare (i : ℕ) (p p' : Prepared) (old new : Qcow2 S F) : Type 0 where
+    pub share : Share
+    pub was : slice_get p.shares.items i ≡ Some share
+    pub entered : IsTrue (is_entered share)
+    pub mapping : p' ≡ record p { shares = p'.shares }
+    pub shares : p'.shares.items ≡ slice_set p.shares.items i InPlace
+    pub mid : Qcow2 S F
+    pub enters : EntersCluster p.table (min (l2_index_of old.file.header.fields p.guest + i) (2 ^ 64 - 1)) (min (p.offset / cluster_size old.file.header.fields + i) (2 ^ 64 - 1)) old mid
+    pub lists : FreesLater (dropped_by share) mid new
 
   -- an L2 table has one pin less, where one is named, and nothing else changes
   pub record Unpins (table : Option ℕ) (old new : Qcow2 S F) : Type 0 where
@@ -162,11 +180,15 @@ module _ {S F : Type 0} where
       pub unused : over_all held_by out cluster ≡ 0
       pub inside : (i : ℕ) → i < n → (at + i) / cluster_size image.file.header.fields ≡ cluster
 
-    -- A new cluster has what the disk below has for the guest cluster of an offset, but where it is announced as overwritten.
+    -- so many bytes are copied from a guest offset to a place of the file
+    abbrev pub IsCopied : Qcow2 S F → Qcow2 S F → ℕ → ℕ → ℕ → Type 0
+    IsCopied old new at guest n = (i : ℕ) → i < n → known_byte (contents_in view new.file (at + i)) ≡ (disk_of view backing old).value (guest + i)
+
+    -- A new cluster has what the guest sees of the guest cluster of an offset, but where it is announced as overwritten.
     abbrev pub IsFilled : Qcow2 S F → Qcow2 S F → ℕ → ℕ → ℕ → Bool → Type 0
     IsFilled old new cluster offset length overwrite =
         let size = cluster_size old.file.header.fields in
-        (i : ℕ) → i < size → is_announced size offset length overwrite i ≡ false → contents_in view new.file (cluster * size + i) ≡ backing_bytes view backing old.backing (offset - offset % size + i)
+        (i : ℕ) → i < size → is_announced size offset length overwrite i ≡ false → known_byte (contents_in view new.file (cluster * size + i)) ≡ (disk_of view backing old).value (offset - offset % size + i)
 
     -- a cluster is taken for data
     abbrev pub TakesData : Pending → Qcow2 S F → Qcow2 S F → List (Option Prepared) → Result ClustersToFreeEntry ImageError → Type 0
@@ -174,13 +196,13 @@ module _ {S F : Type 0} where
     TakesData p old new out (Err e) = RefusedFillingStep p old new out e
 
     -- a new cluster that no mapping has yet
-    pub record IsGained (p : Pending) (old new : Qcow2 S F) (out : List (Option Prepared)) (offset length : ℕ) (overwrite : Bool) (n : ClustersToFreeEntry) : Type 0 where
+    pub record IsGained (p : Pending) (old new : Qcow2 S F) (out : List (Option Prepared)) (offset length : ℕ) (overwrite : Bool) (mapping : L2Mapping) (n : ClustersToFreeEntry) : Type 0 where
       pub one : n.count ≡ 1
       pub kind : n.kind ≡ Kind.Data
       pub unused : over_all held_by out n.first_cluster ≡ 0
       pub goes : UnseenFillingStep p (with_held (pending_then p old new) (run_of n)) old new out
-      pub filled : IsFilled old new n.first_cluster offset length overwrite
+      pub filled : cover old.file.header.fields (known_in view old.file) (offset / cluster_size old.file.header.fields) ≡ mapping → IsFilled old new n.first_cluster offset length overwrite
 
-    abbrev pub Gains : Pending → Qcow2 S F → Qcow2 S F → List (Option Prepared) → ℕ → ℕ → Bool → Result ClustersToFreeEntry ImageError → Type 0
-    Gains p old new out offset length overwrite (Ok n) = IsGained p old new out offset length overwrite n
-    Gains p old new out offset length overwrite (Err e) = RefusedFillingStep p old new out e
+    abbrev pub Gains : Pending → Qcow2 S F → Qcow2 S F → List (Option Prepared) → ℕ → ℕ → Bool → L2Mapping → Result ClustersToFreeEntry ImageError → Type 0
+    Gains p old new out offset length overwrite mapping (Ok n) = IsGained p old new out offset length overwrite mapping n
+    Gains p old new out offset length overwrite mapping (Err e) = RefusedFillingStep p old new out e

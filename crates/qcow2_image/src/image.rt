@@ -410,7 +410,7 @@ impl<S: Storage, F: WrappedFormat<S>> Qcow2<S, F> {
         ensures cause { IfErr result IsMet }
         ensures marks { Marks result (is_failed self.old) (is_failed self.new) }
         ensures emptied { IsTrue (is_writable self.old) → OnOk result (HasNothingToFree self.new) }
-        ensures frees { IsTrue self.old.file.caches.is_changed → (out : List (Option Prepared)) → ImageInvariant S.view F.backing (pending_in S.view F.backing self.old out) self.old out
+        ensures frees { (out : List (Option Prepared)) → ImageInvariant S.view F.backing (pending_in S.view F.backing self.old out) self.old out
             → EndsFreeing S.view F.backing self.old self.new out result }
     {
         let freed = self.free_listed();

@@ -118,13 +118,14 @@ impl<S: Storage, F: WrappedFormat<S>> Qcow2<S, F> {
     }
 
     // Reads the bytes of a range that is mapped so.
-    fn read_as(
+    pub(crate) fn read_as(
         &mut self,
         offset: u64,
         kind: &MappingKind,
         bytes: &mut [u8],
     ) -> Result<(), ImageError>
         ensures stays { Stays self.old self.new }
+        ensures header { self.new.file.header ≡ self.old.file.header }
         ensures cause { IfErr result IsMet }
         ensures list { self.new.file.free_list ≡ self.old.file.free_list }
         ensures keeps { (p : Pending) (out : List (Option Prepared)) → ImageInvariant S.view F.backing p self.old out → UnseenStep S.view F.backing p p self.old self.new out }
@@ -184,7 +185,7 @@ impl<S: Storage, F: WrappedFormat<S>> Qcow2<S, F> {
         ensures image { IsSameImage self.old self.new }
         ensures outdated { table_of prepared.now ≡ None → (out : List (Option Prepared)) → (abstract_of S.view F.backing self.old out).is_sound → result ≡ Err OutdatedMapping
             → ¬ IsFoundWhole S.view self.new (prepared.now.guest + at) (Raw Image (prepared.now.offset + at) true) (length bytes.now) }
-        ensures private { IsSome (table_of prepared.now) → result ≡ Err OutdatedMapping → (size_of self.old ≤ prepared.now.guest + at) ⊎ (2 ^ 64 ≤ prepared.now.offset + at) }
+        ensures private { IsSome (table_of prepared.now) → result ≢ Err OutdatedMapping }
         ensures sees { Puts S.view F.backing self.old self.new prepared.now at bytes.now result }
     {
         self.check_usable()?;
@@ -212,23 +213,22 @@ impl<S: Storage, F: WrappedFormat<S>> Qcow2<S, F> {
         ensures cause { IfErr result IsMet }
         ensures outdated { 0 < length bytes.now → table_of prepared.now ≡ None → (p : Pending) (out : List (Option Prepared)) → ImageInvariant S.view F.backing p self.old out → result ≡ Err OutdatedMapping
             → ¬ IsFoundWhole S.view self.new (prepared.now.guest + at) (Raw Image (prepared.now.offset + at) true) (length bytes.now) }
-        ensures private { IsSome (table_of prepared.now) → result ≡ Err OutdatedMapping → (size_of self.old ≤ prepared.now.guest + at) ⊎ (2 ^ 64 ≤ prepared.now.offset + at) }
+        ensures private { IsSome (table_of prepared.now) → result ≢ Err OutdatedMapping }
         ensures puts { 0 < length bytes.now → at + length bytes.now ≤ prepared.now.length → (out : List (Option Prepared)) (k : ℕ) → slice_get out k ≡ Some (Some prepared.now)
             → ImageInvariant S.view F.backing (pending_in S.view F.backing self.old out) self.old out → PutsPart S.view F.backing self.old self.new out k prepared.now at bytes.now result }
     {
-        let guest = self.place_within(prepared.guest, at)?;
         let Some(host) = prepared.offset.checked_add(at) else {
-            return Err(ImageError::OutdatedMapping);
+            return Err(ImageError::Overflow);
         };
-        self.check_in_place(prepared, guest, host, bytes.len() as u64)?;
+        self.check_in_place(prepared, at, host, bytes.len() as u64)?;
         self.write_data(host, bytes)
     }
 
-    // Whether a part of an existing mapping is still copied data at its place.
+    // Whether a part of an existing mapping is still copied data at its place. Of any other one nothing is asked.
     fn check_in_place(
         &mut self,
         prepared: &Prepared,
-        guest: u64,
+        at: u64,
         host: u64,
         length: u64,
     ) -> Result<(), ImageError>
@@ -236,14 +236,15 @@ impl<S: Storage, F: WrappedFormat<S>> Qcow2<S, F> {
         ensures cause { IfErr result IsMet }
         ensures list { self.new.file.free_list ≡ self.old.file.free_list }
         ensures keeps { (p : Pending) (out : List (Option Prepared)) → ImageInvariant S.view F.backing p self.old out → UnseenStep S.view F.backing p p self.old self.new out }
-        ensures outdated { (p : Pending) (out : List (Option Prepared)) → ImageInvariant S.view F.backing p self.old out → result ≡ Err OutdatedMapping → ¬ IsFoundWhole S.view self.new guest (Raw Image host true) length }
+        ensures outdated { 0 < length → (p : Pending) (out : List (Option Prepared)) → ImageInvariant S.view F.backing p self.old out → result ≡ Err OutdatedMapping → ¬ IsFoundWhole S.view self.new (prepared.now.guest + at) (Raw Image host true) length }
         ensures mapped { table_of prepared.now ≡ None → 0 < length → (p : Pending) (out : List (Option Prepared)) → ImageInvariant S.view F.backing p self.old out
-            → IfOk result (λ done. IsMappedAs S.view self.new guest (Raw Image host true) length) }
+            → IfOk result (λ done. IsMappedAs S.view self.new (prepared.now.guest + at) (Raw Image host true) length) }
         ensures private { IsSome (table_of prepared.now) → result ≡ Ok tt }
     {
         if prepared.table.is_some() {
             return Ok(());
         }
+        let guest = self.place_within(prepared.guest, at)?;
         let wanted = MappingKind::Raw {
             place: Place::Image,
             offset: host,

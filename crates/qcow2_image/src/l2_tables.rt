@@ -8,7 +8,7 @@ ghost use Rattle.qcow2_alloc.specs.ImageFile.{known_in};
 ghost use Rattle.qcow2_alloc.specs.MetadataCaches.{order_of};
 ghost use Rattle.qcow2_laws.specs.Clusters.{RbDependsOnL2};
 ghost use Rattle.qcow2_image.specs.declared.prepared.Prepared.{Prepared};
-ghost use Rattle.qcow2_image.specs.CallParts.{Enters, FindsTable};
+ghost use Rattle.qcow2_image.specs.CallParts.{FindsTable};
 ghost use Rattle.qcow2_image.specs.Found.{l1_index_of};
 ghost use Rattle.qcow2_image.specs.UnseenSteps.{Ensures, UnseenStep};
 ghost use Rattle.qcow2_image.specs.ImageInvariant.{ImageInvariant, pending_in};

@@ -1,15 +1,18 @@
 //! A qcow2 image: what it maps, reading and writing through mappings, creating and opening.
 #![tactic(auto)]
 
+mod backing;
 mod builder;
 mod copy_range;
 mod cow;
+mod discarding;
 mod image;
 mod io_func;
 mod l2_tables;
 mod mapping;
 mod mappings;
 mod prepared;
+mod ranges;
 mod resize;
 
 pub use builder::Qcow2CreateBuilder;

@@ -1,36 +1,41 @@
 //! What a guest range is mapped to, and making it writable.
-ghost use Rattle.std.specs.Prelude.{◌↔◌, ℕ, List, Option, is_some, ◌≡◌, ◌≢◌, ◌+◌, ◌*◌, ◌-◌, ◌/◌, ◌%◌, true, Some, ◌^◌, ◌<◌, ◌≤◌, [], ◌∷◌, IfOk, IfErr, IfSome, OnOk, IsOk, IsNone, IsSome, IsTrue, MatchOption, Ok, Err, None, false};
+ghost use Rattle.std.specs.Prelude.{◌↔◌, ℕ, List, Option, is_some, ◌≡◌, ◌≢◌, ◌+◌, ◌*◌, ◌-◌, ◌/◌, ◌%◌, true, Some, ◌^◌, ◌<◌, ◌≤◌, [], ◌∷◌, ◌++◌, length, slice_get, vec_capacity, IfOk, IfErr, IfSome, OnOk, IsOk, IsNone, IsSome, IsTrue, IsFalse, MatchOption, Ok, Err, None, false};
 ghost use Rattle.qcow2_metadata.specs.Bytes.{Bytes};
-ghost use Rattle.qcow2_metadata.specs.L2Mapping.{IsHostCluster, IsInReach};
-ghost use Rattle.qcow2_image.specs.FirstCluster.{IsFirst, IsNear};
+ghost use Rattle.qcow2_metadata.specs.L2Mapping.{IsHostCluster, IsInReach, named_run};
+ghost use Rattle.qcow2_laws.specs.Mappings.{is_copied_data};
 ghost use Rattle.qcow2_image.specs.Image.{HasNothingToFree, Stays, IsSameImage, is_failed, is_writable, number_of, size_of};
-ghost use Rattle.qcow2_image.specs.Prepared.{image_of, length_of, offset_of, table_of, HasNewCluster, IsKept};
-ghost use Rattle.qcow2_image.specs.Preparing.{HasItsOwn, IsAnswered, IsOfNothing, IsPlaceOf, IsRest, IsTaken};
+ghost use Rattle.qcow2_image.specs.Prepared.{image_of, length_of, offset_of, table_of, IsKept};
+ghost use Rattle.qcow2_image.specs.Preparing.{IsAnswered, IsOfNothing, IsPlaceOf, IsTaken};
+ghost use Rattle.qcow2_image.specs.Ranges.{HasRoom, IsFirst, LetsGo, Reaches};
 ghost use Rattle.qcow2_laws.specs.CrashInvariant.{Pending};
 ghost use Rattle.qcow2_alloc.specs.MetadataCaches.{IsEntryAt, l2_at};
 ghost use Rattle.qcow2_alloc.specs.ImageFile.{known_in, FileInvariant, KeepsHeader};
 ghost use Rattle.qcow2_image.specs.declared.prepared.Prepared.{Prepared};
 ghost use Rattle.qcow2_image.specs.Calls.{Answers, Commits, Discards, Prepares, reason_of};
-ghost use Rattle.qcow2_image.specs.CallParts.{Enters, NotesNew, IsExisting, Readies, RefusedCall, PreparesRange};
+ghost use Rattle.qcow2_image.specs.CallParts.{EntersAll, IsExisting, Readies, RefusedCall, PreparesRange};
 ghost use Rattle.qcow2_alloc.specs.CacheMarks.{l2_pins};
 ghost use Rattle.qcow2_alloc.specs.ImageError.{IsFault, IsOfTables};
 ghost use Rattle.qcow2_laws.specs.Alike.{IsAlike};
 ghost use Rattle.qcow2_laws.specs.Found.{IsFoundIn, kind_at, rest_of_table};
 ghost use Rattle.qcow2_image.specs.Found.{found_kind, mapping_of, IsRunBehind, NamesTable, IsRunFrom, IsFound, l1_index_of, l2_index_of};
-ghost use Rattle.qcow2_image.specs.UnseenSteps.{Gains, HoldsAll, HoldsTable, Pins, SameHeld, UnseenStep, ListGrows, TakesData, EntersCluster, EntersNew, FreesLater, Unpins, freed_by};
-ghost use Rattle.qcow2_image.specs.ImageInvariant.{HasL1Table, ImageInvariant, meaning, pending_in, abstract_of};
+ghost use Rattle.qcow2_image.specs.UnseenSteps.{Gains, HoldsAll, HoldsTable, Pins, SameHeld, UnseenStep, ListGrows, TakesData, EntersCluster, EntersShare, FreesLater, Unpins, dropped_by, freed_by};
+ghost use Rattle.qcow2_image.specs.ImageInvariant.{HasL1Table, ImageInvariant, listed_run, meaning, pending_in, abstract_of};
 ghost use Rattle.qcow2_metadata.specs.Header.{cluster_size, entries_per_cluster};
 ghost use Rattle.qcow2_metadata.specs.Cover.{cover};
 ghost use Rattle.qcow2_image.specs.declared.mapping.Place.TheVariants.{Image};
+ghost use Rattle.qcow2_image.specs.declared.mapping.MappingKind.TheVariants.{Eof};
 ghost use Rattle.qcow2_image.specs.Refusals.{unusable, refuses_to_prepare, passes as passes_size, IsMet, IsMetPreparing, Marks};
-ghost use Rattle.qcow2_image.specs.declared.prepared.CommitRefused.TheVariants.{Kept};
+ghost use Rattle.qcow2_image.specs.declared.prepared.CommitRefused.TheVariants.{Kept, Spent};
+ghost use Rattle.qcow2_image.specs.declared.prepared.Share.TheVariants.{InPlace};
 ghost use Rattle.qcow2_alloc.specs.declared.error.ImageError.TheVariants.{Failed, ForeignState, TablePrepared};
 
-use crate::prepared::NewCluster;
+use crate::prepared::Share;
 use crate::{CommitRefused, Mapping, MappingKind, Place, Prepared, Qcow2};
 use image_access::{Storage, WrappedFormat};
-use qcow2_alloc::{ImageError, PendingClusters};
-use qcow2_metadata::{ClusterCount, GuestCluster, GuestOffset, HostCluster, L2Mapping, L2Table};
+use qcow2_alloc::{ClustersToFreeEntry, ClustersToFreeList, ImageError, PendingClusters};
+use qcow2_metadata::{
+    ClusterCount, GuestCluster, GuestOffset, HostCluster, HostOffset, L2Mapping, L2Table,
+};
 
 // Whether a guest cluster is mapped like an earlier one that lies so many bytes before it.
 fn is_alike(first: &L2Mapping, mapping: &L2Mapping, distance: u64) -> bool
@@ -69,6 +74,26 @@ pub(crate) fn passes(size: u64, offset: u64, length: u64) -> bool
     length > 0 && (offset > size || length > size - offset)
 }
 
+// A commit that was refused. Where nothing was changed, the mapping is handed back.
+fn refused_commit(refusal: ImageError, prepared: Prepared, is_changed: bool) -> CommitRefused
+    ensures spent { IsTrue is_changed → result ≡ Spent refusal }
+    ensures kept { IsFalse is_changed → result ≡ Kept refusal prepared }
+{
+    if is_changed {
+        let Prepared {
+            image: _,
+            guest: _,
+            place: _,
+            offset: _,
+            length: _,
+            table: _,
+            shares: _,
+        } = prepared;
+        return CommitRefused::Spent(refusal);
+    }
+    CommitRefused::Kept(refusal, prepared)
+}
+
 // Whether nothing more is done after a refusal.
 fn is_last(refusal: &ImageError) -> bool
     ensures fault { IsFault refusal.now → IsTrue result }
@@ -79,11 +104,27 @@ fn is_last(refusal: &ImageError) -> bool
     )
 }
 
-// What the first cluster of a range that is to be written has.
-enum FirstCluster {
-    // Copied data, at this host offset.
-    InPlace(u64),
-    Missing,
+// A list of one share, in the room that was made for it.
+fn of_one(share: Share, mut room: Vec<Share>) -> Vec<Share>
+    requires empty { room.items ≡ [] }
+    requires room { 0 < vec_capacity room }
+    ensures one { result.items ≡ share ∷ [] }
+    ensures room { vec_capacity result ≡ vec_capacity room }
+{
+    room.push_reserved(share);
+    room
+}
+
+// Where copied data stand.
+pub(crate) fn copied_place(mapping: &L2Mapping) -> Option<u64>
+    requires { IsInReach mapping.now }
+    ensures place { IfSome result (λ host. (mapping.now ≡ L2Mapping.Data host true) × (host < 2 ^ 57)) }
+    ensures none { IsNone result → is_copied_data mapping.now ≡ false }
+{
+    match mapping {
+        L2Mapping::Data { host, copied } => { if *copied { Some(host.value()) } else { None } }
+        L2Mapping::Zero { .. } | L2Mapping::Compressed { .. } | L2Mapping::Uncovered => None,
+    }
 }
 
 #[tactic(auto, using(crate::proofs::Call::MetErrors::tables_met, crate::proofs::Call::MetErrors::storage_met, crate::proofs::Call::MetErrors::metadata_met, crate::proofs::Call::MetErrors::metadata_of_tables))]
@@ -98,6 +139,7 @@ impl<S: Storage, F: WrappedFormat<S>> Qcow2<S, F> {
         ensures own { IfOk result (λ (mapping, n). (mapping.image ≡ number_of self.old) × (mapping.offset ≡ offset) × (mapping.length ≡ n)) }
         ensures within { IfOk result (λ (mapping, n). n ≤ max) }
         ensures some { IfOk result (λ (mapping, n). offset < size_of self.old → 0 < max → 0 < n) }
+        ensures past { unusable self.old ≡ None → size_of self.old ≤ offset → IsOk result × IfOk result (λ (mapping, n). (mapping.kind ≡ Eof) × (n ≡ 0)) }
         ensures sees { Answers S.view F.backing self.old self.new [] (λ found old new. new ≡ old) result }
         ensures known { (out : List (Option Prepared)) → (abstract_of S.view F.backing self.old out).is_sound → known_in S.view self.new.file ≡ known_in S.view self.old.file }
         ensures run { (out : List (Option Prepared)) → (abstract_of S.view F.backing self.old out).is_sound → IfOk result (λ (mapping, n). IsFoundIn (known_in S.view self.new.file) (is_some self.new.backing) offset max (found_kind mapping.kind) n) }
@@ -127,6 +169,7 @@ impl<S: Storage, F: WrappedFormat<S>> Qcow2<S, F> {
         ensures list { self.new.file.free_list ≡ self.old.file.free_list }
         ensures within { IfOk result (λ (kind, n). n ≤ max) }
         ensures some { IfOk result (λ (kind, n). offset < size_of self.old → 0 < max → 0 < n) }
+        ensures past { size_of self.old ≤ offset → result ≡ Ok (Eof, 0) }
         ensures found { (p : Pending) (out : List (Option Prepared)) → ImageInvariant S.view F.backing p self.old out → IfOk result (λ (kind, n). IsFound S.view self.new offset max kind n) }
     {
         let size = self.file.header.size();
@@ -146,7 +189,7 @@ impl<S: Storage, F: WrappedFormat<S>> Qcow2<S, F> {
     }
 
     // How many bytes there are from an offset on to the end of what its L2 table covers.
-    fn rest_of_table(&self, offset: u64) -> u64
+    pub(crate) fn rest_of_table(&self, offset: u64) -> u64
         ensures value { result ≡ rest_of_table self.now.file.header.fields offset }
         ensures some { 0 < result }
         ensures bounded { result ≤ 2 ^ 40 }
@@ -247,7 +290,7 @@ impl<S: Storage, F: WrappedFormat<S>> Qcow2<S, F> {
         Ok(count * size)
     }
 
-    fn kind_of(&self, mapping: L2Mapping, offset: u64) -> MappingKind
+    pub(crate) fn kind_of(&self, mapping: L2Mapping, offset: u64) -> MappingKind
         requires { IsInReach mapping }
         ensures value { found_kind result ≡ kind_at self.now.file.header.fields (is_some self.now.backing) offset mapping }
     {
@@ -324,7 +367,7 @@ impl<S: Storage, F: WrappedFormat<S>> Qcow2<S, F> {
             offset,
             length,
             table: None,
-            new_cluster: None,
+            shares: Vec::new(self.file.alloc),
         }
     }
 
@@ -364,11 +407,8 @@ impl<S: Storage, F: WrappedFormat<S>> Qcow2<S, F> {
         ensures some { IfOk result (λ p. 0 < length_of p) }
         ensures readies { (out : List (Option Prepared)) → ImageInvariant S.view F.backing (pending_in S.view F.backing self.old out) self.old out
             → HoldsTable S.view F.backing self.old offset table → PreparesRange S.view F.backing self.old self.new out offset length overwrite result }
-        ensures alone { (p : Pending) (out : List (Option Prepared)) → ImageInvariant S.view F.backing p self.old out → HoldsAll S.view F.backing p out
-            → IfOk result (λ q. HasItsOwn self.new.file.header.fields (known_in S.view self.new.file) q.new_cluster) }
-        ensures rest { (p : Pending) (out : List (Option Prepared)) → ImageInvariant S.view F.backing p self.old out
-            → HoldsTable S.view F.backing self.old offset table → IfOk result (IsRest self.old.file.header.fields (known_in S.view self.old.file) offset) }
-        ensures header { OnOk result (KeepsHeader self.old.file.header self.new.file.header) }
+        ensures reaches { (out : List (Option Prepared)) (k : ℕ) → slice_get out k ≡ Some None → ImageInvariant S.view F.backing (pending_in S.view F.backing self.old out) self.old out
+            → HoldsTable S.view F.backing self.old offset table → IfOk result (Reaches S.view self.new offset length) }
     {
         match self.prepare_in(table, offset, length, overwrite) {
             Ok(prepared) => Ok(prepared),
@@ -413,7 +453,7 @@ impl<S: Storage, F: WrappedFormat<S>> Qcow2<S, F> {
         Ok(kind.writable_place())
     }
 
-    // Makes a range ready in a held table that no other mapping needs as it is.
+    // Makes a range ready in a held table that no other mapping needs as it is: its first cluster, and those behind it that can stand behind it.
     fn prepare_in(
         &mut self,
         table: HostCluster,
@@ -428,20 +468,48 @@ impl<S: Storage, F: WrappedFormat<S>> Qcow2<S, F> {
         ensures own { IfOk result (λ p. image_of p ≡ number_of self.old) }
         ensures some { IfOk result (λ p. 0 < length_of p) }
         ensures readies { (out : List (Option Prepared)) → ImageInvariant S.view F.backing (pending_in S.view F.backing self.old out) self.old out
-            → HoldsTable S.view F.backing self.old offset table → Readies S.view F.backing self.old self.new out offset length overwrite result }
-        ensures alone { (p : Pending) (out : List (Option Prepared)) → ImageInvariant S.view F.backing p self.old out → HoldsAll S.view F.backing p out
-            → IfOk result (λ q. HasItsOwn self.new.file.header.fields (known_in S.view self.new.file) q.new_cluster) }
-        ensures rest { (p : Pending) (out : List (Option Prepared)) → ImageInvariant S.view F.backing p self.old out
-            → HoldsTable S.view F.backing self.old offset table → IfOk result (IsRest self.old.file.header.fields (known_in S.view self.old.file) offset) }
+            → HoldsTable S.view F.backing self.old offset table → PreparesRange S.view F.backing self.old self.new out offset length overwrite result }
+        ensures reaches { (out : List (Option Prepared)) (k : ℕ) → slice_get out k ≡ Some None → ImageInvariant S.view F.backing (pending_in S.view F.backing self.old out) self.old out
+            → HoldsTable S.view F.backing self.old offset table → IfOk result (Reaches S.view self.new offset length) }
+    {
+        let mut prepared = self.prepare_first(table, offset, length, overwrite)?;
+        match self.prepare_rest(&mut prepared, table, length, overwrite) {
+            Ok(()) => Ok(prepared),
+            Err(refusal) => {
+                self.let_go(prepared);
+                Err(refusal)
+            }
+        }
+    }
+
+    // Makes the first cluster of a range ready, with room for the shares of those behind it.
+    fn prepare_first(
+        &mut self,
+        table: HostCluster,
+        offset: u64,
+        length: u64,
+        overwrite: bool,
+    ) -> Result<Prepared, ImageError>
+        requires writable { IsTrue (is_writable self.old) }
+        ensures stays { Stays self.old self.new }
         ensures header { KeepsHeader self.old.file.header self.new.file.header }
+        ensures cause { IfErr result IsMetPreparing }
+        ensures taken { IfErr result (λ e. e ≡ TablePrepared → 0 < l2_pins self.old.file.caches table) }
+        ensures own { IfOk result (λ p. image_of p ≡ number_of self.old) }
+        ensures readies { (out : List (Option Prepared)) → ImageInvariant S.view F.backing (pending_in S.view F.backing self.old out) self.old out
+            → HoldsTable S.view F.backing self.old offset table → Readies S.view F.backing self.old self.new out offset length overwrite result }
+        ensures first { IfOk result (IsFirst self.old.file.header.fields offset table) }
+        ensures room { IfOk result (HasRoom self.old.file.header.fields length) }
     {
         if self.file.caches.l2_is_pinned(table) {
             return Err(ImageError::TablePrepared);
         }
+        let room = Vec::with_capacity(self.file.alloc, self.clusters_in(offset, length))?;
         let cluster = GuestOffset::new(offset).cluster(self.file.header.cluster_bits());
-        match self.first_cluster(table, cluster)? {
-            FirstCluster::InPlace(host) => Ok(self.prepare_at(table, offset, host, None)),
-            FirstCluster::Missing => self.prepare_new(table, offset, length, overwrite),
+        let old = self.cover_in(table, cluster)?;
+        match copied_place(&old) {
+            Some(host) => Ok(self.prepare_at(table, offset, host, Share::InPlace, room)),
+            None => self.prepare_new(table, offset, length, overwrite, &old, room),
         }
     }
 
@@ -452,27 +520,34 @@ impl<S: Storage, F: WrappedFormat<S>> Qcow2<S, F> {
         offset: u64,
         length: u64,
         overwrite: bool,
+        old: &L2Mapping,
+        room: Vec<Share>,
     ) -> Result<Prepared, ImageError>
         requires writable { IsTrue (is_writable self.old) }
+        requires reach { IsInReach old.now }
+        requires other { is_copied_data old.now ≡ false }
+        requires empty { room.items ≡ [] }
+        requires room { 0 < vec_capacity room }
         ensures stays { Stays self.old self.new }
         ensures cause { IfErr result IsMet }
         ensures own { IfOk result (λ p. image_of p ≡ number_of self.old) }
-        ensures some { IfOk result (λ p. 0 < length_of p) }
+        ensures first { IfOk result (IsFirst self.old.file.header.fields offset table) }
+        ensures room { IfOk result (λ p. vec_capacity p.shares ≡ vec_capacity room) }
         ensures readies { (out : List (Option Prepared)) → ImageInvariant S.view F.backing (pending_in S.view F.backing self.old out) self.old out
-            → HoldsTable S.view F.backing self.old offset table → l2_pins self.old.file.caches table ≡ 0 → cover self.old.file.header.fields (known_in S.view self.old.file) (offset / cluster_size self.old.file.header.fields) ≡ L2Mapping.Uncovered
+            → HoldsTable S.view F.backing self.old offset table → l2_pins self.old.file.caches table ≡ 0 → cover self.old.file.header.fields (known_in S.view self.old.file) (offset / cluster_size self.old.file.header.fields) ≡ old.now
             → Readies S.view F.backing self.old self.new out offset length overwrite result }
-        ensures alone { (p : Pending) (out : List (Option Prepared)) → ImageInvariant S.view F.backing p self.old out → HoldsAll S.view F.backing p out
-            → IfOk result (λ q. HasItsOwn self.new.file.header.fields (known_in S.view self.new.file) q.new_cluster) }
-        ensures rest { (known : Bytes) → cover self.old.file.header.fields known (offset / cluster_size self.old.file.header.fields) ≡ L2Mapping.Uncovered → IfOk result (IsRest self.old.file.header.fields known offset) }
         ensures header { KeepsHeader self.old.file.header self.new.file.header }
     {
-        let pending = self.new_cluster(offset, length, overwrite)?;
+        let dropped = self.named_by(old)?;
+        let pending = self.new_cluster(offset, length, overwrite, old)?;
         match self.load_l2(table) {
             Ok(()) => {
                 let bits = self.file.header.cluster_bits();
                 let host = pending.cluster().offset(bits).value();
-                let index = GuestOffset::new(offset).l2_index(bits);
-                Ok(self.prepare_at(table, offset, host, Some(NewCluster { index, pending })))
+                let mut taken = ClustersToFreeList::new();
+                pending.hand_back(&mut taken);
+                let share = Share::New { taken, dropped };
+                Ok(self.prepare_at(table, offset, host, share, room))
             }
             Err(refusal) => {
                 self.hand_back(pending);
@@ -502,21 +577,25 @@ impl<S: Storage, F: WrappedFormat<S>> Qcow2<S, F> {
         table: HostCluster,
         offset: u64,
         host: u64,
-        new_cluster: Option<NewCluster>,
+        share: Share,
+        room: Vec<Share>,
     ) -> Prepared
-        requires { host < 2 ^ 63 }
+        requires near { host < 2 ^ 63 }
+        requires empty { room.items ≡ [] }
+        requires room { 0 < vec_capacity room }
         ensures stays { Stays self.old self.new }
         ensures pins { Pins table self.old self.new }
         ensures own { image_of result ≡ number_of self.old }
         ensures some { 0 < length_of result }
-        ensures value { result ≡ record {
+        ensures share { result.shares.items ≡ share ∷ [] }
+        ensures room { vec_capacity result.shares ≡ vec_capacity room }
+        ensures value { result ≡ record result {
           image = self.old.number;
           guest = offset;
           place = Image;
           offset = host + offset % cluster_size self.old.file.header.fields;
           length = cluster_size self.old.file.header.fields - offset % cluster_size self.old.file.header.fields;
           table = Some table;
-          new_cluster = new_cluster;
         } }
     {
         let bits = self.file.header.cluster_bits();
@@ -529,53 +608,59 @@ impl<S: Storage, F: WrappedFormat<S>> Qcow2<S, F> {
             offset: host + guest.in_cluster_offset(bits),
             length: guest.remaining_in_cluster(bits),
             table: Some(table),
-            new_cluster,
+            shares: of_one(share, room),
         }
     }
 
-    // What a cluster of a held table has that is to be written.
-    fn first_cluster(
+    // What a held table says of a guest cluster.
+    pub(crate) fn cover_in(
         &self,
         table: HostCluster,
         cluster: GuestCluster,
-    ) -> Result<FirstCluster, ImageError>
-        ensures value { IfOk result IsNear }
+    ) -> Result<L2Mapping, ImageError>
+        ensures reach { IfOk result IsInReach }
         ensures cause { IfErr result IsMet }
-        ensures stands { (p : Pending) (i : ℕ) → FileInvariant S.view p self.now.file → IsEntryAt self.now.file.header.fields (known_in S.view self.now.file) i table (cluster % entries_per_cluster self.now.file.header.fields)
-            → cluster / entries_per_cluster self.now.file.header.fields ≡ i → IfOk result (IsFirst self.now.file.header.fields (known_in S.view self.now.file) cluster) }
+        ensures says { (p : Pending) (i : ℕ) → FileInvariant S.view p self.now.file → IsEntryAt self.now.file.header.fields (known_in S.view self.now.file) i table (cluster % entries_per_cluster self.now.file.header.fields)
+            → cluster / entries_per_cluster self.now.file.header.fields ≡ i → IfOk result (λ mapping. cover self.now.file.header.fields (known_in S.view self.now.file) cluster ≡ mapping) }
     {
         let Some(held) = self.file.caches.l2_peek(table) else {
             return Err(ImageError::InUse);
         };
-        match held.get_mapping(cluster)? {
-            L2Mapping::Data { host, copied } => {
-                if copied {
-                    Ok(FirstCluster::InPlace(host.value()))
-                } else {
-                    Err(ImageError::Limit)
-                }
-            }
-            L2Mapping::Uncovered => Ok(FirstCluster::Missing),
-            L2Mapping::Zero { .. } | L2Mapping::Compressed { .. } => Err(ImageError::Limit),
-        }
+        Ok(held.get_mapping(cluster)?)
     }
 
-    // Takes a cluster for the one at an offset, and fills it with the old bytes where they aren't announced as overwritten.
+    // What isn't named any more where a mapping goes: its host clusters, as those to be freed.
+    pub(crate) fn named_by(&self, mapping: &L2Mapping) -> Result<ClustersToFreeList, ImageError>
+        requires { IsInReach mapping.now }
+        ensures list { IfOk result (λ list. list ≡ listed_run (named_run self.now.file.header.fields.cluster_bits mapping.now)) }
+        ensures cause { IfErr result IsMet }
+    {
+        let mut list = ClustersToFreeList::new();
+        let mapping = *mapping;
+        if let Some((first, count)) = mapping.host_clusters(self.file.header.cluster_bits()) {
+            list.push(self.file.alloc, ClustersToFreeEntry::data(first, count))?;
+        }
+        Ok(list)
+    }
+
+    // Takes a cluster for the one at an offset, of which the old mapping is known, and fills it with the old bytes where they aren't announced as overwritten.
     fn new_cluster(
         &mut self,
         offset: u64,
         length: u64,
         overwrite: bool,
+        old: &L2Mapping,
     ) -> Result<PendingClusters, ImageError>
         requires writable { IsTrue (is_writable self.old) }
+        requires reach { IsInReach old.now }
         ensures nameable { IfOk result (λ p. IsHostCluster self.old.file.header.fields.cluster_bits p.first_cluster) }
         ensures header { KeepsHeader self.old.file.header self.new.file.header }
         ensures stays { Stays self.old self.new }
         ensures cause { IfErr result IsMet }
-        ensures gains { (p : Pending) (out : List (Option Prepared)) → ImageInvariant S.view F.backing p self.old out → HoldsAll S.view F.backing p out → Gains S.view F.backing p self.old self.new out offset length overwrite result }
+        ensures gains { (p : Pending) (out : List (Option Prepared)) → ImageInvariant S.view F.backing p self.old out → HoldsAll S.view F.backing p out → Gains S.view F.backing p self.old self.new out offset length overwrite old.now result }
     {
         let pending = self.take_data()?;
-        match self.fill_cluster(pending.cluster(), offset, length, overwrite) {
+        match self.fill_cluster(pending.cluster(), offset, length, overwrite, old) {
             Ok(()) => Ok(pending),
             Err(refusal) => {
                 self.hand_back(pending);
@@ -601,15 +686,15 @@ impl<S: Storage, F: WrappedFormat<S>> Qcow2<S, F> {
     }
 
     // Clusters that were taken are to be freed.
-    fn hand_back(&mut self, pending: PendingClusters)
+    pub(crate) fn hand_back(&mut self, pending: PendingClusters)
         ensures { FreesLater (pending ∷ []) self.old self.new }
     {
         pending.hand_back(&mut self.file.free_list);
     }
 
-    /// Makes a prepared mapping visible. Where it has a new cluster, the clusters that are to be freed are freed then.
+    /// Makes a prepared mapping visible. Where it isn't existing, the clusters that are to be freed are freed then.
     /// A refusal that leaves the mapping as it is hands it back.
-    pub fn commit_data_mapping(&mut self, prepared: Prepared) -> Result<(), CommitRefused>
+    pub fn commit_data_mapping(&mut self, mut prepared: Prepared) -> Result<(), CommitRefused>
         ensures foreign { image_of prepared ≢ number_of self.old → (result ≡ Err (Kept ForeignState prepared)) × (self.new ≡ self.old) }
         ensures failed { image_of prepared ≡ number_of self.old → IsTrue (is_failed self.old) → (result ≡ Err (Kept Failed prepared)) × (self.new ≡ self.old) }
         ensures kept { IfErr result (IsKept prepared) }
@@ -617,7 +702,7 @@ impl<S: Storage, F: WrappedFormat<S>> Qcow2<S, F> {
         ensures existing { image_of prepared ≡ number_of self.old → is_failed self.old ≡ false → IsNone (table_of prepared) → result ≡ Ok tt }
         ensures image { IsSameImage self.old self.new }
         ensures sees { Commits S.view F.backing self.old self.new prepared result }
-        ensures emptied { image_of prepared ≡ number_of self.old → HasNewCluster prepared → IsTrue (is_writable self.old) → OnOk result (HasNothingToFree self.new) }
+        ensures emptied { image_of prepared ≡ number_of self.old → IsSome (table_of prepared) → IsTrue (is_writable self.old) → OnOk result (HasNothingToFree self.new) }
     {
         if prepared.image != self.number {
             return Err(CommitRefused::Kept(ImageError::ForeignState, prepared));
@@ -625,65 +710,67 @@ impl<S: Storage, F: WrappedFormat<S>> Qcow2<S, F> {
         if self.is_failed {
             return Err(CommitRefused::Kept(ImageError::Failed, prepared));
         }
-        if let Err(refusal) = self.hold_l2(prepared.table) {
-            self.note(&refusal);
-            return Err(CommitRefused::Kept(refusal, prepared));
-        }
-        let is_new = prepared.has_new_cluster();
-        self.enter_prepared(prepared);
-        if !is_new {
-            return Ok(());
-        }
-        match self.end_freeing() {
-            Ok(()) => Ok(()),
-            Err(refusal) => Err(CommitRefused::Spent(refusal)),
-        }
-    }
-
-    // Brings a table into its cache where it isn't there.
-    fn hold_l2(&mut self, table: Option<HostCluster>) -> Result<(), ImageError>
-        ensures stays { Stays self.old self.new }
-        ensures cause { IfErr result IsMet }
-        ensures none { table ≡ None → (result ≡ Ok tt) × (self.new ≡ self.old) }
-        ensures pinned { IfSome table (λ t. 0 < l2_pins self.old.file.caches t) → (result ≡ Ok tt) × (self.new ≡ self.old) × IfSome table (λ t. IsSome (l2_at self.old.file.caches t)) }
-    {
-        let Some(table) = table else {
-            return Ok(());
-        };
-        if self.file.caches.l2_peek(table).is_some() {
+        if prepared.table.is_none() {
+            self.let_go(prepared);
             return Ok(());
         }
         self.begin();
-        self.file
-            .caches
-            .l2_get_or_insert(&mut self.file.storage, table)
+        let entered = self.enter_shares(&mut prepared);
+        match self.end_freeing() {
+            Ok(()) => {
+                self.let_go(prepared);
+                Ok(())
+            }
+            Err(refusal) => Err(refused_commit(refusal, prepared, entered || self.is_failed)),
+        }
     }
 
-    // Enters the new cluster of a mapping whose table is held, and lets the table go.
-    fn enter_prepared(&mut self, prepared: Prepared)
+    // Enters the shares of a mapping in its table, which is held; whether one wasn't in place.
+    fn enter_shares(&mut self, prepared: &mut Prepared) -> bool
         ensures stays { Stays self.old self.new }
-        ensures commits { Enters S.view F.backing self.old self.new prepared }
-        ensures notes { NotesNew S.view F.backing self.old self.new prepared }
+        ensures none { IsFalse result → (self.new ≡ self.old) × (prepared.new ≡ prepared.old) }
+        ensures enters { EntersAll S.view F.backing self.old self.new prepared.old prepared.new result }
+        ensures left { freed_by prepared.new.shares.items ≡ [] }
     {
-        let Prepared {
-            image: _,
-            guest: _,
-            place: _,
-            offset: _,
-            length: _,
-            table,
-            new_cluster,
-        } = prepared;
-        self.enter_new(&table, new_cluster);
-        self.unpin(table);
+        let mut entered = false;
+        for i in 0..prepared.shares.len() {
+            if self.enter_share(prepared, i) {
+                entered = true;
+            }
+        }
+        entered
     }
 
-    fn enter_new(&mut self, table: &Option<HostCluster>, new_cluster: Option<NewCluster>)
-        ensures { EntersNew table.now new_cluster self.old self.new }
+    // Enters a share of a mapping in its table; false where it is in place.
+    fn enter_share(&mut self, prepared: &mut Prepared, i: usize) -> bool
+        requires { i < length prepared.old.shares.items }
+        ensures stays { Stays self.old self.new }
+        ensures none { IsFalse result → (self.new ≡ self.old) × (prepared.new ≡ prepared.old) × (slice_get prepared.old.shares.items i ≡ Some InPlace) }
+        ensures enters { IsTrue result → EntersShare i prepared.old prepared.new self.old self.new }
     {
-        if let Some(NewCluster { index, pending }) = new_cluster {
-            self.enter_cluster(*table, index, pending.cluster());
-            pending.make_persistent();
+        if !prepared.shares[i].is_entered() {
+            return false;
+        }
+        let share = std::mem::replace(&mut prepared.shares[i], Share::InPlace);
+        let bits = self.file.header.cluster_bits();
+        let index = GuestOffset::new(prepared.guest).l2_index(bits);
+        let first = HostOffset::new(prepared.offset).cluster(bits).value();
+        let cluster = HostCluster::new(first.saturating_add(i as u64));
+        self.enter_cluster(prepared.table, index.saturating_add(i), cluster);
+        self.drop_former(share);
+        true
+    }
+
+    // What stood for a share before is to be freed.
+    fn drop_former(&mut self, share: Share)
+        ensures { FreesLater (dropped_by share) self.old self.new }
+    {
+        if let Share::New {
+            taken: _,
+            mut dropped,
+        } = share
+        {
+            dropped.take().hand_back(&mut self.file.free_list);
         }
     }
 
@@ -695,7 +782,7 @@ impl<S: Storage, F: WrappedFormat<S>> Qcow2<S, F> {
         }
     }
 
-    /// Drops a prepared mapping: its new cluster is to be freed. A mapping of another image is handed back.
+    /// Drops a prepared mapping: its new clusters are to be freed. A mapping of another image is handed back.
     pub fn discard_data_mapping(&mut self, prepared: Prepared) -> Result<(), (ImageError, Prepared)>
         ensures own { image_of prepared ≡ number_of self.old → IsOk result }
         ensures foreign { IfErr result (λ (e, p). (image_of prepared ≢ number_of self.old) × (e ≡ ForeignState) × (p ≡ prepared) × (self.new ≡ self.old)) }
@@ -705,6 +792,17 @@ impl<S: Storage, F: WrappedFormat<S>> Qcow2<S, F> {
         if prepared.image != self.number {
             return Err((ImageError::ForeignState, prepared));
         }
+        self.let_go(prepared);
+        Ok(())
+    }
+
+    // A mapping is let go: its new clusters are to be freed.
+    pub(crate) fn let_go(&mut self, prepared: Prepared)
+        ensures stays { Stays self.old self.new }
+        ensures list { self.new.file.free_list ≡ self.old.file.free_list ++ freed_by prepared.shares.items }
+        ensures rest { LetsGo S.view self.old self.new }
+        ensures sees { Discards S.view F.backing self.old self.new prepared }
+    {
         let Prepared {
             image: _,
             guest: _,
@@ -712,19 +810,30 @@ impl<S: Storage, F: WrappedFormat<S>> Qcow2<S, F> {
             offset: _,
             length: _,
             table,
-            new_cluster,
+            shares,
         } = prepared;
-        self.free_later(new_cluster);
+        self.free_later(shares);
         self.unpin(table);
-        Ok(())
     }
 
-    // The cluster of a mapping that is dropped is to be freed.
-    fn free_later(&mut self, new_cluster: Option<NewCluster>)
-        ensures { FreesLater (freed_by new_cluster) self.old self.new }
+    // The new clusters of shares are to be freed.
+    fn free_later(&mut self, shares: Vec<Share>)
+        ensures { FreesLater (freed_by shares.items) self.old self.new }
     {
-        if let Some(NewCluster { index: _, pending }) = new_cluster {
-            pending.hand_back(&mut self.file.free_list);
+        for share in shares {
+            self.free_share(share);
+        }
+    }
+
+    fn free_share(&mut self, share: Share)
+        ensures { FreesLater (freed_by (share ∷ [])) self.old self.new }
+    {
+        if let Share::New {
+            mut taken,
+            dropped: _,
+        } = share
+        {
+            taken.take().hand_back(&mut self.file.free_list);
         }
     }
 

@@ -1,11 +1,20 @@
-use crate::{ImageError, PendingClusters, Place, Qcow2};
+use crate::{ImageError, Place, Qcow2};
 use image_access::{Storage, WrappedFormat};
+use qcow2_alloc::ClustersToFreeList;
 use qcow2_metadata::HostCluster;
 
-// A cluster that stands ready for a guest cluster, by its index in the L2 table, and isn't entered yet.
-pub(crate) struct NewCluster {
-    pub(crate) index: usize,
-    pub(crate) pending: PendingClusters,
+// How a cluster of a prepared range is entered by a commit.
+#[derive(Drop)]
+pub(crate) enum Share {
+    // Not at all: it is copied data where it stands.
+    InPlace,
+    // As data at the host cluster that its zero entry keeps.
+    Kept,
+    // As data at the new cluster of the first list. What stands there else is to be freed then, as in the second.
+    New {
+        taken: ClustersToFreeList,
+        dropped: ClustersToFreeList,
+    },
 }
 
 /// A range of the guest's disk that may be written at one place. It must be spent by a commit or a discard.
@@ -17,7 +26,8 @@ pub struct Prepared {
     pub(crate) length: u64,
     // The L2 table that is kept as it is until then. An existing mapping has none.
     pub(crate) table: Option<HostCluster>,
-    pub(crate) new_cluster: Option<NewCluster>,
+    // One for each cluster of the range. Their host clusters follow one another.
+    pub(crate) shares: Vec<Share>,
 }
 
 /// Why a commit is refused, with the mapping where it isn't spent.
@@ -26,9 +36,24 @@ pub enum CommitRefused {
     Spent(ImageError),
 }
 
+impl Share {
+    ghost use Rattle.std.specs.Prelude.{◌≡◌};
+    ghost use Rattle.qcow2_image.specs.ImageInvariant.{is_entered};
+
+    // Whether a commit has to enter it in its table.
+    pub(crate) fn is_entered(&self) -> bool
+        ensures { result ≡ is_entered self.now }
+    {
+        match self {
+            Share::InPlace => false,
+            Share::Kept | Share::New { .. } => true,
+        }
+    }
+}
+
 impl Prepared {
-    ghost use Rattle.std.specs.Prelude.{◌≡◌, ◌↔◌, IsTrue, IsFalse, IsSome, IsNone, is_none};
-    ghost use Rattle.qcow2_image.specs.Prepared.{image_of, table_of, HasNewCluster, length_of, offset_of};
+    ghost use Rattle.std.specs.Prelude.{◌≡◌, ◌↔◌, IsTrue, is_none};
+    ghost use Rattle.qcow2_image.specs.Prepared.{image_of, table_of, length_of, offset_of};
     ghost use Rattle.qcow2_image.specs.Image.{number_of};
 
     /// The offset in the file that is to be written, in bytes.
@@ -50,15 +75,6 @@ impl Prepared {
         ensures { IsTrue result ↔ (image_of self.now ≡ number_of image.now) }
     {
         self.image == image.number
-    }
-
-    // Whether a new cluster is to be entered in a table.
-    pub(crate) fn has_new_cluster(&self) -> bool
-        ensures some { IsTrue result → IsSome self.now.new_cluster }
-        ensures table { IsNone (table_of self.now) → IsFalse result }
-        ensures all { HasNewCluster self.now → IsTrue result }
-    {
-        self.table.is_some() && self.new_cluster.is_some()
     }
 
     /// An existing mapping: nothing is to be committed.

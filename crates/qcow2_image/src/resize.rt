@@ -2,7 +2,8 @@
 ghost use Rattle.std.specs.Prelude.{◌≡◌, ◌<◌, ◌++◌, Some, [], IfOk, OnOk};
 ghost use Rattle.qcow2_metadata.specs.L2Mapping.{IsHostCluster};
 ghost use Rattle.qcow2_laws.specs.CrashInvariant.{Pending};
-ghost use Rattle.qcow2_image.specs.Growing.{run_of_table, listed, with_table, IsLonger, StandsWhole, PlacesTable, NamesTable, TakesTable, Lengthens, Resizes, Grows};
+ghost use Rattle.qcow2_image.specs.Growing.{run_of_table, listed, with_table, IsLonger, StandsWhole, PlacesTable, NamesTable, TakesTable, Lengthens, Resizes, Grows, ReachesSize};
+ghost use Rattle.qcow2_metadata.specs.EntryTable.{entry_count};
 ghost use Rattle.qcow2_image.specs.UnseenSteps.{ListGrows};
 ghost use Rattle.qcow2_image.specs.ImageInvariant.{ImageInvariant, abstract_of};
 
@@ -36,6 +37,7 @@ impl<S: Storage, F: WrappedFormat<S>> Qcow2<S, F> {
         requires { 0 < size }
         ensures resizes { (p : Pending) → ImageInvariant S.view F.backing p self.old [] → Resizes S.view F.backing p self.old self.new size result }
         ensures list { OnOk result (ListGrows self.old self.new) }
+        ensures reaches { (p : Pending) → ImageInvariant S.view F.backing p self.old [] → OnOk result (ReachesSize self.new.file.header.fields) }
     {
         let bits = self.file.header.cluster_bits();
         self.grow_l1_table(GuestOffset::new(size - 1).l1_index(bits))?;
@@ -45,6 +47,7 @@ impl<S: Storage, F: WrappedFormat<S>> Qcow2<S, F> {
     fn write_size(&mut self, size: u64) -> Result<(), ImageError>
         ensures resizes { (p : Pending) → ImageInvariant S.view F.backing p self.old [] → Resizes S.view F.backing p self.old self.new size result }
         ensures list { self.new.file.free_list ≡ self.old.file.free_list }
+        ensures table { self.new.l1_table ≡ self.old.l1_table }
     {
         self.file.header.set_size(size);
         self.file.storage.will_write(WriteKind::Other);
@@ -55,6 +58,7 @@ impl<S: Storage, F: WrappedFormat<S>> Qcow2<S, F> {
     // Makes a new L1 table that has an entry of this index, with all old entries. The old one is to be freed.
     fn grow_l1_table(&mut self, index: usize) -> Result<(), ImageError>
         ensures lengthens { (p : Pending) → ImageInvariant S.view F.backing p self.old [] → Lengthens S.view F.backing p self.old self.new result }
+        ensures reaches { OnOk result (index < entry_count self.new.l1_table) }
         ensures list { OnOk result (ListGrows self.old self.new) }
     {
         if index >= MAX_L1_ENTRIES {
@@ -90,6 +94,7 @@ impl<S: Storage, F: WrappedFormat<S>> Qcow2<S, F> {
     // Gives an L1 table clusters, writes it there, and then the pointer that names it.
     fn enter_l1_table(&mut self, table: L1Table) -> Result<(), ImageError>
         ensures takes { (p : Pending) → ImageInvariant S.view F.backing p self.old [] → IsLonger self.old table → TakesTable S.view F.backing p self.old self.new result }
+        ensures entries { OnOk result (entry_count self.new.l1_table ≡ entry_count table) }
         ensures list { OnOk result (ListGrows self.old self.new) }
     {
         let Some(allocator) = &mut self.allocator else {
@@ -112,6 +117,7 @@ impl<S: Storage, F: WrappedFormat<S>> Qcow2<S, F> {
     fn write_l1_table(&mut self, mut table: L1Table, cluster: HostCluster) -> Result<(), ImageError>
         requires { IsHostCluster self.old.file.header.fields.cluster_bits cluster }
         ensures names { (p : Pending) → ImageInvariant S.view F.backing (with_table p table cluster) self.old [] → IsLonger self.old table → NamesTable S.view F.backing p self.old self.new table cluster result }
+        ensures entries { OnOk result (entry_count self.new.l1_table ≡ entry_count table) }
         ensures list { self.new.file.free_list ≡ self.old.file.free_list }
     {
         self.place_l1_table(&mut table, cluster)?;
@@ -143,6 +149,7 @@ impl<S: Storage, F: WrappedFormat<S>> Qcow2<S, F> {
     fn name_l1_table(&mut self, table: L1Table, cluster: HostCluster) -> Result<(), ImageError>
         requires { IsHostCluster self.old.file.header.fields.cluster_bits cluster }
         ensures names { (p : Pending) → ImageInvariant S.view F.backing (with_table p table cluster) self.old [] → StandsWhole S.view self.old table cluster → NamesTable S.view F.backing p self.old self.new table cluster result }
+        ensures entries { OnOk result (entry_count self.new.l1_table ≡ entry_count table) }
         ensures list { self.new.file.free_list ≡ self.old.file.free_list }
     {
         let offset = cluster.offset(self.file.header.cluster_bits());

@@ -1,13 +1,15 @@
 -- Laws that a user would quote: what was given, put and committed.
-use Rattle.std.proofs.Common.{◌≡◌, IsTrue, ◌⊎◌, ⊎_elim, inl, inr, ◌+◌, ◌-◌, ◌<◌, ◌≤◌, ltb, leb, ℕ, refl, sym, ap, ◌∙◌, subst, Bool, true, false, Some, List, length, eqb, arith}
+use Rattle.std.proofs.Common.{◌≡◌, IsTrue, ◌⊎◌, ⊎_elim, inl, inr, ◌+◌, ◌-◌, ◌<◌, ◌≤◌, ltb, leb, ℕ, refl, sym, ap, ◌∙◌, subst, Bool, true, false, Option, Some, List, [], ◌∷◌, length, eqb, arith}
 use Rattle.std.specs.Prelude.{if◌then◌else◌}
 use Rattle.std.proofs.lemmas.Bool.{cases_lt, cond-true, cond-false, eq-eqb, le-leb, lt-ltb, lt-leb, le-ltb, and_from, and_left, and_right}
 use Rattle.qcow2_metadata.specs.Bytes.{byte_at, laid_over, is_within}
-use Rattle.qcow2_metadata.specs.Guest.{known_byte}
+use Rattle.qcow2_metadata.specs.Guest.{Value, known_byte}
 use Rattle.qcow2_laws.specs.Disk.{Disk, disk, with_bytes}
 use Rattle.qcow2_laws.specs.AbstractImages.{Guest}
-use Rattle.qcow2_laws.specs.Mappings.{PreparedMapping, put_disk, put_mapping, committed}
-use Rattle.qcow2_laws.specs.ForUsers.{PrivateBytesAreUnseen, CommittedIsReadBack, PutIsReadInPlace, FlushedIsExact}
+use Rattle.qcow2_laws.specs.Runs.{given_at}
+use Rattle.qcow2_laws.specs.Stops.{IsGiven}
+use Rattle.qcow2_laws.specs.Mappings.{PreparedMapping, gift_of_put, put_disk, put_mapping, committed}
+use Rattle.qcow2_laws.specs.ForUsers.{PrivateBytesAreUnseen, CommittedIsReadBack, PutIsReadInPlace, HiddenBytesAreNotGiven, FlushedIsExact}
 
 pub exact : FlushedIsExact
 exact backing b d stop =
@@ -53,7 +55,7 @@ put_unseen d m at bytes private o = elim (cases_lt o (m.from + at)) [
 ]
 
 pub unseen : PrivateBytesAreUnseen
-unseen x found g0 g1 g2 g3 slot offset n count at overwrite bytes prepared private put discard =
+unseen x found g0 g1 g2 g3 slot offset n host count at overwrite is_existing bytes prepared private put discard =
     let same1 : g1.disk ≡ g0.disk = ap (λ (g : Guest). g.disk) prepared.1.3 in
     let same2 : g2.disk ≡ put_disk g1.disk put.0 at bytes = ap (λ (g : Guest). g.disk) put.3 in
     let same3 : g3.disk ≡ g2.disk = ap (λ (g : Guest). g.disk) discard.1 in (
@@ -91,3 +93,16 @@ read_in_place x found g0 g1 g2 m slot at offset n i bytes answer there put read 
       λ private. shown ∙ cond-true (m.is_private o) (g0.disk.value o) ((with_bytes g0.disk (m.from + at) bytes).value o) private,
       λ plain. shown ∙ cond-false (m.is_private o) (g0.disk.value o) ((with_bytes g0.disk (m.from + at) bytes).value o) plain,
     )
+
+-- what a put gives: a byte of those that were put, or where they are hidden what the disk shows
+pub put_given : (d : Disk) (m : PreparedMapping) (at : ℕ) (bytes : List ℕ) (o : ℕ) (v : Value) → IsGiven (gift_of_put d m at bytes ∷ []) o v
+    → (m.from + at ≤ o) × (o < m.from + at + length bytes) × (v ≡ (if m.is_hidden o then d.value o else known_byte (byte_at bytes (o - (m.from + at)))))
+put_given d m at bytes o v (inr none) = absurd none
+put_given d m at bytes o v (inl given) =
+    let here : m.from + at + (o - (m.from + at)) ≡ o = omega (arith, given.0) in
+    (given.0, given.1, given.2 ∙ ap (λ n. if m.is_hidden n then d.value n else known_byte (byte_at bytes (o - (m.from + at)))) here)
+
+pub hidden_given : HiddenBytesAreNotGiven
+hidden_given x g m slot at o bytes v there hidden given =
+    let is = put_given g.disk m at bytes o v (subst (λ (n : Option PreparedMapping). IsGiven (given_at n (λ k. gift_of_put g.disk k at bytes)) o v) there given) in
+    is.2 ∙ cond-true (m.is_hidden o) (g.disk.value o) (known_byte (byte_at bytes (o - (m.from + at)))) hidden

@@ -26,6 +26,7 @@ pub mod SafeSteps
 pub mod Steps
 pub mod GuestLaws
 pub mod RunSteps
+pub mod Headline
 pub mod Compose
 pub mod Samples
 pub mod KeptSteps

@@ -14,6 +14,12 @@ pub record Setting : Type 0 where
   pub is_backed : Bool
   pub backing : Bytes
 
+-- Where in the file a prepared mapping is to be written, and for how many bytes. An existing one needs no commit.
+pub record HostRange : Type 0 where
+  pub offset : ℕ
+  pub length : ℕ
+  pub is_existing : Bool
+
 -- what a guest sees: the disk, and the prepared mappings by their places
 pub record Guest : Type 0 where
   pub disk : Disk
@@ -31,7 +37,10 @@ pub record Abstraction (D P : Type 0) : Type 1 where
   -- it is as the driver keeps it, and its storage is honest
   pub is_sound : D → List (Option P) → Type 0
   pub surplus : D → List (Option P) → ℕ → ℕ
+  -- how often a cluster is still to be freed, of an image that may write
+  pub to_be_freed : D → ℕ → ℕ
   pub means : D → P → PreparedMapping
+  pub host : P → HostRange
 
 -- Places without a mapping say nothing of an image.
 pub record HasFreePlaces {D P : Type 0} (spec : Abstraction D P) : Type 0 where
@@ -49,9 +58,11 @@ pub record AbstractImage : Type 1 where
   pub known : Bytes
   pub is_sound : Type 0
   pub surplus : ℕ → ℕ
+  pub to_be_freed : ℕ → ℕ
   pub slots : ℕ → Option PreparedMapping
+  pub hosts : ℕ → Option HostRange
 
-abbrev pub meaning_at : {P : Type 0} → (P → PreparedMapping) → Option (Option P) → Option PreparedMapping
+abbrev pub meaning_at : {P M : Type 0} → (P → M) → Option (Option P) → Option M
 meaning_at means (Some (Some p)) = Some (means p)
 meaning_at means (Some None) = None
 meaning_at means None = None
@@ -65,7 +76,9 @@ abstract_image spec d out = record {
   known = spec.known d;
   is_sound = spec.is_sound d out;
   surplus = spec.surplus d out;
+  to_be_freed = spec.to_be_freed d;
   slots = λ k. meaning_at (spec.means d) (slice_get out k);
+  hosts = λ k. meaning_at spec.host (slice_get out k);
 }
 
 -- the bytes on its storage

@@ -6,6 +6,7 @@ pub mod AbstractImages
 pub mod Calls
 pub mod Found
 pub mod Runs
+pub mod Headline
 pub mod ForUsers
 pub mod Clusters
 pub mod Guests

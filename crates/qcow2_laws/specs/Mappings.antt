@@ -1,5 +1,5 @@
 -- Prepared mappings: a guest range with its private bytes, which become visible when it is committed.
-use Rattle.std.specs.Prelude.{ℕ, ◌+◌, ◌-◌, ◌/◌, ◌≡◌, ◌≤◌, ◌<◌, ◌&&◌, Bool, false, not, IsTrue, List, length, min, if◌then◌else◌}
+use Rattle.std.specs.Prelude.{ℕ, ◌+◌, ◌-◌, ◌/◌, ◌≡◌, ◌≤◌, ◌<◌, ◌⊎◌, ◌&&◌, Bool, true, false, not, IsTrue, List, Some, length, min, if◌then◌else◌}
 use Rattle.qcow2_metadata.specs.Bytes.{Bytes, byte_at, is_within, laid_over}
 use Rattle.qcow2_metadata.specs.Header.{cluster_size, rounded_down, rounded_up}
 use Rattle.qcow2_metadata.specs.declared.header.HeaderFields.{HeaderFields}
@@ -11,10 +11,12 @@ use Rattle.qcow2_laws.specs.Disk.{Disk, with_bytes}
 use Rattle.qcow2_laws.specs.Stops.{GivenBytes}
 
 -- A guest range, which offsets are private to it, and what they will show. All others are in place.
+-- Of the private ones those are hidden that no stop shows before the commit either. What isn't is written where a zero cluster keeps its host cluster: on the storage that may be data still.
 pub record PreparedMapping : Type 0 where
   pub from : ℕ
   pub length : ℕ
   pub is_private : ℕ → Bool
+  pub is_hidden : ℕ → Bool
   pub shown : ℕ → Value
 
 -- the whole clusters that it lies in
@@ -42,6 +44,10 @@ is_copied_data Uncovered = false
 abbrev pub IsPrivateIn : HeaderFields → Bytes → PreparedMapping → Type 0
 IsPrivateIn h b m = (o : ℕ) → first_of (cluster_size h) m ≤ o → o < end_of (cluster_size h) m → m.is_private o ≡ not (is_copied_data (cover h b (o / cluster_size h)))
 
+-- what is private is hidden, but where a zero cluster keeps a host cluster for itself
+abbrev pub IsHiddenIn : HeaderFields → Bytes → PreparedMapping → Type 0
+IsHiddenIn h b m = (o : ℕ) → IsTrue (m.is_private o) → IsTrue (m.is_hidden o) ⊎ ((host : ℕ) × (cover h b (o / cluster_size h) ≡ Zero (Some (host, true))))
+
 -- bytes put into it: private ones are kept for the commit, all others are written at once
 abbrev pub put_mapping : PreparedMapping → ℕ → List ℕ → PreparedMapping
 put_mapping m at bytes = record m { shown = λ o. if m.is_private o then laid_over (m.from + at) (length bytes) (λ i. known_byte (byte_at bytes i)) m.shown o else m.shown o }
@@ -62,6 +68,14 @@ gift_of offset bytes = record { from = offset; count = length bytes; value = λ 
 -- what a disk shows from one offset up to another
 abbrev pub gift_shown : Disk → ℕ → ℕ → GivenBytes
 gift_shown d from to = record { from = from; count = to - from; value = λ i. d.value (from + i) }
+
+-- of bytes that are put into a mapping, those that aren't hidden; where they are, what the disk shows
+abbrev pub gift_of_put : Disk → PreparedMapping → ℕ → List ℕ → GivenBytes
+gift_of_put d m at bytes = record {
+  from = m.from + at;
+  count = length bytes;
+  value = λ i. if m.is_hidden (m.from + at + i) then d.value (m.from + at + i) else known_byte (byte_at bytes i);
+}
 
 abbrev pub gift_of_commit : ℕ → Disk → PreparedMapping → GivenBytes
 gift_of_commit cluster_size d m = gift_shown (committed d m) (first_of cluster_size m) (end_of cluster_size m)

@@ -4,13 +4,14 @@ use Rattle.image_access.specs.Moments.{StorageView, Passing}
 use Rattle.image_access.specs.declared.storage.PreallocateMode.{PreallocateMode}
 use Rattle.qcow2_metadata.specs.Bytes.{Bytes, byte_at}
 use Rattle.qcow2_metadata.specs.Consistent.{IsConsistent}
+use Rattle.qcow2_metadata.specs.Header.{header}
 use Rattle.qcow2_laws.specs.Disk.{Disk, with_bytes}
 use Rattle.qcow2_laws.specs.Stops.{GivenBytes, Checkpoint, checkpoint_at, checkpoint_with, StopOkEverywhere, StopOk}
 use Rattle.qcow2_laws.specs.Rules.{answered}
-use Rattle.qcow2_laws.specs.Mappings.{PreparedMapping, IsPrepared, put_mapping, put_disk, committed, gift_of, gift_of_commit}
+use Rattle.qcow2_laws.specs.Mappings.{PreparedMapping, IsPrepared, put_mapping, put_disk, committed, IsPrivateIn, IsHiddenIn, gift_of, gift_of_put, gift_of_commit}
 use Rattle.qcow2_laws.specs.Found.{Kind, IsFoundIn}
-use Rattle.qcow2_laws.specs.AbstractImages.{Setting, Guest, Abstraction, AbstractImage, abstract_image, guest_of, contents_of}
-use Rattle.qcow2_laws.specs.Calls.{Refusal, IsFault, Shows, with_disk, with_slot, MayWrite, Clearing, cleared_at, gift_of_clear, grown_to, gift_of_grow, MayGrow, IsShrunk, gift_of_shrink, gift_of_shrunk}
+use Rattle.qcow2_laws.specs.AbstractImages.{Setting, HostRange, Guest, Abstraction, AbstractImage, abstract_image, guest_of, contents_of}
+use Rattle.qcow2_laws.specs.Calls.{Refusal, another, IsFault, Shows, with_disk, with_slot, MayWrite, Clearing, cleared_at, gift_of_clear, grown_to, gift_of_grow, MayGrow, IsShrunk, gift_of_shrink, gift_of_shrunk}
 
 pub data Command : Type 0 where
   read : (offset length : ℕ) → Command
@@ -35,9 +36,10 @@ pub data Command : Type 0 where
 pub data Reply : Type 0 where
   done : Reply
   bytes_are : List ℕ → Reply
-  -- what so much of the range asked for is mapped to
-  mapping_is : (kind : Kind) → (length : ℕ) → Reply
-  prepared_is : (length : ℕ) → Reply
+  -- what so much of the range from an offset on is mapped to
+  mapping_is : (from : ℕ) → (kind : Kind) → (length : ℕ) → Reply
+  -- where in the file it is to be written, and for how many bytes
+  prepared_is : (host length : ℕ) → (is_existing : Bool) → Reply
   range_is : (offset length : ℕ) → Reply
   number_is : ℕ → Reply
   refused : Refusal → Reply
@@ -56,7 +58,7 @@ given_at (Some m) gift = gift m ∷ []
 -- what a command gives, and which sizes it asks for
 abbrev pub given_by : Setting → Guest → Command → List GivenBytes
 given_by x g (write offset bytes) = gift_of offset bytes ∷ []
-given_by x g (put slot at bytes) = given_at (g.slots slot) (λ m. gift_of (m.from + at) bytes)
+given_by x g (put slot at bytes) = given_at (g.slots slot) (λ m. gift_of_put g.disk m at bytes)
 given_by x g (commit slot) = given_at (g.slots slot) (gift_of_commit x.cluster_size g.disk)
 given_by x g (clear how offset n) = gift_of_clear x g.disk how offset n ∷ []
 given_by x g (grow size mode) = gift_of_grow x g.disk size mode
@@ -82,10 +84,10 @@ abbrev pub CommandMeaning : Setting → (ℕ → Option Found) → Guest → Com
 CommandMeaning x found old (read offset n) (bytes_are bytes) new = (length bytes ≡ n) × Shows old.disk offset bytes × (new ≡ old)
 CommandMeaning x found old (write offset bytes) done new = new ≡ with_disk old (with_bytes old.disk offset bytes)
 CommandMeaning x found old (write offset bytes) (write_refused e n) new = MayWrite e old offset bytes n new
-CommandMeaning x found old (get_mapping place offset max) (mapping_is kind n) new = (n ≤ max) × (new ≡ old)
+CommandMeaning x found old (get_mapping place offset max) (mapping_is from kind n) new = (from ≡ offset) × (n ≤ max) × (new ≡ old)
 CommandMeaning x found old (read_mapped place at n) (bytes_are bytes) new =
     (f : Found) × (found place ≡ Some f) × (length bytes ≡ n) × Shows old.disk (f.from + at) bytes × (new ≡ old)
-CommandMeaning x found old (prepare slot offset n overwrite) (prepared_is count) new =
+CommandMeaning x found old (prepare slot offset n overwrite) (prepared_is host count is_existing) new =
     (old.slots slot ≡ None) × ((m : PreparedMapping) × IsPrepared x.cluster_size old.disk offset n overwrite m × (m.length ≡ count) × (new ≡ with_slot old slot (Some m)))
 CommandMeaning x found old (put slot at bytes) done new =
     (m : PreparedMapping) × (old.slots slot ≡ Some m) × (at + length bytes ≤ m.length)
@@ -107,6 +109,35 @@ CommandMeaning x found old command (refused e) new = new ≡ old
 CommandMeaning x found old command misuse new = IsMisuse found old command × (new ≡ old)
 CommandMeaning x found old command reply new = ⊥
 
+-- This may be answered: a read or a write is done, and a range prepared, within the size alone. A refused write names no more bytes than it has. The size, the number of leaks, dropping a mapping and a lookup at or past the size are refused by no want of memory, nor else.
+abbrev pub MayAnswer : Disk → Command → Reply → Type 0
+MayAnswer d (read offset n) (bytes_are bytes) = 0 < n → offset + n ≤ d.size
+MayAnswer d (write offset bytes) done = 0 < length bytes → offset + length bytes ≤ d.size
+MayAnswer d (write offset bytes) (write_refused e n) = n ≤ length bytes
+MayAnswer d (prepare slot offset n overwrite) (prepared_is host count is_existing) = 0 < n → offset + n ≤ d.size
+MayAnswer d (get_mapping place offset max) (refused e) = offset < d.size
+MayAnswer d (discard slot) (refused e) = ⊥
+MayAnswer d get_size (refused e) = ⊥
+MayAnswer d get_leaked (refused e) = ⊥
+MayAnswer d command reply = Unit {0}
+
+-- A failed image answers 16, but for dropping a mapping and the getters, which it doesn't refuse. Where a slot or a range is misused, nothing is called.
+abbrev pub IsAnswerOfFailed : Command → Reply → Type 0
+IsAnswerOfFailed (read_mapped place at n) misuse = Unit {0}
+IsAnswerOfFailed (prepare slot offset n overwrite) misuse = Unit {0}
+IsAnswerOfFailed (put slot at bytes) misuse = Unit {0}
+IsAnswerOfFailed (commit slot) misuse = Unit {0}
+IsAnswerOfFailed (discard slot) misuse = Unit {0}
+IsAnswerOfFailed (discard slot) done = Unit {0}
+IsAnswerOfFailed get_size (number_is n) = Unit {0}
+IsAnswerOfFailed get_leaked (number_is n) = Unit {0}
+IsAnswerOfFailed (discard slot) (refused e) = ⊥
+IsAnswerOfFailed get_size (refused e) = ⊥
+IsAnswerOfFailed get_leaked (refused e) = ⊥
+IsAnswerOfFailed command (refused e) = e ≡ another 16
+IsAnswerOfFailed command (write_refused e n) = (e ≡ another 16) × (n ≡ 0)
+IsAnswerOfFailed command reply = ⊥
+
 -- the storage failed, or memory was refused
 abbrev pub IsFaultReply : Reply → Type 0
 IsFaultReply (refused e) = IsFault e
@@ -114,7 +145,7 @@ IsFaultReply (write_refused e n) = IsFault e
 IsFaultReply reply = ⊥
 
 abbrev pub found_after : (ℕ → Option Found) → Command → Reply → ℕ → Option Found
-found_after found (get_mapping place offset max) (mapping_is kind n) k = if k == place then Some (record { from = offset; length = n }) else found k
+found_after found (get_mapping place offset max) (mapping_is from kind n) k = if k == place then Some (record { from = offset; length = n }) else found k
 found_after found command reply k = found k
 
 -- A run so far: what the guest sees, what was found, and what was flushed last with what was given and asked since.
@@ -153,12 +184,12 @@ stepped x old command reply new failed = record {
   mark = checkpoint_after x old command reply new;
 }
 
--- Once the image failed, which a fault or refused memory alone brings about, nothing checkpoint_with is said of replies.
+-- A fault or refused memory alone makes the image fail. From then on it answers as a failed one.
 abbrev pub CommandStep : Setting → State → Command → Reply → State → Type 0
 CommandStep x old command reply new =
-    (IsTrue old.is_failed × (new ≡ old))
-    ⊎ ((old.is_failed ≡ false) × ((guest : Guest) × CommandMeaning x old.found old.guest command reply guest × (new ≡ stepped x old command reply guest false))
-    ⊎ ((old.is_failed ≡ false) × IsFaultReply reply × (new ≡ stepped x old command reply old.guest true)))
+    (IsTrue old.is_failed × IsAnswerOfFailed command reply × (new ≡ old))
+    ⊎ ((old.is_failed ≡ false) × MayAnswer old.guest.disk command reply × ((guest : Guest) × CommandMeaning x old.found old.guest command reply guest × (new ≡ stepped x old command reply guest false))
+    ⊎ ((old.is_failed ≡ false) × MayAnswer old.guest.disk command reply × IsFaultReply reply × (new ≡ stepped x old command reply old.guest true)))
 
 abbrev pub Run : Setting → State → List Command → List Reply → State → Type 0
 Run x old [] [] new = new ≡ old
@@ -183,18 +214,36 @@ pub record RefinesGuest (v : AbstractImage) (s : State) (before : ℕ → ℕ) :
   pub consistent : s.is_failed ≡ false → IsConsistent v.known
   pub surplus : s.is_failed ≡ false → v.surplus ≡ before
 
--- What a lookup answers is what is found in the known bytes, which it leaves as they were.
-abbrev pub IsRightlyFound : Setting → (before after : Bytes) → Command → Reply → Type 0
-IsRightlyFound x before after (get_mapping place offset max) (mapping_is kind n) = IsFoundIn after x.is_backed offset max kind n × (after ≡ before)
-IsRightlyFound x before after command reply = Unit {0}
+-- The moments on the way are the call's own. At whatever checkpoint a stop was safe as it began, each of them is safe with no more than it gives and asks.
+abbrev pub IsOwnStretch : Bytes → (old new : StorageView) → (known : Bytes) → List GivenBytes → List ℕ → Type 0
+IsOwnStretch backing old new known given asked = (m : Checkpoint) → StopOkEverywhere backing m (byte_at old.contents) → StopOkEverywhere backing m known
+    → Passing old new (λ c. StopOkEverywhere backing (checkpoint_with given asked m) (byte_at c))
 
--- Along a run: for each command there is the image at its return, with the mappings that are prepared then, what its storage had meanwhile is safe at the mark of that command, and what a lookup answered is found in it.
+-- What preparing answers is where the mapping in its slot is to be written. Of that mapping all is private but what was copied data, and hidden but where a zero cluster keeps its host cluster.
+pub record IsPreparedRightly (before : Bytes) (new : AbstractImage) (slot n : ℕ) (host : HostRange) : Type 0 where
+  pub written : new.hosts slot ≡ Some host
+  pub private : 0 < n → (m : PreparedMapping) → new.slots slot ≡ Some m → IsPrivateIn (header before) before m
+  pub hidden : (m : PreparedMapping) → new.slots slot ≡ Some m → IsHiddenIn (header new.known) new.known m
+
+-- What a lookup answers is what is found in the known bytes, which it leaves as they were. What is told of preparing is so. After a flush nothing is left to be freed.
+abbrev pub IsRightlyTold : Setting → (before : Bytes) → AbstractImage → Command → Reply → Type 0
+IsRightlyTold x before new (get_mapping place offset max) (mapping_is from kind n) = IsFoundIn new.known x.is_backed offset max kind n × (new.known ≡ before)
+IsRightlyTold x before new (prepare slot offset n overwrite) (prepared_is host count is_existing) = IsPreparedRightly before new slot n (record { offset = host; length = count; is_existing = is_existing })
+IsRightlyTold x before new flush done = (c : ℕ) → new.to_be_freed c ≡ 0
+IsRightlyTold x before new command reply = Unit {0}
+
+-- The stretch of one command, from a storage with what was known over it: each moment on the way is safe and its own, and the reply is as it is then.
+pub record IsStretch (x : Setting) (old : StorageView) (known : Bytes) (new : AbstractImage) (s : State) (command : Command) (reply : Reply) (end : State) : Type 0 where
+  pub safe : IsSafeWhile x.backing old new.storage s.is_failed (checkpoint_during x s command) end.mark
+  pub own : s.is_failed ≡ false → IsOwnStretch x.backing old new.storage known (given_by x s.guest command) (asked_by command)
+  pub told : end.is_failed ≡ false → IsRightlyTold x known new command reply
+
+-- Along a run: for each command there is the image at its return, with the mappings that are prepared then, and its stretch is as said.
 abbrev pub RefinesAlong : {D P : Type 0} (spec : Abstraction D P) (x : Setting) (before : ℕ → ℕ) (old new : D) (s end : State) (commands : List Command) (replies : List Reply) → Run x s commands replies end → Type 0
 RefinesAlong spec x before old new s end [] [] run = new ≡ old
 RefinesAlong {D = D} {P = P} spec x before old new s end (command ∷ commands) (reply ∷ replies) run =
     (mid : D) × (out : List (Option P)) × RefinesGuest (abstract_image spec mid out) run.0 before
-    × IsSafeWhile x.backing (spec.storage old) (spec.storage mid) s.is_failed (checkpoint_during x s command) run.0.mark
-    × (run.0.is_failed ≡ false → IsRightlyFound x (spec.known old) (spec.known mid) command reply)
+    × IsStretch x (spec.storage old) (spec.known old) (abstract_image spec mid out) s command reply run.0
     × RefinesAlong spec x before mid new run.0 end commands replies run.2
 RefinesAlong spec x before old new s end [] (reply ∷ replies) run = ⊥
 RefinesAlong spec x before old new s end (command ∷ commands) [] run = ⊥
@@ -224,8 +273,7 @@ pub record RefinesCommand (x : Setting) (old new : AbstractImage) (s : State) (c
   pub end : State
   pub step : CommandStep x s command reply end
   pub stands : RefinesState x new end
-  pub safe : IsSafeWhile x.backing old.storage new.storage s.is_failed (checkpoint_during x s command) end.mark
-  pub found : end.is_failed ≡ false → IsRightlyFound x old.known new.known command reply
+  pub stretch : IsStretch x old.storage old.known new s command reply end
   pub surplus : end.is_failed ≡ false → new.surplus ≡ old.surplus
   pub since : end.is_failed ≡ false → s.is_failed ≡ false
 
@@ -261,6 +309,7 @@ module _ {D P : Type 0} (spec : Abstraction D P) where
     -- Then the mappings that are left are let go, as safely, and the guest still sees it.
     pub leaves : IsSafeWhile (spec.setting old).backing (spec.storage last) (spec.storage new) end.is_failed end.mark end.mark
     pub at_end : RefinesGuest (abstract_image spec new []) (over end) (spec.surplus old [])
+    pub setting : spec.setting new ≡ spec.setting old
     -- There is no other moment since it began.
     pub since_start : (c : List ℕ) → (spec.storage new).had_since (spec.storage old).moment c → IsStopIn (spec.setting old) (started (guest_of (abstract_image spec old []))) end commands replies run (byte_at c)
 

@@ -1,6 +1,6 @@
 //! Laws: no function here does anything, its contract is the law.
 
-ghost use Rattle.qcow2_laws.specs.ForUsers.{PrivateBytesAreUnseen, CommittedIsReadBack, PutIsReadInPlace, FlushedIsExact};
+ghost use Rattle.qcow2_laws.specs.ForUsers.{PrivateBytesAreUnseen, CommittedIsReadBack, PutIsReadInPlace, HiddenBytesAreNotGiven, FlushedIsExact};
 ghost use Rattle.qcow2_metadata.specs.Bytes.{Bytes, byte_at};
 ghost use Rattle.qcow2_metadata.specs.Consistent.{IsConsistent};
 ghost use Rattle.qcow2_metadata.specs.declared.header.HeaderFields.{HeaderFields};
@@ -22,6 +22,11 @@ pub fn committed_is_read_back()
 /// Before the commit the old bytes are read wherever the mapping is private, and the new ones at once wherever it is in place.
 pub fn put_is_read_in_place()
     ensures { PutIsReadInPlace }
+{}
+
+/// What is put where a mapping is hidden is left by no stop before the commit.
+pub fn hidden_bytes_are_not_given()
+    ensures { HiddenBytesAreNotGiven }
 {}
 
 /// A stop right after a flush gives exactly the disk.

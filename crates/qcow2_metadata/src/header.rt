@@ -359,6 +359,3 @@ impl Header {
         }
     }
 }
-
-#[cfg(test)]
-mod tests;

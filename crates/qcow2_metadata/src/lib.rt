@@ -13,8 +13,6 @@ mod ref_block;
 mod ref_table;
 mod standing;
 mod table_bytes;
-#[cfg(test)]
-mod table_tests;
 
 pub use error::MetadataError;
 pub use header::{Header, HeaderFields};

@@ -8,9 +8,10 @@ use Rattle.qcow2_metadata.specs.Header.{rounded_down}
 use Rattle.qcow2_metadata.specs.Guest.{Value, known_byte}
 use Rattle.qcow2_laws.specs.Disk.{Disk, with_bytes}
 use Rattle.qcow2_laws.specs.Stops.{GivenBytes, IsGiven}
-use Rattle.qcow2_laws.specs.Mappings.{PreparedMapping, IsPrepared, put_disk, put_mapping, committed, gift_of, gift_of_commit}
+use Rattle.qcow2_laws.specs.Mappings.{PreparedMapping, IsPrepared, put_disk, put_mapping, committed, gift_of, gift_of_put, gift_of_commit}
 use Rattle.qcow2_laws.specs.AbstractImages.{Abstraction, HasFreePlaces, Guest, abstract_image, guest_of}
 use Rattle.qcow2_laws.specs.Calls.{Refusal, memory, storage, another, IsFault, Does, Refuses, IsSame, MayWrite, WritesSome, with_disk, with_slot}
+use Rattle.qcow2_laws.proofs.ForUsers.{put_given}
 use Rattle.qcow2_laws.proofs.Lists.{within_is}
 use Rattle.qcow2_session.proofs.Bytes.{cut_long, cut_short, cut_part, byte_in, laid_in, laid_out, no_bytes, same_values, part_within}
 use Rattle.qcow2_session.proofs.Places.{enters, leaves}
@@ -26,9 +27,15 @@ module _ (cluster_size : ℕ) (d : Disk) (m : PreparedMapping) (offset : ℕ) (b
   place : m.from + 0 ≡ offset
   place = omega (arith, prepared.from)
 
-  -- what is put is part of the bytes
-  pub put_within : (o : ℕ) (w : Value) → IsGiven (gift_of (m.from + 0) chunk ∷ []) o w → IsGiven (gift_of offset bytes ∷ []) o w
-  put_within = part_within offset (m.from + 0) 0 bytes chunk (omega (arith, place)) (omega (arith, short)) (λ i lt. part i lt ∙ ap (byte_at bytes) (omega arith))
+  -- what is put is part of the bytes, or where it is hidden what was there
+  pub put_within : (now : Disk) (o : ℕ) (w : Value) → IsGiven (gift_of_put now m 0 chunk ∷ []) o w → (w ≡ now.value o) ⊎ IsGiven (gift_of offset bytes ∷ []) o w
+  put_within now o w given =
+      let is = put_given now m 0 chunk o w given in
+      elim (cases_Bool (m.is_hidden o)) [
+        | inl hidden ↦ inl (is.2 ∙ cond-true (m.is_hidden o) (now.value o) (known_byte (byte_at chunk (o - (m.from + 0)))) hidden)
+        | inr shown ↦ inr (part_within offset (m.from + 0) 0 bytes chunk (omega (arith, place)) (omega (arith, short)) (λ i lt. part i lt ∙ ap (byte_at bytes) (omega arith)) o w
+            (inl (is.0, is.1, is.2 ∙ cond-false (m.is_hidden o) (now.value o) (known_byte (byte_at chunk (o - (m.from + 0)))) shown)))
+      ]
 
   -- where nothing is put in place, nothing changed
   put_out : (o : ℕ) → (m.is_private o ≡ true) ⊎ (is_within offset (length chunk) o ≡ false) → (put_disk d m 0 chunk).value o ≡ d.value o
@@ -141,13 +148,13 @@ module _ {D P : Type 0} (spec : Abstraction D P) (has : HasFreePlaces spec) (d0 
   gifts = gift_of offset bytes ∷ []
 
   abbrev put_gifts : List GivenBytes
-  put_gifts = gift_of ((spec.means d1 p).from + 0) chunk ∷ []
+  put_gifts = gift_of_put (guest_of (abstract_image spec d1 (Some p ∷ out))).disk (spec.means d1 p) 0 chunk ∷ []
 
   guest1 : Ready → shift (guest_of (abstract_image spec d1 (Some p ∷ out))) ≡ guest_of (abstract_image spec d0 out)
   guest1 r = ap shift r.1 ∙ shift_slot (guest_of (abstract_image spec d0 (None ∷ out))) (Some (spec.means d1 p))
 
   puts_within : Ready → IsWithin (abstract_image spec d1 (Some p ∷ out)) put_gifts gifts
-  puts_within r o w h = inr (put_within (spec.setting d0).cluster_size (guest_of (abstract_image spec d0 out)).disk (spec.means d1 p) offset bytes chunk long short part r.0 o w h)
+  puts_within r o w h = put_within (spec.setting d0).cluster_size (guest_of (abstract_image spec d0 out)).disk (spec.means d1 p) offset bytes chunk long short part r.0 (guest_of (abstract_image spec d1 (Some p ∷ out))).disk o w h
 
   module _ (prepares : Does (abstract_image spec d0 (None ∷ out)) (abstract_image spec d1 (Some p ∷ out)) [] [] Ready) where
     ready : Does (abstract_image spec d0 out) (abstract_image spec d1 (Some p ∷ out)) gifts [] Ready

@@ -22,7 +22,7 @@ use Rattle.qcow2_image.specs.declared.image.Qcow2.{Qcow2}
 use Rattle.qcow2_image.specs.declared.prepared.Prepared.{Prepared}
 use Rattle.qcow2_image.specs.ImageInvariant.{abstract_of}
 use Rattle.qcow2_session.specs.Sessions.{HasWritten, ReadsInto, Writes, EndsCluster, cluster_size_of}
-use Rattle.qcow2_session.specs.Conversions.{BreaksOff, HasSome, IsRawOf, Imports, ImportsAll, ImportsAt}
+use Rattle.qcow2_session.specs.Conversions.{RefusedConversion, HasSome, IsRawOf, Imports, ImportsAll, ImportsAt}
 use Rattle.qcow2_session.proofs.Bytes.{cut_short, cut_part, byte_in, byte_out, cases_place, no_bytes, same_values, part_within, rest_long, rest_part}
 use Rattle.qcow2_session.proofs.Chunks.{may_write_none}
 use Rattle.qcow2_session.proofs.Turns.{IsWithin, none_within, does_if, does_why, does_less, does_then, acts_less, acts_then}
@@ -45,25 +45,25 @@ does_nothing v = record {
 
 -- ---- calls that were refused
 
-pub breaks : {old new : AbstractImage} {given : List GivenBytes} {e : Refusal} {A : Type 0} → Refuses old new given [] e A → BreaksOff old new given e A
+pub breaks : {old new : AbstractImage} {given : List GivenBytes} {e : Refusal} {A : Type 0} → Refuses old new given [] e A → RefusedConversion old new given e A
 breaks r = record { acts = r.acts; answer = r.answer }
 
-pub breaks_here : {old new : AbstractImage} {given : List GivenBytes} {A : Type 0} (e : Refusal) → Does old new given [] A → BreaksOff old new given e A
+pub breaks_here : {old new : AbstractImage} {given : List GivenBytes} {A : Type 0} (e : Refusal) → Does old new given [] A → RefusedConversion old new given e A
 breaks_here e d = record { acts = d.acts; answer = λ sound. inl (d.answer sound) }
 
 module _ {old new : AbstractImage} {given : List GivenBytes} {e : Refusal} {A B : Type 0} where
-  pub breaks_if : (A → B) → BreaksOff old new given e A → BreaksOff old new given e B
+  pub breaks_if : (A → B) → RefusedConversion old new given e A → RefusedConversion old new given e B
   breaks_if to r = record { acts = r.acts; answer = λ sound. ⊎_elim (λ (a : new.is_sound × A). inl (a.0, to a.1)) (λ h. inr h) (r.answer sound) }
 
-  pub breaks_why : (old.is_sound → B) → BreaksOff old new given e A → BreaksOff old new given e (A × B)
+  pub breaks_why : (old.is_sound → B) → RefusedConversion old new given e A → RefusedConversion old new given e (A × B)
   breaks_why why r = record { acts = r.acts; answer = λ sound. ⊎_elim (λ (a : new.is_sound × A). inl (a.0, (a.1, why sound))) (λ h. inr h) (r.answer sound) }
 
 module _ {old new : AbstractImage} {gs fewer : List GivenBytes} (within : IsWithin old gs fewer) where
-  pub breaks_less : {e : Refusal} {A : Type 0} → BreaksOff old new gs e A → BreaksOff old new fewer e A
+  pub breaks_less : {e : Refusal} {A : Type 0} → RefusedConversion old new gs e A → RefusedConversion old new fewer e A
   breaks_less r = record { acts = acts_less within r.acts; answer = r.answer }
 
 module _ {old mid new : AbstractImage} {gs more : List GivenBytes} {A : Type 0} (within : A → IsWithin mid more gs) (first : Does old mid gs [] A) where
-  pub breaks_then : {e : Refusal} {B : Type 0} → BreaksOff mid new more e B → BreaksOff old new gs e (A × B)
+  pub breaks_then : {e : Refusal} {B : Type 0} → RefusedConversion mid new more e B → RefusedConversion old new gs e (A × B)
   breaks_then {B = B} then = record {
     acts = acts_then within first then.acts;
     answer = λ sound. let a = first.answer sound in ⊎_elim (λ (b : new.is_sound × B). inl (b.0, (a.1, b.1))) (λ h. inr h) (then.answer a.0);
@@ -171,8 +171,8 @@ module _ (old mid new : AbstractImage) (contents : List ℕ) (at count : ℕ) (f
 
   -- the range was refused, and lies within a cluster
   pub imports_refused : (e : Refusal) (size : ℕ) (aligned : Type 0) → at % size ≡ 0 → (old.is_sound → aligned)
-      → BreaksOff mid new (gift_of at chunk ∷ []) e (aligned → MayWrite e (guest_of mid) at chunk 0 (guest_of new))
-      → BreaksOff old new (gift_of 0 contents ∷ []) e (HasSome size contents e (guest_of old) (guest_of new))
+      → RefusedConversion mid new (gift_of at chunk ∷ []) e (aligned → MayWrite e (guest_of mid) at chunk 0 (guest_of new))
+      → RefusedConversion old new (gift_of 0 contents ∷ []) e (HasSome size contents e (guest_of old) (guest_of new))
   imports_refused e size aligned start is_aligned next =
       breaks_if (λ h. (
         at,
@@ -185,7 +185,7 @@ module _ (old mid new : AbstractImage) (contents : List ℕ) (at count : ℕ) (f
 module _ {S F : Type 0} (view : S → StorageView) (backing : F → BackingView) (old new : Qcow2 S F) (at : ℕ) (bytes : List ℕ) where
   -- nothing was written
   pub at_refused : (e : ImageError) (r : Result (Unit {0}) ImageError) → r ≡ Err e
-      → ((out : List (Option Prepared)) → BreaksOff (abstract_of view backing old out) (abstract_of view backing new out) [] (refusal_of e) (IsSame (abstract_of view backing old out) (abstract_of view backing new out)))
+      → ((out : List (Option Prepared)) → RefusedConversion (abstract_of view backing old out) (abstract_of view backing new out) [] (refusal_of e) (IsSame (abstract_of view backing old out) (abstract_of view backing new out)))
       → ImportsAt view backing old new at bytes r
   at_refused e r is off = subst (λ x. ImportsAt view backing old new at bytes x) (sym is) (λ out.
       breaks_if (λ same start short. may_write_none (refusal_of e) (guest_of (abstract_of view backing old out)) (guest_of (abstract_of view backing new out)) at bytes same)

@@ -17,7 +17,7 @@ use Rattle.qcow2_image.specs.Calls.{refusal_of}
 use Rattle.qcow2_image.specs.declared.image.Qcow2.{Qcow2}
 use Rattle.qcow2_image.specs.declared.prepared.Prepared.{Prepared}
 use Rattle.qcow2_image.specs.ImageInvariant.{abstract_of}
-use Rattle.qcow2_session.specs.Conversions.{BreaksOff, IsRawOf, IsUnchanged, IsFilled, Fills}
+use Rattle.qcow2_session.specs.Conversions.{RefusedConversion, IsRawOf, IsUnchanged, IsFilled, Fills}
 
 -- a range of zeros isn't written
 pub filled_same : (d : Disk) (size at n : ℕ) (contents bytes : List ℕ) → IsFilled d size at contents → Shows d at bytes → bytes ≡ replicate n 0 → IsFilled d size (at + n) contents
@@ -69,7 +69,7 @@ filled_all d size bytes filled is =
 module _ {S F : Type 0} (view : S → StorageView) (backing : F → BackingView) (old new : Qcow2 S F) where
   -- a refusal that was passed on
   pub unchanged_refused : {A : Type 0} (e : ImageError) (r : Result A ImageError) → r ≡ Err e
-      → ((out : List (Option Prepared)) → BreaksOff (abstract_of view backing old out) (abstract_of view backing new out) [] (refusal_of e) (IsSame (abstract_of view backing old out) (abstract_of view backing new out)))
+      → ((out : List (Option Prepared)) → RefusedConversion (abstract_of view backing old out) (abstract_of view backing new out) [] (refusal_of e) (IsSame (abstract_of view backing old out) (abstract_of view backing new out)))
       → IsUnchanged view backing old new r
   unchanged_refused e r is off = subst (λ x. IsUnchanged view backing old new x) (sym is) off
 

@@ -3,6 +3,7 @@ mod Places
 mod Bytes
 mod Beyond
 mod Meanings
+mod Answering
 mod Chunks
 mod Writing
 mod Reading

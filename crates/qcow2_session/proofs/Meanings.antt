@@ -5,8 +5,8 @@ use Rattle.std.proofs.lemmas.Bool.{cond-true, cond-false, cases_Bool, cases_eq, 
 use Rattle.std.proofs.lemmas.Option.{slice_get-get_or, slice_get_read}
 use mathlib.Core.Path.{fun_ext}
 use Rattle.qcow2_laws.specs.Stops.{GivenBytes}
-use Rattle.qcow2_laws.specs.Mappings.{PreparedMapping, IsPrepared, put_mapping, put_disk, committed, gift_of, gift_of_commit}
-use Rattle.qcow2_laws.specs.AbstractImages.{Setting, Abstraction, AbstractImage, abstract_image, guest_of, meaning_at}
+use Rattle.qcow2_laws.specs.Mappings.{PreparedMapping, IsPrepared, put_mapping, put_disk, committed, gift_of_put, gift_of_commit}
+use Rattle.qcow2_laws.specs.AbstractImages.{Setting, HostRange, Abstraction, AbstractImage, abstract_image, guest_of, meaning_at}
 use Rattle.qcow2_laws.specs.Calls.{Refusal, Acts, Does, Refuses, IsSame, with_disk, with_slot}
 use Rattle.qcow2_laws.specs.Runs.{Found, Command, Reply, State, RefinesState, CommandMeaning, CommandStep, found_after, given_at, given_by, put, commit, discard, prepare, done, prepared_is}
 use Rattle.qcow2_image.specs.declared.mapping.Mapping.{Mapping}
@@ -20,6 +20,10 @@ module _ {D P : Type 0} (spec : Abstraction D P) where
 
   pub none_at : (d : D) (out : List (Option P)) (slot : ℕ) → slice_get out slot ≡ Some None → (abstract_image spec d out).slots slot ≡ None
   none_at d out slot e = ap (λ (o : Option (Option P)). meaning_at (spec.means d) o) e
+
+  -- where it is to be written
+  pub host_at : (d : D) (out : List (Option P)) (slot : ℕ) (p : P) → slice_get out slot ≡ Some (Some p) → (abstract_image spec d out).hosts slot ≡ Some (spec.host p)
+  host_at d out slot p e = ap (λ (o : Option (Option P)). meaning_at spec.host o) e
 
   -- a place that was looked at
   module _ (d : D) (out : List (Option P)) (slot : ℕ) where
@@ -44,21 +48,32 @@ module _ {old new : AbstractImage} (found : ℕ → Option Found) (slot : ℕ) (
   refuses_commit r = record { acts = at_slot (gift_of_commit old.setting.cluster_size (guest_of old).disk) r.acts; answer = r.answer; fault = r.fault }
 
   module _ (at : ℕ) (bytes : List ℕ) where
-    pub does_put : at + length bytes ≤ m.length → Does old new (gift_of (m.from + at) bytes ∷ []) [] (guest_of new ≡ with_slot (with_disk (guest_of old) (put_disk (guest_of old).disk m at bytes)) slot (Some (put_mapping m at bytes)))
+    pub does_put : at + length bytes ≤ m.length → Does old new (gift_of_put (guest_of old).disk m at bytes ∷ []) [] (guest_of new ≡ with_slot (with_disk (guest_of old) (put_disk (guest_of old).disk m at bytes)) slot (Some (put_mapping m at bytes)))
         → Does old new (given_by old.setting (guest_of old) (put slot at bytes)) [] (CommandMeaning old.setting found (guest_of old) (put slot at bytes) done (guest_of new))
-    does_put fits does = record { acts = at_slot (λ n. gift_of (n.from + at) bytes) does.acts; answer = λ sound. let a = does.answer sound in (a.0, (m, e, fits, a.1)) }
+    does_put fits does = record { acts = at_slot (λ n. gift_of_put (guest_of old).disk n at bytes) does.acts; answer = λ sound. let a = does.answer sound in (a.0, (m, e, fits, a.1)) }
 
-    pub refuses_put : {error : Refusal} → Refuses old new (gift_of (m.from + at) bytes ∷ []) [] error (IsSame old new)
+    pub refuses_put : {error : Refusal} → Refuses old new (gift_of_put (guest_of old).disk m at bytes ∷ []) [] error (IsSame old new)
         → Refuses old new (given_by old.setting (guest_of old) (put slot at bytes)) [] error (IsSame old new)
-    refuses_put r = record { acts = at_slot (λ n. gift_of (n.from + at) bytes) r.acts; answer = r.answer; fault = r.fault }
+    refuses_put r = record { acts = at_slot (λ n. gift_of_put (guest_of old).disk n at bytes) r.acts; answer = r.answer; fault = r.fault }
 
   pub does_discard : Does old new [] [] (guest_of new ≡ with_slot (guest_of old) slot None) → Does old new [] [] (CommandMeaning old.setting found (guest_of old) (discard slot) done (guest_of new))
   does_discard does = record { acts = does.acts; answer = λ sound. let a = does.answer sound in (a.0, ((λ (h : old.slots slot ≡ None). cc), a.1)) }
 
-pub does_prepare : {old new : AbstractImage} (found : ℕ → Option Found) (slot offset n : ℕ) (overwrite : Bool) (m : PreparedMapping) (count : ℕ) → old.slots slot ≡ None → m.length ≡ count
+pub does_prepare : {old new : AbstractImage} (found : ℕ → Option Found) (slot offset n : ℕ) (overwrite : Bool) (m : PreparedMapping) (host count : ℕ) (is_existing : Bool) → old.slots slot ≡ None → m.length ≡ count
     → Does old new [] [] (IsPrepared old.setting.cluster_size (guest_of old).disk offset n overwrite m × (guest_of new ≡ with_slot (guest_of old) slot (Some m)))
-    → Does old new [] [] (CommandMeaning old.setting found (guest_of old) (prepare slot offset n overwrite) (prepared_is count) (guest_of new))
-does_prepare found slot offset n overwrite m count free long does = record { acts = does.acts; answer = λ sound. let a = does.answer sound in (a.0, (free, (m, a.1.0, long, a.1.1))) }
+    → Does old new [] [] (CommandMeaning old.setting found (guest_of old) (prepare slot offset n overwrite) (prepared_is host count is_existing) (guest_of new))
+does_prepare found slot offset n overwrite m host count is_existing free long does = record { acts = does.acts; answer = λ sound. let a = does.answer sound in (a.0, (free, (m, a.1.0, long, a.1.1))) }
+
+abbrev host_range : ℕ → ℕ → Bool → HostRange
+host_range offset length is_existing = record { offset = offset; length = length; is_existing = is_existing }
+
+-- what is told of a mapping is where it is to be written
+pub prepared_at : {a b n m : ℕ} {e f : Bool} → a ≡ b → n ≡ m → e ≡ f → Some (host_range b m f) ≡ Some (host_range a n e)
+prepared_at offset length existing = ap Some (λ i. record { offset = sym offset i; length = sym length i; is_existing = sym existing i })
+
+-- what is so of a mapping is so of each that stands in its slot
+pub so_in_slot : (v : AbstractImage) (slot : ℕ) (m : PreparedMapping) (IsSo : PreparedMapping → Type 0) → v.slots slot ≡ Some m → IsSo m → (n : PreparedMapping) → v.slots slot ≡ Some n → IsSo n
+so_in_slot v slot m IsSo there so n is = let same : m ≡ n = (let e : Some m ≡ Some n = sym there ∙ is in cc) in subst IsSo same so
 
 -- a range that passes the end of what is at a place
 pub is_past : {m o : Option PreparedMapping} (at n : ℕ) → o ≡ m → MatchOption m (Unit {0}) (λ p. p.length < at + n) → MatchOption o (Unit {0}) (λ p. p.length < at + n)
@@ -103,6 +118,6 @@ found_same f g command reply same k = ap (λ (h : ℕ → Option Found). found_a
 
 -- after a step that didn't fail
 pub step_found : (x : Setting) (s t : State) (command : Command) (reply : Reply) → CommandStep x s command reply t → t.is_failed ≡ false → (s.is_failed ≡ false) × (t.found ≡ found_after s.found command reply)
-step_found x s t command reply (inl (failed, same)) ok = absurd (let e : t.is_failed ≡ true = ap (λ (u : State). u.is_failed) same ∙ failed in cc)
-step_found x s t command reply (inr (inl (works, (guest, means, is)))) ok = (works, ap (λ (u : State). u.found) is)
-step_found x s t command reply (inr (inr (works, fault, is))) ok = absurd (let e : t.is_failed ≡ true = ap (λ (u : State). u.is_failed) is in cc)
+step_found x s t command reply (inl (failed, answer, same)) ok = absurd (let e : t.is_failed ≡ true = ap (λ (u : State). u.is_failed) same ∙ failed in cc)
+step_found x s t command reply (inr (inl (works, may, (guest, means, is)))) ok = (works, ap (λ (u : State). u.found) is)
+step_found x s t command reply (inr (inr (works, may, fault, is))) ok = absurd (let e : t.is_failed ≡ true = ap (λ (u : State). u.is_failed) is in cc)

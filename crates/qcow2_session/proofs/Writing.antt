@@ -1,11 +1,8 @@
 -- A session's write goes on by one chunk, or is refused.
-use Rattle.std.proofs.Common.{◌≡◌, ⊎_elim, inl, inr, ℕ, ◌+◌, ◌-◌, ◌*◌, ◌/◌, ◌%◌, ◌<◌, ◌≤◌, min, subst, Option, Some, None, List, [], ◌∷◌, take, drop, length, refl, sym, ap, ◌∙◌, arith}
+use Rattle.std.proofs.Common.{◌≡◌, ⊎_elim, inl, inr, ℕ, ◌+◌, ◌%◌, ◌<◌, ◌≤◌, min, subst, List, [], ◌∷◌, take, drop, length, sym, ap, ◌∙◌, arith}
 use Rattle.std.proofs.Math.Seq.{take-add}
-use Rattle.std.proofs.Math.Nat.{div-add-mod, mul-add-mod_self_left, mod_self}
-use Rattle.std.proofs.lemmas.Nat.{mod_below, pow_pos}
 use Rattle.std.proofs.lemmas.Grind.{common_steps}
 use Rattle.std.proofs.lemmas.List.{take-append-drop}
-use Rattle.std.specs.Prelude.{IsNone, IsSome}
 use Rattle.qcow2_laws.specs.Disk.{Disk, with_bytes}
 use Rattle.qcow2_laws.specs.Mappings.{gift_of}
 use Rattle.qcow2_laws.specs.AbstractImages.{AbstractImage, Guest, guest_of}
@@ -21,20 +18,11 @@ ends_on old mid same offset done count at there ends =
     let place : at + count ≡ offset + (done + count) = omega (arith, there) in
     subst (λ k. k % cluster_size_of old ≡ 0) place (subst (λ size. (at + count) % size ≡ 0) same ends)
 
--- where the rest of a cluster ends
-pub rest_ends : (size offset n : ℕ) → 0 < size → n ≡ size - offset % size → (offset + n) % size ≡ 0
-rest_ends size offset n some is =
-    let whole : size * (offset / size) + offset % size ≡ offset = div-add-mod offset size in
-    let lt : offset % size < size = mod_below offset size some in
-    let place : offset + n ≡ size * (offset / size) + size = omega (arith, whole, lt, is) in
-    ap (λ k. k % size) place ∙ mul-add-mod_self_left size (offset / size) size ∙ mod_self size
-
--- a mapping that is shorter than the bytes ends where its cluster does
-pub chunk_ends : {S F : Type 0} (image : Qcow2 S F) (offset n count m : ℕ) (table : Option ℕ) → count ≡ min n m → count < n
-    → (IsNone table → m ≡ n) → (IsSome table → m ≡ cluster_size_of image - offset % cluster_size_of image) → EndsCluster image (offset + count)
-chunk_ends image offset n count m None is short whole rest = absurd (omega (arith, is, short, whole refl))
-chunk_ends image offset n count m (Some table) is short whole rest =
-    rest_ends (cluster_size_of image) offset count (pow_pos image.file.header.fields.cluster_bits) (omega (arith, is, short) ∙ rest refl)
+-- a mapping that is shorter than the bytes ends where a cluster does
+pub chunk_ends : {S F : Type 0} (image mid : Qcow2 S F) (offset n count m : ℕ) → count ≡ min n m → count < n → cluster_size_of mid ≡ cluster_size_of image → (m < n → (offset + m) % cluster_size_of mid ≡ 0) → EndsCluster image (offset + count)
+chunk_ends image mid offset n count m is short same ends =
+    let all : count ≡ m = omega (arith, is, short) in
+    subst (λ k. (offset + k) % cluster_size_of image ≡ 0) (sym all) (subst (λ size. (offset + m) % size ≡ 0) same (ends (omega (arith, is, short))))
 
 module _ (offset at count : ℕ) (bytes : List ℕ) (le : count ≤ length bytes) (there : at ≡ offset + count) where
   after_first : at ≡ offset + length (take count bytes)

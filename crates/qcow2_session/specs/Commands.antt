@@ -22,8 +22,8 @@ command_of C.Size = get_size
 abbrev pub reply_of : SessionReply → Reply
 reply_of R.Done = done
 reply_of (R.Bytes bytes) = bytes_are bytes.items
-reply_of (R.Mapping m) = mapping_is (found_kind m.kind) m.length
-reply_of (R.Prepared offset n existing) = prepared_is n
+reply_of (R.Mapping m) = mapping_is m.offset (found_kind m.kind) m.length
+reply_of (R.Prepared offset n existing) = prepared_is offset n existing
 reply_of (R.Size n) = number_is n
 reply_of (R.Refused e) = refused (refusal_of e)
 reply_of (R.WriteRefused e n) = write_refused (refusal_of e) n

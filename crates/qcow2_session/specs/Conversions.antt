@@ -1,5 +1,5 @@
 -- What converting does: an image's disk is made as a raw disk is, or a raw disk as an image's disk is.
-use Rattle.std.specs.Prelude.{ℕ, ◌%◌, ◌≡◌, ◌⊎◌, ◌≤◌, ◌<◌, IsTrue, List, [], ◌∷◌, length, Option, Result, Ok, Err}
+use Rattle.std.specs.Prelude.{ℕ, ◌%◌, ◌≡◌, ◌⊎◌, ◌≤◌, ◌<◌, IsTrue, List, [], ◌∷◌, length, Option, Some, Result, Ok, Err}
 use Rattle.image_access.specs.Backing.{BackingView}
 use Rattle.image_access.specs.Moments.{StorageView}
 use Rattle.qcow2_metadata.specs.Bytes.{byte_at}
@@ -9,7 +9,9 @@ use Rattle.qcow2_laws.specs.Stops.{GivenBytes}
 use Rattle.qcow2_laws.specs.Mappings.{gift_of}
 use Rattle.qcow2_laws.specs.AbstractImages.{Guest, AbstractImage, guest_of, contents_of}
 use Rattle.qcow2_laws.specs.Calls.{Refusal, IsFault, Acts, Does, IsSame, Shows, MayWrite}
+use Rattle.qcow2_alloc.specs.ImageError.{IsFault as IsOfFault}
 use Rattle.qcow2_alloc.specs.declared.error.ImageError.{ImageError}
+use Rattle.qcow2_alloc.specs.declared.error.ImageError.TheVariants.{InvalidOption}
 use Rattle.qcow2_image.specs.declared.image.Qcow2.{Qcow2}
 use Rattle.qcow2_image.specs.declared.prepared.Prepared.{Prepared}
 use Rattle.qcow2_image.specs.Calls.{refusal_of}
@@ -24,8 +26,13 @@ IsRawOf d bytes = (length bytes ≡ d.size) × Shows d 0 bytes
 abbrev pub IsLeft : StorageView → StorageView → Type 0
 IsLeft old new = old.is_honest → new.is_honest × (new.contents ≡ old.contents)
 
+-- sizes that differ are refused as a wrong option, where nothing is refused before and the raw disk tells its size
+abbrev pub IsRefusedUnequal : Option ImageError → Result ℕ ImageError → Type 0
+IsRefusedUnequal early (Ok n) = ⊥
+IsRefusedUnequal early (Err e) = (early ≡ Some e) ⊎ ((e ≡ InvalidOption) ⊎ IsOfFault e)
+
 -- It was refused, by the image or by the raw disk: the image is sound, and this is so; or it failed, by a fault or want of memory.
-pub record BreaksOff (old new : AbstractImage) (given : List GivenBytes) (e : Refusal) (still : Type 0) : Type 0 where
+pub record RefusedConversion (old new : AbstractImage) (given : List GivenBytes) (e : Refusal) (still : Type 0) : Type 0 where
   pub acts : Acts old new given []
   pub answer : old.is_sound → (new.is_sound × still) ⊎ (IsFault e × IsTrue new.is_failed)
 
@@ -39,7 +46,7 @@ module _ {S F : Type 0} (view : S → StorageView) (backing : F → BackingView)
   Imports bytes (Ok n) = (out : List (Option Prepared)) → let v = abstract_of view backing old out in let w = abstract_of view backing new out in
       Does v w (gift_of 0 bytes ∷ []) [] ((n ≡ length bytes) × IsRawOf (guest_of w).disk bytes × HasWritten 0 bytes (guest_of v) (guest_of w) × (w.known ≡ contents_of w))
   Imports bytes (Err e) = (out : List (Option Prepared)) → let v = abstract_of view backing old out in let w = abstract_of view backing new out in
-      BreaksOff v w (gift_of 0 bytes ∷ []) (refusal_of e) (HasSome (cluster_size_of old) bytes (refusal_of e) (guest_of v) (guest_of w))
+      RefusedConversion v w (gift_of 0 bytes ∷ []) (refusal_of e) (HasSome (cluster_size_of old) bytes (refusal_of e) (guest_of v) (guest_of w))
 
   -- so it is before the flush
   abbrev pub ImportsAll : List ℕ → Result (Unit {0}) ImageError → Type 0
@@ -52,12 +59,12 @@ module _ {S F : Type 0} (view : S → StorageView) (backing : F → BackingView)
   ImportsAt at bytes (Ok _) = (out : List (Option Prepared)) → let v = abstract_of view backing old out in let w = abstract_of view backing new out in
       Does v w (gift_of at bytes ∷ []) [] (HasWritten at bytes (guest_of v) (guest_of w))
   ImportsAt at bytes (Err e) = (out : List (Option Prepared)) → let v = abstract_of view backing old out in let w = abstract_of view backing new out in
-      BreaksOff v w (gift_of at bytes ∷ []) (refusal_of e) (at % cluster_size_of old ≡ 0 → length bytes ≤ cluster_size_of old → MayWrite (refusal_of e) (guest_of v) at bytes 0 (guest_of w))
+      RefusedConversion v w (gift_of at bytes ∷ []) (refusal_of e) (at % cluster_size_of old ≡ 0 → length bytes ≤ cluster_size_of old → MayWrite (refusal_of e) (guest_of v) at bytes 0 (guest_of w))
 
   -- the guest sees what it saw
   abbrev pub IsUnchanged : {A : Type 0} → Result A ImageError → Type 0
   IsUnchanged (Ok a) = (out : List (Option Prepared)) → let v = abstract_of view backing old out in let w = abstract_of view backing new out in Does v w [] [] (IsSame v w)
-  IsUnchanged (Err e) = (out : List (Option Prepared)) → let v = abstract_of view backing old out in let w = abstract_of view backing new out in BreaksOff v w [] (refusal_of e) (IsSame v w)
+  IsUnchanged (Err e) = (out : List (Option Prepared)) → let v = abstract_of view backing old out in let w = abstract_of view backing new out in RefusedConversion v w [] (refusal_of e) (IsSame v w)
 
 -- So far a raw disk of this size has the disk's bytes, and zeros behind them.
 pub record IsFilled (d : Disk) (size at : ℕ) (bytes : List ℕ) : Type 0 where

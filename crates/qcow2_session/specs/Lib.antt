@@ -1,3 +1,4 @@
 pub mod Commands
 pub mod Conversions
 pub mod Sessions
+pub mod Opening

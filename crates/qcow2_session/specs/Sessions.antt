@@ -12,14 +12,14 @@ use Rattle.qcow2_laws.specs.Calls.{Does, Refuses, Shows, with_disk, MayWrite}
 use Rattle.qcow2_laws.specs.Found.{IsFoundIn}
 use Rattle.qcow2_laws.specs.Runs.{Command as RunCommand, Reply as RunReply, get_mapping, mapping_is, Found, State, RefinesState, RefinesCommand, RefinesWholeRun, RefinesDisk, begun, found_after}
 use Rattle.qcow2_alloc.specs.declared.error.ImageError.{ImageError}
-use Rattle.qcow2_alloc.specs.declared.error.ImageError.TheVariants.{BeyondSize}
+use Rattle.qcow2_alloc.specs.declared.error.ImageError.TheVariants.{BeyondSize, Dependency, Failed, ReadOnly, TablePrepared}
 use Rattle.qcow2_alloc.specs.ImageFile.{contents_in}
 use Rattle.qcow2_image.specs.declared.image.Qcow2.{Qcow2}
 use Rattle.qcow2_image.specs.declared.mapping.Mapping.{Mapping}
 use Rattle.qcow2_image.specs.declared.prepared.Prepared.{Prepared}
 use Rattle.qcow2_image.specs.Calls.{Answers, refusal_of}
 use Rattle.qcow2_image.specs.Image.{size_of}
-use Rattle.qcow2_image.specs.Refusals.{passes}
+use Rattle.qcow2_image.specs.Refusals.{passes, IsMet}
 use Rattle.qcow2_image.specs.ImageInvariant.{abstract_of, image_abstraction}
 use Rattle.qcow2_session.specs.Commands.{command_of, reply_of}
 use Rattle.qcow2_session.specs.declared.session.Command.{Command}
@@ -41,7 +41,7 @@ HasFound s slots = s.is_failed ≡ false → (k : ℕ) → s.found k ≡ found_i
 
 -- the lookups that a run begins with are answered by what is found in these bytes
 abbrev pub LooksUp : Bytes → Bool → List RunCommand → List RunReply → Type 0
-LooksUp b is_backed (get_mapping place offset max ∷ commands) (mapping_is kind n ∷ replies) = IsFoundIn b is_backed offset max kind n × LooksUp b is_backed commands replies
+LooksUp b is_backed (get_mapping place offset max ∷ commands) (mapping_is from kind n ∷ replies) = IsFoundIn b is_backed offset max kind n × LooksUp b is_backed commands replies
 LooksUp b is_backed commands replies = Unit {0}
 
 -- the bytes are there, and nothing else changed
@@ -51,6 +51,14 @@ HasWritten offset bytes old new = new ≡ with_disk old (with_bytes old.disk off
 -- a range is refused as beyond the size only where it passes the size
 abbrev pub IsRightlyBeyond : {S F : Type 0} → Qcow2 S F → ℕ → ℕ → ImageError → Type 0
 IsRightlyBeyond image offset n e = e ≡ BeyondSize → IsTrue (passes (size_of image) offset n)
+
+-- what reading a range may be refused for: an image that can't be used, a range beyond the size, or what the work meets
+abbrev pub IsOfReading : ImageError → Type 0
+IsOfReading e = IsMet e ⊎ ((e ≡ BeyondSize) ⊎ ((e ≡ Failed) ⊎ (e ≡ Dependency)))
+
+-- and writing it: also an image that isn't to be written, or a table that another mapping needs as it is
+abbrev pub IsOfWriting : ImageError → Type 0
+IsOfWriting e = IsOfReading e ⊎ ((e ≡ ReadOnly) ⊎ (e ≡ TablePrepared))
 
 -- the size of an image's clusters, in bytes
 abbrev pub cluster_size_of : {S F : Type 0} → Qcow2 S F → ℕ

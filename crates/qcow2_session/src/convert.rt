@@ -1,10 +1,11 @@
 //! Images of raw disks, and raw disks of images.
-ghost use Rattle.std.specs.Prelude.{◌≡◌, ◌≢◌, ◌+◌, ◌<◌, Err, length, replicate, IfSome, IfOk, OnOk, IsErr, IsTrue};
+ghost use Rattle.std.specs.Prelude.{◌≡◌, ◌≢◌, ◌+◌, ◌<◌, Err, length, replicate, IfSome, IfErr, IfOk, OnOk, IsTrue};
 ghost use Rattle.image_access.specs.Contents.{bytes_at};
 ghost use Rattle.qcow2_image.specs.Image.{number_of, size_of};
 ghost use Rattle.qcow2_image.specs.Refusals.{refuses_to_read};
-ghost use Rattle.qcow2_session.specs.Sessions.{cluster_size_of};
-ghost use Rattle.qcow2_session.specs.Conversions.{IsLeft, IsUnchanged, Imports, ImportsAll, ImportsAt, Fills, Exports};
+ghost use Rattle.qcow2_alloc.specs.declared.error.ImageError.TheVariants.{InvalidOption};
+ghost use Rattle.qcow2_session.specs.Sessions.{IsOfWriting, cluster_size_of};
+ghost use Rattle.qcow2_session.specs.Conversions.{IsRefusedUnequal, IsLeft, IsUnchanged, Imports, ImportsAll, ImportsAt, Fills, Exports};
 
 use crate::session::{read_into, write};
 use image_access::{Storage, StoragePreallocate, WrappedFormat};
@@ -22,7 +23,8 @@ pub fn to_qcow2<R: Storage, S: Storage, F: WrappedFormat<S>>(
 ) -> Result<u64, ImageError>
     ensures number { number_of image.new ≡ number_of image.old }
     ensures early { IfSome (refuses_to_read image.old 0 0) (λ e. (result ≡ Err e) × (image.new ≡ image.old) × (raw.new ≡ raw.old)) }
-    ensures unequal { (R.view raw.old).is_honest → length (R.view raw.old).contents ≢ size_of image.old → IsErr result × (image.new ≡ image.old) }
+    ensures unequal { (R.view raw.old).is_honest → length (R.view raw.old).contents ≢ size_of image.old → IsRefusedUnequal (refuses_to_read image.old 0 0) result × (image.new ≡ image.old) }
+    ensures option { (R.view raw.old).is_honest → IfErr result (λ e. e ≡ InvalidOption → length (R.view raw.old).contents ≢ size_of image.old) }
     ensures raw { IsLeft (R.view raw.old) (R.view raw.new) }
     ensures sees { (R.view raw.old).is_honest → Imports S.view F.backing image.old image.new (R.view raw.old).contents result }
 {
@@ -52,6 +54,7 @@ fn import_all<R: Storage, S: Storage, F: WrappedFormat<S>>(
     requires some { 0 < length wanted.old }
     ensures number { number_of image.new ≡ number_of image.old }
     ensures raw { IsLeft (R.view raw.old) (R.view raw.new) }
+    ensures cause { IfErr result IsOfWriting }
     ensures sees { (R.view raw.old).is_honest → size ≡ length (R.view raw.old).contents → ImportsAll S.view F.backing image.old image.new (R.view raw.old).contents result }
 {
     let mut at = 0;
@@ -74,6 +77,7 @@ fn import_at<R: Storage, S: Storage, F: WrappedFormat<S>>(
     requires { length present.old ≡ length wanted.old }
     ensures number { number_of image.new ≡ number_of image.old }
     ensures raw { IsLeft (R.view raw.old) (R.view raw.new) }
+    ensures cause { IfErr result IsOfWriting }
     ensures sees { (R.view raw.old).is_honest → ImportsAt S.view F.backing image.old image.new at (bytes_at (R.view raw.old).contents at (length wanted.old)) result }
 {
     raw.read(at, wanted)?;

@@ -2,7 +2,10 @@
 #![tactic(auto)]
 
 pub mod convert;
+mod headline;
 pub mod session;
 mod slots;
 
+pub use headline::open_and_run;
+pub use qcow2_check::{Breach, Kind, Leak, Report, check};
 pub use session::{Command, Reply, read, read_into, run, write};

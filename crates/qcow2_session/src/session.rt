@@ -4,8 +4,8 @@ ghost use Rattle.qcow2_image.specs.Image.{number_of, size_of};
 ghost use Rattle.qcow2_image.specs.Prepared.{image_of};
 ghost use Rattle.qcow2_image.specs.ImageInvariant.{abstract_of};
 ghost use Rattle.qcow2_image.specs.Calls.{Discards};
-ghost use Rattle.qcow2_image.specs.Refusals.{refuses_to_read, refuses_to_prepare};
-ghost use Rattle.qcow2_session.specs.Sessions.{IsRightlyBeyond, EndsCluster, Reads, ReadsInto, ReadsFirst, Writes, WritesFirst, CommandSteps, Finds, ReleasesMappings, RunsThrough, RunRefinesDisk, LookupsFindContents};
+ghost use Rattle.qcow2_image.specs.Refusals.{unusable, refuses_to_read, refuses_to_prepare};
+ghost use Rattle.qcow2_session.specs.Sessions.{IsRightlyBeyond, IsOfReading, IsOfWriting, EndsCluster, Reads, ReadsInto, ReadsFirst, Writes, WritesFirst, CommandSteps, Finds, ReleasesMappings, RunsThrough, RunRefinesDisk, LookupsFindContents};
 ghost use Rattle.qcow2_image.specs.declared.prepared.Prepared.{Prepared};
 
 use crate::slots::Slots;
@@ -88,6 +88,7 @@ pub fn read<S: Storage, F: WrappedFormat<S>>(
     ensures number { number_of image.new ≡ number_of image.old }
     ensures early { IfSome (refuses_to_read image.old offset length) (λ e. (result ≡ Err e) × (image.new ≡ image.old)) }
     ensures beyond { IfErr result (IsRightlyBeyond image.old offset length) }
+    ensures cause { IfErr result IsOfReading }
     ensures sees { Reads S.view F.backing image.old image.new offset length result }
 {
     image.check_read(offset, length)?;
@@ -110,6 +111,7 @@ pub fn read_into<S: Storage, F: WrappedFormat<S>>(
     ensures number { number_of image.new ≡ number_of image.old }
     ensures early { IfSome (refuses_to_read image.old offset (length bytes.old)) (λ e. (result ≡ Err e) × (image.new ≡ image.old)) }
     ensures beyond { IfErr result (IsRightlyBeyond image.old offset (length bytes.old)) }
+    ensures cause { IfErr result IsOfReading }
     ensures sees { ReadsInto S.view F.backing image.old image.new offset bytes.new result }
 {
     image.check_read(offset, bytes.len() as u64)?;
@@ -134,6 +136,7 @@ fn read_some<S: Storage, F: WrappedFormat<S>>(
     ensures within { IfOk result (λ n. n ≤ length bytes.old) }
     ensures size { size_of image.new ≡ size_of image.old }
     ensures beyond { 0 < length bytes.old → IfErr result (IsRightlyBeyond image.old offset (length bytes.old)) }
+    ensures cause { IfErr result IsOfReading }
     ensures sees { ReadsFirst S.view F.backing image.old image.new offset bytes.new result }
 {
     let (mapping, found) = image.get_mapping(offset, bytes.len() as u64)?;
@@ -156,6 +159,7 @@ pub fn write<S: Storage, F: WrappedFormat<S>>(
     ensures early { IfSome (refuses_to_prepare image.old offset (length bytes.now)) (λ e. (result ≡ Err (e, 0)) × (image.new ≡ image.old)) }
     ensures within { IfErr result (λ (e, n). n ≤ length bytes.now) }
     ensures beyond { IfErr result (λ (e, n). IsRightlyBeyond image.old offset (length bytes.now) e) }
+    ensures cause { IfErr result (λ (e, n). IsOfWriting e) }
     ensures ends { (out : List (Option Prepared)) → (abstract_of S.view F.backing image.old out).is_sound → IfErr result (λ (e, n). 0 < n → (n < length bytes.now) × EndsCluster image.old (offset + n)) }
     ensures sees { Writes S.view F.backing image.old image.new offset bytes.now result }
 {
@@ -187,6 +191,7 @@ fn write_some<S: Storage, F: WrappedFormat<S>>(
     ensures within { IfOk result (λ n. n ≤ length bytes.now) }
     ensures size { size_of image.new ≡ size_of image.old }
     ensures beyond { IfErr result (IsRightlyBeyond image.old offset (length bytes.now)) }
+    ensures cause { IfErr result IsOfWriting }
     ensures end { IfOk result (λ n. offset + length bytes.now < 2 ^ 64) }
     ensures ends { (out : List (Option Prepared)) → (abstract_of S.view F.backing image.old out).is_sound → IfOk result (λ n. n < length bytes.now → EndsCluster image.old (offset + n)) }
     ensures sees { WritesFirst S.view F.backing image.old image.new offset bytes.now result }
@@ -226,6 +231,7 @@ pub fn run<S: Storage, F: WrappedFormat<S>>(
     image: &mut Qcow2<S, F>,
     commands: &[Command],
 ) -> Vec<Reply>
+    ensures number { number_of image.new ≡ number_of image.old }
     ensures count { (result.items ≡ []) ⊎ (vec_len result ≡ length commands.now) }
     ensures runs { RunsThrough S.view F.backing image.old image.new commands.now result.items }
     ensures means { RunRefinesDisk S.view F.backing image.old image.new commands.now result.items }
@@ -342,8 +348,10 @@ fn read_range<S: Storage, F: WrappedFormat<S>>(
 ) -> Result<Vec<u8>, ImageError>
     requires { at + length ≤ mapping.now.length }
     ensures number { number_of image.new ≡ number_of image.old }
+    ensures early { IfSome (unusable image.old) (λ e. (result ≡ Err e) × (image.new ≡ image.old)) }
     ensures sees { Reads S.view F.backing image.old image.new (mapping.now.offset + at) length result }
 {
+    image.check_read(0, 0)?;
     let mut bytes = vec![in alloc; 0; length as usize]?;
     image.read_mapped(mapping, at, &mut bytes)?;
     Ok(bytes)
@@ -485,6 +493,3 @@ fn discard_all<S: Storage, F: WrappedFormat<S>>(image: &mut Qcow2<S, F>, slots: 
     }
     prepared.destroy_empty();
 }
-
-#[cfg(test)]
-mod tests;

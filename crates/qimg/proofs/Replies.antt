@@ -3,11 +3,11 @@ use Rattle.std.proofs.Common.{◌≡◌, ℕ, List, [], ◌∷◌, ◌++◌, len
 use Rattle.std.proofs.lemmas.List.{append-nil, take_more}
 use Rattle.std.specs.List.{list_any}
 use Rattle.std.specs.Fmt.{option_append, with_newline}
-use Rattle.std.specs.Io.KnownBytes.{Appends}
+use Rattle.std.specs.Io.KnownBytes.{Appends, Keeps}
 use Rattle.qcow2_session.specs.declared.session.Reply.{Reply}
-use Rattle.qimg.proofs.Known.{appends_known}
+use Rattle.qimg.proofs.Known.{appends_known, known_kept}
 use Rattle.qimg.specs.Printing.{line_of, text_of, is_refusal}
-use Rattle.qimg.specs.Program.{IsAnsweredOnce}
+use Rattle.qimg.specs.Program.{ArePrinted}
 
 option_append_assoc : (a b c : Option (List ℕ)) → option_append (option_append a b) c ≡ option_append a (option_append b c)
 option_append_assoc None b c = refl
@@ -37,5 +37,9 @@ one_more replies i reply old mid new within is before now =
     let text : text_of (take (i + 1) replies) ≡ option_append (text_of (take i replies)) (with_newline (line_of reply)) = ap text_of more ∙ text_of-append (take i replies) (reply ∷ []) ∙ ap (option_append (text_of (take i replies))) (text_of-one reply) in
     rw text (appends_known old mid new (text_of (take i replies)) (with_newline (line_of reply)) before (line_is_known (line_of reply) mid new now))
 
-pub answered : (replies : List Reply) (count : ℕ) (old new : Option (List ℕ)) → length replies ≡ count → list_any is_refusal replies ≡ false → IfSome (text_of replies) (Appends old new) → IsAnsweredOnce count old new
-answered replies count old new one_each accepted printed = record { replies = replies; one_each = one_each; accepted = accepted; printed = printed }
+-- one reply for each, none refused, all printed
+pub printed_each : (replies : List Reply) (count : ℕ) (old new : Option (List ℕ)) → length replies ≡ count → list_any is_refusal replies ≡ false → IfSome (text_of replies) (Appends old new) → ArePrinted count replies old new
+printed_each replies count old new one_each accepted printed = record { one_each = one_each; accepted = accepted; printed = printed }
+
+pub printed_kept : (count : ℕ) (replies : List Reply) (old mid new : Option (List ℕ)) → ArePrinted count replies old mid → Keeps mid new → ArePrinted count replies old new
+printed_kept count replies old mid new are keeps = record { one_each = are.one_each; accepted = are.accepted; printed = known_kept old mid new (text_of replies) are.printed keeps }

@@ -1,11 +1,11 @@
 -- Lines that are read one after the other, where the bytes are known.
-use Rattle.std.proofs.Common.{◌≡◌, ℕ, List, [], ◌∷◌, ◌++◌, map, Option, Some, None, IfSome, refl, sym, ap, ◌∙◌, subst}
+use Rattle.std.proofs.Common.{◌≡◌, ℕ, Bool, false, List, [], ◌∷◌, ◌++◌, map, Option, Some, None, IfSome, refl, sym, ap, ◌∙◌, subst}
 use Rattle.std.proofs.lemmas.List.{map-append}
 use Rattle.std.specs.Io.BufRead.{take_through, drop_through, strip_last}
 use Rattle.std.specs.Option.{MatchOption}
 use Rattle.qcow2_session.specs.declared.session.Command.{Command}
 use Rattle.qimg.specs.Lines.{Order, order, order_of_line}
-use Rattle.qimg.specs.Reading.{BeginsWith, Asks, nothing, and_then}
+use Rattle.qimg.specs.Reading.{BeginsWith, Asks, IsScriptOf, nothing, and_then}
 
 -- what a call that read a line leaves known
 abbrev pub ReadsOn : Option (List ℕ) → Order → Option (List ℕ) → Type 0
@@ -44,3 +44,8 @@ asked_more (Some text) (Some between) left commands all command e before (rest, 
       let asks : Asks text (map order commands) between = rw same before.asks in
       rw e (rw (map-append order commands (command ∷ [])) (and_then (map order commands) between (order command) rest asks begins));
 }
+
+-- where nothing was cut off, all lines are asked
+pub asked_all : (known : Option (List ℕ)) (orders : List Order) (is_cut : Bool) → IfSome known (λ text. IsScriptOf text orders is_cut) → is_cut ≡ false → IfSome known (λ text. Asks text orders [])
+asked_all None orders is_cut script uncut = tt
+asked_all (Some text) orders is_cut script uncut = subst (λ rest. Asks text orders rest) (script.all uncut) script.asks

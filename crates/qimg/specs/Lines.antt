@@ -1,5 +1,5 @@
 -- What a line of input asks for.
-use Rattle.std.specs.Prelude.{ℕ, Bool, ◌&&◌, ◌||◌, ◌==◌, nat_lt, nat_le, codes, List, [], ◌∷◌, length, replicate, Option, Some, None, if◌then◌else◌}
+use Rattle.std.specs.Prelude.{ℕ, Bool, true, false, ◌&&◌, ◌||◌, ◌==◌, nat_lt, nat_le, codes, List, [], ◌∷◌, length, replicate, Option, Some, None, if◌then◌else◌}
 use Rattle.std.specs.List.{list_all, slice_split}
 use Rattle.std.specs.Result.{result_ok}
 use Rattle.std.specs.Str.{bytes_eq}
@@ -13,6 +13,10 @@ pub data Order : Type 0 where
   reads : (offset length : ℕ) → Order
   writes : (offset : ℕ) (bytes : List ℕ) → Order
   maps : (slot offset length : ℕ) → Order
+  prepares : (slot offset length : ℕ) (overwrite : Bool) → Order
+  puts : (slot at : ℕ) (bytes : List ℕ) → Order
+  commits : (slot : ℕ) → Order
+  drops : (slot : ℕ) → Order
   flushes : Order
   sizes : Order
   -- what no line asks for
@@ -22,6 +26,10 @@ abbrev pub order : Command → Order
 order (C.Read offset length) = reads offset length
 order (C.Write offset bytes) = writes offset bytes.items
 order (C.GetMapping slot offset max) = maps slot offset max
+order (C.PrepareDataMapping slot offset length overwrite) = prepares slot offset length overwrite
+order (C.WriteMapped slot at bytes) = puts slot at bytes.items
+order (C.CommitDataMapping slot) = commits slot
+order (C.DiscardDataMapping slot) = drops slot
 order C.Flush = flushes
 order C.Size = sizes
 order _ = other
@@ -30,6 +38,15 @@ order _ = other
 abbrev pub length_within : Option ℕ → Option ℕ
 length_within (Some n) = if nat_le n 1048576 then Some n else None
 length_within None = None
+
+-- a slot, at most 255
+abbrev pub slot_within : Option ℕ → Option ℕ
+slot_within (Some n) = if nat_le n 255 then Some n else None
+slot_within None = None
+
+-- whether a range is announced as overwritten
+abbrev pub overwrite_of : List ℕ → Option Bool
+overwrite_of word = if bytes_eq word (codes "overwrite") then Some true else if bytes_eq word (codes "keep") then Some false else None
 
 abbrev pub is_lower_hex_digit : ℕ → Bool
 is_lower_hex_digit c = (nat_le 48 c && nat_le c 57) || (nat_le 97 c && nat_le c 102)
@@ -82,6 +99,37 @@ abbrev pub fill_of : List (List ℕ) → Option Order
 fill_of (offset ∷ length ∷ pair ∷ []) = fills_with (number_of offset) (length_within (number_of length)) (byte_of pair)
 fill_of _ = None
 
+abbrev pub prepares_with : Option ℕ → Option ℕ → Option ℕ → Option Bool → Option Order
+prepares_with (Some slot) (Some offset) (Some length) (Some overwrite) = Some (prepares slot offset length overwrite)
+prepares_with _ _ _ _ = None
+
+abbrev pub puts_with : Option ℕ → Option ℕ → Option (List ℕ) → Option Order
+puts_with (Some slot) (Some at) (Some bytes) = Some (puts slot at bytes)
+puts_with _ _ _ = None
+
+-- SLOT OFFSET LENGTH overwrite (or keep) of a `prepare`
+abbrev pub prepare_of : List (List ℕ) → Option Order
+prepare_of (slot ∷ offset ∷ length ∷ how ∷ []) = prepares_with (slot_within (number_of slot)) (number_of offset) (number_of length) (overwrite_of how)
+prepare_of _ = None
+
+-- SLOT AT HEX of a `put`
+abbrev pub put_of : List (List ℕ) → Option Order
+put_of (slot ∷ at ∷ pairs ∷ []) = puts_with (slot_within (number_of slot)) (number_of at) (bytes_of pairs)
+put_of _ = None
+
+-- SLOT of a `commit` or a `drop`
+abbrev pub slot_alone : List (List ℕ) → Option ℕ
+slot_alone (slot ∷ []) = slot_within (number_of slot)
+slot_alone _ = None
+
+abbrev pub commit_of : Option ℕ → Option Order
+commit_of (Some slot) = Some (commits slot)
+commit_of None = None
+
+abbrev pub drop_of : Option ℕ → Option Order
+drop_of (Some slot) = Some (drops slot)
+drop_of None = None
+
 -- a line of one word
 abbrev pub order_alone : Order → List (List ℕ) → Option Order
 order_alone asked [] = Some asked
@@ -95,6 +143,10 @@ order_of_words (name ∷ operands) =
     else if bytes_eq name (codes "write") then write_of operands
     else if bytes_eq name (codes "fill") then fill_of operands
     else if bytes_eq name (codes "map") then map_of operands
+    else if bytes_eq name (codes "prepare") then prepare_of operands
+    else if bytes_eq name (codes "put") then put_of operands
+    else if bytes_eq name (codes "commit") then commit_of (slot_alone operands)
+    else if bytes_eq name (codes "drop") then drop_of (slot_alone operands)
     else if bytes_eq name (codes "flush") then order_alone flushes operands
     else if bytes_eq name (codes "size") then order_alone sizes operands
     else None

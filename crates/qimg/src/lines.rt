@@ -1,6 +1,6 @@
 ghost use Rattle.std.specs.Prelude.{◌≡◌, ◌==◌, List, ℕ, map, IfOk, IsErrOf, None, Some};
 ghost use Rattle.std.specs.List.{list_all, slice_split};
-ghost use Rattle.qimg.specs.Lines.{length_within, is_lower_hex_digit, bytes_of, byte_of, order, order_alone, read_of, map_of, write_of, fill_of, order_of_words, order_of_line};
+ghost use Rattle.qimg.specs.Lines.{length_within, is_lower_hex_digit, bytes_of, byte_of, order, order_alone, read_of, map_of, write_of, fill_of, slot_within, overwrite_of, prepare_of, put_of, slot_alone, order_of_words, order_of_line};
 ghost use Rattle.qimg.specs.Numbers.{number_of};
 ghost use Rattle.qimg.specs.declared.lines.LineError.TheVariants.{Unreadable, Memory};
 
@@ -56,6 +56,14 @@ fn parse_words(alloc: Global, words: &[&str]) -> Result<Command, LineError>
         "write" => write_command(alloc, operands),
         "fill" => fill_command(alloc, operands),
         "map" => map_command(operands),
+        "prepare" => prepare_command(operands),
+        "put" => put_command(alloc, operands),
+        "commit" => Ok(Command::CommitDataMapping {
+            slot: slot_of_operands(operands)?,
+        }),
+        "drop" => Ok(Command::DiscardDataMapping {
+            slot: slot_of_operands(operands)?,
+        }),
         "flush" => alone(Command::Flush, operands),
         "size" => alone(Command::Size, operands),
         _ => Err(LineError::Unreadable),
@@ -133,6 +141,71 @@ fn fill_command(alloc: Global, operands: &[&str]) -> Result<Command, LineError>
     };
     let bytes = vec![in alloc; byte; length as usize]?;
     Ok(Command::Write { offset, bytes })
+}
+
+fn prepare_command(operands: &[&str]) -> Result<Command, LineError>
+    ensures ok { IfOk result (λ command. prepare_of (map (λ word. word.now) operands.now) ≡ Some (order command)) }
+    ensures unreadable { IsErrOf result Unreadable → prepare_of (map (λ word. word.now) operands.now) ≡ None }
+{
+    let [slot, offset, length, how] = operands else {
+        return Err(LineError::Unreadable);
+    };
+    let (Some(slot), Some(offset), Some(length), Some(overwrite)) = (
+        slot_of(slot),
+        number(offset),
+        number(length),
+        overwrite(how),
+    ) else {
+        return Err(LineError::Unreadable);
+    };
+    Ok(Command::PrepareDataMapping {
+        slot,
+        offset,
+        length,
+        overwrite,
+    })
+}
+
+fn put_command(alloc: Global, operands: &[&str]) -> Result<Command, LineError>
+    ensures ok { IfOk result (λ command. put_of (map (λ word. word.now) operands.now) ≡ Some (order command)) }
+    ensures unreadable { IsErrOf result Unreadable → put_of (map (λ word. word.now) operands.now) ≡ None }
+{
+    let [slot, at, pairs] = operands else {
+        return Err(LineError::Unreadable);
+    };
+    let (Some(slot), Some(at)) = (slot_of(slot), number(at)) else {
+        return Err(LineError::Unreadable);
+    };
+    let bytes = pairs_of(alloc, pairs)?;
+    Ok(Command::WriteMapped { slot, at, bytes })
+}
+
+// The slot of a line that names nothing else.
+fn slot_of_operands(operands: &[&str]) -> Result<u8, LineError>
+    ensures ok { IfOk result (λ slot. slot_alone (map (λ word. word.now) operands.now) ≡ Some slot) }
+    ensures unreadable { IsErrOf result Unreadable → slot_alone (map (λ word. word.now) operands.now) ≡ None }
+{
+    let [slot] = operands else {
+        return Err(LineError::Unreadable);
+    };
+    slot_of(slot).ok_or(LineError::Unreadable)
+}
+
+fn slot_of(word: &str) -> Option<u8>
+    ensures { result ≡ slot_within (number_of word.now) }
+{
+    u8::try_from(number(word)?).ok()
+}
+
+// Whether a range is announced as overwritten.
+fn overwrite(word: &str) -> Option<bool>
+    ensures { result ≡ overwrite_of word.now }
+{
+    match word {
+        "overwrite" => Some(true),
+        "keep" => Some(false),
+        _ => None,
+    }
 }
 
 fn short_length(word: &str) -> Option<u64>

@@ -1,6 +1,8 @@
-//! Makes qcow2 images, and runs commands on them.
+//! Makes qcow2 images, runs commands on them, checks them, and converts them from raw disks and to them.
 #![tactic(auto)]
 
+mod checking;
+mod conversions;
 mod lines;
 mod messages;
 mod numbers;
@@ -9,10 +11,13 @@ mod program;
 mod reading;
 mod words;
 
+use crate::checking::report;
+use crate::conversions::{export_raw, import_raw};
 use crate::messages::report_cause;
 use crate::program::{DONE, create, print_usage, refuse, script};
 use crate::words::{Invocation, words};
 use file_storage::FileStorage;
+use image_access::BackingDisk;
 use qcow2_image::ImageError;
 use std::io;
 use std::io::{BufReader, BufWriter, Write};
@@ -40,14 +45,27 @@ fn refuse_file(rt: &HostRuntime, file: &str, cause: &io::Error, output: &mut imp
 }
 
 // Tells why a call of the storage last failed, where the run didn't end well.
-fn tell(rt: &HostRuntime, file: &str, ended: &(u8, FileStorage)) -> u8 {
-    let (status, storage) = ended;
-    if *status != DONE {
+fn tell(rt: &HostRuntime, file: &str, status: u8, storage: &FileStorage) -> u8 {
+    if status != DONE {
         if let Some(cause) = storage.last_error() {
             report_cause(&mut rt.stderr(), file, &cause);
         }
     }
-    *status
+    status
+}
+
+fn create_file(
+    rt: &HostRuntime,
+    file: &str,
+    invocation: &Invocation<'_>,
+    output: &mut impl Write,
+) -> u8 {
+    let storage = match file_storage::create(rt, file) {
+        Ok(storage) => storage,
+        Err(e) => return refuse_file(rt, file, &e, output),
+    };
+    let (status, storage) = create(rt.alloc(), storage, invocation, output);
+    tell(rt, file, status, &storage)
 }
 
 fn run_file(rt: &HostRuntime, file: &str, output: &mut impl Write) -> u8 {
@@ -58,8 +76,59 @@ fn run_file(rt: &HostRuntime, file: &str, output: &mut impl Write) -> u8 {
     let Ok(mut input) = BufReader::new(rt.alloc(), rt.reader()) else {
         return refuse(output, &ImageError::Memory);
     };
-    let ended = script(rt.alloc(), storage, &mut input, output, &mut rt.stderr());
-    tell(rt, file, &ended)
+    let (status, storage) = script::<_, Box<dyn BackingDisk>, _, _, _>(
+        rt.alloc(),
+        storage,
+        &mut input,
+        output,
+        &mut rt.stderr(),
+    );
+    tell(rt, file, status, &storage)
+}
+
+fn check_file(rt: &HostRuntime, file: &str, output: &mut impl Write) -> u8 {
+    let mut storage = match file_storage::open_read_only(rt, file) {
+        Ok(storage) => storage,
+        Err(e) => return refuse_file(rt, file, &e, output),
+    };
+    let status = report(rt.alloc(), &mut storage, output);
+    tell(rt, file, status, &storage)
+}
+
+// The raw disk is opened first: where it can't be, no file is made.
+fn import_file(
+    rt: &HostRuntime,
+    raw: &str,
+    file: &str,
+    invocation: &Invocation<'_>,
+    output: &mut impl Write,
+) -> u8 {
+    let mut disk = match file_storage::open_read_only(rt, raw) {
+        Ok(disk) => disk,
+        Err(e) => return refuse_file(rt, raw, &e, output),
+    };
+    let storage = match file_storage::create(rt, file) {
+        Ok(storage) => storage,
+        Err(e) => return refuse_file(rt, file, &e, output),
+    };
+    let (status, storage) = import_raw(rt.alloc(), &mut disk, storage, invocation, output);
+    tell(rt, raw, status, &disk);
+    tell(rt, file, status, &storage)
+}
+
+// The image is opened first: where it can't be, no raw disk is made.
+fn export_file(rt: &HostRuntime, file: &str, raw: &str, output: &mut impl Write) -> u8 {
+    let storage = match file_storage::open_read_only(rt, file) {
+        Ok(storage) => storage,
+        Err(e) => return refuse_file(rt, file, &e, output),
+    };
+    let mut disk = match file_storage::create(rt, raw) {
+        Ok(disk) => disk,
+        Err(e) => return refuse_file(rt, raw, &e, output),
+    };
+    let (status, storage) = export_raw(rt.alloc(), storage, &mut disk, output);
+    tell(rt, file, status, &storage);
+    tell(rt, raw, status, &disk)
 }
 
 fn run_words(rt: &HostRuntime, given: &[String], output: &mut impl Write) -> u8 {
@@ -67,11 +136,11 @@ fn run_words(rt: &HostRuntime, given: &[String], output: &mut impl Write) -> u8 
         return print_usage(output);
     };
     match invocation {
-        Invocation::Create { file, .. } => match file_storage::create(rt, file) {
-            Ok(storage) => tell(rt, file, &create(rt.alloc(), storage, &invocation, output)),
-            Err(e) => refuse_file(rt, file, &e, output),
-        },
+        Invocation::Create { file, .. } => create_file(rt, file, &invocation, output),
         Invocation::Run { file } => run_file(rt, file, output),
+        Invocation::Check { file } => check_file(rt, file, output),
+        Invocation::Import { raw, file, .. } => import_file(rt, raw, file, &invocation, output),
+        Invocation::Export { file, raw } => export_file(rt, file, raw, output),
     }
 }
 

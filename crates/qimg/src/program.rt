@@ -1,16 +1,17 @@
-ghost use Rattle.std.specs.Prelude.{◌≡◌, ◌≤◌, ◌∷◌, ◌++◌, [], true, false, codes, length, vec_len, IfSome, IsOk};
+ghost use Rattle.std.specs.Prelude.{◌≡◌, ◌≤◌, ◌∷◌, ◌++◌, [], true, false, codes, length, IsOk, Ok};
 ghost use Rattle.std.specs.Io.KnownBytes.{Appends, Keeps};
 ghost use Rattle.image_access.specs.Moments.{ContentsStay};
 ghost use Rattle.qcow2_image.specs.Opened.{NeedsAnother};
-ghost use Rattle.qimg.specs.Program.{IsAnswered, IsAnsweredOnce};
+ghost use Rattle.qcow2_image.specs.Calls.{Flushes};
+ghost use Rattle.qimg.specs.Program.{ArePrinted, HasRun, IsAnswered};
 
 use crate::messages::{report_bad_line, report_refused};
 use crate::printing::{any_refused, print_refusal, print_replies};
 use crate::reading::{Script, read_script};
 use crate::words::{Invocation, USAGE};
-use image_access::Storage;
+use image_access::{Storage, WrappedFormat};
 use qcow2_image::{ImageError, Qcow2, Qcow2CreateBuilder};
-use qcow2_session::{Command, Reply, run};
+use qcow2_session::{Command, Reply, open_and_run};
 use std::alloc::Global;
 use std::io;
 use std::io::{BufRead, Write};
@@ -57,8 +58,8 @@ pub fn create<S: Storage, W: Write>(
 
 /// Reads commands from the input, runs them on the image in the storage, prints their answers, and answers the exit status,
 /// with the storage. Messages name the lines that were refused or couldn't be read. An image that needs another file is refused, and
-/// stays as it is.
-pub fn script<S: Storage, R: BufRead, W: Write, M: Write>(
+/// stays as it is. `F` is the kind of a disk below; none is given.
+pub fn script<S: Storage, F: WrappedFormat<S>, R: BufRead, W: Write, M: Write>(
     alloc: Global,
     storage: S,
     input: &mut R,
@@ -66,13 +67,13 @@ pub fn script<S: Storage, R: BufRead, W: Write, M: Write>(
     messages: &mut M,
 ) -> (u8, S)
     ensures bound { result.0 ≤ 2 }
-    ensures done { result.0 ≡ 0 → IfSome (R.remaining input.old) (λ text. IsAnswered text (W.contents output.old) (W.contents output.new)) }
+    ensures done { result.0 ≡ 0 → IsAnswered S.view F.backing storage result.1 (R.remaining input.old) (W.contents output.old) (W.contents output.new) }
     ensures another { (S.view storage).is_honest → NeedsAnother (S.view storage).contents → ContentsStay (S.view storage) (S.view result.1) }
 {
     let Ok(script) = read_script(alloc, input) else {
         return (refuse(output, &ImageError::Memory), storage);
     };
-    let (printed, storage) = run_script(alloc, storage, &script, output, messages);
+    let (printed, storage) = run_script::<S, F, W, M>(alloc, storage, &script, output, messages);
     let flushed = output.flush();
     let status = match (script.is_cut, printed, flushed) {
         (true, _, _) => UNREADABLE,
@@ -100,8 +101,8 @@ pub fn refuse<W: Write>(output: &mut W, e: &ImageError) -> u8
     REFUSED
 }
 
-// Ends the output, where its last line was printed, and answers the exit status.
-fn end<W: Write>(printed: io::Result<()>, output: &mut W) -> u8
+/// Ends the output, where its last line was printed, and answers the exit status.
+pub fn end<W: Write>(printed: io::Result<()>, output: &mut W) -> u8
     ensures bound { result ≤ 1 }
     ensures printed { result ≡ 0 → IsOk printed }
     ensures same { Keeps (W.contents output.old) (W.contents output.new) }
@@ -116,17 +117,23 @@ fn end<W: Write>(printed: io::Result<()>, output: &mut W) -> u8
 
 // Prints what comes of a script, and hands the storage back. Whether nothing was refused; an error where a line couldn't be
 // written.
-fn run_script<S: Storage, W: Write, M: Write>(
+fn run_script<S: Storage, F: WrappedFormat<S>, W: Write, M: Write>(
     alloc: Global,
     storage: S,
     script: &Script,
     output: &mut W,
     messages: &mut M,
 ) -> (io::Result<bool>, S)
-    ensures done { result.0 ≡ Ok true → (script.now.is_cut ≡ false) × IsAnsweredOnce (vec_len script.now.commands) (W.contents output.old) (W.contents output.new) }
+    ensures done { result.0 ≡ Ok true → (script.now.is_cut ≡ false) × HasRun S.view F.backing storage result.1 script.now.commands.items (W.contents output.old) (W.contents output.new) }
     ensures another { (S.view storage).is_honest → NeedsAnother (S.view storage).contents → ContentsStay (S.view storage) (S.view result.1) }
 {
-    let (printed, storage) = open_and_run(alloc, storage, &script.commands, output, messages);
+    let (printed, storage) = run_commands::<S, F, W, M>(
+        alloc,
+        storage,
+        &script.commands,
+        output,
+        messages,
+    );
     if !script.is_cut {
         return (printed, storage);
     }
@@ -137,38 +144,37 @@ fn run_script<S: Storage, W: Write, M: Write>(
 }
 
 // The same of commands alone.
-fn open_and_run<S: Storage, W: Write, M: Write>(
+fn run_commands<S: Storage, F: WrappedFormat<S>, W: Write, M: Write>(
     alloc: Global,
     storage: S,
     commands: &[Command],
     output: &mut W,
     messages: &mut M,
 ) -> (io::Result<bool>, S)
-    ensures done { result.0 ≡ Ok true → IsAnsweredOnce (length commands.now) (W.contents output.old) (W.contents output.new) }
+    ensures done { result.0 ≡ Ok true → HasRun S.view F.backing storage result.1 commands.now (W.contents output.old) (W.contents output.new) }
     ensures another { (S.view storage).is_honest → NeedsAnother (S.view storage).contents → ContentsStay (S.view storage) (S.view result.1) }
 {
-    match Qcow2::<S>::open_alone(alloc, storage, true, 1) {
-        Ok(mut image) => {
-            let printed = run_on(alloc, &mut image, commands, output, messages);
+    match open_and_run::<S, F>(alloc, storage, 1, commands) {
+        Ok((mut image, replies)) => {
+            report_refused(messages, &replies);
+            let printed = print_and_flush(&mut image, commands, &replies, output);
             (printed, image.into_storage())
         }
         Err((storage, e)) => (print_refusal(output, &e).map(|_| false), storage),
     }
 }
 
-// The same of an image, which is flushed whatever could be printed.
-fn run_on<S: Storage, W: Write, M: Write>(
-    alloc: Global,
-    image: &mut Qcow2<S>,
+// Prints the answers of an image, which is flushed whatever could be printed.
+fn print_and_flush<S: Storage, F: WrappedFormat<S>, W: Write>(
+    image: &mut Qcow2<S, F>,
     commands: &[Command],
+    replies: &[Reply],
     output: &mut W,
-    messages: &mut M,
 ) -> io::Result<bool>
-    ensures { result ≡ Ok true → IsAnsweredOnce (length commands.now) (W.contents output.old) (W.contents output.new) }
+    ensures printed { result ≡ Ok true → ArePrinted (length commands.now) replies.now (W.contents output.old) (W.contents output.new) }
+    ensures flushed { result ≡ Ok true → Flushes S.view F.backing image.old image.new (Ok tt) }
 {
-    let replies = run(alloc, image, commands);
-    report_refused(messages, &replies);
-    let printed = print_answers(output, commands, &replies);
+    let printed = print_answers(output, commands, replies);
     let flushed = image.flush();
     let is_accepted = printed?;
     if let Err(e) = flushed {
@@ -178,14 +184,14 @@ fn run_on<S: Storage, W: Write, M: Write>(
     Ok(is_accepted)
 }
 
-#[tactic(auto, using(crate::proofs::Replies::answered))]
 // There is one reply to each command, or none at all where there was no room for them.
+#[tactic(auto, using(crate::proofs::Replies::printed_each))]
 fn print_answers<W: Write>(
     output: &mut W,
     commands: &[Command],
     replies: &[Reply],
 ) -> io::Result<bool>
-    ensures { result ≡ Ok true → IsAnsweredOnce (length commands.now) (W.contents output.old) (W.contents output.new) }
+    ensures { result ≡ Ok true → ArePrinted (length commands.now) replies.now (W.contents output.old) (W.contents output.new) }
 {
     if replies.len() != commands.len() {
         print_refusal(output, &ImageError::Memory)?;

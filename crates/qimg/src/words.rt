@@ -5,7 +5,8 @@ ghost use Rattle.qimg.specs.Words.{asked, asked_by};
 use crate::numbers::number;
 
 /// The line that is printed where the words are not understood.
-pub const USAGE: &str = "usage: qimg create FILE SIZE CLUSTER WIDTH MODE | run FILE | check FILE";
+pub const USAGE: &str =
+    "usage: qimg create FILE SIZE CLUSTER WIDTH MODE | run FILE | check FILE | import RAW FILE CLUSTER WIDTH | export FILE RAW";
 
 /// What the words of the command line ask for.
 #[derive(Clone, Copy, Debug, PartialEq, Eq)]
@@ -21,6 +22,22 @@ pub enum Invocation<'a> {
     Run {
         file: &'a str,
     },
+    /// Tell what is wrong with an image.
+    Check {
+        file: &'a str,
+    },
+    /// Make an image of a raw disk.
+    Import {
+        raw: &'a str,
+        file: &'a str,
+        cluster: u64,
+        width: u64,
+    },
+    /// Make a raw disk of an image.
+    Export {
+        file: &'a str,
+        raw: &'a str,
+    },
 }
 
 /// Reads the words after the program's name; None where they can't be read.
@@ -31,6 +48,21 @@ pub fn words(words: &[String]) -> Option<Invocation<'_>>
         [name, file] if name.as_str() == "run" => Some(Invocation::Run {
             file: file.as_str(),
         }),
+        [name, file] if name.as_str() == "check" => Some(Invocation::Check {
+            file: file.as_str(),
+        }),
+        [name, file, raw] if name.as_str() == "export" => Some(Invocation::Export {
+            file: file.as_str(),
+            raw: raw.as_str(),
+        }),
+        [name, raw, file, cluster, width] if name.as_str() == "import" => Some(
+            Invocation::Import {
+                raw: raw.as_str(),
+                file: file.as_str(),
+                cluster: number(cluster.as_str())?,
+                width: number(width.as_str())?,
+            },
+        ),
         [name, file, size, cluster, width, mode]
             if name.as_str() == "create" && mode.as_str() == "none" => {
             Some(Invocation::Create {

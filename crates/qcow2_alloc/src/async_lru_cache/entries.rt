@@ -1,5 +1,5 @@
 //! Work on the entries of a cache.
-ghost use Rattle.std.specs.Prelude.{◌≡◌, ◌-◌, ◌<◌, ◌≤◌, ◌^◌, length, option_map, All, IsSome, IfOk, OnErr, IfSome, Ok, None, true, false};
+ghost use Rattle.std.specs.Prelude.{slice_get, ◌≡◌, ◌-◌, ◌<◌, ◌≤◌, ◌^◌, length, option_map, All, IsSome, IfOk, OnErr, IfSome, Ok, None, true, false};
 ghost use Rattle.std.specs.List.{IsDistinct};
 ghost use Rattle.std.specs.Map.{keys_of, lookup, lookup_entry, remove_entry};
 ghost use Rattle.std.specs.Result.{result_err};
@@ -198,6 +198,22 @@ pub(crate) fn flush_all<B: AsyncLruCacheBackend>(
         entries.demote(&key);
     }
     first
+}
+
+// The key of the most recently used entry with a pin.
+pub(crate) fn first_pinned<K: Copy + Eq + Hash, V>(entries: &LruCache<K, Slot<V>>) -> Option<K>
+    ensures first { result ≡ option_map (λ e. e.0) (slice_get (pinned entries.now.entries) 0) }
+    ensures distinct { IsDistinct K.eq (keys_of entries.now.entries) }
+{
+    if entries.len() == 0 {
+        return None;
+    }
+    for (key, slot) in entries {
+        if slot.pins > 0 {
+            return Some(*key);
+        }
+    }
+    None
 }
 
 // The keys of the entries with a pin, the most recently used first.

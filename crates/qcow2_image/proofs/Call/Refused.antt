@@ -92,6 +92,8 @@ module _ {S F : Type 0} (view : S → StorageView) (backing : F → BackingView)
     readied_after k offset n overwrite p is = record {
       works = works_then (abstract_of view backing a out) (abstract_of view backing b out) (abstract_of view backing c (slice_set out k (Some p))) [] [] first.sound first.works is.works;
       sound = is.sound;
+      header = format_then a.file.header.fields b.file.header.fields c.file.header.fields first.header is.header;
+      covers = λ g. first.covers g ∙ covers_format a.file.header.fields b.file.header.fields first.header (known_in view b.file) (known_in view c.file) is.covers g;
       prepared = subst (λ (d : Disk). IsPrepared (cluster_size a.file.header.fields) d offset n overwrite (meaning view backing c p)) (ap (λ (g : Guest). g.disk) first.same)
           (subst (λ size. IsPrepared size (guest_of (abstract_of view backing b out)).disk offset n overwrite (meaning view backing c p)) (ap (λ (x : Setting). x.cluster_size) first.works.setting) is.prepared);
       is = is.is ∙ ap (λ (g : Guest). with_slot g k (Some (meaning view backing c p))) first.same;
@@ -136,12 +138,17 @@ module _ {S F : Type 0} (view : S → StorageView) (backing : F → BackingView)
         surplus = refl;
       }) goes.seen goes.covers
 
+  -- a part that was refused is a call that was
+  pub back_refused : (old new : Qcow2 S F) (e : ImageError) → RefusedFillingStep view backing (pending_in view backing old out) old new out e → RefusedCall view backing old new out e
+  back_refused old new e (inl goes) = inl (goes_stays old new goes)
+  back_refused old new e (inr broke) = inr (broke_off old new e broke)
+
   -- what is to be freed is freed after a refusal
-  pub back_then_freed : (old mid new : Qcow2 S F) (e e' : ImageError) → RefusedFillingStep view backing (pending_in view backing old out) old mid out e → (FaultOfTables e → (e' ≡ e) × (new ≡ mid))
+  pub back_then_freed : (old mid new : Qcow2 S F) (e e' : ImageError) → RefusedCall view backing old mid out e → (FaultOfTables e → (e' ≡ e) × (new ≡ mid))
       → (ImageInvariant view backing (pending_in view backing mid out) mid out → RefusedCall view backing mid new out e') → RefusedCall view backing old new out e'
   back_then_freed old mid new e e' back fault frees = elim back [
-    | inl goes ↦ let stays = goes_stays old mid goes in refused_then old mid new stays e' (frees stays.sound)
-    | inr broke ↦ let is = fault broke.breaks.fault in inr (subst (λ (x : ImageError). InterruptedCall view backing old new out x) (sym is.0) (subst (λ (image : Qcow2 S F). InterruptedCall view backing old image out e) (sym is.1) (broke_off old mid e broke)))
+    | inl stays ↦ refused_then old mid new stays e' (frees stays.sound)
+    | inr broke ↦ let is = fault broke.fault in inr (subst (λ (x : ImageError). InterruptedCall view backing old new out x) (sym is.0) (subst (λ (image : Qcow2 S F). InterruptedCall view backing old image out e) (sym is.1) broke))
   ]
 
   -- ---- a whole call

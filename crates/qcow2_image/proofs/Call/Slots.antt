@@ -1,5 +1,5 @@
 -- Places of prepared mappings, one of which changes.
-use Rattle.std.proofs.Common.{◌≡◌, ◌⊎◌, ⊎_elim, inl, inr, ℕ, zero, suc, ◌+◌, ◌≤◌, List, [], ◌∷◌, refl, sym, ap, ◌∙◌, Option, Some, None, arith, cond, eqb}
+use Rattle.std.proofs.Common.{◌≡◌, ◌⊎◌, ⊎_elim, inl, inr, ℕ, zero, suc, ◌+◌, ◌≤◌, List, length, [], ◌∷◌, refl, sym, ap, ◌∙◌, Option, Some, None, arith, cond, eqb}
 use Rattle.std.specs.Prelude.{slice_get, slice_set}
 use Rattle.std.specs.Option.{option_map_or}
 use Rattle.std.proofs.lemmas.Bool.{cases_eq, eq-eqb, ne_eqb, cond-true, cond-false}
@@ -7,7 +7,7 @@ use Rattle.qcow2_laws.specs.Mappings.{PreparedMapping}
 use Rattle.qcow2_laws.specs.AbstractImages.{meaning_at}
 use Rattle.qcow2_image.specs.declared.prepared.Prepared.{Prepared}
 use Rattle.qcow2_image.specs.ImageInvariant.{over_all}
-use Rattle.qcow2_image.proofs.Call.Answered.{over_all_at}
+use Rattle.qcow2_image.proofs.Shares.{over_all_at}
 
 pub get_set : {X : Type 0} (xs : List X) (k j : ℕ) (a y : X) → slice_get (slice_set xs k a) j ≡ Some y → (y ≡ a) ⊎ (slice_get xs j ≡ Some y)
 get_set [] k j a y e = inr e
@@ -28,6 +28,23 @@ get_set_other (x ∷ xs) zero (suc j) a ne = refl
 get_set_other (x ∷ xs) (suc k) zero a ne = refl
 get_set_other (x ∷ xs) (suc k) (suc j) a ne = get_set_other xs k j a (λ e. ne (ap suc e))
 
+pub length_set : {X : Type 0} (xs : List X) (k : ℕ) (a : X) → length (slice_set xs k a) ≡ length xs
+length_set [] k a = refl
+length_set (x ∷ xs) zero a = refl
+length_set (x ∷ xs) (suc k) a = ap suc (length_set xs k a)
+
+-- what is there already
+pub set_same : {X : Type 0} (xs : List X) (k : ℕ) (a : X) → slice_get xs k ≡ Some a → slice_set xs k a ≡ xs
+set_same [] k a e = refl
+set_same (x ∷ xs) zero a e = let is : x ≡ a = cc in ap (λ y. y ∷ xs) (sym is)
+set_same (x ∷ xs) (suc k) a e = ap (λ ys. x ∷ ys) (set_same xs k a e)
+
+-- the last one counts
+pub set_set : {X : Type 0} (xs : List X) (k : ℕ) (a b : X) → slice_set (slice_set xs k a) k b ≡ slice_set xs k b
+set_set [] k a b = refl
+set_set (x ∷ xs) zero a b = refl
+set_set (x ∷ xs) (suc k) a b = ap (λ ys. x ∷ ys) (set_set xs k a b)
+
 -- one of the mappings is let go
 pub others_left : (out : List (Option Prepared)) (k j : ℕ) (q : Prepared) → slice_get (slice_set out k None) j ≡ Some (Some q) → slice_get out j ≡ Some (Some q)
 others_left out k j q at = ⊎_elim (λ (none : Some q ≡ None). absurd cc) (λ same. same) (get_set out k j None (Some q) at)
@@ -42,6 +59,12 @@ pub over_all_put : (f : Prepared → ℕ → ℕ) (out : List (Option Prepared))
 over_all_put f [] k p at c = absurd cc
 over_all_put f (q ∷ out) zero p at c = let is : q ≡ None = cc in let none : option_map_or (λ r. f r c) q 0 ≡ 0 = ap (λ (m : Option Prepared). option_map_or (λ r. f r c) m 0) is in omega arith
 over_all_put f (q ∷ out) (suc k) p at c = let rest = over_all_put f out k p at c in omega arith
+
+-- or takes the place of another
+pub over_all_set : (f : Prepared → ℕ → ℕ) (out : List (Option Prepared)) (k : ℕ) (p q : Prepared) → slice_get out k ≡ Some (Some p) → (c : ℕ) → over_all f (slice_set out k (Some q)) c + f p c ≡ over_all f out c + f q c
+over_all_set f [] k p q at c = absurd cc
+over_all_set f (x ∷ out) zero p q at c = let is : x ≡ Some p = cc in let one : option_map_or (λ r. f r c) x 0 ≡ f p c = ap (λ (m : Option Prepared). option_map_or (λ r. f r c) m 0) is in omega arith
+over_all_set f (x ∷ out) (suc k) p q at c = let rest = over_all_set f out k p q at c in omega arith
 
 -- two of them hold no more than all
 pub over_all_two : (f : Prepared → ℕ → ℕ) (out : List (Option Prepared)) (k : ℕ) (p : Prepared) (j : ℕ) (q : Prepared) → slice_get out k ≡ Some (Some p) → (j ≡ k → ⊥) → slice_get out j ≡ Some (Some q) → (c : ℕ) → f p c + f q c ≤ over_all f out c

@@ -1,25 +1,28 @@
--- A commit as a call: it is refused only where the image isn't sound.
-use Rattle.std.proofs.Common.{◌≡◌, inr, ℕ, ◌<◌, true, false, List, [], ◌∷◌, refl, sym, ap, ◌∙◌, subst, arith}
-use Rattle.std.specs.Prelude.{Option, Some, None, IsTrue, IsSome, IfSome, Result, Ok, Err, slice_get, slice_set}
-use Rattle.std.proofs.lemmas.Bool.{cond-true, eq-eqb}
+-- A commit as a call: its shares are entered, clusters are freed, and it is let go.
+use Rattle.std.proofs.Common.{◌≡◌, ◌⊎◌, inl, inr, ℕ, Bool, true, false, List, [], ◌∷◌, refl, sym, ap, ◌∙◌, subst, eqb}
+use Rattle.std.specs.Prelude.{Option, Some, None, IsTrue, IsSome, Result, Ok, Err, slice_get, slice_set}
+use Rattle.std.proofs.lemmas.Bool.{cases_eq, cond-true, cond-false, eq-eqb, ne_eqb}
+use mathlib.Core.Path.{fun_ext}
 use Rattle.image_access.specs.Backing.{BackingView}
 use Rattle.image_access.specs.Moments.{StorageView}
 use Rattle.qcow2_laws.specs.Calls.{Refusal, storage, IsFault, IsSame, Works, Rests, Does, Refuses, with_disk, with_slot}
-use Rattle.qcow2_laws.specs.Mappings.{gift_of_commit, committed}
+use Rattle.qcow2_laws.specs.Mappings.{PreparedMapping, gift_of_commit, committed}
 use Rattle.qcow2_laws.specs.Stops.{GivenBytes}
-use Rattle.qcow2_laws.specs.AbstractImages.{AbstractImage, guest_of}
+use Rattle.qcow2_laws.specs.AbstractImages.{AbstractImage, Guest, guest_of, meaning_at}
 use Rattle.qcow2_laws.proofs.Compose.{works_less, works_then}
-use Rattle.qcow2_alloc.specs.CacheMarks.{l2_pins}
-use Rattle.qcow2_alloc.specs.MetadataCaches.{l2_at}
 use Rattle.qcow2_alloc.specs.declared.error.ImageError.{ImageError}
 use Rattle.qcow2_image.specs.declared.image.Qcow2.{Qcow2}
 use Rattle.qcow2_image.specs.declared.prepared.Prepared.{Prepared}
 use Rattle.qcow2_image.specs.Image.{number_of, is_failed}
-use Rattle.qcow2_image.specs.Calls.{refusal_of}
-use Rattle.qcow2_image.specs.CallParts.{Committed, EndsFreeing, Enters, NotesNew}
-use Rattle.qcow2_image.specs.ImageInvariant.{pins_by, pins_of, pending_in, abstract_of, meaning, ImageInvariant}
-use Rattle.qcow2_image.proofs.Call.Answered.{over_all_at}
+use Rattle.qcow2_image.specs.Calls.{Discards, refusal_of}
+use Rattle.qcow2_image.specs.CallParts.{CommitsAll, EndsFreeing, EntersAll, ShowsPart, UnseenCall}
+use Rattle.qcow2_alloc.specs.ImageFile.{contents_in, known_in}
+use Rattle.qcow2_image.specs.ImageInvariant.{pending_in, abstract_of, meaning, IsReadyWith, ImageInvariant}
+use Rattle.qcow2_image.proofs.Call.Answered.{same_guest}
+use Rattle.qcow2_image.proofs.Call.Called.{Quietly, quiet_same, quiet_sound, quiet_works}
 use Rattle.qcow2_image.proofs.Call.Settled.{settled_does}
+use Rattle.qcow2_image.proofs.Call.Slots.{get_set_same, set_same, set_set}
+use Rattle.qcow2_image.proofs.Shares.{never_private}
 
 -- of an image that isn't sound nothing more is said
 pub refuses_unsound : (v w : AbstractImage) (given : List GivenBytes) (e : Refusal) (still : Type 0) → w.number ≡ v.number → (v.is_sound → ⊥) → (IsTrue v.is_failed → Rests v w) → (e ≡ storage → IsTrue w.is_failed) → Refuses v w given [] e still
@@ -29,79 +32,197 @@ refuses_unsound v w given e still number unsound rests fault = record {
   fault = fault;
 }
 
+pub true_or_false : (b : Bool) → (b ≡ true) ⊎ (b ≡ false)
+true_or_false true = inl refl
+true_or_false false = inr refl
+
+-- where nothing is private any more, and its place is free, it is committed
+all_shown : (a b c : Guest) (k : ℕ) (m m' : PreparedMapping) → ShowsPart a b k m m' → ((o : ℕ) → m'.is_private o ≡ false) → c ≡ with_slot b k None → c ≡ with_slot (with_disk a (committed a.disk m)) k None
+all_shown a b c k m m' shows visible free =
+    let values : b.disk.value ≡ (committed a.disk m).value = fun_ext (λ o. shows.visible o (visible o)) in
+    let size = shows.size in
+    let disks : b.disk ≡ committed a.disk m = λ i. record { size = size i; value = values i } in
+    let slot : (j : ℕ) → (with_slot b k None).slots j ≡ (with_slot (with_disk a (committed a.disk m)) k None).slots j = λ j. elim (cases_eq j k) [
+      | inl here ↦ cond-true (eqb j k) None (b.slots j) (eq-eqb _ _ here) ∙ sym (cond-true (eqb j k) None (a.slots j) (eq-eqb _ _ here))
+      | inr other ↦
+          cond-false (eqb j k) None (b.slots j) (ne_eqb _ _ other) ∙ shows.slots j ∙ cond-false (eqb j k) (Some m') (a.slots j) (ne_eqb _ _ other) ∙ sym (cond-false (eqb j k) None (a.slots j) (ne_eqb _ _ other))
+    ] in
+    free ∙ same_guest _ _ disks (fun_ext slot)
+
 module _ {S F : Type 0} (view : S → StorageView) (backing : F → BackingView) (old : Qcow2 S F) (p : Prepared) where
-  -- what looking for the table of a mapping that is out says on a sound image
-  pub record Holds (result : Result (Unit {0}) ImageError) (new : Qcow2 S F) : Type 0 where
-    pub ok : result ≡ Ok tt
-    pub same : new ≡ old
-    pub found : IfSome p.table (λ t. IsSome (l2_at old.file.caches t))
+  -- nothing of an existing mapping is private
+  module _ (existing : p.table ≡ None) (new : Qcow2 S F) (usable : is_failed old ≡ false) (discards : Discards view backing old new p) (out : List (Option Prepared)) (k : ℕ) (placed : slice_get out k ≡ Some (Some p)) where
+    abbrev v0 : AbstractImage
+    v0 = abstract_of view backing old out
 
-  module _ (result : Result (Unit {0}) ImageError) (mid : Qcow2 S F) (none : p.table ≡ None → (result ≡ Ok tt) × (mid ≡ old))
-      (pinned : IfSome p.table (λ t. 0 < l2_pins old.file.caches t) → (result ≡ Ok tt) × (mid ≡ old) × IfSome p.table (λ t. IsSome (l2_at old.file.caches t))) where
-    module _ (out : List (Option Prepared)) (k : ℕ) (placed : slice_get out k ≡ Some (Some p)) (sound : ImageInvariant view backing (pending_in view backing old out) old out) where
-      is_pinned : (t : ℕ) → p.table ≡ Some t → 0 < l2_pins old.file.caches t
-      is_pinned t is =
-          let one : pins_by p t ≡ 1 = ap (λ x. pins_of x t) is ∙ cond-true {A = ℕ} _ 1 0 (eq-eqb t t refl) in
-          let all = over_all_at pins_by out k p placed t in
-          let pins = sound.pinned t in
-          omega arith
+    abbrev w0 : AbstractImage
+    w0 = abstract_of view backing new (slice_set out k None)
 
-      pub holds : Holds result mid
-      holds = by_table p.table refl where
-        by_table : (x : Option ℕ) → p.table ≡ x → Holds result mid
-        by_table None is = let h = none is in record { ok = h.0; same = h.1; found = subst (λ x. IfSome x (λ t. IsSome (l2_at old.file.caches t))) (sym is) tt }
-        by_table (Some t) is = let h = pinned (subst (λ x. IfSome x (λ u. 0 < l2_pins old.file.caches u)) (sym is) (is_pinned t is)) in record { ok = h.0; same = h.1; found = h.2 }
+    abbrev m0 : PreparedMapping
+    m0 = meaning view backing old p
 
-    pub commit_done : (new : Qcow2 S F) → Enters view backing mid new p → number_of new ≡ number_of old → is_failed old ≡ false → (out : List (Option Prepared)) (k : ℕ) → slice_get out k ≡ Some (Some p)
-        → let v = abstract_of view backing old out in let w = abstract_of view backing new (slice_set out k None) in Does v w (gift_of_commit v.setting.cluster_size (guest_of v).disk (meaning view backing old p) ∷ []) []
-        (guest_of w ≡ with_slot (with_disk (guest_of v) (committed (guest_of v).disk (meaning view backing old p))) k None)
-    commit_done new enters number usable out k placed =
-        let done : ImageInvariant view backing (pending_in view backing old out) old out → Committed view backing old new out k p = λ sound.
-        let h = holds out k placed sound in subst (λ (image : Qcow2 S F). Enters view backing image new p) h.same enters out k placed h.found sound in
-        settled_does view backing old new out (slice_set out k None) (gift_of_commit (abstract_of view backing old out).setting.cluster_size (guest_of (abstract_of view backing old out)).disk (meaning view backing old p) ∷ [])
-        (λ sound. (done sound).works) (λ sound. (done sound).sound) number usable (λ sound. (done sound).is)
+    abbrev gifts0 : List GivenBytes
+    gifts0 = gift_of_commit v0.setting.cluster_size (guest_of v0).disk m0 ∷ []
 
-    -- it is entered, and clusters are freed then
-    module _ (entered final : Qcow2 S F) (enters : Enters view backing mid entered p) (notes : NotesNew view backing mid entered p) (some : IsSome p.new_cluster) (number : number_of final ≡ number_of old) (usable : is_failed old ≡ false) (r : Result (Unit {0}) ImageError)
-        (ends : IsTrue entered.file.caches.is_changed → (out : List (Option Prepared)) → ImageInvariant view backing (pending_in view backing entered out) entered out → EndsFreeing view backing entered final out r)
-        (out : List (Option Prepared)) (k : ℕ) (placed : slice_get out k ≡ Some (Some p)) where
-      abbrev v : AbstractImage
-      v = abstract_of view backing old out
+    nothing_new : ImageInvariant view backing (pending_in view backing old out) old out → committed (guest_of v0).disk m0 ≡ (guest_of v0).disk
+    nothing_new sound =
+        let none : p.shares.items ≡ [] = subst (IsReadyWith old.file.header.fields (known_in view old.file) (contents_in view old.file) p) existing (sound.ready k p placed).mapped in
+        ap (λ f. record (guest_of v0).disk { value = f }) (fun_ext (λ o. cond-false (m0.is_private o) _ _ (never_private view backing old p none o)))
 
-      abbrev m : AbstractImage
-      m = abstract_of view backing entered (slice_set out k None)
+    pub commit_existing : Does v0 w0 gifts0 [] (guest_of w0 ≡ with_slot (with_disk (guest_of v0) (committed (guest_of v0).disk m0)) k None)
+    commit_existing =
+        let does = discards out k placed in
+        settled_does view backing old new out (slice_set out k None) gifts0 (λ sound. works_less v0 w0 [] gifts0 [] (λ o x never. absurd never) (does.acts.works sound)) (λ sound. (does.answer sound).0) does.acts.number usable
+        (λ sound. (does.answer sound).1 ∙ ap (λ d. with_slot (with_disk (guest_of v0) d) k None) (sym (nothing_new sound)))
 
-      abbrev w : AbstractImage
-      w = abstract_of view backing final (slice_set out k None)
+-- ---- it begins, and its shares are entered
+module _ {S F : Type 0} (view : S → StorageView) (backing : F → BackingView) (old : Qcow2 S F) (p : Prepared) where
+  module _ (begun entered freed : Qcow2 S F) (q : Prepared) (changed : Bool) (usable : is_failed old ≡ false) (some : IsSome p.table) (r : Result (Unit {0}) ImageError)
+      (begins : (out : List (Option Prepared)) → ImageInvariant view backing (pending_in view backing old out) old out → Quietly view backing out old begun)
+      (enters : EntersAll view backing begun entered p q changed)
+      (ends : (out : List (Option Prepared)) → ImageInvariant view backing (pending_in view backing entered out) entered out → EndsFreeing view backing entered freed out r)
+      (out : List (Option Prepared)) (k : ℕ) (placed : slice_get out k ≡ Some (Some p)) where
+    abbrev v : AbstractImage
+    v = abstract_of view backing old out
 
-      abbrev gifts : List GivenBytes
-      gifts = gift_of_commit v.setting.cluster_size (guest_of v).disk (meaning view backing old p) ∷ []
+    abbrev b : AbstractImage
+    b = abstract_of view backing begun out
 
-      module _ (sound : ImageInvariant view backing (pending_in view backing old out) old out) where
-        is_entered : Committed view backing old entered out k p
-        is_entered = let h = holds out k placed sound in subst (λ (image : Qcow2 S F). Enters view backing image entered p) h.same enters out k placed h.found sound
+    abbrev left : List (Option Prepared)
+    left = slice_set out k (Some q)
 
-        is_noted : IsTrue entered.file.caches.is_changed
-        is_noted = let h = holds out k placed sound in subst (λ (image : Qcow2 S F). NotesNew view backing image entered p) h.same notes out k placed h.found sound some
+    abbrev e : AbstractImage
+    e = abstract_of view backing entered left
 
-        is_ended : EndsFreeing view backing entered final (slice_set out k None) r
-        is_ended = ends is_noted (slice_set out k None) is_entered.sound
+    abbrev f : AbstractImage
+    f = abstract_of view backing freed left
 
-        works_both : Works m w [] [] → Works v w gifts []
-        works_both then = works_then v m w gifts [] is_entered.sound is_entered.works (works_less m w [] gifts [] (λ o x never. absurd never) then)
+    abbrev m : PreparedMapping
+    m = meaning view backing old p
 
-      pub commit_freed : r ≡ Ok tt → Does v w gifts [] (guest_of w ≡ with_slot (with_disk (guest_of v) (committed (guest_of v).disk (meaning view backing old p))) k None)
-      commit_freed ok =
-          let done : ImageInvariant view backing (pending_in view backing old out) old out → EndsFreeing view backing entered final (slice_set out k None) (Ok tt) = λ sound. subst (EndsFreeing view backing entered final (slice_set out k None)) ok (is_ended sound) in
-          settled_does view backing old final out (slice_set out k None) gifts (λ sound. works_both sound (done sound).works) (λ sound. (done sound).sound) number usable (λ sound. (done sound).same ∙ (is_entered sound).is)
+    abbrev gifts : List GivenBytes
+    gifts = gift_of_commit v.setting.cluster_size (guest_of v).disk m ∷ []
 
-      pub commit_broke : (e : ImageError) → r ≡ Err e → (refusal_of e ≡ storage → IsTrue (is_failed final)) → (v.is_sound → IsFault (refusal_of e)) × Refuses v w gifts [] (refusal_of e) (IsSame v w)
-      commit_broke e refused marked =
-          let done : ImageInvariant view backing (pending_in view backing old out) old out → EndsFreeing view backing entered final (slice_set out k None) (Err e) = λ sound. subst (EndsFreeing view backing entered final (slice_set out k None)) refused (is_ended sound) in (
-            (λ sound. (done sound).1),
+    module _ (sound : ImageInvariant view backing (pending_in view backing old out) old out) where
+      begun_same : guest_of b ≡ guest_of v
+      begun_same = quiet_same view backing out old begun (begins out) sound
+
+      begun_sound : ImageInvariant view backing (pending_in view backing begun out) begun out
+      begun_sound = quiet_sound view backing out old begun (begins out) sound
+
+      begun_works : Works v b [] []
+      begun_works = quiet_works view backing out old begun (begins out) sound
+
+      same_meaning : meaning view backing begun p ≡ m
+      same_meaning =
+          let at : (image : Qcow2 S F) → (guest_of (abstract_of view backing image out)).slots k ≡ Some (meaning view backing image p) = λ image. ap (meaning_at (meaning view backing image)) placed in
+          let means : Some (meaning view backing begun p) ≡ Some (meaning view backing old p) = sym (at begun) ∙ ap (λ (g : Guest). g.slots k) begun_same ∙ at old in
+          cc
+
+      all : CommitsAll view backing begun entered out k p q
+      all = (enters out k placed some begun_sound).0
+
+      noted : IsTrue changed → IsTrue entered.file.caches.is_changed
+      noted = (enters out k placed some begun_sound).1
+
+      gift_is : gift_of_commit b.setting.cluster_size (guest_of b).disk (meaning view backing begun p) ∷ [] ≡ gifts
+      gift_is =
+          ap (λ x. gift_of_commit x.cluster_size (guest_of b).disk (meaning view backing begun p) ∷ []) begun_works.setting ∙ ap (λ (g : Guest). gift_of_commit v.setting.cluster_size g.disk (meaning view backing begun p) ∷ []) begun_same
+          ∙ ap (λ x. gift_of_commit v.setting.cluster_size (guest_of v).disk x ∷ []) same_meaning
+
+      entered_works : Works v e gifts []
+      entered_works = works_then v b e gifts [] begun_sound (works_less v b [] gifts [] (λ o x never. absurd never) begun_works) (subst (λ gs. Works b e gs []) gift_is all.part.works)
+
+      entered_shows : ShowsPart (guest_of v) (guest_of e) k m (meaning view backing entered q)
+      entered_shows = subst (λ x. ShowsPart (guest_of v) (guest_of e) k x (meaning view backing entered q)) same_meaning (subst (λ (g : Guest). ShowsPart g (guest_of e) k (meaning view backing begun p) (meaning view backing entered q)) begun_same all.part.shows)
+
+      ended : EndsFreeing view backing entered freed left r
+      ended = ends left all.part.sound
+
+      -- ---- clusters were freed, and it is let go
+      module _ (ok : r ≡ Ok tt) (new : Qcow2 S F) (discards : Discards view backing freed new q) where
+        freed_call : UnseenCall view backing entered freed left
+        freed_call = subst (EndsFreeing view backing entered freed left) ok ended
+
+        let_go : Does f (abstract_of view backing new (slice_set left k None)) [] [] (guest_of (abstract_of view backing new (slice_set left k None)) ≡ with_slot (guest_of f) k None)
+        let_go = discards left k (get_set_same out k (Some q) (Some p) placed)
+
+        end : slice_set left k None ≡ slice_set out k None
+        end = set_set out k (Some q) None
+
+        abbrev w : AbstractImage
+        w = abstract_of view backing new (slice_set out k None)
+
+        works_all : Works v w gifts []
+        works_all =
+            let last = (let_go.acts.works freed_call.sound) in
+            let freeing : Works v f gifts [] = works_then v e f gifts [] all.part.sound entered_works (works_less e f [] gifts [] (λ o x never. absurd never) freed_call.works) in
+            subst (λ now. Works v (abstract_of view backing new now) gifts []) end
+            (works_then v f (abstract_of view backing new (slice_set left k None)) gifts [] freed_call.sound freeing (works_less f (abstract_of view backing new (slice_set left k None)) [] gifts [] (λ o x never. absurd never) last))
+
+        sound_all : ImageInvariant view backing (pending_in view backing new (slice_set out k None)) new (slice_set out k None)
+        sound_all = subst (λ now. ImageInvariant view backing (pending_in view backing new now) new now) end (let_go.answer freed_call.sound).0
+
+        is_all : guest_of w ≡ with_slot (with_disk (guest_of v) (committed (guest_of v).disk m)) k None
+        is_all =
+            let gone : guest_of w ≡ with_slot (guest_of e) k None = subst (λ now. guest_of (abstract_of view backing new now) ≡ with_slot (guest_of f) k None) end (let_go.answer freed_call.sound).1 ∙ ap (λ (g : Guest). with_slot g k None) freed_call.same in
+            all_shown (guest_of v) (guest_of e) (guest_of w) k m (meaning view backing entered q) entered_shows all.visible gone
+
+    pub commit_done : (ok : r ≡ Ok tt) (new : Qcow2 S F) → Discards view backing freed new q → number_of new ≡ number_of old
+        → let w = abstract_of view backing new (slice_set out k None) in Does v w gifts [] (guest_of w ≡ with_slot (with_disk (guest_of v) (committed (guest_of v).disk m)) k None)
+    commit_done ok new discards number =
+        settled_does view backing old new out (slice_set out k None) gifts (λ sound. works_all sound ok new discards) (λ sound. sound_all sound ok new discards) number usable (λ sound. is_all sound ok new discards)
+
+    -- ---- that was refused
+    module _ (number : number_of freed ≡ number_of old) (x : ImageError) (refused : r ≡ Err x) (marked : refusal_of x ≡ storage → IsTrue (is_failed freed)) where
+      failed_freeing : (sound : ImageInvariant view backing (pending_in view backing old out) old out) → EndsFreeing view backing entered freed left (Err x)
+      failed_freeing sound = subst (EndsFreeing view backing entered freed left) refused (ended sound)
+
+      -- with its place free, or with it there as it was
+      works_refused : (now : Option Prepared) → IsTrue (is_failed freed) → (sound : ImageInvariant view backing (pending_in view backing old out) old out) → Works v (abstract_of view backing freed (slice_set out k now)) gifts []
+      works_refused now failed sound =
+          let then = (failed_freeing sound).0.acts.works (all sound).part.sound in
+          let both = works_then v e f gifts [] (all sound).part.sound (entered_works sound) (works_less e f [] gifts [] (λ o y never. absurd never) then) in
+          record {
+            setting = both.setting;
+            surplus = λ still. absurd (let no : true ≡ false = sym failed ∙ still.works in cc);
+            stops = λ c starts. let s = both.stops c starts in record { moments = s.moments; contents = s.contents; known = λ still. absurd (let no : true ≡ false = sym failed ∙ still.works in cc) };
+          }
+
+      -- the image failed: it is spent
+      pub commit_broke : (ImageInvariant view backing (pending_in view backing old out) old out → IsTrue (is_failed freed))
+          → let w = abstract_of view backing freed (slice_set out k None) in (v.is_sound → IsFault (refusal_of x)) × Refuses v w gifts [] (refusal_of x) (IsSame v w)
+      commit_broke failed = (
+        (λ sound. (failed_freeing sound).1),
+        record {
+          acts = record { number = number; works = λ sound. works_refused None (failed sound) sound; rests = λ was. absurd (let no : true ≡ false = sym was ∙ usable in cc) };
+          answer = λ sound. inr ((failed_freeing sound).1, failed sound);
+          fault = marked;
+        },
+      )
+
+      pub commit_broke_off : IsTrue changed → let w = abstract_of view backing freed (slice_set out k None) in (v.is_sound → IsFault (refusal_of x)) × Refuses v w gifts [] (refusal_of x) (IsSame v w)
+      commit_broke_off is = commit_broke (λ sound. (failed_freeing sound).2 (noted sound is))
+
+      -- nothing was changed: it is at its place again
+      pub commit_kept : (entered ≡ begun) × (q ≡ p) → let w = abstract_of view backing freed (slice_set out k (Some p)) in (v.is_sound → IsFault (refusal_of x)) × Refuses v w gifts [] (refusal_of x) (IsSame v w)
+      commit_kept same =
+          let there : slice_set out k (Some q) ≡ slice_set out k (Some p) = ap (λ y. slice_set out k (Some y)) same.1 in
+          let w = abstract_of view backing freed (slice_set out k (Some p)) in
+          let as_it_was : guest_of e ≡ guest_of b = ap (λ (image : Qcow2 S F). guest_of (abstract_of view backing image left)) same.0 ∙ ap (λ now. guest_of (abstract_of view backing begun now)) (there ∙ set_same out k (Some p) placed) in
+          let refuses : ImageInvariant view backing (pending_in view backing old out) old out → Refuses e w [] [] (refusal_of x) (IsSame e w) = λ sound.
+          subst (λ now. Refuses e (abstract_of view backing freed now) [] [] (refusal_of x) (IsSame e (abstract_of view backing freed now))) there (failed_freeing sound).0 in (
+            (λ sound. (failed_freeing sound).1),
             record {
-              acts = record { number = number; works = λ sound. works_both sound (done sound).0; rests = λ failed. absurd (let f : true ≡ false = sym failed ∙ usable in cc) };
-              answer = λ sound. inr ((done sound).1, (done sound).2);
+              acts = record {
+                number = number;
+                works = λ sound. works_then v e w gifts [] (all sound).part.sound (entered_works sound) (works_less e w [] gifts [] (λ o y never. absurd never) ((refuses sound).acts.works (all sound).part.sound));
+                rests = λ was. absurd (let no : true ≡ false = sym was ∙ usable in cc);
+              };
+              answer = λ sound. elim ((refuses sound).answer (all sound).part.sound) [
+                | inl still ↦ inl (still.0, still.1 ∙ as_it_was ∙ begun_same sound)
+                | inr failed ↦ inr failed
+              ];
               fault = marked;
             },
           )

@@ -1,58 +1,67 @@
--- A prepared mapping is committed: its private bytes become visible, and its place is free.
-use Rattle.std.proofs.Common.{◌≡◌, ◌≢◌, inl, inr, ℕ, ◌+◌, ◌-◌, ◌*◌, ◌/◌, ◌%◌, ◌<◌, ◌≤◌, Bool, true, false, List, [], ◌∷◌, refl, sym, ap, ◌∙◌, subst, arith, is_some}
-use Rattle.std.specs.Prelude.{Option, Some, None, IsSome, slice_get, slice_set, ◌==◌, ◌&&◌}
+-- A share of a prepared mapping is entered in its table: its private bytes become visible.
+use Rattle.std.proofs.Common.{◌≡◌, ◌≢◌, ◌⊎◌, inl, inr, ℕ, ◌+◌, ◌-◌, ◌*◌, ◌/◌, ◌%◌, ◌<◌, ◌≤◌, true, false, List, length, [], ◌∷◌, ◌++◌, refl, sym, ap, ◌∙◌, subst, arith, cond, Bool}
+use Rattle.std.specs.Prelude.{Option, Some, None, IsSome, IsTrue, nat_le, nat_lt, ◌&&◌, slice_get, slice_set, ◌==◌}
 use Rattle.std.specs.Option.{option_map_or}
-use Rattle.std.proofs.lemmas.Bool.{cases_lt, cases_eq, cond-true, cond-false, eq-eqb, ne_eqb}
+use Rattle.std.proofs.lemmas.Bool.{cases_lt, cases_eq, cond-true, cond-false, eq-eqb, ne_eqb, lt-leb}
 use Rattle.std.proofs.lemmas.Nat.{div-mul-add, mod-mul-add, div-add-mod', pow_pos}
-use mathlib.Core.Path.{fun_ext}
+use Rattle.std.proofs.lemmas.Option.{slice_get_within}
 use Rattle.image_access.specs.Backing.{BackingView}
 use Rattle.image_access.specs.Moments.{StorageView}
 use Rattle.image_access.proofs.Passing.{passes_none}
 use Rattle.qcow2_metadata.specs.Bytes.{Bytes}
 use Rattle.qcow2_metadata.specs.declared.header.HeaderFields.{HeaderFields}
 use Rattle.qcow2_metadata.specs.Header.{cluster_size, entries_per_cluster, has_data_file, rounded_up}
-use Rattle.qcow2_metadata.specs.Entries.{l2_entry, host_offset}
-use Rattle.qcow2_metadata.specs.Guest.{known_byte}
+use Rattle.qcow2_metadata.specs.Entries.{l1_entry, l2_entry, host_offset}
+use Rattle.qcow2_metadata.specs.Guest.{Value, known_byte}
 use Rattle.qcow2_metadata.specs.Cover.{cover, entry_cover}
-use Rattle.qcow2_metadata.specs.L2Table.{IsEntryHost, copied_entry}
-use Rattle.qcow2_metadata.specs.Named.{in_cluster, named_by_cover}
-use Rattle.qcow2_metadata.specs.Tables.{CachedTable}
-use Rattle.qcow2_metadata.specs.declared.l2_mapping.L2Mapping.TheVariants.{Data, Uncovered}
+use Rattle.qcow2_metadata.specs.L2Mapping.{IsHostCluster, named_run, run_has}
+use Rattle.qcow2_metadata.proofs.NamedRuns.{named_by_cover-run}
+use Rattle.qcow2_metadata.specs.Bytes.{one_if}
+use Rattle.qcow2_metadata.specs.L2Table.{IsEntryHost, copied_entry, copied_host}
+use Rattle.qcow2_metadata.specs.Named.{in_cluster, named_by_cover, named_for_tables}
+use Rattle.qcow2_metadata.specs.declared.l2_mapping.L2Mapping.TheVariants.{Data, Zero}
 use Rattle.qcow2_metadata.specs.Consistent.{CoverIsAligned}
 use Rattle.qcow2_metadata.proofs.MadeEntries.{cover_of-copied_entry, cluster_is_host}
-use Rattle.qcow2_laws.specs.Calls.{Works}
-use Rattle.qcow2_laws.specs.Caches.{AreSettled}
 use Rattle.qcow2_laws.specs.Disk.{Disk, disk}
 use Rattle.qcow2_laws.specs.CrashInvariant.{Pending, CrashInvariant}
+use Rattle.qcow2_laws.specs.GuestLaws.{Kept as HostedKept, Held as HostedHeld}
 use Rattle.qcow2_laws.specs.Guests.{names, marks, marked_by_cover, table_at}
 use Rattle.qcow2_laws.specs.SafeSteps.{DriverState, StateInvariant, SafeStep}
 use Rattle.qcow2_laws.specs.Mappings.{PreparedMapping, gift_shown, gift_of_commit, committed}
-use Rattle.qcow2_laws.specs.Stops.{GivenBytes}
+use Rattle.qcow2_laws.specs.Stops.{GivenBytes, IsGiven}
 use Rattle.qcow2_laws.specs.Steps.{guest_at, EntryChanges}
-use Rattle.qcow2_laws.specs.Unseen.{with_cluster}
+use Rattle.qcow2_laws.specs.AbstractImages.{guest_of}
 use Rattle.qcow2_laws.proofs.Blocks.{entry_top}
-use Rattle.qcow2_laws.proofs.CachedChanges.{Takes, takes_held}
-use Rattle.qcow2_laws.proofs.MappedAnew.{Maps, pending_after, private_committed, committed_held, committed_dropped_none}
+use Rattle.qcow2_laws.proofs.CachedChanges.{Takes, takes_held, takes_own}
+use Rattle.qcow2_laws.proofs.Compose.{works_less}
+use Rattle.qcow2_laws.proofs.KeptClusters.{kept_committed}
+use Rattle.qcow2_laws.proofs.MappedAnew.{Maps, pending_after, private_committed, committed_held, committed_dropped}
 use Rattle.qcow2_laws.proofs.Places.{Sizes-from, cover_at}
+use Rattle.qcow2_laws.proofs.PutRuns.{beside_tables}
 use Rattle.qcow2_laws.proofs.Shares.{shares}
-use Rattle.qcow2_laws.proofs.Writes.{held_is_unnamed}
 use Rattle.qcow2_laws.proofs.Consistency.{in_own}
 use Rattle.qcow2_alloc.specs.Allocation.{run_at}
-use Rattle.qcow2_alloc.specs.CacheMarks.{l2_pins, KeepsMarks, SameTables}
+use Rattle.qcow2_alloc.specs.CacheMarks.{KeepsMarks}
+use Rattle.qcow2_alloc.specs.ClustersToFree.{data_entry}
 use Rattle.qcow2_alloc.specs.declared.cache.MetadataCaches.{MetadataCaches}
+use Rattle.qcow2_alloc.specs.declared.clusters_to_free.ClustersToFreeEntry.{ClustersToFreeEntry}
 use Rattle.qcow2_alloc.specs.MetadataCaches.{IsEntryAt, ChangesKnownEntry, MadeEntry, MapsEntry, l2_at, order_of, known_of}
 use Rattle.qcow2_alloc.proofs.Runs.{run_in, run_before, run_after}
-use Rattle.qcow2_alloc.specs.ImageFile.{state_in, view_in, known_in}
+use Rattle.qcow2_alloc.specs.ImageFile.{state_in, view_in}
 use Rattle.qcow2_image.specs.declared.image.Qcow2.{Qcow2}
 use Rattle.qcow2_image.specs.declared.prepared.Prepared.{Prepared}
-use Rattle.qcow2_image.specs.declared.prepared.NewCluster.{NewCluster}
-use Rattle.qcow2_image.specs.CallParts.{Committed}
-use Rattle.qcow2_image.specs.ImageInvariant.{held_by, pins_by, pins_of, pending_in, abstract_of, meaning, is_private, cluster_of, begin_of, backing_bytes, HasCluster, IsNewFor, IsPending, IsReadyWith, ImageInvariant}
-use Rattle.qcow2_image.proofs.Call.Answered.{same_guest, holds_own}
-use Rattle.qcow2_image.proofs.Ready.{still_ready}
+use Rattle.qcow2_image.specs.declared.prepared.Share.{Share}
+use Rattle.qcow2_image.specs.declared.prepared.Share.TheVariants.{InPlace, Kept, New}
+use Rattle.qcow2_image.specs.CallParts.{CommitsPart, ShowsPart}
+use Rattle.qcow2_image.specs.UnseenSteps.{dropped_by}
+use Rattle.qcow2_image.proofs.Sound.{free_more}
+use Rattle.qcow2_image.specs.ImageInvariant.{to_free, of_data, of_tables, listed_run, held_in, held_by, pins_by, over_all, pending_in, abstract_of, meaning, is_entered, is_private, cluster_of, host_of, share_of, backing_bytes, IsNewAt, IsShareAt, IsPending, IsReady, IsReadyWith, ImageInvariant}
+use Rattle.qcow2_image.proofs.Apart.{apart_guests}
+use Rattle.qcow2_image.proofs.Ready.{still_pending, still_share}
 use Rattle.qcow2_image.proofs.Open.Reftables.{reftable_still}
-use Rattle.qcow2_image.proofs.Call.Slots.{get_set_same, others_left, over_all_left, over_all_two, slot_set}
+use Rattle.qcow2_image.proofs.Call.Slots.{get_set_other, get_set_same, length_set, over_all_set, slot_set}
 use Rattle.qcow2_image.proofs.Call.Stepped.{Steps, stepped_sound, stepped_works}
+use Rattle.qcow2_image.proofs.Shares.{held_less, over_all_at, place_in, private_is}
 
 -- ---- the entry of a held table changes to a held cluster
 module _ (s : DriverState) (known' : Bytes) (i j entry : ℕ) (sound : StateInvariant s) (real : table_at s.header s.known i ≢ 0) (within : j < entries_per_cluster s.header)
@@ -84,30 +93,52 @@ module _ (s : DriverState) (known' : Bytes) (i j entry : ℕ) (sound : StateInva
   }
 
 -- 1 for the one cluster of a run of one
-run_one : (h : HeaderFields) (first count c : ℕ) → count ≡ 1 → run_at first count c ≡ in_cluster h c (first * cluster_size h)
-run_one h first count c one =
+run_one : (h : HeaderFields) (first c : ℕ) → run_at first 1 c ≡ in_cluster h c (first * cluster_size h)
+run_one h first c =
     let same : first * cluster_size h / cluster_size h ≡ first = let e : first * cluster_size h ≡ first * cluster_size h + 0 = omega arith in ap (λ o. o / cluster_size h) e ∙ div-mul-add first (cluster_size h) 0 (pow_pos h.cluster_bits) in
-    ap (λ m. run_at first m c) one
-    ∙ (elim (cases_eq first c) [
+    elim (cases_eq first c) [
       | inl here ↦ run_in first 1 c (omega arith) (omega arith) ∙ sym (cond-true {A = ℕ} _ 1 0 (eq-eqb _ _ (same ∙ here)))
       | inr other ↦ elim (cases_lt c first) [
         | inl below ↦ run_before first 1 c below
         | inr above ↦ run_after first 1 c (omega arith)
       ] ∙ sym (cond-false {A = ℕ} _ 1 0 (ne_eqb _ _ (λ e. other (sym same ∙ e))))
+    ]
+
+-- what a run has is listed, and as data
+pub listed_has : (run : Option (ℕ × ℕ)) (c : ℕ) → to_free of_data (listed_run run) c ≡ run_has run c
+listed_has None c = refl
+listed_has (Some run) c = (let e : to_free of_data (listed_run (Some run)) c ≡ run_at run.0 run.1 c = omega arith in e) ∙ (elim (nat_le run.0 c && nat_lt c (run.0 + run.1)) as (λ (b : Bool). cond b 1 0 ≡ one_if b) [ true ↦ refl | false ↦ refl ])
+
+pub listed_tables : (run : Option (ℕ × ℕ)) (c : ℕ) → to_free of_tables (listed_run run) c ≡ 0
+listed_tables None c = refl
+listed_tables (Some run) c = refl
+
+-- the shares of a mapping are those of its whole clusters
+pub ends_at : (h : HeaderFields) (known on_storage : Bytes) (p : Prepared) (t : ℕ) → IsPending h known on_storage p t → rounded_up (cluster_size h) (p.guest + p.length) ≡ (cluster_of h p + length p.shares.items) * cluster_size h
+ends_at h known on_storage p t pending =
+    let size = cluster_size h in
+    let n = length p.shares.items in
+    let enough = pending.enough in
+    let no_more = pending.no_more in
+    let some : 0 < cluster_size h = pow_pos h.cluster_bits in
+    let g_is : p.guest / cluster_size h * cluster_size h + p.guest % cluster_size h ≡ p.guest = div-add-mod' p.guest (cluster_size h) in
+    let r : (cluster_of h p + length p.shares.items) * cluster_size h ≡ cluster_of h p * cluster_size h + length p.shares.items * cluster_size h = omega arith in
+    let e : p.guest + p.length + cluster_size h - 1 ≡ (cluster_of h p + length p.shares.items) * cluster_size h + (p.guest % cluster_size h + p.length + cluster_size h - 1 - length p.shares.items * cluster_size h) = omega arith in
+    ap (λ o. o / cluster_size h * cluster_size h) e ∙ ap (λ c. c * cluster_size h) (div-mul-add (cluster_of h p + length p.shares.items) (cluster_size h) (p.guest % cluster_size h + p.length + cluster_size h - 1 - length p.shares.items * cluster_size h) (omega arith))
+
+-- a share that changes, in the list of all
+share_same : (h : HeaderFields) (p q : Prepared) (i : ℕ) → q.guest ≡ p.guest → q.shares.items ≡ slice_set p.shares.items i InPlace → (g : ℕ) → g ≢ cluster_of h p + i → share_of h q g ≡ share_of h p g
+share_same h p q i same items g other =
+    ap (λ x. cond (nat_le (x / cluster_size h) g) (slice_get q.shares.items (g - x / cluster_size h)) None) same
+    ∙ ap (λ (l : List Share). cond (nat_le (cluster_of h p) g) (slice_get l (g - cluster_of h p)) None) items
+    ∙ (elim (cases_lt g (cluster_of h p)) [
+      | inl below ↦ let no = lt-leb (cluster_of h p) g below in cond-false (nat_le (cluster_of h p) g) _ _ no ∙ sym (cond-false (nat_le (cluster_of h p) g) _ _ no)
+      | inr above ↦ ap (λ x. cond (nat_le (cluster_of h p) g) x None) (get_set_other p.shares.items i (g - cluster_of h p) InPlace (λ e. other (omega arith)))
     ])
 
--- a range within one cluster rounds to that cluster
-pub rounds_up : (size guest length : ℕ) → 0 < size → 0 < length → guest % size + length ≤ size → rounded_up size (guest + length) ≡ guest / size * size + size
-rounds_up size guest length some any within =
-    let g_is : guest / size * size + guest % size ≡ guest = div-add-mod' guest size in
-    let q : (guest / size + 1) * size ≡ guest / size * size + size = omega arith in
-    let e : guest + length + size - 1 ≡ (guest / size + 1) * size + (guest % size + length - 1) = omega arith in
-    ap (λ o. o / size * size) e ∙ ap (λ n. n * size) (div-mul-add (guest / size + 1) size (guest % size + length - 1) (omega arith)) ∙ q
-
-module _ {S F : Type 0} (view : S → StorageView) (backing : F → BackingView) (old : Qcow2 S F) (p : Prepared) (t : ℕ) (n : NewCluster) (is_table : p.table ≡ Some t) (fresh : p.new_cluster ≡ Some n)
-    (mid caches : MetadataCaches S) (marks : KeepsMarks old.file.caches mid) (order : order_of mid ≡ order_of old.file.caches) (answer : Option (ℕ × ℕ)) (maps : MapsEntry old.file.caches mid t n.index n.pending.first_cluster answer)
-    (tables : SameTables mid caches) (pins : (c : ℕ) → l2_pins caches c ≡ l2_pins mid c - pins_of (Some t) c)
-    (out : List (Option Prepared)) (k : ℕ) (placed : slice_get out k ≡ Some (Some p)) (found : IsSome (l2_at old.file.caches t)) (sound : ImageInvariant view backing (pending_in view backing old out) old out) where
+module _ {S F : Type 0} (view : S → StorageView) (backing : F → BackingView) (old : Qcow2 S F) (p like : Prepared) (t i : ℕ) (share : Share) (is_table : p.table ≡ Some t) (was : slice_get p.shares.items i ≡ Some share) (is_entered_now : IsTrue (is_entered share))
+    (items : like.shares.items ≡ slice_set p.shares.items i InPlace) (caches : MetadataCaches S) (marks : KeepsMarks old.file.caches caches) (order : order_of caches ≡ order_of old.file.caches) (answer : Option (ℕ × ℕ))
+    (out : List (Option Prepared)) (k : ℕ) (placed : slice_get out k ≡ Some (Some p)) (sound : ImageInvariant view backing (pending_in view backing old out) old out) where
   abbrev h : HeaderFields
   h = old.file.header.fields
 
@@ -117,201 +148,357 @@ module _ {S F : Type 0} (view : S → StorageView) (backing : F → BackingView)
   abbrev s : DriverState
   s = state_in view old.file before
 
+  -- what is left of it
+  abbrev q : Prepared
+  q = record p { shares = like.shares }
+
+  abbrev now : List (Option Prepared)
+  now = slice_set out k (Some q)
+
   pending : IsPending h s.known s.on_storage p t
   pending = subst (IsReadyWith h s.known s.on_storage p) is_table (sound.ready k p placed).mapped
 
-  new_for : IsNewFor h s.known s.on_storage p n
-  new_for = subst (HasCluster h s.known s.on_storage p) fresh pending.cluster
+  within : i < length p.shares.items
+  within = slice_get_within p.shares.items i share was
 
-  abbrev i : ℕ
-  i = cluster_of h p / entries_per_cluster h
+  abbrev row : ℕ
+  row = cluster_of h p / entries_per_cluster h
+
+  abbrev column : ℕ
+  column = cluster_of h p % entries_per_cluster h + i
 
   abbrev known : Bytes
-  known = known_of h mid s.on_storage
+  known = known_of h caches s.on_storage
 
-  abbrev host : ℕ
-  host = n.pending.first_cluster * cluster_size h
+  at_entry : IsEntryAt h s.known row t column
+  at_entry = record { real = pending.named.real; place = pending.named.place; within = let lt = within in let inside = pending.within in omega arith }
 
-  -- the entry is made
-  at_entry : IsEntryAt h s.known i t n.index
-  at_entry = subst (λ x. IsEntryAt h s.known i t x) (sym new_for.index) pending.named
+  guest_is : guest_at h row column ≡ cluster_of h p + i
+  guest_is = let e : cluster_of h p / entries_per_cluster h * entries_per_cluster h + cluster_of h p % entries_per_cluster h ≡ cluster_of h p = div-add-mod' (cluster_of h p) (entries_per_cluster h) in omega arith
 
-  entry : MadeEntry h old.file.caches mid s.on_storage i n.index (copied_entry host) answer
-  entry = maps h before s.on_storage i sound.file.caches at_entry pending.copied found new_for.nameable
+  module _ (first : ℕ) (place : first * cluster_size h ≡ host_of h p i) (nameable : IsHostCluster h.cluster_bits first) (found : IsSome (l2_at old.file.caches t)) (maps : MapsEntry old.file.caches caches t column first answer)
+      (stands : IsShareAt h s.known s.on_storage p i share) where
+    abbrev host : ℕ
+    host = first * cluster_size h
 
-  guest_is : guest_at h i n.index ≡ cluster_of h p
-  guest_is = ap (λ x. i * entries_per_cluster h + x) new_for.index ∙ div-add-mod' (cluster_of h p) (entries_per_cluster h)
+    zero_more : host ≡ host + 0
+    zero_more = omega arith
 
-  uncovered : cover h s.known (guest_at h i n.index) ≡ Uncovered
-  uncovered = ap (cover h s.known) guest_is ∙ new_for.entry
+    host_first : host / cluster_size h ≡ first
+    host_first = ap (λ o. o / cluster_size h) zero_more ∙ div-mul-add first (cluster_size h) 0 (pow_pos h.cluster_bits)
 
-  -- its host cluster is held
-  zero_more : host ≡ host + 0
-  zero_more = omega arith
+    host_aligned : host % cluster_size h ≡ 0
+    host_aligned = ap (λ o. o % cluster_size h) zero_more ∙ mod-mul-add first (cluster_size h) 0 (pow_pos h.cluster_bits)
 
-  host_cluster : host / cluster_size h ≡ n.pending.first_cluster
-  host_cluster = ap (λ o. o / cluster_size h) zero_more ∙ div-mul-add n.pending.first_cluster (cluster_size h) 0 (pow_pos h.cluster_bits)
+    entry : MadeEntry h old.file.caches caches s.on_storage row column (copied_entry host) answer
+    entry = maps h before s.on_storage row sound.file.caches at_entry pending.copied found nameable
 
-  host_aligned : host % cluster_size h ≡ 0
-  host_aligned = ap (λ o. o % cluster_size h) zero_more ∙ mod-mul-add n.pending.first_cluster (cluster_size h) 0 (pow_pos h.cluster_bits)
+    -- ---- of a new cluster
+    module _ (taken dropped : List ClustersToFreeEntry) (is_new : share ≡ New taken dropped) (new_at : IsNewAt h s.known s.on_storage p i taken dropped) where
+      same_first : new_at.first ≡ first
+      same_first =
+          let e : new_at.first * cluster_size h ≡ new_at.first * cluster_size h + 0 = omega arith in
+          sym (ap (λ o. o / cluster_size h) e ∙ div-mul-add new_at.first (cluster_size h) 0 (pow_pos h.cluster_bits)) ∙ ap (λ o. o / cluster_size h) (new_at.place ∙ sym place) ∙ host_first
 
-  held_own : 0 < before.held n.pending.first_cluster
-  held_own = holds_own view backing old old out before sound refl k p placed n fresh
+      mine : (c : ℕ) → held_in (share ∷ []) c ≡ in_cluster h c host
+      mine c =
+          ap (λ (x : Share). held_in (x ∷ []) c) is_new ∙ ap (λ l. to_free of_data l c + 0) (new_at.is ∙ ap (λ f. data_entry f 1 ∷ []) same_first)
+          ∙ (let one = run_one h first c in omega arith)
 
-  held_there : 0 < before.held (host / cluster_size h)
-  held_there = subst (λ c. 0 < before.held c) (sym host_cluster) held_own
+      held_there : 0 < before.held (host / cluster_size h)
+      held_there =
+          let less = held_less p.shares.items i share was (host / cluster_size h) in
+          let all = over_all_at held_by out k p placed (host / cluster_size h) in
+          let one = mine (host / cluster_size h) in
+          let own : in_cluster h (host / cluster_size h) host ≡ 1 = in_own h host in
+          omega arith
 
-  -- it isn't the header's
-  host_real : host ≡ 0 → ⊥
-  host_real none =
-      let unnamed = held_is_unnamed s.header s.direction s.pending s.on_storage s.known sound.file.caches.kept.kept.guarded (host / cluster_size h) held_there in
-      let parts = shares h s.on_storage (host / cluster_size h) in
-      let one : in_cluster h (host / cluster_size h) host ≡ 1 = in_own h host in
-      let zero : in_cluster h (host / cluster_size h) 0 ≡ 1 = ap (in_cluster h (host / cluster_size h)) (sym none) ∙ one in
-      let no_table = unnamed.no_table in
-      absurd (omega arith)
+    -- what is so of a new cluster, and of one that a zero entry keeps
+    no_table_as : (x : Share) → share ≡ x → IsTrue (is_entered x) → IsShareAt h s.known s.on_storage p i x → named_for_tables h s.on_storage (host / cluster_size h) ≡ 0
+    no_table_as InPlace is entered at = absurd (let e : false ≡ true = entered in cc)
+    no_table_as Kept is entered at = beside_tables s HostedKept ((cluster_of h p + i) * cluster_size h) host sound.file.caches.kept.kept.guarded (
+      host,
+      (
+          let e : (cluster_of h p + i) * cluster_size h ≡ (cluster_of h p + i) * cluster_size h + 0 = omega arith in
+          ap (cover h s.known) (ap (λ o. o / cluster_size h) e ∙ div-mul-add (cluster_of h p + i) (cluster_size h) 0 (pow_pos h.cluster_bits)) ∙ at.entry ∙ ap (λ n. Zero (Some (n, true))) (sym place)
+          ),
+      (
+          let e : (cluster_of h p + i) * cluster_size h ≡ (cluster_of h p + i) * cluster_size h + 0 = omega arith in
+          let none : (cluster_of h p + i) * cluster_size h % cluster_size h ≡ 0 = ap (λ o. o % cluster_size h) e ∙ mod-mul-add (cluster_of h p + i) (cluster_size h) 0 (pow_pos h.cluster_bits) in
+          omega arith
+          ),
+    )
+    no_table_as (New taken dropped) is entered at = beside_tables s HostedHeld 0 host sound.file.caches.kept.kept.guarded (held_there taken dropped is at)
 
-  host_fits : IsEntryHost (has_data_file h) host
-  host_fits = cluster_is_host h.cluster_bits n.pending.first_cluster (has_data_file h) sound.file.caches.kept.kept.guarded.top.header_reads.well_formed.in_range.cluster_bits.0 new_for.nameable (λ none. absurd (host_real (ap (λ c. c * cluster_size h) none ∙ omega arith)))
+    takes_as : (x : Share) → share ≡ x → IsTrue (is_entered x) → IsShareAt h s.known s.on_storage p i x → Takes h before.held (cover h s.known (guest_at h row column)) (Data host true)
+    takes_as InPlace is entered at = absurd (let e : false ≡ true = entered in cc)
+    takes_as Kept is entered at = (takes_own h before.held (cover h s.known (guest_at h row column)) host host_aligned (ap copied_host (ap (cover h s.known) guest_is ∙ at.entry) ∙ ap Some (sym place))).0
+    takes_as (New taken dropped) is entered at = takes_held s (guest_at h row column) host sound.file.caches.kept.kept.guarded host_aligned (held_there taken dropped is at)
 
-  abbrev covers_host : entry_cover h (copied_entry host) ≡ Data host true
-  covers_host = cover_of-copied_entry h.cluster_bits (h.version == 3) (has_data_file h) host host_fits
+    -- it isn't the header's
+    host_real : host ≡ 0 → ⊥
+    host_real none =
+        let parts = shares h s.on_storage (host / cluster_size h) in
+        let one : in_cluster h (host / cluster_size h) host ≡ 1 = in_own h host in
+        let zero : in_cluster h (host / cluster_size h) 0 ≡ 1 = ap (in_cluster h (host / cluster_size h)) (sym none) ∙ one in
+        let no_table = no_table_as share refl is_entered_now stands in
+        absurd (omega arith)
 
-  covered : cover h known (guest_at h i n.index) ≡ Data host true
-  covered = cover_now s known i n.index (copied_entry host) sound.file.caches.kept.kept.guarded at_entry.real at_entry.within entry.change ∙ covers_host
+    host_fits : IsEntryHost (has_data_file h) host
+    host_fits = cluster_is_host h.cluster_bits first (has_data_file h) sound.file.caches.kept.kept.guarded.top.header_reads.well_formed.in_range.cluster_bits.0 nameable (λ none. absurd (host_real (ap (λ c. c * cluster_size h) none ∙ omega arith)))
 
-  changes : EntryChanges s known i n.index
-  changes = known_entry_changes s known i n.index (copied_entry host) sound.file.caches.kept.kept.guarded at_entry.real at_entry.within entry.change
-      (subst (λ v. Takes h before.held (cover h s.known (guest_at h i n.index)) v) (sym covers_host) (takes_held s (guest_at h i n.index) host sound.file.caches.kept.kept.guarded host_aligned held_there))
+    abbrev covers_host : entry_cover h (copied_entry host) ≡ Data host true
+    covers_host = cover_of-copied_entry h.cluster_bits (h.version == 3) (has_data_file h) host host_fits
 
-  abbrev after : Pending
-  after = pending_after s known (guest_at h i n.index)
+    covered : cover h known (guest_at h row column) ≡ Data host true
+    covered = cover_now s known row column (copied_entry host) sound.file.caches.kept.kept.guarded at_entry.real at_entry.within entry.change ∙ covers_host
 
-  mapped : Maps (guest_at h i n.index) s (record s { pending = after; known = known }) (λ below o. known_byte (s.on_storage (host + o % cluster_size h)))
-  mapped = private_committed s known i n.index sound.file.caches.kept.kept.guarded changes host covered held_there
+    changes : EntryChanges s known row column
+    changes = known_entry_changes s known row column (copied_entry host) sound.file.caches.kept.kept.guarded at_entry.real at_entry.within entry.change
+        (subst (λ v. Takes h before.held (cover h s.known (guest_at h row column)) v) (sym covers_host) (takes_as share refl is_entered_now stands))
 
-  abbrev final : Qcow2 S F
-  final = record old { file = record old.file { caches = caches } }
+    abbrev values : Bytes → ℕ → Value
+    values below o = known_byte (s.on_storage (host + o % cluster_size h))
 
-  same_known : known_in view final.file ≡ known
-  same_known = tables.known h s.on_storage
+    -- what is pending then
+    record Made : Type 0 where
+      after : Pending
+      mapped : Maps (guest_at h row column) s (record s { pending = after; known = known }) values
+      held : (c : ℕ) → after.held c + held_in (share ∷ []) c ≡ before.held c
+      fresh : (c : ℕ) → after.fresh c ≡ 0
+      spent : (c : ℕ) → after.spent c ≡ before.spent c + to_free of_tables (dropped_by share) c
+      dropped : (c : ℕ) → after.dropped c ≡ before.dropped c + to_free of_data (dropped_by share) c
+      surplus : after.surplus ≡ before.surplus
 
-  same_stand : state_in view final.file after ≡ record s { pending = after; known = known }
-  same_stand = ap (λ d. record s { pending = after; direction = d; known = known_in view final.file }) (tables.order ∙ order) ∙ ap (λ b. record s { pending = after; known = b }) same_known
-
-  abbrev given : Bytes → List GivenBytes
-  given below = gift_shown (disk known below) (guest_at h i n.index * cluster_size h) (guest_at h i n.index * cluster_size h + cluster_size h) ∷ []
-
-  leads : SafeStep s (state_in view final.file after) given []
-  leads = subst (λ x. SafeStep s x given []) (sym same_stand) mapped.leads
-
-  -- no other mapping lies in the guest cluster
-  apart : (j : ℕ) (q : Prepared) → slice_get (slice_set out k None) j ≡ Some (Some q) → j ≡ k → ⊥
-  apart j q there same = absurd (let here : slice_get (slice_set out k None) j ≡ Some None = ap (slice_get (slice_set out k None)) same ∙ get_set_same out k None (Some p) placed in let e : Some (Some q) ≡ Some None = sym there ∙ here in cc)
-
-  one_table : (u : ℕ) (q : Prepared) → IsPending h s.known s.on_storage q u → cluster_of h q ≡ cluster_of h p → u ≡ t
-  one_table u q its same =
-      let place : u * cluster_size h ≡ t * cluster_size h = sym its.named.place ∙ ap (λ c. table_at h s.known (c / entries_per_cluster h)) same ∙ pending.named.place in
-      let a : u * cluster_size h ≡ u * cluster_size h + 0 = omega arith in
-      let b : t * cluster_size h ≡ t * cluster_size h + 0 = omega arith in
-      sym (ap (λ o. o / cluster_size h) a ∙ div-mul-add u (cluster_size h) 0 (pow_pos h.cluster_bits)) ∙ ap (λ o. o / cluster_size h) place ∙ ap (λ o. o / cluster_size h) b ∙ div-mul-add t (cluster_size h) 0 (pow_pos h.cluster_bits)
-
-  pins_own : (q : Prepared) (u : ℕ) → q.table ≡ Some u → pins_by q u ≡ 1
-  pins_own q u is = ap (λ x. pins_of x u) is ∙ cond-true {A = ℕ} _ 1 0 (eq-eqb u u refl)
-
-  other_guest : (j : ℕ) (q : Prepared) (u : ℕ) → slice_get (slice_set out k None) j ≡ Some (Some q) → q.table ≡ Some u → IsPending h s.known s.on_storage q u → cluster_of h q ≢ guest_at h i n.index
-  other_guest j q u there is its same =
-      let table : u ≡ t = one_table u q its (same ∙ guest_is) in
-      let both = over_all_two pins_by out k p j q placed (apart j q there) (others_left out k j q there) t in
-      let mine = pins_own p t is_table in
-      let theirs = pins_own q t (is ∙ ap Some table) in
-      let once = sound.once t in
-      absurd (omega arith)
-
-  still_mapped : (j : ℕ) (q : Prepared) → slice_get (slice_set out k None) j ≡ Some (Some q) → (x : Option ℕ) → q.table ≡ x → IsReadyWith h s.known s.on_storage q x → IsReadyWith h (known_in view final.file) s.on_storage q x
-  still_mapped j q there None is ready = ready
-  still_mapped j q there (Some u) is ready =
-      still_ready h s.known s.on_storage (known_in view final.file) s.on_storage q (mapped.unseen.covers (cluster_of h q) (other_guest j q u there is ready) ∙ ap (λ b. cover h b (cluster_of h q)) (sym same_known))
-      sound.file.caches.kept.kept.guarded.same_top.l1 leads.sound.same_top.l1 (λ l copied. refl) (Some u) ready
-
-  commit_sound : ImageInvariant view backing after final (slice_set out k None)
-  commit_sound = record {
-    works = sound.works;
-    file = record {
-      honest = sound.file.honest;
-      caches = tables.sound h after s.on_storage (entry.sound after sound.file.settled (subst (λ d. CrashInvariant h d after s.on_storage known) (sym order) mapped.leads.sound));
-      settled = subst (λ (ts : List CachedTable). AreSettled h ts s.on_storage) (sym tables.refblocks) (entry.settled sound.file.settled);
-      room = tables.room (marks.room sound.file.room);
-    };
-    l1_table = record { cluster = sound.l1_table.cluster; bits = sound.l1_table.bits; count = sound.l1_table.count; entries = sound.l1_table.entries };
-    reftable = reftable_still view old.file final.file refl refl old.allocator sound.reftable;
-    below = sound.below;
-    ready = λ j q there. let r = sound.ready j q (others_left out k j q there) in record { own = r.own; mapped = still_mapped j q there q.table refl r.mapped };
-    pinned = λ table.
-        let all = over_all_left pins_by out k p placed table in
-        let was = sound.pinned table in
-        let now = pins table in
-        let kept = marks.pins table in
-        let mine : pins_by p table ≡ pins_of (Some t) table = ap (λ x. pins_of x table) is_table in
-        omega arith;
-    once = λ table. let all = over_all_left pins_by out k p placed table in let was = sound.once table in omega arith;
-  }
-
-  commit_steps : Steps view backing old final out (slice_set out k None) given after
-  commit_steps = record {
-    sound = commit_sound;
-    only = record {
-      held = λ c.
-          let all = over_all_left held_by out k p placed c in
-          let now = committed_held s known i n.index sound.file.caches.kept.kept.guarded changes host covered held_there c in
-          let mine : held_by p c ≡ in_cluster h c host = ap (λ (x : Option NewCluster). option_map_or (λ (m : NewCluster). run_at m.pending.first_cluster m.pending.count c) x 0) fresh ∙ run_one h n.pending.first_cluster n.pending.count c new_for.one in
-          omega arith;
+    made_as : (x : Share) → share ≡ x → IsTrue (is_entered x) → IsShareAt h s.known s.on_storage p i x → Made
+    made_as InPlace is entered at = absurd (let e : false ≡ true = entered in cc)
+    made_as Kept is entered at = record {
+      after = before;
+      mapped = kept_committed s known row column host sound.file.caches.kept.kept.guarded changes (ap (cover h s.known) guest_is ∙ at.entry ∙ ap (λ n. Zero (Some (n, true))) (sym place)) covered;
+      held = λ c. let none : held_in (share ∷ []) c ≡ 0 = ap (λ (x : Share). held_in (x ∷ []) c) is in omega arith;
       fresh = λ c. refl;
-      spent = λ c. refl;
-      dropped = λ c. committed_dropped_none s known i n.index sound.file.caches.kept.kept.guarded changes host covered held_there uncovered c;
-    };
-    leads = leads;
-    since = record { moments = passes_none (view_in view old.file) _; contents = λ below m ok known_ok. leads.on_storage below m ok known_ok };
-    header = refl;
-    below = refl;
-    surplus = refl;
-  }
+      spent = λ c. let none : to_free of_tables (dropped_by share) c ≡ 0 = ap (λ (x : Share). to_free of_tables (dropped_by x) c) is in omega arith;
+      dropped = λ c. let none : to_free of_data (dropped_by share) c ≡ 0 = ap (λ (x : Share). to_free of_data (dropped_by x) c) is in omega arith;
+      surplus = refl;
+    }
+    made_as (New taken dropped) is entered at =
+        let held_host = held_there taken dropped is at in
+        record {
+          after = pending_after s known (guest_at h row column);
+          mapped = private_committed s known row column sound.file.caches.kept.kept.guarded changes host covered held_host;
+          held = λ c.
+              let left = committed_held s known row column sound.file.caches.kept.kept.guarded changes host covered held_host c in
+              let one = mine taken dropped is at c in
+              let less = held_less p.shares.items i share was c in
+              let all = over_all_at held_by out k p placed c in
+              omega arith;
+          fresh = λ c. refl;
+          spent = λ c. let none : to_free of_tables (dropped_by share) c ≡ 0 = ap (λ (x : Share). to_free of_tables (dropped_by x) c) is ∙ ap (λ l. to_free of_tables l c) at.drops ∙ listed_tables (named_run h.cluster_bits (cover h s.known (cluster_of h p + i))) c in omega arith;
+          dropped = λ c.
+              let more = committed_dropped s known row column sound.file.caches.kept.kept.guarded changes host covered held_host c in
+              let named : names h s.known c (guest_at h row column) ≡ run_has (named_run h.cluster_bits (cover h s.known (cluster_of h p + i))) c = ap (names h s.known c) guest_is ∙ named_by_cover-run (cover h s.known (cluster_of h p + i)) h c at.reach in
+              let gone : to_free of_data (dropped_by share) c ≡ run_has (named_run h.cluster_bits (cover h s.known (cluster_of h p + i))) c =
+              ap (λ (x : Share). to_free of_data (dropped_by x) c) is ∙ ap (λ l. to_free of_data l c) at.drops ∙ listed_has (named_run h.cluster_bits (cover h s.known (cluster_of h p + i))) c in
+              omega arith;
+          surplus = refl;
+        }
 
-  -- what it shows
-  abbrev m : PreparedMapping
-  m = meaning view backing old p
+    made : Made
+    made = made_as share refl is_entered_now stands
 
-  abbrev below : Bytes
-  below = backing_bytes view backing old.backing
+    abbrev final : Qcow2 S F
+    final = record old { file = record old.file { caches = caches; free_list = old.file.free_list ++ dropped_by share } }
 
-  private_is : (o : ℕ) → is_private view backing old p o ≡ (o / cluster_size h == guest_at h i n.index)
-  private_is o = ap (λ b. b && o / cluster_size h == p.guest / cluster_size h) (ap is_some fresh) ∙ ap (λ g. o / cluster_size h == g) (sym guest_is)
+    same_stand : state_in view final.file made.after ≡ record s { pending = made.after; known = known }
+    same_stand = ap (λ d. record s { pending = made.after; direction = d; known = known }) order
 
-  begins : begin_of h p ≡ host
-  begins = let b = new_for.begins in omega arith
+    abbrev given : Bytes → List GivenBytes
+    given below = gift_shown (disk known below) (guest_at h row column * cluster_size h) (guest_at h row column * cluster_size h + cluster_size h) ∷ []
 
-  value_is : (d : Disk) (o : ℕ) (b : Bool) → is_private view backing old p o ≡ b
-      → (with_cluster (cluster_size h) d (guest_at h i n.index) (λ q. known_byte (s.on_storage (host + q % cluster_size h)))).value o ≡ (committed d m).value o
-  value_is d o true is =
-      cond-true _ _ _ (sym (private_is o) ∙ is) ∙ ap (λ b. known_byte (s.on_storage (b + o % cluster_size h))) (sym begins)
-      ∙ sym (cond-true _ _ _ is ∙ ap known_byte (cond-true _ _ _ is))
-  value_is d o false is = cond-false _ _ _ (sym (private_is o) ∙ is) ∙ sym (cond-false _ _ _ is)
+    leads : SafeStep s (state_in view final.file made.after) given []
+    leads = subst (λ x. SafeStep s x given []) (sym same_stand) made.mapped.leads
 
-  committed_is : disk known below ≡ committed (disk s.known below) m
-  committed_is = mapped.shows below ∙ ap (λ f. record (disk s.known below) { value = f }) (fun_ext (λ o. value_is (disk s.known below) o (is_private view backing old p o) refl))
+    -- ---- mappings stand ready
+    -- an L1 entry stays
+    same_l1 : (l : ℕ) → l1_entry h known l ≡ l1_entry h s.known l
+    same_l1 l = sym (leads.sound.same_top.l1 l) ∙ sound.file.caches.kept.kept.guarded.same_top.l1 l
 
-  gift_is : given below ≡ gift_of_commit (cluster_size h) (disk s.known below) m ∷ []
-  gift_is =
-      let from : guest_at h i n.index * cluster_size h ≡ p.guest / cluster_size h * cluster_size h = ap (λ g. g * cluster_size h) guest_is in
-      let to : guest_at h i n.index * cluster_size h + cluster_size h ≡ rounded_up (cluster_size h) (p.guest + p.length) = ap (λ g. g * cluster_size h + cluster_size h) guest_is
-      ∙ sym (rounds_up (cluster_size h) p.guest p.length (pow_pos h.cluster_bits) pending.some pending.within) in
-      ap (λ d. gift_shown d (guest_at h i n.index * cluster_size h) (guest_at h i n.index * cluster_size h + cluster_size h) ∷ []) committed_is
-      ∙ ap (λ a. gift_shown (committed (disk s.known below) m) a (guest_at h i n.index * cluster_size h + cluster_size h) ∷ []) from
-      ∙ ap (λ b. gift_shown (committed (disk s.known below) m) (p.guest / cluster_size h * cluster_size h) b ∷ []) to
+    still_other : (j : ℕ) (r : Prepared) → (j ≡ k → ⊥) → slice_get out j ≡ Some (Some r) → (x : Option ℕ) → r.table ≡ x → IsReadyWith h s.known s.on_storage r x → IsReadyWith h known s.on_storage r x
+    still_other j r apart there None is ready = ready
+    still_other j r apart there (Some u) is ready =
+        still_pending h s.known s.on_storage known s.on_storage r sound.file.caches.kept.kept.guarded.same_top.l1 leads.sound.same_top.l1 (λ l copied. refl) u
+        (λ b other at. still_share h s.known s.on_storage known s.on_storage r b
+        (made.mapped.unseen.covers (cluster_of h r + b) (λ same. apart_guests view backing old out before sound k p placed t is_table pending j r apart there u is ready i b within (slice_get_within r.shares.items b other at) (sym guest_is ∙ sym same))) other (ready.each b other at)) ready
 
-  pub commits_new : Committed view backing old final out k p
-  commits_new = record {
-    works = subst (λ gifts. Works (abstract_of view backing old out) (abstract_of view backing final (slice_set out k None)) gifts []) gift_is (stepped_works view backing old final out (slice_set out k None) given after commit_steps);
-    sound = stepped_sound view backing old final out (slice_set out k None) given after commit_steps;
-    is = same_guest _ _ (ap (λ b. disk b below) same_known ∙ committed_is) (fun_ext (λ j. slot_set (meaning view backing old) out k None (Some p) placed j));
-  }
+    share_left : (l : ℕ) (x : Share) → slice_get q.shares.items l ≡ Some x → IsShareAt h known s.on_storage q l x
+    share_left l x at = elim (cases_eq l i) [
+      | inl here ↦
+          let e : Some x ≡ Some InPlace = sym at ∙ ap (λ (y : List Share). slice_get y l) items ∙ ap (slice_get (slice_set p.shares.items i InPlace)) here ∙ get_set_same p.shares.items i InPlace share was in
+          let same : x ≡ InPlace = cc in
+          subst (λ (y : Share). IsShareAt h known s.on_storage q l y) (sym same)
+          (ap (λ n. cover h known (cluster_of h p + n)) here ∙ ap (cover h known) (sym guest_is) ∙ covered ∙ ap (λ n. Data n true) (place ∙ ap (host_of h p) (sym here)))
+      | inr other ↦
+          let there : slice_get p.shares.items l ≡ Some x = sym (get_set_other p.shares.items i l InPlace other) ∙ ap (λ (y : List Share). slice_get y l) (sym items) ∙ at in
+          left_as x (still_share h s.known s.on_storage known s.on_storage p l (made.mapped.unseen.covers (cluster_of h p + l) (λ same. other (let e = guest_is in omega arith))) x (pending.each l x there))
+    ] where
+      left_as : (x : Share) → IsShareAt h known s.on_storage p l x → IsShareAt h known s.on_storage q l x
+      left_as InPlace at = at
+      left_as Kept at = record { first = at.first; place = at.place; nameable = at.nameable; entry = at.entry }
+      left_as (New taken dropped) at = record { first = at.first; is = at.is; place = at.place; nameable = at.nameable; entry = at.entry; reach = at.reach; drops = at.drops }
+
+    as_many : length q.shares.items ≡ length p.shares.items
+    as_many = ap (λ (l : List Share). length l) items ∙ length_set p.shares.items i InPlace
+
+    left_pending : IsPending h known s.on_storage q t
+    left_pending =
+        let there : table_at h known row ≡ table_at h s.known row = ap host_offset (same_l1 row) in
+        record {
+          some = pending.some;
+          begins = pending.begins;
+          enough = subst (λ n. p.guest % cluster_size h + p.length ≤ n * cluster_size h) (sym as_many) pending.enough;
+          no_more = subst (λ n. n * cluster_size h < p.guest % cluster_size h + p.length + cluster_size h) (sym as_many) pending.no_more;
+          within = subst (λ n. cluster_of h p % entries_per_cluster h + n ≤ entries_per_cluster h) (sym as_many) pending.within;
+          named = record { real = λ none. pending.named.real (sym there ∙ none); place = there ∙ pending.named.place; within = pending.named.within };
+          copied = pending.copied;
+          each = share_left;
+        }
+
+    ready_now : (j : ℕ) (r : Prepared) → slice_get now j ≡ Some (Some r) → IsReady view backing final r
+    ready_now j r at = elim (cases_eq j k) [
+      | inl here ↦
+          let e : Some (Some r) ≡ Some (Some q) = sym at ∙ ap (slice_get now) here ∙ get_set_same out k (Some q) (Some p) placed in
+          let same : r ≡ q = cc in
+          subst (λ (x : Prepared). IsReady view backing final x) (sym same)
+          (record { own = (sound.ready k p placed).own; mapped = subst (IsReadyWith h known s.on_storage q) (sym is_table) left_pending })
+      | inr other ↦
+          let there : slice_get out j ≡ Some (Some r) = sym (get_set_other out k j (Some q) other) ∙ at in
+          let ready = sound.ready j r there in
+          record { own = ready.own; mapped = still_other j r other there r.table refl ready.mapped }
+    ]
+
+    same_pins : (table : ℕ) → over_all pins_by now table ≡ over_all pins_by out table
+    same_pins table = let all = over_all_set pins_by out k p q placed table in omega arith
+
+    enters_sound : ImageInvariant view backing made.after final now
+    enters_sound = record {
+      works = sound.works;
+      file = record {
+        honest = sound.file.honest;
+        caches = entry.sound made.after sound.file.settled (subst (λ d. CrashInvariant h d made.after s.on_storage known) (sym order) made.mapped.leads.sound);
+        settled = entry.settled sound.file.settled;
+        room = marks.room sound.file.room;
+      };
+      l1_table = record { cluster = sound.l1_table.cluster; bits = sound.l1_table.bits; count = sound.l1_table.count; entries = sound.l1_table.entries };
+      reftable = reftable_still view old.file final.file refl refl old.allocator sound.reftable;
+      below = sound.below;
+      ready = ready_now;
+      pinned = λ table. marks.pins table ∙ sound.pinned table ∙ sym (same_pins table);
+      once = λ table. subst (λ n. n ≤ 1) (sym (same_pins table)) (sound.once table);
+    }
+
+    steps : Steps view backing old final out now given made.after
+    steps = record {
+      sound = enters_sound;
+      only = record {
+        held = λ c.
+            let all = over_all_set held_by out k p q placed c in
+            let less = held_less p.shares.items i share was c in
+            let mine : held_by q c ≡ held_in (slice_set p.shares.items i InPlace) c = ap (λ (l : List Share). held_in l c) items in
+            let left = made.held c in
+            omega arith;
+        fresh = made.fresh;
+        spent = λ c. let more = free_more of_tables old.file.free_list (dropped_by share) c in let is = made.spent c in omega arith;
+        dropped = λ c. let more = free_more of_data old.file.free_list (dropped_by share) c in let is = made.dropped c in omega arith;
+      };
+      leads = leads;
+      since = record { moments = passes_none (view_in view old.file) _; contents = λ below m ok known_ok. leads.on_storage below m ok known_ok };
+      header = refl;
+      below = refl;
+      surplus = made.surplus;
+    }
+
+    -- ---- what it shows
+    abbrev m : PreparedMapping
+    m = meaning view backing old p
+
+    abbrev below : Bytes
+    below = backing_bytes view backing old.backing
+
+    abbrev d : Disk
+    d = disk s.known below
+
+    -- its guest cluster is in place
+    pub mine_in_place : (o : ℕ) → o / cluster_size h ≡ cluster_of h p + i → is_private view backing final q o ≡ false
+    mine_in_place o here = private_is view backing final q o i InPlace here (ap (λ (l : List Share). slice_get l i) items ∙ get_set_same p.shares.items i InPlace share was)
+
+    was_private : (o : ℕ) → o / cluster_size h ≡ cluster_of h p + i → IsTrue (is_private view backing old p o)
+    was_private o here = private_is view backing old p o i share here was ∙ is_entered_now
+
+    others_same : (o : ℕ) → o / cluster_size h ≢ cluster_of h p + i → is_private view backing final q o ≡ is_private view backing old p o
+    others_same o other = ap (λ x. option_map_or is_entered x false) (share_same h p q i refl items (o / cluster_size h) other)
+
+    disk_here : (o : ℕ) → o / cluster_size h ≡ cluster_of h p + i → (disk known below).value o ≡ (committed d m).value o
+    disk_here o here =
+        let private = was_private o here in
+        ap (λ (x : Disk). x.value o) (made.mapped.shows below) ∙ cond-true _ _ _ (eq-eqb _ _ (here ∙ sym guest_is))
+        ∙ ap (λ n. known_byte (s.on_storage n)) (ap (λ n. n + o % cluster_size h) place ∙ sym (place_in h p o i here))
+        ∙ sym (cond-true _ _ _ private ∙ ap known_byte (cond-true _ _ _ private))
+
+    disk_other : (o : ℕ) → o / cluster_size h ≢ cluster_of h p + i → (disk known below).value o ≡ d.value o
+    disk_other o other = ap (λ (x : Disk). x.value o) (made.mapped.shows below) ∙ cond-false _ _ _ (ne_eqb _ _ (λ e. other (e ∙ guest_is)))
+
+    private_left : (o : ℕ) → IsTrue (is_private view backing final q o) → IsTrue (is_private view backing old p o) × ((meaning view backing final q).shown o ≡ m.shown o) × ((disk known below).value o ≡ d.value o)
+    private_left o private = elim (cases_eq (o / cluster_size h) (cluster_of h p + i)) [
+      | inl here ↦ absurd (let e : true ≡ false = sym private ∙ mine_in_place o here in cc)
+      | inr other ↦
+          let before_too : IsTrue (is_private view backing old p o) = sym (others_same o other) ∙ private in
+          (before_too, ap known_byte (cond-true _ _ _ private ∙ sym (cond-true _ _ _ before_too)), disk_other o other)
+    ]
+
+    visible_now : (o : ℕ) → is_private view backing final q o ≡ false → (disk known below).value o ≡ (committed d m).value o
+    visible_now o isnt = elim (cases_eq (o / cluster_size h) (cluster_of h p + i)) [
+      | inl here ↦ disk_here o here
+      | inr other ↦ disk_other o other ∙ sym (cond-false _ _ _ (sym (others_same o other) ∙ isnt))
+    ]
+
+    shows_part : ShowsPart (guest_of (abstract_of view backing old out)) (guest_of (abstract_of view backing final now)) k m (meaning view backing final q)
+    shows_part = record {
+      slots = λ j. slot_set (meaning view backing old) out k (Some q) (Some p) placed j;
+      size = ap (λ (x : Disk). x.size) (made.mapped.shows below);
+      from = refl;
+      length = refl;
+      private = private_left;
+      visible = visible_now;
+    }
+
+    -- what it gives is of what the whole mapping gives
+    gives_less : (o : ℕ) (v : Value) → IsGiven (given below) o v → (v ≡ d.value o) ⊎ IsGiven (gift_of_commit (cluster_size h) d m ∷ []) o v
+    gives_less o v (inr never) = absurd never
+    gives_less o v (inl is) =
+        let lt = within in
+        let some : 0 < cluster_size h = pow_pos h.cluster_bits in
+        let g = guest_is in
+        let at : guest_at h row column * cluster_size h ≡ (cluster_of h p + i) * cluster_size h = ap (λ n. n * cluster_size h) g in
+        let r : (cluster_of h p + i) * cluster_size h ≡ cluster_of h p * cluster_size h + i * cluster_size h = omega arith in
+        let end = ends_at h s.known s.on_storage p t pending in
+        let more : length p.shares.items ≡ i + 1 + (length p.shares.items - i - 1) = omega arith in
+        let span : (cluster_of h p + length p.shares.items) * cluster_size h ≡ (cluster_of h p + (i + 1 + (length p.shares.items - i - 1))) * cluster_size h = ap (λ n. (cluster_of h p + n) * cluster_size h) more in
+        let parts : (cluster_of h p + (i + 1 + (length p.shares.items - i - 1))) * cluster_size h ≡ cluster_of h p * cluster_size h + i * cluster_size h + cluster_size h + (length p.shares.items - i - 1) * cluster_size h = omega arith in
+        let from = is.0 in
+        let to = is.1 in
+        let o_is : o ≡ (cluster_of h p + i) * cluster_size h + (o - (cluster_of h p + i) * cluster_size h) = omega arith in
+        let here : o / cluster_size h ≡ cluster_of h p + i = ap (λ n. n / cluster_size h) o_is ∙ div-mul-add (cluster_of h p + i) (cluster_size h) (o - (cluster_of h p + i) * cluster_size h) (omega arith) in
+        let back : guest_at h row column * cluster_size h + (o - guest_at h row column * cluster_size h) ≡ o = omega arith in
+        let back_all : cluster_of h p * cluster_size h + (o - cluster_of h p * cluster_size h) ≡ o = omega arith in
+        inr (inl (omega arith, omega arith, is.2 ∙ ap (λ n. (disk known below).value n) back ∙ disk_here o here ∙ ap (λ n. (committed d m).value n) (sym back_all)))
+
+    enters_q : CommitsPart view backing old final out k p q
+    enters_q = record {
+      works = works_less (abstract_of view backing old out) (abstract_of view backing final now) (given below) (gift_of_commit (cluster_size h) d m ∷ []) [] gives_less (stepped_works view backing old final out now given made.after steps);
+      sound = stepped_sound view backing old final out now given made.after steps;
+      shows = shows_part;
+    }
+
+    -- so it is of the mapping that is left
+    pub enters_part : (left : Prepared) → left ≡ q → (new : Qcow2 S F) → new ≡ final → CommitsPart view backing old new out k p left
+    enters_part left is new same = subst (λ (x : Qcow2 S F). CommitsPart view backing old x out k p left) (sym same) (subst (λ (x : Prepared). CommitsPart view backing old final out k p x) (sym is) enters_q)

@@ -1,92 +1,285 @@
--- A prepared mapping is committed, whatever stands for it: over data in place only its table is let go.
-use Rattle.std.proofs.Common.{◌≡◌, ℕ, ◌-◌, ◌/◌, false, List, [], ◌∷◌, ◌++◌, refl, sym, ap, ◌∙◌, subst, is_some}
-use Rattle.std.specs.Prelude.{Option, Some, None, IsSome, IsTrue, IfSome, slice_get, slice_set, ◌==◌, ◌&&◌}
-use Rattle.std.proofs.lemmas.Bool.{cond-false}
-use Rattle.std.proofs.lemmas.List.{append-nil}
+-- The shares of a prepared mapping are entered one after another, until nothing of it is private.
+use Rattle.std.proofs.Common.{◌≡◌, inl, inr, ℕ, ◌+◌, ◌-◌, ◌*◌, ◌/◌, ◌%◌, ◌^◌, ◌<◌, ◌≤◌, Bool, true, false, List, length, [], ◌∷◌, ◌++◌, refl, sym, ap, ◌∙◌, subst, arith, min}
+use Rattle.std.specs.Prelude.{Option, Some, None, IsSome, IsTrue, slice_get, slice_set, ◌==◌}
+use Rattle.std.specs.Option.{option_map, option_map_or}
+use Rattle.std.specs.Map.{lookup}
+use Rattle.std.proofs.lemmas.Bool.{cases_eq, cond-true, cond-false, eq-eqb, ne_eqb}
+use Rattle.std.proofs.lemmas.Nat.{pow_pos}
+use Rattle.std.proofs.lemmas.Option.{slice_get_within}
+use Rattle.std.proofs.Math.Pow.{pow_mono}
 use mathlib.Core.Path.{fun_ext}
 use Rattle.image_access.specs.Backing.{BackingView}
 use Rattle.image_access.specs.Moments.{StorageView}
-use Rattle.qcow2_metadata.specs.Header.{cluster_size, entries_per_cluster}
-use Rattle.qcow2_laws.specs.Calls.{with_disk, with_slot}
-use Rattle.qcow2_laws.specs.Disk.{Disk}
-use Rattle.qcow2_laws.specs.Mappings.{gift_of_commit, committed}
-use Rattle.qcow2_laws.specs.AbstractImages.{guest_of}
-use Rattle.qcow2_laws.proofs.Compose.{works_less}
+use Rattle.qcow2_metadata.specs.Bytes.{Bytes}
+use Rattle.qcow2_metadata.specs.declared.header.HeaderFields.{HeaderFields}
+use Rattle.qcow2_metadata.specs.Header.{cluster_size, entries_per_cluster, rounded_down, rounded_up}
+use Rattle.qcow2_metadata.specs.L2Mapping.{IsHostCluster}
+use Rattle.qcow2_laws.specs.AbstractImages.{Guest, Setting, guest_of, meaning_at}
+use Rattle.qcow2_laws.specs.Calls.{Works}
+use Rattle.qcow2_laws.specs.Mappings.{PreparedMapping, first_of, end_of, gift_shown, gift_of_commit, committed}
+use Rattle.qcow2_laws.proofs.Compose.{works_less, works_then}
 use Rattle.qcow2_alloc.specs.CacheMarks.{l2_pins}
-use Rattle.qcow2_alloc.specs.MetadataCaches.{IsEntryAt, l2_at}
+use Rattle.qcow2_alloc.specs.declared.cache.MetadataCaches.{MetadataCaches}
+use Rattle.qcow2_alloc.specs.declared.async_lru_cache.slot.Slot.{Slot}
+use Rattle.qcow2_alloc.specs.MetadataCaches.{MapsEntry, l2_at}
 use Rattle.qcow2_alloc.specs.ImageFile.{contents_in, known_in}
 use Rattle.qcow2_image.specs.declared.image.Qcow2.{Qcow2}
 use Rattle.qcow2_image.specs.declared.prepared.Prepared.{Prepared}
-use Rattle.qcow2_image.specs.declared.prepared.NewCluster.{NewCluster}
-use Rattle.qcow2_image.specs.Calls.{Discards}
-use Rattle.qcow2_image.specs.CallParts.{Committed, Enters, NotesNew}
-use Rattle.qcow2_image.specs.UnseenSteps.{EntersCluster, EntersNew, Unpins, freed_by}
-use Rattle.qcow2_image.specs.ImageInvariant.{cluster_of, HasCluster, IsNewFor, pins_of, pending_in, abstract_of, meaning, is_private, IsReadyWith, ImageInvariant}
-use Rattle.qcow2_image.proofs.Commit.Committing.{commits_new}
-use Rattle.qcow2_image.proofs.Commit.LetGo.{discards}
+use Rattle.qcow2_image.specs.declared.prepared.Share.{Share}
+use Rattle.qcow2_image.specs.declared.prepared.Share.TheVariants.{InPlace, Kept, New}
+use Rattle.qcow2_image.specs.CallParts.{CommitsPart, EntersAll, ShowsPart}
+use Rattle.qcow2_image.specs.Image.{Stays}
+use Rattle.qcow2_image.specs.UnseenSteps.{EntersShare, dropped_by}
+use Rattle.qcow2_image.specs.ImageInvariant.{cluster_of, host_of, is_entered, pins_by, pending_in, abstract_of, meaning, is_private, IsShareAt, IsPending, IsReadyWith, ImageInvariant}
+use Rattle.qcow2_image.proofs.Apart.{pins_own}
+use Rattle.qcow2_image.proofs.Call.Called.{works_none}
+use Rattle.qcow2_image.proofs.Call.Slots.{get_set_other, get_set_same, length_set, set_same, set_set}
+use Rattle.qcow2_image.proofs.Commit.Committing.{enters_part}
+use Rattle.qcow2_image.proofs.Shares.{host_first, over_all_at, private_shared}
 
-module _ {S F : Type 0} (view : S → StorageView) (backing : F → BackingView) (old new : Qcow2 S F) (p : Prepared) where
-  -- nothing of it is private
-  module _ (none : p.new_cluster ≡ None) where
-    not_private : (o : ℕ) → is_private view backing old p o ≡ false
-    not_private o = ap (λ (m : Option NewCluster). is_some m && o / cluster_size old.file.header.fields == p.guest / cluster_size old.file.header.fields) none
+-- ---- what a guest sees, in parts
+-- nothing is shown anew
+shows_none : (g : Guest) (k : ℕ) (m : PreparedMapping) → g.slots k ≡ Some m → ShowsPart g g k m m
+shows_none g k m at = record {
+  slots = λ j. elim (cases_eq j k) [
+    | inl here ↦ ap g.slots here ∙ at ∙ sym (cond-true (j == k) (Some m) (g.slots j) (eq-eqb _ _ here))
+    | inr other ↦ sym (cond-false (j == k) (Some m) (g.slots j) (ne_eqb _ _ other))
+  ];
+  size = refl;
+  from = refl;
+  length = refl;
+  private = λ o private. (private, refl, refl);
+  visible = λ o isnt. sym (cond-false (m.is_private o) (m.shown o) (g.disk.value o) isnt);
+}
 
-    nothing_new : (d : Disk) → committed d (meaning view backing old p) ≡ d
-    nothing_new d = ap (λ f. record d { value = f }) (fun_ext (λ o. cond-false _ _ _ (not_private o)))
+module _ (a b c : Guest) (k : ℕ) (ma mb mc : PreparedMapping) (first : ShowsPart a b k ma mb) where
+  value_same : (o : ℕ) (x : Bool) → mb.is_private o ≡ x → (committed b.disk mb).value o ≡ (committed a.disk ma).value o
+  value_same o true private = let was = first.private o private in cond-true (mb.is_private o) _ _ private ∙ was.1 ∙ sym (cond-true (ma.is_private o) _ _ was.0)
+  value_same o false isnt = cond-false (mb.is_private o) _ _ isnt ∙ first.visible o isnt
 
-    nothing_freed : old.file.free_list ++ freed_by p.new_cluster ≡ old.file.free_list
-    nothing_freed = ap (λ (m : Option NewCluster). old.file.free_list ++ freed_by m) none ∙ append-nil old.file.free_list
+  -- all of it is the same disk
+  pub committed_same : committed b.disk mb ≡ committed a.disk ma
+  committed_same =
+      let values : (committed b.disk mb).value ≡ (committed a.disk ma).value = fun_ext (λ o. value_same o (mb.is_private o) refl) in
+      let sizes = first.size in
+      λ i. record { size = sizes i; value = values i }
 
-    let_go : Unpins p.table old new → Discards view backing old new p
-    let_go un =
-        let same = un.rest ∙ ap (λ l. record old { file = record old.file { caches = new.file.caches; free_list = l } }) (sym nothing_freed) in
-        subst (λ (image : Qcow2 S F). Discards view backing old image p) (sym same) (discards view backing old p new.file.caches un.tables un.pins)
+  pub gift_same : (size : ℕ) → gift_of_commit size b.disk mb ≡ gift_of_commit size a.disk ma
+  gift_same size =
+      ap (λ d. gift_shown d (first_of size mb) (end_of size mb)) committed_same
+      ∙ ap (λ f. gift_shown (committed a.disk ma) (rounded_down size f) (rounded_up size (f + mb.length))) first.from
+      ∙ ap (λ l. gift_shown (committed a.disk ma) (rounded_down size ma.from) (rounded_up size (ma.from + l))) first.length
 
-    enters_nothing : Unpins p.table old new → Enters view backing old new p
-    enters_nothing un = λ out k placed found sound.
-        let v = abstract_of view backing old out in
-        let w = abstract_of view backing new (slice_set out k None) in
-        let does = let_go un out k placed in
-        let answer = does.answer sound in
+  pub shows_then : ShowsPart b c k mb mc → ShowsPart a c k ma mc
+  shows_then then = record {
+    slots = λ j. elim (cases_eq j k) [
+      | inl here ↦ then.slots j ∙ cond-true (j == k) (Some mc) (b.slots j) (eq-eqb _ _ here) ∙ sym (cond-true (j == k) (Some mc) (a.slots j) (eq-eqb _ _ here))
+      | inr other ↦
+          then.slots j ∙ cond-false (j == k) (Some mc) (b.slots j) (ne_eqb _ _ other) ∙ first.slots j ∙ cond-false (j == k) (Some mb) (a.slots j) (ne_eqb _ _ other)
+          ∙ sym (cond-false (j == k) (Some mc) (a.slots j) (ne_eqb _ _ other))
+    ];
+    size = then.size ∙ first.size;
+    from = then.from ∙ first.from;
+    length = then.length ∙ first.length;
+    private = λ o private. let last = then.private o private in let was = first.private o last.0 in (was.0, last.1 ∙ was.1, last.2 ∙ was.2);
+    visible = λ o isnt. then.visible o isnt ∙ value_same o (mb.is_private o) refl;
+  }
+
+module _ {S F : Type 0} (view : S → StorageView) (backing : F → BackingView) (out : List (Option Prepared)) (k : ℕ) where
+  -- ---- a commit in parts
+  -- nothing is entered yet
+  pub parts_none : (image : Qcow2 S F) (p : Prepared) → slice_get out k ≡ Some (Some p) → ImageInvariant view backing (pending_in view backing image out) image out → CommitsPart view backing image image out k p p
+  parts_none image p placed sound =
+      let v = abstract_of view backing image out in
+      let same : slice_set out k (Some p) ≡ out = set_same out k (Some p) placed in
+      let m = meaning view backing image p in
+      let gifts = gift_of_commit v.setting.cluster_size (guest_of v).disk (meaning view backing image p) ∷ [] in
+      record {
+        works = subst (λ now. Works v (abstract_of view backing image now) gifts []) (sym same) (works_less v v [] gifts [] (λ o x never. absurd never) (works_none v sound));
+        sound = subst (λ now. ImageInvariant view backing (pending_in view backing image now) image now) (sym same) sound;
+        shows = subst (λ now. ShowsPart (guest_of v) (guest_of (abstract_of view backing image now)) k m m) (sym same) (shows_none (guest_of v) k m (ap (meaning_at (meaning view backing image)) placed));
+      }
+
+  pub parts_then : (a b c : Qcow2 S F) (p q r : Prepared) → CommitsPart view backing a b out k p q → CommitsPart view backing b c (slice_set out k (Some q)) k q r → CommitsPart view backing a c out k p r
+  parts_then a b c p q r first then =
+      let mid = slice_set out k (Some q) in
+      let end : slice_set (slice_set out k (Some q)) k (Some r) ≡ slice_set out k (Some r) = set_set out k (Some q) (Some r) in
+      let va = abstract_of view backing a out in
+      let vb = abstract_of view backing b mid in
+      let ma = meaning view backing a p in
+      let mb = meaning view backing b q in
+      let mc = meaning view backing c r in
+      let gifts = gift_of_commit va.setting.cluster_size (guest_of va).disk ma ∷ [] in
+      let sizes : vb.setting.cluster_size ≡ va.setting.cluster_size = ap (λ (x : Setting). x.cluster_size) first.works.setting in
+      let gift : gift_of_commit vb.setting.cluster_size (guest_of vb).disk mb ∷ [] ≡ gifts =
+      ap (λ n. gift_of_commit n (guest_of vb).disk mb ∷ []) sizes ∙ ap (λ g. g ∷ []) (gift_same (guest_of va) (guest_of vb) (guest_of vb) k ma mb mb first.shows va.setting.cluster_size) in
+      record {
+        works = works_then va vb (abstract_of view backing c (slice_set out k (Some r))) gifts [] first.sound first.works
+            (subst (λ now. Works vb (abstract_of view backing c now) gifts []) end (subst (λ gs. Works vb (abstract_of view backing c (slice_set mid k (Some r))) gs []) gift then.works));
+        sound = subst (λ now. ImageInvariant view backing (pending_in view backing c now) c now) end then.sound;
+        shows = shows_then (guest_of va) (guest_of vb) (guest_of (abstract_of view backing c (slice_set out k (Some r)))) k ma mb mc first.shows
+            (subst (λ now. ShowsPart (guest_of vb) (guest_of (abstract_of view backing c now)) k mb mc) end then.shows);
+      }
+
+-- ---- one share is entered
+
+-- a table with a pin is held
+slot_held : {V : Type 0} (x : Option (Slot V)) → 0 < option_map_or (λ (s : Slot V). s.pins) x 0 → IsSome (option_map (λ (s : Slot V). s.value) x)
+slot_held None some = absurd (omega arith)
+slot_held (Some s) some = refl
+
+pub pinned_held : {S : Type 0} (caches : MetadataCaches S) (t : ℕ) → 0 < l2_pins caches t → IsSome (l2_at caches t)
+pinned_held caches t some = slot_held (lookup (λ k. t == k) caches.l2.entries) some
+
+-- the cluster of a share that is entered
+pub record HasFirst (h : HeaderFields) (p : Prepared) (i : ℕ) : Type 0 where
+  pub first : ℕ
+  pub place : first * cluster_size h ≡ host_of h p i
+  pub nameable : IsHostCluster h.cluster_bits first
+
+first_as : (h : HeaderFields) (known on_storage : Bytes) (p : Prepared) (i : ℕ) (share : Share) → IsTrue (is_entered share) → IsShareAt h known on_storage p i share → HasFirst h p i
+first_as h known on_storage p i InPlace entered at = absurd (let e : false ≡ true = entered in cc)
+first_as h known on_storage p i Kept entered at = record { first = at.first; place = at.place; nameable = at.nameable }
+first_as h known on_storage p i (New taken dropped) entered at = record { first = at.first; place = at.place; nameable = at.nameable }
+
+module _ {S F : Type 0} (view : S → StorageView) (backing : F → BackingView) (old new : Qcow2 S F) (i : ℕ) (p q : Prepared) (enters : EntersShare i p q old new) (out : List (Option Prepared)) (k : ℕ) (placed : slice_get out k ≡ Some (Some p)) (t : ℕ) (is_table : p.table ≡ Some t)
+    (sound : ImageInvariant view backing (pending_in view backing old out) old out) where
+  abbrev h : HeaderFields
+  h = old.file.header.fields
+
+  pending : IsPending h (known_in view old.file) (contents_in view old.file) p t
+  pending = subst (IsReadyWith h (known_in view old.file) (contents_in view old.file) p) is_table (sound.ready k p placed).mapped
+
+  stands : IsShareAt h (known_in view old.file) (contents_in view old.file) p i enters.share
+  stands = pending.each i enters.share enters.was
+
+  its : HasFirst h p i
+  its = first_as h (known_in view old.file) (contents_in view old.file) p i enters.share enters.entered stands
+
+  found : IsSome (l2_at old.file.caches t)
+  found = pinned_held old.file.caches t (
+      let all = over_all_at pins_by out k p placed t in
+      let mine = pins_own p t is_table in
+      let pins = sound.pinned t in
+      omega arith)
+
+  small : cluster_size h ≤ 2 ^ 21
+  small = pow_mono sound.file.caches.kept.kept.guarded.top.header_reads.well_formed.in_range.cluster_bits.1
+
+  inside : cluster_of h p % entries_per_cluster h + i < entries_per_cluster h
+  inside = let lt = slice_get_within p.shares.items i enters.share enters.was in let within = pending.within in omega arith
+
+  index_is : min (cluster_of h p % entries_per_cluster h + i) (2 ^ 64 - 1) ≡ cluster_of h p % entries_per_cluster h + i
+  index_is = let few = small in let lt = inside in omega arith
+
+  cluster_is : min (p.offset / cluster_size h + i) (2 ^ 64 - 1) ≡ its.first
+  cluster_is =
+      let first = host_first h p i its.first its.place pending.begins in
+      let near = its.nameable in
+      let some : 0 < cluster_size h = pow_pos h.cluster_bits in
+      let more : its.first * cluster_size h ≡ its.first + its.first * (cluster_size h - 1) = (let e : cluster_size h ≡ 1 + (cluster_size h - 1) = omega arith in ap (λ n. its.first * n) e ∙ omega arith) in
+      omega arith
+
+  made : (answer : Option (ℕ × ℕ)) × MapsEntry old.file.caches enters.mid.file.caches t (cluster_of h p % entries_per_cluster h + i) its.first answer
+  made =
+      let entered = enters.enters.entered t is_table in (
+        entered.0,
+        subst (λ c. MapsEntry old.file.caches enters.mid.file.caches t (cluster_of h p % entries_per_cluster h + i) c entered.0) cluster_is
+            (subst (λ j. MapsEntry old.file.caches enters.mid.file.caches t j (min (p.offset / cluster_size h + i) (2 ^ 64 - 1)) entered.0) index_is entered.1),
+      )
+
+  pub entered_part : CommitsPart view backing old new out k p q
+  entered_part = enters_part view backing old p q t i enters.share is_table enters.was enters.entered enters.shares enters.mid.file.caches enters.enters.marks enters.enters.order made.0 out k placed sound its.first its.place its.nameable found made.1 stands q enters.mapping new
+      (enters.lists ∙ ap (λ (m : Qcow2 S F). record m { file = record m.file { free_list = m.file.free_list ++ dropped_by enters.share } }) enters.enters.rest)
+
+  -- a change is noted
+  pub entered_noted : IsTrue new.file.caches.is_changed
+  entered_noted =
+      ap (λ (m : Qcow2 S F). m.file.caches.is_changed) enters.lists ∙ enters.enters.noted t is_table h (pending_in view backing old out) (contents_in view old.file) (cluster_of h p / entries_per_cluster h) sound.file.caches
+      (record { real = pending.named.real; place = pending.named.place; within = subst (λ j. j < entries_per_cluster h) (sym index_is) inside }) found (subst (IsHostCluster h.cluster_bits) (sym cluster_is) its.nameable)
+
+-- a table that is there
+pub table_there : (x : Option ℕ) → IsSome x → (t : ℕ) × (x ≡ Some t)
+table_there None some = absurd (let e : false ≡ true = some in cc)
+table_there (Some t) some = (t, refl)
+
+-- where each share is in place, nothing is private
+pub all_in_place : {S F : Type 0} (view : S → StorageView) (backing : F → BackingView) (image : Qcow2 S F) (p : Prepared) → ((j : ℕ) → j < length p.shares.items → slice_get p.shares.items j ≡ Some InPlace) → (o : ℕ) → is_private view backing image p o ≡ false
+all_in_place view backing image p each o = by_test (is_private view backing image p o) refl where
+  by_test : (b : Bool) → is_private view backing image p o ≡ b → is_private view backing image p o ≡ false
+  by_test false isnt = isnt
+  by_test true private =
+      let shared = private_shared view backing image p o private in
+      let e : Some shared.share ≡ Some InPlace = sym shared.is ∙ each shared.index (slice_get_within p.shares.items shared.index shared.share shared.is) in
+      let same : shared.share ≡ InPlace = cc in
+      absurd (let f : true ≡ false = sym shared.entered ∙ ap is_entered same in cc)
+
+-- ---- the first shares are entered
+module _ {S F : Type 0} (view : S → StorageView) (backing : F → BackingView) where
+  pub record EntersFirst (old now : Qcow2 S F) (p q : Prepared) (n : ℕ) (entered : Bool) : Type 0 where
+    pub stays : Stays old now
+    pub none : entered ≡ false → (now ≡ old) × (q ≡ p)
+    pub table : q.table ≡ p.table
+    pub count : length q.shares.items ≡ length p.shares.items
+    pub in_place : (j : ℕ) → j < n → slice_get q.shares.items j ≡ Some InPlace
+    pub parts : (out : List (Option Prepared)) (k : ℕ) → slice_get out k ≡ Some (Some p) → IsSome p.table → ImageInvariant view backing (pending_in view backing old out) old out
+        → CommitsPart view backing old now out k p q × (IsTrue entered → IsTrue now.file.caches.is_changed)
+
+  pub first_none : (old : Qcow2 S F) (p : Prepared) → EntersFirst old old p p 0 false
+  first_none old p = record {
+    stays = record { image = record { number = refl; size = refl; writable = refl; external = refl }; failed = refl };
+    none = λ _. (refl, refl);
+    table = refl;
+    count = refl;
+    in_place = λ j lt. absurd (omega arith);
+    parts = λ out k placed some sound. (parts_none view backing out k old p placed sound, λ never. absurd (let e : false ≡ true = never in cc));
+  }
+
+  module _ (old now new : Qcow2 S F) (p q r : Prepared) (n : ℕ) (entered : Bool) (first : EntersFirst old now p q n entered) where
+    -- the next one is in place
+    pub first_false : (new ≡ now) × (r ≡ q) × (slice_get q.shares.items n ≡ Some InPlace) → EntersFirst old new p r (n + 1) entered
+    first_false same =
+        subst (λ (x : Qcow2 S F). EntersFirst old x p r (n + 1) entered) (sym same.0) (subst (λ (x : Prepared). EntersFirst old now p x (n + 1) entered) (sym same.1)
+        (record {
+          stays = first.stays;
+          none = first.none;
+          table = first.table;
+          count = first.count;
+          in_place = λ j lt. elim (cases_eq j n) [
+            | inl here ↦ ap (slice_get q.shares.items) here ∙ same.2
+            | inr other ↦ first.in_place j (omega arith)
+          ];
+          parts = first.parts;
+        }))
+
+    -- or it is entered
+    pub first_true : EntersShare n q r now new → Stays now new → EntersFirst old new p r (n + 1) true
+    first_true enters stays =
+        let table : r.table ≡ q.table = ap (λ (x : Prepared). x.table) enters.mapping in
         record {
-          works = works_less v w [] (gift_of_commit v.setting.cluster_size (guest_of v).disk (meaning view backing old p) ∷ []) [] (λ o x never. absurd never) (does.acts.works sound);
-          sound = answer.0;
-          is = answer.1 ∙ ap (λ d. with_slot (with_disk (guest_of v) d) k None) (sym (nothing_new (guest_of v).disk));
+          stays = record {
+            image = record { number = stays.image.number ∙ first.stays.image.number; size = stays.image.size ∙ first.stays.image.size; writable = stays.image.writable ∙ first.stays.image.writable; external = stays.image.external ∙ first.stays.image.external };
+            failed = stays.failed ∙ first.stays.failed;
+          };
+          none = λ never. absurd (let e : true ≡ false = never in cc);
+          table = table ∙ first.table;
+          count = ap (λ (l : List Share). length l) enters.shares ∙ length_set q.shares.items n InPlace ∙ first.count;
+          in_place = λ j lt. elim (cases_eq j n) [
+            | inl here ↦ ap (λ (l : List Share). slice_get l j) enters.shares ∙ ap (slice_get (slice_set q.shares.items n InPlace)) here ∙ get_set_same q.shares.items n InPlace enters.share enters.was
+            | inr other ↦ ap (λ (l : List Share). slice_get l j) enters.shares ∙ get_set_other q.shares.items n j InPlace other ∙ first.in_place j (omega arith)
+          ];
+          parts = λ out k placed some sound.
+              let before = (first.parts out k placed some sound).0 in
+              let at = get_set_same out k (Some q) (Some p) placed in
+              let there = table_there q.table (subst (λ (x : Option ℕ). IsSome x) (sym first.table) some) in (
+                parts_then view backing out k old now new p q r before (entered_part view backing now new n q r enters (slice_set out k (Some q)) k at there.0 there.1 before.sound),
+                λ _. entered_noted view backing now new n q r enters (slice_set out k (Some q)) k at there.0 there.1 before.sound,
+              );
         }
 
-  -- a new cluster
-  enters_new : (mid : Qcow2 S F) (n : NewCluster) → p.new_cluster ≡ Some n → EntersCluster p.table n.index n.pending.first_cluster old mid → Unpins p.table mid new → Enters view backing old new p
-  enters_new mid n fresh entered un = λ out k placed found sound. by_table out k placed sound p.table refl found (sound.ready k p placed).mapped where
-    by_table : (out : List (Option Prepared)) (k : ℕ) → slice_get out k ≡ Some (Some p) → ImageInvariant view backing (pending_in view backing old out) old out → (x : Option ℕ) → p.table ≡ x → IfSome x (λ t. IsSome (l2_at old.file.caches t))
-        → IsReadyWith old.file.header.fields (known_in view old.file) (contents_in view old.file) p x → Committed view backing old new out k p
-    by_table out k placed sound None is found ready = absurd (let e : Some n ≡ None = sym fresh ∙ ready in cc)
-    by_table out k placed sound (Some t) is found ready =
-        let same = un.rest ∙ ap (λ (m : Qcow2 S F). record m { file = record m.file { caches = new.file.caches } }) entered.rest in
-        let made = entered.entered t is in
-        let pins : (c : ℕ) → l2_pins new.file.caches c ≡ l2_pins mid.file.caches c - pins_of (Some t) c = λ c. un.pins c ∙ ap (λ x. l2_pins mid.file.caches c - pins_of x c) is in
-        subst (λ (image : Qcow2 S F). Committed view backing old image out k p) (sym same)
-        (commits_new view backing old p t n is fresh mid.file.caches new.file.caches entered.marks entered.order made.0 made.1 un.tables pins out k placed found sound)
-
-  pub enters : (mid : Qcow2 S F) (x : Option NewCluster) → p.new_cluster ≡ x → EntersNew p.table x old mid → Unpins p.table mid new → Enters view backing old new p
-  enters mid None none entered un = enters_nothing none (subst (λ (m : Qcow2 S F). Unpins p.table m new) entered un)
-  enters mid (Some n) fresh entered un = enters_new mid n fresh entered un
-
-  -- ---- a change is noted where there is a new cluster
-
-  none_new : p.new_cluster ≡ None → IsSome p.new_cluster → ⊥
-  none_new none some = let no = subst (λ (x : Option NewCluster). IsSome x) none some in cc
-
-  notes_new : (mid : Qcow2 S F) (n : NewCluster) → p.new_cluster ≡ Some n → EntersCluster p.table n.index n.pending.first_cluster old mid → Unpins p.table mid new → NotesNew view backing old new p
-  notes_new mid n fresh entered un = λ out k placed found sound some. by_table out k sound p.table refl found (sound.ready k p placed).mapped where
-    by_table : (out : List (Option Prepared)) (k : ℕ) → ImageInvariant view backing (pending_in view backing old out) old out → (x : Option ℕ) → p.table ≡ x → IfSome x (λ t. IsSome (l2_at old.file.caches t))
-        → IsReadyWith old.file.header.fields (known_in view old.file) (contents_in view old.file) p x → IsTrue new.file.caches.is_changed
-    by_table out k sound None is found ready = absurd (let e : Some n ≡ None = sym fresh ∙ ready in cc)
-    by_table out k sound (Some t) is found ready =
-        let h = old.file.header.fields in
-        let new_for : IsNewFor h (known_in view old.file) (contents_in view old.file) p n = subst (HasCluster h (known_in view old.file) (contents_in view old.file) p) fresh ready.cluster in
-        let at : IsEntryAt h (known_in view old.file) (cluster_of h p / entries_per_cluster h) t n.index = subst (λ j. IsEntryAt h (known_in view old.file) (cluster_of h p / entries_per_cluster h) t j) (sym new_for.index) ready.named in
-        un.changed ∙ entered.noted t is h (pending_in view backing old out) (contents_in view old.file) (cluster_of h p / entries_per_cluster h) sound.file.caches at found new_for.nameable
-
-  pub notes : (mid : Qcow2 S F) (x : Option NewCluster) → p.new_cluster ≡ x → EntersNew p.table x old mid → Unpins p.table mid new → NotesNew view backing old new p
-  notes mid None none entered un = λ out k placed found sound some. absurd (none_new none some)
-  notes mid (Some n) fresh entered un = notes_new mid n fresh entered un
+  -- all are
+  pub enters_all : (old now : Qcow2 S F) (p q : Prepared) (n : ℕ) (entered : Bool) → EntersFirst old now p q n entered → n ≡ length p.shares.items → EntersAll view backing old now p q entered
+  enters_all old now p q n entered first all = λ out k placed some sound.
+      let parts = first.parts out k placed some sound in
+      let many = first.count in
+      (record { part = parts.0; visible = all_in_place view backing now q (λ j lt. first.in_place j (omega arith)) }, parts.1)

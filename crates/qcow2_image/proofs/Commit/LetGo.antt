@@ -1,7 +1,7 @@
 -- A prepared mapping is let go: its place is free, and its cluster is to be freed.
-use Rattle.std.proofs.Common.{◌≡◌, ℕ, ◌+◌, ◌-◌, ◌≤◌, Bool, true, false, List, [], ◌++◌, refl, sym, ap, ◌∙◌, subst, arith, cond}
+use Rattle.std.proofs.Common.{◌≡◌, inl, inr, ℕ, ◌+◌, ◌-◌, ◌≤◌, Bool, true, false, List, [], ◌++◌, refl, sym, ap, ◌∙◌, subst, arith, cond}
 use Rattle.std.specs.Prelude.{Option, Some, None, slice_get, slice_set, nat_le, nat_lt, ◌&&◌}
-use Rattle.std.specs.Option.{option_map_or}
+use Rattle.std.proofs.lemmas.Bool.{cases_lt}
 use mathlib.Core.Path.{fun_ext}
 use Rattle.image_access.specs.Backing.{BackingView}
 use Rattle.image_access.specs.Moments.{StorageView}
@@ -21,16 +21,16 @@ use Rattle.qcow2_metadata.specs.Tables.{CachedTable}
 use Rattle.qcow2_alloc.specs.Allocation.{run_at}
 use Rattle.qcow2_alloc.specs.CacheMarks.{l2_pins, SameTables}
 use Rattle.qcow2_alloc.specs.declared.cache.MetadataCaches.{MetadataCaches}
-use Rattle.qcow2_alloc.specs.declared.clusters_to_free.ClusterKind.TheVariants as Kind
 use Rattle.qcow2_alloc.specs.MetadataCaches.{order_of, known_of, CacheInvariant}
 use Rattle.qcow2_alloc.specs.ImageFile.{state_in, view_in, contents_in, known_in, nothing_given}
 use Rattle.qcow2_image.specs.declared.image.Qcow2.{Qcow2}
 use Rattle.qcow2_image.specs.declared.prepared.Prepared.{Prepared}
-use Rattle.qcow2_image.specs.declared.prepared.NewCluster.{NewCluster}
+use Rattle.qcow2_image.specs.declared.prepared.Share.{Share}
 use Rattle.qcow2_image.specs.Calls.{Discards}
 use Rattle.qcow2_image.specs.UnseenSteps.{freed_by}
-use Rattle.qcow2_image.specs.ImageInvariant.{run_of, of_data, of_tables, to_free, held_by, pins_by, pending_in, abstract_of, meaning, backing_bytes, HasCluster, IsNewFor, IsReadyWith, ImageInvariant}
-use Rattle.qcow2_image.proofs.Call.Answered.{over_all_at, same_guest, ready_table}
+use Rattle.qcow2_image.specs.ImageInvariant.{of_data, of_tables, held_by, pins_by, pending_in, abstract_of, meaning, backing_bytes, IsReadyWith, ImageInvariant}
+use Rattle.qcow2_image.proofs.Call.Answered.{same_guest}
+use Rattle.qcow2_image.proofs.Shares.{IsOfData, freed_data, freed_tables, of_data_at, over_all_at, ready_table}
 use Rattle.qcow2_image.proofs.Sound.{free_more}
 use Rattle.qcow2_image.proofs.Open.Reftables.{reftable_still}
 use Rattle.qcow2_image.proofs.Call.Slots.{others_left, over_all_left, slot_set}
@@ -51,24 +51,10 @@ sound_while h p q caches on_storage guarded sound =
 pub run_few : (first n k : ℕ) → run_at first n k ≤ 1
 run_few first n k = elim (nat_le first k && nat_lt k (first + n)) as (λ (b : Bool). cond b 1 0 ≤ 1) [ true ↦ omega arith | false ↦ omega arith ]
 
--- a mapping holds each cluster at most once
-pub held_few : (n : Option NewCluster) (c : ℕ) → option_map_or (λ (m : NewCluster). run_of m.pending c) n 0 ≤ 1
-held_few None c = omega arith
-held_few (Some n) c = run_few n.pending.first_cluster n.pending.count c
-
--- it comes to the list of those to be freed as data
-freed_tables : (n : Option NewCluster) → ((m : NewCluster) → n ≡ Some m → m.pending.kind ≡ Kind.Data) → (c : ℕ) → to_free of_tables (freed_by n) c ≡ 0
-freed_tables None is c = refl
-freed_tables (Some n) is c = let e : of_tables n.pending.kind (run_of n.pending c) ≡ 0 = ap (λ k. of_tables k (run_of n.pending c)) (is n refl) in omega arith
-
-freed_data : (n : Option NewCluster) → ((m : NewCluster) → n ≡ Some m → m.pending.kind ≡ Kind.Data) → (c : ℕ) → to_free of_data (freed_by n) c ≡ option_map_or (λ (m : NewCluster). run_of m.pending c) n 0
-freed_data None is c = refl
-freed_data (Some n) is c = let e : of_data n.pending.kind (run_of n.pending c) ≡ run_of n.pending c = ap (λ k. of_data k (run_of n.pending c)) (is n refl) in omega arith
-
 module _ {S F : Type 0} (view : S → StorageView) (backing : F → BackingView) (old : Qcow2 S F) (p : Prepared) (caches : MetadataCaches S) (tables : SameTables old.file.caches caches)
     (pins : (c : ℕ) → l2_pins caches c ≡ l2_pins old.file.caches c - pins_by p c) where
   abbrev pub left : Qcow2 S F
-  left = record old { file = record old.file { free_list = old.file.free_list ++ freed_by p.new_cluster; caches = caches } }
+  left = record old { file = record old.file { free_list = old.file.free_list ++ freed_by p.shares.items; caches = caches } }
 
   abbrev h : HeaderFields
   h = old.file.header.fields
@@ -84,18 +70,29 @@ module _ {S F : Type 0} (view : S → StorageView) (backing : F → BackingView)
       abbrev before : DriverState
       before = state_in view old.file (pending_in view backing old out)
 
+      -- it holds each cluster at most once
+      held_few : (c : ℕ) → held_by p c ≤ 1
+      held_few c = elim (cases_lt 0 (held_by p c)) [
+        | inr none ↦ omega arith
+        | inl some ↦
+            let all = over_all_at held_by out k p at c in
+            let always = sound.file.caches.kept.kept.guarded.always c in
+            let tally = always.tally in
+            let few = always.pending (omega arith) in
+            omega arith
+      ]
+
       same_stand : state_in view left.file after ≡ record before { pending = after }
       same_stand = ap (λ d. record before { pending = after; direction = d; known = known_in view left.file }) tables.order ∙ ap (λ b. record before { pending = after; known = b }) same_known
 
       let_go_leads : SafeStep before (state_in view left.file after) nothing_given []
       let_go_leads = subst (λ s. SafeStep before s nothing_given []) (sym same_stand)
-          (pending_is_changed.dropped before (held_by p) sound.file.caches.kept.kept.guarded (held_few p.new_cluster) (λ c some. let all = over_all_at held_by out k p at c in omega arith))
+          (pending_is_changed.dropped before (held_by p) sound.file.caches.kept.kept.guarded held_few (λ c some. let all = over_all_at held_by out k p at c in omega arith))
 
-      as_data : (n : NewCluster) → p.new_cluster ≡ Some n → n.pending.kind ≡ Kind.Data
-      as_data n is =
-          let pending = ready_table view backing old old out p is (sound.ready k p at).mapped in
-          let new_for : IsNewFor h (known_in view old.file) (contents_in view old.file) p n = subst (HasCluster h (known_in view old.file) (contents_in view old.file) p) is pending.1.cluster in
-          new_for.kind
+      as_data : (i : ℕ) (share : Share) → slice_get p.shares.items i ≡ Some share → IsOfData share
+      as_data i share is =
+          let pending = ready_table view backing old (known_in view old.file) (contents_in view old.file) p i share is (sound.ready k p at).mapped in
+          of_data_at h (known_in view old.file) (contents_in view old.file) p i share (pending.2.each i share is)
 
       let_go_sound : ImageInvariant view backing after left (slice_set out k None)
       let_go_sound = record {
@@ -120,8 +117,8 @@ module _ {S F : Type 0} (view : S → StorageView) (backing : F → BackingView)
         only = record {
           held = λ c. let all = over_all_left held_by out k p at c in omega arith;
           fresh = λ c. refl;
-          spent = λ c. let more = free_more of_tables old.file.free_list (freed_by p.new_cluster) c in let none = freed_tables p.new_cluster as_data c in omega arith;
-          dropped = λ c. let more = free_more of_data old.file.free_list (freed_by p.new_cluster) c in let one = freed_data p.new_cluster as_data c in omega arith;
+          spent = λ c. let more = free_more of_tables old.file.free_list (freed_by p.shares.items) c in let none = freed_tables p.shares.items as_data c in omega arith;
+          dropped = λ c. let more = free_more of_data old.file.free_list (freed_by p.shares.items) c in let one = freed_data p.shares.items c in omega arith;
         };
         leads = let_go_leads;
         since = endures_none (view_in view old.file) (known_in view old.file);

@@ -20,7 +20,7 @@ use Rattle.qcow2_alloc.specs.ImageFile.{nothing_given, view_in}
 use Rattle.qcow2_image.specs.declared.builder.Qcow2CreateBuilder.{Qcow2CreateBuilder}
 use Rattle.qcow2_image.specs.declared.image.Qcow2.{Qcow2}
 use Rattle.qcow2_image.specs.Created.{IsUnwritten, IsStopOfCreating, StopsCreating, StaysCreating, IsNewHeader, IsCreated, Enlarges}
-use Rattle.qcow2_image.specs.Growing.{SameFormat, GrowsWhole}
+use Rattle.qcow2_image.specs.Growing.{SameFormat, GrowsWhole, ReachesSize}
 use Rattle.qcow2_image.specs.Image.{size_of, storage_of_image}
 use Rattle.qcow2_image.specs.Opened.{IsKeptSince, Opens, storage_after}
 use Rattle.qcow2_image.specs.ImageInvariant.{abstract_of}
@@ -97,6 +97,7 @@ module _ {S F : Type 0} (view : S → StorageView) (backing : F → BackingView)
         record { honest = extends.sound.file.honest; moments = all_stops (growing_stops size (view_in view mid.file) (view_in view new.file) _ unwritten_mid opened.clean extends.since) },
         grown_unwritten size (view_in view mid.file) (view_in view new.file) _ unwritten_mid opened.clean extends.since is,
         subst (λ (h : HeaderFields). SameFormat (header (byte_at (view start).contents)) h) (sym new_is) (extends.format ∙ ap (λ h. with_places h (places_of new.file.header.fields)) format),
+        subst ReachesSize (sym new_is) (grows.3 (omega (arith, none))),
       )
   enlarged (Err e) lasts = all_stops (growing_stops size (view_in view mid.file) (view_in view new.file) _ unwritten_mid opened.clean lasts)
 
@@ -140,6 +141,7 @@ module _ {S : Type 0} (view : S → StorageView) (builder : Qcow2CreateBuilder S
     version = ap (λ (k : HeaderFields). k.version) h;
     clusters = ap (λ (k : HeaderFields). 2 ^ k.cluster_bits) h ∙ sym clusters;
     counts = ap (λ (k : HeaderFields). 2 ^ k.refcount_order) h ∙ sym counts;
+    reaches = done.3;
     no_backing_file = ap (λ (k : HeaderFields). k.backing_offset) h;
   }
   created_so clusters counts (Err e) stops = tt

@@ -1,10 +1,10 @@
 -- Clusters that are listed are freed: no guest sees it.
-use Rattle.std.proofs.Common.{◌≡◌, inl, inr, ℕ, ◌<◌, Bool, false, List, [], Option, Some, refl, sym, ap, ◌∙◌, subst, arith}
+use Rattle.std.proofs.Common.{◌≡◌, ⊎_elim, inl, inr, ℕ, ◌<◌, Bool, false, List, [], Option, Some, refl, sym, ap, ◌∙◌, subst, arith}
 use Rattle.std.specs.Prelude.{Result, Ok, Err, IfOk, IfErr, IsTrue}
 use Rattle.image_access.specs.Backing.{BackingView}
 use Rattle.image_access.specs.Moments.{StorageView}
 use Rattle.qcow2_laws.specs.CrashInvariant.{Pending}
-use Rattle.qcow2_laws.specs.Calls.{Does, IsSame}
+use Rattle.qcow2_laws.specs.Calls.{Does, IsFault, IsSame}
 use Rattle.qcow2_laws.specs.SafeSteps.{SafeStep}
 use Rattle.qcow2_laws.specs.AbstractImages.{contents_of}
 use Rattle.qcow2_laws.proofs.Formats.{format_same, format_then}
@@ -24,7 +24,7 @@ use Rattle.qcow2_image.specs.declared.image.Qcow2.{Qcow2}
 use Rattle.qcow2_image.specs.declared.prepared.Prepared.{Prepared}
 use Rattle.qcow2_image.specs.CallParts.{EndsFreeing, RefusedCall, UnseenCall}
 use Rattle.qcow2_image.specs.UnseenSteps.{UnseenStep, UnseenFreeingStep, FreesListed}
-use Rattle.qcow2_image.specs.Calls.{Flushes}
+use Rattle.qcow2_image.specs.Calls.{Flushes, refusal_of}
 use Rattle.qcow2_image.specs.Image.{number_of, is_failed}
 use Rattle.qcow2_image.specs.Refusals.{Marks}
 use Rattle.qcow2_image.specs.ImageInvariant.{ImageInvariant, pending_in, abstract_of}
@@ -133,13 +133,14 @@ module _ {S F : Type 0} (view : S → StorageView) (backing : F → BackingView)
       (settled_does view backing old new out out [] (λ sound. (stays sound).works) (λ sound. (stays sound).sound) number usable (λ sound. (written, (stays sound).same)))
   flushes_settled (Err e) marks memory frees written = λ out. refuses_left view backing out old usable new marked number e marks memory (λ sound. freed_refused view backing old out new e sound (frees out sound))
 
-  -- at the end of a call that changed an entry
+  -- at the end of a call
   module _ (out : List (Option Prepared)) (sound : ImageInvariant view backing (pending_in view backing old out) old out) where
-    pub ends_freeing : (r : Result (Unit {0}) ImageError) → Marks r (is_failed new) marked → IfErr r (λ e. e ≡ I.Memory → IsTrue new.file.caches.is_changed → IsTrue marked) → IsTrue new.file.caches.is_changed
+    pub ends_freeing : (r : Result (Unit {0}) ImageError) → Marks r (is_failed new) marked → IfErr r (λ e. e ≡ I.Memory → IsTrue new.file.caches.is_changed → IsTrue marked) → (IsTrue old.file.caches.is_changed → IsTrue new.file.caches.is_changed)
         → IfErr r FaultOfTables → FreesListed view backing (beside view backing old out) old new out r → EndsFreeing view backing old (record new { is_failed = marked }) out r
     ends_freeing (Ok done) marks memory noted fault frees =
         subst (λ (f : Bool). EndsFreeing view backing old (record new { is_failed = f }) out (Ok done)) (sym marks) (let stays = tidy_stays view backing old out new sound frees in record { works = stays.works; sound = stays.sound; same = stays.same; header = stays.header; covers = stays.covers })
-    ends_freeing (Err e) marks memory noted fault frees =
-        let is = marks_fault e (is_failed new) marked new.file.caches.is_changed fault (λ _. noted) marks memory in
-        let refuses = refuses_left view backing out old usable new marked number e marks memory (λ s. freed_refused view backing old out new e s frees) in
-        (refuses.acts.works sound, is.1, is.0)
+    ends_freeing (Err e) marks memory noted fault frees = (
+      refuses_left view backing out old usable new marked number e marks memory (λ s. freed_refused view backing old out new e s frees),
+      ⊎_elim (λ (failed : e ≡ I.Storage). subst (λ (x : ImageError). IsFault (refusal_of x)) (sym failed) tt) (λ (want : e ≡ I.Memory). subst (λ (x : ImageError). IsFault (refusal_of x)) (sym want) tt) fault,
+      λ changed. (marks_fault e (is_failed new) marked new.file.caches.is_changed fault (λ _. noted changed) marks memory).0,
+    )

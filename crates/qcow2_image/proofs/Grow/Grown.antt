@@ -4,16 +4,19 @@ use Rattle.std.specs.Prelude.{OnOk}
 use Rattle.std.proofs.lemmas.Bool.{cases_lt}
 use Rattle.std.proofs.lemmas.List.{append_assoc}
 use Rattle.std.proofs.lemmas.Nat.{div-mul-add}
+use Rattle.std.proofs.Math.Nat.{div-lt_iff_lt-mul}
 use Rattle.image_access.specs.Backing.{BackingView}
 use Rattle.image_access.specs.Moments.{StorageView}
 use Rattle.image_access.proofs.Passing.{passes_if}
 use Rattle.qcow2_metadata.specs.Bytes.{Bytes, byte_at}
 use Rattle.qcow2_metadata.specs.declared.header.HeaderFields.{HeaderFields}
-use Rattle.qcow2_metadata.specs.Header.{HeaderView, cluster_size}
+use Rattle.qcow2_metadata.specs.Header.{HeaderView, cluster_size, entries_per_cluster}
 use Rattle.qcow2_metadata.specs.EntryTable.{EntryTableView, entry_count}
 use Rattle.qcow2_metadata.specs.Named.{in_run}
 use Rattle.qcow2_metadata.specs.TableBytes.{entry_at}
 use Rattle.qcow2_laws.specs.CrashInvariant.{Pending}
+use Rattle.qcow2_laws.specs.Guests.{guests}
+use Rattle.qcow2_laws.proofs.Places.{Sizes}
 use Rattle.qcow2_laws.specs.Stops.{Checkpoint, StopOkEverywhere}
 use Rattle.qcow2_laws.specs.Tops.{places_of, with_places}
 use Rattle.qcow2_laws.proofs.SafeSteps.{leads_none, leads_then, steps_endure}
@@ -30,7 +33,7 @@ use Rattle.qcow2_alloc.proofs.FileSteps.{pending_same}
 use Rattle.qcow2_alloc.proofs.PlacedBlocks.{file_sizes}
 use Rattle.qcow2_alloc.proofs.Runs.{run_before, run_after}
 use Rattle.qcow2_image.specs.declared.image.Qcow2.{Qcow2}
-use Rattle.qcow2_image.specs.Growing.{clusters_of, run_of_table, listed, with_table, without_l1, IsLonger, StandsWhole, Lasts, Extends, PlacesTable, NamesTable, TakesTable, Resizes, Grows, WritesBack, GrowsWhole}
+use Rattle.qcow2_image.specs.Growing.{clusters_of, run_of_table, listed, with_table, without_l1, IsLonger, StandsWhole, Lasts, Extends, PlacesTable, NamesTable, TakesTable, Resizes, Grows, WritesBack, ReachesSize, GrowsWhole}
 use Rattle.qcow2_image.specs.Image.{size_of, is_failed}
 use Rattle.qcow2_image.specs.Refusals.{Marks}
 use Rattle.qcow2_alloc.specs.FreeList.{with_listed}
@@ -217,6 +220,27 @@ module _ {S F : Type 0} (view : S → StorageView) (backing : F → BackingView)
       (subst (λ (r : Pending). Extends view backing p r a c (size ∷ [])) pending (extends_then p q (pending_then q b c) a b c [] (size ∷ []) first then.0), then.1)
   resized_then p a b c size (Err e) first same then = lasts_then p (pending_then p a b) a b c [] (size ∷ []) first then
 
+  -- an entry behind the last byte's reaches the size
+  reaches_so : (h : HeaderFields) (size i : ℕ) → Sizes h → i ≡ (size - 1) / cluster_size h / entries_per_cluster h → i < h.l1_entries → size ≤ guests h * cluster_size h
+  reaches_so h size i sizes is lt =
+      let entry = (div-lt_iff_lt-mul sizes.entries).0 (subst (λ n. n < h.l1_entries) is lt) in
+      let byte = (div-lt_iff_lt-mul sizes.some).0 entry in
+      omega (arith, byte)
+
+  -- so it is once the table and the size are written
+  pub resized_reaches : (p : Pending) (a b c : Qcow2 S F) (size i : ℕ) (r : Result (Unit {0}) ImageError) → Resizes view backing p a c size r
+      → i ≡ (size - 1) / cluster_size a.file.header.fields / entries_per_cluster a.file.header.fields → i < entry_count b.l1_table → c.l1_table ≡ b.l1_table → OnOk r (ReachesSize c.file.header.fields)
+  resized_reaches p a b c size i (Err e) lasts is lt same = tt
+  resized_reaches p a b c size i (Ok x) resizes is lt same =
+      let h = a.file.header.fields in
+      let h' = c.file.header.fields in
+      let sound = resizes.0.sound in
+      let bits : h'.cluster_bits ≡ h.cluster_bits = ap (λ (k : HeaderFields). k.cluster_bits) resizes.0.format in
+      let is' : i ≡ (size - 1) / cluster_size h' / entries_per_cluster h' = is ∙ sym (ap (λ n. (size - 1) / 2 ^ n / (2 ^ n / 8)) bits) in
+      let count : entry_count b.l1_table ≡ h'.l1_entries = ap entry_count (sym same) ∙ sound.l1_table.count in
+      let reach = reaches_so h' size i (file_sizes view _ c.file sound.file) is' (subst (λ n. i < n) count lt) in
+      subst (λ n. n ≤ guests h' * cluster_size h') (sym resizes.1) reach
+
   -- ---- the call
   module _ (old mid big : Qcow2 S F) (sound : ImageInvariant view backing (pending_in view backing old []) old []) (begun : UnseenStep view backing (pending_in view backing old []) (pending_in view backing old []) old mid [])
       (same : mid.file.free_list ≡ old.file.free_list) (size : ℕ) (larger : size_of old < size) where
@@ -231,19 +255,20 @@ module _ {S F : Type 0} (view : S → StorageView) (backing : F → BackingView)
       dropped = λ k. let more = ap (λ l. to_free of_data l k) grows.is ∙ free_more of_data mid.file.free_list grows.more k in let e = ap (λ l. to_free of_data l k) same in omega (arith, more, e);
     }
 
-    grown : (r : Result (Unit {0}) ImageError) (failed : Bool) → Resizes view backing p mid big size r → OnOk r (ListGrows mid big) → Marks r (is_failed big) failed → Grows view backing old (record big { is_failed = failed }) size r
-    grown (Ok x) failed resizes grows marks =
+    grown : (r : Result (Unit {0}) ImageError) (failed : Bool) → Resizes view backing p mid big size r → OnOk r (ListGrows mid big) → OnOk r (ReachesSize big.file.header.fields) → Marks r (is_failed big) failed
+        → Grows view backing old (record big { is_failed = failed }) size r
+    grown (Ok x) failed resizes grows reaches marks =
         let q = pending_then p mid big in
         let all = extends_then p p q old mid big [] (size ∷ []) (extends_keeping p p old mid begun) resizes.0 in
         subst (λ (f : Bool). Grows view backing old (record big { is_failed = f }) size (Ok x)) (sym marks)
-        (subst (λ (r : Pending). Extends view backing p r old big (size ∷ [])) (pending_is view backing big [] q all.leads.sound (nothing_else grows)) all, resizes.1 ∙ sym (omega (arith, larger)))
-    grown (Err e) failed lasts grows marks = lasts_then p p old mid big [] (size ∷ []) (extends_keeping p p old mid begun) lasts
+        (subst (λ (r : Pending). Extends view backing p r old big (size ∷ [])) (pending_is view backing big [] q all.leads.sound (nothing_else grows)) all, resizes.1 ∙ sym (omega (arith, larger)), λ _. reaches)
+    grown (Err e) failed lasts grows reaches marks = lasts_then p p old mid big [] (size ∷ []) (extends_keeping p p old mid begun) lasts
 
     pub grown_so : (new : Qcow2 S F) (done r : Result (Unit {0}) ImageError) → r ≡ done → new ≡ record big { is_failed = is_failed new } → Marks done (is_failed big) (is_failed new) → Resizes view backing p mid big size done → OnOk done (ListGrows mid big)
-        → Grows view backing old new size r
-    grown_so new done r answer rest marks resizes grows =
+        → OnOk done (ReachesSize big.file.header.fields) → Grows view backing old new size r
+    grown_so new done r answer rest marks resizes grows reaches =
         subst (λ (s : Result (Unit {0}) ImageError). Grows view backing old new size s) (sym answer)
-        (subst (λ (i : Qcow2 S F). Grows view backing old i size done) (sym rest) (grown done (is_failed new) resizes grows marks))
+        (subst (λ (i : Qcow2 S F). Grows view backing old i size done) (sym rest) (grown done (is_failed new) resizes grows reaches marks))
 
   -- ---- what is listed is freed, and all tables are written
   extends_tidying : (p q : Pending) (a b : Qcow2 S F) → UnseenFreeingStep view backing p q a b [] → Extends view backing p q a b []
@@ -262,7 +287,7 @@ module _ {S F : Type 0} (view : S → StorageView) (backing : F → BackingView)
       back : (s : Result (Unit {0}) ImageError) (failed : Bool) → Marks s (is_failed big) failed → FreesListed view backing p old big [] s → WritesBack view backing p old (record big { is_failed = failed }) s
       back (Ok x) failed marks tidies =
           subst (λ (f : Bool). WritesBack view backing p old (record big { is_failed = f }) (Ok x)) (sym marks)
-          (extends_tidying (with_listed p old.file.free_list) (with_listed p big.file.free_list) old big tidies)
+          (extends_tidying (with_listed p old.file.free_list) (with_listed p big.file.free_list) old big tidies, tidies.unseen.header)
       back (Err e) failed marks frees = elim frees [ inl tidies ↦ tidies.since | inr broke ↦ broke.breaks.since ]
 
   -- after the disk was made larger
@@ -274,7 +299,9 @@ module _ {S F : Type 0} (view : S → StorageView) (backing : F → BackingView)
       let rest : Pending = beside view backing mid [] in
       let q : Pending = with_listed rest mid.file.free_list in
       let one = subst (λ (x : Pending). Extends view backing p x old mid (size ∷ [])) (all_listed view backing mid []) grown.0 in
-      (with_listed rest new.file.free_list, extends_then p q (with_listed rest new.file.free_list) old mid new (size ∷ []) [] one (writes rest one.sound), same ∙ grown.1)
+      let written = writes rest one.sound in
+      let kept : ReachesSize mid.file.header.fields → ReachesSize new.file.header.fields = λ reaches. subst ReachesSize (sym written.1) reaches in
+      (with_listed rest new.file.free_list, extends_then p q (with_listed rest new.file.free_list) old mid new (size ∷ []) [] one written.0, same ∙ grown.1, λ reached. kept (grown.2 reached))
   grown_whole old mid new size (Err e) grown same writes =
       let p = pending_in view backing old [] in
       let rest : Pending = beside view backing mid [] in

@@ -1,5 +1,5 @@
 -- Tables are loaded, written and evicted, and bytes are read: no guest sees it.
-use Rattle.std.proofs.Common.{◌≡◌, ℕ, List, [], refl, sym, ap, ◌∙◌, subst}
+use Rattle.std.proofs.Common.{◌≡◌, ℕ, ◌+◌, List, [], refl, sym, ap, ◌∙◌, subst}
 use Rattle.std.specs.Prelude.{Option, Some, None, IfSome, Result, Ok, Err, IfOk, true}
 use Rattle.image_access.specs.Backing.{BackingView}
 use Rattle.image_access.specs.Moments.{StorageView}
@@ -73,7 +73,7 @@ module _ {S F : Type 0} (view : S → StorageView) (backing : F → BackingView)
         ready = λ k q at. let r = sound.ready k q at in record {
           own = r.own;
           mapped = still_ready old.file.header.fields (known_in view old.file) (contents_in view old.file) (known_in view (with_caches storage' caches').file) (contents_in view (with_caches storage' caches').file)
-              q (ap (λ b. cover old.file.header.fields b (cluster_of old.file.header.fields q)) (sym stay.known)) sound.file.caches.kept.kept.guarded.same_top.l1 stay.sound.kept.kept.guarded.same_top.l1 (λ i is. l1_still i) q.table r.mapped;
+              q sound.file.caches.kept.kept.guarded.same_top.l1 stay.sound.kept.kept.guarded.same_top.l1 (λ i is. l1_still i) (λ i. ap (λ b. cover old.file.header.fields b (cluster_of old.file.header.fields q + i)) (sym stay.known)) q.table r.mapped;
         };
         pinned = λ table. pins table ∙ sound.pinned table;
         once = sound.once;
@@ -113,6 +113,11 @@ module _ {S : Type 0} (h : HeaderFields) (p : Pending) (caches caches' : Metadat
 pub if_ok : {A E : Type 0} {P Q : A → Type 0} (answer : Result A E) → ((x : A) → P x → Q x) → IfOk answer P → IfOk answer Q
 if_ok (Ok x) follows is = follows x is
 if_ok (Err e) follows is = tt
+
+-- what is so of each answer
+pub if_ok_any : {A E : Type 0} {Q : A → Type 0} (answer : Result A E) → ((x : A) → Q x) → IfOk answer Q
+if_ok_any (Ok x) all = all x
+if_ok_any (Err e) all = tt
 
 -- ---- where the contents stay, while time goes on
 

@@ -1,18 +1,17 @@
 -- The header that stands in an image's bytes is one alone; and an image that needs another file is refused for that.
-use Rattle.std.proofs.Common.{◌≡◌, ◌≢◌, ◌⊎◌, ℕ, ◌+◌, ◌≤◌, List, [], ◌∷◌, Option, true, false, length, Bool, refl, sym, ap, ◌∙◌, subst, inl, inr, arith}
+use Rattle.std.proofs.Common.{◌≡◌, ◌⊎◌, ℕ, ◌+◌, List, [], ◌∷◌, true, false, length, Bool, refl, sym, ap, ◌∙◌, subst, inl, inr}
 use Rattle.std.specs.Prelude.{◌&&◌}
 use Rattle.image_access.specs.Moments.{StorageView, ContentsStay}
-use Rattle.qcow2_metadata.specs.Bytes.{Bytes, byte_at, number_at, bytes_from}
-use Rattle.qcow2_metadata.specs.Header.{HeaderView, HeaderReads, AreExtensions, IsExtension, behind_extension, first_of_kind, data_file_kind, has_data_file}
+use Rattle.qcow2_metadata.specs.Bytes.{Bytes, byte_at, bytes_from}
+use Rattle.qcow2_metadata.specs.Header.{HeaderView, HeaderReads, AreExtensions, IsExtension, behind_extension, first_of_kind, data_file_kind}
 use Rattle.qcow2_metadata.specs.declared.header.HeaderFields.{HeaderFields}
-use Rattle.qcow2_metadata.specs.HeaderLoad.{IsHeaderOf, IsHeaderIn, IsReasonToRefuse}
+use Rattle.qcow2_metadata.specs.HeaderLoad.{IsHeaderIn, IsReasonToRefuse}
 use Rattle.qcow2_metadata.specs.declared.error.MetadataError.{MetadataError}
 use Rattle.qcow2_metadata.specs.declared.error.MetadataError.TheVariants as M
-use Rattle.image_access.specs.declared.error.StorageError.{StorageError}
 use Rattle.image_access.specs.declared.error.StorageError.TheVariants as T
 use Rattle.qcow2_alloc.specs.declared.error.ImageError.{ImageError}
 use Rattle.qcow2_alloc.specs.declared.error.ImageError.TheVariants.{Dependency, UnalignedTable}
-use Rattle.qcow2_alloc.specs.ImageError.{of_storage, of_metadata, IsFault}
+use Rattle.qcow2_alloc.specs.ImageError.{of_metadata, IsFault}
 use Rattle.qcow2_image.specs.Opened.{needs_another, NeedsAnother}
 use Rattle.qcow2_image.specs.Refusals.{IsMet}
 

@@ -1,7 +1,8 @@
 -- Parts of a call that a guest doesn't see: what was pending may change, and clusters may be written that no mapping has.
-use Rattle.std.proofs.Common.{◌≡◌, ◌≢◌, ◌⊎◌, ⊎_elim, inl, inr, ℕ, ◌+◌, ◌-◌, ◌/◌, ◌<◌, ◌≤◌, List, length, [], ◌++◌, refl, sym, ap, ◌∙◌, subst, arith}
-use Rattle.std.specs.Prelude.{Option, Result, Ok, Err, IfOk, slice_get}
+use Rattle.std.proofs.Common.{◌≡◌, ◌≢◌, ◌⊎◌, ⊎_elim, inl, inr, ℕ, ◌+◌, ◌-◌, ◌/◌, ◌%◌, ◌<◌, ◌≤◌, List, length, [], ◌++◌, refl, sym, ap, ◌∙◌, subst, arith, Bool, ◌*◌}
+use Rattle.std.specs.Prelude.{Option, Some, Result, Ok, Err, IfOk, slice_get}
 use Rattle.std.proofs.lemmas.Bool.{cases_lt}
+use Rattle.std.proofs.lemmas.Nat.{mod_below, pow_pos}
 use Rattle.std.proofs.lemmas.List.{append_assoc, append-nil}
 use mathlib.Core.Path.{fun_ext}
 use Rattle.image_access.specs.Backing.{BackingView}
@@ -13,11 +14,15 @@ use Rattle.qcow2_metadata.specs.declared.header.HeaderFields.{HeaderFields}
 use Rattle.qcow2_metadata.specs.Header.{cluster_size}
 use Rattle.qcow2_metadata.specs.Named.{named_for_tables}
 use Rattle.qcow2_laws.specs.Disk.{disk}
+use Rattle.qcow2_laws.specs.Guests.{over_guests, names}
 use Rattle.qcow2_laws.specs.CrashInvariant.{Pending}
 use Rattle.qcow2_laws.specs.Tops.{WritesAt}
 use Rattle.qcow2_laws.specs.Writes.{IsUnnamed}
 use Rattle.qcow2_laws.proofs.Formats.{covers_format, format_then, size_format}
 use Rattle.qcow2_laws.proofs.SafeSteps.{leads_none, leads_then, endures_none, steps_endure}
+use Rattle.qcow2_laws.proofs.KeptClusters.{kept_aligned}
+use Rattle.qcow2_laws.proofs.Mixes.{tied}
+use Rattle.qcow2_laws.proofs.Places.{in_one}
 use Rattle.qcow2_laws.proofs.PutRuns.{private_written}
 use Rattle.qcow2_laws.proofs.Shown.{Writes}
 use Rattle.qcow2_laws.proofs.Writes.{held_is_unnamed}
@@ -31,7 +36,14 @@ use Rattle.qcow2_image.specs.declared.image.Qcow2.{Qcow2}
 use Rattle.qcow2_image.specs.declared.prepared.Prepared.{Prepared}
 use Rattle.qcow2_image.specs.CallParts.{IsWritten, WritesBytes}
 use Rattle.qcow2_image.specs.UnseenSteps.{AreThere, UnseenStep, UnseenFillingStep, HoldsAll, IsOwn, SameHeld}
-use Rattle.qcow2_image.specs.ImageInvariant.{held_by, over_all, backing_bytes, ImageInvariant}
+use Rattle.qcow2_metadata.specs.Bytes.{Bytes}
+use Rattle.qcow2_metadata.specs.Cover.{cover}
+use Rattle.qcow2_metadata.specs.declared.l2_mapping.L2Mapping.{L2Mapping}
+use Rattle.qcow2_metadata.specs.declared.l2_mapping.L2Mapping.TheVariants.{Data, Zero, Compressed, Uncovered}
+use Rattle.qcow2_laws.specs.Alike.{IsAlike, IsAlikeRun}
+use Rattle.qcow2_laws.proofs.Unseen.{unseen_disk}
+use Rattle.qcow2_image.specs.ImageInvariant.{held_by, place_of, backing_bytes, disk_of, ImageInvariant}
+use Rattle.qcow2_image.proofs.Shares.{Standing, in_new, in_kept, kept_used, over_all_at, private_stands}
 use Rattle.qcow2_image.proofs.Call.Answered.{same_guest, same_slot, tidies_kept, still_seen}
 use Rattle.qcow2_image.proofs.Call.Called.{copied_then}
 use Rattle.qcow2_image.proofs.Map.Loading.{still_moved}
@@ -117,6 +129,23 @@ module _ {S F : Type 0} (view : S → StorageView) (backing : F → BackingView)
     apart = private_written (state_in view old.file p) (contents_in view new.file) (known_in view new.file) sound.file.caches.kept.kept.guarded cluster own.held
         (λ o other. alone.others o (outside o other)) (λ o other. alone.known_others o (outside o other)) alone.agree
 
+    -- no private byte of a mapping stands there
+    elsewhere : (j : ℕ) (q : Prepared) → slice_get out j ≡ Some (Some q) → (o : ℕ) → Standing h (known_in view old.file) q o → place_of h q o / cluster_size h ≢ cluster
+    elsewhere j q at_j o (in_new held) here =
+        let none = own.unused in
+        let all = over_all_at held_by out j q at_j cluster in
+        let mine : 0 < held_by q cluster = subst (λ c. 0 < held_by q c) here held in
+        absurd (omega arith)
+    elsewhere j q at_j o (in_kept host kept place) here =
+        let state = state_in view old.file p in
+        let guarded = sound.file.caches.kept.kept.guarded in
+        let aligned = kept_aligned state guarded (o / cluster_size h) host kept in
+        let there : host / cluster_size h ≡ cluster = sym (ap (λ n. n / cluster_size h) place ∙ in_one (cluster_size h) host (o % cluster_size h) aligned (mod_below o (cluster_size h) (pow_pos h.cluster_bits))) ∙ here in
+        let used : 0 < over_guests h (names h (known_in view old.file) cluster) = subst (λ c. 0 < over_guests h (names h (known_in view old.file) c)) there (kept_used state guarded (o / cluster_size h) host kept) in
+        let t = (tied h p (contents_in view old.file) (known_in view old.file) cluster).known in
+        let none = unnamed.no_entry in
+        absurd (omega arith)
+
     goes_written : UnseenFillingStep view backing p p old new out
     goes_written = record {
       sound = sound_written view backing old out sound storage at bytes is no_table (λ _. []) honest time apart.leads apart.unseen.covers;
@@ -128,8 +157,8 @@ module _ {S F : Type 0} (view : S → StorageView) (backing : F → BackingView)
       below = refl;
       list = record { more = []; is = sym (append-nil old.file.free_list) };
       seen = same_guest _ _ (apart.shows (backing_bytes view backing old.backing))
-          (fun_ext (λ k. same_slot view backing old new out p sound refl
-          (λ o some. sym (alone.others o (outside o (λ here. let none = own.unused in let used = subst (λ c. 0 < over_all held_by out c) here some in absurd (omega arith))))) k (slice_get out k) refl));
+          (fun_ext (λ k. same_slot view backing old new out refl
+          (λ j q at_j o private. sym (alone.others (place_of h q o) (outside (place_of h q o) (elsewhere j q at_j o (private_stands view backing old out p sound j q at_j o private))))) k (slice_get out k) refl));
     }
 
   -- whether the write is there or isn't
@@ -168,12 +197,12 @@ module _ {S F : Type 0} (view : S → StorageView) (backing : F → BackingView)
         (⊎_elim still (λ (is : (view_in view new.file).contents ≡ overwritten (view_in view old.file).contents at bytes). goes_written old p sound cluster at bytes own new.file.storage (w.honest sound.file.honest) w.time is) (by_answer r (w.written sound.file.honest)))
 
 -- a range of the same length in an image of the same file
-pub own_of : {S F : Type 0} (view : S → StorageView) (backing : F → BackingView) (p : Pending) (old new : Qcow2 S F) (out : List (Option Prepared)) (cluster at n m : ℕ) → m ≡ n → new.file ≡ old.file
+pub own_of : {S F : Type 0} (view : S → StorageView) (backing : F → BackingView) (p : Pending) (old new : Qcow2 S F) (out : List (Option Prepared)) (cluster at n m : ℕ) → m ≡ n → new.file.header ≡ old.file.header
     → IsOwn view backing p old out cluster at n → IsOwn view backing p new out cluster at m
 own_of view backing p old new out cluster at n m same file own = record {
   held = own.held;
   unused = own.unused;
-  inside = λ i lt. ap (λ f. (at + i) / cluster_size f.header.fields) file ∙ own.inside i (omega (arith, same));
+  inside = λ i lt. ap (λ x. (at + i) / cluster_size x.fields) file ∙ own.inside i (omega (arith, same));
 }
 
 -- what was written is there
@@ -181,3 +210,20 @@ pub there_written : {S F : Type 0} (view : S → StorageView) (old new : Qcow2 S
     → IfOk r (λ done. AreThere view new.file at (length bytes) (byte_at bytes))
 there_written view old new at bytes (Ok done) w honest = λ i lt. ap (λ c. byte_at c (at + i)) (w.written honest) ∙ byte_at-overwritten (view_in view old.file).contents at bytes i lt
 there_written view old new at bytes (Err e) w honest = tt
+
+-- where no guest sees a change the disk is the same
+pub disk_kept : {S F : Type 0} (view : S → StorageView) (backing : F → BackingView) (old new : Qcow2 S F) (out : List (Option Prepared)) (p : Pending) → ImageInvariant view backing p old out → UnseenStep view backing p p old new out → disk_of view backing new ≡ disk_of view backing old
+disk_kept view backing old new out p sound keeps =
+    unseen_disk (state_in view old.file p) (state_in view new.file p) sound.file.caches.kept.kept.guarded keeps.sound.file.caches.kept.kept.guarded keeps.unseen (backing_bytes view backing new.backing)
+    ∙ ap (λ (b : Bool × Bytes). disk (known_in view old.file) b.1) keeps.below
+
+-- a range within one guest cluster is mapped alike
+pub alike_within : (h : HeaderFields) (b : Bytes) (offset n : ℕ) → ((i : ℕ) → i < n → (offset + i) / cluster_size h ≡ offset / cluster_size h) → IsAlikeRun h b offset n
+alike_within h b offset n within i lt =
+    let here = within i lt in
+    subst (λ g. IsAlike ((g - offset / cluster_size h) * cluster_size h) (cover h b (offset / cluster_size h)) (cover h b g)) (sym here) (alike_self (offset / cluster_size h - offset / cluster_size h) (cluster_size h) (omega arith) (cover h b (offset / cluster_size h))) where
+      alike_self : (d size : ℕ) → d ≡ 0 → (v : L2Mapping) → IsAlike (d * size) v v
+      alike_self d size none (Data host copied) = (let e : d * size ≡ 0 = ap (λ n. n * size) none ∙ omega arith in omega arith, refl)
+      alike_self d size none (Zero kept) = tt
+      alike_self d size none (Compressed host sectors) = tt
+      alike_self d size none Uncovered = tt

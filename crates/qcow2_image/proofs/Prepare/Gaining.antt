@@ -1,18 +1,19 @@
 -- A cluster is taken for data, and what is left where that is refused.
 use Rattle.std.proofs.Common.{◌≡◌, inl, inr, ℕ, ◌+◌, ◌-◌, ◌*◌, ◌%◌, ◌<◌, Bool, false, List, [], ◌∷◌, ◌++◌, Option, Some, refl, sym, ap, ◌∙◌, subst, arith}
-use Rattle.std.specs.Prelude.{Result, Ok, Err}
+use Rattle.std.specs.Prelude.{Result, Ok, Err, IfOk, IsNone, None, ◌⊎◌}
 use Rattle.image_access.specs.Backing.{BackingView}
 use Rattle.image_access.specs.Moments.{StorageView}
-use Rattle.qcow2_metadata.specs.Bytes.{Bytes}
 use Rattle.qcow2_metadata.specs.declared.header.HeaderFields.{HeaderFields}
 use Rattle.qcow2_metadata.specs.Header.{cluster_size}
 use Rattle.qcow2_laws.specs.Changes.{with_held, held_to_dropped}
 use Rattle.qcow2_laws.specs.CrashInvariant.{Pending}
 use Rattle.qcow2_laws.specs.SafeSteps.{SafeStep}
+use Rattle.qcow2_laws.specs.Disk.{Disk}
+use Rattle.qcow2_metadata.specs.Guest.{known_byte}
 use Rattle.qcow2_laws.specs.Unseen.{KeepsFormat}
 use Rattle.qcow2_laws.proofs.SafeSteps.{endures_none}
 use Rattle.qcow2_laws.proofs.Steps.{pending_is_changed}
-use Rattle.qcow2_alloc.specs.Allocation.{run_at, Allocates, RefusedGrowth}
+use Rattle.qcow2_alloc.specs.Allocation.{run_at, Allocates, AllocatesAt, RefusedGrowth}
 use Rattle.qcow2_alloc.specs.CacheMarks.{KeepsMarks}
 use Rattle.qcow2_alloc.specs.declared.allocation.Allocator.{Allocator}
 use Rattle.qcow2_alloc.specs.declared.clusters_to_free.ClusterKind.TheVariants as Kind
@@ -26,8 +27,11 @@ use Rattle.qcow2_alloc.proofs.Following.{header_format, following_same as same_l
 use Rattle.qcow2_alloc.proofs.Runs.{run_in}
 use Rattle.qcow2_image.specs.declared.image.Qcow2.{Qcow2}
 use Rattle.qcow2_image.specs.declared.prepared.Prepared.{Prepared}
+use Rattle.qcow2_alloc.specs.LowestRuns.{IsUsed}
+use Rattle.qcow2_metadata.specs.L2Mapping.{IsHostCluster}
+use Rattle.qcow2_image.specs.Ranges.{TakesDataAt}
 use Rattle.qcow2_image.specs.UnseenSteps.{pending_then, is_announced, IsFilled, UnseenFillingStep, RefusedFillingStep, HoldsAll, ListGrows, TakesData}
-use Rattle.qcow2_image.specs.ImageInvariant.{run_of, of_data, of_tables, to_free, held_by, over_all, backing_bytes, below_of, ImageInvariant}
+use Rattle.qcow2_image.specs.ImageInvariant.{run_of, of_data, of_tables, to_free, held_by, over_all, disk_of, ImageInvariant}
 use Rattle.qcow2_image.proofs.Formats.{lists_grow}
 use Rattle.qcow2_image.proofs.Prepare.Filling.{goes_kept, goes_then}
 use Rattle.qcow2_image.proofs.Commit.LetGo.{run_few, sound_while}
@@ -73,6 +77,21 @@ module _ {S F : Type 0} (view : S → StorageView) (backing : F → BackingView)
               becomes.moves becomes.reftable),
         )
     takes_data (Err e) is = goes_back e is
+
+    -- so does a cluster that was asked for
+    pub takes_data_at : (cluster : ℕ) (r : Result (Option ClustersToFreeEntry) ImageError) → AllocatesAt view p old.file a file since cluster r
+        → IfOk r (λ run. IsNone run → (IsHostCluster old.file.header.fields.cluster_bits cluster → ⊥) ⊎ IsUsed view file cluster) → TakesDataAt view backing p old taken out cluster r
+    takes_data_at cluster (Ok (Some n)) is none =
+        let run : run_at cluster 1 ≡ run_of n = ap (λ c. run_at c 1) (sym is.0) ∙ ap (λ m. run_at n.first_cluster m) (sym is.1) in (
+          is.0,
+          is.1,
+          is.2,
+          subst (λ f. UnseenFillingStep view backing p (with_held since f) old taken out) run
+              (goes_moved (with_held since (run_at cluster 1)) (λ k. let h = holds k in omega arith)
+              is.3.moves is.3.reftable),
+        )
+    takes_data_at cluster (Ok None) is none = (goes_moved since holds is.moves is.reftable, none refl)
+    takes_data_at cluster (Err e) is none = goes_back e is
 
   -- ---- what was taken is handed back
   module _ (old : Qcow2 S F) (p : Pending) (n : ClustersToFreeEntry) (one : n.count ≡ 1) (kind : n.kind ≡ Kind.Data) (sound : ImageInvariant view backing (with_held p (run_of n)) old out) where
@@ -161,10 +180,10 @@ module _ {S F : Type 0} (view : S → StorageView) (backing : F → BackingView)
     pub still_holds : HoldsAll view backing (with_held (pending_then p old mid) (run_of n)) out
     still_holds k = let h = holds k in omega arith
 
--- what was filled in an image of the same format over the same disk
+-- what was filled in an image of the same format that shows the same disk
 pub filled_as : {S F : Type 0} (view : S → StorageView) (backing : F → BackingView) (mid old new : Qcow2 S F) (cluster first offset length : ℕ) (overwrite : Bool) → KeepsFormat old.file.header.fields mid.file.header.fields
-    → below_of view backing mid.backing ≡ below_of view backing old.backing → cluster ≡ first → IsFilled view backing mid new cluster offset length overwrite → IsFilled view backing old new first offset length overwrite
-filled_as view backing mid old new cluster first offset length overwrite header below same filled =
-    let Fills : HeaderFields → Bytes → ℕ → Type 0 = λ h b c. (i : ℕ) → i < cluster_size h → is_announced (cluster_size h) offset length overwrite i ≡ false → contents_in view new.file (c * cluster_size h + i) ≡ b (offset - offset % cluster_size h + i) in
-    subst (λ c. Fills old.file.header.fields (backing_bytes view backing old.backing) c) same
-    (subst (λ b. Fills old.file.header.fields b.1 cluster) below (subst (λ h. Fills h (backing_bytes view backing mid.backing) cluster) header filled))
+    → disk_of view backing mid ≡ disk_of view backing old → cluster ≡ first → IsFilled view backing mid new cluster offset length overwrite → IsFilled view backing old new first offset length overwrite
+filled_as view backing mid old new cluster first offset length overwrite header shows same filled =
+    let Fills : HeaderFields → Disk → ℕ → Type 0 = λ h d c. (i : ℕ) → i < cluster_size h → is_announced (cluster_size h) offset length overwrite i ≡ false → known_byte (contents_in view new.file (c * cluster_size h + i)) ≡ d.value (offset - offset % cluster_size h + i) in
+    subst (λ c. Fills old.file.header.fields (disk_of view backing old) c) same
+    (subst (λ d. Fills old.file.header.fields d cluster) shows (subst (λ h. Fills h (disk_of view backing mid) cluster) header filled))

@@ -317,7 +317,7 @@ module _ {S F : Type 0} (view : S → StorageView) (backing : F → BackingView)
 
     ready_named : (j : ℕ) (r : Prepared) → IsReadyWith h known on_storage r r.table → IsReadyWith h (known_in view named.file) on_storage' r r.table
     ready_named j r is_ready =
-        still_ready h known on_storage (known_in view named.file) on_storage' r (unseen.covers (cluster_of h r)) sound.file.caches.kept.kept.guarded.same_top.l1 leads.sound.same_top.l1 own_stays r.table is_ready
+        still_ready h known on_storage (known_in view named.file) on_storage' r sound.file.caches.kept.kept.guarded.same_top.l1 leads.sound.same_top.l1 own_stays (λ i. unseen.covers (cluster_of h r + i)) r.table is_ready
 
     pub keeps_named : (view (storage_of storage)).is_honest → Passing (view_in view old.file) (view (storage_of storage)) (λ c. c ≡ (view (storage_of storage)).contents) → UnseenStep view backing q (replacing view p old index) old named out
     keeps_named honest time = record {

@@ -1,13 +1,15 @@
--- What is answered of a range that is to be written: all of it where it is, or the rest of its first cluster.
-use Rattle.std.proofs.Common.{◌≡◌, inl, inr, List, ℕ, ◌+◌, ◌-◌, ◌*◌, ◌/◌, ◌%◌, ◌<◌, ◌≤◌, Bool, true, false, Option, Some, None, refl, sym, ap, ◌∙◌, subst, arith, is_some}
-use Rattle.std.specs.Prelude.{Err, IfOk, Ok, Result, ◌&&◌, ◌==◌, not}
-use Rattle.std.proofs.lemmas.Bool.{cases_lt, eq-eqb}
+-- What is answered of a range that is to be written: all of it where it is, or a mapping that is out.
+use Rattle.std.proofs.Common.{◌≡◌, ◌⊎◌, ⊎_elim, inl, inr, List, ℕ, zero, suc, length, ◌∷◌, [], ◌+◌, ◌-◌, ◌*◌, ◌/◌, ◌%◌, ◌<◌, ◌≤◌, Bool, true, false, Option, Some, None, refl, sym, ap, ◌∙◌, subst, arith, is_some}
+use Rattle.std.proofs.lemmas.Grind.{common_steps}
+use Rattle.std.specs.Prelude.{Err, IfOk, IsTrue, Ok, Result, not, slice_get, slice_set}
+use Rattle.std.proofs.lemmas.Bool.{cases_lt}
 use Rattle.std.proofs.lemmas.Nat.{div-add-mod', div-mul-add, mod-mul-add, mod_below, pow_pos}
 use Rattle.image_access.specs.Backing.{BackingView}
 use Rattle.image_access.specs.Moments.{StorageView}
 use Rattle.qcow2_metadata.specs.Bytes.{Bytes}
 use Rattle.qcow2_metadata.specs.declared.header.HeaderFields.{HeaderFields}
-use Rattle.qcow2_metadata.specs.Header.{cluster_size, rounded_down, rounded_up, with_reftable}
+use Rattle.qcow2_metadata.specs.declared.l2_mapping.L2Mapping.TheVariants.{Data, Zero}
+use Rattle.qcow2_metadata.specs.Header.{cluster_size, entries_per_cluster, rounded_down, rounded_up, with_reftable}
 use Rattle.qcow2_metadata.specs.Entries.{l1_entry}
 use Rattle.qcow2_metadata.specs.Cover.{cover, cover_under}
 use Rattle.qcow2_laws.specs.Alike.{IsDataAt}
@@ -19,18 +21,24 @@ use Rattle.qcow2_laws.proofs.Alike.{are_still}
 use Rattle.qcow2_laws.proofs.Guests.{named-is}
 use Rattle.qcow2_laws.proofs.Places.{Sizes-from}
 use Rattle.qcow2_laws.proofs.Tops.{for_tables-top, IsTop-top}
-use Rattle.qcow2_alloc.specs.ImageFile.{known_in}
+use Rattle.qcow2_laws.specs.Found.{rest_of_table}
+use Rattle.qcow2_alloc.specs.declared.error.ImageError.{ImageError}
+use Rattle.qcow2_alloc.specs.ImageFile.{contents_in, known_in, state_in}
 use Rattle.qcow2_image.specs.declared.image.Qcow2.{Qcow2}
 use Rattle.qcow2_image.specs.declared.prepared.Prepared.{Prepared}
-use Rattle.qcow2_image.specs.declared.prepared.NewCluster.{NewCluster}
-use Rattle.qcow2_image.specs.CallParts.{IsExisting}
+use Rattle.qcow2_image.specs.declared.prepared.Share.{Share}
+use Rattle.qcow2_image.specs.declared.prepared.Share.TheVariants.{InPlace, Kept, New}
+use Rattle.qcow2_image.specs.CallParts.{IsExisting, PreparesRange}
 use Rattle.qcow2_image.specs.Prepared.{offset_of}
-use Rattle.qcow2_image.specs.Preparing.{HasItsOwn, IsAnswered, IsHeldAlone, IsHostOf, IsRest, IsTaken, IsWritableAt}
-use Rattle.qcow2_image.specs.ImageInvariant.{is_private, meaning}
+use Rattle.qcow2_image.specs.Preparing.{IsAnswered, IsHeldAlone, IsKeptBy, IsTaken, IsWritableAt}
+use Rattle.qcow2_image.specs.Ranges.{Reaches}
+use Rattle.qcow2_image.specs.ImageInvariant.{of_data, to_free, held_by, cluster_of, host_of, is_entered, is_private, meaning, pending_in, IsPending, IsReadyWith, IsShareAt, ImageInvariant}
+use Rattle.qcow2_image.proofs.Call.Slots.{get_set_same}
+use Rattle.qcow2_image.proofs.Shares.{byte_cluster, byte_place, byte_share, held_at, held_once, host_cluster, never_private, over_all_at, private_is as private_share}
 
 -- ---- what stands for guest clusters stays
 module _ (h : HeaderFields) (b c : Bytes) (same : SameCovers h b c) (offset : ℕ) where
-  writable_still : (n place : ℕ) → IsWritableAt h b offset n place → IsWritableAt h c offset n place
+  pub writable_still : (n place : ℕ) → IsWritableAt h b offset n place → IsWritableAt h c offset n place
   writable_still n place is = (is.0, are_still h b c true offset place n (λ i lt. same ((offset + i) / cluster_size h)) is.1)
 
   writable_before : (n place : ℕ) → IsWritableAt h c offset n place → IsWritableAt h b offset n place
@@ -46,10 +54,17 @@ module _ (h : HeaderFields) (b c : Bytes) (same : SameCovers h b c) (offset : �
   answered_still n h' now p m is = record {
     existing = (λ none. let there = is.existing.0 none in (there.0, writable_still n there.0 there.1), λ there. is.existing.1 (there.0, writable_before n there.0 there.1));
     whole = is.whole;
-    rest = is.rest;
+    first = is.first;
+    most = is.most;
+    within = is.within;
+    short = is.short;
     private = λ o from to. is.private o from to ∙ ap (λ v. not (is_copied_data v)) (same (o / cluster_size h));
     in_place = λ i lt isnt. data_still (offset + i) (offset_of p + i) (is.in_place i lt isnt);
-    in_new = is.in_new;
+    own = λ i lt private.
+        let own = is.own i lt private in (
+          own.0,
+          ⊎_elim (λ alone. inl alone) (λ (kept : IsKeptBy h b ((offset + i) / cluster_size h) ((offset_of p + i) / cluster_size h)). inr (sym (same ((offset + i) / cluster_size h)) ∙ kept)) own.1,
+        );
   }
 
 -- each byte of the whole clusters of a range lies in the cluster of a byte of the range
@@ -76,97 +91,38 @@ in_range size offset n o some any from to =
       ]
     ]
 
-module _ {S F : Type 0} (view : S → StorageView) (backing : F → BackingView) (image : Qcow2 S F) (known now : Bytes) (offset n : ℕ) (p : Prepared) where
-  abbrev h : HeaderFields
-  h = image.file.header.fields
-
-  -- all of the range is written where it is
-  pub answered_existing : (number : ℕ) → 0 < n → IsExisting p number offset n → IsWritableAt h known offset n p.offset → IsAnswered h known offset n h now p (meaning view backing image p)
-  answered_existing number any existing writable =
-      let none : is_some p.table ≡ false = ap is_some existing.table in
-      let never : (o : ℕ) → is_private view backing image p o ≡ false = λ o. ap (λ (m : Option NewCluster). is_some m && o / cluster_size h == p.guest / cluster_size h) existing.cluster in
-      record {
-        existing = (λ is. (p.offset, writable), λ is. none);
-        whole = λ is. existing.length_is;
-        rest = λ is. absurd (let e : true ≡ false = sym is ∙ none in cc);
-        private = λ o from to.
-            let at = in_range (cluster_size h) offset n o (pow_pos h.cluster_bits) any (subst (λ g. rounded_down (cluster_size h) g ≤ o) existing.guest_is from)
-            (subst (λ l. o < rounded_up (cluster_size h) (offset + l)) existing.length_is (subst (λ g. o < rounded_up (cluster_size h) (g + p.length)) existing.guest_is to)) in
-            let there = writable.1 at.0 at.1 in
-            never o ∙ ap (λ v. not (is_copied_data v)) (sym there.1) ∙ ap (λ g. not (is_copied_data (cover h known g))) at.2;
-        in_place = λ i lt is. writable.1 i (subst (λ l. i < l) existing.length_is lt);
-        in_new = λ is. absurd (let e : true ≡ false = sym is ∙ never offset in cc);
-      }
-
-  -- not all of it: the rest of the first cluster
-  module _ (is : IsRest h known offset p) where
-    -- a byte of the first cluster
-    in_first : (i : ℕ) → i < cluster_size h - offset % cluster_size h → ((offset + i) / cluster_size h ≡ offset / cluster_size h) × ((offset + i) % cluster_size h ≡ offset % cluster_size h + i)
-    in_first i lt =
-        let offset_is : offset / cluster_size h * cluster_size h + offset % cluster_size h ≡ offset = div-add-mod' offset (cluster_size h) in
-        let e : offset + i ≡ offset / cluster_size h * cluster_size h + (offset % cluster_size h + i) = omega arith in (
-          ap (λ x. x / cluster_size h) e ∙ div-mul-add (offset / cluster_size h) (cluster_size h) (offset % cluster_size h + i) (omega arith),
-          ap (λ x. x % cluster_size h) e ∙ mod-mul-add (offset / cluster_size h) (cluster_size h) (offset % cluster_size h + i) (omega arith),
-        )
-
-    -- all of the cluster is private, or nothing
-    private_is : (o : ℕ) → o / cluster_size h ≡ offset / cluster_size h → is_private view backing image p o ≡ is_some p.new_cluster
-    private_is o here = by_cluster (is_some p.new_cluster) (eq-eqb (o / cluster_size h) (p.guest / cluster_size h) (here ∙ ap (λ g. g / cluster_size h) (sym is.guest))) where
-      by_cluster : (b : Bool) → (o / cluster_size h == p.guest / cluster_size h) ≡ true → (b && o / cluster_size h == p.guest / cluster_size h) ≡ b
-      by_cluster true same = same
-      by_cluster false same = refl
-
-    private_as : (c : Option NewCluster) → IsHostOf h known offset p.offset c → is_some c ≡ not (is_copied_data (cover h known (offset / cluster_size h)))
-    private_as None host = ap (λ v. not (is_copied_data v)) (sym host.1)
-    private_as (Some c) host = ap not (sym host.0)
-
-    stands_in_place : (i : ℕ) → i < cluster_size h - offset % cluster_size h → (c : Option NewCluster) → is_some c ≡ false → IsHostOf h known offset p.offset c → IsDataAt h known true (offset + i) (p.offset + i)
-    stands_in_place i lt None none host = let first = in_first i lt in (host.0, ap (cover h known) first.0 ∙ host.1, (let at = host.2 in let far = first.1 in omega arith))
-    stands_in_place i lt (Some c) none host = absurd (let e : true ≡ false = none in cc)
-
-    stands_in_new : (c : Option NewCluster) → is_some c ≡ true → IsHostOf h known offset p.offset c → HasItsOwn h now c → (p.offset % cluster_size h ≡ offset % cluster_size h) × IsHeldAlone h now (p.offset / cluster_size h)
-    stands_in_new None some host own = absurd (let e : false ≡ true = some in cc)
-    stands_in_new (Some c) some host own =
-        let below = mod_below offset (cluster_size h) (pow_pos h.cluster_bits) in
-        let there : p.offset / cluster_size h ≡ c.pending.first_cluster = ap (λ x. x / cluster_size h) host.1 ∙ div-mul-add c.pending.first_cluster (cluster_size h) (offset % cluster_size h) below in
-        (ap (λ x. x % cluster_size h) host.1 ∙ mod-mul-add c.pending.first_cluster (cluster_size h) (offset % cluster_size h) below, subst (IsHeldAlone h now) (sym there) own)
-
-    pub answered_rest : HasItsOwn h now p.new_cluster → ((place : ℕ) → IsWritableAt h known offset n place → ⊥) → IsAnswered h known offset n h now p (meaning view backing image p)
-    answered_rest own never =
-        let some : is_some p.table ≡ true = is.table in
-        let left : 0 < cluster_size h - offset % cluster_size h = let lt = mod_below offset (cluster_size h) (pow_pos h.cluster_bits) in omega arith in
-        record {
-          existing = (λ none. absurd (let e : true ≡ false = sym some ∙ none in cc), λ writable. absurd (never writable.0 writable.1));
-          whole = λ none. absurd (let e : true ≡ false = sym some ∙ none in cc);
-          rest = λ _. is.length;
-          private = λ o from to.
-              let at = in_range (cluster_size h) offset (cluster_size h - offset % cluster_size h) o (pow_pos h.cluster_bits) left (subst (λ g. rounded_down (cluster_size h) g ≤ o) is.guest from)
-              (subst (λ l. o < rounded_up (cluster_size h) (offset + l)) is.length (subst (λ g. o < rounded_up (cluster_size h) (g + p.length)) is.guest to)) in
-              let here : o / cluster_size h ≡ offset / cluster_size h = sym at.2 ∙ (in_first at.0 at.1).0 in
-              private_is o here ∙ private_as p.new_cluster is.host ∙ ap (λ g. not (is_copied_data (cover h known g))) (sym here);
-          in_place = λ i lt isnt.
-              let inside = subst (λ l. i < l) is.length lt in
-              stands_in_place i inside p.new_cluster (sym (private_is (offset + i) (in_first i inside).0) ∙ isnt) is.host;
-          in_new = λ private. stands_in_new p.new_cluster (sym (private_is offset refl) ∙ private) is.host own;
-        }
+-- all of the range is written where it is
+pub answered_existing : {S F : Type 0} (view : S → StorageView) (backing : F → BackingView) (image : Qcow2 S F) (known now : Bytes) (offset n : ℕ) (p : Prepared) (number : ℕ) → 0 < n → IsExisting p number offset n
+    → IsWritableAt image.file.header.fields known offset n p.offset → IsAnswered image.file.header.fields known offset n image.file.header.fields now p (meaning view backing image p)
+answered_existing view backing image known now offset n p number any existing writable =
+    let h = image.file.header.fields in
+    let none : is_some p.table ≡ false = ap is_some existing.table in
+    let never : (o : ℕ) → is_private view backing image p o ≡ false = never_private view backing image p existing.shares in
+    record {
+      existing = (λ is. (p.offset, writable), λ is. none);
+      whole = λ is. existing.length_is;
+      first = λ is. absurd (let e : true ≡ false = sym is ∙ none in cc);
+      most = λ is. absurd (let e : true ≡ false = sym is ∙ none in cc);
+      within = subst (λ l. l ≤ rest_of_table image.file.header.fields offset) (sym existing.length_is) writable.0;
+      short = λ less. absurd (let long = existing.length_is in omega arith);
+      private = λ o from to.
+          let at = in_range (cluster_size h) offset n o (pow_pos h.cluster_bits) any (subst (λ g. rounded_down (cluster_size image.file.header.fields) g ≤ o) existing.guest_is from)
+          (subst (λ l. o < rounded_up (cluster_size image.file.header.fields) (offset + l)) existing.length_is (subst (λ g. o < rounded_up (cluster_size image.file.header.fields) (g + p.length)) existing.guest_is to)) in
+          let there = writable.1 at.0 at.1 in
+          never o ∙ ap (λ v. not (is_copied_data v)) (sym there.1) ∙ ap (λ g. not (is_copied_data (cover image.file.header.fields known g))) at.2;
+      in_place = λ i lt is. writable.1 i (subst (λ l. i < l) existing.length_is lt);
+      own = λ i lt is. absurd (let e : true ≡ false = sym is ∙ never (offset + i) in cc);
+    }
 
 -- the same by a header that differs in where the reftable stands
 module _ (h : HeaderFields) (place clusters : ℕ) (known : Bytes) (offset : ℕ) where
   answered_with : (n : ℕ) (h' : HeaderFields) (now : Bytes) (p : Prepared) (m : PreparedMapping) → IsAnswered (with_reftable h place clusters) known offset n h' now p m → IsAnswered h known offset n h' now p m
   unfolding cover cover_under l1_entry
-  answered_with n h' now p m is = record { existing = is.existing; whole = is.whole; rest = is.rest; private = is.private; in_place = is.in_place; in_new = is.in_new }
+  answered_with n h' now p m is = record { existing = is.existing; whole = is.whole; first = is.first; most = is.most; within = is.within; short = is.short; private = is.private; in_place = is.in_place; own = is.own }
 
   taken_with : (n : ℕ) (out : List (Option Prepared)) → IsTaken (with_reftable h place clusters) known offset n out → IsTaken h known offset n out
   unfolding cover cover_under l1_entry
   taken_with n out is = record { place = is.place; other = is.other; is_out = is.is_out; keeps_table = is.keeps_table; same_table = is.same_table; never = is.never }
-
-  host_with : (at : ℕ) (c : Option NewCluster) → IsHostOf h known offset at c → IsHostOf (with_reftable h place clusters) known offset at c
-  unfolding cover cover_under l1_entry
-  host_with at None is = is
-  host_with at (Some n) is = is
-
-  rest_with : (p : Prepared) → IsRest h known offset p → IsRest (with_reftable h place clusters) known offset p
-  rest_with p is = record { guest = is.guest; table = is.table; length = is.length; host = host_with p.offset p.new_cluster is.host }
 
   writable_with : (n at : ℕ) → IsWritableAt (with_reftable h place clusters) known offset n at → IsWritableAt h known offset n at
   unfolding cover cover_under l1_entry
@@ -178,9 +134,6 @@ module _ (h h' : HeaderFields) (e : KeepsFormat h h') (known : Bytes) (offset : 
 
   pub taken_format : (n : ℕ) (out : List (Option Prepared)) → IsTaken h' known offset n out → IsTaken h known offset n out
   taken_format n out is = taken_with h h'.reftable_offset h'.reftable_clusters known offset n out (subst (λ (x : HeaderFields). IsTaken x known offset n out) e is)
-
-  pub rest_format : (p : Prepared) → IsRest h known offset p → IsRest h' known offset p
-  rest_format p is = subst (λ (x : HeaderFields). IsRest x known offset p) (sym e) (rest_with h h'.reftable_offset h'.reftable_clusters known offset p is)
 
   pub writable_format : (n at : ℕ) → IsWritableAt h' known offset n at → IsWritableAt h known offset n at
   writable_format n at is = writable_with h h'.reftable_offset h'.reftable_clusters known offset n at (subst (λ (x : HeaderFields). IsWritableAt x known offset n at) e is)
@@ -206,11 +159,152 @@ held_alone s sound k some =
     let few = (sound.always k).pending (omega arith) in
     (omega arith, omega arith)
 
--- what follows of two things that are so of an answer
-pub if_ok_both : {A E : Type 0} {P Q R : A → Type 0} (answer : Result A E) → ((x : A) → P x → Q x → R x) → IfOk answer P → IfOk answer Q → IfOk answer R
-if_ok_both (Ok x) follows is also = follows x is also
-if_ok_both (Err e) follows is also = tt
+-- ---- how far an L2 table reaches
+pub rest_as : (size entries offset : ℕ) → 0 < size → 0 < entries → size * entries - offset % (size * entries) ≡ (entries - offset / size % entries) * size - offset % size
+rest_as size entries offset some any =
+    let g = offset / size in
+    let j = offset / size % entries in
+    let lt : offset / size % entries < entries = mod_below (offset / size) entries any in
+    let less : offset % size < size = mod_below offset size some in
+    let offset_is : offset / size * size + offset % size ≡ offset = div-add-mod' offset size in
+    let cluster_is : offset / size / entries * entries + offset / size % entries ≡ offset / size = div-add-mod' (offset / size) entries in
+    let product : offset / size * size ≡ (offset / size / entries * entries + offset / size % entries) * size = ap (λ c. c * size) (sym cluster_is) in
+    let split : (offset / size / entries * entries + offset / size % entries) * size ≡ offset / size / entries * (size * entries) + offset / size % entries * size = grind (arith, common_steps) in
+    let e : offset ≡ offset / size / entries * (size * entries) + (offset / size % entries * size + offset % size) = omega arith in
+    let all : entries ≡ offset / size % entries + (entries - offset / size % entries) = omega arith in
+    let table : size * entries ≡ offset / size % entries * size + (entries - offset / size % entries) * size = ap (λ m. size * m) all ∙ grind (arith, common_steps) in
+    let one : entries - offset / size % entries ≡ 1 + (entries - offset / size % entries - 1) = omega arith in
+    let more : (entries - offset / size % entries) * size ≡ size + (entries - offset / size % entries - 1) * size = ap (λ m. m * size) one ∙ omega arith in
+    let within : offset / size % entries * size + offset % size < size * entries = omega arith in
+    let is : offset % (size * entries) ≡ offset / size % entries * size + offset % size = ap (λ o. o % (size * entries)) e ∙ mod-mul-add (offset / size / entries) (size * entries) (offset / size % entries * size + offset % size) within in
+    omega arith
 
-pub if_ok_three : {A E : Type 0} {P Q R T : A → Type 0} (answer : Result A E) → ((x : A) → P x → Q x → R x → T x) → IfOk answer P → IfOk answer Q → IfOk answer R → IfOk answer T
-if_ok_three (Ok x) follows is also more = follows x is also more
-if_ok_three (Err e) follows is also more = tt
+pub entries_some : (s : DriverState) → StateInvariant s → 0 < entries_per_cluster s.header
+entries_some s sound = (Sizes-from s.header s.known (IsTop-top s.header s.on_storage s.known sound.same_top sound.top).header_reads).entries
+
+-- ---- not all of the range is written where it is: a mapping that is out, and no guest saw it made
+
+-- there is one
+get_there : {X : Type 0} (xs : List X) (i : ℕ) → i < length xs → (x : X) × (slice_get xs i ≡ Some x)
+get_there [] i lt = absurd (omega (arith, lt))
+get_there (x ∷ xs) zero lt = (x, refl)
+get_there (x ∷ xs) (suc i) lt = get_there xs i (omega (arith, lt))
+
+-- what isn't copied data isn't in place
+entered_as : (h : HeaderFields) (known on_storage : Bytes) (p : Prepared) (i : ℕ) (share : Share) → IsShareAt h known on_storage p i share → is_entered share ≡ not (is_copied_data (cover h known (cluster_of h p + i)))
+entered_as h known on_storage p i InPlace at = ap (λ v. not (is_copied_data v)) (sym at)
+entered_as h known on_storage p i Kept at = ap (λ v. not (is_copied_data v)) (sym at.entry)
+entered_as h known on_storage p i (New taken dropped) at = ap not (sym at.entry)
+
+in_place_as : (h : HeaderFields) (known on_storage : Bytes) (p : Prepared) (i : ℕ) (share : Share) → is_entered share ≡ false → IsShareAt h known on_storage p i share → cover h known (cluster_of h p + i) ≡ Data (host_of h p i) true
+in_place_as h known on_storage p i InPlace isnt at = at
+in_place_as h known on_storage p i Kept isnt at = absurd (let e : true ≡ false = isnt in cc)
+in_place_as h known on_storage p i (New taken dropped) isnt at = absurd (let e : true ≡ false = isnt in cc)
+
+module _ {S F : Type 0} (view : S → StorageView) (backing : F → BackingView) (image : Qcow2 S F) (out : List (Option Prepared)) (k : ℕ) (p : Prepared) (at : slice_get out k ≡ Some (Some p)) (sound : ImageInvariant view backing (pending_in view backing image out) image out) (offset n : ℕ) (reaches : Reaches view image offset n p) where
+  abbrev h : HeaderFields
+  h = image.file.header.fields
+
+  abbrev now : Bytes
+  now = known_in view image.file
+
+  pending : IsPending h now (contents_in view image.file) p reaches.under.0
+  pending = subst (IsReadyWith h now (contents_in view image.file) p) reaches.under.1 (sound.ready k p at).mapped
+
+  -- the share of a byte of the mapping
+  module _ (i : ℕ) (lt : i < p.length) where
+    abbrev index : ℕ
+    index = (p.guest % cluster_size h + 0 + i) / cluster_size h
+
+    its : (share : Share) × (slice_get p.shares.items index ≡ Some share)
+    its = get_there p.shares.items index (byte_share h p now (contents_in view image.file) reaches.under.0 pending 0 i p.length (omega arith) lt)
+
+    here : (p.guest + i) / cluster_size h ≡ cluster_of h p + index
+    here = let none : p.guest + 0 + i ≡ p.guest + i = omega arith in ap (λ o. o / cluster_size h) (sym none) ∙ byte_cluster h p now (contents_in view image.file) reaches.under.0 pending 0 i p.length (omega arith) lt
+
+    place : p.offset + i ≡ host_of h p index + (p.guest + i) % cluster_size h
+    place =
+        let none : p.guest + 0 + i ≡ p.guest + i = omega arith in
+        let is = byte_place h p now (contents_in view image.file) reaches.under.0 pending 0 i p.length (omega arith) lt in
+        let same : (p.guest + 0 + i) % cluster_size h ≡ (p.guest + i) % cluster_size h = ap (λ o. o % cluster_size h) none in
+        omega arith
+
+    stands : IsShareAt h now (contents_in view image.file) p index its.0
+    stands = pending.each index its.0 its.1
+
+    private_is : is_private view backing image p (p.guest + i) ≡ is_entered its.0
+    private_is = private_share view backing image p (p.guest + i) index its.0 here its.1
+
+    is_in_place : is_private view backing image p (p.guest + i) ≡ false → IsDataAt h now true (p.guest + i) (p.offset + i)
+    is_in_place isnt = (host_of h p index, ap (cover h now) here ∙ in_place_as h now (contents_in view image.file) p index its.0 (sym private_is ∙ isnt) stands, sym place)
+
+    cluster_is : (first : ℕ) → first * cluster_size h ≡ host_of h p index → (p.offset + i) / cluster_size h ≡ first
+    cluster_is first at = ap (λ o. o / cluster_size h) place ∙ host_cluster h p index first at (p.guest + i)
+
+    rest_is : (first : ℕ) → first * cluster_size h ≡ host_of h p index → (p.offset + i) % cluster_size h ≡ (p.guest + i) % cluster_size h
+    rest_is first at = ap (λ o. o % cluster_size h) (place ∙ ap (λ b. b + (p.guest + i) % cluster_size h) (sym at)) ∙ mod-mul-add first (cluster_size h) ((p.guest + i) % cluster_size h) (mod_below (p.guest + i) (cluster_size h) (pow_pos h.cluster_bits))
+
+    -- what isn't in place lies at the same byte of a cluster that is held alone, or that its zero entry keeps
+    abbrev IsItsOwn : Type 0
+    IsItsOwn = ((p.offset + i) % cluster_size h ≡ (p.guest + i) % cluster_size h) × (IsHeldAlone h now ((p.offset + i) / cluster_size h) ⊎ IsKeptBy h now ((p.guest + i) / cluster_size h) ((p.offset + i) / cluster_size h))
+
+    own_as : (share : Share) → IsTrue (is_entered share) → slice_get p.shares.items index ≡ Some share → IsShareAt h now (contents_in view image.file) p index share → IsItsOwn
+    own_as InPlace entered is it = absurd (let e : false ≡ true = entered in cc)
+    own_as Kept entered is it = (
+      rest_is it.first it.place,
+      inr (ap (cover h now) here ∙ it.entry ∙ ap (λ b. Zero (Some (b, true))) (sym it.place ∙ ap (λ c. c * cluster_size h) (sym (cluster_is it.first it.place)))),
+    )
+    own_as (New taken dropped) entered is it =
+        let one : to_free of_data taken it.first ≡ 1 = ap (λ l. to_free of_data l it.first) it.is ∙ held_once it.first in
+        let more = held_at p.shares.items index taken dropped is it.first in
+        let all = over_all_at held_by out k p at it.first in (
+          rest_is it.first it.place,
+          inl (subst (IsHeldAlone h now) (sym (cluster_is it.first it.place)) (held_alone (state_in view image.file (pending_in view backing image out)) sound.file.caches.kept.kept.guarded it.first (omega (arith, one, more, all)))),
+        )
+
+  -- how far its L2 table reaches
+  reach_is : rest_of_table h p.guest ≡ (entries_per_cluster h - cluster_of h p % entries_per_cluster h) * cluster_size h - p.guest % cluster_size h
+  reach_is = rest_as (cluster_size h) (entries_per_cluster h) p.guest (pow_pos h.cluster_bits) (entries_some (state_in view image.file (pending_in view backing image out)) sound.file.caches.kept.kept.guarded)
+
+  pub answered_out : ((place : ℕ) → IsWritableAt h now offset n place → ⊥) → IsAnswered h now p.guest n h now p (meaning view backing image p)
+  answered_out never =
+      let some : is_some p.table ≡ true = ap is_some reaches.under.1 in
+      let guest = reaches.guest in
+      record {
+        existing = (λ none. absurd (let e : true ≡ false = sym some ∙ none in cc), λ w. absurd (never w.0 (subst (λ o. IsWritableAt h now o n w.0) guest w.1)));
+        whole = λ none. absurd (let e : true ≡ false = sym some ∙ none in cc);
+        first = λ _. subst (λ o. cluster_size h - o % cluster_size h ≤ p.length) (sym guest) reaches.first;
+        most = λ _ past. subst (λ o. p.length ≡ cluster_size h - o % cluster_size h) (sym guest) (reaches.most past);
+        within =
+            let lt = pending.within in
+            let enough = pending.enough in
+            let reach = reach_is in
+            let rest : entries_per_cluster h - cluster_of h p % entries_per_cluster h ≡ length p.shares.items + (entries_per_cluster h - cluster_of h p % entries_per_cluster h - length p.shares.items) = omega arith in
+            let more : (entries_per_cluster h - cluster_of h p % entries_per_cluster h) * cluster_size h ≡ (length p.shares.items + (entries_per_cluster h - cluster_of h p % entries_per_cluster h - length p.shares.items)) * cluster_size h = ap (λ m. m * cluster_size h) rest in
+            let parts : (length p.shares.items + (entries_per_cluster h - cluster_of h p % entries_per_cluster h - length p.shares.items)) * cluster_size h ≡ length p.shares.items * cluster_size h + (entries_per_cluster h - cluster_of h p % entries_per_cluster h - length p.shares.items) * cluster_size h = omega arith in
+            omega arith;
+        short = reaches.short;
+        private = λ o from to.
+            let byte = in_range (cluster_size h) p.guest p.length o (pow_pos h.cluster_bits) pending.some from to in
+            let cluster : o / cluster_size h ≡ cluster_of h p + index byte.0 byte.1 = sym byte.2 ∙ here byte.0 byte.1 in
+            let share = its byte.0 byte.1 in
+            private_share view backing image p o (index byte.0 byte.1) share.0 cluster share.1 ∙ entered_as h now (contents_in view image.file) p (index byte.0 byte.1) share.0 (stands byte.0 byte.1) ∙ ap (λ g. not (is_copied_data (cover h now g))) (sym cluster);
+        in_place = is_in_place;
+        own = λ i lt private. own_as i lt (its i lt).0 (sym (private_is i lt) ∙ private) (its i lt).1 (stands i lt);
+      }
+
+-- a mapping that was made ready, by what was known before
+pub answered_range : {S F : Type 0} (view : S → StorageView) (backing : F → BackingView) (old new : Qcow2 S F) (out : List (Option Prepared)) (k offset n : ℕ) (overwrite : Bool) (free : slice_get out k ≡ Some None) → ((place : ℕ) → IsWritableAt old.file.header.fields (known_in view old.file) offset n place → ⊥)
+    → (r : Result Prepared ImageError) → PreparesRange view backing old new out offset n overwrite r → IfOk r (Reaches view new offset n)
+    → IfOk r (λ p. IsAnswered old.file.header.fields (known_in view old.file) offset n new.file.header.fields (known_in view new.file) p (meaning view backing new p))
+answered_range view backing old new out k offset n overwrite free never (Err e) readies reaches = tt
+answered_range view backing old new out k offset n overwrite free never (Ok p) readies reaches =
+    let h = old.file.header.fields in
+    let h' = new.file.header.fields in
+    let now = known_in view new.file in
+    let is = readies k free in
+    let never_now : (place : ℕ) → IsWritableAt new.file.header.fields (known_in view new.file) offset n place → ⊥ = λ place at.
+    never place (writable_still h now (known_in view old.file) (λ g. sym (is.covers g)) offset n place (writable_format h h' is.header now offset n place at)) in
+    answered_before view old new offset n is.header is.covers h' now p (meaning view backing new p)
+    (subst (λ o. IsAnswered new.file.header.fields (known_in view new.file) o n new.file.header.fields (known_in view new.file) p (meaning view backing new p)) reaches.guest
+    (answered_out view backing new (slice_set out k (Some p)) k p (get_set_same out k (Some p) None free) is.sound offset n reaches never_now))

@@ -1,21 +1,20 @@
 -- A range is prepared: by its L2 table, and then in that.
-use Rattle.std.proofs.Common.{◌≡◌, ⊎_elim, ℕ, ◌/◌, Bool, true, false, List, Option, Some, None, refl, sym, ap, ◌∙◌, subst, arith, is_some}
-use Rattle.std.specs.Prelude.{IsTrue, slice_get, slice_set, ◌&&◌, ◌==◌}
-use Rattle.std.specs.Option.{option_map_or}
+use Rattle.std.proofs.Common.{◌≡◌, ⊎_elim, ℕ, Bool, true, false, List, Option, Some, None, refl, sym, ap, ◌∙◌, subst, arith}
+use Rattle.std.specs.Prelude.{IsTrue, slice_get, slice_set}
 use mathlib.Core.Path.{fun_ext}
 use Rattle.image_access.specs.Backing.{BackingView}
 use Rattle.image_access.specs.Moments.{StorageView}
-use Rattle.qcow2_metadata.specs.Header.{cluster_size}
 use Rattle.qcow2_laws.specs.Calls.{with_slot}
 use Rattle.qcow2_laws.specs.AbstractImages.{guest_of}
 use Rattle.qcow2_laws.proofs.SafeSteps.{leads_none, endures_none}
 use Rattle.qcow2_alloc.specs.ImageFile.{state_in, view_in, contents_in, known_in, nothing_given}
 use Rattle.qcow2_image.specs.declared.image.Qcow2.{Qcow2}
 use Rattle.qcow2_image.specs.declared.prepared.Prepared.{Prepared}
-use Rattle.qcow2_image.specs.declared.prepared.NewCluster.{NewCluster}
+use Rattle.qcow2_image.specs.declared.prepared.Share.{Share}
 use Rattle.qcow2_image.specs.Image.{number_of}
 use Rattle.qcow2_image.specs.CallParts.{IsExisting, IsReadied}
-use Rattle.qcow2_image.specs.ImageInvariant.{held_by, pins_by, pins_of, over_all, pending_in, abstract_of, meaning, is_private, run_of, IsReady, IsReadyWith, ImageInvariant}
+use Rattle.qcow2_image.specs.ImageInvariant.{held_in, held_by, pins_by, pins_of, over_all, pending_in, abstract_of, meaning, is_private, IsReady, IsReadyWith, ImageInvariant}
+use Rattle.qcow2_image.proofs.Shares.{never_private as no_private}
 use Rattle.qcow2_image.proofs.Call.Answered.{same_guest}
 use Rattle.qcow2_image.proofs.Call.Slots.{get_set, over_all_put, slot_set}
 use Rattle.qcow2_image.proofs.Call.Stepped.{Steps, stepped_sound, stepped_works}
@@ -24,7 +23,7 @@ module _ {S F : Type 0} (view : S → StorageView) (backing : F → BackingView)
   -- ---- a mapping of which nothing is kept
   module _ (image : Qcow2 S F) (sound : ImageInvariant view backing (pending_in view backing image out) image out) (p : Prepared) (offset n : ℕ) (existing : IsExisting p (number_of image) offset n) (k : ℕ) (free : slice_get out k ≡ Some None) where
     nothing_held : (c : ℕ) → held_by p c ≡ 0
-    nothing_held c = ap (λ (x : Option NewCluster). option_map_or (λ (m : NewCluster). run_of m.pending c) x 0) existing.cluster
+    nothing_held c = ap (λ (l : List Share). held_in l c) existing.shares
 
     nothing_pinned : (c : ℕ) → pins_by p c ≡ 0
     nothing_pinned c = ap (λ x. pins_of x c) existing.table
@@ -38,7 +37,7 @@ module _ {S F : Type 0} (view : S → StorageView) (backing : F → BackingView)
     existing_ready : (j : ℕ) (r : Prepared) → slice_get (slice_set out k (Some p)) j ≡ Some (Some r) → IsReady view backing image r
     existing_ready j r at = ⊎_elim
         (λ (e : Some r ≡ Some p). let same : r ≡ p = cc in subst (λ (x : Prepared). IsReady view backing image x) (sym same)
-        (record { own = existing.image; mapped = subst (λ t. IsReadyWith image.file.header.fields (known_in view image.file) (contents_in view image.file) p t) (sym existing.table) existing.cluster }))
+        (record { own = existing.image; mapped = subst (λ t. IsReadyWith image.file.header.fields (known_in view image.file) (contents_in view image.file) p t) (sym existing.table) existing.shares }))
         (λ there. sound.ready j r there) (get_set out k j (Some p) (Some r) at)
 
     existing_steps : Steps view backing image image out (slice_set out k (Some p)) nothing_given (pending_in view backing image out)
@@ -63,13 +62,14 @@ module _ {S F : Type 0} (view : S → StorageView) (backing : F → BackingView)
 
     never_private : (o : ℕ) → IsTrue (is_private view backing image p o) → ⊥
     never_private o private =
-        absurd (let none : is_private view backing image p o ≡ false = ap (λ (m : Option NewCluster). is_some m && o / cluster_size image.file.header.fields == p.guest / cluster_size image.file.header.fields) existing.cluster in
-        let e : true ≡ false = sym private ∙ none in cc)
+        absurd (let e : true ≡ false = sym private ∙ no_private view backing image p existing.shares o in cc)
 
     pub readied_existing : (overwrite : Bool) → IsReadied view backing image image out k offset n overwrite p
     readied_existing overwrite = record {
       works = stepped_works view backing image image out (slice_set out k (Some p)) nothing_given (pending_in view backing image out) existing_steps;
       sound = stepped_sound view backing image image out (slice_set out k (Some p)) nothing_given (pending_in view backing image out) existing_steps;
+      header = refl;
+      covers = λ g. refl;
       prepared = record {
         from = existing.guest_is;
         some = λ any. let long = existing.length_is in omega arith;

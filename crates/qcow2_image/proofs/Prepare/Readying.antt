@@ -1,19 +1,19 @@
 -- A mapping of the rest of a cluster is made ready: its table is pinned, and it is put at a free place.
-use Rattle.std.proofs.Common.{◌≡◌, ⊎_elim, inl, inr, ℕ, ◌+◌, ◌-◌, ◌*◌, ◌/◌, ◌%◌, ◌<◌, ◌≤◌, Bool, true, false, List, [], Option, Some, None, refl, sym, ap, ◌∙◌, subst, arith, is_some, cond}
+use Rattle.std.proofs.Common.{◌≡◌, ⊎_elim, inl, inr, ℕ, zero, suc, ◌+◌, ◌-◌, ◌*◌, ◌/◌, ◌%◌, ◌<◌, ◌≤◌, Bool, true, false, List, length, [], ◌∷◌, Option, Some, None, refl, sym, ap, ◌∙◌, subst, arith, cond}
 use Rattle.std.specs.Prelude.{IsTrue, min, slice_get, slice_set, ◌&&◌, ◌==◌}
 use mathlib.Core.Path.{fun_ext}
-use Rattle.std.proofs.lemmas.Bool.{cases_eq, cond-false, eqb-true, ne_eqb}
-use Rattle.std.proofs.lemmas.Nat.{div-add-mod', mod_below, pow_pos}
+use Rattle.std.proofs.lemmas.Bool.{cases_eq, cond-false, ne_eqb}
+use Rattle.std.proofs.lemmas.Nat.{div-add-mod', div-mul-add, mod_below, pow_pos}
 use Rattle.image_access.specs.Backing.{BackingView}
 use Rattle.image_access.specs.Moments.{StorageView}
 use Rattle.qcow2_metadata.specs.Bytes.{Bytes, is_within}
 use Rattle.qcow2_metadata.specs.declared.header.HeaderFields.{HeaderFields}
-use Rattle.qcow2_metadata.specs.Header.{cluster_size}
+use Rattle.qcow2_metadata.specs.Header.{cluster_size, rounded_up}
 use Rattle.qcow2_metadata.specs.Tables.{CachedTable}
 use Rattle.qcow2_laws.specs.Caches.{AreSettled}
 use Rattle.qcow2_laws.specs.Calls.{with_slot}
 use Rattle.qcow2_laws.specs.Disk.{disk}
-use Rattle.qcow2_laws.specs.CrashInvariant.{Pending}
+use Rattle.qcow2_laws.specs.CrashInvariant.{Pending, SameCovers}
 use Rattle.qcow2_laws.specs.SafeSteps.{SafeStep}
 use Rattle.qcow2_laws.specs.Mappings.{IsPrepared}
 use Rattle.qcow2_laws.specs.AbstractImages.{Guest, guest_of}
@@ -23,28 +23,40 @@ use Rattle.qcow2_alloc.specs.ImageFile.{state_in, contents_in, known_in, nothing
 use Rattle.qcow2_image.specs.declared.image.Qcow2.{Qcow2}
 use Rattle.qcow2_image.specs.declared.mapping.Place.TheVariants.{Image}
 use Rattle.qcow2_image.specs.declared.prepared.Prepared.{Prepared}
-use Rattle.qcow2_image.specs.declared.prepared.NewCluster.{NewCluster}
+use Rattle.qcow2_image.specs.declared.prepared.Share.{Share}
 use Rattle.qcow2_image.specs.Image.{number_of}
 use Rattle.qcow2_image.specs.CallParts.{IsReadied}
 use Rattle.qcow2_image.specs.UnseenSteps.{UnseenFillingStep, HoldsTable}
-use Rattle.qcow2_image.specs.ImageInvariant.{to_free, of_data, of_tables, held_by, pins_by, pins_of, over_all, pending_in, abstract_of, meaning, is_private, backing_bytes, HasCluster, IsPending, IsReadyWith, ImageInvariant}
+use Rattle.qcow2_image.specs.ImageInvariant.{to_free, of_data, of_tables, held_by, pins_by, pins_of, over_all, pending_in, abstract_of, meaning, is_private, backing_bytes, IsShareAt, IsPending, IsReadyWith, ImageInvariant}
 use Rattle.qcow2_image.proofs.Call.Answered.{same_guest}
-use Rattle.qcow2_image.proofs.Commit.Committing.{rounds_up}
+use Rattle.qcow2_image.proofs.Shares.{private_shared}
 use Rattle.qcow2_image.proofs.Open.Reftables.{reftable_still}
 use Rattle.qcow2_image.proofs.Call.Slots.{get_set, over_all_put, slot_set}
 use Rattle.qcow2_image.proofs.Call.Stepped.{Steps, stepped_sound, stepped_works}
 
--- the mapping of the rest of a guest cluster that stands at a place
-abbrev pub mapping_at : HeaderFields → ℕ → ℕ → ℕ → ℕ → Option NewCluster → Prepared
-mapping_at h number table offset host new_cluster = record {
+-- the mapping of the rest of a guest cluster that stands at a place, with the shares of another
+abbrev pub mapping_at : HeaderFields → ℕ → ℕ → ℕ → ℕ → Prepared → Prepared
+mapping_at h number table offset host like = record like {
   image = number;
   guest = offset;
   place = Image;
   offset = host + offset % cluster_size h;
   length = cluster_size h - offset % cluster_size h;
   table = Some table;
-  new_cluster = new_cluster;
 }
+
+-- of one share there is no other
+pub one_share : (share other : Share) (i : ℕ) → slice_get (share ∷ []) i ≡ Some other → (i ≡ 0) × (other ≡ share)
+one_share share other zero at = (refl, cc)
+one_share share other (suc i) at = absurd cc
+
+-- a range within one cluster rounds to that cluster
+rounds_up : (size guest length : ℕ) → 0 < size → 0 < length → guest % size + length ≤ size → rounded_up size (guest + length) ≡ guest / size * size + size
+rounds_up size guest length some any within =
+    let g_is : guest / size * size + guest % size ≡ guest = div-add-mod' guest size in
+    let q : (guest / size + 1) * size ≡ guest / size * size + size = omega arith in
+    let e : guest + length + size - 1 ≡ (guest / size + 1) * size + (guest % size + length - 1) = omega arith in
+    ap (λ o. o / size * size) e ∙ ap (λ n. n * size) (div-mul-add (guest / size + 1) size (guest % size + length - 1) (omega arith)) ∙ q
 
 -- what is pending once it is out
 pub record IsNowPending {S F : Type 0} (old : Qcow2 S F) (out : List (Option Prepared)) (p : Prepared) (q : Pending) (more : ℕ → ℕ) : Type 0 where
@@ -55,15 +67,15 @@ pub record IsNowPending {S F : Type 0} (old : Qcow2 S F) (out : List (Option Pre
   pub surplus : q.surplus ≡ more
 
 module _ {S F : Type 0} (view : S → StorageView) (backing : F → BackingView) (old mid : Qcow2 S F) (out : List (Option Prepared)) (k : ℕ) (free : slice_get out k ≡ Some None) (q : Pending)
-    (goes : UnseenFillingStep view backing (pending_in view backing old out) q old mid out) (offset table host : ℕ) (new_cluster : Option NewCluster) (holds : HoldsTable view backing mid offset table) (unpinned : l2_pins mid.file.caches table ≡ 0)
-    (stands : HasCluster mid.file.header.fields (known_in view mid.file) (contents_in view mid.file) (mapping_at mid.file.header.fields (number_of mid) table offset host new_cluster) new_cluster)
+    (goes : UnseenFillingStep view backing (pending_in view backing old out) q old mid out) (offset table host : ℕ) (share : Share) (like : Prepared) (one : like.shares.items ≡ share ∷ []) (holds : HoldsTable view backing mid offset table) (unpinned : l2_pins mid.file.caches table ≡ 0)
+    (stands : IsShareAt mid.file.header.fields (known_in view mid.file) (contents_in view mid.file) (mapping_at mid.file.header.fields (number_of mid) table offset host like) 0 share)
     (caches : MetadataCaches S) (tables : SameTables mid.file.caches caches) (pins : (c : ℕ) → l2_pins caches c ≡ l2_pins mid.file.caches c + pins_of (Some table) c)
-    (is : IsNowPending mid out (mapping_at mid.file.header.fields (number_of mid) table offset host new_cluster) q (pending_in view backing old out).surplus) where
+    (is : IsNowPending mid out (mapping_at mid.file.header.fields (number_of mid) table offset host like) q (pending_in view backing old out).surplus) where
   abbrev h : HeaderFields
   h = mid.file.header.fields
 
   abbrev p : Prepared
-  p = mapping_at h (number_of mid) table offset host new_cluster
+  p = mapping_at h (number_of mid) table offset host like
 
   abbrev new : Qcow2 S F
   new = record mid { file = record mid.file { caches = caches } }
@@ -80,13 +92,27 @@ module _ {S F : Type 0} (view : S → StorageView) (backing : F → BackingView)
   some_left : 0 < cluster_size h - offset % cluster_size h
   some_left = let lt = mod_below offset (cluster_size h) (pow_pos h.cluster_bits) in omega arith
 
+  one_only : length like.shares.items ≡ 1
+  one_only = ap (λ (l : List Share). length l) one
+
+  whole : length like.shares.items * cluster_size h ≡ cluster_size h
+  whole = ap (λ n. n * cluster_size h) one_only ∙ omega arith
+
+  own_share : (i : ℕ) (other : Share) → slice_get like.shares.items i ≡ Some other → IsShareAt h (known_in view mid.file) (contents_in view mid.file) p i other
+  own_share i other at =
+      let is_one = one_share share other i (ap (λ (l : List Share). slice_get l i) (sym one) ∙ at) in
+      subst (λ n. IsShareAt h (known_in view mid.file) (contents_in view mid.file) p n other) (sym is_one.0) (subst (λ (x : Share). IsShareAt h (known_in view mid.file) (contents_in view mid.file) p 0 x) (sym is_one.1) stands)
+
   own_ready : IsPending h (known_in view mid.file) (contents_in view mid.file) p table
   own_ready = record {
     some = some_left;
-    within = let lt = mod_below offset (cluster_size h) (pow_pos h.cluster_bits) in omega arith;
+    begins = omega arith;
+    enough = let lt = mod_below offset (cluster_size h) (pow_pos h.cluster_bits) in let all = whole in omega arith;
+    no_more = let some : 0 < cluster_size h = pow_pos h.cluster_bits in let lt = mod_below offset (cluster_size h) some in let all = whole in omega arith;
+    within = let few = one_only in let lt = holds.entry.within in omega arith;
     named = holds.entry;
     copied = holds.copied;
-    cluster = stands;
+    each = own_share;
   }
 
   ready_now : (j : ℕ) (r : Prepared) → slice_get now j ≡ Some (Some r) → IsReadyWith h (known_in view mid.file) (contents_in view mid.file) r r.table × (r.image ≡ number_of mid)
@@ -153,16 +179,18 @@ module _ {S F : Type 0} (view : S → StorageView) (backing : F → BackingView)
   readied n overwrite prepared = record {
     works = stepped_works view backing old new out now nothing_given q steps;
     sound = stepped_sound view backing old new out now nothing_given q steps;
+    header = goes.header;
+    covers = subst (λ (b : Bytes). SameCovers old.file.header.fields (known_in view old.file) b) (sym same_known) goes.covers;
     prepared = prepared;
     is = seen_now;
   }
 
   -- what is private lies in its cluster
   pub private_inside : (o : ℕ) → IsTrue (is_private view backing new p o) → o / cluster_size h ≡ offset / cluster_size h
-  private_inside o is_so = in_cluster (is_some new_cluster) is_so where
-    in_cluster : (b : Bool) → IsTrue (b && o / cluster_size h == offset / cluster_size h) → o / cluster_size h ≡ offset / cluster_size h
-    in_cluster true yes_so = eqb-true _ _ yes_so
-    in_cluster false never = absurd (let e : false ≡ true = never in cc)
+  private_inside o is_so =
+      let shared = private_shared view backing new p o is_so in
+      let is_one = one_share share shared.share shared.index (ap (λ (l : List Share). slice_get l shared.index) (sym one) ∙ shared.is) in
+      shared.here ∙ (let e = is_one.0 in omega arith)
 
   pub prepared_by : (n : ℕ) (overwrite : Bool) → ((o : ℕ) → IsTrue (is_private view backing new p o) → (overwrite && is_within offset (min n (cluster_size h - offset % cluster_size h)) o ≡ false)
       → (meaning view backing new p).shown o ≡ (guest_of (abstract_of view backing old out)).disk.value o) → IsPrepared (cluster_size old.file.header.fields) (guest_of (abstract_of view backing old out)).disk offset n overwrite (meaning view backing new p)
@@ -175,7 +203,7 @@ module _ {S F : Type 0} (view : S → StorageView) (backing : F → BackingView)
         let o_is : o / cluster_size h * cluster_size h + o % cluster_size h ≡ o = div-add-mod' o (cluster_size h) in
         let o_lt = mod_below o (cluster_size h) (pow_pos h.cluster_bits) in
         let same : o / cluster_size h * cluster_size h ≡ offset / cluster_size h * cluster_size h = ap (λ c. c * cluster_size h) here in
-        let up = rounds_up (cluster_size h) offset (cluster_size h - offset % cluster_size h) (pow_pos h.cluster_bits) some_left (omega arith) in
+        let up : rounded_up (cluster_size h) (offset + (cluster_size h - offset % cluster_size h)) ≡ offset / cluster_size h * cluster_size h + cluster_size h = rounds_up (cluster_size h) offset (cluster_size h - offset % cluster_size h) (pow_pos h.cluster_bits) some_left (omega arith) in
         (omega arith, omega arith);
     old_values = olds;
   })

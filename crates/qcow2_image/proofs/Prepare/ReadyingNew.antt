@@ -1,8 +1,9 @@
 -- A mapping is made ready in a new cluster, or in place.
-use Rattle.std.proofs.Common.{◌≡◌, inl, inr, ℕ, ◌+◌, ◌-◌, ◌*◌, ◌/◌, ◌%◌, ◌<◌, Bool, true, false, List, Option, Some, None, refl, sym, ap, ◌∙◌, subst, arith}
+use Rattle.std.proofs.Common.{◌≡◌, inl, inr, ℕ, ◌+◌, ◌-◌, ◌*◌, ◌/◌, ◌%◌, ◌<◌, Bool, true, false, List, [], ◌∷◌, Option, Some, None, refl, sym, ap, ◌∙◌, subst, arith}
 use Rattle.qcow2_alloc.specs.declared.error.ImageError.{ImageError}
-use Rattle.qcow2_image.specs.declared.mappings.FirstCluster.{FirstCluster}
-use Rattle.qcow2_image.specs.FirstCluster.{IsFirst}
+use Rattle.qcow2_metadata.specs.declared.l2_mapping.L2Mapping.{L2Mapping}
+use Rattle.qcow2_metadata.specs.L2Mapping.{IsInReach, named_run}
+use Rattle.qcow2_laws.specs.Mappings.{is_copied_data}
 use Rattle.std.specs.Prelude.{◌↔◌, IsSome, IsTrue, min, nat_le, nat_lt, slice_get, ◌&&◌}
 use Rattle.std.proofs.lemmas.Bool.{cases_lt, cond-true, le-leb, lt-ltb, lt-leb, le-ltb}
 use Rattle.std.proofs.lemmas.Nat.{div-mul-add, div-add-mod', mod_below, pow_pos}
@@ -15,29 +16,31 @@ use Rattle.qcow2_metadata.specs.Entries.{l1_entry, host_offset, is_copied}
 use Rattle.qcow2_metadata.specs.Cover.{cover}
 use Rattle.qcow2_metadata.specs.Guest.{known_byte}
 use Rattle.qcow2_metadata.specs.L2Mapping.{IsHostCluster}
-use Rattle.qcow2_metadata.specs.declared.l2_mapping.L2Mapping.TheVariants.{Data, Uncovered}
+use Rattle.qcow2_metadata.specs.declared.l2_mapping.L2Mapping.TheVariants.{Data}
 use Rattle.qcow2_laws.specs.Changes.{with_held}
 use Rattle.qcow2_laws.specs.CrashInvariant.{Pending}
 use Rattle.qcow2_laws.specs.Guests.{table_at}
 use Rattle.qcow2_laws.specs.AbstractImages.{guest_of}
 use Rattle.qcow2_laws.proofs.Formats.{cover_format, l1_format, size_format}
-use Rattle.qcow2_laws.proofs.Shown.{shown_uncovered}
 use Rattle.qcow2_alloc.specs.CacheMarks.{l2_pins}
 use Rattle.qcow2_alloc.specs.MetadataCaches.{IsEntryAt, l2_at}
-use Rattle.qcow2_alloc.specs.ImageFile.{state_in, contents_in, known_in}
+use Rattle.qcow2_alloc.specs.ImageFile.{contents_in, known_in}
 use Rattle.qcow2_image.specs.declared.image.Qcow2.{Qcow2}
 use Rattle.qcow2_image.specs.declared.prepared.Prepared.{Prepared}
-use Rattle.qcow2_image.specs.declared.prepared.NewCluster.{NewCluster}
+use Rattle.qcow2_image.specs.declared.prepared.Share.{Share}
+use Rattle.qcow2_image.specs.declared.prepared.Share.TheVariants.{InPlace, New}
+use Rattle.qcow2_alloc.specs.declared.clusters_to_free.ClustersToFreeEntry.{ClustersToFreeEntry}
 use Rattle.qcow2_image.specs.Found.{l1_index_of, l2_index_of}
 use Rattle.qcow2_image.specs.Image.{number_of}
 use Rattle.qcow2_image.specs.CallParts.{IsReadied}
 use Rattle.qcow2_image.specs.UnseenSteps.{is_announced, UnseenFillingStep, RefusedFillingStep, HoldsAll, HoldsTable, IsGained, UnseenStep, Pins, SameHeld, pending_then}
-use Rattle.qcow2_image.specs.ImageInvariant.{run_of, to_free, of_data, of_tables, pending_in, abstract_of, meaning, is_private, begin_of, backing_bytes, IsInPlace, IsNewFor, ImageInvariant}
+use Rattle.qcow2_image.specs.ImageInvariant.{run_of, to_free, of_data, of_tables, held_in, listed_run, disk_of, pending_in, abstract_of, meaning, is_entered, is_private, cluster_of, host_of, place_of, IsNewAt, IsShareAt, ImageInvariant}
+use Rattle.qcow2_image.proofs.Shares.{place_in, private_shared}
 use Rattle.qcow2_image.proofs.Formats.{entry_at_format, l1_shared}
 use Rattle.qcow2_image.proofs.Prepare.Gaining.{following_same, still_holds, taken_held}
 use Rattle.qcow2_image.proofs.Prepare.Filling.{goes_kept, goes_none, goes_then}
 use Rattle.qcow2_image.proofs.Sound.{free_more}
-use Rattle.qcow2_image.proofs.Prepare.Readying.{mapping_at, IsNowPending, readied, prepared_by, private_inside}
+use Rattle.qcow2_image.proofs.Prepare.Readying.{mapping_at, one_share, IsNowPending, readied, prepared_by, private_inside}
 
 -- a place within a range, both so many bytes further on
 le_shift : (g a i : ℕ) → nat_le (g + a) (g + i) ≡ nat_le a i
@@ -71,14 +74,14 @@ not_pinned n b iff isnt = elim (cases_lt 0 n) [
 ]
 
 -- what the first cluster of an offset has, in a table that is held for it
-pub first_stands : {S F : Type 0} (view : S → StorageView) (backing : F → BackingView) (old : Qcow2 S F) (p : Pending) (offset table cluster : ℕ) (first : FirstCluster) → cluster ≡ offset / cluster_size old.file.header.fields
+pub first_stands : {S F : Type 0} (view : S → StorageView) (backing : F → BackingView) (old : Qcow2 S F) (p : Pending) (offset table cluster : ℕ) (first : L2Mapping) → cluster ≡ offset / cluster_size old.file.header.fields
     → HoldsTable view backing old offset table
     → (IsEntryAt old.file.header.fields (known_in view old.file) (l1_index_of old.file.header.fields offset) table (cluster % entries_per_cluster old.file.header.fields) → cluster / entries_per_cluster old.file.header.fields ≡ l1_index_of old.file.header.fields offset
-    → IsFirst old.file.header.fields (known_in view old.file) cluster first)
-    → IsFirst old.file.header.fields (known_in view old.file) (offset / cluster_size old.file.header.fields) first
+    → cover old.file.header.fields (known_in view old.file) cluster ≡ first)
+    → cover old.file.header.fields (known_in view old.file) (offset / cluster_size old.file.header.fields) ≡ first
 first_stands view backing old p offset table cluster first is holds stands =
     let h = old.file.header.fields in
-    subst (λ g. IsFirst old.file.header.fields (known_in view old.file) g first) is
+    subst (λ g. cover old.file.header.fields (known_in view old.file) g ≡ first) is
     (stands (subst (λ g. IsEntryAt old.file.header.fields (known_in view old.file) (l1_index_of old.file.header.fields offset) table (g % entries_per_cluster old.file.header.fields)) (sym is) holds.entry)
     (ap (λ g. g / entries_per_cluster old.file.header.fields) is))
 
@@ -108,49 +111,58 @@ module _ {S F : Type 0} (view : S → StorageView) (backing : F → BackingView)
   pub back_none : (old : Qcow2 S F) (p : Pending) → ImageInvariant view backing p old out → (e : ImageError) → RefusedFillingStep view backing p old old out e
   back_none old p sound e = inl (subst (λ q. UnseenFillingStep view backing p q old old out) (sym (following_same view backing out p old old refl)) (goes_none view backing out old p sound))
 
+  -- nothing of a share in place is private
+  never_private : (image : Qcow2 S F) (p : Prepared) → p.shares.items ≡ InPlace ∷ [] → (o : ℕ) → IsTrue (is_private view backing image p o) → ⊥
+  never_private image p one o private =
+      let shared = private_shared view backing image p o private in
+      let is_one = one_share InPlace shared.share shared.index (ap (λ (l : List Share). slice_get l shared.index) (sym one) ∙ shared.is) in
+      absurd (let f : true ≡ false = sym shared.entered ∙ ap is_entered is_one.1 in cc)
+
   -- ---- in place
-  pub readied_in_place : (old new : Qcow2 S F) (k offset n table host : ℕ) (overwrite : Bool) → slice_get out k ≡ Some None → ImageInvariant view backing (pending_in view backing old out) old out → HoldsTable view backing old offset table
+  pub readied_in_place : (old new : Qcow2 S F) (like : Prepared) → like.shares.items ≡ InPlace ∷ [] → (k offset n table host : ℕ) (overwrite : Bool) → slice_get out k ≡ Some None → ImageInvariant view backing (pending_in view backing old out) old out → HoldsTable view backing old offset table
       → l2_pins old.file.caches table ≡ 0 → cover old.file.header.fields (known_in view old.file) (offset / cluster_size old.file.header.fields) ≡ Data host true → Pins table old new
-      → IsReadied view backing old new out k offset n overwrite (mapping_at old.file.header.fields (number_of old) table offset host None)
-  readied_in_place old new k offset n table host overwrite free sound holds unpinned is pins =
-      let p = mapping_at old.file.header.fields (number_of old) table offset host None in
+      → IsReadied view backing old new out k offset n overwrite (mapping_at old.file.header.fields (number_of old) table offset host like)
+  readied_in_place old new like one k offset n table host overwrite free sound holds unpinned is pins =
+      let p = mapping_at old.file.header.fields (number_of old) table offset host like in
       let q = pending_in view backing old out in
       let goes = goes_none view backing out old q sound in
-      let begin : begin_of old.file.header.fields (mapping_at old.file.header.fields (number_of old) table offset host None) ≡ host = omega arith in
-      let stands : IsInPlace old.file.header.fields (known_in view old.file) (contents_in view old.file) (mapping_at old.file.header.fields (number_of old) table offset host None) =
-      record { begins = omega arith; entry = is ∙ ap (λ b. Data b true) (sym begin) } in
-      let now : IsNowPending old out (mapping_at old.file.header.fields (number_of old) table offset host None) q q.surplus = record { held = λ c. omega arith; fresh = λ c. refl; spent = λ c. refl; dropped = λ c. refl; surplus = refl } in
+      let begin : host_of old.file.header.fields (mapping_at old.file.header.fields (number_of old) table offset host like) 0 ≡ host = omega arith in
+      let first : cluster_of old.file.header.fields (mapping_at old.file.header.fields (number_of old) table offset host like) + 0 ≡ offset / cluster_size old.file.header.fields = omega arith in
+      let stands : IsShareAt old.file.header.fields (known_in view old.file) (contents_in view old.file) (mapping_at old.file.header.fields (number_of old) table offset host like) 0 InPlace =
+      ap (cover old.file.header.fields (known_in view old.file)) first ∙ is ∙ ap (λ b. Data b true) (sym begin) in
+      let now : IsNowPending old out (mapping_at old.file.header.fields (number_of old) table offset host like) q q.surplus =
+      record { held = λ c. (let none : held_in like.shares.items c ≡ 0 = ap (λ (l : List Share). held_in l c) one in omega arith); fresh = λ c. refl; spent = λ c. refl; dropped = λ c. refl; surplus = refl } in
       let caches = new.file.caches in
       let more = pins.pins holds.held unpinned in
-      subst (λ (image : Qcow2 S F). IsReadied view backing old image out k offset n overwrite (mapping_at old.file.header.fields (number_of old) table offset host None)) (sym pins.rest)
-      (readied view backing old old out k free q goes offset table host None holds unpinned stands new.file.caches pins.tables more now n overwrite
-      (prepared_by view backing old old out k free q goes offset table host None holds unpinned stands new.file.caches pins.tables more now n overwrite (λ o private. absurd (let e : false ≡ true = private in cc))))
+      subst (λ (image : Qcow2 S F). IsReadied view backing old image out k offset n overwrite (mapping_at old.file.header.fields (number_of old) table offset host like)) (sym pins.rest)
+      (readied view backing old old out k free q goes offset table host InPlace like one holds unpinned stands new.file.caches pins.tables more now n overwrite
+      (prepared_by view backing old old out k free q goes offset table host InPlace like one holds unpinned stands new.file.caches pins.tables more now n overwrite (λ o private. absurd (never_private old p one o private))))
 
   -- ---- in a new cluster
-  module _ (old filled mid : Qcow2 S F) (n : NewCluster) (k offset length table host : ℕ) (overwrite : Bool) (free : slice_get out k ≡ Some None) (sound : ImageInvariant view backing (pending_in view backing old out) old out)
-      (holds : HoldsTable view backing old offset table) (unpinned : l2_pins old.file.caches table ≡ 0) (uncovered : cover old.file.header.fields (known_in view old.file) (offset / cluster_size old.file.header.fields) ≡ Uncovered)
-      (gained : IsGained view backing (pending_in view backing old out) old filled out offset length overwrite n.pending) (nameable : IsHostCluster old.file.header.fields.cluster_bits n.pending.first_cluster)
-      (keeps : UnseenStep view backing (with_held (pending_then (pending_in view backing old out) old filled) (run_of n.pending)) (with_held (pending_then (pending_in view backing old out) old filled) (run_of n.pending)) filled mid out)
-      (list : mid.file.free_list ≡ filled.file.free_list) (found : IsSome (l2_at mid.file.caches table)) (host_is : host ≡ n.pending.first_cluster * cluster_size mid.file.header.fields)
-      (index_is : n.index ≡ l2_index_of mid.file.header.fields offset) (same : SameHeld view backing (with_held (pending_then (pending_in view backing old out) old filled) (run_of n.pending)) filled mid) where
+  module _ (old filled mid : Qcow2 S F) (n : ClustersToFreeEntry) (mapping : L2Mapping) (reach : IsInReach mapping) (other : is_copied_data mapping ≡ false) (taken dropped : List ClustersToFreeEntry) (taken_is : taken ≡ n ∷ []) (dropped_is : dropped ≡ listed_run (named_run old.file.header.fields.cluster_bits mapping)) (like : Prepared) (one : like.shares.items ≡ New taken dropped ∷ []) (k offset length table host : ℕ) (overwrite : Bool) (free : slice_get out k ≡ Some None) (sound : ImageInvariant view backing (pending_in view backing old out) old out)
+      (holds : HoldsTable view backing old offset table) (unpinned : l2_pins old.file.caches table ≡ 0) (covered : cover old.file.header.fields (known_in view old.file) (offset / cluster_size old.file.header.fields) ≡ mapping)
+      (gained : IsGained view backing (pending_in view backing old out) old filled out offset length overwrite mapping n) (nameable : IsHostCluster old.file.header.fields.cluster_bits n.first_cluster)
+      (keeps : UnseenStep view backing (with_held (pending_then (pending_in view backing old out) old filled) (run_of n)) (with_held (pending_then (pending_in view backing old out) old filled) (run_of n)) filled mid out)
+      (list : mid.file.free_list ≡ filled.file.free_list) (found : IsSome (l2_at mid.file.caches table)) (host_is : host ≡ n.first_cluster * cluster_size mid.file.header.fields)
+      (same : SameHeld view backing (with_held (pending_then (pending_in view backing old out) old filled) (run_of n)) filled mid) where
     abbrev before : Pending
     before = pending_in view backing old out
 
     abbrev q : Pending
-    q = with_held (pending_then before old filled) (run_of n.pending)
+    q = with_held (pending_then before old filled) (run_of n)
 
     all_held : HoldsAll view backing before out
     all_held c = omega arith
 
     pub goes_on : UnseenFillingStep view backing before q old mid out
     goes_on = goes_then view backing out old filled mid before q q gained.goes
-        (goes_kept view backing out filled mid q q gained.goes.sound (still_holds view backing out old filled before n.pending gained.one all_held gained.goes) (still_holds view backing out old filled before n.pending gained.one all_held gained.goes) keeps)
+        (goes_kept view backing out filled mid q q gained.goes.sound (still_holds view backing out old filled before n gained.one all_held gained.goes) (still_holds view backing out old filled before n gained.one all_held gained.goes) keeps)
 
     abbrev hm : HeaderFields
     hm = mid.file.header.fields
 
     abbrev p : Prepared
-    p = mapping_at hm (number_of mid) table offset host (Some n)
+    p = mapping_at hm (number_of mid) table offset host like
 
     holds_now : HoldsTable view backing mid offset table
     holds_now = holds_still old mid before q offset table sound goes_on holds found
@@ -158,20 +170,30 @@ module _ {S F : Type 0} (view : S → StorageView) (backing : F → BackingView)
     unpinned_now : l2_pins mid.file.caches table ≡ 0
     unpinned_now = goes_on.sound.pinned table ∙ sym (sound.pinned table) ∙ unpinned
 
-    stands : IsNewFor hm (known_in view mid.file) (contents_in view mid.file) p n
+    first_cluster : cluster_of hm p + 0 ≡ offset / cluster_size hm
+    first_cluster = omega arith
+
+    stays_covered : cover hm (known_in view mid.file) (cluster_of hm p + 0) ≡ mapping
+    stays_covered = ap (cover hm (known_in view mid.file)) first_cluster ∙ ap (λ size. cover hm (known_in view mid.file) (offset / size)) (size_format old.file.header.fields hm goes_on.header)
+        ∙ cover_format old.file.header.fields hm goes_on.header (known_in view mid.file) (offset / cluster_size old.file.header.fields) ∙ sym (goes_on.covers (offset / cluster_size old.file.header.fields)) ∙ covered
+
+    stands : IsNewAt hm (known_in view mid.file) (contents_in view mid.file) p 0 taken dropped
     stands = record {
-      begins = ap (λ x. x + offset % cluster_size hm) (sym host_is);
-      one = gained.one;
-      kind = gained.kind;
-      nameable = subst (λ (x : HeaderFields). IsHostCluster x.cluster_bits n.pending.first_cluster) (sym goes_on.header) nameable;
-      index = index_is;
-      entry = ap (λ size. cover hm (known_in view mid.file) (offset / size)) (size_format old.file.header.fields hm goes_on.header) ∙ cover_format old.file.header.fields hm goes_on.header (known_in view mid.file) (offset / cluster_size old.file.header.fields)
-          ∙ sym (goes_on.covers (offset / cluster_size old.file.header.fields)) ∙ uncovered;
+      first = n.first_cluster;
+      is = taken_is ∙ ap (λ (e : ClustersToFreeEntry). e ∷ []) (ap (λ c. record n { count = c }) gained.one ∙ ap (λ x. record n { count = 1; kind = x }) gained.kind);
+      place = sym host_is ∙ omega arith;
+      nameable = subst (λ (x : HeaderFields). IsHostCluster x.cluster_bits n.first_cluster) (sym goes_on.header) nameable;
+      entry = ap is_copied_data stays_covered ∙ other;
+      reach = subst IsInReach (sym stays_covered) reach;
+      drops = dropped_is ∙ ap (λ (x : HeaderFields). listed_run (named_run x.cluster_bits mapping)) (sym goes_on.header) ∙ ap (λ v. listed_run (named_run hm.cluster_bits v)) (sym stays_covered);
     }
 
     now : IsNowPending mid out p q before.surplus
     now = record {
-      held = λ c. refl;
+      held = λ c.
+          let mine : held_in like.shares.items c ≡ to_free of_data taken c = ap (λ (l : List Share). held_in l c) one ∙ omega arith in
+          let as_data : to_free of_data taken c ≡ run_of n c = ap (λ l. to_free of_data l c) taken_is ∙ ap (λ x. of_data x (run_of n c) + 0) gained.kind ∙ omega arith in
+          omega arith;
       fresh = λ c. refl;
       spent = λ c. let same = ap (λ l. to_free of_tables l c) list in let more = ap (λ l. to_free of_tables l c) gained.goes.list.is ∙ free_more of_tables old.file.free_list gained.goes.list.more c in omega arith;
       dropped = λ c. let same = ap (λ l. to_free of_data l c) list in let more = ap (λ l. to_free of_data l c) gained.goes.list.is ∙ free_more of_data old.file.free_list gained.goes.list.more c in omega arith;
@@ -184,7 +206,7 @@ module _ {S F : Type 0} (view : S → StorageView) (backing : F → BackingView)
       pinned = record mid { file = record mid.file { caches = new.file.caches } }
 
       byte_of : (size : ℕ) → size ≡ cluster_size old.file.header.fields → (o : ℕ) → o / size ≡ offset / size → (overwrite && is_within offset (min length (size - offset % size)) o ≡ false)
-          → known_byte (contents_in view filled.file (n.pending.first_cluster * size + o % size)) ≡ (guest_of (abstract_of view backing old out)).disk.value o
+          → known_byte (contents_in view filled.file (n.first_cluster * size + o % size)) ≡ (guest_of (abstract_of view backing old out)).disk.value o
       byte_of size is o here opened =
           let h = old.file.header.fields in
           let open_there : is_announced (cluster_size h) offset length overwrite (o % cluster_size h) ≡ false =
@@ -194,28 +216,27 @@ module _ {S F : Type 0} (view : S → StorageView) (backing : F → BackingView)
           let offset_is : offset / cluster_size h * cluster_size h + offset % cluster_size h ≡ offset = div-add-mod' offset (cluster_size h) in
           let product : o / cluster_size h * cluster_size h ≡ offset / cluster_size h * cluster_size h = ap (λ c. c * cluster_size h) same_guest in
           let place : offset - offset % cluster_size h + o % cluster_size h ≡ o = omega arith in
-          let below = backing_bytes view backing old.backing in
-          ap (λ x. known_byte (contents_in view filled.file (n.pending.first_cluster * x + o % x))) is
-          ∙ ap known_byte (gained.filled (o % cluster_size h) (mod_below o (cluster_size h) (pow_pos h.cluster_bits)) open_there ∙ ap (backing_bytes view backing old.backing) place)
-          ∙ sym (shown_uncovered (state_in view old.file before) sound.file.caches.kept.kept.guarded (backing_bytes view backing old.backing) o (ap (cover h (known_in view old.file)) same_guest ∙ uncovered))
+          ap (λ x. known_byte (contents_in view filled.file (n.first_cluster * x + o % x))) is
+          ∙ gained.filled covered (o % cluster_size h) (mod_below o (cluster_size h) (pow_pos h.cluster_bits)) open_there ∙ ap (disk_of view backing old).value place
 
-      held_place : (o : ℕ) → 0 < q.held ((n.pending.first_cluster * cluster_size hm + o % cluster_size hm) / cluster_size filled.file.header.fields)
+      held_place : (o : ℕ) → 0 < q.held ((n.first_cluster * cluster_size hm + o % cluster_size hm) / cluster_size filled.file.header.fields)
       held_place o =
           let size : cluster_size filled.file.header.fields ≡ cluster_size hm = size_format old.file.header.fields filled.file.header.fields gained.goes.header ∙ sym (size_format old.file.header.fields hm goes_on.header) in
-          let there = div-mul-add n.pending.first_cluster (cluster_size hm) (o % cluster_size hm) (mod_below o (cluster_size hm) (pow_pos hm.cluster_bits)) in
-          subst (λ c. 0 < q.held c) (sym (ap (λ x. (n.pending.first_cluster * cluster_size hm + o % cluster_size hm) / x) size ∙ there)) (taken_held view backing out old filled before n.pending gained.one all_held gained.goes)
+          let there = div-mul-add n.first_cluster (cluster_size hm) (o % cluster_size hm) (mod_below o (cluster_size hm) (pow_pos hm.cluster_bits)) in
+          subst (λ c. 0 < q.held c) (sym (ap (λ x. (n.first_cluster * cluster_size hm + o % cluster_size hm) / x) size ∙ there)) (taken_held view backing out old filled before n gained.one all_held gained.goes)
 
       old_values : (o : ℕ) → IsTrue (is_private view backing pinned p o) → (overwrite && is_within offset (min length (cluster_size hm - offset % cluster_size hm)) o ≡ false) → (meaning view backing pinned p).shown o ≡ (guest_of (abstract_of view backing old out)).disk.value o
       old_values o private opened =
           let more = pins.pins found unpinned_now in
-          let here = private_inside view backing old mid out k free q goes_on offset table host (Some n) holds_now unpinned_now stands new.file.caches pins.tables more now o private in
-          let begin : begin_of hm p + o % cluster_size hm ≡ n.pending.first_cluster * cluster_size hm + o % cluster_size hm = omega (arith, host_is) in
-          ap known_byte (cond-true _ _ _ private ∙ ap (contents_in view mid.file) begin ∙ same (n.pending.first_cluster * cluster_size hm + o % cluster_size hm) (held_place o))
+          let here = private_inside view backing old mid out k free q goes_on offset table host (New taken dropped) like one holds_now unpinned_now stands new.file.caches pins.tables more now o private in
+          let place = place_in hm p o 0 (here ∙ sym first_cluster) in
+          let begin : place_of hm p o ≡ n.first_cluster * cluster_size hm + o % cluster_size hm = omega (arith, host_is, place) in
+          ap known_byte (cond-true _ _ _ private ∙ ap (contents_in view mid.file) begin ∙ same (n.first_cluster * cluster_size hm + o % cluster_size hm) (held_place o))
           ∙ byte_of (cluster_size hm) (ap (λ (x : HeaderFields). cluster_size x) goes_on.header) o here opened
 
       pub readied_new : IsReadied view backing old new out k offset length overwrite p
       readied_new =
           let more = pins.pins found unpinned_now in
           subst (λ (image : Qcow2 S F). IsReadied view backing old image out k offset length overwrite p) (sym pins.rest)
-          (readied view backing old mid out k free q goes_on offset table host (Some n) holds_now unpinned_now stands new.file.caches pins.tables more now length overwrite
-          (prepared_by view backing old mid out k free q goes_on offset table host (Some n) holds_now unpinned_now stands new.file.caches pins.tables more now length overwrite old_values))
+          (readied view backing old mid out k free q goes_on offset table host (New taken dropped) like one holds_now unpinned_now stands new.file.caches pins.tables more now length overwrite
+          (prepared_by view backing old mid out k free q goes_on offset table host (New taken dropped) like one holds_now unpinned_now stands new.file.caches pins.tables more now length overwrite old_values))

@@ -74,7 +74,7 @@ module _ {S F : Type 0} (view : S → StorageView) (backing : F → BackingView)
 
   -- a mapping that is out keeps the table that is held for an offset
   module _ (offset table : ℕ) (holds : HoldsTable view backing image offset table) where
-    in_same : (q : Prepared) (t : Option ℕ) → t ≡ Some table → IsReadyWith h (known_in view image.file) (contents_in view image.file) q t → l1_index_of h q.guest ≡ l1_index_of h offset
+    pub in_same : (q : Prepared) (t : Option ℕ) → t ≡ Some table → IsReadyWith h (known_in view image.file) (contents_in view image.file) q t → l1_index_of h q.guest ≡ l1_index_of h offset
     in_same q None is ready = absurd cc
     in_same q (Some t) is ready =
         let pending : IsPending h (known_in view image.file) (contents_in view image.file) q t = ready in

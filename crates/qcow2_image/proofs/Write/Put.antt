@@ -1,9 +1,10 @@
--- Bytes are put into a prepared mapping: over data in place, or into its private cluster.
-use Rattle.std.proofs.Common.{◌≡◌, ◌≢◌, ◌⊎◌, inl, inr, ℕ, ◌+◌, ◌-◌, ◌*◌, ◌/◌, ◌%◌, ◌<◌, ◌≤◌, Bool, true, false, List, length, [], ◌∷◌, refl, sym, ap, ◌∙◌, subst, arith, is_some, cond, eqb}
-use Rattle.std.specs.Prelude.{Option, Some, None, slice_get, if◌then◌else◌, ◌==◌, ◌&&◌}
-use Rattle.std.proofs.lemmas.Bool.{eqb-true}
+-- Bytes are put into a prepared mapping: by one write, over what is in place, and into what is private.
+use Rattle.std.proofs.Common.{◌≡◌, ◌≢◌, inl, inr, ℕ, ◌+◌, ◌-◌, ◌*◌, ◌/◌, ◌%◌, ◌<◌, ◌≤◌, Bool, true, false, List, length, [], ◌∷◌, get_or, refl, sym, ap, ◌∙◌, subst, arith, cond, eqb}
+use Rattle.std.specs.Prelude.{Option, Some, None, IsTrue, slice_get, if◌then◌else◌}
+use Rattle.std.specs.Option.{option_map_or}
 use Rattle.std.proofs.lemmas.Bool.{cases_lt, cases_eq, cond-true, cond-false, eq-eqb, ne_eqb}
-use Rattle.std.proofs.lemmas.Nat.{div-mul-add, div-add-mod'}
+use Rattle.std.proofs.lemmas.Nat.{div-add-mod', mod_below, pow_pos}
+use Rattle.std.proofs.lemmas.Option.{slice_get-get_or, slice_get_within}
 use mathlib.Core.Path.{fun_ext}
 use Rattle.image_access.specs.Backing.{BackingView}
 use Rattle.image_access.specs.Contents.{overwritten}
@@ -11,243 +12,274 @@ use Rattle.image_access.specs.Moments.{StorageView, Passing}
 use Rattle.qcow2_metadata.specs.Bytes.{byte_at, is_within, laid_over}
 use Rattle.qcow2_metadata.specs.declared.header.HeaderFields.{HeaderFields}
 use Rattle.qcow2_metadata.specs.Header.{cluster_size}
+use Rattle.qcow2_metadata.specs.Cover.{cover}
 use Rattle.qcow2_metadata.specs.Guest.{known_byte}
-use Rattle.qcow2_metadata.specs.Named.{named_for_tables}
+use Rattle.qcow2_metadata.specs.Named.{in_cluster, named_by_cover, named_for_tables}
+use Rattle.qcow2_metadata.specs.declared.l2_mapping.L2Mapping.TheVariants.{Data, Zero}
 use Rattle.qcow2_laws.specs.Alike.{AreDataAt}
-use Rattle.qcow2_laws.specs.Calls.{Works, with_disk}
+use Rattle.qcow2_laws.specs.Calls.{Works}
 use Rattle.qcow2_laws.specs.Disk.{Disk, disk, with_bytes}
 use Rattle.qcow2_laws.specs.CrashInvariant.{Pending}
-use Rattle.qcow2_laws.specs.Mappings.{PreparedMapping, gift_of, put_mapping, put_disk}
-use Rattle.qcow2_laws.specs.AbstractImages.{Guest, guest_of, meaning_at}
-use Rattle.qcow2_laws.proofs.Compose.{works_less}
+use Rattle.qcow2_laws.specs.Guests.{names}
+use Rattle.qcow2_laws.specs.GuestLaws.{Hosting, IsHostedAt, IsHeld, IsGivenAt, WritesRun}
+use Rattle.qcow2_laws.specs.GuestLaws.{InPlace as HostedInPlace, Kept as HostedKept, Held as HostedHeld, is_private as is_hosted_privately}
+use Rattle.qcow2_laws.specs.Mappings.{PreparedMapping, gift_of_put, put_mapping, put_disk}
+use Rattle.qcow2_laws.specs.AbstractImages.{guest_of, meaning_at}
+use Rattle.qcow2_laws.specs.SafeSteps.{DriverState}
+use Rattle.qcow2_laws.specs.Stops.{GivenBytes, IsGiven}
+use Rattle.qcow2_laws.proofs.Consistency.{in_own}
 use Rattle.qcow2_laws.proofs.ForUsers.{laid_inside, laid_outside}
-use Rattle.qcow2_laws.specs.GuestLaws.{InPlace, WritesRun}
-use Rattle.qcow2_laws.proofs.PutRuns.{beside_tables, private_written, written_over}
-use Rattle.qcow2_laws.proofs.Shown.{Writes}
-use Rattle.qcow2_laws.specs.Tops.{WritesAt}
-use Rattle.qcow2_laws.specs.Writes.{IsUnnamed}
-use Rattle.qcow2_laws.proofs.Writes.{held_is_unnamed}
+use Rattle.qcow2_laws.proofs.KeptClusters.{kept_aligned, kept_unlaid}
+use Rattle.qcow2_laws.proofs.Places.{in_one}
+use Rattle.qcow2_laws.proofs.PutRuns.{beside_tables, run_written}
+use Rattle.qcow2_alloc.specs.declared.clusters_to_free.ClustersToFreeEntry.{ClustersToFreeEntry}
 use Rattle.qcow2_alloc.specs.declared.image_storage.ImageStorage.{ImageStorage}
 use Rattle.qcow2_alloc.specs.ImageStorage.{storage_of}
-use Rattle.qcow2_alloc.specs.MetadataCaches.{order_of}
 use Rattle.qcow2_alloc.specs.ImageFile.{state_in, view_in, contents_in, known_in}
 use Rattle.qcow2_image.specs.declared.image.Qcow2.{Qcow2}
 use Rattle.qcow2_image.specs.declared.prepared.Prepared.{Prepared}
-use Rattle.qcow2_image.specs.declared.prepared.NewCluster.{NewCluster}
+use Rattle.qcow2_image.specs.declared.prepared.Share.{Share}
+use Rattle.qcow2_image.specs.declared.prepared.Share.TheVariants.{InPlace, Kept, New}
 use Rattle.qcow2_image.specs.CallParts.{put_guest}
-use Rattle.qcow2_image.specs.ImageInvariant.{held_by, pending_in, abstract_of, meaning, is_private, begin_of, backing_bytes, HasCluster, IsNewFor, IsPending, ImageInvariant}
-use Rattle.qcow2_image.proofs.Call.Answered.{same_guest, same_mapping, same_meaning, same_slot, ready_table, holds_own, holds_one}
+use Rattle.qcow2_image.specs.ImageInvariant.{to_free, of_data, held_by, pending_in, abstract_of, meaning, is_entered, is_new, is_private, cluster_of, place_of, share_of, host_of, backing_bytes, IsNewAt, IsShareAt, IsPending, IsReadyWith, ImageInvariant}
+use Rattle.qcow2_image.proofs.Apart.{apart_guests}
+use Rattle.qcow2_image.proofs.Call.Answered.{same_guest, same_mapping, same_meaning}
 use Rattle.qcow2_image.proofs.Call.Slots.{over_all_two}
 use Rattle.qcow2_image.proofs.Call.Stepped.{Steps, stepped_works, stepped_sound}
-use Rattle.qcow2_image.proofs.Write.Written.{written, writes, there, steps_written}
+use Rattle.qcow2_image.proofs.Shares.{Standing, in_new, in_kept, byte_cluster, byte_place, byte_share, held_at, held_once, host_cluster, no_share, over_all_at, private_shared, private_stands, ready_table, share_here}
+use Rattle.qcow2_image.proofs.Write.Written.{written, writes, but, there, steps_written}
 
 -- what lies over counts alone where it lies
 laid_same : {A : Type 0} (place n : ℕ) (top under under' : ℕ → A) (o : ℕ) → under o ≡ under' o → laid_over place n top under o ≡ laid_over place n top under' o
 unfolding laid_over
 laid_same place n top under under' o same = ap (λ u. if is_within place n o then top (o - place) else u) same
 
--- where nothing of it is private, they are on the disk
-put_in_place : (g : Guest) (k : ℕ) (m : PreparedMapping) (at : ℕ) (bytes : List ℕ) → g.slots k ≡ Some m → ((o : ℕ) → m.is_private o ≡ false) → put_guest g k m at bytes ≡ with_disk g (with_bytes g.disk (m.from + at) bytes)
-put_in_place g k m at bytes there none =
-    let shown : (o : ℕ) → (put_mapping m at bytes).shown o ≡ m.shown o = λ o. cond-false _ _ _ (none o) in
-    let value : (o : ℕ) → (put_disk g.disk m at bytes).value o ≡ (with_bytes g.disk (m.from + at) bytes).value o = λ o. cond-false _ _ _ (none o) in
-    let still : put_mapping m at bytes ≡ m = ap (λ f. record m { shown = f }) (fun_ext shown) in
-    let slot : (j : ℕ) → (put_guest g k m at bytes).slots j ≡ g.slots j = λ j. elim (cases_eq j k) [
-      | inl here ↦ cond-true _ _ _ (eq-eqb _ _ here) ∙ ap Some still ∙ sym there ∙ ap g.slots (sym here)
-      | inr other ↦ cond-false _ _ _ (ne_eqb _ _ other)
-    ] in
-    same_guest _ _ (ap (λ f. record g.disk { value = f }) (fun_ext value)) (fun_ext slot)
+-- how the bytes of a guest cluster have a place to themselves, by its share
+abbrev pub hosted_as : Option Share → Hosting
+hosted_as None = HostedInPlace
+hosted_as (Some InPlace) = HostedInPlace
+hosted_as (Some Kept) = HostedKept
+hosted_as (Some (New taken dropped)) = HostedHeld
+
+hosted_private : (m : Option Share) → is_hosted_privately (hosted_as m) ≡ option_map_or is_entered m false
+hosted_private None = refl
+hosted_private (Some InPlace) = refl
+hosted_private (Some Kept) = refl
+hosted_private (Some (New taken dropped)) = refl
+
+-- what isn't hidden is given
+put_has : (d : Disk) (m : PreparedMapping) (at : ℕ) (bytes : List ℕ) (i : ℕ) → i < length bytes → m.is_hidden (m.from + at + i) ≡ false → IsGiven (gift_of_put d m at bytes ∷ []) (m.from + at + i) (known_byte (byte_at bytes i))
+put_has d m at bytes i lt shown =
+    let from = m.from + at in
+    let there : from + i - from ≡ i = omega arith in
+    let here : from + (from + i - from) ≡ from + i = omega arith in
+    let is : (if m.is_hidden (from + (from + i - from)) then d.value (from + (from + i - from)) else known_byte (byte_at bytes (from + i - from))) ≡ known_byte (byte_at bytes i) =
+    cond-false _ _ _ (ap m.is_hidden here ∙ shown) ∙ ap (λ n. known_byte (byte_at bytes n)) there in
+    inl (omega arith, omega (arith, lt), sym is)
+
+-- so it is by each share
+given_as : (d : Disk) (m : PreparedMapping) (at : ℕ) (bytes : List ℕ) (i : ℕ) → i < length bytes → (x : Option Share) → m.is_hidden (m.from + at + i) ≡ option_map_or is_new x false
+    → IsGivenAt (gift_of_put d m at bytes ∷ []) (hosted_as x) (m.from + at + i) (byte_at bytes i)
+given_as d m at bytes i lt None is = put_has d m at bytes i lt is
+given_as d m at bytes i lt (Some InPlace) is = put_has d m at bytes i lt is
+given_as d m at bytes i lt (Some Kept) is = put_has d m at bytes i lt is
+given_as d m at bytes i lt (Some (New taken dropped)) is = tt
 
 module _ {S F : Type 0} (view : S → StorageView) (backing : F → BackingView) (old : Qcow2 S F) (out : List (Option Prepared)) (sound : ImageInvariant view backing (pending_in view backing old out) old out)
-    (storage : ImageStorage S) (host : ℕ) (bytes : List ℕ) (is : (view (storage_of storage)).contents ≡ overwritten (view_in view old.file).contents host bytes)
-    (honest : (view (storage_of storage)).is_honest) (time : Passing (view_in view old.file) (view (storage_of storage)) (λ c. c ≡ (view (storage_of storage)).contents)) where
+    (storage : ImageStorage S) (bytes : List ℕ) (k : ℕ) (q : Prepared) (at : ℕ) (is : (view (storage_of storage)).contents ≡ overwritten (view_in view old.file).contents (q.offset + at) bytes)
+    (honest : (view (storage_of storage)).is_honest) (time : Passing (view_in view old.file) (view (storage_of storage)) (λ c. c ≡ (view (storage_of storage)).contents))
+    (placed : slice_get out k ≡ Some (Some q)) (fits : at + length bytes ≤ q.length) (in_place : q.table ≡ None → AreDataAt old.file.header.fields (known_in view old.file) true (q.guest + at) (q.offset + at) (length bytes)) where
   abbrev new : Qcow2 S F
-  new = written view backing old out sound storage host bytes is
+  new = written view backing old out sound storage (q.offset + at) bytes is
 
   abbrev before : Pending
   before = pending_in view backing old out
 
-  -- ---- over data in place
-  module _ (offset : ℕ) (are : AreDataAt old.file.header.fields (known_in view old.file) true offset host (length bytes)) where
-    no_table : (i : ℕ) → i < length bytes → named_for_tables old.file.header.fields (contents_in view old.file) ((host + i) / cluster_size old.file.header.fields) ≡ 0
-    no_table i lt = beside_tables (state_in view old.file before) InPlace (offset + i) (host + i) sound.file.caches.kept.kept.guarded (are i lt)
+  abbrev s : DriverState
+  s = state_in view old.file before
 
-    over : WritesRun (λ _. InPlace) offset host bytes (gift_of offset bytes ∷ []) (state_in view old.file before) (state_in view new.file before)
-    over = written_over (state_in view old.file before) (contents_in view new.file) (known_in view new.file) sound.file.caches.kept.kept.guarded offset host bytes are
-        (writes view backing old out sound storage host bytes is no_table) (there view backing old out sound storage host bytes is)
+  abbrev h : HeaderFields
+  h = old.file.header.fields
 
-    steps_over : Steps view backing old new out out (λ _. gift_of offset bytes ∷ []) before
-    steps_over = steps_written view backing old out sound storage host bytes is no_table (λ _. gift_of offset bytes ∷ []) honest time over.leads over.covers
+  abbrev size : ℕ
+  size = cluster_size h
 
-    pub over_works : Works (abstract_of view backing old out) (abstract_of view backing new out) (gift_of offset bytes ∷ []) []
-    over_works = stepped_works view backing old new out out (λ _. gift_of offset bytes ∷ []) before steps_over
+  abbrev m : PreparedMapping
+  m = meaning view backing old q
 
-    pub over_sound : ImageInvariant view backing (pending_in view backing new out) new out
-    over_sound = stepped_sound view backing old new out out (λ _. gift_of offset bytes ∷ []) before steps_over
+  abbrev gifts : List GivenBytes
+  gifts = gift_of_put (guest_of (abstract_of view backing old out)).disk m at bytes ∷ []
 
-    pub over_seen : guest_of (abstract_of view backing new out) ≡ with_disk (guest_of (abstract_of view backing old out)) (with_bytes (guest_of (abstract_of view backing old out)).disk offset bytes)
-    over_seen = same_guest _ _ (over.shows (backing_bytes view backing old.backing))
-        (fun_ext (λ k. same_slot view backing old new out before sound refl (λ o some. sym ((over.held (o / cluster_size old.file.header.fields) some (λ i lt none. absurd none)).0 o refl)) k (slice_get out k) refl))
+  abbrev hosting : ℕ → Hosting
+  hosting o = hosted_as (share_of h q (o / size))
 
-    pub put_in_place_seen : (k : ℕ) (q : Prepared) (at : ℕ) → slice_get out k ≡ Some (Some q) → q.new_cluster ≡ None → offset ≡ q.guest + at
-        → guest_of (abstract_of view backing new out) ≡ put_guest (guest_of (abstract_of view backing old out)) k (meaning view backing old q) at bytes
-    put_in_place_seen k q at there none from =
-        over_seen ∙ ap (λ o. with_disk (guest_of (abstract_of view backing old out)) (with_bytes (guest_of (abstract_of view backing old out)).disk o bytes)) from
-        ∙ sym (put_in_place (guest_of (abstract_of view backing old out)) k (meaning view backing old q) at bytes (ap (meaning_at (meaning view backing old)) there)
-        (λ o. ap (λ (m : Option NewCluster). is_some m && o / cluster_size old.file.header.fields == q.guest / cluster_size old.file.header.fields) none))
+  -- ---- each byte has its place to itself
+  -- a new cluster of it is held
+  held_mine : (j : ℕ) (taken dropped : List ClustersToFreeEntry) → slice_get q.shares.items j ≡ Some (New taken dropped) → (stands : IsNewAt h s.known s.on_storage q j taken dropped) → 0 < held_by q stands.first
+  held_mine j taken dropped is_share stands =
+      let one : to_free of_data taken stands.first ≡ 1 = ap (λ l. to_free of_data l stands.first) stands.is ∙ held_once stands.first in
+      let mine = held_at q.shares.items j taken dropped is_share stands.first in
+      omega (arith, one, mine)
 
-  -- ---- into a new cluster
-  module _ (k : ℕ) (q : Prepared) (at : ℕ) (placed : slice_get out k ≡ Some (Some q)) (n : NewCluster) (fresh : q.new_cluster ≡ Some n) (fits : at + length bytes ≤ q.length) (from : host ≡ q.offset + at) where
-    abbrev hd : HeaderFields
-    hd = old.file.header.fields
+  hosted_share : (i j : ℕ) (share : Share) → (q.guest + at + i) / size ≡ cluster_of h q + j → q.offset + at + i ≡ host_of h q j + (q.guest + at + i) % size → slice_get q.shares.items j ≡ Some share → IsShareAt h s.known s.on_storage q j share
+      → IsHostedAt s (hosted_as (Some share)) (q.guest + at + i) (q.offset + at + i) × (IsHeld (hosted_as (Some share)) → 0 < held_by q ((q.offset + at + i) / size))
+  hosted_share i j InPlace here place is_share stands = ((host_of h q j, ap (cover h s.known) here ∙ stands, sym place), λ never. absurd never)
+  hosted_share i j Kept here place is_share stands = ((host_of h q j, ap (cover h s.known) here ∙ stands.entry, sym place), λ never. absurd never)
+  hosted_share i j (New taken dropped) here place is_share stands =
+      let there : (q.offset + at + i) / size ≡ stands.first = ap (λ n. n / size) place ∙ host_cluster h q j stands.first stands.place (q.guest + at + i) in
+      let mine = held_mine j taken dropped is_share stands in
+      let all = over_all_at held_by out k q placed stands.first in
+      (subst (λ c. 0 < before.held c) (sym there) (omega (arith, mine, all)), λ _. subst (λ c. 0 < held_by q c) (sym there) mine)
 
-    abbrev size : ℕ
-    size = cluster_size hd
+  hosts_pending : (t : ℕ) → IsPending h s.known s.on_storage q t → (i : ℕ) → i < length bytes
+      → IsHostedAt s (hosting (q.guest + at + i)) (q.guest + at + i) (q.offset + at + i) × (IsHeld (hosting (q.guest + at + i)) → 0 < held_by q ((q.offset + at + i) / size))
+  hosts_pending t pending i lt =
+      let j = (q.guest % size + at + i) / size in
+      let here = byte_cluster h q s.known s.on_storage t pending at i (length bytes) fits lt in
+      let place = byte_place h q s.known s.on_storage t pending at i (length bytes) fits lt in
+      let found = slice_get-get_or q.shares.items ((q.guest % size + at + i) / size) InPlace (byte_share h q s.known s.on_storage t pending at i (length bytes) fits lt) in
+      let share = get_or q.shares.items ((q.guest % size + at + i) / size) InPlace in
+      subst (λ (x : Option Share). IsHostedAt s (hosted_as x) (q.guest + at + i) (q.offset + at + i) × (IsHeld (hosted_as x) → 0 < held_by q ((q.offset + at + i) / size)))
+      (sym (ap (share_of h q) here ∙ share_here h q ((q.guest % size + at + i) / size) ∙ found)) (hosted_share i j share here place found (pending.each j share found))
 
-    abbrev m : PreparedMapping
-    m = meaning view backing old q
+  hosts_with : (t : Option ℕ) → q.table ≡ t → IsReadyWith h s.known s.on_storage q t → (i : ℕ) → i < length bytes
+      → IsHostedAt s (hosting (q.guest + at + i)) (q.guest + at + i) (q.offset + at + i) × (IsHeld (hosting (q.guest + at + i)) → 0 < held_by q ((q.offset + at + i) / size))
+  hosts_with None none ready i lt =
+      subst (λ (x : Option Share). IsHostedAt s (hosted_as x) (q.guest + at + i) (q.offset + at + i) × (IsHeld (hosted_as x) → 0 < held_by q ((q.offset + at + i) / size)))
+      (sym (no_share h q ready ((q.guest + at + i) / size))) (in_place none i lt, λ never. absurd never)
+  hosts_with (Some t) some pending i lt = hosts_pending t pending i lt
 
-    own_pending : (t : ℕ) × IsPending hd (known_in view old.file) (contents_in view old.file) q t
-    own_pending = ready_table view backing old old out q fresh (sound.ready k q placed).mapped
+  hosts : (i : ℕ) → i < length bytes → IsHostedAt s (hosting (q.guest + at + i)) (q.guest + at + i) (q.offset + at + i)
+  hosts i lt = (hosts_with q.table refl (sound.ready k q placed).mapped i lt).0
 
-    new_for : IsNewFor hd (known_in view old.file) (contents_in view old.file) q n
-    new_for = subst (HasCluster hd (known_in view old.file) (contents_in view old.file) q) fresh own_pending.1.cluster
+  no_table : (i : ℕ) → i < length bytes → named_for_tables h (contents_in view old.file) ((q.offset + at + i) / size) ≡ 0
+  no_table i lt = beside_tables s (hosting (q.guest + at + i)) (q.guest + at + i) (q.offset + at + i) sound.file.caches.kept.kept.guarded (hosts i lt)
 
-    -- each byte lies in its cluster
-    inside : (i : ℕ) → i < length bytes → (host + i) / size ≡ n.pending.first_cluster
-    inside i lt =
-        let begins = new_for.begins in
-        let within = own_pending.1.within in
-        let e : host + i ≡ n.pending.first_cluster * size + (q.guest % size + at + i) = omega arith in
-        ap (λ o. o / size) e ∙ div-mul-add n.pending.first_cluster size (q.guest % size + at + i) (omega arith)
+  -- ---- so one write goes over them
+  run : WritesRun hosting (q.guest + at) (q.offset + at) bytes gifts s (state_in view new.file before)
+  run = run_written s (contents_in view new.file) (known_in view new.file) hosting (q.guest + at) (q.offset + at) bytes gifts sound.file.caches.kept.kept.guarded hosts
+      (λ i lt. given_as (guest_of (abstract_of view backing old out)).disk m at bytes i lt (share_of h q ((q.guest + at + i) / size)) refl)
+      (writes view backing old out sound storage (q.offset + at) bytes is no_table) (there view backing old out sound storage (q.offset + at) bytes is)
 
-    held_own : 0 < before.held n.pending.first_cluster
-    held_own = holds_own view backing old old out before sound refl k q placed n fresh
+  steps : Steps view backing old new out out (λ _. gifts) before
+  steps = steps_written view backing old out sound storage (q.offset + at) bytes is no_table (λ _. gifts) honest time run.leads run.covers
 
-    unnamed : IsUnnamed hd (contents_in view old.file) (known_in view old.file) n.pending.first_cluster
-    unnamed = held_is_unnamed hd (order_of old.file.caches) before (contents_in view old.file) (known_in view old.file) sound.file.caches.kept.kept.guarded n.pending.first_cluster held_own
+  pub put_works : Works (abstract_of view backing old out) (abstract_of view backing new out) gifts []
+  put_works = stepped_works view backing old new out out (λ _. gifts) before steps
 
-    no_table_in : (i : ℕ) → i < length bytes → named_for_tables hd (contents_in view old.file) ((host + i) / size) ≡ 0
-    no_table_in i lt = ap (named_for_tables hd (contents_in view old.file)) (inside i lt) ∙ unnamed.no_table
+  pub put_sound : ImageInvariant view backing (pending_in view backing new out) new out
+  put_sound = stepped_sound view backing old new out out (λ _. gifts) before steps
 
-    outside : (o : ℕ) → o / size ≢ n.pending.first_cluster → (o < host) ⊎ (host + length bytes ≤ o)
-    outside o other = elim (cases_lt o host) [
-      | inl below ↦ inl below
-      | inr above ↦ elim (cases_lt o (host + length bytes)) [
-        | inr past ↦ inr past
-        | inl lt ↦ absurd (let e : host + (o - host) ≡ o = omega arith in other (ap (λ i. i / size) (sym e) ∙ inside (o - host) (omega arith)))
-      ]
-    ]
+  -- ---- what the disk shows
+  put_shows : (d : Disk) (o : ℕ) → cond (is_hosted_privately (hosting o)) (d.value o) ((with_bytes d (q.guest + at) bytes).value o) ≡ (put_disk d m at bytes).value o
+  put_shows d o = ap (λ b. cond b (d.value o) ((with_bytes d (q.guest + at) bytes).value o)) (hosted_private (share_of h q (o / size)))
 
-    alone : WritesAt host (length bytes) (contents_in view old.file) (known_in view old.file) (contents_in view new.file) (known_in view new.file)
-    alone = writes view backing old out sound storage host bytes is no_table_in
+  disk_is : disk (known_in view new.file) (backing_bytes view backing old.backing) ≡ put_disk (guest_of (abstract_of view backing old out)).disk m at bytes
+  disk_is =
+      let d = (guest_of (abstract_of view backing old out)).disk in
+      run.shows (backing_bytes view backing old.backing) ∙ ap (λ f. record d { value = f }) (fun_ext (λ o. put_shows d o))
 
-    private : Writes n.pending.first_cluster (state_in view old.file before) (state_in view new.file before) (λ _. []) (λ below. disk (known_in view old.file) below)
-    private = private_written (state_in view old.file before) (contents_in view new.file) (known_in view new.file) sound.file.caches.kept.kept.guarded n.pending.first_cluster held_own
-        (λ o other. alone.others o (outside o other)) (λ o other. alone.known_others o (outside o other)) alone.agree
+  -- ---- what the mapping shows: the new bytes
+  place_is : (o : ℕ) → IsTrue (is_private view backing old q o) → place_of h q o + q.guest ≡ q.offset + o
+  place_is o private =
+      let shared = private_shared view backing old q o private in
+      let pending = (ready_table view backing old s.known s.on_storage q shared.index shared.share shared.is (sound.ready k q placed).mapped).2 in
+      let begins = pending.begins in
+      let o_is : o / size * size + o % size ≡ o = div-add-mod' o size in
+      let g_is : q.guest / size * size + q.guest % size ≡ q.guest = div-add-mod' q.guest size in
+      let here : o / size * size ≡ (cluster_of h q + shared.index) * size = ap (λ n. n * size) shared.here in
+      let r : (cluster_of h q + shared.index) * size ≡ cluster_of h q * size + shared.index * size = omega arith in
+      omega arith
 
-    steps_private : Steps view backing old new out out (λ _. []) before
-    steps_private = steps_written view backing old out sound storage host bytes is no_table_in (λ _. []) honest time private.leads private.unseen.covers
-
-    pub private_works : Works (abstract_of view backing old out) (abstract_of view backing new out) (gift_of (q.guest + at) bytes ∷ []) []
-    private_works = works_less (abstract_of view backing old out) (abstract_of view backing new out) [] (gift_of (q.guest + at) bytes ∷ []) [] (λ o v none. absurd none) (stepped_works view backing old new out out (λ _. []) before steps_private)
-
-    pub private_sound : ImageInvariant view backing (pending_in view backing new out) new out
-    private_sound = stepped_sound view backing old new out out (λ _. []) before steps_private
-
-    -- it shows the new bytes
-    place_of : (o : ℕ) → o / size ≡ q.guest / size → begin_of hd q + o % size + q.guest ≡ q.offset + o
-    place_of o here =
-        let begins = new_for.begins in
-        let o_is : o / size * size + o % size ≡ o = div-add-mod' o size in
-        let g_is : q.guest / size * size + q.guest % size ≡ q.guest = div-add-mod' q.guest size in
-        let same : o / size * size ≡ q.guest / size * size = ap (λ c. c * size) here in
-        omega arith
-
-    private_byte : (o : ℕ) → o / size ≡ q.guest / size → known_byte (contents_in view new.file (begin_of hd q + o % size))
-        ≡ laid_over (q.guest + at) (length bytes) (λ i. known_byte (byte_at bytes i)) (λ p. known_byte (contents_in view old.file (begin_of hd q + p % size))) o
-    private_byte o here =
-        let at_place = place_of o here in
-        elim (cases_lt o (q.guest + at)) [
-          | inl below ↦
-              ap known_byte (sym (alone.others (begin_of hd q + o % size) (inl (omega arith))))
-              ∙ sym (laid_outside (q.guest + at) (length bytes) (λ i. known_byte (byte_at bytes i)) (λ p. known_byte (contents_in view old.file (begin_of hd q + p % size))) o (inl below))
-          | inr above ↦ elim (cases_lt o (q.guest + at + length bytes)) [
-            | inr past ↦
-                ap known_byte (sym (alone.others (begin_of hd q + o % size) (inr (omega arith))))
-                ∙ sym (laid_outside (q.guest + at) (length bytes) (λ i. known_byte (byte_at bytes i)) (λ p. known_byte (contents_in view old.file (begin_of hd q + p % size))) o (inr past))
-            | inl lt ↦
-                let i = o - (q.guest + at) in
-                let e : begin_of hd q + o % size ≡ host + (o - (q.guest + at)) = omega arith in
-                let f : q.guest + at + (o - (q.guest + at)) ≡ o = omega arith in
-                ap (λ b. known_byte (contents_in view new.file b)) e ∙ ap known_byte (there view backing old out sound storage host bytes is (o - (q.guest + at)) (omega arith))
-                ∙ sym (laid_inside (q.guest + at) (length bytes) (λ i. known_byte (byte_at bytes i)) (λ p. known_byte (contents_in view old.file (begin_of hd q + p % size))) (o - (q.guest + at)) (omega arith))
-                ∙ ap (laid_over (q.guest + at) (length bytes) (λ i. known_byte (byte_at bytes i)) (λ p. known_byte (contents_in view old.file (begin_of hd q + p % size)))) f
-          ]
+  new_byte : (o : ℕ) → IsTrue (is_private view backing old q o) → known_byte (contents_in view new.file (place_of h q o)) ≡ laid_over (q.guest + at) (length bytes) (λ i. known_byte (byte_at bytes i)) (λ x. known_byte (contents_in view old.file (place_of h q x))) o
+  new_byte o private =
+      let at_place = place_is o private in
+      let same = but view backing old out sound storage (q.offset + at) bytes is in
+      elim (cases_lt o (q.guest + at)) [
+        | inl below ↦
+            ap known_byte (sym (same (place_of h q o) (inl (omega arith))))
+            ∙ sym (laid_outside (q.guest + at) (length bytes) (λ i. known_byte (byte_at bytes i)) (λ x. known_byte (contents_in view old.file (place_of h q x))) o (inl below))
+        | inr above ↦ elim (cases_lt o (q.guest + at + length bytes)) [
+          | inr past ↦
+              ap known_byte (sym (same (place_of h q o) (inr (omega arith))))
+              ∙ sym (laid_outside (q.guest + at) (length bytes) (λ i. known_byte (byte_at bytes i)) (λ x. known_byte (contents_in view old.file (place_of h q x))) o (inr past))
+          | inl lt ↦
+              let e : place_of h q o ≡ q.offset + at + (o - (q.guest + at)) = omega arith in
+              let f : q.guest + at + (o - (q.guest + at)) ≡ o = omega arith in
+              ap (λ b. known_byte (contents_in view new.file b)) e ∙ ap known_byte (there view backing old out sound storage (q.offset + at) bytes is (o - (q.guest + at)) (omega arith))
+              ∙ sym (laid_inside (q.guest + at) (length bytes) (λ i. known_byte (byte_at bytes i)) (λ x. known_byte (contents_in view old.file (place_of h q x))) (o - (q.guest + at)) (omega arith))
+              ∙ ap (laid_over (q.guest + at) (length bytes) (λ i. known_byte (byte_at bytes i)) (λ x. known_byte (contents_in view old.file (place_of h q x)))) f
         ]
-
-    is_new : is_some q.new_cluster ≡ true
-    is_new = ap is_some fresh
-
-    private_shown : (o : ℕ) (b : Bool) → is_private view backing old q o ≡ b → (meaning view backing new q).shown o ≡ (put_mapping m at bytes).shown o
-    private_shown o true is_so =
-        let here : o / size ≡ q.guest / size = eqb-true (o / size) (q.guest / size) (sym (ap (λ b. b && o / size == q.guest / size) is_new) ∙ is_so) in
-        let was : m.shown o ≡ known_byte (contents_in view old.file (begin_of hd q + o % size)) = ap known_byte (cond-true _ _ _ is_so) in
-        ap known_byte (cond-true _ _ _ is_so) ∙ private_byte o here
-        ∙ laid_same (q.guest + at) (length bytes) (λ i. known_byte (byte_at bytes i)) (λ p. known_byte (contents_in view old.file (begin_of hd q + p % size))) m.shown o (sym was)
-        ∙ sym (cond-true _ _ _ is_so)
-    private_shown o false isnt = ap known_byte (cond-false _ _ _ isnt) ∙ sym (cond-false _ _ _ isnt ∙ ap known_byte (cond-false _ _ _ isnt))
-
-    put_meaning : meaning view backing new q ≡ put_mapping m at bytes
-    put_meaning = same_mapping _ _ refl refl refl (fun_ext (λ o. private_shown o (is_private view backing old q o) refl))
-
-    -- no other mapping holds the cluster
-    other_cluster : (j : ℕ) (r : Prepared) → j ≢ k → slice_get out j ≡ Some (Some r) → (l : NewCluster) → r.new_cluster ≡ Some l → l.pending.first_cluster ≢ n.pending.first_cluster
-    other_cluster j r apart there l new same =
-        let c = n.pending.first_cluster in
-        let always = sound.file.caches.kept.kept.guarded.always c in
-        let tally = always.tally in
-        let some = held_own in
-        let few = always.pending (omega arith) in
-        let mine = holds_one view backing old old out before sound refl k q placed n fresh in
-        let its = holds_one view backing old old out before sound refl j r there l new in
-        let theirs : held_by r c ≡ 1 = ap (held_by r) (sym same) ∙ its in
-        let both = over_all_two held_by out k q j r placed apart there c in
-        omega arith
-
-    other_slot : (j : ℕ) → j ≢ k → (x : Option (Option Prepared)) → slice_get out j ≡ x → meaning_at (meaning view backing new) x ≡ meaning_at (meaning view backing old) x
-    other_slot j apart None there = refl
-    other_slot j apart (Some None) there = refl
-    other_slot j apart (Some (Some r)) there =
-        ap Some (same_meaning view backing old new out before sound refl j r there (λ l is_l o in_it. sym (alone.others o (outside o (λ e. other_cluster j r apart there l is_l (sym in_it ∙ e))))))
-
-    put_slots : (j : ℕ) → meaning_at (meaning view backing new) (slice_get out j) ≡ cond (eqb j k) (Some (put_mapping m at bytes)) (meaning_at (meaning view backing old) (slice_get out j))
-    put_slots j = elim (cases_eq j k) [
-      | inl here ↦ ap (λ i. meaning_at (meaning view backing new) (slice_get out i)) here ∙ ap (meaning_at (meaning view backing new)) placed ∙ ap Some put_meaning ∙ sym (cond-true _ _ _ (eq-eqb _ _ here))
-      | inr other ↦ other_slot j other (slice_get out j) refl ∙ sym (cond-false _ _ _ (ne_eqb _ _ other))
-    ]
-
-    -- all of the range is private
-    range_private : (o : ℕ) → o / size ≢ q.guest / size → (o < q.guest + at) ⊎ (q.guest + at + length bytes ≤ o)
-    range_private o other = elim (cases_lt o (q.guest + at)) [
-      | inl below ↦ inl below
-      | inr above ↦ elim (cases_lt o (q.guest + at + length bytes)) [
-        | inr past ↦ inr past
-        | inl lt ↦ absurd (
-            let within = own_pending.1.within in
-            let g_is : q.guest / size * size + q.guest % size ≡ q.guest = div-add-mod' q.guest size in
-            let e : o ≡ q.guest / size * size + (o - q.guest / size * size) = omega arith in
-            other (ap (λ i. i / size) e ∙ div-mul-add (q.guest / size) size (o - q.guest / size * size) (omega arith)))
       ]
-    ]
 
-    put_value : (d : Disk) (o : ℕ) (b : Bool) → is_private view backing old q o ≡ b → (put_disk d m at bytes).value o ≡ d.value o
-    put_value d o true is_so = cond-true _ _ _ is_so
-    put_value d o false isnt =
-        let other : o / size ≢ q.guest / size = λ here. absurd (let yes : is_private view backing old q o ≡ true = ap (λ b. b && o / size == q.guest / size) is_new ∙ eq-eqb _ _ here in let t : true ≡ false = sym yes ∙ isnt in cc) in
-        cond-false _ _ _ isnt ∙ laid_outside (q.guest + at) (length bytes) (λ i. known_byte (byte_at bytes i)) d.value o (range_private o other)
+  own_shown : (o : ℕ) (b : Bool) → is_private view backing old q o ≡ b → (meaning view backing new q).shown o ≡ (put_mapping m at bytes).shown o
+  own_shown o true private =
+      let was : m.shown o ≡ known_byte (contents_in view old.file (place_of h q o)) = ap known_byte (cond-true _ _ _ private) in
+      ap known_byte (cond-true _ _ _ private) ∙ new_byte o private
+      ∙ laid_same (q.guest + at) (length bytes) (λ i. known_byte (byte_at bytes i)) (λ x. known_byte (contents_in view old.file (place_of h q x))) m.shown o (sym was)
+      ∙ sym (cond-true _ _ _ private)
+  own_shown o false isnt = ap known_byte (cond-false _ _ _ isnt) ∙ sym (cond-false _ _ _ isnt ∙ ap known_byte (cond-false _ _ _ isnt))
 
-    pub private_seen : guest_of (abstract_of view backing new out) ≡ put_guest (guest_of (abstract_of view backing old out)) k m at bytes
-    private_seen =
-        let d = (guest_of (abstract_of view backing old out)).disk in
-        same_guest _ _ (private.shows (backing_bytes view backing old.backing) ∙ sym (ap (λ f. record d { value = f }) (fun_ext (λ o. put_value d o (is_private view backing old q o) refl)))) (fun_ext put_slots)
+  own_meaning : meaning view backing new q ≡ put_mapping m at bytes
+  own_meaning = same_mapping _ _ refl refl refl refl (fun_ext (λ o. own_shown o (is_private view backing old q o) refl))
+
+  -- ---- what other mappings show stays
+  module _ (j : ℕ) (r : Prepared) (apart : j ≢ k) (there_is : slice_get out j ≡ Some (Some r)) (o : ℕ) (private : IsTrue (is_private view backing old r o)) where
+    abbrev place : ℕ
+    place = place_of h r o
+
+    -- in a cluster that it holds
+    kept_held : 0 < held_by r (place / size) → contents_in view new.file place ≡ contents_in view old.file place
+    kept_held some =
+        let all = over_all_at held_by out j r there_is (place / size) in
+        let never : (i : ℕ) → i < length bytes → IsHeld (hosting (q.guest + at + i)) → (q.offset + at + i) / size ≢ place / size = λ i lt held same. absurd (
+        let mine : 0 < held_by q (place / size) = subst (λ c. 0 < held_by q c) same ((hosts_with q.table refl (sound.ready k q placed).mapped i lt).1 held) in
+        let both = over_all_two held_by out k q j r placed apart there_is (place / size) in
+        let always = sound.file.caches.kept.kept.guarded.always (place / size) in
+        let tally = always.tally in
+        let few = always.pending (omega arith) in
+        omega arith) in
+        sym ((run.held (place / size) (omega arith) never).0 place refl)
+
+    -- in one that a zero entry keeps
+    module _ (host : ℕ) (kept : cover h s.known (o / size) ≡ Zero (Some (host, true))) (here : place ≡ host + o % size) where
+      elsewhere : (t : Option ℕ) → q.table ≡ t → IsReadyWith h s.known s.on_storage q t → (i : ℕ) → i < length bytes → (q.guest + at + i) / size ≢ o / size
+      elsewhere None none ready i lt same = absurd (let stands = in_place none i lt in let e : Data stands.0 true ≡ Zero (Some (host, true)) = sym stands.1 ∙ ap (cover h s.known) same ∙ kept in cc)
+      elsewhere (Some t) some pending i lt same =
+          let shared = private_shared view backing old r o private in
+          let ready = ready_table view backing old s.known s.on_storage r shared.index shared.share shared.is (sound.ready j r there_is).mapped in
+          absurd (apart_guests view backing old out before sound k q placed t some pending j r apart there_is ready.0 ready.1 ready.2
+          ((q.guest % size + at + i) / size) shared.index (byte_share h q s.known s.on_storage t pending at i (length bytes) fits lt) (slice_get_within r.shares.items shared.index shared.share shared.is)
+          (sym (byte_cluster h q s.known s.on_storage t pending at i (length bytes) fits lt) ∙ same ∙ shared.here))
+
+      kept_kept : contents_in view new.file place ≡ contents_in view old.file place
+      kept_kept =
+          let rest = mod_below o size (pow_pos h.cluster_bits) in
+          let aligned = kept_aligned s sound.file.caches.kept.kept.guarded (o / size) host kept in
+          let cluster : place / size ≡ host / size = ap (λ n. n / size) here ∙ in_one size host (o % size) aligned rest in
+          let named : names h s.known (place / size) (o / size) ≡ 1 = ap (named_by_cover h (place / size)) kept ∙ ap (λ c. in_cluster h c host) cluster ∙ in_own h host in
+          let known : known_in view new.file place ≡ s.known place = run.others (o / size) (elsewhere q.table refl (sound.ready k q placed).mapped) place (omega (arith, named)) in
+          let kept_now : cover h (known_in view new.file) (o / size) ≡ Zero (Some (host, true)) = sym (run.covers (o / size)) ∙ kept in
+          ap (contents_in view new.file) here ∙ kept_unlaid (state_in view new.file before) run.leads.sound (o / size) host kept_now (o % size) rest ∙ ap (known_in view new.file) (sym here) ∙ known
+          ∙ ap s.known here ∙ sym (kept_unlaid s sound.file.caches.kept.kept.guarded (o / size) host kept (o % size) rest) ∙ ap (contents_in view old.file) (sym here)
+
+    by_standing : Standing h s.known r o → contents_in view new.file place ≡ contents_in view old.file place
+    by_standing (in_new held) = kept_held held
+    by_standing (in_kept host kept here) = kept_kept host kept here
+
+    pub others_stay : contents_in view new.file place ≡ contents_in view old.file place
+    others_stay = by_standing (private_stands view backing old out before sound j r there_is o private)
+
+  other_slot : (j : ℕ) → j ≢ k → (x : Option (Option Prepared)) → slice_get out j ≡ x → meaning_at (meaning view backing new) x ≡ meaning_at (meaning view backing old) x
+  other_slot j apart None at_j = refl
+  other_slot j apart (Some None) at_j = refl
+  other_slot j apart (Some (Some r)) at_j = ap Some (same_meaning view backing old new out refl r (λ o private. others_stay j r apart at_j o private))
+
+  put_slots : (j : ℕ) → meaning_at (meaning view backing new) (slice_get out j) ≡ cond (eqb j k) (Some (put_mapping m at bytes)) (meaning_at (meaning view backing old) (slice_get out j))
+  put_slots j = elim (cases_eq j k) [
+    | inl here ↦ ap (λ i. meaning_at (meaning view backing new) (slice_get out i)) here ∙ ap (meaning_at (meaning view backing new)) placed ∙ ap Some own_meaning ∙ sym (cond-true _ _ _ (eq-eqb _ _ here))
+    | inr other ↦ other_slot j other (slice_get out j) refl ∙ sym (cond-false _ _ _ (ne_eqb _ _ other))
+  ]
+
+  pub put_seen : guest_of (abstract_of view backing new out) ≡ put_guest (guest_of (abstract_of view backing old out)) k m at bytes
+  put_seen = same_guest _ _ disk_is (fun_ext put_slots)

@@ -1,7 +1,6 @@
 -- What a write into a prepared mapping does, from its parts.
-use Rattle.std.proofs.Common.{◌≡◌, ⊎_elim, inl, inr, ℕ, ◌+◌, ◌*◌, ◌/◌, ◌%◌, ◌≤◌, Bool, true, false, List, length, [], ◌∷◌, refl, sym, ap, ◌∙◌, subst, arith, is_some, cond}
+use Rattle.std.proofs.Common.{◌≡◌, ⊎_elim, inl, inr, ℕ, ◌+◌, ◌/◌, ◌%◌, ◌≤◌, Bool, true, false, List, length, [], ◌∷◌, refl, sym, ap, ◌∙◌, subst, arith, is_some, cond}
 use Rattle.std.specs.Prelude.{Option, Some, None, Result, Ok, Err, slice_get}
-use Rattle.std.proofs.lemmas.Nat.{div-mul-add, mod-mul-add, div-add-mod'}
 use Rattle.image_access.specs.Backing.{BackingView}
 use Rattle.image_access.specs.Contents.{overwritten}
 use Rattle.image_access.specs.Moments.{StorageView, Passing}
@@ -12,8 +11,8 @@ use Rattle.qcow2_metadata.specs.Cover.{cover}
 use Rattle.qcow2_metadata.specs.declared.l2_mapping.L2Mapping.{L2Mapping}
 use Rattle.qcow2_metadata.specs.declared.l2_mapping.L2Mapping.TheVariants.{Data, Zero, Compressed, Uncovered}
 use Rattle.qcow2_laws.specs.Alike.{AreDataAt}
-use Rattle.qcow2_laws.specs.Calls.{Works, Does}
-use Rattle.qcow2_laws.specs.Mappings.{gift_of}
+use Rattle.qcow2_laws.specs.Calls.{Works, Does, storage}
+use Rattle.qcow2_laws.specs.Mappings.{gift_of_put}
 use Rattle.qcow2_laws.specs.Stops.{GivenBytes}
 use Rattle.qcow2_laws.specs.AbstractImages.{Guest, guest_of, meaning_at}
 use Rattle.qcow2_laws.proofs.Alike.{run_data}
@@ -22,21 +21,21 @@ use Rattle.qcow2_alloc.specs.declared.error.ImageError.{ImageError}
 use Rattle.qcow2_alloc.specs.declared.error.ImageError.TheVariants as I
 use Rattle.qcow2_alloc.specs.declared.image_storage.ImageStorage.{ImageStorage}
 use Rattle.qcow2_alloc.specs.ImageStorage.{storage_of}
-use Rattle.qcow2_alloc.specs.ImageFile.{view_in, contents_in, known_in}
+use Rattle.qcow2_alloc.specs.ImageFile.{view_in, known_in}
 use Rattle.qcow2_image.specs.declared.image.Qcow2.{Qcow2}
 use Rattle.qcow2_image.specs.declared.mapping.MappingKind.TheVariants as Kind
 use Rattle.qcow2_image.specs.declared.mapping.Place.TheVariants.{Image}
 use Rattle.qcow2_image.specs.declared.prepared.Prepared.{Prepared}
-use Rattle.qcow2_image.specs.declared.prepared.NewCluster.{NewCluster}
 use Rattle.qcow2_laws.specs.Found.{raw, kind_at}
 use Rattle.qcow2_image.specs.Found.{IsMappedAs}
 use Rattle.qcow2_image.specs.CallParts.{put_guest, IsPut, IsWritten, PutsPart}
-use Rattle.qcow2_image.specs.ImageInvariant.{begin_of, HasCluster, IsInPlace, IsPending, IsReadyWith, ImageInvariant, pending_in, abstract_of, meaning}
+use Rattle.qcow2_image.specs.ImageInvariant.{ImageInvariant, pending_in, abstract_of, meaning}
 use Rattle.qcow2_image.proofs.Call.Called.{Quietly, quiet_works, quiet_sound, quiet_same}
 use Rattle.qcow2_image.proofs.Call.Called.{works_none}
 use Rattle.qcow2_image.proofs.Call.Settled.{settled_does, settled_refuses}
 use Rattle.qcow2_image.proofs.Call.Answered.{same_guest}
-use Rattle.qcow2_image.specs.Calls.{Puts}
+use Rattle.qcow2_laws.proofs.RunSteps.{acts_none}
+use Rattle.qcow2_image.specs.Calls.{Puts, gifts_of_put, refusal_of}
 use Rattle.qcow2_image.specs.Image.{number_of, is_failed}
 use Rattle.qcow2_image.specs.Refusals.{Marks}
 use Rattle.qcow2_image.proofs.Map.Loading.{still_moved}
@@ -47,7 +46,7 @@ use Rattle.qcow2_laws.specs.Disk.{with_bytes}
 use Rattle.qcow2_laws.specs.Mappings.{PreparedMapping, put_mapping, put_disk}
 use Rattle.qcow2_laws.proofs.ForUsers.{laid_outside}
 use mathlib.Core.Path.{fun_ext}
-use Rattle.qcow2_image.proofs.Write.Put.{over_works, over_sound, put_in_place_seen, private_works, private_sound, private_seen}
+use Rattle.qcow2_image.proofs.Write.Put.{put_works, put_sound, put_seen}
 
 -- what is mapped in place stands in a row
 mapped_data : (h : HeaderFields) (known : Bytes) (offset n host : ℕ) (backed : Bool) (v : L2Mapping) → cover h known (offset / cluster_size h) ≡ v → raw false host true ≡ kind_at h backed offset v
@@ -61,26 +60,18 @@ mapped_data h known offset n host backed (Compressed place sectors) is kind give
 mapped_data h known offset n host true Uncovered is kind given = absurd cc
 mapped_data h known offset n host false Uncovered is kind given = absurd cc
 
-module _ (h : HeaderFields) (known on_storage : Bytes) (p : Prepared) (at n : ℕ) where
-  -- so does what is mapped to one cluster in place
-  cluster_data : (t : ℕ) → IsPending h known on_storage p t → IsInPlace h known on_storage p → at + n ≤ p.length → AreDataAt h known true (p.guest + at) (p.offset + at) n
-  cluster_data t pending in_place fits i lt =
-      let within = pending.within in
-      let begins = in_place.begins in
-      let g_is : p.guest / cluster_size h * cluster_size h + p.guest % cluster_size h ≡ p.guest = div-add-mod' p.guest (cluster_size h) in
-      let e : p.guest + at + i ≡ p.guest / cluster_size h * cluster_size h + (p.guest % cluster_size h + at + i) = omega arith in
-      let here : (p.guest + at + i) / cluster_size h ≡ p.guest / cluster_size h = ap (λ o. o / cluster_size h) e ∙ div-mul-add (p.guest / cluster_size h) (cluster_size h) (p.guest % cluster_size h + at + i) (omega arith) in
-      let rest : (p.guest + at + i) % cluster_size h ≡ p.guest % cluster_size h + at + i = ap (λ o. o % cluster_size h) e ∙ mod-mul-add (p.guest / cluster_size h) (cluster_size h) (p.guest % cluster_size h + at + i) (omega arith) in
-      (begin_of h p, ap (cover h known) here ∙ in_place.entry, omega arith)
-
 module _ {S F : Type 0} (view : S → StorageView) (backing : F → BackingView) (out : List (Option Prepared)) (k : ℕ) (p : Prepared) (at : ℕ) (bytes : List ℕ) (placed : slice_get out k ≡ Some (Some p)) where
-  abbrev gifts : List GivenBytes
-  gifts = gift_of (p.guest + at) bytes ∷ []
+  abbrev gifts : Qcow2 S F → List GivenBytes
+  gifts image = gifts_of_put view backing image image (abstract_of view backing image out) p at bytes
+
+  -- nothing was done
+  pub puts_nothing : (old : Qcow2 S F) (e : ImageError) → ImageInvariant view backing (pending_in view backing old out) old out → PutsPart view backing old old out k p at bytes (Err e)
+  puts_nothing old e sound = record { works = (acts_none (abstract_of view backing old out) (gifts old) []).works sound; sound = sound; is = inl refl }
 
   -- a part that no guest sees, and is refused then
   pub puts_refused : (old new : Qcow2 S F) (e : ImageError) → Quietly view backing out old new → ImageInvariant view backing (pending_in view backing old out) old out → PutsPart view backing old new out k p at bytes (Err e)
   puts_refused old new e quiet sound = record {
-    works = works_less (abstract_of view backing old out) (abstract_of view backing new out) [] gifts [] (λ o v none. absurd none) (quiet_works view backing out old new (λ _. quiet) sound);
+    works = works_less (abstract_of view backing old out) (abstract_of view backing new out) [] (gifts old) [] (λ o v none. absurd none) (quiet_works view backing out old new (λ _. quiet) sound);
     sound = quiet_sound view backing out old new (λ _. quiet) sound;
     is = inl (quiet_same view backing out old new (λ _. quiet) sound);
   }
@@ -98,9 +89,11 @@ module _ {S F : Type 0} (view : S → StorageView) (backing : F → BackingView)
       let at_place : (image : Qcow2 S F) → (guest_of (abstract_of view backing image out)).slots k ≡ Some (meaning view backing image p) = λ image. ap (meaning_at (meaning view backing image)) placed in
       let means : Some (meaning view backing b p) ≡ Some (meaning view backing a p) = sym (at_place b) ∙ ap (λ (g : Guest). g.slots k) same ∙ at_place a in
       let mean : meaning view backing b p ≡ meaning view backing a p = cc in
+      let gives : gifts b ≡ gifts a = ap (λ (g : Guest). gift_of_put g.disk (meaning view backing b p) at bytes ∷ []) same ∙ ap (λ (m : PreparedMapping). gift_of_put (guest_of (abstract_of view backing a out)).disk m at bytes ∷ []) mean in
       record {
-        works = works_then (abstract_of view backing a out) (abstract_of view backing b out) (abstract_of view backing c out) gifts [] mid
-            (works_less (abstract_of view backing a out) (abstract_of view backing b out) [] gifts [] (λ o v none. absurd none) (quiet_works view backing out a b (λ _. quiet) sound)) part.works;
+        works = works_then (abstract_of view backing a out) (abstract_of view backing b out) (abstract_of view backing c out) (gifts a) [] mid
+            (works_less (abstract_of view backing a out) (abstract_of view backing b out) [] (gifts a) [] (λ o v none. absurd none) (quiet_works view backing out a b (λ _. quiet) sound))
+            (subst (λ (given : List GivenBytes). Works (abstract_of view backing b out) (abstract_of view backing c out) given []) gives part.works);
         sound = part.sound;
         is = is_put_of (guest_of (abstract_of view backing a out)) (guest_of (abstract_of view backing b out)) (put_guest (guest_of (abstract_of view backing a out)) k (meaning view backing a p) at bytes)
             (put_guest (guest_of (abstract_of view backing b out)) k (meaning view backing b p) at bytes) (guest_of (abstract_of view backing c out)) r same
@@ -110,37 +103,26 @@ module _ {S F : Type 0} (view : S → StorageView) (backing : F → BackingView)
   -- the write itself
   module _ (old : Qcow2 S F) (sound : ImageInvariant view backing (pending_in view backing old out) old out) (fits : at + length bytes ≤ p.length)
       (mapped : p.table ≡ None → IsMappedAs view old (p.guest + at) (Kind.Raw Image (p.offset + at) true) (length bytes)) where
-    data_of : p.new_cluster ≡ None → AreDataAt old.file.header.fields (known_in view old.file) true (p.guest + at) (p.offset + at) (length bytes)
-    data_of none = by_table p.table refl (sound.ready k p placed).mapped where
-      by_table : (t : Option ℕ) → p.table ≡ t → IsReadyWith old.file.header.fields (known_in view old.file) (contents_in view old.file) p t
-          → AreDataAt old.file.header.fields (known_in view old.file) true (p.guest + at) (p.offset + at) (length bytes)
-      by_table None is ready =
-          let h = old.file.header.fields in
-          let known = known_in view old.file in
-          let run = mapped is in
-          mapped_data h known (p.guest + at) (length bytes) (p.offset + at) (is_some old.backing) (cover h known ((p.guest + at) / cluster_size h)) refl run.kind_is
-          (λ w covered start copied is_data. run_data h known (p.guest + at) (length bytes) run.alike start copied (covered ∙ is_data))
-      by_table (Some t) is pending =
-          cluster_data old.file.header.fields (known_in view old.file) (contents_in view old.file) p at (length bytes) t pending
-          (subst (HasCluster old.file.header.fields (known_in view old.file) (contents_in view old.file) p) none pending.cluster) fits
+    data_of : p.table ≡ None → AreDataAt old.file.header.fields (known_in view old.file) true (p.guest + at) (p.offset + at) (length bytes)
+    data_of none =
+        let h = old.file.header.fields in
+        let known = known_in view old.file in
+        let run = mapped none in
+        mapped_data h known (p.guest + at) (length bytes) (p.offset + at) (is_some old.backing) (cover h known ((p.guest + at) / cluster_size h)) refl run.kind_is
+        (λ w covered start copied is_data. run_data h known (p.guest + at) (length bytes) run.alike start copied (covered ∙ is_data))
 
     module _ (storage : ImageStorage S) (honest : (view (storage_of storage)).is_honest) (time : Passing (view_in view old.file) (view (storage_of storage)) (λ c. c ≡ (view (storage_of storage)).contents)) where
       abbrev new : Qcow2 S F
       new = record old { file = record old.file { storage = storage } }
 
       -- it is there
-      puts_changed : (x : Option NewCluster) → p.new_cluster ≡ x → (view (storage_of storage)).contents ≡ overwritten (view_in view old.file).contents (p.offset + at) bytes
-          → Works (abstract_of view backing old out) (abstract_of view backing new out) gifts [] × ImageInvariant view backing (pending_in view backing new out) new out
+      puts_changed : (view (storage_of storage)).contents ≡ overwritten (view_in view old.file).contents (p.offset + at) bytes
+          → Works (abstract_of view backing old out) (abstract_of view backing new out) (gifts old) [] × ImageInvariant view backing (pending_in view backing new out) new out
           × (guest_of (abstract_of view backing new out) ≡ put_guest (guest_of (abstract_of view backing old out)) k (meaning view backing old p) at bytes)
-      puts_changed None none is = (
-        over_works view backing old out sound storage (p.offset + at) bytes is honest time (p.guest + at) (data_of none),
-        over_sound view backing old out sound storage (p.offset + at) bytes is honest time (p.guest + at) (data_of none),
-        put_in_place_seen view backing old out sound storage (p.offset + at) bytes is honest time (p.guest + at) (data_of none) k p at placed none refl,
-      )
-      puts_changed (Some n) fresh is = (
-        private_works view backing old out sound storage (p.offset + at) bytes is honest time k p at placed n fresh fits refl,
-        private_sound view backing old out sound storage (p.offset + at) bytes is honest time k p at placed n fresh fits refl,
-        private_seen view backing old out sound storage (p.offset + at) bytes is honest time k p at placed n fresh fits refl,
+      puts_changed is = (
+        put_works view backing old out sound storage bytes k p at is honest time placed fits data_of,
+        put_sound view backing old out sound storage bytes k p at is honest time placed fits data_of,
+        put_seen view backing old out sound storage bytes k p at is honest time placed fits data_of,
       )
 
       -- or it isn't
@@ -149,9 +131,9 @@ module _ {S F : Type 0} (view : S → StorageView) (backing : F → BackingView)
 
       pub puts_written : (r : Result (Unit {0}) ImageError) → IsWritten r (view_in view old.file).contents (overwritten (view_in view old.file).contents (p.offset + at) bytes) (view (storage_of storage)).contents
           → PutsPart view backing old new out k p at bytes r
-      puts_written (Ok done) is = let put = puts_changed p.new_cluster refl is in record { works = put.0; sound = put.1; is = put.2 }
+      puts_written (Ok done) is = let put = puts_changed is in record { works = put.0; sound = put.1; is = put.2 }
       puts_written (Err I.Storage) is = ⊎_elim (λ same. puts_still I.Storage same)
-          (λ (changed : (view (storage_of storage)).contents ≡ overwritten (view_in view old.file).contents (p.offset + at) bytes). let put = puts_changed p.new_cluster refl changed in record { works = put.0; sound = put.1; is = inr refl }) is
+          (λ (changed : (view (storage_of storage)).contents ≡ overwritten (view_in view old.file).contents (p.offset + at) bytes). let put = puts_changed changed in record { works = put.0; sound = put.1; is = inr refl }) is
       puts_written (Err I.ReadOnly) is = puts_still I.ReadOnly is
       puts_written (Err I.BeyondSize) is = puts_still I.BeyondSize is
       puts_written (Err I.Version) is = puts_still I.Version is
@@ -200,9 +182,15 @@ module _ {S F : Type 0} (view : S → StorageView) (backing : F → BackingView)
   pub puts_none : bytes ≡ [] → (done : Unit {0}) → Puts view backing old old p at bytes (Ok done)
   puts_none none done = λ out k placed.
       let v = abstract_of view backing old out in
-      settled_does view backing old old out out (gift_of (p.guest + at) bytes ∷ [])
-      (λ sound. works_less v v [] (gift_of (p.guest + at) bytes ∷ []) [] (λ o w never. absurd never) (works_none v sound)) (λ sound. sound) refl usable
+      settled_does view backing old old out out (gifts_of_put view backing old old v p at bytes)
+      (λ sound. works_less v v [] (gifts_of_put view backing old old v p at bytes) [] (λ o w never. absurd never) (works_none v sound)) (λ sound. sound) refl usable
       (λ sound. sym (ap (λ b. put_guest (guest_of v) k (meaning view backing old p) at b) none ∙ put_none (guest_of v) k (meaning view backing old p) at (ap (meaning_at (meaning view backing old)) placed)))
+
+  -- refused before any work
+  pub puts_early : (e : ImageError) → (refusal_of e ≡ storage → ⊥) → Puts view backing old old p at bytes (Err e)
+  puts_early e other = λ out k placed.
+      let v = abstract_of view backing old out in
+      record { acts = acts_none v (gifts_of_put view backing old old v p at bytes) []; answer = λ sound. inl (sound, refl); fault = λ is. absurd (other is) }
 
   module _ (new : Qcow2 S F) (marked : Bool) (number : number_of new ≡ number_of old) where
     pub puts_settled : (r : Result (Unit {0}) ImageError) → Marks r (is_failed new) marked
@@ -210,8 +198,8 @@ module _ {S F : Type 0} (view : S → StorageView) (backing : F → BackingView)
         → Puts view backing old (record new { is_failed = marked }) p at bytes r
     puts_settled (Ok done) marks part = λ out k placed.
         subst (λ (f : Bool). let v = abstract_of view backing old out in let w = abstract_of view backing (record new { is_failed = f }) out in
-        Does v w (gift_of (p.guest + at) bytes ∷ []) [] (guest_of w ≡ put_guest (guest_of v) k (meaning view backing old p) at bytes)) (sym marks)
-        (settled_does view backing old new out out (gift_of (p.guest + at) bytes ∷ []) (λ sound. (part out k placed sound).works) (λ sound. (part out k placed sound).sound) number usable (λ sound. (part out k placed sound).is))
+        Does v w (gifts_of_put view backing old new v p at bytes) [] (guest_of w ≡ put_guest (guest_of v) k (meaning view backing old p) at bytes)) (sym marks)
+        (settled_does view backing old new out out (gifts_of_put view backing old new (abstract_of view backing old out) p at bytes) (λ sound. (part out k placed sound).works) (λ sound. (part out k placed sound).sound) number usable (λ sound. (part out k placed sound).is))
     puts_settled (Err e) marks part = λ out k placed.
-        settled_refuses view backing old new out out (gift_of (p.guest + at) bytes ∷ []) (λ sound. (part out k placed sound).works) (λ sound. (part out k placed sound).sound) number usable marked e marks
+        settled_refuses view backing old new out out (gifts_of_put view backing old new (abstract_of view backing old out) p at bytes) (λ sound. (part out k placed sound).works) (λ sound. (part out k placed sound).sound) number usable marked e marks
         (λ sound. (part out k placed sound).is)

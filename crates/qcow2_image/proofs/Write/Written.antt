@@ -111,8 +111,8 @@ module _ {S F : Type 0} {p : Pending} (view : S → StorageView) (backing : F �
             below = sound.below;
             ready = λ k q at. let r = sound.ready k q at in record {
               own = r.own;
-              mapped = still_ready h (known_in view old.file) (contents_in view old.file) (known_in view written.file) (contents_in view written.file) q (covers (cluster_of h q))
-                  sound.file.caches.kept.kept.guarded.same_top.l1 leads.sound.same_top.l1 (λ i copied. sym (top.l1 i)) q.table r.mapped;
+              mapped = still_ready h (known_in view old.file) (contents_in view old.file) (known_in view written.file) (contents_in view written.file) q
+                  sound.file.caches.kept.kept.guarded.same_top.l1 leads.sound.same_top.l1 (λ i copied. sym (top.l1 i)) (λ i. covers (cluster_of h q + i)) q.table r.mapped;
             };
             pinned = sound.pinned;
             once = sound.once;

@@ -1,7 +1,7 @@
 use Rattle.std.proofs.Common.{ℕ, ◌≡◌, ◌/◌, List, length, ap, sym, subst, ◌∙◌, arith}
 use Rattle.std.proofs.lemmas.Result.{err_from_is_err_and}
 use Rattle.qcow2_metadata.specs.Bytes.{byte_at}
-use Rattle.qcow2_metadata.specs.Entries.{l1_entry, reftable_entry, count}
+use Rattle.qcow2_metadata.specs.Entries.{l1_entry, reftable_entry, count, L1EntryReads, ReftableEntryReads}
 use Rattle.qcow2_metadata.specs.TableBytes.{entry_at}
 use Rattle.qcow2_check.specs.declared.tally.Tally.{Tally}
 use Rattle.qcow2_check.specs.Tallies.{Grows, CountsAll}
@@ -95,4 +95,15 @@ returns-clause-tallies g c honest =
       data_are = counted_off (data_off_below h (byte_at b) (length l1 / 8)) (data_off_below h (byte_at b) h.l1_entries) _ _ c.new-offsets.ensures.of_data
           (λ q. ap (λ n. data_off_below h (byte_at b) n q) l1_long)
           (subst T same2 (c.in_ok-names_of_l1_table.ensures.offsets honest2 (subst L1 (sym same2) l1_is)));
+    }
+
+pub returns-clause-tables : goal.returns-clause-tables
+returns-clause-tables g c honest =
+    let h = c.args.header.now in
+    let same = c.in_ok-l1.ensures.reading.same honest in
+    let R : List ℕ → Type 0 = λ b. (k : ℕ) → entry_at c.in_ok-reftable.reftable.items k ≡ reftable_entry h (byte_at b) k in
+    let blocks = subst R same (c.in_ok-reftable.ensures.entries (c.in_ok-l1.ensures.reading.honest honest)) in
+    record {
+      l1_entries = λ i lt. subst L1EntryReads (c.in_ok-l1.ensures.entries honest i) (c.in_ok-l1.ensures.reads i);
+      reftable = λ k lt. subst ReftableEntryReads (blocks k) (c.in_ok-reftable.ensures.reads k);
     }

@@ -3,7 +3,7 @@ use Rattle.qcow2_metadata.specs.L2Mapping.{IsInReach}
 use Rattle.qcow2_check.proofs.Clusters.{few_of_bits}
 use Rattle.qcow2_check.proofs.entries.names_of_compressed.Goals as goal
 
-pub add_range-requires-clause-few : goal.add_range-requires-clause-few
-add_range-requires-clause-few c =
+pub add_range-requires-clause-narrow : goal.add_range-requires-clause-narrow
+add_range-requires-clause-narrow c =
     let near = subst IsInReach c.in-Compressed.is c.requires.near in
     few_of_bits c.value-first.result c.in-Compressed.sectors _ c.requires.low c.requires.bits near.2

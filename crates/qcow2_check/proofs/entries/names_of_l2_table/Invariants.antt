@@ -6,6 +6,6 @@ use Rattle.qcow2_check.proofs.entries.names_of_l2_table.Given as goal
 
 abbrev pub invariant-loop-j : goal.invariant-loop-j
 invariant-loop-j l = record {
-  grows : Grows l.initial.names.clusters l.names.clusters (named_by_entries l.header (byte_at l.table) 0 l.j) (λ _. 0) (marked_by_entries l.header (byte_at l.table) 0 l.j);
-  total : l.names.total ≤ l.initial.names.total + l.j * 2 ^ 15;
+  grows : Grows l.initial.names.clusters l.names.clusters (λ q. l.times * named_by_entries l.header (byte_at l.table) 0 l.j q) (λ _. 0) (λ q. l.times * marked_by_entries l.header (byte_at l.table) 0 l.j q);
+  total : l.names.total ≤ l.initial.names.total + l.times * (l.j * 2 ^ 15);
 }

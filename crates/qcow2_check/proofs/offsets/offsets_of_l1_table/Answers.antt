@@ -2,7 +2,7 @@ use Rattle.std.proofs.Common.{arith, ap, ◌∙◌}
 use Rattle.qcow2_metadata.specs.Entries.{host_offset}
 use Rattle.qcow2_metadata.specs.TableBytes.{entry_at}
 use Rattle.qcow2_check.specs.Offsets.{off_cluster}
-use Rattle.qcow2_check.proofs.OffsetSteps.{terms_none, terms_more}
+use Rattle.qcow2_check.proofs.OffsetSteps.{once, terms_none, terms_more}
 use Rattle.qcow2_check.proofs.offsets.offsets_of_l1_table.Goals as goal
 
 pub loop-i-init : goal.loop-i-init
@@ -11,6 +11,6 @@ loop-i-init c = record { grows = terms_none (λ o i. off_cluster c.args.header.n
 pub loop-i-preserved : goal.loop-i-preserved
 loop-i-preserved c = record {
   grows = terms_more (λ o i. off_cluster c.args.header.now o (host_offset (entry_at c.args.l1.now i))) c.loop-i.i _ _ _ _
-      (λ o. ap (off_cluster c.args.header.now o) (c.host_offset.ensures.value ∙ ap host_offset c.entry_at-entry.ensures)) c.loop-i.invariant.grows c.in_ok-add_offset.ensures.grows;
+      (λ o. once _ ∙ ap (off_cluster c.args.header.now o) (c.host_offset.ensures.value ∙ ap host_offset c.entry_at-entry.ensures)) c.loop-i.invariant.grows c.in_ok-add_offset.ensures.grows;
   total = omega (arith, c.in_ok-add_offset.ensures.total);
 }

@@ -8,11 +8,13 @@ use Rattle.std.specs.Prelude.{◌==◌, if◌then◌else◌}
 use Rattle.qcow2_session.specs.Sessions.{found_in}
 use Rattle.qcow2_session.proofs.Turns.{does_if}
 use Rattle.qcow2_session.proofs.Meanings.{found_set}
+use Rattle.qcow2_session.proofs.Answering.{unusable_first, error_is, not_both, lookup_answer}
 use Rattle.qcow2_session.proofs.session.get_mapping.Goals as goal
 
 pub returns-in-Ok-clause-goes : goal.returns-in-Ok-clause-goes
 returns-in-Ok-clause-goes g c = λ x s stands founds.
-    done_as x _ _ s _ _ _ refl stands (does_if (λ same. (omega (arith, c.in-Ok.ensures.own, c.in-Ok.ensures.within), same)) (c.in-Ok.ensures.sees c.args.slots.now.prepared.items)) (λ _ _. refl)
+    done_as x _ _ s _ _ _ refl stands (record { failed = λ f. absurd (not_both (unusable_first c.args.image.now _ c.in-Ok.ensures.early f)); may = λ _. tt })
+    (does_if (λ same. (c.in-Ok.ensures.own.1, omega (arith, c.in-Ok.ensures.own, c.in-Ok.ensures.within), same)) (c.in-Ok.ensures.sees c.args.slots.now.prepared.items)) (λ _ _. refl)
     (λ sound. (
       subst (λ n. IsFoundIn (known_in g.S.Storage.view c.get_mapping.new.self.file) (is_some c.get_mapping.new.self.backing) c.args.offset c.args.max (found_kind c.in-Ok.mapping.kind) n) (sym c.in-Ok.ensures.own.2) (c.in-Ok.ensures.run c.args.slots.now.prepared.items sound),
       c.get_mapping.ensures.known c.args.slots.now.prepared.items sound,
@@ -26,4 +28,6 @@ returns-in-Ok-clause-finds g c = λ k.
     ∙ subst (λ n. found_in (slice_set mappings c.args.slot (Some c.in-Ok.mapping)) k ≡ (if k == c.args.slot then Some (record { from = n; length = c.in-Ok.mapping.length }) else found_in mappings k)) c.in-Ok.ensures.own.1 found
 
 pub returns-in-Err-clause-goes : goal.returns-in-Err-clause-goes
-returns-in-Err-clause-goes g c = λ x s stands founds. refused_as x _ _ s _ _ _ _ refl stands (c.in-Err.ensures.sees c.args.slots.now.prepared.items) (λ f. f) (λ _ _. refl) tt
+returns-in-Err-clause-goes g c = λ x s stands founds. refused_as x _ _ s _ _ _ _ refl stands
+    (lookup_answer g.S.Storage.view g.F.BackingDisk.backing c.args.image.now c.args.slots.now.prepared.items c.args.slot c.args.offset c.args.max _ (λ f. error_is (unusable_first c.args.image.now _ c.in-Err.ensures.early f))
+    (λ usable past. let no = (c.in-Err.ensures.past usable past).0 in absurd cc)) (c.in-Err.ensures.sees c.args.slots.now.prepared.items) (λ f. f) (λ _ _. refl) tt

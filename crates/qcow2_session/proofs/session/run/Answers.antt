@@ -17,6 +17,7 @@ use Rattle.qcow2_session.proofs.session.run.Goals as goal
 pub loop-command-init : goal.loop-command-init
 loop-command-init g c = record {
   own = grind (arith, common_steps);
+  number = refl;
   answered = c.in-Ok.ensures.len;
   ran = λ x s stands.
       let view = g.S.Storage.view in
@@ -27,6 +28,7 @@ loop-command-init g c = record {
 pub loop-command-preserved : goal.loop-command-preserved
 loop-command-preserved g c = record {
   own = c.step-reply.ensures.slots ∙ c.loop-command.invariant.own ∙ sym c.step-reply.ensures.number;
+  number = c.step-reply.ensures.number ∙ c.loop-command.invariant.number;
   answered = c.push_reserved.ensures.len ∙ ap (λ n. n + 1) c.loop-command.invariant.answered;
   ran = λ x s stands.
       let spec = image_abstraction g.S.Storage.view g.F.BackingDisk.backing in
@@ -44,6 +46,9 @@ loop-command-preserved g c = record {
       (goes_on spec x first c.loop-command.image next free c.loop-command.slots.prepared.items out (begun s) (map command_of (take done commands)) (map reply_of replies)
       c.loop-command.slots.mappings.items found (command_of c.command-item.result) (reply_of c.step-reply.result) (c.loop-command.invariant.ran x s stands) (c.step-reply.ensures.goes x) c.step-reply.ensures.finds));
 }
+
+pub returns-clause-number : goal.returns-clause-number
+returns-clause-number g c = c.discard_all.ensures.acts.number ∙ c.loop-command.invariant.number
 
 pub returns-clause-runs : goal.returns-clause-runs
 returns-clause-runs g c = λ x s stands.

@@ -11,6 +11,7 @@ use Rattle.qcow2_session.proofs.session.run.Given as goal
 abbrev pub invariant-loop-command : goal.invariant-loop-command
 invariant-loop-command g l = record {
   own : l.slots.image ≡ number_of l.image;
+  number : number_of l.image ≡ number_of l.fn.image;
   answered : vec_len l.replies ≡ l.command-index;
   ran : (x : Setting) (s : State) → RefinesState x (abstract_of g.S.Storage.view g.F.BackingDisk.backing l.fn.image []) s
       → GoesOn (image_abstraction g.S.Storage.view g.F.BackingDisk.backing) x l.fn.image (replicate 256 None) l.image l.slots.prepared.items (begun s)

@@ -1,12 +1,12 @@
 use Rattle.std.proofs.Common.{◌≡◌, sym, subst, ap, ◌∙◌, Err, [], ◌∷◌, Some, None, min, length, refl, arith}
 use Rattle.qcow2_laws.specs.Mappings.{gift_of}
-use Rattle.qcow2_laws.specs.AbstractImages.{guest_of}
+use Rattle.qcow2_laws.specs.AbstractImages.{Setting, guest_of}
 use Rattle.qcow2_image.specs.Calls.{refusal_of, Commits}
-use Rattle.qcow2_image.specs.Prepared.{IsKept, length_of, table_of}
+use Rattle.qcow2_image.specs.Prepared.{IsKept, length_of}
 use Rattle.qcow2_image.specs.Refusals.{refuses_to_prepare}
 use Rattle.qcow2_image.specs.declared.prepared.CommitRefused.TheVariants.{Kept}
 use Rattle.qcow2_image.specs.ImageInvariant.{abstract_of, image_abstraction}
-use Rattle.qcow2_session.specs.Sessions.{WritesFirst}
+use Rattle.qcow2_session.specs.Sessions.{cluster_size_of, WritesFirst}
 use Rattle.qcow2_session.proofs.Chunks.{may_write_none, put_refused, written, commit_spent, commit_kept}
 use Rattle.qcow2_session.proofs.Writing.{chunk_ends}
 use Rattle.qcow2_image.proofs.Free.{free_places}
@@ -70,6 +70,11 @@ returns-in-Err-clause-early g c =
 
 pub returns-in-Ok-clause-ends : goal.returns-in-Ok-clause-ends
 returns-in-Ok-clause-ends g c = λ out sound short.
+    let view = g.S.Storage.view in
+    let below = g.F.BackingDisk.backing in
+    let old = c.args.image.now in
+    let mid = c.prepare_data_mapping.new.self in
     let maps = c.in_ok-prepared.ensures.maps (omega arith) out sound in
-    chunk_ends c.args.image.now c.args.offset (length c.args.bytes.now) c.min-count.result (length_of c.in_ok-prepared.prepared) (table_of c.in_ok-prepared.prepared)
-    (c.min-count.ensures ∙ ap (λ k. min (length c.args.bytes.now) k) c.length.ensures) short maps.whole maps.rest
+    let prepared = c.in_ok-prepared.ensures.sees (None ∷ out) 0 refl in
+    let same : cluster_size_of mid ≡ cluster_size_of old = ap (λ (x : Setting). x.cluster_size) (prepared.acts.works ((free_places view below).free old [] out sound)).setting in
+    chunk_ends old mid c.args.offset (length c.args.bytes.now) c.min-count.result (length_of c.in_ok-prepared.prepared) (c.min-count.ensures ∙ ap (λ k. min (length c.args.bytes.now) k) c.length.ensures) short same (λ less. (maps.short less).cluster)

@@ -5,6 +5,7 @@ use Rattle.qcow2_alloc.specs.FreeList.{pending_then}
 use Rattle.qcow2_alloc.specs.LowestRuns.{IsLowestRun}
 use Rattle.qcow2_alloc.proofs.AllocationSteps.{of_equal}
 use Rattle.qcow2_alloc.specs.Limits.{IsFaultOr, HasNoPlace}
+use Rattle.qcow2_alloc.proofs.FormerReftables.{former_none}
 use Rattle.qcow2_alloc.proofs.allocation.Allocator.allocate.Goals as goal
 
 pub returns-in-Ok-lowest_run-clause-sound : goal.returns-in-Ok-lowest_run-clause-sound
@@ -38,3 +39,6 @@ pub returns-in-Err-clause-limit : goal.returns-in-Err-clause-limit
 returns-in-Err-clause-limit g c = λ p sound may hint some.
     subst (λ n. IsFaultOr (HasNoPlace g.S.Storage.view c.lowest_run.new.file c.lowest_run.new.self n) c.in-Err.refusal) c.value.ensures
     (c.in-Err.ensures.limit p (is_data c.args.kind) sound may hint (subst (λ n. 0 < n) (sym c.value.ensures) some))
+
+pub returns-in_default-clause-former : goal.returns-in_default-clause-former
+returns-in_default-clause-former g c = former_none c.args.self.now.reftable c.args.file.now.free_list

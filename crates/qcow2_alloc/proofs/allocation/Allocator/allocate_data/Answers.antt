@@ -12,6 +12,7 @@ use Rattle.std.specs.Prelude.{IfErr}
 use Rattle.qcow2_alloc.specs.declared.error.ImageError.{ImageError}
 use Rattle.qcow2_alloc.specs.declared.clusters_to_free.ClustersToFreeEntry.{ClustersToFreeEntry}
 use Rattle.qcow2_alloc.specs.Limits.{IsFaultOr, HasNoPlace}
+use Rattle.qcow2_alloc.proofs.FormerReftables.{former_none}
 use Rattle.qcow2_alloc.proofs.allocation.Allocator.allocate_data.Goals as goal
 
 pub returns-in_err-l2_depends_on_rb-clause-sound : goal.returns-in_err-l2_depends_on_rb-clause-sound
@@ -57,3 +58,6 @@ returns-clause-limit g c = λ p sound hint some.
     let one = becomes_cached g.S.Storage.view p c.args.file.now c.args.self.now c.l2_depends_on_rb.new.storage c.l2_depends_on_rb.new.self sound (c.l2_depends_on_rb.ensures.keeps c.args.file.now.header.fields p sound.sound.honest sound.sound.caches) c.l2_depends_on_rb.ensures.marks in
     let file : ImageFile g.row.S.Denot = record c.args.file.now { storage = c.l2_depends_on_rb.new.storage; caches = c.l2_depends_on_rb.new.self } in
     c.allocate.ensures.limit p (is_sound_now g.S.Storage.view p p c.args.file.now file c.args.self.now one) c.in_ok-l2_depends_on_rb.ensures.order (hint_stays g.S.Storage.view p c.args.file.now file c.args.self.now c.args.self.now one refl hint) some
+
+pub returns-in_err-l2_depends_on_rb-clause-former : goal.returns-in_err-l2_depends_on_rb-clause-former
+returns-in_err-l2_depends_on_rb-clause-former g c = former_none c.args.self.now.reftable c.args.file.now.free_list

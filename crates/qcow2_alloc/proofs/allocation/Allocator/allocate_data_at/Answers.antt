@@ -14,6 +14,7 @@ use Rattle.std.specs.Prelude.{IfErr}
 use Rattle.qcow2_alloc.specs.declared.error.ImageError.{ImageError}
 use Rattle.qcow2_alloc.specs.Limits.{IsFaultOr, CantCount}
 use Rattle.qcow2_metadata.specs.L2Mapping.{IsHostCluster}
+use Rattle.qcow2_alloc.proofs.FormerReftables.{former_none}
 use Rattle.qcow2_alloc.proofs.allocation.Allocator.allocate_data_at.Goals as goal
 
 pub returns-in_err-l2_depends_on_rb-clause-sound : goal.returns-in_err-l2_depends_on_rb-clause-sound
@@ -139,3 +140,15 @@ returns-in-Err-clause-limit g c = λ p sound hint.
     let near : IsHostCluster c.args.file.now.header.fields.cluster_bits c.value.result = of_equal IsHostCluster c.args.file.now.header.fields.cluster_bits c.cluster_bits.result c.value.result c.args.cluster (sym c.cluster_bits.ensures.value) c.value.ensures (c.is_nameable.ensures.0 c.if-not-is_nameable.false) in
     subst (λ n. IsFaultOr (CantCount g.S.Storage.view c.take.new.file (λ k. 0) c.take.new.self n) c.in-Err.refusal) c.value.ensures
     (c.in-Err.ensures.limit p true now c.in_ok-l2_depends_on_rb.ensures.order (hint_stays g.S.Storage.view p c.args.file.now file c.args.self.now c.args.self.now one refl hint) near)
+
+pub returns-in_err-l2_depends_on_rb-clause-former : goal.returns-in_err-l2_depends_on_rb-clause-former
+returns-in_err-l2_depends_on_rb-clause-former g c = former_none c.args.self.now.reftable c.args.file.now.free_list
+
+pub returns-then-not-is_nameable-clause-former : goal.returns-then-not-is_nameable-clause-former
+returns-then-not-is_nameable-clause-former g c = former_none c.args.self.now.reftable c.args.file.now.free_list
+
+pub returns-then-at-eq0-clause-former : goal.returns-then-at-eq0-clause-former
+returns-then-at-eq0-clause-former g c = former_none c.args.self.now.reftable c.args.file.now.free_list
+
+pub returns-in_default-clause-former : goal.returns-in_default-clause-former
+returns-in_default-clause-former g c = former_none c.args.self.now.reftable c.args.file.now.free_list

@@ -13,6 +13,7 @@ use Rattle.std.proofs.Math.Nat.{div-mul-le_self}
 use Rattle.std.proofs.lemmas.Nat.{pow_pos}
 use Rattle.qcow2_alloc.specs.declared.error.ImageError.{ImageError}
 use Rattle.qcow2_alloc.proofs.Limits.{host_below, is_able, placed_fault, range_near}
+use Rattle.qcow2_alloc.proofs.FormerReftables.{place_none, place_as, place_then}
 use Rattle.qcow2_alloc.proofs.allocation.Allocator.ensure_block.Goals as goal
 
 pub returns-in_err-load_block-clause-sound : goal.returns-in_err-load_block-clause-sound
@@ -193,3 +194,24 @@ returns-in-Ok-Some-clause-fault g c = λ p sound within near.
     let taken = becomes_then g.S.Storage.view p (taken_as false p (one_at c.in-Ok-Some.at)) c.args.file.now c.load_block.new.file c.take_lowest_below.new.file c.args.self.now c.take_lowest_below.new.self l.0 two in
     placed_fault g.S.Storage.view (taken_as false p (one_at c.in-Ok-Some.at)) p c.take_lowest_below.new.file c.place_block.new.file c.place_block.new.self (c.args.cluster / 2 ^ c.rb_bits-bits.result) c.in-Ok-Some.at c.place_block.result
     (c.place_block.ensures.sound p (is_sound_now g.S.Storage.view p (taken_as false p (one_at c.in-Ok-Some.at)) c.args.file.now c.take_lowest_below.new.file c.take_lowest_below.new.self taken) (record { none = still; first = tt }))
+
+pub returns-in_err-load_block-clause-place : goal.returns-in_err-load_block-clause-place
+returns-in_err-load_block-clause-place g c = place_none c.args.self.now.reftable
+
+pub returns-then-is_some-clause-place : goal.returns-then-is_some-clause-place
+returns-then-is_some-clause-place g c = place_none c.args.self.now.reftable
+
+pub returns-then-not-can_name-clause-place : goal.returns-then-not-can_name-clause-place
+returns-then-not-can_name-clause-place g c = place_none c.args.self.now.reftable
+
+pub returns-in-Ok-Some-clause-place : goal.returns-in-Ok-Some-clause-place
+returns-in-Ok-Some-clause-place g c = place_then c.args.self.now.reftable c.take_lowest_below.new.self.reftable c.place_block.new.self.reftable (place_as _ c.args.self.now.reftable c.take_lowest_below.new.self.reftable c.take_lowest_below.ensures.entries) (place_as _ c.take_lowest_below.new.self.reftable c.place_block.new.self.reftable c.place_block.ensures.entries)
+
+pub returns-in-Ok-None-clause-place : goal.returns-in-Ok-None-clause-place
+returns-in-Ok-None-clause-place g c = place_then c.args.self.now.reftable c.take_lowest_below.new.self.reftable c.cover_range.new.self.reftable (place_as _ c.args.self.now.reftable c.take_lowest_below.new.self.reftable c.take_lowest_below.ensures.entries) (place_as _ c.take_lowest_below.new.self.reftable c.cover_range.new.self.reftable c.cover_range.ensures.entries)
+
+pub returns-then-ends_call-clause-place : goal.returns-then-ends_call-clause-place
+returns-then-ends_call-clause-place g c = place_as _ c.args.self.now.reftable c.take_lowest_below.new.self.reftable c.take_lowest_below.ensures.entries
+
+pub returns-else-ends_call-clause-place : goal.returns-else-ends_call-clause-place
+returns-else-ends_call-clause-place g c = place_then c.args.self.now.reftable c.take_lowest_below.new.self.reftable c.cover_range-in-Err.new.self.reftable (place_as _ c.args.self.now.reftable c.take_lowest_below.new.self.reftable c.take_lowest_below.ensures.entries) (place_as _ c.take_lowest_below.new.self.reftable c.cover_range-in-Err.new.self.reftable c.cover_range-in-Err.ensures.entries)

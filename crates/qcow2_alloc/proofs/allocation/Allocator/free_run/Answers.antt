@@ -26,6 +26,7 @@ freeing-preserved g c = record {
   header = c.lower.ensures.header ∙ c.freeing.invariant.header;
   list = c.lower.ensures.list ∙ c.freeing.invariant.list;
   marks = marks_then c.args.file.now.caches c.freeing.file.caches c.lower.new.file.caches c.freeing.invariant.marks c.lower.ensures.marks;
+  faults = omega (arith, c.freeing.invariant.faults, c.lower.ensures.storage_faults.no_fewer);
   order = c.lower.ensures.order ∙ c.freeing.invariant.order;
   kind = c.drop_first.ensures.kind ∙ c.freeing.invariant.kind;
   sound = λ p sound may.

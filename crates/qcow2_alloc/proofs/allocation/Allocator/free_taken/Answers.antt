@@ -11,6 +11,7 @@ pub freeing-preserved : goal.freeing-preserved
 freeing-preserved g c = record {
   header = c.free_or_list.ensures.header ∙ c.freeing.invariant.header;
   marks = marks_then c.args.file.now.caches c.freeing.file.caches c.free_or_list.new.file.caches c.freeing.invariant.marks c.free_or_list.ensures.marks;
+  faults = omega (arith, c.freeing.invariant.faults, c.free_or_list.ensures.storage_faults.no_fewer);
   order = c.free_or_list.ensures.order ∙ c.freeing.invariant.order;
   others = but_step c.args.kind c.free_or_list.new.file.free_list c.freeing.file.free_list c.freeing.taken c.next_pending.new.self c.in-Some.pending c.in-Some.ensures.some c.free_or_list.ensures.others ∙ c.freeing.invariant.others;
   left =

@@ -2,6 +2,7 @@ use Rattle.std.proofs.Common.{◌≡◌, ◌≤◌, ◌++◌, length}
 use Rattle.qcow2_laws.specs.CrashInvariant.{Pending}
 use Rattle.qcow2_alloc.specs.Allocation.{MayFree, SameLeaks, UnseenAllocatorStep}
 use Rattle.qcow2_alloc.specs.CacheMarks.{KeepsMarks}
+use Rattle.qcow2_alloc.specs.Faults.{faults_of}
 use Rattle.qcow2_alloc.specs.FreeList.{with_listed, but}
 use Rattle.qcow2_alloc.specs.ImageFile.{AllocatorInvariant}
 use Rattle.qcow2_alloc.specs.LowestRuns.{NoFreeBelowHint}
@@ -13,6 +14,7 @@ abbrev pub invariant-freeing : goal.invariant-freeing
 invariant-freeing g l = record {
   header : l.file.header ≡ l.fn.file.header;
   marks : KeepsMarks l.fn.file.caches l.file.caches;
+  faults : faults_of g.S.Storage.view l.fn.file.storage ≤ faults_of g.S.Storage.view l.file.storage;
   order : order_of l.file.caches ≡ order_of l.fn.file.caches;
   others : but l.fn.kind (l.file.free_list ++ l.taken) ≡ but l.fn.kind (l.fn.file.free_list ++ l.fn.taken);
   left : l.file.free_list ++ but l.fn.kind l.taken ≡ l.fn.file.free_list ++ but l.fn.kind l.fn.taken;

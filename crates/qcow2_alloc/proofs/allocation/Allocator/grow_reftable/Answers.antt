@@ -1,4 +1,4 @@
-use Rattle.std.proofs.Common.{◌≡◌, ℕ, ◌^◌, ◌≤◌, IsSome, inl, inr, Result, refl, ◌∙◌, ◌++◌, ◌∷◌, [], List, sym, ap, subst}
+use Rattle.std.proofs.Common.{arith, ◌≡◌, ℕ, ◌^◌, ◌≤◌, IsSome, inl, inr, Result, refl, ◌∙◌, ◌++◌, ◌∷◌, [], List, sym, ap, subst}
 use Rattle.std.specs.Prelude.{IfErr}
 use Rattle.qcow2_metadata.specs.EntryTable.{entry_count}
 use Rattle.qcow2_metadata.specs.Header.{HeaderView, counts_per_block, entries_per_cluster}
@@ -14,6 +14,7 @@ use Rattle.qcow2_alloc.proofs.FullRooms.{cant_grow}
 use Rattle.qcow2_alloc.proofs.Limits.{cause_as}
 use Rattle.qcow2_alloc.proofs.Following.{following_same}
 use Rattle.qcow2_alloc.proofs.GrownReftables.{grown}
+use Rattle.qcow2_alloc.proofs.FormerReftables.{former_none, former_one, former_still}
 use Rattle.qcow2_alloc.proofs.allocation.Allocator.grow_reftable.Goals as goal
 
 pub returns-in-Ok-clause-sound : goal.returns-in-Ok-clause-sound
@@ -76,3 +77,18 @@ pub returns-in-Ok-clause-lowest : goal.returns-in-Ok-clause-lowest
 returns-in-Ok-clause-lowest g c = λ p sound hint.
     let lies = c.in-Ok.ensures.lowest p sound hint c.in_ok-table.ensures.entries c.in_ok-table.ensures.length.enough.whole in
     record { first = lies.first; blocks = lies.blocks; above = lies.above; behind = lies.behind; lacked = lies.lacked; lowest = lies.lowest }
+
+pub returns-in_err-table-clause-former : goal.returns-in_err-table-clause-former
+returns-in_err-table-clause-former g c = former_none c.args.self.now.reftable c.args.file.now.free_list
+
+pub returns-in_err-former-clause-former : goal.returns-in_err-former-clause-former
+returns-in_err-former-clause-former g c = former_none c.args.self.now.reftable c.args.file.now.free_list
+
+pub returns-in-Ok-clause-former : goal.returns-in-Ok-clause-former
+returns-in-Ok-clause-former g c =
+    former_one c.args.self.now.reftable c.enter_reftable.new.self.reftable c.in_ok-former.former c.args.file.now.free_list c.hand_back.new.list c.in_ok-former.ensures.of_table
+    (let long = c.in_ok-table.ensures.length.enough.longer in let same = c.in-Ok.ensures.table in omega (arith, long, same))
+    (c.hand_back.ensures ∙ ap (λ (l : List ClustersToFreeEntry). l ++ c.in_ok-former.former ∷ []) c.enter_reftable.ensures.list)
+
+pub returns-in-Err-clause-former : goal.returns-in-Err-clause-former
+returns-in-Err-clause-former g c = former_still c.args.self.now.reftable c.args.self.now.reftable c.enter_reftable.new.self.reftable c.args.file.now.free_list c.args.file.now.free_list c.enter_reftable.new.file.free_list (former_none c.args.self.now.reftable c.args.file.now.free_list) c.in-Err.ensures.kept c.enter_reftable.ensures.list

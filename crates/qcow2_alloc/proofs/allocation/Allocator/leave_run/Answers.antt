@@ -1,4 +1,4 @@
-use Rattle.std.proofs.Common.{◌≡◌, inl, inr, ◌+◌, ◌-◌, ◌/◌, ◌^◌, false, true, refl, sym, ap, ◌∙◌, subst, arith}
+use Rattle.std.proofs.Common.{◌≤◌, ◌≡◌, inl, inr, ◌+◌, ◌-◌, ◌/◌, ◌^◌, false, true, refl, sym, ap, ◌∙◌, subst, arith}
 use Rattle.qcow2_metadata.specs.Header.{counts_per_block}
 use Rattle.qcow2_laws.specs.Changes.{one_at}
 use Rattle.qcow2_laws.specs.CrashInvariant.{Pending}
@@ -13,6 +13,7 @@ use Rattle.qcow2_alloc.proofs.AllocationSteps.{handed_on, of_equal}
 use Rattle.qcow2_alloc.proofs.Hints.{not_in_run, taken_pending, used_stays}
 use Rattle.qcow2_alloc.proofs.Rooms.{run_past, left_none, left_one, left_fault, owed_now}
 use Rattle.qcow2_alloc.proofs.allocation.Allocator.leave_run.Goals.{then-not-lacks_block+in_ok-lower, else-not-lacks_block}
+use Rattle.qcow2_alloc.specs.Faults.{faults_of}
 use Rattle.qcow2_alloc.proofs.allocation.Allocator.leave_run.Goals as goal
 
 pub leaving-init : goal.leaving-init
@@ -20,6 +21,7 @@ leaving-init g c = record {
   header = refl;
   list = refl;
   marks = marks_none c.args.file.now.caches;
+  faults = omega arith;
   order = refl;
   reftable = refl;
   first = refl;
@@ -56,6 +58,7 @@ leaving-preserved g c =
         header = ap (λ f. f.header) w.file-is ∙ w.lower.ensures.header ∙ c.leaving.invariant.header;
         list = ap (λ f. f.free_list) w.file-is ∙ w.lower.ensures.list ∙ c.leaving.invariant.list;
         marks = subst (λ f. KeepsMarks c.args.file.now.caches f.caches) (sym w.file-is) (marks_then c.args.file.now.caches c.leaving.file.caches w.lower.new.file.caches c.leaving.invariant.marks w.lower.ensures.marks);
+        faults = subst (λ f. faults_of g.S.Storage.view c.args.file.now.storage ≤ faults_of g.S.Storage.view f.storage) (sym w.file-is) (omega (arith, c.leaving.invariant.faults, w.lower.ensures.storage_faults.no_fewer));
         order = ap (λ f. order_of f.caches) w.file-is ∙ w.lower.ensures.order ∙ c.leaving.invariant.order;
         reftable = ap (λ a. a.reftable) w.self-is ∙ w.lower.ensures.reftable ∙ c.leaving.invariant.reftable;
         first = ap (λ a. a.first_free_cluster) w.self-is
@@ -85,6 +88,7 @@ leaving-preserved g c =
         header = ap (λ f. f.header) w.file-is ∙ c.leaving.invariant.header;
         list = ap (λ f. f.free_list) w.file-is ∙ c.leaving.invariant.list;
         marks = subst (λ f. KeepsMarks c.args.file.now.caches f.caches) (sym w.file-is) c.leaving.invariant.marks;
+        faults = subst (λ f. faults_of g.S.Storage.view c.args.file.now.storage ≤ faults_of g.S.Storage.view f.storage) (sym w.file-is) c.leaving.invariant.faults;
         order = ap (λ f. order_of f.caches) w.file-is ∙ c.leaving.invariant.order;
         reftable = ap (λ a. a.reftable) w.self-is ∙ c.leaving.invariant.reftable;
         first = ap (λ a. a.first_free_cluster) w.self-is ∙ c.leaving.invariant.first;

@@ -15,6 +15,7 @@ use Rattle.qcow2_alloc.specs.declared.error.ImageError.{ImageError}
 use Rattle.qcow2_alloc.specs.Limits.{IsFaultOr, HasNoPlace, nameable_clusters}
 use Rattle.qcow2_alloc.proofs.Limits.{full_behind, limit_is_no_fault}
 use Rattle.qcow2_alloc.proofs.allocation.Allocator.lowest_run.Goals.{then-search-test+then-n-limit+else-first-limit, then-search-test+else-n-limit, else-search-test}
+use Rattle.qcow2_alloc.proofs.FormerReftables.{former_none, former_then}
 use Rattle.qcow2_alloc.proofs.allocation.Allocator.lowest_run.Goals as goal
 
 pub returns-in_err-taken-clause-sound : goal.returns-in_err-taken-clause-sound
@@ -37,9 +38,11 @@ pub search-init : goal.search-init
 search-init g c = record {
   header = header_same c.args.file.now.header c.args.file.now.header refl;
   list = lists_none c.args.file.now.free_list;
+  former = former_none c.args.self.now.reftable c.args.file.now.free_list;
   limit = ap (λ n. greatest_offset / 2 ^ n + 1) c.cluster_bits.ensures.value;
   near = let le = div-le_self greatest_offset (2 ^ c.cluster_bits.result) in omega (arith, le);
   marks = marks_none c.args.file.now.caches;
+  faults = omega arith;
   order = refl;
   sound = λ p sound.
       subst (λ (r : Pending). UnseenAllocatorGrowth g.S.Storage.view p c.args.file.now (record c.args.self.now { first_free_cluster = c.max-self.result }) c.args.file.now r) (sym (following_same p c.args.file.now.free_list c.args.file.now.free_list refl))
@@ -55,10 +58,12 @@ pub search-preserved : goal.search-preserved
 search-preserved g c = record {
   header = header_then c.args.file.now.header c.search.file.header c.take_run.new.file.header c.search.invariant.header c.take_run.ensures.header;
   list = lists_then c.args.file.now.free_list c.search.file.free_list c.take_run.new.file.free_list c.search.invariant.list c.take_run.ensures.list;
+  former = former_then c.args.self.now.reftable c.search.self.reftable c.take_run.new.self.reftable c.args.file.now.free_list c.search.file.free_list c.take_run.new.file.free_list c.search.invariant.former c.take_run.ensures.former;
   limit = c.search.invariant.limit;
   near = c.search.invariant.near;
   above = let above = c.search.invariant.above in omega (arith, above);
   marks = marks_then c.args.file.now.caches c.search.file.caches c.take_run.new.file.caches c.search.invariant.marks c.take_run.ensures.marks;
+  faults = omega (arith, c.search.invariant.faults, c.take_run.ensures.storage_faults.no_fewer);
   order = c.take_run.ensures.order ∙ c.search.invariant.order;
   sound = λ p sound.
       let before = c.search.invariant.sound p sound in
@@ -145,3 +150,9 @@ returns-clause-limit g c = λ p d sound may hint some.
       | else-search-test w ↦ let none = w.search-test.false in omega (arith, some, none)
     ] in
     inr (refl, inl (full_behind g.S.Storage.view c.search.file c.search.first c.args.n (greatest_offset / 2 ^ c.cluster_bits.result + 1) limit past (c.search.invariant.lowest p d sound may hint some)))
+
+pub returns-in_err-taken-clause-former : goal.returns-in_err-taken-clause-former
+returns-in_err-taken-clause-former g c = former_then c.args.self.now.reftable c.search.self.reftable c.take_run.new.self.reftable c.args.file.now.free_list c.search.file.free_list c.take_run.new.file.free_list c.search.invariant.former c.take_run.ensures.former
+
+pub returns-then-taken-n-clause-former : goal.returns-then-taken-n-clause-former
+returns-then-taken-n-clause-former g c = former_then c.args.self.now.reftable c.search.self.reftable c.take_run.new.self.reftable c.args.file.now.free_list c.search.file.free_list c.take_run.new.file.free_list c.search.invariant.former c.take_run.ensures.former

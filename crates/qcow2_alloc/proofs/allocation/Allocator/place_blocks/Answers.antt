@@ -25,6 +25,7 @@ use Rattle.qcow2_alloc.proofs.PlacedRooms.{EntersSo, Counting, enters_none, ente
 use Rattle.qcow2_alloc.proofs.RoomSteps.{entries_aligned, wrote_err, wrote_ok, may_go, of_three, rest_then, placed_more, range_within, run_within, counts_as, room_enters, room_counts, room_uncached}
 use Rattle.qcow2_alloc.proofs.PlacedBlocks.{file_sizes}
 use Rattle.qcow2_alloc.proofs.allocation.Allocator.place_blocks.Goals.{then-opens_range+in_ok-block+in_ok-write_new_block, else-opens_range}
+use Rattle.qcow2_alloc.specs.Faults.{faults_of}
 use Rattle.qcow2_alloc.proofs.allocation.Allocator.place_blocks.Goals as goal
 
 pub placing-init : goal.placing-init
@@ -38,6 +39,7 @@ placing-init g c =
       header = refl;
       list = refl;
       marks = marks_none c.args.file.now.caches;
+      faults = omega arith;
       order = refl;
       tables = refl;
       clean = λ all. all;
@@ -101,6 +103,7 @@ placing-preserved g c =
         header = ap (λ f. f.header) w.file-is ∙ w.write_new_block.ensures.header ∙ inv.header;
         list = ap (λ f. f.free_list) w.file-is ∙ w.write_new_block.ensures.list ∙ inv.list;
         marks = subst (λ f. KeepsMarks old.caches f.caches) (sym w.file-is) (marks_then old.caches c.placing.file.caches w.write_new_block.new.file.caches inv.marks w.write_new_block.ensures.marks);
+        faults = subst (λ f. faults_of g.S.Storage.view old.storage ≤ faults_of g.S.Storage.view f.storage) (sym w.file-is) (omega (arith, inv.faults, w.write_new_block.ensures.storage_faults.no_fewer));
         order = ap (λ f. order_of f.caches) w.file-is ∙ w.write_new_block.ensures.order ∙ inv.order;
         tables = ap (λ f. l2_tables f.caches) w.file-is ∙ w.write_new_block.ensures.tables ∙ inv.tables;
         clean = λ all. subst (λ f. AreClean (refblocks f.caches)) (sym w.file-is) (w.write_new_block.ensures.clean (inv.clean all));
@@ -155,6 +158,7 @@ placing-preserved g c =
         header = ap (λ f. f.header) w.file-is ∙ inv.header;
         list = ap (λ f. f.free_list) w.file-is ∙ inv.list;
         marks = subst (λ f. KeepsMarks old.caches f.caches) (sym w.file-is) inv.marks;
+        faults = subst (λ f. faults_of g.S.Storage.view old.storage ≤ faults_of g.S.Storage.view f.storage) (sym w.file-is) inv.faults;
         order = ap (λ f. order_of f.caches) w.file-is ∙ inv.order;
         tables = ap (λ f. l2_tables f.caches) w.file-is ∙ inv.tables;
         clean = λ all. subst (λ f. AreClean (refblocks f.caches)) (sym w.file-is) (inv.clean all);

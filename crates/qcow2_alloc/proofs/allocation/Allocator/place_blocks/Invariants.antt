@@ -4,6 +4,7 @@ use Rattle.qcow2_laws.specs.Caches.{AreClean, BlocksMayGo}
 use Rattle.qcow2_laws.specs.CrashInvariant.{Pending}
 use Rattle.qcow2_alloc.specs.Allocation.{run_at, UnseenAllocatorStep}
 use Rattle.qcow2_alloc.specs.CacheMarks.{KeepsMarks}
+use Rattle.qcow2_alloc.specs.Faults.{faults_of}
 use Rattle.qcow2_alloc.specs.GrownTables.{with_run}
 use Rattle.qcow2_alloc.specs.ImageFile.{contents_in, AllocatorInvariant}
 use Rattle.qcow2_alloc.specs.MetadataCaches.{order_of, l2_tables, refblocks, rb_at}
@@ -17,6 +18,7 @@ invariant-placing g l = record {
   header : l.file.header ≡ l.fn.file.header;
   list : l.file.free_list ≡ l.fn.file.free_list;
   marks : KeepsMarks l.fn.file.caches l.file.caches;
+  faults : faults_of g.S.Storage.view l.fn.file.storage ≤ faults_of g.S.Storage.view l.file.storage;
   order : order_of l.file.caches ≡ order_of l.fn.file.caches;
   tables : l2_tables l.file.caches ≡ l2_tables l.fn.file.caches;
   clean : AreClean (refblocks l.fn.file.caches) → AreClean (refblocks l.file.caches);

@@ -13,6 +13,7 @@ use Rattle.std.specs.Prelude.{IfErr}
 use Rattle.qcow2_metadata.specs.L2Mapping.{IsHostCluster}
 use Rattle.qcow2_metadata.specs.EntryTable.{entry_count}
 use Rattle.qcow2_alloc.specs.declared.error.ImageError.{ImageError}
+use Rattle.qcow2_alloc.proofs.FormerReftables.{former_same, former_then}
 use Rattle.qcow2_alloc.proofs.allocation.Allocator.reach_block.Goals as goal
 
 pub returns-then-in_bounds-clause-sound : goal.returns-then-in_bounds-clause-sound
@@ -87,3 +88,9 @@ returns-clause-limit g c = λ p sound hint near.
     (c.ensure_block-2.ensures.fault q (is_sound_on g.S.Storage.view p q c.args.file.now c.grow_reftable.new.file c.grow_reftable.new.self (c.in_ok-grow_reftable.ensures.sound p sound))
     (let within = c.in_ok-grow_reftable.ensures.length.enough.above in let range = ap (λ n. c.args.cluster / n) counts in omega (arith, within, range))
     (subst (λ n. IsHostCluster n c.args.cluster) (sym (header_bits c.args.file.now.header c.grow_reftable.new.file.header c.grow_reftable.ensures.header)) near))
+
+pub returns-then-in_bounds-clause-former : goal.returns-then-in_bounds-clause-former
+returns-then-in_bounds-clause-former g c = former_same c.args.self.now.reftable c.ensure_block.new.self.reftable c.args.file.now.free_list c.ensure_block.new.file.free_list c.ensure_block.ensures.place c.ensure_block.ensures.list
+
+pub returns-clause-former : goal.returns-clause-former
+returns-clause-former g c = former_then c.args.self.now.reftable c.grow_reftable.new.self.reftable c.ensure_block-2.new.self.reftable c.args.file.now.free_list c.grow_reftable.new.file.free_list c.ensure_block-2.new.file.free_list c.grow_reftable.ensures.former (former_same c.grow_reftable.new.self.reftable c.ensure_block-2.new.self.reftable c.grow_reftable.new.file.free_list c.ensure_block-2.new.file.free_list c.ensure_block-2.ensures.place c.ensure_block-2.ensures.list)

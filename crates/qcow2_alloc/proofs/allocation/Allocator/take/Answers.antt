@@ -1,4 +1,4 @@
-use Rattle.std.proofs.Common.{◌≡◌, ◌+◌, Ok, ap, refl, sym, subst, inl, Bool, Result}
+use Rattle.std.proofs.Common.{◌≡◌, ◌∙◌, ◌+◌, Ok, ap, refl, sym, subst, inl, Bool, Result}
 use Rattle.qcow2_laws.specs.CrashInvariant.{Pending}
 use Rattle.qcow2_metadata.specs.Header.{counts_per_block}
 use Rattle.qcow2_alloc.specs.declared.allocation.Allocator.{Allocator}
@@ -12,6 +12,7 @@ use Rattle.qcow2_alloc.proofs.allocation.Allocator.take.Goals.{then-cluster-self
 use Rattle.std.specs.Prelude.{IfErr}
 use Rattle.qcow2_alloc.specs.declared.error.ImageError.{ImageError}
 use Rattle.qcow2_alloc.specs.Limits.{CantCount, IsFaultOr}
+use Rattle.qcow2_alloc.proofs.FormerReftables.{former_still}
 use Rattle.qcow2_alloc.proofs.allocation.Allocator.take.Goals as goal
 
 pub returns-in_err-reach_block-clause-sound : goal.returns-in_err-reach_block-clause-sound
@@ -108,3 +109,14 @@ returns-in_err-taken-clause-limit g c = λ p d sound may hint near.
     let q : Pending = pending_then p c.args.file.now.free_list c.reach_block.new.file.free_list in
     handed_on (λ (r : Result Bool ImageError). IfErr r (IsFaultOr (CantCount g.S.Storage.view c.raise.new.file (λ k. 0) c.raise.new.self c.args.cluster))) c.from_residual-in_err-taken.result c.in_err-taken.field-0.0 c.from_residual-in_err-taken.ensures
     (inl (c.in_err-taken.ensures.fault q (is_sound_on g.S.Storage.view p q c.args.file.now c.reach_block.new.file c.reach_block.new.self (c.in_ok-reach_block.ensures.sound p sound))))
+
+pub returns-in_err-taken-clause-former : goal.returns-in_err-taken-clause-former
+returns-in_err-taken-clause-former g c = former_still c.args.self.now.reftable c.reach_block.new.self.reftable c.raise.new.self.reftable c.args.file.now.free_list c.reach_block.new.file.free_list c.raise.new.file.free_list c.reach_block.ensures.former (ap (λ (t : Allocator). t.reftable) c.raise.ensures.same) c.raise.ensures.list
+
+pub returns-clause-former : goal.returns-clause-former
+returns-clause-former g c =
+    let same : c.if-cluster-self.self.reftable ≡ c.raise.new.self.reftable = elim c.if-cluster-self.branch [
+      | then-cluster-self w ↦ ap (λ (t : Allocator). t.reftable) w.self-is
+      | else-cluster-self w ↦ ap (λ (t : Allocator). t.reftable) w.self-is
+    ] in
+    former_still c.args.self.now.reftable c.reach_block.new.self.reftable c.if-cluster-self.self.reftable c.args.file.now.free_list c.reach_block.new.file.free_list c.raise.new.file.free_list c.reach_block.ensures.former (same ∙ ap (λ (t : Allocator). t.reftable) c.raise.ensures.same) c.raise.ensures.list

@@ -36,6 +36,7 @@ search-init g c = record {
   header = refl;
   list = refl;
   marks = marks_none c.args.file.now.caches;
+  faults = omega arith;
   order = refl;
   above = let first = c.max-self.ensures in omega (arith, first);
   entries = record { cluster = refl; bits = refl; count = refl; others = λ k past. refl };
@@ -48,6 +49,7 @@ search-preserved g c = record {
   header = c.raise.ensures.header ∙ c.cover_range.ensures.header ∙ c.search.invariant.header;
   list = c.raise.ensures.list ∙ c.cover_range.ensures.list ∙ c.search.invariant.list;
   marks = marks_then c.args.file.now.caches c.cover_range.new.file.caches c.raise.new.file.caches (marks_then c.args.file.now.caches c.search.file.caches c.cover_range.new.file.caches c.search.invariant.marks c.cover_range.ensures.marks) c.raise.ensures.marks;
+  faults = omega (arith, c.search.invariant.faults, c.cover_range.ensures.storage_faults.no_fewer, c.raise.ensures.storage_faults.no_fewer);
   order = c.raise.ensures.order ∙ c.cover_range.ensures.order ∙ c.search.invariant.order;
   entries =
       let Stays : ℕ → Type 0 = λ k. c.args.end ≤ k * counts_per_block c.args.file.now.header.fields in

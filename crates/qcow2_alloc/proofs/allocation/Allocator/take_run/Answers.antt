@@ -18,6 +18,7 @@ use Rattle.std.specs.Prelude.{IfErr}
 use Rattle.qcow2_metadata.specs.L2Mapping.{IsHostCluster}
 use Rattle.qcow2_alloc.specs.Limits.{CantCount, CantCountRun, IsFaultOr}
 use Rattle.qcow2_alloc.proofs.Limits.{cause_as, count_back, host_of_few}
+use Rattle.qcow2_alloc.proofs.FormerReftables.{former_none, former_then, former_still}
 use Rattle.qcow2_alloc.proofs.allocation.Allocator.take_run.Goals as goal
 
 -- none, where there aren't some
@@ -40,7 +41,9 @@ pub taking-init : goal.taking-init
 taking-init g c = record {
   header = header_same c.args.file.now.header c.args.file.now.header refl;
   list = lists_none c.args.file.now.free_list;
+  former = former_none c.args.self.now.reftable c.args.file.now.free_list;
   marks = marks_none c.args.file.now.caches;
+  faults = omega arith;
   order = refl;
   noted = λ some. absurd (omega (arith, some));
   hint = λ p d sound may hint. hint;
@@ -117,7 +120,9 @@ pub taking-preserved : goal.taking-preserved
 taking-preserved g c = record {
   header = header_then c.args.file.now.header c.taking.file.header c.take.new.file.header c.taking.invariant.header c.take.ensures.header;
   list = lists_then c.args.file.now.free_list c.taking.file.free_list c.take.new.file.free_list c.taking.invariant.list c.take.ensures.list;
+  former = former_then c.args.self.now.reftable c.taking.self.reftable c.take.new.self.reftable c.args.file.now.free_list c.taking.file.free_list c.take.new.file.free_list c.taking.invariant.former c.take.ensures.former;
   marks = marks_then c.args.file.now.caches c.taking.file.caches c.take.new.file.caches c.taking.invariant.marks c.take.ensures.marks;
+  faults = omega (arith, c.taking.invariant.faults, c.take.ensures.storage_faults.no_fewer);
   order = c.take.ensures.order ∙ c.taking.invariant.order;
   noted = λ _. rw c.in-Ok-true.field-0-test at c.in-Ok-true.ensures.noted refl;
   sound = λ p d sound may.
@@ -332,3 +337,19 @@ returns-in-Err-clause-limit g c = λ p d sound may hint near.
           )) why)
       | else-not-ends_call w ↦ inl (c.ends_call.ensures.fault w.if-not-ends_call.false)
     ]
+
+pub returns-in_err-give_back-in-Ok-false-clause-former : goal.returns-in_err-give_back-in-Ok-false-clause-former
+returns-in_err-give_back-in-Ok-false-clause-former g c = former_still c.args.self.now.reftable c.take.new.self.reftable c.give_back.new.self.reftable c.args.file.now.free_list c.take.new.file.free_list c.give_back.new.file.free_list (former_then c.args.self.now.reftable c.taking.self.reftable c.take.new.self.reftable c.args.file.now.free_list c.taking.file.free_list c.take.new.file.free_list c.taking.invariant.former c.take.ensures.former) c.give_back.ensures.reftable c.give_back.ensures.list
+
+pub returns-in-Ok-false-clause-former : goal.returns-in-Ok-false-clause-former
+returns-in-Ok-false-clause-former g c = former_still c.args.self.now.reftable c.take.new.self.reftable c.give_back.new.self.reftable c.args.file.now.free_list c.take.new.file.free_list c.give_back.new.file.free_list (former_then c.args.self.now.reftable c.taking.self.reftable c.take.new.self.reftable c.args.file.now.free_list c.taking.file.free_list c.take.new.file.free_list c.taking.invariant.former c.take.ensures.former) c.give_back.ensures.reftable c.give_back.ensures.list
+
+pub returns-in_err-give_back-in-Err-clause-former : goal.returns-in_err-give_back-in-Err-clause-former
+returns-in_err-give_back-in-Err-clause-former g c = former_still c.args.self.now.reftable c.take.new.self.reftable c.give_back-then-not-ends_call.new.self.reftable c.args.file.now.free_list c.take.new.file.free_list c.give_back-then-not-ends_call.new.file.free_list (former_then c.args.self.now.reftable c.taking.self.reftable c.take.new.self.reftable c.args.file.now.free_list c.taking.file.free_list c.take.new.file.free_list c.taking.invariant.former c.take.ensures.former) c.give_back-then-not-ends_call.ensures.reftable c.give_back-then-not-ends_call.ensures.list
+
+pub returns-in-Err-clause-former : goal.returns-in-Err-clause-former
+returns-in-Err-clause-former g c = elim c.if-not-ends_call.branch [
+  | then-not-ends_call+in_ok-give_back-in-Err w ↦ former_still c.args.self.now.reftable c.take.new.self.reftable c.if-not-ends_call.self.reftable c.args.file.now.free_list c.take.new.file.free_list c.if-not-ends_call.file.free_list (former_then c.args.self.now.reftable c.taking.self.reftable c.take.new.self.reftable c.args.file.now.free_list c.taking.file.free_list c.take.new.file.free_list c.taking.invariant.former c.take.ensures.former)
+      (ap (λ t. t.reftable) w.self-is ∙ w.give_back-then-not-ends_call.ensures.reftable) (ap (λ f. f.free_list) w.file-is ∙ w.give_back-then-not-ends_call.ensures.list)
+  | else-not-ends_call w ↦ former_still c.args.self.now.reftable c.take.new.self.reftable c.if-not-ends_call.self.reftable c.args.file.now.free_list c.take.new.file.free_list c.if-not-ends_call.file.free_list (former_then c.args.self.now.reftable c.taking.self.reftable c.take.new.self.reftable c.args.file.now.free_list c.taking.file.free_list c.take.new.file.free_list c.taking.invariant.former c.take.ensures.former) (ap (λ t. t.reftable) w.self-is) (ap (λ f. f.free_list) w.file-is)
+]

@@ -8,6 +8,8 @@ use Rattle.qcow2_alloc.proofs.KeptTables.InOrder.{order_then}
 use Rattle.qcow2_alloc.specs.ImageStorage.{storage_of}
 use Rattle.qcow2_alloc.proofs.KeptTables.Clean.{tables_as, blocks_as}
 use Rattle.qcow2_alloc.proofs.KeptTables.Quiet.{quiet_then}
+use Rattle.qcow2_alloc.specs.Faults.{faults_of}
+use Rattle.qcow2_alloc.proofs.Faults.{told_on, told_since}
 use Rattle.qcow2_alloc.proofs.cache.MetadataCaches.flush_all.Goals as goal
 
 pub returns-in_err-write_blocks-in-L2DependsOnRb-clause-keeps : goal.returns-in_err-write_blocks-in-L2DependsOnRb-clause-keeps
@@ -16,6 +18,7 @@ returns-in_err-write_blocks-in-L2DependsOnRb-clause-keeps g c = c.write_blocks-i
 pub returns-in_err-write_tables-in-None : goal.returns-in_err-write_tables-in-None
 returns-in_err-write_tables-in-None g c = record {
   cause = search rules;
+  storage_faults = told_on (faults_of g.S.Storage.view c.args.storage.now) (faults_of g.S.Storage.view c.write_tables.new.storage) c.write_tables.result c.in_err-write_tables-in-None.field-0.0 c.from_residual.result c.write_tables.ensures.storage_faults c.in_err-write_tables-in-None.was c.from_residual.ensures;
   order = search rules;
   written = search rules;
   marks = search rules;
@@ -34,6 +37,7 @@ returns-in_ok-write_blocks-in-L2DependsOnRb-clause-keeps g c =
 pub returns-in_ok-write_tables-in-None : goal.returns-in_ok-write_tables-in-None
 returns-in_ok-write_tables-in-None g c = record {
   cause = search rules;
+  storage_faults = told_since (faults_of g.S.Storage.view c.args.storage.now) (faults_of g.S.Storage.view c.write_tables.new.storage) (faults_of g.S.Storage.view c.write_blocks.new.storage) c.write_tables.ensures.storage_faults.no_fewer c.write_blocks.ensures.storage_faults;
   order = search rules;
   written = both_written c.write_tables.new.self c.write_blocks.new.self c.write_blocks.result c.write_blocks.ensures.tables c.in_ok-write_tables-in-None.ensures.written c.write_blocks.ensures.written;
   marks = marks_then c.args.self.now c.write_tables.new.self c.write_blocks.new.self c.write_tables.ensures.marks c.write_blocks.ensures.marks;

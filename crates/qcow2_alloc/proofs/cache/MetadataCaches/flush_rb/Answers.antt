@@ -25,6 +25,7 @@ returns-in_ok-write_tables-in-RbDependsOnL2-clause-keeps g c =
 pub returns-in-None : goal.returns-in-None
 returns-in-None g c = record {
   cause = search rules;
+  storage_faults = c.write_blocks-in-None.ensures.storage_faults;
   order = search rules;
   written = search rules;
   marks = search rules;

@@ -1,4 +1,4 @@
-use Rattle.std.proofs.Common.{refl, true, false, inr, Ok, ap, ◌∙◌}
+use Rattle.std.proofs.Common.{arith, refl, true, false, inr, Ok, ap, ◌∙◌}
 use Rattle.qcow2_alloc.proofs.KeptTables.Fetching.{table_got}
 use Rattle.qcow2_alloc.proofs.KeptTables.Turning.{keep_then}
 use Rattle.qcow2_alloc.proofs.CacheMarks.{marks_tables, marks_then}
@@ -13,6 +13,8 @@ use Rattle.qcow2_alloc.proofs.KeptTables.InOrder.{order_then, table_got_in_order
 use Rattle.qcow2_alloc.proofs.KeptTables.Quiet.{quiet_then, next_table, table_got_quietly, table_waits, table_got_same}
 use Rattle.std.proofs.Common.{eqb}
 use Rattle.qcow2_alloc.proofs.CachedEntries.Staying.{stays_same, stays_then, values_stay}
+use Rattle.qcow2_alloc.specs.Faults.{faults_of}
+use Rattle.qcow2_alloc.proofs.Faults.{told_ok, told_on, told_since, cache_told, l2_get_tells}
 use Rattle.qcow2_alloc.proofs.cache.MetadataCaches.l2_get_or_insert.Goals as goal
 
 pub returns-in_err-get_or_insert-clause-keeps : goal.returns-in_err-get_or_insert-clause-keeps
@@ -142,3 +144,30 @@ returns-in_err-get_or_insert-2-clause-tables_stay g c = values_stay c.args.clust
 
 pub returns-clause-tables_stay : goal.returns-clause-tables_stay
 returns-clause-tables_stay g c = values_stay c.args.cluster c.args.self.now.l2.entries c.get_or_insert-2.new.self.entries (stays_then eqb c.args.cluster c.args.self.now.l2.entries c.before_l2.new.self.l2.entries c.get_or_insert-2.new.self.entries (stays_then eqb c.args.cluster c.args.self.now.l2.entries c.get_or_insert.new.self.entries c.before_l2.new.self.l2.entries c.get_or_insert.ensures.stays (stays_same eqb c.args.cluster c.get_or_insert.new.self.entries c.before_l2.new.self.l2.entries (ap (λ x. x.entries) c.before_l2.ensures.tables))) c.get_or_insert-2.ensures.stays)
+
+pub returns-in_err-get_or_insert-clause-storage_faults : goal.returns-in_err-get_or_insert-clause-storage_faults
+returns-in_err-get_or_insert-clause-storage_faults g c =
+    cache_told (faults_of g.S.Storage.view c.args.storage.now) (faults_of g.S.Storage.view c.get_or_insert.new.store) c.get_or_insert.result c.in_err-get_or_insert.field-0.0 c.from_residual.result
+    (l2_get_tells g.S.Storage.view c.args.self.now.l2.backend.header.fields c.args.self.now.l2.size false c.args.cluster c.args.storage.now c.get_or_insert.new.store c.args.self.now.l2.entries c.get_or_insert.new.self.entries c.get_or_insert.result c.get_or_insert.ensures.hit c.get_or_insert.ensures.miss) c.in_err-get_or_insert.was c.from_residual.ensures
+
+pub returns-then-branch-clause-storage_faults : goal.returns-then-branch-clause-storage_faults
+returns-then-branch-clause-storage_faults g c = told_ok (faults_of g.S.Storage.view c.args.storage.now) (faults_of g.S.Storage.view c.get_or_insert.new.store) tt (l2_get_tells g.S.Storage.view c.args.self.now.l2.backend.header.fields c.args.self.now.l2.size false c.args.cluster c.args.storage.now c.get_or_insert.new.store c.args.self.now.l2.entries c.get_or_insert.new.self.entries c.get_or_insert.result c.get_or_insert.ensures.hit c.get_or_insert.ensures.miss).no_fewer
+
+pub returns-in_err-before_l2-clause-storage_faults : goal.returns-in_err-before_l2-clause-storage_faults
+returns-in_err-before_l2-clause-storage_faults g c =
+    let one = l2_get_tells g.S.Storage.view c.args.self.now.l2.backend.header.fields c.args.self.now.l2.size false c.args.cluster c.args.storage.now c.get_or_insert.new.store c.args.self.now.l2.entries c.get_or_insert.new.self.entries c.get_or_insert.result c.get_or_insert.ensures.hit c.get_or_insert.ensures.miss in
+    told_since (faults_of g.S.Storage.view c.args.storage.now) (faults_of g.S.Storage.view c.get_or_insert.new.store) (faults_of g.S.Storage.view c.before_l2.new.storage) one.no_fewer
+    (told_on (faults_of g.S.Storage.view c.get_or_insert.new.store) (faults_of g.S.Storage.view c.before_l2.new.storage) c.before_l2.result c.in_err-before_l2.field-0.0 c.from_residual-in_err-before_l2.result c.before_l2.ensures.storage_faults c.in_err-before_l2.was c.from_residual-in_err-before_l2.ensures)
+
+pub returns-in_err-get_or_insert-2-clause-storage_faults : goal.returns-in_err-get_or_insert-2-clause-storage_faults
+returns-in_err-get_or_insert-2-clause-storage_faults g c =
+    let one = l2_get_tells g.S.Storage.view c.args.self.now.l2.backend.header.fields c.args.self.now.l2.size false c.args.cluster c.args.storage.now c.get_or_insert.new.store c.args.self.now.l2.entries c.get_or_insert.new.self.entries c.get_or_insert.result c.get_or_insert.ensures.hit c.get_or_insert.ensures.miss in
+    let two = l2_get_tells g.S.Storage.view c.before_l2.new.self.l2.backend.header.fields c.before_l2.new.self.l2.size true c.args.cluster c.before_l2.new.storage c.get_or_insert-2.new.store c.before_l2.new.self.l2.entries c.get_or_insert-2.new.self.entries c.get_or_insert-2.result c.get_or_insert-2.ensures.hit c.get_or_insert-2.ensures.miss in
+    told_since (faults_of g.S.Storage.view c.args.storage.now) (faults_of g.S.Storage.view c.before_l2.new.storage) (faults_of g.S.Storage.view c.get_or_insert-2.new.store) (omega (arith, one.no_fewer, c.before_l2.ensures.storage_faults.no_fewer))
+    (cache_told (faults_of g.S.Storage.view c.before_l2.new.storage) (faults_of g.S.Storage.view c.get_or_insert-2.new.store) c.get_or_insert-2.result c.in_err-get_or_insert-2.field-0.0 c.from_residual-in_err-get_or_insert-2.result two c.in_err-get_or_insert-2.was c.from_residual-in_err-get_or_insert-2.ensures)
+
+pub returns-clause-storage_faults : goal.returns-clause-storage_faults
+returns-clause-storage_faults g c =
+    let one = l2_get_tells g.S.Storage.view c.args.self.now.l2.backend.header.fields c.args.self.now.l2.size false c.args.cluster c.args.storage.now c.get_or_insert.new.store c.args.self.now.l2.entries c.get_or_insert.new.self.entries c.get_or_insert.result c.get_or_insert.ensures.hit c.get_or_insert.ensures.miss in
+    let two = l2_get_tells g.S.Storage.view c.before_l2.new.self.l2.backend.header.fields c.before_l2.new.self.l2.size true c.args.cluster c.before_l2.new.storage c.get_or_insert-2.new.store c.before_l2.new.self.l2.entries c.get_or_insert-2.new.self.entries c.get_or_insert-2.result c.get_or_insert-2.ensures.hit c.get_or_insert-2.ensures.miss in
+    told_ok (faults_of g.S.Storage.view c.args.storage.now) (faults_of g.S.Storage.view c.get_or_insert-2.new.store) tt (omega (arith, one.no_fewer, c.before_l2.ensures.storage_faults.no_fewer, two.no_fewer))

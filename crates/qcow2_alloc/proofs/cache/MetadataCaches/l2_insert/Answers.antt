@@ -1,4 +1,4 @@
-use Rattle.std.proofs.Common.{◌≡◌, Bool, true, false, inr, Some, Result, Ok, Err, refl, sym, ap, ◌∙◌, subst, ◌+◌, ◌*◌}
+use Rattle.std.proofs.Common.{arith, ◌≡◌, Bool, true, false, inr, Some, Result, Ok, Err, refl, sym, ap, ◌∙◌, subst, ◌+◌, ◌*◌}
 use Rattle.qcow2_alloc.proofs.KeptTables.Inserting.{table_put, l2_taken, taken_at_last, if_some}
 use Rattle.qcow2_metadata.specs.Header.{cluster_size}
 use Rattle.qcow2_alloc.proofs.KeptTables.Turning.{stay_then, keep_then}
@@ -19,6 +19,8 @@ use Rattle.qcow2_alloc.proofs.KeptTables.InOrder.{order_then, table_put_in_order
 use Rattle.qcow2_alloc.proofs.KeptTables.Quiet.{quiet_then, table_goes, table_put_quietly, table_put_waits, table_put_same}
 use Rattle.std.proofs.Common.{eqb}
 use Rattle.qcow2_alloc.proofs.CachedEntries.Staying.{stays_same, stays_then, values_stay}
+use Rattle.qcow2_alloc.specs.Faults.{faults_of}
+use Rattle.qcow2_alloc.proofs.Faults.{told_ok, told_on, told_since, cache_told, l2_put_tells}
 use Rattle.qcow2_alloc.proofs.cache.MetadataCaches.l2_insert.Goals as goal
 
 pub returns-in_err-insert-clause-keeps : goal.returns-in_err-insert-clause-keeps
@@ -237,3 +239,30 @@ returns-in_err-insert-2-clause-tables_stay g c = if_some _ c.args.table.cluster 
 
 pub returns-clause-tables_stay : goal.returns-clause-tables_stay
 returns-clause-tables_stay g c = if_some _ c.args.table.cluster c.in-Some.cluster (sym c.get_cluster.ensures.value ∙ c.in-Some.is) (values_stay c.in-Some.cluster c.args.self.now.l2.entries c.insert-2.new.self.entries (stays_then eqb c.in-Some.cluster c.args.self.now.l2.entries c.before_l2.new.self.l2.entries c.insert-2.new.self.entries (stays_then eqb c.in-Some.cluster c.args.self.now.l2.entries c.insert.new.self.entries c.before_l2.new.self.l2.entries c.insert.ensures.stays (stays_same eqb c.in-Some.cluster c.insert.new.self.entries c.before_l2.new.self.l2.entries (ap (λ x. x.entries) c.before_l2.ensures.tables))) c.insert-2.ensures.stays))
+
+pub returns-in_err-insert-clause-storage_faults : goal.returns-in_err-insert-clause-storage_faults
+returns-in_err-insert-clause-storage_faults g c =
+    cache_told (faults_of g.S.Storage.view c.args.storage.now) (faults_of g.S.Storage.view c.insert.new.store) c.insert.result c.in_err-insert.field-0.0 c.from_residual.result
+    (l2_put_tells g.S.Storage.view c.args.self.now.l2.backend.header.fields c.args.self.now.l2.size false c.in-Some.cluster c.args.storage.now c.insert.new.store c.args.self.now.l2.entries c.insert.new.self.entries c.insert.result (Some c.args.table) c.insert.new.value _ c.insert.ensures.nothing c.insert.ensures.there c.insert.ensures.missing) c.in_err-insert.was c.from_residual.ensures
+
+pub returns-then-branch-clause-storage_faults : goal.returns-then-branch-clause-storage_faults
+returns-then-branch-clause-storage_faults g c = told_ok (faults_of g.S.Storage.view c.args.storage.now) (faults_of g.S.Storage.view c.insert.new.store) tt (l2_put_tells g.S.Storage.view c.args.self.now.l2.backend.header.fields c.args.self.now.l2.size false c.in-Some.cluster c.args.storage.now c.insert.new.store c.args.self.now.l2.entries c.insert.new.self.entries c.insert.result (Some c.args.table) c.insert.new.value _ c.insert.ensures.nothing c.insert.ensures.there c.insert.ensures.missing).no_fewer
+
+pub returns-in_err-before_l2-clause-storage_faults : goal.returns-in_err-before_l2-clause-storage_faults
+returns-in_err-before_l2-clause-storage_faults g c =
+    let one = l2_put_tells g.S.Storage.view c.args.self.now.l2.backend.header.fields c.args.self.now.l2.size false c.in-Some.cluster c.args.storage.now c.insert.new.store c.args.self.now.l2.entries c.insert.new.self.entries c.insert.result (Some c.args.table) c.insert.new.value _ c.insert.ensures.nothing c.insert.ensures.there c.insert.ensures.missing in
+    told_since (faults_of g.S.Storage.view c.args.storage.now) (faults_of g.S.Storage.view c.insert.new.store) (faults_of g.S.Storage.view c.before_l2.new.storage) one.no_fewer
+    (told_on (faults_of g.S.Storage.view c.insert.new.store) (faults_of g.S.Storage.view c.before_l2.new.storage) c.before_l2.result c.in_err-before_l2.field-0.0 c.from_residual-in_err-before_l2.result c.before_l2.ensures.storage_faults c.in_err-before_l2.was c.from_residual-in_err-before_l2.ensures)
+
+pub returns-in_err-insert-2-clause-storage_faults : goal.returns-in_err-insert-2-clause-storage_faults
+returns-in_err-insert-2-clause-storage_faults g c =
+    let one = l2_put_tells g.S.Storage.view c.args.self.now.l2.backend.header.fields c.args.self.now.l2.size false c.in-Some.cluster c.args.storage.now c.insert.new.store c.args.self.now.l2.entries c.insert.new.self.entries c.insert.result (Some c.args.table) c.insert.new.value _ c.insert.ensures.nothing c.insert.ensures.there c.insert.ensures.missing in
+    let two = l2_put_tells g.S.Storage.view c.before_l2.new.self.l2.backend.header.fields c.before_l2.new.self.l2.size true c.in-Some.cluster c.before_l2.new.storage c.insert-2.new.store c.before_l2.new.self.l2.entries c.insert-2.new.self.entries c.insert-2.result c.insert.new.value c.insert-2.new.value _ c.insert-2.ensures.nothing c.insert-2.ensures.there c.insert-2.ensures.missing in
+    told_since (faults_of g.S.Storage.view c.args.storage.now) (faults_of g.S.Storage.view c.before_l2.new.storage) (faults_of g.S.Storage.view c.insert-2.new.store) (omega (arith, one.no_fewer, c.before_l2.ensures.storage_faults.no_fewer))
+    (cache_told (faults_of g.S.Storage.view c.before_l2.new.storage) (faults_of g.S.Storage.view c.insert-2.new.store) c.insert-2.result c.in_err-insert-2.field-0.0 c.from_residual-in_err-insert-2.result two c.in_err-insert-2.was c.from_residual-in_err-insert-2.ensures)
+
+pub returns-clause-storage_faults : goal.returns-clause-storage_faults
+returns-clause-storage_faults g c =
+    let one = l2_put_tells g.S.Storage.view c.args.self.now.l2.backend.header.fields c.args.self.now.l2.size false c.in-Some.cluster c.args.storage.now c.insert.new.store c.args.self.now.l2.entries c.insert.new.self.entries c.insert.result (Some c.args.table) c.insert.new.value _ c.insert.ensures.nothing c.insert.ensures.there c.insert.ensures.missing in
+    let two = l2_put_tells g.S.Storage.view c.before_l2.new.self.l2.backend.header.fields c.before_l2.new.self.l2.size true c.in-Some.cluster c.before_l2.new.storage c.insert-2.new.store c.before_l2.new.self.l2.entries c.insert-2.new.self.entries c.insert-2.result c.insert.new.value c.insert-2.new.value _ c.insert-2.ensures.nothing c.insert-2.ensures.there c.insert-2.ensures.missing in
+    told_ok (faults_of g.S.Storage.view c.args.storage.now) (faults_of g.S.Storage.view c.insert-2.new.store) tt (omega (arith, one.no_fewer, c.before_l2.ensures.storage_faults.no_fewer, two.no_fewer))

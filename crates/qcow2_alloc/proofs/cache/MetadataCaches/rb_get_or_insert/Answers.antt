@@ -1,4 +1,4 @@
-use Rattle.std.proofs.Common.{refl, true, false, Ok, ap, ◌∙◌}
+use Rattle.std.proofs.Common.{arith, refl, true, false, Ok, ap, ◌∙◌}
 use Rattle.qcow2_alloc.proofs.KeptTables.Fetching.{block_got}
 use Rattle.qcow2_alloc.proofs.KeptTables.Turning.{keep_then}
 use Rattle.qcow2_alloc.proofs.CacheMarks.{marks_blocks, marks_then}
@@ -10,6 +10,8 @@ use Rattle.qcow2_alloc.proofs.KeptTables.InOrder.{order_then, block_got_in_order
 use Rattle.qcow2_alloc.proofs.KeptTables.Quiet.{quiet_then, next_block, block_got_quietly, block_waits, block_got_same}
 use Rattle.std.proofs.Common.{eqb}
 use Rattle.qcow2_alloc.proofs.CachedEntries.Staying.{stays_same, stays_then, values_stay}
+use Rattle.qcow2_alloc.specs.Faults.{faults_of}
+use Rattle.qcow2_alloc.proofs.Faults.{told_ok, told_on, told_since, cache_told, rb_get_tells}
 use Rattle.qcow2_alloc.proofs.cache.MetadataCaches.rb_get_or_insert.Goals as goal
 
 pub returns-in_err-get_or_insert-clause-keeps : goal.returns-in_err-get_or_insert-clause-keeps
@@ -139,3 +141,30 @@ returns-in_err-get_or_insert-2-clause-blocks_stay g c = values_stay c.args.clust
 
 pub returns-clause-blocks_stay : goal.returns-clause-blocks_stay
 returns-clause-blocks_stay g c = values_stay c.args.cluster c.args.self.now.rb.entries c.get_or_insert-2.new.self.entries (stays_then eqb c.args.cluster c.args.self.now.rb.entries c.before_rb.new.self.rb.entries c.get_or_insert-2.new.self.entries (stays_then eqb c.args.cluster c.args.self.now.rb.entries c.get_or_insert.new.self.entries c.before_rb.new.self.rb.entries c.get_or_insert.ensures.stays (stays_same eqb c.args.cluster c.get_or_insert.new.self.entries c.before_rb.new.self.rb.entries (ap (λ x. x.entries) c.before_rb.ensures.refblocks))) c.get_or_insert-2.ensures.stays)
+
+pub returns-in_err-get_or_insert-clause-storage_faults : goal.returns-in_err-get_or_insert-clause-storage_faults
+returns-in_err-get_or_insert-clause-storage_faults g c =
+    cache_told (faults_of g.S.Storage.view c.args.storage.now) (faults_of g.S.Storage.view c.get_or_insert.new.store) c.get_or_insert.result c.in_err-get_or_insert.field-0.0 c.from_residual.result
+    (rb_get_tells g.S.Storage.view c.args.self.now.rb.backend.header.fields c.args.self.now.rb.size false c.args.cluster c.args.storage.now c.get_or_insert.new.store c.args.self.now.rb.entries c.get_or_insert.new.self.entries c.get_or_insert.result c.get_or_insert.ensures.hit c.get_or_insert.ensures.miss) c.in_err-get_or_insert.was c.from_residual.ensures
+
+pub returns-then-branch-clause-storage_faults : goal.returns-then-branch-clause-storage_faults
+returns-then-branch-clause-storage_faults g c = told_ok (faults_of g.S.Storage.view c.args.storage.now) (faults_of g.S.Storage.view c.get_or_insert.new.store) tt (rb_get_tells g.S.Storage.view c.args.self.now.rb.backend.header.fields c.args.self.now.rb.size false c.args.cluster c.args.storage.now c.get_or_insert.new.store c.args.self.now.rb.entries c.get_or_insert.new.self.entries c.get_or_insert.result c.get_or_insert.ensures.hit c.get_or_insert.ensures.miss).no_fewer
+
+pub returns-in_err-before_rb-clause-storage_faults : goal.returns-in_err-before_rb-clause-storage_faults
+returns-in_err-before_rb-clause-storage_faults g c =
+    let one = rb_get_tells g.S.Storage.view c.args.self.now.rb.backend.header.fields c.args.self.now.rb.size false c.args.cluster c.args.storage.now c.get_or_insert.new.store c.args.self.now.rb.entries c.get_or_insert.new.self.entries c.get_or_insert.result c.get_or_insert.ensures.hit c.get_or_insert.ensures.miss in
+    told_since (faults_of g.S.Storage.view c.args.storage.now) (faults_of g.S.Storage.view c.get_or_insert.new.store) (faults_of g.S.Storage.view c.before_rb.new.storage) one.no_fewer
+    (told_on (faults_of g.S.Storage.view c.get_or_insert.new.store) (faults_of g.S.Storage.view c.before_rb.new.storage) c.before_rb.result c.in_err-before_rb.field-0.0 c.from_residual-in_err-before_rb.result c.before_rb.ensures.storage_faults c.in_err-before_rb.was c.from_residual-in_err-before_rb.ensures)
+
+pub returns-in_err-get_or_insert-2-clause-storage_faults : goal.returns-in_err-get_or_insert-2-clause-storage_faults
+returns-in_err-get_or_insert-2-clause-storage_faults g c =
+    let one = rb_get_tells g.S.Storage.view c.args.self.now.rb.backend.header.fields c.args.self.now.rb.size false c.args.cluster c.args.storage.now c.get_or_insert.new.store c.args.self.now.rb.entries c.get_or_insert.new.self.entries c.get_or_insert.result c.get_or_insert.ensures.hit c.get_or_insert.ensures.miss in
+    let two = rb_get_tells g.S.Storage.view c.before_rb.new.self.rb.backend.header.fields c.before_rb.new.self.rb.size true c.args.cluster c.before_rb.new.storage c.get_or_insert-2.new.store c.before_rb.new.self.rb.entries c.get_or_insert-2.new.self.entries c.get_or_insert-2.result c.get_or_insert-2.ensures.hit c.get_or_insert-2.ensures.miss in
+    told_since (faults_of g.S.Storage.view c.args.storage.now) (faults_of g.S.Storage.view c.before_rb.new.storage) (faults_of g.S.Storage.view c.get_or_insert-2.new.store) (omega (arith, one.no_fewer, c.before_rb.ensures.storage_faults.no_fewer))
+    (cache_told (faults_of g.S.Storage.view c.before_rb.new.storage) (faults_of g.S.Storage.view c.get_or_insert-2.new.store) c.get_or_insert-2.result c.in_err-get_or_insert-2.field-0.0 c.from_residual-in_err-get_or_insert-2.result two c.in_err-get_or_insert-2.was c.from_residual-in_err-get_or_insert-2.ensures)
+
+pub returns-clause-storage_faults : goal.returns-clause-storage_faults
+returns-clause-storage_faults g c =
+    let one = rb_get_tells g.S.Storage.view c.args.self.now.rb.backend.header.fields c.args.self.now.rb.size false c.args.cluster c.args.storage.now c.get_or_insert.new.store c.args.self.now.rb.entries c.get_or_insert.new.self.entries c.get_or_insert.result c.get_or_insert.ensures.hit c.get_or_insert.ensures.miss in
+    let two = rb_get_tells g.S.Storage.view c.before_rb.new.self.rb.backend.header.fields c.before_rb.new.self.rb.size true c.args.cluster c.before_rb.new.storage c.get_or_insert-2.new.store c.before_rb.new.self.rb.entries c.get_or_insert-2.new.self.entries c.get_or_insert-2.result c.get_or_insert-2.ensures.hit c.get_or_insert-2.ensures.miss in
+    told_ok (faults_of g.S.Storage.view c.args.storage.now) (faults_of g.S.Storage.view c.get_or_insert-2.new.store) tt (omega (arith, one.no_fewer, c.before_rb.ensures.storage_faults.no_fewer, two.no_fewer))

@@ -9,6 +9,8 @@ use Rattle.qcow2_alloc.specs.TableCaches.{rb_steps}
 use Rattle.qcow2_alloc.proofs.KeptTables.Clean.{clean_as, flush_clean}
 use Rattle.qcow2_alloc.proofs.KeptTables.InOrder.{blocks_in_order}
 use Rattle.qcow2_alloc.proofs.KeptTables.Quiet.{blocks_quiet}
+use Rattle.qcow2_alloc.specs.Faults.{faults_of}
+use Rattle.qcow2_alloc.proofs.Faults.{told_ok, cache_told, rb_flush_tells}
 use Rattle.qcow2_alloc.proofs.cache.MetadataCaches.write_blocks.Goals as goal
 
 pub returns-in_err-flush-clause-keeps : goal.returns-in_err-flush-clause-keeps
@@ -48,3 +50,11 @@ returns-in_err-flush-clause-quiet g c = blocks_quiet g.S.Storage.view c.args.sto
 
 pub returns-clause-quiet : goal.returns-clause-quiet
 returns-clause-quiet g c = blocks_quiet g.S.Storage.view c.args.storage.now c.flush.new.store c.args.self.now c.flush.new.self c.flush.result c.flush.ensures.flushed
+
+pub returns-in_err-flush-clause-storage_faults : goal.returns-in_err-flush-clause-storage_faults
+returns-in_err-flush-clause-storage_faults g c =
+    cache_told (faults_of g.S.Storage.view c.args.storage.now) (faults_of g.S.Storage.view c.flush.new.store) c.flush.result c.in_err-flush.field-0.0 c.from_residual.result
+    (rb_flush_tells g.S.Storage.view c.args.self.now.rb.backend.header.fields c.args.storage.now c.flush.new.store c.args.self.now.rb.entries c.flush.new.self.entries c.flush.result c.flush.ensures.flushed) c.in_err-flush.was c.from_residual.ensures
+
+pub returns-clause-storage_faults : goal.returns-clause-storage_faults
+returns-clause-storage_faults g c = told_ok (faults_of g.S.Storage.view c.args.storage.now) (faults_of g.S.Storage.view c.flush.new.store) tt (rb_flush_tells g.S.Storage.view c.args.self.now.rb.backend.header.fields c.args.storage.now c.flush.new.store c.args.self.now.rb.entries c.flush.new.self.entries c.flush.result c.flush.ensures.flushed).no_fewer

@@ -13,6 +13,8 @@ use Rattle.qcow2_alloc.specs.TableCaches.{l2_steps}
 use Rattle.qcow2_alloc.proofs.KeptTables.Clean.{flush_free}
 use Rattle.qcow2_alloc.proofs.KeptTables.InOrder.{tables_in_order}
 use Rattle.qcow2_alloc.proofs.KeptTables.Quiet.{tables_quiet}
+use Rattle.qcow2_alloc.specs.Faults.{faults_of}
+use Rattle.qcow2_alloc.proofs.Faults.{told_ok, cache_told, l2_flush_tells}
 use Rattle.qcow2_alloc.proofs.cache.MetadataCaches.write_tables.Goals as goal
 
 pub returns-in_err-flush-clause-keeps : goal.returns-in_err-flush-clause-keeps
@@ -54,3 +56,11 @@ returns-in_err-flush-clause-quiet g c = tables_quiet g.S.Storage.view c.args.sto
 
 pub returns-clause-quiet : goal.returns-clause-quiet
 returns-clause-quiet g c = tables_quiet g.S.Storage.view c.args.storage.now c.flush.new.store c.args.self.now c.flush.new.self c.flush.result c.flush.ensures.flushed
+
+pub returns-in_err-flush-clause-storage_faults : goal.returns-in_err-flush-clause-storage_faults
+returns-in_err-flush-clause-storage_faults g c =
+    cache_told (faults_of g.S.Storage.view c.args.storage.now) (faults_of g.S.Storage.view c.flush.new.store) c.flush.result c.in_err-flush.field-0.0 c.from_residual.result
+    (l2_flush_tells g.S.Storage.view c.args.self.now.l2.backend.header.fields c.args.storage.now c.flush.new.store c.args.self.now.l2.entries c.flush.new.self.entries c.flush.result c.flush.ensures.flushed) c.in_err-flush.was c.from_residual.ensures
+
+pub returns-clause-storage_faults : goal.returns-clause-storage_faults
+returns-clause-storage_faults g c = told_ok (faults_of g.S.Storage.view c.args.storage.now) (faults_of g.S.Storage.view c.flush.new.store) tt (l2_flush_tells g.S.Storage.view c.args.self.now.l2.backend.header.fields c.args.storage.now c.flush.new.store c.args.self.now.l2.entries c.flush.new.self.entries c.flush.result c.flush.ensures.flushed).no_fewer

@@ -1,11 +1,16 @@
-use Rattle.std.proofs.Common.{◌≡◌, true, false, refl, sym, ◌∙◌}
-use Rattle.std.specs.Prelude.{Ok, Err}
+use Rattle.std.proofs.Common.{◌≡◌, inl, inr, ◌++◌, [], None, Err, refl, sym, ap, ◌∙◌, subst, rules}
+use Rattle.std.specs.Prelude.{IsTrue, IsSome}
 use Rattle.image_access.proofs.Passing.{passes_none}
+use Rattle.qcow2_laws.specs.Calls.{storage}
 use Rattle.qcow2_alloc.specs.ImageFile.{view_in}
+use Rattle.qcow2_image.specs.declared.prepared.CommitRefused.{CommitRefused}
+use Rattle.qcow2_image.specs.declared.prepared.CommitRefused.TheVariants.{Kept}
+use Rattle.qcow2_image.specs.Calls.{Commits, refusal_of}
 use Rattle.qcow2_image.specs.Image.{is_failed}
-use Rattle.qcow2_image.specs.ImageInvariant.{abstract_of}
-use Rattle.qcow2_image.proofs.Commit.CommitCalls.{refuses_unsound, holds, commit_done, commit_freed, commit_broke}
+use Rattle.qcow2_image.specs.ImageInvariant.{abstract_of, pending_in}
 use Rattle.qcow2_image.proofs.Call.Settled.{is_fault, outcome}
+use Rattle.qcow2_image.proofs.Commit.CommitCalls.{commit_broke, commit_broke_off, commit_done, commit_existing, commit_kept, refuses_unsound, true_or_false}
+use Rattle.qcow2_image.proofs.image.Qcow2.commit_data_mapping.Goals.{then-entered, else-entered}
 use Rattle.qcow2_image.proofs.image.Qcow2.commit_data_mapping.Goals as goal
 
 pub returns-then-prepared-self-clause-sees : goal.returns-then-prepared-self-clause-sees
@@ -13,32 +18,52 @@ returns-then-prepared-self-clause-sees g c = λ out k placed.
     let unsound : (abstract_of g.S.Storage.view g.F.BackingDisk.backing c.args.self.now out).is_sound → ⊥ = λ sound. c.if-prepared-self.true (sound.ready k c.args.prepared placed).own in
     (unsound, refuses_unsound _ _ _ _ _ refl unsound (λ failed. record { setting = refl; failed = failed; contents = refl; moments = passes_none (view_in g.S.Storage.view c.args.self.now.file) _ }) (λ never. absurd cc))
 
-pub returns-in-Err-clause-sees : goal.returns-in-Err-clause-sees
-returns-in-Err-clause-sees g c = λ out k placed.
-    let old = c.args.self.now in
-    let e = c.in-Err.refusal in
-    let unsound : (abstract_of g.S.Storage.view g.F.BackingDisk.backing c.args.self.now out).is_sound → ⊥ = λ sound. absurd (let ok = (holds g.S.Storage.view g.F.BackingDisk.backing old c.args.prepared c.hold_l2.result c.hold_l2.new.self c.hold_l2.ensures.none c.hold_l2.ensures.pinned out k placed sound).ok in
-    let no : Err e ≡ Ok tt = sym c.in-Err.is ∙ ok in cc) in (
-      λ sound. absurd (unsound sound),
-      refuses_unsound _ _ _ _ _ (c.note.ensures.image.number ∙ c.hold_l2.ensures.stays.image.number) unsound (λ failed. absurd (let f : true ≡ false = sym failed ∙ c.if-self.false in cc))
-          (is_fault e (is_failed c.hold_l2.new.self) (is_failed c.note.new.self) (outcome e (is_failed c.hold_l2.new.self) (is_failed c.note.new.self) c.note.ensures.marks)),
-    )
-
-pub returns-then-not-is_new-clause-sees : goal.returns-then-not-is_new-clause-sees
-returns-then-not-is_new-clause-sees g c = λ out k placed.
-    commit_done g.S.Storage.view g.F.BackingDisk.backing c.args.self.now c.args.prepared c.hold_l2.result c.hold_l2.new.self c.hold_l2.ensures.none c.hold_l2.ensures.pinned c.enter_prepared.new.self c.enter_prepared.ensures.commits
-    (c.enter_prepared.ensures.stays.image.number ∙ c.hold_l2.ensures.stays.image.number) c.if-self.false out k placed
+pub returns-then-is_none-clause-sees : goal.returns-then-is_none-clause-sees
+returns-then-is_none-clause-sees g c = λ out k placed.
+    let none : c.args.prepared.table ≡ None = search rules in
+    commit_existing g.S.Storage.view g.F.BackingDisk.backing c.args.self.now c.args.prepared none c.let_go.new.self c.if-self.false c.let_go.ensures.sees out k placed
 
 pub returns-in-Ok-clause-sees : goal.returns-in-Ok-clause-sees
 returns-in-Ok-clause-sees g c = λ out k placed.
-    commit_freed g.S.Storage.view g.F.BackingDisk.backing c.args.self.now c.args.prepared c.hold_l2.result c.hold_l2.new.self c.hold_l2.ensures.none c.hold_l2.ensures.pinned c.enter_prepared.new.self c.end_freeing.new.self
-    c.enter_prepared.ensures.commits c.enter_prepared.ensures.notes (c.has_new_cluster-is_new.ensures.some c.if-not-is_new.false) (c.end_freeing.ensures.image.number ∙ c.enter_prepared.ensures.stays.image.number ∙ c.hold_l2.ensures.stays.image.number) c.if-self.false
-    c.end_freeing.result c.end_freeing.ensures.frees out k placed c.in-Ok.is
+    let some : IsSome c.args.prepared.table = search rules in
+    commit_done g.S.Storage.view g.F.BackingDisk.backing c.args.self.now c.args.prepared c.begin.new.self c.enter_shares-entered.new.self c.end_freeing.new.self c.enter_shares-entered.new.prepared c.enter_shares-entered.result c.if-self.false some c.end_freeing.result
+    (λ out sound. record { keeps = c.begin.ensures.keeps (pending_in g.S.Storage.view g.F.BackingDisk.backing c.args.self.now out) out sound; list = c.begin.ensures.list }) c.enter_shares-entered.ensures.enters c.end_freeing.ensures.frees out k placed c.in-Ok.is c.let_go-in-Ok.new.self c.let_go-in-Ok.ensures.sees
+    (c.let_go-in-Ok.ensures.stays.image.number ∙ c.end_freeing.ensures.image.number ∙ c.enter_shares-entered.ensures.stays.image.number ∙ c.begin.ensures.stays.image.number)
 
-pub returns-in-Err-end_freeing-clause-sees : goal.returns-in-Err-end_freeing-clause-sees
-returns-in-Err-end_freeing-clause-sees g c = λ out k placed.
-    let e = c.in-Err-end_freeing.refusal in
-    commit_broke g.S.Storage.view g.F.BackingDisk.backing c.args.self.now c.args.prepared c.hold_l2.result c.hold_l2.new.self c.hold_l2.ensures.none c.hold_l2.ensures.pinned c.enter_prepared.new.self c.end_freeing.new.self
-    c.enter_prepared.ensures.commits c.enter_prepared.ensures.notes (c.has_new_cluster-is_new.ensures.some c.if-not-is_new.false) (c.end_freeing.ensures.image.number ∙ c.enter_prepared.ensures.stays.image.number ∙ c.hold_l2.ensures.stays.image.number) c.if-self.false
-    c.end_freeing.result c.end_freeing.ensures.frees out k placed e c.in-Err-end_freeing.is
-    (is_fault e (is_failed c.enter_prepared.new.self) (is_failed c.end_freeing.new.self) (outcome e (is_failed c.enter_prepared.new.self) (is_failed c.end_freeing.new.self) c.in-Err-end_freeing.ensures.marks))
+pub returns-in-Ok-clause-emptied : goal.returns-in-Ok-clause-emptied
+returns-in-Ok-clause-emptied g c = λ own some writable.
+    let freed : c.end_freeing.new.self.file.free_list ≡ [] = c.in-Ok.ensures.emptied (c.enter_shares-entered.ensures.stays.image.writable ∙ c.begin.ensures.stays.image.writable ∙ writable) in
+    c.let_go-in-Ok.ensures.list ∙ ap (λ l. c.end_freeing.new.self.file.free_list ++ l) c.enter_shares-entered.ensures.left ∙ ap (λ l. l ++ []) freed
+
+pub returns-after-entered-clause-sees : goal.returns-after-entered-clause-sees
+returns-after-entered-clause-sees g c =
+    let view = g.S.Storage.view in
+    let below = g.F.BackingDisk.backing in
+    let old = c.args.self.now in
+    let p = c.args.prepared in
+    let begun = c.begin.new.self in
+    let entered = c.enter_shares-entered.new.self in
+    let freed = c.end_freeing.new.self in
+    let q = c.enter_shares-entered.new.prepared in
+    let x = c.in-Err.refusal in
+    let some : IsSome c.args.prepared.table = search rules in
+    let number = c.end_freeing.ensures.image.number ∙ c.enter_shares-entered.ensures.stays.image.number ∙ c.begin.ensures.stays.image.number in
+    let marked : refusal_of c.in-Err.refusal ≡ storage → IsTrue (is_failed c.end_freeing.new.self) =
+    is_fault x (is_failed entered) (is_failed freed) (outcome x (is_failed entered) (is_failed freed) c.in-Err.ensures.marks) in
+    elim c.if-entered.branch [
+      | then-entered w ↦
+          subst (λ (r : CommitRefused). Commits view below old freed p (Err r)) (sym (c.refused_commit.ensures.spent (w.refused_commit-is ∙ w.if-entered.true)))
+          (λ out k placed. commit_broke_off view below old p begun entered freed q c.enter_shares-entered.result c.if-self.false some c.end_freeing.result
+          (λ out sound. record { keeps = c.begin.ensures.keeps (pending_in view below old out) out sound; list = c.begin.ensures.list }) c.enter_shares-entered.ensures.enters c.end_freeing.ensures.frees out k placed number x c.in-Err.is marked w.if-entered.true)
+      | else-entered w ↦ elim (true_or_false (is_failed freed)) [
+        | inl failed ↦
+            subst (λ (r : CommitRefused). Commits view below old freed p (Err r)) (sym (c.refused_commit.ensures.spent (w.refused_commit-is ∙ failed)))
+            (λ out k placed. commit_broke view below old p begun entered freed q c.enter_shares-entered.result c.if-self.false some c.end_freeing.result
+            (λ out sound. record { keeps = c.begin.ensures.keeps (pending_in view below old out) out sound; list = c.begin.ensures.list }) c.enter_shares-entered.ensures.enters c.end_freeing.ensures.frees out k placed number x c.in-Err.is marked (λ _. failed))
+        | inr works ↦
+            let same = c.enter_shares-entered.ensures.none w.if-entered.false in
+            subst (λ (r : CommitRefused). Commits view below old freed p (Err r)) (sym (c.refused_commit.ensures.kept (w.refused_commit-is ∙ works) ∙ ap (Kept x) same.1))
+            (λ out k placed. commit_kept view below old p begun entered freed q c.enter_shares-entered.result c.if-self.false some c.end_freeing.result
+            (λ out sound. record { keeps = c.begin.ensures.keeps (pending_in view below old out) out sound; list = c.begin.ensures.list }) c.enter_shares-entered.ensures.enters c.end_freeing.ensures.frees out k placed number x c.in-Err.is marked same)
+      ]
+    ]

@@ -1,5 +1,10 @@
-use Rattle.std.proofs.Common.{◌≡◌, ◌<◌, inl, sym, ap, ◌∙◌, subst}
+use Rattle.std.proofs.Common.{◌≡◌, ◌/◌, ◌<◌, inl, sym, ap, ◌∙◌, subst}
+use Rattle.qcow2_metadata.specs.Cover.{cover}
+use Rattle.qcow2_metadata.specs.Header.{cluster_size}
+use Rattle.qcow2_laws.specs.AbstractImages.{Guest}
 use Rattle.qcow2_laws.specs.Changes.{with_held}
+use Rattle.qcow2_laws.proofs.Formats.{cover_format, size_format}
+use Rattle.qcow2_alloc.specs.ImageFile.{known_in}
 use Rattle.qcow2_image.specs.declared.image.Qcow2.{Qcow2}
 use Rattle.qcow2_image.specs.UnseenSteps.{UnseenFillingStep, RefusedFillingStep, pending_then}
 use Rattle.qcow2_image.specs.ImageInvariant.{run_of, held_by, over_all}
@@ -26,7 +31,13 @@ returns-in-Ok-clause-gains g c = λ p out sound holds.
       unused = unused;
       goes = subst (λ q. UnseenFillingStep view below p (with_held q (run_of n)) old new out) (following_on view below out p old mid new c.fill_cluster.ensures.list)
           (goes_then view below out old mid new p held held took.2 (c.fill_cluster.ensures.goes held out took.2.sound (still_holds view below out old mid p n took.0 holds took.2) some free));
-      filled = filled_as view below mid old new c.cluster.result n.first_cluster c.args.offset c.args.length c.args.overwrite took.2.header took.2.below c.cluster.ensures (c.in-Ok.ensures.fills took.2.sound.file.honest took.2.sound.below);
+      filled = λ covered.
+          let h = old.file.header.fields in
+          let hm = mid.file.header.fields in
+          let still : cover hm (known_in view mid.file) (c.args.offset / cluster_size hm) ≡ c.args.old.now =
+          ap (λ size. cover hm (known_in view mid.file) (c.args.offset / size)) (size_format h hm took.2.header) ∙ cover_format h hm took.2.header (known_in view mid.file) (c.args.offset / cluster_size h) ∙ sym (took.2.covers (c.args.offset / cluster_size h)) ∙ covered in
+          filled_as view below mid old new c.cluster.result n.first_cluster c.args.offset c.args.length c.args.overwrite took.2.header (ap (λ (x : Guest). x.disk) took.2.seen) c.cluster.ensures
+          (c.in-Ok.ensures.fills held out took.2.sound (still_holds view below out old mid p n took.0 holds took.2) some free still);
     }
 
 pub returns-in-Err-clause-gains : goal.returns-in-Err-clause-gains

@@ -1,4 +1,4 @@
-use Rattle.std.proofs.Common.{◌≡◌, ◌⊎◌, sym, refl, arith, subst, inl, inr, ◌∙◌, List, ℕ}
+use Rattle.std.proofs.Common.{◌≡◌, ◌⊎◌, sym, refl, arith, subst, inl, inr, ◌∙◌}
 use Rattle.std.specs.Prelude.{None, false}
 use Rattle.qcow2_metadata.specs.Bytes.{byte_at}
 use Rattle.qcow2_laws.specs.Opened.{nothing_pending, surplus_of}

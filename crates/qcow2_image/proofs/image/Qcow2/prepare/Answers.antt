@@ -1,11 +1,12 @@
-use Rattle.std.proofs.Common.{inl, sym, subst, arith}
+use Rattle.std.proofs.Common.{inl, refl, sym, subst, None, [], ◌∷◌}
 use Rattle.qcow2_alloc.specs.ImageFile.{known_in}
 use Rattle.qcow2_alloc.proofs.AllocationSteps.{handed_on}
 use Rattle.qcow2_image.specs.CallParts.{PreparesRange}
 use Rattle.qcow2_image.specs.Preparing.{IsPlaceOf, IsWritableAt}
 use Rattle.qcow2_image.specs.ImageInvariant.{meaning, pending_in}
-use Rattle.qcow2_alloc.proofs.Following.{header_format}
-use Rattle.qcow2_image.proofs.Prepare.PreparedAs.{answered_before, answered_existing, answered_format, answered_rest, rest_format, writable_format, if_ok_three, taken_before}
+use Rattle.qcow2_image.proofs.Prepare.PreparedAs.{answered_before, answered_existing, answered_range, taken_before}
+use Rattle.qcow2_image.proofs.Map.Loading.{if_ok}
+use Rattle.qcow2_image.proofs.Free.{free_places}
 use Rattle.qcow2_image.proofs.Prepare.Preparing.{readied_existing}
 use Rattle.qcow2_image.proofs.Call.Refused.{prepares_after, readied_after}
 use Rattle.qcow2_image.proofs.Prepare.Taken.{if_err, taken_by}
@@ -62,15 +63,11 @@ returns-in-None-clause-answers g c = λ some out sound.
     let found = c.in_ok-table.ensures.finds out sound in
     let p = pending_in view below mid out in
     let place = subst (IsPlaceOf mid.file.header.fields known c.args.offset c.args.length) c.in-None.is (c.in_ok-host.ensures.place p found.0.sound.file found.1.entry some) in
-    if_ok_three c.prepare_or_free.result
-    (λ q rest own same.
-    let h = mid.file.header.fields in
-    let h' = new.file.header.fields in
-    let header = header_format mid.file.header new.file.header same in
-    answered_before view old mid c.args.offset c.args.length found.0.header found.0.covers h' now q (meaning view below new q)
-    (answered_format h h' header known c.args.offset c.args.length h' now q (meaning view below new q)
-    (answered_rest view below new known now c.args.offset c.args.length q (rest_format h h' header known c.args.offset q rest) own (λ o at. place o (writable_format h h' header known c.args.offset c.args.length o at)))))
-    (c.prepare_or_free.ensures.rest p out found.0.sound found.1) (c.prepare_or_free.ensures.alone p out found.0.sound (λ k. omega arith)) c.prepare_or_free.ensures.header
+    let placed = (free_places view below).free mid [] out found.0.sound in
+    if_ok c.prepare_or_free.result
+    (λ q is. answered_before view old mid c.args.offset c.args.length found.0.header found.0.covers new.file.header.fields now q (meaning view below new q) is)
+    (answered_range view below mid new (None ∷ out) 0 c.args.offset c.args.length c.args.overwrite refl place c.prepare_or_free.result
+    (c.prepare_or_free.ensures.readies (None ∷ out) placed found.1) (c.prepare_or_free.ensures.reaches (None ∷ out) 0 refl placed found.1))
 
 pub returns-in-None-clause-taken : goal.returns-in-None-clause-taken
 returns-in-None-clause-taken g c = λ some out sound.

@@ -1,65 +1,73 @@
-use Rattle.std.proofs.Common.{◌≡◌, refl, ◌/◌, ◌^◌, sym, ap, ◌∙◌, subst}
+use Rattle.std.proofs.Common.{◌≡◌, ◌-◌, ◌%◌, [], ◌∷◌, refl, sym, ap, ◌∙◌, subst, arith}
+use Rattle.std.specs.Prelude.{None}
 use Rattle.qcow2_metadata.specs.Header.{cluster_size}
+use Rattle.qcow2_metadata.specs.declared.header.HeaderFields.{HeaderFields}
 use Rattle.qcow2_alloc.proofs.AllocationSteps.{handed_on}
-use Rattle.qcow2_alloc.specs.ImageFile.{known_in}
-use Rattle.qcow2_image.specs.declared.mappings.FirstCluster.{FirstCluster}
-use Rattle.qcow2_image.specs.declared.prepared.Prepared.{Prepared}
-use Rattle.qcow2_image.specs.FirstCluster.{IsFirst}
-use Rattle.qcow2_image.specs.Found.{l1_index_of}
-use Rattle.qcow2_image.specs.CallParts.{IsReadied, Readies}
-use Rattle.qcow2_image.specs.ImageInvariant.{pending_in}
-use Rattle.qcow2_image.specs.Preparing.{IsRest}
-use Rattle.qcow2_image.proofs.Prepare.ReadyingNew.{back_none, first_stands, not_pinned, readied_in_place}
+use Rattle.qcow2_alloc.proofs.Following.{header_format, header_then}
+use Rattle.qcow2_image.specs.CallParts.{IsReadied, PreparesRange}
+use Rattle.qcow2_image.proofs.Call.Refused.{back_refused}
+use Rattle.qcow2_image.proofs.Free.{free_places}
+use Rattle.qcow2_image.proofs.Prepare.Onward.{let_go_broken, refused_free}
 use Rattle.qcow2_image.proofs.image.Qcow2.prepare_in.Goals as goal
 
-pub returns-then-l2_is_pinned-clause-readies : goal.returns-then-l2_is_pinned-clause-readies
-returns-then-l2_is_pinned-clause-readies g c = λ out sound holds. back_none g.S.Storage.view g.F.BackingDisk.backing out c.args.self.now (pending_in g.S.Storage.view g.F.BackingDisk.backing c.args.self.now out) sound _
-
-pub returns-in_err-host-clause-readies : goal.returns-in_err-host-clause-readies
-returns-in_err-host-clause-readies g c = λ out sound holds.
+pub returns-in_err-prepared-clause-readies : goal.returns-in_err-prepared-clause-readies
+returns-in_err-prepared-clause-readies g c = λ out sound holds.
     let view = g.S.Storage.view in
     let below = g.F.BackingDisk.backing in
     let old = c.args.self.now in
-    handed_on (λ r. Readies view below old old out c.args.offset c.args.length c.args.overwrite r) c.from_residual.result c.in_err-host.field-0.0 c.from_residual.ensures
-    (back_none view below out old (pending_in view below old out) sound c.in_err-host.field-0.0)
+    let mid = c.prepare_first.new.self in
+    handed_on (λ r. PreparesRange view below old mid out c.args.offset c.args.length c.args.overwrite r) c.from_residual.result c.in_err-prepared.field-0.0 c.from_residual.ensures
+    (back_refused view below out old mid c.in_err-prepared.field-0.0 (c.in_err-prepared.ensures.readies out sound holds))
 
-pub returns-in-InPlace-clause-readies : goal.returns-in-InPlace-clause-readies
-returns-in-InPlace-clause-readies g c = λ out sound holds k free.
+pub returns-in-Ok-clause-readies : goal.returns-in-Ok-clause-readies
+returns-in-Ok-clause-readies g c = λ out sound holds k free.
     let view = g.S.Storage.view in
     let below = g.F.BackingDisk.backing in
     let old = c.args.self.now in
-    let cluster : c.cluster-cluster.result ≡ c.args.offset / cluster_size old.file.header.fields = c.cluster-cluster.ensures ∙ ap (λ o. o / 2 ^ c.cluster_bits.result) c.new.ensures ∙ ap (λ b. c.args.offset / 2 ^ b) c.cluster_bits.ensures.value in
-    let first = first_stands view below old (pending_in view below old out) c.args.offset c.args.table c.cluster-cluster.result c.in_ok-host.field-0 cluster holds (c.in_ok-host.ensures.stands (pending_in view below old out) (l1_index_of old.file.header.fields c.args.offset) sound.file) in
-    subst (λ (x : Prepared). IsReadied view below old c.prepare_at.new.self out k c.args.offset c.args.length c.args.overwrite x) (sym c.prepare_at.ensures.value)
-    (readied_in_place view below out old c.prepare_at.new.self k c.args.offset c.args.length c.args.table c.in-InPlace.host c.args.overwrite free sound holds (not_pinned _ c.l2_is_pinned.result c.l2_is_pinned.ensures c.if-l2_is_pinned.false)
-    (subst (λ (f : FirstCluster). IsFirst old.file.header.fields (known_in view old.file) (c.args.offset / cluster_size old.file.header.fields) f) c.in-InPlace.is first) c.prepare_at.ensures.pins)
+    let mid = c.prepare_first.new.self in
+    let new = c.prepare_rest.new.self in
+    let p = c.in_ok-prepared.prepared in
+    let q = c.prepare_rest.new.prepared in
+    let first = c.in_ok-prepared.ensures.first in
+    let ready = subst (λ o. IsReadied view below old mid out k o c.args.length c.args.overwrite p) (sym first.guest) (c.in_ok-prepared.ensures.readies out sound holds k free) in
+    let on = c.in-Ok.ensures.goes old out k free first.under ready in
+    subst (λ o. IsReadied view below old new out k o c.args.length c.args.overwrite q) (c.in-Ok.ensures.longer.guest ∙ first.guest) on.0
 
-pub returns-in-Missing-clause-readies : goal.returns-in-Missing-clause-readies
-returns-in-Missing-clause-readies g c = λ out sound holds.
+pub returns-in-Err-clause-readies : goal.returns-in-Err-clause-readies
+returns-in-Err-clause-readies g c = λ out sound holds.
     let view = g.S.Storage.view in
     let below = g.F.BackingDisk.backing in
     let old = c.args.self.now in
-    let cluster : c.cluster-cluster.result ≡ c.args.offset / cluster_size old.file.header.fields = c.cluster-cluster.ensures ∙ ap (λ o. o / 2 ^ c.cluster_bits.result) c.new.ensures ∙ ap (λ b. c.args.offset / 2 ^ b) c.cluster_bits.ensures.value in
-    let first = first_stands view below old (pending_in view below old out) c.args.offset c.args.table c.cluster-cluster.result c.in_ok-host.field-0 cluster holds (c.in_ok-host.ensures.stands (pending_in view below old out) (l1_index_of old.file.header.fields c.args.offset) sound.file) in
-    c.prepare_new.ensures.readies out sound holds (not_pinned _ c.l2_is_pinned.result c.l2_is_pinned.ensures c.if-l2_is_pinned.false)
-    (subst (λ (f : FirstCluster). IsFirst old.file.header.fields (known_in view old.file) (c.args.offset / cluster_size old.file.header.fields) f) c.in-Missing.is first)
+    let mid = c.prepare_first.new.self in
+    let new = c.prepare_rest.new.self in
+    let p = c.in_ok-prepared.prepared in
+    let q = c.prepare_rest.new.prepared in
+    let first = c.in_ok-prepared.ensures.first in
+    let placed = (free_places view below).free old [] out sound in
+    let ready = subst (λ o. IsReadied view below old mid (None ∷ out) 0 o c.args.length c.args.overwrite p) (sym first.guest) (c.in_ok-prepared.ensures.readies (None ∷ out) placed holds 0 refl) in
+    let broken = c.in-Err.ensures.goes old (None ∷ out) 0 refl first.under ready in
+    refused_free view below out old c.let_go.new.self c.in-Err.refusal
+    (let_go_broken view below old new c.let_go.new.self (None ∷ out) 0 c.args.length c.args.overwrite q c.in-Err.refusal refl c.let_go.ensures.rest c.let_go.ensures.sees broken)
 
-pub returns-in-InPlace-clause-rest : goal.returns-in-InPlace-clause-rest
-returns-in-InPlace-clause-rest g c = λ p out sound holds.
+pub returns-in-Ok-clause-reaches : goal.returns-in-Ok-clause-reaches
+returns-in-Ok-clause-reaches g c = λ out k free sound holds.
     let view = g.S.Storage.view in
     let below = g.F.BackingDisk.backing in
     let old = c.args.self.now in
-    let cluster : c.cluster-cluster.result ≡ c.args.offset / cluster_size old.file.header.fields = c.cluster-cluster.ensures ∙ ap (λ o. o / 2 ^ c.cluster_bits.result) c.new.ensures ∙ ap (λ b. c.args.offset / 2 ^ b) c.cluster_bits.ensures.value in
-    let first = first_stands view below old p c.args.offset c.args.table c.cluster-cluster.result c.in_ok-host.field-0 cluster holds (c.in_ok-host.ensures.stands p (l1_index_of old.file.header.fields c.args.offset) sound.file) in
-    let stands = subst (λ (f : FirstCluster). IsFirst old.file.header.fields (known_in view old.file) (c.args.offset / cluster_size old.file.header.fields) f) c.in-InPlace.is first in
-    subst (λ (x : Prepared). IsRest old.file.header.fields (known_in view old.file) c.args.offset x) (sym c.prepare_at.ensures.value)
-    (record { guest = refl; table = refl; length = refl; host = (c.in-InPlace.host, stands, refl) })
-
-pub returns-in-Missing-clause-rest : goal.returns-in-Missing-clause-rest
-returns-in-Missing-clause-rest g c = λ p out sound holds.
-    let view = g.S.Storage.view in
-    let below = g.F.BackingDisk.backing in
-    let old = c.args.self.now in
-    let cluster : c.cluster-cluster.result ≡ c.args.offset / cluster_size old.file.header.fields = c.cluster-cluster.ensures ∙ ap (λ o. o / 2 ^ c.cluster_bits.result) c.new.ensures ∙ ap (λ b. c.args.offset / 2 ^ b) c.cluster_bits.ensures.value in
-    let first = first_stands view below old p c.args.offset c.args.table c.cluster-cluster.result c.in_ok-host.field-0 cluster holds (c.in_ok-host.ensures.stands p (l1_index_of old.file.header.fields c.args.offset) sound.file) in
-    c.prepare_new.ensures.rest (known_in view old.file) (subst (λ (f : FirstCluster). IsFirst old.file.header.fields (known_in view old.file) (c.args.offset / cluster_size old.file.header.fields) f) c.in-Missing.is first)
+    let mid = c.prepare_first.new.self in
+    let new = c.prepare_rest.new.self in
+    let p = c.in_ok-prepared.prepared in
+    let q = c.prepare_rest.new.prepared in
+    let first = c.in_ok-prepared.ensures.first in
+    let longer = c.in-Ok.ensures.longer in
+    let ready = subst (λ o. IsReadied view below old mid out k o c.args.length c.args.overwrite p) (sym first.guest) (c.in_ok-prepared.ensures.readies out sound holds k free) in
+    let on = c.in-Ok.ensures.goes old out k free first.under ready in
+    let size : cluster_size new.file.header.fields ≡ cluster_size old.file.header.fields = ap (λ (x : HeaderFields). cluster_size x) (header_format old.file.header new.file.header (header_then old.file.header mid.file.header new.file.header c.in_ok-prepared.ensures.header c.in-Ok.ensures.header)) in
+    let rest : cluster_size new.file.header.fields - c.args.offset % cluster_size new.file.header.fields ≡ p.length = ap (λ s. s - c.args.offset % s) size ∙ sym first.rest in
+    record {
+      guest = longer.guest ∙ first.guest;
+      under = (c.args.table, longer.under ∙ first.under);
+      first = let more = longer.more in omega arith;
+      most = λ past. longer.most past ∙ sym rest;
+      short = on.1;
+    }

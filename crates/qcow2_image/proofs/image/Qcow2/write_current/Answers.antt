@@ -1,7 +1,7 @@
-use Rattle.std.proofs.Common.{◌≡◌, ◌+◌, None, Err, arith, length, sym, subst, true}
+use Rattle.std.proofs.Common.{◌≡◌, ◌+◌, None, Err, length, sym, subst, true}
 use Rattle.image_access.specs.Contents.{overwritten}
 use Rattle.qcow2_alloc.specs.ImageFile.{view_in}
-use Rattle.qcow2_alloc.specs.declared.error.ImageError.TheVariants.{OutdatedMapping}
+use Rattle.qcow2_alloc.specs.declared.error.ImageError.TheVariants.{OutdatedMapping, Overflow}
 use Rattle.qcow2_alloc.proofs.AllocationSteps.{handed_on}
 use Rattle.qcow2_image.specs.declared.image.Qcow2.{Qcow2}
 use Rattle.qcow2_image.specs.declared.mapping.MappingKind.TheVariants.{Raw}
@@ -9,8 +9,7 @@ use Rattle.qcow2_image.specs.declared.mapping.Place.TheVariants.{Image}
 use Rattle.qcow2_image.specs.Found.{IsFoundWhole, IsMappedAs}
 use Rattle.qcow2_image.specs.CallParts.{PutsPart, IsWritten}
 use Rattle.qcow2_image.specs.ImageInvariant.{pending_in}
-use Rattle.qcow2_image.proofs.Write.PutParts.{puts_refused, puts_then, puts_written}
-use Rattle.qcow2_image.proofs.Map.Near.{found_near}
+use Rattle.qcow2_image.proofs.Write.PutParts.{puts_nothing, puts_refused, puts_then, puts_written}
 use Rattle.qcow2_image.proofs.Call.Called.{Quietly, quiet_sound}
 use Rattle.qcow2_image.proofs.image.Qcow2.write_current.Goals as goal
 
@@ -22,7 +21,7 @@ returns-in_err-check_in_place-clause-puts g c = λ some fits out k placed sound.
     let new = c.check_in_place.new.self in
     let p = c.args.prepared.now in
     let e = c.in_err-check_in_place.field-0.0 in
-    handed_on (λ r. PutsPart view below old new out k p c.args.at c.args.bytes.now r) c.from_residual-in_err-check_in_place.result e c.from_residual-in_err-check_in_place.ensures
+    handed_on (λ r. PutsPart view below old new out k p c.args.at c.args.bytes.now r) c.from_residual.result e c.from_residual.ensures
     (puts_refused view below out k p c.args.at c.args.bytes.now placed old new e (record { keeps = c.check_in_place.ensures.keeps (pending_in view below old out) out sound; list = c.check_in_place.ensures.list }) sound)
 
 pub returns-clause-puts : goal.returns-clause-puts
@@ -36,34 +35,25 @@ returns-clause-puts g c = λ some fits out k placed sound.
     let bytes = c.args.bytes.now in
     let quiet : Quietly view below out old mid = record { keeps = c.in_ok-check_in_place.ensures.keeps (pending_in view below old out) out sound; list = c.in_ok-check_in_place.ensures.list } in
     let still = quiet_sound view below out old mid (λ _. quiet) sound in
-    let guest_is : c.in_ok-guest.guest ≡ p.guest + at = c.in_ok-guest.ensures.place in
     let host_is : c.in-Some.host ≡ p.offset + at = c.in-Some.ensures.1 in
     let w = c.write_data.ensures.written in
     let contents = (view_in view mid.file).contents in
     let storage = c.write_data.new.self.file.storage in
     let done = subst (λ o. IsWritten c.write_data.result contents (overwritten contents o bytes) (view_in view c.write_data.new.self.file).contents) host_is (w.written still.file.honest) in
     let mapped : p.table ≡ None → IsMappedAs view mid (p.guest + at) (Raw Image (p.offset + at) true) (length bytes) = λ none.
-    subst (λ o. IsMappedAs view mid o (Raw Image (p.offset + at) true) (length bytes)) guest_is
-    (subst (λ o. IsMappedAs view mid c.in_ok-guest.guest (Raw Image o true) (length bytes)) host_is (c.in_ok-check_in_place.ensures.mapped none some (pending_in view below old out) out sound)) in
+    subst (λ o. IsMappedAs view mid (p.guest + at) (Raw Image o true) (length bytes)) host_is (c.in_ok-check_in_place.ensures.mapped none some (pending_in view below old out) out sound) in
     subst (λ (image : Qcow2 _ _). PutsPart view below old image out k p at bytes c.write_data.result) (sym w.rest)
     (puts_then view below out k p at bytes placed old mid (record mid { file = record mid.file { storage = storage } }) c.write_data.result quiet sound
     (puts_written view below out k p at bytes placed mid still fits mapped storage (w.honest still.file.honest) w.time c.write_data.result done))
-
-pub returns-in_err-guest-clause-outdated : goal.returns-in_err-guest-clause-outdated
-returns-in_err-guest-clause-outdated g c = λ some none p out sound is whole. absurd (let no = (whole.past c.in_err-guest.ensures.past).1 in omega arith)
-
-pub returns-in_default-clause-outdated : goal.returns-in_default-clause-outdated
-returns-in_default-clause-outdated g c = λ some none p out sound is whole.
-    let few = sound.file.caches.kept.kept.guarded.top.header_reads.well_formed.in_range.cluster_bits.1 in
-    let near = found_near g.S.Storage.view c.args.self.now (c.args.prepared.now.guest + c.args.at) (length c.args.bytes.now) (c.args.prepared.now.offset + c.args.at) true few some whole in
-    absurd (c.in_default.ensures (omega (arith, near)))
 
 pub returns-in_err-check_in_place-clause-outdated : goal.returns-in_err-check_in_place-clause-outdated
 returns-in_err-check_in_place-clause-outdated g c = λ some none p out sound is whole.
     let view = g.S.Storage.view in
     let n = length c.args.bytes.now in
     let new = c.check_in_place.new.self in
-    let here = subst (λ o. IsFoundWhole view new c.in_ok-guest.guest (Raw Image o true) n) (sym c.in-Some.ensures.1)
-    (subst (λ o. IsFoundWhole view new o (Raw Image (c.args.prepared.now.offset + c.args.at) true) n) (sym c.in_ok-guest.ensures.place) whole) in
+    let here = subst (λ o. IsFoundWhole view new (c.args.prepared.now.guest + c.args.at) (Raw Image o true) n) (sym c.in-Some.ensures.1) whole in
     let e = c.in_err-check_in_place.field-0.0 in
-    handed_on (λ r. r ≡ Err OutdatedMapping → ⊥) c.from_residual-in_err-check_in_place.result e c.from_residual-in_err-check_in_place.ensures (λ was. c.in_err-check_in_place.ensures.outdated p out sound was here) is
+    handed_on (λ r. r ≡ Err OutdatedMapping → ⊥) c.from_residual.result e c.from_residual.ensures (λ was. c.in_err-check_in_place.ensures.outdated some p out sound was here) is
+
+pub returns-in_default-clause-puts : goal.returns-in_default-clause-puts
+returns-in_default-clause-puts g c = λ some fits out k placed sound. puts_nothing g.S.Storage.view g.F.BackingDisk.backing out k c.args.prepared.now c.args.at c.args.bytes.now placed c.args.self.now Overflow sound

@@ -1,3 +1,6 @@
+use Rattle.std.proofs.Common.{◌≡◌, ap, subst}
+use Rattle.std.specs.Prelude.{OnOk}
+use Rattle.qcow2_metadata.specs.EntryTable.{entry_count}
 use Rattle.qcow2_alloc.proofs.AllocationSteps.{handed_on}
 use Rattle.qcow2_image.specs.Growing.{NamesTable}
 use Rattle.qcow2_image.proofs.Grow.Grown.{named_then}
@@ -12,3 +15,6 @@ pub returns-clause-names : goal.returns-clause-names
 returns-clause-names g c = λ p sound longer.
     named_then g.S.Storage.view g.F.BackingDisk.backing p c.args.self.now c.place_l1_table.new.self c.name_l1_table.new.self c.args.table c.place_l1_table.new.table c.args.cluster c.name_l1_table.result c.in_ok-place_l1_table.ensures.table
     (c.in_ok-place_l1_table.ensures.places p sound longer) (c.name_l1_table.ensures.names p)
+
+pub returns-clause-entries : goal.returns-clause-entries
+returns-clause-entries g c = subst (λ n. OnOk c.name_l1_table.result (entry_count c.name_l1_table.new.self.l1_table ≡ n)) (ap entry_count c.in_ok-place_l1_table.ensures.table) c.name_l1_table.ensures.entries

@@ -3,7 +3,7 @@ use Rattle.std.specs.Prelude.{Result}
 use Rattle.std.proofs.lemmas.List.{nil_from_length}
 use Rattle.qcow2_image.specs.declared.image.Qcow2.{Qcow2}
 use Rattle.qcow2_image.specs.Calls.{Puts}
-use Rattle.qcow2_alloc.specs.declared.error.ImageError.TheVariants.{OutdatedMapping}
+use Rattle.qcow2_alloc.specs.declared.error.ImageError.TheVariants.{OutdatedMapping, ForeignState, ReadOnly}
 use Rattle.qcow2_image.specs.declared.mapping.MappingKind.TheVariants.{Raw}
 use Rattle.qcow2_image.specs.declared.mapping.Place.TheVariants.{Image}
 use Rattle.qcow2_image.specs.Found.{IsFoundWhole}
@@ -12,7 +12,7 @@ use Rattle.qcow2_image.specs.Refusals.{Marks}
 use Rattle.qcow2_image.specs.ImageInvariant.{pending_in}
 use Rattle.qcow2_image.proofs.Call.Answers.{usable_works}
 use Rattle.qcow2_image.proofs.Call.Called.{Quietly, quiet_sound}
-use Rattle.qcow2_image.proofs.Write.PutParts.{puts_none, puts_then, puts_settled}
+use Rattle.qcow2_image.proofs.Write.PutParts.{puts_early, puts_none, puts_then, puts_settled}
 use Rattle.qcow2_image.proofs.image.Qcow2.write_mapped.Goals as goal
 
 pub returns-then-is_empty-clause-sees : goal.returns-then-is_empty-clause-sees
@@ -49,3 +49,11 @@ returns-clause-outdated g c = λ none out sound is whole.
     let same : c.mark_failure.new.self ≡ new = c.mark_failure.ensures.rest ∙ ap (λ f. record new { is_failed = f }) marks in
     c.write_current-done.ensures.outdated some none p out (c.begin.ensures.keeps p out sound).sound answer
     (subst (λ (image : Qcow2 _ _). IsFoundWhole view image (c.args.prepared.now.guest + c.args.at) (Raw Image (c.args.prepared.now.offset + c.args.at) true) (length c.args.bytes.now)) same whole)
+
+pub returns-then-prepared-self-clause-sees : goal.returns-then-prepared-self-clause-sees
+returns-then-prepared-self-clause-sees g c =
+    puts_early g.S.Storage.view g.F.BackingDisk.backing c.args.self.now c.args.prepared.now c.args.at c.args.bytes.now (usable_works c.args.self.now c.check_usable.result c.in_ok-check_usable.was c.check_usable.ensures) ForeignState (λ is. cc)
+
+pub returns-then-not-writable-clause-sees : goal.returns-then-not-writable-clause-sees
+returns-then-not-writable-clause-sees g c =
+    puts_early g.S.Storage.view g.F.BackingDisk.backing c.args.self.now c.args.prepared.now c.args.at c.args.bytes.now (usable_works c.args.self.now c.check_usable.result c.in_ok-check_usable.was c.check_usable.ensures) ReadOnly (λ is. cc)

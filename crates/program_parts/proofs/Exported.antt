@@ -1,0 +1,48 @@
+-- A raw disk that was made of an image.
+use Rattle.std.proofs.Common.{◌≡◌, inl, ℕ, List, [], refl, sym, ap, ◌∙◌, subst, Result, Ok, Err, false}
+use Rattle.std.specs.Option.{is_some}
+use Rattle.image_access.specs.Backing.{BackingView}
+use Rattle.image_access.specs.Moments.{StorageView}
+use Rattle.qcow2_metadata.specs.Bytes.{byte_at}
+use Rattle.qcow2_metadata.specs.Consistent.{IsConsistent}
+use Rattle.qcow2_laws.specs.AbstractImages.{IsOpened, guest_of}
+use Rattle.qcow2_laws.specs.Calls.{Acts}
+use Rattle.qcow2_laws.specs.Disk.{disk}
+use Rattle.qcow2_laws.specs.Stops.{StopOkEverywhere, checkpoint_at}
+use Rattle.qcow2_alloc.specs.declared.error.ImageError.{ImageError}
+use Rattle.qcow2_image.specs.declared.image.Qcow2.{Qcow2}
+use Rattle.qcow2_image.specs.Image.{storage_of_image}
+use Rattle.qcow2_image.specs.ImageInvariant.{abstract_of}
+use Rattle.qcow2_image.proofs.Free.{whole}
+use Rattle.qcow2_session.specs.Conversions.{IsRawOf, Exports, IsUnchanged}
+use Rattle.program_parts.specs.Conversions.{IsExport, KeepsDisk, disk_alone, nothing_below}
+use Rattle.program_parts.proofs.Imported.{none_below}
+
+-- contents that are consistent keep their disk
+pub keeps_itself : (storage : StorageView) (contents : List ℕ) → IsConsistent (byte_at storage.contents) → contents ≡ storage.contents
+    → StopOkEverywhere nothing_below (checkpoint_at (disk_alone (byte_at storage.contents))) (byte_at contents)
+keeps_itself storage contents consistent same =
+    subst (λ c. StopOkEverywhere nothing_below (checkpoint_at (disk_alone (byte_at storage.contents))) (byte_at c)) (sym same)
+    (record { consistent = consistent; size = inl refl; values = λ o. inl refl })
+
+module _ {S F : Type 0} (view : S → StorageView) (backing : F → BackingView) (storage : StorageView) (old new : Qcow2 S F)
+    (opened : IsOpened (abstract_of view backing old [])) (alone : is_some old.backing ≡ false) (same : (view (storage_of_image old)).contents ≡ storage.contents) where
+  -- the disk of the image is that of the contents
+  disk_is : (guest_of (abstract_of view backing old [])).disk ≡ disk_alone (byte_at storage.contents)
+  disk_is = ap (λ b. disk b (abstract_of view backing old []).setting.backing) (opened.clean ∙ ap byte_at same) ∙ ap (disk (byte_at storage.contents)) (none_below view backing old.backing alone)
+
+  pub has_export : (raw : List ℕ) (n : ℕ) → Exports view backing old raw n → IsExport storage.contents n raw
+  has_export raw n exports = let done = exports [] opened.sound in record { count = done.0; is_disk = subst (λ d. IsRawOf d raw) disk_is done.1 }
+
+  keeps : Acts (abstract_of view backing old []) (abstract_of view backing new []) [] [] → KeepsDisk storage (view (storage_of_image new))
+  keeps acts =
+      let v = abstract_of view backing old [] in
+      let here : IsConsistent v.known = (whole view backing old [] opened.sound).consistent in
+      let start : StopOkEverywhere v.setting.backing (checkpoint_at (guest_of v).disk) v.known = record { consistent = here; size = inl refl; values = λ o. inl refl } in
+      let stops = (acts.works opened.sound).stops (checkpoint_at (guest_of v).disk) (subst (StopOkEverywhere v.setting.backing (checkpoint_at (guest_of v).disk)) opened.clean start, start) in
+      subst (λ d. StopOkEverywhere nothing_below (checkpoint_at d) (byte_at (view (storage_of_image new)).contents)) disk_is
+      (subst (λ below. StopOkEverywhere below (checkpoint_at (guest_of v).disk) (byte_at (view (storage_of_image new)).contents)) (none_below view backing old.backing alone) stops.contents)
+
+  pub keeps_disk : (result : Result ℕ ImageError) → IsUnchanged view backing old new result → KeepsDisk storage (view (storage_of_image new))
+  keeps_disk (Ok n) unchanged = keeps (unchanged []).acts
+  keeps_disk (Err e) unchanged = keeps (unchanged []).acts

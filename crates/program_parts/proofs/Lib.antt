@@ -1,0 +1,5 @@
+pub mod Digits
+pub mod Known
+pub mod Imported
+pub mod Exported
+pub mod Texts

@@ -1,0 +1,37 @@
+-- What stands after an image was made of a raw disk, or a raw disk of an image.
+use Rattle.std.specs.Prelude.{ℕ, ◌≡◌, length, List}
+use Rattle.image_access.specs.Moments.{StorageView}
+use Rattle.qcow2_metadata.specs.Bytes.{Bytes, byte_at}
+use Rattle.qcow2_metadata.specs.Consistent.{IsConsistent}
+use Rattle.qcow2_metadata.specs.Header.{header, cluster_size}
+use Rattle.qcow2_laws.specs.Disk.{Disk, disk}
+use Rattle.qcow2_laws.specs.Stops.{StopOkEverywhere, checkpoint_at}
+use Rattle.qcow2_session.specs.Conversions.{IsRawOf}
+
+-- where there is no disk below, it is zeros
+abbrev pub nothing_below : Bytes
+nothing_below = λ o. 0
+
+-- the disk of an image with no disk below
+abbrev pub disk_alone : Bytes → Disk
+disk_alone image = disk image nothing_below
+
+-- an honest storage has a consistent image whose disk is these bytes
+pub record HasDisk (storage : StorageView) (bytes : List ℕ) : Type 0 where
+  pub honest : storage.is_honest
+  pub consistent : IsConsistent (byte_at storage.contents)
+  pub is_disk : IsRawOf (disk_alone (byte_at storage.contents)) bytes
+
+-- and its clusters have this size
+pub record IsImageOf (storage : StorageView) (bytes : List ℕ) (cluster : ℕ) : Type 0 where
+  pub has_disk : HasDisk storage bytes
+  pub clusters : cluster_size (header (byte_at storage.contents)) ≡ cluster
+
+-- a raw disk of so many bytes is the disk of the image in these contents
+pub record IsExport (image : List ℕ) (n : ℕ) (raw : List ℕ) : Type 0 where
+  pub count : n ≡ length raw
+  pub is_disk : IsRawOf (disk_alone (byte_at image)) raw
+
+-- the image on a storage is consistent still, and its disk is what it was
+abbrev pub KeepsDisk : StorageView → StorageView → Type 0
+KeepsDisk old new = StopOkEverywhere nothing_below (checkpoint_at (disk_alone (byte_at old.contents))) (byte_at new.contents)

@@ -1,0 +1,4 @@
+pub mod Conversions
+pub mod Lines
+pub mod Numbers
+pub mod Reports

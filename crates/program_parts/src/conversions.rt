@@ -1,0 +1,85 @@
+//! New images, images of raw disks, and raw disks of images.
+ghost use Rattle.std.specs.Prelude.{◌≡◌, length, IfOk};
+ghost use Rattle.image_access.specs.Moments.{ContentsStay};
+ghost use Rattle.qcow2_metadata.specs.Bytes.{byte_at};
+ghost use Rattle.qcow2_metadata.specs.Consistent.{IsConsistent};
+ghost use Rattle.qcow2_image.specs.Opened.{NeedsAnother};
+ghost use Rattle.qcow2_session.specs.Conversions.{Imports, IsLeft};
+ghost use Rattle.program_parts.specs.Conversions.{IsImageOf, IsExport, KeepsDisk};
+
+use image_access::{Storage, WrappedFormat};
+use qcow2_image::{ImageError, Qcow2, Qcow2CreateBuilder};
+use qcow2_session::convert::{to_qcow2, to_raw};
+use std::alloc::Global;
+
+/// Makes an image with the bytes of a raw disk, in clusters of so many bytes that are counted in so many bits, and hands its storage
+/// back. A raw disk that ends with another size than it had is refused 15.
+pub fn make_image<R: Storage, S: Storage>(
+    alloc: Global,
+    raw: &mut R,
+    storage: S,
+    cluster: u64,
+    width: u64,
+) -> (S, Result<u64, ImageError>)
+    ensures image { (R.view raw.old).is_honest → (S.view storage).is_honest → IfOk result.1 (λ n. IsImageOf (S.view result.0) (R.view raw.old).contents cluster) }
+    ensures count { (R.view raw.old).is_honest → IfOk result.1 (λ n. n ≡ length (R.view raw.old).contents) }
+    ensures raw { IsLeft (R.view raw.old) (R.view raw.new) }
+{
+    let size = match raw.size() {
+        Ok(size) => size,
+        Err(e) => return (storage, Err(ImageError::from(e))),
+    };
+    let (storage, created) = Qcow2CreateBuilder::new(storage)
+        .size(size)
+        .cluster_size(cluster)
+        .refcount_width(width)
+        .create(alloc);
+    if let Err(e) = created {
+        return (storage, Err(e));
+    }
+    match Qcow2::<S>::open_alone(alloc, storage, true, 1) {
+        Ok(mut image) => {
+            let imported = fill(alloc, raw, &mut image);
+            (image.into_storage(), imported)
+        }
+        Err((storage, e)) => (storage, Err(e)),
+    }
+}
+
+// Makes the image's disk as the raw disk is, which is to have the size that it had before.
+fn fill<R: Storage, S: Storage, F: WrappedFormat<S>>(
+    alloc: Global,
+    raw: &mut R,
+    image: &mut Qcow2<S, F>,
+) -> Result<u64, ImageError>
+    ensures sees { (R.view raw.old).is_honest → IfOk result (λ n. Imports S.view F.backing image.old image.new (R.view raw.old).contents (Ok n)) }
+    ensures count { (R.view raw.old).is_honest → IfOk result (λ n. n ≡ length (R.view raw.old).contents) }
+    ensures raw { IsLeft (R.view raw.old) (R.view raw.new) }
+{
+    let count = to_qcow2(alloc, raw, image)?;
+    if raw.size()? != count {
+        return Err(ImageError::Storage);
+    }
+    Ok(count)
+}
+
+/// Makes a raw disk of an image, which is only read, and hands the image's storage back. The answer is the number of bytes. An image
+/// that needs another file is refused, and the raw disk stays as it is.
+pub fn make_raw_disk<S: Storage, R: Storage>(
+    alloc: Global,
+    storage: S,
+    raw: &mut R,
+) -> (S, Result<u64, ImageError>)
+    ensures raw { (R.view raw.old).is_honest → (S.view storage).is_honest → IsConsistent (byte_at (S.view storage).contents)
+        → IfOk result.1 (λ n. IsExport (S.view storage).contents n (R.view raw.new).contents) }
+    ensures image { (S.view storage).is_honest → IsConsistent (byte_at (S.view storage).contents) → KeepsDisk (S.view storage) (S.view result.0) }
+    ensures another { (S.view storage).is_honest → NeedsAnother (S.view storage).contents → ContentsStay (S.view storage) (S.view result.0) × (raw.new ≡ raw.old) }
+{
+    match Qcow2::<S>::open_alone(alloc, storage, false, 1) {
+        Ok(mut image) => {
+            let exported = to_raw(alloc, &mut image, raw);
+            (image.into_storage(), exported)
+        }
+        Err((storage, e)) => (storage, Err(e)),
+    }
+}

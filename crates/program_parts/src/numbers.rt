@@ -1,0 +1,23 @@
+//! A number as words write it.
+ghost use Rattle.std.specs.Prelude.{◌≡◌};
+ghost use Rattle.std.specs.Char.{is_ascii_digit};
+ghost use Rattle.std.specs.List.{list_all};
+ghost use Rattle.program_parts.specs.Numbers.{number_of};
+
+/// The number that a word writes in decimal digits alone, where it has 64 bits.
+#[tactic(auto, using(crate::proofs::Digits::parsed_number))]
+pub fn number(word: &str) -> Option<u64>
+    ensures { result ≡ number_of word.now }
+{
+    if is_digits(word) {
+        word.parse().ok()
+    } else {
+        None
+    }
+}
+
+fn is_digits(word: &str) -> bool
+    ensures { result ≡ list_all is_ascii_digit word.now }
+{
+    word.bytes().all(|byte| byte.is_ascii_digit())
+}

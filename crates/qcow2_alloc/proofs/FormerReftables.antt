@@ -1,0 +1,67 @@
+-- Reftables that gave way to longer ones, and whose clusters are listed to be freed.
+use Rattle.std.proofs.Common.{◌≡◌, ℕ, ◌+◌, ◌-◌, ◌*◌, ◌/◌, ◌%◌, ◌^◌, ◌≤◌, List, [], ◌∷◌, ◌++◌, length, Some, refl, sym, ap, ◌∙◌, subst, append_assoc, arith}
+use Rattle.std.proofs.lemmas.List.{append-nil}
+use Rattle.qcow2_metadata.specs.EntryTable.{EntryTableView, entry_count, IsRefTable}
+use Rattle.qcow2_alloc.specs.Allocation.{KeepsEntries}
+use Rattle.qcow2_alloc.specs.ClustersToFree.{metadata_entry}
+use Rattle.qcow2_alloc.specs.FreeList.{SamePlace, IsRunOfTable, GaveWay, ListsReftables}
+use Rattle.qcow2_alloc.specs.declared.clusters_to_free.ClustersToFreeEntry.{ClustersToFreeEntry}
+use Rattle.qcow2_alloc.proofs.AllocationSteps.{entries_then, entries_less}
+
+pub place_none : (t : EntryTableView) → SamePlace t t
+place_none t = record { cluster = refl; bits = refl; count = refl; others = λ k none. refl }
+
+pub place_as : (P : ℕ → Type 0) (a b : EntryTableView) → KeepsEntries P a b → SamePlace a b
+place_as P a b keeps = entries_less P (λ k. ⊥) a b (λ k none. absurd none) keeps
+
+pub place_then : (a b c : EntryTableView) → SamePlace a b → SamePlace b c → SamePlace a c
+place_then = entries_then (λ k. ⊥)
+
+run_as : (a b : EntryTableView) (e : ClustersToFreeEntry) → SamePlace a b → IsRunOfTable b e → IsRunOfTable a e
+run_as a b e same run = record {
+  cluster = run.cluster;
+  placed = sym same.cluster ∙ run.placed;
+  run = run.run ∙ ap (λ n. metadata_entry run.cluster ((8 * n + 2 ^ b.cluster_bits - 1) / 2 ^ b.cluster_bits)) same.count ∙ ap (λ n. metadata_entry run.cluster ((8 * entry_count a + 2 ^ n - 1) / 2 ^ n)) same.bits;
+}
+
+gave_as : (a b c : EntryTableView) (es : List ClustersToFreeEntry) → SamePlace a b → GaveWay b es c → GaveWay a es c
+gave_as a b c [] same gone = place_then a b c same gone
+gave_as a b c (e ∷ es) same gone = (run_as a b e same gone.0, gone.1, subst (λ n. n ≤ entry_count gone.1) same.count gone.2, gone.3)
+
+gave_then : (a b c : EntryTableView) (es fs : List ClustersToFreeEntry) → GaveWay a es b → GaveWay b fs c → GaveWay a (es ++ fs) c
+gave_then a b c [] fs first then = gave_as a b c fs first then
+gave_then a b c (e ∷ es) fs first then = (first.0, first.1, first.2, gave_then first.1 b c es fs first.3 then)
+
+-- nothing is listed
+pub former_same : (a b : EntryTableView) (l m : List ClustersToFreeEntry) → SamePlace a b → m ≡ l → ListsReftables a b l m
+former_same a b l m same is = record { more = []; is = is ∙ sym (append-nil l); gone = same }
+
+pub former_none : (a : EntryTableView) (l : List ClustersToFreeEntry) → ListsReftables a a l l
+former_none a l = former_same a a l l (place_none a) refl
+
+-- one step after another
+pub former_then : (a b c : EntryTableView) (l m n : List ClustersToFreeEntry) → ListsReftables a b l m → ListsReftables b c m n → ListsReftables a c l n
+former_then a b c l m n first then = record {
+  more = first.more ++ then.more;
+  is = then.is ∙ ap (λ (x : List ClustersToFreeEntry). x ++ then.more) first.is ∙ append_assoc l first.more then.more;
+  gone = gave_then a b c first.more then.more first.gone then.gone;
+}
+
+-- after which reftable and list stay
+pub former_still : (a b c : EntryTableView) (l m n : List ClustersToFreeEntry) → ListsReftables a b l m → c ≡ b → n ≡ m → ListsReftables a c l n
+former_still a b c l m n first same_table same_list = subst (λ (t : EntryTableView). ListsReftables a t l n) (sym same_table) (subst (ListsReftables a b l) (sym same_list) first)
+
+-- one goes
+pub former_one : (a b : EntryTableView) (e : ClustersToFreeEntry) (l m : List ClustersToFreeEntry) → IsRunOfTable a e → entry_count a ≤ entry_count b → m ≡ l ++ e ∷ [] → ListsReftables a b l m
+former_one a b e l m run longer is = record { more = e ∷ []; is = is; gone = (run, b, longer, place_none b) }
+
+-- a reftable has whole entries
+pub run_of_table : (t : EntryTableView) (e : ClustersToFreeEntry) (c : ℕ) → t.cluster ≡ Some c → IsRefTable t → e ≡ metadata_entry c ((length t.bytes + 2 ^ t.cluster_bits - 1) / 2 ^ t.cluster_bits) → IsRunOfTable t e
+run_of_table t e c placed is run = record {
+  cluster = c;
+  placed = placed;
+  run = run ∙ ap (λ n. metadata_entry c ((n + 2 ^ t.cluster_bits - 1) / 2 ^ t.cluster_bits)) (whole_entries (length t.bytes) is.table.whole);
+}
+  where
+    whole_entries : (n : ℕ) → n % 8 ≡ 0 → n ≡ 8 * (n / 8)
+    whole_entries n whole = omega (arith, whole)

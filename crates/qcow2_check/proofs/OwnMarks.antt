@@ -1,0 +1,42 @@
+-- What is marked copied is its own exactly where each cluster with a mark is.
+use Rattle.std.proofs.Common.{◌≡◌, ◌≢◌, ℕ, ◌/◌, ◌&&◌, Bool, eqb, Some, None, refl, subst}
+use Rattle.std.specs.Prelude.{IsTrue}
+use Rattle.std.proofs.lemmas.Bool.{eq-eqb}
+use Rattle.qcow2_metadata.specs.Bytes.{Bytes}
+use Rattle.qcow2_metadata.specs.declared.header.HeaderFields.{HeaderFields}
+use Rattle.qcow2_metadata.specs.Header.{cluster_size}
+use Rattle.qcow2_metadata.specs.Entries.{count}
+use Rattle.qcow2_metadata.specs.Named.{named}
+use Rattle.qcow2_metadata.specs.Consistent.{IsOwn, CopiedIsOwn}
+use Rattle.qcow2_metadata.specs.declared.l2_mapping.L2Mapping.{L2Mapping}
+use Rattle.qcow2_metadata.specs.declared.l2_mapping.L2Mapping.TheVariants.{Data, Zero, Compressed, Uncovered}
+use Rattle.qcow2_check.specs.Marks.{marked_at, marked_by_cover}
+use Rattle.qcow2_check.proofs.Terms.{one_if-some, true_from_some}
+use Rattle.qcow2_check.proofs.TallyTests.{both_true, left_true, right_true, same_from_eqb}
+
+module _ (h : HeaderFields) (b : Bytes) where
+  -- the cluster is named once and counted once
+  abbrev pub IsOwnCluster : ℕ → Type 0
+  IsOwnCluster q = (named h b q ≡ 1) × (count h b q ≡ 1)
+
+  pub own_place : (place : ℕ) (copied : Bool) → ((q : ℕ) → marked_at h q place copied ≢ 0 → IsOwnCluster q) → IsTrue copied → IsOwn h b place
+  own_place place copied each is = each (place / cluster_size h) (one_if-some _ (both_true _ _ (eq-eqb (place / cluster_size h) (place / cluster_size h) refl) is))
+
+  pub place_own : (place : ℕ) (copied : Bool) → (IsTrue copied → IsOwn h b place) → (q : ℕ) → marked_at h q place copied ≢ 0 → IsOwnCluster q
+  place_own place copied own q some =
+      let test = true_from_some (eqb (place / cluster_size h) q && copied) some in
+      subst IsOwnCluster (same_from_eqb _ _ (left_true _ _ test)) (own (right_true (eqb (place / cluster_size h) q) copied test))
+
+  pub own_cover : (cover : L2Mapping) → ((q : ℕ) → marked_by_cover h q cover ≢ 0 → IsOwnCluster q) → CopiedIsOwn h b cover
+  own_cover (Data host copied) each = own_place host copied each
+  own_cover (Zero None) each = tt
+  own_cover (Zero (Some k)) each = own_place k.0 k.1 each
+  own_cover (Compressed place sectors) each = tt
+  own_cover Uncovered each = tt
+
+  pub cover_own : (cover : L2Mapping) → CopiedIsOwn h b cover → (q : ℕ) → marked_by_cover h q cover ≢ 0 → IsOwnCluster q
+  cover_own (Data host copied) own q some = place_own host copied own q some
+  cover_own (Zero None) own q some = absurd (some refl)
+  cover_own (Zero (Some k)) own q some = place_own k.0 k.1 own q some
+  cover_own (Compressed place sectors) own q some = absurd (some refl)
+  cover_own Uncovered own q some = absurd (some refl)

@@ -1,0 +1,30 @@
+-- Clusters of a range, one after the other.
+use Rattle.std.proofs.Common.{◌≡◌, ℕ, ◌+◌, ◌-◌, ◌*◌, ◌≤◌, ◌&&◌, false, eqb, ap, ◌∙◌, arith}
+use Rattle.std.specs.Prelude.{nat_le, nat_lt}
+use Rattle.std.proofs.lemmas.Bool.Decides.{nat_tests}
+use Rattle.std.proofs.Math.Nat.{mul-le-mul_left}
+use Rattle.std.specs.BTreeMap.{BTreeMap}
+use Rattle.qcow2_metadata.specs.Bytes.{one_if}
+use Rattle.qcow2_check.specs.declared.tally.Tally.{Tally}
+use Rattle.qcow2_check.specs.Tallies.{Grows, AddsTimes}
+use Rattle.qcow2_check.proofs.Covers.{never_times}
+use Rattle.qcow2_check.proofs.Grow.{grows_more}
+
+one_more : (first next q : ℕ) → first ≤ next → one_if (nat_le first q && nat_lt q (next + 1)) ≡ one_if (nat_le first q && nat_lt q next) + one_if (eqb next q)
+one_more first next q le = grind (arith, nat_tests)
+
+pub range_more : (first next times : ℕ) (old mid new : BTreeMap ℕ Tally) → first ≤ next
+    → Grows old mid (λ q. times * one_if (nat_le first q && nat_lt q next)) (λ _. 0) (λ _. 0) → AddsTimes mid new next times false false
+    → Grows old new (λ q. times * one_if (nat_le first q && nat_lt q (next + 1))) (λ _. 0) (λ _. 0)
+range_more first next times old mid new le so_far adds =
+    grows_more old mid new _ _ _ _ _ _ _ _ _ so_far adds
+    (λ q. ap (λ n. times * n) (one_more first next q le) ∙ omega arith)
+    (λ q. omega (arith, never_times times (eqb next q)))
+    (λ q. omega (arith, never_times times (eqb next q)))
+
+pub one_longer : (first next times : ℕ) → first ≤ next → times * (next + 1 - first) ≡ times * (next - first) + times
+one_longer first next times le = let is : next + 1 - first ≡ next - first + 1 = omega arith in ap (λ n. times * n) is ∙ omega arith
+
+-- so many times a number is at most so many times a greater one
+pub times_le : (times n most : ℕ) → n ≤ most → times * n ≤ times * most
+times_le times n most le = mul-le-mul_left times le

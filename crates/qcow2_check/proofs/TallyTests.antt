@@ -1,0 +1,82 @@
+-- What the tests of a tally tell.
+use Rattle.std.proofs.Common.{◌≡◌, ◌≢◌, ℕ, ◌≤◌, Bool, true, false, ◌&&◌, eqb, ltb, refl, ap, ◌∙◌, arith, inl, inr}
+use Rattle.std.specs.Prelude.{not}
+use Rattle.std.proofs.lemmas.Bool.{cases_lt, eq-eqb, ne_eqb, le-ltb, lt-ltb}
+use Rattle.std.proofs.lemmas.Bool.Decides.{eqb_tells}
+use Rattle.qcow2_check.specs.declared.tally.Tally.{Tally}
+use Rattle.qcow2_check.specs.Lines.{is_named, is_under, is_shared, is_miscopied}
+
+pub both_true : (a b : Bool) → a ≡ true → b ≡ true → (a && b) ≡ true
+both_true true b one two = two
+both_true false b one two = cc
+
+pub left_true : (a b : Bool) → (a && b) ≡ true → a ≡ true
+left_true true b is = refl
+left_true false b is = cc
+
+pub right_true : (a b : Bool) → (a && b) ≡ true → b ≡ true
+right_true true b is = is
+right_true false b is = cc
+
+pub same_from_eqb : (m n : ℕ) → eqb m n ≡ true → m ≡ n
+same_from_eqb m n is = elim (eqb_tells m n) [ inl same ↦ same.1 | inr other ↦ cc ]
+
+-- ---- named or not
+
+pub zero_from_is_named : (t : Tally) → is_named t ≡ false → t.named ≡ 0
+zero_from_is_named t fails = elim (eqb_tells t.named 0) [
+  | inl none ↦ none.1
+  | inr some ↦ let shown : is_named t ≡ true = ap not some.0 in cc
+]
+
+pub is_named-zero : (t : Tally) → t.named ≡ 0 → is_named t ≡ false
+is_named-zero t none = ap not (eq-eqb t.named 0 none)
+
+-- ---- counted often enough
+
+pub counted_from_is_under : (t : Tally) → is_under t ≡ false → t.named ≤ t.count
+counted_from_is_under t fails = elim (cases_lt t.count t.named) [
+  | inl less ↦ let shown = lt-ltb _ _ less in cc
+  | inr enough ↦ enough
+]
+
+pub is_under-counted : (t : Tally) → t.named ≤ t.count → is_under t ≡ false
+is_under-counted t enough = le-ltb t.count t.named enough
+
+-- ---- a table's cluster, named once
+
+pub once_from_is_shared : (t : Tally) → is_shared t ≡ false → t.for_tables ≤ t.named → t.for_tables ≢ 0 → t.named ≡ 1
+once_from_is_shared t fails few some = elim (cases_lt 1 t.named) [
+  | inl more ↦ let shown : is_shared t ≡ true = both_true _ _ (ap not (ne_eqb t.for_tables 0 some)) (lt-ltb _ _ more) in cc
+  | inr once ↦ omega arith
+]
+
+pub is_shared-once : (t : Tally) → (t.for_tables ≢ 0 → t.named ≡ 1) → is_shared t ≡ false
+is_shared-once t once = elim (eqb_tells t.for_tables 0) [
+  | inl none ↦ ap (λ e. not e && ltb 1 t.named) none.0
+  | inr some ↦ ap (λ e. not e && ltb 1 t.named) some.0 ∙ le-ltb 1 t.named (omega (arith, once some.1))
+]
+
+-- ---- marked copied, and its own
+
+pub own_from_is_miscopied : (t : Tally) → is_miscopied t ≡ false → t.marked ≢ 0 → (t.named ≡ 1) × (t.count ≡ 1)
+own_from_is_miscopied t fails some = elim (eqb_tells t.named 1) [
+  | inl named ↦ elim (eqb_tells t.count 1) [
+    | inl counted ↦ (named.1, counted.1)
+    | inr else ↦
+        let test : (eqb t.named 1 && eqb t.count 1) ≡ false = ap (λ e. e && eqb t.count 1) named.0 ∙ else.0 in
+        let shown : is_miscopied t ≡ true = both_true _ _ (ap not (ne_eqb t.marked 0 some)) (ap not test) in cc
+  ]
+  | inr else ↦
+      let test : (eqb t.named 1 && eqb t.count 1) ≡ false = ap (λ e. e && eqb t.count 1) else.0 in
+      let shown : is_miscopied t ≡ true = both_true _ _ (ap not (ne_eqb t.marked 0 some)) (ap not test) in cc
+]
+
+pub is_miscopied-own : (t : Tally) → (t.marked ≢ 0 → (t.named ≡ 1) × (t.count ≡ 1)) → is_miscopied t ≡ false
+is_miscopied-own t own = elim (eqb_tells t.marked 0) [
+  | inl none ↦ ap (λ e. not e && not (eqb t.named 1 && eqb t.count 1)) none.0
+  | inr some ↦
+      let is = own some.1 in
+      ap (λ e. not e && not (eqb t.named 1 && eqb t.count 1)) some.0
+      ∙ ap not (both_true _ _ (eq-eqb t.named 1 is.0) (eq-eqb t.count 1 is.1))
+]

@@ -1,0 +1,7 @@
+pub mod Held
+pub mod Touched
+pub mod Ranges
+pub mod Entries
+pub mod Cleared
+pub mod Between
+pub mod ClearCalls

@@ -1,0 +1,316 @@
+-- Entries of a held table are cleared one after another, and what they named is to be freed.
+use Rattle.std.proofs.Common.{◌≡◌, inl, inr, ℕ, zero, suc, ◌+◌, ◌-◌, ◌*◌, ◌^◌, ◌<◌, ◌≤◌, true, false, List, [], ◌∷◌, ◌++◌, Option, refl, sym, ap, ◌∙◌, subst, arith, min}
+use Rattle.std.specs.Prelude.{IsSome, IsTrue, nat_le, nat_lt}
+use Rattle.std.proofs.lemmas.Bool.{cases_eq, cases_lt, and_from, and_left, and_right, cond-true, cond-false, le-leb, lt-leb, lt-ltb, le-ltb}
+use Rattle.std.proofs.lemmas.Nat.{pow_pos}
+use Rattle.std.proofs.Math.Pow.{pow_mono}
+use Rattle.image_access.specs.Backing.{BackingView}
+use Rattle.image_access.specs.Moments.{StorageView}
+use Rattle.image_access.proofs.Passing.{passes_none}
+use Rattle.qcow2_metadata.specs.Bytes.{Bytes}
+use Rattle.qcow2_metadata.specs.declared.header.HeaderFields.{HeaderFields}
+use Rattle.qcow2_metadata.specs.Header.{cluster_size}
+use Rattle.qcow2_metadata.specs.Cover.{cover}
+use Rattle.qcow2_metadata.specs.L2Mapping.{IsInReach, dropped_run}
+use Rattle.qcow2_laws.specs.AbstractImages.{Setting}
+use Rattle.qcow2_laws.specs.Calls.{Works, cleared}
+use Rattle.qcow2_laws.specs.CrashInvariant.{Pending}
+use Rattle.qcow2_laws.specs.Disk.{Disk, disk, uncovered, zeroed}
+use Rattle.qcow2_laws.specs.GuestLaws.{ClearsRange, MapsEntry, MapsInTurn}
+use Rattle.qcow2_laws.specs.Mappings.{gift_shown}
+use Rattle.qcow2_laws.specs.SafeSteps.{DriverState}
+use Rattle.qcow2_laws.specs.Steps.{guest_at}
+use Rattle.qcow2_laws.specs.Stops.{GivenBytes}
+use Rattle.qcow2_laws.proofs.MappedRanges.{clusters_in_turn_are_a_range}
+use Rattle.qcow2_alloc.specs.CacheMarks.{KeepsMarks}
+use Rattle.qcow2_alloc.specs.declared.cache.MetadataCaches.{MetadataCaches}
+use Rattle.qcow2_alloc.specs.declared.clusters_to_free.ClustersToFreeEntry.{ClustersToFreeEntry}
+use Rattle.qcow2_alloc.specs.ImageFile.{state_in, view_in, contents_in, known_in}
+use Rattle.qcow2_alloc.specs.MetadataCaches.{IsEntryAt, l2_at}
+use Rattle.qcow2_image.specs.Clearing.{AreCleared, ClearsCovers, ClearsEntry, ClearsPart, ClearsTable, MayClear, cleared_cover, gifts_between, is_between, is_cleared, listed_by, setting_of, shown_by, with_caches}
+use Rattle.qcow2_image.specs.declared.discarding.Clearance.{Clearance}
+use Rattle.qcow2_image.specs.declared.discarding.Clearance.TheVariants.{Uncovered, Zeros, KeptZeros}
+use Rattle.qcow2_image.specs.declared.image.Qcow2.{Qcow2}
+use Rattle.qcow2_image.specs.declared.prepared.Prepared.{Prepared}
+use Rattle.qcow2_image.specs.ImageInvariant.{ImageInvariant, abstract_of, backing_bytes, disk_of, listed_run, of_data, of_tables, pending_in, to_free}
+use Rattle.qcow2_image.proofs.Call.Answered.{same_guest}
+use Rattle.qcow2_image.proofs.Call.Stepped.{Steps, stepped_sound, stepped_works}
+use Rattle.qcow2_image.proofs.Clear.Entries.{OneCleared, one_cleared}
+use Rattle.qcow2_image.proofs.Commit.Committing.{listed_tables}
+use Rattle.qcow2_image.proofs.Open.Reftables.{reftable_still}
+use Rattle.qcow2_image.proofs.Sound.{free_more}
+
+-- what is listed is no table
+listed_no_table : (how : Clearance) (h : HeaderFields) (known : Bytes) (first n k : ℕ) → to_free of_tables (listed_by how h known first n) k ≡ 0
+listed_no_table how h known first zero k = refl
+listed_no_table how h known first (suc n) k =
+    let run = dropped_run h.cluster_bits (cover h known (first + n)) (cleared_cover how (cover h known (first + n))) in
+    let more = free_more of_tables (listed_by how h known first n) (listed_run run) k in
+    let none = listed_no_table how h known first n k in
+    let last = listed_tables run k in
+    omega (arith, more, none, last)
+
+module _ {S F : Type 0} (view : S → StorageView) (backing : F → BackingView) where
+  -- none is yet
+  none_cleared : (how : Clearance) (row column : ℕ) (a : Qcow2 S F) (out : List (Option Prepared)) (p : Pending) → ImageInvariant view backing p a out → AreCleared view backing how row column 0 a a.file.caches out p
+  none_cleared how row column a out p sound = record {
+    now = p;
+    sound_now = sound;
+    turn = refl;
+    cleared_all = λ i lt. absurd (omega (arith, lt));
+    stays = λ g out. refl;
+    table_stays = refl;
+    held = λ k. refl;
+    fresh = λ k. refl;
+    spent = λ k. refl;
+    surplus = refl;
+    dropped = λ k. sym (omega arith);
+  }
+
+  -- one more is
+  module _ (how : Clearance) (t row column n : ℕ) (a : Qcow2 S F) (caches : MetadataCaches S) (out : List (Option Prepared)) (p : Pending) (may : MayClear view backing how t row column (suc n) a out p)
+      (so_far : AreCleared view backing how row column n a caches out p) (found : IsSome (l2_at caches t)) (marks : KeepsMarks a.file.caches caches) (c : Qcow2 S F) (clears : ClearsEntry how t (column + n) (with_caches a caches) c) where
+    abbrev h : HeaderFields
+    h = a.file.header.fields
+
+    abbrev first : ℕ
+    first = guest_at h row column
+
+    abbrev b : Qcow2 S F
+    b = with_caches a caches
+
+    guest_is : guest_at h row (column + n) ≡ first + n
+    guest_is = omega arith
+
+    at : IsEntryAt h (known_in view b.file) row t (column + n)
+    at = record { real = λ none. may.real (sym so_far.table_stays ∙ none); place = so_far.table_stays ∙ may.place; within = let w = may.within in omega (arith, w) }
+
+    one : OneCleared view backing how row (column + n) b c out so_far.now
+    one = one_cleared view backing b out so_far.now so_far.sound_now how t row (column + n) at may.copied found (marks.pins t ∙ may.unpinned) may.version c clears
+
+    next : OneCleared view backing how row (column + n) b (with_caches a c.file.caches) out so_far.now
+    next = subst (λ (x : Qcow2 S F). OneCleared view backing how row (column + n) b x out so_far.now) clears.rest one
+
+    abbrev e : Qcow2 S F
+    e = with_caches a c.file.caches
+
+    same_word : cover h (known_in view b.file) (first + n) ≡ cover h (known_in view a.file) (first + n)
+    same_word = sym (so_far.stays (first + n) (inr (omega arith)))
+
+    reached : IsInReach (cover h (known_in view b.file) (guest_at h row (column + n)))
+    reached = subst (λ g. IsInReach (cover h (known_in view b.file) g)) (sym guest_is) (subst IsInReach (sym same_word) (may.reach n (omega arith)))
+
+    last_run : listed_run (dropped_run h.cluster_bits (cover h (known_in view b.file) (guest_at h row (column + n))) (cleared_cover how (cover h (known_in view b.file) (guest_at h row (column + n)))))
+        ≡ listed_run (dropped_run h.cluster_bits (cover h (known_in view a.file) (first + n)) (cleared_cover how (cover h (known_in view a.file) (first + n))))
+    last_run = ap (λ v. listed_run (dropped_run h.cluster_bits v (cleared_cover how v))) (ap (cover h (known_in view b.file)) guest_is ∙ same_word)
+
+    pub next_cleared : AreCleared view backing how row column (suc n) a c.file.caches out p
+    next_cleared = record {
+      now = next.now;
+      sound_now = next.sound_now;
+      turn = (state_in view b.file so_far.now, so_far.turn, subst (λ g. MapsEntry (is_cleared how) g (state_in view b.file so_far.now) (state_in view e.file next.now)) guest_is next.turn);
+      cleared_all = λ i lt. elim (cases_eq i n) [
+        | inl here ↦
+            ap (λ j. cover h (known_in view e.file) (first + j)) here ∙ ap (cover h (known_in view e.file)) (sym guest_is) ∙ next.cleared ∙ ap (λ g. cleared_cover how (cover h (known_in view b.file) g)) guest_is ∙ ap (cleared_cover how) same_word
+            ∙ ap (λ j. cleared_cover how (cover h (known_in view a.file) (first + j))) (sym here)
+        | inr other ↦ sym (next.stays (first + i) (λ same. other (let g = guest_is in omega (arith, same, g)))) ∙ so_far.cleared_all i (omega (arith, lt, other))
+      ];
+      stays = λ g out. so_far.stays g (elim out [ inl below ↦ inl below | inr past ↦ inr (omega (arith, past)) ]) ∙ next.stays g (λ same. let is = guest_is in elim out [ inl below ↦ absurd (omega (arith, below, same, is)) | inr past ↦ absurd (omega (arith, past, same, is)) ]);
+      table_stays = next.table_stays ∙ so_far.table_stays;
+      held = λ k. next.held reached k ∙ so_far.held k;
+      fresh = λ k. next.fresh k ∙ so_far.fresh k;
+      spent = λ k. next.spent k ∙ so_far.spent k;
+      surplus = next.surplus ∙ so_far.surplus;
+      dropped = λ k.
+          let before = so_far.dropped k in
+          let last = next.dropped reached k in
+          let run = ap (λ l. to_free of_data l k) last_run in
+          let more = free_more of_data (listed_by how h (known_in view a.file) first n) (listed_run (dropped_run h.cluster_bits (cover h (known_in view a.file) (first + n)) (cleared_cover how (cover h (known_in view a.file) (first + n))))) k in
+          omega (arith, before, last, run, more);
+    }
+
+  pub first_none : (how : Clearance) (t column : ℕ) (a : Qcow2 S F) → ClearsTable view backing how t column 0 a a
+  first_none how t column a = record {
+    rest = refl;
+    marks = record { pins = λ cluster. refl; room = λ room. room; changed = λ changed. changed };
+    held = λ some. some;
+    part = λ out p row may. none_cleared how row column a out p may.sound;
+    noted = λ out p row may some. absurd (omega (arith, some));
+  }
+
+  module _ (how : Clearance) (t column n : ℕ) (a b c : Qcow2 S F) (first : ClearsTable view backing how t column n a b) (clears : ClearsEntry how t (min (column + n) (2 ^ 64 - 1)) b c) where
+    abbrev here : Qcow2 S F
+    here = with_caches a b.file.caches
+
+    clears_here : ClearsEntry how t (min (column + n) (2 ^ 64 - 1)) here c
+    clears_here = subst (λ (x : Qcow2 S F). ClearsEntry how t (min (column + n) (2 ^ 64 - 1)) x c) first.rest clears
+
+    fewer : (out : List (Option Prepared)) (p : Pending) (row : ℕ) → MayClear view backing how t row column (suc n) a out p → MayClear view backing how t row column n a out p
+    fewer out p row may = record {
+      sound = may.sound;
+      real = may.real;
+      place = may.place;
+      within = let w = may.within in omega (arith, w);
+      copied = may.copied;
+      found = may.found;
+      unpinned = may.unpinned;
+      version = may.version;
+      reach = λ i lt. may.reach i (omega (arith, lt));
+    }
+
+    -- the index isn't cut
+    index_is : (out : List (Option Prepared)) (p : Pending) (row : ℕ) → MayClear view backing how t row column (suc n) a out p → min (column + n) (2 ^ 64 - 1) ≡ column + n
+    index_is out p row may =
+        let few : cluster_size a.file.header.fields ≤ 2 ^ 21 = pow_mono may.sound.file.caches.kept.kept.guarded.top.header_reads.well_formed.in_range.cluster_bits.1 in
+        let w = may.within in
+        omega (arith, few, w)
+
+    clears_at : (out : List (Option Prepared)) (p : Pending) (row : ℕ) → MayClear view backing how t row column (suc n) a out p → ClearsEntry how t (column + n) here c
+    clears_at out p row may = subst (λ i. ClearsEntry how t i here c) (index_is out p row may) clears_here
+
+    pub first_next : ClearsTable view backing how t column (suc n) a c
+    first_next = record {
+      rest = clears_here.rest;
+      marks = record { pins = λ cluster. clears_here.marks.pins cluster ∙ first.marks.pins cluster; room = λ room. clears_here.marks.room (first.marks.room room); changed = λ changed. clears_here.marks.changed (first.marks.changed changed) };
+      held = λ some. clears_here.held (first.held some);
+      part = λ out p row may. next_cleared how t row column n a b.file.caches out p may (first.part out p row (fewer out p row may)) (first.held may.found) first.marks c (clears_at out p row may);
+      noted = λ out p row may some.
+          let so_far = first.part out p row (fewer out p row may) in
+          (clears_at out p row may).noted a.file.header.fields so_far.now (contents_in view a.file) row so_far.sound_now.file.caches
+          (record { real = λ none. may.real (sym so_far.table_stays ∙ none); place = so_far.table_stays ∙ may.place; within = let w = may.within in omega (arith, w) }) (first.held may.found);
+    }
+
+  -- ---- all are, and what they named is to be freed
+  module _ (how : Clearance) (row column n : ℕ) (a : Qcow2 S F) (caches : MetadataCaches S) (out : List (Option Prepared)) (sound : ImageInvariant view backing (pending_in view backing a out) a out)
+      (all : AreCleared view backing how row column n a caches out (pending_in view backing a out)) (noted : IsTrue caches.is_changed) where
+    abbrev g : ℕ
+    g = guest_at a.file.header.fields row column
+
+    abbrev h' : HeaderFields
+    h' = a.file.header.fields
+
+    abbrev listed : List ClustersToFreeEntry
+    listed = listed_by how h' (known_in view a.file) g n
+
+    abbrev final : Qcow2 S F
+    final = record a { file = record a.file { caches = caches; free_list = a.file.free_list ++ listed } }
+
+    abbrev s : DriverState
+    s = state_in view a.file (pending_in view backing a out)
+
+    abbrev s' : DriverState
+    s' = state_in view final.file all.now
+
+    abbrev from : ℕ
+    from = g * cluster_size h'
+
+    abbrev to : ℕ
+    to = (g + n) * cluster_size h'
+
+    -- what the disk shows then, over any disk below
+    abbrev shown_over : Clearance → Bytes → Disk → ℕ → ℕ → Disk
+    shown_over Uncovered below d from to = uncovered d below from to
+    shown_over Zeros below d from to = zeroed d from to
+    shown_over KeptZeros below d from to = zeroed d from to
+
+    ranged : (x : Clearance) → MapsInTurn (is_cleared x) g n s s' → ClearsRange g n s s' (shown_over x)
+    ranged Uncovered turn = clusters_in_turn_are_a_range.uncovered s s' g n sound.file.caches.kept.kept.guarded turn
+    ranged Zeros turn = clusters_in_turn_are_a_range.zeroed s s' g n sound.file.caches.kept.kept.guarded turn
+    ranged KeptZeros turn = clusters_in_turn_are_a_range.zeroed s s' g n sound.file.caches.kept.kept.guarded turn
+
+    range : ClearsRange g n s s' (shown_over how)
+    range = ranged how all.turn
+
+    shown_is : (x : Clearance) (y : Setting) (d : Disk) (i j : ℕ) → shown_over x y.backing d i j ≡ cleared y d (shown_by x) i j
+    shown_is Uncovered y d i j = refl
+    shown_is Zeros y d i j = refl
+    shown_is KeptZeros y d i j = refl
+
+    disk_now : disk s'.known (backing_bytes view backing a.backing) ≡ cleared (setting_of view backing a) (disk_of view backing a) (shown_by how) from to
+    disk_now = range.shows (backing_bytes view backing a.backing) ∙ shown_is how (setting_of view backing a) (disk_of view backing a) from to
+
+    abbrev given : Bytes → List GivenBytes
+    given below = gift_shown (disk s'.known below) from to ∷ []
+
+    steps : Steps view backing a final out out given all.now
+    steps = record {
+      sound = record {
+        works = all.sound_now.works;
+        file = record { honest = all.sound_now.file.honest; caches = all.sound_now.file.caches; settled = all.sound_now.file.settled; room = all.sound_now.file.room };
+        l1_table = record { cluster = sound.l1_table.cluster; bits = sound.l1_table.bits; count = sound.l1_table.count; entries = sound.l1_table.entries };
+        reftable = reftable_still view a.file final.file refl refl a.allocator sound.reftable;
+        below = all.sound_now.below;
+        ready = λ j r there. let ready = all.sound_now.ready j r there in record { own = ready.own; mapped = ready.mapped };
+        pinned = all.sound_now.pinned;
+        once = all.sound_now.once;
+      };
+      only = record {
+        held = all.held;
+        fresh = all.fresh;
+        spent = λ k. let same = all.spent k in let more = free_more of_tables a.file.free_list listed k in let none = listed_no_table how h' (known_in view a.file) g n k in omega (arith, same, more, none);
+        dropped = λ k. let is = all.dropped k in let more = free_more of_data a.file.free_list listed k in omega (arith, is, more);
+      };
+      leads = range.leads;
+      since = record { moments = passes_none (view_in view a.file) _; contents = λ below m ok known_ok. range.leads.on_storage below m ok known_ok };
+      header = refl;
+      below = refl;
+      surplus = all.surplus;
+    }
+
+    given_is : given (backing_bytes view backing a.backing) ≡ gifts_between view backing a how from to
+    given_is = ap (λ d. gift_shown d from to ∷ []) disk_now
+
+    -- a guest cluster outside lies outside in bytes too
+    module _ (c : ℕ) where
+      below_first : c < g → is_between h' from to c ≡ false
+      below_first lt =
+          let e : g ≡ c + 1 + (g - c - 1) = omega (arith, lt) in
+          let m : g * cluster_size h' ≡ (c + 1 + (g - c - 1)) * cluster_size h' = ap (λ x. x * cluster_size h') e in
+          let some : 0 < cluster_size h' = pow_pos h'.cluster_bits in
+          let r : (c + 1 + (g - c - 1)) * cluster_size h' ≡ c * cluster_size h' + cluster_size h' + (g - c - 1) * cluster_size h' = omega arith in
+          and_left (nat_le from (c * cluster_size h')) (nat_lt (c * cluster_size h') to) (lt-leb from (c * cluster_size h') (omega (arith, m, r, some)))
+
+      from_first : g ≤ c → from ≤ c * cluster_size h'
+      from_first le =
+          let e : c ≡ g + (c - g) = omega (arith, le) in
+          let m : c * cluster_size h' ≡ (g + (c - g)) * cluster_size h' = ap (λ x. x * cluster_size h') e in
+          let r : (g + (c - g)) * cluster_size h' ≡ g * cluster_size h' + (c - g) * cluster_size h' = omega arith in
+          omega (arith, m, r)
+
+      past_last : g + n ≤ c → is_between h' from to c ≡ false
+      past_last le =
+          let e : c ≡ g + n + (c - (g + n)) = omega (arith, le) in
+          let m : c * cluster_size h' ≡ (g + n + (c - (g + n))) * cluster_size h' = ap (λ x. x * cluster_size h') e in
+          let r : (g + n + (c - (g + n))) * cluster_size h' ≡ (g + n) * cluster_size h' + (c - (g + n)) * cluster_size h' = omega arith in
+          and_right (nat_le from (c * cluster_size h')) (nat_lt (c * cluster_size h') to) (le-ltb (c * cluster_size h') to (omega (arith, m, r)))
+
+      within_both : g ≤ c → c < g + n → is_between h' from to c ≡ true
+      within_both le lt =
+          let e : g + n ≡ c + 1 + (g + n - c - 1) = omega (arith, lt) in
+          let m : (g + n) * cluster_size h' ≡ (c + 1 + (g + n - c - 1)) * cluster_size h' = ap (λ x. x * cluster_size h') e in
+          let some : 0 < cluster_size h' = pow_pos h'.cluster_bits in
+          let r : (c + 1 + (g + n - c - 1)) * cluster_size h' ≡ c * cluster_size h' + cluster_size h' + (g + n - c - 1) * cluster_size h' = omega arith in
+          and_from (nat_le from (c * cluster_size h')) (nat_lt (c * cluster_size h') to) (le-leb from (c * cluster_size h') (from_first le)) (lt-ltb (c * cluster_size h') to (omega (arith, m, r, some)))
+
+    covers_now : ClearsCovers how from to h' (known_in view a.file) h' (known_in view final.file)
+    covers_now c = elim (cases_lt c g) [
+      | inl below ↦ sym (all.stays c (inl below)) ∙ sym (cond-false (is_between h' from to c) (cleared_cover how (cover h' (known_in view a.file) c)) (cover h' (known_in view a.file) c) (below_first c below))
+      | inr above ↦ elim (cases_lt c (g + n)) [
+        | inl inside ↦
+            let e : g + (c - g) ≡ c = omega (arith, above) in
+            ap (cover h' (known_in view final.file)) (sym e) ∙ all.cleared_all (c - g) (omega (arith, above, inside)) ∙ ap (λ x. cleared_cover how (cover h' (known_in view a.file) x)) e
+            ∙ sym (cond-true (is_between h' from to c) (cleared_cover how (cover h' (known_in view a.file) c)) (cover h' (known_in view a.file) c) (within_both c above inside))
+        | inr past ↦ sym (all.stays c (inr past)) ∙ sym (cond-false (is_between h' from to c) (cleared_cover how (cover h' (known_in view a.file) c)) (cover h' (known_in view a.file) c) (past_last c past))
+      ]
+    ]
+
+    pub all_cleared : ClearsPart view backing how (guest_at a.file.header.fields row column * cluster_size a.file.header.fields) ((guest_at a.file.header.fields row column + n) * cluster_size a.file.header.fields) a
+        (record a { file = record a.file { caches = caches; free_list = a.file.free_list ++ listed_by how a.file.header.fields (known_in view a.file) (guest_at a.file.header.fields row column) n } }) out
+    all_cleared = record {
+      works = subst (λ gs. Works (abstract_of view backing a out) (abstract_of view backing final out) gs []) given_is (stepped_works view backing a final out out given all.now steps);
+      sound = stepped_sound view backing a final out out given all.now steps;
+      shows = same_guest _ _ disk_now refl;
+      header = refl;
+      covers = covers_now;
+      noted = noted;
+    }

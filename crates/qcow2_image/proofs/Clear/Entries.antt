@@ -1,0 +1,308 @@
+-- An entry of a held table is cleared: what its guest cluster is mapped to then, what it names no longer, and that all else stays.
+use Rattle.std.proofs.Common.{◌≡◌, inl, inr, ℕ, ◌+◌, ◌*◌, ◌/◌, ◌%◌, ◌<◌, ◌≤◌, Bool, true, false, List, length, Option, Some, None, refl, sym, ap, ◌∙◌, subst, arith, cond}
+use Rattle.std.specs.Prelude.{IsSome, IsTrue, slice_get, ◌==◌, ◌&&◌, ◌≢◌}
+use Rattle.std.proofs.lemmas.Bool.{eq-eqb}
+use Rattle.std.proofs.lemmas.Nat.{div-mul-add}
+use Rattle.std.proofs.lemmas.Option.{slice_get_within}
+use Rattle.image_access.specs.Backing.{BackingView}
+use Rattle.image_access.specs.Moments.{StorageView}
+use Rattle.qcow2_metadata.specs.Bytes.{Bytes}
+use Rattle.qcow2_metadata.specs.declared.header.HeaderFields.{HeaderFields}
+use Rattle.qcow2_metadata.specs.declared.l2_mapping.L2Mapping.{L2Mapping}
+use Rattle.qcow2_metadata.specs.declared.l2_mapping.L2Mapping.TheVariants.{Data, Zero, Compressed}
+use Rattle.qcow2_metadata.specs.declared.l2_mapping.L2Mapping.TheVariants as M
+use Rattle.qcow2_metadata.specs.Header.{cluster_size, entries_per_cluster, has_data_file}
+use Rattle.qcow2_metadata.specs.Cover.{cover, cover_of, entry_cover}
+use Rattle.qcow2_metadata.specs.Entries.{is_copied, l1_entry, l2_entry, host_offset}
+use Rattle.qcow2_metadata.specs.Consistent.{CoverIsAligned}
+use Rattle.qcow2_metadata.specs.L2Mapping.{IsInReach, named_run, run_has, is_same_run, dropped_run}
+use Rattle.qcow2_metadata.specs.L2Table.{copied_host, copied_kept, zero_cover}
+use Rattle.qcow2_metadata.specs.Named.{named_by_cover}
+use Rattle.qcow2_metadata.proofs.MadeEntries.{copied_host_is, cover_of-0, cover_of-zero_entry}
+use Rattle.qcow2_metadata.proofs.NamedRuns.{named_by_cover-run}
+use Rattle.qcow2_laws.specs.CrashInvariant.{Pending, CrashInvariant}
+use Rattle.qcow2_laws.specs.GuestLaws.{IsZeros, MapsEntry}
+use Rattle.qcow2_laws.specs.Guests.{names, table_at}
+use Rattle.qcow2_laws.specs.SafeSteps.{DriverState, StateInvariant}
+use Rattle.qcow2_laws.specs.Steps.{guest_at, EntryChanges}
+use Rattle.qcow2_laws.specs.Unseen.{SameOtherCovers}
+use Rattle.qcow2_laws.proofs.CachedChanges.{Takes, takes_nothing, takes_own}
+use Rattle.qcow2_laws.proofs.MappedAnew.{entry_uncovered, entry_zeroed, pending_after}
+use Rattle.qcow2_laws.proofs.Places.{Sizes-from, cover_at}
+use Rattle.qcow2_alloc.specs.CacheMarks.{l2_pins}
+use Rattle.qcow2_alloc.specs.declared.cache.MetadataCaches.{MetadataCaches}
+use Rattle.qcow2_alloc.specs.ImageFile.{state_in, contents_in, known_in}
+use Rattle.qcow2_alloc.specs.MetadataCaches.{IsEntryAt, MadeEntry, known_of, l2_at}
+use Rattle.qcow2_alloc.proofs.KeptTables.Standing.{own_cluster}
+use Rattle.qcow2_image.specs.Clearing.{ClearsEntry, cleared_cover, cleared_entry, is_cleared, needs_zeros}
+use Rattle.qcow2_image.specs.declared.discarding.Clearance.{Clearance}
+use Rattle.qcow2_image.specs.declared.discarding.Clearance.TheVariants.{Uncovered, Zeros, KeptZeros}
+use Rattle.qcow2_image.specs.declared.image.Qcow2.{Qcow2}
+use Rattle.qcow2_image.specs.declared.prepared.Prepared.{Prepared}
+use Rattle.qcow2_image.specs.ImageInvariant.{ImageInvariant, IsPending, IsReadyWith, cluster_of, listed_run, of_data, pins_by, to_free}
+use Rattle.qcow2_image.proofs.Apart.{pins_own, same_row}
+use Rattle.qcow2_image.proofs.Commit.Committing.{cover_now, known_entry_changes, listed_has}
+use Rattle.qcow2_image.proofs.Open.Reftables.{reftable_still}
+use Rattle.qcow2_image.proofs.Ready.{still_pending, still_share}
+use Rattle.qcow2_image.proofs.Shares.{over_all_at}
+
+zeros_are : (kept : Option ℕ) → IsZeros (zero_cover kept)
+zeros_are None = tt
+zeros_are (Some host) = tt
+
+pub cleared_is : (how : Clearance) (v : L2Mapping) → is_cleared how (cleared_cover how v)
+cleared_is Uncovered v = refl
+cleared_is Zeros v = tt
+cleared_is KeptZeros v = zeros_are (copied_host v)
+
+-- ---- what is named no longer
+same_self : (run : Option (ℕ × ℕ)) → is_same_run run run ≡ true
+same_self None = refl
+same_self (Some r) = let a = eq-eqb r.0 r.0 refl in let b = eq-eqb r.1 r.1 refl in ap (λ x. x && r.1 == r.1) a ∙ b
+
+-- all that was named
+all_dropped : (run : Option (ℕ × ℕ)) (c : ℕ) → run_has (cond (is_same_run run None) None run) c ≡ run_has run c
+all_dropped None c = refl
+all_dropped (Some r) c = refl
+
+none_dropped : (run : Option (ℕ × ℕ)) (c : ℕ) → run_has (cond (is_same_run run run) None run) c ≡ 0
+none_dropped run c = ap (λ b. run_has (cond b None run) c) (same_self run)
+
+module _ (h : HeaderFields) (c : ℕ) where
+  -- it names nothing then
+  gone : (v w : L2Mapping) → IsInReach v → named_run h.cluster_bits w ≡ None → named_by_cover h c w ≡ 0 → named_by_cover h c v ≡ named_by_cover h c w + run_has (dropped_run h.cluster_bits v w) c
+  gone v w reach none unnamed =
+      let is = named_by_cover-run v h c reach in
+      let all : run_has (dropped_run h.cluster_bits v w) c ≡ run_has (named_run h.cluster_bits v) c =
+      ap (λ r. run_has (cond (is_same_run (named_run h.cluster_bits v) r) None (named_run h.cluster_bits v)) c) none ∙ all_dropped (named_run h.cluster_bits v) c in
+      omega arith
+
+  -- it names what it named
+  same : (v w : L2Mapping) → named_run h.cluster_bits w ≡ named_run h.cluster_bits v → named_by_cover h c w ≡ named_by_cover h c v → named_by_cover h c v ≡ named_by_cover h c w + run_has (dropped_run h.cluster_bits v w) c
+  same v w runs names =
+      let none : run_has (dropped_run h.cluster_bits v w) c ≡ 0 =
+      ap (λ r. run_has (cond (is_same_run (named_run h.cluster_bits v) r) None (named_run h.cluster_bits v)) c) runs ∙ none_dropped (named_run h.cluster_bits v) c in
+      omega arith
+
+  kept_by : (place : ℕ) (mark : Bool) (k : ℕ × Bool) → k ≡ (place, mark) → IsInReach (Zero (Some k)) → named_by_cover h c (Zero (Some k)) ≡ named_by_cover h c (zero_cover (copied_kept (Some k))) + run_has (dropped_run h.cluster_bits (Zero (Some k)) (zero_cover (copied_kept (Some k)))) c
+  kept_by place true k is reach =
+      subst (λ (x : ℕ × Bool). named_by_cover h c (Zero (Some x)) ≡ named_by_cover h c (zero_cover (copied_kept (Some x))) + run_has (dropped_run h.cluster_bits (Zero (Some x)) (zero_cover (copied_kept (Some x)))) c) (sym is)
+      (same (Zero (Some (place, true))) (Zero (Some (place, true))) refl refl)
+  kept_by place false k is reach =
+      subst (λ (x : ℕ × Bool). named_by_cover h c (Zero (Some x)) ≡ named_by_cover h c (zero_cover (copied_kept (Some x))) + run_has (dropped_run h.cluster_bits (Zero (Some x)) (zero_cover (copied_kept (Some x)))) c) (sym is)
+      (gone (Zero (Some (place, false))) (Zero None) (subst (λ (x : ℕ × Bool). IsInReach (Zero (Some x))) is reach) refl refl)
+
+  kept_zeros : (v : L2Mapping) → IsInReach v → named_by_cover h c v ≡ named_by_cover h c (zero_cover (copied_host v)) + run_has (dropped_run h.cluster_bits v (zero_cover (copied_host v))) c
+  kept_zeros (Data host true) reach = same (Data host true) (Zero (Some (host, true))) refl refl
+  kept_zeros (Data host false) reach = gone (Data host false) (Zero None) reach refl refl
+  kept_zeros (Zero None) reach = gone (Zero None) (Zero None) reach refl refl
+  kept_zeros (Zero (Some k)) reach = kept_by k.0 k.1 k refl reach
+  kept_zeros (Compressed place sectors) reach = gone (Compressed place sectors) (Zero None) reach refl refl
+  kept_zeros M.Uncovered reach = gone M.Uncovered (Zero None) reach refl refl
+
+  -- what was named is named still, or is dropped
+  pub names_cleared : (how : Clearance) (v : L2Mapping) → IsInReach v → named_by_cover h c v ≡ named_by_cover h c (cleared_cover how v) + run_has (dropped_run h.cluster_bits v (cleared_cover how v)) c
+  names_cleared Uncovered v reach = gone v M.Uncovered reach refl refl
+  names_cleared Zeros v reach = gone v (Zero None) reach refl refl
+  names_cleared KeptZeros v reach = kept_zeros v reach
+
+-- ---- what a cleared entry says
+entry_says : (how : Clearance) (bits : ℕ) (has_zero external : Bool) (e : ℕ) → (IsTrue (needs_zeros how) → has_zero ≡ true)
+    → cover_of bits has_zero external (cleared_entry how (cover_of bits has_zero external e)) ≡ cleared_cover how (cover_of bits has_zero external e)
+entry_says Uncovered bits has_zero external e zeros = cover_of-0 bits has_zero external
+entry_says Zeros bits has_zero external e zeros = ap (λ z. cover_of bits z external 1) (zeros refl) ∙ cover_of-zero_entry bits external None tt
+entry_says KeptZeros bits has_zero external e zeros =
+    let kept = copied_host (cover_of bits has_zero external e) in
+    ap (λ z. cover_of bits z external (cleared_entry KeptZeros (cover_of bits has_zero external e))) (zeros refl) ∙ cover_of-zero_entry bits external kept (copied_host_is bits has_zero external e)
+
+-- the host cluster that is kept is aligned
+kept_aligned : (h : HeaderFields) (v : L2Mapping) (host : ℕ) → CoverIsAligned h v → copied_host v ≡ Some host → host % cluster_size h ≡ 0
+kept_aligned h (Data place true) host aligned is = let e : place ≡ host = cc in subst (λ n. n % cluster_size h ≡ 0) e aligned
+kept_aligned h (Data place false) host aligned is = absurd cc
+kept_aligned h (Zero None) host aligned is = absurd cc
+kept_aligned h (Zero (Some k)) host aligned is = by_mark k.0 k.1 aligned is where
+  by_mark : (place : ℕ) (mark : Bool) → place % cluster_size h ≡ 0 → cond mark (Some place) None ≡ Some host → host % cluster_size h ≡ 0
+  by_mark place true at e = let p : place ≡ host = cc in subst (λ n. n % cluster_size h ≡ 0) p at
+  by_mark place false at e = absurd cc
+kept_aligned h (Compressed place sectors) host aligned is = absurd cc
+kept_aligned h M.Uncovered host aligned is = absurd cc
+
+takes_kept : (h : HeaderFields) (held : ℕ → ℕ) (v : L2Mapping) (kept : Option ℕ) → copied_host v ≡ kept → CoverIsAligned h v → Takes h held v (zero_cover kept)
+takes_kept h held v None is aligned = (takes_nothing h held v).1
+takes_kept h held v (Some host) is aligned = (takes_own h held v host (kept_aligned h v host aligned is) is).1
+
+takes_cleared : (how : Clearance) (h : HeaderFields) (held : ℕ → ℕ) (v : L2Mapping) → CoverIsAligned h v → Takes h held v (cleared_cover how v)
+takes_cleared Uncovered h held v aligned = (takes_nothing h held v).0
+takes_cleared Zeros h held v aligned = (takes_nothing h held v).1
+takes_cleared KeptZeros h held v aligned = takes_kept h held v (copied_host v) refl aligned
+
+-- ---- one entry of a sound image
+
+-- one guest cluster is cleared: how it is mapped then, that no other is mapped else, and what is pending
+pub record OneCleared {S F : Type 0} (view : S → StorageView) (backing : F → BackingView) (how : Clearance) (row column : ℕ) (a c : Qcow2 S F) (out : List (Option Prepared)) (p : Pending) : Type 0 where
+  pub now : Pending
+  pub sound_now : ImageInvariant view backing now c out
+  pub turn : MapsEntry (is_cleared how) (guest_at a.file.header.fields row column) (state_in view a.file p) (state_in view c.file now)
+  pub cleared : cover a.file.header.fields (known_in view c.file) (guest_at a.file.header.fields row column) ≡ cleared_cover how (cover a.file.header.fields (known_in view a.file) (guest_at a.file.header.fields row column))
+  pub stays : (g : ℕ) → g ≢ guest_at a.file.header.fields row column → cover a.file.header.fields (known_in view a.file) g ≡ cover a.file.header.fields (known_in view c.file) g
+  pub table_stays : table_at a.file.header.fields (known_in view c.file) row ≡ table_at a.file.header.fields (known_in view a.file) row
+  pub held : IsInReach (cover a.file.header.fields (known_in view a.file) (guest_at a.file.header.fields row column)) → (k : ℕ) → now.held k ≡ p.held k
+  pub fresh : (k : ℕ) → now.fresh k ≡ p.fresh k
+  pub spent : (k : ℕ) → now.spent k ≡ p.spent k
+  pub surplus : now.surplus ≡ p.surplus
+  pub dropped : IsInReach (cover a.file.header.fields (known_in view a.file) (guest_at a.file.header.fields row column)) → (k : ℕ) → now.dropped k ≡ p.dropped k
+      + to_free of_data (listed_run (dropped_run a.file.header.fields.cluster_bits (cover a.file.header.fields (known_in view a.file) (guest_at a.file.header.fields row column)) (cleared_cover how (cover a.file.header.fields (known_in view a.file) (guest_at a.file.header.fields row column))))) k
+
+module _ {S F : Type 0} (view : S → StorageView) (backing : F → BackingView) (a : Qcow2 S F) (out : List (Option Prepared)) (p : Pending) (sound : ImageInvariant view backing p a out) (how : Clearance) (t row column : ℕ)
+    (at : IsEntryAt a.file.header.fields (known_in view a.file) row t column) (copied : is_copied (l1_entry a.file.header.fields (contents_in view a.file) row) ≡ true) (found : IsSome (l2_at a.file.caches t)) (unpinned : l2_pins a.file.caches t ≡ 0)
+    (version : IsTrue (needs_zeros how) → 3 ≤ a.file.header.fields.version) (b : Qcow2 S F) (clears : ClearsEntry how t column a b) where
+  abbrev h : HeaderFields
+  h = a.file.header.fields
+
+  abbrev s : DriverState
+  s = state_in view a.file p
+
+  abbrev caches : MetadataCaches S
+  caches = b.file.caches
+
+  abbrev known : Bytes
+  known = known_of h caches s.on_storage
+
+  abbrev guest : ℕ
+  guest = guest_at h row column
+
+  abbrev old : L2Mapping
+  old = cover h s.known guest
+
+  guarded : StateInvariant s
+  guarded = sound.file.caches.kept.kept.guarded
+
+  abbrev word : ℕ
+  word = l2_entry s.known (table_at h s.known row) column
+
+  entry : MadeEntry h a.file.caches caches s.on_storage row column (cleared_entry how (entry_cover h word)) clears.answer
+  entry = clears.cleared h p s.on_storage row sound.file.caches at copied found
+
+  cover_was : cover h s.known guest ≡ entry_cover h word
+  cover_was = cover_at h s.known row column (Sizes-from h s.on_storage guarded.top.header_reads) at.real at.within
+
+  is_third : IsTrue (needs_zeros how) → (h.version == 3) ≡ true
+  is_third needs = elim guarded.top.header_reads.well_formed.in_range.version [
+    | inl second ↦ absurd (let least = version needs in omega (arith, second, least))
+    | inr third ↦ eq-eqb h.version 3 third
+  ]
+
+  says : entry_cover h (cleared_entry how (entry_cover h word)) ≡ cleared_cover how old
+  says = entry_says how h.cluster_bits (h.version == 3) (has_data_file h) word is_third ∙ ap (cleared_cover how) (sym cover_was)
+
+  pub covered : cover a.file.header.fields (known_of a.file.header.fields b.file.caches (contents_in view a.file)) (guest_at a.file.header.fields row column) ≡ cleared_cover how (cover a.file.header.fields (known_in view a.file) (guest_at a.file.header.fields row column))
+  covered = cover_now s known row column (cleared_entry how (entry_cover h word)) guarded at.real at.within entry.change ∙ says
+
+  changes : EntryChanges s known row column
+  changes = known_entry_changes s known row column (cleared_entry how (entry_cover h word)) guarded at.real at.within entry.change
+      (subst (λ v. Takes h p.held old v) (sym says) (takes_cleared how h p.held old (guarded.known_aligned guest)))
+
+  abbrev after : Pending
+  after = pending_after s known guest
+
+  abbrev s' : DriverState
+  s' = record s { pending = after; known = known }
+
+  -- a record of both, whatever is shown there
+  record Mapped : Type 0 where
+    sound_then : StateInvariant s'
+    covers : SameOtherCovers guest s s'
+
+  zeros_mapped : (v : L2Mapping) → cover h known guest ≡ v → IsZeros v → Mapped
+  zeros_mapped (Zero kept) is zeros = let m = entry_zeroed s known row column guarded changes kept is in record { sound_then = m.leads.sound; covers = m.unseen.covers }
+  zeros_mapped (Data host mark) is zeros = absurd zeros
+  zeros_mapped (Compressed host sectors) is zeros = absurd zeros
+  zeros_mapped M.Uncovered is zeros = absurd zeros
+
+  mapped_as : (x : Clearance) → is_cleared x (cover h known guest) → Mapped
+  mapped_as Uncovered is = let m = entry_uncovered s known row column guarded changes is in record { sound_then = m.leads.sound; covers = m.unseen.covers }
+  mapped_as Zeros is = zeros_mapped (cover h known guest) refl is
+  mapped_as KeptZeros is = zeros_mapped (cover h known guest) refl is
+
+  is_now : is_cleared how (cover h known guest)
+  is_now = subst (is_cleared how) (sym covered) (cleared_is how old)
+
+  mapped : Mapped
+  mapped = mapped_as how is_now
+
+  pub others : (g : ℕ) → g ≢ guest_at a.file.header.fields row column → cover a.file.header.fields (known_in view a.file) g ≡ cover a.file.header.fields (known_of a.file.header.fields b.file.caches (contents_in view a.file)) g
+  others = mapped.covers
+
+  -- ---- the image
+  abbrev final : Qcow2 S F
+  final = record a { file = record a.file { caches = caches } }
+
+  same_stand : state_in view final.file after ≡ s'
+  same_stand = ap (λ d. record s { pending = after; direction = d; known = known }) clears.order
+
+  same_l1 : (l : ℕ) → l1_entry h known l ≡ l1_entry h s.known l
+  same_l1 l = sym (mapped.sound_then.same_top.l1 l) ∙ guarded.same_top.l1 l
+
+  -- a mapping that is out lies in another table
+  elsewhere : (j : ℕ) (r : Prepared) → slice_get out j ≡ Some (Some r) → (u : ℕ) → r.table ≡ Some u → IsPending h s.known s.on_storage r u → (i : ℕ) → i < length r.shares.items → cluster_of h r + i ≡ guest → ⊥
+  elsewhere j r there u is ready i lt here =
+      let row_is : guest / entries_per_cluster h ≡ row = div-mul-add row (entries_per_cluster h) column at.within in
+      let rows : cluster_of h r / entries_per_cluster h ≡ row = sym (same_row h s.known s.on_storage r u ready i lt) ∙ ap (λ n. n / entries_per_cluster h) here ∙ row_is in
+      let places : u * cluster_size h ≡ t * cluster_size h = sym ready.named.place ∙ ap (table_at h s.known) rows ∙ at.place in
+      let tables : u ≡ t = sym (own_cluster h.cluster_bits u) ∙ ap (λ o. o / cluster_size h) places ∙ own_cluster h.cluster_bits t in
+      let mine = pins_own r t (is ∙ ap Some tables) in
+      let all = over_all_at pins_by out j r there t in
+      let pins = sound.pinned t in
+      omega (arith, mine, all, pins, unpinned)
+
+  still : (j : ℕ) (r : Prepared) → slice_get out j ≡ Some (Some r) → (x : Option ℕ) → r.table ≡ x → IsReadyWith h s.known s.on_storage r x → IsReadyWith h known s.on_storage r x
+  still j r there None is ready = ready
+  still j r there (Some u) is ready =
+      still_pending h s.known s.on_storage known s.on_storage r guarded.same_top.l1 mapped.sound_then.same_top.l1 (λ l marked. refl) u
+      (λ i share has. still_share h s.known s.on_storage known s.on_storage r i
+      (mapped.covers (cluster_of h r + i) (λ same. elsewhere j r there u is ready i (slice_get_within r.shares.items i share has) same)) share (ready.each i share has)) ready
+
+  final_sound : ImageInvariant view backing after final out
+  final_sound = record {
+    works = sound.works;
+    file = record {
+      honest = sound.file.honest;
+      caches = entry.sound after sound.file.settled (subst (λ d. CrashInvariant h d after s.on_storage known) (sym clears.order) mapped.sound_then);
+      settled = entry.settled sound.file.settled;
+      room = clears.marks.room sound.file.room;
+    };
+    l1_table = record { cluster = sound.l1_table.cluster; bits = sound.l1_table.bits; count = sound.l1_table.count; entries = sound.l1_table.entries };
+    reftable = reftable_still view a.file final.file refl refl a.allocator sound.reftable;
+    below = sound.below;
+    ready = λ j r there. let ready = sound.ready j r there in record { own = ready.own; mapped = still j r there r.table refl ready.mapped };
+    pinned = λ table. clears.marks.pins table ∙ sound.pinned table;
+    once = sound.once;
+  }
+
+  final_turn : MapsEntry (is_cleared how) guest s (state_in view final.file after)
+  final_turn = record { known = known; row = row; column = column; here = refl; changes = changes; maps = is_now; is = same_stand }
+
+  named_then : (k : ℕ) → names h known k guest ≡ named_by_cover h k (cleared_cover how old)
+  named_then k = ap (named_by_cover h k) covered
+
+  final_cleared : OneCleared view backing how row column a final out p
+  final_cleared = record {
+    now = after;
+    sound_now = final_sound;
+    turn = final_turn;
+    cleared = covered;
+    stays = others;
+    table_stays = ap host_offset (same_l1 row);
+    held = λ reach k. let n = names_cleared h k how old reach in let then = named_then k in omega (arith, n, then);
+    fresh = λ k. refl;
+    spent = λ k. refl;
+    surplus = refl;
+    dropped = λ reach k.
+        let n = names_cleared h k how old reach in
+        let then = named_then k in
+        let listed = listed_has (dropped_run h.cluster_bits old (cleared_cover how old)) k in
+        omega (arith, n, then, listed);
+  }
+
+  pub one_cleared : OneCleared view backing how row column a b out p
+  one_cleared = subst (λ (c : Qcow2 S F). OneCleared view backing how row column a c out p) (sym clears.rest) final_cleared

@@ -1,0 +1,256 @@
+-- A mapping that is out goes on by the cluster behind it: it is there as a longer one.
+use Rattle.std.proofs.Common.{◌≡◌, ◌⊎◌, ⊎_elim, inl, inr, ℕ, zero, suc, ◌+◌, ◌-◌, ◌*◌, ◌/◌, ◌%◌, ◌<◌, ◌≤◌, Bool, true, false, List, length, [], ◌∷◌, ◌++◌, Option, Some, refl, sym, ap, ◌∙◌, subst, arith, min}
+use Rattle.std.specs.Prelude.{IsTrue, nat_le, nat_lt, slice_get, slice_set, ◌&&◌}
+use mathlib.Core.Path.{fun_ext}
+use Rattle.std.proofs.lemmas.Bool.{cases_lt, cond-true, le-leb, lt-ltb, le-ltb}
+use Rattle.std.proofs.lemmas.Nat.{div-add-mod', div-mul-add, mod_below, pow_pos}
+use Rattle.std.proofs.lemmas.Option.{slice_get_within}
+use Rattle.image_access.specs.Backing.{BackingView}
+use Rattle.image_access.specs.Moments.{StorageView}
+use Rattle.qcow2_metadata.specs.Bytes.{Bytes, is_within}
+use Rattle.qcow2_metadata.specs.declared.header.HeaderFields.{HeaderFields}
+use Rattle.qcow2_metadata.specs.Guest.{known_byte}
+use Rattle.qcow2_metadata.specs.Header.{cluster_size, entries_per_cluster, rounded_up}
+use Rattle.qcow2_laws.specs.AbstractImages.{Guest, guest_of, meaning_at}
+use Rattle.qcow2_laws.specs.Calls.{with_slot}
+use Rattle.qcow2_laws.specs.Mappings.{PreparedMapping, IsPrepared}
+use Rattle.qcow2_alloc.specs.ImageFile.{contents_in, known_in, nothing_given}
+use Rattle.qcow2_image.specs.declared.image.Qcow2.{Qcow2}
+use Rattle.qcow2_image.specs.declared.prepared.Prepared.{Prepared}
+use Rattle.qcow2_image.specs.declared.prepared.Share.{Share}
+use Rattle.qcow2_image.specs.declared.prepared.Share.TheVariants.{InPlace, Kept, New}
+use Rattle.qcow2_image.specs.ImageInvariant.{held_in, held_by, pins_by, over_all, abstract_of, meaning, is_private, cluster_of, is_entered, IsReady, IsReadyWith, IsShareAt, IsPending}
+use Rattle.qcow2_image.specs.Ranges.{IsExtended, MayGoOn, StandsBehind}
+use Rattle.qcow2_image.proofs.Call.Answered.{same_guest}
+use Rattle.qcow2_image.proofs.Call.Slots.{get_set, over_all_set, slot_set}
+use Rattle.qcow2_image.proofs.Call.Stepped.{Steps, stepped_sound, stepped_works}
+use Rattle.qcow2_image.proofs.Shares.{private_is, private_shared}
+
+-- ---- one more behind others
+
+get_behind : {X : Type 0} (xs : List X) (x y : X) (i : ℕ) → slice_get (xs ++ x ∷ []) i ≡ Some y → (slice_get xs i ≡ Some y) ⊎ ((i ≡ length xs) × (y ≡ x))
+get_behind [] x y zero e = inr (refl, cc)
+get_behind [] x y (suc i) e = absurd cc
+get_behind (z ∷ xs) x y zero e = inl e
+get_behind (z ∷ xs) x y (suc i) e = ⊎_elim (λ there. inl there) (λ last. inr (ap suc last.0, last.1)) (get_behind xs x y i e)
+
+pub length_behind : {X : Type 0} (xs : List X) (x : X) → length (xs ++ x ∷ []) ≡ length xs + 1
+length_behind [] x = refl
+length_behind (y ∷ xs) x = let rest = length_behind xs x in omega arith
+
+held_behind : (shares : List Share) (share : Share) (c : ℕ) → held_in (shares ++ share ∷ []) c ≡ held_in shares c + held_in (share ∷ []) c
+held_behind [] share c = omega arith
+held_behind (InPlace ∷ shares) share c = held_behind shares share c
+held_behind (Kept ∷ shares) share c = held_behind shares share c
+held_behind (New taken dropped ∷ shares) share c = let rest = held_behind shares share c in omega arith
+
+-- a share stands as well for a longer mapping
+share_as : (h : HeaderFields) (known on_storage : Bytes) (p : Prepared) (l : ℕ) (like : Prepared) (i : ℕ) (share : Share) → IsShareAt h known on_storage p i share → IsShareAt h known on_storage (record p { length = l; shares = like.shares }) i share
+share_as h known on_storage p l like i InPlace is = is
+share_as h known on_storage p l like i Kept is = record { first = is.first; place = is.place; nameable = is.nameable; entry = is.entry }
+share_as h known on_storage p l like i (New taken dropped) is = record { first = is.first; is = is.is; place = is.place; nameable = is.nameable; entry = is.entry; reach = is.reach; drops = is.drops }
+
+-- ---- what is announced
+
+and_false : (b : Bool) → (b && false) ≡ false
+and_false true = refl
+and_false false = refl
+
+within_none : (a m m' o : ℕ) → m' ≤ m → is_within a m o ≡ false → is_within a m' o ≡ false
+within_none a m m' o le none = ⊎_elim
+    (λ (inside : o < a + m').
+    ap (λ b. nat_le a o && b) (lt-ltb o (a + m') inside) ∙ sym (ap (λ b. nat_le a o && b) (lt-ltb o (a + m) (omega (arith, inside, le)))) ∙ none)
+    (λ (past : a + m' ≤ o). ap (λ b. nat_le a o && b) (le-ltb o (a + m') past) ∙ and_false (nat_le a o))
+    (cases_lt o (a + m'))
+
+pub announced_less : (overwrite : Bool) (a m m' o : ℕ) → m' ≤ m → (overwrite && is_within a m o ≡ false) → (overwrite && is_within a m' o ≡ false)
+announced_less true a m m' o le none = within_none a m m' o le none
+announced_less false a m m' o le none = refl
+
+lt_as : (x y z w : ℕ) → x + w ≡ z + y → nat_lt x y ≡ nat_lt z w
+lt_as x y z w same = ⊎_elim
+    (λ (lt : x < y). lt-ltb x y lt ∙ sym (lt-ltb z w (omega (arith, lt, same))))
+    (λ (ge : y ≤ x). le-ltb x y ge ∙ sym (le-ltb z w (omega (arith, ge, same))))
+    (cases_lt x y)
+
+-- of a byte behind the begins of two ranges that end as far from it
+pub within_as : (a m o b r i : ℕ) → a ≤ o → b ≤ i → o + (b + r) ≡ i + (a + m) → is_within a m o ≡ is_within b r i
+within_as a m o b r i from to same =
+    ap (λ x. x && nat_lt o (a + m)) (le-leb a o from) ∙ lt_as o (a + m) i (b + r) same ∙ sym (ap (λ x. x && nat_lt i (b + r)) (le-leb b i to))
+
+-- ---- where a range ends
+
+pub rounds_to : (size x m : ℕ) → 0 < size → m * size < x → x ≤ m * size + size → rounded_up size x ≡ m * size + size
+rounds_to size x m some above within =
+    let q : (m + 1) * size ≡ m * size + size = omega arith in
+    let e : x + size - 1 ≡ (m + 1) * size + (x - m * size - 1) = omega arith in
+    ap (λ o. o / size * size) e ∙ ap (λ n. n * size) (div-mul-add (m + 1) size (x - m * size - 1) (omega arith)) ∙ q
+
+module _ {S F : Type 0} (view : S → StorageView) (backing : F → BackingView) (old mid : Qcow2 S F) (out : List (Option Prepared)) (k : ℕ) (p : Prepared) (at : slice_get out k ≡ Some (Some p)) (n table : ℕ) (overwrite : Bool) (may : MayGoOn old.file.header.fields n table p)
+    (share : Share) (behind : StandsBehind view backing old mid out n overwrite p share) (like : Prepared) (items : like.shares.items ≡ p.shares.items ++ share ∷ []) where
+  abbrev h : HeaderFields
+  h = mid.file.header.fields
+
+  size : cluster_size h ≡ cluster_size old.file.header.fields
+  size = ap (λ (x : HeaderFields). cluster_size x) behind.goes.header
+
+  some_size : 0 < cluster_size h
+  some_size = pow_pos h.cluster_bits
+
+  abbrev q : Prepared
+  q = record p { length = min n (p.length + cluster_size old.file.header.fields); shares = like.shares }
+
+  abbrev now : List (Option Prepared)
+  now = slice_set out k (Some q)
+
+  whole : p.guest % cluster_size h + p.length ≡ length p.shares.items * cluster_size h
+  whole = subst (λ (x : HeaderFields). p.guest % cluster_size x + p.length ≡ length p.shares.items * cluster_size x) (sym behind.goes.header) may.whole
+
+  within : cluster_of h p % entries_per_cluster h + length p.shares.items < entries_per_cluster h
+  within = subst (λ (x : HeaderFields). cluster_of x p % entries_per_cluster x + length p.shares.items < entries_per_cluster x) (sym behind.goes.header) may.within
+
+  ready : IsReady view backing mid p
+  ready = behind.goes.sound.ready k p at
+
+  pending : IsPending h (known_in view mid.file) (contents_in view mid.file) p table
+  pending = subst (IsReadyWith h (known_in view mid.file) (contents_in view mid.file) p) may.under ready.mapped
+
+  count : length like.shares.items ≡ length p.shares.items + 1
+  count = ap (λ (l : List Share). length l) items ∙ length_behind p.shares.items share
+
+  all : length like.shares.items * cluster_size h ≡ length p.shares.items * cluster_size h + cluster_size h
+  all = ap (λ m. m * cluster_size h) count ∙ omega arith
+
+  longer : p.length < min n (p.length + cluster_size old.file.header.fields)
+  longer = let more = may.more in let same = size in let some = some_size in omega arith
+
+  no_longer : min n (p.length + cluster_size old.file.header.fields) ≤ p.length + cluster_size h
+  no_longer = let same = size in omega arith
+
+  its_share : (i : ℕ) (other : Share) → slice_get like.shares.items i ≡ Some other → (slice_get p.shares.items i ≡ Some other) ⊎ ((i ≡ length p.shares.items) × (other ≡ share))
+  its_share i other there = get_behind p.shares.items share other i (ap (λ (l : List Share). slice_get l i) (sym items) ∙ there)
+
+  own_share : (i : ℕ) (other : Share) → slice_get like.shares.items i ≡ Some other → IsShareAt h (known_in view mid.file) (contents_in view mid.file) q i other
+  own_share i other there = share_as h (known_in view mid.file) (contents_in view mid.file) p (min n (p.length + cluster_size old.file.header.fields)) like i other
+      (⊎_elim (λ (before : slice_get p.shares.items i ≡ Some other). pending.each i other before)
+      (λ (last : (i ≡ length p.shares.items) × (other ≡ share)).
+      subst (λ j. IsShareAt h (known_in view mid.file) (contents_in view mid.file) p j other) (sym last.0) (subst (λ (x : Share). IsShareAt h (known_in view mid.file) (contents_in view mid.file) p (length p.shares.items) x) (sym last.1) behind.stands))
+      (its_share i other there))
+
+  own_ready : IsPending h (known_in view mid.file) (contents_in view mid.file) q table
+  own_ready = record {
+    some = let lt = longer in omega arith;
+    begins = pending.begins;
+    enough = let le = no_longer in let w = whole in let a = all in omega arith;
+    no_more = let lt = longer in let w = whole in let a = all in omega arith;
+    within = let few = count in let lt = within in omega arith;
+    named = pending.named;
+    copied = pending.copied;
+    each = own_share;
+  }
+
+  ready_now : (j : ℕ) (r : Prepared) → slice_get now j ≡ Some (Some r) → IsReady view backing mid r
+  ready_now j r there = ⊎_elim
+      (λ (e : Some r ≡ Some q). let same : r ≡ q = cc in subst (λ (x : Prepared). IsReady view backing mid x) (sym same)
+      (record { own = ready.own; mapped = subst (IsReadyWith h (known_in view mid.file) (contents_in view mid.file) q) (sym may.under) own_ready }))
+      (λ before. behind.goes.sound.ready j r before) (get_set out k j (Some q) (Some r) there)
+
+  same_pins : (c : ℕ) → over_all pins_by now c ≡ over_all pins_by out c
+  same_pins c = let both : over_all pins_by now c + pins_by p c ≡ over_all pins_by out c + pins_by p c = over_all_set pins_by out k p q at c in omega arith
+
+  held_now : (c : ℕ) → over_all held_by now c ≡ over_all held_by out c + held_in (share ∷ []) c
+  held_now c =
+      let both : over_all held_by now c + held_in p.shares.items c ≡ over_all held_by out c + held_in like.shares.items c = over_all_set held_by out k p q at c in
+      let more : held_in like.shares.items c ≡ held_in p.shares.items c + held_in (share ∷ []) c = ap (λ (l : List Share). held_in l c) items ∙ held_behind p.shares.items share c in
+      omega arith
+
+  steps : Steps view backing old mid out now nothing_given behind.pending
+  steps = record {
+    sound = record {
+      works = behind.goes.sound.works;
+      file = behind.goes.sound.file;
+      l1_table = behind.goes.sound.l1_table;
+      reftable = behind.goes.sound.reftable;
+      below = behind.goes.sound.below;
+      ready = ready_now;
+      pinned = λ c. behind.goes.sound.pinned c ∙ sym (same_pins c);
+      once = λ c. subst (λ m. m ≤ 1) (sym (same_pins c)) (behind.goes.sound.once c);
+    };
+    only = record { held = λ c. behind.held c ∙ sym (held_now c); fresh = behind.fresh; spent = behind.spent; dropped = behind.dropped };
+    leads = behind.goes.leads;
+    since = behind.goes.since;
+    header = behind.goes.header;
+    below = behind.goes.below;
+    surplus = behind.surplus;
+  }
+
+  -- what a guest sees
+  seen_now : guest_of (abstract_of view backing mid now) ≡ with_slot (guest_of (abstract_of view backing old out)) k (Some (meaning view backing mid q))
+  seen_now =
+      same_guest _ (with_slot (guest_of (abstract_of view backing mid out)) k (Some (meaning view backing mid q))) refl (fun_ext (λ j. slot_set (meaning view backing mid) out k (Some q) (Some p) at j))
+      ∙ ap (λ (x : Guest). with_slot x k (Some (meaning view backing mid q))) behind.goes.seen
+
+  means_same : meaning view backing mid p ≡ meaning view backing old p
+  means_same =
+      let both : Some (meaning view backing mid p) ≡ Some (meaning view backing old p) =
+      sym (ap (meaning_at (meaning view backing mid)) at) ∙ ap (λ (x : Guest). x.slots k) behind.goes.seen ∙ ap (meaning_at (meaning view backing old)) at in
+      cc
+
+  ends : rounded_up (cluster_size h) (p.guest + min n (p.length + cluster_size old.file.header.fields)) ≡ (cluster_of h p + length p.shares.items) * cluster_size h + cluster_size h
+  ends =
+      let guest_is : p.guest / cluster_size h * cluster_size h + p.guest % cluster_size h ≡ p.guest = div-add-mod' p.guest (cluster_size h) in
+      let both : (cluster_of h p + length p.shares.items) * cluster_size h ≡ cluster_of h p * cluster_size h + length p.shares.items * cluster_size h = omega arith in
+      let w = whole in
+      let lt = longer in
+      let le = no_longer in
+      rounds_to (cluster_size h) (p.guest + min n (p.length + cluster_size old.file.header.fields)) (cluster_of h p + length p.shares.items) some_size (omega arith) (omega arith)
+
+  module _ (was : IsPrepared (cluster_size old.file.header.fields) (guest_of (abstract_of view backing old out)).disk p.guest n overwrite (meaning view backing old p)) where
+    inside : (o : ℕ) → IsTrue (is_private view backing mid q o) → (p.guest / cluster_size h * cluster_size h ≤ o) × (o < rounded_up (cluster_size h) (p.guest + min n (p.length + cluster_size old.file.header.fields)))
+    inside o private =
+        let shared = private_shared view backing mid q o private in
+        let there = slice_get_within like.shares.items shared.index shared.share shared.is in
+        let few = count in
+        let o_is : o / cluster_size h * cluster_size h + o % cluster_size h ≡ o = div-add-mod' o (cluster_size h) in
+        let o_lt = mod_below o (cluster_size h) some_size in
+        let here : o / cluster_size h * cluster_size h ≡ (cluster_of h p + shared.index) * cluster_size h = ap (λ c. c * cluster_size h) shared.here in
+        let split : (cluster_of h p + shared.index) * cluster_size h ≡ cluster_of h p * cluster_size h + shared.index * cluster_size h = omega arith in
+        let rest : length p.shares.items ≡ shared.index + (length p.shares.items - shared.index) = omega arith in
+        let more : (cluster_of h p + length p.shares.items) * cluster_size h ≡ (cluster_of h p + (shared.index + (length p.shares.items - shared.index))) * cluster_size h = ap (λ m. (cluster_of h p + m) * cluster_size h) rest in
+        let parts : (cluster_of h p + (shared.index + (length p.shares.items - shared.index))) * cluster_size h ≡ cluster_of h p * cluster_size h + shared.index * cluster_size h + (length p.shares.items - shared.index) * cluster_size h = omega arith in
+        let end = ends in
+        (omega arith, omega arith)
+
+    old_values : (o : ℕ) → IsTrue (is_private view backing mid q o) → (overwrite && is_within p.guest (min n (min n (p.length + cluster_size old.file.header.fields))) o ≡ false) → (meaning view backing mid q).shown o ≡ (guest_of (abstract_of view backing old out)).disk.value o
+    old_values o private opened =
+        let shared = private_shared view backing mid q o private in
+        ⊎_elim
+        (λ (before : slice_get p.shares.items shared.index ≡ Some shared.share).
+        let private_p : IsTrue (is_private view backing mid p o) = private_is view backing mid p o shared.index shared.share shared.here before ∙ shared.entered in
+        let lt = longer in
+        ap known_byte (cond-true _ _ _ private ∙ sym (cond-true _ _ _ private_p))
+        ∙ ap (λ (m : PreparedMapping). m.shown o) means_same
+        ∙ was.old_values o (subst (λ (m : PreparedMapping). IsTrue (m.is_private o)) means_same private_p) (announced_less overwrite p.guest (min n (min n (p.length + cluster_size old.file.header.fields))) (min n p.length) o (omega arith) opened))
+        (λ (last : (shared.index ≡ length p.shares.items) × (shared.share ≡ share)).
+        ap known_byte (cond-true _ _ _ private)
+        ∙ behind.filled o (shared.here ∙ ap (λ i. cluster_of h p + i) last.0) (subst (λ (x : Share). IsTrue (is_entered x)) last.1 shared.entered)
+        (announced_less overwrite p.guest (min n (min n (p.length + cluster_size old.file.header.fields))) (min n (p.length + cluster_size h)) o (let same = size in omega arith) opened))
+        (its_share shared.index shared.share shared.is)
+
+    still_prepared : IsPrepared (cluster_size old.file.header.fields) (guest_of (abstract_of view backing old out)).disk p.guest n overwrite (meaning view backing mid q)
+    still_prepared = subst (λ (x : HeaderFields). IsPrepared (cluster_size x) (guest_of (abstract_of view backing old out)).disk p.guest n overwrite (meaning view backing mid q)) behind.goes.header (record {
+      from = refl;
+      some = λ any. let lt = longer in omega arith;
+      inside = inside;
+      old_values = old_values;
+    })
+
+  pub extended : IsExtended view backing old mid out k n overwrite p q
+  extended = record {
+    works = stepped_works view backing old mid out now nothing_given behind.pending steps;
+    sound = stepped_sound view backing old mid out now nothing_given behind.pending steps;
+    header = behind.goes.header;
+    covers = behind.goes.covers;
+    prepared = still_prepared;
+    is = seen_now;
+  }

@@ -1,0 +1,292 @@
+-- What stands behind the shares of a prepared mapping: which clusters, and whose bytes.
+use Rattle.std.proofs.Common.{◌≡◌, inl, inr, ℕ, zero, suc, ◌+◌, ◌-◌, ◌*◌, ◌/◌, ◌%◌, ◌<◌, ◌≤◌, Bool, true, false, List, [], ◌∷◌, ◌++◌, length, Option, Some, None, refl, sym, ap, ◌∙◌, subst, arith, cond}
+use Rattle.std.specs.Prelude.{IsTrue, nat_le, slice_get, slice_set}
+use Rattle.std.specs.Option.{option_map_or}
+use Rattle.std.proofs.lemmas.Bool.{cases_lt, cond-true, cond-false, le-leb, lt-leb}
+use Rattle.std.proofs.lemmas.Nat.{div-add-mod', div-mul-add, mod-mul-add, mod_below, pow_pos}
+use Rattle.std.proofs.lemmas.List.{append_assoc}
+use Rattle.image_access.specs.Backing.{BackingView}
+use Rattle.image_access.specs.Moments.{StorageView}
+use Rattle.qcow2_metadata.specs.Bytes.{Bytes}
+use Rattle.qcow2_metadata.specs.declared.header.HeaderFields.{HeaderFields}
+use Rattle.qcow2_metadata.specs.Header.{cluster_size}
+use Rattle.qcow2_metadata.specs.Cover.{cover}
+use Rattle.qcow2_metadata.specs.Named.{in_cluster, named_by_cover}
+use Rattle.qcow2_metadata.specs.declared.l2_mapping.L2Mapping.TheVariants.{Zero}
+use Rattle.qcow2_laws.specs.CrashInvariant.{Pending}
+use Rattle.qcow2_laws.specs.Guests.{over_guests, names}
+use Rattle.qcow2_laws.specs.SafeSteps.{DriverState, StateInvariant}
+use Rattle.qcow2_laws.specs.Unseen.{used_by_guests}
+use Rattle.qcow2_laws.proofs.Consistency.{in_own}
+use Rattle.qcow2_laws.proofs.KeptClusters.{kept_aligned}
+use Rattle.qcow2_laws.proofs.Mixes.{tied}
+use Rattle.qcow2_laws.proofs.Places.{in_one}
+use Rattle.qcow2_laws.proofs.Unseen.{named_some}
+use Rattle.qcow2_alloc.specs.ClustersToFree.{data_entry}
+use Rattle.qcow2_alloc.specs.declared.clusters_to_free.ClustersToFreeEntry.{ClustersToFreeEntry}
+use Rattle.qcow2_alloc.specs.ImageFile.{state_in, contents_in, known_in}
+use Rattle.qcow2_alloc.proofs.Runs.{run_in}
+use Rattle.qcow2_image.specs.declared.image.Qcow2.{Qcow2}
+use Rattle.qcow2_image.specs.declared.prepared.Prepared.{Prepared}
+use Rattle.qcow2_image.specs.declared.prepared.Share.{Share}
+use Rattle.qcow2_image.specs.declared.prepared.Share.TheVariants.{InPlace, Kept, New}
+use Rattle.qcow2_image.specs.UnseenSteps.{freed_by, HoldsAll}
+use Rattle.qcow2_image.specs.ImageInvariant.{of_data, of_tables, to_free, held_in, held_by, over_all, is_entered, cluster_of, begin_of, host_of, place_of, share_of, IsShareAt, IsPending, IsReadyWith, is_private, ImageInvariant}
+use Rattle.qcow2_image.proofs.Sound.{free_more}
+
+-- ---- lists of shares
+
+-- one of them holds no more than all
+pub held_at : (shares : List Share) (i : ℕ) (taken dropped : List ClustersToFreeEntry) → slice_get shares i ≡ Some (New taken dropped) → (c : ℕ) → to_free of_data taken c ≤ held_in shares c
+held_at [] i taken dropped is c = absurd cc
+held_at (s ∷ shares) zero taken gone is c = let e : s ≡ New taken gone = cc in subst (λ (x : Share). to_free of_data taken c ≤ held_in (x ∷ shares) c) (sym e) (omega arith)
+held_at (InPlace ∷ shares) (suc i) taken dropped is c = held_at shares i taken dropped is c
+held_at (Kept ∷ shares) (suc i) taken dropped is c = held_at shares i taken dropped is c
+held_at (New more gone ∷ shares) (suc i) taken dropped is c = let rest = held_at shares i taken dropped is c in omega arith
+
+-- what one holds that is in place from then on is held no longer
+pub held_less : (shares : List Share) (i : ℕ) (share : Share) → slice_get shares i ≡ Some share → (c : ℕ) → held_in (slice_set shares i InPlace) c + held_in (share ∷ []) c ≡ held_in shares c
+held_less [] i share is c = absurd cc
+held_less (InPlace ∷ shares) zero share is c = let e : InPlace ≡ share = cc in subst (λ (x : Share). held_in shares c + held_in (x ∷ []) c ≡ held_in shares c) e (omega arith)
+held_less (Kept ∷ shares) zero share is c = let e : Kept ≡ share = cc in subst (λ (x : Share). held_in shares c + held_in (x ∷ []) c ≡ held_in shares c) e (omega arith)
+held_less (New taken dropped ∷ shares) zero share is c = let e : New taken dropped ≡ share = cc in subst (λ (x : Share). held_in shares c + held_in (x ∷ []) c ≡ held_in (New taken dropped ∷ shares) c) e (omega arith)
+held_less (InPlace ∷ shares) (suc i) share is c = held_less shares i share is c
+held_less (Kept ∷ shares) (suc i) share is c = held_less shares i share is c
+held_less (New taken dropped ∷ shares) (suc i) share is c = let rest = held_less shares i share is c in omega arith
+
+-- what is dropped of them comes to the list of those to be freed, as data
+pub freed_data : (shares : List Share) (c : ℕ) → to_free of_data (freed_by shares) c ≡ held_in shares c
+freed_data [] c = refl
+freed_data (InPlace ∷ shares) c = freed_data shares c
+freed_data (Kept ∷ shares) c = freed_data shares c
+freed_data (New taken dropped ∷ shares) c = let both = free_more of_data taken (freed_by shares) c in let rest = freed_data shares c in omega arith
+
+abbrev pub IsOfData : Share → Type 0
+IsOfData InPlace = Unit {0}
+IsOfData Kept = Unit {0}
+IsOfData (New taken dropped) = (c : ℕ) → to_free of_tables taken c ≡ 0
+
+pub freed_tables : (shares : List Share) → ((i : ℕ) (share : Share) → slice_get shares i ≡ Some share → IsOfData share) → (c : ℕ) → to_free of_tables (freed_by shares) c ≡ 0
+freed_tables [] each c = refl
+freed_tables (InPlace ∷ shares) each c = freed_tables shares (λ i share is. each (suc i) share is) c
+freed_tables (Kept ∷ shares) each c = freed_tables shares (λ i share is. each (suc i) share is) c
+freed_tables (New taken dropped ∷ shares) each c =
+    let both = free_more of_tables taken (freed_by shares) c in
+    let none = each 0 (New taken dropped) refl c in
+    let rest = freed_tables shares (λ i share is. each (suc i) share is) c in
+    omega arith
+
+-- nothing of shares that are in place
+pub freed_none : (shares : List Share) → ((j : ℕ) → j < length shares → slice_get shares j ≡ Some InPlace) → freed_by shares ≡ []
+freed_none [] each = refl
+freed_none (InPlace ∷ shares) each = freed_none shares (λ j lt. each (suc j) (omega arith))
+freed_none (Kept ∷ shares) each = absurd (let e : Some Kept ≡ Some InPlace = each 0 (omega arith) in cc)
+freed_none (New taken dropped ∷ shares) each = absurd (let e : Some (New taken dropped) ≡ Some InPlace = each 0 (omega arith) in cc)
+
+pub of_data_at : (h : HeaderFields) (known on_storage : Bytes) (p : Prepared) (i : ℕ) (share : Share) → IsShareAt h known on_storage p i share → IsOfData share
+of_data_at h known on_storage p i InPlace at = tt
+of_data_at h known on_storage p i Kept at = tt
+of_data_at h known on_storage p i (New taken dropped) at = λ c. ap (λ l. to_free of_tables l c) at.is
+
+-- one behind others
+pub freed_behind : (shares : List Share) (share : Share) → freed_by (shares ++ share ∷ []) ≡ freed_by shares ++ freed_by (share ∷ [])
+freed_behind [] share = refl
+freed_behind (InPlace ∷ shares) share = freed_behind shares share
+freed_behind (Kept ∷ shares) share = freed_behind shares share
+freed_behind (New taken dropped ∷ shares) share = ap (λ l. taken ++ l) (freed_behind shares share) ∙ sym (append_assoc taken (freed_by shares) (freed_by (share ∷ [])))
+
+-- ---- where the guest clusters of a mapping stand
+
+module _ (h : HeaderFields) (p : Prepared) where
+  pub share_there : (g : ℕ) (share : Share) → share_of h p g ≡ Some share → (i : ℕ) × (cluster_of h p + i ≡ g) × (slice_get p.shares.items i ≡ Some share)
+  share_there g share is = elim (cases_lt g (cluster_of h p)) [
+    | inl below ↦ absurd (let none : share_of h p g ≡ None = cond-false _ _ _ (lt-leb (cluster_of h p) g below) in let e : Some share ≡ None = sym is ∙ none in cc)
+    | inr above ↦ (g - cluster_of h p, omega arith, sym (cond-true (nat_le (cluster_of h p) g) (slice_get p.shares.items (g - cluster_of h p)) None (le-leb (cluster_of h p) g above)) ∙ is)
+  ]
+
+  pub no_share : p.shares.items ≡ [] → (g : ℕ) → share_of h p g ≡ None
+  no_share none g =
+      ap (λ (l : List Share). cond (nat_le (cluster_of h p) g) (slice_get l (g - cluster_of h p)) None) none
+      ∙ (elim (nat_le (cluster_of h p) g) as (λ (b : Bool). cond b (slice_get {X = Share} [] (g - cluster_of h p)) None ≡ None) [ true ↦ refl | false ↦ refl ])
+
+  pub share_here : (i : ℕ) → share_of h p (cluster_of h p + i) ≡ slice_get p.shares.items i
+  share_here i =
+      let e : cluster_of h p + i - cluster_of h p ≡ i = omega arith in
+      cond-true (nat_le (cluster_of h p) (cluster_of h p + i)) (slice_get p.shares.items (cluster_of h p + i - cluster_of h p)) None (le-leb (cluster_of h p) (cluster_of h p + i) (omega arith)) ∙ ap (slice_get p.shares.items) e
+
+  -- a byte of the i-th guest cluster
+  pub place_in : (o i : ℕ) → o / cluster_size h ≡ cluster_of h p + i → place_of h p o ≡ host_of h p i + o % cluster_size h
+  place_in o i here =
+      let is : o / cluster_size h * cluster_size h + o % cluster_size h ≡ o = div-add-mod' o (cluster_size h) in
+      let q : o / cluster_size h * cluster_size h ≡ (cluster_of h p + i) * cluster_size h = ap (λ n. n * cluster_size h) here in
+      let r : (cluster_of h p + i) * cluster_size h ≡ cluster_of h p * cluster_size h + i * cluster_size h = omega arith in
+      omega arith
+
+  -- a byte of a range within it
+  module _ (known on_storage : Bytes) (t : ℕ) (pending : IsPending h known on_storage p t) (at i n : ℕ) (fits : at + n ≤ p.length) (lt : i < n) where
+    abbrev within : ℕ
+    within = p.guest % cluster_size h + at + i
+
+    some_size : 0 < cluster_size h
+    some_size = pow_pos h.cluster_bits
+
+    byte_is : p.guest + at + i ≡ (cluster_of h p + within / cluster_size h) * cluster_size h + within % cluster_size h
+    byte_is =
+        let g_is : p.guest / cluster_size h * cluster_size h + p.guest % cluster_size h ≡ p.guest = div-add-mod' p.guest (cluster_size h) in
+        let w_is : within / cluster_size h * cluster_size h + within % cluster_size h ≡ within = div-add-mod' within (cluster_size h) in
+        let r : (cluster_of h p + within / cluster_size h) * cluster_size h ≡ cluster_of h p * cluster_size h + within / cluster_size h * cluster_size h = omega arith in
+        omega arith
+
+    pub byte_cluster : (p.guest + at + i) / cluster_size h ≡ cluster_of h p + within / cluster_size h
+    byte_cluster = ap (λ o. o / cluster_size h) byte_is ∙ div-mul-add (cluster_of h p + within / cluster_size h) (cluster_size h) (within % cluster_size h) (mod_below within (cluster_size h) some_size)
+
+    pub byte_rest : (p.guest + at + i) % cluster_size h ≡ within % cluster_size h
+    byte_rest = ap (λ o. o % cluster_size h) byte_is ∙ mod-mul-add (cluster_of h p + within / cluster_size h) (cluster_size h) (within % cluster_size h) (mod_below within (cluster_size h) some_size)
+
+    pub byte_place : p.offset + at + i ≡ host_of h p (within / cluster_size h) + (p.guest + at + i) % cluster_size h
+    byte_place =
+        let w_is : within / cluster_size h * cluster_size h + within % cluster_size h ≡ within = div-add-mod' within (cluster_size h) in
+        let begins = pending.begins in
+        let rest = byte_rest in
+        omega arith
+
+    pub byte_share : within / cluster_size h < length p.shares.items
+    byte_share =
+        let w_is : within / cluster_size h * cluster_size h + within % cluster_size h ≡ within = div-add-mod' within (cluster_size h) in
+        let enough = pending.enough in
+        elim (cases_lt (within / cluster_size h) (length p.shares.items)) [
+          | inl below ↦ below
+          | inr past ↦
+              let more : within / cluster_size h ≡ length p.shares.items + (within / cluster_size h - length p.shares.items) = omega arith in
+              let q : within / cluster_size h * cluster_size h ≡ (length p.shares.items + (within / cluster_size h - length p.shares.items)) * cluster_size h = ap (λ n. n * cluster_size h) more in
+              let r : (length p.shares.items + (within / cluster_size h - length p.shares.items)) * cluster_size h ≡ length p.shares.items * cluster_size h + (within / cluster_size h - length p.shares.items) * cluster_size h = omega arith in
+              absurd (omega arith)
+        ]
+
+-- ---- the host cluster of a share that is entered
+module _ (h : HeaderFields) (p : Prepared) (i first : ℕ) (place : first * cluster_size h ≡ host_of h p i) where
+  -- there is no cluster before the first one
+  pub host_first : begin_of h p + p.guest % cluster_size h ≡ p.offset → p.offset / cluster_size h + i ≡ first
+  host_first begins = elim (cases_lt first i) [
+    | inl below ↦
+        let some : 0 < cluster_size h = pow_pos h.cluster_bits in
+        let more : i ≡ first + (i - first - 1) + 1 = omega arith in
+        let q : i * cluster_size h ≡ (first + (i - first - 1) + 1) * cluster_size h = ap (λ n. n * cluster_size h) more in
+        let r : (first + (i - first - 1) + 1) * cluster_size h ≡ first * cluster_size h + (i - first - 1) * cluster_size h + cluster_size h = omega arith in
+        absurd (omega arith)
+    | inr above ↦
+        let less = mod_below p.guest (cluster_size h) (pow_pos h.cluster_bits) in
+        let e : first ≡ (first - i) + i = omega arith in
+        let q : first * cluster_size h ≡ ((first - i) + i) * cluster_size h = ap (λ n. n * cluster_size h) e in
+        let r : ((first - i) + i) * cluster_size h ≡ (first - i) * cluster_size h + i * cluster_size h = omega arith in
+        let is : p.offset ≡ (first - i) * cluster_size h + p.guest % cluster_size h = omega arith in
+        let d : p.offset / cluster_size h ≡ first - i = ap (λ o. o / cluster_size h) is ∙ div-mul-add (first - i) (cluster_size h) (p.guest % cluster_size h) less in
+        omega arith
+  ]
+
+  pub host_cluster : (o : ℕ) → (host_of h p i + o % cluster_size h) / cluster_size h ≡ first
+  host_cluster o = ap (λ n. (n + o % cluster_size h) / cluster_size h) (sym place) ∙ div-mul-add first (cluster_size h) (o % cluster_size h) (mod_below o (cluster_size h) (pow_pos h.cluster_bits))
+
+-- a new cluster is held once
+pub held_once : (first : ℕ) → to_free of_data (data_entry first 1 ∷ []) first ≡ 1
+held_once first = let one = run_in first 1 first (omega arith) (omega arith) in omega arith
+
+-- ---- private bytes
+
+-- a byte whose share isn't in place
+pub record IsShared (h : HeaderFields) (p : Prepared) (o : ℕ) : Type 0 where
+  pub index : ℕ
+  pub share : Share
+  pub here : o / cluster_size h ≡ cluster_of h p + index
+  pub is : slice_get p.shares.items index ≡ Some share
+  pub entered : IsTrue (is_entered share)
+
+shared_as : (h : HeaderFields) (p : Prepared) (o : ℕ) (m : Option Share) → share_of h p (o / cluster_size h) ≡ m → IsTrue (option_map_or is_entered m false) → IsShared h p o
+shared_as h p o None is private = absurd (let e : false ≡ true = private in cc)
+shared_as h p o (Some share) is private = let there = share_there h p (o / cluster_size h) share is in record { index = there.0; share = share; here = sym there.1; is = there.2; entered = private }
+
+module _ {S F : Type 0} (view : S → StorageView) (backing : F → BackingView) (image : Qcow2 S F) where
+  abbrev h : HeaderFields
+  h = image.file.header.fields
+
+  pub private_shared : (p : Prepared) (o : ℕ) → IsTrue (is_private view backing image p o) → IsShared image.file.header.fields p o
+  private_shared p o private = shared_as image.file.header.fields p o (share_of image.file.header.fields p (o / cluster_size image.file.header.fields)) refl private
+
+  pub private_is : (p : Prepared) (o i : ℕ) (share : Share) → o / cluster_size image.file.header.fields ≡ cluster_of image.file.header.fields p + i → slice_get p.shares.items i ≡ Some share → is_private view backing image p o ≡ is_entered share
+  private_is p o i share here is = ap (λ m. option_map_or is_entered m false) (ap (share_of image.file.header.fields p) here ∙ share_here image.file.header.fields p i ∙ is)
+
+  -- a mapping with a share isn't existing
+  pub ready_table : (known on_storage : Bytes) (q : Prepared) (i : ℕ) (share : Share) → slice_get q.shares.items i ≡ Some share → IsReadyWith image.file.header.fields known on_storage q q.table
+      → (t : ℕ) × (q.table ≡ Some t) × IsPending image.file.header.fields known on_storage q t
+  ready_table known on_storage q i share is ready = table_of q.table refl ready where
+    table_of : (t : Option ℕ) → q.table ≡ t → IsReadyWith image.file.header.fields known on_storage q t → (u : ℕ) × (q.table ≡ Some u) × IsPending image.file.header.fields known on_storage q u
+    table_of None at none = absurd (let e : Some share ≡ None = sym is ∙ ap (λ (l : List Share). slice_get l i) none in cc)
+    table_of (Some t) at pending = (t, at, pending)
+
+-- nothing of a mapping without shares is private
+pub never_private : {S F : Type 0} (view : S → StorageView) (backing : F → BackingView) (image : Qcow2 S F) (p : Prepared) → p.shares.items ≡ [] → (o : ℕ) → is_private view backing image p o ≡ false
+never_private view backing image p none o = ap (λ m. option_map_or is_entered m false) (no_share image.file.header.fields p none (o / cluster_size image.file.header.fields))
+
+-- one of the mappings holds no more than all of them
+pub over_all_at : (f : Prepared → ℕ → ℕ) (out : List (Option Prepared)) (k : ℕ) (q : Prepared) → slice_get out k ≡ Some (Some q) → (c : ℕ) → f q c ≤ over_all f out c
+over_all_at f [] k q at c = absurd cc
+over_all_at f (p ∷ out) zero q at c = let is : p ≡ Some q = cc in subst (λ (m : Option Prepared). f q c ≤ option_map_or (λ r. f r c) m 0 + over_all f out c) (sym is) (omega arith)
+over_all_at f (p ∷ out) (suc k) q at c = let rest = over_all_at f out k q at c in omega arith
+
+-- where a private byte stands: in a cluster that its mapping holds, or that a zero entry keeps
+pub data Standing (h : HeaderFields) (known : Bytes) (q : Prepared) (o : ℕ) : Type 0 where
+  in_new : 0 < held_by q (place_of h q o / cluster_size h) → Standing h known q o
+  in_kept : (host : ℕ) → cover h known (o / cluster_size h) ≡ Zero (Some (host, true)) → place_of h q o ≡ host + o % cluster_size h → Standing h known q o
+
+module _ (h : HeaderFields) (known on_storage : Bytes) (q : Prepared) (o : ℕ) (shared : IsShared h q o) where
+  place_there : place_of h q o ≡ host_of h q shared.index + o % cluster_size h
+  place_there = place_in h q o shared.index shared.here
+
+  stands_as : (share : Share) → IsTrue (is_entered share) → slice_get q.shares.items shared.index ≡ Some share → IsShareAt h known on_storage q shared.index share → Standing h known q o
+  stands_as InPlace entered is at = absurd (let e : false ≡ true = entered in cc)
+  stands_as Kept entered is at = in_kept (host_of h q shared.index) (ap (cover h known) shared.here ∙ at.entry) place_there
+  stands_as (New taken dropped) entered is at =
+      in_new (
+      let there : place_of h q o / cluster_size h ≡ at.first = ap (λ n. n / cluster_size h) place_there ∙ host_cluster h q shared.index at.first at.place o in
+      let one : to_free of_data taken at.first ≡ 1 = ap (λ l. to_free of_data l at.first) at.is ∙ held_once at.first in
+      let all = held_at q.shares.items shared.index taken dropped is at.first in
+      subst (λ c. 0 < held_by q c) (sym there) (omega (arith, one, all)))
+
+  pub stands_shared : IsReadyWith h known on_storage q q.table → Standing h known q o
+  stands_shared ready = by_table q.table ready where
+    by_table : (t : Option ℕ) → IsReadyWith h known on_storage q t → Standing h known q o
+    by_table None none = absurd (let e : Some shared.share ≡ None = sym shared.is ∙ ap (λ (l : List Share). slice_get l shared.index) none in cc)
+    by_table (Some t) pending = stands_as shared.share shared.entered shared.is (pending.each shared.index shared.share shared.is)
+
+-- a cluster that a zero entry keeps is used
+pub kept_used : (s : DriverState) → StateInvariant s → (g host : ℕ) → cover s.header s.known g ≡ Zero (Some (host, true)) → 0 < over_guests s.header (names s.header s.known (host / cluster_size s.header))
+kept_used s sound g host is =
+    let named : names s.header s.known (host / cluster_size s.header) g ≡ in_cluster s.header (host / cluster_size s.header) host = ap (named_by_cover s.header (host / cluster_size s.header)) is in
+    let own = in_own s.header host in
+    named_some s s sound (host / cluster_size s.header) g (omega arith)
+
+-- no table is laid over what is used
+pub used_unlaid : (s : DriverState) → StateInvariant s → (o : ℕ) → 0 < used_by_guests s (o / cluster_size s.header) → s.on_storage o ≡ s.known o
+used_unlaid s sound o some = let t = (tied s.header s.pending s.on_storage s.known (o / cluster_size s.header)).known in sound.unlaid o (omega arith)
+
+-- so is where a private byte of a mapping stands that is out
+pub standing_used : (s : DriverState) → StateInvariant s → (q : Prepared) (o : ℕ) → held_by q (place_of s.header q o / cluster_size s.header) ≤ s.pending.held (place_of s.header q o / cluster_size s.header) → Standing s.header s.known q o
+    → 0 < used_by_guests s (place_of s.header q o / cluster_size s.header)
+standing_used s sound q o holds (in_new held) = omega arith
+standing_used s sound q o holds (in_kept host is place) =
+    let aligned = kept_aligned s sound (o / cluster_size s.header) host is in
+    let here : place_of s.header q o / cluster_size s.header ≡ host / cluster_size s.header = ap (λ n. n / cluster_size s.header) place ∙ in_one (cluster_size s.header) host (o % cluster_size s.header) aligned (mod_below o (cluster_size s.header) (pow_pos s.header.cluster_bits)) in
+    let used = kept_used s sound (o / cluster_size s.header) host is in
+    subst (λ c. 0 < used_by_guests s c) (sym here) (omega arith)
+
+module _ {S F : Type 0} (view : S → StorageView) (backing : F → BackingView) (image : Qcow2 S F) (out : List (Option Prepared)) (p : Pending) (sound : ImageInvariant view backing p image out) where
+  pub private_stands : (k : ℕ) (q : Prepared) → slice_get out k ≡ Some (Some q) → (o : ℕ) → IsTrue (is_private view backing image q o) → Standing image.file.header.fields (known_in view image.file) q o
+  private_stands k q at o private = stands_shared image.file.header.fields (known_in view image.file) (contents_in view image.file) q o (private_shared view backing image q o private) (sound.ready k q at).mapped
+
+  pub private_used : HoldsAll view backing p out → (k : ℕ) (q : Prepared) → slice_get out k ≡ Some (Some q) → (o : ℕ) → IsTrue (is_private view backing image q o)
+      → 0 < used_by_guests (state_in view image.file p) (place_of image.file.header.fields q o / cluster_size image.file.header.fields)
+  private_used holds k q at o private =
+      let place = place_of image.file.header.fields q o / cluster_size image.file.header.fields in
+      let all = over_all_at held_by out k q at (place_of image.file.header.fields q o / cluster_size image.file.header.fields) in
+      let held = holds (place_of image.file.header.fields q o / cluster_size image.file.header.fields) in
+      standing_used (state_in view image.file p) sound.file.caches.kept.kept.guarded q o (omega arith) (private_stands k q at o private)

@@ -1,0 +1,18 @@
+use Rattle.std.proofs.Common.{true, sym, subst, arith}
+use Rattle.qcow2_image.specs.declared.mapping.MappingKind.TheVariants.{Raw}
+use Rattle.qcow2_image.specs.declared.mapping.Place.TheVariants.{Image}
+use Rattle.qcow2_image.specs.Found.{IsFoundWhole, IsMappedAs}
+use Rattle.qcow2_image.proofs.Map.Loading.{if_ok}
+use Rattle.qcow2_image.proofs.image.Qcow2.check_in_place.Goals as goal
+
+pub returns-in_err-guest-clause-outdated : goal.returns-in_err-guest-clause-outdated
+returns-in_err-guest-clause-outdated g c = λ some p out sound is whole. absurd (let no = (whole.past c.in_err-guest.ensures.past).1 in omega arith)
+
+pub returns-clause-outdated : goal.returns-clause-outdated
+returns-clause-outdated g c = λ some p out sound is whole.
+    c.check_mapped.ensures.outdated p out sound is (subst (λ o. IsFoundWhole g.S.Storage.view c.check_mapped.new.self o (Raw Image c.args.host true) c.args.length) (sym c.in_ok-guest.ensures.place) whole)
+
+pub returns-clause-mapped : goal.returns-clause-mapped
+returns-clause-mapped g c = λ none some p out sound.
+    if_ok c.check_mapped.result (λ done is. subst (λ o. IsMappedAs g.S.Storage.view c.check_mapped.new.self o (Raw Image c.args.host true) c.args.length) c.in_ok-guest.ensures.place is)
+    (c.check_mapped.ensures.mapped some p out sound)

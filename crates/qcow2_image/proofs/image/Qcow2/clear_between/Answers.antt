@@ -1,0 +1,57 @@
+use Rattle.std.proofs.Common.{◌≡◌, inl, ◌-◌, ◌/◌, ◌%◌, ◌^◌, ◌++◌, ap, ◌∙◌, subst, arith}
+use Rattle.qcow2_alloc.proofs.AllocationSteps.{handed_on}
+use Rattle.qcow2_metadata.specs.Header.{cluster_size}
+use Rattle.qcow2_alloc.specs.CacheMarks.{l2_pins}
+use Rattle.qcow2_image.specs.Clearing.{ClearsOrRefuses, ClearsTable, ReadsAll}
+use Rattle.qcow2_image.specs.Found.{l2_index_of}
+use Rattle.qcow2_image.proofs.Clear.Between.{clears_between, no_pins, pinned_under, under_pinned}
+use Rattle.qcow2_image.proofs.image.Qcow2.clear_between.Goals as goal
+
+pub returns-in_err-table-clause-clears : goal.returns-in_err-table-clause-clears
+returns-in_err-table-clause-clears g c = λ out sound whole.
+    handed_on (λ r. ClearsOrRefuses g.S.Storage.view g.F.BackingDisk.backing c.args.how c.args.from c.args.to c.args.self.now c.table_for.new.self out r) c.from_residual.result c.in_err-table.field-0.0 c.from_residual.ensures
+    (c.in_err-table.ensures.finds out sound)
+
+pub returns-then-l2_is_pinned-clause-clears : goal.returns-then-l2_is_pinned-clause-clears
+returns-then-l2_is_pinned-clause-clears g c = λ out sound whole. inl (c.in_ok-table.ensures.finds out sound).0
+
+pub returns-then-l2_is_pinned-clause-taken : goal.returns-then-l2_is_pinned-clause-taken
+returns-then-l2_is_pinned-clause-taken g c = λ out sound is.
+    let found = c.in_ok-table.ensures.finds out sound in
+    pinned_under g.S.Storage.view g.F.BackingDisk.backing out c.args.self.now c.table_for.new.self c.args.from c.in_ok-table.table found.0 found.1 (c.l2_is_pinned.ensures.0 c.if-l2_is_pinned.true)
+
+pub returns-in_err-dropped-clause-clears : goal.returns-in_err-dropped-clause-clears
+returns-in_err-dropped-clause-clears g c = λ out sound whole.
+    handed_on (λ r. ClearsOrRefuses g.S.Storage.view g.F.BackingDisk.backing c.args.how c.args.from c.args.to c.args.self.now c.table_for.new.self out r) c.from_residual-in_err-dropped.result c.in_err-dropped.field-0.0 c.from_residual-in_err-dropped.ensures
+    (inl (c.in_ok-table.ensures.finds out sound).0)
+
+pub returns-clause-clears : goal.returns-clause-clears
+returns-clause-clears g c = λ out sound whole.
+    let view = g.S.Storage.view in
+    let below = g.F.BackingDisk.backing in
+    let old = c.args.self.now in
+    let mid = c.table_for.new.self in
+    let b = c.clear_entries.new.self in
+    let how = c.args.how in
+    let from = c.args.from in
+    let to = c.args.to in
+    let table = c.in_ok-table.table in
+    let list = c.in_ok-dropped.dropped in
+    let h = mid.file.header.fields in
+    let found = c.in_ok-table.ensures.finds out sound in
+    let bits = c.cluster_bits-bits.ensures.value in
+    let first : c.cluster-first.result ≡ c.args.from / cluster_size c.table_for.new.self.file.header.fields = c.cluster-first.ensures ∙ ap (λ o. o / 2 ^ c.cluster_bits-bits.result) c.new.ensures ∙ ap (λ n. from / 2 ^ n) bits in
+    let column : c.l2_index.result ≡ l2_index_of c.table_for.new.self.file.header.fields c.args.from = c.l2_index.ensures.value ∙ ap (λ x. x % (2 ^ c.cluster_bits-bits.result / 8)) first ∙ ap (λ n. from / cluster_size h % (2 ^ n / 8)) bits in
+    let count : (c.args.to - c.args.from) / 2 ^ c.cluster_bits-bits.result ≡ (c.args.to - c.args.from) / cluster_size c.table_for.new.self.file.header.fields = ap (λ n. (to - from) / 2 ^ n) bits in
+    let reads = subst (λ n. ReadsAll view below how table (from / cluster_size h) n mid list) count (subst (λ n. ReadsAll view below how table n ((to - from) / 2 ^ c.cluster_bits-bits.result) mid list) first c.in_ok-dropped.ensures.reads) in
+    let clears = subst (λ n. ClearsTable view below how table (l2_index_of h from) n mid b) count (subst (λ n. ClearsTable view below how table n ((to - from) / 2 ^ c.cluster_bits-bits.result) mid b) column c.clear_entries.ensures.clears) in
+    clears_between view below out old mid b (record b { file = record b.file { free_list = c.hand_back.new.list } }) how from to table found.0 found.1 whole c.requires.some
+    (no_pins c.l2_is_pinned.result (l2_pins mid.file.caches table) c.l2_is_pinned.ensures c.if-l2_is_pinned.false) list reads clears
+    (ap (λ l. record b { file = record b.file { free_list = l } }) (c.hand_back.ensures ∙ ap (λ l. b.file.free_list ++ l) c.take.ensures.taken))
+
+pub returns-clause-free : goal.returns-clause-free
+returns-clause-free g c = λ out sound under.
+    let found = c.in_ok-table.ensures.finds out sound in
+    let pinned = under_pinned g.S.Storage.view g.F.BackingDisk.backing out c.args.self.now c.table_for.new.self c.args.from c.in_ok-table.table found.0 found.1 under in
+    let none = no_pins c.l2_is_pinned.result (l2_pins c.table_for.new.self.file.caches c.in_ok-table.table) c.l2_is_pinned.ensures c.if-l2_is_pinned.false in
+    omega (arith, pinned, none)

@@ -1,0 +1,187 @@
+use Rattle.std.proofs.Common.{◌≡◌, ◌<◌, ◌+◌, ◌-◌, ℕ, min, sym, ap, ◌∙◌, subst, arith}
+use Rattle.std.specs.Prelude.{Ok, Err, IfErr, IfOk, IsTrue, Result}
+use Rattle.qcow2_alloc.specs.declared.error.ImageError.TheVariants.{Memory, TablePrepared}
+use Rattle.qcow2_image.specs.CallParts.{EndsFreeing, UnseenCall}
+use Rattle.qcow2_image.specs.Clearing.{Clears, ClearsOrRefuses, ClearsPart, IsUnderMapping, IsWhole, from_in, refuses_to_clear, to_in}
+use Rattle.qcow2_image.specs.declared.image.Qcow2.{Qcow2}
+use Rattle.qcow2_image.specs.Image.{is_failed}
+use Rattle.qcow2_image.specs.ImageInvariant.{ImageInvariant, pending_in}
+use Rattle.qcow2_image.specs.Refusals.{Marks}
+use Rattle.qcow2_image.proofs.Call.Called.{Quietly}
+use Rattle.qcow2_image.proofs.Call.Settled.{is_fault, outcome}
+use Rattle.qcow2_image.proofs.Clear.ClearCalls.{begins, clear_broke, clear_covers, clear_done, clear_refused, clear_works, clears_early, clears_nothing, err_is, if_some, not_refused, refused_for, under_after, under_before, whole_in}
+use Rattle.qcow2_image.proofs.image.Qcow2.clear_range.Goals as goal
+
+pub returns-in_err-from-clause-early : goal.returns-in_err-from-clause-early
+returns-in_err-from-clause-early g c =
+    let old = c.args.self.now in
+    let refused = refused_for c.check_clear.result _ (refuses_to_clear old c.args.offset c.args.length c.args.how) c.in_err-from.field-0.0 c.check_clear.ensures.refusal c.in_err-from.was in
+    if_some old (refuses_to_clear old c.args.offset c.args.length c.args.how) c.in_err-from.field-0.0 c.from_residual.result refused (err_is c.from_residual.result c.from_residual.ensures)
+
+pub returns-in_err-from-clause-sees : goal.returns-in_err-from-clause-sees
+returns-in_err-from-clause-sees g c =
+    let view = g.S.Storage.view in
+    let below = g.F.BackingDisk.backing in
+    let old = c.args.self.now in
+    let refused = refused_for c.check_clear.result _ (refuses_to_clear old c.args.offset c.args.length c.args.how) c.in_err-from.field-0.0 c.check_clear.ensures.refusal c.in_err-from.was in
+    subst (λ (r : Result _ _). Clears view below c.args.how old old c.args.offset c.args.length r) (sym (err_is c.from_residual.result c.from_residual.ensures)) (clears_early view below old c.args.how c.args.offset c.args.length c.in_err-from.field-0.0 refused)
+
+pub returns-then-to-from-clause-sees : goal.returns-then-to-from-clause-sees
+returns-then-to-from-clause-sees g c =
+    let view = g.S.Storage.view in
+    let below = g.F.BackingDisk.backing in
+    let old = c.args.self.now in
+    let range = not_refused c.check_clear.result _ (refuses_to_clear old c.args.offset c.args.length c.args.how) (c.in_ok-from.from, c.in_ok-from.to) c.check_clear.ensures.refusal c.in_ok-from.was in
+    let from : c.in_ok-from.from ≡ from_in c.args.self.now c.args.offset c.args.length = ap (λ (r : ℕ × ℕ). r.0) range.1 in
+    let to : c.in_ok-from.to ≡ to_in c.args.self.now c.args.offset c.args.length = ap (λ (r : ℕ × ℕ). r.1) range.1 in
+    subst (λ n. Clears view below c.args.how old old c.args.offset c.args.length (Ok (n, 0))) (sym from)
+    (clears_nothing view below old c.args.how c.args.offset c.args.length (clear_works old c.args.offset c.args.length c.args.how range.0) (omega (arith, c.if-to-from.true, from, to)))
+
+pub returns-in_err-mark_failure-clause-under : goal.returns-in_err-mark_failure-clause-under
+returns-in_err-mark_failure-clause-under g c = λ none some out sound.
+    let view = g.S.Storage.view in
+    let below = g.F.BackingDisk.backing in
+    let old = c.args.self.now in
+    let begun = c.begin.new.self in
+    let e = c.in_err-mark_failure.field-0.0 in
+    let range = not_refused c.check_clear.result _ (refuses_to_clear old c.args.offset c.args.length c.args.how) (c.in_ok-from.from, c.in_ok-from.to) c.check_clear.ensures.refusal c.in_ok-from.was in
+    let from : c.in_ok-from.from ≡ from_in c.args.self.now c.args.offset c.args.length = ap (λ (r : ℕ × ℕ). r.0) range.1 in
+    let done : c.clear_between-cleared.result ≡ Err c.in_err-mark_failure.field-0.0 = sym c.mark_failure.ensures.answer ∙ c.in_err-mark_failure.was in
+    let call = begins view below old c.args.how c.args.offset c.args.length (clear_works old c.args.offset c.args.length c.args.how none) begun c.clear_between-cleared.new.self (λ out sound. record { keeps = c.begin.ensures.keeps (pending_in view below old out) out sound; list = c.begin.ensures.list }) out sound in
+    let taken = subst (λ (r : Result _ _). IfErr r (λ x. x ≡ TablePrepared → IsUnderMapping begun.file.header.fields c.in_ok-from.from out)) done (c.clear_between-cleared.ensures.taken out call.sound) in
+    subst (λ (r : Result _ _). IfErr r (λ x. x ≡ TablePrepared → IsUnderMapping old.file.header.fields (from_in old c.args.offset c.args.length) out) × IfOk r (λ range. IsUnderMapping old.file.header.fields (from_in old c.args.offset c.args.length) out → ⊥))
+    (sym (err_is c.from_residual-in_err-mark_failure.result c.from_residual-in_err-mark_failure.ensures))
+    ((λ is. under_before old.file.header.fields begun.file.header.fields (from_in old c.args.offset c.args.length) out call.header (subst (λ n. IsUnderMapping begun.file.header.fields n out) from (taken is))), tt)
+
+pub returns-in_err-mark_failure-clause-sees : goal.returns-in_err-mark_failure-clause-sees
+returns-in_err-mark_failure-clause-sees g c =
+    let view = g.S.Storage.view in
+    let below = g.F.BackingDisk.backing in
+    let old = c.args.self.now in
+    let begun = c.begin.new.self in
+    let entries = c.clear_between-cleared.new.self in
+    let e = c.in_err-mark_failure.field-0.0 in
+    let marked = is_failed c.mark_failure.new.self in
+    let range = not_refused c.check_clear.result _ (refuses_to_clear old c.args.offset c.args.length c.args.how) (c.in_ok-from.from, c.in_ok-from.to) c.check_clear.ensures.refusal c.in_ok-from.was in
+    let from : c.in_ok-from.from ≡ from_in c.args.self.now c.args.offset c.args.length = ap (λ (r : ℕ × ℕ). r.0) range.1 in
+    let to : c.in_ok-from.to ≡ to_in c.args.self.now c.args.offset c.args.length = ap (λ (r : ℕ × ℕ). r.1) range.1 in
+    let works = clear_works old c.args.offset c.args.length c.args.how range.0 in
+    let quiet : (out : _) → _ → Quietly view below out old begun = λ out sound. record { keeps = c.begin.ensures.keeps (pending_in view below old out) out sound; list = c.begin.ensures.list } in
+    let done : c.clear_between-cleared.result ≡ Err c.in_err-mark_failure.field-0.0 = sym c.mark_failure.ensures.answer ∙ c.in_err-mark_failure.was in
+    subst (λ (r : Result _ _). Clears view below c.args.how old c.mark_failure.new.self c.args.offset c.args.length r) (sym (err_is c.from_residual-in_err-mark_failure.result c.from_residual-in_err-mark_failure.ensures))
+    (subst (λ (image : Qcow2 _ _). Clears view below c.args.how old image c.args.offset c.args.length (Err e)) (sym c.mark_failure.ensures.rest)
+    (clear_refused view below old c.args.how c.args.offset c.args.length works begun entries quiet e marked (c.clear_between-cleared.ensures.stays.image.number ∙ c.begin.ensures.stays.image.number)
+    (subst (λ (r : Result _ _). Marks r (is_failed entries) marked) done c.mark_failure.ensures.marks) (subst (λ (r : Result _ _). IfErr r (λ x. x ≡ Memory → IsTrue entries.file.caches.is_changed → IsTrue marked)) done c.mark_failure.ensures.memory)
+    (λ out call. subst (ClearsOrRefuses view below c.args.how c.in_ok-from.from c.in_ok-from.to begun entries out) done (c.clear_between-cleared.ensures.clears out call.sound
+    (subst (λ n. IsWhole begun.file.header.fields c.args.how n c.in_ok-from.to) (sym from) (subst (λ n. IsWhole begun.file.header.fields c.args.how (from_in old c.args.offset c.args.length) n) (sym to)
+    (whole_in view below old c.args.how c.args.offset c.args.length works begun entries quiet out call c.in_ok-from.ensures.version)))))))
+
+pub returns-in_err-end_freeing-clause-sees : goal.returns-in_err-end_freeing-clause-sees
+returns-in_err-end_freeing-clause-sees g c =
+    let view = g.S.Storage.view in
+    let below = g.F.BackingDisk.backing in
+    let old = c.args.self.now in
+    let begun = c.begin.new.self in
+    let entries = c.clear_between-cleared.new.self in
+    let freed = c.end_freeing.new.self in
+    let how = c.args.how in
+    let offset = c.args.offset in
+    let n = c.args.length in
+    let range = not_refused c.check_clear.result _ (refuses_to_clear old c.args.offset c.args.length c.args.how) (c.in_ok-from.from, c.in_ok-from.to) c.check_clear.ensures.refusal c.in_ok-from.was in
+    let from : c.in_ok-from.from ≡ from_in c.args.self.now c.args.offset c.args.length = ap (λ (r : ℕ × ℕ). r.0) range.1 in
+    let to : c.in_ok-from.to ≡ to_in c.args.self.now c.args.offset c.args.length = ap (λ (r : ℕ × ℕ). r.1) range.1 in
+    let works = clear_works old c.args.offset c.args.length c.args.how range.0 in
+    let quiet : (out : _) → _ → Quietly view below out old begun = λ out sound. record { keeps = c.begin.ensures.keeps (pending_in view below old out) out sound; list = c.begin.ensures.list } in
+    let done : c.clear_between-cleared.result ≡ Ok c.in_ok-mark_failure.field-0 = sym c.mark_failure.ensures.answer ∙ c.in_ok-mark_failure.was in
+    let marks = subst (λ (r : Result _ _). Marks r (is_failed entries) (is_failed c.mark_failure.new.self)) done c.mark_failure.ensures.marks in
+    let same : c.mark_failure.new.self ≡ c.clear_between-cleared.new.self = c.mark_failure.ensures.rest ∙ ap (λ f. record entries { is_failed = f }) marks in
+    let parts : (out : _) → UnseenCall view below old begun out → ClearsPart view below how (from_in old offset n) (to_in old offset n) begun entries out = λ out call. subst (λ k. ClearsPart view below how k (to_in old offset n) begun entries out) from (subst (λ k. ClearsPart view below how c.in_ok-from.from k begun entries out) to
+    (subst (ClearsOrRefuses view below how c.in_ok-from.from c.in_ok-from.to begun entries out) done (c.clear_between-cleared.ensures.clears out call.sound
+    (subst (λ k. IsWhole begun.file.header.fields how k c.in_ok-from.to) (sym from) (subst (λ k. IsWhole begun.file.header.fields how (from_in old offset n) k) (sym to)
+    (whole_in view below old how offset n works begun entries quiet out call c.in_ok-from.ensures.version)))))) in
+    let ends = subst (λ (image : Qcow2 _ _). (out : _) → ImageInvariant view below (pending_in view below image out) image out → EndsFreeing view below image freed out c.end_freeing.result) same c.end_freeing.ensures.frees in
+    let number = c.end_freeing.ensures.image.number ∙ c.mark_failure.ensures.image.number ∙ c.clear_between-cleared.ensures.stays.image.number ∙ c.begin.ensures.stays.image.number in
+    let x = c.in_err-end_freeing.field-0.0 in
+    subst (λ (r : Result _ _). Clears view below how old freed offset n r) (sym (err_is c.from_residual-in_err-end_freeing.result c.from_residual-in_err-end_freeing.ensures))
+    (clear_broke view below old how offset n works begun entries quiet parts freed c.end_freeing.result ends number x c.in_err-end_freeing.was
+    (is_fault x (is_failed c.mark_failure.new.self) (is_failed freed) (outcome x (is_failed c.mark_failure.new.self) (is_failed freed) c.in_err-end_freeing.ensures.marks)))
+
+pub returns-clause-under : goal.returns-clause-under
+returns-clause-under g c = λ none some out sound.
+    let view = g.S.Storage.view in
+    let below = g.F.BackingDisk.backing in
+    let old = c.args.self.now in
+    let begun = c.begin.new.self in
+    let entries = c.clear_between-cleared.new.self in
+    let freed = c.end_freeing.new.self in
+    let how = c.args.how in
+    let offset = c.args.offset in
+    let n = c.args.length in
+    let range = not_refused c.check_clear.result _ (refuses_to_clear old c.args.offset c.args.length c.args.how) (c.in_ok-from.from, c.in_ok-from.to) c.check_clear.ensures.refusal c.in_ok-from.was in
+    let from : c.in_ok-from.from ≡ from_in c.args.self.now c.args.offset c.args.length = ap (λ (r : ℕ × ℕ). r.0) range.1 in
+    let to : c.in_ok-from.to ≡ to_in c.args.self.now c.args.offset c.args.length = ap (λ (r : ℕ × ℕ). r.1) range.1 in
+    let works = clear_works old c.args.offset c.args.length c.args.how range.0 in
+    let quiet : (out : _) → _ → Quietly view below out old begun = λ out sound. record { keeps = c.begin.ensures.keeps (pending_in view below old out) out sound; list = c.begin.ensures.list } in
+    let done : c.clear_between-cleared.result ≡ Ok c.in_ok-mark_failure.field-0 = sym c.mark_failure.ensures.answer ∙ c.in_ok-mark_failure.was in
+    let call = begins view below old how offset n works begun entries quiet out sound in
+    let free = subst (λ (r : Result _ _). IfOk r (λ x. IsUnderMapping begun.file.header.fields c.in_ok-from.from out → ⊥)) done (c.clear_between-cleared.ensures.free out call.sound) in
+    (tt, λ under. free (subst (λ k. IsUnderMapping begun.file.header.fields k out) (sym from) (under_after old.file.header.fields begun.file.header.fields (from_in old offset n) out call.header under)))
+
+pub returns-clause-sees : goal.returns-clause-sees
+returns-clause-sees g c =
+    let view = g.S.Storage.view in
+    let below = g.F.BackingDisk.backing in
+    let old = c.args.self.now in
+    let begun = c.begin.new.self in
+    let entries = c.clear_between-cleared.new.self in
+    let freed = c.end_freeing.new.self in
+    let how = c.args.how in
+    let offset = c.args.offset in
+    let n = c.args.length in
+    let range = not_refused c.check_clear.result _ (refuses_to_clear old c.args.offset c.args.length c.args.how) (c.in_ok-from.from, c.in_ok-from.to) c.check_clear.ensures.refusal c.in_ok-from.was in
+    let from : c.in_ok-from.from ≡ from_in c.args.self.now c.args.offset c.args.length = ap (λ (r : ℕ × ℕ). r.0) range.1 in
+    let to : c.in_ok-from.to ≡ to_in c.args.self.now c.args.offset c.args.length = ap (λ (r : ℕ × ℕ). r.1) range.1 in
+    let works = clear_works old c.args.offset c.args.length c.args.how range.0 in
+    let quiet : (out : _) → _ → Quietly view below out old begun = λ out sound. record { keeps = c.begin.ensures.keeps (pending_in view below old out) out sound; list = c.begin.ensures.list } in
+    let done : c.clear_between-cleared.result ≡ Ok c.in_ok-mark_failure.field-0 = sym c.mark_failure.ensures.answer ∙ c.in_ok-mark_failure.was in
+    let marks = subst (λ (r : Result _ _). Marks r (is_failed entries) (is_failed c.mark_failure.new.self)) done c.mark_failure.ensures.marks in
+    let same : c.mark_failure.new.self ≡ c.clear_between-cleared.new.self = c.mark_failure.ensures.rest ∙ ap (λ f. record entries { is_failed = f }) marks in
+    let parts : (out : _) → UnseenCall view below old begun out → ClearsPart view below how (from_in old offset n) (to_in old offset n) begun entries out = λ out call. subst (λ k. ClearsPart view below how k (to_in old offset n) begun entries out) from (subst (λ k. ClearsPart view below how c.in_ok-from.from k begun entries out) to
+    (subst (ClearsOrRefuses view below how c.in_ok-from.from c.in_ok-from.to begun entries out) done (c.clear_between-cleared.ensures.clears out call.sound
+    (subst (λ k. IsWhole begun.file.header.fields how k c.in_ok-from.to) (sym from) (subst (λ k. IsWhole begun.file.header.fields how (from_in old offset n) k) (sym to)
+    (whole_in view below old how offset n works begun entries quiet out call c.in_ok-from.ensures.version)))))) in
+    let ends = subst (λ (image : Qcow2 _ _). (out : _) → ImageInvariant view below (pending_in view below image out) image out → EndsFreeing view below image freed out c.end_freeing.result) same c.end_freeing.ensures.frees in
+    let number = c.end_freeing.ensures.image.number ∙ c.mark_failure.ensures.image.number ∙ c.clear_between-cleared.ensures.stays.image.number ∙ c.begin.ensures.stays.image.number in
+    let some : from_in c.args.self.now c.args.offset c.args.length < to_in c.args.self.now c.args.offset c.args.length = omega (arith, c.if-to-from.false, from, to) in
+    let length : c.saturating_sub.result ≡ min (to_in c.args.self.now c.args.offset c.args.length) (c.args.offset + c.args.length) - from_in c.args.self.now c.args.offset c.args.length =
+    c.saturating_sub.ensures ∙ ap (λ k. k - c.in_ok-from.from) c.min.ensures ∙ ap (λ k. min k (offset + n) - c.in_ok-from.from) to ∙ ap (λ k. min (to_in old offset n) (offset + n) - k) from in
+    subst (λ k. Clears view below how old freed offset n (Ok (k, c.saturating_sub.result))) (sym from)
+    (subst (λ k. Clears view below how old freed offset n (Ok (from_in old offset n, k))) (sym length)
+    (clear_done view below old how offset n works begun entries quiet parts freed c.end_freeing.result ends number c.in_ok-end_freeing.was some))
+
+pub returns-clause-covers : goal.returns-clause-covers
+returns-clause-covers g c = λ out sound.
+    let view = g.S.Storage.view in
+    let below = g.F.BackingDisk.backing in
+    let old = c.args.self.now in
+    let begun = c.begin.new.self in
+    let entries = c.clear_between-cleared.new.self in
+    let freed = c.end_freeing.new.self in
+    let how = c.args.how in
+    let offset = c.args.offset in
+    let n = c.args.length in
+    let range = not_refused c.check_clear.result _ (refuses_to_clear old c.args.offset c.args.length c.args.how) (c.in_ok-from.from, c.in_ok-from.to) c.check_clear.ensures.refusal c.in_ok-from.was in
+    let from : c.in_ok-from.from ≡ from_in c.args.self.now c.args.offset c.args.length = ap (λ (r : ℕ × ℕ). r.0) range.1 in
+    let to : c.in_ok-from.to ≡ to_in c.args.self.now c.args.offset c.args.length = ap (λ (r : ℕ × ℕ). r.1) range.1 in
+    let works = clear_works old c.args.offset c.args.length c.args.how range.0 in
+    let quiet : (out : _) → _ → Quietly view below out old begun = λ out sound. record { keeps = c.begin.ensures.keeps (pending_in view below old out) out sound; list = c.begin.ensures.list } in
+    let done : c.clear_between-cleared.result ≡ Ok c.in_ok-mark_failure.field-0 = sym c.mark_failure.ensures.answer ∙ c.in_ok-mark_failure.was in
+    let marks = subst (λ (r : Result _ _). Marks r (is_failed entries) (is_failed c.mark_failure.new.self)) done c.mark_failure.ensures.marks in
+    let same : c.mark_failure.new.self ≡ c.clear_between-cleared.new.self = c.mark_failure.ensures.rest ∙ ap (λ f. record entries { is_failed = f }) marks in
+    let parts : (out : _) → UnseenCall view below old begun out → ClearsPart view below how (from_in old offset n) (to_in old offset n) begun entries out = λ out call. subst (λ k. ClearsPart view below how k (to_in old offset n) begun entries out) from (subst (λ k. ClearsPart view below how c.in_ok-from.from k begun entries out) to
+    (subst (ClearsOrRefuses view below how c.in_ok-from.from c.in_ok-from.to begun entries out) done (c.clear_between-cleared.ensures.clears out call.sound
+    (subst (λ k. IsWhole begun.file.header.fields how k c.in_ok-from.to) (sym from) (subst (λ k. IsWhole begun.file.header.fields how (from_in old offset n) k) (sym to)
+    (whole_in view below old how offset n works begun entries quiet out call c.in_ok-from.ensures.version)))))) in
+    let ends = subst (λ (image : Qcow2 _ _). (out : _) → ImageInvariant view below (pending_in view below image out) image out → EndsFreeing view below image freed out c.end_freeing.result) same c.end_freeing.ensures.frees in
+    let number = c.end_freeing.ensures.image.number ∙ c.mark_failure.ensures.image.number ∙ c.clear_between-cleared.ensures.stays.image.number ∙ c.begin.ensures.stays.image.number in
+    clear_covers view below old how offset n works begun entries quiet parts freed c.end_freeing.result ends number c.in_ok-end_freeing.was out sound

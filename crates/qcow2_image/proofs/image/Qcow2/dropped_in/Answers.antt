@@ -1,0 +1,21 @@
+use Rattle.std.proofs.Common.{◌≡◌, ◌+◌, suc, ap, ◌∙◌, subst, arith}
+use Rattle.qcow2_image.specs.Clearing.{ReadsAll, ReadsDropped}
+use Rattle.qcow2_image.proofs.Clear.Between.{reads_next}
+use Rattle.qcow2_image.proofs.image.Qcow2.dropped_in.Goals as goal
+
+pub loop-i-preserved : goal.loop-i-preserved
+loop-i-preserved g c =
+    let view = g.S.Storage.view in
+    let below = g.F.BackingDisk.backing in
+    let image = c.args.self.now in
+    let k = c.loop-i.i in
+    let here : c.new-cluster.result ≡ c.args.first + c.loop-i.i = c.new-cluster.ensures ∙ ap (λ n. n + c.loop-i.i) c.value.ensures in
+    let one : suc c.loop-i.i ≡ c.loop-i.i + 1 = omega arith in
+    subst (λ n. ReadsAll view below c.args.how c.args.table c.args.first n image c.list_dropped.new.list) one
+    (reads_next view below c.args.how c.args.table c.args.first k image c.loop-i.dropped c.list_dropped.new.list c.loop-i.invariant
+    (subst (λ n. ReadsDropped view below c.args.how c.args.table n image c.loop-i.dropped c.list_dropped.new.list) here c.in_ok-list_dropped.ensures.reads))
+
+pub returns-clause-reads : goal.returns-clause-reads
+returns-clause-reads g c =
+    let all : c.loop-i.i ≡ c.args.count = omega (arith, c.loop-i-test.false, c.loop-i.auto.i-end) in
+    subst (λ n. ReadsAll g.S.Storage.view g.F.BackingDisk.backing c.args.how c.args.table c.args.first n c.args.self.now c.loop-i.dropped) all c.loop-i.invariant

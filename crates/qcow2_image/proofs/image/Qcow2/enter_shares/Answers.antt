@@ -1,0 +1,38 @@
+use Rattle.std.proofs.Common.{◌≡◌, ◌+◌, length, sym, subst, arith, rules}
+use Rattle.qcow2_image.proofs.Shares.{freed_none}
+use Rattle.qcow2_image.proofs.Commit.Entered.{EntersFirst, enters_all, first_false, first_none, first_true}
+use Rattle.qcow2_image.proofs.image.Qcow2.enter_shares.Goals.{then-enter_share, else-enter_share}
+use Rattle.qcow2_image.proofs.image.Qcow2.enter_shares.Goals as goal
+
+pub loop-i-init : goal.loop-i-init
+loop-i-init g c = first_none g.S.Storage.view g.F.BackingDisk.backing c.args.self.now c.args.prepared.now
+
+pub loop-i-preserved : goal.loop-i-preserved
+loop-i-preserved g c =
+    let view = g.S.Storage.view in
+    let below = g.F.BackingDisk.backing in
+    let old = c.args.self.now in
+    let p = c.args.prepared.now in
+    let now = c.loop-i.self in
+    let q = c.loop-i.prepared in
+    let new = c.enter_share.new.self in
+    let r = c.enter_share.new.prepared in
+    elim c.if-enter_share.branch [
+      | then-enter_share w ↦
+          subst (EntersFirst view below old new p r (c.loop-i.i + 1)) (sym w.entered-is)
+          (first_true view below old now new p q r c.loop-i.i c.loop-i.entered c.loop-i.invariant (c.enter_share.ensures.enters w.if-enter_share.true) c.enter_share.ensures.stays)
+      | else-enter_share w ↦
+          subst (EntersFirst view below old new p r (c.loop-i.i + 1)) (sym w.entered-is)
+          (first_false view below old now new p q r c.loop-i.i c.loop-i.entered c.loop-i.invariant (c.enter_share.ensures.none w.if-enter_share.false))
+    ]
+
+pub returns-clause-enters : goal.returns-clause-enters
+returns-clause-enters g c =
+    let end : c.len-i-end.result ≡ length c.args.prepared.now.shares.items = search rules in
+    enters_all g.S.Storage.view g.F.BackingDisk.backing c.args.self.now c.loop-i.self c.args.prepared.now c.loop-i.prepared c.loop-i.i c.loop-i.entered c.loop-i.invariant (omega (arith, end, c.loop-i-test.false, c.loop-i.auto.i-end))
+
+pub returns-clause-left : goal.returns-clause-left
+returns-clause-left g c =
+    let end : c.len-i-end.result ≡ length c.args.prepared.now.shares.items = search rules in
+    let count = c.loop-i.invariant.count in
+    freed_none c.loop-i.prepared.shares.items (λ j lt. c.loop-i.invariant.in_place j (omega (arith, end, count, c.loop-i-test.false)))

@@ -1,0 +1,36 @@
+use Rattle.std.proofs.Common.{◌≡◌, ℕ, ◌-◌, refl, sym, ap, ◌∙◌, subst}
+use Rattle.qcow2_alloc.specs.CacheMarks.{SameTables, l2_pins}
+use Rattle.qcow2_image.specs.declared.image.Qcow2.{Qcow2}
+use Rattle.qcow2_alloc.specs.ImageFile.{contents_in}
+use Rattle.qcow2_image.specs.Ranges.{LetsGo}
+use Rattle.qcow2_image.specs.Calls.{Discards}
+use Rattle.qcow2_image.specs.ImageInvariant.{pins_of}
+use Rattle.qcow2_image.proofs.Commit.LetGo.{discards}
+use Rattle.qcow2_image.proofs.image.Qcow2.let_go.Goals as goal
+
+pub returns-clause-sees : goal.returns-clause-sees
+returns-clause-sees g c =
+    let view = g.S.Storage.view in
+    let below = g.F.BackingDisk.backing in
+    let old = c.args.self.now in
+    let p = c.args.prepared in
+    let mid = c.free_later.new.self in
+    let caches = c.unpin.new.self.file.caches in
+    let freed = c.free_later.ensures in
+    let un = c.unpin.ensures in
+    let same = un.rest ∙ ap (λ (m : Qcow2 _ _). record m { file = record m.file { caches = caches } }) freed in
+    let tables : SameTables old.file.caches caches = subst (λ (m : Qcow2 _ _). SameTables m.file.caches caches) freed un.tables in
+    let pins : (n : ℕ) → l2_pins caches n ≡ l2_pins old.file.caches n - pins_of p.table n = λ n. un.pins n ∙ ap (λ (m : Qcow2 _ _). l2_pins m.file.caches n - pins_of p.table n) freed in
+    subst (λ (image : Qcow2 _ _). Discards view below old image p) (sym same) (discards view below old p caches tables pins)
+
+pub returns-clause-rest : goal.returns-clause-rest
+returns-clause-rest g c =
+    let view = g.S.Storage.view in
+    let old = c.args.self.now in
+    let caches = c.unpin.new.self.file.caches in
+    let freed = c.free_later.ensures in
+    let un = c.unpin.ensures in
+    let same = un.rest ∙ ap (λ (m : Qcow2 _ _). record m { file = record m.file { caches = caches } }) freed in
+    let tables : SameTables old.file.caches caches = subst (λ (m : Qcow2 _ _). SameTables m.file.caches caches) freed un.tables in
+    let changed : caches.is_changed ≡ old.file.caches.is_changed = un.changed ∙ ap (λ (m : Qcow2 _ _). m.file.caches.is_changed) freed in
+    subst (λ (image : Qcow2 _ _). LetsGo view old image) (sym same) (record { rest = refl; known = tables.known old.file.header.fields (contents_in view old.file); changed = changed })

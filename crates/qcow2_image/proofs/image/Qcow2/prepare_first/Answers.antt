@@ -1,0 +1,68 @@
+use Rattle.std.proofs.Common.{◌≡◌, rules, refl, ◌/◌, ◌^◌, sym, ap, ◌∙◌, subst, List, length}
+use Rattle.std.specs.Prelude.{vec_capacity}
+use Rattle.qcow2_image.specs.declared.prepared.Share.{Share}
+use Rattle.qcow2_metadata.specs.Header.{cluster_size}
+use Rattle.qcow2_alloc.proofs.AllocationSteps.{handed_on}
+use Rattle.qcow2_image.specs.declared.prepared.Prepared.{Prepared}
+use Rattle.qcow2_image.specs.Found.{l1_index_of}
+use Rattle.qcow2_image.specs.CallParts.{IsReadied, Readies}
+use Rattle.qcow2_image.specs.ImageInvariant.{pending_in}
+use Rattle.qcow2_image.specs.Ranges.{IsFirst}
+use Rattle.qcow2_image.proofs.Prepare.Onward.{if_room, room_as}
+use Rattle.qcow2_image.proofs.Prepare.Owning.{refused as any_refusal}
+use Rattle.qcow2_image.proofs.Prepare.ReadyingNew.{back_none, first_stands, not_pinned, readied_in_place}
+use Rattle.qcow2_image.proofs.image.Qcow2.prepare_first.Goals as goal
+
+pub returns-then-l2_is_pinned-clause-readies : goal.returns-then-l2_is_pinned-clause-readies
+returns-then-l2_is_pinned-clause-readies g c = λ out sound holds. back_none g.S.Storage.view g.F.BackingDisk.backing out c.args.self.now (pending_in g.S.Storage.view g.F.BackingDisk.backing c.args.self.now out) sound _
+
+pub returns-in_err-room-clause-readies : goal.returns-in_err-room-clause-readies
+returns-in_err-room-clause-readies g c = λ out sound holds.
+    let view = g.S.Storage.view in
+    let below = g.F.BackingDisk.backing in
+    let old = c.args.self.now in
+    any_refusal (λ r. Readies view below old old out c.args.offset c.args.length c.args.overwrite r) c.from_residual.result (search rules) (back_none view below out old (pending_in view below old out) sound)
+
+pub returns-in_err-old-clause-readies : goal.returns-in_err-old-clause-readies
+returns-in_err-old-clause-readies g c = λ out sound holds.
+    let view = g.S.Storage.view in
+    let below = g.F.BackingDisk.backing in
+    let old = c.args.self.now in
+    handed_on (λ r. Readies view below old old out c.args.offset c.args.length c.args.overwrite r) c.from_residual-in_err-old.result c.in_err-old.field-0.0 c.from_residual-in_err-old.ensures
+    (back_none view below out old (pending_in view below old out) sound c.in_err-old.field-0.0)
+
+pub returns-in-Some-clause-readies : goal.returns-in-Some-clause-readies
+returns-in-Some-clause-readies g c = λ out sound holds k free.
+    let view = g.S.Storage.view in
+    let below = g.F.BackingDisk.backing in
+    let old = c.args.self.now in
+    let p = pending_in view below old out in
+    let cluster : c.cluster-cluster.result ≡ c.args.offset / cluster_size old.file.header.fields = c.cluster-cluster.ensures ∙ ap (λ o. o / 2 ^ c.cluster_bits.result) c.new.ensures ∙ ap (λ b. c.args.offset / 2 ^ b) c.cluster_bits.ensures.value in
+    let covered = first_stands view below old p c.args.offset c.args.table c.cluster-cluster.result c.in_ok-old.old cluster holds (c.in_ok-old.ensures.says p (l1_index_of old.file.header.fields c.args.offset) sound.file) in
+    subst (λ (x : Prepared). IsReadied view below old c.prepare_at.new.self out k c.args.offset c.args.length c.args.overwrite x) (sym c.prepare_at.ensures.value)
+    (readied_in_place view below out old c.prepare_at.new.self c.prepare_at.result c.prepare_at.ensures.share k c.args.offset c.args.length c.args.table c.in-Some.host c.args.overwrite free sound holds (not_pinned _ c.l2_is_pinned.result c.l2_is_pinned.ensures c.if-l2_is_pinned.false)
+    (covered ∙ c.in-Some.ensures.place.0) c.prepare_at.ensures.pins)
+
+pub returns-in-None-clause-readies : goal.returns-in-None-clause-readies
+returns-in-None-clause-readies g c = λ out sound holds.
+    let view = g.S.Storage.view in
+    let below = g.F.BackingDisk.backing in
+    let old = c.args.self.now in
+    let p = pending_in view below old out in
+    let cluster : c.cluster-cluster.result ≡ c.args.offset / cluster_size old.file.header.fields = c.cluster-cluster.ensures ∙ ap (λ o. o / 2 ^ c.cluster_bits.result) c.new.ensures ∙ ap (λ b. c.args.offset / 2 ^ b) c.cluster_bits.ensures.value in
+    c.prepare_new.ensures.readies out sound holds (not_pinned _ c.l2_is_pinned.result c.l2_is_pinned.ensures c.if-l2_is_pinned.false)
+    (first_stands view below old p c.args.offset c.args.table c.cluster-cluster.result c.in_ok-old.old cluster holds (c.in_ok-old.ensures.says p (l1_index_of old.file.header.fields c.args.offset) sound.file))
+
+pub returns-in-Some-clause-first : goal.returns-in-Some-clause-first
+returns-in-Some-clause-first g c =
+    subst (λ (x : Prepared). IsFirst c.args.self.now.file.header.fields c.args.offset c.args.table x) (sym c.prepare_at.ensures.value)
+    (record { guest = refl; under = refl; rest = refl; one = ap (λ (l : List Share). length l) c.prepare_at.ensures.share })
+
+pub returns-in-Some-clause-room : goal.returns-in-Some-clause-room
+returns-in-Some-clause-room g c =
+    room_as c.args.self.now.file.header.fields c.args.length c.args.offset c.clusters_in.result (vec_capacity c.in_ok-room.room) c.clusters_in.ensures.enough c.in_ok-room.ensures.capacity c.prepare_at.result
+    (ap (λ (x : Prepared). x.guest) c.prepare_at.ensures.value) c.prepare_at.ensures.room
+
+pub returns-in-None-clause-room : goal.returns-in-None-clause-room
+returns-in-None-clause-room g c =
+    if_room c.args.self.now.file.header.fields c.args.length c.args.offset c.args.table c.clusters_in.result (vec_capacity c.in_ok-room.room) c.clusters_in.ensures.enough c.in_ok-room.ensures.capacity c.prepare_new.result c.prepare_new.ensures.first c.prepare_new.ensures.room

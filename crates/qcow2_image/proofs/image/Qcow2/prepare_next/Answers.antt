@@ -1,0 +1,29 @@
+use Rattle.std.proofs.Common.{◌≡◌, ◌+◌, min, sym, ap, ◌∙◌, subst, arith}
+use Rattle.std.specs.Prelude.{Ok}
+use Rattle.qcow2_metadata.specs.Header.{cluster_size}
+use Rattle.qcow2_metadata.specs.declared.header.HeaderFields.{HeaderFields}
+use Rattle.qcow2_alloc.proofs.Following.{header_format}
+use Rattle.qcow2_image.specs.declared.prepared.Prepared.{Prepared}
+use Rattle.qcow2_image.specs.Ranges.{FindsBehind, IsExtended}
+use Rattle.qcow2_image.proofs.Prepare.Extending.{extended}
+use Rattle.qcow2_image.proofs.image.Qcow2.prepare_next.Goals as goal
+
+pub returns-in_default-clause-goes : goal.returns-in_default-clause-goes
+returns-in_default-clause-goes g c = λ out k at may sound.
+    subst (λ v. FindsBehind g.S.Storage.view g.F.BackingDisk.backing c.args.self.now c.share_behind.new.self out c.args.length c.args.overwrite c.args.prepared.now (Ok v)) c.in_default.is (c.in_ok-share.ensures.finds out k at may sound)
+
+pub returns-clause-goes : goal.returns-clause-goes
+returns-clause-goes g c = λ out k at may sound.
+    let view = g.S.Storage.view in
+    let below = g.F.BackingDisk.backing in
+    let old = c.args.self.now in
+    let mid = c.share_behind.new.self in
+    let p = c.args.prepared.now in
+    let n = c.args.length in
+    let found = subst (λ v. FindsBehind view below old mid out c.args.length c.args.overwrite c.args.prepared.now (Ok v)) c.in-Some.is (c.in_ok-share.ensures.finds out k at may sound) in
+    let size : c.cluster_size-size.result ≡ cluster_size old.file.header.fields = c.cluster_size-size.ensures.value ∙ ap (λ (x : HeaderFields). cluster_size x) (header_format old.file.header mid.file.header c.share_behind.ensures.header) in
+    let longer : c.min-prepared.result ≡ min c.args.length (p.length + cluster_size old.file.header.fields) =
+    let a = c.min-prepared.ensures in let b = c.saturating_add.ensures in let few = c.ranges.length.fits in omega arith in
+    let like : Prepared = record p { shares = c.push_reserved.new.self } in
+    subst (λ l. IsExtended view below old mid out k c.args.length c.args.overwrite p (record p { length = l; shares = c.push_reserved.new.self })) (sym longer)
+    (extended view below old mid out k p at n c.args.table c.args.overwrite may c.in-Some.share found like c.push_reserved.ensures.items)

@@ -1,0 +1,74 @@
+use Rattle.std.proofs.Common.{◌≡◌, ◌<◌, true, false, sym, ap, ◌∙◌, subst, arith, min}
+use Rattle.std.specs.Prelude.{Ok, Err, Some, None, slice_set}
+use Rattle.qcow2_alloc.proofs.AllocationSteps.{handed_on}
+use Rattle.qcow2_image.specs.declared.prepared.Prepared.{Prepared}
+use Rattle.qcow2_image.specs.CallParts.{IsReadied}
+use Rattle.qcow2_image.specs.Ranges.{BreaksOff, Ends, GoesNext, GoesOn}
+use Rattle.qcow2_image.proofs.Call.Slots.{get_set_same}
+use Rattle.qcow2_image.proofs.Prepare.Onward.{may_go_on, so_far_all, so_far_ends, so_far_next}
+use Rattle.qcow2_image.proofs.image.Qcow2.prepare_rest.Goals as goal
+
+pub returns-in_err-prepare_next-clause-goes : goal.returns-in_err-prepare_next-clause-goes
+returns-in_err-prepare_next-clause-goes g c = λ start out k free under is.
+    let view = g.S.Storage.view in
+    let below = g.F.BackingDisk.backing in
+    let old = c.args.self.now in
+    let now = c.loop-prepared.self in
+    let new = c.prepare_next.new.self in
+    let p = c.args.prepared.now in
+    let q = c.loop-prepared.prepared in
+    let n = c.args.length in
+    let e = c.in_err-prepare_next.field-0.0 in
+    let so = c.loop-prepared.invariant in
+    let bound = c.min-end.ensures ∙ ap (min c.args.length) c.rest_of_table.ensures.value in
+    let same : c.prepare_next.new.prepared ≡ q = c.prepare_next.ensures.same (λ ok. absurd (let f : Err e ≡ Ok true = sym c.in_err-prepare_next.was ∙ ok in cc)) in
+    let before = so.goes start out k free under is in
+    handed_on (λ r. GoesOn view below start new out k n c.args.overwrite c.prepare_next.new.prepared r) c.from_residual.result e c.from_residual.ensures
+    (subst (λ (x : Prepared). BreaksOff view below start new out k n c.args.overwrite x e) (sym same)
+    (record {
+      mid = now;
+      readied = before;
+      refused = c.in_err-prepare_next.ensures.goes (slice_set out k (Some q)) k (get_set_same out k (Some q) None free)
+          (may_go_on view below old now p q n c.min-end.result c.args.table c.args.overwrite so bound c.loop-prepared-test.true start out k under is) before.sound;
+    }))
+
+pub returns-then-not-branch-clause-goes : goal.returns-then-not-branch-clause-goes
+returns-then-not-branch-clause-goes g c = λ start out k free under is.
+    let view = g.S.Storage.view in
+    let below = g.F.BackingDisk.backing in
+    let old = c.args.self.now in
+    let now = c.loop-prepared.self in
+    let new = c.prepare_next.new.self in
+    let p = c.args.prepared.now in
+    let q = c.loop-prepared.prepared in
+    let n = c.args.length in
+    let so = c.loop-prepared.invariant in
+    let bound = c.min-end.ensures ∙ ap (min c.args.length) c.rest_of_table.ensures.value in
+    let answer = c.in_ok-prepare_next.field-0 in
+    let never : c.prepare_next.result ≡ Ok true → ⊥ = λ ok. (let f : Ok c.in_ok-prepare_next.field-0 ≡ Ok true = sym c.in_ok-prepare_next.was ∙ ok in let yes : c.in_ok-prepare_next.field-0 ≡ true = cc in absurd (let no : false ≡ true = sym c.if-not-branch.true ∙ yes in cc)) in
+    let same : c.prepare_next.new.prepared ≡ q = c.prepare_next.ensures.same never in
+    subst (λ (x : Prepared). IsReadied view below start new out k x.guest n c.args.overwrite x × (x.length < c.args.length → Ends view new x)) (sym same)
+    (so_far_ends view below old now p q n c.min-end.result c.args.table c.args.overwrite so bound c.loop-prepared-test.true new start out k free under is
+    (λ may sound.
+    subst (λ b. GoesNext view below now new (slice_set out k (Some q)) k n c.args.overwrite q c.prepare_next.new.prepared (Ok b)) c.if-not-branch.true
+    (c.in_ok-prepare_next.ensures.goes (slice_set out k (Some q)) k (get_set_same out k (Some q) None free) may sound)))
+
+pub loop-prepared-preserved : goal.loop-prepared-preserved
+loop-prepared-preserved g c =
+    let view = g.S.Storage.view in
+    let below = g.F.BackingDisk.backing in
+    let now = c.loop-prepared.self in
+    let new = c.prepare_next.new.self in
+    let q = c.loop-prepared.prepared in
+    let r = c.prepare_next.new.prepared in
+    let n = c.args.length in
+    let bound = c.min-end.ensures ∙ ap (min c.args.length) c.rest_of_table.ensures.value in
+    so_far_next view below c.args.self.now now c.args.prepared.now q n c.min-end.result c.args.table c.args.overwrite c.loop-prepared.invariant bound c.loop-prepared-test.true new r c.prepare_next.ensures.stays c.prepare_next.ensures.header
+    (c.prepare_next.ensures.next (c.in_ok-prepare_next.was ∙ ap Ok c.if-not-branch.false)) c.prepare_next.ensures.room
+    (λ out k at may sound. subst (λ b. GoesNext view below now new out k n c.args.overwrite q r (Ok b)) c.if-not-branch.false (c.in_ok-prepare_next.ensures.goes out k at may sound))
+
+pub returns-clause-goes : goal.returns-clause-goes
+returns-clause-goes g c = λ start out k free under is.
+    let bound = c.min-end.ensures ∙ ap (min c.args.length) c.rest_of_table.ensures.value in
+    so_far_all g.S.Storage.view g.F.BackingDisk.backing c.args.self.now c.loop-prepared.self c.args.prepared.now c.loop-prepared.prepared c.args.length c.min-end.result c.args.table c.args.overwrite c.loop-prepared.invariant bound start out k free under is
+    (omega (arith, c.loop-prepared-test.false))

@@ -1,0 +1,54 @@
+use Rattle.std.proofs.Common.{rules, ◌≡◌, ◌⊎◌, ◌≢◌, ◌*◌, ◌/◌, ◌^◌, ◌++◌, [], ◌∷◌, sym, ap, ◌∙◌, subst, is_some}
+use Rattle.std.specs.Prelude.{Ok}
+use Rattle.qcow2_metadata.specs.Entries.{count}
+use Rattle.qcow2_metadata.specs.Header.{cluster_size}
+use Rattle.qcow2_metadata.specs.L2Mapping.{IsHostCluster}
+use Rattle.qcow2_alloc.specs.ImageFile.{known_in}
+use Rattle.qcow2_alloc.specs.declared.error.ImageError.TheVariants.{UnalignedTable}
+use Rattle.qcow2_alloc.proofs.KeptTables.Standing.{own_cluster}
+use Rattle.qcow2_image.specs.declared.prepared.Share.TheVariants.{New}
+use Rattle.qcow2_image.specs.Ranges.{GainsAt, SharesAt}
+use Rattle.qcow2_image.proofs.Prepare.Owning.{refused as any_refusal}
+use Rattle.qcow2_image.proofs.Prepare.ReadyingNew.{back_none}
+use Rattle.qcow2_image.proofs.image.Qcow2.share_at.Goals as goal
+
+pub returns-in_default-clause-shares : goal.returns-in_default-clause-shares
+returns-in_default-clause-shares g c = λ p out sound holds. back_none g.S.Storage.view g.F.BackingDisk.backing out c.args.self.now p sound UnalignedTable
+
+pub returns-in_err-dropped-clause-shares : goal.returns-in_err-dropped-clause-shares
+returns-in_err-dropped-clause-shares g c = λ p out sound holds.
+    let view = g.S.Storage.view in
+    let below = g.F.BackingDisk.backing in
+    let old = c.args.self.now in
+    any_refusal (λ r. SharesAt view below p old old out c.args.offset c.args.length c.args.overwrite c.args.old.now c.args.host r) c.from_residual.result (search rules) (back_none view below out old p sound)
+
+pub returns-in_default-2-clause-shares : goal.returns-in_default-2-clause-shares
+returns-in_default-2-clause-shares g c = λ p out sound holds.
+    let view = g.S.Storage.view in
+    let below = g.F.BackingDisk.backing in
+    let old = c.args.self.now in
+    let new = c.new_cluster_at.new.self in
+    let h = old.file.header.fields in
+    let took = subst (λ v. GainsAt view below p old new out c.args.offset c.args.length c.args.overwrite c.args.old.now c.in-Some.cluster (Ok v)) c.in_default-2.is (c.in_ok-pending.ensures.gains p out sound holds) in
+    let host_is : c.in-Some.cluster * cluster_size h ≡ c.args.host = ap (λ b. c.in-Some.cluster * 2 ^ b) (sym c.cluster_bits-bits.ensures.value) ∙ c.in-Some.ensures.cluster ∙ c.new.ensures in
+    let same : c.args.host / cluster_size h ≡ c.in-Some.cluster = ap (λ o. o / cluster_size h) (sym host_is) ∙ own_cluster h.cluster_bits c.in-Some.cluster in
+    (took.0, subst (λ x. (IsHostCluster old.file.header.fields.cluster_bits x → ⊥) ⊎ (count new.file.header.fields (known_in view new.file) x ≢ 0)) (sym same) took.1)
+
+pub returns-clause-shares : goal.returns-clause-shares
+returns-clause-shares g c = λ p out sound holds.
+    let view = g.S.Storage.view in
+    let below = g.F.BackingDisk.backing in
+    let old = c.args.self.now in
+    let new = c.new_cluster_at.new.self in
+    let h = old.file.header.fields in
+    let n = c.in-Some-2.pending in
+    let took = subst (λ v. GainsAt view below p old new out c.args.offset c.args.length c.args.overwrite c.args.old.now c.in-Some.cluster (Ok v)) c.in-Some-2.is (c.in_ok-pending.ensures.gains p out sound holds) in
+    let host_is : c.in-Some.cluster * cluster_size h ≡ c.args.host = ap (λ b. c.in-Some.cluster * 2 ^ b) (sym c.cluster_bits-bits.ensures.value) ∙ c.in-Some.ensures.cluster ∙ c.new.ensures in
+    let taken_is = c.hand_back.ensures ∙ ap (λ l. l ++ n ∷ []) c.new-taken.ensures in
+    record {
+      run = n;
+      is = ap (λ t. New t c.in_ok-dropped.dropped) taken_is ∙ ap (λ d. New (n ∷ []) d) c.in_ok-dropped.ensures.list;
+      place = ap (λ x. x * cluster_size h) took.0 ∙ host_is;
+      nameable = subst (IsHostCluster h.cluster_bits) (sym took.0) (c.in_ok-pending.ensures.nameable (ap is_some c.in-Some-2.is));
+      gained = took.1;
+    }

@@ -1,0 +1,218 @@
+-- What clearing the whole clusters of a range does: they read as zeros then, or as the disk below.
+use Rattle.std.specs.Prelude.{ℕ, zero, suc, ◌+◌, ◌*◌, ◌/◌, ◌%◌, ◌≡◌, ◌≢◌, ◌⊎◌, ◌<◌, ◌≤◌, ◌==◌, ◌&&◌, ◌||◌, ◌^◌, ◌++◌, Bool, true, false, not, nat_le, nat_lt, List, [], ◌∷◌, Option, Some, None, IsSome, IsTrue, Result, Ok, Err, slice_get, if◌then◌else◌}
+use Rattle.std.specs.Option.{option_or}
+use Rattle.image_access.specs.Backing.{BackingView}
+use Rattle.image_access.specs.Moments.{StorageView}
+use Rattle.qcow2_metadata.specs.Bytes.{Bytes}
+use Rattle.qcow2_metadata.specs.declared.header.HeaderFields.{HeaderFields}
+use Rattle.qcow2_metadata.specs.declared.l2_mapping.L2Mapping.{L2Mapping}
+use Rattle.qcow2_metadata.specs.declared.l2_mapping.L2Mapping.TheVariants as M
+use Rattle.qcow2_metadata.specs.Header.{cluster_size, entries_per_cluster, rounded_up}
+use Rattle.qcow2_metadata.specs.Cover.{cover, entry_cover}
+use Rattle.qcow2_metadata.specs.Entries.{is_copied, l1_entry, l2_entry}
+use Rattle.qcow2_metadata.specs.L2Mapping.{IsInReach, dropped_run}
+use Rattle.qcow2_metadata.specs.L2Table.{copied_host, zero_cover, zero_entry}
+use Rattle.qcow2_laws.specs.AbstractImages.{Setting, guest_of}
+use Rattle.qcow2_laws.specs.Calls.{Clearing, to_zero, to_backing, Works, cleared, cleared_at, gift_of_clear, with_disk}
+use Rattle.qcow2_laws.specs.CrashInvariant.{Pending}
+use Rattle.qcow2_laws.specs.Found.{rest_of_table}
+use Rattle.qcow2_laws.specs.GuestLaws.{IsZeros, MapsInTurn}
+use Rattle.qcow2_laws.specs.Guests.{table_at}
+use Rattle.qcow2_laws.specs.Mappings.{gift_shown}
+use Rattle.qcow2_laws.specs.Rules.{answered, touched_from, touched_to}
+use Rattle.qcow2_laws.specs.Steps.{guest_at}
+use Rattle.qcow2_laws.specs.Stops.{GivenBytes}
+use Rattle.qcow2_laws.specs.Unseen.{KeepsFormat}
+use Rattle.qcow2_alloc.specs.CacheMarks.{KeepsMarks, l2_pins}
+use Rattle.qcow2_alloc.specs.declared.cache.MetadataCaches.{MetadataCaches}
+use Rattle.qcow2_alloc.specs.declared.clusters_to_free.ClustersToFreeEntry.{ClustersToFreeEntry}
+use Rattle.qcow2_alloc.specs.declared.error.ImageError.{ImageError}
+use Rattle.qcow2_alloc.specs.declared.error.ImageError.TheVariants as I
+use Rattle.qcow2_alloc.specs.ImageFile.{FileInvariant, contents_in, known_in, state_in}
+use Rattle.qcow2_alloc.specs.MetadataCaches.{CacheInvariant, IsEntryAt, MadeEntry, NotesHeld, known_of, l2_at, order_of}
+use Rattle.qcow2_image.specs.CallParts.{RefusedCall}
+use Rattle.qcow2_image.specs.Calls.{Answers}
+use Rattle.qcow2_image.specs.declared.discarding.Clearance.{Clearance}
+use Rattle.qcow2_image.specs.declared.discarding.Clearance.TheVariants.{Uncovered, Zeros, KeptZeros}
+use Rattle.qcow2_image.specs.declared.image.Qcow2.{Qcow2}
+use Rattle.qcow2_image.specs.declared.prepared.Prepared.{Prepared}
+use Rattle.qcow2_image.specs.Found.{l1_index_of}
+use Rattle.qcow2_image.specs.Image.{is_writable, size_of}
+use Rattle.qcow2_image.specs.ImageInvariant.{ImageInvariant, abstract_of, disk_of, listed_run, of_data, pending_in, to_free}
+use Rattle.qcow2_image.specs.Prepared.{table_of}
+use Rattle.qcow2_image.specs.Refusals.{passes, refuse_if, unusable}
+
+-- what the disk shows where it was cleared
+abbrev pub shown_by : Clearance → Clearing
+shown_by Uncovered = to_backing
+shown_by Zeros = to_zero
+shown_by KeptZeros = to_zero
+
+-- what stands for a cleared cluster, of what stood for it: nothing; zeros, and no host cluster; or zeros, with the host cluster that was marked copied
+abbrev pub cleared_cover : Clearance → L2Mapping → L2Mapping
+cleared_cover Uncovered old = M.Uncovered
+cleared_cover Zeros old = zero_cover None
+cleared_cover KeptZeros old = zero_cover (copied_host old)
+
+abbrev pub cleared_entry : Clearance → L2Mapping → ℕ
+cleared_entry Uncovered old = 0
+cleared_entry Zeros old = zero_entry None
+cleared_entry KeptZeros old = zero_entry (copied_host old)
+
+-- entries can say that clusters are zeros from version 3 on
+abbrev pub needs_zeros : Clearance → Bool
+needs_zeros Uncovered = false
+needs_zeros Zeros = true
+needs_zeros KeptZeros = true
+
+-- rounding the begin of a range up to a cluster, or its end at the disk's end, passes 64 bits
+abbrev pub rounds_past : ℕ → ℕ → ℕ → ℕ → Bool
+rounds_past cs size offset n = nat_le (2 ^ 64) (rounded_up cs offset) || offset + n == size && nat_le (2 ^ 64) (rounded_up cs (offset + n))
+
+-- the range that a call touches
+module _ {S F : Type 0} (image : Qcow2 S F) (offset n : ℕ) where
+  abbrev pub from_in : ℕ
+  from_in = touched_from (cluster_size image.file.header.fields) offset
+
+  abbrev pub to_in : ℕ
+  to_in = touched_to (cluster_size image.file.header.fields) (size_of image) offset n
+
+  -- of clearing a range, in this order: what makes the image unusable, that it isn't to be written, a range beyond the size, version 2 where zeros are needed, and offsets past 64 bits
+  abbrev pub refuses_to_clear : Clearance → Option ImageError
+  refuses_to_clear how =
+      option_or (unusable image) (option_or (refuse_if (not (is_writable image)) I.ReadOnly) (option_or (refuse_if (passes (size_of image) offset n) I.BeyondSize)
+      (option_or (refuse_if (needs_zeros how && nat_lt image.file.header.fields.version 3) I.Version) (refuse_if (rounds_past (cluster_size image.file.header.fields) (size_of image) offset n) I.Overflow))))
+
+-- a mapping that is out, and isn't existing, lies in the L2 table of an offset
+pub record IsUnderMapping (h : HeaderFields) (offset : ℕ) (out : List (Option Prepared)) : Type 0 where
+  pub place : ℕ
+  pub other : Prepared
+  pub is_out : slice_get out place ≡ Some (Some other)
+  pub keeps_table : IsSome (table_of other)
+  pub same_table : l1_index_of h other.guest ≡ l1_index_of h offset
+
+-- two offsets are those of clusters, within one L2 table, and where zeros are needed entries can say so
+pub record IsWhole (h : HeaderFields) (how : Clearance) (from to : ℕ) : Type 0 where
+  pub begins : from % cluster_size h ≡ 0
+  pub ends : to % cluster_size h ≡ 0
+  pub within : to ≤ from + rest_of_table h from
+  pub version : IsTrue (needs_zeros how) → 3 ≤ h.version
+
+-- a guest cluster lies between two offsets
+abbrev pub is_between : HeaderFields → (from to g : ℕ) → Bool
+is_between h from to g = nat_le from (g * cluster_size h) && nat_lt (g * cluster_size h) to
+
+-- Each guest cluster between two offsets is cleared so, and for all others stands what stood for them.
+abbrev pub ClearsCovers : Clearance → (from to : ℕ) → HeaderFields → Bytes → HeaderFields → Bytes → Type 0
+ClearsCovers how from to h known h' known' = (g : ℕ) → cover h' known' g ≡ (if is_between h from to g then cleared_cover how (cover h known g) else cover h known g)
+
+module _ {S F : Type 0} (view : S → StorageView) (backing : F → BackingView) where
+  -- what stays of an image, and its disk, whatever mappings are out
+  abbrev pub setting_of : Qcow2 S F → Setting
+  setting_of image = (abstract_of view backing image []).setting
+
+  -- what clearing a range gives
+  abbrev pub gifts_of_clear : Qcow2 S F → Clearance → ℕ → ℕ → List GivenBytes
+  gifts_of_clear image how offset n = gift_of_clear (setting_of image) (disk_of view backing image) (shown_by how) offset n ∷ []
+
+  -- Its whole clusters are cleared, and how much of it that was is answered; or it was refused.
+  abbrev pub Clears : Clearance → Qcow2 S F → Qcow2 S F → ℕ → ℕ → Result (ℕ × ℕ) ImageError → Type 0
+  Clears how old new offset n result =
+      Answers view backing old new (gifts_of_clear old how offset n)
+      (λ range was is. (range ≡ answered (setting_of old).cluster_size was.disk.size offset n) × (is ≡ with_disk was (cleared_at (setting_of old) was.disk (shown_by how) offset n))) result
+
+  -- ---- parts of the work
+
+  -- what clearing gives between two offsets
+  abbrev pub gifts_between : Qcow2 S F → Clearance → (from to : ℕ) → List GivenBytes
+  gifts_between image how from to = gift_shown (cleared (setting_of image) (disk_of view backing image) (shown_by how) from to) from to ∷ []
+
+  -- the clusters between two offsets are cleared, and what they named is to be freed
+  pub record ClearsPart (how : Clearance) (from to : ℕ) (old new : Qcow2 S F) (out : List (Option Prepared)) : Type 0 where
+    pub works : Works (abstract_of view backing old out) (abstract_of view backing new out) (gifts_between old how from to) []
+    pub sound : ImageInvariant view backing (pending_in view backing new out) new out
+    pub shows : guest_of (abstract_of view backing new out) ≡ with_disk (guest_of (abstract_of view backing old out)) (cleared (setting_of old) (disk_of view backing old) (shown_by how) from to)
+    pub header : KeepsFormat old.file.header.fields new.file.header.fields
+    pub covers : ClearsCovers how from to old.file.header.fields (known_in view old.file) new.file.header.fields (known_in view new.file)
+    pub noted : IsTrue new.file.caches.is_changed
+
+  abbrev pub ClearsOrRefuses : Clearance → (from to : ℕ) → Qcow2 S F → Qcow2 S F → List (Option Prepared) → Result (Unit {0}) ImageError → Type 0
+  ClearsOrRefuses how from to old new out (Ok _) = ClearsPart how from to old new out
+  ClearsOrRefuses how from to old new out (Err e) = RefusedCall view backing old new out e
+
+-- what n guest clusters from one on name no longer once they are cleared
+abbrev pub listed_by : Clearance → HeaderFields → Bytes → (first n : ℕ) → List ClustersToFreeEntry
+listed_by how h known first zero = []
+listed_by how h known first (suc n) = listed_by how h known first n ++ listed_run (dropped_run h.cluster_bits (cover h known (first + n)) (cleared_cover how (cover h known (first + n))))
+
+-- an entry of a held table is cleared, and nothing else changes
+pub record ClearsEntry {S F : Type 0} (how : Clearance) (table index : ℕ) (old new : Qcow2 S F) : Type 0 where
+  pub rest : new ≡ record old { file = record old.file { caches = new.file.caches } }
+  pub order : order_of new.file.caches ≡ order_of old.file.caches
+  pub marks : KeepsMarks old.file.caches new.file.caches
+  pub held : IsSome (l2_at old.file.caches table) → IsSome (l2_at new.file.caches table)
+  pub answer : Option (ℕ × ℕ)
+  pub cleared : (h : HeaderFields) (p : Pending) (on_storage : Bytes) (i : ℕ) → CacheInvariant h p old.file.caches on_storage → IsEntryAt h (known_of h old.file.caches on_storage) i table index → is_copied (l1_entry h on_storage i) ≡ true → IsSome (l2_at old.file.caches table)
+      → MadeEntry h old.file.caches new.file.caches on_storage i index (cleared_entry how (entry_cover h (l2_entry (known_of h old.file.caches on_storage) (table_at h (known_of h old.file.caches on_storage) i) index))) answer
+  pub noted : NotesHeld old.file.caches new.file.caches table index
+
+-- what a cleared cluster is mapped to, as the laws ask for it
+abbrev pub is_cleared : Clearance → L2Mapping → Type 0
+is_cleared Uncovered v = v ≡ M.Uncovered
+is_cleared Zeros v = IsZeros v
+is_cleared KeptZeros v = IsZeros v
+
+abbrev pub with_caches : {S F : Type 0} → Qcow2 S F → MetadataCaches S → Qcow2 S F
+with_caches a caches = record a { file = record a.file { caches = caches } }
+
+module _ {S F : Type 0} (view : S → StorageView) (backing : F → BackingView) where
+  -- where n entries of a held table may be cleared, from one on
+  pub record MayClear (how : Clearance) (t row column n : ℕ) (a : Qcow2 S F) (out : List (Option Prepared)) (p : Pending) : Type 0 where
+    pub sound : ImageInvariant view backing p a out
+    pub real : table_at a.file.header.fields (known_in view a.file) row ≢ 0
+    pub place : table_at a.file.header.fields (known_in view a.file) row ≡ t * cluster_size a.file.header.fields
+    pub within : column + n ≤ entries_per_cluster a.file.header.fields
+    pub copied : is_copied (l1_entry a.file.header.fields (contents_in view a.file) row) ≡ true
+    pub found : IsSome (l2_at a.file.caches t)
+    pub unpinned : l2_pins a.file.caches t ≡ 0
+    pub version : IsTrue (needs_zeros how) → 3 ≤ a.file.header.fields.version
+    pub reach : (i : ℕ) → i < n → IsInReach (cover a.file.header.fields (known_in view a.file) (guest_at a.file.header.fields row column + i))
+
+  -- they are
+  pub record AreCleared (how : Clearance) (row column n : ℕ) (a : Qcow2 S F) (caches : MetadataCaches S) (out : List (Option Prepared)) (p : Pending) : Type 0 where
+    pub now : Pending
+    pub sound_now : ImageInvariant view backing now (with_caches a caches) out
+    pub turn : MapsInTurn (is_cleared how) (guest_at a.file.header.fields row column) n (state_in view a.file p) (state_in view (with_caches a caches).file now)
+    pub cleared_all : (i : ℕ) → i < n → cover a.file.header.fields (known_in view (with_caches a caches).file) (guest_at a.file.header.fields row column + i) ≡ cleared_cover how (cover a.file.header.fields (known_in view a.file) (guest_at a.file.header.fields row column + i))
+    pub stays : (g : ℕ) → (g < guest_at a.file.header.fields row column) ⊎ (guest_at a.file.header.fields row column + n ≤ g) → cover a.file.header.fields (known_in view a.file) g ≡ cover a.file.header.fields (known_in view (with_caches a caches).file) g
+    pub table_stays : table_at a.file.header.fields (known_in view (with_caches a caches).file) row ≡ table_at a.file.header.fields (known_in view a.file) row
+    pub held : (k : ℕ) → now.held k ≡ p.held k
+    pub fresh : (k : ℕ) → now.fresh k ≡ p.fresh k
+    pub spent : (k : ℕ) → now.spent k ≡ p.spent k
+    pub surplus : now.surplus ≡ p.surplus
+    pub dropped : (k : ℕ) → now.dropped k ≡ p.dropped k + to_free of_data (listed_by how a.file.header.fields (known_in view a.file) (guest_at a.file.header.fields row column) n) k
+
+  -- n entries of a table are cleared, from one on
+  pub record ClearsTable (how : Clearance) (t column n : ℕ) (a b : Qcow2 S F) : Type 0 where
+    pub rest : b ≡ with_caches a b.file.caches
+    pub marks : KeepsMarks a.file.caches b.file.caches
+    pub held : IsSome (l2_at a.file.caches t) → IsSome (l2_at b.file.caches t)
+    pub part : (out : List (Option Prepared)) (p : Pending) (row : ℕ) → MayClear how t row column n a out p → AreCleared how row column n a b.file.caches out p
+    pub noted : (out : List (Option Prepared)) (p : Pending) (row : ℕ) → MayClear how t row column n a out p → 0 < n → IsTrue b.file.caches.is_changed
+
+  -- ---- what is read before the first entry changes
+  -- what the entry of a guest cluster will name no longer is put at the end of a list; it is within the reach of an entry
+  abbrev pub ReadsDropped : Clearance → (table cluster : ℕ) → Qcow2 S F → List ClustersToFreeEntry → List ClustersToFreeEntry → Type 0
+  ReadsDropped how table cluster image old new =
+      let h = image.file.header.fields in
+      let known = known_in view image.file in
+      (p : Pending) (i : ℕ) → FileInvariant view p image.file → IsEntryAt h known i table (cluster % entries_per_cluster h) → cluster / entries_per_cluster h ≡ i
+      → (new ≡ old ++ listed_run (dropped_run h.cluster_bits (cover h known cluster) (cleared_cover how (cover h known cluster)))) × IsInReach (cover h known cluster)
+
+  -- so for n of them, from one on
+  abbrev pub ReadsAll : Clearance → (table first n : ℕ) → Qcow2 S F → List ClustersToFreeEntry → Type 0
+  ReadsAll how table first n image list =
+      let h = image.file.header.fields in
+      let known = known_in view image.file in
+      (p : Pending) (i : ℕ) → FileInvariant view p image.file → IsEntryAt h known i table (first % entries_per_cluster h) → first / entries_per_cluster h ≡ i → first % entries_per_cluster h + n ≤ entries_per_cluster h
+      → (list ≡ listed_by how h known first n) × ((j : ℕ) → j < n → IsInReach (cover h known (first + j)))

@@ -1,0 +1,170 @@
+-- How a prepared range goes on behind its first cluster.
+use Rattle.std.specs.Prelude.{Bool, true, false, ℕ, ◌+◌, ◌-◌, ◌*◌, ◌/◌, ◌%◌, ◌<◌, ◌≤◌, ◌≡◌, ◌≢◌, ◌⊎◌, ◌&&◌, List, [], ◌∷◌, ◌++◌, length, min, Option, Some, None, Result, Ok, Err, IsTrue, slice_set, vec_capacity}
+use Rattle.image_access.specs.Backing.{BackingView}
+use Rattle.image_access.specs.Moments.{StorageView}
+use Rattle.qcow2_metadata.specs.Bytes.{Bytes, is_within}
+use Rattle.qcow2_metadata.specs.Entries.{count}
+use Rattle.qcow2_metadata.specs.Guest.{known_byte}
+use Rattle.qcow2_metadata.specs.Header.{cluster_size, entries_per_cluster}
+use Rattle.qcow2_metadata.specs.L2Mapping.{IsHostCluster, named_run}
+use Rattle.qcow2_metadata.specs.declared.header.HeaderFields.{HeaderFields}
+use Rattle.qcow2_metadata.specs.declared.l2_mapping.L2Mapping.{L2Mapping}
+use Rattle.qcow2_laws.specs.AbstractImages.{guest_of}
+use Rattle.qcow2_laws.specs.Alike.{IsDataAt}
+use Rattle.qcow2_laws.specs.Calls.{Works, with_slot}
+use Rattle.qcow2_laws.specs.Changes.{with_held}
+use Rattle.qcow2_laws.specs.CrashInvariant.{Pending, SameCovers}
+use Rattle.qcow2_laws.specs.Found.{rest_of_table}
+use Rattle.qcow2_laws.specs.Mappings.{IsPrepared}
+use Rattle.qcow2_laws.specs.Unseen.{KeepsFormat}
+use Rattle.qcow2_alloc.specs.ImageFile.{contents_in, known_in}
+use Rattle.qcow2_alloc.specs.declared.clusters_to_free.ClusterKind.TheVariants as Kind
+use Rattle.qcow2_alloc.specs.declared.clusters_to_free.ClustersToFreeEntry.{ClustersToFreeEntry}
+use Rattle.qcow2_alloc.specs.declared.error.ImageError.{ImageError}
+use Rattle.qcow2_image.specs.declared.image.Qcow2.{Qcow2}
+use Rattle.qcow2_image.specs.declared.prepared.Prepared.{Prepared}
+use Rattle.qcow2_image.specs.declared.prepared.Share.{Share}
+use Rattle.qcow2_image.specs.declared.prepared.Share.TheVariants.{New}
+use Rattle.qcow2_image.specs.CallParts.{IsReadied, RefusedCall, UnseenCall}
+use Rattle.qcow2_image.specs.ImageInvariant.{run_of, of_data, of_tables, to_free, held_in, held_by, over_all, is_entered, cluster_of, place_of, listed_run, disk_of, pending_in, abstract_of, meaning, IsShareAt, ImageInvariant}
+use Rattle.qcow2_image.specs.UnseenSteps.{IsGained, RefusedFillingStep, UnseenFillingStep, pending_then}
+
+module _ (h : HeaderFields) where
+  -- the rest of the first cluster of a range, under a table
+  pub record IsFirst (offset table : ℕ) (p : Prepared) : Type 0 where
+    pub guest : p.guest ≡ offset
+    pub under : p.table ≡ Some table
+    pub rest : p.length ≡ cluster_size h - offset % cluster_size h
+    pub one : length p.shares.items ≡ 1
+
+  -- a mapping ends where its last cluster does
+  abbrev pub IsWhole : Prepared → Type 0
+  IsWhole p = p.guest % cluster_size h + p.length ≡ length p.shares.items * cluster_size h
+
+  -- a mapping under a table that has an entry for the cluster behind it, of a range of n bytes that goes on there
+  pub record MayGoOn (n table : ℕ) (p : Prepared) : Type 0 where
+    pub under : p.table ≡ Some table
+    pub whole : IsWhole p
+    pub more : p.length < n
+    pub within : cluster_of h p % entries_per_cluster h + length p.shares.items < entries_per_cluster h
+
+  -- it has room for the shares of a range of n bytes, as far as its L2 table goes
+  abbrev pub HasRoom : ℕ → Prepared → Type 0
+  HasRoom n p = p.guest % cluster_size h + min n (rest_of_table h p.guest) < vec_capacity p.shares * cluster_size h
+
+  -- it is longer by the cluster behind it, as far as the range goes
+  pub record IsNext (n : ℕ) (p q : Prepared) : Type 0 where
+    pub share : Share
+    pub shares : q.shares.items ≡ p.shares.items ++ share ∷ []
+    pub rest : q ≡ record p { length = min n (p.length + cluster_size h); shares = q.shares }
+
+  -- it is as long or longer, at most as long as the range, or as it was, and ends where a cluster does if the range goes on
+  pub record IsLonger (n : ℕ) (p q : Prepared) : Type 0 where
+    pub image : q.image ≡ p.image
+    pub guest : q.guest ≡ p.guest
+    pub under : q.table ≡ p.table
+    pub more : p.length ≤ q.length
+    pub most : n < q.length → q.length ≡ p.length
+    pub whole : q.length < n → IsWhole q
+
+  -- Why a mapping ends at guest byte e and at byte f of the file before its range does. A cluster ends there; and its L2 table does, or what follows is copied data elsewhere, or the host cluster that would follow can't be named, or is in use.
+  pub record EndsAt (known : Bytes) (e f : ℕ) : Type 0 where
+    pub cluster : e % cluster_size h ≡ 0
+    pub because : (e % (cluster_size h * entries_per_cluster h) ≡ 0)
+        ⊎ (((place : ℕ) × IsDataAt h known true e place × (place ≢ f))
+        ⊎ ((IsHostCluster h.cluster_bits (f / cluster_size h) → ⊥) ⊎ (count h known (f / cluster_size h) ≢ 0)))
+
+module _ {S F : Type 0} (view : S → StorageView) where
+  -- why a mapping ends before its range does, by what is known
+  abbrev pub Ends : Qcow2 S F → Prepared → Type 0
+  Ends image p = EndsAt image.file.header.fields (known_in view image.file) (p.guest + p.length) (p.offset + p.length)
+
+  -- A mapping was let go: of caches no table changed.
+  pub record LetsGo (old new : Qcow2 S F) : Type 0 where
+    pub rest : new ≡ record old { file = record old.file { caches = new.file.caches; free_list = new.file.free_list } }
+    pub known : known_in view new.file ≡ known_in view old.file
+    pub changed : new.file.caches.is_changed ≡ old.file.caches.is_changed
+
+  -- A mapping of a range of n bytes: the rest of the first cluster at least, and at most that or the range. Where it is shorter than the range, it ends for a cause.
+  pub record Reaches (image : Qcow2 S F) (offset n : ℕ) (p : Prepared) : Type 0 where
+    pub guest : p.guest ≡ offset
+    pub under : (table : ℕ) × (p.table ≡ Some table)
+    pub first : cluster_size image.file.header.fields - offset % cluster_size image.file.header.fields ≤ p.length
+    pub most : (n < p.length) → p.length ≡ cluster_size image.file.header.fields - offset % cluster_size image.file.header.fields
+    pub short : p.length < n → Ends image p
+
+  module _ (backing : F → BackingView) where
+    -- just this cluster is taken for data, or it can't be named, or is in use
+    abbrev pub TakesDataAt : Pending → Qcow2 S F → Qcow2 S F → List (Option Prepared) → ℕ → Result (Option ClustersToFreeEntry) ImageError → Type 0
+    TakesDataAt p old new out cluster (Ok (Some n)) = (n.first_cluster ≡ cluster) × (n.count ≡ 1) × (n.kind ≡ Kind.Data) × UnseenFillingStep view backing p (with_held (pending_then p old new) (run_of n)) old new out
+    TakesDataAt p old new out cluster (Ok None) =
+        UnseenFillingStep view backing p (pending_then p old new) old new out × ((IsHostCluster old.file.header.fields.cluster_bits cluster → ⊥) ⊎ (count new.file.header.fields (known_in view new.file) cluster ≢ 0))
+    TakesDataAt p old new out cluster (Err e) = RefusedFillingStep view backing p old new out e
+
+    -- so it is, and filled with what the guest sees, but where that is announced as overwritten
+    abbrev pub GainsAt : Pending → Qcow2 S F → Qcow2 S F → List (Option Prepared) → ℕ → ℕ → Bool → L2Mapping → ℕ → Result (Option ClustersToFreeEntry) ImageError → Type 0
+    GainsAt p old new out offset n overwrite mapping cluster (Ok (Some run)) = (run.first_cluster ≡ cluster) × IsGained view backing p old new out offset n overwrite mapping run
+    GainsAt p old new out offset n overwrite mapping cluster (Ok None) =
+        UnseenFillingStep view backing p (pending_then p old new) old new out × ((IsHostCluster old.file.header.fields.cluster_bits cluster → ⊥) ⊎ (count new.file.header.fields (known_in view new.file) cluster ≢ 0))
+    GainsAt p old new out offset n overwrite mapping cluster (Err e) = RefusedFillingStep view backing p old new out e
+
+    -- the share of a guest cluster at a place in the file: a new cluster, that no mapping has yet
+    pub record IsSharedAt (p : Pending) (old new : Qcow2 S F) (out : List (Option Prepared)) (offset n : ℕ) (overwrite : Bool) (mapping : L2Mapping) (host : ℕ) (share : Share) : Type 0 where
+      pub run : ClustersToFreeEntry
+      pub is : share ≡ New (run ∷ []) (listed_run (named_run old.file.header.fields.cluster_bits mapping))
+      pub place : run.first_cluster * cluster_size old.file.header.fields ≡ host
+      pub nameable : IsHostCluster old.file.header.fields.cluster_bits run.first_cluster
+      pub gained : IsGained view backing p old new out offset n overwrite mapping run
+
+    abbrev pub SharesAt : Pending → Qcow2 S F → Qcow2 S F → List (Option Prepared) → ℕ → ℕ → Bool → L2Mapping → ℕ → Result (Option Share) ImageError → Type 0
+    SharesAt p old new out offset n overwrite mapping host (Ok (Some share)) = IsSharedAt p old new out offset n overwrite mapping host share
+    SharesAt p old new out offset n overwrite mapping host (Ok None) =
+        UnseenFillingStep view backing p (pending_then p old new) old new out
+        × ((IsHostCluster old.file.header.fields.cluster_bits (host / cluster_size old.file.header.fields) → ⊥) ⊎ (count new.file.header.fields (known_in view new.file) (host / cluster_size old.file.header.fields) ≢ 0))
+    SharesAt p old new out offset n overwrite mapping host (Err e) = RefusedFillingStep view backing p old new out e
+
+    -- a share for the guest cluster behind a mapping that is out stands ready; where it isn't in place, its cluster has what the guest sees, but where that is announced as overwritten
+    pub record StandsBehind (old new : Qcow2 S F) (out : List (Option Prepared)) (n : ℕ) (overwrite : Bool) (p : Prepared) (share : Share) : Type 0 where
+      pub pending : Pending
+      pub goes : UnseenFillingStep view backing (pending_in view backing old out) pending old new out
+      pub held : (c : ℕ) → pending.held c ≡ over_all held_by out c + held_in (share ∷ []) c
+      pub fresh : (c : ℕ) → pending.fresh c ≡ 0
+      pub spent : (c : ℕ) → pending.spent c ≡ to_free of_tables new.file.free_list c
+      pub dropped : (c : ℕ) → pending.dropped c ≡ to_free of_data new.file.free_list c
+      pub surplus : pending.surplus ≡ (pending_in view backing old out).surplus
+      pub stands : IsShareAt new.file.header.fields (known_in view new.file) (contents_in view new.file) p (length p.shares.items) share
+      pub filled : (o : ℕ) → o / cluster_size new.file.header.fields ≡ cluster_of new.file.header.fields p + length p.shares.items → IsTrue (is_entered share)
+          → (overwrite && is_within p.guest (min n (p.length + cluster_size new.file.header.fields)) o ≡ false) → known_byte (contents_in view new.file (place_of new.file.header.fields p o)) ≡ (disk_of view backing old).value o
+
+    -- such a share is found; or none can stand there, and all is as it was; or it was refused
+    abbrev pub FindsBehind : Qcow2 S F → Qcow2 S F → List (Option Prepared) → (n : ℕ) → Bool → Prepared → Result (Option Share) ImageError → Type 0
+    FindsBehind old new out n overwrite p (Ok (Some share)) = StandsBehind old new out n overwrite p share
+    FindsBehind old new out n overwrite p (Ok None) = UnseenCall view backing old new out × Ends new p
+    FindsBehind old new out n overwrite p (Err e) = RefusedCall view backing old new out e
+
+    -- a mapping that is out at a place is there as a longer one, of which is private what isn't copied data
+    pub record IsExtended (old new : Qcow2 S F) (out : List (Option Prepared)) (k n : ℕ) (overwrite : Bool) (p q : Prepared) : Type 0 where
+      pub works : Works (abstract_of view backing old out) (abstract_of view backing new (slice_set out k (Some q))) [] []
+      pub sound : ImageInvariant view backing (pending_in view backing new (slice_set out k (Some q))) new (slice_set out k (Some q))
+      pub header : KeepsFormat old.file.header.fields new.file.header.fields
+      pub covers : SameCovers old.file.header.fields (known_in view old.file) (known_in view new.file)
+      pub prepared : IsPrepared (cluster_size old.file.header.fields) (guest_of (abstract_of view backing old out)).disk p.guest n overwrite (meaning view backing old p)
+          → IsPrepared (cluster_size old.file.header.fields) (guest_of (abstract_of view backing old out)).disk p.guest n overwrite (meaning view backing new q)
+      pub is : guest_of (abstract_of view backing new (slice_set out k (Some q))) ≡ with_slot (guest_of (abstract_of view backing old out)) k (Some (meaning view backing new q))
+
+    -- so it is by the cluster behind it; or that can't stand there, and all is as it was; or it was refused
+    abbrev pub GoesNext : Qcow2 S F → Qcow2 S F → List (Option Prepared) → (k n : ℕ) → Bool → Prepared → Prepared → Result Bool ImageError → Type 0
+    GoesNext old new out k n overwrite p q (Ok true) = IsExtended old new out k n overwrite p q
+    GoesNext old new out k n overwrite p q (Ok false) = UnseenCall view backing old new out × Ends new p
+    GoesNext old new out k n overwrite p q (Err e) = RefusedCall view backing old new out e
+
+    -- a range was prepared so far, and then a part was refused
+    pub record BreaksOff (start new : Qcow2 S F) (out : List (Option Prepared)) (k n : ℕ) (overwrite : Bool) (q : Prepared) (e : ImageError) : Type 0 where
+      pub mid : Qcow2 S F
+      pub readied : IsReadied view backing start mid out k q.guest n overwrite q
+      pub refused : RefusedCall view backing mid new (slice_set out k (Some q)) e
+
+    -- a range that was prepared in part is prepared as far as it goes
+    abbrev pub GoesOn : Qcow2 S F → Qcow2 S F → List (Option Prepared) → (k n : ℕ) → Bool → Prepared → Result (Unit {0}) ImageError → Type 0
+    GoesOn start new out k n overwrite q (Ok _) = IsReadied view backing start new out k q.guest n overwrite q × (q.length < n → Ends new q)
+    GoesOn start new out k n overwrite q (Err e) = BreaksOff start new out k n overwrite q e

@@ -1,0 +1,340 @@
+//! Clearing the whole clusters of a range: to zeros, or to what the disk below shows.
+ghost use Rattle.std.specs.Prelude.{ℕ, List, Option, ◌≡◌, ◌+◌, ◌-◌, ◌*◌, ◌/◌, ◌%◌, ◌^◌, ◌<◌, ◌≤◌, ◌≢◌, ◌++◌, true, false, not, Some, None, Ok, Err, IfOk, IfErr, IfSome, OnOk, IsOk, IsSome, IsTrue, MatchOption, nat_le, nat_lt, if◌then◌else◌};
+ghost use Rattle.qcow2_metadata.specs.Header.{cluster_size, entries_per_cluster, rounded_up as rounded_up_to};
+ghost use Rattle.qcow2_metadata.specs.Cover.{cover};
+ghost use Rattle.qcow2_metadata.specs.L2Mapping.{IsInReach, dropped_run};
+ghost use Rattle.qcow2_metadata.specs.L2Table.{copied_host};
+ghost use Rattle.qcow2_laws.specs.CrashInvariant.{Pending};
+ghost use Rattle.qcow2_laws.specs.Rules.{touched_from, touched_to};
+ghost use Rattle.qcow2_alloc.specs.CacheMarks.{l2_pins};
+ghost use Rattle.qcow2_alloc.specs.ImageFile.{known_in, FileInvariant};
+ghost use Rattle.qcow2_alloc.specs.MetadataCaches.{IsEntryAt};
+ghost use Rattle.qcow2_alloc.specs.declared.error.ImageError.TheVariants.{TablePrepared};
+ghost use Rattle.qcow2_image.specs.declared.prepared.Prepared.{Prepared};
+ghost use Rattle.qcow2_image.specs.Image.{HasNothingToFree, IsSameImage, Stays, is_failed, is_writable, size_of};
+ghost use Rattle.qcow2_image.specs.ImageInvariant.{ImageInvariant, abstract_of, pending_in, listed_run};
+ghost use Rattle.qcow2_image.specs.UnseenSteps.{FreesLater, HoldsTable};
+ghost use Rattle.qcow2_image.specs.Refusals.{IsMet, IsMetPreparing, Marks, passes as passes_size};
+ghost use Rattle.qcow2_image.specs.Clearing.{Clears, ClearsCovers, ClearsEntry, ClearsOrRefuses, ClearsTable, IsUnderMapping, IsWhole, ReadsAll, ReadsDropped, cleared_cover, from_in, to_in, listed_by, needs_zeros, refuses_to_clear, rounds_past};
+
+use crate::Qcow2;
+use crate::mappings::passes;
+use image_access::{Storage, WrappedFormat};
+use qcow2_alloc::{ClustersToFreeEntry, ClustersToFreeList, ImageError};
+use qcow2_metadata::{ClusterCount, GuestCluster, GuestOffset, HostCluster, L2Mapping};
+use std::alloc::Global;
+
+// What stands for a cluster once it is cleared.
+#[derive(Clone, Copy, Debug, PartialEq, Eq)]
+pub(crate) enum Clearance {
+    // Nothing: the disk below shows.
+    Uncovered,
+    // Zeros, and no host cluster.
+    Zeros,
+    // Zeros, with the host cluster that was marked copied.
+    KeptZeros,
+}
+
+impl Clearance {
+    // Whether entries have to say that clusters are zeros.
+    fn needs_zeros(self) -> bool
+        ensures { result ≡ needs_zeros self }
+    {
+        match self {
+            Clearance::Uncovered => false,
+            Clearance::Zeros | Clearance::KeptZeros => true,
+        }
+    }
+
+    // The host clusters that an entry names no longer once it is cleared.
+    fn dropped(self, old: L2Mapping, bits: u32) -> Option<(HostCluster, ClusterCount)>
+        requires bits { bits < 64 }
+        requires reach { IsInReach old }
+        ensures { result ≡ dropped_run bits old (cleared_cover self old) }
+    {
+        match self {
+            Clearance::Uncovered | Clearance::Zeros => old.host_clusters(bits),
+            Clearance::KeptZeros => {
+                if old.is_marked_copied() {
+                    None
+                } else {
+                    old.host_clusters(bits)
+                }
+            }
+        }
+    }
+}
+
+// An offset rounded up to a cluster, where that doesn't pass 64 bits.
+fn rounded_up(offset: u64, size: u64) -> Option<u64>
+    requires { 0 < size }
+    ensures some { IfSome result (λ n. n ≡ rounded_up_to size offset) }
+    ensures none { result ≡ None → 2 ^ 64 ≤ rounded_up_to size offset }
+{
+    let behind = offset % size;
+    if behind == 0 {
+        return Some(offset);
+    }
+    offset.checked_add(size - behind)
+}
+
+// Puts a run of data clusters at the end of a list.
+#[tactic(auto, using(crate::proofs::Call::MetErrors::tables_met, crate::proofs::Clear::Touched::nothing_more))]
+fn list_run(
+    alloc: Global,
+    list: &mut ClustersToFreeList,
+    run: Option<(HostCluster, ClusterCount)>,
+) -> Result<(), ImageError>
+    ensures cause { IfErr result IsMet }
+    ensures listed { OnOk result (list.new ≡ list.old ++ listed_run run) }
+{
+    if let Some((first, count)) = run {
+        list.push(alloc, ClustersToFreeEntry::data(first, count))?;
+    }
+    Ok(())
+}
+
+#[tactic(auto, using(crate::proofs::Call::MetErrors::tables_met, crate::proofs::Call::MetErrors::storage_met, crate::proofs::Call::MetErrors::metadata_met, crate::proofs::Call::MetErrors::metadata_of_tables))]
+impl<S: Storage, F: WrappedFormat<S>> Qcow2<S, F> {
+    /// Drops the whole clusters of a range, so that the disk below shows there. Answers how much of the range that was.
+    pub fn discard_to_backing_unsafe(
+        &mut self,
+        offset: u64,
+        length: u64,
+    ) -> Result<(u64, u64), ImageError>
+        ensures early { IfSome (refuses_to_clear self.old offset length Clearance.Uncovered) (λ e. (result ≡ Err e) × (self.new ≡ self.old)) }
+        ensures late { refuses_to_clear self.old offset length Clearance.Uncovered ≡ None → IfErr result IsMetPreparing }
+        ensures nothing { refuses_to_clear self.old offset length Clearance.Uncovered ≡ None → to_in self.old offset length ≤ from_in self.old offset length → (result ≡ Ok (from_in self.old offset length, 0)) × (self.new ≡ self.old) }
+        ensures marks { Marks result (is_failed self.old) (is_failed self.new) }
+        ensures image { IsSameImage self.old self.new }
+        ensures under { refuses_to_clear self.old offset length Clearance.Uncovered ≡ None → from_in self.old offset length < to_in self.old offset length → (out : List (Option Prepared)) → (abstract_of S.view F.backing self.old out).is_sound
+            → IfErr result (λ e. e ≡ TablePrepared → IsUnderMapping self.old.file.header.fields (from_in self.old offset length) out) × IfOk result (λ range. IsUnderMapping self.old.file.header.fields (from_in self.old offset length) out → ⊥) }
+        ensures sees { Clears S.view F.backing Clearance.Uncovered self.old self.new offset length result }
+        ensures covers { (out : List (Option Prepared)) → (abstract_of S.view F.backing self.old out).is_sound
+            → OnOk result (ClearsCovers Clearance.Uncovered (from_in self.old offset length) (to_in self.old offset length) self.old.file.header.fields (known_in S.view self.old.file) self.new.file.header.fields (known_in S.view self.new.file)) }
+        ensures emptied { from_in self.old offset length < to_in self.old offset length → OnOk result (HasNothingToFree self.new) }
+    {
+        self.clear_range(offset, length, Clearance::Uncovered)
+    }
+
+    /// Drops the whole clusters of a range, which read as zeros then. Answers how much of the range that was.
+    pub fn discard_to_zero_unsafe(
+        &mut self,
+        offset: u64,
+        length: u64,
+    ) -> Result<(u64, u64), ImageError>
+        ensures early { IfSome (refuses_to_clear self.old offset length Clearance.Zeros) (λ e. (result ≡ Err e) × (self.new ≡ self.old)) }
+        ensures late { refuses_to_clear self.old offset length Clearance.Zeros ≡ None → IfErr result IsMetPreparing }
+        ensures nothing { refuses_to_clear self.old offset length Clearance.Zeros ≡ None → to_in self.old offset length ≤ from_in self.old offset length → (result ≡ Ok (from_in self.old offset length, 0)) × (self.new ≡ self.old) }
+        ensures marks { Marks result (is_failed self.old) (is_failed self.new) }
+        ensures image { IsSameImage self.old self.new }
+        ensures under { refuses_to_clear self.old offset length Clearance.Zeros ≡ None → from_in self.old offset length < to_in self.old offset length → (out : List (Option Prepared)) → (abstract_of S.view F.backing self.old out).is_sound
+            → IfErr result (λ e. e ≡ TablePrepared → IsUnderMapping self.old.file.header.fields (from_in self.old offset length) out) × IfOk result (λ range. IsUnderMapping self.old.file.header.fields (from_in self.old offset length) out → ⊥) }
+        ensures sees { Clears S.view F.backing Clearance.Zeros self.old self.new offset length result }
+        ensures covers { (out : List (Option Prepared)) → (abstract_of S.view F.backing self.old out).is_sound
+            → OnOk result (ClearsCovers Clearance.Zeros (from_in self.old offset length) (to_in self.old offset length) self.old.file.header.fields (known_in S.view self.old.file) self.new.file.header.fields (known_in S.view self.new.file)) }
+        ensures emptied { from_in self.old offset length < to_in self.old offset length → OnOk result (HasNothingToFree self.new) }
+    {
+        self.clear_range(offset, length, Clearance::Zeros)
+    }
+
+    /// Drops the whole clusters of a range, whatever they read as then: zeros, today. Answers how much of the range that was.
+    pub fn discard_to_any_unsafe(
+        &mut self,
+        offset: u64,
+        length: u64,
+    ) -> Result<(u64, u64), ImageError>
+        ensures early { IfSome (refuses_to_clear self.old offset length Clearance.Zeros) (λ e. (result ≡ Err e) × (self.new ≡ self.old)) }
+        ensures late { refuses_to_clear self.old offset length Clearance.Zeros ≡ None → IfErr result IsMetPreparing }
+        ensures nothing { refuses_to_clear self.old offset length Clearance.Zeros ≡ None → to_in self.old offset length ≤ from_in self.old offset length → (result ≡ Ok (from_in self.old offset length, 0)) × (self.new ≡ self.old) }
+        ensures marks { Marks result (is_failed self.old) (is_failed self.new) }
+        ensures image { IsSameImage self.old self.new }
+        ensures under { refuses_to_clear self.old offset length Clearance.Zeros ≡ None → from_in self.old offset length < to_in self.old offset length → (out : List (Option Prepared)) → (abstract_of S.view F.backing self.old out).is_sound
+            → IfErr result (λ e. e ≡ TablePrepared → IsUnderMapping self.old.file.header.fields (from_in self.old offset length) out) × IfOk result (λ range. IsUnderMapping self.old.file.header.fields (from_in self.old offset length) out → ⊥) }
+        ensures sees { Clears S.view F.backing Clearance.Zeros self.old self.new offset length result }
+        ensures covers { (out : List (Option Prepared)) → (abstract_of S.view F.backing self.old out).is_sound
+            → OnOk result (ClearsCovers Clearance.Zeros (from_in self.old offset length) (to_in self.old offset length) self.old.file.header.fields (known_in S.view self.old.file) self.new.file.header.fields (known_in S.view self.new.file)) }
+        ensures emptied { from_in self.old offset length < to_in self.old offset length → OnOk result (HasNothingToFree self.new) }
+    {
+        self.discard_to_zero_unsafe(offset, length)
+    }
+
+    /// Makes the whole clusters of a range read as zeros. A host cluster that is marked copied is kept. Answers how much of the range that was.
+    pub fn ensure_zero_mapping(
+        &mut self,
+        offset: u64,
+        length: u64,
+    ) -> Result<(u64, u64), ImageError>
+        ensures early { IfSome (refuses_to_clear self.old offset length Clearance.KeptZeros) (λ e. (result ≡ Err e) × (self.new ≡ self.old)) }
+        ensures late { refuses_to_clear self.old offset length Clearance.KeptZeros ≡ None → IfErr result IsMetPreparing }
+        ensures nothing { refuses_to_clear self.old offset length Clearance.KeptZeros ≡ None → to_in self.old offset length ≤ from_in self.old offset length → (result ≡ Ok (from_in self.old offset length, 0)) × (self.new ≡ self.old) }
+        ensures marks { Marks result (is_failed self.old) (is_failed self.new) }
+        ensures image { IsSameImage self.old self.new }
+        ensures under { refuses_to_clear self.old offset length Clearance.KeptZeros ≡ None → from_in self.old offset length < to_in self.old offset length → (out : List (Option Prepared)) → (abstract_of S.view F.backing self.old out).is_sound
+            → IfErr result (λ e. e ≡ TablePrepared → IsUnderMapping self.old.file.header.fields (from_in self.old offset length) out) × IfOk result (λ range. IsUnderMapping self.old.file.header.fields (from_in self.old offset length) out → ⊥) }
+        ensures sees { Clears S.view F.backing Clearance.KeptZeros self.old self.new offset length result }
+        ensures covers { (out : List (Option Prepared)) → (abstract_of S.view F.backing self.old out).is_sound
+            → OnOk result (ClearsCovers Clearance.KeptZeros (from_in self.old offset length) (to_in self.old offset length) self.old.file.header.fields (known_in S.view self.old.file) self.new.file.header.fields (known_in S.view self.new.file)) }
+        ensures emptied { from_in self.old offset length < to_in self.old offset length → OnOk result (HasNothingToFree self.new) }
+    {
+        self.clear_range(offset, length, Clearance::KeptZeros)
+    }
+
+    // Clears the whole clusters of a range.
+    fn clear_range(
+        &mut self,
+        offset: u64,
+        length: u64,
+        how: Clearance,
+    ) -> Result<(u64, u64), ImageError>
+        ensures early { IfSome (refuses_to_clear self.old offset length how) (λ e. (result ≡ Err e) × (self.new ≡ self.old)) }
+        ensures late { refuses_to_clear self.old offset length how ≡ None → IfErr result IsMetPreparing }
+        ensures nothing { refuses_to_clear self.old offset length how ≡ None → to_in self.old offset length ≤ from_in self.old offset length → (result ≡ Ok (from_in self.old offset length, 0)) × (self.new ≡ self.old) }
+        ensures marks { Marks result (is_failed self.old) (is_failed self.new) }
+        ensures image { IsSameImage self.old self.new }
+        ensures under { refuses_to_clear self.old offset length how ≡ None → from_in self.old offset length < to_in self.old offset length → (out : List (Option Prepared)) → (abstract_of S.view F.backing self.old out).is_sound
+            → IfErr result (λ e. e ≡ TablePrepared → IsUnderMapping self.old.file.header.fields (from_in self.old offset length) out) × IfOk result (λ range. IsUnderMapping self.old.file.header.fields (from_in self.old offset length) out → ⊥) }
+        ensures sees { Clears S.view F.backing how self.old self.new offset length result }
+        ensures covers { (out : List (Option Prepared)) → (abstract_of S.view F.backing self.old out).is_sound
+            → OnOk result (ClearsCovers how (from_in self.old offset length) (to_in self.old offset length) self.old.file.header.fields (known_in S.view self.old.file) self.new.file.header.fields (known_in S.view self.new.file)) }
+        ensures emptied { from_in self.old offset length < to_in self.old offset length → OnOk result (HasNothingToFree self.new) }
+    {
+        let (from, to) = self.check_clear(offset, length, how)?;
+        if to <= from {
+            return Ok((from, 0));
+        }
+        self.begin();
+        let cleared = self.clear_between(from, to, how);
+        self.mark_failure(cleared)?;
+        self.end_freeing()?;
+        Ok((from, to.min(offset + length).saturating_sub(from)))
+    }
+
+    // The whole clusters of a range within one L2 table: where they begin and end. Refuses a range that can't be cleared.
+    fn check_clear(
+        &self,
+        offset: u64,
+        length: u64,
+        how: Clearance,
+    ) -> Result<(u64, u64), ImageError>
+        ensures refusal { MatchOption (refuses_to_clear self.now offset length how) (result ≡ Ok (from_in self.now offset length, to_in self.now offset length)) (λ e. result ≡ Err e) }
+        ensures writable { IfOk result (λ range. IsTrue (is_writable self.now)) }
+        ensures end { IfOk result (λ range. offset + length < 2 ^ 64) }
+        ensures version { IfOk result (λ range. IsTrue (needs_zeros how) → 3 ≤ self.now.file.header.fields.version) }
+    {
+        self.check_usable()?;
+        if !self.writable() {
+            return Err(ImageError::ReadOnly);
+        }
+        if passes(self.file.header.size(), offset, length) {
+            return Err(ImageError::BeyondSize);
+        }
+        if how.needs_zeros() && self.file.header.version() < 3 {
+            return Err(ImageError::Version);
+        }
+        match self.touched(offset, length) {
+            Some(range) => Ok(range),
+            None => Err(ImageError::Overflow),
+        }
+    }
+
+    // Where the whole clusters of a range within one L2 table begin and end, where that doesn't pass 64 bits.
+    fn touched(&self, offset: u64, length: u64) -> Option<(u64, u64)>
+        requires { passes_size (size_of self.now) offset length ≡ false }
+        ensures { result ≡ (if rounds_past (cluster_size self.now.file.header.fields) (size_of self.now) offset length then None else Some (from_in self.now offset length, to_in self.now offset length)) }
+    {
+        let size = self.file.header.cluster_size();
+        let from = rounded_up(offset, size)?;
+        let end = offset.saturating_add(length);
+        let to = if end == self.file.header.size() {
+            rounded_up(end, size)?
+        } else {
+            end - end % size
+        };
+        Some((from, to.min(from.saturating_add(self.rest_of_table(from)))))
+    }
+
+    // Clears the clusters between two offsets within one L2 table. All that may be refused comes before the first entry changes.
+    fn clear_between(&mut self, from: u64, to: u64, how: Clearance) -> Result<(), ImageError>
+        requires writable { IsTrue (is_writable self.old) }
+        requires some { from < to }
+        ensures stays { Stays self.old self.new }
+        ensures cause { IfErr result IsMetPreparing }
+        ensures clears { (out : List (Option Prepared)) → ImageInvariant S.view F.backing (pending_in S.view F.backing self.old out) self.old out → IsWhole self.old.file.header.fields how from to
+            → ClearsOrRefuses S.view F.backing how from to self.old self.new out result }
+        ensures taken { (out : List (Option Prepared)) → ImageInvariant S.view F.backing (pending_in S.view F.backing self.old out) self.old out
+            → IfErr result (λ e. e ≡ TablePrepared → IsUnderMapping self.old.file.header.fields from out) }
+        ensures free { (out : List (Option Prepared)) → ImageInvariant S.view F.backing (pending_in S.view F.backing self.old out) self.old out
+            → IfOk result (λ done. IsUnderMapping self.old.file.header.fields from out → ⊥) }
+    {
+        let table = self.table_for(from)?;
+        if self.file.caches.l2_is_pinned(table) {
+            return Err(ImageError::TablePrepared);
+        }
+        let bits = self.file.header.cluster_bits();
+        let first = GuestOffset::new(from).cluster(bits);
+        let count = (to - from) >> bits;
+        let mut dropped = self.dropped_in(table, first, count, how)?;
+        self.clear_entries(table, first.l2_index(bits), count as usize, how);
+        dropped.take().hand_back(&mut self.file.free_list);
+        Ok(())
+    }
+
+    // The host clusters that the entries of so many guest clusters name no longer once they are cleared.
+    fn dropped_in(
+        &self,
+        table: HostCluster,
+        first: GuestCluster,
+        count: u64,
+        how: Clearance,
+    ) -> Result<ClustersToFreeList, ImageError>
+        requires near { first + count < 2 ^ 64 }
+        ensures cause { IfErr result IsMet }
+        ensures reads { IfOk result (ReadsAll S.view F.backing how table first count self.now) }
+    {
+        let mut dropped = ClustersToFreeList::new();
+        for i in 0..count {
+            let cluster = GuestCluster::new(first.value() + i);
+            self.list_dropped(&mut dropped, table, cluster, how)?;
+        }
+        Ok(dropped)
+    }
+
+    // Puts the host clusters that an entry names no longer once it is cleared at the end of a list.
+    fn list_dropped(
+        &self,
+        list: &mut ClustersToFreeList,
+        table: HostCluster,
+        cluster: GuestCluster,
+        how: Clearance,
+    ) -> Result<(), ImageError>
+        ensures cause { IfErr result IsMet }
+        ensures reads { OnOk result (ReadsDropped S.view F.backing how table cluster self.now list.old list.new) }
+    {
+        let old = self.cover_in(table, cluster)?;
+        let run = how.dropped(old, self.file.header.cluster_bits());
+        list_run(self.file.alloc, list, run)
+    }
+
+    // Clears so many entries of a held table.
+    fn clear_entries(&mut self, table: HostCluster, index: usize, count: usize, how: Clearance)
+        ensures stays { Stays self.old self.new }
+        ensures clears { ClearsTable S.view F.backing how table index count self.old self.new }
+    {
+        for i in 0..count {
+            self.clear_entry(table, index.saturating_add(i), how);
+        }
+    }
+
+    // Clears an entry of a held table.
+    fn clear_entry(&mut self, table: HostCluster, index: usize, how: Clearance)
+        ensures { ClearsEntry how table index self.old self.new }
+    {
+        let caches = &mut self.file.caches;
+        let _dropped = match how {
+            Clearance::Uncovered => caches.l2_discard_cluster(table, index),
+            Clearance::Zeros => caches.l2_zero_cluster(table, index, false),
+            Clearance::KeptZeros => caches.l2_zero_cluster(table, index, true),
+        };
+    }
+}

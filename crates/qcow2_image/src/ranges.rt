@@ -1,0 +1,202 @@
+//! The clusters of a prepared range behind its first one.
+ghost use Rattle.std.specs.Prelude.{ℕ, List, Option, ◌≡◌, ◌≢◌, ◌+◌, ◌*◌, ◌%◌, ◌<◌, min, true, Some, None, Ok, slice_get, vec_len, vec_capacity, IfOk, IfErr, IsTrue, IsSome};
+ghost use Rattle.qcow2_metadata.specs.L2Mapping.{IsHostCluster, IsInReach};
+ghost use Rattle.qcow2_metadata.specs.Header.{cluster_size};
+ghost use Rattle.qcow2_laws.specs.Found.{rest_of_table};
+ghost use Rattle.qcow2_laws.specs.CrashInvariant.{Pending};
+ghost use Rattle.qcow2_alloc.specs.ImageFile.{KeepsHeader};
+ghost use Rattle.qcow2_image.specs.Image.{Stays, is_writable};
+ghost use Rattle.qcow2_image.specs.Refusals.{IsMet};
+ghost use Rattle.qcow2_image.specs.declared.prepared.Prepared.{Prepared};
+ghost use Rattle.qcow2_image.specs.declared.image.Qcow2.{Qcow2};
+ghost use Rattle.qcow2_image.specs.CallParts.{IsReadied};
+ghost use Rattle.qcow2_image.specs.ImageInvariant.{pending_in, ImageInvariant};
+ghost use Rattle.qcow2_image.specs.UnseenSteps.{HoldsAll, ListGrows};
+ghost use Rattle.qcow2_image.specs.Ranges.{FindsBehind, GainsAt, GoesNext, GoesOn, HasRoom, IsLonger, IsNext, IsWhole, MayGoOn, SharesAt, TakesDataAt};
+
+use crate::mappings::copied_place;
+use crate::prepared::Share;
+use crate::{Prepared, Qcow2};
+use image_access::{Storage, WrappedFormat};
+use qcow2_alloc::{ClustersToFreeList, ImageError, PendingClusters};
+use qcow2_metadata::{GuestOffset, HostCluster, HostOffset, L2Mapping};
+
+#[tactic(auto, using(crate::proofs::Call::MetErrors::tables_met, crate::proofs::Call::MetErrors::storage_met, crate::proofs::Call::MetErrors::metadata_met, crate::proofs::Call::MetErrors::metadata_of_tables))]
+impl<S: Storage, F: WrappedFormat<S>> Qcow2<S, F> {
+    // For how many shares room is made: one for each cluster of a range within its first L2 table at least.
+    pub(crate) fn clusters_in(&self, offset: u64, length: u64) -> usize
+        ensures some { 0 < result }
+        ensures enough { offset % cluster_size self.now.file.header.fields + min length (rest_of_table self.now.file.header.fields offset) < result * cluster_size self.now.file.header.fields }
+    {
+        let bits = self.file.header.cluster_bits();
+        let size = self.file.header.cluster_size();
+        let within = GuestOffset::new(offset).in_cluster_offset(bits)
+            + length.min(self.rest_of_table(offset));
+        (within / size + 1) as usize
+    }
+
+    // Makes the clusters behind a mapping part of it, of a range of so many bytes, as long as they can stand behind it.
+    pub(crate) fn prepare_rest(
+        &mut self,
+        prepared: &mut Prepared,
+        table: HostCluster,
+        length: u64,
+        overwrite: bool,
+    ) -> Result<(), ImageError>
+        requires writable { IsTrue (is_writable self.old) }
+        requires whole { IsWhole self.old.file.header.fields prepared.old }
+        requires room { HasRoom self.old.file.header.fields length prepared.old }
+        ensures stays { Stays self.old self.new }
+        ensures header { KeepsHeader self.old.file.header self.new.file.header }
+        ensures cause { IfErr result IsMet }
+        ensures longer { IsLonger self.old.file.header.fields length prepared.old prepared.new }
+        ensures goes { (start : Qcow2 S F) (out : List (Option Prepared)) (k : ℕ) → slice_get out k ≡ Some None → prepared.old.table ≡ Some table
+            → IsReadied S.view F.backing start self.old out k prepared.old.guest length overwrite prepared.old → GoesOn S.view F.backing start self.new out k length overwrite prepared.new result }
+    {
+        let end = length.min(self.rest_of_table(prepared.guest));
+        while prepared.length < end {
+            if !self.prepare_next(prepared, table, length, overwrite)? {
+                return Ok(());
+            }
+        }
+        Ok(())
+    }
+
+    // Makes the cluster behind a mapping part of it, where that can stand behind it; whether it does.
+    fn prepare_next(
+        &mut self,
+        prepared: &mut Prepared,
+        table: HostCluster,
+        length: u64,
+        overwrite: bool,
+    ) -> Result<bool, ImageError>
+        requires writable { IsTrue (is_writable self.old) }
+        requires room { vec_len prepared.old.shares < vec_capacity prepared.old.shares }
+        ensures stays { Stays self.old self.new }
+        ensures header { KeepsHeader self.old.file.header self.new.file.header }
+        ensures cause { IfErr result IsMet }
+        ensures same { result ≢ Ok true → prepared.new ≡ prepared.old }
+        ensures room { vec_capacity prepared.new.shares ≡ vec_capacity prepared.old.shares }
+        ensures next { result ≡ Ok true → IsNext self.old.file.header.fields length prepared.old prepared.new }
+        ensures goes { (out : List (Option Prepared)) (k : ℕ) → slice_get out k ≡ Some (Some prepared.old) → MayGoOn self.old.file.header.fields length table prepared.old
+            → ImageInvariant S.view F.backing (pending_in S.view F.backing self.old out) self.old out → GoesNext S.view F.backing self.old self.new out k length overwrite prepared.old prepared.new result }
+    {
+        let Some(share) = self.share_behind(prepared, table, length, overwrite)? else {
+            return Ok(false);
+        };
+        let size = self.file.header.cluster_size();
+        prepared.length = length.min(prepared.length.saturating_add(size));
+        prepared.shares.push_reserved(share);
+        Ok(true)
+    }
+
+    // The share of the cluster behind a mapping, where that can stand behind it.
+    fn share_behind(
+        &mut self,
+        prepared: &Prepared,
+        table: HostCluster,
+        length: u64,
+        overwrite: bool,
+    ) -> Result<Option<Share>, ImageError>
+        requires writable { IsTrue (is_writable self.old) }
+        ensures stays { Stays self.old self.new }
+        ensures header { KeepsHeader self.old.file.header self.new.file.header }
+        ensures cause { IfErr result IsMet }
+        ensures finds { (out : List (Option Prepared)) (k : ℕ) → slice_get out k ≡ Some (Some prepared.now) → MayGoOn self.old.file.header.fields length table prepared.now
+            → ImageInvariant S.view F.backing (pending_in S.view F.backing self.old out) self.old out → FindsBehind S.view F.backing self.old self.new out length overwrite prepared.now result }
+    {
+        let Some(next) = prepared.guest.checked_add(prepared.length) else {
+            return Err(ImageError::Overflow);
+        };
+        let Some(host) = prepared.offset.checked_add(prepared.length) else {
+            return Err(ImageError::Overflow);
+        };
+        let cluster = GuestOffset::new(next).cluster(self.file.header.cluster_bits());
+        let old = self.cover_in(table, cluster)?;
+        match copied_place(&old) {
+            Some(place) if place == host => Ok(Some(Share::InPlace)),
+            Some(_) => Ok(None),
+            None => {
+                let left = length.saturating_sub(prepared.length);
+                self.share_at(host, next, left, overwrite, &old)
+            }
+        }
+    }
+
+    // The share of a guest cluster that isn't copied data, at a place in the file; None where that can't be taken.
+    fn share_at(
+        &mut self,
+        host: u64,
+        offset: u64,
+        length: u64,
+        overwrite: bool,
+        old: &L2Mapping,
+    ) -> Result<Option<Share>, ImageError>
+        requires writable { IsTrue (is_writable self.old) }
+        requires reach { IsInReach old.now }
+        ensures stays { Stays self.old self.new }
+        ensures header { KeepsHeader self.old.file.header self.new.file.header }
+        ensures cause { IfErr result IsMet }
+        ensures shares { (p : Pending) (out : List (Option Prepared)) → ImageInvariant S.view F.backing p self.old out → HoldsAll S.view F.backing p out
+            → SharesAt S.view F.backing p self.old self.new out offset length overwrite old.now host result }
+    {
+        let bits = self.file.header.cluster_bits();
+        let Some(cluster) = HostOffset::new(host).checked_cluster(bits) else {
+            return Err(ImageError::UnalignedTable);
+        };
+        let dropped = self.named_by(old)?;
+        let Some(pending) = self.new_cluster_at(cluster, offset, length, overwrite, old)? else {
+            return Ok(None);
+        };
+        let mut taken = ClustersToFreeList::new();
+        pending.hand_back(&mut taken);
+        Ok(Some(Share::New { taken, dropped }))
+    }
+
+    // Takes a cluster for the one at an offset, of which the old mapping is known, and fills it with the old bytes where they aren't announced as overwritten; None where it can't be taken.
+    fn new_cluster_at(
+        &mut self,
+        cluster: HostCluster,
+        offset: u64,
+        length: u64,
+        overwrite: bool,
+        old: &L2Mapping,
+    ) -> Result<Option<PendingClusters>, ImageError>
+        requires writable { IsTrue (is_writable self.old) }
+        requires reach { IsInReach old.now }
+        ensures stays { Stays self.old self.new }
+        ensures header { KeepsHeader self.old.file.header self.new.file.header }
+        ensures cause { IfErr result IsMet }
+        ensures nameable { IfOk result (λ run. IsSome run → IsHostCluster self.old.file.header.fields.cluster_bits cluster) }
+        ensures gains { (p : Pending) (out : List (Option Prepared)) → ImageInvariant S.view F.backing p self.old out → HoldsAll S.view F.backing p out
+            → GainsAt S.view F.backing p self.old self.new out offset length overwrite old.now cluster result }
+    {
+        let Some(pending) = self.take_data_at(cluster)? else {
+            return Ok(None);
+        };
+        match self.fill_cluster(cluster, offset, length, overwrite, old) {
+            Ok(()) => Ok(Some(pending)),
+            Err(refusal) => {
+                self.hand_back(pending);
+                Err(refusal)
+            }
+        }
+    }
+
+    // Takes a cluster for data, where it can be taken.
+    fn take_data_at(&mut self, cluster: HostCluster) -> Result<Option<PendingClusters>, ImageError>
+        requires writable { IsTrue (is_writable self.old) }
+        ensures stays { Stays self.old self.new }
+        ensures header { KeepsHeader self.old.file.header self.new.file.header }
+        ensures cause { IfErr result IsMet }
+        ensures nameable { IfOk result (λ run. IsSome run → IsHostCluster self.old.file.header.fields.cluster_bits cluster) }
+        ensures list { ListGrows self.old self.new }
+        ensures takes { (p : Pending) (out : List (Option Prepared)) → ImageInvariant S.view F.backing p self.old out → HoldsAll S.view F.backing p out
+            → TakesDataAt S.view F.backing p self.old self.new out cluster result }
+    {
+        let Some(allocator) = &mut self.allocator else {
+            unreachable!();
+        };
+        allocator.allocate_data_at(&mut self.file, cluster)
+    }
+}

@@ -1,0 +1,32 @@
+-- The headline, of an image that is opened from the bytes of a storage.
+use Rattle.std.specs.Prelude.{ℕ, ◌≡◌, ◌⊎◌, List, [], map, Vec, Result, Ok, Err}
+use Rattle.std.specs.Global.{Global}
+use Rattle.image_access.specs.Backing.{BackingView}
+use Rattle.image_access.specs.Moments.{StorageView, ContentsStay}
+use Rattle.qcow2_metadata.specs.Bytes.{byte_at}
+use Rattle.qcow2_metadata.specs.Consistent.{IsConsistent}
+use Rattle.qcow2_laws.specs.Headline.{IsHeadline}
+use Rattle.qcow2_alloc.specs.declared.error.ImageError.{ImageError}
+use Rattle.qcow2_image.specs.declared.image.Qcow2.{Qcow2}
+use Rattle.qcow2_image.specs.Image.{storage_of_image}
+use Rattle.qcow2_image.specs.Opened.{IsKeptSince}
+use Rattle.qcow2_image.specs.ImageInvariant.{image_abstraction}
+use Rattle.qcow2_session.specs.Commands.{command_of, reply_of}
+use Rattle.qcow2_session.specs.declared.session.Command.{Command}
+use Rattle.qcow2_session.specs.declared.session.Reply.{Reply}
+
+-- it was refused, and the storage that is handed back has its contents
+abbrev pub IsLeftAlone : {S R : Type 0} → StorageView → (S → StorageView) → Result R (S × ImageError) → Type 0
+IsLeftAlone before view (Ok run) = ⊥
+IsLeftAlone before view (Err refused) = ContentsStay before (view refused.0)
+
+module _ {S F : Type 0} (view : S → StorageView) (backing : F → BackingView) (before : StorageView) where
+  -- there was no room for the replies, and nothing was called
+  abbrev pub HadNoRoom : Qcow2 S F → List Reply → Type 0
+  HadNoRoom image replies = (replies ≡ []) × IsKeptSince before (view (storage_of_image image))
+
+  -- Where a consistent image stands on an honest storage, it opens and runs as the headline says. Where opening is refused, each moment has a consistent image with the same disk.
+  abbrev pub Headline : List Command → Result (Qcow2 S F × Vec Reply Global) (S × ImageError) → Type 0
+  Headline commands (Ok run) = before.is_honest → IsConsistent (byte_at before.contents)
+      → HadNoRoom run.0 run.1.items ⊎ IsHeadline (image_abstraction view backing) before run.0 (map command_of commands) (map reply_of run.1.items)
+  Headline commands (Err refused) = before.is_honest → IsConsistent (byte_at before.contents) → IsKeptSince before (view refused.0)

@@ -1,0 +1,31 @@
+//! The headline: commands on an image that is opened from the bytes of a storage.
+ghost use Rattle.std.specs.Prelude.{◌≡◌, IfOk};
+ghost use Rattle.qcow2_image.specs.Image.{number_of};
+ghost use Rattle.qcow2_session.specs.Opening.{Headline, IsLeftAlone};
+ghost use Rattle.qcow2_image.specs.Opened.{NeedsAnother};
+
+use crate::session::{Command, Reply, run};
+use image_access::{Storage, WrappedFormat};
+use qcow2_image::{ImageError, Qcow2};
+use std::alloc::Global;
+
+/// Opens an image that needs no other file, for writing, and answers each command as `run` does. What is modified then is written by a
+/// `flush`. An image that needs another
+/// file is refused, and stays as it is. A refused opening hands the storage back; images that are open together have different numbers.
+pub fn open_and_run<S: Storage, F: WrappedFormat<S>>(
+    alloc: Global,
+    storage: S,
+    number: u64,
+    commands: &[Command],
+) -> Result<(Qcow2<S, F>, Vec<Reply>), (S, ImageError)>
+    ensures number { IfOk result (λ (image, replies). number_of image ≡ number) }
+    ensures another { (S.view storage).is_honest → NeedsAnother (S.view storage).contents → IsLeftAlone (S.view storage) S.view result }
+    ensures headline { Headline S.view F.backing (S.view storage) commands.now result }
+{
+    let mut image = match Qcow2::open_alone(alloc, storage, true, number) {
+        Ok(image) => image,
+        Err(refused) => return Err(refused),
+    };
+    let replies = run(alloc, &mut image, commands);
+    Ok((image, replies))
+}

@@ -1,0 +1,29 @@
+use Rattle.std.proofs.Common.{◌≡◌, length, map, true, false, Ok, sym, subst, ◌∙◌, ap, arith}
+use Rattle.qimg.specs.Lines.{order}
+use Rattle.qimg.proofs.Replies.{printed_kept}
+use Rattle.qimg.proofs.Scripts.{asked_all}
+use Rattle.qimg.proofs.program.script.Goals as goal
+use Rattle.qimg.proofs.program.script.Goals.{in-true-default-default, in-false-Ok-true-Ok, in-false-default-default, in-false-default-default-2, in-false-default-default-3}
+
+pub returns-clause-done : goal.returns-clause-done
+returns-clause-done g c = λ is. elim c.if-script.branch [
+  | in-true-default-default w ↦ absurd (omega (arith, is, w.status-is))
+  | in-false-Ok-true-Ok w ↦
+      let done : c.run_script-printed.result.0 ≡ Ok true = cc in
+      let ran = c.run_script-printed.ensures.done done in
+      record {
+        commands = c.in-Ok.script.commands.items;
+        asks = asked_all (g.R.Read.remaining c.args.input.now) (map order c.in-Ok.script.commands.items) c.in-Ok.script.is_cut c.in-Ok.ensures ran.0;
+        ran = record {
+          run = ran.1.run;
+          headline = ran.1.headline;
+          answers = printed_kept (length c.in-Ok.script.commands.items) ran.1.run.1.items (g.W.Write.contents c.args.output.now) (g.W.Write.contents c.run_script-printed.new.output) (g.W.Write.contents c.flush-flushed.new.self) ran.1.answers c.flush-flushed.ensures.bytes;
+          flushed = ran.1.flushed;
+          flush = ran.1.flush;
+          storage = ran.1.storage;
+        };
+      }
+  | in-false-default-default w ↦ absurd (omega (arith, is, w.status-is))
+  | in-false-default-default-2 w ↦ absurd (omega (arith, is, w.status-is))
+  | in-false-default-default-3 w ↦ absurd (omega (arith, is, w.status-is))
+]

@@ -1,0 +1,4 @@
+pub mod Json
+pub mod Layouts
+pub mod Sizes
+pub mod Statuses

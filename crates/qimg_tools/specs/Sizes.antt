@@ -1,0 +1,33 @@
+-- The bytes that a word for a size asks for.
+use Rattle.std.specs.Prelude.{ℕ, ◌-◌, ◌*◌, ◌^◌, ◌==◌, nat_lt, List, length, take, slice_get, Option, Some, None, if◌then◌else◌}
+use Rattle.std.specs.Char.{to_ascii_lowercase}
+use Rattle.program_parts.specs.Numbers.{number_of}
+
+-- the bytes of the unit that a letter stands for: 107 is `k`, then `m`, `g`, `t`, `p` and `e`
+abbrev pub unit_of_letter : ℕ → Option ℕ
+unit_of_letter letter =
+    if letter == 107 then Some (2 ^ 10)
+    else if letter == 109 then Some (2 ^ 20)
+    else if letter == 103 then Some (2 ^ 30)
+    else if letter == 116 then Some (2 ^ 40)
+    else if letter == 112 then Some (2 ^ 50)
+    else if letter == 101 then Some (2 ^ 60)
+    else None
+
+-- so many units, where 64 bits hold their bytes
+abbrev pub units : Option ℕ → ℕ → Option ℕ
+units (Some count) unit = if nat_lt (count * unit) (2 ^ 64) then Some (count * unit) else None
+units None unit = None
+
+-- the unit of a word's last letter, in either case
+abbrev pub unit_of_last : Option ℕ → Option ℕ
+unit_of_last (Some byte) = unit_of_letter (to_ascii_lowercase byte)
+unit_of_last None = None
+
+abbrev pub size_with : List ℕ → Option ℕ → Option ℕ
+size_with word (Some unit) = units (number_of (take (length word - 1) word)) unit
+size_with word None = number_of word
+
+-- a number of bytes, or of the units that its last letter stands for
+abbrev pub size_of : List ℕ → Option ℕ
+size_of word = size_with word (unit_of_last (slice_get word (length word - 1)))

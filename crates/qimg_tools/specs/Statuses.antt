@@ -1,0 +1,26 @@
+-- The exit status of a check.
+use Rattle.std.specs.Prelude.{ℕ, ◌≡◌, List, [], ◌∷◌, Option}
+use Rattle.std.specs.Io.KnownBytes.{Appends}
+use Rattle.qcow2_metadata.specs.Bytes.{Bytes}
+use Rattle.qcow2_metadata.specs.Consistent.{IsConsistent}
+use Rattle.qcow2_metadata.specs.Header.{header}
+use Rattle.qcow2_check.specs.Report.{breach_lines, leak_lines}
+use Rattle.qcow2_check.specs.declared.report.Breach.{Breach}
+use Rattle.qcow2_check.specs.declared.report.Leak.{Leak}
+use Rattle.program_parts.specs.Reports.{text_of_report}
+
+-- the status for a report of these
+abbrev pub status_of : List Breach → List Leak → ℕ
+status_of [] [] = 0
+status_of [] (leak ∷ leaks) = 3
+status_of (breach ∷ breaches) leaks = 2
+
+-- what a status says of the image in these bytes
+pub record IsStatusOf (image : Bytes) (status : ℕ) : Type 0 where
+  pub clean : status ≡ 0 → IsConsistent image × (leak_lines (header image) image ≡ [])
+  pub broken : status ≡ 2 → ¬ IsConsistent image
+  pub leaking : status ≡ 3 → IsConsistent image × ¬ (leak_lines (header image) image ≡ [])
+
+-- the report of the image in these bytes was printed
+abbrev pub IsReported : Bytes → Option (List ℕ) → Option (List ℕ) → Type 0
+IsReported image old new = Appends old new (text_of_report (breach_lines (header image) image) (leak_lines (header image) image))

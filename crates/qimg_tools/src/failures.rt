@@ -1,0 +1,37 @@
+//! Why a task wasn't done.
+
+use qcow2_image::ImageError;
+use std::io;
+use std::io::Write;
+
+/// Why a task wasn't done.
+#[derive(Drop)]
+pub enum Failure {
+    /// A call of the driver was refused.
+    Refused(ImageError),
+    /// An answer couldn't be printed.
+    Unprinted(io::Error),
+}
+
+impl From<ImageError> for Failure {
+    fn from(refusal: ImageError) -> Failure {
+        Failure::Refused(refusal)
+    }
+}
+
+impl From<io::Error> for Failure {
+    fn from(cause: io::Error) -> Failure {
+        Failure::Unprinted(cause)
+    }
+}
+
+/// Tells why a task on a file wasn't done. That the message couldn't be written is no matter.
+pub fn tell<M: Write>(messages: &mut M, file: &str, failure: &Failure) {
+    let _ = match failure {
+        Failure::Refused(refusal) => {
+            let number = refusal.number();
+            writeln!(messages, "qimg-tools: {file}: refused {number} {refusal}")
+        }
+        Failure::Unprinted(cause) => writeln!(messages, "qimg-tools: standard output: {cause}"),
+    };
+}

@@ -1,0 +1,216 @@
+//! What the whole disk of an image is mapped to.
+ghost use Rattle.std.specs.Prelude.{◌≡◌, ◌<◌, ◌≤◌, IfOk, IsTrue};
+
+use crate::failures::Failure;
+use crate::words::Form;
+use image_access::Storage;
+use qcow2_image::{ImageError, MappingKind, Qcow2};
+use std::alloc::Global;
+use std::io;
+use std::io::Write;
+
+/// What stands for a run of the disk.
+#[derive(Clone, Copy, PartialEq, Eq)]
+enum Content {
+    /// Bytes of the file, from an offset on.
+    Data { offset: u64 },
+    /// Compressed bytes of the file.
+    Compressed,
+    /// Zeros that the image names.
+    Zero,
+    /// Nothing: zeros where there is no disk below.
+    Unmapped { is_zero: bool },
+}
+
+/// A run of the disk that is mapped alike, from one offset to another.
+#[derive(Clone, Copy)]
+struct Run {
+    start: u64,
+    end: u64,
+    content: Content,
+}
+
+impl Run {
+    ghost use Rattle.std.specs.Prelude.{◌≡◌, ◌-◌};
+
+    fn length(&self) -> u64
+        ensures { result ≡ self.now.end - self.now.start }
+    {
+        self.end.saturating_sub(self.start)
+    }
+}
+
+/// How a map is printed.
+#[derive(Clone, Copy)]
+struct Page<'a> {
+    file: &'a str,
+    form: Form,
+}
+
+/// Prints what each run of an image's disk is mapped to. The image is opened for reading alone, and without the disk below
+/// it, and its storage is handed back.
+pub fn map<S: Storage, W: Write>(
+    alloc: Global,
+    storage: S,
+    file: &str,
+    form: Form,
+    output: &mut W,
+) -> (S, Result<(), Failure>) {
+    match Qcow2::<S>::open_image(alloc, storage, false, 1) {
+        Ok(mut image) => {
+            let printed = print_map(&mut image, &Page { file, form }, output);
+            (image.into_storage(), printed)
+        }
+        Err((storage, e)) => (storage, Err(Failure::Refused(e))),
+    }
+}
+
+fn print_map<S: Storage, W: Write>(
+    image: &mut Qcow2<S>,
+    page: &Page<'_>,
+    output: &mut W,
+) -> Result<(), Failure> {
+    match page.form {
+        Form::Text => {
+            writeln!(
+                output,
+                "Offset          Length          Mapped to       File"
+            )?;
+            print_runs(image, page, output)
+        }
+        Form::Json => {
+            write!(output, "[")?;
+            print_runs(image, page, output)?;
+            writeln!(output, "]")?;
+            Ok(())
+        }
+    }
+}
+
+// Neighbours that are mapped alike are one run.
+fn print_runs<S: Storage, W: Write>(
+    image: &mut Qcow2<S>,
+    page: &Page<'_>,
+    output: &mut W,
+) -> Result<(), Failure> {
+    let size = image.size();
+    let mut run = Run {
+        start: 0,
+        end: 0,
+        content: Content::Zero,
+    };
+    for _ in 0..u64::MAX {
+        if run.end >= size {
+            break;
+        }
+        let next = run_at(image, run.end, size)?;
+        if follows(&run, &next) {
+            run = Run {
+                start: run.start,
+                end: next.end,
+                content: run.content,
+            };
+        } else {
+            print_run(output, page, &run)?;
+            run = next;
+        }
+    }
+    print_run(output, page, &run)?;
+    Ok(())
+}
+
+// The run from an offset on, up to the end of the disk.
+fn run_at<S: Storage>(image: &mut Qcow2<S>, start: u64, size: u64) -> Result<Run, ImageError>
+    requires { start < size }
+    ensures start { IfOk result (λ run. run.start ≡ start) }
+    ensures end { IfOk result (λ run. run.end ≤ size) }
+{
+    let is_zero = image.implicit_backing_file().is_none();
+    let (mapping, length) = image.get_mapping(start, size - start)?;
+    let content = match mapping.kind {
+        MappingKind::Raw {
+            place: _,
+            offset,
+            writable: _,
+        } => Content::Data { offset },
+        MappingKind::Special { offset: _ } => Content::Compressed,
+        MappingKind::Zero { explicit: true } => Content::Zero,
+        _ => Content::Unmapped { is_zero },
+    };
+    Ok(Run {
+        start,
+        end: start + length,
+        content,
+    })
+}
+
+// Whether a run goes on where another ends.
+fn follows(run: &Run, next: &Run) -> bool
+    ensures { IsTrue result → run.now.end ≡ next.now.start }
+{
+    if run.end != next.start {
+        return false;
+    }
+    match (run.content, next.content) {
+        (Content::Data { offset }, Content::Data { offset: further }) => {
+            offset.checked_add(run.length()) == Some(further)
+        }
+        (content, other) => content == other,
+    }
+}
+
+fn print_run<W: Write>(output: &mut W, page: &Page<'_>, run: &Run) -> io::Result<()> {
+    if run.start == run.end {
+        return Ok(());
+    }
+    match page.form {
+        Form::Text => print_row(output, page.file, run),
+        Form::Json => print_entry(output, run),
+    }
+}
+
+// Only data has a row.
+fn print_row<W: Write>(output: &mut W, file: &str, run: &Run) -> io::Result<()> {
+    let start = run.start;
+    let length = run.length();
+    match run.content {
+        Content::Data { offset } => {
+            writeln!(output, "{start:<#16x}{length:<#16x}{offset:<#16x}{file}")
+        }
+        Content::Compressed => writeln!(
+            output,
+            "{start:<#16x}{length:<#16x}compressed      {file}"
+        ),
+        _ => Ok(()),
+    }
+}
+
+fn print_entry<W: Write>(output: &mut W, run: &Run) -> io::Result<()> {
+    let start = run.start;
+    let length = run.length();
+    if start > 0 {
+        writeln!(output, ",")?;
+    }
+    write!(
+        output,
+        "{{ \"start\": {start}, \"length\": {length}, \"depth\": 0, "
+    )?;
+    match run.content {
+        Content::Data { offset } => write!(
+            output,
+            "\"present\": true, \"zero\": false, \"data\": true, \"offset\": {offset}}}"
+        ),
+        Content::Compressed => write!(
+            output,
+            "\"present\": true, \"zero\": false, \"data\": true, \"compressed\": true}}"
+        ),
+        Content::Zero => write!(
+            output,
+            "\"present\": true, \"zero\": true, \"data\": false}}"
+        ),
+        Content::Unmapped { is_zero } => write!(
+            output,
+            "\"present\": false, \"zero\": {is_zero}, \"data\": false}}"
+        ),
+    }
+}
