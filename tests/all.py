@@ -1,24 +1,29 @@
 #!/usr/bin/env python3
-"""Runs the merge gate, then the wrong bodies, then the tests of the crates, then the scripts on real files. At the end stands how long each part took; the last line sums what passed and what failed."""
+"""Runs the merge gate and the wrong bodies beside it, then the tests of the crates, then the scripts on real files. At the end stands how long each part took; the last line sums what
+passed and what failed."""
 
 import os
 import re
 import shutil
 import subprocess
 import sys
+import tempfile
+import threading
 import time
 
 ROOT = os.path.dirname(os.path.dirname(os.path.abspath(__file__)))
-FAILURES = re.compile(r"NOT PROVED|NOT REFUSED|BAD EDIT|FAILED|: error")
+FAILURES = re.compile(r"NOT PROVED|NOT REFUSED|NOT TRIED|BAD EDIT|FAILED|: error")
+PROVED = re.compile(r"rt: (\w+) (?:proved$|is kept: )")
 SCRIPTS = ["tests/program.py", "tests/causes.py", "tests/writes.py", "tests/prepared.py", "tests/failures.py", "tests/caches.py", "tests/stops.py", "tests/interop/write.py", "tests/interop/growing.py", "tests/interop/open.py", "tests/interop/versions.py", "tests/hostile.py", "tests/convert.py", "tests/check.py", "tests/tools.py"]
 
 
-def counts(words, told):
-    """Runs a command that ends with a line 'N passed, M failed', and answers these numbers. Lines that tell of failures are kept in `told`."""
+def counts(words, told, look=lambda line: None):
+    """Runs a command that ends with a line 'N passed, M failed', and answers these numbers. Lines that tell of failures are kept in `told`; each line is shown to `look`."""
     started = subprocess.Popen(words, cwd=ROOT, stdout=subprocess.PIPE, text=True, errors="replace")
     last = ""
     for line in started.stdout:
         print(line, end="", flush=True)
+        look(line)
         if FAILURES.search(line) and "refused, as it must be" not in line:
             told.append(line.rstrip())
         if line.strip():
@@ -54,7 +59,7 @@ class Parts:
     """The parts of a run: what each counted, how long it took, and the lines that tell of failures."""
 
     def __init__(self):
-        self.results, self.times, self.told = [], [], []
+        self.results, self.times, self.told, self.began = [], [], [], time.monotonic()
 
     def run(self, name, work):
         """Does a part, which answers its counts."""
@@ -71,7 +76,7 @@ class Parts:
         passed, failed = (sum(each) for each in zip(*self.results))
         if failed:
             print("what failed:", *self.told[-40:], sep="\n")
-        for name, seconds in [*self.times, ("all", sum(seconds for _, seconds in self.times))]:
+        for name, seconds in [*self.times, ("all", time.monotonic() - self.began)]:
             print(f"{name}: {seconds / 60:.1f} minutes")
         print(f"on {len(os.sched_getaffinity(0))} processors")
         print(f"{passed} passed, {failed} failed")
@@ -91,10 +96,33 @@ def scripts(parts):
             parts.command(script, [script])
 
 
+def gate(file, told):
+    """Runs the merge gate, and writes the name of each crate that it has proved to a file, and `end` behind them."""
+
+    def note(line):
+        with open(file, "a", encoding="utf-8") as it:
+            it.write(line + "\n")
+
+    try:
+        return counts(["rt", "ci"], told, lambda line: [note(name) for name in PROVED.findall(line)])
+    finally:
+        note("end")
+
+
+def proofs(parts):
+    """Runs the gate, and the wrong bodies of each crate as soon as the crates below it are proved."""
+    with tempfile.TemporaryDirectory() as room:
+        file = f"{room}/proved"
+        open(file, "w", encoding="utf-8").close()
+        beside = threading.Thread(target=parts.command, args=("the wrong bodies, begun with the gate", ["tests/wrong_bodies.py", "--beside", file]))
+        beside.start()
+        parts.run("the gate", lambda: gate(file, parts.told))
+        beside.join()
+
+
 def main():
     parts = Parts()
-    parts.command("the gate", ["rt", "ci"])
-    parts.command("the wrong bodies", ["tests/wrong_bodies.py"])
+    proofs(parts)
     parts.command("the tests of the crates", ["tests/units.py"])
     scripts(parts)
     return int(parts.tell())

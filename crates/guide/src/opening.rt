@@ -5,7 +5,7 @@ use std::alloc::Global;
 
 /// Opens an image for writing. Images that are open together have different numbers.
 pub fn open<S: Storage>(alloc: Global, storage: S, number: u64) -> Result<Qcow2<S>, ImageError> {
-    match Qcow2::open_image(alloc, storage, true, number) {
+    match Qcow2::open_alone(alloc, storage, true, number) {
         Ok(image) => Ok(image),
         Err((_storage, refusal)) => Err(refusal),
     }
