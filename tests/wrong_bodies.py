@@ -13,6 +13,7 @@ import importlib.util
 import os
 import re
 import shutil
+import signal
 import sys
 import tempfile
 import threading
@@ -161,6 +162,9 @@ class Trial:
             else:
                 os.mkdir(own)
             ran = self.rt.checked(self.crate, it.texts, ["--jobs", "1", *only], own)
+            if ran.returncode == -signal.SIGKILL:
+                # most likely for memory
+                ran = self.rt.checked(self.crate, it.texts, ["--jobs", "1", *only], own)
             leave(own, self.kept)
         printed = ran.stdout
         if self.rt.rtlib.STALE.search(printed):
