@@ -1,4 +1,5 @@
 pub mod LongerTables
 pub mod NamedL1
+pub mod Lengthened
 pub mod Resized
 pub mod Grown

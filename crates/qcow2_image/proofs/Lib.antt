@@ -4,6 +4,7 @@ pub mod Ready
 pub mod Shares
 pub mod Apart
 pub mod Moving
+pub mod Moved
 pub mod Free
 pub mod HiddenBytes
 pub mod Sizes

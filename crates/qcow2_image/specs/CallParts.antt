@@ -2,14 +2,12 @@
 use Rattle.qcow2_metadata.specs.Header.{cluster_size}
 use Rattle.qcow2_image.specs.UnseenSteps.{RefusedFillingStep, HoldsTable}
 use Rattle.qcow2_alloc.specs.ImageError.{IsFault as IsFaultOfTables}
-use Rattle.std.specs.Prelude.{Bool, true, false, ℕ, ◌+◌, ◌≡◌, ◌==◌, ◌⊎◌, List, [], ◌∷◌, Option, Some, None, IsSome, IsTrue, Result, Ok, Err, slice_get, slice_set, if◌then◌else◌}
+use Rattle.std.specs.Prelude.{Bool, true, false, ℕ, ◌≡◌, ◌==◌, ◌⊎◌, List, [], ◌∷◌, Option, Some, None, IsSome, IsTrue, Result, Ok, Err, slice_get, slice_set, if◌then◌else◌}
 use Rattle.image_access.specs.Backing.{BackingView}
 use Rattle.image_access.specs.Contents.{overwritten}
 use Rattle.image_access.specs.Moments.{StorageView, Passing}
-use Rattle.qcow2_laws.specs.CrashInvariant.{SameCovers}
 use Rattle.qcow2_laws.specs.Calls.{IsFault, IsSame, Refuses, Works, with_disk, with_slot}
 use Rattle.qcow2_laws.specs.Mappings.{PreparedMapping, IsPrepared, gift_of_commit, put_mapping, put_disk, committed}
-use Rattle.qcow2_laws.specs.Unseen.{KeepsFormat}
 use Rattle.qcow2_laws.specs.AbstractImages.{Guest, guest_of}
 use Rattle.qcow2_alloc.specs.declared.error.ImageError.{ImageError}
 use Rattle.qcow2_alloc.specs.declared.error.ImageError.TheVariants as I
@@ -19,6 +17,7 @@ use Rattle.qcow2_image.specs.declared.prepared.Prepared.{Prepared}
 use Rattle.qcow2_image.specs.Calls.{refusal_of, gifts_of_put}
 use Rattle.qcow2_image.specs.Image.{is_failed}
 use Rattle.qcow2_image.specs.ImageInvariant.{meaning, pending_in, abstract_of, ImageInvariant}
+use Rattle.qcow2_image.specs.MovedTables.{MovesTables, CoversStay}
 
 -- what a guest sees once bytes were put into the mapping at a place
 abbrev pub put_guest : Guest → ℕ → PreparedMapping → ℕ → List ℕ → Guest
@@ -83,13 +82,13 @@ module _ {S F : Type 0} (view : S → StorageView) where
     EntersAll old new p q entered = (out : List (Option Prepared)) (k : ℕ) → slice_get out k ≡ Some (Some p) → IsSome p.table → ImageInvariant view backing (pending_in view backing old out) old out
         → CommitsAll old new out k p q × (IsTrue entered → IsTrue new.file.caches.is_changed)
 
-    -- The image is sound, and the guest sees what it saw: the same stands for each guest cluster.
+    -- The image is sound, and the guest sees what it saw: the same stands for each guest cluster. The L1 table and the reftable may have moved.
     pub record UnseenCall (old new : Qcow2 S F) (out : List (Option Prepared)) : Type 0 where
       pub works : Works (abstract_of view backing old out) (abstract_of view backing new out) [] []
       pub sound : ImageInvariant view backing (pending_in view backing new out) new out
       pub same : IsSame (abstract_of view backing old out) (abstract_of view backing new out)
-      pub header : KeepsFormat old.file.header.fields new.file.header.fields
-      pub covers : SameCovers old.file.header.fields (known_in view old.file) (known_in view new.file)
+      pub header : MovesTables old.file.header.fields new.file.header.fields
+      pub covers : CoversStay old.file.header.fields (known_in view old.file) new.file.header.fields (known_in view new.file)
 
     -- A fault, or want of memory after a change: once the image is marked as failed, a stop is as safe as before.
     pub record InterruptedCall (old new : Qcow2 S F) (out : List (Option Prepared)) (e : ImageError) : Type 0 where
@@ -117,8 +116,8 @@ module _ {S F : Type 0} (view : S → StorageView) where
     pub record IsReadied (old new : Qcow2 S F) (out : List (Option Prepared)) (k offset n : ℕ) (overwrite : Bool) (p : Prepared) : Type 0 where
       pub works : Works (abstract_of view backing old out) (abstract_of view backing new (slice_set out k (Some p))) [] []
       pub sound : ImageInvariant view backing (pending_in view backing new (slice_set out k (Some p))) new (slice_set out k (Some p))
-      pub header : KeepsFormat old.file.header.fields new.file.header.fields
-      pub covers : SameCovers old.file.header.fields (known_in view old.file) (known_in view new.file)
+      pub header : MovesTables old.file.header.fields new.file.header.fields
+      pub covers : CoversStay old.file.header.fields (known_in view old.file) new.file.header.fields (known_in view new.file)
       pub prepared : IsPrepared (cluster_size old.file.header.fields) (guest_of (abstract_of view backing old out)).disk offset n overwrite (meaning view backing new p)
       pub is : guest_of (abstract_of view backing new (slice_set out k (Some p))) ≡ with_slot (guest_of (abstract_of view backing old out)) k (Some (meaning view backing new p))
 

@@ -22,7 +22,6 @@ use Rattle.qcow2_laws.specs.Mappings.{gift_shown}
 use Rattle.qcow2_laws.specs.Rules.{answered, touched_from, touched_to}
 use Rattle.qcow2_laws.specs.Steps.{guest_at}
 use Rattle.qcow2_laws.specs.Stops.{GivenBytes}
-use Rattle.qcow2_laws.specs.Unseen.{KeepsFormat}
 use Rattle.qcow2_alloc.specs.CacheMarks.{KeepsMarks, l2_pins}
 use Rattle.qcow2_alloc.specs.declared.cache.MetadataCaches.{MetadataCaches}
 use Rattle.qcow2_alloc.specs.declared.clusters_to_free.ClustersToFreeEntry.{ClustersToFreeEntry}
@@ -39,6 +38,7 @@ use Rattle.qcow2_image.specs.declared.prepared.Prepared.{Prepared}
 use Rattle.qcow2_image.specs.Found.{l1_index_of}
 use Rattle.qcow2_image.specs.Image.{is_writable, size_of}
 use Rattle.qcow2_image.specs.ImageInvariant.{ImageInvariant, abstract_of, disk_of, listed_run, of_data, pending_in, to_free}
+use Rattle.qcow2_image.specs.MovedTables.{MovesTables}
 use Rattle.qcow2_image.specs.Prepared.{table_of}
 use Rattle.qcow2_image.specs.Refusals.{passes, refuse_if, unusable}
 
@@ -132,7 +132,7 @@ module _ {S F : Type 0} (view : S → StorageView) (backing : F → BackingView)
     pub works : Works (abstract_of view backing old out) (abstract_of view backing new out) (gifts_between old how from to) []
     pub sound : ImageInvariant view backing (pending_in view backing new out) new out
     pub shows : guest_of (abstract_of view backing new out) ≡ with_disk (guest_of (abstract_of view backing old out)) (cleared (setting_of old) (disk_of view backing old) (shown_by how) from to)
-    pub header : KeepsFormat old.file.header.fields new.file.header.fields
+    pub header : MovesTables old.file.header.fields new.file.header.fields
     pub covers : ClearsCovers how from to old.file.header.fields (known_in view old.file) new.file.header.fields (known_in view new.file)
     pub noted : IsTrue new.file.caches.is_changed
 

@@ -11,6 +11,8 @@ pub mod CallParts
 pub mod Opened
 pub mod Preparing
 pub mod Created
+pub mod MovedTables
+pub mod LongerTables
 pub mod Growing
 pub mod Backings
 pub mod Ranges

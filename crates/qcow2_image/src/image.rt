@@ -392,6 +392,7 @@ impl<S: Storage, F: WrappedFormat<S>> Qcow2<S, F> {
     pub(crate) fn free_listed(&mut self) -> Result<(), ImageError>
         ensures stays { Stays self.old self.new }
         ensures keeps_rest { KeepsRest self.old self.new }
+        ensures table { self.new.l1_table ≡ self.old.l1_table }
         ensures cause { IfErr result IsMet }
         ensures emptied { IsTrue (is_writable self.old) → OnOk result (HasNothingToFree self.new) }
         ensures frees { (p : Pending) (out : List (Option Prepared)) → ImageInvariant S.view F.backing (with_listed p self.old.file.free_list) self.old out → FreesListed S.view F.backing p self.old self.new out result }

@@ -37,6 +37,7 @@ impl<S: Storage, F: WrappedFormat<S>> Qcow2<S, F> {
         if self.has_own_l2(offset) {
             return self.ensure_l2(offset);
         }
+        self.reach_entry(offset)?;
         self.own_l2(offset)?;
         self.free_listed()?;
         self.ensure_l2(offset)

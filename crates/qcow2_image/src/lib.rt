@@ -8,6 +8,7 @@ mod cow;
 mod discarding;
 mod image;
 mod io_func;
+mod l1_tables;
 mod l2_tables;
 mod mapping;
 mod mappings;

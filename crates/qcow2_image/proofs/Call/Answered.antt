@@ -15,7 +15,7 @@ use Rattle.qcow2_laws.specs.CrashInvariant.{Pending}
 use Rattle.qcow2_laws.specs.SafeSteps.{StateInvariant}
 use Rattle.qcow2_laws.specs.Mappings.{PreparedMapping}
 use Rattle.qcow2_laws.specs.Stops.{StopOkEverywhere, checkpoint_with}
-use Rattle.qcow2_laws.specs.Unseen.{KeepsFormat, used_by_guests}
+use Rattle.qcow2_laws.specs.Unseen.{SameUsedBytes, used_by_guests}
 use Rattle.qcow2_laws.specs.AbstractImages.{Setting, Guest, guest_of, meaning_at}
 use Rattle.qcow2_laws.specs.Calls.{Works}
 use Rattle.qcow2_laws.proofs.Unseen.{unseen_disk}
@@ -23,8 +23,10 @@ use Rattle.qcow2_metadata.specs.declared.header.HeaderFields.{HeaderFields}
 use Rattle.qcow2_alloc.specs.ImageFile.{state_in, contents_in, known_in}
 use Rattle.qcow2_image.specs.declared.image.Qcow2.{Qcow2}
 use Rattle.qcow2_image.specs.declared.prepared.Prepared.{Prepared}
-use Rattle.qcow2_image.specs.ImageInvariant.{of_data, of_tables, to_free, held_by, over_all, pending_in, abstract_of, meaning, is_entered, is_new, is_private, is_hidden, place_of, share_of, backing_bytes, ImageInvariant}
+use Rattle.qcow2_image.specs.ImageInvariant.{below_of, of_data, of_tables, to_free, held_by, over_all, pending_in, abstract_of, meaning, is_entered, is_new, is_private, is_hidden, place_of, share_of, backing_bytes, ImageInvariant}
+use Rattle.qcow2_image.specs.MovedTables.{MovesTables}
 use Rattle.qcow2_image.specs.UnseenSteps.{pending_then, ListGrows, UnseenStep, UnseenFreeingStep}
+use Rattle.qcow2_image.proofs.Moved.{format_moves}
 use Rattle.qcow2_image.proofs.Shares.{private_used, used_unlaid}
 use Rattle.qcow2_image.proofs.Sound.{free_more, pending_is}
 
@@ -57,8 +59,8 @@ module _ {S F : Type 0} (view : S → StorageView) (backing : F → BackingView)
     dropped = λ k. let e = ap (λ l. to_free of_data l k) grows.is ∙ free_more of_data old.file.free_list grows.more k in omega arith;
   })
 
-  -- where the header stays, but perhaps for where the reftable stands
-  module _ (same_header : KeepsFormat old.file.header.fields new.file.header.fields) where
+  -- where the header stays, but perhaps for where tables stand
+  module _ (same_header : MovesTables old.file.header.fields new.file.header.fields) where
     -- a prepared mapping means what it meant, where its private bytes stay
     module _ (q : Prepared) (own_bytes : (o : ℕ) → IsTrue (is_private view backing old q o) → contents_in view new.file (place_of old.file.header.fields q o) ≡ contents_in view old.file (place_of old.file.header.fields q o)) where
       pub same_private : is_private view backing new q ≡ is_private view backing old q
@@ -88,28 +90,30 @@ module _ {S F : Type 0} (view : S → StorageView) (backing : F → BackingView)
       same_slot k (Some None) at = refl
       same_slot k (Some (Some q)) at = ap Some (same_meaning q (private_bytes k q at))
 
-  module _ (p : Pending) (p' : Pending) (sound : ImageInvariant view backing p old out) (holds : (k : ℕ) → over_all held_by out k ≤ p.held k) (holds_still : (k : ℕ) → over_all held_by out k ≤ p'.held k)
-      (tidies : UnseenFreeingStep view backing p p' old new out) where
-    same_header : KeepsFormat old.file.header.fields new.file.header.fields
-    same_header = tidies.unseen.header
+  module _ (p : Pending) (p' : Pending) (sound : ImageInvariant view backing p old out) (holds : (k : ℕ) → over_all held_by out k ≤ p.held k) (holds_still : (k : ℕ) → over_all held_by out k ≤ p'.held k) where
+    -- though tables may have moved
+    module _ (sound' : ImageInvariant view backing p' new out) (same_header : MovesTables old.file.header.fields new.file.header.fields) (bytes : SameUsedBytes (state_in view old.file p) (state_in view new.file p')) where
+      -- at a place that is used the same bytes stand on the storage
+      used_bytes : (o : ℕ) → 0 < used_by_guests (state_in view old.file p) (o / cluster_size old.file.header.fields) → 0 < used_by_guests (state_in view new.file p') (o / cluster_size new.file.header.fields) → contents_in view new.file o ≡ contents_in view old.file o
+      used_bytes o before after =
+          used_unlaid (state_in view new.file p') sound'.file.caches.kept.kept.guarded o after ∙ bytes o before ∙ sym (used_unlaid (state_in view old.file p) sound.file.caches.kept.kept.guarded o before)
 
-    -- at a place that is used the same bytes stand on the storage
-    used_bytes : (o : ℕ) → 0 < used_by_guests (state_in view old.file p) (o / cluster_size old.file.header.fields) → 0 < used_by_guests (state_in view new.file p') (o / cluster_size new.file.header.fields) → contents_in view new.file o ≡ contents_in view old.file o
-    used_bytes o before after =
-        used_unlaid (state_in view new.file p') tidies.sound.file.caches.kept.kept.guarded o after ∙ tidies.unseen.bytes o before ∙ sym (used_unlaid (state_in view old.file p) sound.file.caches.kept.kept.guarded o before)
+      private_bytes : (k : ℕ) (q : Prepared) → slice_get out k ≡ Some (Some q) → (o : ℕ) → IsTrue (is_private view backing old q o) → contents_in view new.file (place_of old.file.header.fields q o) ≡ contents_in view old.file (place_of old.file.header.fields q o)
+      private_bytes k q at o private =
+          let now : IsTrue (is_private view backing new q o) = ap (λ (h : HeaderFields). option_map_or is_entered (share_of h q (o / cluster_size h)) false) same_header ∙ private in
+          let place : place_of new.file.header.fields q o ≡ place_of old.file.header.fields q o = ap (λ (h : HeaderFields). place_of h q o) same_header in
+          used_bytes (place_of old.file.header.fields q o) (private_used view backing old out p sound holds k q at o private)
+          (subst (λ n. 0 < used_by_guests (state_in view new.file p') (n / cluster_size new.file.header.fields)) place (private_used view backing new out p' sound' holds_still k q at o now))
 
-    private_bytes : (k : ℕ) (q : Prepared) → slice_get out k ≡ Some (Some q) → (o : ℕ) → IsTrue (is_private view backing old q o) → contents_in view new.file (place_of old.file.header.fields q o) ≡ contents_in view old.file (place_of old.file.header.fields q o)
-    private_bytes k q at o private =
-        let now : IsTrue (is_private view backing new q o) = ap (λ (h : HeaderFields). option_map_or is_entered (share_of h q (o / cluster_size h)) false) same_header ∙ private in
-        let place : place_of new.file.header.fields q o ≡ place_of old.file.header.fields q o = ap (λ (h : HeaderFields). place_of h q o) same_header in
-        used_bytes (place_of old.file.header.fields q o) (private_used view backing old out p sound holds k q at o private)
-        (subst (λ n. 0 < used_by_guests (state_in view new.file p') (n / cluster_size new.file.header.fields)) place (private_used view backing new out p' tidies.sound holds_still k q at o now))
+      pub still_shown : ((disk_below : Bytes) → disk (known_in view new.file) disk_below ≡ disk (known_in view old.file) disk_below) → below_of view backing new.backing ≡ below_of view backing old.backing
+          → guest_of (abstract_of view backing new out) ≡ guest_of (abstract_of view backing old out)
+      still_shown shows below = same_guest _ _
+          (shows (backing_bytes view backing new.backing) ∙ ap (λ (b : Bool × Bytes). disk (known_in view old.file) b.1) below)
+          (fun_ext (λ k. same_slot same_header private_bytes k (slice_get out k) refl))
 
-    pub still_seen : guest_of (abstract_of view backing new out) ≡ guest_of (abstract_of view backing old out)
-    still_seen = same_guest _ _
-        (unseen_disk (state_in view old.file p) (state_in view new.file p') sound.file.caches.kept.kept.guarded tidies.sound.file.caches.kept.kept.guarded tidies.unseen (backing_bytes view backing new.backing)
-        ∙ ap (λ (b : Bool × Bytes). disk (known_in view old.file) b.1) tidies.below)
-        (fun_ext (λ k. same_slot same_header private_bytes k (slice_get out k) refl))
+    pub still_seen : UnseenFreeingStep view backing p p' old new out → guest_of (abstract_of view backing new out) ≡ guest_of (abstract_of view backing old out)
+    still_seen tidies = still_shown tidies.sound (format_moves old.file.header.fields new.file.header.fields tidies.unseen.header) tidies.unseen.bytes
+        (unseen_disk (state_in view old.file p) (state_in view new.file p') sound.file.caches.kept.kept.guarded tidies.sound.file.caches.kept.kept.guarded tidies.unseen) tidies.below
 
   -- ---- a whole call that no guest sees
 

@@ -11,14 +11,13 @@ use Rattle.qcow2_laws.specs.Calls.{IsFault, IsSame, Refuses, Works, with_slot}
 use Rattle.qcow2_laws.specs.Disk.{Disk}
 use Rattle.qcow2_laws.specs.Mappings.{IsPrepared}
 use Rattle.qcow2_laws.proofs.Compose.{works_then}
-use Rattle.qcow2_laws.proofs.Formats.{covers_format, format_then}
 use Rattle.qcow2_laws.specs.CrashInvariant.{Pending, SameCovers}
 use Rattle.qcow2_laws.specs.Stops.{StopOkEverywhere, checkpoint_with}
 use Rattle.qcow2_laws.specs.AbstractImages.{Guest, Setting, guest_of}
 use Rattle.qcow2_alloc.specs.ImageError.{IsFault as FaultOfTables}
 use Rattle.qcow2_alloc.specs.declared.error.ImageError.{ImageError}
 use Rattle.qcow2_alloc.specs.declared.error.ImageError.TheVariants as I
-use Rattle.qcow2_alloc.specs.ImageFile.{known_in, nothing_given}
+use Rattle.qcow2_alloc.specs.ImageFile.{known_in, nothing_given, InterruptedFileStep}
 use Rattle.qcow2_image.specs.declared.image.Qcow2.{Qcow2}
 use Rattle.qcow2_image.specs.declared.prepared.Prepared.{Prepared}
 use Rattle.qcow2_image.specs.Calls.{refusal_of}
@@ -27,6 +26,7 @@ use Rattle.qcow2_image.specs.Refusals.{failed_after}
 use Rattle.qcow2_image.specs.CallParts.{UnseenCall, InterruptedCall, RefusedCall, FindsTable, IsReadied, PreparesRange}
 use Rattle.qcow2_image.specs.UnseenSteps.{InterruptedStep, Ensures, UnseenFillingStep, RefusedFillingStep, UnseenStep, RefusedStep, pending_then}
 use Rattle.qcow2_image.specs.ImageInvariant.{of_data, of_tables, to_free, pending_in, abstract_of, meaning, backing_bytes, below_of, ImageInvariant}
+use Rattle.qcow2_image.proofs.Moved.{moves_then, format_moves, stay_then, format_stay}
 use Rattle.qcow2_image.proofs.Sound.{free_more}
 use Rattle.qcow2_image.proofs.Call.Answered.{same_setting, same_now, sound_now, works_now}
 use Rattle.qcow2_image.proofs.Call.Settled.{is_fault, outcome, settled_refuses}
@@ -46,28 +46,31 @@ module _ {S F : Type 0} (view : S → StorageView) (backing : F → BackingView)
     works = stepped_works view backing old new out out nothing_given p steps;
     sound = stepped_sound view backing old new out out nothing_given p steps;
     same = same;
-    header = steps.header;
-    covers = covers;
+    header = format_moves old.file.header.fields new.file.header.fields steps.header;
+    covers = format_stay old.file.header.fields new.file.header.fields (known_in view old.file) (known_in view new.file) steps.header covers;
   }
 
   pub stays_kept : (old new : Qcow2 S F) → ImageInvariant view backing (pending_in view backing old out) old out → UnseenStep view backing (pending_in view backing old out) (pending_then (pending_in view backing old out) old new) old new out → UnseenCall view backing old new out
-  stays_kept old new sound keeps = record { works = works_now view backing old new out sound keeps; sound = sound_now view backing old new out sound keeps; same = same_now view backing old new out sound keeps; header = keeps.unseen.header; covers = keeps.unseen.covers }
+  stays_kept old new sound keeps = record { works = works_now view backing old new out sound keeps; sound = sound_now view backing old new out sound keeps; same = same_now view backing old new out sound keeps; header = format_moves old.file.header.fields new.file.header.fields keeps.unseen.header; covers = format_stay old.file.header.fields new.file.header.fields (known_in view old.file) (known_in view new.file) keeps.unseen.header keeps.unseen.covers }
 
   -- it broke off
-  pub broke_off : (old new : Qcow2 S F) (e : ImageError) → InterruptedStep view backing old new e → InterruptedCall view backing old new out e
-  broke_off old new e broke = record {
-    fault = broke.breaks.fault;
-    noted = broke.breaks.noted;
+  pub broke_off_so : (old new : Qcow2 S F) (e : ImageError) → InterruptedFileStep view old.file new.file e → cluster_size new.file.header.fields ≡ cluster_size old.file.header.fields → below_of view backing new.backing ≡ below_of view backing old.backing → InterruptedCall view backing old new out e
+  broke_off_so old new e breaks size below = record {
+    fault = breaks.fault;
+    noted = breaks.noted;
     works = record {
-      setting = same_setting _ _ (ap (λ (h : HeaderFields). cluster_size h) broke.header) broke.below;
+      setting = same_setting _ _ size below;
       surplus = λ now. absurd (let f : true ≡ false = now.works in cc);
       stops = λ m starts. record {
-        moments = passes_if (λ c. StopOkEverywhere (backing_bytes view backing old.backing) (checkpoint_with [] [] m) (byte_at c)) (λ c kept. kept (backing_bytes view backing old.backing) m starts.0 starts.1) broke.breaks.since.moments;
-        contents = broke.breaks.since.contents (backing_bytes view backing old.backing) m starts.0 starts.1;
+        moments = passes_if (λ c. StopOkEverywhere (backing_bytes view backing old.backing) (checkpoint_with [] [] m) (byte_at c)) (λ c kept. kept (backing_bytes view backing old.backing) m starts.0 starts.1) breaks.since.moments;
+        contents = breaks.since.contents (backing_bytes view backing old.backing) m starts.0 starts.1;
         known = λ now. absurd (let f : true ≡ false = now.works in cc);
       };
     };
   }
+
+  pub broke_off : (old new : Qcow2 S F) (e : ImageError) → InterruptedStep view backing old new e → InterruptedCall view backing old new out e
+  broke_off old new e broke = broke_off_so old new e broke.breaks (ap (λ (h : HeaderFields). cluster_size h) broke.header) broke.below
 
   -- ---- one part after another
   module _ (a b c : Qcow2 S F) (first : UnseenCall view backing a b out) where
@@ -76,8 +79,8 @@ module _ {S F : Type 0} (view : S → StorageView) (backing : F → BackingView)
       works = works_then (abstract_of view backing a out) (abstract_of view backing b out) (abstract_of view backing c out) [] [] first.sound first.works then.works;
       sound = then.sound;
       same = then.same ∙ first.same;
-      header = format_then a.file.header.fields b.file.header.fields c.file.header.fields first.header then.header;
-      covers = λ g. first.covers g ∙ covers_format a.file.header.fields b.file.header.fields first.header (known_in view b.file) (known_in view c.file) then.covers g;
+      header = moves_then a.file.header.fields b.file.header.fields c.file.header.fields first.header then.header;
+      covers = stay_then a.file.header.fields b.file.header.fields c.file.header.fields (known_in view a.file) (known_in view b.file) (known_in view c.file) first.covers then.covers;
     }
 
     pub refused_then : (e : ImageError) → RefusedCall view backing b c out e → RefusedCall view backing a c out e
@@ -92,8 +95,8 @@ module _ {S F : Type 0} (view : S → StorageView) (backing : F → BackingView)
     readied_after k offset n overwrite p is = record {
       works = works_then (abstract_of view backing a out) (abstract_of view backing b out) (abstract_of view backing c (slice_set out k (Some p))) [] [] first.sound first.works is.works;
       sound = is.sound;
-      header = format_then a.file.header.fields b.file.header.fields c.file.header.fields first.header is.header;
-      covers = λ g. first.covers g ∙ covers_format a.file.header.fields b.file.header.fields first.header (known_in view b.file) (known_in view c.file) is.covers g;
+      header = moves_then a.file.header.fields b.file.header.fields c.file.header.fields first.header is.header;
+      covers = stay_then a.file.header.fields b.file.header.fields c.file.header.fields (known_in view a.file) (known_in view b.file) (known_in view c.file) first.covers is.covers;
       prepared = subst (λ (d : Disk). IsPrepared (cluster_size a.file.header.fields) d offset n overwrite (meaning view backing c p)) (ap (λ (g : Guest). g.disk) first.same)
           (subst (λ size. IsPrepared size (guest_of (abstract_of view backing b out)).disk offset n overwrite (meaning view backing c p)) (ap (λ (x : Setting). x.cluster_size) first.works.setting) is.prepared);
       is = is.is ∙ ap (λ (g : Guest). with_slot g k (Some (meaning view backing c p))) first.same;

@@ -12,14 +12,12 @@ use Rattle.qcow2_metadata.specs.Cover.{cover}
 use Rattle.qcow2_metadata.specs.L2Mapping.{IsInReach, dropped_run}
 use Rattle.qcow2_laws.specs.AbstractImages.{Guest, Setting, guest_of}
 use Rattle.qcow2_laws.specs.Calls.{Works, cleared, with_disk}
-use Rattle.qcow2_laws.specs.CrashInvariant.{Pending, SameCovers}
+use Rattle.qcow2_laws.specs.CrashInvariant.{Pending}
 use Rattle.qcow2_laws.specs.Disk.{Disk}
 use Rattle.qcow2_laws.specs.Guests.{table_at}
 use Rattle.qcow2_laws.specs.Mappings.{gift_shown}
 use Rattle.qcow2_laws.specs.Steps.{guest_at}
-use Rattle.qcow2_laws.specs.Unseen.{KeepsFormat}
 use Rattle.qcow2_laws.proofs.Compose.{works_less, works_then}
-use Rattle.qcow2_laws.proofs.Formats.{cover_format, format_then}
 use Rattle.qcow2_laws.proofs.Places.{Sizes-from}
 use Rattle.qcow2_alloc.specs.CacheMarks.{l2_pins}
 use Rattle.qcow2_alloc.specs.declared.clusters_to_free.ClustersToFreeEntry.{ClustersToFreeEntry}
@@ -32,9 +30,11 @@ use Rattle.qcow2_image.specs.declared.image.Qcow2.{Qcow2}
 use Rattle.qcow2_image.specs.declared.prepared.Prepared.{Prepared}
 use Rattle.qcow2_image.specs.Found.{l1_index_of, l2_index_of}
 use Rattle.qcow2_image.specs.ImageInvariant.{IsPending, IsReadyWith, abstract_of, disk_of, listed_run, pending_in, pins_by}
+use Rattle.qcow2_image.specs.MovedTables.{MovesTables, CoversStay}
 use Rattle.qcow2_image.specs.UnseenSteps.{HoldsTable}
 use Rattle.qcow2_image.proofs.Apart.{pins_own}
 use Rattle.qcow2_image.proofs.Clear.Cleared.{all_cleared}
+use Rattle.qcow2_image.proofs.Moved.{moves_then}
 use Rattle.qcow2_image.proofs.Prepare.Taken.{in_same, keeper}
 use Rattle.qcow2_image.proofs.Shares.{over_all_at}
 
@@ -165,9 +165,9 @@ module _ {S F : Type 0} (view : S → StorageView) (backing : F → BackingView)
 
 -- ---- a part before
 module _ {S F : Type 0} (view : S → StorageView) (backing : F → BackingView) (out : List (Option Prepared)) where
-  pub covers_before : (how : Clearance) (from to : ℕ) (h h' h'' : HeaderFields) (known known' known'' : Bytes) → KeepsFormat h h' → SameCovers h known known' → ClearsCovers how from to h' known' h'' known'' → ClearsCovers how from to h known h'' known''
+  pub covers_before : (how : Clearance) (from to : ℕ) (h h' h'' : HeaderFields) (known known' known'' : Bytes) → MovesTables h h' → CoversStay h known h' known' → ClearsCovers how from to h' known' h'' known'' → ClearsCovers how from to h known h'' known''
   covers_before how from to h h' h'' known known' known'' format same covers g =
-      let there : cover h' known' g ≡ cover h known g = cover_format h h' format known' g ∙ sym (same g) in
+      let there : cover h' known' g ≡ cover h known g = sym (same g) in
       covers g ∙ ap (λ v. cond (is_between h' from to g) (cleared_cover how v) v) there
       ∙ ap (λ (x : HeaderFields). cond (is_between x from to g) (cleared_cover how (cover h known g)) (cover h known g)) format
 
@@ -191,12 +191,12 @@ module _ {S F : Type 0} (view : S → StorageView) (backing : F → BackingView)
           works = works_then v w x gifts [] first.sound (works_less v w [] gifts [] (λ o value never. absurd never) first.works) (subst (λ gs. Works w x gs []) (ap (λ (d : Disk). gift_shown d from to ∷ []) cleared_same) part.works);
           sound = part.sound;
           shows = part.shows ∙ ap (λ (d : Disk). with_disk (guest_of w) d) cleared_same ∙ ap (λ (g : Guest). with_disk g (cleared (setting_of view backing old) (disk_of view backing old) (shown_by how) from to)) first.same;
-          header = format_then old.file.header.fields mid.file.header.fields new.file.header.fields first.header part.header;
+          header = moves_then old.file.header.fields mid.file.header.fields new.file.header.fields first.header part.header;
           covers = covers_before how from to old.file.header.fields mid.file.header.fields new.file.header.fields (known_in view old.file) (known_in view mid.file) (known_in view new.file) first.header first.covers part.covers;
           noted = part.noted;
         }
 
-  pub whole_format : (h h' : HeaderFields) (how : Clearance) (from to : ℕ) → KeepsFormat h h' → IsWhole h how from to → IsWhole h' how from to
+  pub whole_format : (h h' : HeaderFields) (how : Clearance) (from to : ℕ) → MovesTables h h' → IsWhole h how from to → IsWhole h' how from to
   whole_format h h' how from to format whole = subst (λ (x : HeaderFields). IsWhole x how from to) (sym format) (record { begins = whole.begins; ends = whole.ends; within = whole.within; version = whole.version })
 
   module _ (old mid b new : Qcow2 S F) (how : Clearance) (from to table : ℕ) (found : UnseenCall view backing old mid out) (holds : HoldsTable view backing mid from table) (whole_old : IsWhole old.file.header.fields how from to) (lt : from < to)

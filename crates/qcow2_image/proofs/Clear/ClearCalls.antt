@@ -13,13 +13,10 @@ use Rattle.qcow2_metadata.specs.Guest.{Value, known_byte}
 use Rattle.qcow2_metadata.specs.Bytes.{Bytes, laid_over}
 use Rattle.qcow2_laws.specs.AbstractImages.{AbstractImage, Setting, guest_of}
 use Rattle.qcow2_laws.specs.Calls.{Clearing, to_zero, to_backing, Refusal, storage, another, Works, Refuses, cleared, with_disk}
-use Rattle.qcow2_laws.specs.CrashInvariant.{SameCovers}
 use Rattle.qcow2_laws.specs.Disk.{Disk}
 use Rattle.qcow2_laws.specs.Mappings.{gift_shown}
 use Rattle.qcow2_laws.specs.Rules.{answered, touched_to}
 use Rattle.qcow2_laws.specs.Stops.{GivenBytes}
-use Rattle.qcow2_laws.specs.Unseen.{KeepsFormat}
-use Rattle.qcow2_laws.proofs.Formats.{cover_format}
 use Rattle.qcow2_laws.proofs.Places.{Sizes-from}
 use Rattle.qcow2_laws.proofs.Compose.{works_less, works_then}
 use Rattle.qcow2_laws.proofs.ForUsers.{laid_outside}
@@ -35,6 +32,7 @@ use Rattle.qcow2_image.specs.declared.prepared.Prepared.{Prepared}
 use Rattle.qcow2_image.specs.Image.{number_of, is_external, is_failed, is_writable, size_of}
 use Rattle.qcow2_image.specs.ImageInvariant.{ImageInvariant, abstract_of, disk_of, pending_in}
 use Rattle.qcow2_image.specs.Refusals.{failed_after, passes, refuse_if}
+use Rattle.qcow2_image.specs.MovedTables.{MovesTables, CoversStay}
 use Rattle.qcow2_image.proofs.Call.Called.{Quietly, listed, refuses_early, works_none}
 use Rattle.qcow2_image.proofs.Call.Refused.{refused_then, refuses_left, stays_kept}
 use Rattle.qcow2_image.proofs.Call.Settled.{settled_does}
@@ -107,17 +105,17 @@ clears_early view backing old how offset n x is = λ out.
     refuses_more v v (gifts_of_clear view backing old how offset n) (refusal_of x) _
     (refuses_early v (refusal_of x) (none_fails (is_failed old) (is_external old) (not (is_writable old)) (passes (size_of old) offset n) (needs_zeros how && nat_lt old.file.header.fields.version 3) (rounds_past (cluster_size old.file.header.fields) (size_of old) offset n) x is))
 
-pub under_before : (h h' : HeaderFields) (offset : ℕ) (out : List (Option Prepared)) → KeepsFormat h h' → IsUnderMapping h' offset out → IsUnderMapping h offset out
+pub under_before : (h h' : HeaderFields) (offset : ℕ) (out : List (Option Prepared)) → MovesTables h h' → IsUnderMapping h' offset out → IsUnderMapping h offset out
 under_before h h' offset out format under =
     let u = subst (λ (x : HeaderFields). IsUnderMapping x offset out) format under in
     record { place = u.place; other = u.other; is_out = u.is_out; keeps_table = u.keeps_table; same_table = u.same_table }
 
-pub under_after : (h h' : HeaderFields) (offset : ℕ) (out : List (Option Prepared)) → KeepsFormat h h' → IsUnderMapping h offset out → IsUnderMapping h' offset out
+pub under_after : (h h' : HeaderFields) (offset : ℕ) (out : List (Option Prepared)) → MovesTables h h' → IsUnderMapping h offset out → IsUnderMapping h' offset out
 under_after h h' offset out format u =
     subst (λ (x : HeaderFields). IsUnderMapping x offset out) (sym format) (record { place = u.place; other = u.other; is_out = u.is_out; keeps_table = u.keeps_table; same_table = u.same_table })
 
-covers_after : (how : Clearance) (from to : ℕ) (h h' h'' : HeaderFields) (known known' known'' : Bytes) → ClearsCovers how from to h known h' known' → KeepsFormat h' h'' → SameCovers h' known' known'' → ClearsCovers how from to h known h'' known''
-covers_after how from to h h' h'' known known' known'' covers format same g = cover_format h' h'' format known'' g ∙ sym (same g) ∙ covers g
+covers_after : (how : Clearance) (from to : ℕ) (h h' h'' : HeaderFields) (known known' known'' : Bytes) → ClearsCovers how from to h known h' known' → CoversStay h' known' h'' known'' → ClearsCovers how from to h known h'' known''
+covers_after how from to h h' h'' known known' known'' covers same g = sym (same g) ∙ covers g
 
 module _ {S F : Type 0} (view : S → StorageView) (backing : F → BackingView) (old : Qcow2 S F) (how : Clearance) (offset n : ℕ) (usable : is_failed old ≡ false) where
   abbrev from : ℕ
@@ -198,7 +196,7 @@ module _ {S F : Type 0} (view : S → StorageView) (backing : F → BackingView)
       clear_covers ok out sound =
           let it = part out sound in
           let call : UnseenCall view backing entries freed out = subst (EndsFreeing view backing entries freed out) ok (ends out it.sound) in
-          covers_after how from to old.file.header.fields entries.file.header.fields freed.file.header.fields (known_in view old.file) (known_in view entries.file) (known_in view freed.file) it.covers call.header call.covers
+          covers_after how from to old.file.header.fields entries.file.header.fields freed.file.header.fields (known_in view old.file) (known_in view entries.file) (known_in view freed.file) it.covers call.covers
 
       -- clusters were freed
       pub clear_done : r ≡ Ok tt → from < to → Clears view backing how old freed offset n (Ok (from, min to (offset + n) - from))

@@ -1,53 +1,52 @@
 -- Parts of growing after one another, and the L1 table in the place of the former one.
-use Rattle.std.proofs.Common.{◌≡◌, inl, inr, ⊎_elim, ℕ, ◌+◌, ◌-◌, ◌*◌, ◌/◌, ◌%◌, ◌^◌, ◌<◌, ◌≤◌, List, [], ◌∷◌, ◌++◌, length, Option, Some, None, Result, Ok, Err, Bool, false, refl, sym, ap, ◌∙◌, subst, arith}
+use Rattle.std.proofs.Common.{◌≡◌, inl, inr, ⊎_elim, ℕ, ◌+◌, ◌-◌, ◌*◌, ◌/◌, ◌^◌, ◌<◌, ◌≤◌, List, [], ◌∷◌, ◌++◌, Result, Ok, Err, Bool, refl, sym, ap, ◌∙◌, subst, arith}
 use Rattle.std.specs.Prelude.{OnOk}
-use Rattle.std.proofs.lemmas.Bool.{cases_lt}
-use Rattle.std.proofs.lemmas.List.{append_assoc}
-use Rattle.std.proofs.lemmas.Nat.{div-mul-add}
 use Rattle.std.proofs.Math.Nat.{div-lt_iff_lt-mul}
 use Rattle.image_access.specs.Backing.{BackingView}
 use Rattle.image_access.specs.Moments.{StorageView}
 use Rattle.image_access.proofs.Passing.{passes_if}
 use Rattle.qcow2_metadata.specs.Bytes.{Bytes, byte_at}
 use Rattle.qcow2_metadata.specs.declared.header.HeaderFields.{HeaderFields}
-use Rattle.qcow2_metadata.specs.Header.{HeaderView, cluster_size, entries_per_cluster}
-use Rattle.qcow2_metadata.specs.EntryTable.{EntryTableView, entry_count}
-use Rattle.qcow2_metadata.specs.Named.{in_run}
-use Rattle.qcow2_metadata.specs.TableBytes.{entry_at}
+use Rattle.qcow2_metadata.specs.Header.{cluster_size, entries_per_cluster}
+use Rattle.qcow2_metadata.specs.EntryTable.{entry_count}
 use Rattle.qcow2_laws.specs.CrashInvariant.{Pending}
 use Rattle.qcow2_laws.specs.Guests.{guests}
 use Rattle.qcow2_laws.proofs.Places.{Sizes}
 use Rattle.qcow2_laws.specs.Stops.{Checkpoint, StopOkEverywhere}
 use Rattle.qcow2_laws.specs.Tops.{places_of, with_places}
-use Rattle.qcow2_laws.proofs.SafeSteps.{leads_none, leads_then, steps_endure}
+use Rattle.qcow2_laws.proofs.SafeSteps.{leads_then, steps_endure}
 use Rattle.qcow2_laws.proofs.Stops.{kept_more}
-use Rattle.qcow2_alloc.specs.Allocation.{run_at, taken_as, UnseenAllocatorGrowth, RefusedGrowth}
-use Rattle.qcow2_alloc.specs.CacheMarks.{KeepsMarks}
-use Rattle.qcow2_alloc.specs.declared.allocation.Allocator.{Allocator}
-use Rattle.qcow2_alloc.specs.declared.clusters_to_free.ClustersToFreeEntry.{ClustersToFreeEntry}
 use Rattle.qcow2_alloc.specs.declared.error.ImageError.{ImageError}
-use Rattle.qcow2_alloc.specs.declared.image_file.ImageFile.{ImageFile}
-use Rattle.qcow2_alloc.specs.FreeList.{ListsTables}
-use Rattle.qcow2_alloc.specs.ImageFile.{nothing_given, view_in, known_in, state_in, KeepsHeader}
+use Rattle.qcow2_alloc.specs.ImageFile.{nothing_given, view_in, known_in, state_in}
 use Rattle.qcow2_alloc.proofs.FileSteps.{pending_same}
 use Rattle.qcow2_alloc.proofs.PlacedBlocks.{file_sizes}
-use Rattle.qcow2_alloc.proofs.Runs.{run_before, run_after}
 use Rattle.qcow2_image.specs.declared.image.Qcow2.{Qcow2}
-use Rattle.qcow2_image.specs.Growing.{clusters_of, run_of_table, listed, with_table, without_l1, IsLonger, StandsWhole, Lasts, Extends, PlacesTable, NamesTable, TakesTable, Resizes, Grows, WritesBack, ReachesSize, GrowsWhole}
+use Rattle.qcow2_image.specs.LongerTables.{RefusedMove, UnseenMove}
+use Rattle.qcow2_image.specs.Growing.{Lasts, Extends, Resizes, Grows, WritesBack, ReachesSize, GrowsWhole}
 use Rattle.qcow2_image.specs.Image.{size_of, is_failed}
 use Rattle.qcow2_image.specs.Refusals.{Marks}
 use Rattle.qcow2_alloc.specs.FreeList.{with_listed}
 use Rattle.qcow2_image.proofs.Flush.Freeing.{all_listed, beside}
 use Rattle.qcow2_image.specs.UnseenSteps.{UnseenFreeingStep, FreesListed, UnseenStep, ListGrows, pending_then}
 use Rattle.qcow2_image.specs.ImageInvariant.{of_data, of_tables, to_free, pending_in, ImageInvariant}
-use Rattle.qcow2_image.proofs.Prepare.Entering.{keeps_listed}
-use Rattle.qcow2_image.proofs.Formats.{lists_grow}
-use Rattle.qcow2_image.proofs.Prepare.Gaining.{following_on}
-use Rattle.qcow2_image.proofs.Moving.{file_moved_on}
+use Rattle.qcow2_image.proofs.Moved.{moves_format}
 use Rattle.qcow2_image.proofs.Sound.{IsOnly, free_more, pending_is}
 
 module _ {S F : Type 0} (view : S → StorageView) (backing : F → BackingView) where
   -- ---- one part after another
+  -- a part that no guest sees, though the L1 table may move
+  pub extends_moving : (p q : Pending) (a b : Qcow2 S F) → UnseenMove view backing p q a b [] → Extends view backing p q a b []
+  extends_moving p q a b moves = record {
+    sound = moves.sound;
+    leads = moves.leads;
+    since = moves.since;
+    format = moves_format a.file.header.fields b.file.header.fields moves.header;
+  }
+
+  -- where that was refused, what was kept is kept
+  pub lasts_refused : (p : Pending) (a b : Qcow2 S F) (e : ImageError) → RefusedMove view backing p a b [] e → Lasts view a b []
+  lasts_refused p a b e left = ⊎_elim (λ keeps. keeps.since) (λ broke. broke.breaks.since) left
+
   pub extends_keeping : (p q : Pending) (a b : Qcow2 S F) → UnseenStep view backing p q a b [] → Extends view backing p q a b []
   extends_keeping p q a b keeps = record {
     sound = keeps.sound;
@@ -76,140 +75,6 @@ module _ {S F : Type 0} (view : S → StorageView) (backing : F → BackingView)
         moments = passes_if _ kept lasts.moments;
         contents = kept (view_in view b.file).contents lasts.contents;
       }
-
-  -- ---- the table is placed, and then named
-  pub named_then : (p : Pending) (a b c : Qcow2 S F) (t t' : EntryTableView) (cluster : ℕ) (r : Result (Unit {0}) ImageError) → t' ≡ record t { cluster = Some cluster } → PlacesTable view backing (with_table p t cluster) a b t' cluster (Ok tt)
-      → (ImageInvariant view backing (with_table p t' cluster) b [] → StandsWhole view b t' cluster → NamesTable view backing p b c t' cluster r) → NamesTable view backing p a c t cluster r
-  named_then p a b c t t' cluster r is placed names = joined r (subst (λ (u : EntryTableView). NamesTable view backing p b c u cluster r) is (names (subst (λ (u : EntryTableView). ImageInvariant view backing (with_table p u cluster) b []) (sym is) placed.0.sound) placed.1))
-    where
-      joined : (r : Result (Unit {0}) ImageError) → NamesTable view backing p b c (record t { cluster = Some cluster }) cluster r → NamesTable view backing p a c t cluster r
-      joined (Ok x) named =
-          let q = with_table p t cluster in
-          subst (λ (h : HeaderFields). Extends view backing q (without_l1 p h) a c []) placed.0.unseen.header (extends_then q q (without_l1 p b.file.header.fields) a b c [] [] (extends_keeping q q a b placed.0) named)
-      joined (Err e) lasts = let q = with_table p t cluster in lasts_then q q a b c [] [] (extends_keeping q q a b placed.0) lasts
-
-  -- ---- clusters are taken for it, or aren't
-  module _ (p : Pending) (old : Qcow2 S F) (sound : ImageInvariant view backing p old []) (file : ImageFile S) (a : Allocator) (marks : KeepsMarks old.file.caches file.caches) (lists : ListsTables old.file.free_list file.free_list)
-      (header : KeepsHeader old.file.header file.header) where
-    abbrev taken : Qcow2 S F
-    taken = record old { file = file; allocator = Some a }
-
-    -- what is pending then, beside what is taken
-    abbrev since : Pending
-    since = pending_then p old taken
-
-    pub lasts_untaken : (e : ImageError) → RefusedGrowth view p old.file a file since e → Lasts view old taken []
-    lasts_untaken e left = ⊎_elim (λ becomes. becomes.moves.since) (λ breaks. breaks.since) left
-
-    module _ (t : EntryTableView) (cluster n : ℕ) (many : n ≡ clusters_of t) (becomes : UnseenAllocatorGrowth view p old.file a file (taken_as false since (run_at cluster n))) (longer : IsLonger old t) where
-      keeps_taken : UnseenStep view backing p (with_table since t cluster) old taken []
-      keeps_taken = subst (λ m. UnseenStep view backing p (taken_as false since (run_at cluster m)) old taken []) many
-          (file_moved_on view backing old [] p (taken_as false since (run_at cluster n)) sound file (Some a) becomes.moves becomes.reftable marks.pins (lists_grow old taken lists))
-
-      longer_taken : IsLonger taken t
-      longer_taken = record {
-        bits = longer.bits ∙ ap (λ (v : HeaderView). v.fields.cluster_bits) (sym header);
-        whole = longer.whole;
-        longer = subst (λ (v : HeaderView). v.fields.l1_entries ≤ entry_count t) (sym header) longer.longer;
-        entries = longer.entries;
-      }
-
-      pub table_taken : (new : Qcow2 S F) (r : Result (Unit {0}) ImageError) → new.file.free_list ≡ file.free_list → (ImageInvariant view backing (with_table since t cluster) taken [] → IsLonger taken t → NamesTable view backing since taken new t cluster r)
-          → TakesTable view backing p old new r
-      table_taken new (Ok x) listed names =
-          let q = with_table since t cluster in
-          subst (λ s. Extends view backing p (without_l1 s old.file.header.fields) old new []) (following_on view backing [] p old taken new listed)
-          (subst (λ (h : HeaderFields). Extends view backing p (without_l1 since h) old new []) (ap (λ (v : HeaderView). v.fields) header)
-          (extends_then p q (without_l1 since file.header.fields) old taken new [] [] (extends_keeping p q old taken keeps_taken) (names keeps_taken.sound longer_taken)))
-      table_taken new (Err e) listed names = let q = with_table since t cluster in lasts_then p q old taken new [] [] (extends_keeping p q old taken keeps_taken) (names keeps_taken.sound longer_taken)
-
-  -- ---- the former table's clusters are to be freed
-
-  -- a longer table with the old entries
-  pub is_longer : (p : Pending) (old : Qcow2 S F) → ImageInvariant view backing p old [] → (t : EntryTableView) (bytes : List ℕ) (entries : ℕ) → t ≡ record old.l1_table { cluster = None; bytes = bytes } → length t.bytes ≡ 8 * entries → entry_count old.l1_table ≤ entries
-      → ((i : ℕ) → entry_at t.bytes i ≡ entry_at old.l1_table.bytes i) → IsLonger old t
-  is_longer p old sound t bytes entries is long enough same =
-      let count = sound.l1_table.count in record {
-        bits = ap (λ (u : EntryTableView). u.cluster_bits) is ∙ sound.l1_table.bits;
-        whole = omega (arith, long);
-        longer = omega (arith, long, enough, count);
-        entries = same;
-      }
-
-  -- a run of no clusters
-  no_run : (first k : ℕ) → run_at first 0 k ≡ 0
-  no_run first k = elim (cases_lt k first) [ inl below ↦ run_before first 0 k below | inr above ↦ run_after first 0 k (omega (arith, above)) ]
-
-  no_clusters : (n size : ℕ) → 0 < size → n ≡ 0 → (n + size - 1) / size ≡ 0
-  no_clusters n size some none = let e : n + size - 1 ≡ 0 * size + (size - 1) = omega (arith, none, some) in ap (λ m. m / size) e ∙ div-mul-add 0 size (size - 1) (omega (arith, some))
-
-  module _ (p : Pending) (old : Qcow2 S F) (sound : ImageInvariant view backing p old []) (whole : length old.l1_table.bytes % 8 ≡ 0) where
-    abbrev h : HeaderFields
-    h = old.file.header.fields
-
-    long : length old.l1_table.bytes ≡ 8 * h.l1_entries
-    long = let count = sound.l1_table.count in omega (arith, count, whole)
-
-    clusters_are : clusters_of old.l1_table ≡ (8 * h.l1_entries + cluster_size h - 1) / cluster_size h
-    clusters_are = ap (λ n. (n + 2 ^ old.l1_table.cluster_bits - 1) / 2 ^ old.l1_table.cluster_bits) long ∙ ap (λ b. (8 * h.l1_entries + 2 ^ b - 1) / 2 ^ b) sound.l1_table.bits
-
-    none_in_run : h.l1_entries ≡ 0 → (k : ℕ) → in_run h k h.l1_offset (8 * h.l1_entries) ≡ 0
-    none_in_run none k = ap (λ n. run_at (h.l1_offset / cluster_size h) n k) (no_clusters (8 * h.l1_entries) (cluster_size h) (file_sizes view p old.file sound.file).some (omega (arith, none))) ∙ no_run (h.l1_offset / cluster_size h) k
-
-    former_is : (c : Option ℕ) → old.l1_table.cluster ≡ c → (k : ℕ) → to_free of_tables (listed (run_of_table old.l1_table c)) k ≡ in_run h k h.l1_offset (8 * h.l1_entries)
-    former_is None is k = elim (cases_lt 0 h.l1_entries) [
-      | inl some ↦ absurd (let e : Some (h.l1_offset / cluster_size h) ≡ None = sym (sound.l1_table.cluster some) ∙ is in cc)
-      | inr none ↦ sym (none_in_run (omega (arith, none)) k)
-    ]
-    former_is (Some cluster) is k =
-        let alone : to_free of_tables (listed (run_of_table old.l1_table (Some cluster))) k ≡ run_at cluster (clusters_of old.l1_table) k = omega arith in
-        elim (cases_lt 0 h.l1_entries) [
-          | inl some ↦
-              let here : cluster ≡ h.l1_offset / cluster_size h = let e : Some cluster ≡ Some (h.l1_offset / cluster_size h) = sym is ∙ sound.l1_table.cluster some in cc in
-              alone ∙ ap (λ n. run_at n (clusters_of old.l1_table) k) here ∙ ap (λ n. run_at (h.l1_offset / cluster_size h) n k) clusters_are
-          | inr none ↦
-              let zero : h.l1_entries ≡ 0 = omega (arith, none) in
-              let nothing : clusters_of old.l1_table ≡ 0 = clusters_are ∙ no_clusters (8 * h.l1_entries) (cluster_size h) (file_sizes view p old.file sound.file).some (omega (arith, none)) in
-              alone ∙ ap (λ n. run_at cluster n k) nothing ∙ no_run cluster k ∙ sym (none_in_run zero k)
-        ]
-
-    no_data : (c : Option ℕ) (k : ℕ) → to_free of_data (listed (run_of_table old.l1_table c)) k ≡ 0
-    no_data None k = refl
-    no_data (Some cluster) k = omega arith
-
-    module _ (mid : Qcow2 S F) (takes : Extends view backing p (without_l1 (pending_then p old mid) h) old mid []) (list : List ClustersToFreeEntry) (former : Option ClustersToFreeEntry) (grows : ListGrows old mid)
-        (is : former ≡ run_of_table old.l1_table old.l1_table.cluster) (longer : list ≡ mid.file.free_list ++ listed former) where
-      abbrev final : Qcow2 S F
-      final = record mid { file = record mid.file { free_list = list } }
-
-      list_is : list ≡ mid.file.free_list ++ listed (run_of_table old.l1_table old.l1_table.cluster)
-      list_is = longer ∙ ap (λ f. mid.file.free_list ++ listed f) is
-
-      to_be_freed : without_l1 (pending_then p old mid) h ≡ pending_then p old final
-      to_be_freed =
-          let more = listed (run_of_table old.l1_table old.l1_table.cluster) in
-          pending_same (without_l1 (pending_then p old mid) h) (pending_then p old final) (λ k. refl) (λ k. refl)
-          (λ k.
-          let since = ap (λ l. to_free of_tables l k) grows.is ∙ free_more of_tables old.file.free_list grows.more k in
-          let sum = ap (λ l. to_free of_tables l k) list_is ∙ free_more of_tables mid.file.free_list more k in
-          let run = former_is old.l1_table.cluster refl k in
-          omega (arith, since, sum, run))
-          (λ k.
-          let since = ap (λ l. to_free of_data l k) grows.is ∙ free_more of_data old.file.free_list grows.more k in
-          let sum = ap (λ l. to_free of_data l k) list_is ∙ free_more of_data mid.file.free_list more k in
-          let none = no_data old.l1_table.cluster k in
-          omega (arith, since, sum, none))
-          (λ k. refl)
-
-      pub lengthened : Extends view backing p (pending_then p old final) old final []
-      lengthened =
-          let q = without_l1 (pending_then p old mid) h in
-          subst (λ (r : Pending). Extends view backing p r old final []) to_be_freed
-          (extends_then p q q old mid final [] [] takes
-          (extends_keeping q q mid final (keeps_listed view backing [] q q mid list (listed former) takes.sound longer (leads_none (state_in view mid.file q) takes.sound.file.caches.kept.kept.guarded))))
-
-      pub list_grows : ListGrows old final
-      list_grows = record { more = grows.more ++ listed former; is = longer ∙ ap (λ l. l ++ listed former) grows.is ∙ append_assoc old.file.free_list grows.more (listed former) }
 
   -- ---- the table, then the size
   pub resized_then : (p : Pending) (a b c : Qcow2 S F) (size : ℕ) (r : Result (Unit {0}) ImageError) → Extends view backing p (pending_then p a b) a b [] → c.file.free_list ≡ b.file.free_list → Resizes view backing (pending_then p a b) b c size r → Resizes view backing p a c size r

@@ -1,5 +1,5 @@
 -- A longer L1 table is written to clusters that were taken for it, after all counts.
-use Rattle.std.proofs.Common.{◌≡◌, ◌⊎◌, inl, inr, ℕ, ◌+◌, ◌-◌, ◌*◌, ◌/◌, ◌^◌, ◌<◌, ◌≤◌, List, [], length, Option, Some, None, Result, Ok, refl, sym, ap, ◌∙◌, subst, arith}
+use Rattle.std.proofs.Common.{◌≡◌, ◌⊎◌, inl, inr, ℕ, ◌+◌, ◌-◌, ◌*◌, ◌/◌, ◌^◌, ◌<◌, ◌≤◌, List, length, Option, Some, None, Result, Ok, refl, sym, ap, ◌∙◌, subst, arith}
 use Rattle.std.specs.Prelude.{IfSome, nat_le, nat_lt, ◌&&◌}
 use Rattle.std.proofs.lemmas.Bool.{cases_lt}
 use Rattle.image_access.specs.Backing.{BackingView}
@@ -35,7 +35,8 @@ use Rattle.qcow2_alloc.proofs.KeptTables.Getting.{cluster_aligned}
 use Rattle.qcow2_alloc.proofs.KeptTables.Standing.{own_cluster}
 use Rattle.qcow2_alloc.proofs.PlacedBlocks.{IsFree, covers_written, file_sizes}
 use Rattle.qcow2_image.specs.declared.image.Qcow2.{Qcow2}
-use Rattle.qcow2_image.specs.Growing.{with_table, clusters_of, IsLonger, StandsWhole}
+use Rattle.qcow2_image.specs.declared.prepared.Prepared.{Prepared}
+use Rattle.qcow2_image.specs.LongerTables.{with_table, clusters_of, IsLonger, StandsWhole}
 use Rattle.qcow2_image.specs.UnseenSteps.{UnseenStep}
 use Rattle.qcow2_image.specs.ImageInvariant.{ImageInvariant}
 use Rattle.qcow2_image.proofs.Moving.{file_moved}
@@ -67,7 +68,7 @@ run_free view p image t cluster sound bits covers c some =
     let few = (guarded.always c).pending (omega (arith, fresh)) in
     record { unnamed = data_is_written.fresh (state_in view image.file (with_table p t cluster)) c guarded fresh covers; unheld = omega (arith, tally, few, fresh) }
 
-module _ {S F : Type 0} (view : S → StorageView) (backing : F → BackingView) (p : Pending) (image : Qcow2 S F) (t : EntryTableView) (cluster : ℕ) (sound : ImageInvariant view backing (with_table p t cluster) image [])
+module _ {S F : Type 0} (view : S → StorageView) (backing : F → BackingView) (out : List (Option Prepared)) (p : Pending) (image : Qcow2 S F) (t : EntryTableView) (cluster : ℕ) (sound : ImageInvariant view backing (with_table p t cluster) image out)
     (longer : IsLonger image t) (clean : AreClean (refblocks image.file.caches)) (may : BlocksMayGo (order_of image.file.caches) (l2_tables image.file.caches)) where
   abbrev h : HeaderFields
   h = image.file.header.fields
@@ -124,8 +125,8 @@ module _ {S F : Type 0} (view : S → StorageView) (backing : F → BackingView)
       reftable_now None has = tt
       reftable_now (Some a) has = reftable_written view q image.file storage sound.file (calls_now.honest sound.file.honest) each_now a.reftable has
 
-      pub keeps_placed : UnseenStep view backing q q image placed []
-      keeps_placed = file_moved view backing image [] q q sound placed.file image.allocator (moves_written view q image.file storage sound.file (calls_now.honest sound.file.honest) each_now calls_now.time) (reftable_now image.allocator sound.reftable)
+      pub keeps_placed : UnseenStep view backing q q image placed out
+      keeps_placed = file_moved view backing image out q q sound placed.file image.allocator (moves_written view q image.file storage sound.file (calls_now.honest sound.file.honest) each_now calls_now.time) (reftable_now image.allocator sound.reftable)
           (λ k. refl) refl
 
       pub stands_whole : (t' : EntryTableView) → t' ≡ record t { cluster = Some cluster } → (x : Unit {0}) → result ≡ Ok x → StandsWhole view placed t' cluster

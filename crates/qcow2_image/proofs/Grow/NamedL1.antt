@@ -1,6 +1,7 @@
 -- The header is written to name a longer L1 table, which is the image's own then.
-use Rattle.std.proofs.Common.{◌≡◌, ℕ, ◌+◌, ◌*◌, ◌/◌, ◌^◌, ◌<◌, ◌≤◌, List, [], length, Option, Some, None, Result, Ok, refl, sym, ap, ◌∙◌, subst, arith}
-use Rattle.std.specs.Prelude.{IfSome}
+use Rattle.std.proofs.Common.{◌≡◌, ℕ, ◌+◌, ◌*◌, ◌/◌, ◌^◌, ◌<◌, ◌≤◌, List, [], length, Option, Some, None, Result, Ok, Err, inr, refl, sym, ap, ◌∙◌, subst, arith}
+use Rattle.std.specs.Prelude.{IfSome, IsTrue}
+use Rattle.std.proofs.lemmas.List.{append-nil}
 use Rattle.image_access.specs.Backing.{BackingView}
 use Rattle.image_access.specs.Moments.{StorageView, Changes, Calls}
 use Rattle.image_access.specs.declared.error.StorageError.{StorageError}
@@ -14,8 +15,10 @@ use Rattle.qcow2_metadata.specs.L2Mapping.{IsHostCluster}
 use Rattle.qcow2_metadata.specs.Named.{in_run}
 use Rattle.qcow2_laws.specs.Changes.{renamed}
 use Rattle.qcow2_laws.specs.CrashInvariant.{Pending, SameIn}
+use Rattle.qcow2_laws.specs.GuestLaws.{KeepsGuests, with_l1_table as with_new_l1}
 use Rattle.qcow2_laws.specs.SafeSteps.{SafeStep, SafeThroughout}
 use Rattle.qcow2_laws.specs.Tops.{WritesHeader, with_places, with_l1_at, IsNewL1}
+use Rattle.qcow2_laws.proofs.GuestLaws.{longer_l1_table_keeps_guests}
 use Rattle.qcow2_laws.proofs.L1Moves.{now_l1, now_reftable}
 use Rattle.qcow2_laws.proofs.SafeSteps.{endures_write}
 use Rattle.qcow2_laws.proofs.Places.{Sizes, l1-same}
@@ -24,24 +27,29 @@ use Rattle.qcow2_laws.proofs.Steps.{header_is_written}
 use Rattle.qcow2_alloc.specs.declared.allocation.Allocator.{Allocator}
 use Rattle.qcow2_alloc.specs.declared.image_storage.ImageStorage.{ImageStorage}
 use Rattle.qcow2_alloc.specs.ImageFile.{nothing_given, view_in, contents_in, known_in, state_in, HasReftable}
+use Rattle.qcow2_alloc.specs.ImageError.{of_storage}
 use Rattle.qcow2_alloc.specs.ImageStorage.{storage_of}
 use Rattle.qcow2_alloc.specs.MetadataCaches.{order_of, known_of}
+use Rattle.qcow2_alloc.proofs.AllocationSteps.{fault_of_storage}
 use Rattle.qcow2_alloc.proofs.FileSteps.{pending_same}
 use Rattle.qcow2_alloc.proofs.KeptTables.Getting.{cluster_aligned}
 use Rattle.qcow2_alloc.proofs.KeptTables.Standing.{own_cluster}
 use Rattle.qcow2_alloc.proofs.Numbers.{l1_pointer_writes}
 use Rattle.qcow2_alloc.proofs.PlacedBlocks.{file_sizes, known_there}
 use Rattle.qcow2_image.specs.declared.image.Qcow2.{Qcow2}
-use Rattle.qcow2_image.specs.Growing.{with_table, without_l1, StandsWhole, Extends, NamesTable}
+use Rattle.qcow2_image.specs.declared.prepared.Prepared.{Prepared}
+use Rattle.qcow2_image.specs.LongerTables.{with_table, without_l1, StandsWhole, UnseenMove, NamesTable}
 use Rattle.qcow2_image.specs.ImageInvariant.{ImageInvariant}
+use Rattle.qcow2_image.specs.MovedTables.{MovesTables}
 use Rattle.qcow2_image.proofs.Open.HeaderKept.{placed_settled, placed_sound}
 use Rattle.qcow2_image.proofs.Grow.LongerTables.{same_run, run_free}
+use Rattle.qcow2_image.proofs.Moved.{ready_moved}
 
 -- the sizes aren't told by the place of the L1 table
 same_sizes : (h : HeaderFields) (offset entries : ℕ) → Sizes h → Sizes (with_places h (with_l1_at h offset entries))
 same_sizes h offset entries s = record { some = s.some; large = s.large; whole = s.whole; entries = s.entries; eights = s.eights; counts = s.counts; order = s.order }
 
-module _ {S F : Type 0} (view : S → StorageView) (backing : F → BackingView) (p : Pending) (old : Qcow2 S F) (t : EntryTableView) (cluster : ℕ) (sound : ImageInvariant view backing (with_table p t cluster) old [])
+module _ {S F : Type 0} (view : S → StorageView) (backing : F → BackingView) (out : List (Option Prepared)) (p : Pending) (old : Qcow2 S F) (t : EntryTableView) (cluster : ℕ) (sound : ImageInvariant view backing (with_table p t cluster) old out)
     (ready : StandsWhole view old t cluster) (near : IsHostCluster old.file.header.fields.cluster_bits cluster) (few : entry_count t ≤ 4194304) where
   abbrev h : HeaderFields
   h = old.file.header.fields
@@ -100,7 +108,7 @@ module _ {S F : Type 0} (view : S → StorageView) (backing : F → BackingView)
       (λ k. let run = same_run h t cluster k ready.table.bits in let is = run_is k in omega (arith, run, is)) (λ k. refl) (λ k. refl) (λ k. refl)) leads
 
   -- whatever the storage answers
-  pub lasts_named : (result : Result (Unit {0}) StorageError) (asked after : S) → asked ≡ storage_of old.file.storage → Changes (view asked) (view after) result (l1_table_pointer_written h' (view asked).contents)
+  pub lasts_named : {T : Type 0} (result : Result T StorageError) (asked after : S) → asked ≡ storage_of old.file.storage → Changes (view asked) (view after) result (l1_table_pointer_written h' (view asked).contents)
       → Calls (view asked) (view after) result → SafeThroughout (view_in view old.file) (view after) known nothing_given []
   lasts_named result asked after same wrote called =
       endures_write {result = result} (view_in view old.file) (view after) known nothing_given [] (l1_table_pointer_written h' (view_in view old.file).contents)
@@ -128,7 +136,13 @@ module _ {S F : Type 0} (view : S → StorageView) (backing : F → BackingView)
     reftable_now None has = tt
     reftable_now (Some a) has = record { cluster = has.cluster; bits = has.bits; count = has.count; entries = λ k. has.entries k ∙ sym (blocks_now k) }
 
-    named_sound : ImageInvariant view backing (without_l1 p h) now []
+    guests_now : KeepsGuests (state_in view old.file q) (with_new_l1 (state_in view old.file q) place (entry_count t) (contents_in view now.file) (known_of h old.file.caches (contents_in view now.file)))
+    guests_now = longer_l1_table_keeps_guests (state_in view old.file q) (contents_in view now.file) (known_of h old.file.caches (contents_in view now.file)) place (entry_count t) sound.file.caches.kept.kept.guarded writes_now new_l1
+
+    known_l1_now : (i : ℕ) → l1_entry h' (known_in view now.file) i ≡ l1_entry h known i
+    known_l1_now i = sym (leads_now.sound.same_top.l1 i) ∙ l1_now i ∙ sound.file.caches.kept.kept.guarded.same_top.l1 i
+
+    named_sound : ImageInvariant view backing (without_l1 p h) now out
     named_sound = record {
       works = sound.works;
       file = record {
@@ -145,29 +159,53 @@ module _ {S F : Type 0} (view : S → StorageView) (backing : F → BackingView)
       };
       reftable = reftable_now old.allocator sound.reftable;
       below = sound.below;
-      ready = λ k q none. absurd cc;
+      ready = λ k r at. let was = sound.ready k r at in record {
+        own = was.own;
+        mapped = ready_moved h place (entry_count t) known on_storage (known_in view now.file) (contents_in view now.file) r guests_now.covers known_l1_now l1_now r.table was.mapped;
+      };
       pinned = sound.pinned;
       once = sound.once;
     }
 
-    named_extends : SafeThroughout (view_in view old.file) (view (storage_of storage)) known nothing_given [] → Extends view backing q (without_l1 p h) old now []
-    named_extends since = record { sound = named_sound; leads = leads_now; since = since; format = refl }
+    named_moves : SafeThroughout (view_in view old.file) (view (storage_of storage)) known nothing_given [] → UnseenMove view backing q (without_l1 p h) old now out
+    named_moves since = record {
+      sound = named_sound;
+      leads = leads_now;
+      since = since;
+      header = refl;
+      covers = guests_now.covers;
+      bytes = guests_now.bytes;
+      used = λ c some. subst (λ n. 0 < n) (sym (guests_now.used c)) some;
+      shows = guests_now.disk;
+      below = refl;
+      list = record { more = []; is = sym (append-nil old.file.free_list) };
+    }
 
   -- as the calls say it
   module _ (offset entries : ℕ) (header : HeaderView) (at : offset ≡ cluster * cluster_size old.file.header.fields) (many : entries ≡ entry_count t) (is_header : header ≡ with_fields old.file.header (with_l1_table old.file.header.fields offset entries)) where
     header_now : header ≡ with_fields old.file.header h'
     header_now = is_header ∙ ap (λ n. with_fields old.file.header (with_l1_table old.file.header.fields n entries)) at ∙ ap (λ n. with_fields old.file.header (with_l1_table old.file.header.fields place n)) many
 
-    pub pointer_written_as : (result : Result (Unit {0}) StorageError) (asked after : S) → Changes (view asked) (view after) result (l1_table_pointer_written header.fields (view asked).contents)
+    pub pointer_written_as : {T : Type 0} (result : Result T StorageError) (asked after : S) → Changes (view asked) (view after) result (l1_table_pointer_written header.fields (view asked).contents)
         → Changes (view asked) (view after) result (l1_table_pointer_written h' (view asked).contents)
     pointer_written_as result asked after wrote = subst (λ (v : HeaderView). Changes (view asked) (view after) result (l1_table_pointer_written v.fields (view asked).contents)) header_now wrote
 
     pub named_so : (result : Result (Unit {0}) StorageError) (storage : ImageStorage S) (asked : S) → asked ≡ storage_of old.file.storage → Changes (view asked) (view (storage_of storage)) result (l1_table_pointer_written header.fields (view asked).contents)
         → Calls (view asked) (view (storage_of storage)) result → (x : Unit {0}) → result ≡ Ok x
-        → NamesTable view backing p old (record old { file = record old.file { storage = storage; header = header }; l1_table = t }) t cluster (Ok x)
+        → NamesTable view backing p old (record old { file = record old.file { storage = storage; header = header }; l1_table = t }) out t cluster (Ok x)
     named_so result storage asked same wrote called x done =
         let wrote' = pointer_written_as result asked (storage_of storage) wrote in
         let calls : Calls (view_in view old.file) (view (storage_of storage)) result = subst (λ (s : S). Calls (view s) (view (storage_of storage)) result) same called in
         let is = rw done at (subst (λ (s : S). Changes (view s) (view (storage_of storage)) result (l1_table_pointer_written h' (view s).contents)) same wrote' sound.file.honest) in
-        subst (λ (v : HeaderView). NamesTable view backing p old (record old { file = record old.file { storage = storage; header = v }; l1_table = t }) t cluster (Ok x)) (sym header_now)
-        (named_extends storage is (calls.honest sound.file.honest) (lasts_named result asked (storage_of storage) same wrote' called))
+        subst (λ (v : HeaderView). NamesTable view backing p old (record old { file = record old.file { storage = storage; header = v }; l1_table = t }) out t cluster (Ok x)) (sym header_now)
+        (named_moves storage is (calls.honest sound.file.honest) (lasts_named result asked (storage_of storage) same wrote' called))
+
+    -- the storage failed
+    pub named_broke : {T : Type 0} (result : Result T StorageError) (storage : ImageStorage S) (asked : S) → asked ≡ storage_of old.file.storage → Changes (view asked) (view (storage_of storage)) result (l1_table_pointer_written header.fields (view asked).contents)
+        → Calls (view asked) (view (storage_of storage)) result → (e : StorageError) → IsTrue old.file.caches.is_changed
+        → NamesTable view backing p old (record old { file = record old.file { storage = storage; header = header } }) out t cluster (Err (of_storage e))
+    named_broke result storage asked same wrote called e noted = inr (record {
+      breaks = record { fault = fault_of_storage e; noted = λ is. noted; since = lasts_named result asked (storage_of storage) same (pointer_written_as result asked (storage_of storage) wrote) called };
+      header = subst (λ (v : HeaderView). MovesTables old.file.header.fields v.fields) (sym header_now) refl;
+      below = refl;
+    })

@@ -11,13 +11,11 @@ use Rattle.qcow2_metadata.specs.declared.header.HeaderFields.{HeaderFields}
 use Rattle.qcow2_metadata.specs.Header.{cluster_size, entries_per_cluster}
 use Rattle.qcow2_laws.specs.AbstractImages.{Guest, guest_of, meaning_at}
 use Rattle.qcow2_laws.specs.Calls.{Works, with_slot}
-use Rattle.qcow2_laws.specs.CrashInvariant.{SameCovers}
 use Rattle.qcow2_laws.specs.Disk.{Disk}
 use Rattle.qcow2_laws.specs.Found.{rest_of_table}
 use Rattle.qcow2_laws.specs.Mappings.{PreparedMapping, IsPrepared}
 use Rattle.qcow2_laws.specs.Unseen.{KeepsFormat}
 use Rattle.qcow2_laws.proofs.Compose.{works_then}
-use Rattle.qcow2_laws.proofs.Formats.{covers_format, format_then}
 use Rattle.qcow2_alloc.specs.ImageFile.{contents_in, known_in, state_in, KeepsHeader}
 use Rattle.qcow2_alloc.proofs.Following.{header_format, header_same, header_then}
 use Rattle.qcow2_alloc.specs.declared.error.ImageError.{ImageError}
@@ -29,8 +27,10 @@ use Rattle.qcow2_image.specs.Calls.{Discards}
 use Rattle.qcow2_image.specs.CallParts.{IsReadied, RefusedCall, UnseenCall}
 use Rattle.qcow2_image.specs.ImageInvariant.{cluster_of, pending_in, abstract_of, meaning, IsPending, IsReadyWith, ImageInvariant}
 use Rattle.qcow2_image.specs.Ranges.{BreaksOff, Ends, HasRoom, IsExtended, IsFirst, IsLonger, IsNext, IsWhole, LetsGo, MayGoOn}
+use Rattle.qcow2_image.specs.MovedTables.{MovesTables, CoversStay}
 use Rattle.qcow2_image.proofs.Call.Answered.{same_guest}
 use Rattle.qcow2_image.proofs.Call.Slots.{get_set_same, set_same, set_set}
+use Rattle.qcow2_image.proofs.Moved.{moves_then, format_moves, stay_then, format_stay}
 use Rattle.qcow2_image.proofs.Free.{free_places}
 use Rattle.qcow2_image.proofs.Prepare.Extending.{length_behind}
 use Rattle.qcow2_image.proofs.Prepare.PreparedAs.{entries_some, rest_as}
@@ -70,8 +70,9 @@ module _ {S F : Type 0} (view : S → StorageView) (backing : F → BackingView)
         works = works_then (abstract_of view backing start out) (abstract_of view backing mid out1) (abstract_of view backing new (slice_set out k (Some q))) [] [] first.sound first.works
             (subst (λ l. Works (abstract_of view backing mid out1) (abstract_of view backing new l) [] []) end is.works);
         sound = subst (λ l. ImageInvariant view backing (pending_in view backing new l) new l) end is.sound;
-        header = format_then start.file.header.fields mid.file.header.fields new.file.header.fields first.header is.header;
-        covers = λ g. first.covers g ∙ covers_format start.file.header.fields mid.file.header.fields first.header (known_in view mid.file) (known_in view new.file) is.covers g;
+        header = moves_then start.file.header.fields mid.file.header.fields new.file.header.fields first.header (format_moves mid.file.header.fields new.file.header.fields is.header);
+        covers = stay_then start.file.header.fields mid.file.header.fields new.file.header.fields (known_in view start.file) (known_in view mid.file) (known_in view new.file) first.covers
+            (format_stay mid.file.header.fields new.file.header.fields (known_in view mid.file) (known_in view new.file) is.header is.covers);
         prepared = subst (λ o. IsPrepared (cluster_size start.file.header.fields) (guest_of (abstract_of view backing start out)).disk o n overwrite m) (sym guest)
             (subst (λ (x : Disk). IsPrepared (cluster_size start.file.header.fields) x p.guest n overwrite m) disk
             (subst (λ s. IsPrepared s d p.guest n overwrite m) size (is.prepared was)));
@@ -88,8 +89,8 @@ module _ {S F : Type 0} (view : S → StorageView) (backing : F → BackingView)
       record {
         works = works_then (abstract_of view backing start out) (abstract_of view backing mid out1) (abstract_of view backing new out1) [] [] first.sound first.works still.works;
         sound = still.sound;
-        header = format_then start.file.header.fields mid.file.header.fields new.file.header.fields first.header still.header;
-        covers = λ g. first.covers g ∙ covers_format start.file.header.fields mid.file.header.fields first.header (known_in view mid.file) (known_in view new.file) still.covers g;
+        header = moves_then start.file.header.fields mid.file.header.fields new.file.header.fields first.header still.header;
+        covers = stay_then start.file.header.fields mid.file.header.fields new.file.header.fields (known_in view start.file) (known_in view mid.file) (known_in view new.file) first.covers still.covers;
         prepared = subst (λ m. IsPrepared (cluster_size start.file.header.fields) (guest_of (abstract_of view backing start out)).disk p.guest n overwrite m) (sym means) first.prepared;
         is = still.same ∙ first.is ∙ ap (λ m. with_slot (guest_of (abstract_of view backing start out)) k (Some m)) (sym means);
       }
@@ -114,9 +115,9 @@ module _ {S F : Type 0} (view : S → StorageView) (backing : F → BackingView)
           sound = subst (λ l. ImageInvariant view backing (pending_in view backing end l) end l) same_out answer.0;
           same = ap (λ l. guest_of (abstract_of view backing end l)) (sym same_out) ∙ answer.1 ∙ ap (λ (x : Guest). with_slot x k None) (still.same ∙ first.is) ∙ slot_twice a k (Some (meaning view backing mid p)) None
               ∙ slot_back a k None (ap (meaning_at (meaning view backing start)) free);
-          header = subst (λ x. KeepsFormat start.file.header.fields x) (sym header) (format_then start.file.header.fields mid.file.header.fields new.file.header.fields first.header still.header);
-          covers = subst (λ b. SameCovers start.file.header.fields (known_in view start.file) b) (sym lets.known)
-              (λ g. first.covers g ∙ covers_format start.file.header.fields mid.file.header.fields first.header (known_in view mid.file) (known_in view new.file) still.covers g);
+          header = subst (λ x. MovesTables start.file.header.fields x) (sym header) (moves_then start.file.header.fields mid.file.header.fields new.file.header.fields first.header still.header);
+          covers = subst (λ x. CoversStay start.file.header.fields (known_in view start.file) x (known_in view end.file)) (sym header) (subst (λ b. CoversStay start.file.header.fields (known_in view start.file) new.file.header.fields b) (sym lets.known)
+              (stay_then start.file.header.fields mid.file.header.fields new.file.header.fields (known_in view start.file) (known_in view mid.file) (known_in view new.file) first.covers still.covers));
         }
 
     -- a failed image is as it was, but for its caches

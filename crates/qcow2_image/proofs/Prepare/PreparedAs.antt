@@ -9,15 +9,11 @@ use Rattle.image_access.specs.Moments.{StorageView}
 use Rattle.qcow2_metadata.specs.Bytes.{Bytes}
 use Rattle.qcow2_metadata.specs.declared.header.HeaderFields.{HeaderFields}
 use Rattle.qcow2_metadata.specs.declared.l2_mapping.L2Mapping.TheVariants.{Data, Zero}
-use Rattle.qcow2_metadata.specs.Header.{cluster_size, entries_per_cluster, rounded_down, rounded_up, with_reftable}
-use Rattle.qcow2_metadata.specs.Entries.{l1_entry}
-use Rattle.qcow2_metadata.specs.Cover.{cover, cover_under}
+use Rattle.qcow2_metadata.specs.Header.{cluster_size, entries_per_cluster, rounded_down, rounded_up, with_tables_of}
+use Rattle.qcow2_metadata.specs.Cover.{cover}
 use Rattle.qcow2_laws.specs.Alike.{IsDataAt}
-use Rattle.qcow2_laws.specs.CrashInvariant.{SameCovers}
 use Rattle.qcow2_laws.specs.Mappings.{PreparedMapping, is_copied_data}
 use Rattle.qcow2_laws.specs.SafeSteps.{DriverState, StateInvariant}
-use Rattle.qcow2_laws.specs.Unseen.{KeepsFormat}
-use Rattle.qcow2_laws.proofs.Alike.{are_still}
 use Rattle.qcow2_laws.proofs.Guests.{named-is}
 use Rattle.qcow2_laws.proofs.Places.{Sizes-from}
 use Rattle.qcow2_laws.proofs.Tops.{for_tables-top, IsTop-top}
@@ -30,27 +26,31 @@ use Rattle.qcow2_image.specs.declared.prepared.Share.{Share}
 use Rattle.qcow2_image.specs.declared.prepared.Share.TheVariants.{InPlace, Kept, New}
 use Rattle.qcow2_image.specs.CallParts.{IsExisting, PreparesRange}
 use Rattle.qcow2_image.specs.Prepared.{offset_of}
+use Rattle.qcow2_image.specs.MovedTables.{MovesTables, CoversStay}
 use Rattle.qcow2_image.specs.Preparing.{IsAnswered, IsHeldAlone, IsKeptBy, IsTaken, IsWritableAt}
 use Rattle.qcow2_image.specs.Ranges.{Reaches}
 use Rattle.qcow2_image.specs.ImageInvariant.{of_data, to_free, held_by, cluster_of, host_of, is_entered, is_private, meaning, pending_in, IsPending, IsReadyWith, IsShareAt, ImageInvariant}
 use Rattle.qcow2_image.proofs.Call.Slots.{get_set_same}
 use Rattle.qcow2_image.proofs.Shares.{byte_cluster, byte_place, byte_share, held_at, held_once, host_cluster, never_private, over_all_at, private_is as private_share}
 
--- ---- what stands for guest clusters stays
-module _ (h : HeaderFields) (b c : Bytes) (same : SameCovers h b c) (offset : ℕ) where
-  pub writable_still : (n place : ℕ) → IsWritableAt h b offset n place → IsWritableAt h c offset n place
-  writable_still n place is = (is.0, are_still h b c true offset place n (λ i lt. same ((offset + i) / cluster_size h)) is.1)
+-- ---- what stands for guest clusters stays, though tables may have moved
+module _ (h k : HeaderFields) (b c : Bytes) (same : CoversStay h c (with_tables_of h k) b) (offset : ℕ) where
+  data_still : (o place : ℕ) → IsDataAt (with_tables_of h k) b true o place → IsDataAt h c true o place
+  data_still o place is = (is.0, same (o / cluster_size h) ∙ is.1, is.2)
 
-  writable_before : (n place : ℕ) → IsWritableAt h c offset n place → IsWritableAt h b offset n place
-  writable_before n place is = (is.0, are_still h c b true offset place n (λ i lt. sym (same ((offset + i) / cluster_size h))) is.1)
+  data_before : (o place : ℕ) → IsDataAt h c true o place → IsDataAt (with_tables_of h k) b true o place
+  data_before o place is = (is.0, sym (same (o / cluster_size h)) ∙ is.1, is.2)
 
-  pub taken_still : (n : ℕ) (out : List (Option Prepared)) → IsTaken h b offset n out → IsTaken h c offset n out
+  writable_still : (n place : ℕ) → IsWritableAt (with_tables_of h k) b offset n place → IsWritableAt h c offset n place
+  writable_still n place is = (is.0, λ i lt. data_still (offset + i) (place + i) (is.1 i lt))
+
+  writable_before : (n place : ℕ) → IsWritableAt h c offset n place → IsWritableAt (with_tables_of h k) b offset n place
+  writable_before n place is = (is.0, λ i lt. data_before (offset + i) (place + i) (is.1 i lt))
+
+  taken_still : (n : ℕ) (out : List (Option Prepared)) → IsTaken (with_tables_of h k) b offset n out → IsTaken h c offset n out
   taken_still n out is = record { place = is.place; other = is.other; is_out = is.is_out; keeps_table = is.keeps_table; same_table = is.same_table; never = λ host writable. is.never host (writable_before n host writable) }
 
-  data_still : (o place : ℕ) → IsDataAt h b true o place → IsDataAt h c true o place
-  data_still o place is = (is.0, sym (same (o / cluster_size h)) ∙ is.1, is.2)
-
-  pub answered_still : (n : ℕ) (h' : HeaderFields) (now : Bytes) (p : Prepared) (m : PreparedMapping) → IsAnswered h b offset n h' now p m → IsAnswered h c offset n h' now p m
+  answered_still : (n : ℕ) (h' : HeaderFields) (now : Bytes) (p : Prepared) (m : PreparedMapping) → IsAnswered (with_tables_of h k) b offset n h' now p m → IsAnswered h c offset n h' now p m
   answered_still n h' now p m is = record {
     existing = (λ none. let there = is.existing.0 none in (there.0, writable_still n there.0 there.1), λ there. is.existing.1 (there.0, writable_before n there.0 there.1));
     whole = is.whole;
@@ -58,12 +58,12 @@ module _ (h : HeaderFields) (b c : Bytes) (same : SameCovers h b c) (offset : �
     most = is.most;
     within = is.within;
     short = is.short;
-    private = λ o from to. is.private o from to ∙ ap (λ v. not (is_copied_data v)) (same (o / cluster_size h));
+    private = λ o from to. is.private o from to ∙ ap (λ v. not (is_copied_data v)) (sym (same (o / cluster_size h)));
     in_place = λ i lt isnt. data_still (offset + i) (offset_of p + i) (is.in_place i lt isnt);
     own = λ i lt private.
         let own = is.own i lt private in (
           own.0,
-          ⊎_elim (λ alone. inl alone) (λ (kept : IsKeptBy h b ((offset + i) / cluster_size h) ((offset_of p + i) / cluster_size h)). inr (sym (same ((offset + i) / cluster_size h)) ∙ kept)) own.1,
+          ⊎_elim (λ alone. inl alone) (λ (kept : IsKeptBy (with_tables_of h k) b ((offset + i) / cluster_size h) ((offset_of p + i) / cluster_size h)). inr (same ((offset + i) / cluster_size h) ∙ kept)) own.1,
         );
   }
 
@@ -114,40 +114,21 @@ answered_existing view backing image known now offset n p number any existing wr
       own = λ i lt is. absurd (let e : true ≡ false = sym is ∙ never (offset + i) in cc);
     }
 
--- the same by a header that differs in where the reftable stands
-module _ (h : HeaderFields) (place clusters : ℕ) (known : Bytes) (offset : ℕ) where
-  answered_with : (n : ℕ) (h' : HeaderFields) (now : Bytes) (p : Prepared) (m : PreparedMapping) → IsAnswered (with_reftable h place clusters) known offset n h' now p m → IsAnswered h known offset n h' now p m
-  unfolding cover cover_under l1_entry
-  answered_with n h' now p m is = record { existing = is.existing; whole = is.whole; first = is.first; most = is.most; within = is.within; short = is.short; private = is.private; in_place = is.in_place; own = is.own }
-
-  taken_with : (n : ℕ) (out : List (Option Prepared)) → IsTaken (with_reftable h place clusters) known offset n out → IsTaken h known offset n out
-  unfolding cover cover_under l1_entry
-  taken_with n out is = record { place = is.place; other = is.other; is_out = is.is_out; keeps_table = is.keeps_table; same_table = is.same_table; never = is.never }
-
-  writable_with : (n at : ℕ) → IsWritableAt (with_reftable h place clusters) known offset n at → IsWritableAt h known offset n at
-  unfolding cover cover_under l1_entry
-  writable_with n at is = is
-
-module _ (h h' : HeaderFields) (e : KeepsFormat h h') (known : Bytes) (offset : ℕ) where
-  pub answered_format : (n : ℕ) (g : HeaderFields) (now : Bytes) (p : Prepared) (m : PreparedMapping) → IsAnswered h' known offset n g now p m → IsAnswered h known offset n g now p m
-  answered_format n g now p m is = answered_with h h'.reftable_offset h'.reftable_clusters known offset n g now p m (subst (λ (x : HeaderFields). IsAnswered x known offset n g now p m) e is)
-
-  pub taken_format : (n : ℕ) (out : List (Option Prepared)) → IsTaken h' known offset n out → IsTaken h known offset n out
-  taken_format n out is = taken_with h h'.reftable_offset h'.reftable_clusters known offset n out (subst (λ (x : HeaderFields). IsTaken x known offset n out) e is)
-
-  pub writable_format : (n at : ℕ) → IsWritableAt h' known offset n at → IsWritableAt h known offset n at
-  writable_format n at is = writable_with h h'.reftable_offset h'.reftable_clusters known offset n at (subst (λ (x : HeaderFields). IsWritableAt x known offset n at) e is)
-
 -- the same by what was known before a part that no guest sees
-module _ {S F : Type 0} (view : S → StorageView) (old mid : Qcow2 S F) (offset n : ℕ) (header : KeepsFormat old.file.header.fields mid.file.header.fields)
-    (covers : SameCovers old.file.header.fields (known_in view old.file) (known_in view mid.file)) where
+module _ {S F : Type 0} (view : S → StorageView) (old mid : Qcow2 S F) (offset n : ℕ) (header : MovesTables old.file.header.fields mid.file.header.fields)
+    (covers : CoversStay old.file.header.fields (known_in view old.file) mid.file.header.fields (known_in view mid.file)) where
+  same : CoversStay old.file.header.fields (known_in view old.file) (with_tables_of old.file.header.fields mid.file.header.fields) (known_in view mid.file)
+  same = subst (λ (x : HeaderFields). CoversStay old.file.header.fields (known_in view old.file) x (known_in view mid.file)) header covers
+
   pub answered_before : (h' : HeaderFields) (now : Bytes) (p : Prepared) (m : PreparedMapping) → IsAnswered mid.file.header.fields (known_in view mid.file) offset n h' now p m → IsAnswered old.file.header.fields (known_in view old.file) offset n h' now p m
   answered_before h' now p m is =
-      answered_still old.file.header.fields (known_in view mid.file) (known_in view old.file) (λ g. sym (covers g)) offset n h' now p m (answered_format old.file.header.fields mid.file.header.fields header (known_in view mid.file) offset n h' now p m is)
+      answered_still old.file.header.fields mid.file.header.fields (known_in view mid.file) (known_in view old.file) same offset n h' now p m (subst (λ (x : HeaderFields). IsAnswered x (known_in view mid.file) offset n h' now p m) header is)
 
   pub taken_before : (out : List (Option Prepared)) → IsTaken mid.file.header.fields (known_in view mid.file) offset n out → IsTaken old.file.header.fields (known_in view old.file) offset n out
-  taken_before out is =
-      taken_still old.file.header.fields (known_in view mid.file) (known_in view old.file) (λ g. sym (covers g)) offset n out (taken_format old.file.header.fields mid.file.header.fields header (known_in view mid.file) offset n out is)
+  taken_before out is = taken_still old.file.header.fields mid.file.header.fields (known_in view mid.file) (known_in view old.file) same offset n out (subst (λ (x : HeaderFields). IsTaken x (known_in view mid.file) offset n out) header is)
+
+  pub writable_as_before : (place : ℕ) → IsWritableAt mid.file.header.fields (known_in view mid.file) offset n place → IsWritableAt old.file.header.fields (known_in view old.file) offset n place
+  writable_as_before place is = writable_still old.file.header.fields mid.file.header.fields (known_in view mid.file) (known_in view old.file) same offset n place (subst (λ (x : HeaderFields). IsWritableAt x (known_in view mid.file) offset n place) header is)
 
 -- what is held is counted once, and nothing names it
 pub held_alone : (s : DriverState) → StateInvariant s → (k : ℕ) → 0 < s.pending.held k → IsHeldAlone s.header s.known k
@@ -304,7 +285,7 @@ answered_range view backing old new out k offset n overwrite free never (Ok p) r
     let now = known_in view new.file in
     let is = readies k free in
     let never_now : (place : ℕ) → IsWritableAt new.file.header.fields (known_in view new.file) offset n place → ⊥ = λ place at.
-    never place (writable_still h now (known_in view old.file) (λ g. sym (is.covers g)) offset n place (writable_format h h' is.header now offset n place at)) in
+    never place (writable_as_before view old new offset n is.header is.covers place at) in
     answered_before view old new offset n is.header is.covers h' now p (meaning view backing new p)
     (subst (λ o. IsAnswered new.file.header.fields (known_in view new.file) o n new.file.header.fields (known_in view new.file) p (meaning view backing new p)) reaches.guest
     (answered_out view backing new (slice_set out k (Some p)) k p (get_set_same out k (Some p) None free) is.sound offset n reaches never_now))

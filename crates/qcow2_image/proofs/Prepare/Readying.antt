@@ -29,6 +29,7 @@ use Rattle.qcow2_image.specs.CallParts.{IsReadied}
 use Rattle.qcow2_image.specs.UnseenSteps.{UnseenFillingStep, HoldsTable}
 use Rattle.qcow2_image.specs.ImageInvariant.{to_free, of_data, of_tables, held_by, pins_by, pins_of, over_all, pending_in, abstract_of, meaning, is_private, backing_bytes, IsShareAt, IsPending, IsReadyWith, ImageInvariant}
 use Rattle.qcow2_image.proofs.Call.Answered.{same_guest}
+use Rattle.qcow2_image.proofs.Moved.{format_moves, format_stay}
 use Rattle.qcow2_image.proofs.Shares.{private_shared}
 use Rattle.qcow2_image.proofs.Open.Reftables.{reftable_still}
 use Rattle.qcow2_image.proofs.Call.Slots.{get_set, over_all_put, slot_set}
@@ -179,8 +180,8 @@ module _ {S F : Type 0} (view : S → StorageView) (backing : F → BackingView)
   readied n overwrite prepared = record {
     works = stepped_works view backing old new out now nothing_given q steps;
     sound = stepped_sound view backing old new out now nothing_given q steps;
-    header = goes.header;
-    covers = subst (λ (b : Bytes). SameCovers old.file.header.fields (known_in view old.file) b) (sym same_known) goes.covers;
+    header = format_moves old.file.header.fields mid.file.header.fields goes.header;
+    covers = format_stay old.file.header.fields mid.file.header.fields (known_in view old.file) (known_in view new.file) goes.header (subst (λ (b : Bytes). SameCovers old.file.header.fields (known_in view old.file) b) (sym same_known) goes.covers);
     prepared = prepared;
     is = seen_now;
   }

@@ -1,27 +1,28 @@
 use Rattle.qcow2_alloc.proofs.AllocationSteps.{handed_on}
 use Rattle.qcow2_image.specs.Growing.{Resizes}
 use Rattle.qcow2_image.specs.UnseenSteps.{pending_then}
-use Rattle.std.proofs.Common.{ap, ◌∙◌, ◌-◌, ◌/◌, ◌^◌}
-use Rattle.qcow2_image.proofs.Grow.Grown.{lasts_more, resized_then, resized_reaches}
+use Rattle.std.proofs.Common.{[], ap, ◌∙◌, ◌-◌, ◌/◌, ◌^◌}
+use Rattle.qcow2_image.proofs.Grow.Grown.{extends_moving, lasts_more, lasts_refused, resized_then, resized_reaches}
 use Rattle.qcow2_image.proofs.image.Qcow2.grow_to.Goals as goal
 
 pub returns-in_err-grow_l1_table-clause-resizes : goal.returns-in_err-grow_l1_table-clause-resizes
 returns-in_err-grow_l1_table-clause-resizes g c = λ p sound.
     handed_on (Resizes g.S.Storage.view g.F.BackingDisk.backing p c.args.self.now c.grow_l1_table.new.self c.args.size) c.from_residual.result c.in_err-grow_l1_table.field-0.0 c.from_residual.ensures
-    (lasts_more g.S.Storage.view g.F.BackingDisk.backing c.args.self.now c.grow_l1_table.new.self c.args.size (c.in_err-grow_l1_table.ensures.lengthens p sound))
+    (lasts_more g.S.Storage.view g.F.BackingDisk.backing c.args.self.now c.grow_l1_table.new.self c.args.size
+    (lasts_refused g.S.Storage.view g.F.BackingDisk.backing p c.args.self.now c.grow_l1_table.new.self c.in_err-grow_l1_table.field-0.0 (c.in_err-grow_l1_table.ensures.lengthens p [] sound)))
 
 pub returns-clause-resizes : goal.returns-clause-resizes
 returns-clause-resizes g c = λ p sound.
     let old = c.args.self.now in
     let mid = c.grow_l1_table.new.self in
-    let first = c.in_ok-grow_l1_table.ensures.lengthens p sound in
+    let first = extends_moving g.S.Storage.view g.F.BackingDisk.backing p (pending_then p old mid) old mid (c.in_ok-grow_l1_table.ensures.lengthens p [] sound) in
     resized_then g.S.Storage.view g.F.BackingDisk.backing p old mid c.write_size.new.self c.args.size c.write_size.result first c.write_size.ensures.list (c.write_size.ensures.resizes (pending_then p old mid) first.sound)
 
 pub returns-clause-reaches : goal.returns-clause-reaches
 returns-clause-reaches g c = λ p sound.
     let old = c.args.self.now in
     let mid = c.grow_l1_table.new.self in
-    let first = c.in_ok-grow_l1_table.ensures.lengthens p sound in
+    let first = extends_moving g.S.Storage.view g.F.BackingDisk.backing p (pending_then p old mid) old mid (c.in_ok-grow_l1_table.ensures.lengthens p [] sound) in
     resized_reaches g.S.Storage.view g.F.BackingDisk.backing p old mid c.write_size.new.self c.args.size c.l1_index.result c.write_size.result
     (resized_then g.S.Storage.view g.F.BackingDisk.backing p old mid c.write_size.new.self c.args.size c.write_size.result first c.write_size.ensures.list (c.write_size.ensures.resizes (pending_then p old mid) first.sound))
     (c.l1_index.ensures ∙ ap (λ m. m / 2 ^ c.cluster_bits-bits.result / (2 ^ c.cluster_bits-bits.result / 8)) c.new.ensures ∙ ap (λ n. (c.args.size - 1) / 2 ^ n / (2 ^ n / 8)) c.cluster_bits-bits.ensures.value) c.in_ok-grow_l1_table.ensures.reaches c.write_size.ensures.table

@@ -1,58 +1,62 @@
-use Rattle.std.proofs.Common.{refl, []}
+use Rattle.std.proofs.Common.{refl}
 use Rattle.qcow2_alloc.specs.ImageError.{of_storage}
 use Rattle.qcow2_alloc.specs.ImageStorage.{storage_of}
 use Rattle.qcow2_alloc.proofs.AllocationSteps.{handed_on}
-use Rattle.qcow2_image.specs.Growing.{with_table, IsLonger, PlacesTable}
+use Rattle.qcow2_image.specs.LongerTables.{with_table, IsLonger, PlacesTable}
 use Rattle.qcow2_image.proofs.Call.Called.{keeps_then}
 use Rattle.qcow2_image.proofs.Map.Loading.{caches_moved, with_caches}
+use Rattle.qcow2_image.proofs.Prepare.Entering.{keeps_none}
 use Rattle.qcow2_image.proofs.Grow.LongerTables.{table_write_as, keeps_placed, stands_whole}
 use Rattle.qcow2_image.proofs.image.Qcow2.place_l1_table.Goals as goal
 
 pub returns-in_err-flush_rb-clause-places : goal.returns-in_err-flush_rb-clause-places
-returns-in_err-flush_rb-clause-places g c = λ p sound longer.
+returns-in_err-flush_rb-clause-places g c = λ p out sound longer.
     let view = g.S.Storage.view in
     let below = g.F.BackingDisk.backing in
     let old = c.args.self.now in
     let q = with_table p c.args.table.now c.args.cluster in
     let stay = c.flush_rb.ensures.keeps old.file.header.fields q sound.file.honest sound.file.caches in
-    handed_on (PlacesTable view below q old (with_caches view below old [] q sound c.flush_rb.new.storage c.flush_rb.new.self) c.set_cluster.new.self c.args.cluster)
+    handed_on (PlacesTable view below q old (with_caches view below old out q sound c.flush_rb.new.storage c.flush_rb.new.self) out c.set_cluster.new.self c.args.cluster)
     c.from_residual.result c.in_err-flush_rb.field-0.0 c.from_residual.ensures
-    (caches_moved view below old [] q sound c.flush_rb.new.storage c.flush_rb.new.self stay c.flush_rb.ensures.marks.room c.flush_rb.ensures.marks.pins).since
+    (caches_moved view below old out q sound c.flush_rb.new.storage c.flush_rb.new.self stay c.flush_rb.ensures.marks.room c.flush_rb.ensures.marks.pins)
 
 pub returns-in_err-write-clause-places : goal.returns-in_err-write-clause-places
-returns-in_err-write-clause-places g c = λ p sound longer.
+returns-in_err-write-clause-places g c = λ p out sound longer.
     let view = g.S.Storage.view in
     let below = g.F.BackingDisk.backing in
     let old = c.args.self.now in
     let t = c.args.table.now in
     let q = with_table p t c.args.cluster in
     let stay = c.flush_rb.ensures.keeps old.file.header.fields q sound.file.honest sound.file.caches in
-    let kept = caches_moved view below old [] q sound c.flush_rb.new.storage c.flush_rb.new.self stay c.flush_rb.ensures.marks.room c.flush_rb.ensures.marks.pins in
-    let image = with_caches view below old [] q sound c.flush_rb.new.storage c.flush_rb.new.self in
+    let kept = caches_moved view below old out q sound c.flush_rb.new.storage c.flush_rb.new.self stay c.flush_rb.ensures.marks.room c.flush_rb.ensures.marks.pins in
+    let image = with_caches view below old out q sound c.flush_rb.new.storage c.flush_rb.new.self in
     let there : IsLonger image t = record { bits = longer.bits; whole = longer.whole; longer = longer.longer; entries = longer.entries } in
     let new = record image { file = record image.file { storage = c.write.new.storage } } in
-    handed_on (PlacesTable view below q old new c.set_cluster.new.self c.args.cluster) c.from_residual-in_err-write.result (of_storage c.in_err-write.field-0.0) c.from_residual-in_err-write.ensures
-    (keeps_then view below [] old image new q q q (λ k some. some) kept
-    (keeps_placed view below p image t c.args.cluster kept.sound there c.in_ok-flush_rb.ensures.written c.in_ok-flush_rb.ensures.first (storage_of c.will_write.new.self) (storage_of c.write.new.storage) c.write.result c.will_write.ensures.storage
+    handed_on (PlacesTable view below q old new out c.set_cluster.new.self c.args.cluster) c.from_residual-in_err-write.result (of_storage c.in_err-write.field-0.0) c.from_residual-in_err-write.ensures
+    (keeps_then view below out old image new q q q (λ k some. some) kept
+    (keeps_placed view below out p image t c.args.cluster kept.sound there c.in_ok-flush_rb.ensures.written c.in_ok-flush_rb.ensures.first (storage_of c.will_write.new.self) (storage_of c.write.new.storage) c.write.result c.will_write.ensures.storage
     (table_write_as view t c.args.cluster old.file.header.fields.cluster_bits c.set_cluster.new.self c.write.result (storage_of c.will_write.new.self) (storage_of c.write.new.storage) c.set_cluster.ensures longer.bits c.write.ensures.written)
-    c.write.ensures.calls c.write.new.storage refl)).since
+    c.write.ensures.calls c.write.new.storage refl))
 
 pub returns-clause-places : goal.returns-clause-places
-returns-clause-places g c = λ p sound longer.
+returns-clause-places g c = λ p out sound longer.
     let view = g.S.Storage.view in
     let below = g.F.BackingDisk.backing in
     let old = c.args.self.now in
     let t = c.args.table.now in
     let q = with_table p t c.args.cluster in
     let stay = c.flush_rb.ensures.keeps old.file.header.fields q sound.file.honest sound.file.caches in
-    let kept = caches_moved view below old [] q sound c.flush_rb.new.storage c.flush_rb.new.self stay c.flush_rb.ensures.marks.room c.flush_rb.ensures.marks.pins in
-    let image = with_caches view below old [] q sound c.flush_rb.new.storage c.flush_rb.new.self in
+    let kept = caches_moved view below old out q sound c.flush_rb.new.storage c.flush_rb.new.self stay c.flush_rb.ensures.marks.room c.flush_rb.ensures.marks.pins in
+    let image = with_caches view below old out q sound c.flush_rb.new.storage c.flush_rb.new.self in
     let there : IsLonger image t = record { bits = longer.bits; whole = longer.whole; longer = longer.longer; entries = longer.entries } in
     let new = record image { file = record image.file { storage = c.write.new.storage } } in
     let wrote = table_write_as view t c.args.cluster old.file.header.fields.cluster_bits c.set_cluster.new.self c.write.result (storage_of c.will_write.new.self) (storage_of c.write.new.storage) c.set_cluster.ensures longer.bits c.write.ensures.written in (
-      keeps_then view below [] old image new q q q (λ k some. some) kept
-          (keeps_placed view below p image t c.args.cluster kept.sound there c.in_ok-flush_rb.ensures.written c.in_ok-flush_rb.ensures.first (storage_of c.will_write.new.self) (storage_of c.write.new.storage) c.write.result c.will_write.ensures.storage wrote
+      keeps_then view below out old image new q q q (λ k some. some) kept
+          (keeps_placed view below out p image t c.args.cluster kept.sound there c.in_ok-flush_rb.ensures.written c.in_ok-flush_rb.ensures.first (storage_of c.will_write.new.self) (storage_of c.write.new.storage) c.write.result c.will_write.ensures.storage wrote
           c.write.ensures.calls c.write.new.storage refl),
-      stands_whole view below p image t c.args.cluster kept.sound there c.in_ok-flush_rb.ensures.written c.in_ok-flush_rb.ensures.first (storage_of c.will_write.new.self) (storage_of c.write.new.storage) c.write.result c.will_write.ensures.storage wrote
+      stands_whole view below out p image t c.args.cluster kept.sound there c.in_ok-flush_rb.ensures.written c.in_ok-flush_rb.ensures.first (storage_of c.will_write.new.self) (storage_of c.write.new.storage) c.write.result c.will_write.ensures.storage wrote
           c.write.ensures.calls c.write.new.storage refl c.set_cluster.new.self c.set_cluster.ensures c.in_ok-write.field-0 c.in_ok-write.was,
     )
+
+pub returns-then-not-is_nameable-clause-places : goal.returns-then-not-is_nameable-clause-places
+returns-then-not-is_nameable-clause-places g c = λ p out sound longer. keeps_none g.S.Storage.view g.F.BackingDisk.backing out (with_table p c.args.table.now c.args.cluster) c.args.self.now sound

@@ -13,38 +13,55 @@ returns-then-has_own_l2-clause-finds g c = λ out sound.
     let below = g.F.BackingDisk.backing in
     finds view below out c.args.self.now c.ensure_l2.new.self sound c.ensure_l2.ensures.keeps_rest c.args.offset c.ensure_l2.result (c.ensure_l2.ensures.ready (pending_in view below c.args.self.now out) out sound)
 
+pub returns-in_err-reach_entry-clause-finds : goal.returns-in_err-reach_entry-clause-finds
+returns-in_err-reach_entry-clause-finds g c = λ out sound.
+    let view = g.S.Storage.view in
+    let below = g.F.BackingDisk.backing in
+    handed_on (FindsTable view below c.args.self.now c.reach_entry.new.self out c.args.offset) c.from_residual.result c.in_err-reach_entry.field-0.0 c.from_residual.ensures
+    (c.in_err-reach_entry.ensures.makes out sound)
+
 pub returns-in_err-own_l2-clause-finds : goal.returns-in_err-own_l2-clause-finds
 returns-in_err-own_l2-clause-finds g c = λ out sound.
     let view = g.S.Storage.view in
     let below = g.F.BackingDisk.backing in
     let old = c.args.self.now in
-    handed_on (FindsTable view below old c.own_l2.new.self out c.args.offset) c.from_residual.result c.in_err-own_l2.field-0.0 c.from_residual.ensures
-    (left_refused view below out old c.own_l2.new.self c.in_err-own_l2.field-0.0 sound c.own_l2.ensures.keeps_rest (c.in_err-own_l2.ensures.owns (pending_in view below old out) out sound))
+    let long = c.reach_entry.new.self in
+    let e = c.in_err-own_l2.field-0.0 in
+    let reached = c.in_ok-reach_entry.ensures.makes out sound in
+    handed_on (FindsTable view below old c.own_l2.new.self out c.args.offset) c.from_residual-in_err-own_l2.result e c.from_residual-in_err-own_l2.ensures
+    (finds_after view below out old long c.own_l2.new.self reached c.args.offset (Err e)
+    (left_refused view below out long c.own_l2.new.self e reached.sound c.own_l2.ensures.keeps_rest (c.in_err-own_l2.ensures.owns (pending_in view below long out) out reached.sound)))
 
 pub returns-in_err-free_listed-clause-finds : goal.returns-in_err-free_listed-clause-finds
 returns-in_err-free_listed-clause-finds g c = λ out sound.
     let view = g.S.Storage.view in
     let below = g.F.BackingDisk.backing in
     let old = c.args.self.now in
+    let long = c.reach_entry.new.self in
     let mid = c.own_l2.new.self in
     let new = c.free_listed.new.self in
     let e = c.in_err-free_listed.field-0.0 in
-    let first = stays_kept view below out old mid sound (c.in_ok-own_l2.ensures.owns (pending_in view below old out) out sound).0 in
+    let reached = c.in_ok-reach_entry.ensures.makes out sound in
+    let first = stays_kept view below out long mid reached.sound (c.in_ok-own_l2.ensures.owns (pending_in view below long out) out reached.sound).0 in
     let listed = subst (λ (x : Pending). ImageInvariant view below x mid out) (all_listed view below mid out) first.sound in
     handed_on (FindsTable view below old new out c.args.offset) c.from_residual-in_err-free_listed.result e c.from_residual-in_err-free_listed.ensures
-    (finds_after view below out old mid new first c.args.offset (Err e) (freed_refused view below mid out new e first.sound (c.in_err-free_listed.ensures.frees (beside view below mid out) out listed)))
+    (finds_after view below out old long new reached c.args.offset (Err e)
+    (finds_after view below out long mid new first c.args.offset (Err e) (freed_refused view below mid out new e first.sound (c.in_err-free_listed.ensures.frees (beside view below mid out) out listed))))
 
 pub returns-clause-finds : goal.returns-clause-finds
 returns-clause-finds g c = λ out sound.
     let view = g.S.Storage.view in
     let below = g.F.BackingDisk.backing in
     let old = c.args.self.now in
+    let long = c.reach_entry.new.self in
     let mid = c.own_l2.new.self in
     let freed = c.free_listed.new.self in
     let new = c.ensure_l2-2.new.self in
-    let first = stays_kept view below out old mid sound (c.in_ok-own_l2.ensures.owns (pending_in view below old out) out sound).0 in
+    let reached = c.in_ok-reach_entry.ensures.makes out sound in
+    let first = stays_kept view below out long mid reached.sound (c.in_ok-own_l2.ensures.owns (pending_in view below long out) out reached.sound).0 in
     let listed = subst (λ (x : Pending). ImageInvariant view below x mid out) (all_listed view below mid out) first.sound in
     let second = tidy_stays view below mid out freed first.sound (c.in_ok-free_listed.ensures.frees (beside view below mid out) out listed) in
-    finds_after view below out old mid new first c.args.offset c.ensure_l2-2.result
+    finds_after view below out old long new reached c.args.offset c.ensure_l2-2.result
+    (finds_after view below out long mid new first c.args.offset c.ensure_l2-2.result
     (finds_after view below out mid freed new second c.args.offset c.ensure_l2-2.result
-    (finds view below out freed new second.sound c.ensure_l2-2.ensures.keeps_rest c.args.offset c.ensure_l2-2.result (c.ensure_l2-2.ensures.ready (pending_in view below freed out) out second.sound)))
+    (finds view below out freed new second.sound c.ensure_l2-2.ensures.keeps_rest c.args.offset c.ensure_l2-2.result (c.ensure_l2-2.ensures.ready (pending_in view below freed out) out second.sound))))

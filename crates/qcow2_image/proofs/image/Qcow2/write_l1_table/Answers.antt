@@ -1,20 +1,20 @@
-use Rattle.std.proofs.Common.{◌≡◌, ap, subst}
+use Rattle.std.proofs.Common.{◌≡◌, inl, ap, subst}
 use Rattle.std.specs.Prelude.{OnOk}
 use Rattle.qcow2_metadata.specs.EntryTable.{entry_count}
 use Rattle.qcow2_alloc.proofs.AllocationSteps.{handed_on}
-use Rattle.qcow2_image.specs.Growing.{NamesTable}
-use Rattle.qcow2_image.proofs.Grow.Grown.{named_then}
+use Rattle.qcow2_image.specs.LongerTables.{NamesTable}
+use Rattle.qcow2_image.proofs.Grow.Lengthened.{named_then}
 use Rattle.qcow2_image.proofs.image.Qcow2.write_l1_table.Goals as goal
 
 pub returns-in_err-place_l1_table-clause-names : goal.returns-in_err-place_l1_table-clause-names
-returns-in_err-place_l1_table-clause-names g c = λ p sound longer.
-    handed_on (NamesTable g.S.Storage.view g.F.BackingDisk.backing p c.args.self.now c.place_l1_table.new.self c.args.table c.args.cluster) c.from_residual.result c.in_err-place_l1_table.field-0.0 c.from_residual.ensures
-    (c.in_err-place_l1_table.ensures.places p sound longer)
+returns-in_err-place_l1_table-clause-names g c = λ p out sound noted longer.
+    handed_on (NamesTable g.S.Storage.view g.F.BackingDisk.backing p c.args.self.now c.place_l1_table.new.self out c.args.table c.args.cluster) c.from_residual.result c.in_err-place_l1_table.field-0.0 c.from_residual.ensures
+    (inl (c.in_err-place_l1_table.ensures.places p out sound longer))
 
 pub returns-clause-names : goal.returns-clause-names
-returns-clause-names g c = λ p sound longer.
-    named_then g.S.Storage.view g.F.BackingDisk.backing p c.args.self.now c.place_l1_table.new.self c.name_l1_table.new.self c.args.table c.place_l1_table.new.table c.args.cluster c.name_l1_table.result c.in_ok-place_l1_table.ensures.table
-    (c.in_ok-place_l1_table.ensures.places p sound longer) (c.name_l1_table.ensures.names p)
+returns-clause-names g c = λ p out sound noted longer.
+    named_then g.S.Storage.view g.F.BackingDisk.backing out p c.args.self.now c.place_l1_table.new.self c.name_l1_table.new.self c.args.table c.place_l1_table.new.table c.args.cluster c.name_l1_table.result sound c.in_ok-place_l1_table.ensures.table
+    (c.in_ok-place_l1_table.ensures.places p out sound longer) (λ placed. c.name_l1_table.ensures.names p out placed (c.place_l1_table.ensures.noted noted))
 
 pub returns-clause-entries : goal.returns-clause-entries
 returns-clause-entries g c = subst (λ n. OnOk c.name_l1_table.result (entry_count c.name_l1_table.new.self.l1_table ≡ n)) (ap entry_count c.in_ok-place_l1_table.ensures.table) c.name_l1_table.ensures.entries

@@ -1,0 +1,73 @@
+-- What stays where an image's tables move.
+use Rattle.std.proofs.Common.{◌≡◌, ℕ, ◌+◌, ◌/◌, refl, sym, ap, ◌∙◌, subst}
+use Rattle.std.specs.Prelude.{Option, None, Some}
+use Rattle.qcow2_metadata.specs.Bytes.{Bytes}
+use Rattle.qcow2_metadata.specs.declared.header.HeaderFields.{HeaderFields}
+use Rattle.qcow2_metadata.specs.Header.{entries_per_cluster, with_l1_table, with_tables_of}
+use Rattle.qcow2_metadata.specs.Entries.{l1_entry, host_offset, is_copied}
+use Rattle.qcow2_metadata.specs.L2Mapping.{IsInReach, named_run}
+use Rattle.qcow2_laws.specs.CrashInvariant.{SameCovers}
+use Rattle.qcow2_laws.specs.Guests.{table_at}
+use Rattle.qcow2_laws.specs.Mappings.{is_copied_data}
+use Rattle.qcow2_laws.specs.Tops.{places_of, with_places}
+use Rattle.qcow2_laws.specs.Unseen.{KeepsFormat}
+use Rattle.qcow2_laws.proofs.Formats.{cover_format}
+use Rattle.qcow2_image.specs.declared.prepared.Prepared.{Prepared}
+use Rattle.qcow2_image.specs.declared.prepared.Share.{Share}
+use Rattle.qcow2_image.specs.declared.prepared.Share.TheVariants.{InPlace, Kept, New}
+use Rattle.qcow2_image.specs.Growing.{SameFormat}
+use Rattle.qcow2_image.specs.ImageInvariant.{cluster_of, listed_run, IsReadyWith, IsShareAt}
+use Rattle.qcow2_image.specs.MovedTables.{MovesTables, CoversStay}
+
+-- ---- the header
+pub moves_none : (h : HeaderFields) → MovesTables h h
+moves_none h = refl
+
+pub moves_then : (a b c : HeaderFields) → MovesTables a b → MovesTables b c → MovesTables a c
+moves_then a b c first then = then ∙ ap (λ (k : HeaderFields). with_tables_of k c) first
+
+-- where only the reftable may have moved
+pub format_moves : (h h' : HeaderFields) → KeepsFormat h h' → MovesTables h h'
+format_moves h h' format = subst (λ (k : HeaderFields). k ≡ with_tables_of h k) (sym format) refl
+
+pub moves_format : (h h' : HeaderFields) → MovesTables h h' → SameFormat h h'
+moves_format h h' moves = subst (λ (k : HeaderFields). k ≡ with_places h (places_of k)) (sym moves) refl
+
+-- ---- what stands for guest clusters
+pub stay_then : (a b c : HeaderFields) (known known' known'' : Bytes) → CoversStay a known b known' → CoversStay b known' c known'' → CoversStay a known c known''
+stay_then a b c known known' known'' first then g = first g ∙ then g
+
+pub format_stay : (h h' : HeaderFields) (known known' : Bytes) → KeepsFormat h h' → SameCovers h known known' → CoversStay h known h' known'
+format_stay h h' known known' format covers g = covers g ∙ sym (cover_format h h' format known' g)
+
+-- ---- a prepared mapping stands ready still, once a longer L1 table is named
+module _ (h : HeaderFields) (offset entries : ℕ) (known on_storage known' on_storage' : Bytes) (q : Prepared) (covers : CoversStay h known (with_l1_table h offset entries) known') where
+  moved_share : (i : ℕ) (share : Share) → IsShareAt h known on_storage q i share → IsShareAt (with_l1_table h offset entries) known' on_storage' q i share
+  moved_share i InPlace is = sym (covers (cluster_of h q + i)) ∙ is
+  moved_share i Kept is = record { first = is.first; place = is.place; nameable = is.nameable; entry = sym (covers (cluster_of h q + i)) ∙ is.entry }
+  moved_share i (New taken dropped) is = record {
+    first = is.first;
+    is = is.is;
+    place = is.place;
+    nameable = is.nameable;
+    entry = ap is_copied_data (sym (covers (cluster_of h q + i))) ∙ is.entry;
+    reach = subst IsInReach (covers (cluster_of h q + i)) is.reach;
+    drops = is.drops ∙ ap (λ v. listed_run (named_run h.cluster_bits v)) (covers (cluster_of h q + i));
+  }
+
+  pub ready_moved : ((i : ℕ) → l1_entry (with_l1_table h offset entries) known' i ≡ l1_entry h known i) → ((i : ℕ) → l1_entry (with_l1_table h offset entries) on_storage' i ≡ l1_entry h on_storage i)
+      → (table : Option ℕ) → IsReadyWith h known on_storage q table → IsReadyWith (with_l1_table h offset entries) known' on_storage' q table
+  ready_moved known_same same None is = is
+  ready_moved known_same same (Some table) is =
+      let i = cluster_of h q / entries_per_cluster h in
+      let there : table_at (with_l1_table h offset entries) known' i ≡ table_at h known i = ap host_offset (known_same i) in
+      record {
+        some = is.some;
+        begins = is.begins;
+        enough = is.enough;
+        no_more = is.no_more;
+        within = is.within;
+        named = record { real = λ none. is.named.real (sym there ∙ none); place = there ∙ is.named.place; within = is.named.within };
+        copied = ap is_copied (same i) ∙ is.copied;
+        each = λ i share at. moved_share i share (is.each i share at);
+      }

@@ -1,0 +1,118 @@
+-- A longer L1 table takes the place of the former one, which no guest sees: it gets its clusters, is written there, and then the header names it. The clusters of the former one are to be freed.
+use Rattle.std.specs.Prelude.{ℕ, ◌+◌, ◌-◌, ◌*◌, ◌/◌, ◌^◌, ◌<◌, ◌≡◌, ◌≤◌, ◌⊎◌, List, [], ◌∷◌, length, Option, Some, None, Result, Ok, Err}
+use Rattle.image_access.specs.Backing.{BackingView}
+use Rattle.image_access.specs.Moments.{StorageView}
+use Rattle.qcow2_metadata.specs.Bytes.{Bytes}
+use Rattle.qcow2_metadata.specs.declared.header.HeaderFields.{HeaderFields}
+use Rattle.qcow2_metadata.specs.Header.{cluster_size}
+use Rattle.qcow2_metadata.specs.Entries.{l1_entry}
+use Rattle.qcow2_metadata.specs.EntryTable.{EntryTableView, entry_count}
+use Rattle.qcow2_metadata.specs.Named.{in_run}
+use Rattle.qcow2_metadata.specs.TableBytes.{entry_at}
+use Rattle.qcow2_laws.specs.Changes.{with_fresh}
+use Rattle.qcow2_laws.specs.Clusters.{RbDependsOnL2}
+use Rattle.qcow2_laws.specs.CrashInvariant.{Pending, SameCovers, SameCounts}
+use Rattle.qcow2_laws.specs.Disk.{disk}
+use Rattle.qcow2_laws.specs.SafeSteps.{SafeStep, SafeThroughout}
+use Rattle.qcow2_laws.specs.Tops.{with_places, with_l1_at}
+use Rattle.qcow2_laws.specs.Unseen.{used_by_guests, SameUsedBytes}
+use Rattle.qcow2_alloc.specs.Allocation.{run_at}
+use Rattle.qcow2_alloc.specs.MetadataCaches.{order_of}
+use Rattle.qcow2_alloc.specs.ClustersToFree.{metadata_entry}
+use Rattle.qcow2_alloc.specs.declared.clusters_to_free.ClustersToFreeEntry.{ClustersToFreeEntry}
+use Rattle.qcow2_alloc.specs.declared.error.ImageError.{ImageError}
+use Rattle.qcow2_alloc.specs.ImageFile.{view_in, contents_in, known_in, state_in, nothing_given, InterruptedFileStep}
+use Rattle.qcow2_image.specs.declared.image.Qcow2.{Qcow2}
+use Rattle.qcow2_image.specs.declared.prepared.Prepared.{Prepared}
+use Rattle.qcow2_image.specs.CallParts.{RefusedCall, UnseenCall}
+use Rattle.qcow2_image.specs.ImageInvariant.{below_of, ImageInvariant}
+use Rattle.qcow2_image.specs.MovedTables.{MovesTables, CoversStay}
+use Rattle.qcow2_image.specs.UnseenSteps.{UnseenStep, ListGrows, pending_then}
+
+-- how many clusters a table needs
+abbrev pub clusters_of : EntryTableView → ℕ
+clusters_of t = (length t.bytes + 2 ^ t.cluster_bits - 1) / 2 ^ t.cluster_bits
+
+-- the clusters of a table, where it has a place
+abbrev pub run_of_table : EntryTableView → Option ℕ → Option ClustersToFreeEntry
+run_of_table t None = None
+run_of_table t (Some cluster) = Some (metadata_entry cluster (clusters_of t))
+
+-- as a list
+abbrev pub listed : Option ClustersToFreeEntry → List ClustersToFreeEntry
+listed None = []
+listed (Some e) = e ∷ []
+
+-- the clusters of the L1 table are to be freed
+abbrev pub without_l1 : Pending → HeaderFields → Pending
+without_l1 p h = record p { spent = λ k. p.spent k + in_run h k h.l1_offset (8 * h.l1_entries) }
+
+-- clusters are taken for a table
+abbrev pub with_table : Pending → EntryTableView → ℕ → Pending
+with_table p t cluster = with_fresh p (run_at cluster (clusters_of t))
+
+module _ {S F : Type 0} where
+  -- a table has the entries of the image's L1 table, and maybe more, which name nothing
+  pub record IsLonger (image : Qcow2 S F) (t : EntryTableView) : Type 0 where
+    pub bits : t.cluster_bits ≡ image.file.header.fields.cluster_bits
+    pub whole : length t.bytes ≡ 8 * entry_count t
+    pub longer : image.file.header.fields.l1_entries ≤ entry_count t
+    pub entries : (i : ℕ) → entry_at t.bytes i ≡ entry_at image.l1_table.bytes i
+
+  module _ (view : S → StorageView) where
+    -- it stands in its clusters, and all counts are written
+    pub record StandsWhole (image : Qcow2 S F) (t : EntryTableView) (cluster : ℕ) : Type 0 where
+      pub table : IsLonger image t
+      pub cluster_is : t.cluster ≡ Some cluster
+      pub stands : (i : ℕ) → l1_entry (with_places image.file.header.fields (with_l1_at image.file.header.fields (cluster * cluster_size image.file.header.fields) (entry_count t))) (contents_in view image.file) i ≡ entry_at t.bytes i
+      pub counts : SameCounts image.file.header.fields (contents_in view image.file) (known_in view image.file)
+      pub covers : order_of image.file.caches ≡ RbDependsOnL2 → SameCovers image.file.header.fields (contents_in view image.file) (known_in view image.file)
+
+    module _ (backing : F → BackingView) where
+      -- No guest sees it, though the L1 table may move: all is sound again, from what was pending to what is. At each moment what was kept is kept.
+      pub record UnseenMove (p p' : Pending) (old new : Qcow2 S F) (out : List (Option Prepared)) : Type 0 where
+        pub sound : ImageInvariant view backing p' new out
+        pub leads : SafeStep (state_in view old.file p) (state_in view new.file p') nothing_given []
+        pub since : SafeThroughout (view_in view old.file) (view_in view new.file) (known_in view old.file) nothing_given []
+        pub header : MovesTables old.file.header.fields new.file.header.fields
+        pub covers : CoversStay old.file.header.fields (known_in view old.file) new.file.header.fields (known_in view new.file)
+        pub bytes : SameUsedBytes (state_in view old.file p) (state_in view new.file p')
+        pub used : (c : ℕ) → 0 < used_by_guests (state_in view old.file p) c → 0 < used_by_guests (state_in view new.file p') c
+        pub shows : (disk_below : Bytes) → disk (known_in view new.file) disk_below ≡ disk (known_in view old.file) disk_below
+        pub below : below_of view backing new.backing ≡ below_of view backing old.backing
+        pub list : ListGrows old new
+
+      -- it broke off while the header was written
+      pub record InterruptedMove (old new : Qcow2 S F) (e : ImageError) : Type 0 where
+        pub breaks : InterruptedFileStep view old.file new.file e
+        pub header : MovesTables old.file.header.fields new.file.header.fields
+        pub below : below_of view backing new.backing ≡ below_of view backing old.backing
+
+      -- a part that was refused: all is sound as before but for what is to be freed; or it broke off
+      abbrev pub RefusedMove : Pending → Qcow2 S F → Qcow2 S F → List (Option Prepared) → ImageError → Type 0
+      RefusedMove p old new out e = UnseenStep view backing p (pending_then p old new) old new out ⊎ InterruptedMove old new e
+
+      -- a longer table is written to its clusters
+      abbrev pub PlacesTable : Pending → Qcow2 S F → Qcow2 S F → List (Option Prepared) → EntryTableView → ℕ → Result (Unit {0}) ImageError → Type 0
+      PlacesTable p old new out t cluster (Ok _) = UnseenStep view backing p p old new out × StandsWhole new t cluster
+      PlacesTable p old new out t cluster (Err e) = UnseenStep view backing p p old new out
+
+      -- the header names it in the place of the L1 table; where that is refused, its clusters are fresh still, or it broke off
+      abbrev pub NamesTable : Pending → Qcow2 S F → Qcow2 S F → List (Option Prepared) → EntryTableView → ℕ → Result (Unit {0}) ImageError → Type 0
+      NamesTable p old new out t cluster (Ok _) = UnseenMove (with_table p t cluster) (without_l1 p old.file.header.fields) old new out
+      NamesTable p old new out t cluster (Err e) = UnseenStep view backing (with_table p t cluster) (with_table p t cluster) old new out ⊎ InterruptedMove old new e
+
+      -- it gets its clusters, and takes the place of the L1 table
+      abbrev pub TakesTable : Pending → Qcow2 S F → Qcow2 S F → List (Option Prepared) → Result (Unit {0}) ImageError → Type 0
+      TakesTable p old new out (Ok _) = UnseenMove p (without_l1 (pending_then p old new) old.file.header.fields) old new out
+      TakesTable p old new out (Err e) = RefusedMove p old new out e
+
+      -- and the clusters of that one are to be freed
+      abbrev pub Lengthens : Pending → Qcow2 S F → Qcow2 S F → List (Option Prepared) → Result (Unit {0}) ImageError → Type 0
+      Lengthens p old new out (Ok _) = UnseenMove p (pending_then p old new) old new out
+      Lengthens p old new out (Err e) = RefusedMove p old new out e
+
+      -- a part of a call that no guest sees sees to it that there is an L1 entry
+      abbrev pub MakesEntry : Qcow2 S F → Qcow2 S F → List (Option Prepared) → Result (Unit {0}) ImageError → Type 0
+      MakesEntry old new out (Ok _) = UnseenCall view backing old new out
+      MakesEntry old new out (Err e) = RefusedCall view backing old new out e

@@ -1,0 +1,177 @@
+//! A longer L1 table, in the place of the former one.
+ghost use Rattle.std.specs.Prelude.{ℕ, List, Option, ◌≡◌, ◌<◌, ◌≤◌, ◌++◌, Some, IfErr, IfOk, IsTrue, OnOk};
+ghost use Rattle.qcow2_metadata.specs.EntryTable.{entry_count};
+ghost use Rattle.qcow2_metadata.specs.L2Mapping.{IsHostCluster};
+ghost use Rattle.qcow2_laws.specs.CrashInvariant.{Pending};
+ghost use Rattle.qcow2_image.specs.declared.prepared.Prepared.{Prepared};
+ghost use Rattle.qcow2_image.specs.Found.{l1_index_of};
+ghost use Rattle.qcow2_image.specs.Image.{HasNothingToFree, Stays, is_writable};
+ghost use Rattle.qcow2_image.specs.ImageInvariant.{ImageInvariant, pending_in};
+ghost use Rattle.qcow2_image.specs.LongerTables.{run_of_table, listed, with_table, IsLonger, StandsWhole, PlacesTable, NamesTable, TakesTable, Lengthens, MakesEntry};
+ghost use Rattle.qcow2_image.specs.Refusals.{IsMet};
+ghost use Rattle.qcow2_image.specs.UnseenSteps.{ListGrows};
+
+use crate::Qcow2;
+use image_access::{Storage, WrappedFormat};
+use qcow2_alloc::{
+    ClustersToFreeEntry, ClustersToFreeList, ImageError, PendingClusters, WriteKind,
+};
+use qcow2_metadata::{GuestOffset, HostCluster, L1Table};
+
+/// The longest L1 table.
+const MAX_L1_ENTRIES: usize = 4_194_304;
+
+#[tactic(auto, using(crate::proofs::Call::MetErrors::tables_met, crate::proofs::Call::MetErrors::storage_met, crate::proofs::Call::MetErrors::metadata_met))]
+impl<S: Storage, F: WrappedFormat<S>> Qcow2<S, F> {
+    // Sees to it that there is an L1 entry for an offset. Where the L1 table is too short for it, a longer one takes its place, and the clusters that are to be freed are freed then.
+    pub(crate) fn reach_entry(&mut self, offset: u64) -> Result<(), ImageError>
+        requires writable { IsTrue (is_writable self.old) }
+        ensures stays { Stays self.old self.new }
+        ensures cause { IfErr result IsMet }
+        ensures reaches { OnOk result (l1_index_of self.old.file.header.fields offset < entry_count self.new.l1_table) }
+        ensures none { l1_index_of self.old.file.header.fields offset < entry_count self.old.l1_table → self.new ≡ self.old }
+        ensures emptied { entry_count self.old.l1_table ≤ l1_index_of self.old.file.header.fields offset → OnOk result (HasNothingToFree self.new) }
+        ensures makes { (out : List (Option Prepared)) → ImageInvariant S.view F.backing (pending_in S.view F.backing self.old out) self.old out → MakesEntry S.view F.backing self.old self.new out result }
+    {
+        let index = GuestOffset::new(offset).l1_index(self.file.header.cluster_bits());
+        if self.l1_table.in_bounds(index) {
+            return Ok(());
+        }
+        self.grow_l1_table(index)?;
+        self.free_listed()
+    }
+
+    // Makes a new L1 table that has an entry of this index, with all old entries. The clusters of the old one are to be freed.
+    pub(crate) fn grow_l1_table(&mut self, index: usize) -> Result<(), ImageError>
+        ensures stays { Stays self.old self.new }
+        ensures cause { IsTrue (is_writable self.old) → IfErr result IsMet }
+        ensures lengthens { (p : Pending) (out : List (Option Prepared)) → ImageInvariant S.view F.backing p self.old out → Lengthens S.view F.backing p self.old self.new out result }
+        ensures reaches { OnOk result (index < entry_count self.new.l1_table) }
+        ensures list { OnOk result (ListGrows self.old self.new) }
+    {
+        if index >= MAX_L1_ENTRIES {
+            return Err(ImageError::Limit);
+        }
+        let entries = (index + 1).max(self.l1_table.len());
+        let table = self.l1_table.clone_and_grow(self.file.alloc, entries)?;
+        let old = self.former_l1_table()?;
+        match self.enter_l1_table(table) {
+            Ok(()) => {
+                hand_back(old, &mut self.file.free_list);
+                Ok(())
+            }
+            Err(refusal) => {
+                forget(old);
+                Err(refusal)
+            }
+        }
+    }
+
+    // Room on the list of clusters to be freed for those of the L1 table.
+    fn former_l1_table(&self) -> Result<Option<PendingClusters>, ImageError>
+        ensures cause { IfErr result IsMet }
+        ensures run { IfOk result (λ former. former ≡ run_of_table self.now.l1_table self.now.l1_table.cluster) }
+    {
+        let Some(cluster) = self.l1_table.get_cluster() else {
+            return Ok(None);
+        };
+        let entry = ClustersToFreeEntry::metadata(cluster, self.l1_table.cluster_count());
+        let former = ClustersToFreeList::pending_guard(self.file.alloc, entry)?;
+        Ok(Some(former))
+    }
+
+    // Gives an L1 table clusters, writes it there, and then the pointer that names it.
+    fn enter_l1_table(&mut self, table: L1Table) -> Result<(), ImageError>
+        ensures stays { Stays self.old self.new }
+        ensures cause { IsTrue (is_writable self.old) → IfErr result IsMet }
+        ensures takes { (p : Pending) (out : List (Option Prepared)) → ImageInvariant S.view F.backing p self.old out → IsLonger self.old table → TakesTable S.view F.backing p self.old self.new out result }
+        ensures entries { OnOk result (entry_count self.new.l1_table ≡ entry_count table) }
+        ensures list { OnOk result (ListGrows self.old self.new) }
+    {
+        let Some(allocator) = &mut self.allocator else {
+            return Err(ImageError::ReadOnly);
+        };
+        let pending = allocator.allocate_meta(&mut self.file, table.cluster_count())?;
+        match self.write_l1_table(table, pending.cluster()) {
+            Ok(()) => {
+                pending.make_persistent();
+                Ok(())
+            }
+            Err(refusal) => {
+                pending.hand_back(&mut self.file.free_list);
+                Err(refusal)
+            }
+        }
+    }
+
+    // The table is written first, then the pointer that names it.
+    fn write_l1_table(&mut self, mut table: L1Table, cluster: HostCluster) -> Result<(), ImageError>
+        requires { IsHostCluster self.old.file.header.fields.cluster_bits cluster }
+        ensures stays { Stays self.old self.new }
+        ensures cause { IfErr result IsMet }
+        ensures names { (p : Pending) (out : List (Option Prepared)) → ImageInvariant S.view F.backing (with_table p table cluster) self.old out → IsTrue self.old.file.caches.is_changed → IsLonger self.old table
+            → NamesTable S.view F.backing p self.old self.new out table cluster result }
+        ensures entries { OnOk result (entry_count self.new.l1_table ≡ entry_count table) }
+        ensures list { self.new.file.free_list ≡ self.old.file.free_list }
+    {
+        self.place_l1_table(&mut table, cluster)?;
+        self.name_l1_table(table, cluster)
+    }
+
+    // Writes an L1 table to its clusters, after all counts.
+    fn place_l1_table(
+        &mut self,
+        table: &mut L1Table,
+        cluster: HostCluster,
+    ) -> Result<(), ImageError>
+        ensures cause { IfErr result IsMet }
+        ensures rest { self.new ≡ record self.old { file = record self.old.file { storage = self.new.file.storage; caches = self.new.file.caches } } }
+        ensures noted { IsTrue self.old.file.caches.is_changed → IsTrue self.new.file.caches.is_changed }
+        ensures places { (p : Pending) (out : List (Option Prepared)) → ImageInvariant S.view F.backing (with_table p table.old cluster) self.old out → IsLonger self.old table.old
+            → PlacesTable S.view F.backing (with_table p table.old cluster) self.old self.new out table.new cluster result }
+        ensures table { OnOk result (table.new ≡ record table.old { cluster = Some cluster }) }
+    {
+        if !cluster.is_nameable(table.cluster_bits()) {
+            return Err(ImageError::Limit);
+        }
+        table.set_cluster(cluster);
+        self.file.caches.flush_rb(&mut self.file.storage)?;
+        self.file.storage.will_write(WriteKind::Other);
+        table.write(&mut self.file.storage)?;
+        Ok(())
+    }
+
+    // Writes the pointer that names an L1 table, which is the image's own then.
+    fn name_l1_table(&mut self, table: L1Table, cluster: HostCluster) -> Result<(), ImageError>
+        requires { IsHostCluster self.old.file.header.fields.cluster_bits cluster }
+        ensures stays { Stays self.old self.new }
+        ensures cause { IfErr result IsMet }
+        ensures names { (p : Pending) (out : List (Option Prepared)) → ImageInvariant S.view F.backing (with_table p table cluster) self.old out → IsTrue self.old.file.caches.is_changed → StandsWhole S.view self.old table cluster
+            → NamesTable S.view F.backing p self.old self.new out table cluster result }
+        ensures entries { OnOk result (entry_count self.new.l1_table ≡ entry_count table) }
+        ensures list { self.new.file.free_list ≡ self.old.file.free_list }
+    {
+        let offset = cluster.offset(self.file.header.cluster_bits());
+        self.file.header.set_l1_table(offset, table.len() as u32)?;
+        self.file.storage.will_write(WriteKind::Other);
+        self.file
+            .header
+            .write_l1_table_pointer(&mut self.file.storage)?;
+        self.l1_table = table;
+        Ok(())
+    }
+}
+
+fn hand_back(pending: Option<PendingClusters>, list: &mut ClustersToFreeList)
+    ensures { list.new ≡ list.old ++ listed pending }
+{
+    if let Some(pending) = pending {
+        pending.hand_back(list);
+    }
+}
+
+fn forget(pending: Option<PendingClusters>) {
+    if let Some(pending) = pending {
+        pending.make_persistent();
+    }
+}
