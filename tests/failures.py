@@ -93,6 +93,32 @@ def each_write_of_ranges():
     raise AssertionError("more than 60 writes")
 
 
+def with_a_short_table():
+    """The L1 table has one entry, for half of the disk."""
+    disk()
+    checks.put("disk", 36, (1).to_bytes(4, "big"))
+
+
+def each_write_of_a_longer_table():
+    """The first seven writes are those of the command, the third of them the pointer to the longer table."""
+    of_the_command, of_the_flush = (1, STORAGE + FAILED), (1, "ok\n" + STORAGE)
+    for number, want in enumerate([of_the_command] * 7 + [of_the_flush] * 2 + [(0, "ok\n")], 1):
+        with_a_short_table()
+        equal(failing("disk", "pwrite64", number, ["run", "disk"], input=b"fill 32768 512 11\n"), want, f"at write {number}")
+        entries = checks.number_at(checks.contents("disk"), 36, 4)
+        equal(entries, 2 if number > 3 else 1, f"how many entries the L1 table has after write {number}")
+        equal(checks.qimg("run", "disk", given=b"read 32768 1\n")[1], "data 11\n" if number == 10 else "data 00\n", f"at write {number}")
+        equal(checks.qimg("run", "disk", given=b"fill 32768 512 22\nread 32768 1\n")[1], "ok\ndata 22\n", f"after write {number}")
+
+
+def each_read_of_a_longer_table():
+    told = []
+    while not told or told[-1] != (0, "ok\n"):
+        with_a_short_table()
+        told.append(failing("disk", "pread64", len(told) + 1, ["run", "disk"], input=b"fill 32768 512 11\n"))
+    equal(set(told[:-1]), {(1, STORAGE), (1, STORAGE + FAILED)}, "where one failed")
+
+
 def a_failed_image_answers_little():
     disk()
     given = b"fill 0 512 11\nread 0 1\nflush\nsize\n"
@@ -129,6 +155,8 @@ def main():
         each_write_of_creating,
         each_write_of_a_write,
         each_write_of_ranges,
+        each_write_of_a_longer_table,
+        each_read_of_a_longer_table,
         a_failed_image_answers_little,
         a_read_of_the_script_fails,
         a_line_that_has_no_room,

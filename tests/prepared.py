@@ -1,7 +1,7 @@
 #!/usr/bin/env -S python3 -B
 """Prepared mappings on real files: where they lie, what is seen of them before and after their commit, what is left of those that are dropped, and how slots are misused."""
 
-from checks import Checks, answers, contents, create, equal, number_at, qimg
+from checks import Checks, answers, contents, create, equal, number_at, put, qimg
 
 REFBLOCK = 1024
 ONES, TWOS, THREES = ("11" * 512, "22" * 512, "33" * 512)
@@ -104,6 +104,49 @@ def a_range_goes_on_behind_copied_data():
     ])
 
 
+def an_l1_table_grows_while_ranges_are_prepared():
+    """The L1 table has an entry for the first range alone; it grows for the second one, and for a third that is written."""
+    create("disk", 131072, 512)
+    put("disk", 36, (1).to_bytes(4, "big"))
+    answers("disk", [
+        ("prepare 0 0 1024 overwrite", "prepared 2560 1024"),
+        ("put 0 0 " + "11" * 1024, "ok"),
+        ("prepare 1 65536 512 overwrite", "prepared 4096 512"),
+        ("put 1 0 " + TWOS, "ok"),
+        ("fill 98304 512 44", "ok"),
+        ("read 0 2", "data 0000"),
+        ("read 65536 2", "data 0000"),
+        ("read 98304 2", "data 4444"),
+        ("prepare 2 65536 1024 keep", "refused 9 table prepared"),
+        ("put 1 0 " + THREES, "ok"),
+        ("commit 0", "ok"),
+        ("commit 1", "ok"),
+        ("read 1022 4", "data 11110000"),
+        ("read 65536 2", "data 3333"),
+        ("map 0 1024", "raw image 2560 1024 rw"),
+        ("map 65536 512", "raw image 4096 512 rw"),
+        ("flush", "ok"),
+    ], status=1)
+    equal(number_at(contents("disk"), 36, 4), 4, "how many entries the L1 table has")
+    answers("disk", [("read 0 2", "data 1111"), ("read 65536 2", "data 3333"), ("read 98304 2", "data 4444")])
+
+
+def a_mapping_is_dropped_after_an_l1_table_grew():
+    create("disk", 65536, 512)
+    put("disk", 36, (1).to_bytes(4, "big"))
+    answers("disk", [
+        ("prepare 0 0 512 overwrite", "prepared 2560 512"),
+        ("prepare 1 32768 512 overwrite", "prepared 3584 512"),
+        ("put 0 0 11", "ok"),
+        ("drop 0", "ok"),
+        ("drop 1", "ok"),
+        ("flush", "ok"),
+        ("map 0 512", "zero 512 implicit"),
+        ("map 32768 512", "zero 512 implicit"),
+    ])
+    equal([count_of(c) for c in range(3, 8)], [1, 1, 0, 1, 0], "the counts")
+
+
 def a_range_ends_for_a_cause():
     rows([
         ("prepare 0 32256 1024 overwrite", "prepared 2560 512"),
@@ -185,6 +228,8 @@ for check in [
     a_mapping_that_is_left_is_dropped,
     a_range_has_many_clusters,
     a_range_goes_on_behind_copied_data,
+    an_l1_table_grows_while_ranges_are_prepared,
+    a_mapping_is_dropped_after_an_l1_table_grew,
     a_range_ends_for_a_cause,
     all_clusters_of_a_dropped_range_are_freed,
     slots_are_misused,

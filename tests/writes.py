@@ -164,6 +164,44 @@ def a_former_tables_cluster_takes_a_new_table():
     answers("disk", [("read 32768 1", "data 33"), ("read 0 1", "data 22")])
 
 
+def a_longer_l1_table_is_named_after_its_bytes():
+    create("disk", 65536, 512)
+    # The L1 table has one entry, for half of the disk.
+    put("disk", 36, (1).to_bytes(4, "big"))
+    before = content("disk")
+    said, writes = written(["run", "disk"], b"fill 32768 512 11\nflush\n")
+    equal(said, "ok\nok\n", "output")
+    equal([at for at, _ in writes], [1024, 2048, 36, 1024, 1536, 2056, 2560, 1024, 1536], "offsets")
+    equal(writes[0][1][:12], bytes.fromhex("00010001000100010001") + bytes(2), "counts before the L1 table is named")
+    equal(writes[1][1], bytes(16), "the longer L1 table")
+    equal(writes[2][1], bytes.fromhex("000000020000000000000800"), "its length and offset")
+    equal(writes[4][1], bytes(512), "a new L2 table, where the former L1 table was")
+    equal(writes[5][1], bytes.fromhex("8000000000000600"), "L1 entry")
+    for stop in range(len(writes) + 1):
+        leave("stopped", before, writes[:stop])
+        # QEMU doesn't open an image whose L1 table is too short.
+        if stop < 3:
+            checks.consistent("stopped")
+        else:
+            is_consistent("stopped", f"a stop after {stop} writes")
+        value = "11" if stop == len(writes) else "00"
+        equal(run("stopped", "read 32768 1", "read 0 1"), [f"data {value}", "data 00"], f"a stop after {stop} writes")
+
+
+def an_l1_table_grows_twice():
+    create("disk", 131072, 512)
+    put("disk", 36, (1).to_bytes(4, "big"))
+    said, writes = written(["run", "disk"], b"fill 32768 512 11\nfill 98304 512 22\nflush\n")
+    equal(said, "ok\nok\nok\n", "output")
+    first, second = [1024, 2048, 36, 1024, 1536, 2056, 2560], [1024, 3072, 36, 1024, 2048, 3096, 3584]
+    equal([at for at, _ in writes], first + second + [1024, 2048, 1536], "offsets")
+    equal(numbers_at("disk", 36, 40), [4 << 32, 3072], "length and offset")
+    equal(numbers_at("disk", 3072, 3080, 3088, 3096), [0, 0x8000000000000600, 0, 0x8000000000000800], "entries")
+    equal(numbers_at("disk", 1032), [0x0001000100010001], "counts of clusters 4 to 7")
+    is_consistent("disk", "a table that grew twice")
+    answers("disk", [("map 32768 1024", "raw image 2560 512 rw"), ("map 98304 512", "raw image 3584 512 rw"), ("map 65536 512", "zero 512 implicit")])
+
+
 def stops_leave_leaks_at_worst(size, cluster, width, lines, is_old_or_given):
     """Stops after each write of some commands: the file is consistent, and each guest cluster is as flushed or as given."""
     create("disk", size, cluster, width)
@@ -191,6 +229,8 @@ def main():
     tests.run("a shared cluster is copied", a_shared_cluster_is_copied)
     tests.run("zeros are copied", zeros_are_copied)
     tests.run("a former table's cluster takes a new table", a_former_tables_cluster_takes_a_new_table)
+    tests.run("a longer L1 table is named after its bytes", a_longer_l1_table_is_named_after_its_bytes)
+    tests.run("an L1 table grows twice", an_l1_table_grows_twice)
     for width in (1, 8, 16, 64):
         tests.run(f"stops, width {width}", stops_leave_leaks_at_worst, 65536, 512, width,
                   b"".join(b"fill %d 512 %02x\n" % (at * 512, at + 1) for at in range(0, 128, 9)) + b"flush\nfill 0 512 99\nflush\n",

@@ -1,6 +1,7 @@
 //! What is written, and in which order.
 use super::{
-    copied, created, fresh, guest_bytes, mapped, number_at, opened, stopped, write_all, written,
+    copied, created, fresh, guest_bytes, mapped, number_at, opened, refusal, stopped, write_all,
+    written,
 };
 use crate::session::read;
 use image_access::{Storage, StorageError, TraceStorage};
@@ -260,6 +261,112 @@ fn a_former_tables_cluster_takes_a_new_table(rt: HostRuntime) -> Result<(), Fail
     assert_eq!(rt;
         guest_bytes(alloc, storage, 0, 1)?.as_slice(),
         [0x22].as_slice()
+    );
+    Ok(())
+}
+
+// A new image whose L1 table has one entry, for half of its disk.
+fn with_a_short_table(alloc: Global) -> Result<TraceStorage, Fail> {
+    let mut storage = fresh(alloc)?;
+    storage.write(36, &[0, 0, 0, 1])?;
+    Ok(copied(alloc, &storage)?)
+}
+
+#[test]
+fn a_longer_l1_table_is_named_after_its_bytes(rt: HostRuntime) -> Result<(), Fail> {
+    let alloc = rt.alloc();
+    let storage = written(alloc, with_a_short_table(alloc)?, 32768, &[0x11; 512])?;
+    // The former table's cluster takes the L2 table.
+    assert_eq!(rt;
+        storage.writes(alloc)?.as_slice(),
+        [1024, 2048, 36, 1024, 1536, 2056, 2560, 1024, 1536].as_slice()
+    );
+    for stop in 0..9usize {
+        assert_eq!(rt;
+            guest_bytes(alloc, stopped(alloc, &storage, stop)?, 32768, 1)?.as_slice(),
+            [0].as_slice(),
+            "after {stop} writes"
+        );
+    }
+    assert_eq!(rt;
+        guest_bytes(alloc, copied(alloc, &storage)?, 32768, 1)?.as_slice(),
+        [0x11].as_slice()
+    );
+    Ok(())
+}
+
+#[test]
+fn a_longer_l1_table_ends_with_the_entry_needed(rt: HostRuntime) -> Result<(), Fail> {
+    let alloc = rt.alloc();
+    let mut storage = written(alloc, with_a_short_table(alloc)?, 32768, &[0x11; 512])?;
+    assert_eq!(rt;
+        numbers(&mut storage, [36, 2048, 2056, 1032])?,
+        [
+            0x0000_0002_0000_0000,
+            0,
+            0x8000_0000_0000_0600,
+            0x0001_0001_0000_0000
+        ]
+    );
+    assert_eq!(rt; number_at(&mut storage, 40)?, 2048);
+    Ok(())
+}
+
+// Makes a range behind the L1 table zero, and flushes.
+fn zeroed<S: Storage>(alloc: Global, storage: S) -> Result<S, ImageError> {
+    let mut image = opened(alloc, storage, true)?;
+    image.ensure_zero_mapping(32768, 512)?;
+    image.flush()?;
+    Ok(image.into_storage())
+}
+
+// Drops a range behind the L1 table, and flushes.
+fn dropped<S: Storage>(alloc: Global, storage: S) -> Result<S, ImageError> {
+    let mut image = opened(alloc, storage, true)?;
+    image.discard_to_backing_unsafe(32768, 512)?;
+    image.flush()?;
+    Ok(image.into_storage())
+}
+
+#[test]
+fn an_l1_table_grows_for_zeros(rt: HostRuntime) -> Result<(), Fail> {
+    let alloc = rt.alloc();
+    let storage = zeroed(alloc, with_a_short_table(alloc)?)?;
+    assert_eq!(rt;
+        storage.writes(alloc)?.as_slice(),
+        [1024, 2048, 36, 1024, 1536, 2056, 1536].as_slice()
+    );
+    assert_eq!(rt;
+        mapped(alloc, copied(alloc, &storage)?, 32768, 1024)?,
+        (MappingKind::Zero { explicit: true }, 512)
+    );
+    Ok(())
+}
+
+#[test]
+fn an_l1_table_grows_for_a_discard(rt: HostRuntime) -> Result<(), Fail> {
+    let alloc = rt.alloc();
+    let storage = dropped(alloc, with_a_short_table(alloc)?)?;
+    assert_eq!(rt;
+        storage.writes(alloc)?.as_slice(),
+        [1024, 2048, 36, 1024, 1536, 2056, 1536].as_slice()
+    );
+    assert_eq!(rt;
+        mapped(alloc, copied(alloc, &storage)?, 32768, 512)?,
+        (MappingKind::Zero { explicit: false }, 512)
+    );
+    Ok(())
+}
+
+#[test]
+fn an_l1_table_has_its_limit(rt: HostRuntime) -> Result<(), Fail> {
+    let alloc = rt.alloc();
+    let mut storage = fresh(alloc)?;
+    storage.write(24, &[0xff; 8])?;
+    let storage = copied(alloc, &storage)?;
+    assert_eq!(rt;
+        refusal(written(alloc, storage, 18446744073709551614, &[0])),
+        13
     );
     Ok(())
 }
