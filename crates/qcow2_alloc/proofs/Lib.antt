@@ -4,6 +4,7 @@ pub mod CacheMarks
 pub mod TableFlush
 pub mod TableErrors
 pub mod Faults
+pub mod Outcomes
 pub mod KeptTables
 pub mod FileSteps
 pub mod AllocationSteps

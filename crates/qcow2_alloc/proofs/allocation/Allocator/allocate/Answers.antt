@@ -6,6 +6,11 @@ use Rattle.qcow2_alloc.specs.LowestRuns.{IsLowestRun}
 use Rattle.qcow2_alloc.proofs.AllocationSteps.{of_equal}
 use Rattle.qcow2_alloc.specs.Limits.{IsFaultOr, HasNoPlace}
 use Rattle.qcow2_alloc.proofs.FormerReftables.{former_none}
+use Rattle.qcow2_alloc.proofs.CacheMarks.{marks_none}
+use Rattle.qcow2_alloc.proofs.Following.{header_same, lists_none}
+use Rattle.qcow2_alloc.proofs.Faults.{told_ok}
+use Rattle.qcow2_alloc.proofs.Outcomes.{told_memory, told_err}
+use Rattle.std.proofs.Math.Nat.{le_refl}
 use Rattle.qcow2_alloc.proofs.allocation.Allocator.allocate.Goals as goal
 
 pub returns-in-Ok-lowest_run-clause-sound : goal.returns-in-Ok-lowest_run-clause-sound
@@ -42,3 +47,57 @@ returns-in-Err-clause-limit g c = λ p sound may hint some.
 
 pub returns-in_default-clause-former : goal.returns-in_default-clause-former
 returns-in_default-clause-former g c = former_none c.args.self.now.reftable c.args.file.now.free_list
+
+pub returns-in-Ok-lowest_run-clause-marks : goal.returns-in-Ok-lowest_run-clause-marks
+returns-in-Ok-lowest_run-clause-marks g c = c.lowest_run.ensures.marks
+
+pub returns-in-Ok-lowest_run-clause-order : goal.returns-in-Ok-lowest_run-clause-order
+returns-in-Ok-lowest_run-clause-order g c = c.lowest_run.ensures.order
+
+pub returns-in-Ok-lowest_run-clause-header : goal.returns-in-Ok-lowest_run-clause-header
+returns-in-Ok-lowest_run-clause-header g c = c.lowest_run.ensures.header
+
+pub returns-in-Ok-lowest_run-clause-list : goal.returns-in-Ok-lowest_run-clause-list
+returns-in-Ok-lowest_run-clause-list g c = c.lowest_run.ensures.list
+
+pub returns-in-Ok-lowest_run-clause-former : goal.returns-in-Ok-lowest_run-clause-former
+returns-in-Ok-lowest_run-clause-former g c = c.lowest_run.ensures.former
+
+pub returns-in-Err-clause-marks : goal.returns-in-Err-clause-marks
+returns-in-Err-clause-marks g c = c.lowest_run.ensures.marks
+
+pub returns-in-Err-clause-order : goal.returns-in-Err-clause-order
+returns-in-Err-clause-order g c = c.lowest_run.ensures.order
+
+pub returns-in-Err-clause-header : goal.returns-in-Err-clause-header
+returns-in-Err-clause-header g c = c.lowest_run.ensures.header
+
+pub returns-in-Err-clause-list : goal.returns-in-Err-clause-list
+returns-in-Err-clause-list g c = c.lowest_run.ensures.list
+
+pub returns-in-Err-clause-former : goal.returns-in-Err-clause-former
+returns-in-Err-clause-former g c = c.lowest_run.ensures.former
+
+pub returns-in_default-clause-marks : goal.returns-in_default-clause-marks
+returns-in_default-clause-marks g c = marks_none _
+
+pub returns-in_default-clause-order : goal.returns-in_default-clause-order
+returns-in_default-clause-order g c = refl
+
+pub returns-in_default-clause-header : goal.returns-in_default-clause-header
+returns-in_default-clause-header g c = header_same c.args.file.now.header c.args.file.now.header refl
+
+pub returns-in_default-clause-list : goal.returns-in_default-clause-list
+returns-in_default-clause-list g c = lists_none _
+
+pub returns-in_default-clause-storage_faults : goal.returns-in_default-clause-storage_faults
+returns-in_default-clause-storage_faults g c = told_memory _ _ (le_refl _)
+
+pub returns-in-Ok-lowest_run-clause-storage_faults : goal.returns-in-Ok-lowest_run-clause-storage_faults
+returns-in-Ok-lowest_run-clause-storage_faults g c = told_ok _ _ _ c.lowest_run.ensures.storage_faults.no_fewer
+
+pub returns-in-Err-clause-storage_faults : goal.returns-in-Err-clause-storage_faults
+returns-in-Err-clause-storage_faults g c = told_err _ _ c.in-Err.refusal c.in-Err.ensures.storage_faults
+
+pub returns-in-Err-clause-cause : goal.returns-in-Err-clause-cause
+returns-in-Err-clause-cause g c = c.in-Err.ensures.cause

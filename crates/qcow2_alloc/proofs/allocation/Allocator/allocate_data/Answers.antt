@@ -1,4 +1,4 @@
-use Rattle.std.proofs.Common.{inl, refl, sym, subst, Result}
+use Rattle.std.proofs.Common.{inl, refl, sym, subst, Result, ◌∙◌}
 use Rattle.qcow2_laws.specs.CrashInvariant.{Pending}
 use Rattle.qcow2_alloc.specs.declared.clusters_to_free.ClusterKind.TheVariants.{Data}
 use Rattle.qcow2_alloc.specs.declared.image_file.ImageFile.{ImageFile}
@@ -7,12 +7,15 @@ use Rattle.qcow2_alloc.specs.FreeList.{pending_then}
 use Rattle.qcow2_alloc.specs.LowestRuns.{KeepsNoFreeBelowHint}
 use Rattle.qcow2_alloc.proofs.Hints.{hint_stays}
 use Rattle.qcow2_alloc.proofs.AllocationSteps.{handed_on, on_of, becomes_cached, is_sound_now, allocates_then}
-use Rattle.qcow2_alloc.proofs.Following.{following_same}
+use Rattle.qcow2_alloc.proofs.Following.{following_same, header_same, lists_none}
 use Rattle.std.specs.Prelude.{IfErr}
 use Rattle.qcow2_alloc.specs.declared.error.ImageError.{ImageError}
 use Rattle.qcow2_alloc.specs.declared.clusters_to_free.ClustersToFreeEntry.{ClustersToFreeEntry}
 use Rattle.qcow2_alloc.specs.Limits.{IsFaultOr, HasNoPlace}
 use Rattle.qcow2_alloc.proofs.FormerReftables.{former_none}
+use Rattle.qcow2_alloc.proofs.CacheMarks.{marks_then}
+use Rattle.qcow2_alloc.proofs.Faults.{told_on, told_since}
+use Rattle.qcow2_alloc.proofs.Outcomes.{on_no_ok, if_no_ok, handed_cause, on_ok}
 use Rattle.qcow2_alloc.proofs.allocation.Allocator.allocate_data.Goals as goal
 
 pub returns-in_err-l2_depends_on_rb-clause-sound : goal.returns-in_err-l2_depends_on_rb-clause-sound
@@ -61,3 +64,63 @@ returns-clause-limit g c = λ p sound hint some.
 
 pub returns-in_err-l2_depends_on_rb-clause-former : goal.returns-in_err-l2_depends_on_rb-clause-former
 returns-in_err-l2_depends_on_rb-clause-former g c = former_none c.args.self.now.reftable c.args.file.now.free_list
+
+pub returns-in_err-l2_depends_on_rb-clause-marks : goal.returns-in_err-l2_depends_on_rb-clause-marks
+returns-in_err-l2_depends_on_rb-clause-marks g c = c.l2_depends_on_rb.ensures.marks
+
+pub returns-in_err-l2_depends_on_rb-clause-cause : goal.returns-in_err-l2_depends_on_rb-clause-cause
+returns-in_err-l2_depends_on_rb-clause-cause g c = handed_cause c.from_residual.result c.in_err-l2_depends_on_rb.field-0.0 c.from_residual.ensures c.in_err-l2_depends_on_rb.ensures.cause
+
+pub returns-in_err-l2_depends_on_rb-clause-storage_faults : goal.returns-in_err-l2_depends_on_rb-clause-storage_faults
+returns-in_err-l2_depends_on_rb-clause-storage_faults g c = told_on _ _ c.l2_depends_on_rb.result c.in_err-l2_depends_on_rb.field-0.0 c.from_residual.result c.l2_depends_on_rb.ensures.storage_faults c.in_err-l2_depends_on_rb.was c.from_residual.ensures
+
+pub returns-in_err-l2_depends_on_rb-clause-nameable : goal.returns-in_err-l2_depends_on_rb-clause-nameable
+returns-in_err-l2_depends_on_rb-clause-nameable g c = if_no_ok _ c.from_residual.result c.in_err-l2_depends_on_rb.field-0.0 c.from_residual.ensures
+
+pub returns-in_err-l2_depends_on_rb-clause-elsewhere : goal.returns-in_err-l2_depends_on_rb-clause-elsewhere
+returns-in_err-l2_depends_on_rb-clause-elsewhere g c = if_no_ok _ c.from_residual.result c.in_err-l2_depends_on_rb.field-0.0 c.from_residual.ensures
+
+pub returns-in_err-l2_depends_on_rb-clause-lowest : goal.returns-in_err-l2_depends_on_rb-clause-lowest
+returns-in_err-l2_depends_on_rb-clause-lowest g c = λ _ _ _. if_no_ok _ c.from_residual.result c.in_err-l2_depends_on_rb.field-0.0 c.from_residual.ensures
+
+pub returns-in_err-l2_depends_on_rb-clause-noted : goal.returns-in_err-l2_depends_on_rb-clause-noted
+returns-in_err-l2_depends_on_rb-clause-noted g c = on_no_ok _ c.from_residual.result c.in_err-l2_depends_on_rb.field-0.0 c.from_residual.ensures
+
+pub returns-in_err-l2_depends_on_rb-clause-order : goal.returns-in_err-l2_depends_on_rb-clause-order
+returns-in_err-l2_depends_on_rb-clause-order g c = on_no_ok _ c.from_residual.result c.in_err-l2_depends_on_rb.field-0.0 c.from_residual.ensures
+
+pub returns-in_err-l2_depends_on_rb-clause-header : goal.returns-in_err-l2_depends_on_rb-clause-header
+returns-in_err-l2_depends_on_rb-clause-header g c = header_same c.args.file.now.header c.args.file.now.header refl
+
+pub returns-in_err-l2_depends_on_rb-clause-list : goal.returns-in_err-l2_depends_on_rb-clause-list
+returns-in_err-l2_depends_on_rb-clause-list g c = lists_none _
+
+pub returns-clause-marks : goal.returns-clause-marks
+returns-clause-marks g c = marks_then _ _ _ c.l2_depends_on_rb.ensures.marks c.allocate.ensures.marks
+
+pub returns-clause-noted : goal.returns-clause-noted
+returns-clause-noted g c = c.allocate.ensures.noted
+
+pub returns-clause-header : goal.returns-clause-header
+returns-clause-header g c = c.allocate.ensures.header
+
+pub returns-clause-list : goal.returns-clause-list
+returns-clause-list g c = c.allocate.ensures.list
+
+pub returns-clause-nameable : goal.returns-clause-nameable
+returns-clause-nameable g c = c.allocate.ensures.nameable
+
+pub returns-clause-elsewhere : goal.returns-clause-elsewhere
+returns-clause-elsewhere g c = c.allocate.ensures.elsewhere
+
+pub returns-clause-cause : goal.returns-clause-cause
+returns-clause-cause g c = c.allocate.ensures.cause
+
+pub returns-clause-former : goal.returns-clause-former
+returns-clause-former g c = c.allocate.ensures.former
+
+pub returns-clause-order : goal.returns-clause-order
+returns-clause-order g c = on_ok _ c.allocate.result (c.allocate.ensures.order ∙ c.in_ok-l2_depends_on_rb.ensures.order)
+
+pub returns-clause-storage_faults : goal.returns-clause-storage_faults
+returns-clause-storage_faults g c = told_since _ _ _ c.l2_depends_on_rb.ensures.storage_faults.no_fewer c.allocate.ensures.storage_faults

@@ -7,7 +7,7 @@ use Rattle.qcow2_alloc.specs.Allocation.{taken_as, UnseenAllocatorGrowth, Alloca
 use Rattle.qcow2_alloc.specs.FreeList.{pending_then}
 use Rattle.qcow2_alloc.specs.LowestRuns.{IsUsed, KeepsNoFreeBelowHint}
 use Rattle.qcow2_alloc.proofs.AllocationSteps.{handed_on, on_of, becomes_on, becomes_cached, is_sound_now, leaves_on, of_equal}
-use Rattle.qcow2_alloc.proofs.Following.{following_same}
+use Rattle.qcow2_alloc.proofs.Following.{following_same, header_same, lists_none}
 use Rattle.qcow2_alloc.proofs.Hints.{header_used, hint_stays}
 use Rattle.qcow2_alloc.proofs.Runs.{taken_alone}
 use Rattle.std.specs.Prelude.{IfErr}
@@ -15,6 +15,10 @@ use Rattle.qcow2_alloc.specs.declared.error.ImageError.{ImageError}
 use Rattle.qcow2_alloc.specs.Limits.{IsFaultOr, CantCount}
 use Rattle.qcow2_metadata.specs.L2Mapping.{IsHostCluster}
 use Rattle.qcow2_alloc.proofs.FormerReftables.{former_none}
+use Rattle.qcow2_alloc.proofs.CacheMarks.{marks_then}
+use Rattle.qcow2_alloc.proofs.Faults.{told_on, told_ok, told_since}
+use Rattle.qcow2_alloc.proofs.Outcomes.{told_memory, told_err, on_no_ok, if_no_ok, handed_cause}
+use Rattle.std.proofs.Math.Nat.{le_trans}
 use Rattle.qcow2_alloc.proofs.allocation.Allocator.allocate_data_at.Goals as goal
 
 pub returns-in_err-l2_depends_on_rb-clause-sound : goal.returns-in_err-l2_depends_on_rb-clause-sound
@@ -152,3 +156,144 @@ returns-then-at-eq0-clause-former g c = former_none c.args.self.now.reftable c.a
 
 pub returns-in_default-clause-former : goal.returns-in_default-clause-former
 returns-in_default-clause-former g c = former_none c.args.self.now.reftable c.args.file.now.free_list
+
+pub returns-in_err-l2_depends_on_rb-clause-marks : goal.returns-in_err-l2_depends_on_rb-clause-marks
+returns-in_err-l2_depends_on_rb-clause-marks g c = c.l2_depends_on_rb.ensures.marks
+
+pub returns-in_err-l2_depends_on_rb-clause-cause : goal.returns-in_err-l2_depends_on_rb-clause-cause
+returns-in_err-l2_depends_on_rb-clause-cause g c = handed_cause c.from_residual.result c.in_err-l2_depends_on_rb.field-0.0 c.from_residual.ensures c.in_err-l2_depends_on_rb.ensures.cause
+
+pub returns-in_err-l2_depends_on_rb-clause-storage_faults : goal.returns-in_err-l2_depends_on_rb-clause-storage_faults
+returns-in_err-l2_depends_on_rb-clause-storage_faults g c = told_on _ _ c.l2_depends_on_rb.result c.in_err-l2_depends_on_rb.field-0.0 c.from_residual.result c.l2_depends_on_rb.ensures.storage_faults c.in_err-l2_depends_on_rb.was c.from_residual.ensures
+
+pub returns-in_err-l2_depends_on_rb-clause-noted : goal.returns-in_err-l2_depends_on_rb-clause-noted
+returns-in_err-l2_depends_on_rb-clause-noted g c = if_no_ok _ c.from_residual.result c.in_err-l2_depends_on_rb.field-0.0 c.from_residual.ensures
+
+pub returns-in_err-l2_depends_on_rb-clause-nameable : goal.returns-in_err-l2_depends_on_rb-clause-nameable
+returns-in_err-l2_depends_on_rb-clause-nameable g c = if_no_ok _ c.from_residual.result c.in_err-l2_depends_on_rb.field-0.0 c.from_residual.ensures
+
+pub returns-in_err-l2_depends_on_rb-clause-elsewhere : goal.returns-in_err-l2_depends_on_rb-clause-elsewhere
+returns-in_err-l2_depends_on_rb-clause-elsewhere g c = if_no_ok _ c.from_residual.result c.in_err-l2_depends_on_rb.field-0.0 c.from_residual.ensures
+
+pub returns-in_err-l2_depends_on_rb-clause-none : goal.returns-in_err-l2_depends_on_rb-clause-none
+returns-in_err-l2_depends_on_rb-clause-none g c = λ _ _. if_no_ok _ c.from_residual.result c.in_err-l2_depends_on_rb.field-0.0 c.from_residual.ensures
+
+pub returns-in_err-l2_depends_on_rb-clause-unaligned : goal.returns-in_err-l2_depends_on_rb-clause-unaligned
+returns-in_err-l2_depends_on_rb-clause-unaligned g c = λ _ _ _. on_no_ok _ c.from_residual.result c.in_err-l2_depends_on_rb.field-0.0 c.from_residual.ensures
+
+pub returns-in_err-l2_depends_on_rb-clause-order : goal.returns-in_err-l2_depends_on_rb-clause-order
+returns-in_err-l2_depends_on_rb-clause-order g c = on_no_ok _ c.from_residual.result c.in_err-l2_depends_on_rb.field-0.0 c.from_residual.ensures
+
+pub returns-in_err-l2_depends_on_rb-clause-header : goal.returns-in_err-l2_depends_on_rb-clause-header
+returns-in_err-l2_depends_on_rb-clause-header g c = header_same c.args.file.now.header c.args.file.now.header refl
+
+pub returns-in_err-l2_depends_on_rb-clause-list : goal.returns-in_err-l2_depends_on_rb-clause-list
+returns-in_err-l2_depends_on_rb-clause-list g c = lists_none _
+
+pub returns-then-at-eq0-clause-marks : goal.returns-then-at-eq0-clause-marks
+returns-then-at-eq0-clause-marks g c = c.l2_depends_on_rb.ensures.marks
+
+pub returns-then-at-eq0-clause-header : goal.returns-then-at-eq0-clause-header
+returns-then-at-eq0-clause-header g c = header_same c.args.file.now.header c.args.file.now.header refl
+
+pub returns-then-at-eq0-clause-list : goal.returns-then-at-eq0-clause-list
+returns-then-at-eq0-clause-list g c = lists_none _
+
+pub returns-then-not-is_nameable-clause-marks : goal.returns-then-not-is_nameable-clause-marks
+returns-then-not-is_nameable-clause-marks g c = c.l2_depends_on_rb.ensures.marks
+
+pub returns-then-not-is_nameable-clause-header : goal.returns-then-not-is_nameable-clause-header
+returns-then-not-is_nameable-clause-header g c = header_same c.args.file.now.header c.args.file.now.header refl
+
+pub returns-then-not-is_nameable-clause-list : goal.returns-then-not-is_nameable-clause-list
+returns-then-not-is_nameable-clause-list g c = lists_none _
+
+pub returns-in_default-clause-marks : goal.returns-in_default-clause-marks
+returns-in_default-clause-marks g c = c.l2_depends_on_rb.ensures.marks
+
+pub returns-in_default-clause-header : goal.returns-in_default-clause-header
+returns-in_default-clause-header g c = header_same c.args.file.now.header c.args.file.now.header refl
+
+pub returns-in_default-clause-list : goal.returns-in_default-clause-list
+returns-in_default-clause-list g c = lists_none _
+
+pub returns-in-Ok-true-clause-marks : goal.returns-in-Ok-true-clause-marks
+returns-in-Ok-true-clause-marks g c = marks_then _ _ _ c.l2_depends_on_rb.ensures.marks c.take.ensures.marks
+
+pub returns-in-Ok-true-clause-header : goal.returns-in-Ok-true-clause-header
+returns-in-Ok-true-clause-header g c = c.take.ensures.header
+
+pub returns-in-Ok-true-clause-list : goal.returns-in-Ok-true-clause-list
+returns-in-Ok-true-clause-list g c = c.take.ensures.list
+
+pub returns-in-Ok-true-clause-former : goal.returns-in-Ok-true-clause-former
+returns-in-Ok-true-clause-former g c = c.take.ensures.former
+
+pub returns-in-Ok-false-clause-marks : goal.returns-in-Ok-false-clause-marks
+returns-in-Ok-false-clause-marks g c = marks_then _ _ _ c.l2_depends_on_rb.ensures.marks c.take.ensures.marks
+
+pub returns-in-Ok-false-clause-header : goal.returns-in-Ok-false-clause-header
+returns-in-Ok-false-clause-header g c = c.take.ensures.header
+
+pub returns-in-Ok-false-clause-list : goal.returns-in-Ok-false-clause-list
+returns-in-Ok-false-clause-list g c = c.take.ensures.list
+
+pub returns-in-Ok-false-clause-former : goal.returns-in-Ok-false-clause-former
+returns-in-Ok-false-clause-former g c = c.take.ensures.former
+
+pub returns-in-Err-clause-marks : goal.returns-in-Err-clause-marks
+returns-in-Err-clause-marks g c = marks_then _ _ _ c.l2_depends_on_rb.ensures.marks c.take.ensures.marks
+
+pub returns-in-Err-clause-header : goal.returns-in-Err-clause-header
+returns-in-Err-clause-header g c = c.take.ensures.header
+
+pub returns-in-Err-clause-list : goal.returns-in-Err-clause-list
+returns-in-Err-clause-list g c = c.take.ensures.list
+
+pub returns-in-Err-clause-former : goal.returns-in-Err-clause-former
+returns-in-Err-clause-former g c = c.take.ensures.former
+
+pub returns-then-at-eq0-clause-order : goal.returns-then-at-eq0-clause-order
+returns-then-at-eq0-clause-order g c = c.in_ok-l2_depends_on_rb.ensures.order
+
+pub returns-then-at-eq0-clause-storage_faults : goal.returns-then-at-eq0-clause-storage_faults
+returns-then-at-eq0-clause-storage_faults g c = told_ok _ _ _ c.l2_depends_on_rb.ensures.storage_faults.no_fewer
+
+pub returns-then-at-eq0-clause-cause : goal.returns-then-at-eq0-clause-cause
+returns-then-at-eq0-clause-cause g c = tt
+
+pub returns-then-not-is_nameable-clause-order : goal.returns-then-not-is_nameable-clause-order
+returns-then-not-is_nameable-clause-order g c = c.in_ok-l2_depends_on_rb.ensures.order
+
+pub returns-then-not-is_nameable-clause-storage_faults : goal.returns-then-not-is_nameable-clause-storage_faults
+returns-then-not-is_nameable-clause-storage_faults g c = told_ok _ _ _ c.l2_depends_on_rb.ensures.storage_faults.no_fewer
+
+pub returns-then-not-is_nameable-clause-cause : goal.returns-then-not-is_nameable-clause-cause
+returns-then-not-is_nameable-clause-cause g c = tt
+
+pub returns-in_default-clause-storage_faults : goal.returns-in_default-clause-storage_faults
+returns-in_default-clause-storage_faults g c = told_memory _ _ c.l2_depends_on_rb.ensures.storage_faults.no_fewer
+
+pub returns-in-Ok-true-clause-order : goal.returns-in-Ok-true-clause-order
+returns-in-Ok-true-clause-order g c = c.take.ensures.order ∙ c.in_ok-l2_depends_on_rb.ensures.order
+
+pub returns-in-Ok-true-clause-cause : goal.returns-in-Ok-true-clause-cause
+returns-in-Ok-true-clause-cause g c = tt
+
+pub returns-in-Ok-true-clause-storage_faults : goal.returns-in-Ok-true-clause-storage_faults
+returns-in-Ok-true-clause-storage_faults g c = told_ok _ _ _ (le_trans c.l2_depends_on_rb.ensures.storage_faults.no_fewer c.take.ensures.storage_faults.no_fewer)
+
+pub returns-in-Ok-false-clause-order : goal.returns-in-Ok-false-clause-order
+returns-in-Ok-false-clause-order g c = c.take.ensures.order ∙ c.in_ok-l2_depends_on_rb.ensures.order
+
+pub returns-in-Ok-false-clause-cause : goal.returns-in-Ok-false-clause-cause
+returns-in-Ok-false-clause-cause g c = tt
+
+pub returns-in-Ok-false-clause-storage_faults : goal.returns-in-Ok-false-clause-storage_faults
+returns-in-Ok-false-clause-storage_faults g c = told_ok _ _ _ (le_trans c.l2_depends_on_rb.ensures.storage_faults.no_fewer c.take.ensures.storage_faults.no_fewer)
+
+pub returns-in-Err-clause-cause : goal.returns-in-Err-clause-cause
+returns-in-Err-clause-cause g c = c.in-Err.ensures.cause
+
+pub returns-in-Err-clause-storage_faults : goal.returns-in-Err-clause-storage_faults
+returns-in-Err-clause-storage_faults g c = told_since _ _ _ c.l2_depends_on_rb.ensures.storage_faults.no_fewer (told_err _ _ c.in-Err.refusal c.in-Err.ensures.storage_faults)

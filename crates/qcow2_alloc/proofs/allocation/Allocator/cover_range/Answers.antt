@@ -1,4 +1,4 @@
-use Rattle.std.proofs.Common.{◌≡◌, mul-pos, inl, true, false, ◌*◌, ◌<◌, ◌^◌, sym, ap, ◌∙◌, arith, Result, IsTrue}
+use Rattle.std.proofs.Common.{◌≡◌, mul-pos, inl, true, false, ◌*◌, ◌<◌, ◌^◌, sym, ap, ◌∙◌, arith, Result, IsTrue, refl}
 use Rattle.qcow2_metadata.specs.Header.{counts_per_block}
 use Rattle.qcow2_alloc.specs.Allocation.{GetsBlock}
 use Rattle.qcow2_alloc.proofs.Hints.{has_block, lacking_above, placed_block}
@@ -8,6 +8,9 @@ use Rattle.qcow2_alloc.specs.ImageError.{IsFault}
 use Rattle.std.proofs.lemmas.Nat.{pow_pos}
 use Rattle.qcow2_alloc.specs.declared.error.ImageError.{ImageError}
 use Rattle.qcow2_alloc.proofs.Limits.{placed_fault, host_below, is_able}
+use Rattle.qcow2_alloc.proofs.CacheMarks.{marks_then}
+use Rattle.qcow2_alloc.proofs.Faults.{told_on, told_ok, told_since}
+use Rattle.qcow2_alloc.proofs.Outcomes.{told_limit, on_no_ok, handed_cause, entries_none}
 use Rattle.qcow2_alloc.proofs.allocation.Allocator.cover_range.Goals as goal
 
 pub returns-in_err-load_block-clause-sound : goal.returns-in_err-load_block-clause-sound
@@ -68,3 +71,108 @@ returns-then-not-can_name-clause-fault g c = λ p sound within near.
     (c.cluster_bits-bits.ensures.value ∙ ap (λ h. h.fields.cluster_bits) c.load_block.ensures.header) here elsewhere (c.can_name.ensures.able within) in
     let not = c.if-not-can_name.true in
     absurd (let bad : true ≡ false = sym able ∙ not in cc)
+
+pub returns-in_err-load_block-clause-marks : goal.returns-in_err-load_block-clause-marks
+returns-in_err-load_block-clause-marks g c = c.load_block.ensures.marks
+
+pub returns-in_err-load_block-clause-order : goal.returns-in_err-load_block-clause-order
+returns-in_err-load_block-clause-order g c = c.load_block.ensures.order
+
+pub returns-in_err-load_block-clause-cause : goal.returns-in_err-load_block-clause-cause
+returns-in_err-load_block-clause-cause g c = handed_cause c.from_residual.result c.in_err-load_block.field-0.0 c.from_residual.ensures c.in_err-load_block.ensures.cause
+
+pub returns-in_err-load_block-clause-storage_faults : goal.returns-in_err-load_block-clause-storage_faults
+returns-in_err-load_block-clause-storage_faults g c = told_on _ _ c.load_block.result c.in_err-load_block.field-0.0 c.from_residual.result c.load_block.ensures.storage_faults c.in_err-load_block.was c.from_residual.ensures
+
+pub returns-in_err-load_block-clause-has : goal.returns-in_err-load_block-clause-has
+returns-in_err-load_block-clause-has g c = λ _ _. on_no_ok _ c.from_residual.result c.in_err-load_block.field-0.0 c.from_residual.ensures
+
+pub returns-in_err-load_block-clause-header : goal.returns-in_err-load_block-clause-header
+returns-in_err-load_block-clause-header g c = c.load_block.ensures.header
+
+pub returns-in_err-load_block-clause-list : goal.returns-in_err-load_block-clause-list
+returns-in_err-load_block-clause-list g c = c.load_block.ensures.list
+
+pub returns-in_err-load_block-clause-first : goal.returns-in_err-load_block-clause-first
+returns-in_err-load_block-clause-first g c = refl
+
+pub returns-in_err-load_block-clause-entries : goal.returns-in_err-load_block-clause-entries
+returns-in_err-load_block-clause-entries g c = entries_none _ c.args.self.now.reftable
+
+pub returns-then-is_some-clause-marks : goal.returns-then-is_some-clause-marks
+returns-then-is_some-clause-marks g c = c.load_block.ensures.marks
+
+pub returns-then-is_some-clause-order : goal.returns-then-is_some-clause-order
+returns-then-is_some-clause-order g c = c.load_block.ensures.order
+
+pub returns-then-is_some-clause-header : goal.returns-then-is_some-clause-header
+returns-then-is_some-clause-header g c = c.load_block.ensures.header
+
+pub returns-then-is_some-clause-list : goal.returns-then-is_some-clause-list
+returns-then-is_some-clause-list g c = c.load_block.ensures.list
+
+pub returns-then-is_some-clause-first : goal.returns-then-is_some-clause-first
+returns-then-is_some-clause-first g c = refl
+
+pub returns-then-is_some-clause-entries : goal.returns-then-is_some-clause-entries
+returns-then-is_some-clause-entries g c = entries_none _ c.args.self.now.reftable
+
+pub returns-then-not-can_name-clause-marks : goal.returns-then-not-can_name-clause-marks
+returns-then-not-can_name-clause-marks g c = c.load_block.ensures.marks
+
+pub returns-then-not-can_name-clause-order : goal.returns-then-not-can_name-clause-order
+returns-then-not-can_name-clause-order g c = c.load_block.ensures.order
+
+pub returns-then-not-can_name-clause-header : goal.returns-then-not-can_name-clause-header
+returns-then-not-can_name-clause-header g c = c.load_block.ensures.header
+
+pub returns-then-not-can_name-clause-list : goal.returns-then-not-can_name-clause-list
+returns-then-not-can_name-clause-list g c = c.load_block.ensures.list
+
+pub returns-then-not-can_name-clause-first : goal.returns-then-not-can_name-clause-first
+returns-then-not-can_name-clause-first g c = refl
+
+pub returns-then-not-can_name-clause-entries : goal.returns-then-not-can_name-clause-entries
+returns-then-not-can_name-clause-entries g c = entries_none _ c.args.self.now.reftable
+
+pub returns-then-is_some-clause-cause : goal.returns-then-is_some-clause-cause
+returns-then-is_some-clause-cause g c = tt
+
+pub returns-then-not-can_name-clause-cause : goal.returns-then-not-can_name-clause-cause
+returns-then-not-can_name-clause-cause g c = tt
+
+pub returns-then-is_some-clause-storage_faults : goal.returns-then-is_some-clause-storage_faults
+returns-then-is_some-clause-storage_faults g c = told_ok _ _ tt c.load_block.ensures.storage_faults.no_fewer
+
+pub returns-then-not-can_name-clause-storage_faults : goal.returns-then-not-can_name-clause-storage_faults
+returns-then-not-can_name-clause-storage_faults g c = told_limit _ _ c.load_block.ensures.storage_faults.no_fewer
+
+pub returns-then-not-can_name-clause-has : goal.returns-then-not-can_name-clause-has
+returns-then-not-can_name-clause-has g c = λ p sound. tt
+
+pub returns-then-is_some-clause-fault : goal.returns-then-is_some-clause-fault
+returns-then-is_some-clause-fault g c = λ p sound within near. tt
+
+pub returns-clause-marks : goal.returns-clause-marks
+returns-clause-marks g c = marks_then _ _ _ c.load_block.ensures.marks c.place_block.ensures.marks
+
+pub returns-clause-order : goal.returns-clause-order
+returns-clause-order g c = c.place_block.ensures.order ∙ c.load_block.ensures.order
+
+pub returns-clause-header : goal.returns-clause-header
+returns-clause-header g c = c.place_block.ensures.header ∙ c.load_block.ensures.header
+
+pub returns-clause-list : goal.returns-clause-list
+returns-clause-list g c = c.place_block.ensures.list ∙ c.load_block.ensures.list
+
+pub returns-clause-first : goal.returns-clause-first
+returns-clause-first g c = c.place_block.ensures.first
+
+pub returns-clause-entries : goal.returns-clause-entries
+returns-clause-entries g c = c.place_block.ensures.entries
+
+pub returns-clause-cause : goal.returns-clause-cause
+returns-clause-cause g c = c.place_block.ensures.cause
+
+pub returns-clause-storage_faults : goal.returns-clause-storage_faults
+returns-clause-storage_faults g c = told_since _ _ _ c.load_block.ensures.storage_faults.no_fewer c.place_block.ensures.storage_faults

@@ -1,8 +1,8 @@
-use Rattle.std.proofs.Common.{◌≡◌, mul-pos, ◌≤◌, ◌<◌, inl, ◌*◌, ◌/◌, ◌%◌, ◌^◌, false, sym, ap, ◌∙◌, refl, arith, Result, IsTrue, true}
+use Rattle.std.proofs.Common.{◌≡◌, mul-pos, ◌≤◌, ◌<◌, inl, ◌*◌, ◌/◌, ◌%◌, ◌^◌, false, sym, ap, ◌∙◌, refl, arith, Result, IsTrue, subst, ℕ}
 use Rattle.qcow2_metadata.specs.Entries.{block_offset}
 use Rattle.qcow2_metadata.specs.Header.{counts_per_block}
 use Rattle.qcow2_laws.specs.Changes.{one_at}
-use Rattle.qcow2_alloc.specs.Allocation.{taken_as, HasNone, GetsBlock}
+use Rattle.qcow2_alloc.specs.Allocation.{taken_as, HasNone, GetsBlock, IsUnaligned}
 use Rattle.qcow2_alloc.specs.ImageFile.{IsFault}
 use Rattle.qcow2_alloc.specs.LowestRuns.{KeepsNoFreeBelowHint}
 use Rattle.qcow2_alloc.proofs.FileSteps.{leaves_then}
@@ -14,7 +14,16 @@ use Rattle.std.proofs.lemmas.Nat.{pow_pos}
 use Rattle.qcow2_alloc.specs.declared.error.ImageError.{ImageError}
 use Rattle.qcow2_alloc.proofs.Limits.{host_below, is_able, placed_fault, range_near}
 use Rattle.qcow2_alloc.proofs.FormerReftables.{place_none, place_as, place_then}
+use Rattle.qcow2_alloc.proofs.CacheMarks.{marks_then}
+use Rattle.qcow2_alloc.proofs.Faults.{told_on, told_ok, told_since}
+use Rattle.qcow2_alloc.proofs.Outcomes.{ok_no_err, not_both, told_limit, told_err, told_third, on_no_ok, handed_cause, handed_unaligned}
+use Rattle.qcow2_metadata.specs.EntryTable.{EntryTableView}
+use Rattle.qcow2_metadata.specs.declared.header.HeaderFields.{HeaderFields}
+use Rattle.qcow2_alloc.specs.declared.error.ImageError.TheVariants as I
 use Rattle.qcow2_alloc.proofs.allocation.Allocator.ensure_block.Goals as goal
+
+is_unaligned : (h : HeaderFields) (t : EntryTableView) (cluster counts n : ℕ) → n ≡ counts → IsUnaligned h t (cluster / n) → IsUnaligned h t (cluster / counts)
+is_unaligned h t cluster counts n is u = subst (λ k. IsUnaligned h t (cluster / k)) is u
 
 pub returns-in_err-load_block-clause-sound : goal.returns-in_err-load_block-clause-sound
 returns-in_err-load_block-clause-sound g c = λ p sound.
@@ -56,7 +65,7 @@ returns-in-Ok-None-clause-sound g c = λ p sound.
 pub returns-else-ends_call-clause-sound : goal.returns-else-ends_call-clause-sound
 returns-else-ends_call-clause-sound g c = λ p sound.
     let one = (c.in_ok-load_block.ensures.sound p sound).0 in
-    let two = still_sound g.S.Storage.view p c.load_block.new.file c.take_lowest_below.new.file c.take_lowest_below.new.self c.in-Err.refusal (λ fault. absurd (let yes_so = c.ends_call.ensures.ends fault in let none = c.if-ends_call.false in cc))
+    let two = still_sound g.S.Storage.view p c.load_block.new.file c.take_lowest_below.new.file c.take_lowest_below.new.self c.in-Err.refusal (λ fault. not_both c.ends_call.result (c.ends_call.ensures.ends fault) c.if-ends_call.false)
     (c.in-Err.ensures.sound p (is_sound_now g.S.Storage.view p p c.args.file.now c.load_block.new.file c.args.self.now one)) in
     let before = becomes_then g.S.Storage.view p p c.args.file.now c.load_block.new.file c.take_lowest_below.new.file c.args.self.now c.take_lowest_below.new.self one two in
     gets_then g.S.Storage.view p c.args.file.now c.take_lowest_below.new.file c.cover_range-in-Err.new.file c.take_lowest_below.new.self c.cover_range-in-Err.new.self c.cover_range-in-Err.result before
@@ -98,7 +107,7 @@ returns-in-Ok-None-clause-hint g c = λ p sound hint.
 pub returns-else-ends_call-clause-has : goal.returns-else-ends_call-clause-has
 returns-else-ends_call-clause-has g c = λ p sound.
     let one = (c.in_ok-load_block.ensures.sound p sound).0 in
-    let two = still_sound g.S.Storage.view p c.load_block.new.file c.take_lowest_below.new.file c.take_lowest_below.new.self c.in-Err.refusal (λ fault. absurd (let yes_so = c.ends_call.ensures.ends fault in let none = c.if-ends_call.false in cc))
+    let two = still_sound g.S.Storage.view p c.load_block.new.file c.take_lowest_below.new.file c.take_lowest_below.new.self c.in-Err.refusal (λ fault. not_both c.ends_call.result (c.ends_call.ensures.ends fault) c.if-ends_call.false)
     (c.in-Err.ensures.sound p (is_sound_now g.S.Storage.view p p c.args.file.now c.load_block.new.file c.args.self.now one)) in
     ok_as _ _ c.cover_range-in-Err.result (range_as c.cover_range-in-Err.new.self.reftable c.args.cluster (2 ^ c.rb_bits-bits.result) (counts_per_block c.args.file.now.header.fields) c.rb_bits-bits.ensures.counts)
     (c.cover_range-in-Err.ensures.has p (is_sound_now g.S.Storage.view p p c.load_block.new.file c.take_lowest_below.new.file c.take_lowest_below.new.self two))
@@ -107,7 +116,7 @@ pub returns-else-ends_call-clause-hint : goal.returns-else-ends_call-clause-hint
 returns-else-ends_call-clause-hint g c = λ p sound hint.
     let one = (c.in_ok-load_block.ensures.sound p sound).0 in
     let now = is_sound_now g.S.Storage.view p p c.args.file.now c.load_block.new.file c.args.self.now one in
-    let no_fault : IsFault c.in-Err.refusal → ⊥ = λ fault. absurd (let yes_so = c.ends_call.ensures.ends fault in let none = c.if-ends_call.false in cc) in
+    let no_fault : IsFault c.in-Err.refusal → ⊥ = λ fault. not_both c.ends_call.result (c.ends_call.ensures.ends fault) c.if-ends_call.false in
     let two = still_sound g.S.Storage.view p c.load_block.new.file c.take_lowest_below.new.file c.take_lowest_below.new.self c.in-Err.refusal no_fault (c.in-Err.ensures.sound p now) in
     let still = hint_stays g.S.Storage.view p c.args.file.now c.load_block.new.file c.args.self.now c.args.self.now one refl hint in
     hint_got g.S.Storage.view p c.take_lowest_below.new.file c.cover_range-in-Err.new.file c.take_lowest_below.new.self c.cover_range-in-Err.new.self c.cover_range-in-Err.result c.cover_range-in-Err.ensures.first
@@ -159,7 +168,7 @@ returns-then-not-can_name-clause-fault g c = λ p sound within near.
     let able = is_able g.S.Storage.view p c.args.file.now c.args.self.now c.cluster_bits.result c.new-first.result (IsTrue c.can_name.result) sound
     (c.cluster_bits.ensures.value ∙ ap (λ h. h.fields.cluster_bits) c.load_block.ensures.header) here elsewhere (c.can_name.ensures.able (omega (arith, range, within))) in
     let not = c.if-not-can_name.true in
-    absurd (let bad : true ≡ false = sym able ∙ not in cc)
+    not_both c.can_name.result able not
 
 pub returns-in-Ok-None-clause-fault : goal.returns-in-Ok-None-clause-fault
 returns-in-Ok-None-clause-fault g c = λ p sound within near.
@@ -174,7 +183,7 @@ returns-in-Ok-None-clause-fault g c = λ p sound within near.
 pub returns-else-ends_call-clause-fault : goal.returns-else-ends_call-clause-fault
 returns-else-ends_call-clause-fault g c = λ p sound within near.
     let one = (c.in_ok-load_block.ensures.sound p sound).0 in
-    let two = still_sound g.S.Storage.view p c.load_block.new.file c.take_lowest_below.new.file c.take_lowest_below.new.self c.in-Err.refusal (λ fault. absurd (let yes_so = c.ends_call.ensures.ends fault in let none = c.if-ends_call.false in cc))
+    let two = still_sound g.S.Storage.view p c.load_block.new.file c.take_lowest_below.new.file c.take_lowest_below.new.self c.in-Err.refusal (λ fault. not_both c.ends_call.result (c.ends_call.ensures.ends fault) c.if-ends_call.false)
     (c.in-Err.ensures.sound p (is_sound_now g.S.Storage.view p p c.args.file.now c.load_block.new.file c.args.self.now one)) in
     let count = c.in-Err.ensures.entries.count in
     let same = ap (λ x. x.fields) (c.take_lowest_below.ensures.header ∙ c.load_block.ensures.header) in
@@ -215,3 +224,162 @@ returns-then-ends_call-clause-place g c = place_as _ c.args.self.now.reftable c.
 
 pub returns-else-ends_call-clause-place : goal.returns-else-ends_call-clause-place
 returns-else-ends_call-clause-place g c = place_then c.args.self.now.reftable c.take_lowest_below.new.self.reftable c.cover_range-in-Err.new.self.reftable (place_as _ c.args.self.now.reftable c.take_lowest_below.new.self.reftable c.take_lowest_below.ensures.entries) (place_as _ c.take_lowest_below.new.self.reftable c.cover_range-in-Err.new.self.reftable c.cover_range-in-Err.ensures.entries)
+
+pub returns-in_err-load_block-clause-marks : goal.returns-in_err-load_block-clause-marks
+returns-in_err-load_block-clause-marks g c = c.load_block.ensures.marks
+
+pub returns-in_err-load_block-clause-order : goal.returns-in_err-load_block-clause-order
+returns-in_err-load_block-clause-order g c = c.load_block.ensures.order
+
+pub returns-in_err-load_block-clause-header : goal.returns-in_err-load_block-clause-header
+returns-in_err-load_block-clause-header g c = c.load_block.ensures.header
+
+pub returns-in_err-load_block-clause-list : goal.returns-in_err-load_block-clause-list
+returns-in_err-load_block-clause-list g c = c.load_block.ensures.list
+
+pub returns-then-is_some-clause-marks : goal.returns-then-is_some-clause-marks
+returns-then-is_some-clause-marks g c = c.load_block.ensures.marks
+
+pub returns-then-is_some-clause-order : goal.returns-then-is_some-clause-order
+returns-then-is_some-clause-order g c = c.load_block.ensures.order
+
+pub returns-then-is_some-clause-header : goal.returns-then-is_some-clause-header
+returns-then-is_some-clause-header g c = c.load_block.ensures.header
+
+pub returns-then-is_some-clause-list : goal.returns-then-is_some-clause-list
+returns-then-is_some-clause-list g c = c.load_block.ensures.list
+
+pub returns-then-not-can_name-clause-marks : goal.returns-then-not-can_name-clause-marks
+returns-then-not-can_name-clause-marks g c = c.load_block.ensures.marks
+
+pub returns-then-not-can_name-clause-order : goal.returns-then-not-can_name-clause-order
+returns-then-not-can_name-clause-order g c = c.load_block.ensures.order
+
+pub returns-then-not-can_name-clause-header : goal.returns-then-not-can_name-clause-header
+returns-then-not-can_name-clause-header g c = c.load_block.ensures.header
+
+pub returns-then-not-can_name-clause-list : goal.returns-then-not-can_name-clause-list
+returns-then-not-can_name-clause-list g c = c.load_block.ensures.list
+
+pub returns-in-Ok-Some-clause-marks : goal.returns-in-Ok-Some-clause-marks
+returns-in-Ok-Some-clause-marks g c = marks_then _ _ _ (marks_then _ _ _ c.load_block.ensures.marks c.take_lowest_below.ensures.marks) c.place_block.ensures.marks
+
+pub returns-in-Ok-Some-clause-order : goal.returns-in-Ok-Some-clause-order
+returns-in-Ok-Some-clause-order g c = c.place_block.ensures.order ∙ c.take_lowest_below.ensures.order ∙ c.load_block.ensures.order
+
+pub returns-in-Ok-Some-clause-header : goal.returns-in-Ok-Some-clause-header
+returns-in-Ok-Some-clause-header g c = c.place_block.ensures.header ∙ c.take_lowest_below.ensures.header ∙ c.load_block.ensures.header
+
+pub returns-in-Ok-Some-clause-list : goal.returns-in-Ok-Some-clause-list
+returns-in-Ok-Some-clause-list g c = c.place_block.ensures.list ∙ c.take_lowest_below.ensures.list ∙ c.load_block.ensures.list
+
+pub returns-in-Ok-None-clause-marks : goal.returns-in-Ok-None-clause-marks
+returns-in-Ok-None-clause-marks g c = marks_then _ _ _ (marks_then _ _ _ c.load_block.ensures.marks c.take_lowest_below.ensures.marks) c.cover_range.ensures.marks
+
+pub returns-in-Ok-None-clause-order : goal.returns-in-Ok-None-clause-order
+returns-in-Ok-None-clause-order g c = c.cover_range.ensures.order ∙ c.take_lowest_below.ensures.order ∙ c.load_block.ensures.order
+
+pub returns-in-Ok-None-clause-header : goal.returns-in-Ok-None-clause-header
+returns-in-Ok-None-clause-header g c = c.cover_range.ensures.header ∙ c.take_lowest_below.ensures.header ∙ c.load_block.ensures.header
+
+pub returns-in-Ok-None-clause-list : goal.returns-in-Ok-None-clause-list
+returns-in-Ok-None-clause-list g c = c.cover_range.ensures.list ∙ c.take_lowest_below.ensures.list ∙ c.load_block.ensures.list
+
+pub returns-then-ends_call-clause-marks : goal.returns-then-ends_call-clause-marks
+returns-then-ends_call-clause-marks g c = marks_then _ _ _ c.load_block.ensures.marks c.take_lowest_below.ensures.marks
+
+pub returns-then-ends_call-clause-order : goal.returns-then-ends_call-clause-order
+returns-then-ends_call-clause-order g c = c.take_lowest_below.ensures.order ∙ c.load_block.ensures.order
+
+pub returns-then-ends_call-clause-header : goal.returns-then-ends_call-clause-header
+returns-then-ends_call-clause-header g c = c.take_lowest_below.ensures.header ∙ c.load_block.ensures.header
+
+pub returns-then-ends_call-clause-list : goal.returns-then-ends_call-clause-list
+returns-then-ends_call-clause-list g c = c.take_lowest_below.ensures.list ∙ c.load_block.ensures.list
+
+pub returns-else-ends_call-clause-marks : goal.returns-else-ends_call-clause-marks
+returns-else-ends_call-clause-marks g c = marks_then _ _ _ (marks_then _ _ _ c.load_block.ensures.marks c.take_lowest_below.ensures.marks) c.cover_range-in-Err.ensures.marks
+
+pub returns-else-ends_call-clause-order : goal.returns-else-ends_call-clause-order
+returns-else-ends_call-clause-order g c = c.cover_range-in-Err.ensures.order ∙ c.take_lowest_below.ensures.order ∙ c.load_block.ensures.order
+
+pub returns-else-ends_call-clause-header : goal.returns-else-ends_call-clause-header
+returns-else-ends_call-clause-header g c = c.cover_range-in-Err.ensures.header ∙ c.take_lowest_below.ensures.header ∙ c.load_block.ensures.header
+
+pub returns-else-ends_call-clause-list : goal.returns-else-ends_call-clause-list
+returns-else-ends_call-clause-list g c = c.cover_range-in-Err.ensures.list ∙ c.take_lowest_below.ensures.list ∙ c.load_block.ensures.list
+
+pub returns-in_err-load_block-clause-unaligned : goal.returns-in_err-load_block-clause-unaligned
+returns-in_err-load_block-clause-unaligned g c = λ u. handed_unaligned c.from_residual.result c.in_err-load_block.field-0.0 c.from_residual.ensures (c.in_err-load_block.ensures.unaligned (is_unaligned c.args.file.now.header.fields c.args.self.now.reftable c.args.cluster (2 ^ c.rb_bits-bits.result) (counts_per_block c.args.file.now.header.fields) c.rb_bits-bits.ensures.counts u))
+
+pub returns-in_err-load_block-clause-cause : goal.returns-in_err-load_block-clause-cause
+returns-in_err-load_block-clause-cause g c = handed_cause c.from_residual.result c.in_err-load_block.field-0.0 c.from_residual.ensures c.in_err-load_block.ensures.cause
+
+pub returns-in_err-load_block-clause-storage_faults : goal.returns-in_err-load_block-clause-storage_faults
+returns-in_err-load_block-clause-storage_faults g c = told_on _ _ c.load_block.result c.in_err-load_block.field-0.0 c.from_residual.result c.load_block.ensures.storage_faults c.in_err-load_block.was c.from_residual.ensures
+
+pub returns-in_err-load_block-clause-has : goal.returns-in_err-load_block-clause-has
+returns-in_err-load_block-clause-has g c = λ _ _. on_no_ok _ c.from_residual.result c.in_err-load_block.field-0.0 c.from_residual.ensures
+
+pub returns-then-is_some-clause-cause : goal.returns-then-is_some-clause-cause
+returns-then-is_some-clause-cause g c = tt
+
+pub returns-then-not-can_name-clause-cause : goal.returns-then-not-can_name-clause-cause
+returns-then-not-can_name-clause-cause g c = tt
+
+pub returns-in-Ok-Some-clause-cause : goal.returns-in-Ok-Some-clause-cause
+returns-in-Ok-Some-clause-cause g c = c.place_block.ensures.cause
+
+pub returns-in-Ok-Some-clause-storage_faults : goal.returns-in-Ok-Some-clause-storage_faults
+returns-in-Ok-Some-clause-storage_faults g c = told_third _ _ _ _ _ _ c.place_block.result c.load_block.ensures.storage_faults c.take_lowest_below.ensures.storage_faults c.place_block.ensures.storage_faults
+
+pub returns-in-Ok-None-clause-cause : goal.returns-in-Ok-None-clause-cause
+returns-in-Ok-None-clause-cause g c = c.cover_range.ensures.cause
+
+pub returns-in-Ok-None-clause-storage_faults : goal.returns-in-Ok-None-clause-storage_faults
+returns-in-Ok-None-clause-storage_faults g c = told_third _ _ _ _ _ _ c.cover_range.result c.load_block.ensures.storage_faults c.take_lowest_below.ensures.storage_faults c.cover_range.ensures.storage_faults
+
+pub returns-else-ends_call-clause-cause : goal.returns-else-ends_call-clause-cause
+returns-else-ends_call-clause-cause g c = c.cover_range-in-Err.ensures.cause
+
+pub returns-else-ends_call-clause-storage_faults : goal.returns-else-ends_call-clause-storage_faults
+returns-else-ends_call-clause-storage_faults g c = told_third _ _ _ _ _ _ c.cover_range-in-Err.result c.load_block.ensures.storage_faults c.take_lowest_below.ensures.storage_faults c.cover_range-in-Err.ensures.storage_faults
+
+pub returns-then-ends_call-clause-cause : goal.returns-then-ends_call-clause-cause
+returns-then-ends_call-clause-cause g c = c.in-Err.ensures.cause
+
+pub returns-then-ends_call-clause-storage_faults : goal.returns-then-ends_call-clause-storage_faults
+returns-then-ends_call-clause-storage_faults g c = told_since _ _ _ c.load_block.ensures.storage_faults.no_fewer (told_err _ _ c.in-Err.refusal c.in-Err.ensures.storage_faults)
+
+pub returns-then-is_some-clause-storage_faults : goal.returns-then-is_some-clause-storage_faults
+returns-then-is_some-clause-storage_faults g c = told_ok _ _ tt c.load_block.ensures.storage_faults.no_fewer
+
+pub returns-then-not-can_name-clause-storage_faults : goal.returns-then-not-can_name-clause-storage_faults
+returns-then-not-can_name-clause-storage_faults g c = told_limit _ _ c.load_block.ensures.storage_faults.no_fewer
+
+pub returns-then-is_some-clause-unaligned : goal.returns-then-is_some-clause-unaligned
+returns-then-is_some-clause-unaligned g c = λ u. ok_no_err _ I.UnalignedTable (c.in_ok-load_block.ensures.unaligned (is_unaligned c.args.file.now.header.fields c.args.self.now.reftable c.args.cluster (2 ^ c.rb_bits-bits.result) (counts_per_block c.args.file.now.header.fields) c.rb_bits-bits.ensures.counts u))
+
+pub returns-then-not-can_name-clause-unaligned : goal.returns-then-not-can_name-clause-unaligned
+returns-then-not-can_name-clause-unaligned g c = λ u. ok_no_err _ I.UnalignedTable (c.in_ok-load_block.ensures.unaligned (is_unaligned c.args.file.now.header.fields c.args.self.now.reftable c.args.cluster (2 ^ c.rb_bits-bits.result) (counts_per_block c.args.file.now.header.fields) c.rb_bits-bits.ensures.counts u))
+
+pub returns-in-Ok-Some-clause-unaligned : goal.returns-in-Ok-Some-clause-unaligned
+returns-in-Ok-Some-clause-unaligned g c = λ u. ok_no_err _ I.UnalignedTable (c.in_ok-load_block.ensures.unaligned (is_unaligned c.args.file.now.header.fields c.args.self.now.reftable c.args.cluster (2 ^ c.rb_bits-bits.result) (counts_per_block c.args.file.now.header.fields) c.rb_bits-bits.ensures.counts u))
+
+pub returns-in-Ok-None-clause-unaligned : goal.returns-in-Ok-None-clause-unaligned
+returns-in-Ok-None-clause-unaligned g c = λ u. ok_no_err _ I.UnalignedTable (c.in_ok-load_block.ensures.unaligned (is_unaligned c.args.file.now.header.fields c.args.self.now.reftable c.args.cluster (2 ^ c.rb_bits-bits.result) (counts_per_block c.args.file.now.header.fields) c.rb_bits-bits.ensures.counts u))
+
+pub returns-then-ends_call-clause-unaligned : goal.returns-then-ends_call-clause-unaligned
+returns-then-ends_call-clause-unaligned g c = λ u. ok_no_err _ I.UnalignedTable (c.in_ok-load_block.ensures.unaligned (is_unaligned c.args.file.now.header.fields c.args.self.now.reftable c.args.cluster (2 ^ c.rb_bits-bits.result) (counts_per_block c.args.file.now.header.fields) c.rb_bits-bits.ensures.counts u))
+
+pub returns-else-ends_call-clause-unaligned : goal.returns-else-ends_call-clause-unaligned
+returns-else-ends_call-clause-unaligned g c = λ u. ok_no_err _ I.UnalignedTable (c.in_ok-load_block.ensures.unaligned (is_unaligned c.args.file.now.header.fields c.args.self.now.reftable c.args.cluster (2 ^ c.rb_bits-bits.result) (counts_per_block c.args.file.now.header.fields) c.rb_bits-bits.ensures.counts u))
+
+pub returns-then-not-can_name-clause-has : goal.returns-then-not-can_name-clause-has
+returns-then-not-can_name-clause-has g c = λ p sound. tt
+
+pub returns-then-ends_call-clause-has : goal.returns-then-ends_call-clause-has
+returns-then-ends_call-clause-has g c = λ p sound. tt
+
+pub returns-then-is_some-clause-fault : goal.returns-then-is_some-clause-fault
+returns-then-is_some-clause-fault g c = λ p sound within near. tt

@@ -22,6 +22,9 @@ use Rattle.qcow2_alloc.proofs.Limits.{cause_as}
 use Rattle.qcow2_alloc.proofs.GrownReftables.{clone_clusters, clone_is_longer, entered, uses_entered, names_fault, room_now}
 use Rattle.qcow2_alloc.proofs.Hints.{uses_refused, used_stays}
 use Rattle.qcow2_alloc.proofs.Following.{header_same, header_then, header_counts}
+use Rattle.qcow2_alloc.proofs.CacheMarks.{marks_then}
+use Rattle.qcow2_alloc.proofs.Faults.{told_on, told_since}
+use Rattle.qcow2_alloc.proofs.Outcomes.{on_no_ok, handed_cause, on_err, on_ok}
 use Rattle.qcow2_alloc.proofs.allocation.Allocator.enter_reftable.Goals as goal
 
 -- the clusters that a reftable has entries for, as 64 bits hold them
@@ -168,3 +171,60 @@ returns-clause-lowest g c = λ p sound hint clone whole.
     lies_lowest view new t c.write_reftable.new.self.reftable first c.in_ok-room.room.blocks c.value.result c.min-end.result c.write_reftable.result length c.in_ok-room.ensures.above c.write_reftable.ensures.place c.write_reftable.ensures.table clusters lacks
     (λ e low near. lesser (c.len.result * 2 ^ c.rb_bits.result) (length * counts_per_block new.header.fields) (greatest_offset / 2 ^ c.cluster_bits-bits.result + 1) (nameable_clusters new.header.fields) c.min-end.result e fits named nameable end low near)
     (lowest_entered view b new t c.value.result c.min-end.result first c.write_reftable.result (per ∙ ap (λ (h : HeaderView). counts_per_block h.fields) (sym c.take_room.ensures.header)) uses lowest)
+
+pub returns-in_err-room-clause-marks : goal.returns-in_err-room-clause-marks
+returns-in_err-room-clause-marks g c = c.take_room.ensures.marks
+
+pub returns-in_err-room-clause-order : goal.returns-in_err-room-clause-order
+returns-in_err-room-clause-order g c = c.take_room.ensures.order
+
+pub returns-in_err-room-clause-cause : goal.returns-in_err-room-clause-cause
+returns-in_err-room-clause-cause g c = handed_cause c.from_residual.result c.in_err-room.field-0.0 c.from_residual.ensures c.in_err-room.ensures.cause
+
+pub returns-in_err-room-clause-storage_faults : goal.returns-in_err-room-clause-storage_faults
+returns-in_err-room-clause-storage_faults g c = told_on _ _ c.take_room.result c.in_err-room.field-0.0 c.from_residual.result c.take_room.ensures.storage_faults c.in_err-room.was c.from_residual.ensures
+
+pub returns-in_err-room-clause-noted : goal.returns-in_err-room-clause-noted
+returns-in_err-room-clause-noted g c = on_no_ok _ c.from_residual.result c.in_err-room.field-0.0 c.from_residual.ensures
+
+pub returns-in_err-room-clause-table : goal.returns-in_err-room-clause-table
+returns-in_err-room-clause-table g c = on_no_ok _ c.from_residual.result c.in_err-room.field-0.0 c.from_residual.ensures
+
+pub returns-in_err-room-clause-header : goal.returns-in_err-room-clause-header
+returns-in_err-room-clause-header g c = header_same c.args.file.now.header c.take_room.new.file.header c.take_room.ensures.header
+
+pub returns-in_err-room-clause-list : goal.returns-in_err-room-clause-list
+returns-in_err-room-clause-list g c = c.take_room.ensures.list
+
+pub returns-in_err-room-clause-first : goal.returns-in_err-room-clause-first
+returns-in_err-room-clause-first g c = c.take_room.ensures.first
+
+pub returns-in_err-room-clause-kept : goal.returns-in_err-room-clause-kept
+returns-in_err-room-clause-kept g c = on_err _ c.from_residual.result c.take_room.ensures.reftable
+
+pub returns-clause-marks : goal.returns-clause-marks
+returns-clause-marks g c = marks_then _ _ _ (marks_then _ _ _ c.take_room.ensures.marks c.note_change.ensures.marks) c.write_reftable.ensures.marks
+
+pub returns-clause-order : goal.returns-clause-order
+returns-clause-order g c = c.write_reftable.ensures.order ∙ c.note_change.ensures.tables.order ∙ c.take_room.ensures.order
+
+pub returns-clause-noted : goal.returns-clause-noted
+returns-clause-noted g c = on_ok _ c.write_reftable.result (c.write_reftable.ensures.marks.changed c.note_change.ensures.changed)
+
+pub returns-clause-header : goal.returns-clause-header
+returns-clause-header g c = header_then c.args.file.now.header c.take_room.new.file.header c.write_reftable.new.file.header (header_same c.args.file.now.header c.take_room.new.file.header c.take_room.ensures.header) c.write_reftable.ensures.header
+
+pub returns-clause-list : goal.returns-clause-list
+returns-clause-list g c = c.write_reftable.ensures.list ∙ c.take_room.ensures.list
+
+pub returns-clause-table : goal.returns-clause-table
+returns-clause-table g c = c.write_reftable.ensures.table
+
+pub returns-clause-first : goal.returns-clause-first
+returns-clause-first g c = c.write_reftable.ensures.first ∙ c.take_room.ensures.first
+
+pub returns-clause-cause : goal.returns-clause-cause
+returns-clause-cause g c = c.write_reftable.ensures.cause
+
+pub returns-clause-storage_faults : goal.returns-clause-storage_faults
+returns-clause-storage_faults g c = told_since _ _ _ c.take_room.ensures.storage_faults.no_fewer c.write_reftable.ensures.storage_faults

@@ -7,6 +7,10 @@ use Rattle.qcow2_alloc.specs.FreeList.{with_listed, but}
 use Rattle.qcow2_alloc.proofs.AllocationSteps.{handed_on, is_sound_now, becomes_cached}
 use Rattle.qcow2_alloc.proofs.Hints.{hint_stays}
 use Rattle.qcow2_alloc.proofs.Freeing.{but_both, on_ok, becomes_on, frees_then}
+use Rattle.qcow2_alloc.proofs.CacheMarks.{marks_then}
+use Rattle.qcow2_alloc.proofs.Faults.{told_on, told_ok, told_since}
+use Rattle.qcow2_alloc.proofs.Outcomes.{told_after, on_no_ok, handed_cause}
+use Rattle.std.proofs.Math.Nat.{le_trans}
 use Rattle.qcow2_alloc.proofs.allocation.Allocator.free.Goals as goal
 
 pub returns-in_err-free_kind-clause-sound : goal.returns-in_err-free_kind-clause-sound
@@ -95,3 +99,69 @@ returns-then-is_empty-clause-leaks g c = λ p sound. c.free_kind.ensures.leaks p
 
 pub returns-in_err-rb_depends_on_l2-clause-leaks : goal.returns-in_err-rb_depends_on_l2-clause-leaks
 returns-in_err-rb_depends_on_l2-clause-leaks g c = λ p sound. c.free_kind.ensures.leaks p sound tt
+
+pub returns-in_err-free_kind-clause-marks : goal.returns-in_err-free_kind-clause-marks
+returns-in_err-free_kind-clause-marks g c = c.free_kind.ensures.marks
+
+pub returns-in_err-free_kind-clause-cause : goal.returns-in_err-free_kind-clause-cause
+returns-in_err-free_kind-clause-cause g c = handed_cause c.from_residual.result c.in_err-free_kind.field-0.0 c.from_residual.ensures c.in_err-free_kind.ensures.cause
+
+pub returns-in_err-free_kind-clause-storage_faults : goal.returns-in_err-free_kind-clause-storage_faults
+returns-in_err-free_kind-clause-storage_faults g c = told_on _ _ c.free_kind.result c.in_err-free_kind.field-0.0 c.from_residual.result c.free_kind.ensures.storage_faults c.in_err-free_kind.was c.from_residual.ensures
+
+pub returns-in_err-free_kind-clause-emptied : goal.returns-in_err-free_kind-clause-emptied
+returns-in_err-free_kind-clause-emptied g c = on_no_ok _ c.from_residual.result c.in_err-free_kind.field-0.0 c.from_residual.ensures
+
+pub returns-in_err-rb_depends_on_l2-clause-marks : goal.returns-in_err-rb_depends_on_l2-clause-marks
+returns-in_err-rb_depends_on_l2-clause-marks g c = marks_then _ _ _ c.free_kind.ensures.marks c.rb_depends_on_l2.ensures.marks
+
+pub returns-in_err-rb_depends_on_l2-clause-cause : goal.returns-in_err-rb_depends_on_l2-clause-cause
+returns-in_err-rb_depends_on_l2-clause-cause g c = handed_cause c.from_residual-in_err-rb_depends_on_l2.result c.in_err-rb_depends_on_l2.field-0.0 c.from_residual-in_err-rb_depends_on_l2.ensures c.in_err-rb_depends_on_l2.ensures.cause
+
+pub returns-in_err-rb_depends_on_l2-clause-storage_faults : goal.returns-in_err-rb_depends_on_l2-clause-storage_faults
+returns-in_err-rb_depends_on_l2-clause-storage_faults g c = told_after _ _ _ c.rb_depends_on_l2.result c.in_err-rb_depends_on_l2.field-0.0 c.from_residual-in_err-rb_depends_on_l2.result c.free_kind.ensures.storage_faults.no_fewer c.rb_depends_on_l2.ensures.storage_faults c.in_err-rb_depends_on_l2.was c.from_residual-in_err-rb_depends_on_l2.ensures
+
+pub returns-in_err-rb_depends_on_l2-clause-emptied : goal.returns-in_err-rb_depends_on_l2-clause-emptied
+returns-in_err-rb_depends_on_l2-clause-emptied g c = on_no_ok _ c.from_residual-in_err-rb_depends_on_l2.result c.in_err-rb_depends_on_l2.field-0.0 c.from_residual-in_err-rb_depends_on_l2.ensures
+
+pub returns-in_err-free_kind-clause-header : goal.returns-in_err-free_kind-clause-header
+returns-in_err-free_kind-clause-header g c = c.free_kind.ensures.header
+
+pub returns-in_err-free_kind-clause-grows : goal.returns-in_err-free_kind-clause-grows
+returns-in_err-free_kind-clause-grows g c = c.free_kind.ensures.grows
+
+pub returns-then-is_empty-clause-header : goal.returns-then-is_empty-clause-header
+returns-then-is_empty-clause-header g c = c.free_kind.ensures.header
+
+pub returns-then-is_empty-clause-grows : goal.returns-then-is_empty-clause-grows
+returns-then-is_empty-clause-grows g c = c.free_kind.ensures.grows
+
+pub returns-in_err-rb_depends_on_l2-clause-header : goal.returns-in_err-rb_depends_on_l2-clause-header
+returns-in_err-rb_depends_on_l2-clause-header g c = c.free_kind.ensures.header
+
+pub returns-in_err-rb_depends_on_l2-clause-grows : goal.returns-in_err-rb_depends_on_l2-clause-grows
+returns-in_err-rb_depends_on_l2-clause-grows g c = c.free_kind.ensures.grows
+
+pub returns-then-is_empty-clause-marks : goal.returns-then-is_empty-clause-marks
+returns-then-is_empty-clause-marks g c = c.free_kind.ensures.marks
+
+pub returns-then-is_empty-clause-cause : goal.returns-then-is_empty-clause-cause
+returns-then-is_empty-clause-cause g c = tt
+
+pub returns-then-is_empty-clause-storage_faults : goal.returns-then-is_empty-clause-storage_faults
+returns-then-is_empty-clause-storage_faults g c = told_ok _ _ tt c.free_kind.ensures.storage_faults.no_fewer
+
+pub returns-clause-marks : goal.returns-clause-marks
+returns-clause-marks g c = marks_then _ _ _ (marks_then _ _ _ c.free_kind.ensures.marks c.rb_depends_on_l2.ensures.marks) c.free_kind-2.ensures.marks
+
+pub returns-clause-header : goal.returns-clause-header
+returns-clause-header g c = c.free_kind-2.ensures.header ∙ c.free_kind.ensures.header
+
+pub returns-clause-cause : goal.returns-clause-cause
+returns-clause-cause g c = c.free_kind-2.ensures.cause
+
+pub returns-clause-grows : goal.returns-clause-grows
+returns-clause-grows g c = le_trans c.free_kind.ensures.grows c.free_kind-2.ensures.grows
+
+pub returns-clause-storage_faults : goal.returns-clause-storage_faults
+returns-clause-storage_faults g c = told_since _ _ _ (le_trans c.free_kind.ensures.storage_faults.no_fewer c.rb_depends_on_l2.ensures.storage_faults.no_fewer) c.free_kind-2.ensures.storage_faults

@@ -4,6 +4,7 @@ use Rattle.qcow2_alloc.specs.Allocation.{listed_as}
 use Rattle.qcow2_alloc.specs.FreeList.{run_of, with_listed, but}
 use Rattle.qcow2_alloc.specs.ImageFile.{AllocatorInvariant}
 use Rattle.qcow2_alloc.proofs.Freeing.{listed_none, with_one, but_same, frees_as}
+use Rattle.qcow2_alloc.proofs.Faults.{told_ok}
 use Rattle.qcow2_alloc.proofs.allocation.Allocator.free_entry.Goals as goal
 
 pub returns-in-Ok-clause-sound : goal.returns-in-Ok-clause-sound
@@ -43,3 +44,42 @@ returns-in-Ok-clause-leaks g c = λ p sound may.
 pub returns-in-Err-clause-leaks : goal.returns-in-Err-clause-leaks
 returns-in-Err-clause-leaks g c = λ p sound may.
     c.free_run.ensures.leaks (with_listed p c.args.file.now.free_list) (subst (λ (r : Pending). AllocatorInvariant g.S.Storage.view c.args.self.now r c.args.file.now) (with_one p c.args.file.now.free_list c.args.pending) sound) may
+
+pub returns-in-Ok-clause-marks : goal.returns-in-Ok-clause-marks
+returns-in-Ok-clause-marks g c = c.free_run.ensures.marks
+
+pub returns-in-Ok-clause-order : goal.returns-in-Ok-clause-order
+returns-in-Ok-clause-order g c = c.free_run.ensures.order
+
+pub returns-in-Ok-clause-header : goal.returns-in-Ok-clause-header
+returns-in-Ok-clause-header g c = c.free_run.ensures.header
+
+pub returns-in-Ok-clause-grows : goal.returns-in-Ok-clause-grows
+returns-in-Ok-clause-grows g c = c.free_run.ensures.grows
+
+pub returns-in-Err-clause-marks : goal.returns-in-Err-clause-marks
+returns-in-Err-clause-marks g c = c.free_run.ensures.marks
+
+pub returns-in-Err-clause-order : goal.returns-in-Err-clause-order
+returns-in-Err-clause-order g c = c.free_run.ensures.order
+
+pub returns-in-Err-clause-header : goal.returns-in-Err-clause-header
+returns-in-Err-clause-header g c = c.free_run.ensures.header
+
+pub returns-in-Err-clause-grows : goal.returns-in-Err-clause-grows
+returns-in-Err-clause-grows g c = c.free_run.ensures.grows
+
+pub returns-in-Ok-clause-cause : goal.returns-in-Ok-clause-cause
+returns-in-Ok-clause-cause g c = tt
+
+pub returns-in-Ok-clause-storage_faults : goal.returns-in-Ok-clause-storage_faults
+returns-in-Ok-clause-storage_faults g c = told_ok _ _ tt c.free_run.ensures.storage_faults.no_fewer
+
+pub returns-in-Err-clause-cause : goal.returns-in-Err-clause-cause
+returns-in-Err-clause-cause g c = c.in-Err.ensures.cause
+
+pub returns-in-Err-clause-storage_faults : goal.returns-in-Err-clause-storage_faults
+returns-in-Err-clause-storage_faults g c = c.in-Err.ensures.storage_faults
+
+pub returns-in-Err-clause-left : goal.returns-in-Err-clause-left
+returns-in-Err-clause-left g c = tt

@@ -1,8 +1,11 @@
-use Rattle.std.proofs.Common.{◌≡◌, sym, ◌∙◌, subst, rules}
+use Rattle.std.proofs.Common.{◌≡◌, sym, ◌∙◌, subst, rules, refl}
 use Rattle.qcow2_alloc.specs.declared.clusters_to_free.ClusterKind.{ClusterKind}
 use Rattle.qcow2_alloc.specs.Allocation.{MayFree}
 use Rattle.qcow2_alloc.specs.FreeList.{but}
 use Rattle.qcow2_alloc.proofs.Freeing.{but_same}
+use Rattle.qcow2_alloc.proofs.CacheMarks.{marks_none}
+use Rattle.qcow2_alloc.proofs.Faults.{told_ok}
+use Rattle.std.proofs.Math.Nat.{le_refl}
 use Rattle.qcow2_alloc.proofs.allocation.Allocator.free_or_list.Goals as goal
 
 pub returns-then-eq-clause-sound : goal.returns-then-eq-clause-sound
@@ -27,3 +30,39 @@ pub returns-then-eq-clause-leaks : goal.returns-then-eq-clause-leaks
 returns-then-eq-clause-leaks g c = λ p sound may.
     let same : c.args.pending.kind ≡ c.args.kind = search rules in
     c.free_entry.ensures.leaks p sound (subst (λ (x : ClusterKind). MayFree x c.args.file.now) (sym same) may)
+
+pub returns-then-eq-clause-marks : goal.returns-then-eq-clause-marks
+returns-then-eq-clause-marks g c = c.free_entry.ensures.marks
+
+pub returns-then-eq-clause-order : goal.returns-then-eq-clause-order
+returns-then-eq-clause-order g c = c.free_entry.ensures.order
+
+pub returns-then-eq-clause-header : goal.returns-then-eq-clause-header
+returns-then-eq-clause-header g c = c.free_entry.ensures.header
+
+pub returns-then-eq-clause-grows : goal.returns-then-eq-clause-grows
+returns-then-eq-clause-grows g c = c.free_entry.ensures.grows
+
+pub returns-then-eq-clause-cause : goal.returns-then-eq-clause-cause
+returns-then-eq-clause-cause g c = c.free_entry.ensures.cause
+
+pub returns-then-eq-clause-storage_faults : goal.returns-then-eq-clause-storage_faults
+returns-then-eq-clause-storage_faults g c = c.free_entry.ensures.storage_faults
+
+pub returns-clause-marks : goal.returns-clause-marks
+returns-clause-marks g c = marks_none _
+
+pub returns-clause-order : goal.returns-clause-order
+returns-clause-order g c = refl
+
+pub returns-clause-header : goal.returns-clause-header
+returns-clause-header g c = refl
+
+pub returns-clause-grows : goal.returns-clause-grows
+returns-clause-grows g c = le_refl _
+
+pub returns-clause-cause : goal.returns-clause-cause
+returns-clause-cause g c = tt
+
+pub returns-clause-storage_faults : goal.returns-clause-storage_faults
+returns-clause-storage_faults g c = told_ok _ _ tt (le_refl _)

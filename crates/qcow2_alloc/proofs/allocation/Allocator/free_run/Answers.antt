@@ -5,6 +5,9 @@ use Rattle.qcow2_alloc.specs.FreeList.{run_of}
 use Rattle.qcow2_alloc.proofs.AllocationSteps.{handed_on, may_lower_still, is_sound_now}
 use Rattle.qcow2_alloc.proofs.CacheMarks.{marks_then}
 use Rattle.qcow2_alloc.proofs.Freeing.{listed_held, behind_first, first_owed, run_refused, run_freed}
+use Rattle.qcow2_alloc.proofs.Faults.{told_ok}
+use Rattle.qcow2_alloc.proofs.Outcomes.{told_after, on_no_ok, handed_cause}
+use Rattle.std.proofs.Math.Nat.{le_trans}
 use Rattle.qcow2_alloc.proofs.allocation.Allocator.free_run.Goals as goal
 
 pub returns-in_err-lower-clause-sound : goal.returns-in_err-lower-clause-sound
@@ -26,7 +29,7 @@ freeing-preserved g c = record {
   header = c.lower.ensures.header ∙ c.freeing.invariant.header;
   list = c.lower.ensures.list ∙ c.freeing.invariant.list;
   marks = marks_then c.args.file.now.caches c.freeing.file.caches c.lower.new.file.caches c.freeing.invariant.marks c.lower.ensures.marks;
-  faults = omega (arith, c.freeing.invariant.faults, c.lower.ensures.storage_faults.no_fewer);
+  faults = le_trans c.freeing.invariant.faults c.lower.ensures.storage_faults.no_fewer;
   order = c.lower.ensures.order ∙ c.freeing.invariant.order;
   kind = c.drop_first.ensures.kind ∙ c.freeing.invariant.kind;
   sound = λ p sound may.
@@ -80,3 +83,54 @@ returns-in_err-lower-clause-leaks g c = λ p sound may.
     (first_owed g.S.Storage.view kind p c.freeing.run some c.value-in-freeing.result at c.freeing.file c.freeing.self (is_sound_now g.S.Storage.view q now c.args.file.now c.freeing.file c.freeing.self before))
     (may_lower_still (Listed kind) c.args.file.now c.freeing.file c.freeing.invariant.order may)
     ∙ c.freeing.invariant.leaks p sound may
+
+pub returns-in_err-lower-clause-marks : goal.returns-in_err-lower-clause-marks
+returns-in_err-lower-clause-marks g c = marks_then _ _ _ c.freeing.invariant.marks c.lower.ensures.marks
+
+pub returns-in_err-lower-clause-order : goal.returns-in_err-lower-clause-order
+returns-in_err-lower-clause-order g c = c.lower.ensures.order ∙ c.freeing.invariant.order
+
+pub returns-in_err-lower-clause-cause : goal.returns-in_err-lower-clause-cause
+returns-in_err-lower-clause-cause g c = handed_cause c.from_residual.result c.in_err-lower.field-0.0 c.from_residual.ensures c.in_err-lower.ensures.cause
+
+pub returns-in_err-lower-clause-storage_faults : goal.returns-in_err-lower-clause-storage_faults
+returns-in_err-lower-clause-storage_faults g c = told_after _ _ _ c.lower.result c.in_err-lower.field-0.0 c.from_residual.result c.freeing.invariant.faults c.lower.ensures.storage_faults c.in_err-lower.was c.from_residual.ensures
+
+pub returns-in_err-lower-clause-all : goal.returns-in_err-lower-clause-all
+returns-in_err-lower-clause-all g c = on_no_ok _ c.from_residual.result c.in_err-lower.field-0.0 c.from_residual.ensures
+
+pub returns-in_err-lower-clause-header : goal.returns-in_err-lower-clause-header
+returns-in_err-lower-clause-header g c = c.lower.ensures.header ∙ c.freeing.invariant.header
+
+pub returns-in_err-lower-clause-list : goal.returns-in_err-lower-clause-list
+returns-in_err-lower-clause-list g c = c.lower.ensures.list ∙ c.freeing.invariant.list
+
+pub returns-in_err-lower-clause-kind : goal.returns-in_err-lower-clause-kind
+returns-in_err-lower-clause-kind g c = c.freeing.invariant.kind
+
+pub returns-in_err-lower-clause-grows : goal.returns-in_err-lower-clause-grows
+returns-in_err-lower-clause-grows g c = le_trans c.freeing.invariant.grows c.lower.ensures.grows
+
+pub returns-clause-marks : goal.returns-clause-marks
+returns-clause-marks g c = c.freeing.invariant.marks
+
+pub returns-clause-order : goal.returns-clause-order
+returns-clause-order g c = c.freeing.invariant.order
+
+pub returns-clause-header : goal.returns-clause-header
+returns-clause-header g c = c.freeing.invariant.header
+
+pub returns-clause-list : goal.returns-clause-list
+returns-clause-list g c = c.freeing.invariant.list
+
+pub returns-clause-kind : goal.returns-clause-kind
+returns-clause-kind g c = c.freeing.invariant.kind
+
+pub returns-clause-grows : goal.returns-clause-grows
+returns-clause-grows g c = c.freeing.invariant.grows
+
+pub returns-clause-cause : goal.returns-clause-cause
+returns-clause-cause g c = tt
+
+pub returns-clause-storage_faults : goal.returns-clause-storage_faults
+returns-clause-storage_faults g c = told_ok _ _ tt c.freeing.invariant.faults

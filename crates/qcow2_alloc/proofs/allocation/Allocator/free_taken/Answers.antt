@@ -5,13 +5,16 @@ use Rattle.qcow2_alloc.specs.FreeList.{with_listed, but}
 use Rattle.qcow2_alloc.proofs.AllocationSteps.{handed_on, may_lower_still, is_sound_now}
 use Rattle.qcow2_alloc.proofs.CacheMarks.{marks_then}
 use Rattle.qcow2_alloc.proofs.Freeing.{but_first, but_step, entry_sound, entry_goes}
+use Rattle.qcow2_alloc.proofs.Faults.{told_ok}
+use Rattle.qcow2_alloc.proofs.Outcomes.{told_after, on_no_ok, handed_cause}
+use Rattle.std.proofs.Math.Nat.{le_trans}
 use Rattle.qcow2_alloc.proofs.allocation.Allocator.free_taken.Goals as goal
 
 pub freeing-preserved : goal.freeing-preserved
 freeing-preserved g c = record {
   header = c.free_or_list.ensures.header ∙ c.freeing.invariant.header;
   marks = marks_then c.args.file.now.caches c.freeing.file.caches c.free_or_list.new.file.caches c.freeing.invariant.marks c.free_or_list.ensures.marks;
-  faults = omega (arith, c.freeing.invariant.faults, c.free_or_list.ensures.storage_faults.no_fewer);
+  faults = le_trans c.freeing.invariant.faults c.free_or_list.ensures.storage_faults.no_fewer;
   order = c.free_or_list.ensures.order ∙ c.freeing.invariant.order;
   others = but_step c.args.kind c.free_or_list.new.file.free_list c.freeing.file.free_list c.freeing.taken c.next_pending.new.self c.in-Some.pending c.in-Some.ensures.some c.free_or_list.ensures.others ∙ c.freeing.invariant.others;
   left =
@@ -78,3 +81,45 @@ returns-in_err-free_or_list-clause-leaks g c = λ p sound may.
     (entry_sound g.S.Storage.view p c.freeing.taken c.next_pending.new.self c.in-Some.pending c.in-Some.ensures.some c.freeing.file c.freeing.self (is_sound_now g.S.Storage.view q now c.args.file.now c.freeing.file c.freeing.self before))
     (may_lower_still (Listed c.args.kind) c.args.file.now c.freeing.file c.freeing.invariant.order may)
     ∙ c.freeing.invariant.leaks p sound may
+
+pub returns-in_err-free_or_list-clause-marks : goal.returns-in_err-free_or_list-clause-marks
+returns-in_err-free_or_list-clause-marks g c = marks_then _ _ _ c.freeing.invariant.marks c.free_or_list.ensures.marks
+
+pub returns-in_err-free_or_list-clause-order : goal.returns-in_err-free_or_list-clause-order
+returns-in_err-free_or_list-clause-order g c = c.free_or_list.ensures.order ∙ c.freeing.invariant.order
+
+pub returns-in_err-free_or_list-clause-cause : goal.returns-in_err-free_or_list-clause-cause
+returns-in_err-free_or_list-clause-cause g c = handed_cause c.from_residual.result c.in_err-free_or_list.field-0.0 c.from_residual.ensures c.in_err-free_or_list.ensures.cause
+
+pub returns-in_err-free_or_list-clause-storage_faults : goal.returns-in_err-free_or_list-clause-storage_faults
+returns-in_err-free_or_list-clause-storage_faults g c = told_after _ _ _ c.free_or_list.result c.in_err-free_or_list.field-0.0 c.from_residual.result c.freeing.invariant.faults c.free_or_list.ensures.storage_faults c.in_err-free_or_list.was c.from_residual.ensures
+
+pub returns-in_err-free_or_list-clause-all : goal.returns-in_err-free_or_list-clause-all
+returns-in_err-free_or_list-clause-all g c = on_no_ok _ c.from_residual.result c.in_err-free_or_list.field-0.0 c.from_residual.ensures
+
+pub returns-in_err-free_or_list-clause-left : goal.returns-in_err-free_or_list-clause-left
+returns-in_err-free_or_list-clause-left g c = on_no_ok _ c.from_residual.result c.in_err-free_or_list.field-0.0 c.from_residual.ensures
+
+pub returns-in_err-free_or_list-clause-header : goal.returns-in_err-free_or_list-clause-header
+returns-in_err-free_or_list-clause-header g c = c.free_or_list.ensures.header ∙ c.freeing.invariant.header
+
+pub returns-in_err-free_or_list-clause-grows : goal.returns-in_err-free_or_list-clause-grows
+returns-in_err-free_or_list-clause-grows g c = le_trans c.freeing.invariant.grows c.free_or_list.ensures.grows
+
+pub returns-clause-marks : goal.returns-clause-marks
+returns-clause-marks g c = c.freeing.invariant.marks
+
+pub returns-clause-order : goal.returns-clause-order
+returns-clause-order g c = c.freeing.invariant.order
+
+pub returns-clause-header : goal.returns-clause-header
+returns-clause-header g c = c.freeing.invariant.header
+
+pub returns-clause-grows : goal.returns-clause-grows
+returns-clause-grows g c = c.freeing.invariant.grows
+
+pub returns-clause-cause : goal.returns-clause-cause
+returns-clause-cause g c = tt
+
+pub returns-clause-storage_faults : goal.returns-clause-storage_faults
+returns-clause-storage_faults g c = told_ok _ _ tt c.freeing.invariant.faults

@@ -8,6 +8,9 @@ use Rattle.qcow2_alloc.proofs.FileSteps.{moves_on, on_then, on_breaks_after}
 use Rattle.qcow2_alloc.proofs.AllocationSteps.{handed_on, is_sound_now}
 use Rattle.qcow2_alloc.proofs.Hints.{not_in_run, taken_pending, used_stays}
 use Rattle.qcow2_alloc.proofs.Runs.{taken_first, taken_none, held_more}
+use Rattle.qcow2_alloc.proofs.Faults.{told_ok}
+use Rattle.qcow2_alloc.proofs.Outcomes.{told_after, handed_cause}
+use Rattle.std.proofs.Math.Nat.{le_trans, le_refl}
 use Rattle.qcow2_alloc.proofs.allocation.Allocator.give_back.Goals as goal
 
 pub returns-then-n-eq0-clause-sound : goal.returns-then-n-eq0-clause-sound
@@ -49,7 +52,7 @@ lowering-preserved g c = record {
   header = c.lower.ensures.header ∙ c.lowering.invariant.header;
   list = c.lower.ensures.list ∙ c.lowering.invariant.list;
   marks = marks_then c.args.file.now.caches c.lowering.file.caches c.lower.new.file.caches c.lowering.invariant.marks c.lower.ensures.marks;
-  faults = omega (arith, c.lowering.invariant.faults, c.lower.ensures.storage_faults.no_fewer);
+  faults = le_trans c.lowering.invariant.faults c.lower.ensures.storage_faults.no_fewer;
   order = c.lower.ensures.order ∙ c.lowering.invariant.order;
   reftable = c.lower.ensures.reftable ∙ c.lowering.invariant.reftable;
   sound = λ p p' d start held b.
@@ -91,3 +94,66 @@ returns-clause-hint g c = λ p d sound hint. c.lowering.invariant.hint p d sound
 
 pub returns-clause-kept : goal.returns-clause-kept
 returns-clause-kept g c = λ p d sound. (c.lowering.invariant.kept p d sound).1
+
+pub returns-in_err-lower-clause-marks : goal.returns-in_err-lower-clause-marks
+returns-in_err-lower-clause-marks g c = marks_then _ _ _ c.lowering.invariant.marks c.lower.ensures.marks
+
+pub returns-in_err-lower-clause-order : goal.returns-in_err-lower-clause-order
+returns-in_err-lower-clause-order g c = c.lower.ensures.order ∙ c.lowering.invariant.order
+
+pub returns-in_err-lower-clause-cause : goal.returns-in_err-lower-clause-cause
+returns-in_err-lower-clause-cause g c = handed_cause c.from_residual.result c.in_err-lower.field-0.0 c.from_residual.ensures c.in_err-lower.ensures.cause
+
+pub returns-in_err-lower-clause-storage_faults : goal.returns-in_err-lower-clause-storage_faults
+returns-in_err-lower-clause-storage_faults g c = told_after _ _ _ c.lower.result c.in_err-lower.field-0.0 c.from_residual.result c.lowering.invariant.faults c.lower.ensures.storage_faults c.in_err-lower.was c.from_residual.ensures
+
+pub returns-in_err-lower-clause-header : goal.returns-in_err-lower-clause-header
+returns-in_err-lower-clause-header g c = c.lower.ensures.header ∙ c.lowering.invariant.header
+
+pub returns-in_err-lower-clause-list : goal.returns-in_err-lower-clause-list
+returns-in_err-lower-clause-list g c = c.lower.ensures.list ∙ c.lowering.invariant.list
+
+pub returns-in_err-lower-clause-reftable : goal.returns-in_err-lower-clause-reftable
+returns-in_err-lower-clause-reftable g c = c.lower.ensures.reftable ∙ c.lowering.invariant.reftable
+
+pub returns-then-n-eq0-clause-marks : goal.returns-then-n-eq0-clause-marks
+returns-then-n-eq0-clause-marks g c = marks_none _
+
+pub returns-then-n-eq0-clause-order : goal.returns-then-n-eq0-clause-order
+returns-then-n-eq0-clause-order g c = refl
+
+pub returns-then-n-eq0-clause-header : goal.returns-then-n-eq0-clause-header
+returns-then-n-eq0-clause-header g c = refl
+
+pub returns-then-n-eq0-clause-list : goal.returns-then-n-eq0-clause-list
+returns-then-n-eq0-clause-list g c = refl
+
+pub returns-then-n-eq0-clause-reftable : goal.returns-then-n-eq0-clause-reftable
+returns-then-n-eq0-clause-reftable g c = refl
+
+pub returns-then-n-eq0-clause-cause : goal.returns-then-n-eq0-clause-cause
+returns-then-n-eq0-clause-cause g c = tt
+
+pub returns-then-n-eq0-clause-storage_faults : goal.returns-then-n-eq0-clause-storage_faults
+returns-then-n-eq0-clause-storage_faults g c = told_ok _ _ tt (le_refl _)
+
+pub returns-clause-marks : goal.returns-clause-marks
+returns-clause-marks g c = c.lowering.invariant.marks
+
+pub returns-clause-order : goal.returns-clause-order
+returns-clause-order g c = c.lowering.invariant.order
+
+pub returns-clause-header : goal.returns-clause-header
+returns-clause-header g c = c.lowering.invariant.header
+
+pub returns-clause-list : goal.returns-clause-list
+returns-clause-list g c = c.lowering.invariant.list
+
+pub returns-clause-reftable : goal.returns-clause-reftable
+returns-clause-reftable g c = c.lowering.invariant.reftable
+
+pub returns-clause-cause : goal.returns-clause-cause
+returns-clause-cause g c = tt
+
+pub returns-clause-storage_faults : goal.returns-clause-storage_faults
+returns-clause-storage_faults g c = told_ok _ _ tt c.lowering.invariant.faults

@@ -14,6 +14,9 @@ use Rattle.qcow2_alloc.proofs.Hints.{not_in_run, taken_pending, used_stays}
 use Rattle.qcow2_alloc.proofs.Rooms.{run_past, left_none, left_one, left_fault, owed_now}
 use Rattle.qcow2_alloc.proofs.allocation.Allocator.leave_run.Goals.{then-not-lacks_block+in_ok-lower, else-not-lacks_block}
 use Rattle.qcow2_alloc.specs.Faults.{faults_of}
+use Rattle.qcow2_alloc.proofs.Faults.{told_ok}
+use Rattle.qcow2_alloc.proofs.Outcomes.{told_after, handed_cause}
+use Rattle.std.proofs.Math.Nat.{le_trans}
 use Rattle.qcow2_alloc.proofs.allocation.Allocator.leave_run.Goals as goal
 
 pub leaving-init : goal.leaving-init
@@ -58,7 +61,7 @@ leaving-preserved g c =
         header = ap (λ f. f.header) w.file-is ∙ w.lower.ensures.header ∙ c.leaving.invariant.header;
         list = ap (λ f. f.free_list) w.file-is ∙ w.lower.ensures.list ∙ c.leaving.invariant.list;
         marks = subst (λ f. KeepsMarks c.args.file.now.caches f.caches) (sym w.file-is) (marks_then c.args.file.now.caches c.leaving.file.caches w.lower.new.file.caches c.leaving.invariant.marks w.lower.ensures.marks);
-        faults = subst (λ f. faults_of g.S.Storage.view c.args.file.now.storage ≤ faults_of g.S.Storage.view f.storage) (sym w.file-is) (omega (arith, c.leaving.invariant.faults, w.lower.ensures.storage_faults.no_fewer));
+        faults = subst (λ f. faults_of g.S.Storage.view c.args.file.now.storage ≤ faults_of g.S.Storage.view f.storage) (sym w.file-is) (le_trans c.leaving.invariant.faults w.lower.ensures.storage_faults.no_fewer);
         order = ap (λ f. order_of f.caches) w.file-is ∙ w.lower.ensures.order ∙ c.leaving.invariant.order;
         reftable = ap (λ a. a.reftable) w.self-is ∙ w.lower.ensures.reftable ∙ c.leaving.invariant.reftable;
         first = ap (λ a. a.first_free_cluster) w.self-is
@@ -111,3 +114,48 @@ returns-clause-sound g c = λ p start same b noted.
 
 pub returns-clause-kept : goal.returns-clause-kept
 returns-clause-kept g c = λ p start same b. c.leaving.invariant.kept p start same b
+
+pub returns-in_err-lower-clause-marks : goal.returns-in_err-lower-clause-marks
+returns-in_err-lower-clause-marks g c = marks_then _ _ _ c.leaving.invariant.marks c.lower.ensures.marks
+
+pub returns-in_err-lower-clause-order : goal.returns-in_err-lower-clause-order
+returns-in_err-lower-clause-order g c = c.lower.ensures.order ∙ c.leaving.invariant.order
+
+pub returns-in_err-lower-clause-cause : goal.returns-in_err-lower-clause-cause
+returns-in_err-lower-clause-cause g c = handed_cause c.from_residual.result c.in_err-lower.field-0.0 c.from_residual.ensures c.in_err-lower.ensures.cause
+
+pub returns-in_err-lower-clause-storage_faults : goal.returns-in_err-lower-clause-storage_faults
+returns-in_err-lower-clause-storage_faults g c = told_after _ _ _ c.lower.result c.in_err-lower.field-0.0 c.from_residual.result c.leaving.invariant.faults c.lower.ensures.storage_faults c.in_err-lower.was c.from_residual.ensures
+
+pub returns-in_err-lower-clause-header : goal.returns-in_err-lower-clause-header
+returns-in_err-lower-clause-header g c = c.lower.ensures.header ∙ c.leaving.invariant.header
+
+pub returns-in_err-lower-clause-list : goal.returns-in_err-lower-clause-list
+returns-in_err-lower-clause-list g c = c.lower.ensures.list ∙ c.leaving.invariant.list
+
+pub returns-in_err-lower-clause-reftable : goal.returns-in_err-lower-clause-reftable
+returns-in_err-lower-clause-reftable g c = c.lower.ensures.reftable ∙ c.leaving.invariant.reftable
+
+pub returns-clause-marks : goal.returns-clause-marks
+returns-clause-marks g c = c.leaving.invariant.marks
+
+pub returns-clause-order : goal.returns-clause-order
+returns-clause-order g c = c.leaving.invariant.order
+
+pub returns-clause-header : goal.returns-clause-header
+returns-clause-header g c = c.leaving.invariant.header
+
+pub returns-clause-list : goal.returns-clause-list
+returns-clause-list g c = c.leaving.invariant.list
+
+pub returns-clause-reftable : goal.returns-clause-reftable
+returns-clause-reftable g c = c.leaving.invariant.reftable
+
+pub returns-clause-first : goal.returns-clause-first
+returns-clause-first g c = c.leaving.invariant.first
+
+pub returns-clause-cause : goal.returns-clause-cause
+returns-clause-cause g c = tt
+
+pub returns-clause-storage_faults : goal.returns-clause-storage_faults
+returns-clause-storage_faults g c = told_ok _ _ tt c.leaving.invariant.faults

@@ -1,6 +1,6 @@
 use Rattle.std.proofs.Common.{inl, false, refl, sym, ap, ◌+◌, ◌/◌, ◌^◌, ◌∙◌, subst, arith, inr, Result, ℕ, ◌≤◌, ◌<◌}
 use Rattle.qcow2_metadata.specs.L2Mapping.{greatest_offset}
-use Rattle.std.proofs.Math.Nat.{div-le_self}
+use Rattle.std.proofs.Math.Nat.{div-le_self, le_trans}
 use Rattle.qcow2_laws.specs.CrashInvariant.{Pending}
 use Rattle.qcow2_alloc.specs.LowestRuns.{KeepsNoFreeBelowHint}
 use Rattle.qcow2_alloc.specs.declared.allocation.Allocator.{Allocator}
@@ -16,6 +16,8 @@ use Rattle.qcow2_alloc.specs.Limits.{IsFaultOr, HasNoPlace, nameable_clusters}
 use Rattle.qcow2_alloc.proofs.Limits.{full_behind, limit_is_no_fault}
 use Rattle.qcow2_alloc.proofs.allocation.Allocator.lowest_run.Goals.{then-search-test+then-n-limit+else-first-limit, then-search-test+else-n-limit, else-search-test}
 use Rattle.qcow2_alloc.proofs.FormerReftables.{former_none, former_then}
+use Rattle.qcow2_alloc.proofs.Faults.{told_ok}
+use Rattle.qcow2_alloc.proofs.Outcomes.{told_limit, told_after, on_no_ok, if_no_ok, handed_cause}
 use Rattle.qcow2_alloc.proofs.allocation.Allocator.lowest_run.Goals as goal
 
 pub returns-in_err-taken-clause-sound : goal.returns-in_err-taken-clause-sound
@@ -156,3 +158,69 @@ returns-in_err-taken-clause-former g c = former_then c.args.self.now.reftable c.
 
 pub returns-then-taken-n-clause-former : goal.returns-then-taken-n-clause-former
 returns-then-taken-n-clause-former g c = former_then c.args.self.now.reftable c.search.self.reftable c.take_run.new.self.reftable c.args.file.now.free_list c.search.file.free_list c.take_run.new.file.free_list c.search.invariant.former c.take_run.ensures.former
+
+pub returns-in_err-taken-clause-marks : goal.returns-in_err-taken-clause-marks
+returns-in_err-taken-clause-marks g c = marks_then _ _ _ c.search.invariant.marks c.take_run.ensures.marks
+
+pub returns-in_err-taken-clause-order : goal.returns-in_err-taken-clause-order
+returns-in_err-taken-clause-order g c = c.take_run.ensures.order ∙ c.search.invariant.order
+
+pub returns-in_err-taken-clause-cause : goal.returns-in_err-taken-clause-cause
+returns-in_err-taken-clause-cause g c = handed_cause c.from_residual.result c.in_err-taken.field-0.0 c.from_residual.ensures c.in_err-taken.ensures.cause
+
+pub returns-in_err-taken-clause-storage_faults : goal.returns-in_err-taken-clause-storage_faults
+returns-in_err-taken-clause-storage_faults g c = told_after _ _ _ c.take_run.result c.in_err-taken.field-0.0 c.from_residual.result c.search.invariant.faults c.take_run.ensures.storage_faults c.in_err-taken.was c.from_residual.ensures
+
+pub returns-in_err-taken-clause-nameable : goal.returns-in_err-taken-clause-nameable
+returns-in_err-taken-clause-nameable g c = if_no_ok _ c.from_residual.result c.in_err-taken.field-0.0 c.from_residual.ensures
+
+pub returns-in_err-taken-clause-elsewhere : goal.returns-in_err-taken-clause-elsewhere
+returns-in_err-taken-clause-elsewhere g c = if_no_ok _ c.from_residual.result c.in_err-taken.field-0.0 c.from_residual.ensures
+
+pub returns-in_err-taken-clause-lowest : goal.returns-in_err-taken-clause-lowest
+returns-in_err-taken-clause-lowest g c = λ _ _ _ _ _. if_no_ok _ c.from_residual.result c.in_err-taken.field-0.0 c.from_residual.ensures
+
+pub returns-in_err-taken-clause-noted : goal.returns-in_err-taken-clause-noted
+returns-in_err-taken-clause-noted g c = on_no_ok _ c.from_residual.result c.in_err-taken.field-0.0 c.from_residual.ensures
+
+pub returns-in_err-taken-clause-header : goal.returns-in_err-taken-clause-header
+returns-in_err-taken-clause-header g c = header_then c.args.file.now.header c.search.file.header c.take_run.new.file.header c.search.invariant.header c.take_run.ensures.header
+
+pub returns-then-taken-n-clause-header : goal.returns-then-taken-n-clause-header
+returns-then-taken-n-clause-header g c = header_then c.args.file.now.header c.search.file.header c.take_run.new.file.header c.search.invariant.header c.take_run.ensures.header
+
+pub returns-then-taken-n-clause-order : goal.returns-then-taken-n-clause-order
+returns-then-taken-n-clause-order g c = c.take_run.ensures.order ∙ c.search.invariant.order
+
+pub returns-then-taken-n-clause-marks : goal.returns-then-taken-n-clause-marks
+returns-then-taken-n-clause-marks g c = marks_then _ _ _ c.search.invariant.marks c.take_run.ensures.marks
+
+pub returns-then-taken-n-clause-cause : goal.returns-then-taken-n-clause-cause
+returns-then-taken-n-clause-cause g c = tt
+
+pub returns-then-taken-n-clause-storage_faults : goal.returns-then-taken-n-clause-storage_faults
+returns-then-taken-n-clause-storage_faults g c = told_ok _ _ _ (le_trans c.search.invariant.faults c.take_run.ensures.storage_faults.no_fewer)
+
+pub returns-then-taken-n-clause-elsewhere : goal.returns-then-taken-n-clause-elsewhere
+returns-then-taken-n-clause-elsewhere g c = c.search.invariant.above
+
+pub returns-clause-marks : goal.returns-clause-marks
+returns-clause-marks g c = c.search.invariant.marks
+
+pub returns-clause-order : goal.returns-clause-order
+returns-clause-order g c = c.search.invariant.order
+
+pub returns-clause-header : goal.returns-clause-header
+returns-clause-header g c = c.search.invariant.header
+
+pub returns-clause-list : goal.returns-clause-list
+returns-clause-list g c = c.search.invariant.list
+
+pub returns-clause-former : goal.returns-clause-former
+returns-clause-former g c = c.search.invariant.former
+
+pub returns-clause-cause : goal.returns-clause-cause
+returns-clause-cause g c = tt
+
+pub returns-clause-storage_faults : goal.returns-clause-storage_faults
+returns-clause-storage_faults g c = told_limit _ _ c.search.invariant.faults

@@ -1,9 +1,14 @@
-use Rattle.std.proofs.Common.{◌+◌, ◌*◌, ◌^◌, sym, ap, ◌∙◌}
+use Rattle.std.proofs.Common.{◌+◌, ◌*◌, ◌^◌, sym, ap, ◌∙◌, refl}
 use Rattle.qcow2_alloc.specs.GrownTables.{with_run, NamesReftable}
-use Rattle.qcow2_alloc.specs.ImageError.{of_storage}
+use Rattle.qcow2_alloc.specs.ImageError.{of_storage, of_metadata}
 use Rattle.qcow2_alloc.specs.ImageStorage.{storage_of}
 use Rattle.qcow2_alloc.proofs.AllocationSteps.{handed_on, fault_of_storage}
 use Rattle.qcow2_alloc.proofs.NamedReftables.{within_limit, breaks_named, becomes_named, keeps_used}
+use Rattle.qcow2_alloc.proofs.CacheMarks.{marks_none}
+use Rattle.qcow2_alloc.proofs.Following.{header_same}
+use Rattle.qcow2_alloc.proofs.Outcomes.{told_limit, on_no_ok, handed_cause, on_err}
+use Rattle.std.proofs.Math.Nat.{le_refl}
+use Rattle.qcow2_alloc.proofs.TableErrors.{storage_of_tables, metadata_of_tables}
 use Rattle.qcow2_alloc.proofs.allocation.Allocator.name_reftable.Goals as goal
 
 pub returns-in_err-set_reftable-clause-names : goal.returns-in_err-set_reftable-clause-names
@@ -38,3 +43,102 @@ returns-clause-uses g c = λ p first blocks clusters sound ready.
     c.set_reftable.new.self c.note_change.new.self c.write_reftable_pointer.new.storage (storage_of c.will_write.new.self) c.write_reftable_pointer.result c.in_ok-set_reftable.ensures.ok
     c.note_change.ensures.same c.note_change.ensures.tables c.note_change.ensures.marks c.will_write.ensures.storage c.write_reftable_pointer.ensures.written c.write_reftable_pointer.ensures.calls
     c.in_ok-write_reftable_pointer.field-0 c.in_ok-write_reftable_pointer.was
+
+pub returns-in_default-clause-marks : goal.returns-in_default-clause-marks
+returns-in_default-clause-marks g c = marks_none _
+
+pub returns-in_default-clause-order : goal.returns-in_default-clause-order
+returns-in_default-clause-order g c = refl
+
+pub returns-in_default-clause-header : goal.returns-in_default-clause-header
+returns-in_default-clause-header g c = header_same c.args.file.now.header c.args.file.now.header refl
+
+pub returns-in_default-clause-list : goal.returns-in_default-clause-list
+returns-in_default-clause-list g c = refl
+
+pub returns-in_default-clause-first : goal.returns-in_default-clause-first
+returns-in_default-clause-first g c = refl
+
+pub returns-in_default-clause-kept : goal.returns-in_default-clause-kept
+returns-in_default-clause-kept g c = refl
+
+pub returns-in_default-clause-cause : goal.returns-in_default-clause-cause
+returns-in_default-clause-cause g c = tt
+
+pub returns-in_default-clause-storage_faults : goal.returns-in_default-clause-storage_faults
+returns-in_default-clause-storage_faults g c = told_limit _ _ (le_refl _)
+
+pub returns-in_err-set_reftable-clause-marks : goal.returns-in_err-set_reftable-clause-marks
+returns-in_err-set_reftable-clause-marks g c = marks_none _
+
+pub returns-in_err-set_reftable-clause-order : goal.returns-in_err-set_reftable-clause-order
+returns-in_err-set_reftable-clause-order g c = refl
+
+pub returns-in_err-set_reftable-clause-header : goal.returns-in_err-set_reftable-clause-header
+returns-in_err-set_reftable-clause-header g c = header_same c.args.file.now.header c.set_reftable.new.self c.in_err-set_reftable.ensures.same
+
+pub returns-in_err-set_reftable-clause-list : goal.returns-in_err-set_reftable-clause-list
+returns-in_err-set_reftable-clause-list g c = refl
+
+pub returns-in_err-set_reftable-clause-first : goal.returns-in_err-set_reftable-clause-first
+returns-in_err-set_reftable-clause-first g c = refl
+
+pub returns-in_err-set_reftable-clause-kept : goal.returns-in_err-set_reftable-clause-kept
+returns-in_err-set_reftable-clause-kept g c = on_err _ c.from_residual.result refl
+
+pub returns-in_err-set_reftable-clause-noted : goal.returns-in_err-set_reftable-clause-noted
+returns-in_err-set_reftable-clause-noted g c = on_no_ok _ c.from_residual.result (of_metadata c.in_err-set_reftable.field-0.0) c.from_residual.ensures
+
+pub returns-in_err-set_reftable-clause-table : goal.returns-in_err-set_reftable-clause-table
+returns-in_err-set_reftable-clause-table g c = on_no_ok _ c.from_residual.result (of_metadata c.in_err-set_reftable.field-0.0) c.from_residual.ensures
+
+pub returns-in_err-set_reftable-clause-cause : goal.returns-in_err-set_reftable-clause-cause
+returns-in_err-set_reftable-clause-cause g c = handed_cause c.from_residual.result (of_metadata c.in_err-set_reftable.field-0.0) c.from_residual.ensures (metadata_of_tables c.in_err-set_reftable.field-0.0)
+
+pub returns-in_err-write_reftable_pointer-clause-marks : goal.returns-in_err-write_reftable_pointer-clause-marks
+returns-in_err-write_reftable_pointer-clause-marks g c = c.note_change.ensures.marks
+
+pub returns-in_err-write_reftable_pointer-clause-order : goal.returns-in_err-write_reftable_pointer-clause-order
+returns-in_err-write_reftable_pointer-clause-order g c = c.note_change.ensures.tables.order
+
+pub returns-in_err-write_reftable_pointer-clause-list : goal.returns-in_err-write_reftable_pointer-clause-list
+returns-in_err-write_reftable_pointer-clause-list g c = refl
+
+pub returns-in_err-write_reftable_pointer-clause-first : goal.returns-in_err-write_reftable_pointer-clause-first
+returns-in_err-write_reftable_pointer-clause-first g c = refl
+
+pub returns-in_err-write_reftable_pointer-clause-kept : goal.returns-in_err-write_reftable_pointer-clause-kept
+returns-in_err-write_reftable_pointer-clause-kept g c = on_err _ c.from_residual-in_err-write_reftable_pointer.result refl
+
+pub returns-in_err-write_reftable_pointer-clause-noted : goal.returns-in_err-write_reftable_pointer-clause-noted
+returns-in_err-write_reftable_pointer-clause-noted g c = on_no_ok _ c.from_residual-in_err-write_reftable_pointer.result (of_storage c.in_err-write_reftable_pointer.field-0.0) c.from_residual-in_err-write_reftable_pointer.ensures
+
+pub returns-in_err-write_reftable_pointer-clause-table : goal.returns-in_err-write_reftable_pointer-clause-table
+returns-in_err-write_reftable_pointer-clause-table g c = on_no_ok _ c.from_residual-in_err-write_reftable_pointer.result (of_storage c.in_err-write_reftable_pointer.field-0.0) c.from_residual-in_err-write_reftable_pointer.ensures
+
+pub returns-in_err-write_reftable_pointer-clause-cause : goal.returns-in_err-write_reftable_pointer-clause-cause
+returns-in_err-write_reftable_pointer-clause-cause g c = handed_cause c.from_residual-in_err-write_reftable_pointer.result (of_storage c.in_err-write_reftable_pointer.field-0.0) c.from_residual-in_err-write_reftable_pointer.ensures (storage_of_tables c.in_err-write_reftable_pointer.field-0.0)
+
+pub returns-clause-marks : goal.returns-clause-marks
+returns-clause-marks g c = c.note_change.ensures.marks
+
+pub returns-clause-order : goal.returns-clause-order
+returns-clause-order g c = c.note_change.ensures.tables.order
+
+pub returns-clause-noted : goal.returns-clause-noted
+returns-clause-noted g c = c.note_change.ensures.changed
+
+pub returns-clause-list : goal.returns-clause-list
+returns-clause-list g c = refl
+
+pub returns-clause-table : goal.returns-clause-table
+returns-clause-table g c = refl
+
+pub returns-clause-first : goal.returns-clause-first
+returns-clause-first g c = refl
+
+pub returns-clause-cause : goal.returns-clause-cause
+returns-clause-cause g c = tt
+
+pub returns-clause-kept : goal.returns-clause-kept
+returns-clause-kept g c = tt

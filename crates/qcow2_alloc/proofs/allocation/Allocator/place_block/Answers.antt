@@ -28,6 +28,10 @@ use Rattle.qcow2_alloc.specs.TableCaches.{cleared_rb, IsBlockOf}
 use Rattle.qcow2_alloc.proofs.FileSteps.{moves_then, breaks_then}
 use Rattle.qcow2_alloc.proofs.AllocationSteps.{handed_on, fault_of_storage, becomes_then, becomes_marked, is_sound_now, stands}
 use Rattle.qcow2_alloc.proofs.NamedBlocks.{entry_write_as, real, endures_named, named_so}
+use Rattle.qcow2_alloc.proofs.CacheMarks.{marks_then}
+use Rattle.qcow2_alloc.proofs.Faults.{told_on}
+use Rattle.qcow2_alloc.proofs.Outcomes.{on_no_ok, handed_cause, entries_none}
+use Rattle.qcow2_alloc.proofs.TableErrors.{storage_of_tables}
 use Rattle.qcow2_alloc.proofs.allocation.Allocator.place_block.Goals as goal
 
 pub returns-in_err-write_block-clause-sound : goal.returns-in_err-write_block-clause-sound
@@ -130,3 +134,72 @@ returns-clause-sound g c = λ p sound place.
     c.requires.within c.enter_refblock.ensures.rest (subst (λ k. ChangesEntry c.args.self.now.reftable.bytes c.enter_refblock.new.self.bytes c.args.range (k * 2 ^ c.args.self.now.reftable.cluster_bits)) c.new-cluster.ensures c.enter_refblock.ensures.entry)
     (c.enter_refblock.ensures.offset ∙ ap (λ k. k * 2 ^ c.args.self.now.reftable.cluster_bits) c.new-cluster.ensures) c.write_entry.ensures.fits c.in_ok-block.ensures.whole (subst (λ h. IsBlockOf h c.in_ok-block.block) (sym (ap (λ x. x.fields) c.write_block.ensures.header)) c.in_ok-block.ensures.format)
     c.in_ok-block.ensures.counts c.will_write.ensures.storage c.write_entry.ensures.written c.write_entry.ensures.calls c.in_ok-write_entry.field-0 c.in_ok-write_entry.was
+
+pub returns-in_err-write_block-clause-marks : goal.returns-in_err-write_block-clause-marks
+returns-in_err-write_block-clause-marks g c = c.write_block.ensures.marks
+
+pub returns-in_err-write_block-clause-order : goal.returns-in_err-write_block-clause-order
+returns-in_err-write_block-clause-order g c = c.write_block.ensures.order
+
+pub returns-in_err-write_block-clause-cause : goal.returns-in_err-write_block-clause-cause
+returns-in_err-write_block-clause-cause g c = handed_cause c.from_residual-in_err-write_block.result c.in_err-write_block.field-0.0 c.from_residual-in_err-write_block.ensures c.in_err-write_block.ensures.cause
+
+pub returns-in_err-write_block-clause-storage_faults : goal.returns-in_err-write_block-clause-storage_faults
+returns-in_err-write_block-clause-storage_faults g c = told_on _ _ c.write_block.result c.in_err-write_block.field-0.0 c.from_residual-in_err-write_block.result c.write_block.ensures.storage_faults c.in_err-write_block.was c.from_residual-in_err-write_block.ensures
+
+pub returns-in_err-write_block-clause-noted : goal.returns-in_err-write_block-clause-noted
+returns-in_err-write_block-clause-noted g c = on_no_ok _ c.from_residual-in_err-write_block.result c.in_err-write_block.field-0.0 c.from_residual-in_err-write_block.ensures
+
+pub returns-in_err-write_block-clause-header : goal.returns-in_err-write_block-clause-header
+returns-in_err-write_block-clause-header g c = c.write_block.ensures.header
+
+pub returns-in_err-write_block-clause-list : goal.returns-in_err-write_block-clause-list
+returns-in_err-write_block-clause-list g c = c.write_block.ensures.list
+
+pub returns-in_err-write_block-clause-first : goal.returns-in_err-write_block-clause-first
+returns-in_err-write_block-clause-first g c = refl
+
+pub returns-in_err-write_block-clause-entries : goal.returns-in_err-write_block-clause-entries
+returns-in_err-write_block-clause-entries g c = entries_none _ c.args.self.now.reftable
+
+pub returns-in_err-write_entry-clause-marks : goal.returns-in_err-write_entry-clause-marks
+returns-in_err-write_entry-clause-marks g c = marks_then _ _ _ c.write_block.ensures.marks c.note_change.ensures.marks
+
+pub returns-in_err-write_entry-clause-order : goal.returns-in_err-write_entry-clause-order
+returns-in_err-write_entry-clause-order g c = c.note_change.ensures.tables.order ∙ c.write_block.ensures.order
+
+pub returns-in_err-write_entry-clause-header : goal.returns-in_err-write_entry-clause-header
+returns-in_err-write_entry-clause-header g c = c.write_block.ensures.header
+
+pub returns-in_err-write_entry-clause-list : goal.returns-in_err-write_entry-clause-list
+returns-in_err-write_entry-clause-list g c = c.write_block.ensures.list
+
+pub returns-in_err-write_entry-clause-first : goal.returns-in_err-write_entry-clause-first
+returns-in_err-write_entry-clause-first g c = refl
+
+pub returns-clause-marks : goal.returns-clause-marks
+returns-clause-marks g c = marks_then _ _ _ c.write_block.ensures.marks c.note_change.ensures.marks
+
+pub returns-clause-order : goal.returns-clause-order
+returns-clause-order g c = c.note_change.ensures.tables.order ∙ c.write_block.ensures.order
+
+pub returns-clause-header : goal.returns-clause-header
+returns-clause-header g c = c.write_block.ensures.header
+
+pub returns-clause-list : goal.returns-clause-list
+returns-clause-list g c = c.write_block.ensures.list
+
+pub returns-clause-first : goal.returns-clause-first
+returns-clause-first g c = refl
+
+pub returns-clause-cause : goal.returns-clause-cause
+returns-clause-cause g c = tt
+
+pub returns-clause-noted : goal.returns-clause-noted
+returns-clause-noted g c = c.note_change.ensures.changed
+
+pub returns-in_err-write_entry-clause-noted : goal.returns-in_err-write_entry-clause-noted
+returns-in_err-write_entry-clause-noted g c = on_no_ok _ c.from_residual-in_err-write_entry.result (of_storage c.in_err-write_entry.field-0.0) c.from_residual-in_err-write_entry.ensures
+
+pub returns-in_err-write_entry-clause-cause : goal.returns-in_err-write_entry-clause-cause
+returns-in_err-write_entry-clause-cause g c = handed_cause c.from_residual-in_err-write_entry.result (of_storage c.in_err-write_entry.field-0.0) c.from_residual-in_err-write_entry.ensures (storage_of_tables c.in_err-write_entry.field-0.0)

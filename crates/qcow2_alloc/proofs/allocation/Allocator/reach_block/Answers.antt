@@ -5,7 +5,7 @@ use Rattle.qcow2_alloc.specs.Allocation.{GrowsTable}
 use Rattle.qcow2_alloc.specs.FreeList.{pending_then}
 use Rattle.qcow2_alloc.specs.LowestRuns.{KeepsNoFreeBelowHint, KeepsUsed}
 use Rattle.qcow2_alloc.proofs.AllocationSteps.{handed_on, is_sound_on}
-use Rattle.qcow2_alloc.proofs.Following.{following_same, grows_none, grows_on, header_counts, header_bits}
+use Rattle.qcow2_alloc.proofs.Following.{following_same, grows_none, grows_on, header_counts, header_bits, header_then, header_same, lists_then, lists_same}
 use Rattle.qcow2_alloc.proofs.Hints.{hint_used, ok_as, range_as, uses_got, uses_then}
 use Rattle.qcow2_alloc.specs.Limits.{CantCount, IsFaultOr}
 use Rattle.qcow2_alloc.proofs.Limits.{fault_or, grown_why, not_below}
@@ -14,6 +14,9 @@ use Rattle.qcow2_metadata.specs.L2Mapping.{IsHostCluster}
 use Rattle.qcow2_metadata.specs.EntryTable.{entry_count}
 use Rattle.qcow2_alloc.specs.declared.error.ImageError.{ImageError}
 use Rattle.qcow2_alloc.proofs.FormerReftables.{former_same, former_then}
+use Rattle.qcow2_alloc.proofs.CacheMarks.{marks_then}
+use Rattle.qcow2_alloc.proofs.Faults.{told_on, told_since}
+use Rattle.qcow2_alloc.proofs.Outcomes.{on_no_ok, handed_cause}
 use Rattle.qcow2_alloc.proofs.allocation.Allocator.reach_block.Goals as goal
 
 pub returns-then-in_bounds-clause-sound : goal.returns-then-in_bounds-clause-sound
@@ -94,3 +97,72 @@ returns-then-in_bounds-clause-former g c = former_same c.args.self.now.reftable 
 
 pub returns-clause-former : goal.returns-clause-former
 returns-clause-former g c = former_then c.args.self.now.reftable c.grow_reftable.new.self.reftable c.ensure_block-2.new.self.reftable c.args.file.now.free_list c.grow_reftable.new.file.free_list c.ensure_block-2.new.file.free_list c.grow_reftable.ensures.former (former_same c.grow_reftable.new.self.reftable c.ensure_block-2.new.self.reftable c.grow_reftable.new.file.free_list c.ensure_block-2.new.file.free_list c.ensure_block-2.ensures.place c.ensure_block-2.ensures.list)
+
+pub returns-then-in_bounds-clause-marks : goal.returns-then-in_bounds-clause-marks
+returns-then-in_bounds-clause-marks g c = c.ensure_block.ensures.marks
+
+pub returns-then-in_bounds-clause-order : goal.returns-then-in_bounds-clause-order
+returns-then-in_bounds-clause-order g c = c.ensure_block.ensures.order
+
+pub returns-then-in_bounds-clause-cause : goal.returns-then-in_bounds-clause-cause
+returns-then-in_bounds-clause-cause g c = c.ensure_block.ensures.cause
+
+pub returns-then-in_bounds-clause-unaligned : goal.returns-then-in_bounds-clause-unaligned
+returns-then-in_bounds-clause-unaligned g c = c.ensure_block.ensures.unaligned
+
+pub returns-then-in_bounds-clause-storage_faults : goal.returns-then-in_bounds-clause-storage_faults
+returns-then-in_bounds-clause-storage_faults g c = c.ensure_block.ensures.storage_faults
+
+pub returns-then-in_bounds-clause-has : goal.returns-then-in_bounds-clause-has
+returns-then-in_bounds-clause-has g c = c.ensure_block.ensures.has
+
+pub returns-then-in_bounds-clause-hint : goal.returns-then-in_bounds-clause-hint
+returns-then-in_bounds-clause-hint g c = c.ensure_block.ensures.hint
+
+pub returns-then-in_bounds-clause-header : goal.returns-then-in_bounds-clause-header
+returns-then-in_bounds-clause-header g c = header_same c.args.file.now.header c.ensure_block.new.file.header c.ensure_block.ensures.header
+
+pub returns-then-in_bounds-clause-list : goal.returns-then-in_bounds-clause-list
+returns-then-in_bounds-clause-list g c = lists_same _ _ c.ensure_block.ensures.list
+
+pub returns-in_err-grow_reftable-clause-marks : goal.returns-in_err-grow_reftable-clause-marks
+returns-in_err-grow_reftable-clause-marks g c = c.grow_reftable.ensures.marks
+
+pub returns-in_err-grow_reftable-clause-order : goal.returns-in_err-grow_reftable-clause-order
+returns-in_err-grow_reftable-clause-order g c = c.grow_reftable.ensures.order
+
+pub returns-in_err-grow_reftable-clause-cause : goal.returns-in_err-grow_reftable-clause-cause
+returns-in_err-grow_reftable-clause-cause g c = handed_cause c.from_residual.result c.in_err-grow_reftable.field-0.0 c.from_residual.ensures c.in_err-grow_reftable.ensures.cause
+
+pub returns-in_err-grow_reftable-clause-storage_faults : goal.returns-in_err-grow_reftable-clause-storage_faults
+returns-in_err-grow_reftable-clause-storage_faults g c = told_on _ _ c.grow_reftable.result c.in_err-grow_reftable.field-0.0 c.from_residual.result c.grow_reftable.ensures.storage_faults c.in_err-grow_reftable.was c.from_residual.ensures
+
+pub returns-in_err-grow_reftable-clause-has : goal.returns-in_err-grow_reftable-clause-has
+returns-in_err-grow_reftable-clause-has g c = λ _ _. on_no_ok _ c.from_residual.result c.in_err-grow_reftable.field-0.0 c.from_residual.ensures
+
+pub returns-in_err-grow_reftable-clause-header : goal.returns-in_err-grow_reftable-clause-header
+returns-in_err-grow_reftable-clause-header g c = c.grow_reftable.ensures.header
+
+pub returns-in_err-grow_reftable-clause-list : goal.returns-in_err-grow_reftable-clause-list
+returns-in_err-grow_reftable-clause-list g c = c.grow_reftable.ensures.list
+
+pub returns-in_err-grow_reftable-clause-former : goal.returns-in_err-grow_reftable-clause-former
+returns-in_err-grow_reftable-clause-former g c = c.grow_reftable.ensures.former
+
+pub returns-clause-marks : goal.returns-clause-marks
+returns-clause-marks g c = marks_then _ _ _ c.grow_reftable.ensures.marks c.ensure_block-2.ensures.marks
+
+pub returns-clause-order : goal.returns-clause-order
+returns-clause-order g c = c.ensure_block-2.ensures.order ∙ c.grow_reftable.ensures.order
+
+pub returns-clause-header : goal.returns-clause-header
+returns-clause-header g c = header_then c.args.file.now.header c.grow_reftable.new.file.header c.ensure_block-2.new.file.header c.grow_reftable.ensures.header (header_same c.grow_reftable.new.file.header c.ensure_block-2.new.file.header c.ensure_block-2.ensures.header)
+
+pub returns-clause-list : goal.returns-clause-list
+returns-clause-list g c = lists_then _ _ _ c.grow_reftable.ensures.list (lists_same _ _ c.ensure_block-2.ensures.list)
+
+pub returns-clause-cause : goal.returns-clause-cause
+returns-clause-cause g c = c.ensure_block-2.ensures.cause
+
+pub returns-clause-storage_faults : goal.returns-clause-storage_faults
+returns-clause-storage_faults g c = told_since _ _ _ c.grow_reftable.ensures.storage_faults.no_fewer c.ensure_block-2.ensures.storage_faults

@@ -8,6 +8,9 @@ use Rattle.qcow2_alloc.proofs.CacheMarks.{marks_none, marks_then}
 use Rattle.qcow2_alloc.proofs.AllocationSteps.{handed_on, becomes_none, is_sound_now}
 use Rattle.qcow2_alloc.proofs.Rooms.{counted_few, run_none, run_taken, run_not_taken, ends_room, opened_none, opened_more, more_short, is_flag, flag_few, noted_more, still_noted}
 use Rattle.qcow2_alloc.proofs.allocation.Allocator.reach_room.Goals.{then-reaching-test+else-taken-end, else-reaching-test}
+use Rattle.qcow2_alloc.proofs.Faults.{told_ok}
+use Rattle.qcow2_alloc.proofs.Outcomes.{told_after, if_no_ok, handed_cause}
+use Rattle.std.proofs.Math.Nat.{le_trans}
 use Rattle.qcow2_alloc.proofs.allocation.Allocator.reach_room.Goals as goal
 
 pub reaching-init : goal.reaching-init
@@ -62,7 +65,7 @@ reaching-preserved g c =
       header = c.take_if_free.ensures.header ∙ c.reaching.invariant.header;
       list = c.take_if_free.ensures.list ∙ c.reaching.invariant.list;
       marks = marks_then c.args.file.now.caches c.reaching.file.caches c.take_if_free.new.file.caches c.reaching.invariant.marks c.take_if_free.ensures.marks;
-      faults = omega (arith, c.reaching.invariant.faults, c.take_if_free.ensures.storage_faults.no_fewer);
+      faults = le_trans c.reaching.invariant.faults c.take_if_free.ensures.storage_faults.no_fewer;
       order = c.take_if_free.ensures.order ∙ c.reaching.invariant.order;
       same = c.take_if_free.ensures.same ∙ c.reaching.invariant.same;
       counts = c.reaching.invariant.counts;
@@ -104,3 +107,105 @@ returns-clause-stopped g c = λ p sound some within. elim c.reaching-test.branch
   | then-reaching-test+else-taken-end w ↦ absurd (let past = w.if-taken-end.false in omega (arith, past, within))
   | else-reaching-test w ↦ absurd (some (let up_to = c.reaching.invariant.up_to in let past = w.reaching-test.false in omega (arith, up_to, past)))
 ]
+
+pub returns-in_err-take_if_free-clause-marks : goal.returns-in_err-take_if_free-clause-marks
+returns-in_err-take_if_free-clause-marks g c = marks_then _ _ _ c.reaching.invariant.marks c.take_if_free.ensures.marks
+
+pub returns-in_err-take_if_free-clause-order : goal.returns-in_err-take_if_free-clause-order
+returns-in_err-take_if_free-clause-order g c = c.take_if_free.ensures.order ∙ c.reaching.invariant.order
+
+pub returns-in_err-take_if_free-clause-cause : goal.returns-in_err-take_if_free-clause-cause
+returns-in_err-take_if_free-clause-cause g c = handed_cause c.from_residual.result c.in_err-take_if_free.field-0.0 c.from_residual.ensures c.in_err-take_if_free.ensures.cause
+
+pub returns-in_err-take_if_free-clause-storage_faults : goal.returns-in_err-take_if_free-clause-storage_faults
+returns-in_err-take_if_free-clause-storage_faults g c = told_after _ _ _ c.take_if_free.result c.in_err-take_if_free.field-0.0 c.from_residual.result c.reaching.invariant.faults c.take_if_free.ensures.storage_faults c.in_err-take_if_free.was c.from_residual.ensures
+
+pub returns-in_err-take_if_free-clause-noted : goal.returns-in_err-take_if_free-clause-noted
+returns-in_err-take_if_free-clause-noted g c = if_no_ok _ c.from_residual.result c.in_err-take_if_free.field-0.0 c.from_residual.ensures
+
+pub returns-in_err-take_if_free-clause-blocks : goal.returns-in_err-take_if_free-clause-blocks
+returns-in_err-take_if_free-clause-blocks g c = if_no_ok _ c.from_residual.result c.in_err-take_if_free.field-0.0 c.from_residual.ensures
+
+pub returns-in_err-take_if_free-clause-within : goal.returns-in_err-take_if_free-clause-within
+returns-in_err-take_if_free-clause-within g c = if_no_ok _ c.from_residual.result c.in_err-take_if_free.field-0.0 c.from_residual.ensures
+
+pub returns-in_err-take_if_free-clause-few : goal.returns-in_err-take_if_free-clause-few
+returns-in_err-take_if_free-clause-few g c = if_no_ok _ c.from_residual.result c.in_err-take_if_free.field-0.0 c.from_residual.ensures
+
+pub returns-in_err-take_if_free-clause-short : goal.returns-in_err-take_if_free-clause-short
+returns-in_err-take_if_free-clause-short g c = if_no_ok _ c.from_residual.result c.in_err-take_if_free.field-0.0 c.from_residual.ensures
+
+pub returns-in_err-take_if_free-clause-stopped : goal.returns-in_err-take_if_free-clause-stopped
+returns-in_err-take_if_free-clause-stopped g c = λ _ _. if_no_ok _ c.from_residual.result c.in_err-take_if_free.field-0.0 c.from_residual.ensures
+
+pub returns-in_err-take_if_free-clause-header : goal.returns-in_err-take_if_free-clause-header
+returns-in_err-take_if_free-clause-header g c = c.take_if_free.ensures.header ∙ c.reaching.invariant.header
+
+pub returns-in_err-take_if_free-clause-list : goal.returns-in_err-take_if_free-clause-list
+returns-in_err-take_if_free-clause-list g c = c.take_if_free.ensures.list ∙ c.reaching.invariant.list
+
+pub returns-in_err-take_if_free-clause-same : goal.returns-in_err-take_if_free-clause-same
+returns-in_err-take_if_free-clause-same g c = c.take_if_free.ensures.same ∙ c.reaching.invariant.same
+
+pub returns-then-not-branch-clause-header : goal.returns-then-not-branch-clause-header
+returns-then-not-branch-clause-header g c = c.take_if_free.ensures.header ∙ c.reaching.invariant.header
+
+pub returns-then-not-branch-clause-list : goal.returns-then-not-branch-clause-list
+returns-then-not-branch-clause-list g c = c.take_if_free.ensures.list ∙ c.reaching.invariant.list
+
+pub returns-then-not-branch-clause-same : goal.returns-then-not-branch-clause-same
+returns-then-not-branch-clause-same g c = c.take_if_free.ensures.same ∙ c.reaching.invariant.same
+
+pub returns-then-not-branch-clause-order : goal.returns-then-not-branch-clause-order
+returns-then-not-branch-clause-order g c = c.take_if_free.ensures.order ∙ c.reaching.invariant.order
+
+pub returns-then-not-branch-clause-marks : goal.returns-then-not-branch-clause-marks
+returns-then-not-branch-clause-marks g c = marks_then _ _ _ c.reaching.invariant.marks c.take_if_free.ensures.marks
+
+pub returns-then-not-branch-clause-cause : goal.returns-then-not-branch-clause-cause
+returns-then-not-branch-clause-cause g c = tt
+
+pub returns-then-not-branch-clause-storage_faults : goal.returns-then-not-branch-clause-storage_faults
+returns-then-not-branch-clause-storage_faults g c = told_ok _ _ _ (le_trans c.reaching.invariant.faults c.take_if_free.ensures.storage_faults.no_fewer)
+
+pub returns-then-not-branch-clause-blocks : goal.returns-then-not-branch-clause-blocks
+returns-then-not-branch-clause-blocks g c = c.reaching.invariant.blocks
+
+pub returns-clause-blocks : goal.returns-clause-blocks
+returns-clause-blocks g c = c.reaching.invariant.blocks
+
+pub returns-then-not-branch-clause-within : goal.returns-then-not-branch-clause-within
+returns-then-not-branch-clause-within g c = c.reaching.invariant.within
+
+pub returns-clause-within : goal.returns-clause-within
+returns-clause-within g c = c.reaching.invariant.within
+
+pub returns-then-not-branch-clause-few : goal.returns-then-not-branch-clause-few
+returns-then-not-branch-clause-few g c = c.reaching.invariant.few
+
+pub returns-clause-few : goal.returns-clause-few
+returns-clause-few g c = c.reaching.invariant.few
+
+pub returns-clause-marks : goal.returns-clause-marks
+returns-clause-marks g c = c.reaching.invariant.marks
+
+pub returns-clause-order : goal.returns-clause-order
+returns-clause-order g c = c.reaching.invariant.order
+
+pub returns-clause-header : goal.returns-clause-header
+returns-clause-header g c = c.reaching.invariant.header
+
+pub returns-clause-list : goal.returns-clause-list
+returns-clause-list g c = c.reaching.invariant.list
+
+pub returns-clause-same : goal.returns-clause-same
+returns-clause-same g c = c.reaching.invariant.same
+
+pub returns-clause-noted : goal.returns-clause-noted
+returns-clause-noted g c = c.reaching.invariant.noted
+
+pub returns-clause-cause : goal.returns-clause-cause
+returns-clause-cause g c = tt
+
+pub returns-clause-storage_faults : goal.returns-clause-storage_faults
+returns-clause-storage_faults g c = told_ok _ _ _ c.reaching.invariant.faults

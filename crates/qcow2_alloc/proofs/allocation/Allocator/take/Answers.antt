@@ -7,12 +7,17 @@ use Rattle.qcow2_alloc.specs.FreeList.{pending_then}
 use Rattle.qcow2_alloc.specs.LowestRuns.{NoFreeBelowHint, KeepsNoFreeBelowHint, KeepsUsed}
 use Rattle.qcow2_alloc.proofs.Hints.{hint_more, hint_raised, hint_refused, raised_used, range_as, uses_raised, uses_refused}
 use Rattle.qcow2_alloc.proofs.AllocationSteps.{handed_on, leaves_as, leaves_on, may_still, is_sound_on, takes_on}
-use Rattle.qcow2_alloc.proofs.Following.{header_counts}
+use Rattle.qcow2_alloc.proofs.Following.{header_counts, header_then, header_same, lists_then, lists_same}
 use Rattle.qcow2_alloc.proofs.allocation.Allocator.take.Goals.{then-cluster-self, else-cluster-self}
 use Rattle.std.specs.Prelude.{IfErr}
 use Rattle.qcow2_alloc.specs.declared.error.ImageError.{ImageError}
 use Rattle.qcow2_alloc.specs.Limits.{CantCount, IsFaultOr}
 use Rattle.qcow2_alloc.proofs.FormerReftables.{former_still}
+use Rattle.qcow2_alloc.proofs.CacheMarks.{marks_then}
+use Rattle.qcow2_alloc.proofs.Faults.{told_on, told_ok}
+use Rattle.qcow2_alloc.proofs.Outcomes.{ok_no_err, told_after, if_no_ok, handed_cause, handed_unaligned}
+use Rattle.std.proofs.Math.Nat.{le_trans}
+use Rattle.qcow2_alloc.specs.declared.error.ImageError.TheVariants as I
 use Rattle.qcow2_alloc.proofs.allocation.Allocator.take.Goals as goal
 
 pub returns-in_err-reach_block-clause-sound : goal.returns-in_err-reach_block-clause-sound
@@ -120,3 +125,93 @@ returns-clause-former g c =
       | else-cluster-self w ↦ ap (λ (t : Allocator). t.reftable) w.self-is
     ] in
     former_still c.args.self.now.reftable c.reach_block.new.self.reftable c.if-cluster-self.self.reftable c.args.file.now.free_list c.reach_block.new.file.free_list c.raise.new.file.free_list c.reach_block.ensures.former (same ∙ ap (λ (t : Allocator). t.reftable) c.raise.ensures.same) c.raise.ensures.list
+
+pub returns-in_err-reach_block-clause-marks : goal.returns-in_err-reach_block-clause-marks
+returns-in_err-reach_block-clause-marks g c = c.reach_block.ensures.marks
+
+pub returns-in_err-reach_block-clause-order : goal.returns-in_err-reach_block-clause-order
+returns-in_err-reach_block-clause-order g c = c.reach_block.ensures.order
+
+pub returns-in_err-reach_block-clause-cause : goal.returns-in_err-reach_block-clause-cause
+returns-in_err-reach_block-clause-cause g c = handed_cause c.from_residual.result c.in_err-reach_block.field-0.0 c.from_residual.ensures c.in_err-reach_block.ensures.cause
+
+pub returns-in_err-reach_block-clause-storage_faults : goal.returns-in_err-reach_block-clause-storage_faults
+returns-in_err-reach_block-clause-storage_faults g c = told_on _ _ c.reach_block.result c.in_err-reach_block.field-0.0 c.from_residual.result c.reach_block.ensures.storage_faults c.in_err-reach_block.was c.from_residual.ensures
+
+pub returns-in_err-reach_block-clause-noted : goal.returns-in_err-reach_block-clause-noted
+returns-in_err-reach_block-clause-noted g c = if_no_ok _ c.from_residual.result c.in_err-reach_block.field-0.0 c.from_residual.ensures
+
+pub returns-in_err-reach_block-clause-used : goal.returns-in_err-reach_block-clause-used
+returns-in_err-reach_block-clause-used g c = λ _ _ _ _. if_no_ok _ c.from_residual.result c.in_err-reach_block.field-0.0 c.from_residual.ensures
+
+pub returns-in_err-reach_block-clause-free : goal.returns-in_err-reach_block-clause-free
+returns-in_err-reach_block-clause-free g c = λ _ _. if_no_ok _ c.from_residual.result c.in_err-reach_block.field-0.0 c.from_residual.ensures
+
+pub returns-in_err-reach_block-clause-unaligned : goal.returns-in_err-reach_block-clause-unaligned
+returns-in_err-reach_block-clause-unaligned g c = λ u. handed_unaligned c.from_residual.result c.in_err-reach_block.field-0.0 c.from_residual.ensures (c.in_err-reach_block.ensures.unaligned u)
+
+pub returns-in_err-reach_block-clause-header : goal.returns-in_err-reach_block-clause-header
+returns-in_err-reach_block-clause-header g c = c.reach_block.ensures.header
+
+pub returns-in_err-reach_block-clause-list : goal.returns-in_err-reach_block-clause-list
+returns-in_err-reach_block-clause-list g c = c.reach_block.ensures.list
+
+pub returns-in_err-reach_block-clause-former : goal.returns-in_err-reach_block-clause-former
+returns-in_err-reach_block-clause-former g c = c.reach_block.ensures.former
+
+pub returns-in_err-taken-clause-marks : goal.returns-in_err-taken-clause-marks
+returns-in_err-taken-clause-marks g c = marks_then _ _ _ c.reach_block.ensures.marks c.raise.ensures.marks
+
+pub returns-in_err-taken-clause-order : goal.returns-in_err-taken-clause-order
+returns-in_err-taken-clause-order g c = c.raise.ensures.order ∙ c.reach_block.ensures.order
+
+pub returns-in_err-taken-clause-cause : goal.returns-in_err-taken-clause-cause
+returns-in_err-taken-clause-cause g c = handed_cause c.from_residual-in_err-taken.result c.in_err-taken.field-0.0 c.from_residual-in_err-taken.ensures c.in_err-taken.ensures.cause
+
+pub returns-in_err-taken-clause-storage_faults : goal.returns-in_err-taken-clause-storage_faults
+returns-in_err-taken-clause-storage_faults g c = told_after _ _ _ c.raise.result c.in_err-taken.field-0.0 c.from_residual-in_err-taken.result c.reach_block.ensures.storage_faults.no_fewer c.raise.ensures.storage_faults c.in_err-taken.was c.from_residual-in_err-taken.ensures
+
+pub returns-in_err-taken-clause-noted : goal.returns-in_err-taken-clause-noted
+returns-in_err-taken-clause-noted g c = if_no_ok _ c.from_residual-in_err-taken.result c.in_err-taken.field-0.0 c.from_residual-in_err-taken.ensures
+
+pub returns-in_err-taken-clause-used : goal.returns-in_err-taken-clause-used
+returns-in_err-taken-clause-used g c = λ _ _ _ _. if_no_ok _ c.from_residual-in_err-taken.result c.in_err-taken.field-0.0 c.from_residual-in_err-taken.ensures
+
+pub returns-in_err-taken-clause-free : goal.returns-in_err-taken-clause-free
+returns-in_err-taken-clause-free g c = λ _ _. if_no_ok _ c.from_residual-in_err-taken.result c.in_err-taken.field-0.0 c.from_residual-in_err-taken.ensures
+
+pub returns-in_err-taken-clause-header : goal.returns-in_err-taken-clause-header
+returns-in_err-taken-clause-header g c = header_then c.args.file.now.header c.reach_block.new.file.header c.raise.new.file.header c.reach_block.ensures.header (header_same c.reach_block.new.file.header c.raise.new.file.header c.raise.ensures.header)
+
+pub returns-in_err-taken-clause-list : goal.returns-in_err-taken-clause-list
+returns-in_err-taken-clause-list g c = lists_then _ _ _ c.reach_block.ensures.list (lists_same _ _ c.raise.ensures.list)
+
+pub returns-in_err-taken-clause-unaligned : goal.returns-in_err-taken-clause-unaligned
+returns-in_err-taken-clause-unaligned g c = λ u. ok_no_err _ I.UnalignedTable (c.in_ok-reach_block.ensures.unaligned u)
+
+pub returns-clause-marks : goal.returns-clause-marks
+returns-clause-marks g c = marks_then _ _ _ c.reach_block.ensures.marks c.raise.ensures.marks
+
+pub returns-clause-order : goal.returns-clause-order
+returns-clause-order g c = c.raise.ensures.order ∙ c.reach_block.ensures.order
+
+pub returns-clause-header : goal.returns-clause-header
+returns-clause-header g c = header_then c.args.file.now.header c.reach_block.new.file.header c.raise.new.file.header c.reach_block.ensures.header (header_same c.reach_block.new.file.header c.raise.new.file.header c.raise.ensures.header)
+
+pub returns-clause-list : goal.returns-clause-list
+returns-clause-list g c = lists_then _ _ _ c.reach_block.ensures.list (lists_same _ _ c.raise.ensures.list)
+
+pub returns-clause-unaligned : goal.returns-clause-unaligned
+returns-clause-unaligned g c = λ u. ok_no_err _ I.UnalignedTable (c.in_ok-reach_block.ensures.unaligned u)
+
+pub returns-clause-noted : goal.returns-clause-noted
+returns-clause-noted g c = c.in_ok-taken.ensures.noted
+
+pub returns-clause-cause : goal.returns-clause-cause
+returns-clause-cause g c = tt
+
+pub returns-clause-storage_faults : goal.returns-clause-storage_faults
+returns-clause-storage_faults g c = told_ok _ _ _ (le_trans c.reach_block.ensures.storage_faults.no_fewer c.raise.ensures.storage_faults.no_fewer)
+
+pub returns-clause-limit : goal.returns-clause-limit
+returns-clause-limit g c = λ p is_data sound may hint near. tt

@@ -1,4 +1,4 @@
-use Rattle.std.proofs.Common.{◌≡◌, true, false, ◌/◌, ap, sym, ◌∙◌, subst}
+use Rattle.std.proofs.Common.{◌≡◌, true, false, ◌/◌, ap, sym, ◌∙◌, subst, refl}
 use Rattle.std.proofs.lemmas.Bool.{eq-eqb}
 use Rattle.qcow2_metadata.specs.Entries.{block_offset}
 use Rattle.qcow2_metadata.specs.Header.{counts_per_block}
@@ -8,6 +8,9 @@ use Rattle.qcow2_alloc.specs.Allocation.{UnseenAllocatorStep}
 use Rattle.qcow2_alloc.specs.Rooms.{lacks}
 use Rattle.qcow2_alloc.proofs.AllocationSteps.{becomes_none, still_sound}
 use Rattle.qcow2_alloc.proofs.Rooms.{one_none, free_taken}
+use Rattle.qcow2_alloc.proofs.CacheMarks.{marks_none}
+use Rattle.qcow2_alloc.proofs.Faults.{told_ok}
+use Rattle.std.proofs.Math.Nat.{le_refl}
 use Rattle.qcow2_alloc.proofs.allocation.Allocator.take_if_free.Goals as goal
 
 pub returns-then-lacks_block-clause-sound : goal.returns-then-lacks_block-clause-sound
@@ -40,3 +43,78 @@ returns-in-Ok-clause-used g c = λ p sound.
 
 pub returns-else-ends_call-clause-used : goal.returns-else-ends_call-clause-used
 returns-else-ends_call-clause-used g c = λ p sound. absurd (let yes_so = c.ends_call.ensures.ends (c.in-Err.ensures.fault p sound) in let none = c.if-ends_call.false in cc)
+
+pub returns-in-Ok-clause-marks : goal.returns-in-Ok-clause-marks
+returns-in-Ok-clause-marks g c = c.raise.ensures.marks
+
+pub returns-in-Ok-clause-order : goal.returns-in-Ok-clause-order
+returns-in-Ok-clause-order g c = c.raise.ensures.order
+
+pub returns-in-Ok-clause-same : goal.returns-in-Ok-clause-same
+returns-in-Ok-clause-same g c = c.raise.ensures.same
+
+pub returns-in-Ok-clause-header : goal.returns-in-Ok-clause-header
+returns-in-Ok-clause-header g c = c.raise.ensures.header
+
+pub returns-in-Ok-clause-list : goal.returns-in-Ok-clause-list
+returns-in-Ok-clause-list g c = c.raise.ensures.list
+
+pub returns-then-ends_call-clause-marks : goal.returns-then-ends_call-clause-marks
+returns-then-ends_call-clause-marks g c = c.raise.ensures.marks
+
+pub returns-then-ends_call-clause-order : goal.returns-then-ends_call-clause-order
+returns-then-ends_call-clause-order g c = c.raise.ensures.order
+
+pub returns-then-ends_call-clause-same : goal.returns-then-ends_call-clause-same
+returns-then-ends_call-clause-same g c = c.raise.ensures.same
+
+pub returns-then-ends_call-clause-header : goal.returns-then-ends_call-clause-header
+returns-then-ends_call-clause-header g c = c.raise.ensures.header
+
+pub returns-then-ends_call-clause-list : goal.returns-then-ends_call-clause-list
+returns-then-ends_call-clause-list g c = c.raise.ensures.list
+
+pub returns-else-ends_call-clause-marks : goal.returns-else-ends_call-clause-marks
+returns-else-ends_call-clause-marks g c = c.raise.ensures.marks
+
+pub returns-else-ends_call-clause-order : goal.returns-else-ends_call-clause-order
+returns-else-ends_call-clause-order g c = c.raise.ensures.order
+
+pub returns-else-ends_call-clause-same : goal.returns-else-ends_call-clause-same
+returns-else-ends_call-clause-same g c = c.raise.ensures.same
+
+pub returns-else-ends_call-clause-header : goal.returns-else-ends_call-clause-header
+returns-else-ends_call-clause-header g c = c.raise.ensures.header
+
+pub returns-else-ends_call-clause-list : goal.returns-else-ends_call-clause-list
+returns-else-ends_call-clause-list g c = c.raise.ensures.list
+
+pub returns-then-lacks_block-clause-marks : goal.returns-then-lacks_block-clause-marks
+returns-then-lacks_block-clause-marks g c = marks_none _
+
+pub returns-then-lacks_block-clause-order : goal.returns-then-lacks_block-clause-order
+returns-then-lacks_block-clause-order g c = refl
+
+pub returns-then-lacks_block-clause-same : goal.returns-then-lacks_block-clause-same
+returns-then-lacks_block-clause-same g c = refl
+
+pub returns-then-lacks_block-clause-header : goal.returns-then-lacks_block-clause-header
+returns-then-lacks_block-clause-header g c = refl
+
+pub returns-then-lacks_block-clause-list : goal.returns-then-lacks_block-clause-list
+returns-then-lacks_block-clause-list g c = refl
+
+pub returns-then-lacks_block-clause-storage_faults : goal.returns-then-lacks_block-clause-storage_faults
+returns-then-lacks_block-clause-storage_faults g c = told_ok _ _ _ (le_refl _)
+
+pub returns-in-Ok-clause-storage_faults : goal.returns-in-Ok-clause-storage_faults
+returns-in-Ok-clause-storage_faults g c = told_ok _ _ _ c.raise.ensures.storage_faults.no_fewer
+
+pub returns-else-ends_call-clause-storage_faults : goal.returns-else-ends_call-clause-storage_faults
+returns-else-ends_call-clause-storage_faults g c = told_ok _ _ _ c.raise.ensures.storage_faults.no_fewer
+
+pub returns-then-ends_call-clause-storage_faults : goal.returns-then-ends_call-clause-storage_faults
+returns-then-ends_call-clause-storage_faults g c = c.in-Err.ensures.storage_faults
+
+pub returns-then-ends_call-clause-cause : goal.returns-then-ends_call-clause-cause
+returns-then-ends_call-clause-cause g c = c.in-Err.ensures.cause

@@ -1,4 +1,4 @@
-use Rattle.std.proofs.Common.{ℕ, ap, ◌+◌, arith, ◌*◌, ◌^◌, ◌≤◌, false, refl, sym, ◌∙◌, subst}
+use Rattle.std.proofs.Common.{ℕ, ap, ◌+◌, arith, ◌*◌, ◌^◌, ◌≤◌, false, refl, sym, ◌∙◌, subst, ◌<◌, ◌/◌, ◌≡◌}
 use Rattle.qcow2_metadata.specs.Header.{counts_per_block}
 use Rattle.qcow2_laws.specs.Changes.{one_at}
 use Rattle.qcow2_alloc.specs.Allocation.{taken_as, KeepsEntries, TakesLowest}
@@ -8,7 +8,17 @@ use Rattle.qcow2_alloc.specs.LowestRuns.{KeepsNoFreeBelowHint}
 use Rattle.qcow2_alloc.proofs.FileSteps.{one_here, leaves_then}
 use Rattle.qcow2_alloc.proofs.Hints.{hint_header, hint_stays, hint_taken, hint_more, hint_refused, range_as, taken_used}
 use Rattle.qcow2_alloc.proofs.AllocationSteps.{becomes_none, handed_on, entries_then, entries_less, other_range, becomes_as, becomes_then, is_sound_now}
+use Rattle.qcow2_alloc.proofs.Faults.{told_ok}
+use Rattle.qcow2_alloc.proofs.Outcomes.{told_after, if_no_ok, handed_cause}
+use Rattle.std.proofs.Math.Nat.{le_trans}
+use Rattle.std.specs.Prelude.{◌≢◌}
+use Rattle.qcow2_metadata.specs.EntryTable.{EntryTableView}
 use Rattle.qcow2_alloc.proofs.allocation.Allocator.take_lowest_below.Goals as goal
+
+-- the entries from an end on stay while the range of a cluster below it gets its refblock
+covered_entries : (t u v : EntryTableView) (cluster end per counts : ℕ) → cluster < end → counts ≡ per → KeepsEntries (λ k. end ≤ k * counts) t u → KeepsEntries (λ k. k ≢ cluster / per) u v → KeepsEntries (λ k. end ≤ k * counts) t v
+covered_entries t u v cluster end per counts below same first then =
+    entries_then (λ k. end ≤ k * counts) t u v first (entries_less (λ k. k ≢ cluster / per) (λ k. end ≤ k * counts) u v (λ k past. other_range cluster end per counts k below same past) then)
 
 pub returns-in_err-cover_range-clause-sound : goal.returns-in_err-cover_range-clause-sound
 returns-in_err-cover_range-clause-sound g c = λ p sound.
@@ -49,13 +59,12 @@ search-preserved g c = record {
   header = c.raise.ensures.header ∙ c.cover_range.ensures.header ∙ c.search.invariant.header;
   list = c.raise.ensures.list ∙ c.cover_range.ensures.list ∙ c.search.invariant.list;
   marks = marks_then c.args.file.now.caches c.cover_range.new.file.caches c.raise.new.file.caches (marks_then c.args.file.now.caches c.search.file.caches c.cover_range.new.file.caches c.search.invariant.marks c.cover_range.ensures.marks) c.raise.ensures.marks;
-  faults = omega (arith, c.search.invariant.faults, c.cover_range.ensures.storage_faults.no_fewer, c.raise.ensures.storage_faults.no_fewer);
+  faults = le_trans (le_trans c.search.invariant.faults c.cover_range.ensures.storage_faults.no_fewer) c.raise.ensures.storage_faults.no_fewer;
   order = c.raise.ensures.order ∙ c.cover_range.ensures.order ∙ c.search.invariant.order;
   entries =
-      let Stays : ℕ → Type 0 = λ k. c.args.end ≤ k * counts_per_block c.args.file.now.header.fields in
-      subst (λ (t : Allocator). KeepsEntries Stays c.args.self.now.reftable t.reftable) (sym c.raise.ensures.same)
-      (entries_then Stays c.args.self.now.reftable c.search.self.reftable c.cover_range.new.self.reftable c.search.invariant.entries
-      (entries_less _ Stays c.search.self.reftable c.cover_range.new.self.reftable (λ k past. other_range c.search.self.first_free_cluster c.args.end (2 ^ c.rb_bits-bits.result) (counts_per_block c.args.file.now.header.fields) k c.search-test.true c.rb_bits-bits.ensures.counts past) c.cover_range.ensures.entries));
+      subst (λ (t : Allocator). KeepsEntries (λ k. c.args.end ≤ k * counts_per_block c.args.file.now.header.fields) c.args.self.now.reftable t.reftable) (sym c.raise.ensures.same)
+      (covered_entries c.args.self.now.reftable c.search.self.reftable c.cover_range.new.self.reftable c.search.self.first_free_cluster c.args.end (2 ^ c.rb_bits-bits.result) (counts_per_block c.args.file.now.header.fields) c.search-test.true c.rb_bits-bits.ensures.counts
+      c.search.invariant.entries c.cover_range.ensures.entries);
   above = omega arith;
   sound = λ p sound.
       let before = c.search.invariant.sound p sound in
@@ -103,3 +112,110 @@ returns-then-taken-clause-hint g c = λ p sound hint.
 
 pub returns-clause-hint : goal.returns-clause-hint
 returns-clause-hint g c = λ p sound hint. c.search.invariant.hint p sound hint
+
+pub returns-in_err-cover_range-clause-marks : goal.returns-in_err-cover_range-clause-marks
+returns-in_err-cover_range-clause-marks g c = marks_then _ _ _ c.search.invariant.marks c.cover_range.ensures.marks
+
+pub returns-in_err-cover_range-clause-order : goal.returns-in_err-cover_range-clause-order
+returns-in_err-cover_range-clause-order g c = c.cover_range.ensures.order ∙ c.search.invariant.order
+
+pub returns-in_err-cover_range-clause-cause : goal.returns-in_err-cover_range-clause-cause
+returns-in_err-cover_range-clause-cause g c = handed_cause c.from_residual.result c.in_err-cover_range.field-0.0 c.from_residual.ensures c.in_err-cover_range.ensures.cause
+
+pub returns-in_err-cover_range-clause-storage_faults : goal.returns-in_err-cover_range-clause-storage_faults
+returns-in_err-cover_range-clause-storage_faults g c = told_after _ _ _ c.cover_range.result c.in_err-cover_range.field-0.0 c.from_residual.result c.search.invariant.faults c.cover_range.ensures.storage_faults c.in_err-cover_range.was c.from_residual.ensures
+
+pub returns-in_err-cover_range-clause-noted : goal.returns-in_err-cover_range-clause-noted
+returns-in_err-cover_range-clause-noted g c = if_no_ok _ c.from_residual.result c.in_err-cover_range.field-0.0 c.from_residual.ensures
+
+pub returns-in_err-cover_range-clause-below : goal.returns-in_err-cover_range-clause-below
+returns-in_err-cover_range-clause-below g c = if_no_ok _ c.from_residual.result c.in_err-cover_range.field-0.0 c.from_residual.ensures
+
+pub returns-in_err-cover_range-clause-header : goal.returns-in_err-cover_range-clause-header
+returns-in_err-cover_range-clause-header g c = c.cover_range.ensures.header ∙ c.search.invariant.header
+
+pub returns-in_err-cover_range-clause-list : goal.returns-in_err-cover_range-clause-list
+returns-in_err-cover_range-clause-list g c = c.cover_range.ensures.list ∙ c.search.invariant.list
+
+pub returns-in_err-taken-clause-marks : goal.returns-in_err-taken-clause-marks
+returns-in_err-taken-clause-marks g c = marks_then _ _ _ (marks_then _ _ _ c.search.invariant.marks c.cover_range.ensures.marks) c.raise.ensures.marks
+
+pub returns-in_err-taken-clause-order : goal.returns-in_err-taken-clause-order
+returns-in_err-taken-clause-order g c = c.raise.ensures.order ∙ c.cover_range.ensures.order ∙ c.search.invariant.order
+
+pub returns-in_err-taken-clause-cause : goal.returns-in_err-taken-clause-cause
+returns-in_err-taken-clause-cause g c = handed_cause c.from_residual-in_err-taken.result c.in_err-taken.field-0.0 c.from_residual-in_err-taken.ensures c.in_err-taken.ensures.cause
+
+pub returns-in_err-taken-clause-storage_faults : goal.returns-in_err-taken-clause-storage_faults
+returns-in_err-taken-clause-storage_faults g c = told_after _ _ _ c.raise.result c.in_err-taken.field-0.0 c.from_residual-in_err-taken.result (le_trans c.search.invariant.faults c.cover_range.ensures.storage_faults.no_fewer) c.raise.ensures.storage_faults c.in_err-taken.was c.from_residual-in_err-taken.ensures
+
+pub returns-in_err-taken-clause-noted : goal.returns-in_err-taken-clause-noted
+returns-in_err-taken-clause-noted g c = if_no_ok _ c.from_residual-in_err-taken.result c.in_err-taken.field-0.0 c.from_residual-in_err-taken.ensures
+
+pub returns-in_err-taken-clause-below : goal.returns-in_err-taken-clause-below
+returns-in_err-taken-clause-below g c = if_no_ok _ c.from_residual-in_err-taken.result c.in_err-taken.field-0.0 c.from_residual-in_err-taken.ensures
+
+pub returns-in_err-taken-clause-header : goal.returns-in_err-taken-clause-header
+returns-in_err-taken-clause-header g c = c.raise.ensures.header ∙ c.cover_range.ensures.header ∙ c.search.invariant.header
+
+pub returns-in_err-taken-clause-list : goal.returns-in_err-taken-clause-list
+returns-in_err-taken-clause-list g c = c.raise.ensures.list ∙ c.cover_range.ensures.list ∙ c.search.invariant.list
+
+pub returns-then-taken-clause-header : goal.returns-then-taken-clause-header
+returns-then-taken-clause-header g c = c.raise.ensures.header ∙ c.cover_range.ensures.header ∙ c.search.invariant.header
+
+pub returns-then-taken-clause-list : goal.returns-then-taken-clause-list
+returns-then-taken-clause-list g c = c.raise.ensures.list ∙ c.cover_range.ensures.list ∙ c.search.invariant.list
+
+pub returns-then-taken-clause-order : goal.returns-then-taken-clause-order
+returns-then-taken-clause-order g c = c.raise.ensures.order ∙ c.cover_range.ensures.order ∙ c.search.invariant.order
+
+pub returns-then-taken-clause-marks : goal.returns-then-taken-clause-marks
+returns-then-taken-clause-marks g c = marks_then _ _ _ (marks_then _ _ _ c.search.invariant.marks c.cover_range.ensures.marks) c.raise.ensures.marks
+
+pub returns-then-taken-clause-noted : goal.returns-then-taken-clause-noted
+returns-then-taken-clause-noted g c = λ some. c.in_ok-taken.ensures.noted c.if-taken.true
+
+pub returns-then-taken-clause-below : goal.returns-then-taken-clause-below
+returns-then-taken-clause-below g c = (c.search.invariant.above, c.search-test.true)
+
+pub returns-then-taken-clause-cause : goal.returns-then-taken-clause-cause
+returns-then-taken-clause-cause g c = tt
+
+pub returns-then-taken-clause-storage_faults : goal.returns-then-taken-clause-storage_faults
+returns-then-taken-clause-storage_faults g c = told_ok _ _ _ (le_trans (le_trans c.search.invariant.faults c.cover_range.ensures.storage_faults.no_fewer) c.raise.ensures.storage_faults.no_fewer)
+
+pub returns-clause-marks : goal.returns-clause-marks
+returns-clause-marks g c = c.search.invariant.marks
+
+pub returns-clause-order : goal.returns-clause-order
+returns-clause-order g c = c.search.invariant.order
+
+pub returns-clause-header : goal.returns-clause-header
+returns-clause-header g c = c.search.invariant.header
+
+pub returns-clause-list : goal.returns-clause-list
+returns-clause-list g c = c.search.invariant.list
+
+pub returns-clause-entries : goal.returns-clause-entries
+returns-clause-entries g c = c.search.invariant.entries
+
+pub returns-clause-cause : goal.returns-clause-cause
+returns-clause-cause g c = tt
+
+pub returns-clause-storage_faults : goal.returns-clause-storage_faults
+returns-clause-storage_faults g c = told_ok _ _ _ c.search.invariant.faults
+
+pub returns-in_err-cover_range-clause-entries : goal.returns-in_err-cover_range-clause-entries
+returns-in_err-cover_range-clause-entries g c = covered_entries c.args.self.now.reftable c.search.self.reftable c.cover_range.new.self.reftable c.search.self.first_free_cluster c.args.end (2 ^ c.rb_bits-bits.result) (counts_per_block c.args.file.now.header.fields) c.search-test.true c.rb_bits-bits.ensures.counts
+    c.search.invariant.entries c.cover_range.ensures.entries
+
+pub returns-in_err-taken-clause-entries : goal.returns-in_err-taken-clause-entries
+returns-in_err-taken-clause-entries g c = subst (λ (t : Allocator). KeepsEntries (λ k. c.args.end ≤ k * counts_per_block c.args.file.now.header.fields) c.args.self.now.reftable t.reftable) (sym c.raise.ensures.same)
+    (covered_entries c.args.self.now.reftable c.search.self.reftable c.cover_range.new.self.reftable c.search.self.first_free_cluster c.args.end (2 ^ c.rb_bits-bits.result) (counts_per_block c.args.file.now.header.fields) c.search-test.true c.rb_bits-bits.ensures.counts
+    c.search.invariant.entries c.cover_range.ensures.entries)
+
+pub returns-then-taken-clause-entries : goal.returns-then-taken-clause-entries
+returns-then-taken-clause-entries g c = subst (λ (t : Allocator). KeepsEntries (λ k. c.args.end ≤ k * counts_per_block c.args.file.now.header.fields) c.args.self.now.reftable t.reftable) (sym c.raise.ensures.same)
+    (covered_entries c.args.self.now.reftable c.search.self.reftable c.cover_range.new.self.reftable c.search.self.first_free_cluster c.args.end (2 ^ c.rb_bits-bits.result) (counts_per_block c.args.file.now.header.fields) c.search-test.true c.rb_bits-bits.ensures.counts
+    c.search.invariant.entries c.cover_range.ensures.entries)

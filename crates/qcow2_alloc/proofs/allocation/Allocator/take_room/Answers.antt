@@ -16,6 +16,10 @@ use Rattle.qcow2_alloc.proofs.Runs.{run_after}
 use Rattle.qcow2_alloc.proofs.Hints.{used_stays}
 use Rattle.qcow2_alloc.proofs.FullRooms.{full_behind, full_stays, IsFullBelow}
 use Rattle.qcow2_alloc.proofs.Rooms.{run_of_same, noted_of_same}
+use Rattle.qcow2_alloc.proofs.Faults.{told_ok}
+use Rattle.qcow2_alloc.proofs.Outcomes.{told_limit, told_after, if_no_ok, handed_cause}
+use Rattle.std.proofs.Math.Nat.{le_trans}
+use Rattle.qcow2_alloc.specs.declared.allocation.Allocator.{Allocator}
 use Rattle.qcow2_alloc.proofs.allocation.Allocator.take_room.Goals as goal
 
 pub search-init : goal.search-init
@@ -72,7 +76,7 @@ search-preserved g c = record {
   header = c.leave_run.ensures.header ∙ c.reach_room.ensures.header ∙ c.search.invariant.header;
   list = c.leave_run.ensures.list ∙ c.reach_room.ensures.list ∙ c.search.invariant.list;
   marks = marks_then c.args.file.now.caches c.reach_room.new.file.caches c.leave_run.new.file.caches (marks_then c.args.file.now.caches c.search.file.caches c.reach_room.new.file.caches c.search.invariant.marks c.reach_room.ensures.marks) c.leave_run.ensures.marks;
-  faults = omega (arith, c.search.invariant.faults, c.reach_room.ensures.storage_faults.no_fewer, c.leave_run.ensures.storage_faults.no_fewer);
+  faults = le_trans (le_trans c.search.invariant.faults c.reach_room.ensures.storage_faults.no_fewer) c.leave_run.ensures.storage_faults.no_fewer;
   order = c.leave_run.ensures.order ∙ c.reach_room.ensures.order ∙ c.search.invariant.order;
   reftable = c.leave_run.ensures.reftable ∙ ap (λ a. a.reftable) c.reach_room.ensures.same ∙ c.search.invariant.reftable;
   first_free = c.leave_run.ensures.first ∙ ap (λ a. a.first_free_cluster) c.reach_room.ensures.same ∙ c.search.invariant.first_free;
@@ -156,3 +160,132 @@ returns-then-reach-clusters-clause-lowest g c = λ p sound hint.
     let full = full_stays view c.search.file c.reach_room.new.file t (counts_per_block c.args.file.now.header.fields) c.args.clusters c.args.end c.search.first
     (λ k used. used_stays view p (with_run p c.search.file.header.fields c.search.self.reftable c.search.first c.in_ok-reach.reach.taken) c.search.file c.reach_room.new.file c.reach_room.new.self k reached (omega arith) used) (c.search.invariant.full p sound hint) in
     subst (λ n. IsFullBelow view c.reach_room.new.file t n c.args.clusters c.args.end c.search.first) (sym per) full
+
+pub returns-in_err-reach-clause-marks : goal.returns-in_err-reach-clause-marks
+returns-in_err-reach-clause-marks g c = marks_then _ _ _ c.search.invariant.marks c.reach_room.ensures.marks
+
+pub returns-in_err-reach-clause-order : goal.returns-in_err-reach-clause-order
+returns-in_err-reach-clause-order g c = c.reach_room.ensures.order ∙ c.search.invariant.order
+
+pub returns-in_err-reach-clause-cause : goal.returns-in_err-reach-clause-cause
+returns-in_err-reach-clause-cause g c = handed_cause c.from_residual.result c.in_err-reach.field-0.0 c.from_residual.ensures c.in_err-reach.ensures.cause
+
+pub returns-in_err-reach-clause-storage_faults : goal.returns-in_err-reach-clause-storage_faults
+returns-in_err-reach-clause-storage_faults g c = told_after _ _ _ c.reach_room.result c.in_err-reach.field-0.0 c.from_residual.result c.search.invariant.faults c.reach_room.ensures.storage_faults c.in_err-reach.was c.from_residual.ensures
+
+pub returns-in_err-reach-clause-blocks : goal.returns-in_err-reach-clause-blocks
+returns-in_err-reach-clause-blocks g c = if_no_ok _ c.from_residual.result c.in_err-reach.field-0.0 c.from_residual.ensures
+
+pub returns-in_err-reach-clause-clusters : goal.returns-in_err-reach-clause-clusters
+returns-in_err-reach-clause-clusters g c = if_no_ok _ c.from_residual.result c.in_err-reach.field-0.0 c.from_residual.ensures
+
+pub returns-in_err-reach-clause-above : goal.returns-in_err-reach-clause-above
+returns-in_err-reach-clause-above g c = if_no_ok _ c.from_residual.result c.in_err-reach.field-0.0 c.from_residual.ensures
+
+pub returns-in_err-reach-clause-below : goal.returns-in_err-reach-clause-below
+returns-in_err-reach-clause-below g c = if_no_ok _ c.from_residual.result c.in_err-reach.field-0.0 c.from_residual.ensures
+
+pub returns-in_err-reach-clause-lowest : goal.returns-in_err-reach-clause-lowest
+returns-in_err-reach-clause-lowest g c = λ _ _ _. if_no_ok _ c.from_residual.result c.in_err-reach.field-0.0 c.from_residual.ensures
+
+pub returns-in_err-leave_run-clause-marks : goal.returns-in_err-leave_run-clause-marks
+returns-in_err-leave_run-clause-marks g c = marks_then _ _ _ (marks_then _ _ _ c.search.invariant.marks c.reach_room.ensures.marks) c.leave_run.ensures.marks
+
+pub returns-in_err-leave_run-clause-order : goal.returns-in_err-leave_run-clause-order
+returns-in_err-leave_run-clause-order g c = c.leave_run.ensures.order ∙ c.reach_room.ensures.order ∙ c.search.invariant.order
+
+pub returns-in_err-leave_run-clause-cause : goal.returns-in_err-leave_run-clause-cause
+returns-in_err-leave_run-clause-cause g c = handed_cause c.from_residual-in_err-leave_run.result c.in_err-leave_run.field-0.0 c.from_residual-in_err-leave_run.ensures c.in_err-leave_run.ensures.cause
+
+pub returns-in_err-leave_run-clause-storage_faults : goal.returns-in_err-leave_run-clause-storage_faults
+returns-in_err-leave_run-clause-storage_faults g c = told_after _ _ _ c.leave_run.result c.in_err-leave_run.field-0.0 c.from_residual-in_err-leave_run.result (le_trans c.search.invariant.faults c.reach_room.ensures.storage_faults.no_fewer) c.leave_run.ensures.storage_faults c.in_err-leave_run.was c.from_residual-in_err-leave_run.ensures
+
+pub returns-in_err-leave_run-clause-blocks : goal.returns-in_err-leave_run-clause-blocks
+returns-in_err-leave_run-clause-blocks g c = if_no_ok _ c.from_residual-in_err-leave_run.result c.in_err-leave_run.field-0.0 c.from_residual-in_err-leave_run.ensures
+
+pub returns-in_err-leave_run-clause-clusters : goal.returns-in_err-leave_run-clause-clusters
+returns-in_err-leave_run-clause-clusters g c = if_no_ok _ c.from_residual-in_err-leave_run.result c.in_err-leave_run.field-0.0 c.from_residual-in_err-leave_run.ensures
+
+pub returns-in_err-leave_run-clause-above : goal.returns-in_err-leave_run-clause-above
+returns-in_err-leave_run-clause-above g c = if_no_ok _ c.from_residual-in_err-leave_run.result c.in_err-leave_run.field-0.0 c.from_residual-in_err-leave_run.ensures
+
+pub returns-in_err-leave_run-clause-below : goal.returns-in_err-leave_run-clause-below
+returns-in_err-leave_run-clause-below g c = if_no_ok _ c.from_residual-in_err-leave_run.result c.in_err-leave_run.field-0.0 c.from_residual-in_err-leave_run.ensures
+
+pub returns-in_err-leave_run-clause-lowest : goal.returns-in_err-leave_run-clause-lowest
+returns-in_err-leave_run-clause-lowest g c = λ _ _ _. if_no_ok _ c.from_residual-in_err-leave_run.result c.in_err-leave_run.field-0.0 c.from_residual-in_err-leave_run.ensures
+
+pub returns-in_err-reach-clause-header : goal.returns-in_err-reach-clause-header
+returns-in_err-reach-clause-header g c = c.reach_room.ensures.header ∙ c.search.invariant.header
+
+pub returns-in_err-reach-clause-list : goal.returns-in_err-reach-clause-list
+returns-in_err-reach-clause-list g c = c.reach_room.ensures.list ∙ c.search.invariant.list
+
+pub returns-in_err-reach-clause-reftable : goal.returns-in_err-reach-clause-reftable
+returns-in_err-reach-clause-reftable g c = ap (λ (a : Allocator). a.reftable) c.reach_room.ensures.same ∙ c.search.invariant.reftable
+
+pub returns-in_err-reach-clause-first : goal.returns-in_err-reach-clause-first
+returns-in_err-reach-clause-first g c = ap (λ (a : Allocator). a.first_free_cluster) c.reach_room.ensures.same ∙ c.search.invariant.first_free
+
+pub returns-then-reach-clusters-clause-header : goal.returns-then-reach-clusters-clause-header
+returns-then-reach-clusters-clause-header g c = c.reach_room.ensures.header ∙ c.search.invariant.header
+
+pub returns-then-reach-clusters-clause-list : goal.returns-then-reach-clusters-clause-list
+returns-then-reach-clusters-clause-list g c = c.reach_room.ensures.list ∙ c.search.invariant.list
+
+pub returns-then-reach-clusters-clause-order : goal.returns-then-reach-clusters-clause-order
+returns-then-reach-clusters-clause-order g c = c.reach_room.ensures.order ∙ c.search.invariant.order
+
+pub returns-then-reach-clusters-clause-reftable : goal.returns-then-reach-clusters-clause-reftable
+returns-then-reach-clusters-clause-reftable g c = ap (λ (a : Allocator). a.reftable) c.reach_room.ensures.same ∙ c.search.invariant.reftable
+
+pub returns-then-reach-clusters-clause-first : goal.returns-then-reach-clusters-clause-first
+returns-then-reach-clusters-clause-first g c = ap (λ (a : Allocator). a.first_free_cluster) c.reach_room.ensures.same ∙ c.search.invariant.first_free
+
+pub returns-in_err-leave_run-clause-header : goal.returns-in_err-leave_run-clause-header
+returns-in_err-leave_run-clause-header g c = c.leave_run.ensures.header ∙ c.reach_room.ensures.header ∙ c.search.invariant.header
+
+pub returns-in_err-leave_run-clause-list : goal.returns-in_err-leave_run-clause-list
+returns-in_err-leave_run-clause-list g c = c.leave_run.ensures.list ∙ c.reach_room.ensures.list ∙ c.search.invariant.list
+
+pub returns-in_err-leave_run-clause-reftable : goal.returns-in_err-leave_run-clause-reftable
+returns-in_err-leave_run-clause-reftable g c = c.leave_run.ensures.reftable ∙ ap (λ (a : Allocator). a.reftable) c.reach_room.ensures.same ∙ c.search.invariant.reftable
+
+pub returns-in_err-leave_run-clause-first : goal.returns-in_err-leave_run-clause-first
+returns-in_err-leave_run-clause-first g c = c.leave_run.ensures.first ∙ ap (λ (a : Allocator). a.first_free_cluster) c.reach_room.ensures.same ∙ c.search.invariant.first_free
+
+pub returns-then-reach-clusters-clause-marks : goal.returns-then-reach-clusters-clause-marks
+returns-then-reach-clusters-clause-marks g c = marks_then _ _ _ c.search.invariant.marks c.reach_room.ensures.marks
+
+pub returns-then-reach-clusters-clause-cause : goal.returns-then-reach-clusters-clause-cause
+returns-then-reach-clusters-clause-cause g c = tt
+
+pub returns-then-reach-clusters-clause-storage_faults : goal.returns-then-reach-clusters-clause-storage_faults
+returns-then-reach-clusters-clause-storage_faults g c = told_ok _ _ _ (le_trans c.search.invariant.faults c.reach_room.ensures.storage_faults.no_fewer)
+
+pub returns-then-reach-clusters-clause-above : goal.returns-then-reach-clusters-clause-above
+returns-then-reach-clusters-clause-above g c = c.search.invariant.some
+
+pub returns-clause-marks : goal.returns-clause-marks
+returns-clause-marks g c = c.search.invariant.marks
+
+pub returns-clause-order : goal.returns-clause-order
+returns-clause-order g c = c.search.invariant.order
+
+pub returns-clause-header : goal.returns-clause-header
+returns-clause-header g c = c.search.invariant.header
+
+pub returns-clause-list : goal.returns-clause-list
+returns-clause-list g c = c.search.invariant.list
+
+pub returns-clause-reftable : goal.returns-clause-reftable
+returns-clause-reftable g c = c.search.invariant.reftable
+
+pub returns-clause-first : goal.returns-clause-first
+returns-clause-first g c = c.search.invariant.first_free
+
+pub returns-clause-cause : goal.returns-clause-cause
+returns-clause-cause g c = tt
+
+pub returns-clause-storage_faults : goal.returns-clause-storage_faults
+returns-clause-storage_faults g c = told_limit _ _ c.search.invariant.faults

@@ -1,4 +1,4 @@
-use Rattle.std.proofs.Common.{◌≡◌, inl, inr, ℕ, ◌+◌, ◌<◌, Bool, IsTrue, refl, sym, ap, ◌∙◌, subst, arith, Result}
+use Rattle.std.proofs.Common.{◌≡◌, inl, inr, ℕ, ◌+◌, ◌<◌, Bool, IsTrue, refl, sym, ap, ◌∙◌, subst, arith, Result, Err}
 use Rattle.std.proofs.lemmas.Bool.{cases_eq, cases_lt}
 use Rattle.image_access.specs.Moments.{StorageView}
 use Rattle.qcow2_laws.specs.CrashInvariant.{Pending}
@@ -7,7 +7,7 @@ use Rattle.qcow2_alloc.specs.declared.error.ImageError.{ImageError}
 use Rattle.qcow2_alloc.specs.declared.image_file.ImageFile.{ImageFile}
 use Rattle.qcow2_alloc.specs.Allocation.{run_at, taken_as, UnseenAllocatorGrowth, RefusedGrowth, TakesRun}
 use Rattle.qcow2_alloc.specs.FreeList.{pending_then, ListsTables}
-use Rattle.qcow2_alloc.specs.ImageFile.{IsFault}
+use Rattle.qcow2_alloc.specs.ImageFile.{IsFault, KeepsHeader}
 use Rattle.qcow2_alloc.proofs.CacheMarks.{marks_none, marks_then}
 use Rattle.qcow2_alloc.proofs.AllocationSteps.{handed_on, of_equal, may_still, on_none, is_sound_on, still_as}
 use Rattle.qcow2_alloc.proofs.Following.{header_same, header_then, lists_none, lists_then, following_same, still_taken, more_taken, ends_taken, then_leaves, header_bits}
@@ -19,6 +19,12 @@ use Rattle.qcow2_metadata.specs.L2Mapping.{IsHostCluster}
 use Rattle.qcow2_alloc.specs.Limits.{CantCount, CantCountRun, IsFaultOr}
 use Rattle.qcow2_alloc.proofs.Limits.{cause_as, count_back, host_of_few}
 use Rattle.qcow2_alloc.proofs.FormerReftables.{former_none, former_then, former_still}
+use Rattle.qcow2_alloc.proofs.Faults.{told_ok, told_since}
+use Rattle.qcow2_alloc.proofs.Outcomes.{told_after, if_no_ok, handed_cause, told_err, told_still}
+use Rattle.std.proofs.Math.Nat.{le_trans}
+use Rattle.qcow2_alloc.specs.CacheMarks.{KeepsMarks}
+use Rattle.qcow2_alloc.specs.MetadataCaches.{order_of}
+use Rattle.qcow2_alloc.specs.Faults.{FaultsTold, faults_of}
 use Rattle.qcow2_alloc.proofs.allocation.Allocator.take_run.Goals as goal
 
 -- none, where there aren't some
@@ -122,7 +128,7 @@ taking-preserved g c = record {
   list = lists_then c.args.file.now.free_list c.taking.file.free_list c.take.new.file.free_list c.taking.invariant.list c.take.ensures.list;
   former = former_then c.args.self.now.reftable c.taking.self.reftable c.take.new.self.reftable c.args.file.now.free_list c.taking.file.free_list c.take.new.file.free_list c.taking.invariant.former c.take.ensures.former;
   marks = marks_then c.args.file.now.caches c.taking.file.caches c.take.new.file.caches c.taking.invariant.marks c.take.ensures.marks;
-  faults = omega (arith, c.taking.invariant.faults, c.take.ensures.storage_faults.no_fewer);
+  faults = le_trans c.taking.invariant.faults c.take.ensures.storage_faults.no_fewer;
   order = c.take.ensures.order ∙ c.taking.invariant.order;
   noted = λ _. rw c.in-Ok-true.field-0-test at c.in-Ok-true.ensures.noted refl;
   sound = λ p d sound may.
@@ -352,4 +358,115 @@ returns-in-Err-clause-former g c = elim c.if-not-ends_call.branch [
   | then-not-ends_call+in_ok-give_back-in-Err w ↦ former_still c.args.self.now.reftable c.take.new.self.reftable c.if-not-ends_call.self.reftable c.args.file.now.free_list c.take.new.file.free_list c.if-not-ends_call.file.free_list (former_then c.args.self.now.reftable c.taking.self.reftable c.take.new.self.reftable c.args.file.now.free_list c.taking.file.free_list c.take.new.file.free_list c.taking.invariant.former c.take.ensures.former)
       (ap (λ t. t.reftable) w.self-is ∙ w.give_back-then-not-ends_call.ensures.reftable) (ap (λ f. f.free_list) w.file-is ∙ w.give_back-then-not-ends_call.ensures.list)
   | else-not-ends_call w ↦ former_still c.args.self.now.reftable c.take.new.self.reftable c.if-not-ends_call.self.reftable c.args.file.now.free_list c.take.new.file.free_list c.if-not-ends_call.file.free_list (former_then c.args.self.now.reftable c.taking.self.reftable c.take.new.self.reftable c.args.file.now.free_list c.taking.file.free_list c.take.new.file.free_list c.taking.invariant.former c.take.ensures.former) (ap (λ t. t.reftable) w.self-is) (ap (λ f. f.free_list) w.file-is)
+]
+
+pub returns-in_err-give_back-in-Ok-false-clause-marks : goal.returns-in_err-give_back-in-Ok-false-clause-marks
+returns-in_err-give_back-in-Ok-false-clause-marks g c = marks_then _ _ _ (marks_then _ _ _ c.taking.invariant.marks c.take.ensures.marks) c.give_back.ensures.marks
+
+pub returns-in_err-give_back-in-Ok-false-clause-order : goal.returns-in_err-give_back-in-Ok-false-clause-order
+returns-in_err-give_back-in-Ok-false-clause-order g c = c.give_back.ensures.order ∙ c.take.ensures.order ∙ c.taking.invariant.order
+
+pub returns-in_err-give_back-in-Ok-false-clause-cause : goal.returns-in_err-give_back-in-Ok-false-clause-cause
+returns-in_err-give_back-in-Ok-false-clause-cause g c = handed_cause c.from_residual.result c.in_err-give_back-in-Ok-false.field-0.0 c.from_residual.ensures c.in_err-give_back-in-Ok-false.ensures.cause
+
+pub returns-in_err-give_back-in-Ok-false-clause-storage_faults : goal.returns-in_err-give_back-in-Ok-false-clause-storage_faults
+returns-in_err-give_back-in-Ok-false-clause-storage_faults g c = told_after _ _ _ c.give_back.result c.in_err-give_back-in-Ok-false.field-0.0 c.from_residual.result (le_trans c.taking.invariant.faults c.take.ensures.storage_faults.no_fewer) c.give_back.ensures.storage_faults c.in_err-give_back-in-Ok-false.was c.from_residual.ensures
+
+pub returns-in_err-give_back-in-Ok-false-clause-noted : goal.returns-in_err-give_back-in-Ok-false-clause-noted
+returns-in_err-give_back-in-Ok-false-clause-noted g c = if_no_ok _ c.from_residual.result c.in_err-give_back-in-Ok-false.field-0.0 c.from_residual.ensures
+
+pub returns-in_err-give_back-in-Ok-false-clause-within : goal.returns-in_err-give_back-in-Ok-false-clause-within
+returns-in_err-give_back-in-Ok-false-clause-within g c = if_no_ok _ c.from_residual.result c.in_err-give_back-in-Ok-false.field-0.0 c.from_residual.ensures
+
+pub returns-in_err-give_back-in-Ok-false-clause-used : goal.returns-in_err-give_back-in-Ok-false-clause-used
+returns-in_err-give_back-in-Ok-false-clause-used g c = λ _ _ _ _. if_no_ok _ c.from_residual.result c.in_err-give_back-in-Ok-false.field-0.0 c.from_residual.ensures
+
+pub returns-in_err-give_back-in-Ok-false-clause-header : goal.returns-in_err-give_back-in-Ok-false-clause-header
+returns-in_err-give_back-in-Ok-false-clause-header g c = header_then c.args.file.now.header c.take.new.file.header c.give_back.new.file.header (header_then c.args.file.now.header c.taking.file.header c.take.new.file.header c.taking.invariant.header c.take.ensures.header) (header_same c.take.new.file.header c.give_back.new.file.header c.give_back.ensures.header)
+
+pub returns-in_err-give_back-in-Err-clause-marks : goal.returns-in_err-give_back-in-Err-clause-marks
+returns-in_err-give_back-in-Err-clause-marks g c = marks_then _ _ _ (marks_then _ _ _ c.taking.invariant.marks c.take.ensures.marks) c.give_back-then-not-ends_call.ensures.marks
+
+pub returns-in_err-give_back-in-Err-clause-order : goal.returns-in_err-give_back-in-Err-clause-order
+returns-in_err-give_back-in-Err-clause-order g c = c.give_back-then-not-ends_call.ensures.order ∙ c.take.ensures.order ∙ c.taking.invariant.order
+
+pub returns-in_err-give_back-in-Err-clause-cause : goal.returns-in_err-give_back-in-Err-clause-cause
+returns-in_err-give_back-in-Err-clause-cause g c = handed_cause c.from_residual-in_err-give_back-in-Err.result c.in_err-give_back-in-Err.field-0.0 c.from_residual-in_err-give_back-in-Err.ensures c.in_err-give_back-in-Err.ensures.cause
+
+pub returns-in_err-give_back-in-Err-clause-storage_faults : goal.returns-in_err-give_back-in-Err-clause-storage_faults
+returns-in_err-give_back-in-Err-clause-storage_faults g c = told_after _ _ _ c.give_back-then-not-ends_call.result c.in_err-give_back-in-Err.field-0.0 c.from_residual-in_err-give_back-in-Err.result (le_trans c.taking.invariant.faults c.take.ensures.storage_faults.no_fewer) c.give_back-then-not-ends_call.ensures.storage_faults c.in_err-give_back-in-Err.was c.from_residual-in_err-give_back-in-Err.ensures
+
+pub returns-in_err-give_back-in-Err-clause-noted : goal.returns-in_err-give_back-in-Err-clause-noted
+returns-in_err-give_back-in-Err-clause-noted g c = if_no_ok _ c.from_residual-in_err-give_back-in-Err.result c.in_err-give_back-in-Err.field-0.0 c.from_residual-in_err-give_back-in-Err.ensures
+
+pub returns-in_err-give_back-in-Err-clause-within : goal.returns-in_err-give_back-in-Err-clause-within
+returns-in_err-give_back-in-Err-clause-within g c = if_no_ok _ c.from_residual-in_err-give_back-in-Err.result c.in_err-give_back-in-Err.field-0.0 c.from_residual-in_err-give_back-in-Err.ensures
+
+pub returns-in_err-give_back-in-Err-clause-used : goal.returns-in_err-give_back-in-Err-clause-used
+returns-in_err-give_back-in-Err-clause-used g c = λ _ _ _ _. if_no_ok _ c.from_residual-in_err-give_back-in-Err.result c.in_err-give_back-in-Err.field-0.0 c.from_residual-in_err-give_back-in-Err.ensures
+
+pub returns-in_err-give_back-in-Err-clause-header : goal.returns-in_err-give_back-in-Err-clause-header
+returns-in_err-give_back-in-Err-clause-header g c = header_then c.args.file.now.header c.take.new.file.header c.give_back-then-not-ends_call.new.file.header (header_then c.args.file.now.header c.taking.file.header c.take.new.file.header c.taking.invariant.header c.take.ensures.header) (header_same c.take.new.file.header c.give_back-then-not-ends_call.new.file.header c.give_back-then-not-ends_call.ensures.header)
+
+pub returns-in-Ok-false-clause-marks : goal.returns-in-Ok-false-clause-marks
+returns-in-Ok-false-clause-marks g c = marks_then _ _ _ (marks_then _ _ _ c.taking.invariant.marks c.take.ensures.marks) c.give_back.ensures.marks
+
+pub returns-in-Ok-false-clause-order : goal.returns-in-Ok-false-clause-order
+returns-in-Ok-false-clause-order g c = c.give_back.ensures.order ∙ c.take.ensures.order ∙ c.taking.invariant.order
+
+pub returns-in-Ok-false-clause-header : goal.returns-in-Ok-false-clause-header
+returns-in-Ok-false-clause-header g c = header_then c.args.file.now.header c.take.new.file.header c.give_back.new.file.header (header_then c.args.file.now.header c.taking.file.header c.take.new.file.header c.taking.invariant.header c.take.ensures.header) (header_same c.take.new.file.header c.give_back.new.file.header c.give_back.ensures.header)
+
+pub returns-in-Ok-false-clause-cause : goal.returns-in-Ok-false-clause-cause
+returns-in-Ok-false-clause-cause g c = tt
+
+pub returns-in-Ok-false-clause-storage_faults : goal.returns-in-Ok-false-clause-storage_faults
+returns-in-Ok-false-clause-storage_faults g c = told_ok _ _ _ (le_trans (le_trans c.taking.invariant.faults c.take.ensures.storage_faults.no_fewer) c.give_back.ensures.storage_faults.no_fewer)
+
+pub returns-clause-marks : goal.returns-clause-marks
+returns-clause-marks g c = c.taking.invariant.marks
+
+pub returns-clause-order : goal.returns-clause-order
+returns-clause-order g c = c.taking.invariant.order
+
+pub returns-clause-header : goal.returns-clause-header
+returns-clause-header g c = c.taking.invariant.header
+
+pub returns-clause-list : goal.returns-clause-list
+returns-clause-list g c = c.taking.invariant.list
+
+pub returns-clause-former : goal.returns-clause-former
+returns-clause-former g c = c.taking.invariant.former
+
+pub returns-clause-cause : goal.returns-clause-cause
+returns-clause-cause g c = tt
+
+pub returns-clause-storage_faults : goal.returns-clause-storage_faults
+returns-clause-storage_faults g c = told_ok _ _ _ c.taking.invariant.faults
+
+pub returns-in-Err-clause-cause : goal.returns-in-Err-clause-cause
+returns-in-Err-clause-cause g c = c.in-Err.ensures.cause
+
+pub returns-in-Err-clause-marks : goal.returns-in-Err-clause-marks
+returns-in-Err-clause-marks g c = elim c.if-not-ends_call.branch [
+  | then-not-ends_call+in_ok-give_back-in-Err w ↦ subst (λ (f : ImageFile g.row.S.Denot). KeepsMarks c.args.file.now.caches f.caches) (sym w.file-is) (marks_then _ _ _ (marks_then _ _ _ c.taking.invariant.marks c.take.ensures.marks) w.give_back-then-not-ends_call.ensures.marks)
+  | else-not-ends_call w ↦ subst (λ (f : ImageFile g.row.S.Denot). KeepsMarks c.args.file.now.caches f.caches) (sym w.file-is) (marks_then _ _ _ c.taking.invariant.marks c.take.ensures.marks)
+]
+
+pub returns-in-Err-clause-header : goal.returns-in-Err-clause-header
+returns-in-Err-clause-header g c = elim c.if-not-ends_call.branch [
+  | then-not-ends_call+in_ok-give_back-in-Err w ↦ subst (λ (f : ImageFile g.row.S.Denot). KeepsHeader c.args.file.now.header f.header) (sym w.file-is) (header_then c.args.file.now.header c.take.new.file.header w.give_back-then-not-ends_call.new.file.header (header_then c.args.file.now.header c.taking.file.header c.take.new.file.header c.taking.invariant.header c.take.ensures.header) (header_same c.take.new.file.header w.give_back-then-not-ends_call.new.file.header w.give_back-then-not-ends_call.ensures.header))
+  | else-not-ends_call w ↦ subst (λ (f : ImageFile g.row.S.Denot). KeepsHeader c.args.file.now.header f.header) (sym w.file-is) (header_then c.args.file.now.header c.taking.file.header c.take.new.file.header c.taking.invariant.header c.take.ensures.header)
+]
+
+pub returns-in-Err-clause-order : goal.returns-in-Err-clause-order
+returns-in-Err-clause-order g c = elim c.if-not-ends_call.branch [
+  | then-not-ends_call+in_ok-give_back-in-Err w ↦ ap (λ (f : ImageFile g.row.S.Denot). order_of f.caches) w.file-is ∙ w.give_back-then-not-ends_call.ensures.order ∙ c.take.ensures.order ∙ c.taking.invariant.order
+  | else-not-ends_call w ↦ ap (λ (f : ImageFile g.row.S.Denot). order_of f.caches) w.file-is ∙ c.take.ensures.order ∙ c.taking.invariant.order
+]
+
+pub returns-in-Err-clause-storage_faults : goal.returns-in-Err-clause-storage_faults
+returns-in-Err-clause-storage_faults g c = elim c.if-not-ends_call.branch [
+  | then-not-ends_call+in_ok-give_back-in-Err w ↦ subst (λ (f : ImageFile g.row.S.Denot). FaultsTold {T = ℕ} (faults_of g.S.Storage.view c.args.file.now.storage) (faults_of g.S.Storage.view f.storage) (Err c.in-Err.refusal)) (sym w.file-is) (told_still _ _ _ _ (told_since _ _ _ c.taking.invariant.faults (told_err _ _ c.in-Err.refusal c.in-Err.ensures.storage_faults)) w.give_back-then-not-ends_call.ensures.storage_faults.no_fewer)
+  | else-not-ends_call w ↦ subst (λ (f : ImageFile g.row.S.Denot). FaultsTold {T = ℕ} (faults_of g.S.Storage.view c.args.file.now.storage) (faults_of g.S.Storage.view f.storage) (Err c.in-Err.refusal)) (sym w.file-is) (told_since _ _ _ c.taking.invariant.faults (told_err _ _ c.in-Err.refusal c.in-Err.ensures.storage_faults))
 ]

@@ -1,4 +1,4 @@
-use Rattle.std.proofs.Common.{◌≡◌, ℕ, ◌+◌, ◌*◌, ◌<◌, ◌≤◌, IsTrue, sym, ap, ◌∙◌, subst, arith, Some}
+use Rattle.std.proofs.Common.{◌≡◌, ℕ, ◌+◌, ◌*◌, ◌<◌, ◌≤◌, IsTrue, sym, ap, ◌∙◌, subst, arith, Some, refl}
 use Rattle.qcow2_metadata.specs.declared.header.HeaderFields.{HeaderFields}
 use Rattle.qcow2_metadata.specs.EntryTable.{EntryTableView}
 use Rattle.qcow2_metadata.specs.Header.{cluster_size}
@@ -17,6 +17,12 @@ use Rattle.qcow2_alloc.proofs.PlacedRooms.{Counting}
 use Rattle.qcow2_alloc.proofs.RoomSteps.{may_go}
 use Rattle.qcow2_alloc.proofs.RoomTables.{counting_beside, table_err, table_ok, stands_ready, names_then, uses_after}
 use Rattle.qcow2_alloc.proofs.Hints.{ok_as}
+use Rattle.qcow2_alloc.proofs.CacheMarks.{marks_then}
+use Rattle.qcow2_alloc.proofs.Following.{header_then, header_same}
+use Rattle.qcow2_alloc.proofs.Faults.{told_on, told_since}
+use Rattle.qcow2_alloc.proofs.Outcomes.{told_after, on_no_ok, handed_cause, on_err}
+use Rattle.std.proofs.Math.Nat.{le_trans}
+use Rattle.qcow2_alloc.specs.CacheMarks.{KeepsMarks}
 use Rattle.qcow2_alloc.proofs.allocation.Allocator.write_reftable.Goals as goal
 
 pub returns-in_err-flush_rb-clause-sound : goal.returns-in_err-flush_rb-clause-sound
@@ -220,3 +226,117 @@ pub returns-clause-place : goal.returns-clause-place
 returns-clause-place g c =
     ok_as (c.name_reftable.new.self.reftable ≡ c.place_table.new.table) (c.name_reftable.new.self.reftable.cluster ≡ Some (c.args.room.first + c.args.room.blocks)) c.name_reftable.result
     (λ is. ap (λ (x : EntryTableView). x.cluster) (is ∙ c.place_table.ensures.table) ∙ ap Some c.new.ensures) c.name_reftable.ensures.table
+
+pub returns-in_err-flush_rb-clause-marks : goal.returns-in_err-flush_rb-clause-marks
+returns-in_err-flush_rb-clause-marks g c = c.flush_rb.ensures.marks
+
+pub returns-in_err-flush_rb-clause-order : goal.returns-in_err-flush_rb-clause-order
+returns-in_err-flush_rb-clause-order g c = c.flush_rb.ensures.order
+
+pub returns-in_err-flush_rb-clause-cause : goal.returns-in_err-flush_rb-clause-cause
+returns-in_err-flush_rb-clause-cause g c = handed_cause c.from_residual.result c.in_err-flush_rb.field-0.0 c.from_residual.ensures c.in_err-flush_rb.ensures.cause
+
+pub returns-in_err-flush_rb-clause-storage_faults : goal.returns-in_err-flush_rb-clause-storage_faults
+returns-in_err-flush_rb-clause-storage_faults g c = told_on _ _ c.flush_rb.result c.in_err-flush_rb.field-0.0 c.from_residual.result c.flush_rb.ensures.storage_faults c.in_err-flush_rb.was c.from_residual.ensures
+
+pub returns-in_err-flush_rb-clause-table : goal.returns-in_err-flush_rb-clause-table
+returns-in_err-flush_rb-clause-table g c = on_no_ok _ c.from_residual.result c.in_err-flush_rb.field-0.0 c.from_residual.ensures
+
+pub returns-in_err-flush_rb-clause-header : goal.returns-in_err-flush_rb-clause-header
+returns-in_err-flush_rb-clause-header g c = header_same c.args.file.now.header c.args.file.now.header refl
+
+pub returns-in_err-flush_rb-clause-list : goal.returns-in_err-flush_rb-clause-list
+returns-in_err-flush_rb-clause-list g c = refl
+
+pub returns-in_err-flush_rb-clause-first : goal.returns-in_err-flush_rb-clause-first
+returns-in_err-flush_rb-clause-first g c = refl
+
+pub returns-in_err-flush_rb-clause-kept : goal.returns-in_err-flush_rb-clause-kept
+returns-in_err-flush_rb-clause-kept g c = on_err _ c.from_residual.result refl
+
+pub returns-in_err-flush_rb-clause-place : goal.returns-in_err-flush_rb-clause-place
+returns-in_err-flush_rb-clause-place g c = on_no_ok _ c.from_residual.result c.in_err-flush_rb.field-0.0 c.from_residual.ensures
+
+pub returns-in_err-place_blocks-clause-marks : goal.returns-in_err-place_blocks-clause-marks
+returns-in_err-place_blocks-clause-marks g c = marks_then _ _ _ c.flush_rb.ensures.marks c.place_blocks.ensures.marks
+
+pub returns-in_err-place_blocks-clause-order : goal.returns-in_err-place_blocks-clause-order
+returns-in_err-place_blocks-clause-order g c = c.place_blocks.ensures.order ∙ c.flush_rb.ensures.order
+
+pub returns-in_err-place_blocks-clause-cause : goal.returns-in_err-place_blocks-clause-cause
+returns-in_err-place_blocks-clause-cause g c = handed_cause c.from_residual-in_err-place_blocks.result c.in_err-place_blocks.field-0.0 c.from_residual-in_err-place_blocks.ensures c.in_err-place_blocks.ensures.cause
+
+pub returns-in_err-place_blocks-clause-storage_faults : goal.returns-in_err-place_blocks-clause-storage_faults
+returns-in_err-place_blocks-clause-storage_faults g c = told_after _ _ _ c.place_blocks.result c.in_err-place_blocks.field-0.0 c.from_residual-in_err-place_blocks.result c.flush_rb.ensures.storage_faults.no_fewer c.place_blocks.ensures.storage_faults c.in_err-place_blocks.was c.from_residual-in_err-place_blocks.ensures
+
+pub returns-in_err-place_blocks-clause-table : goal.returns-in_err-place_blocks-clause-table
+returns-in_err-place_blocks-clause-table g c = on_no_ok _ c.from_residual-in_err-place_blocks.result c.in_err-place_blocks.field-0.0 c.from_residual-in_err-place_blocks.ensures
+
+pub returns-in_err-place_blocks-clause-place : goal.returns-in_err-place_blocks-clause-place
+returns-in_err-place_blocks-clause-place g c = on_no_ok _ c.from_residual-in_err-place_blocks.result c.in_err-place_blocks.field-0.0 c.from_residual-in_err-place_blocks.ensures
+
+pub returns-in_err-place_blocks-clause-header : goal.returns-in_err-place_blocks-clause-header
+returns-in_err-place_blocks-clause-header g c = header_same c.args.file.now.header c.place_blocks.new.file.header c.place_blocks.ensures.header
+
+pub returns-in_err-place_blocks-clause-list : goal.returns-in_err-place_blocks-clause-list
+returns-in_err-place_blocks-clause-list g c = c.place_blocks.ensures.list
+
+pub returns-in_err-place_blocks-clause-first : goal.returns-in_err-place_blocks-clause-first
+returns-in_err-place_blocks-clause-first g c = refl
+
+pub returns-in_err-place_blocks-clause-kept : goal.returns-in_err-place_blocks-clause-kept
+returns-in_err-place_blocks-clause-kept g c = on_err _ c.from_residual-in_err-place_blocks.result refl
+
+pub returns-in_err-place_table-clause-marks : goal.returns-in_err-place_table-clause-marks
+returns-in_err-place_table-clause-marks g c = subst (λ (x : MetadataCaches g.row.S.Denot). KeepsMarks c.args.file.now.caches x) (sym c.place_table.ensures.caches) (marks_then _ _ _ c.flush_rb.ensures.marks c.place_blocks.ensures.marks)
+
+pub returns-in_err-place_table-clause-order : goal.returns-in_err-place_table-clause-order
+returns-in_err-place_table-clause-order g c = ap (λ (x : MetadataCaches g.row.S.Denot). order_of x) c.place_table.ensures.caches ∙ c.place_blocks.ensures.order ∙ c.flush_rb.ensures.order
+
+pub returns-in_err-place_table-clause-cause : goal.returns-in_err-place_table-clause-cause
+returns-in_err-place_table-clause-cause g c = handed_cause c.from_residual-in_err-place_table.result c.in_err-place_table.field-0.0 c.from_residual-in_err-place_table.ensures c.in_err-place_table.ensures.cause
+
+pub returns-in_err-place_table-clause-storage_faults : goal.returns-in_err-place_table-clause-storage_faults
+returns-in_err-place_table-clause-storage_faults g c = told_after _ _ _ c.place_table.result c.in_err-place_table.field-0.0 c.from_residual-in_err-place_table.result (le_trans c.flush_rb.ensures.storage_faults.no_fewer c.place_blocks.ensures.storage_faults.no_fewer) c.place_table.ensures.storage_faults c.in_err-place_table.was c.from_residual-in_err-place_table.ensures
+
+pub returns-in_err-place_table-clause-header : goal.returns-in_err-place_table-clause-header
+returns-in_err-place_table-clause-header g c = header_same c.args.file.now.header c.place_table.new.file.header (c.place_table.ensures.header ∙ c.place_blocks.ensures.header)
+
+pub returns-in_err-place_table-clause-list : goal.returns-in_err-place_table-clause-list
+returns-in_err-place_table-clause-list g c = c.place_table.ensures.list ∙ c.place_blocks.ensures.list
+
+pub returns-in_err-place_table-clause-first : goal.returns-in_err-place_table-clause-first
+returns-in_err-place_table-clause-first g c = refl
+
+pub returns-in_err-place_table-clause-kept : goal.returns-in_err-place_table-clause-kept
+returns-in_err-place_table-clause-kept g c = on_err _ c.from_residual-in_err-place_table.result refl
+
+pub returns-in_err-place_table-clause-table : goal.returns-in_err-place_table-clause-table
+returns-in_err-place_table-clause-table g c = on_no_ok _ c.from_residual-in_err-place_table.result c.in_err-place_table.field-0.0 c.from_residual-in_err-place_table.ensures
+
+pub returns-in_err-place_table-clause-place : goal.returns-in_err-place_table-clause-place
+returns-in_err-place_table-clause-place g c = on_no_ok _ c.from_residual-in_err-place_table.result c.in_err-place_table.field-0.0 c.from_residual-in_err-place_table.ensures
+
+pub returns-clause-marks : goal.returns-clause-marks
+returns-clause-marks g c = marks_then _ _ _ (subst (λ (x : MetadataCaches g.row.S.Denot). KeepsMarks c.args.file.now.caches x) (sym c.place_table.ensures.caches) (marks_then _ _ _ c.flush_rb.ensures.marks c.place_blocks.ensures.marks)) c.name_reftable.ensures.marks
+
+pub returns-clause-order : goal.returns-clause-order
+returns-clause-order g c = c.name_reftable.ensures.order ∙ ap (λ (x : MetadataCaches g.row.S.Denot). order_of x) c.place_table.ensures.caches ∙ c.place_blocks.ensures.order ∙ c.flush_rb.ensures.order
+
+pub returns-clause-header : goal.returns-clause-header
+returns-clause-header g c = header_then c.args.file.now.header c.place_table.new.file.header c.name_reftable.new.file.header (header_same c.args.file.now.header c.place_table.new.file.header (c.place_table.ensures.header ∙ c.place_blocks.ensures.header)) c.name_reftable.ensures.header
+
+pub returns-clause-list : goal.returns-clause-list
+returns-clause-list g c = c.name_reftable.ensures.list ∙ c.place_table.ensures.list ∙ c.place_blocks.ensures.list
+
+pub returns-clause-first : goal.returns-clause-first
+returns-clause-first g c = c.name_reftable.ensures.first
+
+pub returns-clause-cause : goal.returns-clause-cause
+returns-clause-cause g c = c.name_reftable.ensures.cause
+
+pub returns-clause-kept : goal.returns-clause-kept
+returns-clause-kept g c = c.name_reftable.ensures.kept
+
+pub returns-clause-storage_faults : goal.returns-clause-storage_faults
+returns-clause-storage_faults g c = told_since _ _ _ (le_trans (le_trans c.flush_rb.ensures.storage_faults.no_fewer c.place_blocks.ensures.storage_faults.no_fewer) c.place_table.ensures.storage_faults.no_fewer) c.name_reftable.ensures.storage_faults

@@ -1,0 +1,82 @@
+-- What holds of the result of a call, whatever the call does.
+use Rattle.std.proofs.Common.{◌≡◌, ℕ, ◌≤◌, Bool, false, Result, Ok, Err, IsErr, IsErrAnd, IsTrue, refl, ap}
+use Rattle.std.specs.Prelude.{IsErrOf, IfOk, IfErr, OnOk, OnErr}
+use Rattle.qcow2_metadata.specs.EntryTable.{EntryTableView}
+use Rattle.qcow2_alloc.specs.Allocation.{KeepsEntries}
+use Rattle.qcow2_alloc.specs.ImageError.{IsOfTables}
+use Rattle.image_access.proofs.Passing.{rose_still}
+use Rattle.std.proofs.Math.Nat.{le_trans}
+use Rattle.qcow2_alloc.specs.declared.error.ImageError.{ImageError}
+use Rattle.qcow2_alloc.specs.declared.error.ImageError.TheVariants as I
+use Rattle.qcow2_alloc.specs.Faults.{FaultsTold}
+use Rattle.qcow2_alloc.proofs.AllocationSteps.{handed_on}
+use Rattle.qcow2_alloc.proofs.Faults.{told_on, told_since}
+
+-- an answer is no refusal
+pub ok_no_err : {A E B : Type 0} (x : A) (e : E) → Ok x ≡ Err e → B
+ok_no_err x e bad = absurd (cc)
+
+-- a test doesn't fail and hold
+pub not_both : {B : Type 0} (test : Bool) → IsTrue test → test ≡ false → B
+not_both test holds fails = absurd (cc)
+
+-- a refusal by this call's own
+pub told_limit : {T : Type 0} (before now : ℕ) → before ≤ now → FaultsTold {T = T} before now (Err I.Limit)
+told_limit before now le = record { no_fewer = le; rose = λ bad. absurd (cc) }
+
+pub told_memory : {T : Type 0} (before now : ℕ) → before ≤ now → FaultsTold {T = T} before now (Err I.Memory)
+told_memory before now le = record { no_fewer = le; rose = λ bad. absurd (cc) }
+
+-- a refusal that is answered as it came
+pub told_err : {T A : Type 0} (before now : ℕ) (e : ImageError) → FaultsTold {T = A} before now (Err e) → FaultsTold {T = T} before now (Err e)
+told_err before now e told = record { no_fewer = told.no_fewer; rose = λ is. told.rose (let same : e ≡ I.Storage = cc in ap Err same) }
+
+-- one that has a name
+pub err_as : {T A : Type 0} (e f : ImageError) → IsErrOf {T = A} (Err e) f → IsErrOf {T = T} (Err e) f
+err_as e f is = ap Err (let same : e ≡ f = cc in same)
+
+-- one that `?` hands on, after others
+pub told_after : {T A : Type 0} (before mid now : ℕ) (answer : Result A ImageError) (e : ImageError) (result : Result T ImageError) → before ≤ mid → FaultsTold mid now answer → answer ≡ Err e
+    → IsErr result × IsErrAnd result (λ x. x ≡ e) → FaultsTold before now result
+told_after before mid now answer e result le told is on = told_since before mid now le (told_on mid now answer e result told is on)
+
+-- a call that is followed by one that tells no more
+pub told_still : {T : Type 0} (before mid now : ℕ) (result : Result T ImageError) → FaultsTold before mid result → mid ≤ now → FaultsTold before now result
+told_still before mid now result told le = record { no_fewer = le_trans told.no_fewer le; rose = λ is. rose_still before mid now (told.rose is) le }
+
+-- the last of two and of three calls
+pub told_second : {T A : Type 0} (before mid now : ℕ) (one : Result A ImageError) (two : Result T ImageError) → FaultsTold before mid one → FaultsTold mid now two → FaultsTold before now two
+told_second before mid now one two first then = told_since before mid now first.no_fewer then
+
+pub told_third : {T A B : Type 0} (before mid late now : ℕ) (one : Result A ImageError) (two : Result B ImageError) (three : Result T ImageError) → FaultsTold before mid one → FaultsTold mid late two
+    → FaultsTold late now three → FaultsTold before now three
+told_third before mid late now one two three first then last = told_since before late now (le_trans first.no_fewer then.no_fewer) last
+
+-- what `?` hands on is no answer
+pub on_no_ok : {A : Type 0} (P : Type 0) (r : Result A ImageError) (e : ImageError) → IsErr r × IsErrAnd r (λ x. x ≡ e) → OnOk r P
+on_no_ok P (Ok x) e on = absurd (let bad = on.0 in cc)
+on_no_ok P (Err x) e on = tt
+
+pub if_no_ok : {A : Type 0} (P : A → Type 0) (r : Result A ImageError) (e : ImageError) → IsErr r × IsErrAnd r (λ x. x ≡ e) → IfOk r P
+if_no_ok P (Ok x) e on = absurd (let bad = on.0 in cc)
+if_no_ok P (Err x) e on = tt
+
+-- a cause that `?` hands on
+pub handed_cause : {A : Type 0} (r : Result A ImageError) (e : ImageError) → IsErr r × IsErrAnd r (λ x. x ≡ e) → IsOfTables e → IfErr r IsOfTables
+handed_cause r e on cause = handed_on (λ x. IfErr x IsOfTables) r e on cause
+
+pub handed_unaligned : {A B : Type 0} (r : Result A ImageError) (e : ImageError) → IsErr r × IsErrAnd r (λ x. x ≡ e) → IsErrOf {T = B} (Err e) I.UnalignedTable → IsErrOf r I.UnalignedTable
+handed_unaligned r e on is = handed_on (λ x. IsErrOf x I.UnalignedTable) r e on (err_as e I.UnalignedTable is)
+
+-- a reftable that stays
+pub entries_none : (P : ℕ → Type 0) (t : EntryTableView) → KeepsEntries P t t
+entries_none P t = record { cluster = refl; bits = refl; count = refl; others = λ k stays. refl }
+
+-- what holds whatever is answered
+pub on_ok : {A : Type 0} (P : Type 0) (r : Result A ImageError) → P → OnOk r P
+on_ok P (Ok x) holds = holds
+on_ok P (Err e) holds = tt
+
+pub on_err : {A : Type 0} (P : Type 0) (r : Result A ImageError) → P → OnErr r P
+on_err P (Ok x) holds = tt
+on_err P (Err e) holds = holds
