@@ -357,7 +357,7 @@ impl<S: Storage, F: WrappedFormat<S>> Qcow2<S, F> {
         }
     }
 
-    /// Frees the clusters that are to be freed, writes what is cached, and hands all on to the device.
+    /// Frees the clusters that are to be freed, writes what is cached, and flushes the storage.
     pub fn flush(&mut self) -> Result<(), ImageError>
         ensures early { IsTrue (is_failed self.old) → (result ≡ Err Failed) × (self.new ≡ self.old) }
         ensures late { is_failed self.old ≡ false → IfErr result IsMet }
