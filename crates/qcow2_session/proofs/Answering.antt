@@ -25,7 +25,7 @@ use Rattle.qcow2_image.proofs.Sizes.{disk_size, sound_is_usable}
 -- ---- a failed image
 
 module _ {S F : Type 0} (image : Qcow2 S F) (P : ImageError → Type 0) where
-  first_of_all : (more : Option ImageError) → IfSome (option_or (unusable image) more) P → IsTrue (is_failed image) → P I.Failed
+  pub first_of_all : (more : Option ImageError) → IfSome (option_or (unusable image) more) P → IsTrue (is_failed image) → P I.Failed
   first_of_all more early failed = subst (λ b. IfSome (option_or (option_or (refuse_if b I.Failed) (refuse_if (is_external image) I.Dependency)) more) P) failed early
 
   pub unusable_first : IfSome (unusable image) P → IsTrue (is_failed image) → P I.Failed

@@ -11,3 +11,4 @@ mod Runs
 mod LookingUp
 mod Converting
 mod Exporting
+mod Cleared

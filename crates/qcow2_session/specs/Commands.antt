@@ -1,5 +1,8 @@
 -- What commands and replies mean in words of a guest's disk.
-use Rattle.qcow2_laws.specs.Runs.{Command, Reply, read, write, get_mapping, read_mapped, prepare, put, commit, discard, flush, get_size, done, bytes_are, mapping_is, prepared_is, number_is, refused, write_refused, misuse}
+use Rattle.std.specs.Prelude.{ℕ, Result, Ok, Err}
+use Rattle.qcow2_laws.specs.Calls.{to_zero, to_backing}
+use Rattle.qcow2_laws.specs.Runs.{Command, Reply, read, write, get_mapping, read_mapped, prepare, put, commit, discard, clear, flush, get_size, done, bytes_are, mapping_is, prepared_is, range_is, number_is, refused, write_refused, misuse}
+use Rattle.qcow2_alloc.specs.declared.error.ImageError.{ImageError}
 use Rattle.qcow2_image.specs.Calls.{refusal_of}
 use Rattle.qcow2_image.specs.Found.{found_kind}
 use Rattle.qcow2_session.specs.declared.session.Command.{Command as SessionCommand}
@@ -16,6 +19,10 @@ command_of (C.PrepareDataMapping slot offset n overwrite) = prepare slot offset 
 command_of (C.WriteMapped slot at bytes) = put slot at bytes.items
 command_of (C.CommitDataMapping slot) = commit slot
 command_of (C.DiscardDataMapping slot) = discard slot
+command_of (C.EnsureZeroMapping offset n) = clear to_zero offset n
+command_of (C.DiscardToZero offset n) = clear to_zero offset n
+command_of (C.DiscardToAny offset n) = clear to_zero offset n
+command_of (C.DiscardToBacking offset n) = clear to_backing offset n
 command_of C.Flush = flush
 command_of C.Size = get_size
 
@@ -24,7 +31,13 @@ reply_of R.Done = done
 reply_of (R.Bytes bytes) = bytes_are bytes.items
 reply_of (R.Mapping m) = mapping_is m.offset (found_kind m.kind) m.length
 reply_of (R.Prepared offset n existing) = prepared_is offset n existing
+reply_of (R.Range offset n) = range_is offset n
 reply_of (R.Size n) = number_is n
 reply_of (R.Refused e) = refused (refusal_of e)
 reply_of (R.WriteRefused e n) = write_refused (refusal_of e) n
 reply_of R.Misuse = misuse
+
+-- what clearing a range is replied
+abbrev pub reply_of_clearing : Result (ℕ × ℕ) ImageError → SessionReply
+reply_of_clearing (Ok range) = R.Range range.0 range.1
+reply_of_clearing (Err e) = R.Refused e

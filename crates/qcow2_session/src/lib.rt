@@ -1,6 +1,7 @@
 //! Commands on a qcow2 image, and what they are answered.
 #![tactic(auto)]
 
+mod clearing;
 pub mod convert;
 mod headline;
 pub mod session;

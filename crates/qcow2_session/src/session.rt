@@ -8,6 +8,7 @@ ghost use Rattle.qcow2_image.specs.Refusals.{unusable, refuses_to_read, refuses_
 ghost use Rattle.qcow2_session.specs.Sessions.{IsRightlyBeyond, IsOfReading, IsOfWriting, EndsCluster, Reads, ReadsInto, ReadsFirst, Writes, WritesFirst, CommandSteps, Finds, ReleasesMappings, RunsThrough, RunRefinesDisk, LookupsFindContents};
 ghost use Rattle.qcow2_image.specs.declared.prepared.Prepared.{Prepared};
 
+use crate::clearing::{discard_to_any, discard_to_backing, discard_to_zero, ensure_zero};
 use crate::slots::Slots;
 use image_access::{Storage, WrappedFormat};
 use qcow2_image::{CommitRefused, ImageError, Mapping, Prepared, Qcow2};
@@ -51,6 +52,22 @@ pub enum Command {
     DiscardDataMapping {
         slot: u8,
     },
+    EnsureZeroMapping {
+        offset: u64,
+        length: u64,
+    },
+    DiscardToZero {
+        offset: u64,
+        length: u64,
+    },
+    DiscardToAny {
+        offset: u64,
+        length: u64,
+    },
+    DiscardToBacking {
+        offset: u64,
+        length: u64,
+    },
     Flush,
     Size,
 }
@@ -68,6 +85,11 @@ pub enum Reply {
         offset: u64,
         length: u64,
         existing: bool,
+    },
+    /// Where a range's first whole cluster begins, and how much of the range from there on was zeroed or discarded.
+    Range {
+        offset: u64,
+        length: u64,
     },
     Size(u64),
     Refused(ImageError),
@@ -288,6 +310,10 @@ fn step<S: Storage, F: WrappedFormat<S>>(
         Command::WriteMapped { slot, at, bytes } => write_mapped(image, slots, *slot, *at, bytes),
         Command::CommitDataMapping { slot } => commit(image, slots, *slot),
         Command::DiscardDataMapping { slot } => discard(image, slots, *slot),
+        Command::EnsureZeroMapping { offset, length } => ensure_zero(image, *offset, *length),
+        Command::DiscardToZero { offset, length } => discard_to_zero(image, *offset, *length),
+        Command::DiscardToAny { offset, length } => discard_to_any(image, *offset, *length),
+        Command::DiscardToBacking { offset, length } => discard_to_backing(image, *offset, *length),
         Command::Flush => flush(image),
         Command::Size => Reply::Size(image.size()),
     }

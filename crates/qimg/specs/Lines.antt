@@ -17,6 +17,10 @@ pub data Order : Type 0 where
   puts : (slot at : ℕ) (bytes : List ℕ) → Order
   commits : (slot : ℕ) → Order
   drops : (slot : ℕ) → Order
+  zeroes : (offset length : ℕ) → Order
+  discards_to_zero : (offset length : ℕ) → Order
+  discards_to_any : (offset length : ℕ) → Order
+  discards_to_backing : (offset length : ℕ) → Order
   flushes : Order
   sizes : Order
   -- what no line asks for
@@ -30,6 +34,10 @@ order (C.PrepareDataMapping slot offset length overwrite) = prepares slot offset
 order (C.WriteMapped slot at bytes) = puts slot at bytes.items
 order (C.CommitDataMapping slot) = commits slot
 order (C.DiscardDataMapping slot) = drops slot
+order (C.EnsureZeroMapping offset length) = zeroes offset length
+order (C.DiscardToZero offset length) = discards_to_zero offset length
+order (C.DiscardToAny offset length) = discards_to_any offset length
+order (C.DiscardToBacking offset length) = discards_to_backing offset length
 order C.Flush = flushes
 order C.Size = sizes
 order _ = other
@@ -130,6 +138,19 @@ abbrev pub drop_of : Option ℕ → Option Order
 drop_of (Some slot) = Some (drops slot)
 drop_of None = None
 
+abbrev pub range_with : Option ℕ → Option ℕ → Option (ℕ × ℕ)
+range_with (Some offset) (Some length) = Some (offset, length)
+range_with _ _ = None
+
+-- OFFSET LENGTH of a `zero`, `dzero`, `dany` or `dback`
+abbrev pub range_alone : List (List ℕ) → Option (ℕ × ℕ)
+range_alone (offset ∷ length ∷ []) = range_with (number_of offset) (number_of length)
+range_alone _ = None
+
+abbrev pub clear_of : (ℕ → ℕ → Order) → Option (ℕ × ℕ) → Option Order
+clear_of clears (Some range) = Some (clears range.0 range.1)
+clear_of clears None = None
+
 -- a line of one word
 abbrev pub order_alone : Order → List (List ℕ) → Option Order
 order_alone asked [] = Some asked
@@ -147,6 +168,10 @@ order_of_words (name ∷ operands) =
     else if bytes_eq name (codes "put") then put_of operands
     else if bytes_eq name (codes "commit") then commit_of (slot_alone operands)
     else if bytes_eq name (codes "drop") then drop_of (slot_alone operands)
+    else if bytes_eq name (codes "zero") then clear_of zeroes (range_alone operands)
+    else if bytes_eq name (codes "dzero") then clear_of discards_to_zero (range_alone operands)
+    else if bytes_eq name (codes "dany") then clear_of discards_to_any (range_alone operands)
+    else if bytes_eq name (codes "dback") then clear_of discards_to_backing (range_alone operands)
     else if bytes_eq name (codes "flush") then order_alone flushes operands
     else if bytes_eq name (codes "size") then order_alone sizes operands
     else None

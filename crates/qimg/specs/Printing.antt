@@ -43,6 +43,7 @@ line_of R.Done = Some (codes "ok")
 line_of (R.Bytes bytes) = Some (bytes_line bytes.items)
 line_of (R.Mapping mapping) = Some (mapping_line mapping.kind mapping.length)
 line_of (R.Prepared offset length existing) = Some (prepared_line existing offset length)
+line_of (R.Range offset length) = Some (codes "range" ␣ decimal offset ␣ decimal length)
 line_of (R.Size size) = Some (codes "size" ␣ decimal size)
 line_of (R.Refused _) = None
 line_of (R.WriteRefused _ _) = None

@@ -1,6 +1,6 @@
 ghost use Rattle.std.specs.Prelude.{◌≡◌, ◌==◌, List, ℕ, map, IfOk, IsErrOf, None, Some};
 ghost use Rattle.std.specs.List.{list_all, slice_split};
-ghost use Rattle.qimg.specs.Lines.{length_within, is_lower_hex_digit, bytes_of, byte_of, order, order_alone, read_of, map_of, write_of, fill_of, slot_within, overwrite_of, prepare_of, put_of, slot_alone, order_of_words, order_of_line};
+ghost use Rattle.qimg.specs.Lines.{length_within, is_lower_hex_digit, bytes_of, byte_of, order, order_alone, read_of, map_of, write_of, fill_of, slot_within, overwrite_of, prepare_of, put_of, slot_alone, range_alone, clear_of, zeroes, discards_to_zero, discards_to_any, discards_to_backing, order_of_words, order_of_line};
 ghost use Rattle.qimg.specs.Numbers.{number_of};
 ghost use Rattle.qimg.specs.declared.lines.LineError.TheVariants.{Unreadable, Memory};
 
@@ -64,6 +64,10 @@ fn parse_words(alloc: Global, words: &[&str]) -> Result<Command, LineError>
         "drop" => Ok(Command::DiscardDataMapping {
             slot: slot_of_operands(operands)?,
         }),
+        "zero" => zero_command(operands),
+        "dzero" => discard_to_zero_command(operands),
+        "dany" => discard_to_any_command(operands),
+        "dback" => discard_to_backing_command(operands),
         "flush" => alone(Command::Flush, operands),
         "size" => alone(Command::Size, operands),
         _ => Err(LineError::Unreadable),
@@ -178,6 +182,52 @@ fn put_command(alloc: Global, operands: &[&str]) -> Result<Command, LineError>
     };
     let bytes = pairs_of(alloc, pairs)?;
     Ok(Command::WriteMapped { slot, at, bytes })
+}
+
+fn zero_command(operands: &[&str]) -> Result<Command, LineError>
+    ensures ok { IfOk result (λ command. clear_of zeroes (range_alone (map (λ word. word.now) operands.now)) ≡ Some (order command)) }
+    ensures unreadable { IsErrOf result Unreadable → clear_of zeroes (range_alone (map (λ word. word.now) operands.now)) ≡ None }
+{
+    let (offset, length) = range_of_operands(operands)?;
+    Ok(Command::EnsureZeroMapping { offset, length })
+}
+
+fn discard_to_zero_command(operands: &[&str]) -> Result<Command, LineError>
+    ensures ok { IfOk result (λ command. clear_of discards_to_zero (range_alone (map (λ word. word.now) operands.now)) ≡ Some (order command)) }
+    ensures unreadable { IsErrOf result Unreadable → clear_of discards_to_zero (range_alone (map (λ word. word.now) operands.now)) ≡ None }
+{
+    let (offset, length) = range_of_operands(operands)?;
+    Ok(Command::DiscardToZero { offset, length })
+}
+
+fn discard_to_any_command(operands: &[&str]) -> Result<Command, LineError>
+    ensures ok { IfOk result (λ command. clear_of discards_to_any (range_alone (map (λ word. word.now) operands.now)) ≡ Some (order command)) }
+    ensures unreadable { IsErrOf result Unreadable → clear_of discards_to_any (range_alone (map (λ word. word.now) operands.now)) ≡ None }
+{
+    let (offset, length) = range_of_operands(operands)?;
+    Ok(Command::DiscardToAny { offset, length })
+}
+
+fn discard_to_backing_command(operands: &[&str]) -> Result<Command, LineError>
+    ensures ok { IfOk result (λ command. clear_of discards_to_backing (range_alone (map (λ word. word.now) operands.now)) ≡ Some (order command)) }
+    ensures unreadable { IsErrOf result Unreadable → clear_of discards_to_backing (range_alone (map (λ word. word.now) operands.now)) ≡ None }
+{
+    let (offset, length) = range_of_operands(operands)?;
+    Ok(Command::DiscardToBacking { offset, length })
+}
+
+// The offset and the length of a line that names nothing else.
+fn range_of_operands(operands: &[&str]) -> Result<(u64, u64), LineError>
+    ensures ok { IfOk result (λ range. range_alone (map (λ word. word.now) operands.now) ≡ Some range) }
+    ensures unreadable { IsErrOf result Unreadable → range_alone (map (λ word. word.now) operands.now) ≡ None }
+{
+    let [offset, length] = operands else {
+        return Err(LineError::Unreadable);
+    };
+    let (Some(offset), Some(length)) = (number(offset), number(length)) else {
+        return Err(LineError::Unreadable);
+    };
+    Ok((offset, length))
 }
 
 // The slot of a line that names nothing else.

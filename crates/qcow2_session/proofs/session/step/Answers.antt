@@ -40,3 +40,15 @@ returns-in-CommitDataMapping-clause-goes g c = subst (λ q. CommandSteps g.S.Sto
 
 pub returns-in-DiscardDataMapping-clause-goes : goal.returns-in-DiscardDataMapping-clause-goes
 returns-in-DiscardDataMapping-clause-goes g c = subst (λ q. CommandSteps g.S.Storage.view g.F.BackingDisk.backing c.args.image.now c.discard.new.image c.args.slots.now c.discard.new.slots q c.discard.result) (sym c.in-DiscardDataMapping.is) c.discard.ensures.goes
+
+pub returns-in-EnsureZeroMapping-clause-goes : goal.returns-in-EnsureZeroMapping-clause-goes
+returns-in-EnsureZeroMapping-clause-goes g c = subst (λ q. CommandSteps g.S.Storage.view g.F.BackingDisk.backing c.args.image.now c.ensure_zero.new.image c.args.slots.now c.args.slots.now q c.ensure_zero.result) (sym c.in-EnsureZeroMapping.is) (c.ensure_zero.ensures.goes c.args.slots.now)
+
+pub returns-in-DiscardToZero-clause-goes : goal.returns-in-DiscardToZero-clause-goes
+returns-in-DiscardToZero-clause-goes g c = subst (λ q. CommandSteps g.S.Storage.view g.F.BackingDisk.backing c.args.image.now c.discard_to_zero.new.image c.args.slots.now c.args.slots.now q c.discard_to_zero.result) (sym c.in-DiscardToZero.is) (c.discard_to_zero.ensures.goes c.args.slots.now)
+
+pub returns-in-DiscardToAny-clause-goes : goal.returns-in-DiscardToAny-clause-goes
+returns-in-DiscardToAny-clause-goes g c = subst (λ q. CommandSteps g.S.Storage.view g.F.BackingDisk.backing c.args.image.now c.discard_to_any.new.image c.args.slots.now c.args.slots.now q c.discard_to_any.result) (sym c.in-DiscardToAny.is) (c.discard_to_any.ensures.goes c.args.slots.now)
+
+pub returns-in-DiscardToBacking-clause-goes : goal.returns-in-DiscardToBacking-clause-goes
+returns-in-DiscardToBacking-clause-goes g c = subst (λ q. CommandSteps g.S.Storage.view g.F.BackingDisk.backing c.args.image.now c.discard_to_backing.new.image c.args.slots.now c.args.slots.now q c.discard_to_backing.result) (sym c.in-DiscardToBacking.is) (c.discard_to_backing.ensures.goes c.args.slots.now)

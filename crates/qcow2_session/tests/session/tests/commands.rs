@@ -206,3 +206,56 @@ fn a_prepared_slot_is_discarded(rt: HostRuntime) -> Result<(), Fail> {
     );
     Ok(())
 }
+
+#[test]
+fn ranges_are_zeroed_and_discarded(rt: HostRuntime) -> Result<(), Fail> {
+    let alloc = rt.alloc();
+    let commands = vec![in alloc;
+        Command::Write {
+            offset: 0,
+            bytes: vec![in alloc; 0x11; 2048]?
+        },
+        Command::EnsureZeroMapping {
+            offset: 0,
+            length: 512
+        },
+        Command::DiscardToZero {
+            offset: 100,
+            length: 1000
+        },
+        Command::DiscardToAny {
+            offset: 1024,
+            length: 512
+        },
+        Command::DiscardToBacking {
+            offset: 1536,
+            length: 100
+        },
+        Command::DiscardToBacking {
+            offset: 65536,
+            length: 1
+        },
+        Command::Read {
+            offset: 1535,
+            length: 2
+        },
+    ]?;
+    assert_eq!(rt;
+        replies(alloc, fresh(alloc)?, &commands)?.as_slice(),
+        [
+            Reply::Done,
+            range(0, 512),
+            range(512, 512),
+            range(1024, 512),
+            range(1536, 0),
+            Reply::Refused(ImageError::BeyondSize),
+            Reply::Bytes(vec![in alloc; 0, 0x11]?),
+        ]
+        .as_slice()
+    );
+    Ok(())
+}
+
+fn range(offset: u64, length: u64) -> Reply {
+    Reply::Range { offset, length }
+}
