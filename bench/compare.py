@@ -4,10 +4,11 @@
 qemu-io runs with the cache mode `unsafe`: a flush hands the tables to the operating system, as qimg's does,
 and doesn't wait for the device. Then qimg alone on a small image and on a large one, with the same amount of work: its peak memory
 is to stay the same. Then raw disks made into images and back beside qemu-img convert, and qimg check beside qemu-img check.
-Each figure is the median of three runs, each on a new image. The words `convert` or `check` do those parts alone."""
+Each figure is the median of three runs, each on a new image, and of five for raw disks and checks, both programs in turn. The words `convert` or `check` do those parts alone."""
 
 import os
 import random
+import resource
 import shutil
 import statistics
 import subprocess
@@ -21,6 +22,7 @@ MIB = 1048576
 SIZE = 64 * MIB
 LARGE = 1024 * MIB
 RUNS = 3
+TURNS = 5
 
 
 def sequential():
@@ -112,25 +114,24 @@ def of_two_sizes(cluster):
     return None if None in results else [memory for _, memory in results]
 
 
-def timed(words, made=None):
-    """Seconds and peak memory in KiB of a program that must succeed: the medians of some runs. What it makes is removed before each."""
-    results = []
-    for _ in range(RUNS):
-        if made and os.path.exists(made):
-            os.remove(made)
-        start = time.monotonic()
-        subprocess.run(["/usr/bin/time", "-f", "%M", "-o", "memory", *words], check=True, stdout=subprocess.DEVNULL)
-        seconds = time.monotonic() - start
-        with open("memory") as it:
-            results.append((seconds, int(it.read())))
-    return [statistics.median(column) for column in zip(*results)]
+def once(words, made=None):
+    """Seconds, seconds of a processor and peak memory in KiB of a program that must succeed. What it makes is removed before."""
+    if made and os.path.exists(made):
+        os.remove(made)
+    before, start = resource.getrusage(resource.RUSAGE_CHILDREN), time.monotonic()
+    subprocess.run(["/usr/bin/time", "-f", "%M", "-o", "memory", *words], check=True, stdout=subprocess.DEVNULL)
+    seconds, after = time.monotonic() - start, resource.getrusage(resource.RUSAGE_CHILDREN)
+    with open("memory") as it:
+        return seconds, after.ru_utime + after.ru_stime - before.ru_utime - before.ru_stime, int(it.read())
 
 
-def tell(name, own, other, tool):
-    """Prints what both took, and the ratios."""
+def beside(name, own, other, tool):
+    """The medians of some runs of both in turn, each with the words and what they make, and the ratios. What a busy machine slows least is the time of a processor."""
+    results = [(once(*own), once(*other)) for _ in range(TURNS)]
+    own, other = ([statistics.median(column) for column in zip(*runs)] for runs in zip(*results))
     print(name)
-    for what, index, unit, scale in (("time", 0, "ms", 1000), ("memory", 1, "MiB", 1 / 1024)):
-        print(f"  {what:7}qimg {own[index] * scale:8.1f} {unit}   {tool} {other[index] * scale:8.1f} {unit}   ratio {own[index] / other[index]:.2f}", flush=True)
+    for what, index, unit, scale in (("time", 0, "ms", 1000), ("processor", 1, "ms", 1000), ("memory", 2, "MiB", 1 / 1024)):
+        print(f"  {what:10}qimg {own[index] * scale:8.1f} {unit}   {tool} {other[index] * scale:8.1f} {unit}   ratio {own[index] / max(other[index], 1e-3):.2f}", flush=True)
 
 
 def fill(file, size):
@@ -151,12 +152,12 @@ def sparse(file):
 
 def converted(name, cluster):
     """The raw disk is made into an image, and the image into a raw disk."""
-    own = timed([QIMG, "import", "raw", "disk", str(cluster), "16"], "disk")
-    other = timed(["qemu-img", "convert", "-f", "raw", "-O", "qcow2", "-o", f"cluster_size={cluster}", "raw", "by_qemu"], "by_qemu")
-    tell(f"import: {name}, clusters of {cluster}", own, other, "qemu-img convert")
-    own = timed([QIMG, "export", "disk", "back"], "back")
-    other = timed(["qemu-img", "convert", "-f", "qcow2", "-O", "raw", "disk", "back_by_qemu"], "back_by_qemu")
-    tell(f"export: {name}, clusters of {cluster}", own, other, "qemu-img convert")
+    own = ([QIMG, "import", "raw", "disk", str(cluster), "16"], "disk")
+    other = (["qemu-img", "convert", "-f", "raw", "-O", "qcow2", "-o", f"cluster_size={cluster}", "raw", "by_qemu"], "by_qemu")
+    beside(f"import: {name}, clusters of {cluster}", own, other, "qemu-img convert")
+    own = ([QIMG, "export", "disk", "back"], "back")
+    other = (["qemu-img", "convert", "-f", "qcow2", "-O", "raw", "disk", "back_by_qemu"], "back_by_qemu")
+    beside(f"export: {name}, clusters of {cluster}", own, other, "qemu-img convert")
 
 
 def conversions():
@@ -171,7 +172,7 @@ def checks():
     fill("raw", LARGE)
     for cluster in (65536, 4096, 512):
         subprocess.run([QIMG, "import", "raw", "disk", str(cluster), "16"], check=True, stdout=subprocess.DEVNULL)
-        tell(f"check: 1 GiB of data, clusters of {cluster}", timed([QIMG, "check", "disk"]), timed(["qemu-img", "check", "-f", "qcow2", "disk"]), "qemu-img check")
+        beside(f"check: 1 GiB of data, clusters of {cluster}", ([QIMG, "check", "disk"],), (["qemu-img", "check", "-f", "qcow2", "disk"],), "qemu-img check")
 
 
 def in_a_room(part):

@@ -239,6 +239,50 @@ def each_write_of_an_export_fails():
     equal((number, text, contents("back")), (3, "exported 1300\n", ROW), "where none failed")
 
 
+def has_leading_clusters(data, cluster):
+    """The image is consistent, and has these bytes up to a cluster's start, and zeros from there on; or it has no size yet."""
+    consistent("disk")
+    equal(qimg("export", "disk", "back")[0], 0, "export")
+    back = contents("back")
+    same = next((at for at in range(0, len(data), cluster) if back[at:at + cluster] != data[at:at + cluster]), len(data))
+    equal((len(back) in (0, len(data)), any(back[same:])), (True, False), "what was imported")
+
+
+def each_long_read_fails():
+    """Reads ahead fail as others do."""
+    data = random.Random(8).randbytes(700 * 1024)
+    has("raw", data)
+    for number in range(1, 100):
+        has("disk", b"")
+        status, text = with_calls_that(f"pread64:error=EIO:when={number}", "raw", "import", "raw", "disk", "4096", "16")
+        if status == 0:
+            break
+        equal((status, text), STORAGE, f"read {number}")
+        has_leading_clusters(data, 4096)
+    equal((text, number < 40), (f"imported {len(data)}\n", True), "where none failed")
+
+
+def each_long_write_fails():
+    """Writes that are joined fail as others do: nothing is told as done, and what is left is no image, or a consistent one."""
+    data = random.Random(9).randbytes(700 * 1024)
+    has("raw", data)
+    for number in range(1, 100):
+        has("disk", b"")
+        status, text = with_calls_that(f"pwrite64:error=ENOSPC:when={number}+", "disk", "import", "raw", "disk", "4096", "16")
+        if status == 0:
+            break
+        equal((status, text), STORAGE, f"write {number}")
+        if contents("disk")[:4] == b"QFI\xfb":
+            has_leading_clusters(data, 4096)
+    equal((text, number < 40), (f"imported {len(data)}\n", True), "where none failed")
+    for number in range(1, 100):
+        status, text = with_calls_that(f"pwrite64:error=ENOSPC:when={number}", "back", "export", "disk", "back")
+        if status == 0:
+            break
+        equal((status, text), STORAGE, f"write {number} of an export")
+    equal((text, number < 10, contents("back")), (f"exported {len(data)}\n", True, data), "where none failed")
+
+
 def stopped_in_a_read(count):
     """An import that stands still in a read of its raw disk, so many after the first."""
     words = ["strace", "-f", "-qq", "-o", "calls", "-P", "raw", "-e", f"inject=pread64:signal=SIGSTOP:when={count}", QIMG, "import", "raw", "disk", "512", "16"]
@@ -334,7 +378,7 @@ def main():
     for check in (
         a_compressed_image, a_raw_disk_that_is_not_opened, an_image_that_is_not_opened, what_is_no_image, an_image_that_needs_another_file, one_file_for_both,
         files_that_may_not_be_written, clusters_that_no_image_has, full_devices, full_devices_for_output, each_read_of_the_raw_disk_fails, each_write_of_the_image_fails,
-        each_write_of_an_export_fails, a_raw_disk_that_is_cut, kills,
+        each_write_of_an_export_fails, each_long_read_fails, each_long_write_fails, a_raw_disk_that_is_cut, kills,
     ):
         checks.run(check.__name__, check)
     checks.done()

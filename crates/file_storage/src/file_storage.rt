@@ -1,6 +1,6 @@
 ghost use Rattle.std.specs.Prelude.{◌≡◌, None};
 
-use crate::zeros::{end_of, fill_from, size_of, write_or_grow, write_zeros};
+use crate::zeros::{end_of, fill_from, set_size, size_of, write_or_grow, write_zeros};
 use image_access::{Storage, StorageError, StoragePreallocate};
 use std::fs::File;
 use std::io;
@@ -141,7 +141,7 @@ impl Storage for FileStorage {
         let answer = if self.is_block_device {
             fill_from(&self.file, size)
         } else {
-            self.file.set_len(size)
+            set_size(&self.file, size)
         };
         self.told(answer)
     }

@@ -3,7 +3,9 @@
 
 mod file_storage;
 mod opening;
+mod streamed;
 mod zeros;
 
 pub use file_storage::FileStorage;
 pub use opening::{create, open, open_read_only};
+pub use streamed::StreamedFile;

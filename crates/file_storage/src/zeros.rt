@@ -32,6 +32,14 @@ pub(crate) fn write_or_grow(file: &File, from: u64, to: u64) -> io::Result<()> {
     Ok(())
 }
 
+// Cuts a file to a size, or grows it. One that has it is left alone: a file that was cut to no bytes is written to the device as it is closed.
+pub(crate) fn set_size(file: &File, size: u64) -> io::Result<()> {
+    if size_of(file)? == size {
+        return Ok(());
+    }
+    file.set_len(size)
+}
+
 // What a resize of a block device does: its end stays, and what lies past the size asked is zero.
 pub(crate) fn fill_from(file: &File, size: u64) -> io::Result<()> {
     let end = size_of(file)?;

@@ -1,5 +1,5 @@
 -- A raw disk that was made of an image.
-use Rattle.std.proofs.Common.{◌≡◌, inl, ℕ, List, [], refl, sym, ap, ◌∙◌, subst, Result, Ok, Err, false}
+use Rattle.std.proofs.Common.{◌≡◌, inl, ℕ, List, [], refl, sym, ap, ◌∙◌, subst, Result, Ok, Err, IfOk, false}
 use Rattle.std.specs.Option.{is_some}
 use Rattle.image_access.specs.Backing.{BackingView}
 use Rattle.image_access.specs.Moments.{StorageView}
@@ -16,7 +16,7 @@ use Rattle.qcow2_image.specs.ImageInvariant.{abstract_of}
 use Rattle.qcow2_image.proofs.Free.{whole}
 use Rattle.qcow2_session.specs.Conversions.{IsRawOf, Exports, IsUnchanged}
 use Rattle.program_parts.specs.Conversions.{IsExport, KeepsDisk, disk_alone, nothing_below}
-use Rattle.program_parts.proofs.Imported.{none_below}
+use Rattle.program_parts.proofs.Imported.{none_below, of_ok}
 
 -- contents that are consistent keep their disk
 pub keeps_itself : (storage : StorageView) (contents : List ℕ) → IsConsistent (byte_at storage.contents) → contents ≡ storage.contents
@@ -24,6 +24,12 @@ pub keeps_itself : (storage : StorageView) (contents : List ℕ) → IsConsisten
 keeps_itself storage contents consistent same =
     subst (λ c. StopOkEverywhere nothing_below (checkpoint_at (disk_alone (byte_at storage.contents))) (byte_at c)) (sym same)
     (record { consistent = consistent; size = inl refl; values = λ o. inl refl })
+
+-- what is so of a raw disk that was copied is so once it was flushed
+pub once_flushed : (P : ℕ → List ℕ → Type 0) (before now : List ℕ) (copied told : Result ℕ ImageError) → now ≡ before → IfOk told (λ n. copied ≡ Ok n)
+    → IfOk copied (λ n. P n before) → IfOk told (λ n. P n now)
+once_flushed P before now copied (Ok n) same is h = subst (P n) (sym same) (of_ok (λ m. P m before) copied n is h)
+once_flushed P before now copied (Err e) same is h = tt
 
 module _ {S F : Type 0} (view : S → StorageView) (backing : F → BackingView) (storage : StorageView) (old new : Qcow2 S F)
     (opened : IsOpened (abstract_of view backing old [])) (alone : is_some old.backing ≡ false) (same : (view (storage_of_image old)).contents ≡ storage.contents) where

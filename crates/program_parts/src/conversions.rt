@@ -1,5 +1,5 @@
 //! New images, images of raw disks, and raw disks of images.
-ghost use Rattle.std.specs.Prelude.{◌≡◌, length, IfOk};
+ghost use Rattle.std.specs.Prelude.{◌≡◌, length, IfOk, Ok};
 ghost use Rattle.image_access.specs.Moments.{ContentsStay};
 ghost use Rattle.qcow2_metadata.specs.Bytes.{byte_at};
 ghost use Rattle.qcow2_metadata.specs.Consistent.{IsConsistent};
@@ -77,9 +77,20 @@ pub fn make_raw_disk<S: Storage, R: Storage>(
 {
     match Qcow2::<S>::open_alone(alloc, storage, false, 1) {
         Ok(mut image) => {
-            let exported = to_raw(alloc, &mut image, raw);
+            let copied = to_raw(alloc, &mut image, raw);
+            let exported = flushed(raw, copied);
             (image.into_storage(), exported)
         }
         Err((storage, e)) => (storage, Err(e)),
     }
+}
+
+// Flushes a raw disk that was made whole, so that what it holds back is written before that is told.
+fn flushed<R: Storage>(raw: &mut R, copied: Result<u64, ImageError>) -> Result<u64, ImageError>
+    ensures same { ContentsStay (R.view raw.old) (R.view raw.new) }
+    ensures told { IfOk result (λ n. copied ≡ Ok n) }
+{
+    let count = copied?;
+    raw.flush()?;
+    Ok(count)
 }

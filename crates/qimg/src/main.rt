@@ -16,9 +16,10 @@ use crate::conversions::{export_raw, import_raw};
 use crate::messages::report_cause;
 use crate::program::{DONE, create, print_usage, refuse, script};
 use crate::words::{Invocation, words};
-use file_storage::FileStorage;
-use image_access::BackingDisk;
+use file_storage::{FileStorage, StreamedFile};
+use image_access::{BackingDisk, Storage};
 use qcow2_image::ImageError;
+use std::alloc::AllocError;
 use std::io;
 use std::io::{BufReader, BufWriter, Write};
 use std::process::ExitCode;
@@ -45,9 +46,9 @@ fn refuse_file(rt: &HostRuntime, file: &str, cause: &io::Error, output: &mut imp
 }
 
 // Tells why a call of the storage last failed, where the run didn't end well.
-fn tell(rt: &HostRuntime, file: &str, status: u8, storage: &FileStorage) -> u8 {
+fn tell(rt: &HostRuntime, file: &str, status: u8, cause: Option<io::Error>) -> u8 {
     if status != DONE {
-        if let Some(cause) = storage.last_error() {
+        if let Some(cause) = cause {
             report_cause(&mut rt.stderr(), file, &cause);
         }
     }
@@ -65,7 +66,7 @@ fn create_file(
         Err(e) => return refuse_file(rt, file, &e, output),
     };
     let (status, storage) = create(rt.alloc(), storage, invocation, output);
-    tell(rt, file, status, &storage)
+    tell(rt, file, status, storage.last_error())
 }
 
 fn run_file(rt: &HostRuntime, file: &str, output: &mut impl Write) -> u8 {
@@ -83,7 +84,7 @@ fn run_file(rt: &HostRuntime, file: &str, output: &mut impl Write) -> u8 {
         output,
         &mut rt.stderr(),
     );
-    tell(rt, file, status, &storage)
+    tell(rt, file, status, storage.last_error())
 }
 
 fn check_file(rt: &HostRuntime, file: &str, output: &mut impl Write) -> u8 {
@@ -92,10 +93,22 @@ fn check_file(rt: &HostRuntime, file: &str, output: &mut impl Write) -> u8 {
         Err(e) => return refuse_file(rt, file, &e, output),
     };
     let status = report(rt.alloc(), &mut storage, output);
-    tell(rt, file, status, &storage)
+    tell(rt, file, status, storage.last_error())
 }
 
-// The raw disk is opened first: where it can't be, no file is made.
+// Both storages, read and written from front to back.
+fn streamed(
+    rt: &HostRuntime,
+    first: FileStorage,
+    second: FileStorage,
+) -> Result<(StreamedFile, StreamedFile), AllocError> {
+    Ok((
+        StreamedFile::new(rt.alloc(), first)?,
+        StreamedFile::new(rt.alloc(), second)?,
+    ))
+}
+
+// The raw disk is opened first: where it can't be, no file is made. What was written before a refusal is left in the file.
 fn import_file(
     rt: &HostRuntime,
     raw: &str,
@@ -103,7 +116,7 @@ fn import_file(
     invocation: &Invocation<'_>,
     output: &mut impl Write,
 ) -> u8 {
-    let mut disk = match file_storage::open_read_only(rt, raw) {
+    let disk = match file_storage::open_read_only(rt, raw) {
         Ok(disk) => disk,
         Err(e) => return refuse_file(rt, raw, &e, output),
     };
@@ -111,9 +124,13 @@ fn import_file(
         Ok(storage) => storage,
         Err(e) => return refuse_file(rt, file, &e, output),
     };
-    let (status, storage) = import_raw(rt.alloc(), &mut disk, storage, invocation, output);
-    tell(rt, raw, status, &disk);
-    tell(rt, file, status, &storage)
+    let Ok((mut disk, storage)) = streamed(rt, disk, storage) else {
+        return refuse(output, &ImageError::Memory);
+    };
+    let (status, mut storage) = import_raw(rt.alloc(), &mut disk, storage, invocation, output);
+    let _ = storage.flush();
+    tell(rt, raw, status, disk.last_error());
+    tell(rt, file, status, storage.last_error())
 }
 
 // The image is opened first: where it can't be, no raw disk is made.
@@ -122,13 +139,17 @@ fn export_file(rt: &HostRuntime, file: &str, raw: &str, output: &mut impl Write)
         Ok(storage) => storage,
         Err(e) => return refuse_file(rt, file, &e, output),
     };
-    let mut disk = match file_storage::create(rt, raw) {
+    let disk = match file_storage::create(rt, raw) {
         Ok(disk) => disk,
         Err(e) => return refuse_file(rt, raw, &e, output),
     };
+    let Ok((mut disk, storage)) = streamed(rt, disk, storage) else {
+        return refuse(output, &ImageError::Memory);
+    };
     let (status, storage) = export_raw(rt.alloc(), storage, &mut disk, output);
-    tell(rt, file, status, &storage);
-    tell(rt, raw, status, &disk)
+    let _ = disk.flush();
+    tell(rt, file, status, storage.last_error());
+    tell(rt, raw, status, disk.last_error())
 }
 
 fn run_words(rt: &HostRuntime, given: &[String], output: &mut impl Write) -> u8 {

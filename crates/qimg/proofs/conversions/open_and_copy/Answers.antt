@@ -1,24 +1,27 @@
 use Rattle.std.proofs.Common.{refl, sym, subst}
-use Rattle.qimg.specs.Conversions.{KeepsDisk}
+use Rattle.qimg.specs.Conversions.{IsExport, KeepsDisk}
 use Rattle.qimg.proofs.Imported.{ok_then}
-use Rattle.qimg.proofs.Exported.{keeps_itself, has_export, keeps_disk}
+use Rattle.qimg.proofs.Exported.{keeps_itself, once_flushed, has_export, keeps_disk}
 use Rattle.qimg.proofs.conversions.open_and_copy.Goals as goal
 
 pub returns-in-Ok-clause-raw : goal.returns-in-Ok-clause-raw
 returns-in-Ok-clause-raw g c = λ raw_honest honest consistent.
     let view = g.S.Storage.view in
-    ok_then c.to_raw-exported.result
+    let raw = g.R.Storage.view c.to_raw-copied.new.raw in
+    once_flushed (IsExport (view c.args.storage).contents) raw.contents (g.R.Storage.view c.flushed-exported.new.raw).contents c.to_raw-copied.result c.flushed-exported.result
+    (c.flushed-exported.ensures.same (c.to_raw-copied.ensures.honest raw_honest)) c.flushed-exported.ensures.told
+    (ok_then c.to_raw-copied.result
     (λ n exports.
-    has_export view _ (view c.args.storage) c.in-Ok.image c.to_raw-exported.new.image (c.in-Ok.ensures.opens honest consistent) c.in-Ok.ensures.below (c.in-Ok.ensures.reading refl honest)
-    (g.R.Storage.view c.to_raw-exported.new.raw).contents n exports)
-    (c.to_raw-exported.ensures.sees raw_honest)
+    has_export view _ (view c.args.storage) c.in-Ok.image c.to_raw-copied.new.image (c.in-Ok.ensures.opens honest consistent) c.in-Ok.ensures.below (c.in-Ok.ensures.reading refl honest)
+    raw.contents n exports)
+    (c.to_raw-copied.ensures.sees raw_honest))
 
 pub returns-in-Ok-clause-image : goal.returns-in-Ok-clause-image
 returns-in-Ok-clause-image g c = λ honest consistent.
     let view = g.S.Storage.view in
     subst (λ s. KeepsDisk (view c.args.storage) (view s)) (sym c.into_storage.ensures)
-    (keeps_disk view _ (view c.args.storage) c.in-Ok.image c.to_raw-exported.new.image (c.in-Ok.ensures.opens honest consistent) c.in-Ok.ensures.below (c.in-Ok.ensures.reading refl honest)
-    c.to_raw-exported.result c.to_raw-exported.ensures.same)
+    (keeps_disk view _ (view c.args.storage) c.in-Ok.image c.to_raw-copied.new.image (c.in-Ok.ensures.opens honest consistent) c.in-Ok.ensures.below (c.in-Ok.ensures.reading refl honest)
+    c.to_raw-copied.result c.to_raw-copied.ensures.same)
 
 pub returns-in-Err-clause-image : goal.returns-in-Err-clause-image
 returns-in-Err-clause-image g c = λ honest consistent. keeps_itself (g.S.Storage.view c.args.storage) (g.S.Storage.view c.in-Err.storage).contents consistent (c.in-Err.ensures.reading refl honest)

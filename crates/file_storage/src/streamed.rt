@@ -1,0 +1,240 @@
+ghost use Rattle.std.specs.Prelude.{◌≡◌, ◌+◌, ◌≤◌, length, IfOk, IsTrue};
+ghost use Rattle.image_access.specs.Moments.{HasCause};
+
+use crate::FileStorage;
+use image_access::{Storage, StorageError, StoragePreallocate};
+use std::alloc::{AllocError, Global};
+use std::io;
+
+/// How many bytes are held at most.
+const ROOM: usize = 262144;
+
+/// What is as long as this is read and written as it comes.
+const LONG: usize = 32768;
+
+/// After so many reads in a row the next ones are expected.
+const IN_A_ROW: u32 = 16;
+
+/// A storage over a file that is read or written from front to back, in long pieces. Reads in a row are answered by what was read
+/// ahead. Writes that continue one another are held, and written as one: before any other
+/// write, before each read, and before `size`, `flush` and `sync` answer. So the file has the writes up to one of them, in order.
+/// What can't be written stays held, and each of these calls is a fault until it is written.
+#[derive(Drop)]
+pub struct StreamedFile {
+    file: FileStorage,
+    room: Vec<u8>,
+    start: u64,
+    held: usize,
+    is_unwritten: bool,
+    next: u64,
+    in_a_row: u32,
+    ghost fits: { held ≤ length room.items },
+}
+
+impl StreamedFile {
+    /// Takes an open file. Refused where memory is missing.
+    pub fn new(alloc: Global, file: FileStorage) -> Result<StreamedFile, AllocError>
+        ensures { IfOk result (λ s. s.file ≡ file) }
+    {
+        Ok(StreamedFile {
+            file,
+            room: vec![in alloc; 0; ROOM]?,
+            start: 0,
+            held: 0,
+            is_unwritten: false,
+            next: 0,
+            in_a_row: 0,
+        })
+    }
+
+    /// Why the last call that failed did so; None where none has failed.
+    pub fn last_error(&self) -> Option<io::Error>
+        ensures last { result ≡ self.now.file.last_error }
+    {
+        self.file.last_error()
+    }
+
+    // Writes what is held.
+    fn write_out(&mut self) -> Result<(), StorageError>
+        ensures cause { HasCause self.old.file.faults self.new.file.faults result }
+    {
+        if !self.is_unwritten {
+            return Ok(());
+        }
+        self.file.write(self.start, &self.room[..self.held])?;
+        self.held = 0;
+        self.is_unwritten = false;
+        Ok(())
+    }
+
+    // Forgets what was read ahead.
+    fn forget(&mut self)
+        ensures same { self.new.file ≡ self.old.file }
+    {
+        if !self.is_unwritten {
+            self.held = 0;
+        }
+    }
+
+    // Holds bytes that are to be written, where they continue what is held and there is room. Whether it does.
+    fn holds(&mut self, at: u64, bytes: &[u8]) -> bool
+        ensures same { self.new.file ≡ self.old.file }
+    {
+        if bytes.len() >= LONG {
+            return false;
+        }
+        if self.held == 0 {
+            self.start = at;
+        }
+        if self.start.checked_add(self.held as u64) != Some(at) {
+            return false;
+        }
+        if !put(&mut self.room, self.held, bytes) {
+            return false;
+        }
+        self.held += bytes.len();
+        self.is_unwritten = true;
+        true
+    }
+
+    // Fills the buffer with what was read ahead, where it was. Whether it was.
+    fn reads_held(&self, at: u64, buf: &mut [u8]) -> bool {
+        let Some(from) = at.checked_sub(self.start) else {
+            return false;
+        };
+        let Ok(from) = usize::try_from(from) else {
+            return false;
+        };
+        let Some((_, rest)) = self.room[..self.held].split_at_checked(from) else {
+            return false;
+        };
+        let Some((bytes, _)) = rest.split_at_checked(buf.len()) else {
+            return false;
+        };
+        buf.copy_from_slice(bytes);
+        true
+    }
+
+    // The same, of what is now read ahead.
+    fn read_ahead(&mut self, at: u64, buf: &mut [u8]) -> Result<(), StorageError>
+        ensures cause { HasCause self.old.file.faults self.new.file.faults result }
+    {
+        self.held = 0;
+        self.file.read(at, &mut self.room)?;
+        self.start = at;
+        self.held = self.room.len();
+        if self.reads_held(at, buf) {
+            return Ok(());
+        }
+        self.file.read(at, buf)
+    }
+
+    // Whether this read continues one that continued others, and so on for long enough.
+    fn is_expected(&mut self, at: u64, count: usize) -> bool
+        ensures same { self.new.file ≡ self.old.file }
+    {
+        self.in_a_row = if self.next == at {
+            self.in_a_row.saturating_add(1)
+        } else {
+            0
+        };
+        self.next = at.saturating_add(count as u64);
+        self.in_a_row >= IN_A_ROW
+    }
+}
+
+// Puts bytes at a place, if there is room for all of them. Whether there is.
+fn put(room: &mut [u8], place: usize, bytes: &[u8]) -> bool
+    ensures long { length room.new ≡ length room.old }
+    ensures within { IsTrue result → place + length bytes.now ≤ length room.old }
+{
+    if place > room.len() || bytes.len() > room.len() - place {
+        return false;
+    }
+    room[place..place + bytes.len()].copy_from_slice(bytes);
+    true
+}
+
+impl Storage for StreamedFile {
+    ghost use Rattle.file_storage.specs.FileStorage.{view_of_file};
+
+    ghost view = { λ s. view_of_file s.file };
+
+    ghost counts_now = { λ s t honest le. absurd honest };
+
+    ghost only_now = { λ s c had. had };
+
+    fn name(&self) -> &str {
+        "file"
+    }
+
+    fn size(&mut self) -> Result<u64, StorageError> {
+        self.write_out()?;
+        self.file.size()
+    }
+
+    fn read(&mut self, at: u64, buf: &mut [u8]) -> Result<(), StorageError> {
+        self.write_out()?;
+        let is_expected = self.is_expected(at, buf.len());
+        if self.reads_held(at, buf) {
+            return Ok(());
+        }
+        if !is_expected || buf.len() >= LONG {
+            return self.file.read(at, buf);
+        }
+        self.read_ahead(at, buf)
+    }
+
+    fn write(&mut self, at: u64, bytes: &[u8]) -> Result<(), StorageError> {
+        self.forget();
+        if self.holds(at, bytes) {
+            return Ok(());
+        }
+        self.write_out()?;
+        if self.holds(at, bytes) {
+            return Ok(());
+        }
+        self.file.write(at, bytes)
+    }
+
+    fn write_zeroes(&mut self, at: u64, length: u64) -> Result<(), StorageError> {
+        self.forget();
+        self.write_out()?;
+        self.file.write_zeroes(at, length)
+    }
+
+    fn write_allocated_zeroes(&mut self, at: u64, length: u64) -> Result<(), StorageError> {
+        self.forget();
+        self.write_out()?;
+        self.file.write_allocated_zeroes(at, length)
+    }
+
+    fn resize(&mut self, size: u64, how: StoragePreallocate) -> Result<(), StorageError> {
+        self.forget();
+        self.write_out()?;
+        self.file.resize(size, how)
+    }
+
+    fn flush(&mut self) -> Result<(), StorageError> {
+        self.write_out()?;
+        self.file.flush()
+    }
+
+    fn sync(&mut self) -> Result<(), StorageError> {
+        self.write_out()?;
+        self.file.sync()
+    }
+
+    fn invalidate_cache(&mut self) -> Result<(), StorageError> {
+        self.forget();
+        self.file.invalidate_cache()
+    }
+
+    fn req_align(&self) -> usize {
+        1
+    }
+
+    fn mem_align(&self) -> usize {
+        1
+    }
+}
