@@ -20,6 +20,9 @@ ok_no_err x e bad = absurd (cc)
 pub not_both : {B : Type 0} (test : Bool) → IsTrue test → test ≡ false → B
 not_both test holds fails = absurd (cc)
 
+pub never : {B : Type 0} → IsTrue false → B
+never bad = absurd (cc)
+
 -- a refusal by this call's own
 pub told_limit : {T : Type 0} (before now : ℕ) → before ≤ now → FaultsTold {T = T} before now (Err I.Limit)
 told_limit before now le = record { no_fewer = le; rose = λ bad. absurd (cc) }

@@ -1,4 +1,4 @@
-use Rattle.std.proofs.Common.{◌≡◌, mul-pos, inl, true, false, ◌*◌, ◌<◌, ◌^◌, sym, ap, ◌∙◌, arith, Result, IsTrue, refl}
+use Rattle.std.proofs.Common.{◌≡◌, mul-pos, inl, true, false, ◌*◌, ◌<◌, ◌^◌, sym, ap, ◌∙◌, arith, Result, IsTrue, refl, subst}
 use Rattle.qcow2_metadata.specs.Header.{counts_per_block}
 use Rattle.qcow2_alloc.specs.Allocation.{GetsBlock}
 use Rattle.qcow2_alloc.proofs.Hints.{has_block, lacking_above, placed_block}
@@ -11,6 +11,7 @@ use Rattle.qcow2_alloc.proofs.Limits.{placed_fault, host_below, is_able}
 use Rattle.qcow2_alloc.proofs.CacheMarks.{marks_then}
 use Rattle.qcow2_alloc.proofs.Faults.{told_on, told_ok, told_since}
 use Rattle.qcow2_alloc.proofs.Outcomes.{told_limit, on_no_ok, handed_cause, entries_none}
+use Rattle.qcow2_metadata.specs.L2Mapping.{IsHostCluster}
 use Rattle.qcow2_alloc.proofs.allocation.Allocator.cover_range.Goals as goal
 
 pub returns-in_err-load_block-clause-sound : goal.returns-in_err-load_block-clause-sound
@@ -176,3 +177,15 @@ returns-clause-cause g c = c.place_block.ensures.cause
 
 pub returns-clause-storage_faults : goal.returns-clause-storage_faults
 returns-clause-storage_faults g c = told_since _ _ _ c.load_block.ensures.storage_faults.no_fewer c.place_block.ensures.storage_faults
+
+pub place_block-requires-clause-within : goal.place_block-requires-clause-within
+place_block-requires-clause-within g c = c.can_name.ensures.within c.if-not-can_name.false
+
+pub place_block-requires-clause-placed : goal.place_block-requires-clause-placed
+place_block-requires-clause-placed g c = c.can_name.ensures.placed c.if-not-can_name.false
+
+pub place_block-requires-clause-elsewhere : goal.place_block-requires-clause-elsewhere
+place_block-requires-clause-elsewhere g c = subst (λ n. 0 < n) c.new.ensures (c.can_name.ensures.elsewhere c.if-not-can_name.false)
+
+pub place_block-requires-clause-nameable : goal.place_block-requires-clause-nameable
+place_block-requires-clause-nameable g c = subst (IsHostCluster c.args.self.now.reftable.cluster_bits) c.new.ensures (c.can_name.ensures.nameable c.if-not-can_name.false)

@@ -8,7 +8,7 @@ use Rattle.qcow2_alloc.specs.LowestRuns.{KeepsNoFreeBelowHint}
 use Rattle.qcow2_alloc.proofs.FileSteps.{leaves_then}
 use Rattle.qcow2_alloc.proofs.Hints.{has_block, lacking_above, hint_got, hint_placed, hint_refused, hint_stays, ok_as, placed_block, range_as}
 use Rattle.qcow2_alloc.proofs.AllocationSteps.{handed_on, becomes_then, gets_then, gets_taken, is_sound_now, none_in_memory, stands_none, still_sound}
-use Rattle.std.specs.Prelude.{IfErr}
+use Rattle.std.specs.Prelude.{IfErr, IsSome}
 use Rattle.std.proofs.Math.Nat.{div-mul-le_self}
 use Rattle.std.proofs.lemmas.Nat.{pow_pos}
 use Rattle.qcow2_alloc.specs.declared.error.ImageError.{ImageError}
@@ -20,10 +20,21 @@ use Rattle.qcow2_alloc.proofs.Outcomes.{ok_no_err, not_both, told_limit, told_er
 use Rattle.qcow2_metadata.specs.EntryTable.{EntryTableView}
 use Rattle.qcow2_metadata.specs.declared.header.HeaderFields.{HeaderFields}
 use Rattle.qcow2_alloc.specs.declared.error.ImageError.TheVariants as I
+use Rattle.qcow2_metadata.specs.L2Mapping.{IsHostCluster}
 use Rattle.qcow2_alloc.proofs.allocation.Allocator.ensure_block.Goals as goal
 
 is_unaligned : (h : HeaderFields) (t : EntryTableView) (cluster counts n : ℕ) → n ≡ counts → IsUnaligned h t (cluster / n) → IsUnaligned h t (cluster / counts)
 is_unaligned h t cluster counts n is u = subst (λ k. IsUnaligned h t (cluster / k)) is u
+
+-- the first cluster of a range lies no further on than one of its clusters
+range_small : (cluster n counts : ℕ) → counts ≡ n → cluster < 2 ^ 63 → cluster / n * counts < 2 ^ 63
+range_small cluster n counts is small = let le = div-mul-le_self cluster n in subst (λ k. cluster / n * k < 2 ^ 63) (sym is) (omega (arith, le, small))
+
+begin_small : (cluster n : ℕ) → cluster < 2 ^ 63 → cluster / n * n % 18446744073709551616 < 2 ^ 63
+begin_small cluster n small = let le = div-mul-le_self cluster n in omega (arith, le, small)
+
+below_first : (at end first : ℕ) → at < end → first ≡ end → at ≤ first
+below_first at end first below is = omega (arith, below, is)
 
 pub returns-in_err-load_block-clause-sound : goal.returns-in_err-load_block-clause-sound
 returns-in_err-load_block-clause-sound g c = λ p sound.
@@ -383,3 +394,27 @@ returns-then-ends_call-clause-has g c = λ p sound. tt
 
 pub returns-then-is_some-clause-fault : goal.returns-then-is_some-clause-fault
 returns-then-is_some-clause-fault g c = λ p sound within near. tt
+
+pub cover_range-requires : goal.cover_range-requires
+cover_range-requires g c = range_small c.args.cluster (2 ^ c.rb_bits-bits.result) (counts_per_block c.take_lowest_below.new.file.header.fields) (ap (λ h. counts_per_block h.fields) (c.take_lowest_below.ensures.header ∙ c.load_block.ensures.header) ∙ c.rb_bits-bits.ensures.counts) c.requires
+
+pub cover_range-requires-in-Err : goal.cover_range-requires-in-Err
+cover_range-requires-in-Err g c = range_small c.args.cluster (2 ^ c.rb_bits-bits.result) (counts_per_block c.take_lowest_below.new.file.header.fields) (ap (λ h. counts_per_block h.fields) (c.take_lowest_below.ensures.header ∙ c.load_block.ensures.header) ∙ c.rb_bits-bits.ensures.counts) c.requires
+
+pub take_lowest_below-requires : goal.take_lowest_below-requires
+take_lowest_below-requires g c = begin_small c.args.cluster (2 ^ c.rb_bits-bits.result) c.requires
+
+pub place_block-requires-clause-within : goal.place_block-requires-clause-within
+place_block-requires-clause-within g c = subst (λ k. c.args.cluster / 2 ^ c.rb_bits-bits.result < k) (sym c.take_lowest_below.ensures.entries.count) (c.can_name.ensures.within c.if-not-can_name.false)
+
+pub place_block-requires-clause-placed : goal.place_block-requires-clause-placed
+place_block-requires-clause-placed g c = subst IsSome (sym c.take_lowest_below.ensures.entries.cluster) (c.can_name.ensures.placed c.if-not-can_name.false)
+
+pub place_block-requires-clause-elsewhere : goal.place_block-requires-clause-elsewhere
+place_block-requires-clause-elsewhere g c = let is = (rw c.in-Ok-Some.field-0-is at c.in-Ok-Some.ensures.below) in is.0
+
+pub place_block-requires-clause-nameable : goal.place_block-requires-clause-nameable
+place_block-requires-clause-nameable g c = subst (λ b. IsHostCluster b c.in-Ok-Some.at) (sym c.take_lowest_below.ensures.entries.bits) (host_below c.args.self.now.reftable.cluster_bits c.in-Ok-Some.at c.new-first.result (let is = (rw c.in-Ok-Some.field-0-is at c.in-Ok-Some.ensures.below) in below_first c.in-Ok-Some.at _ c.new-first.result is.1 c.new-first.ensures) (c.can_name.ensures.nameable c.if-not-can_name.false))
+
+pub place_block-requires-clause-nameable_here : goal.place_block-requires-clause-nameable_here
+place_block-requires-clause-nameable_here g c = subst (λ b. IsHostCluster b c.in-Ok-Some.at) (c.cluster_bits.ensures.value ∙ sym (ap (λ h. h.fields.cluster_bits) c.take_lowest_below.ensures.header)) (host_below c.cluster_bits.result c.in-Ok-Some.at c.new-first.result (let is = (rw c.in-Ok-Some.field-0-is at c.in-Ok-Some.ensures.below) in below_first c.in-Ok-Some.at _ c.new-first.result is.1 c.new-first.ensures) (c.can_name.ensures.nameable_here c.if-not-can_name.false))

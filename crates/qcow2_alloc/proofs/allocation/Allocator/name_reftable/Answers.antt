@@ -125,9 +125,6 @@ returns-clause-marks g c = c.note_change.ensures.marks
 pub returns-clause-order : goal.returns-clause-order
 returns-clause-order g c = c.note_change.ensures.tables.order
 
-pub returns-clause-noted : goal.returns-clause-noted
-returns-clause-noted g c = c.note_change.ensures.changed
-
 pub returns-clause-list : goal.returns-clause-list
 returns-clause-list g c = refl
 

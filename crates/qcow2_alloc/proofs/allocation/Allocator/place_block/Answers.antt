@@ -195,9 +195,6 @@ returns-clause-first g c = refl
 pub returns-clause-cause : goal.returns-clause-cause
 returns-clause-cause g c = tt
 
-pub returns-clause-noted : goal.returns-clause-noted
-returns-clause-noted g c = c.note_change.ensures.changed
-
 pub returns-in_err-write_entry-clause-noted : goal.returns-in_err-write_entry-clause-noted
 returns-in_err-write_entry-clause-noted g c = on_no_ok _ c.from_residual-in_err-write_entry.result (of_storage c.in_err-write_entry.field-0.0) c.from_residual-in_err-write_entry.ensures
 

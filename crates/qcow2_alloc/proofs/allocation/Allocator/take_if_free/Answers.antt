@@ -11,6 +11,7 @@ use Rattle.qcow2_alloc.proofs.Rooms.{one_none, free_taken}
 use Rattle.qcow2_alloc.proofs.CacheMarks.{marks_none}
 use Rattle.qcow2_alloc.proofs.Faults.{told_ok}
 use Rattle.std.proofs.Math.Nat.{le_refl}
+use Rattle.qcow2_alloc.proofs.Outcomes.{not_both}
 use Rattle.qcow2_alloc.proofs.allocation.Allocator.take_if_free.Goals as goal
 
 pub returns-then-lacks_block-clause-sound : goal.returns-then-lacks_block-clause-sound
@@ -31,7 +32,7 @@ returns-then-ends_call-clause-sound g c = λ p sound. (c.ends_call.ensures.fault
 
 pub returns-else-ends_call-clause-sound : goal.returns-else-ends_call-clause-sound
 returns-else-ends_call-clause-sound g c = λ p sound.
-    still_sound g.S.Storage.view p c.args.file.now c.raise.new.file c.raise.new.self c.in-Err.refusal (λ fault. absurd (let yes_so = c.ends_call.ensures.ends fault in let none = c.if-ends_call.false in cc))
+    still_sound g.S.Storage.view p c.args.file.now c.raise.new.file c.raise.new.self c.in-Err.refusal (λ fault. not_both c.ends_call.result (c.ends_call.ensures.ends fault) c.if-ends_call.false)
     (c.in-Err.ensures.sound p false sound tt)
 
 pub returns-in-Ok-clause-used : goal.returns-in-Ok-clause-used
@@ -42,7 +43,7 @@ returns-in-Ok-clause-used g c = λ p sound.
     (λ none. let lacking : lacks t (c.args.cluster / counts_per_block c.args.file.now.header.fields) ≡ true = eq-eqb (block_offset (entry_at t.bytes (c.args.cluster / counts_per_block c.args.file.now.header.fields))) 0 none in let bad : true ≡ false = sym lacking ∙ has in cc)
 
 pub returns-else-ends_call-clause-used : goal.returns-else-ends_call-clause-used
-returns-else-ends_call-clause-used g c = λ p sound. absurd (let yes_so = c.ends_call.ensures.ends (c.in-Err.ensures.fault p sound) in let none = c.if-ends_call.false in cc)
+returns-else-ends_call-clause-used g c = λ p sound. not_both c.ends_call.result (c.ends_call.ensures.ends (c.in-Err.ensures.fault p sound)) c.if-ends_call.false
 
 pub returns-in-Ok-clause-marks : goal.returns-in-Ok-clause-marks
 returns-in-Ok-clause-marks g c = c.raise.ensures.marks

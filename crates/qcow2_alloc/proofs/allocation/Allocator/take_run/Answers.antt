@@ -20,7 +20,7 @@ use Rattle.qcow2_alloc.specs.Limits.{CantCount, CantCountRun, IsFaultOr}
 use Rattle.qcow2_alloc.proofs.Limits.{cause_as, count_back, host_of_few}
 use Rattle.qcow2_alloc.proofs.FormerReftables.{former_none, former_then, former_still}
 use Rattle.qcow2_alloc.proofs.Faults.{told_ok, told_since}
-use Rattle.qcow2_alloc.proofs.Outcomes.{told_after, if_no_ok, handed_cause, told_err, told_still}
+use Rattle.qcow2_alloc.proofs.Outcomes.{told_after, if_no_ok, handed_cause, told_err, told_still, not_both}
 use Rattle.std.proofs.Math.Nat.{le_trans}
 use Rattle.qcow2_alloc.specs.CacheMarks.{KeepsMarks}
 use Rattle.qcow2_alloc.specs.MetadataCaches.{order_of}
@@ -92,7 +92,7 @@ returns-in_err-give_back-in-Err-clause-sound g c = λ p d sound may.
     let q : Pending = taken_as d (pending_then p c.args.file.now.free_list c.taking.file.free_list) (run_at c.args.first c.taking.taken) in
     let now = is_sound_on g.S.Storage.view p q c.args.file.now c.taking.file c.taking.self before in
     let may_now = may_still d c.args.file.now c.taking.file c.taking.invariant.order may in
-    let two = still_as g.S.Storage.view q (pending_then q c.taking.file.free_list c.take.new.file.free_list) c.taking.file c.take.new.file c.take.new.self c.in-Err.refusal (λ fault. absurd (let yes_so = c.ends_call.ensures.ends fault in let none = c.if-not-ends_call.true in cc)) (c.in-Err.ensures.sound q d now may_now) in
+    let two = still_as g.S.Storage.view q (pending_then q c.taking.file.free_list c.take.new.file.free_list) c.taking.file c.take.new.file c.take.new.self c.in-Err.refusal (λ fault. not_both c.ends_call.result (c.ends_call.ensures.ends fault) c.if-not-ends_call.true) (c.in-Err.ensures.sound q d now may_now) in
     let taken = still_taken g.S.Storage.view d p (run_at c.args.first c.taking.taken) c.args.file.now c.taking.file c.take.new.file c.taking.self c.take.new.self c.taking.invariant.list c.take.ensures.list before two in
     handed_on (TakesRun g.S.Storage.view p c.args.file.now c.give_back-then-not-ends_call.new.self c.give_back-then-not-ends_call.new.file (pending_then p c.args.file.now.free_list c.give_back-then-not-ends_call.new.file.free_list) d c.args.first c.args.n)
     c.from_residual-in_err-give_back-in-Err.result c.in_err-give_back-in-Err.field-0.0 c.from_residual-in_err-give_back-in-Err.ensures
@@ -111,7 +111,7 @@ returns-in-Err-clause-sound g c = λ p d sound may.
     elim c.if-not-ends_call.branch [
       | then-not-ends_call+in_ok-give_back-in-Err w ↦
           let two = still_as g.S.Storage.view q (pending_then q c.taking.file.free_list c.take.new.file.free_list) c.taking.file c.take.new.file c.take.new.self c.in-Err.refusal
-          (λ fault. absurd (let yes_so = c.ends_call.ensures.ends fault in let none = w.if-not-ends_call.true in cc)) leaves in
+          (λ fault. not_both c.ends_call.result (c.ends_call.ensures.ends fault) w.if-not-ends_call.true) leaves in
           let taken = still_taken g.S.Storage.view d p (run_at c.args.first c.taking.taken) c.args.file.now c.taking.file c.take.new.file c.taking.self c.take.new.self c.taking.invariant.list c.take.ensures.list before two in
           let back = w.in_ok-give_back-in-Err.ensures.sound p (pending_then p c.args.file.now.free_list c.take.new.file.free_list) d c.args.file.now (λ k some. some) taken noted in
           of_equal (λ t f. RefusedGrowth g.S.Storage.view p c.args.file.now t f (pending_then p c.args.file.now.free_list f.free_list) c.in-Err.refusal) c.if-not-ends_call.self w.give_back-then-not-ends_call.new.self c.if-not-ends_call.file w.give_back-then-not-ends_call.new.file w.self-is w.file-is
@@ -203,7 +203,7 @@ returns-in_err-give_back-in-Err-clause-hint g c = λ p d sound may hint.
     let q : Pending = taken_as d (pending_then p c.args.file.now.free_list c.taking.file.free_list) (run_at c.args.first c.taking.taken) in
     let now = is_sound_on g.S.Storage.view p q c.args.file.now c.taking.file c.taking.self before in
     let may_now = may_still d c.args.file.now c.taking.file c.taking.invariant.order may in
-    let two = still_as g.S.Storage.view q (pending_then q c.taking.file.free_list c.take.new.file.free_list) c.taking.file c.take.new.file c.take.new.self c.in-Err.refusal (λ fault. absurd (let yes_so = c.ends_call.ensures.ends fault in let none = c.if-not-ends_call.true in cc)) (c.in-Err.ensures.sound q d now may_now) in
+    let two = still_as g.S.Storage.view q (pending_then q c.taking.file.free_list c.take.new.file.free_list) c.taking.file c.take.new.file c.take.new.self c.in-Err.refusal (λ fault. not_both c.ends_call.result (c.ends_call.ensures.ends fault) c.if-not-ends_call.true) (c.in-Err.ensures.sound q d now may_now) in
     let taken = still_taken g.S.Storage.view d p (run_at c.args.first c.taking.taken) c.args.file.now c.taking.file c.take.new.file c.taking.self c.take.new.self c.taking.invariant.list c.take.ensures.list before two in
     let back = c.in_err-give_back-in-Err.ensures.sound p (pending_then p c.args.file.now.free_list c.take.new.file.free_list) d c.args.file.now (λ k some. some) taken (λ some. c.take.ensures.marks.changed (c.taking.invariant.noted some)) in
     handed_on (KeepsNoFreeBelowHint g.S.Storage.view c.give_back-then-not-ends_call.new.self c.give_back-then-not-ends_call.new.file) c.from_residual-in_err-give_back-in-Err.result c.in_err-give_back-in-Err.field-0.0 c.from_residual-in_err-give_back-in-Err.ensures (λ other. absurd (other back.0))
@@ -268,7 +268,7 @@ returns-in_err-give_back-in-Err-clause-uses g c = λ p d sound may.
     let q : Pending = taken_as d (pending_then p c.args.file.now.free_list c.taking.file.free_list) (run_at c.args.first c.taking.taken) in
     let now = is_sound_on g.S.Storage.view p q c.args.file.now c.taking.file c.taking.self before in
     let may_now = may_still d c.args.file.now c.taking.file c.taking.invariant.order may in
-    let two = still_as g.S.Storage.view q (pending_then q c.taking.file.free_list c.take.new.file.free_list) c.taking.file c.take.new.file c.take.new.self c.in-Err.refusal (λ fault. absurd (let yes_so = c.ends_call.ensures.ends fault in let none = c.if-not-ends_call.true in cc)) (c.in-Err.ensures.sound q d now may_now) in
+    let two = still_as g.S.Storage.view q (pending_then q c.taking.file.free_list c.take.new.file.free_list) c.taking.file c.take.new.file c.take.new.self c.in-Err.refusal (λ fault. not_both c.ends_call.result (c.ends_call.ensures.ends fault) c.if-not-ends_call.true) (c.in-Err.ensures.sound q d now may_now) in
     let taken = still_taken g.S.Storage.view d p (run_at c.args.first c.taking.taken) c.args.file.now c.taking.file c.take.new.file c.taking.self c.take.new.self c.taking.invariant.list c.take.ensures.list before two in
     let back = c.in_err-give_back-in-Err.ensures.sound p (pending_then p c.args.file.now.free_list c.take.new.file.free_list) d c.args.file.now (λ k some. some) taken (λ some. c.take.ensures.marks.changed (c.taking.invariant.noted some)) in
     handed_on (KeepsUsed g.S.Storage.view c.args.file.now c.give_back-then-not-ends_call.new.file) c.from_residual-in_err-give_back-in-Err.result c.in_err-give_back-in-Err.field-0.0 c.from_residual-in_err-give_back-in-Err.ensures (λ other. absurd (other back.0))
@@ -310,7 +310,7 @@ returns-in_err-give_back-in-Err-clause-limit g c = λ p d sound may hint near.
     let q : Pending = taken_as d (pending_then p c.args.file.now.free_list c.taking.file.free_list) (run_at c.args.first c.taking.taken) in
     let now = is_sound_on g.S.Storage.view p q c.args.file.now c.taking.file c.taking.self before in
     let may_now = may_still d c.args.file.now c.taking.file c.taking.invariant.order may in
-    let two = still_as g.S.Storage.view q (pending_then q c.taking.file.free_list c.take.new.file.free_list) c.taking.file c.take.new.file c.take.new.self c.in-Err.refusal (λ fault. absurd (let yes_so = c.ends_call.ensures.ends fault in let none = c.if-not-ends_call.true in cc)) (c.in-Err.ensures.sound q d now may_now) in
+    let two = still_as g.S.Storage.view q (pending_then q c.taking.file.free_list c.take.new.file.free_list) c.taking.file c.take.new.file c.take.new.self c.in-Err.refusal (λ fault. not_both c.ends_call.result (c.ends_call.ensures.ends fault) c.if-not-ends_call.true) (c.in-Err.ensures.sound q d now may_now) in
     let taken = still_taken g.S.Storage.view d p (run_at c.args.first c.taking.taken) c.args.file.now c.taking.file c.take.new.file c.taking.self c.take.new.self c.taking.invariant.list c.take.ensures.list before two in
     let back = c.in_err-give_back-in-Err.ensures.sound p (pending_then p c.args.file.now.free_list c.take.new.file.free_list) d c.args.file.now (λ k some. some) taken (λ some. c.take.ensures.marks.changed (c.taking.invariant.noted some)) in
     handed_on (λ (r : Result ℕ ImageError). IfErr r (IsFaultOr (CantCountRun g.S.Storage.view c.give_back-then-not-ends_call.new.file c.give_back-then-not-ends_call.new.self c.args.first c.args.n)))
@@ -329,7 +329,7 @@ returns-in-Err-clause-limit g c = λ p d sound may hint near.
     elim c.if-not-ends_call.branch [
       | then-not-ends_call+in_ok-give_back-in-Err w ↦
           let two = still_as g.S.Storage.view q (pending_then q c.taking.file.free_list c.take.new.file.free_list) c.taking.file c.take.new.file c.take.new.self c.in-Err.refusal
-          (λ fault. absurd (let yes_so = c.ends_call.ensures.ends fault in let none = w.if-not-ends_call.true in cc)) (c.in-Err.ensures.sound q d now may_now) in
+          (λ fault. not_both c.ends_call.result (c.ends_call.ensures.ends fault) w.if-not-ends_call.true) (c.in-Err.ensures.sound q d now may_now) in
           let taken = still_taken g.S.Storage.view d p (run_at c.args.first c.taking.taken) c.args.file.now c.taking.file c.take.new.file c.taking.self c.take.new.self c.taking.invariant.list c.take.ensures.list before two in
           let kept = w.in_ok-give_back-in-Err.ensures.kept (pending_then p c.args.file.now.free_list c.take.new.file.free_list) d
           (is_sound_on g.S.Storage.view p (taken_as d (pending_then p c.args.file.now.free_list c.take.new.file.free_list) (run_at c.args.first c.taking.taken)) c.args.file.now c.take.new.file c.take.new.self taken) in

@@ -15,27 +15,28 @@ use Rattle.std.proofs.Common.{eqb}
 use Rattle.qcow2_alloc.proofs.CachedEntries.Staying.{stays_same, stays_then, values_stay}
 use Rattle.qcow2_alloc.specs.Faults.{faults_of}
 use Rattle.qcow2_alloc.proofs.Faults.{told_ok, told_on, told_since, cache_told, l2_get_tells}
+use Rattle.qcow2_alloc.proofs.Outcomes.{never}
 use Rattle.qcow2_alloc.proofs.cache.MetadataCaches.l2_get_or_insert.Goals as goal
 
 pub returns-in_err-get_or_insert-clause-keeps : goal.returns-in_err-get_or_insert-clause-keeps
 returns-in_err-get_or_insert-clause-keeps g c =
-    table_got g.S.Storage.view c.args.storage.now c.get_or_insert.new.store c.args.self.now false c.args.cluster c.get_or_insert.new.self c.get_or_insert.ensures.others c.get_or_insert.result c.get_or_insert.ensures.hit c.get_or_insert.ensures.miss (λ flush. absurd (cc))
+    table_got g.S.Storage.view c.args.storage.now c.get_or_insert.new.store c.args.self.now false c.args.cluster c.get_or_insert.new.self c.get_or_insert.ensures.others c.get_or_insert.result c.get_or_insert.ensures.hit c.get_or_insert.ensures.miss (λ flush. never flush)
 
 pub returns-then-branch-clause-keeps : goal.returns-then-branch-clause-keeps
 returns-then-branch-clause-keeps g c =
-    table_got g.S.Storage.view c.args.storage.now c.get_or_insert.new.store c.args.self.now false c.args.cluster c.get_or_insert.new.self c.get_or_insert.ensures.others c.get_or_insert.result c.get_or_insert.ensures.hit c.get_or_insert.ensures.miss (λ flush. absurd (cc))
+    table_got g.S.Storage.view c.args.storage.now c.get_or_insert.new.store c.args.self.now false c.args.cluster c.get_or_insert.new.self c.get_or_insert.ensures.others c.get_or_insert.result c.get_or_insert.ensures.hit c.get_or_insert.ensures.miss (λ flush. never flush)
 
 pub returns-in_err-before_l2-clause-keeps : goal.returns-in_err-before_l2-clause-keeps
 returns-in_err-before_l2-clause-keeps g c =
     keep_then g.S.Storage.view c.args.storage.now c.get_or_insert.new.store c.before_l2.new.storage c.args.self.now (record c.args.self.now { l2 = c.get_or_insert.new.self }) c.before_l2.new.self
-    (table_got g.S.Storage.view c.args.storage.now c.get_or_insert.new.store c.args.self.now false c.args.cluster c.get_or_insert.new.self c.get_or_insert.ensures.others c.get_or_insert.result c.get_or_insert.ensures.hit c.get_or_insert.ensures.miss (λ flush. absurd (cc)))
+    (table_got g.S.Storage.view c.args.storage.now c.get_or_insert.new.store c.args.self.now false c.args.cluster c.get_or_insert.new.self c.get_or_insert.ensures.others c.get_or_insert.result c.get_or_insert.ensures.hit c.get_or_insert.ensures.miss (λ flush. never flush))
     c.before_l2.ensures.keeps
 
 pub returns-in_err-get_or_insert-2-clause-keeps : goal.returns-in_err-get_or_insert-2-clause-keeps
 returns-in_err-get_or_insert-2-clause-keeps g c =
     keep_then g.S.Storage.view c.args.storage.now c.before_l2.new.storage c.get_or_insert-2.new.store c.args.self.now c.before_l2.new.self (record c.before_l2.new.self { l2 = c.get_or_insert-2.new.self })
     (keep_then g.S.Storage.view c.args.storage.now c.get_or_insert.new.store c.before_l2.new.storage c.args.self.now (record c.args.self.now { l2 = c.get_or_insert.new.self }) c.before_l2.new.self
-    (table_got g.S.Storage.view c.args.storage.now c.get_or_insert.new.store c.args.self.now false c.args.cluster c.get_or_insert.new.self c.get_or_insert.ensures.others c.get_or_insert.result c.get_or_insert.ensures.hit c.get_or_insert.ensures.miss (λ flush. absurd (cc)))
+    (table_got g.S.Storage.view c.args.storage.now c.get_or_insert.new.store c.args.self.now false c.args.cluster c.get_or_insert.new.self c.get_or_insert.ensures.others c.get_or_insert.result c.get_or_insert.ensures.hit c.get_or_insert.ensures.miss (λ flush. never flush))
     c.before_l2.ensures.keeps)
     (table_got g.S.Storage.view c.before_l2.new.storage c.get_or_insert-2.new.store c.before_l2.new.self true c.args.cluster c.get_or_insert-2.new.self c.get_or_insert-2.ensures.others c.get_or_insert-2.result c.get_or_insert-2.ensures.hit c.get_or_insert-2.ensures.miss (λ _. c.in_ok-before_l2.ensures.first))
 
@@ -43,7 +44,7 @@ pub returns-clause-keeps : goal.returns-clause-keeps
 returns-clause-keeps g c =
     keep_then g.S.Storage.view c.args.storage.now c.before_l2.new.storage c.get_or_insert-2.new.store c.args.self.now c.before_l2.new.self (record c.before_l2.new.self { l2 = c.get_or_insert-2.new.self })
     (keep_then g.S.Storage.view c.args.storage.now c.get_or_insert.new.store c.before_l2.new.storage c.args.self.now (record c.args.self.now { l2 = c.get_or_insert.new.self }) c.before_l2.new.self
-    (table_got g.S.Storage.view c.args.storage.now c.get_or_insert.new.store c.args.self.now false c.args.cluster c.get_or_insert.new.self c.get_or_insert.ensures.others c.get_or_insert.result c.get_or_insert.ensures.hit c.get_or_insert.ensures.miss (λ flush. absurd (cc)))
+    (table_got g.S.Storage.view c.args.storage.now c.get_or_insert.new.store c.args.self.now false c.args.cluster c.get_or_insert.new.self c.get_or_insert.ensures.others c.get_or_insert.result c.get_or_insert.ensures.hit c.get_or_insert.ensures.miss (λ flush. never flush))
     c.before_l2.ensures.keeps)
     (table_got g.S.Storage.view c.before_l2.new.storage c.get_or_insert-2.new.store c.before_l2.new.self true c.args.cluster c.get_or_insert-2.new.self c.get_or_insert-2.ensures.others c.get_or_insert-2.result c.get_or_insert-2.ensures.hit c.get_or_insert-2.ensures.miss (λ _. c.in_ok-before_l2.ensures.first))
 
@@ -65,57 +66,57 @@ returns-clause-marks g c =
 
 pub returns-in_err-before_l2-clause-refusals : goal.returns-in_err-before_l2-clause-refusals
 returns-in_err-before_l2-clause-refusals g c = λ h here p honest sound settled.
-    let one = table_got g.S.Storage.view c.args.storage.now c.get_or_insert.new.store c.args.self.now false c.args.cluster c.get_or_insert.new.self c.get_or_insert.ensures.others c.get_or_insert.result c.get_or_insert.ensures.hit c.get_or_insert.ensures.miss (λ flush. absurd (cc)) h p honest sound in
+    let one = table_got g.S.Storage.view c.args.storage.now c.get_or_insert.new.store c.args.self.now false c.args.cluster c.get_or_insert.new.self c.get_or_insert.ensures.others c.get_or_insert.result c.get_or_insert.ensures.hit c.get_or_insert.ensures.miss (λ flush. never flush) h p honest sound in
     given_err c.from_residual-in_err-before_l2.result c.in_err-before_l2.field-0.0 (IsInUseOrFault c.args.self.now) c.from_residual-in_err-before_l2.ensures (inr (c.in_err-before_l2.ensures.faults h p one.honest one.sound (one.settled settled)))
 
 pub returns-in_err-get_or_insert-2-clause-refusals : goal.returns-in_err-get_or_insert-2-clause-refusals
 returns-in_err-get_or_insert-2-clause-refusals g c = λ h here p honest sound settled.
-    let one = table_got g.S.Storage.view c.args.storage.now c.get_or_insert.new.store c.args.self.now false c.args.cluster c.get_or_insert.new.self c.get_or_insert.ensures.others c.get_or_insert.result c.get_or_insert.ensures.hit c.get_or_insert.ensures.miss (λ flush. absurd (cc)) h p honest sound in
+    let one = table_got g.S.Storage.view c.args.storage.now c.get_or_insert.new.store c.args.self.now false c.args.cluster c.get_or_insert.new.self c.get_or_insert.ensures.others c.get_or_insert.result c.get_or_insert.ensures.hit c.get_or_insert.ensures.miss (λ flush. never flush) h p honest sound in
     let two = c.before_l2.ensures.keeps h p one.honest one.sound in
     let same = c.get_or_insert.ensures.others ∙ ap (with_entries c.args.self.now.l2) (not_fetched (l2_steps (λ s. g.S.Storage.view (storage_of s)) c.args.self.now.l2.backend.header.fields) c.args.self.now.l2.size false c.args.cluster c.args.storage.now c.get_or_insert.new.store c.args.self.now.l2.entries c.get_or_insert.new.self.entries c.get_or_insert.result (c.in_ok-get_or_insert.was ∙ ap Ok c.if-branch.false) c.get_or_insert.ensures.hit c.get_or_insert.ensures.miss) in
     given_err c.from_residual-in_err-get_or_insert-2.result (of_cache c.in_err-get_or_insert-2.field-0.0) (IsInUseOrFault c.args.self.now) c.from_residual-in_err-get_or_insert-2.ensures
     (in_use_as c.args.self.now c.before_l2.new.self (of_cache c.in_err-get_or_insert-2.field-0.0) (c.before_l2.ensures.tables ∙ same) (table_load_refused g.S.Storage.view c.before_l2.new.storage c.get_or_insert-2.new.store c.before_l2.new.self h p (byte_at (g.S.Storage.view (storage_of c.before_l2.new.storage)).contents) two.sound true c.args.cluster c.get_or_insert-2.result c.in_err-get_or_insert-2.field-0.0 c.in_err-get_or_insert-2.was c.get_or_insert-2.new.self here c.get_or_insert-2.ensures.hit c.get_or_insert-2.ensures.miss))
 
 pub returns-in_err-get_or_insert-clause-ordered : goal.returns-in_err-get_or_insert-clause-ordered
-returns-in_err-get_or_insert-clause-ordered g c = table_got_in_order g.S.Storage.view c.args.storage.now c.get_or_insert.new.store c.args.self.now false c.args.cluster c.get_or_insert.new.self c.get_or_insert.result c.get_or_insert.ensures.hit c.get_or_insert.ensures.miss (λ flush. absurd (cc))
+returns-in_err-get_or_insert-clause-ordered g c = table_got_in_order g.S.Storage.view c.args.storage.now c.get_or_insert.new.store c.args.self.now false c.args.cluster c.get_or_insert.new.self c.get_or_insert.result c.get_or_insert.ensures.hit c.get_or_insert.ensures.miss (λ flush. never flush)
 
 pub returns-then-branch-clause-ordered : goal.returns-then-branch-clause-ordered
-returns-then-branch-clause-ordered g c = table_got_in_order g.S.Storage.view c.args.storage.now c.get_or_insert.new.store c.args.self.now false c.args.cluster c.get_or_insert.new.self c.get_or_insert.result c.get_or_insert.ensures.hit c.get_or_insert.ensures.miss (λ flush. absurd (cc))
+returns-then-branch-clause-ordered g c = table_got_in_order g.S.Storage.view c.args.storage.now c.get_or_insert.new.store c.args.self.now false c.args.cluster c.get_or_insert.new.self c.get_or_insert.result c.get_or_insert.ensures.hit c.get_or_insert.ensures.miss (λ flush. never flush)
 
 pub returns-in_err-before_l2-clause-ordered : goal.returns-in_err-before_l2-clause-ordered
 returns-in_err-before_l2-clause-ordered g c =
-    order_then g.S.Storage.view c.args.storage.now c.get_or_insert.new.store c.before_l2.new.storage c.args.self.now (record c.args.self.now { l2 = c.get_or_insert.new.self }) (table_got g.S.Storage.view c.args.storage.now c.get_or_insert.new.store c.args.self.now false c.args.cluster c.get_or_insert.new.self c.get_or_insert.ensures.others c.get_or_insert.result c.get_or_insert.ensures.hit c.get_or_insert.ensures.miss (λ flush. absurd (cc))) (table_got_in_order g.S.Storage.view c.args.storage.now c.get_or_insert.new.store c.args.self.now false c.args.cluster c.get_or_insert.new.self c.get_or_insert.result c.get_or_insert.ensures.hit c.get_or_insert.ensures.miss (λ flush. absurd (cc))) refl c.before_l2.ensures.ordered
+    order_then g.S.Storage.view c.args.storage.now c.get_or_insert.new.store c.before_l2.new.storage c.args.self.now (record c.args.self.now { l2 = c.get_or_insert.new.self }) (table_got g.S.Storage.view c.args.storage.now c.get_or_insert.new.store c.args.self.now false c.args.cluster c.get_or_insert.new.self c.get_or_insert.ensures.others c.get_or_insert.result c.get_or_insert.ensures.hit c.get_or_insert.ensures.miss (λ flush. never flush)) (table_got_in_order g.S.Storage.view c.args.storage.now c.get_or_insert.new.store c.args.self.now false c.args.cluster c.get_or_insert.new.self c.get_or_insert.result c.get_or_insert.ensures.hit c.get_or_insert.ensures.miss (λ flush. never flush)) refl c.before_l2.ensures.ordered
 
 pub returns-in_err-get_or_insert-2-clause-ordered : goal.returns-in_err-get_or_insert-2-clause-ordered
 returns-in_err-get_or_insert-2-clause-ordered g c =
     order_then g.S.Storage.view c.args.storage.now c.before_l2.new.storage c.get_or_insert-2.new.store c.args.self.now c.before_l2.new.self
-    (keep_then g.S.Storage.view c.args.storage.now c.get_or_insert.new.store c.before_l2.new.storage c.args.self.now (record c.args.self.now { l2 = c.get_or_insert.new.self }) c.before_l2.new.self (table_got g.S.Storage.view c.args.storage.now c.get_or_insert.new.store c.args.self.now false c.args.cluster c.get_or_insert.new.self c.get_or_insert.ensures.others c.get_or_insert.result c.get_or_insert.ensures.hit c.get_or_insert.ensures.miss (λ flush. absurd (cc))) c.before_l2.ensures.keeps)
-    (order_then g.S.Storage.view c.args.storage.now c.get_or_insert.new.store c.before_l2.new.storage c.args.self.now (record c.args.self.now { l2 = c.get_or_insert.new.self }) (table_got g.S.Storage.view c.args.storage.now c.get_or_insert.new.store c.args.self.now false c.args.cluster c.get_or_insert.new.self c.get_or_insert.ensures.others c.get_or_insert.result c.get_or_insert.ensures.hit c.get_or_insert.ensures.miss (λ flush. absurd (cc))) (table_got_in_order g.S.Storage.view c.args.storage.now c.get_or_insert.new.store c.args.self.now false c.args.cluster c.get_or_insert.new.self c.get_or_insert.result c.get_or_insert.ensures.hit c.get_or_insert.ensures.miss (λ flush. absurd (cc))) refl c.before_l2.ensures.ordered) c.before_l2.ensures.order
+    (keep_then g.S.Storage.view c.args.storage.now c.get_or_insert.new.store c.before_l2.new.storage c.args.self.now (record c.args.self.now { l2 = c.get_or_insert.new.self }) c.before_l2.new.self (table_got g.S.Storage.view c.args.storage.now c.get_or_insert.new.store c.args.self.now false c.args.cluster c.get_or_insert.new.self c.get_or_insert.ensures.others c.get_or_insert.result c.get_or_insert.ensures.hit c.get_or_insert.ensures.miss (λ flush. never flush)) c.before_l2.ensures.keeps)
+    (order_then g.S.Storage.view c.args.storage.now c.get_or_insert.new.store c.before_l2.new.storage c.args.self.now (record c.args.self.now { l2 = c.get_or_insert.new.self }) (table_got g.S.Storage.view c.args.storage.now c.get_or_insert.new.store c.args.self.now false c.args.cluster c.get_or_insert.new.self c.get_or_insert.ensures.others c.get_or_insert.result c.get_or_insert.ensures.hit c.get_or_insert.ensures.miss (λ flush. never flush)) (table_got_in_order g.S.Storage.view c.args.storage.now c.get_or_insert.new.store c.args.self.now false c.args.cluster c.get_or_insert.new.self c.get_or_insert.result c.get_or_insert.ensures.hit c.get_or_insert.ensures.miss (λ flush. never flush)) refl c.before_l2.ensures.ordered) c.before_l2.ensures.order
     (table_got_in_order g.S.Storage.view c.before_l2.new.storage c.get_or_insert-2.new.store c.before_l2.new.self true c.args.cluster c.get_or_insert-2.new.self c.get_or_insert-2.result c.get_or_insert-2.ensures.hit c.get_or_insert-2.ensures.miss (λ _. c.in_ok-before_l2.ensures.first))
 
 pub returns-clause-ordered : goal.returns-clause-ordered
 returns-clause-ordered g c =
     order_then g.S.Storage.view c.args.storage.now c.before_l2.new.storage c.get_or_insert-2.new.store c.args.self.now c.before_l2.new.self
-    (keep_then g.S.Storage.view c.args.storage.now c.get_or_insert.new.store c.before_l2.new.storage c.args.self.now (record c.args.self.now { l2 = c.get_or_insert.new.self }) c.before_l2.new.self (table_got g.S.Storage.view c.args.storage.now c.get_or_insert.new.store c.args.self.now false c.args.cluster c.get_or_insert.new.self c.get_or_insert.ensures.others c.get_or_insert.result c.get_or_insert.ensures.hit c.get_or_insert.ensures.miss (λ flush. absurd (cc))) c.before_l2.ensures.keeps)
-    (order_then g.S.Storage.view c.args.storage.now c.get_or_insert.new.store c.before_l2.new.storage c.args.self.now (record c.args.self.now { l2 = c.get_or_insert.new.self }) (table_got g.S.Storage.view c.args.storage.now c.get_or_insert.new.store c.args.self.now false c.args.cluster c.get_or_insert.new.self c.get_or_insert.ensures.others c.get_or_insert.result c.get_or_insert.ensures.hit c.get_or_insert.ensures.miss (λ flush. absurd (cc))) (table_got_in_order g.S.Storage.view c.args.storage.now c.get_or_insert.new.store c.args.self.now false c.args.cluster c.get_or_insert.new.self c.get_or_insert.result c.get_or_insert.ensures.hit c.get_or_insert.ensures.miss (λ flush. absurd (cc))) refl c.before_l2.ensures.ordered) c.before_l2.ensures.order
+    (keep_then g.S.Storage.view c.args.storage.now c.get_or_insert.new.store c.before_l2.new.storage c.args.self.now (record c.args.self.now { l2 = c.get_or_insert.new.self }) c.before_l2.new.self (table_got g.S.Storage.view c.args.storage.now c.get_or_insert.new.store c.args.self.now false c.args.cluster c.get_or_insert.new.self c.get_or_insert.ensures.others c.get_or_insert.result c.get_or_insert.ensures.hit c.get_or_insert.ensures.miss (λ flush. never flush)) c.before_l2.ensures.keeps)
+    (order_then g.S.Storage.view c.args.storage.now c.get_or_insert.new.store c.before_l2.new.storage c.args.self.now (record c.args.self.now { l2 = c.get_or_insert.new.self }) (table_got g.S.Storage.view c.args.storage.now c.get_or_insert.new.store c.args.self.now false c.args.cluster c.get_or_insert.new.self c.get_or_insert.ensures.others c.get_or_insert.result c.get_or_insert.ensures.hit c.get_or_insert.ensures.miss (λ flush. never flush)) (table_got_in_order g.S.Storage.view c.args.storage.now c.get_or_insert.new.store c.args.self.now false c.args.cluster c.get_or_insert.new.self c.get_or_insert.result c.get_or_insert.ensures.hit c.get_or_insert.ensures.miss (λ flush. never flush)) refl c.before_l2.ensures.ordered) c.before_l2.ensures.order
     (table_got_in_order g.S.Storage.view c.before_l2.new.storage c.get_or_insert-2.new.store c.before_l2.new.self true c.args.cluster c.get_or_insert-2.new.self c.get_or_insert-2.result c.get_or_insert-2.ensures.hit c.get_or_insert-2.ensures.miss (λ _. c.in_ok-before_l2.ensures.first))
 
 pub returns-in_err-get_or_insert-clause-quiet : goal.returns-in_err-get_or_insert-clause-quiet
-returns-in_err-get_or_insert-clause-quiet g c = λ may. table_got_quietly g.S.Storage.view c.args.storage.now c.get_or_insert.new.store c.args.self.now false c.args.cluster c.get_or_insert.new.self c.get_or_insert.result c.get_or_insert.ensures.hit c.get_or_insert.ensures.miss (λ flush. absurd (cc))
+returns-in_err-get_or_insert-clause-quiet g c = λ may. table_got_quietly g.S.Storage.view c.args.storage.now c.get_or_insert.new.store c.args.self.now false c.args.cluster c.get_or_insert.new.self c.get_or_insert.result c.get_or_insert.ensures.hit c.get_or_insert.ensures.miss (λ flush. never flush)
 
 pub returns-then-branch-clause-quiet : goal.returns-then-branch-clause-quiet
-returns-then-branch-clause-quiet g c = λ may. table_got_quietly g.S.Storage.view c.args.storage.now c.get_or_insert.new.store c.args.self.now false c.args.cluster c.get_or_insert.new.self c.get_or_insert.result c.get_or_insert.ensures.hit c.get_or_insert.ensures.miss (λ flush. absurd (cc))
+returns-then-branch-clause-quiet g c = λ may. table_got_quietly g.S.Storage.view c.args.storage.now c.get_or_insert.new.store c.args.self.now false c.args.cluster c.get_or_insert.new.self c.get_or_insert.result c.get_or_insert.ensures.hit c.get_or_insert.ensures.miss (λ flush. never flush)
 
 pub returns-in_err-before_l2-clause-quiet : goal.returns-in_err-before_l2-clause-quiet
 returns-in_err-before_l2-clause-quiet g c = λ may honest.
     let goes = table_waits g.S.Storage.view c.args.storage.now c.get_or_insert.new.store c.args.self.now false c.args.cluster c.get_or_insert.new.self c.get_or_insert.result c.get_or_insert.ensures.hit c.get_or_insert.ensures.miss (c.in_ok-get_or_insert.was ∙ ap Ok c.if-branch.false) may in
-    let one = table_got_quietly g.S.Storage.view c.args.storage.now c.get_or_insert.new.store c.args.self.now false c.args.cluster c.get_or_insert.new.self c.get_or_insert.result c.get_or_insert.ensures.hit c.get_or_insert.ensures.miss (λ flush. absurd (cc)) honest in
+    let one = table_got_quietly g.S.Storage.view c.args.storage.now c.get_or_insert.new.store c.args.self.now false c.args.cluster c.get_or_insert.new.self c.get_or_insert.result c.get_or_insert.ensures.hit c.get_or_insert.ensures.miss (λ flush. never flush) honest in
     quiet_then (g.S.Storage.view (storage_of c.args.storage.now)) (g.S.Storage.view (storage_of c.get_or_insert.new.store)) (g.S.Storage.view (storage_of c.before_l2.new.storage)) one (c.before_l2.ensures.quiet goes.0 one.honest)
 
 pub returns-in_err-get_or_insert-2-clause-quiet : goal.returns-in_err-get_or_insert-2-clause-quiet
 returns-in_err-get_or_insert-2-clause-quiet g c = λ may honest.
     let goes = table_waits g.S.Storage.view c.args.storage.now c.get_or_insert.new.store c.args.self.now false c.args.cluster c.get_or_insert.new.self c.get_or_insert.result c.get_or_insert.ensures.hit c.get_or_insert.ensures.miss (c.in_ok-get_or_insert.was ∙ ap Ok c.if-branch.false) may in
-    let one = table_got_quietly g.S.Storage.view c.args.storage.now c.get_or_insert.new.store c.args.self.now false c.args.cluster c.get_or_insert.new.self c.get_or_insert.result c.get_or_insert.ensures.hit c.get_or_insert.ensures.miss (λ flush. absurd (cc)) honest in
+    let one = table_got_quietly g.S.Storage.view c.args.storage.now c.get_or_insert.new.store c.args.self.now false c.args.cluster c.get_or_insert.new.self c.get_or_insert.result c.get_or_insert.ensures.hit c.get_or_insert.ensures.miss (λ flush. never flush) honest in
     let two = c.before_l2.ensures.quiet goes.0 one.honest in
     let same = c.before_l2.ensures.tables ∙ table_got_same g.S.Storage.view c.args.storage.now c.get_or_insert.new.store c.args.self.now false c.args.cluster c.get_or_insert.new.self c.get_or_insert.result c.get_or_insert.ensures.hit c.get_or_insert.ensures.miss c.get_or_insert.ensures.others (c.in_ok-get_or_insert.was ∙ ap Ok c.if-branch.false) in
     let next = next_table c.args.self.now.l2 c.before_l2.new.self.l2 same goes.1 in
@@ -124,7 +125,7 @@ returns-in_err-get_or_insert-2-clause-quiet g c = λ may honest.
 pub returns-clause-quiet : goal.returns-clause-quiet
 returns-clause-quiet g c = λ may honest.
     let goes = table_waits g.S.Storage.view c.args.storage.now c.get_or_insert.new.store c.args.self.now false c.args.cluster c.get_or_insert.new.self c.get_or_insert.result c.get_or_insert.ensures.hit c.get_or_insert.ensures.miss (c.in_ok-get_or_insert.was ∙ ap Ok c.if-branch.false) may in
-    let one = table_got_quietly g.S.Storage.view c.args.storage.now c.get_or_insert.new.store c.args.self.now false c.args.cluster c.get_or_insert.new.self c.get_or_insert.result c.get_or_insert.ensures.hit c.get_or_insert.ensures.miss (λ flush. absurd (cc)) honest in
+    let one = table_got_quietly g.S.Storage.view c.args.storage.now c.get_or_insert.new.store c.args.self.now false c.args.cluster c.get_or_insert.new.self c.get_or_insert.result c.get_or_insert.ensures.hit c.get_or_insert.ensures.miss (λ flush. never flush) honest in
     let two = c.before_l2.ensures.quiet goes.0 one.honest in
     let same = c.before_l2.ensures.tables ∙ table_got_same g.S.Storage.view c.args.storage.now c.get_or_insert.new.store c.args.self.now false c.args.cluster c.get_or_insert.new.self c.get_or_insert.result c.get_or_insert.ensures.hit c.get_or_insert.ensures.miss c.get_or_insert.ensures.others (c.in_ok-get_or_insert.was ∙ ap Ok c.if-branch.false) in
     let next = next_table c.args.self.now.l2 c.before_l2.new.self.l2 same goes.1 in

@@ -21,11 +21,12 @@ use Rattle.std.proofs.Common.{eqb}
 use Rattle.qcow2_alloc.proofs.CachedEntries.Staying.{stays_same, stays_then, values_stay}
 use Rattle.qcow2_alloc.specs.Faults.{faults_of}
 use Rattle.qcow2_alloc.proofs.Faults.{told_ok, told_on, told_since, cache_told, l2_put_tells}
+use Rattle.qcow2_alloc.proofs.Outcomes.{never}
 use Rattle.qcow2_alloc.proofs.cache.MetadataCaches.l2_insert.Goals as goal
 
 pub returns-in_err-insert-clause-keeps : goal.returns-in_err-insert-clause-keeps
 returns-in_err-insert-clause-keeps g c = λ h p honest sound fits clean holds.
-    table_put g.S.Storage.view c.args.storage.now c.insert.new.store c.args.self.now false c.in-Some.cluster c.insert.new.self c.insert.ensures.others c.args.table (Some c.args.table) c.insert.new.value refl c.insert.result c.insert.ensures.there c.insert.ensures.missing (λ flush. absurd (cc)) h p honest sound fits clean (rw (sym c.get_cluster.ensures.value ∙ c.in-Some.is) at holds)
+    table_put g.S.Storage.view c.args.storage.now c.insert.new.store c.args.self.now false c.in-Some.cluster c.insert.new.self c.insert.ensures.others c.args.table (Some c.args.table) c.insert.new.value refl c.insert.result c.insert.ensures.there c.insert.ensures.missing (λ flush. never flush) h p honest sound fits clean (rw (sym c.get_cluster.ensures.value ∙ c.in-Some.is) at holds)
 
 pub returns-then-branch-clause-held : goal.returns-then-branch-clause-held
 returns-then-branch-clause-held g c =
@@ -33,17 +34,17 @@ returns-then-branch-clause-held g c =
 
 pub returns-then-branch-clause-keeps : goal.returns-then-branch-clause-keeps
 returns-then-branch-clause-keeps g c = λ h p honest sound fits clean holds.
-    table_put g.S.Storage.view c.args.storage.now c.insert.new.store c.args.self.now false c.in-Some.cluster c.insert.new.self c.insert.ensures.others c.args.table (Some c.args.table) c.insert.new.value refl c.insert.result c.insert.ensures.there c.insert.ensures.missing (λ flush. absurd (cc)) h p honest sound fits clean (rw (sym c.get_cluster.ensures.value ∙ c.in-Some.is) at holds)
+    table_put g.S.Storage.view c.args.storage.now c.insert.new.store c.args.self.now false c.in-Some.cluster c.insert.new.self c.insert.ensures.others c.args.table (Some c.args.table) c.insert.new.value refl c.insert.result c.insert.ensures.there c.insert.ensures.missing (λ flush. never flush) h p honest sound fits clean (rw (sym c.get_cluster.ensures.value ∙ c.in-Some.is) at holds)
 
 pub returns-in_err-before_l2-clause-keeps : goal.returns-in_err-before_l2-clause-keeps
 returns-in_err-before_l2-clause-keeps g c = λ h p honest sound fits clean holds.
-    let one = table_put g.S.Storage.view c.args.storage.now c.insert.new.store c.args.self.now false c.in-Some.cluster c.insert.new.self c.insert.ensures.others c.args.table (Some c.args.table) c.insert.new.value refl c.insert.result c.insert.ensures.there c.insert.ensures.missing (λ flush. absurd (cc)) h p honest sound fits clean (rw (sym c.get_cluster.ensures.value ∙ c.in-Some.is) at holds) in
+    let one = table_put g.S.Storage.view c.args.storage.now c.insert.new.store c.args.self.now false c.in-Some.cluster c.insert.new.self c.insert.ensures.others c.args.table (Some c.args.table) c.insert.new.value refl c.insert.result c.insert.ensures.there c.insert.ensures.missing (λ flush. never flush) h p honest sound fits clean (rw (sym c.get_cluster.ensures.value ∙ c.in-Some.is) at holds) in
     stay_then g.S.Storage.view h p c.args.storage.now c.insert.new.store c.before_l2.new.storage c.args.self.now (record c.args.self.now { l2 = c.insert.new.self }) c.before_l2.new.self one
     (c.before_l2.ensures.keeps h p one.honest one.sound)
 
 pub returns-in_err-insert-2-clause-keeps : goal.returns-in_err-insert-2-clause-keeps
 returns-in_err-insert-2-clause-keeps g c = λ h p honest sound fits clean holds.
-    let one = table_put g.S.Storage.view c.args.storage.now c.insert.new.store c.args.self.now false c.in-Some.cluster c.insert.new.self c.insert.ensures.others c.args.table (Some c.args.table) c.insert.new.value refl c.insert.result c.insert.ensures.there c.insert.ensures.missing (λ flush. absurd (cc)) h p honest sound fits clean (rw (sym c.get_cluster.ensures.value ∙ c.in-Some.is) at holds) in
+    let one = table_put g.S.Storage.view c.args.storage.now c.insert.new.store c.args.self.now false c.in-Some.cluster c.insert.new.self c.insert.ensures.others c.args.table (Some c.args.table) c.insert.new.value refl c.insert.result c.insert.ensures.there c.insert.ensures.missing (λ flush. never flush) h p honest sound fits clean (rw (sym c.get_cluster.ensures.value ∙ c.in-Some.is) at holds) in
     let two = stay_then g.S.Storage.view h p c.args.storage.now c.insert.new.store c.before_l2.new.storage c.args.self.now (record c.args.self.now { l2 = c.insert.new.self }) c.before_l2.new.self one (c.before_l2.ensures.keeps h p one.honest one.sound) in
     stay_then g.S.Storage.view h p c.args.storage.now c.before_l2.new.storage c.insert-2.new.store c.args.self.now c.before_l2.new.self (record c.before_l2.new.self { l2 = c.insert-2.new.self }) two
     (table_put g.S.Storage.view c.before_l2.new.storage c.insert-2.new.store c.before_l2.new.self true c.in-Some.cluster c.insert-2.new.self c.insert-2.ensures.others c.args.table c.insert.new.value c.insert-2.new.value ((l2_taken g.S.Storage.view c.args.storage.now c.insert.new.store c.args.self.now false c.in-Some.cluster c.insert.new.self c.insert.ensures.others c.args.table (Some c.args.table) c.insert.new.value refl c.insert.result c.insert.ensures.there c.insert.ensures.missing).kept (c.in_ok-insert.was ∙ ap Ok c.if-branch.false)) c.insert-2.result c.insert-2.ensures.there c.insert-2.ensures.missing (λ _. c.in_ok-before_l2.ensures.first) h p two.honest two.sound fits clean
@@ -51,7 +52,7 @@ returns-in_err-insert-2-clause-keeps g c = λ h p honest sound fits clean holds.
 
 pub returns-clause-keeps : goal.returns-clause-keeps
 returns-clause-keeps g c = λ h p honest sound fits clean holds.
-    let one = table_put g.S.Storage.view c.args.storage.now c.insert.new.store c.args.self.now false c.in-Some.cluster c.insert.new.self c.insert.ensures.others c.args.table (Some c.args.table) c.insert.new.value refl c.insert.result c.insert.ensures.there c.insert.ensures.missing (λ flush. absurd (cc)) h p honest sound fits clean (rw (sym c.get_cluster.ensures.value ∙ c.in-Some.is) at holds) in
+    let one = table_put g.S.Storage.view c.args.storage.now c.insert.new.store c.args.self.now false c.in-Some.cluster c.insert.new.self c.insert.ensures.others c.args.table (Some c.args.table) c.insert.new.value refl c.insert.result c.insert.ensures.there c.insert.ensures.missing (λ flush. never flush) h p honest sound fits clean (rw (sym c.get_cluster.ensures.value ∙ c.in-Some.is) at holds) in
     let two = stay_then g.S.Storage.view h p c.args.storage.now c.insert.new.store c.before_l2.new.storage c.args.self.now (record c.args.self.now { l2 = c.insert.new.self }) c.before_l2.new.self one (c.before_l2.ensures.keeps h p one.honest one.sound) in
     stay_then g.S.Storage.view h p c.args.storage.now c.before_l2.new.storage c.insert-2.new.store c.args.self.now c.before_l2.new.self (record c.before_l2.new.self { l2 = c.insert-2.new.self }) two
     (table_put g.S.Storage.view c.before_l2.new.storage c.insert-2.new.store c.before_l2.new.self true c.in-Some.cluster c.insert-2.new.self c.insert-2.ensures.others c.args.table c.insert.new.value c.insert-2.new.value ((l2_taken g.S.Storage.view c.args.storage.now c.insert.new.store c.args.self.now false c.in-Some.cluster c.insert.new.self c.insert.ensures.others c.args.table (Some c.args.table) c.insert.new.value refl c.insert.result c.insert.ensures.there c.insert.ensures.missing).kept (c.in_ok-insert.was ∙ ap Ok c.if-branch.false)) c.insert-2.result c.insert-2.ensures.there c.insert-2.ensures.missing (λ _. c.in_ok-before_l2.ensures.first) h p two.honest two.sound fits clean
@@ -85,12 +86,12 @@ returns-in_err-insert-clause-refusals g c = λ h p honest sound settled fits cle
 
 pub returns-in_err-before_l2-clause-refusals : goal.returns-in_err-before_l2-clause-refusals
 returns-in_err-before_l2-clause-refusals g c = λ h p honest sound settled fits clean holds.
-    let one = table_put g.S.Storage.view c.args.storage.now c.insert.new.store c.args.self.now false c.in-Some.cluster c.insert.new.self c.insert.ensures.others c.args.table (Some c.args.table) c.insert.new.value refl c.insert.result c.insert.ensures.there c.insert.ensures.missing (λ flush. absurd (cc)) h p honest sound fits clean (rw (sym c.get_cluster.ensures.value ∙ c.in-Some.is) at holds) in
+    let one = table_put g.S.Storage.view c.args.storage.now c.insert.new.store c.args.self.now false c.in-Some.cluster c.insert.new.self c.insert.ensures.others c.args.table (Some c.args.table) c.insert.new.value refl c.insert.result c.insert.ensures.there c.insert.ensures.missing (λ flush. never flush) h p honest sound fits clean (rw (sym c.get_cluster.ensures.value ∙ c.in-Some.is) at holds) in
     given_err c.from_residual-in_err-before_l2.result c.in_err-before_l2.field-0.0 (IsInUseOrFault c.args.self.now) c.from_residual-in_err-before_l2.ensures (inr (c.in_err-before_l2.ensures.faults h p one.honest one.sound (one.settled settled)))
 
 pub returns-in_err-insert-2-clause-refusals : goal.returns-in_err-insert-2-clause-refusals
 returns-in_err-insert-2-clause-refusals g c = λ h p honest sound settled fits clean holds.
-    let one = table_put g.S.Storage.view c.args.storage.now c.insert.new.store c.args.self.now false c.in-Some.cluster c.insert.new.self c.insert.ensures.others c.args.table (Some c.args.table) c.insert.new.value refl c.insert.result c.insert.ensures.there c.insert.ensures.missing (λ flush. absurd (cc)) h p honest sound fits clean (rw (sym c.get_cluster.ensures.value ∙ c.in-Some.is) at holds) in
+    let one = table_put g.S.Storage.view c.args.storage.now c.insert.new.store c.args.self.now false c.in-Some.cluster c.insert.new.self c.insert.ensures.others c.args.table (Some c.args.table) c.insert.new.value refl c.insert.result c.insert.ensures.there c.insert.ensures.missing (λ flush. never flush) h p honest sound fits clean (rw (sym c.get_cluster.ensures.value ∙ c.in-Some.is) at holds) in
     let two = c.before_l2.ensures.keeps h p one.honest one.sound in
     let same = c.insert.ensures.others ∙ ap (with_entries c.args.self.now.l2) (not_put (l2_steps (λ s. g.S.Storage.view (storage_of s)) c.args.self.now.l2.backend.header.fields) c.args.self.now.l2.size false c.in-Some.cluster c.args.storage.now c.insert.new.store c.args.self.now.l2.entries c.insert.new.self.entries c.insert.result (c.in_ok-insert.was ∙ ap Ok c.if-branch.false) c.args.table (Some c.args.table) c.insert.new.value refl c.insert.ensures.there c.insert.ensures.missing) in
     given_err c.from_residual-in_err-insert-2.result (of_cache c.in_err-insert-2.field-0.0) (IsInUseOrFault c.args.self.now) c.from_residual-in_err-insert-2.ensures
@@ -144,73 +145,73 @@ err_ok a b = let e = sym a ∙ b in cc
 
 pub returns-in_err-insert-clause-refused : goal.returns-in_err-insert-clause-refused
 returns-in_err-insert-clause-refused g c = on_err c.from_residual.result (λ h p honest sound.
-    table_kept g.S.Storage.view c.args.storage.now c.insert.new.store c.args.self.now false c.in-Some.cluster c.insert.new.self c.insert.ensures.others c.args.table (Some c.args.table) c.insert.new.value refl c.insert.result c.insert.ensures.there c.insert.ensures.missing (λ flush. absurd (cc)) h p honest sound (λ went. err_ok c.in_err-insert.was went))
+    table_kept g.S.Storage.view c.args.storage.now c.insert.new.store c.args.self.now false c.in-Some.cluster c.insert.new.self c.insert.ensures.others c.args.table (Some c.args.table) c.insert.new.value refl c.insert.result c.insert.ensures.there c.insert.ensures.missing (λ flush. never flush) h p honest sound (λ went. err_ok c.in_err-insert.was went))
 
 pub returns-then-branch-clause-laid : goal.returns-then-branch-clause-laid
 returns-then-branch-clause-laid g c = λ h p honest sound fits marked.
     if_some _ c.args.table.cluster c.in-Some.cluster (sym c.get_cluster.ensures.value ∙ c.in-Some.is)
-    (table_laid g.S.Storage.view c.args.storage.now c.insert.new.store c.args.self.now false c.in-Some.cluster c.insert.new.self c.insert.ensures.others c.args.table (Some c.args.table) c.insert.new.value refl c.insert.result c.insert.ensures.there c.insert.ensures.missing (λ flush. absurd (cc)) h p honest sound (c.in_ok-insert.was ∙ ap Ok c.if-branch.true) fits marked)
+    (table_laid g.S.Storage.view c.args.storage.now c.insert.new.store c.args.self.now false c.in-Some.cluster c.insert.new.self c.insert.ensures.others c.args.table (Some c.args.table) c.insert.new.value refl c.insert.result c.insert.ensures.there c.insert.ensures.missing (λ flush. never flush) h p honest sound (c.in_ok-insert.was ∙ ap Ok c.if-branch.true) fits marked)
 
 pub returns-in_err-before_l2-clause-refused : goal.returns-in_err-before_l2-clause-refused
 returns-in_err-before_l2-clause-refused g c = on_err c.from_residual-in_err-before_l2.result (λ h p honest sound.
-    let one = table_kept g.S.Storage.view c.args.storage.now c.insert.new.store c.args.self.now false c.in-Some.cluster c.insert.new.self c.insert.ensures.others c.args.table (Some c.args.table) c.insert.new.value refl c.insert.result c.insert.ensures.there c.insert.ensures.missing (λ flush. absurd (cc)) h p honest sound (λ went. ok_false (c.in_ok-insert.was ∙ ap Ok c.if-branch.false) went) in
+    let one = table_kept g.S.Storage.view c.args.storage.now c.insert.new.store c.args.self.now false c.in-Some.cluster c.insert.new.self c.insert.ensures.others c.args.table (Some c.args.table) c.insert.new.value refl c.insert.result c.insert.ensures.there c.insert.ensures.missing (λ flush. never flush) h p honest sound (λ went. ok_false (c.in_ok-insert.was ∙ ap Ok c.if-branch.false) went) in
     stay_then g.S.Storage.view h p c.args.storage.now c.insert.new.store c.before_l2.new.storage c.args.self.now (record c.args.self.now { l2 = c.insert.new.self }) c.before_l2.new.self one (c.before_l2.ensures.keeps h p one.honest one.sound))
 
 pub returns-in_err-insert-2-clause-refused : goal.returns-in_err-insert-2-clause-refused
 returns-in_err-insert-2-clause-refused g c = on_err c.from_residual-in_err-insert-2.result (λ h p honest sound.
-    let one = table_kept g.S.Storage.view c.args.storage.now c.insert.new.store c.args.self.now false c.in-Some.cluster c.insert.new.self c.insert.ensures.others c.args.table (Some c.args.table) c.insert.new.value refl c.insert.result c.insert.ensures.there c.insert.ensures.missing (λ flush. absurd (cc)) h p honest sound (λ went. ok_false (c.in_ok-insert.was ∙ ap Ok c.if-branch.false) went) in
+    let one = table_kept g.S.Storage.view c.args.storage.now c.insert.new.store c.args.self.now false c.in-Some.cluster c.insert.new.self c.insert.ensures.others c.args.table (Some c.args.table) c.insert.new.value refl c.insert.result c.insert.ensures.there c.insert.ensures.missing (λ flush. never flush) h p honest sound (λ went. ok_false (c.in_ok-insert.was ∙ ap Ok c.if-branch.false) went) in
     let two = stay_then g.S.Storage.view h p c.args.storage.now c.insert.new.store c.before_l2.new.storage c.args.self.now (record c.args.self.now { l2 = c.insert.new.self }) c.before_l2.new.self one (c.before_l2.ensures.keeps h p one.honest one.sound) in
     stay_then g.S.Storage.view h p c.args.storage.now c.before_l2.new.storage c.insert-2.new.store c.args.self.now c.before_l2.new.self (record c.before_l2.new.self { l2 = c.insert-2.new.self }) two
     (table_kept g.S.Storage.view c.before_l2.new.storage c.insert-2.new.store c.before_l2.new.self true c.in-Some.cluster c.insert-2.new.self c.insert-2.ensures.others c.args.table c.insert.new.value c.insert-2.new.value ((l2_taken g.S.Storage.view c.args.storage.now c.insert.new.store c.args.self.now false c.in-Some.cluster c.insert.new.self c.insert.ensures.others c.args.table (Some c.args.table) c.insert.new.value refl c.insert.result c.insert.ensures.there c.insert.ensures.missing).kept (c.in_ok-insert.was ∙ ap Ok c.if-branch.false)) c.insert-2.result c.insert-2.ensures.there c.insert-2.ensures.missing (λ _. c.in_ok-before_l2.ensures.first) h p two.honest two.sound (λ went. err_ok c.in_err-insert-2.was went)))
 
 pub returns-clause-laid : goal.returns-clause-laid
 returns-clause-laid g c = λ h p honest sound fits marked.
-    let one = table_kept g.S.Storage.view c.args.storage.now c.insert.new.store c.args.self.now false c.in-Some.cluster c.insert.new.self c.insert.ensures.others c.args.table (Some c.args.table) c.insert.new.value refl c.insert.result c.insert.ensures.there c.insert.ensures.missing (λ flush. absurd (cc)) h p honest sound (λ went. ok_false (c.in_ok-insert.was ∙ ap Ok c.if-branch.false) went) in
+    let one = table_kept g.S.Storage.view c.args.storage.now c.insert.new.store c.args.self.now false c.in-Some.cluster c.insert.new.self c.insert.ensures.others c.args.table (Some c.args.table) c.insert.new.value refl c.insert.result c.insert.ensures.there c.insert.ensures.missing (λ flush. never flush) h p honest sound (λ went. ok_false (c.in_ok-insert.was ∙ ap Ok c.if-branch.false) went) in
     let two = stay_then g.S.Storage.view h p c.args.storage.now c.insert.new.store c.before_l2.new.storage c.args.self.now (record c.args.self.now { l2 = c.insert.new.self }) c.before_l2.new.self one (c.before_l2.ensures.keeps h p one.honest one.sound) in
     if_some _ c.args.table.cluster c.in-Some.cluster (sym c.get_cluster.ensures.value ∙ c.in-Some.is)
     (laid_then g.S.Storage.view h p c.args.storage.now c.before_l2.new.storage c.insert-2.new.store c.args.self.now c.before_l2.new.self (record c.before_l2.new.self { l2 = c.insert-2.new.self }) (laid_at h c.in-Some.cluster c.args.table.bytes) _ _ two
     (table_laid g.S.Storage.view c.before_l2.new.storage c.insert-2.new.store c.before_l2.new.self true c.in-Some.cluster c.insert-2.new.self c.insert-2.ensures.others c.args.table c.insert.new.value c.insert-2.new.value ((l2_taken g.S.Storage.view c.args.storage.now c.insert.new.store c.args.self.now false c.in-Some.cluster c.insert.new.self c.insert.ensures.others c.args.table (Some c.args.table) c.insert.new.value refl c.insert.result c.insert.ensures.there c.insert.ensures.missing).kept (c.in_ok-insert.was ∙ ap Ok c.if-branch.false)) c.insert-2.result c.insert-2.ensures.there c.insert-2.ensures.missing (λ _. c.in_ok-before_l2.ensures.first) h p two.honest two.sound (put_at_last c.in-Some.cluster c.args.table c.insert-2.new.self.entries c.insert-2.result c.insert-2.new.value c.in_ok-insert-2.field-0 c.in_ok-insert-2.was (l2_taken g.S.Storage.view c.before_l2.new.storage c.insert-2.new.store c.before_l2.new.self true c.in-Some.cluster c.insert-2.new.self c.insert-2.ensures.others c.args.table c.insert.new.value c.insert-2.new.value ((l2_taken g.S.Storage.view c.args.storage.now c.insert.new.store c.args.self.now false c.in-Some.cluster c.insert.new.self c.insert.ensures.others c.args.table (Some c.args.table) c.insert.new.value refl c.insert.result c.insert.ensures.there c.insert.ensures.missing).kept (c.in_ok-insert.was ∙ ap Ok c.if-branch.false)) c.insert-2.result c.insert-2.ensures.there c.insert-2.ensures.missing)) fits marked))
 
 pub returns-in_err-insert-clause-ordered : goal.returns-in_err-insert-clause-ordered
-returns-in_err-insert-clause-ordered g c = table_put_in_order g.S.Storage.view c.args.storage.now c.insert.new.store c.args.self.now false c.in-Some.cluster c.insert.new.self c.args.table (Some c.args.table) c.insert.new.value refl c.insert.result c.insert.ensures.there c.insert.ensures.missing (λ flush. absurd (cc))
+returns-in_err-insert-clause-ordered g c = table_put_in_order g.S.Storage.view c.args.storage.now c.insert.new.store c.args.self.now false c.in-Some.cluster c.insert.new.self c.args.table (Some c.args.table) c.insert.new.value refl c.insert.result c.insert.ensures.there c.insert.ensures.missing (λ flush. never flush)
 
 pub returns-then-branch-clause-ordered : goal.returns-then-branch-clause-ordered
-returns-then-branch-clause-ordered g c = table_put_in_order g.S.Storage.view c.args.storage.now c.insert.new.store c.args.self.now false c.in-Some.cluster c.insert.new.self c.args.table (Some c.args.table) c.insert.new.value refl c.insert.result c.insert.ensures.there c.insert.ensures.missing (λ flush. absurd (cc))
+returns-then-branch-clause-ordered g c = table_put_in_order g.S.Storage.view c.args.storage.now c.insert.new.store c.args.self.now false c.in-Some.cluster c.insert.new.self c.args.table (Some c.args.table) c.insert.new.value refl c.insert.result c.insert.ensures.there c.insert.ensures.missing (λ flush. never flush)
 
 pub returns-in_err-before_l2-clause-ordered : goal.returns-in_err-before_l2-clause-ordered
 returns-in_err-before_l2-clause-ordered g c =
-    order_then g.S.Storage.view c.args.storage.now c.insert.new.store c.before_l2.new.storage c.args.self.now (record c.args.self.now { l2 = c.insert.new.self }) (λ h p honest sound. table_kept g.S.Storage.view c.args.storage.now c.insert.new.store c.args.self.now false c.in-Some.cluster c.insert.new.self c.insert.ensures.others c.args.table (Some c.args.table) c.insert.new.value refl c.insert.result c.insert.ensures.there c.insert.ensures.missing (λ flush. absurd (cc)) h p honest sound (λ went. ok_false (c.in_ok-insert.was ∙ ap Ok c.if-branch.false) went)) (table_put_in_order g.S.Storage.view c.args.storage.now c.insert.new.store c.args.self.now false c.in-Some.cluster c.insert.new.self c.args.table (Some c.args.table) c.insert.new.value refl c.insert.result c.insert.ensures.there c.insert.ensures.missing (λ flush. absurd (cc))) refl c.before_l2.ensures.ordered
+    order_then g.S.Storage.view c.args.storage.now c.insert.new.store c.before_l2.new.storage c.args.self.now (record c.args.self.now { l2 = c.insert.new.self }) (λ h p honest sound. table_kept g.S.Storage.view c.args.storage.now c.insert.new.store c.args.self.now false c.in-Some.cluster c.insert.new.self c.insert.ensures.others c.args.table (Some c.args.table) c.insert.new.value refl c.insert.result c.insert.ensures.there c.insert.ensures.missing (λ flush. never flush) h p honest sound (λ went. ok_false (c.in_ok-insert.was ∙ ap Ok c.if-branch.false) went)) (table_put_in_order g.S.Storage.view c.args.storage.now c.insert.new.store c.args.self.now false c.in-Some.cluster c.insert.new.self c.args.table (Some c.args.table) c.insert.new.value refl c.insert.result c.insert.ensures.there c.insert.ensures.missing (λ flush. never flush)) refl c.before_l2.ensures.ordered
 
 pub returns-in_err-insert-2-clause-ordered : goal.returns-in_err-insert-2-clause-ordered
 returns-in_err-insert-2-clause-ordered g c =
     order_then g.S.Storage.view c.args.storage.now c.before_l2.new.storage c.insert-2.new.store c.args.self.now c.before_l2.new.self
-    (keep_then g.S.Storage.view c.args.storage.now c.insert.new.store c.before_l2.new.storage c.args.self.now (record c.args.self.now { l2 = c.insert.new.self }) c.before_l2.new.self (λ h p honest sound. table_kept g.S.Storage.view c.args.storage.now c.insert.new.store c.args.self.now false c.in-Some.cluster c.insert.new.self c.insert.ensures.others c.args.table (Some c.args.table) c.insert.new.value refl c.insert.result c.insert.ensures.there c.insert.ensures.missing (λ flush. absurd (cc)) h p honest sound (λ went. ok_false (c.in_ok-insert.was ∙ ap Ok c.if-branch.false) went)) c.before_l2.ensures.keeps)
-    (order_then g.S.Storage.view c.args.storage.now c.insert.new.store c.before_l2.new.storage c.args.self.now (record c.args.self.now { l2 = c.insert.new.self }) (λ h p honest sound. table_kept g.S.Storage.view c.args.storage.now c.insert.new.store c.args.self.now false c.in-Some.cluster c.insert.new.self c.insert.ensures.others c.args.table (Some c.args.table) c.insert.new.value refl c.insert.result c.insert.ensures.there c.insert.ensures.missing (λ flush. absurd (cc)) h p honest sound (λ went. ok_false (c.in_ok-insert.was ∙ ap Ok c.if-branch.false) went)) (table_put_in_order g.S.Storage.view c.args.storage.now c.insert.new.store c.args.self.now false c.in-Some.cluster c.insert.new.self c.args.table (Some c.args.table) c.insert.new.value refl c.insert.result c.insert.ensures.there c.insert.ensures.missing (λ flush. absurd (cc))) refl c.before_l2.ensures.ordered) c.before_l2.ensures.order
+    (keep_then g.S.Storage.view c.args.storage.now c.insert.new.store c.before_l2.new.storage c.args.self.now (record c.args.self.now { l2 = c.insert.new.self }) c.before_l2.new.self (λ h p honest sound. table_kept g.S.Storage.view c.args.storage.now c.insert.new.store c.args.self.now false c.in-Some.cluster c.insert.new.self c.insert.ensures.others c.args.table (Some c.args.table) c.insert.new.value refl c.insert.result c.insert.ensures.there c.insert.ensures.missing (λ flush. never flush) h p honest sound (λ went. ok_false (c.in_ok-insert.was ∙ ap Ok c.if-branch.false) went)) c.before_l2.ensures.keeps)
+    (order_then g.S.Storage.view c.args.storage.now c.insert.new.store c.before_l2.new.storage c.args.self.now (record c.args.self.now { l2 = c.insert.new.self }) (λ h p honest sound. table_kept g.S.Storage.view c.args.storage.now c.insert.new.store c.args.self.now false c.in-Some.cluster c.insert.new.self c.insert.ensures.others c.args.table (Some c.args.table) c.insert.new.value refl c.insert.result c.insert.ensures.there c.insert.ensures.missing (λ flush. never flush) h p honest sound (λ went. ok_false (c.in_ok-insert.was ∙ ap Ok c.if-branch.false) went)) (table_put_in_order g.S.Storage.view c.args.storage.now c.insert.new.store c.args.self.now false c.in-Some.cluster c.insert.new.self c.args.table (Some c.args.table) c.insert.new.value refl c.insert.result c.insert.ensures.there c.insert.ensures.missing (λ flush. never flush)) refl c.before_l2.ensures.ordered) c.before_l2.ensures.order
     (table_put_in_order g.S.Storage.view c.before_l2.new.storage c.insert-2.new.store c.before_l2.new.self true c.in-Some.cluster c.insert-2.new.self c.args.table c.insert.new.value c.insert-2.new.value ((l2_taken g.S.Storage.view c.args.storage.now c.insert.new.store c.args.self.now false c.in-Some.cluster c.insert.new.self c.insert.ensures.others c.args.table (Some c.args.table) c.insert.new.value refl c.insert.result c.insert.ensures.there c.insert.ensures.missing).kept (c.in_ok-insert.was ∙ ap Ok c.if-branch.false)) c.insert-2.result c.insert-2.ensures.there c.insert-2.ensures.missing (λ _. c.in_ok-before_l2.ensures.first))
 
 pub returns-clause-ordered : goal.returns-clause-ordered
 returns-clause-ordered g c =
     order_then g.S.Storage.view c.args.storage.now c.before_l2.new.storage c.insert-2.new.store c.args.self.now c.before_l2.new.self
-    (keep_then g.S.Storage.view c.args.storage.now c.insert.new.store c.before_l2.new.storage c.args.self.now (record c.args.self.now { l2 = c.insert.new.self }) c.before_l2.new.self (λ h p honest sound. table_kept g.S.Storage.view c.args.storage.now c.insert.new.store c.args.self.now false c.in-Some.cluster c.insert.new.self c.insert.ensures.others c.args.table (Some c.args.table) c.insert.new.value refl c.insert.result c.insert.ensures.there c.insert.ensures.missing (λ flush. absurd (cc)) h p honest sound (λ went. ok_false (c.in_ok-insert.was ∙ ap Ok c.if-branch.false) went)) c.before_l2.ensures.keeps)
-    (order_then g.S.Storage.view c.args.storage.now c.insert.new.store c.before_l2.new.storage c.args.self.now (record c.args.self.now { l2 = c.insert.new.self }) (λ h p honest sound. table_kept g.S.Storage.view c.args.storage.now c.insert.new.store c.args.self.now false c.in-Some.cluster c.insert.new.self c.insert.ensures.others c.args.table (Some c.args.table) c.insert.new.value refl c.insert.result c.insert.ensures.there c.insert.ensures.missing (λ flush. absurd (cc)) h p honest sound (λ went. ok_false (c.in_ok-insert.was ∙ ap Ok c.if-branch.false) went)) (table_put_in_order g.S.Storage.view c.args.storage.now c.insert.new.store c.args.self.now false c.in-Some.cluster c.insert.new.self c.args.table (Some c.args.table) c.insert.new.value refl c.insert.result c.insert.ensures.there c.insert.ensures.missing (λ flush. absurd (cc))) refl c.before_l2.ensures.ordered) c.before_l2.ensures.order
+    (keep_then g.S.Storage.view c.args.storage.now c.insert.new.store c.before_l2.new.storage c.args.self.now (record c.args.self.now { l2 = c.insert.new.self }) c.before_l2.new.self (λ h p honest sound. table_kept g.S.Storage.view c.args.storage.now c.insert.new.store c.args.self.now false c.in-Some.cluster c.insert.new.self c.insert.ensures.others c.args.table (Some c.args.table) c.insert.new.value refl c.insert.result c.insert.ensures.there c.insert.ensures.missing (λ flush. never flush) h p honest sound (λ went. ok_false (c.in_ok-insert.was ∙ ap Ok c.if-branch.false) went)) c.before_l2.ensures.keeps)
+    (order_then g.S.Storage.view c.args.storage.now c.insert.new.store c.before_l2.new.storage c.args.self.now (record c.args.self.now { l2 = c.insert.new.self }) (λ h p honest sound. table_kept g.S.Storage.view c.args.storage.now c.insert.new.store c.args.self.now false c.in-Some.cluster c.insert.new.self c.insert.ensures.others c.args.table (Some c.args.table) c.insert.new.value refl c.insert.result c.insert.ensures.there c.insert.ensures.missing (λ flush. never flush) h p honest sound (λ went. ok_false (c.in_ok-insert.was ∙ ap Ok c.if-branch.false) went)) (table_put_in_order g.S.Storage.view c.args.storage.now c.insert.new.store c.args.self.now false c.in-Some.cluster c.insert.new.self c.args.table (Some c.args.table) c.insert.new.value refl c.insert.result c.insert.ensures.there c.insert.ensures.missing (λ flush. never flush)) refl c.before_l2.ensures.ordered) c.before_l2.ensures.order
     (table_put_in_order g.S.Storage.view c.before_l2.new.storage c.insert-2.new.store c.before_l2.new.self true c.in-Some.cluster c.insert-2.new.self c.args.table c.insert.new.value c.insert-2.new.value ((l2_taken g.S.Storage.view c.args.storage.now c.insert.new.store c.args.self.now false c.in-Some.cluster c.insert.new.self c.insert.ensures.others c.args.table (Some c.args.table) c.insert.new.value refl c.insert.result c.insert.ensures.there c.insert.ensures.missing).kept (c.in_ok-insert.was ∙ ap Ok c.if-branch.false)) c.insert-2.result c.insert-2.ensures.there c.insert-2.ensures.missing (λ _. c.in_ok-before_l2.ensures.first))
 
 pub returns-in_err-insert-clause-quiet : goal.returns-in_err-insert-clause-quiet
-returns-in_err-insert-clause-quiet g c = if_some _ c.args.table.cluster c.in-Some.cluster (sym c.get_cluster.ensures.value ∙ c.in-Some.is) (λ may. table_put_quietly g.S.Storage.view c.args.storage.now c.insert.new.store c.args.self.now false c.in-Some.cluster c.insert.new.self c.args.table (Some c.args.table) c.insert.new.value refl c.insert.result c.insert.ensures.there c.insert.ensures.missing (λ flush. absurd (cc)))
+returns-in_err-insert-clause-quiet g c = if_some _ c.args.table.cluster c.in-Some.cluster (sym c.get_cluster.ensures.value ∙ c.in-Some.is) (λ may. table_put_quietly g.S.Storage.view c.args.storage.now c.insert.new.store c.args.self.now false c.in-Some.cluster c.insert.new.self c.args.table (Some c.args.table) c.insert.new.value refl c.insert.result c.insert.ensures.there c.insert.ensures.missing (λ flush. never flush))
 
 pub returns-then-branch-clause-quiet : goal.returns-then-branch-clause-quiet
-returns-then-branch-clause-quiet g c = if_some _ c.args.table.cluster c.in-Some.cluster (sym c.get_cluster.ensures.value ∙ c.in-Some.is) (λ may. table_put_quietly g.S.Storage.view c.args.storage.now c.insert.new.store c.args.self.now false c.in-Some.cluster c.insert.new.self c.args.table (Some c.args.table) c.insert.new.value refl c.insert.result c.insert.ensures.there c.insert.ensures.missing (λ flush. absurd (cc)))
+returns-then-branch-clause-quiet g c = if_some _ c.args.table.cluster c.in-Some.cluster (sym c.get_cluster.ensures.value ∙ c.in-Some.is) (λ may. table_put_quietly g.S.Storage.view c.args.storage.now c.insert.new.store c.args.self.now false c.in-Some.cluster c.insert.new.self c.args.table (Some c.args.table) c.insert.new.value refl c.insert.result c.insert.ensures.there c.insert.ensures.missing (λ flush. never flush))
 
 pub returns-in_err-before_l2-clause-quiet : goal.returns-in_err-before_l2-clause-quiet
 returns-in_err-before_l2-clause-quiet g c = if_some _ c.args.table.cluster c.in-Some.cluster (sym c.get_cluster.ensures.value ∙ c.in-Some.is) (λ may honest.
     let goes = table_put_waits g.S.Storage.view c.args.storage.now c.insert.new.store c.args.self.now false c.in-Some.cluster c.insert.new.self c.args.table (Some c.args.table) c.insert.new.value refl c.insert.result c.insert.ensures.there c.insert.ensures.missing (c.in_ok-insert.was ∙ ap Ok c.if-branch.false) may in
-    let one = table_put_quietly g.S.Storage.view c.args.storage.now c.insert.new.store c.args.self.now false c.in-Some.cluster c.insert.new.self c.args.table (Some c.args.table) c.insert.new.value refl c.insert.result c.insert.ensures.there c.insert.ensures.missing (λ flush. absurd (cc)) honest in
+    let one = table_put_quietly g.S.Storage.view c.args.storage.now c.insert.new.store c.args.self.now false c.in-Some.cluster c.insert.new.self c.args.table (Some c.args.table) c.insert.new.value refl c.insert.result c.insert.ensures.there c.insert.ensures.missing (λ flush. never flush) honest in
     quiet_then (g.S.Storage.view (storage_of c.args.storage.now)) (g.S.Storage.view (storage_of c.insert.new.store)) (g.S.Storage.view (storage_of c.before_l2.new.storage)) one (c.before_l2.ensures.quiet goes.0 one.honest))
 
 pub returns-in_err-insert-2-clause-quiet : goal.returns-in_err-insert-2-clause-quiet
 returns-in_err-insert-2-clause-quiet g c = if_some _ c.args.table.cluster c.in-Some.cluster (sym c.get_cluster.ensures.value ∙ c.in-Some.is) (λ may honest.
     let goes = table_put_waits g.S.Storage.view c.args.storage.now c.insert.new.store c.args.self.now false c.in-Some.cluster c.insert.new.self c.args.table (Some c.args.table) c.insert.new.value refl c.insert.result c.insert.ensures.there c.insert.ensures.missing (c.in_ok-insert.was ∙ ap Ok c.if-branch.false) may in
-    let one = table_put_quietly g.S.Storage.view c.args.storage.now c.insert.new.store c.args.self.now false c.in-Some.cluster c.insert.new.self c.args.table (Some c.args.table) c.insert.new.value refl c.insert.result c.insert.ensures.there c.insert.ensures.missing (λ flush. absurd (cc)) honest in
+    let one = table_put_quietly g.S.Storage.view c.args.storage.now c.insert.new.store c.args.self.now false c.in-Some.cluster c.insert.new.self c.args.table (Some c.args.table) c.insert.new.value refl c.insert.result c.insert.ensures.there c.insert.ensures.missing (λ flush. never flush) honest in
     let two = c.before_l2.ensures.quiet goes.0 one.honest in
     let same = c.before_l2.ensures.tables ∙ table_put_same g.S.Storage.view c.args.storage.now c.insert.new.store c.args.self.now false c.in-Some.cluster c.insert.new.self c.args.table (Some c.args.table) c.insert.new.value refl c.insert.result c.insert.ensures.there c.insert.ensures.missing c.insert.ensures.others (c.in_ok-insert.was ∙ ap Ok c.if-branch.false) in
     let next = table_goes c.args.self.now.l2 c.before_l2.new.self.l2 c.in-Some.cluster same goes.1 in
@@ -219,7 +220,7 @@ returns-in_err-insert-2-clause-quiet g c = if_some _ c.args.table.cluster c.in-S
 pub returns-clause-quiet : goal.returns-clause-quiet
 returns-clause-quiet g c = if_some _ c.args.table.cluster c.in-Some.cluster (sym c.get_cluster.ensures.value ∙ c.in-Some.is) (λ may honest.
     let goes = table_put_waits g.S.Storage.view c.args.storage.now c.insert.new.store c.args.self.now false c.in-Some.cluster c.insert.new.self c.args.table (Some c.args.table) c.insert.new.value refl c.insert.result c.insert.ensures.there c.insert.ensures.missing (c.in_ok-insert.was ∙ ap Ok c.if-branch.false) may in
-    let one = table_put_quietly g.S.Storage.view c.args.storage.now c.insert.new.store c.args.self.now false c.in-Some.cluster c.insert.new.self c.args.table (Some c.args.table) c.insert.new.value refl c.insert.result c.insert.ensures.there c.insert.ensures.missing (λ flush. absurd (cc)) honest in
+    let one = table_put_quietly g.S.Storage.view c.args.storage.now c.insert.new.store c.args.self.now false c.in-Some.cluster c.insert.new.self c.args.table (Some c.args.table) c.insert.new.value refl c.insert.result c.insert.ensures.there c.insert.ensures.missing (λ flush. never flush) honest in
     let two = c.before_l2.ensures.quiet goes.0 one.honest in
     let same = c.before_l2.ensures.tables ∙ table_put_same g.S.Storage.view c.args.storage.now c.insert.new.store c.args.self.now false c.in-Some.cluster c.insert.new.self c.args.table (Some c.args.table) c.insert.new.value refl c.insert.result c.insert.ensures.there c.insert.ensures.missing c.insert.ensures.others (c.in_ok-insert.was ∙ ap Ok c.if-branch.false) in
     let next = table_goes c.args.self.now.l2 c.before_l2.new.self.l2 c.in-Some.cluster same goes.1 in

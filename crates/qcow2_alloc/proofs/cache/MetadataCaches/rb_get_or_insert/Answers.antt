@@ -12,27 +12,28 @@ use Rattle.std.proofs.Common.{eqb}
 use Rattle.qcow2_alloc.proofs.CachedEntries.Staying.{stays_same, stays_then, values_stay}
 use Rattle.qcow2_alloc.specs.Faults.{faults_of}
 use Rattle.qcow2_alloc.proofs.Faults.{told_ok, told_on, told_since, cache_told, rb_get_tells}
+use Rattle.qcow2_alloc.proofs.Outcomes.{never}
 use Rattle.qcow2_alloc.proofs.cache.MetadataCaches.rb_get_or_insert.Goals as goal
 
 pub returns-in_err-get_or_insert-clause-keeps : goal.returns-in_err-get_or_insert-clause-keeps
 returns-in_err-get_or_insert-clause-keeps g c =
-    block_got g.S.Storage.view c.args.storage.now c.get_or_insert.new.store c.args.self.now false c.args.cluster c.get_or_insert.new.self c.get_or_insert.ensures.others c.get_or_insert.result c.get_or_insert.ensures.hit c.get_or_insert.ensures.miss (λ flush. absurd (cc))
+    block_got g.S.Storage.view c.args.storage.now c.get_or_insert.new.store c.args.self.now false c.args.cluster c.get_or_insert.new.self c.get_or_insert.ensures.others c.get_or_insert.result c.get_or_insert.ensures.hit c.get_or_insert.ensures.miss (λ flush. never flush)
 
 pub returns-then-branch-clause-keeps : goal.returns-then-branch-clause-keeps
 returns-then-branch-clause-keeps g c =
-    block_got g.S.Storage.view c.args.storage.now c.get_or_insert.new.store c.args.self.now false c.args.cluster c.get_or_insert.new.self c.get_or_insert.ensures.others c.get_or_insert.result c.get_or_insert.ensures.hit c.get_or_insert.ensures.miss (λ flush. absurd (cc))
+    block_got g.S.Storage.view c.args.storage.now c.get_or_insert.new.store c.args.self.now false c.args.cluster c.get_or_insert.new.self c.get_or_insert.ensures.others c.get_or_insert.result c.get_or_insert.ensures.hit c.get_or_insert.ensures.miss (λ flush. never flush)
 
 pub returns-in_err-before_rb-clause-keeps : goal.returns-in_err-before_rb-clause-keeps
 returns-in_err-before_rb-clause-keeps g c =
     keep_then g.S.Storage.view c.args.storage.now c.get_or_insert.new.store c.before_rb.new.storage c.args.self.now (record c.args.self.now { rb = c.get_or_insert.new.self }) c.before_rb.new.self
-    (block_got g.S.Storage.view c.args.storage.now c.get_or_insert.new.store c.args.self.now false c.args.cluster c.get_or_insert.new.self c.get_or_insert.ensures.others c.get_or_insert.result c.get_or_insert.ensures.hit c.get_or_insert.ensures.miss (λ flush. absurd (cc)))
+    (block_got g.S.Storage.view c.args.storage.now c.get_or_insert.new.store c.args.self.now false c.args.cluster c.get_or_insert.new.self c.get_or_insert.ensures.others c.get_or_insert.result c.get_or_insert.ensures.hit c.get_or_insert.ensures.miss (λ flush. never flush))
     c.before_rb.ensures.keeps
 
 pub returns-in_err-get_or_insert-2-clause-keeps : goal.returns-in_err-get_or_insert-2-clause-keeps
 returns-in_err-get_or_insert-2-clause-keeps g c =
     keep_then g.S.Storage.view c.args.storage.now c.before_rb.new.storage c.get_or_insert-2.new.store c.args.self.now c.before_rb.new.self (record c.before_rb.new.self { rb = c.get_or_insert-2.new.self })
     (keep_then g.S.Storage.view c.args.storage.now c.get_or_insert.new.store c.before_rb.new.storage c.args.self.now (record c.args.self.now { rb = c.get_or_insert.new.self }) c.before_rb.new.self
-    (block_got g.S.Storage.view c.args.storage.now c.get_or_insert.new.store c.args.self.now false c.args.cluster c.get_or_insert.new.self c.get_or_insert.ensures.others c.get_or_insert.result c.get_or_insert.ensures.hit c.get_or_insert.ensures.miss (λ flush. absurd (cc)))
+    (block_got g.S.Storage.view c.args.storage.now c.get_or_insert.new.store c.args.self.now false c.args.cluster c.get_or_insert.new.self c.get_or_insert.ensures.others c.get_or_insert.result c.get_or_insert.ensures.hit c.get_or_insert.ensures.miss (λ flush. never flush))
     c.before_rb.ensures.keeps)
     (block_got g.S.Storage.view c.before_rb.new.storage c.get_or_insert-2.new.store c.before_rb.new.self true c.args.cluster c.get_or_insert-2.new.self c.get_or_insert-2.ensures.others c.get_or_insert-2.result c.get_or_insert-2.ensures.hit c.get_or_insert-2.ensures.miss (λ _. c.in_ok-before_rb.ensures.first))
 
@@ -40,7 +41,7 @@ pub returns-clause-keeps : goal.returns-clause-keeps
 returns-clause-keeps g c =
     keep_then g.S.Storage.view c.args.storage.now c.before_rb.new.storage c.get_or_insert-2.new.store c.args.self.now c.before_rb.new.self (record c.before_rb.new.self { rb = c.get_or_insert-2.new.self })
     (keep_then g.S.Storage.view c.args.storage.now c.get_or_insert.new.store c.before_rb.new.storage c.args.self.now (record c.args.self.now { rb = c.get_or_insert.new.self }) c.before_rb.new.self
-    (block_got g.S.Storage.view c.args.storage.now c.get_or_insert.new.store c.args.self.now false c.args.cluster c.get_or_insert.new.self c.get_or_insert.ensures.others c.get_or_insert.result c.get_or_insert.ensures.hit c.get_or_insert.ensures.miss (λ flush. absurd (cc)))
+    (block_got g.S.Storage.view c.args.storage.now c.get_or_insert.new.store c.args.self.now false c.args.cluster c.get_or_insert.new.self c.get_or_insert.ensures.others c.get_or_insert.result c.get_or_insert.ensures.hit c.get_or_insert.ensures.miss (λ flush. never flush))
     c.before_rb.ensures.keeps)
     (block_got g.S.Storage.view c.before_rb.new.storage c.get_or_insert-2.new.store c.before_rb.new.self true c.args.cluster c.get_or_insert-2.new.self c.get_or_insert-2.ensures.others c.get_or_insert-2.result c.get_or_insert-2.ensures.hit c.get_or_insert-2.ensures.miss (λ _. c.in_ok-before_rb.ensures.first))
 
@@ -62,57 +63,57 @@ returns-clause-marks g c =
 
 pub returns-in_err-before_rb-clause-faults : goal.returns-in_err-before_rb-clause-faults
 returns-in_err-before_rb-clause-faults g c = λ room h here p honest sound settled.
-    let one = block_got g.S.Storage.view c.args.storage.now c.get_or_insert.new.store c.args.self.now false c.args.cluster c.get_or_insert.new.self c.get_or_insert.ensures.others c.get_or_insert.result c.get_or_insert.ensures.hit c.get_or_insert.ensures.miss (λ flush. absurd (cc)) h p honest sound in
+    let one = block_got g.S.Storage.view c.args.storage.now c.get_or_insert.new.store c.args.self.now false c.args.cluster c.get_or_insert.new.self c.get_or_insert.ensures.others c.get_or_insert.result c.get_or_insert.ensures.hit c.get_or_insert.ensures.miss (λ flush. never flush) h p honest sound in
     given_err c.from_residual-in_err-before_rb.result c.in_err-before_rb.field-0.0 IsFault c.from_residual-in_err-before_rb.ensures ((c.in_err-before_rb.ensures.faults h p one.honest one.sound (one.settled settled)))
 
 pub returns-in_err-get_or_insert-2-clause-faults : goal.returns-in_err-get_or_insert-2-clause-faults
 returns-in_err-get_or_insert-2-clause-faults g c = λ room h here p honest sound settled.
-    let one = block_got g.S.Storage.view c.args.storage.now c.get_or_insert.new.store c.args.self.now false c.args.cluster c.get_or_insert.new.self c.get_or_insert.ensures.others c.get_or_insert.result c.get_or_insert.ensures.hit c.get_or_insert.ensures.miss (λ flush. absurd (cc)) h p honest sound in
+    let one = block_got g.S.Storage.view c.args.storage.now c.get_or_insert.new.store c.args.self.now false c.args.cluster c.get_or_insert.new.self c.get_or_insert.ensures.others c.get_or_insert.result c.get_or_insert.ensures.hit c.get_or_insert.ensures.miss (λ flush. never flush) h p honest sound in
     let two = c.before_rb.ensures.keeps h p one.honest one.sound in
     let marks = marks_then c.args.self.now (record c.args.self.now { rb = c.get_or_insert.new.self }) c.before_rb.new.self (marks_blocks c.args.self.now c.get_or_insert.new.self c.get_or_insert.ensures.others c.get_or_insert.ensures.pins) c.before_rb.ensures.marks in
     given_err c.from_residual-in_err-get_or_insert-2.result (of_cache c.in_err-get_or_insert-2.field-0.0) IsFault c.from_residual-in_err-get_or_insert-2.ensures
     (block_load_refused g.S.Storage.view c.before_rb.new.storage c.get_or_insert-2.new.store c.before_rb.new.self h p (byte_at (g.S.Storage.view (storage_of c.before_rb.new.storage)).contents) two.sound true c.args.cluster c.get_or_insert-2.result c.in_err-get_or_insert-2.field-0.0 c.in_err-get_or_insert-2.was (marks.room room) (two.settled (one.settled settled)) c.get_or_insert-2.new.self here c.get_or_insert-2.ensures.hit c.get_or_insert-2.ensures.miss)
 
 pub returns-in_err-get_or_insert-clause-ordered : goal.returns-in_err-get_or_insert-clause-ordered
-returns-in_err-get_or_insert-clause-ordered g c = block_got_in_order g.S.Storage.view c.args.storage.now c.get_or_insert.new.store c.args.self.now false c.args.cluster c.get_or_insert.new.self c.get_or_insert.result c.get_or_insert.ensures.hit c.get_or_insert.ensures.miss (λ flush. absurd (cc))
+returns-in_err-get_or_insert-clause-ordered g c = block_got_in_order g.S.Storage.view c.args.storage.now c.get_or_insert.new.store c.args.self.now false c.args.cluster c.get_or_insert.new.self c.get_or_insert.result c.get_or_insert.ensures.hit c.get_or_insert.ensures.miss (λ flush. never flush)
 
 pub returns-then-branch-clause-ordered : goal.returns-then-branch-clause-ordered
-returns-then-branch-clause-ordered g c = block_got_in_order g.S.Storage.view c.args.storage.now c.get_or_insert.new.store c.args.self.now false c.args.cluster c.get_or_insert.new.self c.get_or_insert.result c.get_or_insert.ensures.hit c.get_or_insert.ensures.miss (λ flush. absurd (cc))
+returns-then-branch-clause-ordered g c = block_got_in_order g.S.Storage.view c.args.storage.now c.get_or_insert.new.store c.args.self.now false c.args.cluster c.get_or_insert.new.self c.get_or_insert.result c.get_or_insert.ensures.hit c.get_or_insert.ensures.miss (λ flush. never flush)
 
 pub returns-in_err-before_rb-clause-ordered : goal.returns-in_err-before_rb-clause-ordered
 returns-in_err-before_rb-clause-ordered g c =
-    order_then g.S.Storage.view c.args.storage.now c.get_or_insert.new.store c.before_rb.new.storage c.args.self.now (record c.args.self.now { rb = c.get_or_insert.new.self }) (block_got g.S.Storage.view c.args.storage.now c.get_or_insert.new.store c.args.self.now false c.args.cluster c.get_or_insert.new.self c.get_or_insert.ensures.others c.get_or_insert.result c.get_or_insert.ensures.hit c.get_or_insert.ensures.miss (λ flush. absurd (cc))) (block_got_in_order g.S.Storage.view c.args.storage.now c.get_or_insert.new.store c.args.self.now false c.args.cluster c.get_or_insert.new.self c.get_or_insert.result c.get_or_insert.ensures.hit c.get_or_insert.ensures.miss (λ flush. absurd (cc))) refl c.before_rb.ensures.ordered
+    order_then g.S.Storage.view c.args.storage.now c.get_or_insert.new.store c.before_rb.new.storage c.args.self.now (record c.args.self.now { rb = c.get_or_insert.new.self }) (block_got g.S.Storage.view c.args.storage.now c.get_or_insert.new.store c.args.self.now false c.args.cluster c.get_or_insert.new.self c.get_or_insert.ensures.others c.get_or_insert.result c.get_or_insert.ensures.hit c.get_or_insert.ensures.miss (λ flush. never flush)) (block_got_in_order g.S.Storage.view c.args.storage.now c.get_or_insert.new.store c.args.self.now false c.args.cluster c.get_or_insert.new.self c.get_or_insert.result c.get_or_insert.ensures.hit c.get_or_insert.ensures.miss (λ flush. never flush)) refl c.before_rb.ensures.ordered
 
 pub returns-in_err-get_or_insert-2-clause-ordered : goal.returns-in_err-get_or_insert-2-clause-ordered
 returns-in_err-get_or_insert-2-clause-ordered g c =
     order_then g.S.Storage.view c.args.storage.now c.before_rb.new.storage c.get_or_insert-2.new.store c.args.self.now c.before_rb.new.self
-    (keep_then g.S.Storage.view c.args.storage.now c.get_or_insert.new.store c.before_rb.new.storage c.args.self.now (record c.args.self.now { rb = c.get_or_insert.new.self }) c.before_rb.new.self (block_got g.S.Storage.view c.args.storage.now c.get_or_insert.new.store c.args.self.now false c.args.cluster c.get_or_insert.new.self c.get_or_insert.ensures.others c.get_or_insert.result c.get_or_insert.ensures.hit c.get_or_insert.ensures.miss (λ flush. absurd (cc))) c.before_rb.ensures.keeps)
-    (order_then g.S.Storage.view c.args.storage.now c.get_or_insert.new.store c.before_rb.new.storage c.args.self.now (record c.args.self.now { rb = c.get_or_insert.new.self }) (block_got g.S.Storage.view c.args.storage.now c.get_or_insert.new.store c.args.self.now false c.args.cluster c.get_or_insert.new.self c.get_or_insert.ensures.others c.get_or_insert.result c.get_or_insert.ensures.hit c.get_or_insert.ensures.miss (λ flush. absurd (cc))) (block_got_in_order g.S.Storage.view c.args.storage.now c.get_or_insert.new.store c.args.self.now false c.args.cluster c.get_or_insert.new.self c.get_or_insert.result c.get_or_insert.ensures.hit c.get_or_insert.ensures.miss (λ flush. absurd (cc))) refl c.before_rb.ensures.ordered) c.before_rb.ensures.order
+    (keep_then g.S.Storage.view c.args.storage.now c.get_or_insert.new.store c.before_rb.new.storage c.args.self.now (record c.args.self.now { rb = c.get_or_insert.new.self }) c.before_rb.new.self (block_got g.S.Storage.view c.args.storage.now c.get_or_insert.new.store c.args.self.now false c.args.cluster c.get_or_insert.new.self c.get_or_insert.ensures.others c.get_or_insert.result c.get_or_insert.ensures.hit c.get_or_insert.ensures.miss (λ flush. never flush)) c.before_rb.ensures.keeps)
+    (order_then g.S.Storage.view c.args.storage.now c.get_or_insert.new.store c.before_rb.new.storage c.args.self.now (record c.args.self.now { rb = c.get_or_insert.new.self }) (block_got g.S.Storage.view c.args.storage.now c.get_or_insert.new.store c.args.self.now false c.args.cluster c.get_or_insert.new.self c.get_or_insert.ensures.others c.get_or_insert.result c.get_or_insert.ensures.hit c.get_or_insert.ensures.miss (λ flush. never flush)) (block_got_in_order g.S.Storage.view c.args.storage.now c.get_or_insert.new.store c.args.self.now false c.args.cluster c.get_or_insert.new.self c.get_or_insert.result c.get_or_insert.ensures.hit c.get_or_insert.ensures.miss (λ flush. never flush)) refl c.before_rb.ensures.ordered) c.before_rb.ensures.order
     (block_got_in_order g.S.Storage.view c.before_rb.new.storage c.get_or_insert-2.new.store c.before_rb.new.self true c.args.cluster c.get_or_insert-2.new.self c.get_or_insert-2.result c.get_or_insert-2.ensures.hit c.get_or_insert-2.ensures.miss (λ _. c.in_ok-before_rb.ensures.first))
 
 pub returns-clause-ordered : goal.returns-clause-ordered
 returns-clause-ordered g c =
     order_then g.S.Storage.view c.args.storage.now c.before_rb.new.storage c.get_or_insert-2.new.store c.args.self.now c.before_rb.new.self
-    (keep_then g.S.Storage.view c.args.storage.now c.get_or_insert.new.store c.before_rb.new.storage c.args.self.now (record c.args.self.now { rb = c.get_or_insert.new.self }) c.before_rb.new.self (block_got g.S.Storage.view c.args.storage.now c.get_or_insert.new.store c.args.self.now false c.args.cluster c.get_or_insert.new.self c.get_or_insert.ensures.others c.get_or_insert.result c.get_or_insert.ensures.hit c.get_or_insert.ensures.miss (λ flush. absurd (cc))) c.before_rb.ensures.keeps)
-    (order_then g.S.Storage.view c.args.storage.now c.get_or_insert.new.store c.before_rb.new.storage c.args.self.now (record c.args.self.now { rb = c.get_or_insert.new.self }) (block_got g.S.Storage.view c.args.storage.now c.get_or_insert.new.store c.args.self.now false c.args.cluster c.get_or_insert.new.self c.get_or_insert.ensures.others c.get_or_insert.result c.get_or_insert.ensures.hit c.get_or_insert.ensures.miss (λ flush. absurd (cc))) (block_got_in_order g.S.Storage.view c.args.storage.now c.get_or_insert.new.store c.args.self.now false c.args.cluster c.get_or_insert.new.self c.get_or_insert.result c.get_or_insert.ensures.hit c.get_or_insert.ensures.miss (λ flush. absurd (cc))) refl c.before_rb.ensures.ordered) c.before_rb.ensures.order
+    (keep_then g.S.Storage.view c.args.storage.now c.get_or_insert.new.store c.before_rb.new.storage c.args.self.now (record c.args.self.now { rb = c.get_or_insert.new.self }) c.before_rb.new.self (block_got g.S.Storage.view c.args.storage.now c.get_or_insert.new.store c.args.self.now false c.args.cluster c.get_or_insert.new.self c.get_or_insert.ensures.others c.get_or_insert.result c.get_or_insert.ensures.hit c.get_or_insert.ensures.miss (λ flush. never flush)) c.before_rb.ensures.keeps)
+    (order_then g.S.Storage.view c.args.storage.now c.get_or_insert.new.store c.before_rb.new.storage c.args.self.now (record c.args.self.now { rb = c.get_or_insert.new.self }) (block_got g.S.Storage.view c.args.storage.now c.get_or_insert.new.store c.args.self.now false c.args.cluster c.get_or_insert.new.self c.get_or_insert.ensures.others c.get_or_insert.result c.get_or_insert.ensures.hit c.get_or_insert.ensures.miss (λ flush. never flush)) (block_got_in_order g.S.Storage.view c.args.storage.now c.get_or_insert.new.store c.args.self.now false c.args.cluster c.get_or_insert.new.self c.get_or_insert.result c.get_or_insert.ensures.hit c.get_or_insert.ensures.miss (λ flush. never flush)) refl c.before_rb.ensures.ordered) c.before_rb.ensures.order
     (block_got_in_order g.S.Storage.view c.before_rb.new.storage c.get_or_insert-2.new.store c.before_rb.new.self true c.args.cluster c.get_or_insert-2.new.self c.get_or_insert-2.result c.get_or_insert-2.ensures.hit c.get_or_insert-2.ensures.miss (λ _. c.in_ok-before_rb.ensures.first))
 
 pub returns-in_err-get_or_insert-clause-quiet : goal.returns-in_err-get_or_insert-clause-quiet
-returns-in_err-get_or_insert-clause-quiet g c = λ may. block_got_quietly g.S.Storage.view c.args.storage.now c.get_or_insert.new.store c.args.self.now false c.args.cluster c.get_or_insert.new.self c.get_or_insert.result c.get_or_insert.ensures.hit c.get_or_insert.ensures.miss (λ flush. absurd (cc))
+returns-in_err-get_or_insert-clause-quiet g c = λ may. block_got_quietly g.S.Storage.view c.args.storage.now c.get_or_insert.new.store c.args.self.now false c.args.cluster c.get_or_insert.new.self c.get_or_insert.result c.get_or_insert.ensures.hit c.get_or_insert.ensures.miss (λ flush. never flush)
 
 pub returns-then-branch-clause-quiet : goal.returns-then-branch-clause-quiet
-returns-then-branch-clause-quiet g c = λ may. block_got_quietly g.S.Storage.view c.args.storage.now c.get_or_insert.new.store c.args.self.now false c.args.cluster c.get_or_insert.new.self c.get_or_insert.result c.get_or_insert.ensures.hit c.get_or_insert.ensures.miss (λ flush. absurd (cc))
+returns-then-branch-clause-quiet g c = λ may. block_got_quietly g.S.Storage.view c.args.storage.now c.get_or_insert.new.store c.args.self.now false c.args.cluster c.get_or_insert.new.self c.get_or_insert.result c.get_or_insert.ensures.hit c.get_or_insert.ensures.miss (λ flush. never flush)
 
 pub returns-in_err-before_rb-clause-quiet : goal.returns-in_err-before_rb-clause-quiet
 returns-in_err-before_rb-clause-quiet g c = λ may honest.
     let goes = block_waits g.S.Storage.view c.args.storage.now c.get_or_insert.new.store c.args.self.now false c.args.cluster c.get_or_insert.new.self c.get_or_insert.result c.get_or_insert.ensures.hit c.get_or_insert.ensures.miss (c.in_ok-get_or_insert.was ∙ ap Ok c.if-branch.false) may in
-    let one = block_got_quietly g.S.Storage.view c.args.storage.now c.get_or_insert.new.store c.args.self.now false c.args.cluster c.get_or_insert.new.self c.get_or_insert.result c.get_or_insert.ensures.hit c.get_or_insert.ensures.miss (λ flush. absurd (cc)) honest in
+    let one = block_got_quietly g.S.Storage.view c.args.storage.now c.get_or_insert.new.store c.args.self.now false c.args.cluster c.get_or_insert.new.self c.get_or_insert.result c.get_or_insert.ensures.hit c.get_or_insert.ensures.miss (λ flush. never flush) honest in
     quiet_then (g.S.Storage.view (storage_of c.args.storage.now)) (g.S.Storage.view (storage_of c.get_or_insert.new.store)) (g.S.Storage.view (storage_of c.before_rb.new.storage)) one (c.before_rb.ensures.quiet goes.0 one.honest)
 
 pub returns-in_err-get_or_insert-2-clause-quiet : goal.returns-in_err-get_or_insert-2-clause-quiet
 returns-in_err-get_or_insert-2-clause-quiet g c = λ may honest.
     let goes = block_waits g.S.Storage.view c.args.storage.now c.get_or_insert.new.store c.args.self.now false c.args.cluster c.get_or_insert.new.self c.get_or_insert.result c.get_or_insert.ensures.hit c.get_or_insert.ensures.miss (c.in_ok-get_or_insert.was ∙ ap Ok c.if-branch.false) may in
-    let one = block_got_quietly g.S.Storage.view c.args.storage.now c.get_or_insert.new.store c.args.self.now false c.args.cluster c.get_or_insert.new.self c.get_or_insert.result c.get_or_insert.ensures.hit c.get_or_insert.ensures.miss (λ flush. absurd (cc)) honest in
+    let one = block_got_quietly g.S.Storage.view c.args.storage.now c.get_or_insert.new.store c.args.self.now false c.args.cluster c.get_or_insert.new.self c.get_or_insert.result c.get_or_insert.ensures.hit c.get_or_insert.ensures.miss (λ flush. never flush) honest in
     let two = c.before_rb.ensures.quiet goes.0 one.honest in
     let same = c.before_rb.ensures.refblocks ∙ block_got_same g.S.Storage.view c.args.storage.now c.get_or_insert.new.store c.args.self.now false c.args.cluster c.get_or_insert.new.self c.get_or_insert.result c.get_or_insert.ensures.hit c.get_or_insert.ensures.miss c.get_or_insert.ensures.others (c.in_ok-get_or_insert.was ∙ ap Ok c.if-branch.false) in
     let next = next_block c.args.self.now.rb c.before_rb.new.self.rb same goes.1 in
@@ -121,7 +122,7 @@ returns-in_err-get_or_insert-2-clause-quiet g c = λ may honest.
 pub returns-clause-quiet : goal.returns-clause-quiet
 returns-clause-quiet g c = λ may honest.
     let goes = block_waits g.S.Storage.view c.args.storage.now c.get_or_insert.new.store c.args.self.now false c.args.cluster c.get_or_insert.new.self c.get_or_insert.result c.get_or_insert.ensures.hit c.get_or_insert.ensures.miss (c.in_ok-get_or_insert.was ∙ ap Ok c.if-branch.false) may in
-    let one = block_got_quietly g.S.Storage.view c.args.storage.now c.get_or_insert.new.store c.args.self.now false c.args.cluster c.get_or_insert.new.self c.get_or_insert.result c.get_or_insert.ensures.hit c.get_or_insert.ensures.miss (λ flush. absurd (cc)) honest in
+    let one = block_got_quietly g.S.Storage.view c.args.storage.now c.get_or_insert.new.store c.args.self.now false c.args.cluster c.get_or_insert.new.self c.get_or_insert.result c.get_or_insert.ensures.hit c.get_or_insert.ensures.miss (λ flush. never flush) honest in
     let two = c.before_rb.ensures.quiet goes.0 one.honest in
     let same = c.before_rb.ensures.refblocks ∙ block_got_same g.S.Storage.view c.args.storage.now c.get_or_insert.new.store c.args.self.now false c.args.cluster c.get_or_insert.new.self c.get_or_insert.result c.get_or_insert.ensures.hit c.get_or_insert.ensures.miss c.get_or_insert.ensures.others (c.in_ok-get_or_insert.was ∙ ap Ok c.if-branch.false) in
     let next = next_block c.args.self.now.rb c.before_rb.new.self.rb same goes.1 in

@@ -23,11 +23,12 @@ use Rattle.std.proofs.Common.{eqb}
 use Rattle.qcow2_alloc.proofs.CachedEntries.Staying.{stays_same, stays_then, values_stay}
 use Rattle.qcow2_alloc.specs.Faults.{faults_of}
 use Rattle.qcow2_alloc.proofs.Faults.{told_ok, told_on, told_since, cache_told, rb_put_tells}
+use Rattle.qcow2_alloc.proofs.Outcomes.{never}
 use Rattle.qcow2_alloc.proofs.cache.MetadataCaches.rb_insert.Goals as goal
 
 pub returns-in_err-insert-clause-keeps : goal.returns-in_err-insert-clause-keeps
 returns-in_err-insert-clause-keeps g c = λ h p honest sound fits clean holds.
-    block_put g.S.Storage.view c.args.storage.now c.insert.new.store c.args.self.now false c.in-Some.cluster c.insert.new.self c.insert.ensures.others c.args.block (Some c.args.block) c.insert.new.value refl c.insert.result c.insert.ensures.there c.insert.ensures.missing (λ flush. absurd (cc)) h p honest sound fits clean (rw (sym c.get_cluster.ensures.value ∙ c.in-Some.is) at holds)
+    block_put g.S.Storage.view c.args.storage.now c.insert.new.store c.args.self.now false c.in-Some.cluster c.insert.new.self c.insert.ensures.others c.args.block (Some c.args.block) c.insert.new.value refl c.insert.result c.insert.ensures.there c.insert.ensures.missing (λ flush. never flush) h p honest sound fits clean (rw (sym c.get_cluster.ensures.value ∙ c.in-Some.is) at holds)
 
 pub returns-then-branch-clause-held : goal.returns-then-branch-clause-held
 returns-then-branch-clause-held g c =
@@ -35,17 +36,17 @@ returns-then-branch-clause-held g c =
 
 pub returns-then-branch-clause-keeps : goal.returns-then-branch-clause-keeps
 returns-then-branch-clause-keeps g c = λ h p honest sound fits clean holds.
-    block_put g.S.Storage.view c.args.storage.now c.insert.new.store c.args.self.now false c.in-Some.cluster c.insert.new.self c.insert.ensures.others c.args.block (Some c.args.block) c.insert.new.value refl c.insert.result c.insert.ensures.there c.insert.ensures.missing (λ flush. absurd (cc)) h p honest sound fits clean (rw (sym c.get_cluster.ensures.value ∙ c.in-Some.is) at holds)
+    block_put g.S.Storage.view c.args.storage.now c.insert.new.store c.args.self.now false c.in-Some.cluster c.insert.new.self c.insert.ensures.others c.args.block (Some c.args.block) c.insert.new.value refl c.insert.result c.insert.ensures.there c.insert.ensures.missing (λ flush. never flush) h p honest sound fits clean (rw (sym c.get_cluster.ensures.value ∙ c.in-Some.is) at holds)
 
 pub returns-in_err-before_rb-clause-keeps : goal.returns-in_err-before_rb-clause-keeps
 returns-in_err-before_rb-clause-keeps g c = λ h p honest sound fits clean holds.
-    let one = block_put g.S.Storage.view c.args.storage.now c.insert.new.store c.args.self.now false c.in-Some.cluster c.insert.new.self c.insert.ensures.others c.args.block (Some c.args.block) c.insert.new.value refl c.insert.result c.insert.ensures.there c.insert.ensures.missing (λ flush. absurd (cc)) h p honest sound fits clean (rw (sym c.get_cluster.ensures.value ∙ c.in-Some.is) at holds) in
+    let one = block_put g.S.Storage.view c.args.storage.now c.insert.new.store c.args.self.now false c.in-Some.cluster c.insert.new.self c.insert.ensures.others c.args.block (Some c.args.block) c.insert.new.value refl c.insert.result c.insert.ensures.there c.insert.ensures.missing (λ flush. never flush) h p honest sound fits clean (rw (sym c.get_cluster.ensures.value ∙ c.in-Some.is) at holds) in
     stay_then g.S.Storage.view h p c.args.storage.now c.insert.new.store c.before_rb.new.storage c.args.self.now (record c.args.self.now { rb = c.insert.new.self }) c.before_rb.new.self one
     (c.before_rb.ensures.keeps h p one.honest one.sound)
 
 pub returns-in_err-insert-2-clause-keeps : goal.returns-in_err-insert-2-clause-keeps
 returns-in_err-insert-2-clause-keeps g c = λ h p honest sound fits clean holds.
-    let one = block_put g.S.Storage.view c.args.storage.now c.insert.new.store c.args.self.now false c.in-Some.cluster c.insert.new.self c.insert.ensures.others c.args.block (Some c.args.block) c.insert.new.value refl c.insert.result c.insert.ensures.there c.insert.ensures.missing (λ flush. absurd (cc)) h p honest sound fits clean (rw (sym c.get_cluster.ensures.value ∙ c.in-Some.is) at holds) in
+    let one = block_put g.S.Storage.view c.args.storage.now c.insert.new.store c.args.self.now false c.in-Some.cluster c.insert.new.self c.insert.ensures.others c.args.block (Some c.args.block) c.insert.new.value refl c.insert.result c.insert.ensures.there c.insert.ensures.missing (λ flush. never flush) h p honest sound fits clean (rw (sym c.get_cluster.ensures.value ∙ c.in-Some.is) at holds) in
     let two = stay_then g.S.Storage.view h p c.args.storage.now c.insert.new.store c.before_rb.new.storage c.args.self.now (record c.args.self.now { rb = c.insert.new.self }) c.before_rb.new.self one (c.before_rb.ensures.keeps h p one.honest one.sound) in
     stay_then g.S.Storage.view h p c.args.storage.now c.before_rb.new.storage c.insert-2.new.store c.args.self.now c.before_rb.new.self (record c.before_rb.new.self { rb = c.insert-2.new.self }) two
     (block_put g.S.Storage.view c.before_rb.new.storage c.insert-2.new.store c.before_rb.new.self true c.in-Some.cluster c.insert-2.new.self c.insert-2.ensures.others c.args.block c.insert.new.value c.insert-2.new.value ((rb_taken g.S.Storage.view c.args.storage.now c.insert.new.store c.args.self.now false c.in-Some.cluster c.insert.new.self c.insert.ensures.others c.args.block (Some c.args.block) c.insert.new.value refl c.insert.result c.insert.ensures.there c.insert.ensures.missing).kept (c.in_ok-insert.was ∙ ap Ok c.if-branch.false)) c.insert-2.result c.insert-2.ensures.there c.insert-2.ensures.missing (λ _. c.in_ok-before_rb.ensures.first) h p two.honest two.sound fits clean
@@ -53,7 +54,7 @@ returns-in_err-insert-2-clause-keeps g c = λ h p honest sound fits clean holds.
 
 pub returns-clause-keeps : goal.returns-clause-keeps
 returns-clause-keeps g c = λ h p honest sound fits clean holds.
-    let one = block_put g.S.Storage.view c.args.storage.now c.insert.new.store c.args.self.now false c.in-Some.cluster c.insert.new.self c.insert.ensures.others c.args.block (Some c.args.block) c.insert.new.value refl c.insert.result c.insert.ensures.there c.insert.ensures.missing (λ flush. absurd (cc)) h p honest sound fits clean (rw (sym c.get_cluster.ensures.value ∙ c.in-Some.is) at holds) in
+    let one = block_put g.S.Storage.view c.args.storage.now c.insert.new.store c.args.self.now false c.in-Some.cluster c.insert.new.self c.insert.ensures.others c.args.block (Some c.args.block) c.insert.new.value refl c.insert.result c.insert.ensures.there c.insert.ensures.missing (λ flush. never flush) h p honest sound fits clean (rw (sym c.get_cluster.ensures.value ∙ c.in-Some.is) at holds) in
     let two = stay_then g.S.Storage.view h p c.args.storage.now c.insert.new.store c.before_rb.new.storage c.args.self.now (record c.args.self.now { rb = c.insert.new.self }) c.before_rb.new.self one (c.before_rb.ensures.keeps h p one.honest one.sound) in
     stay_then g.S.Storage.view h p c.args.storage.now c.before_rb.new.storage c.insert-2.new.store c.args.self.now c.before_rb.new.self (record c.before_rb.new.self { rb = c.insert-2.new.self }) two
     (block_put g.S.Storage.view c.before_rb.new.storage c.insert-2.new.store c.before_rb.new.self true c.in-Some.cluster c.insert-2.new.self c.insert-2.ensures.others c.args.block c.insert.new.value c.insert-2.new.value ((rb_taken g.S.Storage.view c.args.storage.now c.insert.new.store c.args.self.now false c.in-Some.cluster c.insert.new.self c.insert.ensures.others c.args.block (Some c.args.block) c.insert.new.value refl c.insert.result c.insert.ensures.there c.insert.ensures.missing).kept (c.in_ok-insert.was ∙ ap Ok c.if-branch.false)) c.insert-2.result c.insert-2.ensures.there c.insert-2.ensures.missing (λ _. c.in_ok-before_rb.ensures.first) h p two.honest two.sound fits clean
@@ -87,12 +88,12 @@ returns-in_err-insert-clause-faults g c = λ room h p honest sound settled fits 
 
 pub returns-in_err-before_rb-clause-faults : goal.returns-in_err-before_rb-clause-faults
 returns-in_err-before_rb-clause-faults g c = λ room h p honest sound settled fits clean holds.
-    let one = block_put g.S.Storage.view c.args.storage.now c.insert.new.store c.args.self.now false c.in-Some.cluster c.insert.new.self c.insert.ensures.others c.args.block (Some c.args.block) c.insert.new.value refl c.insert.result c.insert.ensures.there c.insert.ensures.missing (λ flush. absurd (cc)) h p honest sound fits clean (rw (sym c.get_cluster.ensures.value ∙ c.in-Some.is) at holds) in
+    let one = block_put g.S.Storage.view c.args.storage.now c.insert.new.store c.args.self.now false c.in-Some.cluster c.insert.new.self c.insert.ensures.others c.args.block (Some c.args.block) c.insert.new.value refl c.insert.result c.insert.ensures.there c.insert.ensures.missing (λ flush. never flush) h p honest sound fits clean (rw (sym c.get_cluster.ensures.value ∙ c.in-Some.is) at holds) in
     given_err c.from_residual-in_err-before_rb.result c.in_err-before_rb.field-0.0 IsFault c.from_residual-in_err-before_rb.ensures ((c.in_err-before_rb.ensures.faults h p one.honest one.sound (one.settled settled)))
 
 pub returns-in_err-insert-2-clause-faults : goal.returns-in_err-insert-2-clause-faults
 returns-in_err-insert-2-clause-faults g c = λ room h p honest sound settled fits clean holds.
-    let one = block_put g.S.Storage.view c.args.storage.now c.insert.new.store c.args.self.now false c.in-Some.cluster c.insert.new.self c.insert.ensures.others c.args.block (Some c.args.block) c.insert.new.value refl c.insert.result c.insert.ensures.there c.insert.ensures.missing (λ flush. absurd (cc)) h p honest sound fits clean (rw (sym c.get_cluster.ensures.value ∙ c.in-Some.is) at holds) in
+    let one = block_put g.S.Storage.view c.args.storage.now c.insert.new.store c.args.self.now false c.in-Some.cluster c.insert.new.self c.insert.ensures.others c.args.block (Some c.args.block) c.insert.new.value refl c.insert.result c.insert.ensures.there c.insert.ensures.missing (λ flush. never flush) h p honest sound fits clean (rw (sym c.get_cluster.ensures.value ∙ c.in-Some.is) at holds) in
     let two = c.before_rb.ensures.keeps h p one.honest one.sound in
     let marks = marks_then c.args.self.now (record c.args.self.now { rb = c.insert.new.self }) c.before_rb.new.self (marks_blocks c.args.self.now c.insert.new.self c.insert.ensures.others c.insert.ensures.pins) c.before_rb.ensures.marks in
     given_err c.from_residual-in_err-insert-2.result (of_cache c.in_err-insert-2.field-0.0) IsFault c.from_residual-in_err-insert-2.ensures
@@ -121,73 +122,73 @@ err_ok a b = let e = sym a ∙ b in cc
 
 pub returns-in_err-insert-clause-refused : goal.returns-in_err-insert-clause-refused
 returns-in_err-insert-clause-refused g c = on_err c.from_residual.result (λ h p honest sound.
-    block_kept g.S.Storage.view c.args.storage.now c.insert.new.store c.args.self.now false c.in-Some.cluster c.insert.new.self c.insert.ensures.others c.args.block (Some c.args.block) c.insert.new.value refl c.insert.result c.insert.ensures.there c.insert.ensures.missing (λ flush. absurd (cc)) h p honest sound (λ went. err_ok c.in_err-insert.was went))
+    block_kept g.S.Storage.view c.args.storage.now c.insert.new.store c.args.self.now false c.in-Some.cluster c.insert.new.self c.insert.ensures.others c.args.block (Some c.args.block) c.insert.new.value refl c.insert.result c.insert.ensures.there c.insert.ensures.missing (λ flush. never flush) h p honest sound (λ went. err_ok c.in_err-insert.was went))
 
 pub returns-then-branch-clause-laid : goal.returns-then-branch-clause-laid
 returns-then-branch-clause-laid g c = λ h p honest sound fits marked.
     if_some _ c.args.block.cluster c.in-Some.cluster (sym c.get_cluster.ensures.value ∙ c.in-Some.is)
-    (λ free. block_laid g.S.Storage.view c.args.storage.now c.insert.new.store c.args.self.now false c.in-Some.cluster c.insert.new.self c.insert.ensures.others c.args.block (Some c.args.block) c.insert.new.value refl c.insert.result c.insert.ensures.there c.insert.ensures.missing (λ flush. absurd (cc)) h p honest sound (c.in_ok-insert.was ∙ ap Ok c.if-branch.true) fits marked free)
+    (λ free. block_laid g.S.Storage.view c.args.storage.now c.insert.new.store c.args.self.now false c.in-Some.cluster c.insert.new.self c.insert.ensures.others c.args.block (Some c.args.block) c.insert.new.value refl c.insert.result c.insert.ensures.there c.insert.ensures.missing (λ flush. never flush) h p honest sound (c.in_ok-insert.was ∙ ap Ok c.if-branch.true) fits marked free)
 
 pub returns-in_err-before_rb-clause-refused : goal.returns-in_err-before_rb-clause-refused
 returns-in_err-before_rb-clause-refused g c = on_err c.from_residual-in_err-before_rb.result (λ h p honest sound.
-    let one = block_kept g.S.Storage.view c.args.storage.now c.insert.new.store c.args.self.now false c.in-Some.cluster c.insert.new.self c.insert.ensures.others c.args.block (Some c.args.block) c.insert.new.value refl c.insert.result c.insert.ensures.there c.insert.ensures.missing (λ flush. absurd (cc)) h p honest sound (λ went. ok_false (c.in_ok-insert.was ∙ ap Ok c.if-branch.false) went) in
+    let one = block_kept g.S.Storage.view c.args.storage.now c.insert.new.store c.args.self.now false c.in-Some.cluster c.insert.new.self c.insert.ensures.others c.args.block (Some c.args.block) c.insert.new.value refl c.insert.result c.insert.ensures.there c.insert.ensures.missing (λ flush. never flush) h p honest sound (λ went. ok_false (c.in_ok-insert.was ∙ ap Ok c.if-branch.false) went) in
     stay_then g.S.Storage.view h p c.args.storage.now c.insert.new.store c.before_rb.new.storage c.args.self.now (record c.args.self.now { rb = c.insert.new.self }) c.before_rb.new.self one (c.before_rb.ensures.keeps h p one.honest one.sound))
 
 pub returns-in_err-insert-2-clause-refused : goal.returns-in_err-insert-2-clause-refused
 returns-in_err-insert-2-clause-refused g c = on_err c.from_residual-in_err-insert-2.result (λ h p honest sound.
-    let one = block_kept g.S.Storage.view c.args.storage.now c.insert.new.store c.args.self.now false c.in-Some.cluster c.insert.new.self c.insert.ensures.others c.args.block (Some c.args.block) c.insert.new.value refl c.insert.result c.insert.ensures.there c.insert.ensures.missing (λ flush. absurd (cc)) h p honest sound (λ went. ok_false (c.in_ok-insert.was ∙ ap Ok c.if-branch.false) went) in
+    let one = block_kept g.S.Storage.view c.args.storage.now c.insert.new.store c.args.self.now false c.in-Some.cluster c.insert.new.self c.insert.ensures.others c.args.block (Some c.args.block) c.insert.new.value refl c.insert.result c.insert.ensures.there c.insert.ensures.missing (λ flush. never flush) h p honest sound (λ went. ok_false (c.in_ok-insert.was ∙ ap Ok c.if-branch.false) went) in
     let two = stay_then g.S.Storage.view h p c.args.storage.now c.insert.new.store c.before_rb.new.storage c.args.self.now (record c.args.self.now { rb = c.insert.new.self }) c.before_rb.new.self one (c.before_rb.ensures.keeps h p one.honest one.sound) in
     stay_then g.S.Storage.view h p c.args.storage.now c.before_rb.new.storage c.insert-2.new.store c.args.self.now c.before_rb.new.self (record c.before_rb.new.self { rb = c.insert-2.new.self }) two
     (block_kept g.S.Storage.view c.before_rb.new.storage c.insert-2.new.store c.before_rb.new.self true c.in-Some.cluster c.insert-2.new.self c.insert-2.ensures.others c.args.block c.insert.new.value c.insert-2.new.value ((rb_taken g.S.Storage.view c.args.storage.now c.insert.new.store c.args.self.now false c.in-Some.cluster c.insert.new.self c.insert.ensures.others c.args.block (Some c.args.block) c.insert.new.value refl c.insert.result c.insert.ensures.there c.insert.ensures.missing).kept (c.in_ok-insert.was ∙ ap Ok c.if-branch.false)) c.insert-2.result c.insert-2.ensures.there c.insert-2.ensures.missing (λ _. c.in_ok-before_rb.ensures.first) h p two.honest two.sound (λ went. err_ok c.in_err-insert-2.was went)))
 
 pub returns-clause-laid : goal.returns-clause-laid
 returns-clause-laid g c = λ h p honest sound fits marked.
-    let one = block_kept g.S.Storage.view c.args.storage.now c.insert.new.store c.args.self.now false c.in-Some.cluster c.insert.new.self c.insert.ensures.others c.args.block (Some c.args.block) c.insert.new.value refl c.insert.result c.insert.ensures.there c.insert.ensures.missing (λ flush. absurd (cc)) h p honest sound (λ went. ok_false (c.in_ok-insert.was ∙ ap Ok c.if-branch.false) went) in
+    let one = block_kept g.S.Storage.view c.args.storage.now c.insert.new.store c.args.self.now false c.in-Some.cluster c.insert.new.self c.insert.ensures.others c.args.block (Some c.args.block) c.insert.new.value refl c.insert.result c.insert.ensures.there c.insert.ensures.missing (λ flush. never flush) h p honest sound (λ went. ok_false (c.in_ok-insert.was ∙ ap Ok c.if-branch.false) went) in
     let two = stay_then g.S.Storage.view h p c.args.storage.now c.insert.new.store c.before_rb.new.storage c.args.self.now (record c.args.self.now { rb = c.insert.new.self }) c.before_rb.new.self one (c.before_rb.ensures.keeps h p one.honest one.sound) in
     if_some _ c.args.block.cluster c.in-Some.cluster (sym c.get_cluster.ensures.value ∙ c.in-Some.is)
     (λ free. laid_then g.S.Storage.view h p c.args.storage.now c.before_rb.new.storage c.insert-2.new.store c.args.self.now c.before_rb.new.self (record c.before_rb.new.self { rb = c.insert-2.new.self }) (laid_at h c.in-Some.cluster c.args.block.bytes) _ _ two
     (block_laid g.S.Storage.view c.before_rb.new.storage c.insert-2.new.store c.before_rb.new.self true c.in-Some.cluster c.insert-2.new.self c.insert-2.ensures.others c.args.block c.insert.new.value c.insert-2.new.value ((rb_taken g.S.Storage.view c.args.storage.now c.insert.new.store c.args.self.now false c.in-Some.cluster c.insert.new.self c.insert.ensures.others c.args.block (Some c.args.block) c.insert.new.value refl c.insert.result c.insert.ensures.there c.insert.ensures.missing).kept (c.in_ok-insert.was ∙ ap Ok c.if-branch.false)) c.insert-2.result c.insert-2.ensures.there c.insert-2.ensures.missing (λ _. c.in_ok-before_rb.ensures.first) h p two.honest two.sound (put_at_last c.in-Some.cluster c.args.block c.insert-2.new.self.entries c.insert-2.result c.insert-2.new.value c.in_ok-insert-2.field-0 c.in_ok-insert-2.was (rb_taken g.S.Storage.view c.before_rb.new.storage c.insert-2.new.store c.before_rb.new.self true c.in-Some.cluster c.insert-2.new.self c.insert-2.ensures.others c.args.block c.insert.new.value c.insert-2.new.value ((rb_taken g.S.Storage.view c.args.storage.now c.insert.new.store c.args.self.now false c.in-Some.cluster c.insert.new.self c.insert.ensures.others c.args.block (Some c.args.block) c.insert.new.value refl c.insert.result c.insert.ensures.there c.insert.ensures.missing).kept (c.in_ok-insert.was ∙ ap Ok c.if-branch.false)) c.insert-2.result c.insert-2.ensures.there c.insert-2.ensures.missing)) fits marked (c.before_rb.ensures.free (cluster_size h) c.in-Some.cluster free)))
 
 pub returns-in_err-insert-clause-ordered : goal.returns-in_err-insert-clause-ordered
-returns-in_err-insert-clause-ordered g c = block_put_in_order g.S.Storage.view c.args.storage.now c.insert.new.store c.args.self.now false c.in-Some.cluster c.insert.new.self c.args.block (Some c.args.block) c.insert.new.value refl c.insert.result c.insert.ensures.there c.insert.ensures.missing (λ flush. absurd (cc))
+returns-in_err-insert-clause-ordered g c = block_put_in_order g.S.Storage.view c.args.storage.now c.insert.new.store c.args.self.now false c.in-Some.cluster c.insert.new.self c.args.block (Some c.args.block) c.insert.new.value refl c.insert.result c.insert.ensures.there c.insert.ensures.missing (λ flush. never flush)
 
 pub returns-then-branch-clause-ordered : goal.returns-then-branch-clause-ordered
-returns-then-branch-clause-ordered g c = block_put_in_order g.S.Storage.view c.args.storage.now c.insert.new.store c.args.self.now false c.in-Some.cluster c.insert.new.self c.args.block (Some c.args.block) c.insert.new.value refl c.insert.result c.insert.ensures.there c.insert.ensures.missing (λ flush. absurd (cc))
+returns-then-branch-clause-ordered g c = block_put_in_order g.S.Storage.view c.args.storage.now c.insert.new.store c.args.self.now false c.in-Some.cluster c.insert.new.self c.args.block (Some c.args.block) c.insert.new.value refl c.insert.result c.insert.ensures.there c.insert.ensures.missing (λ flush. never flush)
 
 pub returns-in_err-before_rb-clause-ordered : goal.returns-in_err-before_rb-clause-ordered
 returns-in_err-before_rb-clause-ordered g c =
-    order_then g.S.Storage.view c.args.storage.now c.insert.new.store c.before_rb.new.storage c.args.self.now (record c.args.self.now { rb = c.insert.new.self }) (λ h p honest sound. block_kept g.S.Storage.view c.args.storage.now c.insert.new.store c.args.self.now false c.in-Some.cluster c.insert.new.self c.insert.ensures.others c.args.block (Some c.args.block) c.insert.new.value refl c.insert.result c.insert.ensures.there c.insert.ensures.missing (λ flush. absurd (cc)) h p honest sound (λ went. ok_false (c.in_ok-insert.was ∙ ap Ok c.if-branch.false) went)) (block_put_in_order g.S.Storage.view c.args.storage.now c.insert.new.store c.args.self.now false c.in-Some.cluster c.insert.new.self c.args.block (Some c.args.block) c.insert.new.value refl c.insert.result c.insert.ensures.there c.insert.ensures.missing (λ flush. absurd (cc))) refl c.before_rb.ensures.ordered
+    order_then g.S.Storage.view c.args.storage.now c.insert.new.store c.before_rb.new.storage c.args.self.now (record c.args.self.now { rb = c.insert.new.self }) (λ h p honest sound. block_kept g.S.Storage.view c.args.storage.now c.insert.new.store c.args.self.now false c.in-Some.cluster c.insert.new.self c.insert.ensures.others c.args.block (Some c.args.block) c.insert.new.value refl c.insert.result c.insert.ensures.there c.insert.ensures.missing (λ flush. never flush) h p honest sound (λ went. ok_false (c.in_ok-insert.was ∙ ap Ok c.if-branch.false) went)) (block_put_in_order g.S.Storage.view c.args.storage.now c.insert.new.store c.args.self.now false c.in-Some.cluster c.insert.new.self c.args.block (Some c.args.block) c.insert.new.value refl c.insert.result c.insert.ensures.there c.insert.ensures.missing (λ flush. never flush)) refl c.before_rb.ensures.ordered
 
 pub returns-in_err-insert-2-clause-ordered : goal.returns-in_err-insert-2-clause-ordered
 returns-in_err-insert-2-clause-ordered g c =
     order_then g.S.Storage.view c.args.storage.now c.before_rb.new.storage c.insert-2.new.store c.args.self.now c.before_rb.new.self
-    (keep_then g.S.Storage.view c.args.storage.now c.insert.new.store c.before_rb.new.storage c.args.self.now (record c.args.self.now { rb = c.insert.new.self }) c.before_rb.new.self (λ h p honest sound. block_kept g.S.Storage.view c.args.storage.now c.insert.new.store c.args.self.now false c.in-Some.cluster c.insert.new.self c.insert.ensures.others c.args.block (Some c.args.block) c.insert.new.value refl c.insert.result c.insert.ensures.there c.insert.ensures.missing (λ flush. absurd (cc)) h p honest sound (λ went. ok_false (c.in_ok-insert.was ∙ ap Ok c.if-branch.false) went)) c.before_rb.ensures.keeps)
-    (order_then g.S.Storage.view c.args.storage.now c.insert.new.store c.before_rb.new.storage c.args.self.now (record c.args.self.now { rb = c.insert.new.self }) (λ h p honest sound. block_kept g.S.Storage.view c.args.storage.now c.insert.new.store c.args.self.now false c.in-Some.cluster c.insert.new.self c.insert.ensures.others c.args.block (Some c.args.block) c.insert.new.value refl c.insert.result c.insert.ensures.there c.insert.ensures.missing (λ flush. absurd (cc)) h p honest sound (λ went. ok_false (c.in_ok-insert.was ∙ ap Ok c.if-branch.false) went)) (block_put_in_order g.S.Storage.view c.args.storage.now c.insert.new.store c.args.self.now false c.in-Some.cluster c.insert.new.self c.args.block (Some c.args.block) c.insert.new.value refl c.insert.result c.insert.ensures.there c.insert.ensures.missing (λ flush. absurd (cc))) refl c.before_rb.ensures.ordered) c.before_rb.ensures.order
+    (keep_then g.S.Storage.view c.args.storage.now c.insert.new.store c.before_rb.new.storage c.args.self.now (record c.args.self.now { rb = c.insert.new.self }) c.before_rb.new.self (λ h p honest sound. block_kept g.S.Storage.view c.args.storage.now c.insert.new.store c.args.self.now false c.in-Some.cluster c.insert.new.self c.insert.ensures.others c.args.block (Some c.args.block) c.insert.new.value refl c.insert.result c.insert.ensures.there c.insert.ensures.missing (λ flush. never flush) h p honest sound (λ went. ok_false (c.in_ok-insert.was ∙ ap Ok c.if-branch.false) went)) c.before_rb.ensures.keeps)
+    (order_then g.S.Storage.view c.args.storage.now c.insert.new.store c.before_rb.new.storage c.args.self.now (record c.args.self.now { rb = c.insert.new.self }) (λ h p honest sound. block_kept g.S.Storage.view c.args.storage.now c.insert.new.store c.args.self.now false c.in-Some.cluster c.insert.new.self c.insert.ensures.others c.args.block (Some c.args.block) c.insert.new.value refl c.insert.result c.insert.ensures.there c.insert.ensures.missing (λ flush. never flush) h p honest sound (λ went. ok_false (c.in_ok-insert.was ∙ ap Ok c.if-branch.false) went)) (block_put_in_order g.S.Storage.view c.args.storage.now c.insert.new.store c.args.self.now false c.in-Some.cluster c.insert.new.self c.args.block (Some c.args.block) c.insert.new.value refl c.insert.result c.insert.ensures.there c.insert.ensures.missing (λ flush. never flush)) refl c.before_rb.ensures.ordered) c.before_rb.ensures.order
     (block_put_in_order g.S.Storage.view c.before_rb.new.storage c.insert-2.new.store c.before_rb.new.self true c.in-Some.cluster c.insert-2.new.self c.args.block c.insert.new.value c.insert-2.new.value ((rb_taken g.S.Storage.view c.args.storage.now c.insert.new.store c.args.self.now false c.in-Some.cluster c.insert.new.self c.insert.ensures.others c.args.block (Some c.args.block) c.insert.new.value refl c.insert.result c.insert.ensures.there c.insert.ensures.missing).kept (c.in_ok-insert.was ∙ ap Ok c.if-branch.false)) c.insert-2.result c.insert-2.ensures.there c.insert-2.ensures.missing (λ _. c.in_ok-before_rb.ensures.first))
 
 pub returns-clause-ordered : goal.returns-clause-ordered
 returns-clause-ordered g c =
     order_then g.S.Storage.view c.args.storage.now c.before_rb.new.storage c.insert-2.new.store c.args.self.now c.before_rb.new.self
-    (keep_then g.S.Storage.view c.args.storage.now c.insert.new.store c.before_rb.new.storage c.args.self.now (record c.args.self.now { rb = c.insert.new.self }) c.before_rb.new.self (λ h p honest sound. block_kept g.S.Storage.view c.args.storage.now c.insert.new.store c.args.self.now false c.in-Some.cluster c.insert.new.self c.insert.ensures.others c.args.block (Some c.args.block) c.insert.new.value refl c.insert.result c.insert.ensures.there c.insert.ensures.missing (λ flush. absurd (cc)) h p honest sound (λ went. ok_false (c.in_ok-insert.was ∙ ap Ok c.if-branch.false) went)) c.before_rb.ensures.keeps)
-    (order_then g.S.Storage.view c.args.storage.now c.insert.new.store c.before_rb.new.storage c.args.self.now (record c.args.self.now { rb = c.insert.new.self }) (λ h p honest sound. block_kept g.S.Storage.view c.args.storage.now c.insert.new.store c.args.self.now false c.in-Some.cluster c.insert.new.self c.insert.ensures.others c.args.block (Some c.args.block) c.insert.new.value refl c.insert.result c.insert.ensures.there c.insert.ensures.missing (λ flush. absurd (cc)) h p honest sound (λ went. ok_false (c.in_ok-insert.was ∙ ap Ok c.if-branch.false) went)) (block_put_in_order g.S.Storage.view c.args.storage.now c.insert.new.store c.args.self.now false c.in-Some.cluster c.insert.new.self c.args.block (Some c.args.block) c.insert.new.value refl c.insert.result c.insert.ensures.there c.insert.ensures.missing (λ flush. absurd (cc))) refl c.before_rb.ensures.ordered) c.before_rb.ensures.order
+    (keep_then g.S.Storage.view c.args.storage.now c.insert.new.store c.before_rb.new.storage c.args.self.now (record c.args.self.now { rb = c.insert.new.self }) c.before_rb.new.self (λ h p honest sound. block_kept g.S.Storage.view c.args.storage.now c.insert.new.store c.args.self.now false c.in-Some.cluster c.insert.new.self c.insert.ensures.others c.args.block (Some c.args.block) c.insert.new.value refl c.insert.result c.insert.ensures.there c.insert.ensures.missing (λ flush. never flush) h p honest sound (λ went. ok_false (c.in_ok-insert.was ∙ ap Ok c.if-branch.false) went)) c.before_rb.ensures.keeps)
+    (order_then g.S.Storage.view c.args.storage.now c.insert.new.store c.before_rb.new.storage c.args.self.now (record c.args.self.now { rb = c.insert.new.self }) (λ h p honest sound. block_kept g.S.Storage.view c.args.storage.now c.insert.new.store c.args.self.now false c.in-Some.cluster c.insert.new.self c.insert.ensures.others c.args.block (Some c.args.block) c.insert.new.value refl c.insert.result c.insert.ensures.there c.insert.ensures.missing (λ flush. never flush) h p honest sound (λ went. ok_false (c.in_ok-insert.was ∙ ap Ok c.if-branch.false) went)) (block_put_in_order g.S.Storage.view c.args.storage.now c.insert.new.store c.args.self.now false c.in-Some.cluster c.insert.new.self c.args.block (Some c.args.block) c.insert.new.value refl c.insert.result c.insert.ensures.there c.insert.ensures.missing (λ flush. never flush)) refl c.before_rb.ensures.ordered) c.before_rb.ensures.order
     (block_put_in_order g.S.Storage.view c.before_rb.new.storage c.insert-2.new.store c.before_rb.new.self true c.in-Some.cluster c.insert-2.new.self c.args.block c.insert.new.value c.insert-2.new.value ((rb_taken g.S.Storage.view c.args.storage.now c.insert.new.store c.args.self.now false c.in-Some.cluster c.insert.new.self c.insert.ensures.others c.args.block (Some c.args.block) c.insert.new.value refl c.insert.result c.insert.ensures.there c.insert.ensures.missing).kept (c.in_ok-insert.was ∙ ap Ok c.if-branch.false)) c.insert-2.result c.insert-2.ensures.there c.insert-2.ensures.missing (λ _. c.in_ok-before_rb.ensures.first))
 
 pub returns-in_err-insert-clause-quiet : goal.returns-in_err-insert-clause-quiet
-returns-in_err-insert-clause-quiet g c = if_some _ c.args.block.cluster c.in-Some.cluster (sym c.get_cluster.ensures.value ∙ c.in-Some.is) (λ may. block_put_quietly g.S.Storage.view c.args.storage.now c.insert.new.store c.args.self.now false c.in-Some.cluster c.insert.new.self c.args.block (Some c.args.block) c.insert.new.value refl c.insert.result c.insert.ensures.there c.insert.ensures.missing (λ flush. absurd (cc)))
+returns-in_err-insert-clause-quiet g c = if_some _ c.args.block.cluster c.in-Some.cluster (sym c.get_cluster.ensures.value ∙ c.in-Some.is) (λ may. block_put_quietly g.S.Storage.view c.args.storage.now c.insert.new.store c.args.self.now false c.in-Some.cluster c.insert.new.self c.args.block (Some c.args.block) c.insert.new.value refl c.insert.result c.insert.ensures.there c.insert.ensures.missing (λ flush. never flush))
 
 pub returns-then-branch-clause-quiet : goal.returns-then-branch-clause-quiet
-returns-then-branch-clause-quiet g c = if_some _ c.args.block.cluster c.in-Some.cluster (sym c.get_cluster.ensures.value ∙ c.in-Some.is) (λ may. block_put_quietly g.S.Storage.view c.args.storage.now c.insert.new.store c.args.self.now false c.in-Some.cluster c.insert.new.self c.args.block (Some c.args.block) c.insert.new.value refl c.insert.result c.insert.ensures.there c.insert.ensures.missing (λ flush. absurd (cc)))
+returns-then-branch-clause-quiet g c = if_some _ c.args.block.cluster c.in-Some.cluster (sym c.get_cluster.ensures.value ∙ c.in-Some.is) (λ may. block_put_quietly g.S.Storage.view c.args.storage.now c.insert.new.store c.args.self.now false c.in-Some.cluster c.insert.new.self c.args.block (Some c.args.block) c.insert.new.value refl c.insert.result c.insert.ensures.there c.insert.ensures.missing (λ flush. never flush))
 
 pub returns-in_err-before_rb-clause-quiet : goal.returns-in_err-before_rb-clause-quiet
 returns-in_err-before_rb-clause-quiet g c = if_some _ c.args.block.cluster c.in-Some.cluster (sym c.get_cluster.ensures.value ∙ c.in-Some.is) (λ may honest.
     let goes = block_put_waits g.S.Storage.view c.args.storage.now c.insert.new.store c.args.self.now false c.in-Some.cluster c.insert.new.self c.args.block (Some c.args.block) c.insert.new.value refl c.insert.result c.insert.ensures.there c.insert.ensures.missing (c.in_ok-insert.was ∙ ap Ok c.if-branch.false) may in
-    let one = block_put_quietly g.S.Storage.view c.args.storage.now c.insert.new.store c.args.self.now false c.in-Some.cluster c.insert.new.self c.args.block (Some c.args.block) c.insert.new.value refl c.insert.result c.insert.ensures.there c.insert.ensures.missing (λ flush. absurd (cc)) honest in
+    let one = block_put_quietly g.S.Storage.view c.args.storage.now c.insert.new.store c.args.self.now false c.in-Some.cluster c.insert.new.self c.args.block (Some c.args.block) c.insert.new.value refl c.insert.result c.insert.ensures.there c.insert.ensures.missing (λ flush. never flush) honest in
     quiet_then (g.S.Storage.view (storage_of c.args.storage.now)) (g.S.Storage.view (storage_of c.insert.new.store)) (g.S.Storage.view (storage_of c.before_rb.new.storage)) one (c.before_rb.ensures.quiet goes.0 one.honest))
 
 pub returns-in_err-insert-2-clause-quiet : goal.returns-in_err-insert-2-clause-quiet
 returns-in_err-insert-2-clause-quiet g c = if_some _ c.args.block.cluster c.in-Some.cluster (sym c.get_cluster.ensures.value ∙ c.in-Some.is) (λ may honest.
     let goes = block_put_waits g.S.Storage.view c.args.storage.now c.insert.new.store c.args.self.now false c.in-Some.cluster c.insert.new.self c.args.block (Some c.args.block) c.insert.new.value refl c.insert.result c.insert.ensures.there c.insert.ensures.missing (c.in_ok-insert.was ∙ ap Ok c.if-branch.false) may in
-    let one = block_put_quietly g.S.Storage.view c.args.storage.now c.insert.new.store c.args.self.now false c.in-Some.cluster c.insert.new.self c.args.block (Some c.args.block) c.insert.new.value refl c.insert.result c.insert.ensures.there c.insert.ensures.missing (λ flush. absurd (cc)) honest in
+    let one = block_put_quietly g.S.Storage.view c.args.storage.now c.insert.new.store c.args.self.now false c.in-Some.cluster c.insert.new.self c.args.block (Some c.args.block) c.insert.new.value refl c.insert.result c.insert.ensures.there c.insert.ensures.missing (λ flush. never flush) honest in
     let two = c.before_rb.ensures.quiet goes.0 one.honest in
     let same = c.before_rb.ensures.refblocks ∙ block_put_same g.S.Storage.view c.args.storage.now c.insert.new.store c.args.self.now false c.in-Some.cluster c.insert.new.self c.args.block (Some c.args.block) c.insert.new.value refl c.insert.result c.insert.ensures.there c.insert.ensures.missing c.insert.ensures.others (c.in_ok-insert.was ∙ ap Ok c.if-branch.false) in
     let next = block_goes c.args.self.now.rb c.before_rb.new.self.rb c.in-Some.cluster same goes.1 in
@@ -196,7 +197,7 @@ returns-in_err-insert-2-clause-quiet g c = if_some _ c.args.block.cluster c.in-S
 pub returns-clause-quiet : goal.returns-clause-quiet
 returns-clause-quiet g c = if_some _ c.args.block.cluster c.in-Some.cluster (sym c.get_cluster.ensures.value ∙ c.in-Some.is) (λ may honest.
     let goes = block_put_waits g.S.Storage.view c.args.storage.now c.insert.new.store c.args.self.now false c.in-Some.cluster c.insert.new.self c.args.block (Some c.args.block) c.insert.new.value refl c.insert.result c.insert.ensures.there c.insert.ensures.missing (c.in_ok-insert.was ∙ ap Ok c.if-branch.false) may in
-    let one = block_put_quietly g.S.Storage.view c.args.storage.now c.insert.new.store c.args.self.now false c.in-Some.cluster c.insert.new.self c.args.block (Some c.args.block) c.insert.new.value refl c.insert.result c.insert.ensures.there c.insert.ensures.missing (λ flush. absurd (cc)) honest in
+    let one = block_put_quietly g.S.Storage.view c.args.storage.now c.insert.new.store c.args.self.now false c.in-Some.cluster c.insert.new.self c.args.block (Some c.args.block) c.insert.new.value refl c.insert.result c.insert.ensures.there c.insert.ensures.missing (λ flush. never flush) honest in
     let two = c.before_rb.ensures.quiet goes.0 one.honest in
     let same = c.before_rb.ensures.refblocks ∙ block_put_same g.S.Storage.view c.args.storage.now c.insert.new.store c.args.self.now false c.in-Some.cluster c.insert.new.self c.args.block (Some c.args.block) c.insert.new.value refl c.insert.result c.insert.ensures.there c.insert.ensures.missing c.insert.ensures.others (c.in_ok-insert.was ∙ ap Ok c.if-branch.false) in
     let next = block_goes c.args.self.now.rb c.before_rb.new.self.rb c.in-Some.cluster same goes.1 in
