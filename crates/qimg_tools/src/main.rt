@@ -17,7 +17,7 @@ use crate::info::{File, info};
 use crate::map::map;
 use crate::sizes::size;
 use crate::words::{Command, DiskFormat, Layout, Settings, USAGE, read_words};
-use file_storage::FileStorage;
+use file_storage::{FileStorage, StreamedFile};
 use image_access::Storage;
 use program_parts::{make_image, make_raw_disk};
 use qcow2_image::Qcow2;
@@ -52,19 +52,19 @@ fn refuse_file(rt: &HostRuntime, file: &str, cause: &io::Error) -> u8 {
 }
 
 // Tells why a task failed, if it did, with what the system said of the files last.
-fn ended(rt: &HostRuntime, file: &str, storage: &FileStorage, done: Result<u8, Failure>) -> u8 {
+fn ended(rt: &HostRuntime, file: &str, cause: Option<io::Error>, done: Result<u8, Failure>) -> u8 {
     match done {
         Ok(status) => status,
         Err(failure) => {
             tell(&mut rt.stderr(), file, &failure);
-            tell_cause(rt, file, storage);
+            tell_cause(rt, file, cause);
             REFUSED
         }
     }
 }
 
-fn tell_cause(rt: &HostRuntime, file: &str, storage: &FileStorage) {
-    if let Some(cause) = storage.last_error() {
+fn tell_cause(rt: &HostRuntime, file: &str, cause: Option<io::Error>) {
+    if let Some(cause) = cause {
         refuse_file(rt, file, &cause);
     }
 }
@@ -98,7 +98,7 @@ fn read_image(
     let done = match command {
         Command::Map => {
             let (storage, done) = map(rt.alloc(), storage, file, form, output);
-            return ended(rt, file, &storage, done.map(|_| DONE));
+            return ended(rt, file, storage.last_error(), done.map(|_| DONE));
         }
         Command::Check => check(rt.alloc(), &mut storage, file, form, output),
         _ => {
@@ -113,7 +113,7 @@ fn read_image(
             .map(|_| DONE)
         }
     };
-    ended(rt, file, &storage, done)
+    ended(rt, file, storage.last_error(), done)
 }
 
 fn create_file(rt: &HostRuntime, file: &str, size: u64, layout: Layout) -> u8 {
@@ -125,12 +125,40 @@ fn create_file(rt: &HostRuntime, file: &str, size: u64, layout: Layout) -> u8 {
     ended(
         rt,
         file,
-        &storage,
+        storage.last_error(),
         done.map(|_| DONE).map_err(Failure::Refused),
     )
 }
 
-// A raw disk that begins as an image does is taken as a raw disk only where the words say so.
+// Both storages, read and written from front to back.
+fn streamed(
+    rt: &HostRuntime,
+    first: FileStorage,
+    second: FileStorage,
+) -> Result<(StreamedFile, StreamedFile), AllocError> {
+    Ok((
+        StreamedFile::new(rt.alloc(), first)?,
+        StreamedFile::new(rt.alloc(), second)?,
+    ))
+}
+
+// A raw disk that begins as an image does is taken as a raw disk only where the words say so. The status where it isn't opened.
+fn open_raw(rt: &HostRuntime, settings: &Settings<'_>, from: &str) -> Result<FileStorage, u8> {
+    let mut disk = match file_storage::open_read_only(rt, from) {
+        Ok(disk) => disk,
+        Err(e) => return Err(refuse_file(rt, from, &e)),
+    };
+    if settings.source.is_none() && begins_image(&mut disk) {
+        let _ = writeln!(
+            rt.stderr(),
+            "qimg-tools: {from}: it begins as a qcow2 image: -f raw takes it as a raw disk"
+        );
+        return Err(REFUSED);
+    }
+    Ok(disk)
+}
+
+// What was written before a refusal is left in the file.
 fn import_file(
     rt: &HostRuntime,
     settings: &Settings<'_>,
@@ -138,37 +166,34 @@ fn import_file(
     to: &str,
     output: &mut impl Write,
 ) -> u8 {
-    let mut disk = match file_storage::open_read_only(rt, from) {
+    let disk = match open_raw(rt, settings, from) {
         Ok(disk) => disk,
-        Err(e) => return refuse_file(rt, from, &e),
+        Err(status) => return status,
     };
-    if settings.source.is_none() && begins_image(&mut disk) {
-        let _ = writeln!(
-            rt.stderr(),
-            "qimg-tools: {from}: it begins as a qcow2 image: -f raw takes it as a raw disk"
-        );
-        return REFUSED;
-    }
     let storage = match file_storage::create(rt, to) {
         Ok(storage) => storage,
         Err(e) => return refuse_file(rt, to, &e),
     };
+    let Ok((mut disk, storage)) = streamed(rt, disk, storage) else {
+        return refuse_file(rt, from, &io::Error::from(io::ErrorKind::OutOfMemory));
+    };
     begin_progress(settings, output);
-    let (storage, done) = make_image(
+    let (mut storage, done) = make_image(
         rt.alloc(),
         &mut disk,
         storage,
         settings.layout.cluster_size,
         settings.layout.refcount_bits,
     );
+    let _ = storage.flush();
     let status = ended(
         rt,
         from,
-        &disk,
+        disk.last_error(),
         done.map(|_| DONE).map_err(Failure::Refused),
     );
     if status != DONE {
-        tell_cause(rt, to, &storage);
+        tell_cause(rt, to, storage.last_error());
     }
     end_progress(settings, status, output);
     status
@@ -189,20 +214,24 @@ fn export_file(
         Ok(storage) => storage,
         Err(e) => return refuse_file(rt, from, &e),
     };
-    let mut disk = match file_storage::create(rt, to) {
+    let disk = match file_storage::create(rt, to) {
         Ok(disk) => disk,
         Err(e) => return refuse_file(rt, to, &e),
     };
+    let Ok((mut disk, storage)) = streamed(rt, disk, storage) else {
+        return refuse_file(rt, to, &io::Error::from(io::ErrorKind::OutOfMemory));
+    };
     begin_progress(settings, output);
     let (storage, done) = make_raw_disk(rt.alloc(), storage, &mut disk);
+    let _ = disk.flush();
     let status = ended(
         rt,
         from,
-        &storage,
+        storage.last_error(),
         done.map(|_| DONE).map_err(Failure::Refused),
     );
     if status != DONE {
-        tell_cause(rt, to, &disk);
+        tell_cause(rt, to, disk.last_error());
     }
     end_progress(settings, status, output);
     status
