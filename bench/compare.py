@@ -3,8 +3,8 @@
 
 qemu-io runs with the cache mode `unsafe`: a flush hands the tables to the operating system, as qimg's does,
 and doesn't wait for the device. Then qimg alone on a small image and on a large one, with the same amount of work: its peak memory
-is to stay the same. Then raw disks made into images and back beside qemu-img convert, and qimg check beside qemu-img check.
-Each figure is the median of three runs, each on a new image, and of five for raw disks and checks, both programs in turn. The words `convert` or `check` do those parts alone."""
+is to stay the same. Then ranges that are zeroed and discarded beside qemu-io, raw disks made into images and back beside qemu-img convert, and qimg check beside qemu-img check.
+Each figure is the median of three runs, each on a new image, and of five from ranges on, both programs in turn. The words `scripts`, `clear`, `convert` or `check` do those parts alone."""
 
 import os
 import random
@@ -114,10 +114,12 @@ def of_two_sizes(cluster):
     return None if None in results else [memory for _, memory in results]
 
 
-def once(words, made=None):
-    """Seconds, seconds of a processor and peak memory in KiB of a program that must succeed. What it makes is removed before."""
+def once(words, made=None, of=None):
+    """Seconds, seconds of a processor and peak memory in KiB of a program that must succeed. What it makes is removed before, or is a new copy of what it changes."""
     if made and os.path.exists(made):
         os.remove(made)
+    if of:
+        shutil.copyfile(of, made)
     before, start = resource.getrusage(resource.RUSAGE_CHILDREN), time.monotonic()
     subprocess.run(["/usr/bin/time", "-f", "%M", "-o", "memory", *words], check=True, stdout=subprocess.DEVNULL)
     seconds, after = time.monotonic() - start, resource.getrusage(resource.RUSAGE_CHILDREN)
@@ -160,6 +162,25 @@ def converted(name, cluster):
     beside(f"export: {name}, clusters of {cluster}", own, other, "qemu-img convert")
 
 
+def given(words, lines, file):
+    """A program that reads these lines, as words of a shell."""
+    with open(file, "w", encoding="utf-8") as it:
+        it.write("".join(f"{line}\n" for line in lines))
+    return ["sh", "-c", f'exec "$@" < {file}', "sh", *words]
+
+
+def clears():
+    """1 GiB of data is zeroed, and is discarded."""
+    fill("raw", LARGE)
+    for cluster in (65536, 4096):
+        subprocess.run([QIMG, "import", "raw", "data", str(cluster), "16"], check=True, stdout=subprocess.DEVNULL)
+        table = cluster // 8 * cluster
+        for name, word, other in (("zeroing", "zero", "write -q -z"), ("discarding", "dback", "discard -q")):
+            own = given([QIMG, "run", "disk"], [*(f"{word} {at} {table}" for at in range(0, LARGE, table)), "flush"], "own_lines")
+            by_qemu_io = given(["qemu-io", "-f", "qcow2", "-t", "unsafe", "disk"], [f"{other} 0 {LARGE}", "flush"], "other_lines")
+            beside(f"{name}: 1 GiB of data, clusters of {cluster}", (own, "disk", "data"), (by_qemu_io, "disk", "data"), "qemu-io")
+
+
 def conversions():
     fill("raw", 256 * MIB)
     for cluster in (65536, 4096):
@@ -190,9 +211,9 @@ def main():
     if not os.access("/usr/bin/time", os.X_OK):
         print("/usr/bin/time is missing: install the package time")
         return 1
-    parts = sys.argv[1:] or ["scripts", "convert", "check"]
+    parts = sys.argv[1:] or ["scripts", "clear", "convert", "check"]
     failed = "scripts" in parts and scripts()
-    for word, part in (("convert", conversions), ("check", checks)):
+    for word, part in (("clear", clears), ("convert", conversions), ("check", checks)):
         if word in parts:
             in_a_room(part)
     return 1 if failed else 0
