@@ -1,6 +1,6 @@
 #!/usr/bin/env -S python3 -B
 """Zeroing and discarding on real files: what is answered and seen, which clusters are freed, in which order it is written, and what a stop leaves. Then images of QEMU: compressed ones, of version 2 and of
-several widths of counts, and ones that QEMU zeroed or discarded itself."""
+several widths of counts, and ones that QEMU zeroed or discarded itself. And what special reads say of them."""
 
 import os
 import subprocess
@@ -218,6 +218,25 @@ def a_compressed_cluster_is_cleared():
         consistent("disk", 0)
 
 
+def special_reads_find_compressed_clusters():
+    plain = "refused 18 not compressed"
+    two_compressed_clusters_share_one()
+    answers("disk", [
+        ("special 0 4", "refused 7 compressed"),
+        ("special 1023 1048576", "refused 7 compressed"),
+        ("special 0 0", "ok"),
+        ("special 1024 4", plain),
+        ("fill 0 512 22", "ok"),
+        ("special 0 4", plain),
+        ("special 512 4", "refused 7 compressed"),
+        ("special 65535 2", plain),
+        ("special 65536 1", plain),
+        ("special 18446744073709551615 4", plain),
+        ("special 18446744073709551615 0", "ok"),
+        ("read 0 2", "data 2222"),
+    ], status=1)
+
+
 def a_compressed_cluster_over_two_is_freed_in_both():
     """The data begin in the last sector of one host cluster and end in the next one; each is counted once."""
     create("disk", 65536, 4096)
@@ -307,6 +326,7 @@ def compressed_by_qemu(cluster, version, width):
     disk = Cleared(cluster * CLUSTER_COUNTS[cluster] - 512, cluster, f"compressed {cluster} {version} {width}")
     compressed(disk, version, width)
     equal(run("disk", f"map 0 {cluster}", "read 0 1", status=1), [f"special 0 {cluster}", "refused 7 compressed"], "a compressed cluster")
+    answers("disk", [("special 0 512", "refused 7 compressed"), (f"special {4 * cluster} 512", "refused 18 not compressed")], status=1)
     answers("disk", [*disk.clears(6, ways), ("flush", "ok")])
     seen_by_qemu_alone(disk)
     write_lines("disk", fills(disk, 1, 4))
@@ -353,7 +373,7 @@ def cleared_by_qemu(cluster, width):
     same_disk("disk", disk)
 
 
-BAD_LINES = [f"{way}{rest}" for way in WAYS for rest in ("", " 0", " 0 512 1", " 0 512 ", " -1 512", " 0 x", "  0 512")] + ["Zero 0 512", "discard 0 512", "zero 18446744073709551616 0"]
+BAD_LINES = [f"{way}{rest}" for way in WAYS for rest in ("", " 0", " 0 512 1", " 0 512 ", " -1 512", " 0 x", "  0 512")] + ["special", "special 0", "special 0 4 4", "special 0 1048577", "special -1 4", "Zero 0 512", "discard 0 512", "zero 18446744073709551616 0"]
 
 
 def a_line_is_not_read(line):
@@ -378,6 +398,7 @@ def main():
         version_2_has_no_zeros,
         a_compressed_cluster_is_overwritten,
         a_compressed_cluster_is_cleared,
+        special_reads_find_compressed_clusters,
         a_compressed_cluster_over_two_is_freed_in_both,
     ]:
         checks.run(check.__name__, check)

@@ -17,3 +17,4 @@ pub mod Growing
 pub mod Backings
 pub mod Ranges
 pub mod Clearing
+pub mod SpecialReads

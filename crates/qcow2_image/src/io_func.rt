@@ -1,5 +1,5 @@
 //! Reading and writing what is mapped.
-ghost use Rattle.std.specs.Prelude.{◌≡◌, ◌≢◌, ◌+◌, ◌^◌, ◌<◌, ◌≤◌, ℕ, List, [], Option, length, slice_get, ◌⊎◌, IfOk, IfErr, IfSome, IsSome, IsTrue, MatchOption, Ok, Err, Some, None, true, false};
+ghost use Rattle.std.specs.Prelude.{◌≡◌, ◌≢◌, ◌+◌, ◌^◌, ◌<◌, ◌≤◌, ℕ, List, [], Option, length, slice_get, ◌⊎◌, IfOk, IfErr, IfSome, IsErr, IsSome, IsTrue, MatchOption, Ok, Err, Some, None, true, false};
 ghost use Rattle.qcow2_laws.specs.Calls.{Shows};
 ghost use Rattle.qcow2_laws.specs.CrashInvariant.{Pending};
 ghost use Rattle.qcow2_image.specs.Calls.{Answers, Puts};
@@ -12,8 +12,10 @@ ghost use Rattle.qcow2_image.specs.declared.mapping.Place.TheVariants.{Image};
 ghost use Rattle.qcow2_image.specs.declared.prepared.Prepared.{Prepared};
 ghost use Rattle.qcow2_image.specs.Image.{Stays, IsSameImage, is_failed, is_writable, size_of};
 ghost use Rattle.qcow2_image.specs.Prepared.{image_of, table_of};
-ghost use Rattle.qcow2_image.specs.Refusals.{refuses_mapping, refuses_to_read, IsMet, Marks};
-ghost use Rattle.qcow2_alloc.specs.declared.error.ImageError.TheVariants.{OutdatedMapping, ReadOnly};
+ghost use Rattle.qcow2_image.specs.Refusals.{unusable, refuses_mapping, refuses_to_read, IsMet, Marks};
+ghost use Rattle.qcow2_image.specs.SpecialReads.{TellsCompressed, TellsWhether};
+ghost use Rattle.qcow2_alloc.specs.declared.error.ImageError.TheVariants.{NotCompressed, OutdatedMapping, ReadOnly};
+ghost use Rattle.qcow2_alloc.specs.ImageFile.{known_in};
 
 use crate::mappings::passes;
 use crate::{Mapping, MappingKind, Place, Prepared, Qcow2};
@@ -166,6 +168,66 @@ impl<S: Storage, F: WrappedFormat<S>> Qcow2<S, F> {
         };
         backing.read(offset, bytes)?;
         Ok(())
+    }
+
+    /// Reads a range that isn't mapped plainly. Where a compressed cluster stands at its begin that is refused 7, and any other
+    /// range 18, with its offset. No bytes are read anywhere. The slice stays as it is.
+    pub fn readv_special(&mut self, bytes: &mut [u8], offset: u64) -> Result<(), ImageError>
+        ensures early { IfSome (unusable self.old) (λ e. (result ≡ Err e) × (self.new ≡ self.old)) }
+        ensures late { unusable self.old ≡ None → IfErr result (λ e. IsMet e ⊎ (e ≡ NotCompressed offset)) }
+        ensures nothing { unusable self.old ≡ None → length bytes.old ≡ 0 → (result ≡ Ok tt) × (self.new ≡ self.old) }
+        ensures some { 0 < length bytes.old → IsErr result }
+        ensures marks { Marks result (is_failed self.old) (is_failed self.new) }
+        ensures image { IsSameImage self.old self.new }
+        ensures slice { bytes.new ≡ bytes.old }
+        ensures tells { 0 < length bytes.old → (out : List (Option Prepared)) → (abstract_of S.view F.backing self.old out).is_sound → IfErr result (TellsCompressed (known_in S.view self.old.file) offset) }
+        ensures sees { Answers S.view F.backing self.old self.new [] (λ done was is. is ≡ was) result }
+    {
+        match self.try_readv_special(bytes, offset)? {
+            None => Ok(()),
+            Some(offset) => Err(ImageError::NotCompressed { offset }),
+        }
+    }
+
+    /// The same, but that the offset is answered of a range that is refused 18 there.
+    pub fn try_readv_special(
+        &mut self,
+        bytes: &mut [u8],
+        offset: u64,
+    ) -> Result<Option<u64>, ImageError>
+        ensures early { IfSome (unusable self.old) (λ e. (result ≡ Err e) × (self.new ≡ self.old)) }
+        ensures late { unusable self.old ≡ None → IfErr result IsMet }
+        ensures nothing { unusable self.old ≡ None → length bytes.old ≡ 0 → (result ≡ Ok None) × (self.new ≡ self.old) }
+        ensures some { 0 < length bytes.old → IfOk result (λ at. at ≡ Some offset) }
+        ensures marks { Marks result (is_failed self.old) (is_failed self.new) }
+        ensures image { IsSameImage self.old self.new }
+        ensures slice { bytes.new ≡ bytes.old }
+        ensures tells { 0 < length bytes.old → (out : List (Option Prepared)) → (abstract_of S.view F.backing self.old out).is_sound → TellsWhether (known_in S.view self.old.file) offset result }
+        ensures sees { Answers S.view F.backing self.old self.new [] (λ at was is. is ≡ was) result }
+    {
+        self.check_usable()?;
+        if bytes.is_empty() {
+            return Ok(None);
+        }
+        self.begin();
+        let plain = self.plain_at(offset, bytes.len() as u64);
+        self.mark_failure(plain)
+    }
+
+    // An offset at which no compressed cluster stands.
+    fn plain_at(&mut self, offset: u64, length: u64) -> Result<Option<u64>, ImageError>
+        ensures stays { Stays self.old self.new }
+        ensures cause { IfErr result IsMet }
+        ensures list { self.new.file.free_list ≡ self.old.file.free_list }
+        ensures answer { IfOk result (λ at. at ≡ Some offset) }
+        ensures keeps { (p : Pending) (out : List (Option Prepared)) → ImageInvariant S.view F.backing p self.old out → UnseenStep S.view F.backing p p self.old self.new out }
+        ensures tells { (p : Pending) (out : List (Option Prepared)) → ImageInvariant S.view F.backing p self.old out → TellsWhether (known_in S.view self.old.file) offset result }
+    {
+        let (kind, _length) = self.look_up(offset, length)?;
+        if kind.is_special() {
+            return Err(ImageError::Compressed);
+        }
+        Ok(Some(offset))
     }
 
     /// Writes bytes into a prepared mapping, from `at` within it on. An existing mapping that is no longer copied data

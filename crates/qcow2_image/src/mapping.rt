@@ -1,5 +1,6 @@
 ghost use Rattle.std.specs.Prelude.{◌≡◌, ◌↔◌, IsTrue};
 ghost use Rattle.qcow2_image.specs.Found.{found_kind, further_by, writable_place};
+ghost use Rattle.qcow2_image.specs.SpecialReads.{is_special};
 
 /// Where mapped bytes stand.
 #[derive(Clone, Copy, Debug, PartialEq, Eq)]
@@ -67,6 +68,13 @@ impl MappingKind {
             } => Some(*offset),
             _ => None,
         }
+    }
+
+    // Whether it can't be read plainly.
+    pub(crate) fn is_special(&self) -> bool
+        ensures { result ≡ is_special (found_kind self.now) }
+    {
+        matches!(self, MappingKind::Special { offset: _ })
     }
 
     /// The same, so many bytes further on.

@@ -12,3 +12,4 @@ mod LookingUp
 mod Converting
 mod Exporting
 mod Cleared
+mod SpecialReads

@@ -1,8 +1,9 @@
 -- What commands and replies mean in words of a guest's disk.
-use Rattle.std.specs.Prelude.{ℕ, Result, Ok, Err}
-use Rattle.qcow2_laws.specs.Calls.{to_zero, to_backing}
-use Rattle.qcow2_laws.specs.Runs.{Command, Reply, read, write, get_mapping, read_mapped, prepare, put, commit, discard, clear, flush, get_size, done, bytes_are, mapping_is, prepared_is, range_is, number_is, refused, write_refused, misuse}
+use Rattle.std.specs.Prelude.{ℕ, ◌≡◌, Some, None, Result, Ok, Err}
+use Rattle.qcow2_laws.specs.Calls.{to_zero, to_backing, another}
+use Rattle.qcow2_laws.specs.Runs.{Command, Reply, read, write, get_mapping, read_mapped, prepare, put, commit, discard, clear, read_special, flush, get_size, done, bytes_are, mapping_is, prepared_is, range_is, number_is, refused, write_refused, misuse}
 use Rattle.qcow2_alloc.specs.declared.error.ImageError.{ImageError}
+use Rattle.qcow2_alloc.specs.declared.error.ImageError.TheVariants.{NotCompressed}
 use Rattle.qcow2_image.specs.Calls.{refusal_of}
 use Rattle.qcow2_image.specs.Found.{found_kind}
 use Rattle.qcow2_session.specs.declared.session.Command.{Command as SessionCommand}
@@ -23,15 +24,20 @@ command_of (C.EnsureZeroMapping offset n) = clear to_zero offset n
 command_of (C.DiscardToZero offset n) = clear to_zero offset n
 command_of (C.DiscardToAny offset n) = clear to_zero offset n
 command_of (C.DiscardToBacking offset n) = clear to_backing offset n
+command_of (C.ReadvSpecial offset n) = read_special offset n
+command_of (C.TryReadvSpecial offset n) = read_special offset n
 command_of C.Flush = flush
 command_of C.Size = get_size
 
+-- an offset that is answered in the place of a refusal means that refusal
 abbrev pub reply_of : SessionReply → Reply
 reply_of R.Done = done
 reply_of (R.Bytes bytes) = bytes_are bytes.items
 reply_of (R.Mapping m) = mapping_is m.offset (found_kind m.kind) m.length
 reply_of (R.Prepared offset n existing) = prepared_is offset n existing
 reply_of (R.Range offset n) = range_is offset n
+reply_of (R.NotCompressed None) = done
+reply_of (R.NotCompressed (Some at)) = refused (another 18)
 reply_of (R.Size n) = number_is n
 reply_of (R.Refused e) = refused (refusal_of e)
 reply_of (R.WriteRefused e n) = write_refused (refusal_of e) n
@@ -41,3 +47,8 @@ reply_of R.Misuse = misuse
 abbrev pub reply_of_clearing : Result (ℕ × ℕ) ImageError → SessionReply
 reply_of_clearing (Ok range) = R.Range range.0 range.1
 reply_of_clearing (Err e) = R.Refused e
+
+-- a refusal as not compressed names this offset
+abbrev pub IsOwnOffset : ℕ → ImageError → Type 0
+IsOwnOffset offset (NotCompressed at) = at ≡ offset
+IsOwnOffset offset e = Unit {0}

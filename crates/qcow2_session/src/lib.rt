@@ -6,6 +6,7 @@ pub mod convert;
 mod headline;
 pub mod session;
 mod slots;
+mod special;
 
 pub use headline::open_and_run;
 pub use qcow2_check::{Breach, Kind, Leak, Report, check};

@@ -10,6 +10,7 @@ ghost use Rattle.qcow2_image.specs.declared.prepared.Prepared.{Prepared};
 
 use crate::clearing::{discard_to_any, discard_to_backing, discard_to_zero, ensure_zero};
 use crate::slots::Slots;
+use crate::special::{readv_special, try_readv_special};
 use image_access::{Storage, WrappedFormat};
 use qcow2_image::{CommitRefused, ImageError, Mapping, Prepared, Qcow2};
 use std::alloc::Global;
@@ -68,6 +69,14 @@ pub enum Command {
         offset: u64,
         length: u64,
     },
+    ReadvSpecial {
+        offset: u64,
+        length: u64,
+    },
+    TryReadvSpecial {
+        offset: u64,
+        length: u64,
+    },
     Flush,
     Size,
 }
@@ -91,6 +100,8 @@ pub enum Reply {
         offset: u64,
         length: u64,
     },
+    /// The offset of a range that doesn't begin in a compressed cluster, or none of no bytes.
+    NotCompressed(Option<u64>),
     Size(u64),
     Refused(ImageError),
     /// A write was refused after so many leading bytes were written.
@@ -314,6 +325,10 @@ fn step<S: Storage, F: WrappedFormat<S>>(
         Command::DiscardToZero { offset, length } => discard_to_zero(image, *offset, *length),
         Command::DiscardToAny { offset, length } => discard_to_any(image, *offset, *length),
         Command::DiscardToBacking { offset, length } => discard_to_backing(image, *offset, *length),
+        Command::ReadvSpecial { offset, length } => readv_special(alloc, image, *offset, *length),
+        Command::TryReadvSpecial { offset, length } => {
+            try_readv_special(alloc, image, *offset, *length)
+        }
         Command::Flush => flush(image),
         Command::Size => Reply::Size(image.size()),
     }

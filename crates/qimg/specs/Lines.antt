@@ -21,6 +21,7 @@ pub data Order : Type 0 where
   discards_to_zero : (offset length : ℕ) → Order
   discards_to_any : (offset length : ℕ) → Order
   discards_to_backing : (offset length : ℕ) → Order
+  reads_special : (offset length : ℕ) → Order
   flushes : Order
   sizes : Order
   -- what no line asks for
@@ -38,11 +39,12 @@ order (C.EnsureZeroMapping offset length) = zeroes offset length
 order (C.DiscardToZero offset length) = discards_to_zero offset length
 order (C.DiscardToAny offset length) = discards_to_any offset length
 order (C.DiscardToBacking offset length) = discards_to_backing offset length
+order (C.ReadvSpecial offset length) = reads_special offset length
 order C.Flush = flushes
 order C.Size = sizes
 order _ = other
 
--- the length of a `read` or a `fill`, at most 1 MiB
+-- the length of a `read`, a `fill` or a `special`, at most 1 MiB
 abbrev pub length_within : Option ℕ → Option ℕ
 length_within (Some n) = if nat_le n 1048576 then Some n else None
 length_within None = None
@@ -91,6 +93,15 @@ fills_with _ _ _ = None
 abbrev pub read_of : List (List ℕ) → Option Order
 read_of (offset ∷ length ∷ []) = reads_with (number_of offset) (length_within (number_of length))
 read_of _ = None
+
+abbrev pub special_with : Option ℕ → Option ℕ → Option Order
+special_with (Some offset) (Some length) = Some (reads_special offset length)
+special_with _ _ = None
+
+-- OFFSET LENGTH of a `special`
+abbrev pub special_of : List (List ℕ) → Option Order
+special_of (offset ∷ length ∷ []) = special_with (number_of offset) (length_within (number_of length))
+special_of _ = None
 
 -- OFFSET LENGTH of a `map`, which uses slot 0
 abbrev pub map_of : List (List ℕ) → Option Order
@@ -172,6 +183,7 @@ order_of_words (name ∷ operands) =
     else if bytes_eq name (codes "dzero") then clear_of discards_to_zero (range_alone operands)
     else if bytes_eq name (codes "dany") then clear_of discards_to_any (range_alone operands)
     else if bytes_eq name (codes "dback") then clear_of discards_to_backing (range_alone operands)
+    else if bytes_eq name (codes "special") then special_of operands
     else if bytes_eq name (codes "flush") then order_alone flushes operands
     else if bytes_eq name (codes "size") then order_alone sizes operands
     else None

@@ -1,6 +1,6 @@
 ghost use Rattle.std.specs.Prelude.{◌≡◌, ◌==◌, List, ℕ, map, IfOk, IsErrOf, None, Some};
 ghost use Rattle.std.specs.List.{list_all, slice_split};
-ghost use Rattle.qimg.specs.Lines.{length_within, is_lower_hex_digit, bytes_of, byte_of, order, order_alone, read_of, map_of, write_of, fill_of, slot_within, overwrite_of, prepare_of, put_of, slot_alone, range_alone, clear_of, zeroes, discards_to_zero, discards_to_any, discards_to_backing, order_of_words, order_of_line};
+ghost use Rattle.qimg.specs.Lines.{length_within, is_lower_hex_digit, bytes_of, byte_of, order, order_alone, read_of, special_of, map_of, write_of, fill_of, slot_within, overwrite_of, prepare_of, put_of, slot_alone, range_alone, clear_of, zeroes, discards_to_zero, discards_to_any, discards_to_backing, order_of_words, order_of_line};
 ghost use Rattle.qimg.specs.Numbers.{number_of};
 ghost use Rattle.qimg.specs.declared.lines.LineError.TheVariants.{Unreadable, Memory};
 
@@ -9,7 +9,7 @@ use hex::FromHexError;
 use qcow2_session::Command;
 use std::alloc::{AllocError, Global};
 
-/// The longest length of a `read` or a `fill`.
+/// The longest length of a `read`, a `fill` or a `special`.
 const LONGEST: u64 = 1_048_576;
 
 /// Why a line gives no command.
@@ -68,6 +68,7 @@ fn parse_words(alloc: Global, words: &[&str]) -> Result<Command, LineError>
         "dzero" => discard_to_zero_command(operands),
         "dany" => discard_to_any_command(operands),
         "dback" => discard_to_backing_command(operands),
+        "special" => special_command(operands),
         "flush" => alone(Command::Flush, operands),
         "size" => alone(Command::Size, operands),
         _ => Err(LineError::Unreadable),
@@ -96,6 +97,19 @@ fn read_command(operands: &[&str]) -> Result<Command, LineError>
         return Err(LineError::Unreadable);
     };
     Ok(Command::Read { offset, length })
+}
+
+fn special_command(operands: &[&str]) -> Result<Command, LineError>
+    ensures ok { IfOk result (λ command. special_of (map (λ word. word.now) operands.now) ≡ Some (order command)) }
+    ensures unreadable { IsErrOf result Unreadable → special_of (map (λ word. word.now) operands.now) ≡ None }
+{
+    let [offset, length] = operands else {
+        return Err(LineError::Unreadable);
+    };
+    let (Some(offset), Some(length)) = (number(offset), short_length(length)) else {
+        return Err(LineError::Unreadable);
+    };
+    Ok(Command::ReadvSpecial { offset, length })
 }
 
 fn map_command(operands: &[&str]) -> Result<Command, LineError>

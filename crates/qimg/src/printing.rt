@@ -14,7 +14,8 @@ pub fn print_reply<W: Write>(output: &mut W, reply: &Reply) -> io::Result<()>
     ensures { OnOk result (IfSome (line_of reply.now) (λ line. Appends (W.contents output.old) (W.contents output.new) (line ++ 10 ∷ []))) }
 {
     match reply {
-        Reply::Done => writeln!(output, "ok"),
+        Reply::Done | Reply::NotCompressed(None) => writeln!(output, "ok"),
+        Reply::NotCompressed(Some(offset)) => writeln!(output, "not compressed {offset}"),
         Reply::Bytes(bytes) => print_bytes(output, bytes),
         Reply::Mapping(mapping) => print_mapping(output, mapping),
         Reply::Prepared {

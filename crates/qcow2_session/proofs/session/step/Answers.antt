@@ -52,3 +52,9 @@ returns-in-DiscardToAny-clause-goes g c = subst (λ q. CommandSteps g.S.Storage.
 
 pub returns-in-DiscardToBacking-clause-goes : goal.returns-in-DiscardToBacking-clause-goes
 returns-in-DiscardToBacking-clause-goes g c = subst (λ q. CommandSteps g.S.Storage.view g.F.BackingDisk.backing c.args.image.now c.discard_to_backing.new.image c.args.slots.now c.args.slots.now q c.discard_to_backing.result) (sym c.in-DiscardToBacking.is) (c.discard_to_backing.ensures.goes c.args.slots.now)
+
+pub returns-in-ReadvSpecial-clause-goes : goal.returns-in-ReadvSpecial-clause-goes
+returns-in-ReadvSpecial-clause-goes g c = subst (λ q. CommandSteps g.S.Storage.view g.F.BackingDisk.backing c.args.image.now c.readv_special.new.image c.args.slots.now c.args.slots.now q c.readv_special.result) (sym c.in-ReadvSpecial.is) (c.readv_special.ensures.goes c.args.slots.now)
+
+pub returns-in-TryReadvSpecial-clause-goes : goal.returns-in-TryReadvSpecial-clause-goes
+returns-in-TryReadvSpecial-clause-goes g c = subst (λ q. CommandSteps g.S.Storage.view g.F.BackingDisk.backing c.args.image.now c.try_readv_special.new.image c.args.slots.now c.args.slots.now q c.try_readv_special.result) (sym c.in-TryReadvSpecial.is) (c.try_readv_special.ensures.goes c.args.slots.now)

@@ -259,3 +259,37 @@ fn ranges_are_zeroed_and_discarded(rt: HostRuntime) -> Result<(), Fail> {
 fn range(offset: u64, length: u64) -> Reply {
     Reply::Range { offset, length }
 }
+
+#[test]
+fn special_reads_name_their_offset(rt: HostRuntime) -> Result<(), Fail> {
+    let alloc = rt.alloc();
+    let commands = vec![in alloc;
+        Command::ReadvSpecial {
+            offset: 100,
+            length: 0
+        },
+        Command::TryReadvSpecial {
+            offset: 100,
+            length: 0
+        },
+        Command::ReadvSpecial {
+            offset: 100,
+            length: 4
+        },
+        Command::TryReadvSpecial {
+            offset: 100,
+            length: 4
+        },
+    ]?;
+    assert_eq!(rt;
+        replies(alloc, fresh(alloc)?, &commands)?.as_slice(),
+        [
+            Reply::Done,
+            Reply::NotCompressed(None),
+            Reply::Refused(ImageError::NotCompressed { offset: 100 }),
+            Reply::NotCompressed(Some(100)),
+        ]
+        .as_slice()
+    );
+    Ok(())
+}

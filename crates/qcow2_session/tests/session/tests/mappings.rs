@@ -277,3 +277,26 @@ fn a_discarded_cluster_is_free_after_a_refusal(rt: HostRuntime) -> Result<(), Fa
     assert_eq!(rt; around_a_refusal(alloc, storage)?, (3072, 7, 3072));
     Ok(())
 }
+
+// What special reads of four bytes answer, and what stands in their slice then.
+fn read_specially<S: Storage>(
+    alloc: Global,
+    storage: S,
+    offset: u64,
+) -> Result<(Option<u64>, u8, [u8; 4]), ImageError> {
+    let mut image = opened(alloc, storage, false)?;
+    let mut bytes = [0x33; 4];
+    let plain = image.try_readv_special(&mut bytes, offset)?;
+    let refused = refusal(image.readv_special(&mut bytes, offset));
+    Ok((plain, refused, bytes))
+}
+
+#[test]
+fn special_reads_leave_their_slice(rt: HostRuntime) -> Result<(), Fail> {
+    let alloc = rt.alloc();
+    assert_eq!(rt;
+        read_specially(alloc, fresh(alloc)?, 0)?,
+        (Some(0), 18, [0x33; 4])
+    );
+    Ok(())
+}

@@ -1,0 +1,56 @@
+-- Where a lookup finds what can't be read plainly, a compressed cluster stands, and nowhere else.
+use Rattle.std.proofs.Common.{◌≡◌, inl, inr, ℕ, ◌/◌, Bool, true, false, refl, sym, ◌∙◌, subst, []}
+use Rattle.std.proofs.lemmas.Bool.{cases_lt}
+use Rattle.qcow2_metadata.specs.Bytes.{Bytes}
+use Rattle.qcow2_metadata.specs.Cover.{cover}
+use Rattle.qcow2_metadata.specs.Header.{header, cluster_size}
+use Rattle.qcow2_metadata.specs.declared.header.HeaderFields.{HeaderFields}
+use Rattle.qcow2_metadata.specs.declared.l2_mapping.L2Mapping.{L2Mapping}
+use Rattle.qcow2_metadata.specs.declared.l2_mapping.L2Mapping.TheVariants.{Data, Zero, Compressed, Uncovered}
+use Rattle.qcow2_laws.specs.Calls.{Refusal, Does, Refuses, IsSame, storage}
+use Rattle.qcow2_laws.specs.AbstractImages.{AbstractImage}
+use Rattle.qcow2_laws.specs.Found.{Kind, raw, indirect, zeros, special, eof, kind_at, IsFoundIn}
+use Rattle.qcow2_alloc.specs.ImageError.{IsOfTables}
+use Rattle.qcow2_alloc.specs.declared.error.ImageError.{ImageError}
+use Rattle.qcow2_alloc.specs.declared.error.ImageError.TheVariants as I
+use Rattle.qcow2_image.specs.SpecialReads.{IsCompressed, IsCompressedAt, is_special}
+
+special_compressed : (h : HeaderFields) (b : Bool) (offset o : ℕ) (v : L2Mapping) → special o ≡ kind_at h b offset v → IsCompressed v
+special_compressed h b offset o (Data host copied) e = absurd cc
+special_compressed h b offset o (Zero kept) e = absurd cc
+special_compressed h b offset o (Compressed place sectors) e = tt
+special_compressed h true offset o Uncovered e = absurd cc
+special_compressed h false offset o Uncovered e = absurd cc
+
+compressed_special : (h : HeaderFields) (b : Bool) (offset : ℕ) (v : L2Mapping) → IsCompressed v → is_special (kind_at h b offset v) ≡ true
+compressed_special h b offset (Data host copied) is = absurd is
+compressed_special h b offset (Zero kept) is = absurd is
+compressed_special h b offset (Compressed place sectors) is = refl
+compressed_special h b offset Uncovered is = absurd is
+
+module _ (known : Bytes) (b : Bool) (offset max n : ℕ) where
+  -- it was found to be special
+  pub found_special : (kind : Kind) → IsFoundIn known b offset max kind n → is_special kind ≡ true → IsCompressedAt known offset
+  found_special (special o) found is = elim (cases_lt offset (header known).size) [
+    | inl below ↦ (below, special_compressed (header known) b offset o (cover (header known) known (offset / cluster_size (header known))) (found.run below).kind_is)
+    | inr past ↦ absurd (let e : special o ≡ eof = (found.past past).0 in cc)
+  ]
+  found_special (raw external host writable) found is = absurd cc
+  found_special (indirect o) found is = absurd cc
+  found_special (zeros explicit) found is = absurd cc
+  found_special eof found is = absurd cc
+
+  -- it wasn't
+  pub found_plain : (kind : Kind) → IsFoundIn known b offset max kind n → is_special kind ≡ false → IsCompressedAt known offset → ⊥
+  found_plain kind found not is =
+      let special : is_special kind ≡ true = subst (λ k. is_special k ≡ true) (sym (found.run is.0).kind_is) (compressed_special (header known) b offset (cover (header known) known (offset / cluster_size (header known))) is.1) in
+      let e : false ≡ true = sym not ∙ special in
+      cc
+
+-- what stands in the way of tables isn't compressed data
+pub not_compressed : (e : ImageError) → IsOfTables e → e ≡ I.Compressed → ⊥
+not_compressed e tables is = subst IsOfTables is tables
+
+-- a call refuses by itself, after its work was done
+pub refuses_after : {old new : AbstractImage} (e : Refusal) → (e ≡ storage → ⊥) → Does old new [] [] (IsSame old new) → Refuses old new [] [] e (IsSame old new)
+refuses_after e none d = record { acts = d.acts; answer = λ sound. inl (d.answer sound); fault = λ is. absurd (none is) }

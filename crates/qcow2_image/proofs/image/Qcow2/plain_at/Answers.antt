@@ -1,0 +1,30 @@
+use Rattle.std.proofs.Common.{sym, ◌∙◌, subst, is_some}
+use Rattle.qcow2_laws.specs.Found.{IsFoundIn, IsFound as IsFoundOf}
+use Rattle.qcow2_laws.proofs.Unseen.{known_header}
+use Rattle.qcow2_alloc.specs.ImageFile.{known_in, state_in}
+use Rattle.qcow2_image.specs.Found.{found_kind}
+use Rattle.qcow2_image.specs.SpecialReads.{IsCompressedAt}
+use Rattle.qcow2_image.proofs.Map.Special.{found_special, found_plain}
+use Rattle.qcow2_image.proofs.image.Qcow2.plain_at.Goals as goal
+
+pub returns-then-is_special-clause-tells : goal.returns-then-is_special-clause-tells
+returns-then-is_special-clause-tells g c = λ p out sound is.
+    let view = g.S.Storage.view in
+    let new = c.look_up.new.self in
+    let known = known_in view new.file in
+    let guarded = (c.in_ok-kind.ensures.keeps p out sound).sound.file.caches.kept.kept.guarded in
+    let found : IsFoundIn known (is_some new.backing) c.args.offset c.args.length (found_kind c.in_ok-kind.kind) c.in_ok-kind._length =
+    subst (λ h. IsFoundOf h known (is_some new.backing) c.args.offset c.args.length (found_kind c.in_ok-kind.kind) c.in_ok-kind._length) (sym (known_header (state_in view new.file p) guarded)) (c.in_ok-kind.ensures.found p out sound) in
+    subst (λ k. IsCompressedAt k c.args.offset) (c.in_ok-kind.ensures.known p out sound)
+    (found_special known (is_some new.backing) c.args.offset c.args.length c.in_ok-kind._length (found_kind c.in_ok-kind.kind) found (sym c.is_special.ensures ∙ c.if-is_special.true))
+
+pub returns-clause-tells : goal.returns-clause-tells
+returns-clause-tells g c = λ p out sound is.
+    let view = g.S.Storage.view in
+    let new = c.look_up.new.self in
+    let known = known_in view new.file in
+    let guarded = (c.in_ok-kind.ensures.keeps p out sound).sound.file.caches.kept.kept.guarded in
+    let found : IsFoundIn known (is_some new.backing) c.args.offset c.args.length (found_kind c.in_ok-kind.kind) c.in_ok-kind._length =
+    subst (λ h. IsFoundOf h known (is_some new.backing) c.args.offset c.args.length (found_kind c.in_ok-kind.kind) c.in_ok-kind._length) (sym (known_header (state_in view new.file p) guarded)) (c.in_ok-kind.ensures.found p out sound) in
+    found_plain known (is_some new.backing) c.args.offset c.args.length c.in_ok-kind._length (found_kind c.in_ok-kind.kind) found (sym c.is_special.ensures ∙ c.if-is_special.false)
+    (subst (λ k. IsCompressedAt k c.args.offset) (sym (c.in_ok-kind.ensures.known p out sound)) is)

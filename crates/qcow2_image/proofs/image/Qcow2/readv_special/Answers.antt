@@ -1,0 +1,34 @@
+use Rattle.std.proofs.Common.{◌≡◌, [], IfErr, subst}
+use Rattle.qcow2_laws.specs.Calls.{another, storage}
+use Rattle.qcow2_alloc.specs.ImageFile.{known_in}
+use Rattle.qcow2_alloc.proofs.AllocationSteps.{handed_on}
+use Rattle.qcow2_alloc.specs.declared.error.ImageError.TheVariants.{Compressed, NotCompressed}
+use Rattle.qcow2_image.specs.Refusals.{IsMet}
+use Rattle.qcow2_image.specs.SpecialReads.{TellsCompressed}
+use Rattle.qcow2_image.proofs.Call.Answers.{answers_err}
+use Rattle.qcow2_image.proofs.Map.Special.{refuses_after}
+use Rattle.qcow2_image.proofs.Sizes.{sound_is_usable}
+use Rattle.qcow2_image.proofs.image.Qcow2.readv_special.Goals as goal
+
+pub returns-in_err-try_readv_special-clause-tells :
+    goal.returns-in_err-try_readv_special-clause-tells
+returns-in_err-try_readv_special-clause-tells g c = λ some out sound.
+    let view = g.S.Storage.view in
+    let old = c.args.self.now in
+    handed_on (λ r. IfErr r (TellsCompressed (known_in view old.file) c.args.offset)) c.from_residual.result c.in_err-try_readv_special.field-0.0 c.from_residual.ensures
+    (c.in_err-try_readv_special.ensures.tells some out sound, λ is. absurd (subst IsMet is (c.in_err-try_readv_special.ensures.late (sound_is_usable view g.F.BackingDisk.backing old out sound))))
+
+pub returns-in_err-try_readv_special-clause-sees :
+    goal.returns-in_err-try_readv_special-clause-sees
+returns-in_err-try_readv_special-clause-sees g c =
+    answers_err g.S.Storage.view g.F.BackingDisk.backing c.args.self.now c.try_readv_special.new.self [] (λ done was is. is ≡ was) c.from_residual.result c.in_err-try_readv_special.field-0.0 c.from_residual.ensures c.in_err-try_readv_special.ensures.sees
+
+pub returns-in-Some-clause-tells : goal.returns-in-Some-clause-tells
+returns-in-Some-clause-tells g c = λ some out sound.
+    let none : NotCompressed c.in-Some.offset ≡ Compressed → ⊥ = λ is. cc in
+    (λ is. absurd (none is), λ is. c.in_ok-try_readv_special.ensures.tells some out sound)
+
+pub returns-in-Some-clause-sees : goal.returns-in-Some-clause-sees
+returns-in-Some-clause-sees g c = λ out.
+    let none : another 18 ≡ storage → ⊥ = λ is. cc in
+    refuses_after (another 18) none (c.in_ok-try_readv_special.ensures.sees out)

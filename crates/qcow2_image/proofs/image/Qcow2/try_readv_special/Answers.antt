@@ -1,0 +1,34 @@
+use Rattle.std.proofs.Common.{◌≡◌, [], sym, ◌∙◌, subst}
+use Rattle.std.specs.Prelude.{Result}
+use Rattle.qcow2_laws.specs.Calls.{IsSame}
+use Rattle.qcow2_image.specs.Calls.{Answers}
+use Rattle.qcow2_image.specs.declared.image.Qcow2.{Qcow2}
+use Rattle.qcow2_alloc.specs.ImageFile.{known_in}
+use Rattle.qcow2_image.specs.Image.{is_failed}
+use Rattle.qcow2_image.specs.SpecialReads.{TellsWhether}
+use Rattle.qcow2_image.specs.ImageInvariant.{pending_in}
+use Rattle.qcow2_image.proofs.Call.Answers.{usable_works}
+use Rattle.qcow2_image.proofs.Call.Called.{told_answers, tells_quietly, quietly_then}
+use Rattle.qcow2_image.proofs.Map.Loading.{if_ok}
+use Rattle.qcow2_image.proofs.image.Qcow2.try_readv_special.Goals as goal
+
+pub returns-clause-sees : goal.returns-clause-sees
+returns-clause-sees g c =
+    let view = g.S.Storage.view in
+    let below = g.F.BackingDisk.backing in
+    let old = c.args.self.now in
+    let new = c.plain_at-plain.new.self in
+    subst (λ (image : Qcow2 _ _). Answers view below old image [] (λ at was is. is ≡ was) c.mark_failure.result) (sym c.mark_failure.ensures.rest)
+    (subst (λ (r : Result _ _). Answers view below old (record new { is_failed = is_failed c.mark_failure.new.self }) [] (λ at was is. is ≡ was) r) (sym c.mark_failure.ensures.answer)
+    (told_answers view below old (record new { is_failed = is_failed c.mark_failure.new.self }) (λ at was is. is ≡ was) c.plain_at-plain.result
+    (tells_quietly view below old new (λ out. quietly_then view below out old c.begin.new.self new c.begin.ensures.keeps c.begin.ensures.list c.plain_at-plain.ensures.keeps c.plain_at-plain.ensures.list)
+    (is_failed c.mark_failure.new.self) (λ at v w. IsSame v w) c.plain_at-plain.result c.mark_failure.ensures.marks (c.plain_at-plain.ensures.stays.image.number ∙ c.begin.ensures.stays.image.number)
+    (usable_works old c.check_usable.result c.in_ok-check_usable.was c.check_usable.ensures)
+    (λ out sound same. if_ok c.plain_at-plain.result (λ at is. same) c.plain_at-plain.ensures.answer))))
+
+pub returns-clause-tells : goal.returns-clause-tells
+returns-clause-tells g c = λ some out sound.
+    let view = g.S.Storage.view in
+    let p = pending_in view g.F.BackingDisk.backing c.args.self.now out in
+    subst (λ r. TellsWhether (known_in view c.args.self.now.file) c.args.offset r) (sym c.mark_failure.ensures.answer)
+    (subst (λ k. TellsWhether k c.args.offset c.plain_at-plain.result) (c.begin.ensures.known p out sound) (c.plain_at-plain.ensures.tells p out (c.begin.ensures.keeps p out sound).sound))

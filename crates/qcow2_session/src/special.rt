@@ -1,0 +1,81 @@
+//! The commands that read what isn't mapped plainly.
+ghost use Rattle.std.specs.Prelude.{◌≡◌, [], IfErr, IfOk, IfSome, MatchOption, Err};
+ghost use Rattle.qcow2_image.specs.Calls.{Answers};
+ghost use Rattle.qcow2_image.specs.Image.{number_of};
+ghost use Rattle.qcow2_image.specs.Refusals.{unusable};
+ghost use Rattle.qcow2_session.specs.Commands.{IsOwnOffset};
+ghost use Rattle.qcow2_session.specs.Sessions.{CommandSteps, Finds};
+ghost use Rattle.qcow2_session.specs.declared.session.Command.TheVariants.{ReadvSpecial, TryReadvSpecial};
+ghost use Rattle.qcow2_session.specs.declared.slots.Slots.{Slots};
+
+use crate::session::Reply;
+use image_access::{Storage, WrappedFormat};
+use qcow2_image::{ImageError, Qcow2};
+use std::alloc::Global;
+
+// Reads a range that isn't mapped plainly. Today all but a range of no bytes is refused.
+pub(crate) fn readv_special<S: Storage, F: WrappedFormat<S>>(
+    alloc: Global,
+    image: &mut Qcow2<S, F>,
+    offset: u64,
+    length: u64,
+) -> Reply
+    ensures number { number_of image.new ≡ number_of image.old }
+    ensures goes { (slots : Slots) → CommandSteps S.view F.backing image.old image.new slots slots (ReadvSpecial offset length) result }
+    ensures finds { (slots : Slots) → Finds slots slots (ReadvSpecial offset length) result }
+{
+    match read_range(alloc, image, offset, length) {
+        Ok(()) => Reply::Done,
+        Err(refusal) => Reply::Refused(refusal),
+    }
+}
+
+// Answers the offset of a range that is mapped plainly.
+pub(crate) fn try_readv_special<S: Storage, F: WrappedFormat<S>>(
+    alloc: Global,
+    image: &mut Qcow2<S, F>,
+    offset: u64,
+    length: u64,
+) -> Reply
+    ensures number { number_of image.new ≡ number_of image.old }
+    ensures goes { (slots : Slots) → CommandSteps S.view F.backing image.old image.new slots slots (TryReadvSpecial offset length) result }
+    ensures finds { (slots : Slots) → Finds slots slots (TryReadvSpecial offset length) result }
+{
+    match try_range(alloc, image, offset, length) {
+        Ok(plain) => Reply::NotCompressed(plain),
+        Err(refusal) => Reply::Refused(refusal),
+    }
+}
+
+fn read_range<S: Storage, F: WrappedFormat<S>>(
+    alloc: Global,
+    image: &mut Qcow2<S, F>,
+    offset: u64,
+    length: u64,
+) -> Result<(), ImageError>
+    ensures number { number_of image.new ≡ number_of image.old }
+    ensures early { IfSome (unusable image.old) (λ e. (result ≡ Err e) × (image.new ≡ image.old)) }
+    ensures empty { IfOk result (λ done. length ≡ 0) }
+    ensures own { IfErr result (IsOwnOffset offset) }
+    ensures sees { Answers S.view F.backing image.old image.new [] (λ done was is. is ≡ was) result }
+{
+    image.check_read(0, 0)?;
+    let mut bytes = vec![in alloc; 0; length as usize]?;
+    image.readv_special(&mut bytes, offset)
+}
+
+fn try_range<S: Storage, F: WrappedFormat<S>>(
+    alloc: Global,
+    image: &mut Qcow2<S, F>,
+    offset: u64,
+    length: u64,
+) -> Result<Option<u64>, ImageError>
+    ensures number { number_of image.new ≡ number_of image.old }
+    ensures early { IfSome (unusable image.old) (λ e. (result ≡ Err e) × (image.new ≡ image.old)) }
+    ensures answer { IfOk result (λ plain. MatchOption plain (length ≡ 0) (λ at. at ≡ offset)) }
+    ensures sees { Answers S.view F.backing image.old image.new [] (λ plain was is. is ≡ was) result }
+{
+    image.check_read(0, 0)?;
+    let mut bytes = vec![in alloc; 0; length as usize]?;
+    image.try_readv_special(&mut bytes, offset)
+}
