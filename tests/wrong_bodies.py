@@ -20,6 +20,7 @@ import threading
 import time
 from dataclasses import dataclass, field
 
+import clauses
 from call_graph import Calls
 
 ROOT = os.path.dirname(os.path.dirname(os.path.abspath(__file__)))
@@ -49,11 +50,12 @@ def toolchain():
 
 @dataclass
 class WrongBody:
-    """One wrong body: its name, the function that it is in, and what takes the place of what."""
+    """One wrong body: its name, the function that it is in, the clause that alone is to refuse it where one is named, and what takes the place of what."""
 
     name: str
     function: str = ""
     file: str = ""
+    clause: str = ""
     pairs: list = field(default_factory=list)
 
     def changed(self, text):
@@ -90,6 +92,8 @@ def bodies_of(folder):
             bodies[-1].function = rest
         elif word == "file:":
             bodies[-1].file = rest
+        elif word == "clause:":
+            bodies[-1].clause = rest
         elif word == "old:":
             bodies[-1].pairs.append((rest, ""))
         elif word == "new:":
@@ -111,6 +115,12 @@ class Round:
         changed = body.changed(self.texts.get(body.file) or read(f"{trial.folder}/{body.file}"))
         if changed is None:
             return False
+        proof = f"proofs/{body.function.replace('::', '/')}/Answers.antt"
+        alone = clauses.kept_alone(changed, body.place(read(f"{trial.folder}/{body.file}")), body.clause) if body.clause else None
+        answers = clauses.answers_kept(read(f"{trial.folder}/{proof}"), body.clause) if alone and os.path.isfile(f"{trial.folder}/{proof}") else None
+        if alone and (answers is not None or not os.path.isfile(f"{trial.folder}/{proof}")):
+            changed = alone
+            self.texts.update({proof: answers} if answers is not None else {})
         self.bodies[body.function], self.texts[body.file] = body, changed
         self.changed.add(changes)
         return True
@@ -219,7 +229,7 @@ def is_by_contract(body, said, printed, lines):
     return "did not prove" in said or any(int(it) in lines for it in notes) or bool(errors_of(body, printed))
 
 
-def clauses(body, said, printed):
+def broken_clauses(body, said, printed):
     """The clauses of its contract that a body breaks, as far as the goals are named by them."""
     return sorted(set(CLAUSE.findall("\n".join([said, *errors_of(body, printed)]))))
 
@@ -242,7 +252,7 @@ def try_round(trial, it):
     for name, body in it.bodies.items():
         text = said.get(name, "")
         if is_refusal(text) and is_by_contract(body, text, printed, body.lines(read(f"{trial.folder}/{body.file}"))):
-            tried.refused.append((body, clauses(body, text, printed)))
+            tried.refused.append((body, broken_clauses(body, text, printed)))
         elif text.startswith("proved"):
             tried.accepted.append(body)
         else:
