@@ -105,6 +105,11 @@ def discarded_clusters_are_freed():
     equal((counts(5, 6), first_entries(3)), ([1, 0], [0, 0, 0]), "the counts and the entries")
 
 
+def a_kept_cluster_that_does_not_follow_is_dropped():
+    rows([("fill 512 512 11", "ok"), ("zero 512 512", "range 512 512"), ("prepare 0 0 1024 overwrite", "prepared 3072 1024"), ("commit 0", "ok"), ("flush", "ok")])
+    equal(counts(5, 6, 7), [0, 1, 1], "the counts")
+
+
 def a_cluster_that_is_shared_is_not_kept():
     create("disk", 65536, 512)
     run("disk", "fill 0 512 11", "flush")
@@ -391,6 +396,7 @@ def main():
         nothing_is_cleared_under_a_mapping,
         zeroed_clusters_are_kept,
         discarded_clusters_are_freed,
+        a_kept_cluster_that_does_not_follow_is_dropped,
         a_cluster_that_is_shared_is_not_kept,
         an_existing_mapping_is_outdated,
         the_end_of_the_disk_is_a_whole_cluster,
