@@ -25,9 +25,9 @@ RUNS = 3
 TURNS = 5
 
 
-def sequential():
-    """64 MiB in writes of 1 MiB."""
-    return [("write", at, MIB, at // MIB + 1) for at in range(0, SIZE, MIB)] + [("flush",)]
+def sequential(size=SIZE):
+    """So many bytes in order, in writes of 1 MiB."""
+    return [("write", at, MIB, at // MIB % 255 + 1) for at in range(0, size, MIB)] + [("flush",)]
 
 
 def scattered(count, flush_each, size=SIZE):
@@ -41,13 +41,14 @@ def scattered(count, flush_each, size=SIZE):
     return steps if flush_each else steps + [("flush",)]
 
 
-# Each with its clusters' size and the bits of a count. The one with small clusters and wide counts needs more than 2,000 refblocks: the reftable grows on the way.
+# Each with its clusters' size, the bits of a count and the disk's size. The one with small clusters and wide counts needs more than 2,000 refblocks: the reftable grows on the way.
 WORK = [
-    ("64 MiB in order, clusters of 65536", (65536, 16), sequential()),
-    ("64 MiB in order, clusters of 4096", (4096, 16), sequential()),
-    ("64 MiB in order, clusters of 512, counts of 64 bits", (512, 64), sequential()),
-    ("2,000 random writes of 4 KiB, one flush, clusters of 65536", (65536, 16), scattered(2000, False)),
-    ("200 random writes of 4 KiB, a flush after each, clusters of 65536", (65536, 16), scattered(200, True)),
+    ("64 MiB in order, clusters of 65536", (65536, 16, SIZE), sequential()),
+    ("64 MiB in order, clusters of 4096", (4096, 16, SIZE), sequential()),
+    ("256 MiB in 1 MiB writes, clusters of 4096", (4096, 16, 256 * MIB), sequential(256 * MIB)),
+    ("64 MiB in order, clusters of 512, counts of 64 bits", (512, 64, SIZE), sequential()),
+    ("2,000 random writes of 4 KiB, one flush, clusters of 65536", (65536, 16, SIZE), scattered(2000, False)),
+    ("200 random writes of 4 KiB, a flush after each, clusters of 65536", (65536, 16, SIZE), scattered(200, True)),
 ]
 
 
@@ -77,15 +78,15 @@ def measured(words, lines, wanted):
         return seconds, int(it.read())
 
 
-def by_qimg(shape, steps, size=SIZE):
-    cluster, width = shape
+def by_qimg(shape, steps):
+    cluster, width, size = shape
     subprocess.run([QIMG, "create", "disk", str(size), str(cluster), str(width), "none"], check=True, stdout=subprocess.DEVNULL)
     return measured([QIMG, "run", "disk"], [qimg_line(step) for step in steps], lambda text: text == "ok\n" * len(steps))
 
 
 def by_qemu(shape, steps):
-    cluster, width = shape
-    words = ["qemu-img", "create", "-q", "-f", "qcow2", "-o", f"cluster_size={cluster},refcount_bits={width}", "disk", str(SIZE)]
+    cluster, width, size = shape
+    words = ["qemu-img", "create", "-q", "-f", "qcow2", "-o", f"cluster_size={cluster},refcount_bits={width}", "disk", str(size)]
     subprocess.run(words, check=True)
     words = ["qemu-io", "-f", "qcow2", "-t", "unsafe", "disk"]
     return measured(words, [qemu_line(step) for step in steps], lambda text: "failed" not in text)
@@ -110,7 +111,7 @@ def median_of(runner, shape, steps):
 
 def of_two_sizes(cluster):
     """Peak memory of qimg in KiB on an image of 64 MiB and on one of 1 GiB, for 2,000 random writes over the whole image, or None."""
-    results = [median_of(lambda shape, steps: by_qimg(shape, steps, size), (cluster, 16), scattered(2000, False, size)) for size in (SIZE, LARGE)]
+    results = [median_of(by_qimg, (cluster, 16, size), scattered(2000, False, size)) for size in (SIZE, LARGE)]
     return None if None in results else [memory for _, memory in results]
 
 

@@ -14,7 +14,7 @@ import time
 ROOT = os.path.dirname(os.path.dirname(os.path.abspath(__file__)))
 FAILURES = re.compile(r"NOT PROVED|NOT REFUSED|NOT TRIED|BAD EDIT|FAILED|: error")
 PROVED = re.compile(r"rt: (\w+) (?:proved$|is kept: )")
-SCRIPTS = ["tests/program.py", "tests/causes.py", "tests/writes.py", "tests/prepared.py", "tests/clearing.py", "tests/failures.py", "tests/caches.py", "tests/stops.py", "tests/interop/write.py", "tests/interop/growing.py", "tests/interop/open.py", "tests/interop/versions.py", "tests/hostile.py", "tests/convert.py", "tests/check.py", "tests/tools.py"]
+SCRIPTS = ["tests/program.py", "tests/causes.py", "tests/writes.py", "tests/prepared.py", "tests/clearing.py", "tests/failures.py", "tests/caches.py", "tests/stops.py", "tests/interop/write.py", "tests/interop/growing.py", "tests/interop/open.py", "tests/interop/versions.py", "tests/interop/overlay.py", "tests/hostile.py", "tests/convert.py", "tests/check.py", "tests/tools.py", "tests/pages.py"]
 
 
 def counts(words, told, look=lambda line: None):
@@ -123,6 +123,7 @@ def proofs(parts):
 def main():
     parts = Parts()
     proofs(parts)
+    parts.command("the trial of the wrong bodies", ["tests/trial.py"])
     parts.command("the tests of the crates", ["tests/units.py"])
     scripts(parts)
     return int(parts.tell())

@@ -41,7 +41,8 @@ def answers_kept(text, name):
     """The answers in a proof but for those that are given to other clauses. None where one is given to all clauses together."""
     kept, passes = [], False
     for line in text.split("\n"):
-        if line[:1].strip():
+        # a line that closes a bracket goes on with what stands before it
+        if line[:1].strip() and line[0] not in ")]}":
             named = ANSWER.match(line)
             if named and re.match(r"returns(-|$)", named[1]) and "-clause-" not in named[1]:
                 return None

@@ -312,9 +312,12 @@ def state_of(pid):
 
 
 def was_stopped():
-    """The stop stands in strace's record."""
-    with open("calls") as it:
-        return "stopped by SIGSTOP" in it.read()
+    """The stop stands in strace's record, which strace makes once it has begun."""
+    try:
+        with open("calls") as it:
+            return "stopped by SIGSTOP" in it.read()
+    except FileNotFoundError:
+        return False
 
 
 def a_raw_disk_that_is_cut():

@@ -1,6 +1,7 @@
 #!/usr/bin/env -S python3 -B
-"""System calls of the program fail in turn: what it prints then, and its status. A call is made to fail by strace."""
+"""System calls of the program and growths of its memory fail in turn: what it prints then, and its status. A call is made to fail by strace, a growth by a library that is loaded before."""
 
+import os
 import resource
 import subprocess
 
@@ -9,6 +10,7 @@ from checks import Checks, create, equal
 
 STORAGE = "refused 15 storage\n"
 FAILED = "refused 16 failed\n"
+MEMORY = "refused 14 memory\n"
 
 
 def failing(file, call, number, words, error="EIO", **how):
@@ -93,6 +95,90 @@ def each_write_of_ranges():
     raise AssertionError("more than 60 writes")
 
 
+def mixed():
+    """Copied data, two clusters that zero entries keep, data that another entry is counted for, and a new cluster stand in a range."""
+    disk()
+    equal(checks.qimg("run", "disk", given=b"fill 0 2048 11\nzero 512 1024\n")[0], 0, "the status")
+    checks.put("disk", 1024 + 2 * 8 + 1, b"\2")
+    checks.put("disk", 2048 + 8 * 3, b"\0")
+
+
+MIXED = [
+    ("prepare 0 100 1400 keep", "prepared 2660 1400"), ("put 0 0 " + "22" * 1400, "ok"), ("commit 0", "ok"), ("flush", "ok"),
+    ("prepare 1 1600 900 keep", "prepared 4672 900"), ("put 1 0 " + "33" * 900, "ok"), ("drop 1", "ok"), ("flush", "ok"),
+]
+BEFORE_MIXED = "11" * 512 + "00" * 1024 + "11" * 512 + "00" * 512
+
+
+def mixed_ranges_failed(number, status, output, refusal=STORAGE):
+    """What is answered where one call of mixed ranges failed, and what stands then: what the second range had is as it was, and of the first one the private bytes are seen all or not at all. Whether none failed."""
+    given = [answer for _, answer in MIXED]
+    answered = output.splitlines()
+    if answered == given:
+        equal(status, 0, "where none failed")
+        return True
+    equal(status, 1, f"the status at call {number}")
+    refused = next((i for i, (a, w) in enumerate(zip(answered, given)) if a != w), min(len(answered) - 1, len(given)))
+    equal(answered[refused], refusal.strip(), f"the first refusal at call {number}")
+    later = [answer for answer in answered[refused + 1:] if refusal != MEMORY or not answer.startswith("prepared ")]
+    equal(set(later) - {FAILED.strip(), "misuse", "ok"}, set(), f"after call {number}")
+    checks.consistent("disk")
+    told = checks.qimg("run", "disk", given=b"read 0 2560\n")[1].split()[1]
+    in_place = told[2 * 100:2 * 512]
+    equal(in_place in ("11" * 412, "22" * 412), True, f"the bytes in place after call {number}")
+    private = told[2 * 512:2 * 1500]
+    equal(private in ("00" * 988, "22" * 988), True, f"the private bytes after call {number}")
+    equal(told[:2 * 100] + told[2 * 1500:], BEFORE_MIXED[:2 * 100] + BEFORE_MIXED[2 * 1500:], f"the other bytes after call {number}")
+    return False
+
+
+def each_call_of_mixed_ranges(call):
+    given = "".join(f"{line}\n" for line, _ in MIXED).encode()
+    for number in range(1, 60):
+        mixed()
+        if mixed_ranges_failed(number, *failing("disk", call, number, ["run", "disk"], input=given)):
+            equal(number > 6, True, "how many calls failed")
+            return
+    raise AssertionError(f"more than 60 calls of {call}")
+
+
+def refusing(library, growth, words, given):
+    """The status and the output of the program where its growth of memory of that number is refused, and whether it came to it."""
+    if os.path.isfile("refused"):
+        os.remove("refused")
+    done = subprocess.run([checks.QIMG, *words], input=given, stdout=subprocess.PIPE, stderr=subprocess.DEVNULL, env={"LD_PRELOAD": library, "REFUSED_GROWTH": str(growth)}, timeout=600)
+    return done.returncode, done.stdout.decode(), os.path.isfile("refused")
+
+
+NEEDS_NO_MEMORY = ("put", "commit", "drop")
+
+
+def each_growth_of_mixed_ranges():
+    """Writing what is prepared, committing and dropping it takes no memory. An image that isn't marked as failed keeps each surplus."""
+    library = os.path.abspath("refused_memory.so")
+    subprocess.run(["cc", "-shared", "-fPIC", "-o", library, f"{checks.ROOT}/tests/refused_memory.c"], check=True)
+    given = "".join(f"{line}\n" for line, _ in MIXED).encode()
+    met = set()
+    for growth in range(1, 2000):
+        mixed()
+        before = checks.Report("disk").surplus
+        status, output, came = refusing(library, growth, ["run", "disk"], given)
+        if mixed_ranges_failed(growth, status, output, MEMORY):
+            # a call may do with less
+            if came:
+                continue
+            equal(met, {"open", "prepare"}, "what was refused for want of memory")
+            return
+        lines = output.splitlines()
+        refused = lines.index(MEMORY.strip())
+        word = MIXED[refused][0].split()[0] if len(lines) > 1 and refused < len(MIXED) else "open"
+        met.add(word)
+        equal((came, word in NEEDS_NO_MEMORY), (True, False), f"whether growth {growth} was refused, and in a call that takes none")
+        if FAILED.strip() not in lines:
+            equal(checks.Report("disk").surplus, before, f"the surpluses after growth {growth}")
+    raise AssertionError("more than 2,000 growths")
+
+
 def with_a_short_table():
     """The L1 table has one entry, for half of the disk."""
     disk()
@@ -160,8 +246,11 @@ def main():
         a_failed_image_answers_little,
         a_read_of_the_script_fails,
         a_line_that_has_no_room,
+        each_growth_of_mixed_ranges,
     ):
         every.run(check.__name__, check)
+    for call in ("pwrite64", "pread64"):
+        every.run(f"each {call} of mixed ranges", each_call_of_mixed_ranges, call)
     every.done()
 
 

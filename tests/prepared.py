@@ -176,6 +176,87 @@ def all_clusters_of_a_dropped_range_are_freed():
     equal([count_of(c) for c in (4, 5, 6, 7)], [1, 0, 0, 0], "the counts")
 
 
+def zeroed(lines):
+    """Three clusters that are written and zeroed; their entries keep the host clusters at 2560, 3072 and 3584."""
+    rows([("fill 0 1536 11", "ok"), ("zero 0 1536", "range 0 1536"), ("flush", "ok"), *lines])
+
+
+def a_kept_cluster_comes_first():
+    """It is filled with zeros before the commit, and its place stays."""
+    zeroed([
+        ("prepare 0 100 100 keep", "prepared 2660 412"),
+        ("put 0 0 2222", "ok"),
+        ("read 98 4", "data 00000000"),
+        ("map 0 512", "zero 512 explicit"),
+        ("commit 0", "ok"),
+        ("read 98 4", "data 00002222"),
+        ("map 0 512", "raw image 2560 512 rw"),
+        ("flush", "ok"),
+    ])
+    equal(contents("disk")[2560:3072], bytes(100) + b"\x22\x22" + bytes(410), "the cluster")
+    equal([count_of(c) for c in (5, 6, 7, 8)], [1, 1, 1, 0], "the counts")
+
+
+def kept_clusters_follow():
+    """What is announced as overwritten isn't filled: old bytes show there where they aren't put."""
+    zeroed([
+        ("prepare 0 500 1000 overwrite", "prepared 3060 1000"),
+        ("put 0 0 " + "22" * 1000, "ok"),
+        ("read 0 1536", "data " + "00" * 1536),
+        ("commit 0", "ok"),
+        ("read 0 1536", "data " + "00" * 500 + "22" * 1000 + "00" * 36),
+        ("map 0 1536", "raw image 2560 1536 rw"),
+        ("flush", "ok"),
+    ])
+    equal([count_of(c) for c in (5, 6, 7, 8)], [1, 1, 1, 0], "the counts")
+
+
+def kept_clusters_stand_among_data_and_new_ones():
+    rows([
+        ("fill 0 1024 11", "ok"),
+        ("zero 512 512", "range 512 512"),
+        ("prepare 0 0 1536 keep", "prepared 2560 1536"),
+        ("commit 0", "ok"),
+        ("read 0 1536", "data " + "11" * 512 + "00" * 1024),
+        ("map 0 1536", "raw image 2560 1536 rw"),
+        ("flush", "ok"),
+    ])
+    equal([count_of(c) for c in (5, 6, 7, 8)], [1, 1, 1, 0], "the counts")
+
+
+def a_kept_cluster_of_a_dropped_range_is_kept():
+    zeroed([
+        ("prepare 0 0 1536 keep", "prepared 2560 1536"),
+        ("put 0 0 " + "22" * 1536, "ok"),
+        ("drop 0", "ok"),
+        ("map 0 1536", "zero 1536 explicit"),
+        ("read 0 1536", "data " + "00" * 1536),
+        ("flush", "ok"),
+        ("prepare 0 0 512 keep", "prepared 2560 512"),
+        ("commit 0", "ok"),
+        ("read 0 512", "data " + "00" * 512),
+    ])
+    equal([count_of(c) for c in (5, 6, 7, 8)], [1, 1, 1, 0], "the counts")
+
+
+def a_kept_cluster_elsewhere_is_dropped():
+    """The third cluster stands where the second one's would follow, so the range ends there."""
+    rows([
+        ("fill 0 512 11", "ok"),
+        ("fill 1024 512 11", "ok"),
+        ("fill 512 512 11", "ok"),
+        ("zero 0 1536", "range 0 1536"),
+        ("prepare 0 0 1536 keep", "prepared 2560 512"),
+        ("commit 0", "ok"),
+        ("prepare 0 512 1024 keep", "prepared 3584 1024"),
+        ("commit 0", "ok"),
+        ("map 0 512", "raw image 2560 512 rw"),
+        ("map 512 1024", "raw image 3584 1024 rw"),
+        ("flush", "ok"),
+    ])
+    equal([count_of(c) for c in (5, 6, 7, 8, 9)], [1, 0, 1, 1, 0], "the counts")
+
+
 def slots_are_misused():
     rows([
         ("prepare 7 512 512 overwrite", "prepared 2560 512"),
@@ -232,6 +313,11 @@ for check in [
     a_mapping_is_dropped_after_an_l1_table_grew,
     a_range_ends_for_a_cause,
     all_clusters_of_a_dropped_range_are_freed,
+    a_kept_cluster_comes_first,
+    kept_clusters_follow,
+    kept_clusters_stand_among_data_and_new_ones,
+    a_kept_cluster_of_a_dropped_range_is_kept,
+    a_kept_cluster_elsewhere_is_dropped,
     slots_are_misused,
     ranges_are_refused,
 ]:

@@ -5,10 +5,10 @@ use Rattle.image_access.specs.Backing.{BackingView}
 use Rattle.image_access.specs.Moments.{StorageView}
 use Rattle.qcow2_metadata.specs.Bytes.{byte_at}
 use Rattle.qcow2_metadata.specs.Consistent.{IsConsistent}
-use Rattle.qcow2_laws.specs.AbstractImages.{IsOpened, guest_of}
-use Rattle.qcow2_laws.specs.Calls.{Acts}
-use Rattle.qcow2_laws.specs.Disk.{disk}
-use Rattle.qcow2_laws.specs.Stops.{StopOkEverywhere, checkpoint_at}
+use Rattle.qcow2_disk.specs.AbstractImages.{IsOpened, guest_of}
+use Rattle.qcow2_disk.specs.Calls.{Acts}
+use Rattle.qcow2_disk.specs.Disk.{disk}
+use Rattle.qcow2_disk.specs.Stops.{StopOkEverywhere, checkpoint_at}
 use Rattle.qcow2_alloc.specs.declared.error.ImageError.{ImageError}
 use Rattle.qcow2_image.specs.declared.image.Qcow2.{Qcow2}
 use Rattle.qcow2_image.specs.Image.{storage_of_image}

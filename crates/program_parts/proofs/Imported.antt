@@ -7,8 +7,8 @@ use Rattle.qcow2_metadata.specs.Bytes.{byte_at}
 use Rattle.qcow2_metadata.specs.Consistent.{IsConsistent}
 use Rattle.qcow2_metadata.specs.Header.{header, cluster_size}
 use Rattle.qcow2_metadata.specs.declared.header.HeaderFields.{HeaderFields}
-use Rattle.qcow2_laws.specs.AbstractImages.{Setting, IsOpened}
-use Rattle.qcow2_laws.specs.Disk.{disk}
+use Rattle.qcow2_disk.specs.AbstractImages.{Setting, IsOpened}
+use Rattle.qcow2_disk.specs.Disk.{disk}
 use Rattle.qcow2_image.specs.declared.image.Qcow2.{Qcow2}
 use Rattle.qcow2_image.specs.Growing.{SameFormat}
 use Rattle.qcow2_image.specs.Image.{storage_of_image}

@@ -19,12 +19,12 @@ use Rattle.qcow2_metadata.specs.Named.{table_in, in_cluster, named_for_tables, n
 use Rattle.qcow2_metadata.proofs.EntryTables.{on_sector}
 use Rattle.qcow2_metadata.proofs.TablesAt.{ref_block_at}
 use Rattle.qcow2_metadata.proofs.WrittenTables.{IsRefTableOf-written_entry}
-use Rattle.qcow2_laws.specs.Stops.{Checkpoint, StopOkEverywhere}
+use Rattle.qcow2_disk.specs.Stops.{Checkpoint, StopOkEverywhere, SafeThroughout}
 use Rattle.qcow2_laws.specs.Changes.{one_at, with_fresh, named_now}
 use Rattle.qcow2_laws.specs.CrashInvariant.{Pending, SameIn}
 use Rattle.qcow2_laws.specs.Caches.{AreClean, BlocksMayGo, HasL2, HasOwnL2, HasBlock}
 use Rattle.qcow2_laws.specs.Guests.{table_at}
-use Rattle.qcow2_laws.specs.SafeSteps.{SafeStep, SafeThroughout}
+use Rattle.qcow2_laws.specs.SafeSteps.{SafeStep}
 use Rattle.qcow2_laws.specs.Unseen.{IsUnseen, SameL1Table}
 use Rattle.qcow2_laws.specs.Tops.{IsSameBut, IsSameOutside, WritesReftableEntry, IsNewBlock}
 use Rattle.qcow2_laws.proofs.Beside.{overwritten_but, reftable_entry_beside}

@@ -13,7 +13,8 @@ use Rattle.qcow2_metadata.specs.EntryTable.{EntryTableView, IsRefTable, HasRoomI
 use Rattle.qcow2_metadata.specs.TableBytes.{entry_at}
 use Rattle.qcow2_laws.specs.Caches.{AreClean, BlocksMayGo, HasBlock}
 use Rattle.qcow2_laws.specs.CrashInvariant.{Pending}
-use Rattle.qcow2_laws.specs.SafeSteps.{SafeStep, SafeThroughout}
+use Rattle.qcow2_laws.specs.SafeSteps.{SafeStep}
+use Rattle.qcow2_disk.specs.Stops.{SafeThroughout}
 use Rattle.qcow2_laws.specs.Tops.{WritesHeader, with_reftable_at, IsNewReftable}
 use Rattle.qcow2_laws.specs.Unseen.{IsUnseen}
 use Rattle.qcow2_laws.proofs.Headers.{header_fixed, header_l1, header_known_covers}

@@ -10,7 +10,7 @@ use Rattle.qcow2_metadata.specs.Header.{cluster_size}
 use Rattle.qcow2_metadata.specs.Named.{named}
 use Rattle.qcow2_metadata.specs.declared.header.HeaderFields.{HeaderFields}
 use Rattle.qcow2_laws.specs.CrashInvariant.{Pending}
-use Rattle.qcow2_laws.specs.AbstractImages.{HasFreePlaces, IsWhole}
+use Rattle.qcow2_disk.specs.AbstractImages.{HasFreePlaces, IsWhole}
 use Rattle.qcow2_laws.proofs.Steps.{sound_is_consistent}
 use Rattle.qcow2_laws.proofs.Unseen.{known_header}
 use Rattle.qcow2_alloc.specs.ImageFile.{state_in, view_in, known_in, FileInvariant}

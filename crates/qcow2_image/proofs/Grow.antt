@@ -1,5 +1,4 @@
 pub mod LongerTables
 pub mod NamedL1
 pub mod Lengthened
-pub mod Resized
 pub mod Grown

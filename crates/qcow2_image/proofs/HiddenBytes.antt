@@ -9,7 +9,7 @@ use Rattle.qcow2_metadata.specs.Cover.{cover}
 use Rattle.qcow2_metadata.specs.Header.{header, cluster_size}
 use Rattle.qcow2_metadata.specs.declared.header.HeaderFields.{HeaderFields}
 use Rattle.qcow2_metadata.specs.declared.l2_mapping.L2Mapping.TheVariants.{Zero}
-use Rattle.qcow2_laws.specs.Mappings.{IsHiddenIn}
+use Rattle.qcow2_disk.specs.Mappings.{IsHiddenIn}
 use Rattle.qcow2_laws.specs.SafeSteps.{DriverState}
 use Rattle.qcow2_laws.proofs.Unseen.{known_header}
 use Rattle.qcow2_alloc.specs.ImageFile.{state_in, contents_in, known_in}

@@ -19,3 +19,5 @@ pub mod Commit
 pub mod Flush
 pub mod Call
 pub mod Clear
+pub mod Sizing
+pub mod Preallocate

@@ -6,6 +6,7 @@ pub mod Owning
 pub mod Gaining
 pub mod Filling
 pub mod Copied
+pub mod Keeping
 pub mod Readying
 pub mod ReadyingNew
 pub mod Preparing
@@ -16,3 +17,4 @@ pub mod Taken
 pub mod Extending
 pub mod Behind
 pub mod Onward
+pub mod KeptShares

@@ -5,7 +5,7 @@ use Rattle.image_access.specs.Backing.{BackingView}
 use Rattle.image_access.specs.Moments.{StorageView}
 use Rattle.qcow2_metadata.specs.Header.{has_data_file}
 use Rattle.qcow2_laws.proofs.Shown.{shown_size}
-use Rattle.qcow2_laws.specs.AbstractImages.{guest_of}
+use Rattle.qcow2_disk.specs.AbstractImages.{guest_of}
 use Rattle.qcow2_alloc.specs.declared.error.ImageError.TheVariants as I
 use Rattle.qcow2_alloc.specs.ImageFile.{state_in}
 use Rattle.qcow2_image.specs.declared.image.Qcow2.{Qcow2}

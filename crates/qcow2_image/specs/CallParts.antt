@@ -2,13 +2,15 @@
 use Rattle.qcow2_metadata.specs.Header.{cluster_size}
 use Rattle.qcow2_image.specs.UnseenSteps.{RefusedFillingStep, HoldsTable}
 use Rattle.qcow2_alloc.specs.ImageError.{IsFault as IsFaultOfTables}
-use Rattle.std.specs.Prelude.{Bool, true, false, ℕ, ◌≡◌, ◌==◌, ◌⊎◌, List, [], ◌∷◌, Option, Some, None, IsSome, IsTrue, Result, Ok, Err, slice_get, slice_set, if◌then◌else◌}
+use Rattle.std.specs.Prelude.{Bool, true, false, ℕ, ◌+◌, ◌*◌, ◌/◌, ◌≡◌, ◌<◌, ◌≤◌, ◌==◌, ◌⊎◌, List, [], ◌∷◌, length, Option, Some, None, IsSome, IsTrue, Result, Ok, Err, slice_get, slice_set, if◌then◌else◌}
 use Rattle.image_access.specs.Backing.{BackingView}
 use Rattle.image_access.specs.Contents.{overwritten}
 use Rattle.image_access.specs.Moments.{StorageView, Passing}
-use Rattle.qcow2_laws.specs.Calls.{IsFault, IsSame, Refuses, Works, with_disk, with_slot}
-use Rattle.qcow2_laws.specs.Mappings.{PreparedMapping, IsPrepared, gift_of_commit, put_mapping, put_disk, committed}
-use Rattle.qcow2_laws.specs.AbstractImages.{Guest, guest_of}
+use Rattle.qcow2_disk.specs.Calls.{IsFault, IsSame, Refuses, Works, with_disk, with_slot}
+use Rattle.qcow2_metadata.specs.Cover.{cover}
+use Rattle.qcow2_image.specs.declared.prepared.Share.TheVariants.{InPlace}
+use Rattle.qcow2_disk.specs.Mappings.{is_copied_data, PreparedMapping, IsPrepared, gift_of_commit, put_mapping, put_disk, committed}
+use Rattle.qcow2_disk.specs.AbstractImages.{Guest, guest_of}
 use Rattle.qcow2_alloc.specs.declared.error.ImageError.{ImageError}
 use Rattle.qcow2_alloc.specs.declared.error.ImageError.TheVariants as I
 use Rattle.qcow2_alloc.specs.ImageFile.{view_in, known_in}
@@ -51,7 +53,23 @@ pub record IsExisting (p : Prepared) (number guest length : ℕ) : Type 0 where
   pub table : p.table ≡ None
   pub shares : p.shares.items ≡ []
 
+-- a mapping whose shares were entered: all are in place
+pub record IsEntered (p q : Prepared) : Type 0 where
+  pub table : q.table ≡ p.table
+  pub many : length q.shares.items ≡ length p.shares.items
+  pub in_place : (j : ℕ) → j < length p.shares.items → slice_get q.shares.items j ≡ Some InPlace
+
 module _ {S F : Type 0} (view : S → StorageView) where
+  -- what stands for the guest clusters beside those of a range stays
+  abbrev pub StaysBeside : (from to : ℕ) → Qcow2 S F → Qcow2 S F → Type 0
+  StaysBeside from to old new = (g : ℕ) → (g < from / cluster_size old.file.header.fields) ⊎ (to ≤ g * cluster_size old.file.header.fields)
+      → cover old.file.header.fields (known_in view old.file) g ≡ cover new.file.header.fields (known_in view new.file) g
+
+  -- each guest cluster that a range touches is copied data
+  abbrev pub AreCopied : (from to : ℕ) → Qcow2 S F → Type 0
+  AreCopied from to image = (g : ℕ) → from < g * cluster_size image.file.header.fields + cluster_size image.file.header.fields → g * cluster_size image.file.header.fields < to
+      → is_copied_data (cover image.file.header.fields (known_in view image.file) g) ≡ true
+
   -- bytes are written to the storage, and nothing else changes
   pub record WritesBytes (old new : Qcow2 S F) (host : ℕ) (bytes : List ℕ) (result : Result (Unit {0}) ImageError) : Type 0 where
     pub rest : new ≡ record old { file = record old.file { storage = new.file.storage } }
@@ -71,6 +89,7 @@ module _ {S F : Type 0} (view : S → StorageView) where
       pub works : Works (abstract_of view backing old out) (abstract_of view backing new (slice_set out k (Some q))) (gift_of_commit (abstract_of view backing old out).setting.cluster_size (guest_of (abstract_of view backing old out)).disk (meaning view backing old p) ∷ []) []
       pub sound : ImageInvariant view backing (pending_in view backing new (slice_set out k (Some q))) new (slice_set out k (Some q))
       pub shows : ShowsPart (guest_of (abstract_of view backing old out)) (guest_of (abstract_of view backing new (slice_set out k (Some q)))) k (meaning view backing old p) (meaning view backing new q)
+      pub beside : StaysBeside p.guest (p.guest + p.length) old new
 
     -- All of it is: nothing of it is private then.
     pub record CommitsAll (old new : Qcow2 S F) (out : List (Option Prepared)) (k : ℕ) (p q : Prepared) : Type 0 where

@@ -1,13 +1,13 @@
 -- What each call on an image does, for every list of prepared mappings that are out.
-use Rattle.std.specs.Prelude.{ℕ, ◌+◌, ◌≡◌, Bool, List, [], ◌∷◌, Option, Some, None, Result, Ok, Err, slice_get, slice_set}
+use Rattle.std.specs.Prelude.{ℕ, ◌≡◌, Bool, List, [], ◌∷◌, Option, Some, None, Result, Ok, Err, slice_get, slice_set}
 use Rattle.image_access.specs.Backing.{BackingView}
 use Rattle.image_access.specs.Moments.{StorageView}
 use Rattle.qcow2_alloc.specs.declared.error.ImageError.{ImageError}
 use Rattle.qcow2_alloc.specs.declared.error.ImageError.TheVariants as I
-use Rattle.qcow2_laws.specs.Stops.{GivenBytes}
-use Rattle.qcow2_laws.specs.Mappings.{IsPrepared, put_mapping, put_disk, committed, gift_of_put, gift_of_commit}
-use Rattle.qcow2_laws.specs.AbstractImages.{Guest, AbstractImage, guest_of, contents_of}
-use Rattle.qcow2_laws.specs.Calls.{Refusal, memory, storage, another, IsFault, Does, Refuses, IsSame, with_disk, with_slot}
+use Rattle.qcow2_disk.specs.Stops.{GivenBytes}
+use Rattle.qcow2_disk.specs.Mappings.{IsPrepared, put_mapping, put_disk, committed, gift_of_put, gift_of_commit}
+use Rattle.qcow2_disk.specs.AbstractImages.{Guest, AbstractImage, guest_of, contents_of}
+use Rattle.qcow2_disk.specs.Calls.{Refusal, memory, storage, not_compressed, another, IsFault, Does, Refuses, IsSame, with_disk, with_slot}
 use Rattle.qcow2_image.specs.declared.image.Qcow2.{Qcow2}
 use Rattle.qcow2_image.specs.declared.prepared.Prepared.{Prepared}
 use Rattle.qcow2_image.specs.declared.prepared.CommitRefused.{CommitRefused}
@@ -33,7 +33,7 @@ refusal_of I.Memory = memory
 refusal_of I.Storage = storage
 refusal_of I.Failed = another 16
 refusal_of I.MappingPrepared = another 17
-refusal_of (I.NotCompressed offset) = another 18
+refusal_of (I.NotCompressed offset) = not_compressed offset
 refusal_of I.Metadata = another 19
 refusal_of I.Overflow = another 20
 refusal_of (I.StillInUse tables) = another 21

@@ -1,5 +1,5 @@
 -- What clearing the whole clusters of a range does: they read as zeros then, or as the disk below.
-use Rattle.std.specs.Prelude.{ℕ, zero, suc, ◌+◌, ◌*◌, ◌/◌, ◌%◌, ◌≡◌, ◌≢◌, ◌⊎◌, ◌<◌, ◌≤◌, ◌==◌, ◌&&◌, ◌||◌, ◌^◌, ◌++◌, Bool, true, false, not, nat_le, nat_lt, List, [], ◌∷◌, Option, Some, None, IsSome, IsTrue, Result, Ok, Err, slice_get, if◌then◌else◌}
+use Rattle.std.specs.Prelude.{ℕ, zero, suc, ◌+◌, ◌*◌, ◌/◌, ◌%◌, ◌≡◌, ◌≢◌, ◌⊎◌, ◌<◌, ◌≤◌, ◌&&◌, ◌++◌, Bool, true, not, nat_lt, List, [], ◌∷◌, Option, Some, None, IsSome, IsTrue, Result, Ok, Err, slice_get}
 use Rattle.std.specs.Option.{option_or}
 use Rattle.image_access.specs.Backing.{BackingView}
 use Rattle.image_access.specs.Moments.{StorageView}
@@ -7,21 +7,23 @@ use Rattle.qcow2_metadata.specs.Bytes.{Bytes}
 use Rattle.qcow2_metadata.specs.declared.header.HeaderFields.{HeaderFields}
 use Rattle.qcow2_metadata.specs.declared.l2_mapping.L2Mapping.{L2Mapping}
 use Rattle.qcow2_metadata.specs.declared.l2_mapping.L2Mapping.TheVariants as M
-use Rattle.qcow2_metadata.specs.Header.{cluster_size, entries_per_cluster, rounded_up}
+use Rattle.qcow2_metadata.specs.Header.{cluster_size, entries_per_cluster}
 use Rattle.qcow2_metadata.specs.Cover.{cover, entry_cover}
 use Rattle.qcow2_metadata.specs.Entries.{is_copied, l1_entry, l2_entry}
 use Rattle.qcow2_metadata.specs.L2Mapping.{IsInReach, dropped_run}
-use Rattle.qcow2_metadata.specs.L2Table.{copied_host, zero_cover, zero_entry}
-use Rattle.qcow2_laws.specs.AbstractImages.{Setting, guest_of}
-use Rattle.qcow2_laws.specs.Calls.{Clearing, to_zero, to_backing, Works, cleared, cleared_at, gift_of_clear, with_disk}
+use Rattle.qcow2_metadata.specs.L2Table.{copied_host, zero_entry}
+use Rattle.qcow2_disk.specs.AbstractImages.{Setting, guest_of}
+use Rattle.qcow2_disk.specs.ClearedCovers.{cleared_cover as cover_by, needs_zeros as zeros_for, ClearsCovers as ClearsBy}
+pub use Rattle.qcow2_disk.specs.ClearedCovers.{is_between, rounds_past}
+use Rattle.qcow2_disk.specs.Calls.{Clearing, to_zero, to_kept_zero, to_backing, IsFault, IsSame, Refuses, Works, cleared, cleared_at, gift_of_clear, with_disk}
 use Rattle.qcow2_laws.specs.CrashInvariant.{Pending}
-use Rattle.qcow2_laws.specs.Found.{rest_of_table}
+use Rattle.qcow2_disk.specs.Found.{rest_of_table}
 use Rattle.qcow2_laws.specs.GuestLaws.{IsZeros, MapsInTurn}
 use Rattle.qcow2_laws.specs.Guests.{table_at}
-use Rattle.qcow2_laws.specs.Mappings.{gift_shown}
-use Rattle.qcow2_laws.specs.Rules.{answered, touched_from, touched_to}
+use Rattle.qcow2_disk.specs.Mappings.{gift_shown}
+use Rattle.qcow2_disk.specs.Rules.{answered, touched_from, touched_to}
 use Rattle.qcow2_laws.specs.Steps.{guest_at}
-use Rattle.qcow2_laws.specs.Stops.{GivenBytes}
+use Rattle.qcow2_disk.specs.Stops.{GivenBytes}
 use Rattle.qcow2_alloc.specs.CacheMarks.{KeepsMarks, l2_pins}
 use Rattle.qcow2_alloc.specs.declared.cache.MetadataCaches.{MetadataCaches}
 use Rattle.qcow2_alloc.specs.declared.clusters_to_free.ClustersToFreeEntry.{ClustersToFreeEntry}
@@ -30,7 +32,7 @@ use Rattle.qcow2_alloc.specs.declared.error.ImageError.TheVariants as I
 use Rattle.qcow2_alloc.specs.ImageFile.{FileInvariant, contents_in, known_in, state_in}
 use Rattle.qcow2_alloc.specs.MetadataCaches.{CacheInvariant, IsEntryAt, MadeEntry, NotesHeld, known_of, l2_at, order_of}
 use Rattle.qcow2_image.specs.CallParts.{RefusedCall}
-use Rattle.qcow2_image.specs.Calls.{Answers}
+use Rattle.qcow2_image.specs.Calls.{Answers, refusal_of}
 use Rattle.qcow2_image.specs.declared.discarding.Clearance.{Clearance}
 use Rattle.qcow2_image.specs.declared.discarding.Clearance.TheVariants.{Uncovered, Zeros, KeptZeros}
 use Rattle.qcow2_image.specs.declared.image.Qcow2.{Qcow2}
@@ -42,17 +44,15 @@ use Rattle.qcow2_image.specs.MovedTables.{MovesTables}
 use Rattle.qcow2_image.specs.Prepared.{table_of}
 use Rattle.qcow2_image.specs.Refusals.{passes, refuse_if, unusable}
 
--- what the disk shows where it was cleared
+-- how that clears clusters, in words of the disk
 abbrev pub shown_by : Clearance → Clearing
 shown_by Uncovered = to_backing
 shown_by Zeros = to_zero
-shown_by KeptZeros = to_zero
+shown_by KeptZeros = to_kept_zero
 
--- what stands for a cleared cluster, of what stood for it: nothing; zeros, and no host cluster; or zeros, with the host cluster that was marked copied
+-- what stands for a cleared cluster then, of what stood for it
 abbrev pub cleared_cover : Clearance → L2Mapping → L2Mapping
-cleared_cover Uncovered old = M.Uncovered
-cleared_cover Zeros old = zero_cover None
-cleared_cover KeptZeros old = zero_cover (copied_host old)
+cleared_cover how old = cover_by (shown_by how) old
 
 abbrev pub cleared_entry : Clearance → L2Mapping → ℕ
 cleared_entry Uncovered old = 0
@@ -61,13 +61,7 @@ cleared_entry KeptZeros old = zero_entry (copied_host old)
 
 -- entries can say that clusters are zeros from version 3 on
 abbrev pub needs_zeros : Clearance → Bool
-needs_zeros Uncovered = false
-needs_zeros Zeros = true
-needs_zeros KeptZeros = true
-
--- rounding the begin of a range up to a cluster, or its end at the disk's end, passes 64 bits
-abbrev pub rounds_past : ℕ → ℕ → ℕ → ℕ → Bool
-rounds_past cs size offset n = nat_le (2 ^ 64) (rounded_up cs offset) || offset + n == size && nat_le (2 ^ 64) (rounded_up cs (offset + n))
+needs_zeros how = zeros_for (shown_by how)
 
 -- the range that a call touches
 module _ {S F : Type 0} (image : Qcow2 S F) (offset n : ℕ) where
@@ -98,13 +92,9 @@ pub record IsWhole (h : HeaderFields) (how : Clearance) (from to : ℕ) : Type 0
   pub within : to ≤ from + rest_of_table h from
   pub version : IsTrue (needs_zeros how) → 3 ≤ h.version
 
--- a guest cluster lies between two offsets
-abbrev pub is_between : HeaderFields → (from to g : ℕ) → Bool
-is_between h from to g = nat_le from (g * cluster_size h) && nat_lt (g * cluster_size h) to
-
 -- Each guest cluster between two offsets is cleared so, and for all others stands what stood for them.
 abbrev pub ClearsCovers : Clearance → (from to : ℕ) → HeaderFields → Bytes → HeaderFields → Bytes → Type 0
-ClearsCovers how from to h known h' known' = (g : ℕ) → cover h' known' g ≡ (if is_between h from to g then cleared_cover how (cover h known g) else cover h known g)
+ClearsCovers how from to h known h' known' = ClearsBy (shown_by how) from to h known h' known'
 
 module _ {S F : Type 0} (view : S → StorageView) (backing : F → BackingView) where
   -- what stays of an image, and its disk, whatever mappings are out
@@ -120,6 +110,10 @@ module _ {S F : Type 0} (view : S → StorageView) (backing : F → BackingView)
   Clears how old new offset n result =
       Answers view backing old new (gifts_of_clear old how offset n)
       (λ range was is. (range ≡ answered (setting_of old).cluster_size was.disk.size offset n) × (is ≡ with_disk was (cleared_at (setting_of old) was.disk (shown_by how) offset n))) result
+
+  -- A refusal that is no fault gives nothing.
+  abbrev pub RefusesUngiven : Qcow2 S F → Qcow2 S F → ImageError → Type 0
+  RefusesUngiven old new e = (IsFault (refusal_of e) → ⊥) → (out : List (Option Prepared)) → let v = abstract_of view backing old out in let w = abstract_of view backing new out in Refuses v w [] [] (refusal_of e) (IsSame v w)
 
   -- ---- parts of the work
 

@@ -1,5 +1,5 @@
 -- Which part of a new cluster gets the bytes that were there before.
-use Rattle.std.specs.Prelude.{ℕ, ◌+◌, ◌-◌, ◌*◌, ◌/◌, ◌==◌, nat_lt, min, Bool, true, false, Option, Some, None, if◌then◌else◌}
+use Rattle.std.specs.Prelude.{ℕ, ◌+◌, ◌-◌, ◌*◌, ◌/◌, ◌<◌, ◌≤◌, ◌==◌, nat_lt, min, Bool, true, false, Option, Some, None, if◌then◌else◌}
 use Rattle.qcow2_image.specs.declared.copy_range.CopyRange.{CopyRange}
 
 -- what is announced of a cluster, of a range that begins at a place within it
@@ -21,3 +21,8 @@ copy_range_of cs alignment announced =
     let r = uncut_copy_range cs announced in
     let step = min alignment cs in
     if nat_lt r.start r.end then Some (record { start = r.start / step * step; end = min ((r.end + step - 1) / step * step) cs }) else None
+
+-- a byte of a cluster lies in a part of it, where there is one
+abbrev pub HasByte : Option CopyRange → ℕ → Type 0
+HasByte None i = ⊥
+HasByte (Some r) i = (r.start ≤ i) × (i < r.end)

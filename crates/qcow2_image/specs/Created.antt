@@ -10,7 +10,7 @@ use Rattle.qcow2_metadata.specs.Header.{HeaderView, header, cluster_size, count_
 use Rattle.qcow2_metadata.specs.HeaderWrite.{new_header, HasNewNames}
 use Rattle.qcow2_metadata.specs.RefBlock.{RefBlockView, count_at}
 use Rattle.qcow2_metadata.specs.TableBytes.{entry_at}
-use Rattle.qcow2_laws.specs.Disk.{disk}
+use Rattle.qcow2_disk.specs.Disk.{disk}
 use Rattle.qcow2_laws.specs.NewImages.{IsNewImage}
 use Rattle.qcow2_alloc.specs.declared.error.ImageError.{ImageError}
 use Rattle.qcow2_image.specs.Growing.{SameFormat, ReachesSize}

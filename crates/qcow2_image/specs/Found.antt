@@ -6,8 +6,8 @@ use Rattle.qcow2_metadata.specs.Header.{cluster_size, entries_per_cluster}
 use Rattle.qcow2_metadata.specs.L2Table.{L2TableView, entries_of, cover_at}
 use Rattle.qcow2_metadata.specs.declared.header.HeaderFields.{HeaderFields}
 use Rattle.qcow2_metadata.specs.declared.l2_mapping.L2Mapping.{L2Mapping}
-use Rattle.qcow2_laws.specs.Alike.{IsAlike}
-use Rattle.qcow2_laws.specs.Found.{Kind, raw, indirect, zeros, special, eof, IsMapped, IsLongestOf, IsFound as IsFoundOf}
+use Rattle.qcow2_disk.specs.Alike.{IsAlike}
+use Rattle.qcow2_disk.specs.Found.{Kind, raw, indirect, zeros, special, eof, IsMapped, IsLongestOf, IsFound as IsFoundOf}
 use Rattle.qcow2_laws.specs.Guests.{table_at}
 use Rattle.qcow2_alloc.specs.ImageFile.{contents_in, known_in}
 use Rattle.qcow2_image.specs.declared.image.Qcow2.{Qcow2}

@@ -13,10 +13,10 @@ use Rattle.qcow2_metadata.specs.Guest.{known_byte}
 use Rattle.qcow2_metadata.specs.EntryTable.{EntryTableView, IsL1TableOf, entry_count}
 use Rattle.qcow2_metadata.specs.L2Mapping.{IsHostCluster, IsInReach, named_run}
 use Rattle.qcow2_metadata.specs.declared.l2_mapping.L2Mapping.TheVariants.{Data, Zero}
-use Rattle.qcow2_laws.specs.Disk.{Disk, disk}
+use Rattle.qcow2_disk.specs.Disk.{Disk, disk}
 use Rattle.qcow2_laws.specs.CrashInvariant.{Pending}
-use Rattle.qcow2_laws.specs.Mappings.{PreparedMapping, is_copied_data}
-use Rattle.qcow2_laws.specs.AbstractImages.{Abstraction, AbstractImage, abstract_image as view_of}
+use Rattle.qcow2_disk.specs.Mappings.{PreparedMapping, is_copied_data}
+use Rattle.qcow2_disk.specs.AbstractImages.{Abstraction, AbstractImage, abstract_image as view_of}
 use Rattle.qcow2_alloc.specs.declared.clusters_to_free.ClustersToFreeEntry.{ClustersToFreeEntry}
 use Rattle.qcow2_alloc.specs.ClustersToFree.{data_entry}
 use Rattle.qcow2_alloc.specs.declared.image_file.ImageFile.{ImageFile}

@@ -18,3 +18,5 @@ pub mod Backings
 pub mod Ranges
 pub mod Clearing
 pub mod SpecialReads
+pub mod Resizing
+pub mod Preallocation

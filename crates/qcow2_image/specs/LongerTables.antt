@@ -12,8 +12,9 @@ use Rattle.qcow2_metadata.specs.TableBytes.{entry_at}
 use Rattle.qcow2_laws.specs.Changes.{with_fresh}
 use Rattle.qcow2_laws.specs.Clusters.{RbDependsOnL2}
 use Rattle.qcow2_laws.specs.CrashInvariant.{Pending, SameCovers, SameCounts}
-use Rattle.qcow2_laws.specs.Disk.{disk}
-use Rattle.qcow2_laws.specs.SafeSteps.{SafeStep, SafeThroughout}
+use Rattle.qcow2_disk.specs.Disk.{disk}
+use Rattle.qcow2_laws.specs.SafeSteps.{SafeStep}
+use Rattle.qcow2_disk.specs.Stops.{SafeThroughout}
 use Rattle.qcow2_laws.specs.Tops.{with_places, with_l1_at}
 use Rattle.qcow2_laws.specs.Unseen.{used_by_guests, SameUsedBytes}
 use Rattle.qcow2_alloc.specs.Allocation.{run_at}

@@ -7,10 +7,10 @@ use Rattle.qcow2_metadata.specs.Entries.{count}
 use Rattle.qcow2_metadata.specs.Named.{named}
 use Rattle.qcow2_metadata.specs.declared.header.HeaderFields.{HeaderFields}
 use Rattle.qcow2_metadata.specs.declared.l2_mapping.L2Mapping.TheVariants.{Zero}
-use Rattle.qcow2_laws.specs.Alike.{IsDataAt, AreDataAt}
-use Rattle.qcow2_laws.specs.Mappings.{PreparedMapping, IsPrivateIn}
+use Rattle.qcow2_disk.specs.Alike.{IsDataAt, AreDataAt}
+use Rattle.qcow2_disk.specs.Mappings.{PreparedMapping, IsPrivateIn}
 use Rattle.qcow2_image.specs.declared.prepared.Prepared.{Prepared}
-use Rattle.qcow2_laws.specs.Found.{rest_of_table}
+use Rattle.qcow2_disk.specs.Found.{rest_of_table}
 use Rattle.qcow2_image.specs.Found.{l1_index_of}
 use Rattle.qcow2_image.specs.Ranges.{EndsAt}
 use Rattle.qcow2_image.specs.Prepared.{length_of, offset_of, table_of}

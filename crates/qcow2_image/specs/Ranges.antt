@@ -9,13 +9,15 @@ use Rattle.qcow2_metadata.specs.Header.{cluster_size, entries_per_cluster}
 use Rattle.qcow2_metadata.specs.L2Mapping.{IsHostCluster, named_run}
 use Rattle.qcow2_metadata.specs.declared.header.HeaderFields.{HeaderFields}
 use Rattle.qcow2_metadata.specs.declared.l2_mapping.L2Mapping.{L2Mapping}
-use Rattle.qcow2_laws.specs.AbstractImages.{guest_of}
-use Rattle.qcow2_laws.specs.Alike.{IsDataAt}
-use Rattle.qcow2_laws.specs.Calls.{Works, with_slot}
+use Rattle.qcow2_metadata.specs.declared.l2_mapping.L2Mapping.TheVariants.{Zero}
+use Rattle.qcow2_metadata.specs.Cover.{cover}
+use Rattle.qcow2_disk.specs.AbstractImages.{guest_of}
+use Rattle.qcow2_disk.specs.Alike.{IsDataAt}
+use Rattle.qcow2_disk.specs.Calls.{Works, with_slot}
 use Rattle.qcow2_laws.specs.Changes.{with_held}
 use Rattle.qcow2_laws.specs.CrashInvariant.{Pending, SameCovers}
-use Rattle.qcow2_laws.specs.Found.{rest_of_table}
-use Rattle.qcow2_laws.specs.Mappings.{IsPrepared}
+use Rattle.qcow2_disk.specs.Found.{rest_of_table}
+use Rattle.qcow2_disk.specs.Mappings.{IsPrepared}
 use Rattle.qcow2_laws.specs.Unseen.{KeepsFormat}
 use Rattle.qcow2_alloc.specs.ImageFile.{contents_in, known_in}
 use Rattle.qcow2_alloc.specs.declared.clusters_to_free.ClusterKind.TheVariants as Kind
@@ -67,12 +69,12 @@ module _ (h : HeaderFields) where
     pub most : n < q.length → q.length ≡ p.length
     pub whole : q.length < n → IsWhole q
 
-  -- Why a mapping ends at guest byte e and at byte f of the file before its range does. A cluster ends there; and its L2 table does, or what follows is copied data elsewhere, or the host cluster that would follow can't be named, or is in use.
+  -- Why a mapping ends at guest byte e and at byte f of the file before its range does. A cluster ends there; and its L2 table does, or what follows is copied data elsewhere, or the host cluster that would follow can't be named, or is in use and isn't kept by the zero entry of what follows.
   pub record EndsAt (known : Bytes) (e f : ℕ) : Type 0 where
     pub cluster : e % cluster_size h ≡ 0
     pub because : (e % (cluster_size h * entries_per_cluster h) ≡ 0)
         ⊎ (((place : ℕ) × IsDataAt h known true e place × (place ≢ f))
-        ⊎ ((IsHostCluster h.cluster_bits (f / cluster_size h) → ⊥) ⊎ (count h known (f / cluster_size h) ≢ 0)))
+        ⊎ ((IsHostCluster h.cluster_bits (f / cluster_size h) → ⊥) ⊎ ((count h known (f / cluster_size h) ≢ 0) × (cover h known (e / cluster_size h) ≢ Zero (Some (f, true))))))
 
 module _ {S F : Type 0} (view : S → StorageView) where
   -- why a mapping ends before its range does, by what is known

@@ -1,11 +1,12 @@
 -- What the parts of a call do to a sound image.
 use Rattle.qcow2_metadata.specs.Bytes.{is_within}
-use Rattle.std.specs.Prelude.{ℕ, ◌+◌, ◌-◌, ◌*◌, ◌%◌, ◌^◌, ◌&&◌, min, Bool, false, ◌/◌, ◌<◌, ◌≤◌, ◌≡◌, ◌⊎◌, ◌++◌, true, List, [], ◌∷◌, Option, Some, IsSome, IsTrue, Result, Ok, Err, ◌≢◌, slice_get, slice_set}
+use Rattle.std.specs.Prelude.{ℕ, ◌+◌, ◌-◌, ◌*◌, ◌%◌, ◌^◌, ◌&&◌, min, Bool, false, ◌/◌, ◌<◌, ◌≤◌, ◌≡◌, ◌⊎◌, ◌++◌, true, List, [], ◌∷◌, Option, None, Some, IsSome, IsTrue, Result, Ok, Err, ◌≢◌, slice_get, slice_set}
 use Rattle.image_access.specs.Backing.{BackingView}
 use Rattle.image_access.specs.Moments.{StorageView}
 use Rattle.qcow2_metadata.specs.Entries.{l1_entry, host_offset, is_copied}
 use Rattle.qcow2_laws.specs.CrashInvariant.{Pending}
-use Rattle.qcow2_laws.specs.SafeSteps.{DriverState, SafeStep, SafeThroughout}
+use Rattle.qcow2_laws.specs.SafeSteps.{DriverState, SafeStep}
+use Rattle.qcow2_disk.specs.Stops.{SafeThroughout}
 use Rattle.qcow2_laws.specs.Unseen.{KeepsFormat, IsUnseen}
 use Rattle.qcow2_alloc.specs.declared.clusters_to_free.ClustersToFreeEntry.{ClustersToFreeEntry}
 use Rattle.qcow2_alloc.specs.declared.error.ImageError.{ImageError}
@@ -20,14 +21,15 @@ use Rattle.qcow2_alloc.specs.MetadataCaches.{order_of, l2_at, IsEntryAt, MapsEnt
 use Rattle.qcow2_image.specs.declared.prepared.Share.{Share}
 use Rattle.qcow2_image.specs.declared.prepared.Share.TheVariants.{InPlace, Kept, New}
 use Rattle.qcow2_laws.specs.CrashInvariant.{SameCovers}
-use Rattle.qcow2_laws.specs.AbstractImages.{guest_of}
+use Rattle.qcow2_disk.specs.AbstractImages.{guest_of}
 use Rattle.qcow2_metadata.specs.Cover.{cover}
 use Rattle.qcow2_metadata.specs.Guest.{known_byte}
 use Rattle.qcow2_metadata.specs.Header.{cluster_size}
 use Rattle.qcow2_metadata.specs.declared.l2_mapping.L2Mapping.{L2Mapping}
+use Rattle.qcow2_metadata.specs.declared.l2_mapping.L2Mapping.TheVariants.{Zero}
 use Rattle.qcow2_laws.specs.Changes.{with_held}
 use Rattle.qcow2_alloc.specs.declared.clusters_to_free.ClusterKind.TheVariants as Kind
-use Rattle.qcow2_image.specs.ImageInvariant.{run_of, held_by, is_entered, over_all, pins_of, below_of, disk_of, abstract_of, ImageInvariant}
+use Rattle.qcow2_image.specs.ImageInvariant.{run_of, held_by, is_entered, over_all, pins_of, share_of, below_of, disk_of, abstract_of, ImageInvariant}
 
 -- an L1 entry names a table and is marked copied
 abbrev pub NamesOwn : ℕ → Type 0
@@ -57,6 +59,10 @@ abbrev pub dropped_by : Share → List ClustersToFreeEntry
 dropped_by InPlace = []
 dropped_by Kept = []
 dropped_by (New taken dropped) = dropped
+
+-- nothing stands where its shares are entered, or what stands there is kept
+abbrev pub DropsNothing : Prepared → Type 0
+DropsNothing p = (i : ℕ) (share : Share) → slice_get p.shares.items i ≡ Some share → dropped_by share ≡ []
 
 module _ {S F : Type 0} where
   -- clusters are put on the list of those to be freed, and nothing else changes
@@ -179,6 +185,11 @@ module _ {S F : Type 0} where
       pub held : 0 < p.held cluster
       pub unused : over_all held_by out cluster ≡ 0
       pub inside : (i : ℕ) → i < n → (at + i) / cluster_size image.file.header.fields ≡ cluster
+
+    -- the zero entry of the guest cluster of an offset keeps the host cluster at a place, and no mapping has that guest cluster
+    pub record IsKeptAlone (image : Qcow2 S F) (out : List (Option Prepared)) (offset host : ℕ) : Type 0 where
+      pub kept : cover image.file.header.fields (known_in view image.file) (offset / cluster_size image.file.header.fields) ≡ Zero (Some (host, true))
+      pub alone : (k : ℕ) (q : Prepared) → slice_get out k ≡ Some (Some q) → share_of image.file.header.fields q (offset / cluster_size image.file.header.fields) ≡ None
 
     -- so many bytes are copied from a guest offset to a place of the file
     abbrev pub IsCopied : Qcow2 S F → Qcow2 S F → ℕ → ℕ → ℕ → Type 0

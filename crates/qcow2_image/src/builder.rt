@@ -68,7 +68,7 @@ impl<S: Storage> Qcow2CreateBuilder<S> {
     ghost use Rattle.qcow2_alloc.specs.declared.error.ImageError.TheVariants.{InvalidOption};
     ghost use Rattle.qcow2_image.specs.Created.{StopsCreating, IsCreated, IsAllowed};
     ghost use Rattle.std.specs.Prelude.{true, false};
-    ghost use Rattle.qcow2_laws.specs.AbstractImages.{IsOpened};
+    ghost use Rattle.qcow2_disk.specs.AbstractImages.{IsOpened};
     ghost use Rattle.qcow2_image.specs.Image.{number_of, is_failed, is_writable};
 
     /// A disk of no bytes, clusters of 65,536 bytes and counts of 16 bits.

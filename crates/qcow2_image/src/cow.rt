@@ -1,19 +1,20 @@
 //! Filling a new cluster with the bytes that the guest saw there before.
-ghost use Rattle.std.specs.Prelude.{◌≡◌, ◌/◌, ◌<◌, ℕ, List, Option, replicate, IfOk, IfErr};
+ghost use Rattle.std.specs.Prelude.{◌≡◌, ◌/◌, ◌^◌, ◌<◌, ◌≤◌, ℕ, List, Option, Some, true, false, replicate, IfOk, IfErr, IfSome};
 ghost use Rattle.qcow2_laws.specs.CrashInvariant.{Pending};
 ghost use Rattle.qcow2_alloc.specs.ImageFile.{known_in};
 ghost use Rattle.qcow2_image.specs.CallParts.{WritesBytes};
-ghost use Rattle.qcow2_image.specs.UnseenSteps.{UnseenFillingStep, HoldsAll, IsCopied, IsFilled, IsOwn};
+ghost use Rattle.qcow2_image.specs.UnseenSteps.{UnseenFillingStep, HoldsAll, IsCopied, IsFilled, IsKeptAlone, IsOwn, is_announced};
+ghost use Rattle.qcow2_image.specs.CopyRange.{HasByte};
 ghost use Rattle.qcow2_image.specs.ImageInvariant.{ImageInvariant, held_by, over_all};
 ghost use Rattle.qcow2_image.specs.Found.{IsMappedAs};
 ghost use Rattle.qcow2_image.specs.declared.prepared.Prepared.{Prepared};
 ghost use Rattle.qcow2_image.specs.Image.{Stays};
 ghost use Rattle.qcow2_image.specs.Refusals.{IsMet};
-ghost use Rattle.qcow2_metadata.specs.L2Mapping.{IsHostCluster, IsInReach};
+ghost use Rattle.qcow2_metadata.specs.L2Mapping.{IsHostCluster, IsInReach, greatest_offset};
 ghost use Rattle.qcow2_metadata.specs.Cover.{cover};
 ghost use Rattle.qcow2_metadata.specs.Header.{cluster_size};
 
-use crate::copy_range::{announced_range, copy_range};
+use crate::copy_range::{CopyRange, announced_range, copy_range};
 use crate::{MappingKind, Qcow2};
 use image_access::{Storage, WrappedFormat};
 use qcow2_alloc::{ImageError, WriteKind};
@@ -40,20 +41,53 @@ impl<S: Storage, F: WrappedFormat<S>> Qcow2<S, F> {
         ensures fills { (p : Pending) (out : List (Option Prepared)) → ImageInvariant S.view F.backing p self.old out → HoldsAll S.view F.backing p out → 0 < p.held cluster → over_all held_by out cluster ≡ 0
             → cover self.old.file.header.fields (known_in S.view self.old.file) (offset / cluster_size self.old.file.header.fields) ≡ old.now → IfOk result (λ done. IsFilled S.view F.backing self.old self.new cluster offset length overwrite) }
     {
-        let bits = self.file.header.cluster_bits();
-        let size = self.file.header.cluster_size();
-        let start = GuestOffset::new(offset).in_cluster_offset(bits);
-        let alignment = self.file.storage.req_align() as u64;
-        let announced = announced_range(size, start, length, overwrite);
-        let Some(range) = copy_range(size, alignment, announced) else {
+        let Some(range) = self.part_to_fill(offset, length, overwrite) else {
             return Ok(());
         };
+        let bits = self.file.header.cluster_bits();
+        let start = GuestOffset::new(offset).in_cluster_offset(bits);
         let at = cluster.offset(bits).value() + range.start;
         let Some(guest) = (offset - start).checked_add(range.start) else {
             return Err(ImageError::Overflow);
         };
         let kind = self.kind_of(*old, guest);
         self.copy_old(at, guest, &kind, range.end - range.start)
+    }
+
+    // Fills the host cluster that the zero entry of an offset keeps: with zeros, but where they are announced as overwritten.
+    pub(crate) fn fill_kept(
+        &mut self,
+        host: u64,
+        offset: u64,
+        length: u64,
+        overwrite: bool,
+    ) -> Result<(), ImageError>
+        requires reach { host ≤ greatest_offset }
+        ensures stays { Stays self.old self.new }
+        ensures cause { IfErr result IsMet }
+        ensures rest { self.new ≡ record self.old { file = record self.old.file { storage = self.new.file.storage } } }
+        ensures goes { (p : Pending) (out : List (Option Prepared)) → ImageInvariant S.view F.backing p self.old out → HoldsAll S.view F.backing p out → IsKeptAlone S.view F.backing self.old out offset host → UnseenFillingStep S.view F.backing p p self.old self.new out }
+        ensures fills { (p : Pending) (out : List (Option Prepared)) → ImageInvariant S.view F.backing p self.old out
+            → cover self.old.file.header.fields (known_in S.view self.old.file) (offset / cluster_size self.old.file.header.fields) ≡ L2Mapping.Zero (Some (host, true))
+            → IfOk result (λ done. IsFilled S.view F.backing self.old self.new (host / cluster_size self.old.file.header.fields) offset length overwrite) }
+    {
+        match self.part_to_fill(offset, length, overwrite) {
+            None => Ok(()),
+            Some(range) => self.write_zeros(host + range.start, range.end - range.start),
+        }
+    }
+
+    // The part of the cluster at an offset that is filled: all of it but what is announced as overwritten at its start or its end.
+    fn part_to_fill(&self, offset: u64, length: u64, overwrite: bool) -> Option<CopyRange>
+        ensures within { IfSome result (λ r. (r.start ≤ r.end) × (r.end ≤ cluster_size self.now.file.header.fields)) }
+        ensures few { IfSome result (λ r. r.end ≤ 2 ^ 21) }
+        ensures all { (i : ℕ) → i < cluster_size self.now.file.header.fields → is_announced (cluster_size self.now.file.header.fields) offset length overwrite i ≡ false → HasByte result i }
+    {
+        let size = self.file.header.cluster_size();
+        let start = GuestOffset::new(offset).in_cluster_offset(self.file.header.cluster_bits());
+        let alignment = self.file.storage.req_align() as u64;
+        let announced = announced_range(size, start, length, overwrite);
+        copy_range(size, alignment, announced)
     }
 
     // Writes what a guest sees from an offset on, in clusters that are mapped so. Zeros take no room.

@@ -5,7 +5,7 @@ ghost use Rattle.qcow2_metadata.specs.Cover.{cover};
 ghost use Rattle.qcow2_metadata.specs.L2Mapping.{IsInReach, dropped_run};
 ghost use Rattle.qcow2_metadata.specs.L2Table.{copied_host};
 ghost use Rattle.qcow2_laws.specs.CrashInvariant.{Pending};
-ghost use Rattle.qcow2_laws.specs.Rules.{touched_from, touched_to};
+ghost use Rattle.qcow2_disk.specs.Rules.{touched_from, touched_to};
 ghost use Rattle.qcow2_alloc.specs.CacheMarks.{l2_pins};
 ghost use Rattle.qcow2_alloc.specs.ImageFile.{known_in, FileInvariant};
 ghost use Rattle.qcow2_alloc.specs.MetadataCaches.{IsEntryAt};
@@ -15,7 +15,7 @@ ghost use Rattle.qcow2_image.specs.Image.{HasNothingToFree, IsSameImage, Stays, 
 ghost use Rattle.qcow2_image.specs.ImageInvariant.{ImageInvariant, abstract_of, pending_in, listed_run};
 ghost use Rattle.qcow2_image.specs.UnseenSteps.{FreesLater, HoldsTable};
 ghost use Rattle.qcow2_image.specs.Refusals.{IsMet, IsMetPreparing, Marks, passes as passes_size};
-ghost use Rattle.qcow2_image.specs.Clearing.{Clears, ClearsCovers, ClearsEntry, ClearsOrRefuses, ClearsTable, IsUnderMapping, IsWhole, ReadsAll, ReadsDropped, cleared_cover, from_in, to_in, listed_by, needs_zeros, refuses_to_clear, rounds_past};
+ghost use Rattle.qcow2_image.specs.Clearing.{Clears, ClearsCovers, ClearsEntry, ClearsOrRefuses, ClearsTable, IsUnderMapping, IsWhole, ReadsAll, ReadsDropped, RefusesUngiven, cleared_cover, from_in, to_in, listed_by, needs_zeros, refuses_to_clear, rounds_past};
 
 use crate::Qcow2;
 use crate::mappings::passes;
@@ -66,7 +66,7 @@ impl Clearance {
 }
 
 // An offset rounded up to a cluster, where that doesn't pass 64 bits.
-fn rounded_up(offset: u64, size: u64) -> Option<u64>
+pub(crate) fn rounded_up(offset: u64, size: u64) -> Option<u64>
     requires { 0 < size }
     ensures some { IfSome result (λ n. n ≡ rounded_up_to size offset) }
     ensures none { result ≡ None → 2 ^ 64 ≤ rounded_up_to size offset }
@@ -181,7 +181,7 @@ impl<S: Storage, F: WrappedFormat<S>> Qcow2<S, F> {
     }
 
     // Clears the whole clusters of a range.
-    fn clear_range(
+    pub(crate) fn clear_range(
         &mut self,
         offset: u64,
         length: u64,
@@ -198,6 +198,7 @@ impl<S: Storage, F: WrappedFormat<S>> Qcow2<S, F> {
         ensures covers { (out : List (Option Prepared)) → (abstract_of S.view F.backing self.old out).is_sound
             → OnOk result (ClearsCovers how (from_in self.old offset length) (to_in self.old offset length) self.old.file.header.fields (known_in S.view self.old.file) self.new.file.header.fields (known_in S.view self.new.file)) }
         ensures emptied { from_in self.old offset length < to_in self.old offset length → OnOk result (HasNothingToFree self.new) }
+        ensures ungiven { IfErr result (RefusesUngiven S.view F.backing self.old self.new) }
     {
         let (from, to) = self.check_clear(offset, length, how)?;
         if to <= from {
@@ -255,7 +256,12 @@ impl<S: Storage, F: WrappedFormat<S>> Qcow2<S, F> {
     }
 
     // Clears the clusters between two offsets within one L2 table. All that may be refused comes before the first entry changes.
-    fn clear_between(&mut self, from: u64, to: u64, how: Clearance) -> Result<(), ImageError>
+    pub(crate) fn clear_between(
+        &mut self,
+        from: u64,
+        to: u64,
+        how: Clearance,
+    ) -> Result<(), ImageError>
         requires writable { IsTrue (is_writable self.old) }
         requires some { from < to }
         ensures stays { Stays self.old self.new }

@@ -58,7 +58,7 @@ impl<S: Storage, F: WrappedFormat<S>> Qcow2<S, F> {
     ghost use Rattle.qcow2_alloc.specs.declared.error.ImageError.TheVariants.{Dependency, Failed, Memory};
     ghost use Rattle.qcow2_image.specs.Image.{storage_of_image, HasNothingToFree, Stays, KeepsRest, IsSameImage, is_failed, is_writable, is_external, leaked_in, number_of, size_of};
     ghost use Rattle.std.specs.Prelude.{List, Option};
-    ghost use Rattle.qcow2_laws.specs.AbstractImages.{guest_of};
+    ghost use Rattle.qcow2_disk.specs.AbstractImages.{guest_of};
     ghost use Rattle.qcow2_image.specs.declared.prepared.Prepared.{Prepared};
     ghost use Rattle.qcow2_laws.specs.CrashInvariant.{Pending};
     ghost use Rattle.qcow2_image.specs.ImageInvariant.{abstract_of, pending_in, ImageInvariant};
@@ -68,6 +68,7 @@ impl<S: Storage, F: WrappedFormat<S>> Qcow2<S, F> {
     ghost use Rattle.qcow2_alloc.specs.ImageFile.{contents_in, known_in};
     ghost use Rattle.qcow2_image.specs.UnseenSteps.{UnseenStep, FreesListed};
     ghost use Rattle.qcow2_alloc.specs.FreeList.{with_listed};
+    ghost use Rattle.qcow2_alloc.specs.ImageStorage.{storage_of};
     ghost use Rattle.qcow2_image.specs.Refusals.{unusable, IsMet, Marks, failed_after};
     ghost use Rattle.image_access.specs.Moments.{ContentsStay, Passing};
     ghost use Rattle.qcow2_metadata.specs.Bytes.{byte_at};
@@ -405,7 +406,7 @@ impl<S: Storage, F: WrappedFormat<S>> Qcow2<S, F> {
         allocator.free(&mut self.file)
     }
 
-    // Frees the clusters that are to be freed, at the end of a call that changed an entry.
+    // Frees the clusters that are to be freed, at the end of a call that changed an entry. Where there are none, nothing is done.
     pub(crate) fn end_freeing(&mut self) -> Result<(), ImageError>
         ensures image { IsSameImage self.old self.new }
         ensures cause { IfErr result IsMet }
@@ -413,7 +414,11 @@ impl<S: Storage, F: WrappedFormat<S>> Qcow2<S, F> {
         ensures emptied { IsTrue (is_writable self.old) → OnOk result (HasNothingToFree self.new) }
         ensures frees { (out : List (Option Prepared)) → ImageInvariant S.view F.backing (pending_in S.view F.backing self.old out) self.old out
             → EndsFreeing S.view F.backing self.old self.new out result }
+        ensures idle { self.old.file.free_list ≡ [] → (result ≡ Ok tt) × (self.new ≡ self.old) }
     {
+        if self.file.free_list.is_empty() {
+            return Ok(());
+        }
         let freed = self.free_listed();
         self.mark_failure(freed)
     }
@@ -422,6 +427,7 @@ impl<S: Storage, F: WrappedFormat<S>> Qcow2<S, F> {
     pub(crate) fn begin(&mut self)
         ensures stays { Stays self.old self.new }
         ensures list { self.new.file.free_list ≡ self.old.file.free_list }
+        ensures storage { storage_of self.new.file.storage ≡ storage_of self.old.file.storage }
         ensures keeps { (p : Pending) (out : List (Option Prepared)) → ImageInvariant S.view F.backing p self.old out → UnseenStep S.view F.backing p p self.old self.new out }
         ensures known { (p : Pending) (out : List (Option Prepared)) → ImageInvariant S.view F.backing p self.old out → known_in S.view self.new.file ≡ known_in S.view self.old.file }
     {

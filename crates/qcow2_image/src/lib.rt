@@ -6,15 +6,18 @@ mod builder;
 mod copy_range;
 mod cow;
 mod discarding;
+mod first_cluster;
 mod image;
 mod io_func;
 mod l1_tables;
 mod l2_tables;
 mod mapping;
 mod mappings;
+mod preallocation;
 mod prepared;
 mod ranges;
 mod resize;
+mod resizing;
 
 pub use builder::Qcow2CreateBuilder;
 pub use image::Qcow2;

@@ -1,24 +1,24 @@
 //! What a guest range is mapped to, and making it writable.
-ghost use Rattle.std.specs.Prelude.{◌↔◌, ℕ, List, Option, is_some, ◌≡◌, ◌≢◌, ◌+◌, ◌*◌, ◌-◌, ◌/◌, ◌%◌, true, Some, ◌^◌, ◌<◌, ◌≤◌, [], ◌∷◌, ◌++◌, length, slice_get, vec_capacity, IfOk, IfErr, IfSome, OnOk, IsOk, IsNone, IsSome, IsTrue, IsFalse, MatchOption, Ok, Err, None, false};
-ghost use Rattle.qcow2_metadata.specs.Bytes.{Bytes};
-ghost use Rattle.qcow2_metadata.specs.L2Mapping.{IsHostCluster, IsInReach, named_run};
-ghost use Rattle.qcow2_laws.specs.Mappings.{is_copied_data};
+ghost use Rattle.std.specs.Prelude.{◌↔◌, ℕ, List, Option, is_some, ◌≡◌, ◌≢◌, ◌+◌, ◌*◌, ◌-◌, ◌/◌, ◌%◌, true, Some, ◌^◌, ◌<◌, ◌≤◌, [], ◌∷◌, ◌++◌, length, slice_get, IfOk, IfErr, IfSome, OnOk, IsOk, IsNone, IsSome, IsTrue, IsFalse, MatchOption, Ok, Err, None, false};
+ghost use Rattle.qcow2_metadata.specs.L2Mapping.{IsInReach, greatest_offset, named_run};
+ghost use Rattle.qcow2_disk.specs.Mappings.{is_copied_data};
 ghost use Rattle.qcow2_image.specs.Image.{HasNothingToFree, Stays, IsSameImage, is_failed, is_writable, number_of, size_of};
 ghost use Rattle.qcow2_image.specs.Prepared.{image_of, length_of, offset_of, table_of, IsKept};
 ghost use Rattle.qcow2_image.specs.Preparing.{IsAnswered, IsOfNothing, IsPlaceOf, IsTaken};
-ghost use Rattle.qcow2_image.specs.Ranges.{HasRoom, IsFirst, LetsGo, Reaches};
+ghost use Rattle.qcow2_image.specs.Ranges.{LetsGo, Reaches};
 ghost use Rattle.qcow2_laws.specs.CrashInvariant.{Pending};
-ghost use Rattle.qcow2_alloc.specs.MetadataCaches.{IsEntryAt, l2_at};
-ghost use Rattle.qcow2_alloc.specs.ImageFile.{known_in, FileInvariant, KeepsHeader};
+ghost use Rattle.qcow2_alloc.specs.MetadataCaches.{IsEntryAt};
+ghost use Rattle.qcow2_alloc.specs.ImageFile.{known_in, FileInvariant};
+ghost use Rattle.qcow2_alloc.specs.ImageStorage.{storage_of};
 ghost use Rattle.qcow2_image.specs.declared.prepared.Prepared.{Prepared};
 ghost use Rattle.qcow2_image.specs.Calls.{Answers, Commits, Discards, Prepares, reason_of};
-ghost use Rattle.qcow2_image.specs.CallParts.{EntersAll, IsExisting, Readies, RefusedCall, PreparesRange};
+ghost use Rattle.qcow2_image.specs.CallParts.{EntersAll, IsEntered, IsExisting, RefusedCall, PreparesRange};
 ghost use Rattle.qcow2_alloc.specs.CacheMarks.{l2_pins};
 ghost use Rattle.qcow2_alloc.specs.ImageError.{IsFault, IsOfTables};
-ghost use Rattle.qcow2_laws.specs.Alike.{IsAlike};
-ghost use Rattle.qcow2_laws.specs.Found.{IsFoundIn, kind_at, rest_of_table};
+ghost use Rattle.qcow2_disk.specs.Alike.{IsAlike};
+ghost use Rattle.qcow2_disk.specs.Found.{IsFoundIn, kind_at, rest_of_table};
 ghost use Rattle.qcow2_image.specs.Found.{found_kind, mapping_of, IsRunBehind, NamesTable, IsRunFrom, IsFound, l1_index_of, l2_index_of};
-ghost use Rattle.qcow2_image.specs.UnseenSteps.{Gains, HoldsAll, HoldsTable, Pins, SameHeld, UnseenStep, ListGrows, TakesData, EntersCluster, EntersShare, FreesLater, Unpins, dropped_by, freed_by};
+ghost use Rattle.qcow2_image.specs.UnseenSteps.{DropsNothing, HoldsTable, UnseenStep, EntersCluster, EntersShare, FreesLater, Unpins, dropped_by, freed_by};
 ghost use Rattle.qcow2_image.specs.ImageInvariant.{HasL1Table, ImageInvariant, listed_run, meaning, pending_in, abstract_of};
 ghost use Rattle.qcow2_metadata.specs.Header.{cluster_size, entries_per_cluster};
 ghost use Rattle.qcow2_metadata.specs.Cover.{cover};
@@ -104,17 +104,6 @@ fn is_last(refusal: &ImageError) -> bool
     )
 }
 
-// A list of one share, in the room that was made for it.
-fn of_one(share: Share, mut room: Vec<Share>) -> Vec<Share>
-    requires empty { room.items ≡ [] }
-    requires room { 0 < vec_capacity room }
-    ensures one { result.items ≡ share ∷ [] }
-    ensures room { vec_capacity result ≡ vec_capacity room }
-{
-    room.push_reserved(share);
-    room
-}
-
 // Where copied data stand.
 pub(crate) fn copied_place(mapping: &L2Mapping) -> Option<u64>
     requires { IsInReach mapping.now }
@@ -125,6 +114,32 @@ pub(crate) fn copied_place(mapping: &L2Mapping) -> Option<u64>
         L2Mapping::Data { host, copied } => { if *copied { Some(host.value()) } else { None } }
         L2Mapping::Zero { .. } | L2Mapping::Compressed { .. } | L2Mapping::Uncovered => None,
     }
+}
+
+// Where the host cluster stands that a zero entry keeps, marked copied.
+pub(crate) fn kept_place(mapping: &L2Mapping) -> Option<u64>
+    requires { IsInReach mapping.now }
+    ensures place { IfSome result (λ host. (mapping.now ≡ L2Mapping.Zero (Some (host, true))) × (host ≤ greatest_offset)) }
+    ensures none { IsNone result → (host : ℕ) → mapping.now ≢ L2Mapping.Zero (Some (host, true)) }
+{
+    match mapping {
+        L2Mapping::Zero {
+            kept: Some((host, marked)),
+        } => { if *marked { Some(host.value()) } else { None } }
+        L2Mapping::Zero { kept: None }
+        | L2Mapping::Data { .. }
+        | L2Mapping::Compressed { .. }
+        | L2Mapping::Uncovered => None,
+    }
+}
+
+// Whether a zero entry keeps the host cluster at a place, marked copied.
+pub(crate) fn keeps(mapping: &L2Mapping, place: u64) -> bool
+    requires { IsInReach mapping.now }
+    ensures answer { IsTrue result ↔ (mapping.now ≡ L2Mapping.Zero (Some (place, true))) }
+    ensures reach { IsTrue result → place ≤ greatest_offset }
+{
+    kept_place(mapping) == Some(place)
 }
 
 #[tactic(auto, using(crate::proofs::Call::MetErrors::tables_met, crate::proofs::Call::MetErrors::storage_met, crate::proofs::Call::MetErrors::metadata_met, crate::proofs::Call::MetErrors::metadata_of_tables))]
@@ -371,7 +386,12 @@ impl<S: Storage, F: WrappedFormat<S>> Qcow2<S, F> {
         }
     }
 
-    fn prepare(&mut self, offset: u64, length: u64, overwrite: bool) -> Result<Prepared, ImageError>
+    pub(crate) fn prepare(
+        &mut self,
+        offset: u64,
+        length: u64,
+        overwrite: bool,
+    ) -> Result<Prepared, ImageError>
         requires writable { IsTrue (is_writable self.old) }
         ensures stays { Stays self.old self.new }
         ensures cause { IfErr result IsMetPreparing }
@@ -417,7 +437,7 @@ impl<S: Storage, F: WrappedFormat<S>> Qcow2<S, F> {
     }
 
     // Frees the clusters that are to be freed after a refusal; the refusal that is answered. Nothing is freed after a fault, nor where a table is under another mapping.
-    fn free_after(&mut self, refusal: ImageError) -> ImageError
+    pub(crate) fn free_after(&mut self, refusal: ImageError) -> ImageError
         ensures stays { Stays self.old self.new }
         ensures cause { IsMetPreparing refusal → IsMetPreparing result }
         ensures taken { IsMetPreparing refusal → result ≡ TablePrepared → refusal ≡ TablePrepared }
@@ -482,136 +502,6 @@ impl<S: Storage, F: WrappedFormat<S>> Qcow2<S, F> {
         }
     }
 
-    // Makes the first cluster of a range ready, with room for the shares of those behind it.
-    fn prepare_first(
-        &mut self,
-        table: HostCluster,
-        offset: u64,
-        length: u64,
-        overwrite: bool,
-    ) -> Result<Prepared, ImageError>
-        requires writable { IsTrue (is_writable self.old) }
-        ensures stays { Stays self.old self.new }
-        ensures header { KeepsHeader self.old.file.header self.new.file.header }
-        ensures cause { IfErr result IsMetPreparing }
-        ensures taken { IfErr result (λ e. e ≡ TablePrepared → 0 < l2_pins self.old.file.caches table) }
-        ensures own { IfOk result (λ p. image_of p ≡ number_of self.old) }
-        ensures readies { (out : List (Option Prepared)) → ImageInvariant S.view F.backing (pending_in S.view F.backing self.old out) self.old out
-            → HoldsTable S.view F.backing self.old offset table → Readies S.view F.backing self.old self.new out offset length overwrite result }
-        ensures first { IfOk result (IsFirst self.old.file.header.fields offset table) }
-        ensures room { IfOk result (HasRoom self.old.file.header.fields length) }
-    {
-        if self.file.caches.l2_is_pinned(table) {
-            return Err(ImageError::TablePrepared);
-        }
-        let room = Vec::with_capacity(self.file.alloc, self.clusters_in(offset, length))?;
-        let cluster = GuestOffset::new(offset).cluster(self.file.header.cluster_bits());
-        let old = self.cover_in(table, cluster)?;
-        match copied_place(&old) {
-            Some(host) => Ok(self.prepare_at(table, offset, host, Share::InPlace, room)),
-            None => self.prepare_new(table, offset, length, overwrite, &old, room),
-        }
-    }
-
-    // Makes a range ready in a new cluster.
-    fn prepare_new(
-        &mut self,
-        table: HostCluster,
-        offset: u64,
-        length: u64,
-        overwrite: bool,
-        old: &L2Mapping,
-        room: Vec<Share>,
-    ) -> Result<Prepared, ImageError>
-        requires writable { IsTrue (is_writable self.old) }
-        requires reach { IsInReach old.now }
-        requires other { is_copied_data old.now ≡ false }
-        requires empty { room.items ≡ [] }
-        requires room { 0 < vec_capacity room }
-        ensures stays { Stays self.old self.new }
-        ensures cause { IfErr result IsMet }
-        ensures own { IfOk result (λ p. image_of p ≡ number_of self.old) }
-        ensures first { IfOk result (IsFirst self.old.file.header.fields offset table) }
-        ensures room { IfOk result (λ p. vec_capacity p.shares ≡ vec_capacity room) }
-        ensures readies { (out : List (Option Prepared)) → ImageInvariant S.view F.backing (pending_in S.view F.backing self.old out) self.old out
-            → HoldsTable S.view F.backing self.old offset table → l2_pins self.old.file.caches table ≡ 0 → cover self.old.file.header.fields (known_in S.view self.old.file) (offset / cluster_size self.old.file.header.fields) ≡ old.now
-            → Readies S.view F.backing self.old self.new out offset length overwrite result }
-        ensures header { KeepsHeader self.old.file.header self.new.file.header }
-    {
-        let dropped = self.named_by(old)?;
-        let pending = self.new_cluster(offset, length, overwrite, old)?;
-        match self.load_l2(table) {
-            Ok(()) => {
-                let bits = self.file.header.cluster_bits();
-                let host = pending.cluster().offset(bits).value();
-                let mut taken = ClustersToFreeList::new();
-                pending.hand_back(&mut taken);
-                let share = Share::New { taken, dropped };
-                Ok(self.prepare_at(table, offset, host, share, room))
-            }
-            Err(refusal) => {
-                self.hand_back(pending);
-                Err(refusal)
-            }
-        }
-    }
-
-    // Brings a table into its cache.
-    fn load_l2(&mut self, table: HostCluster) -> Result<(), ImageError>
-        ensures header { self.new.file.header ≡ self.old.file.header }
-        ensures stays { Stays self.old self.new }
-        ensures cause { IfErr result IsMet }
-        ensures list { self.new.file.free_list ≡ self.old.file.free_list }
-        ensures keeps { (p : Pending) (out : List (Option Prepared)) → ImageInvariant S.view F.backing p self.old out → UnseenStep S.view F.backing p p self.old self.new out }
-        ensures contents { (p : Pending) (out : List (Option Prepared)) → ImageInvariant S.view F.backing p self.old out → SameHeld S.view F.backing p self.old self.new }
-        ensures held { OnOk result (IsSome (l2_at self.new.file.caches table)) }
-    {
-        self.file
-            .caches
-            .l2_get_or_insert(&mut self.file.storage, table)
-    }
-
-    // The mapping of the rest of a cluster, which stands at a place. Its table is kept as it is.
-    fn prepare_at(
-        &mut self,
-        table: HostCluster,
-        offset: u64,
-        host: u64,
-        share: Share,
-        room: Vec<Share>,
-    ) -> Prepared
-        requires near { host < 2 ^ 63 }
-        requires empty { room.items ≡ [] }
-        requires room { 0 < vec_capacity room }
-        ensures stays { Stays self.old self.new }
-        ensures pins { Pins table self.old self.new }
-        ensures own { image_of result ≡ number_of self.old }
-        ensures some { 0 < length_of result }
-        ensures share { result.shares.items ≡ share ∷ [] }
-        ensures room { vec_capacity result.shares ≡ vec_capacity room }
-        ensures value { result ≡ record result {
-          image = self.old.number;
-          guest = offset;
-          place = Image;
-          offset = host + offset % cluster_size self.old.file.header.fields;
-          length = cluster_size self.old.file.header.fields - offset % cluster_size self.old.file.header.fields;
-          table = Some table;
-        } }
-    {
-        let bits = self.file.header.cluster_bits();
-        let guest = GuestOffset::new(offset);
-        self.file.caches.l2_pin(table);
-        Prepared {
-            image: self.number,
-            guest: offset,
-            place: Place::Image,
-            offset: host + guest.in_cluster_offset(bits),
-            length: guest.remaining_in_cluster(bits),
-            table: Some(table),
-            shares: of_one(share, room),
-        }
-    }
-
     // What a held table says of a guest cluster.
     pub(crate) fn cover_in(
         &self,
@@ -643,48 +533,6 @@ impl<S: Storage, F: WrappedFormat<S>> Qcow2<S, F> {
         Ok(list)
     }
 
-    // Takes a cluster for the one at an offset, of which the old mapping is known, and fills it with the old bytes where they aren't announced as overwritten.
-    fn new_cluster(
-        &mut self,
-        offset: u64,
-        length: u64,
-        overwrite: bool,
-        old: &L2Mapping,
-    ) -> Result<PendingClusters, ImageError>
-        requires writable { IsTrue (is_writable self.old) }
-        requires reach { IsInReach old.now }
-        ensures nameable { IfOk result (λ p. IsHostCluster self.old.file.header.fields.cluster_bits p.first_cluster) }
-        ensures header { KeepsHeader self.old.file.header self.new.file.header }
-        ensures stays { Stays self.old self.new }
-        ensures cause { IfErr result IsMet }
-        ensures gains { (p : Pending) (out : List (Option Prepared)) → ImageInvariant S.view F.backing p self.old out → HoldsAll S.view F.backing p out → Gains S.view F.backing p self.old self.new out offset length overwrite old.now result }
-    {
-        let pending = self.take_data()?;
-        match self.fill_cluster(pending.cluster(), offset, length, overwrite, old) {
-            Ok(()) => Ok(pending),
-            Err(refusal) => {
-                self.hand_back(pending);
-                Err(refusal)
-            }
-        }
-    }
-
-    // Takes a cluster for data.
-    fn take_data(&mut self) -> Result<PendingClusters, ImageError>
-        requires writable { IsTrue (is_writable self.old) }
-        ensures nameable { IfOk result (λ p. IsHostCluster self.old.file.header.fields.cluster_bits p.first_cluster) }
-        ensures header { KeepsHeader self.old.file.header self.new.file.header }
-        ensures list { ListGrows self.old self.new }
-        ensures stays { Stays self.old self.new }
-        ensures cause { IfErr result IsMet }
-        ensures takes { (p : Pending) (out : List (Option Prepared)) → ImageInvariant S.view F.backing p self.old out → HoldsAll S.view F.backing p out → TakesData S.view F.backing p self.old self.new out result }
-    {
-        let Some(allocator) = &mut self.allocator else {
-            unreachable!();
-        };
-        allocator.allocate_data(&mut self.file, ClusterCount::new(1))
-    }
-
     // Clusters that were taken are to be freed.
     pub(crate) fn hand_back(&mut self, pending: PendingClusters)
         ensures { FreesLater (pending ∷ []) self.old self.new }
@@ -703,6 +551,7 @@ impl<S: Storage, F: WrappedFormat<S>> Qcow2<S, F> {
         ensures image { IsSameImage self.old self.new }
         ensures sees { Commits S.view F.backing self.old self.new prepared result }
         ensures emptied { image_of prepared ≡ number_of self.old → IsSome (table_of prepared) → IsTrue (is_writable self.old) → OnOk result (HasNothingToFree self.new) }
+        ensures quiet { HasNothingToFree self.old → DropsNothing prepared → storage_of self.new.file.storage ≡ storage_of self.old.file.storage }
     {
         if prepared.image != self.number {
             return Err(CommitRefused::Kept(ImageError::ForeignState, prepared));
@@ -726,11 +575,15 @@ impl<S: Storage, F: WrappedFormat<S>> Qcow2<S, F> {
     }
 
     // Enters the shares of a mapping in its table, which is held; whether one wasn't in place.
-    fn enter_shares(&mut self, prepared: &mut Prepared) -> bool
+    pub(crate) fn enter_shares(&mut self, prepared: &mut Prepared) -> bool
         ensures stays { Stays self.old self.new }
         ensures none { IsFalse result → (self.new ≡ self.old) × (prepared.new ≡ prepared.old) }
         ensures enters { EntersAll S.view F.backing self.old self.new prepared.old prepared.new result }
+        ensures header { self.new.file.header ≡ self.old.file.header }
+        ensures in_place { IsEntered prepared.old prepared.new }
         ensures left { freed_by prepared.new.shares.items ≡ [] }
+        ensures storage { self.new.file.storage ≡ self.old.file.storage }
+        ensures quiet { DropsNothing prepared.old → self.new.file.free_list ≡ self.old.file.free_list }
     {
         let mut entered = false;
         for i in 0..prepared.shares.len() {

@@ -2,7 +2,7 @@
 ghost use Rattle.std.specs.Prelude.{ℕ, List, Option, ◌≡◌, ◌≢◌, ◌+◌, ◌*◌, ◌%◌, ◌<◌, min, true, Some, None, Ok, slice_get, vec_len, vec_capacity, IfOk, IfErr, IsTrue, IsSome};
 ghost use Rattle.qcow2_metadata.specs.L2Mapping.{IsHostCluster, IsInReach};
 ghost use Rattle.qcow2_metadata.specs.Header.{cluster_size};
-ghost use Rattle.qcow2_laws.specs.Found.{rest_of_table};
+ghost use Rattle.qcow2_disk.specs.Found.{rest_of_table};
 ghost use Rattle.qcow2_laws.specs.CrashInvariant.{Pending};
 ghost use Rattle.qcow2_alloc.specs.ImageFile.{KeepsHeader};
 ghost use Rattle.qcow2_image.specs.Image.{Stays, is_writable};
@@ -14,7 +14,7 @@ ghost use Rattle.qcow2_image.specs.ImageInvariant.{pending_in, ImageInvariant};
 ghost use Rattle.qcow2_image.specs.UnseenSteps.{HoldsAll, ListGrows};
 ghost use Rattle.qcow2_image.specs.Ranges.{FindsBehind, GainsAt, GoesNext, GoesOn, HasRoom, IsLonger, IsNext, IsWhole, MayGoOn, SharesAt, TakesDataAt};
 
-use crate::mappings::copied_place;
+use crate::mappings::{copied_place, keeps};
 use crate::prepared::Share;
 use crate::{Prepared, Qcow2};
 use image_access::{Storage, WrappedFormat};
@@ -113,13 +113,15 @@ impl<S: Storage, F: WrappedFormat<S>> Qcow2<S, F> {
         };
         let cluster = GuestOffset::new(next).cluster(self.file.header.cluster_bits());
         let old = self.cover_in(table, cluster)?;
+        let left = length.saturating_sub(prepared.length);
         match copied_place(&old) {
             Some(place) if place == host => Ok(Some(Share::InPlace)),
             Some(_) => Ok(None),
-            None => {
-                let left = length.saturating_sub(prepared.length);
-                self.share_at(host, next, left, overwrite, &old)
+            None if keeps(&old, host) => {
+                self.fill_kept(host, next, left, overwrite)?;
+                Ok(Some(Share::Kept))
             }
+            None => self.share_at(host, next, left, overwrite, &old),
         }
     }
 

@@ -7,7 +7,7 @@ ghost use Rattle.qcow2_image.specs.ImageInvariant.{ImageInvariant, abstract_of};
 
 use crate::Qcow2;
 use image_access::{Storage, WrappedFormat};
-use qcow2_alloc::{ImageError, WriteKind};
+use qcow2_alloc::ImageError;
 use qcow2_metadata::GuestOffset;
 
 impl<S: Storage, F: WrappedFormat<S>> Qcow2<S, F> {
@@ -35,16 +35,5 @@ impl<S: Storage, F: WrappedFormat<S>> Qcow2<S, F> {
         let bits = self.file.header.cluster_bits();
         self.grow_l1_table(GuestOffset::new(size - 1).l1_index(bits))?;
         self.write_size(size)
-    }
-
-    fn write_size(&mut self, size: u64) -> Result<(), ImageError>
-        ensures resizes { (p : Pending) → ImageInvariant S.view F.backing p self.old [] → Resizes S.view F.backing p self.old self.new size result }
-        ensures list { self.new.file.free_list ≡ self.old.file.free_list }
-        ensures table { self.new.l1_table ≡ self.old.l1_table }
-    {
-        self.file.header.set_size(size);
-        self.file.storage.will_write(WriteKind::Other);
-        self.file.header.write_size(&mut self.file.storage)?;
-        Ok(())
     }
 }

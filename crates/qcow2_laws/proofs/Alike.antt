@@ -10,10 +10,10 @@ use Rattle.qcow2_metadata.specs.Cover.{cover}
 use Rattle.qcow2_metadata.specs.Guest.{known_byte}
 use Rattle.qcow2_metadata.specs.declared.l2_mapping.L2Mapping.{L2Mapping}
 use Rattle.qcow2_metadata.specs.declared.l2_mapping.L2Mapping.TheVariants.{Data, Zero, Compressed, Uncovered}
-use Rattle.qcow2_laws.specs.Disk.{disk}
+use Rattle.qcow2_disk.specs.Disk.{disk}
 use Rattle.qcow2_laws.specs.Guests.{names}
 use Rattle.qcow2_laws.specs.SafeSteps.{DriverState, StateInvariant}
-use Rattle.qcow2_laws.specs.Alike.{IsDataAt, AreDataAt, IsAlike, IsAlikeAt, IsAlikeRun, IsLongestRun}
+use Rattle.qcow2_disk.specs.Alike.{IsDataAt, AreDataAt, IsAlike, IsAlikeAt, IsAlikeRun, IsLongestRun}
 use Rattle.qcow2_laws.proofs.Places.{in_one, div_mono}
 use Rattle.qcow2_laws.proofs.Shown.{shown_data, shown_zero, shown_uncovered, data_aligned, data_named, data_unlaid}
 

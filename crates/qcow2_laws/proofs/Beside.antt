@@ -11,7 +11,7 @@ use Rattle.qcow2_metadata.specs.Entries.{l1_entry, l2_entry, reftable_entry}
 use Rattle.qcow2_metadata.specs.Cover.{cover, entry_cover}
 use Rattle.qcow2_metadata.specs.Named.{in_cluster}
 use Rattle.qcow2_metadata.specs.Tables.{CachedTable}
-use Rattle.qcow2_laws.specs.Stops.{GivenBytes}
+use Rattle.qcow2_disk.specs.Stops.{GivenBytes}
 use Rattle.qcow2_laws.specs.Clusters.{Direction}
 use Rattle.qcow2_laws.specs.Guests.{marks, table_at}
 use Rattle.qcow2_laws.specs.CrashInvariant.{Pending, SameIn}

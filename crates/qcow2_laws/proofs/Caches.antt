@@ -9,7 +9,7 @@ use Rattle.qcow2_metadata.specs.Entries.{l1_entry, is_copied, reftable_entry, ho
 use Rattle.qcow2_metadata.specs.Cover.{cover}
 use Rattle.qcow2_metadata.specs.Named.{in_cluster, named_for_tables, named_by_reftable, named_by_l1_table}
 use Rattle.qcow2_metadata.specs.Tables.{CachedTable, known}
-use Rattle.qcow2_laws.specs.Stops.{StopOkEverywhere}
+use Rattle.qcow2_disk.specs.Stops.{StopOkEverywhere}
 use Rattle.qcow2_laws.specs.Clusters.{Direction, Neither, L2DependsOnRb, RbDependsOnL2}
 use Rattle.qcow2_laws.specs.Guests.{table_at}
 use Rattle.qcow2_laws.specs.CrashInvariant.{Pending, CrashInvariant, SameTop, SameIn, IsPartly, SameCovers, SameCounts, IsInOrder, IsMixed, MayTurn}

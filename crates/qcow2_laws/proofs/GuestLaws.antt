@@ -7,13 +7,13 @@ use Rattle.image_access.proofs.Passing.{passes_if}
 use Rattle.qcow2_metadata.specs.Bytes.{Bytes, byte_at}
 use Rattle.qcow2_metadata.specs.Header.{header, cluster_size}
 use Rattle.qcow2_metadata.specs.Guest.{known_byte, guest_value, value_under}
-use Rattle.qcow2_laws.specs.Disk.{disk}
-use Rattle.qcow2_laws.specs.Stops.{GivenBytes, Checkpoint, checkpoint_with, StopOkEverywhere}
-use Rattle.qcow2_laws.specs.Mappings.{gift_shown}
+use Rattle.qcow2_disk.specs.Disk.{disk}
+use Rattle.qcow2_disk.specs.Stops.{GivenBytes, Checkpoint, checkpoint_with, StopOkEverywhere, SafeThroughout}
+use Rattle.qcow2_disk.specs.Mappings.{gift_shown}
 use Rattle.qcow2_laws.specs.Guests.{guests}
-use Rattle.qcow2_laws.specs.SafeSteps.{DriverState, StateInvariant, SafeThroughout}
-use Rattle.qcow2_laws.specs.AbstractImages.{AbstractImage, contents_of}
-use Rattle.qcow2_laws.specs.Calls.{Works, StartsAt}
+use Rattle.qcow2_laws.specs.SafeSteps.{DriverState, StateInvariant}
+use Rattle.qcow2_disk.specs.AbstractImages.{AbstractImage, contents_of}
+use Rattle.qcow2_disk.specs.Calls.{Works, StartsAt}
 use Rattle.qcow2_laws.specs.GuestLaws.{LongerL1TableKeepsGuests, SizeStaysUnlessAsked, HasSizeSince}
 use Rattle.qcow2_laws.proofs.Places.{Sizes-from}
 use Rattle.qcow2_laws.proofs.Guests.{past_guests}

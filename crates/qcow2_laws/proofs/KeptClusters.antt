@@ -10,9 +10,9 @@ use Rattle.qcow2_metadata.specs.Guest.{Value, known_byte, value_under}
 use Rattle.qcow2_metadata.specs.Named.{in_cluster, named_by_cover}
 use Rattle.qcow2_metadata.specs.Consistent.{CoverIsAligned}
 use Rattle.qcow2_metadata.specs.declared.l2_mapping.L2Mapping.TheVariants.{Data, Zero}
-use Rattle.qcow2_laws.specs.Disk.{disk}
-use Rattle.qcow2_laws.specs.Stops.{IsGiven}
-use Rattle.qcow2_laws.specs.Mappings.{gift_of}
+use Rattle.qcow2_disk.specs.Disk.{disk}
+use Rattle.qcow2_disk.specs.Stops.{IsGiven}
+use Rattle.qcow2_disk.specs.Mappings.{gift_of}
 use Rattle.qcow2_laws.specs.Guests.{names, marks, marked_by_cover, named_in_either}
 use Rattle.qcow2_laws.specs.CrashInvariant.{Pending}
 use Rattle.qcow2_laws.specs.Tops.{WritesAt}

@@ -1,4 +1,3 @@
-pub mod ForUsers
 pub mod Clusters
 pub mod Sums
 pub mod Places
@@ -8,7 +7,6 @@ pub mod Tops
 pub mod Mixes
 pub mod Consistency
 pub mod Opened
-pub mod Stops
 pub mod Values
 pub mod Changes
 pub mod Shares
@@ -25,9 +23,6 @@ pub mod Caches
 pub mod SafeSteps
 pub mod Steps
 pub mod GuestLaws
-pub mod RunSteps
-pub mod Headline
-pub mod Compose
 pub mod Samples
 pub mod KeptSteps
 pub mod NewImages

@@ -10,21 +10,9 @@ use Rattle.qcow2_laws.specs.CrashInvariant.{IsPartly}
 use Rattle.qcow2_laws.specs.Tops.{IsSameOutside}
 use Rattle.qcow2_laws.specs.Caches.{IsFreeAt, AreApart, AreClean, IsWrittenSo}
 use Rattle.qcow2_laws.proofs.Places.{in_one}
+use Rattle.qcow2_disk.proofs.Within.{within_is}
 
 -- ---- places in a cluster
-
-pub within_is : (place size o : ℕ) → is_within place size o ≡ true → (place ≤ o) × (o < place + size)
-within_is place size o is =
-    elim (cases_lt o place) [
-      | inl below ↦ absurd (let none : leb place o ≡ false = lt-leb place o below in let e = and_left (leb place o) (ltb o (place + size)) none in differ (is_within place size o) is e)
-      | inr above ↦ elim (cases_lt o (place + size)) [
-        | inl lt ↦ (above, lt)
-        | inr past ↦ absurd (let none : ltb o (place + size) ≡ false = le-ltb o (place + size) past in let e = and_right (leb place o) (ltb o (place + size)) none in differ (is_within place size o) is e)
-      ]
-    ]
-  where
-    differ : (b : Bool) → b ≡ true → b ≡ false → ⊥
-    differ b is isnt = cc
 
 pub within_cluster : (place size o : ℕ) → place % size ≡ 0 → is_within place size o ≡ true → o / size ≡ place / size
 within_cluster place size o aligned is =

@@ -10,9 +10,9 @@ use Rattle.qcow2_metadata.specs.Named.{named_by_cover}
 use Rattle.qcow2_metadata.specs.Guest.{Value, known_byte}
 use Rattle.qcow2_metadata.specs.declared.l2_mapping.L2Mapping.{L2Mapping}
 use Rattle.qcow2_metadata.specs.declared.l2_mapping.L2Mapping.TheVariants.{Data, Zero, Compressed, Uncovered}
-use Rattle.qcow2_laws.specs.Disk.{Disk, disk, with_values}
-use Rattle.qcow2_laws.specs.Stops.{IsIn, IsGiven}
-use Rattle.qcow2_laws.specs.Mappings.{gift_shown}
+use Rattle.qcow2_disk.specs.Disk.{Disk, disk, with_values}
+use Rattle.qcow2_disk.specs.Stops.{IsIn, IsGiven}
+use Rattle.qcow2_disk.specs.Mappings.{gift_shown}
 use Rattle.qcow2_laws.specs.Guests.{names}
 use Rattle.qcow2_laws.specs.Steps.{guest_at, EntryChanges}
 use Rattle.qcow2_laws.specs.SafeSteps.{DriverState, StateInvariant, SafeStep}
@@ -21,7 +21,7 @@ use Rattle.qcow2_laws.specs.GuestLaws.{MapsEntry, MapsInTurn, IsZeros, ClustersI
 use Rattle.qcow2_laws.proofs.Guests.{over_guests-change}
 use Rattle.qcow2_laws.proofs.Blocks.{guest_within}
 use Rattle.qcow2_laws.proofs.SafeSteps.{leads_none, leads_then, leads_less}
-use Rattle.qcow2_laws.proofs.ForUsers.{laid_inside, laid_outside}
+use Rattle.qcow2_disk.proofs.ForUsers.{laid_inside, laid_outside}
 use Rattle.qcow2_laws.proofs.MappedAnew.{Maps, pending_after, entry_unseen, entry_zeroed, entry_uncovered}
 
 -- what they do together: the range shows these values over each backing disk

@@ -9,7 +9,7 @@ use Rattle.qcow2_metadata.specs.Entries.{l1_entry, reftable_entry, count, block_
 use Rattle.qcow2_metadata.specs.Named.{table_in, named_for_tables, named_by_reftable}
 use Rattle.qcow2_metadata.specs.Consistent.{IsAligned}
 use Rattle.qcow2_metadata.proofs.BigEndian.{number_at-same}
-use Rattle.qcow2_laws.specs.Stops.{Checkpoint, StopOkEverywhere}
+use Rattle.qcow2_disk.specs.Stops.{Checkpoint, StopOkEverywhere}
 use Rattle.qcow2_laws.specs.Clusters.{Direction, RbDependsOnL2}
 use Rattle.qcow2_laws.specs.Guests.{named_in_either}
 use Rattle.qcow2_laws.specs.CrashInvariant.{Pending, CrashInvariant, IsTop, SameTop, SameCovers, SameIn}

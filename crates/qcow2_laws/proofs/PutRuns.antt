@@ -11,16 +11,16 @@ use Rattle.qcow2_metadata.specs.Guest.{known_byte}
 use Rattle.qcow2_metadata.specs.Named.{in_cluster, named_by_cover, named_for_tables}
 use Rattle.qcow2_metadata.specs.Consistent.{CoverIsAligned}
 use Rattle.qcow2_metadata.specs.declared.l2_mapping.L2Mapping.TheVariants.{Zero}
-use Rattle.qcow2_laws.specs.Disk.{disk, with_values}
-use Rattle.qcow2_laws.specs.Stops.{GivenBytes, IsGiven}
-use Rattle.qcow2_laws.specs.Mappings.{gift_of}
+use Rattle.qcow2_disk.specs.Disk.{disk, with_values}
+use Rattle.qcow2_disk.specs.Stops.{GivenBytes, IsGiven}
+use Rattle.qcow2_disk.specs.Mappings.{gift_of}
 use Rattle.qcow2_laws.specs.Guests.{names, marks, marked_by_cover, named_in_either}
 use Rattle.qcow2_laws.specs.CrashInvariant.{SameCovers, SameIn}
 use Rattle.qcow2_laws.specs.Tops.{IsSameOutside, WritesAt}
 use Rattle.qcow2_laws.specs.Writes.{IsWritten}
 use Rattle.qcow2_laws.specs.SafeSteps.{DriverState, StateInvariant, SafeStep}
 use Rattle.qcow2_laws.specs.Unseen.{SameL1Table}
-use Rattle.qcow2_laws.specs.Alike.{IsDataAt, AreDataAt}
+use Rattle.qcow2_disk.specs.Alike.{IsDataAt, AreDataAt}
 use Rattle.qcow2_laws.specs.GuestLaws.{Hosting, InPlace, Kept, Held, IsHostedAt, IsHeld, is_private, IsGivenAt, WritesRun, RunIsWritten}
 use Rattle.qcow2_laws.proofs.Places.{in_one}
 use Rattle.qcow2_laws.proofs.Mixes.{tied}
@@ -29,7 +29,7 @@ use Rattle.qcow2_laws.proofs.Writes.{held_is_unnamed, marked_alone, storage_stay
 use Rattle.qcow2_laws.proofs.Shares.{top_stays}
 use Rattle.qcow2_laws.proofs.Steps.{data_is_written}
 use Rattle.qcow2_laws.proofs.Shown.{Writes, shown_zero}
-use Rattle.qcow2_laws.proofs.ForUsers.{laid_inside, laid_outside}
+use Rattle.qcow2_disk.proofs.ForUsers.{laid_inside, laid_outside}
 use Rattle.qcow2_laws.proofs.Unseen.{named_some, size_stays, value_stays}
 use Rattle.qcow2_laws.proofs.Alike.{at_shown}
 

@@ -11,8 +11,8 @@ use Rattle.qcow2_metadata.specs.Named.{named_by_cover, named_for_tables}
 use Rattle.qcow2_metadata.specs.Consistent.{CoverIsAligned}
 use Rattle.qcow2_metadata.specs.declared.l2_mapping.L2Mapping.{L2Mapping}
 use Rattle.qcow2_metadata.specs.declared.l2_mapping.L2Mapping.TheVariants.{Uncovered}
-use Rattle.qcow2_laws.specs.Disk.{disk}
-use Rattle.qcow2_laws.specs.Stops.{IsAsked, Checkpoint, checkpoint_with, StopOkEverywhere}
+use Rattle.qcow2_disk.specs.Disk.{disk}
+use Rattle.qcow2_disk.specs.Stops.{IsAsked, Checkpoint, checkpoint_with, StopOkEverywhere}
 use Rattle.qcow2_laws.specs.Clusters.{Direction, RbDependsOnL2}
 use Rattle.qcow2_laws.specs.Guests.{guests, over_guests, names, named_in_either, marked_by_cover, marked_by_l1_table}
 use Rattle.qcow2_laws.specs.CrashInvariant.{IsTop, SameTop, Pending, cluster, CrashInvariant, SameCovers}
@@ -27,7 +27,7 @@ use Rattle.qcow2_laws.proofs.Writes.{written_covers}
 use Rattle.qcow2_laws.proofs.Tops.{IsTop-top}
 use Rattle.qcow2_laws.proofs.Consistency.{guarded_consistent, known_consistent}
 use Rattle.qcow2_laws.proofs.Values.{shown, value_is, size_is}
-use Rattle.qcow2_laws.proofs.Stops.{kept_on}
+use Rattle.qcow2_disk.proofs.Stops.{kept_on}
 
 -- a sum over the guest clusters of a longer L1 table
 over_guests-longer : (h : HeaderFields) (a : Places) (f g : ℕ → ℕ) → h.l1_entries ≤ a.l1_entries → ((k : ℕ) → f k ≡ g k) → ((k : ℕ) → guests h ≤ k → f k ≡ 0)

@@ -5,10 +5,10 @@ use Rattle.image_access.specs.Moments.{StorageView, Calls, Changes}
 use Rattle.image_access.proofs.Passing.{whole_or_nothing, passes_none, passes_on, passes_if, passes_change}
 use Rattle.qcow2_metadata.specs.Bytes.{Bytes, byte_at}
 use Rattle.qcow2_metadata.specs.Guest.{Value}
-use Rattle.qcow2_laws.specs.Disk.{disk}
-use Rattle.qcow2_laws.specs.Stops.{GivenBytes, IsGiven, Checkpoint, checkpoint_with, StopOkEverywhere}
-use Rattle.qcow2_laws.specs.SafeSteps.{DriverState, StateInvariant, SafeStep, SafeThroughout}
-use Rattle.qcow2_laws.proofs.Stops.{given_more, given_front, given_split, kept_more}
+use Rattle.qcow2_disk.specs.Disk.{disk}
+use Rattle.qcow2_disk.specs.Stops.{GivenBytes, IsGiven, Checkpoint, checkpoint_with, StopOkEverywhere, SafeThroughout}
+use Rattle.qcow2_laws.specs.SafeSteps.{DriverState, StateInvariant, SafeStep}
+use Rattle.qcow2_disk.proofs.Stops.{given_more, given_front, given_split, kept_more}
 
 -- what two steps give and ask
 abbrev pub both_given : (Bytes → List GivenBytes) → (Bytes → List GivenBytes) → Bytes → List GivenBytes

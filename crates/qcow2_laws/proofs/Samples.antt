@@ -10,7 +10,7 @@ use Rattle.qcow2_metadata.specs.Header.{header, HeaderReads}
 use Rattle.qcow2_metadata.specs.Entries.{l1_entry, l2_entry, reftable_entry, block_count, count_under, count, block_offset, ReftableEntryReads}
 use Rattle.qcow2_metadata.specs.Named.{named_by_cover, table_in, named, named_for_tables, named_by_header, named_by_reftable, named_by_l1_table, named_by_l2_table, named_by_l2_tables}
 use Rattle.qcow2_metadata.specs.Consistent.{Consistent, IsConsistent}
-use Rattle.qcow2_laws.specs.Rules.{answered, copy_range}
+use Rattle.qcow2_disk.specs.Rules.{answered, copy_range}
 use Rattle.qcow2_laws.specs.Samples.{empty_image, written_image}
 use Rattle.qcow2_metadata.specs.Cover.{cover, cover_under, cover_of}
 use Rattle.qcow2_metadata.specs.Guest.{guest_value, known_byte}

@@ -10,8 +10,8 @@ use Rattle.qcow2_metadata.specs.Named.{named_by_cover}
 use Rattle.qcow2_metadata.specs.Consistent.{CoverIsAligned}
 use Rattle.qcow2_metadata.specs.declared.l2_mapping.L2Mapping.{L2Mapping}
 use Rattle.qcow2_metadata.specs.declared.l2_mapping.L2Mapping.TheVariants.{Data, Zero, Uncovered}
-use Rattle.qcow2_laws.specs.Disk.{Disk, disk}
-use Rattle.qcow2_laws.specs.Stops.{GivenBytes}
+use Rattle.qcow2_disk.specs.Disk.{Disk, disk}
+use Rattle.qcow2_disk.specs.Stops.{GivenBytes}
 use Rattle.qcow2_laws.specs.Guests.{names, named_in_either}
 use Rattle.qcow2_laws.specs.SafeSteps.{DriverState, StateInvariant, SafeStep}
 use Rattle.qcow2_laws.specs.Unseen.{IsUnseenBut, SameL1Table}

@@ -5,7 +5,7 @@ use Rattle.qcow2_laws.specs.Clusters.{L2DependsOnRb, RbDependsOnL2}
 use Rattle.qcow2_laws.specs.CrashInvariant.{CrashInvariant}
 use Rattle.qcow2_laws.specs.Changes.{one_at, with_held, with_fresh, without_spent, without_dropped}
 use Rattle.qcow2_laws.specs.Laws.{SoundIsConsistent, MixIsSafe, TableIsWritten, CountIsChanged, PendingIsChanged, EntryIsChanged, DataIsWritten, TableIsNamed, HeaderIsWritten, StepsCompose}
-use Rattle.qcow2_laws.proofs.Stops.{stop_of_kept, kept_more}
+use Rattle.qcow2_disk.proofs.Stops.{stop_of_kept, kept_more}
 use Rattle.qcow2_laws.proofs.Mixes.{mixed_guarded, turned_guarded}
 use Rattle.qcow2_laws.proofs.Consistency.{guarded_consistent, known_consistent}
 use Rattle.qcow2_laws.proofs.Opened.{opened_guarded}

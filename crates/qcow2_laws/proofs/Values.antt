@@ -11,8 +11,8 @@ use Rattle.qcow2_metadata.specs.Named.{named_by_cover, in_cluster}
 use Rattle.qcow2_metadata.specs.Consistent.{CoverIsAligned, IsConsistent}
 use Rattle.qcow2_metadata.specs.declared.l2_mapping.L2Mapping.{L2Mapping}
 use Rattle.qcow2_metadata.specs.declared.l2_mapping.L2Mapping.TheVariants.{Data, Zero, Compressed, Uncovered}
-use Rattle.qcow2_laws.specs.Disk.{disk}
-use Rattle.qcow2_laws.specs.Stops.{GivenBytes, IsGiven, Checkpoint, checkpoint_with, StopOkEverywhere}
+use Rattle.qcow2_disk.specs.Disk.{disk}
+use Rattle.qcow2_disk.specs.Stops.{GivenBytes, IsGiven, Checkpoint, checkpoint_with, StopOkEverywhere}
 use Rattle.qcow2_laws.specs.Clusters.{Direction}
 use Rattle.qcow2_laws.specs.Guests.{names}
 use Rattle.qcow2_laws.specs.CrashInvariant.{Pending, CrashInvariant, IsMixed}
@@ -21,7 +21,7 @@ use Rattle.qcow2_laws.proofs.Tops.{bytes_from-same, IsTop-top}
 use Rattle.qcow2_laws.proofs.Guests.{guest_le, names_within}
 use Rattle.qcow2_laws.proofs.Consistency.{in_own, guarded_consistent}
 use Rattle.qcow2_laws.proofs.Mixes.{mixed_guarded, either_cover}
-use Rattle.qcow2_laws.proofs.Stops.{kept_on, kept_either}
+use Rattle.qcow2_disk.proofs.Stops.{kept_on, kept_either}
 
 -- the value that a cover shows is as in another image where the bytes are so in each cluster that the cover names
 pub shown : (h : HeaderFields) (b c backing : Bytes) (o : ℕ) (v : L2Mapping) → CoverIsAligned h v → ((place : ℕ) → 0 < named_by_cover h (place / cluster_size h) v → b place ≡ c place)

@@ -8,9 +8,9 @@ use Rattle.qcow2_metadata.specs.Guest.{known_byte}
 use Rattle.qcow2_metadata.specs.Named.{in_run, named_for_tables}
 use Rattle.qcow2_metadata.specs.declared.l2_mapping.L2Mapping.{L2Mapping}
 use Rattle.qcow2_metadata.specs.declared.l2_mapping.L2Mapping.TheVariants.{Data, Zero, Compressed, Uncovered}
-use Rattle.qcow2_laws.specs.Disk.{Disk, disk, with_bytes, zeroed, uncovered}
-use Rattle.qcow2_laws.specs.Stops.{GivenBytes, IsGiven, Checkpoint, checkpoint_with, StopOkEverywhere}
-use Rattle.qcow2_laws.specs.Mappings.{gift_of, gift_shown}
+use Rattle.qcow2_disk.specs.Disk.{Disk, disk, with_bytes, zeroed, uncovered}
+use Rattle.qcow2_disk.specs.Stops.{GivenBytes, IsGiven, Checkpoint, checkpoint_with, StopOkEverywhere}
+use Rattle.qcow2_disk.specs.Mappings.{gift_of, gift_shown}
 use Rattle.qcow2_laws.specs.Guests.{names}
 use Rattle.qcow2_laws.specs.CrashInvariant.{SameCovers, SameIn}
 use Rattle.qcow2_laws.specs.Steps.{guest_at, EntryChanges}
@@ -18,7 +18,7 @@ use Rattle.qcow2_laws.specs.Changes.{renamed, remapped}
 use Rattle.qcow2_laws.specs.Tops.{with_places, with_l1_at, WritesHeader, IsNewL1, WritesAt}
 use Rattle.qcow2_laws.specs.SafeSteps.{DriverState, StateInvariant, SafeStep}
 use Rattle.qcow2_laws.specs.Unseen.{used_by_guests, SameUsedBytes, SameL1Table, with_cluster}
-use Rattle.qcow2_laws.specs.Alike.{IsDataAt}
+use Rattle.qcow2_disk.specs.Alike.{IsDataAt}
 
 -- where the image stands once its header names an L1 table at another place, of so many entries
 abbrev pub with_l1_table : DriverState → (offset entries : ℕ) → (on_storage' known' : Bytes) → DriverState

@@ -8,8 +8,8 @@ use Rattle.qcow2_metadata.specs.Named.{in_run, table_in}
 use Rattle.qcow2_metadata.specs.Consistent.{IsConsistent}
 use Rattle.qcow2_metadata.specs.Tables.{CachedTable}
 use Rattle.qcow2_metadata.specs.Guest.{Value}
-use Rattle.qcow2_laws.specs.Disk.{disk}
-use Rattle.qcow2_laws.specs.Stops.{GivenBytes, IsGiven, Checkpoint, StopOk, StopOkEverywhere}
+use Rattle.qcow2_disk.specs.Disk.{disk}
+use Rattle.qcow2_disk.specs.Stops.{GivenBytes, IsGiven, Checkpoint, StopOk, StopOkEverywhere}
 use Rattle.qcow2_laws.specs.Clusters.{Direction, Neither, L2DependsOnRb, RbDependsOnL2}
 use Rattle.qcow2_laws.specs.Guests.{names, table_at}
 use Rattle.qcow2_laws.specs.CrashInvariant.{Pending, IsMixed, MayTurn, SameCovers}

@@ -1,13 +1,3 @@
-pub mod Disk
-pub mod Stops
-pub mod Rules
-pub mod Mappings
-pub mod AbstractImages
-pub mod Calls
-pub mod Found
-pub mod Runs
-pub mod Headline
-pub mod ForUsers
 pub mod Clusters
 pub mod Guests
 pub mod CrashInvariant
@@ -16,7 +6,6 @@ pub mod Changes
 pub mod Writes
 pub mod Tops
 pub mod Unseen
-pub mod Alike
 pub mod Caches
 pub mod SafeSteps
 pub mod Steps

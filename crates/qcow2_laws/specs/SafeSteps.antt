@@ -1,9 +1,8 @@
 -- Steps of the driver: what is guarded is guarded again, and what was kept is kept, with what a step gives and asks.
 use Rattle.std.specs.Prelude.{ℕ, List}
-use Rattle.image_access.specs.Moments.{StorageView, Passing}
-use Rattle.qcow2_metadata.specs.Bytes.{Bytes, byte_at}
+use Rattle.qcow2_metadata.specs.Bytes.{Bytes}
 use Rattle.qcow2_metadata.specs.declared.header.HeaderFields.{HeaderFields}
-use Rattle.qcow2_laws.specs.Stops.{GivenBytes, Checkpoint, checkpoint_with, StopOkEverywhere}
+use Rattle.qcow2_disk.specs.Stops.{GivenBytes, Checkpoint, checkpoint_with, StopOkEverywhere}
 use Rattle.qcow2_laws.specs.Clusters.{Direction}
 use Rattle.qcow2_laws.specs.CrashInvariant.{Pending, CrashInvariant}
 
@@ -23,8 +22,3 @@ pub record SafeStep (old new : DriverState) (given : Bytes → List GivenBytes) 
   pub sound : StateInvariant new
   pub on_storage : (backing : Bytes) (m : Checkpoint) → StopOkEverywhere backing m old.on_storage → StopOkEverywhere backing m old.known → StopOkEverywhere backing (checkpoint_with (given backing) asked m) new.on_storage
   pub known : (backing : Bytes) (m : Checkpoint) → StopOkEverywhere backing m old.on_storage → StopOkEverywhere backing m old.known → StopOkEverywhere backing (checkpoint_with (given backing) asked m) new.known
-
--- At each moment of a storage since, what was kept of it and of what was known is kept.
-pub record SafeThroughout (old new : StorageView) (known : Bytes) (given : Bytes → List GivenBytes) (asked : List ℕ) : Type 0 where
-  pub moments : Passing old new (λ c. (backing : Bytes) (m : Checkpoint) → StopOkEverywhere backing m (byte_at old.contents) → StopOkEverywhere backing m known → StopOkEverywhere backing (checkpoint_with (given backing) asked m) (byte_at c))
-  pub contents : (backing : Bytes) (m : Checkpoint) → StopOkEverywhere backing m (byte_at old.contents) → StopOkEverywhere backing m known → StopOkEverywhere backing (checkpoint_with (given backing) asked m) (byte_at new.contents)

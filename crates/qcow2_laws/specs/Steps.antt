@@ -7,7 +7,7 @@ use Rattle.qcow2_metadata.specs.Entries.{l2_entry, reftable_entry, block_count, 
 use Rattle.qcow2_metadata.specs.Cover.{cover}
 use Rattle.qcow2_metadata.specs.Guest.{guest_value}
 use Rattle.qcow2_metadata.specs.Consistent.{CoverIsAligned}
-use Rattle.qcow2_laws.specs.Stops.{GivenBytes, IsGiven}
+use Rattle.qcow2_disk.specs.Stops.{GivenBytes, IsGiven}
 use Rattle.qcow2_laws.specs.Guests.{names, marks, table_at}
 use Rattle.qcow2_laws.specs.Changes.{one_at}
 use Rattle.qcow2_laws.specs.Tops.{IsSameOutside}

@@ -5,7 +5,7 @@ use Rattle.qcow2_metadata.specs.Header.{cluster_size, with_reftable}
 use Rattle.qcow2_metadata.specs.Entries.{l1_entry}
 use Rattle.qcow2_metadata.specs.Cover.{cover}
 use Rattle.qcow2_metadata.specs.Guest.{Value}
-use Rattle.qcow2_laws.specs.Disk.{Disk}
+use Rattle.qcow2_disk.specs.Disk.{Disk}
 use Rattle.qcow2_laws.specs.Guests.{over_guests, names}
 use Rattle.qcow2_laws.specs.CrashInvariant.{SameCovers}
 use Rattle.qcow2_laws.specs.SafeSteps.{DriverState}

@@ -5,7 +5,7 @@ use Rattle.qcow2_metadata.specs.declared.header.HeaderFields.{HeaderFields}
 use Rattle.qcow2_metadata.specs.Header.{cluster_size}
 use Rattle.qcow2_metadata.specs.Guest.{known_byte}
 use Rattle.qcow2_metadata.specs.Named.{named_for_tables}
-use Rattle.qcow2_laws.specs.Stops.{GivenBytes, IsGiven}
+use Rattle.qcow2_disk.specs.Stops.{GivenBytes, IsGiven}
 use Rattle.qcow2_laws.specs.Guests.{marks, named_in_either}
 use Rattle.qcow2_laws.specs.CrashInvariant.{SameIn}
 

@@ -1,6 +1,5 @@
 //! Laws: no function here does anything, its contract is the law.
 
-ghost use Rattle.qcow2_laws.specs.ForUsers.{PrivateBytesAreUnseen, CommittedIsReadBack, PutIsReadInPlace, HiddenBytesAreNotGiven, FlushedIsExact};
 ghost use Rattle.qcow2_metadata.specs.Bytes.{Bytes, byte_at};
 ghost use Rattle.qcow2_metadata.specs.Consistent.{IsConsistent};
 ghost use Rattle.qcow2_metadata.specs.declared.header.HeaderFields.{HeaderFields};
@@ -8,31 +7,6 @@ ghost use Rattle.qcow2_laws.specs.Samples.{empty_image};
 ghost use Rattle.qcow2_laws.specs.NewImages.{IsNewImage};
 ghost use Rattle.qcow2_laws.specs.GuestLaws.{ClustersInTurnAreARange, KeptClusterIsCommitted, KeptClusterIsWritten, LongerL1TableKeepsGuests, RunIsWritten, SizeStaysUnlessAsked};
 ghost use Rattle.qcow2_laws.specs.Laws.{SoundIsConsistent, MixIsSafe, TableIsWritten, CountIsChanged, PendingIsChanged, EntryIsChanged, DataIsWritten, TableIsNamed, HeaderIsWritten, StepsCompose};
-
-/// Preparing, writing to private clusters and discarding leaves every guest byte.
-pub fn private_bytes_are_unseen()
-    ensures { PrivateBytesAreUnseen }
-{}
-
-/// What was put into a mapping and committed is read back.
-pub fn committed_is_read_back()
-    ensures { CommittedIsReadBack }
-{}
-
-/// Before the commit the old bytes are read wherever the mapping is private, and the new ones at once wherever it is in place.
-pub fn put_is_read_in_place()
-    ensures { PutIsReadInPlace }
-{}
-
-/// What is put where a mapping is hidden is left by no stop before the commit.
-pub fn hidden_bytes_are_not_given()
-    ensures { HiddenBytesAreNotGiven }
-{}
-
-/// A stop right after a flush gives exactly the disk.
-pub fn flushed_is_exact()
-    ensures { FlushedIsExact }
-{}
 
 /// Where the order of writes is kept, the storage and what is known are consistent images; a consistent image begins so.
 pub fn sound_is_consistent()

@@ -8,10 +8,10 @@ use Rattle.image_access.specs.Backing.{BackingView}
 use Rattle.image_access.specs.Moments.{StorageView}
 use Rattle.qcow2_alloc.specs.declared.error.ImageError.{ImageError}
 use Rattle.qcow2_alloc.specs.declared.error.ImageError.TheVariants as I
-use Rattle.qcow2_laws.specs.AbstractImages.{guest_of}
-use Rattle.qcow2_laws.specs.Calls.{Refusal, another}
-use Rattle.qcow2_laws.specs.Runs.{Command, Reply, IsAnswerOfFailed, read, write, get_mapping, prepare, done, bytes_are, prepared_is, refused, write_refused}
-use Rattle.qcow2_laws.proofs.RunSteps.{IsAnswer}
+use Rattle.qcow2_disk.specs.AbstractImages.{guest_of}
+use Rattle.qcow2_disk.specs.Calls.{Refusal, another}
+use Rattle.qcow2_disk.specs.Runs.{Command, Reply, IsAnswerOfFailed, read, write, get_mapping, prepare, done, bytes_are, prepared_is, refused, write_refused}
+use Rattle.qcow2_disk.proofs.RunSteps.{IsAnswer}
 use Rattle.qcow2_image.specs.declared.image.Qcow2.{Qcow2}
 use Rattle.qcow2_image.specs.declared.prepared.Prepared.{Prepared}
 use Rattle.qcow2_image.specs.declared.prepared.CommitRefused.{CommitRefused}

@@ -7,11 +7,11 @@ use Rattle.std.proofs.lemmas.Grind.{common_steps}
 use mathlib.Core.Path.{fun_ext}
 use Rattle.qcow2_metadata.specs.Bytes.{byte_at, laid_over, is_within}
 use Rattle.qcow2_metadata.specs.Guest.{Value, known_byte}
-use Rattle.qcow2_laws.specs.Disk.{Disk, with_bytes}
-use Rattle.qcow2_laws.specs.Stops.{IsGiven}
-use Rattle.qcow2_laws.specs.Mappings.{gift_of}
-use Rattle.qcow2_laws.specs.Calls.{Shows}
-use Rattle.qcow2_laws.proofs.ForUsers.{laid_inside, laid_outside}
+use Rattle.qcow2_disk.specs.Disk.{Disk, with_bytes}
+use Rattle.qcow2_disk.specs.Stops.{IsGiven}
+use Rattle.qcow2_disk.specs.Mappings.{gift_of}
+use Rattle.qcow2_disk.specs.Calls.{Shows}
+use Rattle.qcow2_disk.proofs.ForUsers.{laid_inside, laid_outside}
 
 -- where an offset lies
 pub cases_place : (place n o : ℕ) → (place ≤ o) × (o < place + n) ⊎ ((o < place) ⊎ (place + n ≤ o))

@@ -6,13 +6,13 @@ use mathlib.Core.Path.{fun_ext}
 use Rattle.qcow2_metadata.specs.Bytes.{byte_at, laid_over, is_within}
 use Rattle.qcow2_metadata.specs.Header.{rounded_down}
 use Rattle.qcow2_metadata.specs.Guest.{Value, known_byte}
-use Rattle.qcow2_laws.specs.Disk.{Disk, with_bytes}
-use Rattle.qcow2_laws.specs.Stops.{GivenBytes, IsGiven}
-use Rattle.qcow2_laws.specs.Mappings.{PreparedMapping, IsPrepared, put_disk, put_mapping, committed, gift_of, gift_of_put, gift_of_commit}
-use Rattle.qcow2_laws.specs.AbstractImages.{Abstraction, HasFreePlaces, Guest, abstract_image, guest_of}
-use Rattle.qcow2_laws.specs.Calls.{Refusal, memory, storage, another, IsFault, Does, Refuses, IsSame, MayWrite, WritesSome, with_disk, with_slot}
-use Rattle.qcow2_laws.proofs.ForUsers.{put_given}
-use Rattle.qcow2_laws.proofs.Lists.{within_is}
+use Rattle.qcow2_disk.specs.Disk.{Disk, with_bytes}
+use Rattle.qcow2_disk.specs.Stops.{GivenBytes, IsGiven}
+use Rattle.qcow2_disk.specs.Mappings.{PreparedMapping, IsPrepared, put_disk, put_mapping, committed, gift_of, gift_of_put, gift_of_commit}
+use Rattle.qcow2_disk.specs.AbstractImages.{Abstraction, HasFreePlaces, Guest, abstract_image, guest_of}
+use Rattle.qcow2_disk.specs.Calls.{Refusal, memory, storage, not_compressed, another, IsFault, Does, Refuses, IsSame, MayWrite, WritesSome, with_disk, with_slot}
+use Rattle.qcow2_disk.proofs.ForUsers.{put_given}
+use Rattle.qcow2_disk.proofs.Within.{within_is}
 use Rattle.qcow2_session.proofs.Bytes.{cut_long, cut_short, cut_part, byte_in, laid_in, laid_out, no_bytes, same_values, part_within}
 use Rattle.qcow2_session.proofs.Places.{enters, leaves}
 use Rattle.qcow2_session.proofs.Turns.{none_within, does_if, refuses_if, refuses_fault, refuses_why, does_less, does_then, refuses_then, refused_then, IsWithin}
@@ -114,6 +114,7 @@ may_write_none e g g' offset bytes same =
     elim e as (λ k. MayWrite k g offset bytes 0 g') [
       | memory ↦ (omega arith, (g.disk, record { size = refl; values = λ o. inl (sym (ap (λ (d : Disk). d.value o) none)) }, same))
       | storage ↦ (omega arith, plain)
+      | not_compressed n ↦ (omega arith, plain)
       | another n ↦ (omega arith, plain)
     ]
 

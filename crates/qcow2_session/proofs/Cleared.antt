@@ -1,25 +1,60 @@
 -- Clearing a range is one step of a run.
-use Rattle.std.proofs.Common.{◌≡◌, ◌∷◌, [], refl, sym, ap, subst, ℕ, IsTrue, List, Option}
-use Rattle.std.specs.Prelude.{Result, Ok, Err}
+use Rattle.std.proofs.Common.{◌≡◌, ◌∷◌, [], inl, inr, refl, sym, ap, ◌∙◌, subst, ℕ, ◌+◌, ◌<◌, ◌≤◌, Bool, true, false, IsTrue, List, Option, Some, None, arith}
+use Rattle.std.specs.Prelude.{Result, Ok, Err, IfSome, OnOk, ◌&&◌, nat_lt, not}
+use Rattle.std.specs.Option.{option_or}
+use Rattle.std.proofs.lemmas.Bool.{cases_lt, cases_Bool, lt-ltb}
+use Rattle.std.proofs.lemmas.Grind.{common_steps}
 use Rattle.image_access.specs.Backing.{BackingView}
 use Rattle.image_access.specs.Moments.{StorageView}
-use Rattle.qcow2_laws.specs.AbstractImages.{Setting}
-use Rattle.qcow2_laws.specs.Calls.{Clearing, cleared_at, gift_of_clear, with_disk}
-use Rattle.qcow2_laws.specs.Rules.{answered}
-use Rattle.qcow2_laws.specs.Runs.{State, RefinesState, RefinesCommand, clear}
-use Rattle.qcow2_laws.proofs.RunSteps.{done_as, refused_as}
+use Rattle.qcow2_metadata.specs.declared.header.HeaderFields.{HeaderFields}
+use Rattle.qcow2_metadata.specs.Header.{header, cluster_size}
+use Rattle.qcow2_disk.specs.AbstractImages.{Setting}
+use Rattle.qcow2_disk.specs.Calls.{Clearing, cleared_at, gift_of_clear, with_disk}
+use Rattle.qcow2_disk.specs.ClearedCovers.{ClearsCovers, IsRightlyCleared, needs_zeros, rounds_past}
+use Rattle.qcow2_disk.specs.Rules.{answered, touched_from, touched_to}
+use Rattle.qcow2_disk.specs.Runs.{State, RefinesState, RefinesCommand, clear}
+use Rattle.qcow2_disk.proofs.RunSteps.{done_as, refused_as}
 use Rattle.qcow2_alloc.specs.declared.error.ImageError.{ImageError}
-use Rattle.qcow2_alloc.specs.declared.error.ImageError.TheVariants.{Failed}
+use Rattle.qcow2_alloc.specs.declared.error.ImageError.TheVariants as I
+use Rattle.qcow2_alloc.specs.ImageFile.{known_in}
 use Rattle.qcow2_image.specs.Calls.{Answers}
-use Rattle.qcow2_image.specs.Clearing.{setting_of}
+use Rattle.qcow2_image.specs.Clearing.{from_in, setting_of, to_in}
 use Rattle.qcow2_image.specs.declared.image.Qcow2.{Qcow2}
 use Rattle.qcow2_image.specs.declared.prepared.Prepared.{Prepared}
-use Rattle.qcow2_image.specs.Image.{is_failed}
-use Rattle.qcow2_image.specs.ImageInvariant.{abstract_of, disk_of}
+use Rattle.qcow2_image.specs.Image.{is_failed, is_writable, size_of}
+use Rattle.qcow2_image.specs.ImageInvariant.{ImageInvariant, abstract_of, disk_of, pending_in}
+use Rattle.qcow2_image.specs.Refusals.{passes, refuse_if, unusable}
+use Rattle.qcow2_image.proofs.HiddenBytes.{header_is}
+use Rattle.qcow2_image.proofs.Sizes.{disk_size}
 use Rattle.qcow2_session.specs.Commands.{reply_of, reply_of_clearing}
 use Rattle.qcow2_session.specs.declared.session.Reply.{Reply}
-use Rattle.qcow2_session.proofs.Answering.{error_is, not_both}
+use Rattle.qcow2_session.proofs.Answering.{error_is, first_of_all, not_both}
 use Rattle.qcow2_session.proofs.Turns.{does_if}
+
+-- ---- what is answered was not to be refused
+
+-- it lies within the size, entries can say what is asked, and it ends within 64 bits
+allowed : (P : ImageError → Type 0) → ((e : ImageError) → P e → ⊥) → (u : Option ImageError) (a b c d : Bool)
+    → IfSome (option_or u (option_or (refuse_if a I.ReadOnly) (option_or (refuse_if b I.BeyondSize) (option_or (refuse_if c I.Version) (refuse_if d I.Overflow))))) P → (b ≡ false) × (c ≡ false) × (d ≡ false)
+allowed P never (Some e) a b c d early = absurd (never e early)
+allowed P never None true b c d early = absurd (never I.ReadOnly early)
+allowed P never None false true c d early = absurd (never I.BeyondSize early)
+allowed P never None false false true d early = absurd (never I.Version early)
+allowed P never None false false false true early = absurd (never I.Overflow early)
+allowed P never None false false false false early = (refl, refl, refl)
+
+inside : (size offset n : ℕ) → passes size offset n ≡ false → 0 < n → offset + n ≤ size
+inside size offset n fits some = elim (cases_lt size (offset + n)) [
+  | inr le ↦ le
+  | inl past ↦ let passed : passes size offset n ≡ true = grind (arith, common_steps) in absurd (let no : true ≡ false = sym passed ∙ fits in cc)
+]
+
+third : (needs : Bool) (version : ℕ) → (needs && nat_lt version 3) ≡ false → IsTrue needs → 3 ≤ version
+third true version fits needs = elim (cases_lt version 3) [
+  | inr le ↦ le
+  | inl older ↦ absurd (let no : true ≡ false = sym (lt-ltb version 3 older) ∙ fits in cc)
+]
+third false version fits needs = absurd (let no : false ≡ true = needs in cc)
 
 module _ {S F : Type 0} (view : S → StorageView) (backing : F → BackingView) (old new : Qcow2 S F) (how : Clearing) (offset n : ℕ) where
   -- what an image's call answers, whose whole clusters show this then
@@ -28,14 +63,44 @@ module _ {S F : Type 0} (view : S → StorageView) (backing : F → BackingView)
       Answers view backing old new (gift_of_clear (setting_of view backing old) (disk_of view backing old) how offset n ∷ [])
       (λ range was is. (range ≡ answered (setting_of view backing old).cluster_size was.disk.size offset n) × (is ≡ with_disk was (cleared_at (setting_of view backing old) was.disk how offset n))) r
 
-  clears_as : (out : List (Option Prepared)) (x : Setting) (s : State) (r : Result (ℕ × ℕ) ImageError) → RefinesState x (abstract_of view backing old out) s
-      → (IsTrue (is_failed old) → (r ≡ Err Failed) × (new ≡ old)) → IsCleared r → RefinesCommand x (abstract_of view backing old out) (abstract_of view backing new out) s (clear how offset n) (reply_of (reply_of_clearing r))
-  clears_as out x s (Ok range) stands failed sees =
-      done_as x _ _ s _ _ _ refl stands (record { failed = λ f. absurd (not_both (failed f)); may = λ _. tt })
-      (does_if (λ h. (ap (λ (r : ℕ × ℕ). r.0) h.0, ap (λ (r : ℕ × ℕ). r.1) h.0, h.1)) (sees out)) (λ _ _. refl) (λ _. tt)
-  clears_as out x s (Err e) stands failed sees = refused_as x _ _ s _ _ _ _ refl stands (record { failed = λ f. error_is (failed f); may = λ _. tt }) (sees out) (λ f. f) (λ _ _. refl) tt
+  -- what is refused before any work, and what stands for guest clusters where it is answered
+  abbrev IsEarly : Result (ℕ × ℕ) ImageError → Type 0
+  IsEarly r =
+      IfSome (option_or (unusable old) (option_or (refuse_if (not (is_writable old)) I.ReadOnly) (option_or (refuse_if (passes (size_of old) offset n) I.BeyondSize)
+      (option_or (refuse_if (needs_zeros how && nat_lt old.file.header.fields.version 3) I.Version) (refuse_if (rounds_past (cluster_size old.file.header.fields) (size_of old) offset n) I.Overflow))))) (λ e. (r ≡ Err e) × (new ≡ old))
 
-  pub clears_goes : (out : List (Option Prepared)) (x : Setting) (s : State) (r : Result (ℕ × ℕ) ImageError) (reply : Reply) → reply ≡ reply_of_clearing r → RefinesState x (abstract_of view backing old out) s
-      → (IsTrue (is_failed old) → (r ≡ Err Failed) × (new ≡ old)) → IsCleared r → RefinesCommand x (abstract_of view backing old out) (abstract_of view backing new out) s (clear how offset n) (reply_of reply)
-  clears_goes out x s r reply is stands failed sees =
-      subst (λ q. RefinesCommand x (abstract_of view backing old out) (abstract_of view backing new out) s (clear how offset n) (reply_of q)) (sym is) (clears_as out x s r stands failed sees)
+  abbrev IsCovered : Result (ℕ × ℕ) ImageError → Type 0
+  IsCovered r = (out : List (Option Prepared)) → (abstract_of view backing old out).is_sound
+      → OnOk r (ClearsCovers how (from_in old offset n) (to_in old offset n) old.file.header.fields (known_in view old.file) new.file.header.fields (known_in view new.file))
+
+  module _ (out : List (Option Prepared)) (sound : ImageInvariant view backing (pending_in view backing old out) old out) (sound' : ImageInvariant view backing (pending_in view backing new out) new out) where
+    -- the same of the headers that the known bytes hold
+    rightly_cleared : (passes (size_of old) offset n ≡ false) × ((needs_zeros how && nat_lt old.file.header.fields.version 3) ≡ false) × (rounds_past (cluster_size old.file.header.fields) (size_of old) offset n ≡ false)
+        → ClearsCovers how (from_in old offset n) (to_in old offset n) old.file.header.fields (known_in view old.file) new.file.header.fields (known_in view new.file)
+        → IsRightlyCleared how (known_in view old.file) (known_in view new.file) offset n
+    rightly_cleared fits covers =
+        let was = sym (header_is view backing old out sound) in
+        let is = sym (header_is view backing new out sound') in
+        record {
+          version = subst (λ (h : HeaderFields). IsTrue (needs_zeros how) → 3 ≤ h.version) was (third (needs_zeros how) old.file.header.fields.version fits.1);
+          near = subst (λ (h : HeaderFields). rounds_past (cluster_size h) h.size offset n ≡ false) was fits.2;
+          covers = subst (λ (h : HeaderFields). ClearsCovers how (touched_from (cluster_size h) offset) (touched_to (cluster_size h) h.size offset n) h (known_in view old.file) (header (known_in view new.file)) (known_in view new.file)) was
+              (subst (λ (h : HeaderFields). ClearsCovers how (from_in old offset n) (to_in old offset n) old.file.header.fields (known_in view old.file) h (known_in view new.file)) is covers);
+        }
+
+  clears_as : (out : List (Option Prepared)) (x : Setting) (s : State) (r : Result (ℕ × ℕ) ImageError) → RefinesState x (abstract_of view backing old out) s → IsEarly r → IsCovered r → IsCleared r
+      → RefinesCommand x (abstract_of view backing old out) (abstract_of view backing new out) s (clear how offset n) (reply_of (reply_of_clearing r))
+  clears_as out x s (Ok range) stands early covers sees =
+      let fits = allowed _ (λ e h. not_both h) (unusable old) (not (is_writable old)) (passes (size_of old) offset n) (needs_zeros how && nat_lt old.file.header.fields.version 3) (rounds_past (cluster_size old.file.header.fields) (size_of old) offset n) early in
+      done_as x _ _ s _ _ _ refl stands
+      (record {
+        failed = λ f. absurd (not_both (first_of_all old _ _ early f));
+        may = λ sound some. subst (λ size. offset + n ≤ size) (disk_size view backing old out sound) (inside (size_of old) offset n fits.0 some);
+      })
+      (does_if (λ h. (ap (λ (r : ℕ × ℕ). r.0) h.0, ap (λ (r : ℕ × ℕ). r.1) h.0, h.1)) (sees out)) (λ _ _. refl) (λ sound. rightly_cleared out sound ((sees out).answer sound).0 fits (covers out sound))
+  clears_as out x s (Err e) stands early covers sees = refused_as x _ _ s _ _ _ _ refl stands (record { failed = λ f. error_is (first_of_all old _ _ early f); may = λ _. tt }) (sees out) (λ f. f) (λ _ _. refl) tt
+
+  pub clears_goes : (out : List (Option Prepared)) (x : Setting) (s : State) (r : Result (ℕ × ℕ) ImageError) (reply : Reply) → reply ≡ reply_of_clearing r → RefinesState x (abstract_of view backing old out) s → IsEarly r → IsCovered r → IsCleared r
+      → RefinesCommand x (abstract_of view backing old out) (abstract_of view backing new out) s (clear how offset n) (reply_of reply)
+  clears_goes out x s r reply is stands early covers sees =
+      subst (λ q. RefinesCommand x (abstract_of view backing old out) (abstract_of view backing new out) s (clear how offset n) (reply_of q)) (sym is) (clears_as out x s r stands early covers sees)

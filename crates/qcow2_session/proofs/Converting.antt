@@ -9,11 +9,11 @@ use Rattle.image_access.proofs.Bytes.{same_contents, length-bytes_at, byte_at-by
 use Rattle.image_access.proofs.Passing.{passes_none}
 use Rattle.qcow2_metadata.specs.Bytes.{byte_at}
 use Rattle.qcow2_metadata.specs.Guest.{known_byte}
-use Rattle.qcow2_laws.specs.Disk.{Disk, with_bytes}
-use Rattle.qcow2_laws.specs.Stops.{GivenBytes, IsGiven}
-use Rattle.qcow2_laws.specs.Mappings.{gift_of}
-use Rattle.qcow2_laws.specs.AbstractImages.{Setting, AbstractImage, Guest, guest_of}
-use Rattle.qcow2_laws.specs.Calls.{Refusal, memory, storage, another, Does, Refuses, Shows, MayWrite, WritesSome, IsSame, with_disk}
+use Rattle.qcow2_disk.specs.Disk.{Disk, with_bytes}
+use Rattle.qcow2_disk.specs.Stops.{GivenBytes, IsGiven}
+use Rattle.qcow2_disk.specs.Mappings.{gift_of}
+use Rattle.qcow2_disk.specs.AbstractImages.{Setting, AbstractImage, Guest, guest_of}
+use Rattle.qcow2_disk.specs.Calls.{Refusal, memory, storage, not_compressed, another, Does, Refuses, Shows, MayWrite, WritesSome, IsSame, with_disk}
 use Rattle.image_access.specs.Backing.{BackingView}
 use Rattle.image_access.specs.Moments.{StorageView}
 use Rattle.qcow2_alloc.specs.declared.error.ImageError.{ImageError}
@@ -142,6 +142,7 @@ may_write_first memory g g' at n bytes may =
       ),
     )
 may_write_first storage g g' at n bytes may = (omega arith, may.1 ∙ ap (λ (b : List ℕ). with_disk g (with_bytes g.disk at b)) (none_taken (take n bytes) bytes))
+may_write_first (not_compressed k) g g' at n bytes may = (omega arith, may.1 ∙ ap (λ (b : List ℕ). with_disk g (with_bytes g.disk at b)) (none_taken (take n bytes) bytes))
 may_write_first (another k) g g' at n bytes may = (omega arith, may.1 ∙ ap (λ (b : List ℕ). with_disk g (with_bytes g.disk at b)) (none_taken (take n bytes) bytes))
 
 -- a write of a range was refused, and none of it is there
@@ -234,6 +235,7 @@ may_write_all e g g' contents written =
     elim e as (λ k. MayWrite k g 0 contents (length contents) g') [
       | memory ↦ (omega arith, (with_bytes g.disk 0 (take (length contents) contents), record { size = refl; values = λ o. inl refl }, plain))
       | storage ↦ (omega arith, plain)
+      | not_compressed n ↦ (omega arith, plain)
       | another n ↦ (omega arith, plain)
     ]
 

@@ -9,9 +9,9 @@ use Rattle.image_access.specs.Moments.{StorageView}
 use Rattle.image_access.proofs.Bytes.{length-resized, byte_at-resized, byte_at-resized_past, length-overwritten_within, byte_at-overwritten, byte_at-overwritten_below, byte_at-overwritten_behind}
 use Rattle.qcow2_metadata.specs.Bytes.{byte_at}
 use Rattle.qcow2_metadata.specs.Guest.{known_byte}
-use Rattle.qcow2_laws.specs.Disk.{Disk}
-use Rattle.qcow2_laws.specs.AbstractImages.{Guest, guest_of}
-use Rattle.qcow2_laws.specs.Calls.{Does, Shows, IsSame}
+use Rattle.qcow2_disk.specs.Disk.{Disk}
+use Rattle.qcow2_disk.specs.AbstractImages.{Guest, guest_of}
+use Rattle.qcow2_disk.specs.Calls.{Does, Shows, IsSame}
 use Rattle.qcow2_alloc.specs.declared.error.ImageError.{ImageError}
 use Rattle.qcow2_image.specs.Calls.{refusal_of}
 use Rattle.qcow2_image.specs.declared.image.Qcow2.{Qcow2}

@@ -1,9 +1,9 @@
 -- The lookups that a run of an image that was just opened begins with.
 use Rattle.std.proofs.Common.{◌≡◌, inl, inr, List, [], ◌∷◌, Bool, false, sym, ap, ◌∙◌, subst, ℕ, map}
 use Rattle.qcow2_metadata.specs.Bytes.{Bytes}
-use Rattle.qcow2_laws.specs.Found.{Kind, IsFoundIn}
-use Rattle.qcow2_laws.specs.AbstractImages.{Setting, Abstraction}
-use Rattle.qcow2_laws.specs.Runs.{Command, Reply, State, CommandStep, Run, RefinesAlong, get_mapping, mapping_is}
+use Rattle.qcow2_disk.specs.Found.{Kind, IsFoundIn}
+use Rattle.qcow2_disk.specs.AbstractImages.{Setting, Abstraction}
+use Rattle.qcow2_disk.specs.Runs.{Command, Reply, State, CommandStep, Run, RefinesAlong, get_mapping, mapping_is}
 use Rattle.qcow2_session.specs.Commands.{reply_of}
 use Rattle.qcow2_session.specs.Sessions.{LooksUp}
 use Rattle.qcow2_session.specs.declared.session.Reply.{Reply as SessionReply}

@@ -4,11 +4,11 @@ use Rattle.std.specs.Prelude.{slice_get, slice_set, MatchOption, is_some, â—Œ==â
 use Rattle.std.proofs.lemmas.Bool.{cond-true, cond-false, cases_Bool, cases_eq, eq-eqb, ne_eqb}
 use Rattle.std.proofs.lemmas.Option.{slice_get-get_or, slice_get_read}
 use mathlib.Core.Path.{fun_ext}
-use Rattle.qcow2_laws.specs.Stops.{GivenBytes}
-use Rattle.qcow2_laws.specs.Mappings.{PreparedMapping, IsPrepared, put_mapping, put_disk, committed, gift_of_put, gift_of_commit}
-use Rattle.qcow2_laws.specs.AbstractImages.{Setting, HostRange, Abstraction, AbstractImage, abstract_image, guest_of, meaning_at}
-use Rattle.qcow2_laws.specs.Calls.{Refusal, Acts, Does, Refuses, IsSame, with_disk, with_slot}
-use Rattle.qcow2_laws.specs.Runs.{Found, Command, Reply, State, RefinesState, CommandMeaning, CommandStep, found_after, given_at, given_by, put, commit, discard, prepare, done, prepared_is}
+use Rattle.qcow2_disk.specs.Stops.{GivenBytes}
+use Rattle.qcow2_disk.specs.Mappings.{PreparedMapping, IsPrepared, put_mapping, put_disk, committed, gift_of_put, gift_of_commit}
+use Rattle.qcow2_disk.specs.AbstractImages.{Setting, HostRange, Abstraction, AbstractImage, abstract_image, guest_of, meaning_at}
+use Rattle.qcow2_disk.specs.Calls.{Refusal, Acts, Does, Refuses, IsSame, with_disk, with_slot}
+use Rattle.qcow2_disk.specs.Runs.{Found, Command, Reply, State, RefinesState, CommandMeaning, CommandStep, found_after, given_at, given_by, put, commit, discard, prepare, done, prepared_is}
 use Rattle.qcow2_image.specs.declared.mapping.Mapping.{Mapping}
 use Rattle.qcow2_session.proofs.Places.{get_set_same}
 use Rattle.qcow2_session.specs.Sessions.{found_in, range_of}

@@ -4,9 +4,9 @@ use Rattle.std.specs.Prelude.{slice_get, slice_set, replicate}
 use Rattle.std.proofs.lemmas.List.{append-nil}
 use mathlib.Core.Path.{fun_ext}
 use Rattle.image_access.proofs.Passing.{passes_none}
-use Rattle.qcow2_laws.specs.Mappings.{PreparedMapping}
-use Rattle.qcow2_laws.specs.AbstractImages.{Abstraction, HasFreePlaces, Guest, abstract_image, guest_of}
-use Rattle.qcow2_laws.specs.Calls.{Does, with_slot}
+use Rattle.qcow2_disk.specs.Mappings.{PreparedMapping}
+use Rattle.qcow2_disk.specs.AbstractImages.{Abstraction, HasFreePlaces, Guest, abstract_image, guest_of}
+use Rattle.qcow2_disk.specs.Calls.{Does, with_slot}
 use Rattle.qcow2_session.proofs.Turns.{none_within, does_if, does_then}
 
 pub set_found : {X : Type 0} (xs : List X) (k : ℕ) (v : X) → slice_get xs k ≡ Some v → slice_set xs k v ≡ xs

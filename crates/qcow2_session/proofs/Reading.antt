@@ -4,7 +4,7 @@ use Rattle.std.specs.Prelude.{Option, Result, Err}
 use Rattle.image_access.specs.Backing.{BackingView}
 use Rattle.image_access.specs.Moments.{StorageView}
 use Rattle.qcow2_alloc.specs.declared.error.ImageError.{ImageError}
-use Rattle.qcow2_laws.specs.Calls.{Refuses, IsSame}
+use Rattle.qcow2_disk.specs.Calls.{Refuses, IsSame}
 use Rattle.qcow2_image.specs.Calls.{refusal_of}
 use Rattle.qcow2_image.specs.declared.image.Qcow2.{Qcow2}
 use Rattle.qcow2_image.specs.declared.prepared.Prepared.{Prepared}

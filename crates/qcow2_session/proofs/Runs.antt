@@ -2,9 +2,9 @@
 use Rattle.std.proofs.Common.{◌≡◌, ℕ, zero, suc, ◌+◌, List, [], ◌∷◌, ◌++◌, false, refl, sym, ap, ◌∙◌, subst, Option, None, take, map}
 use Rattle.std.specs.Prelude.{replicate}
 use Rattle.std.proofs.lemmas.List.{map-append}
-use Rattle.qcow2_laws.specs.AbstractImages.{Setting, Abstraction, HasFreePlaces, abstract_image}
-use Rattle.qcow2_laws.specs.Runs.{Found, Command, Reply, State, RefinesState, CommandStep, RefinesCommand, Run, RefinesRun, begun, found_after}
-use Rattle.qcow2_laws.proofs.RunSteps.{ran_none, ran_more}
+use Rattle.qcow2_disk.specs.AbstractImages.{Setting, Abstraction, HasFreePlaces, abstract_image}
+use Rattle.qcow2_disk.specs.Runs.{Found, Command, Reply, State, RefinesState, CommandStep, RefinesCommand, Run, RefinesRun, begun, found_after}
+use Rattle.qcow2_disk.proofs.RunSteps.{ran_none, ran_more}
 use Rattle.qcow2_image.specs.declared.mapping.Mapping.{Mapping}
 use Rattle.qcow2_session.specs.Sessions.{found_in}
 use Rattle.qcow2_session.proofs.Meanings.{step_found, found_same}

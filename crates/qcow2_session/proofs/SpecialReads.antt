@@ -1,52 +1,82 @@
--- A special read is one step of a run.
-use Rattle.std.proofs.Common.{◌≡◌, ◌⊎◌, inl, inr, [], refl, sym, subst, ℕ, IsTrue, List, Option, Some, None}
-use Rattle.std.specs.Prelude.{MatchOption}
-use Rattle.image_access.specs.Backing.{BackingView}
-use Rattle.image_access.specs.Moments.{StorageView}
-use Rattle.qcow2_laws.specs.AbstractImages.{Setting, guest_of}
-use Rattle.qcow2_laws.specs.Calls.{Does}
-use Rattle.qcow2_laws.specs.Runs.{State, RefinesState, RefinesCommand, read_special}
-use Rattle.qcow2_laws.proofs.RunSteps.{done_as}
+-- What special reads tell.
+use Rattle.std.proofs.Common.{◌≡◌, ◌⊎◌, ◌<◌, false, true, inl, inr, refl, sym, ◌∙◌, subst, ℕ, zero, suc, arith, Option, Some, None}
+use Rattle.std.specs.Prelude.{IsErr, IfErr, IfOk, MatchOption, Result, Ok, Err}
+use Rattle.qcow2_metadata.specs.Bytes.{Bytes}
+use Rattle.qcow2_disk.specs.Calls.{not_compressed}
+use Rattle.qcow2_disk.specs.Found.{IsCompressedAt}
+use Rattle.qcow2_disk.specs.Runs.{IsRightlySpecial}
 use Rattle.qcow2_alloc.specs.declared.error.ImageError.{ImageError}
 use Rattle.qcow2_alloc.specs.declared.error.ImageError.TheVariants as I
-use Rattle.qcow2_image.specs.declared.image.Qcow2.{Qcow2}
-use Rattle.qcow2_image.specs.declared.prepared.Prepared.{Prepared}
-use Rattle.qcow2_image.specs.Image.{is_failed}
-use Rattle.qcow2_image.specs.ImageInvariant.{abstract_of}
+use Rattle.qcow2_image.specs.Calls.{refusal_of}
 use Rattle.qcow2_image.specs.Refusals.{IsMet}
-use Rattle.qcow2_session.specs.Commands.{reply_of, IsOwnOffset}
-use Rattle.qcow2_session.specs.declared.session.Reply.TheVariants as R
-use Rattle.qcow2_session.proofs.Turns.{does_if}
+use Rattle.qcow2_image.specs.SpecialReads.{TellsCompressed, TellsWhether}
+use Rattle.qcow2_session.specs.Commands.{TellsPlain, TellsSpecial}
 
-module _ {S F : Type 0} (view : S → StorageView) (backing : F → BackingView) (old new : Qcow2 S F) (offset n : ℕ) where
-  -- a range of no bytes, or an offset, was answered
-  pub tried_as : (out : List (Option Prepared)) (x : Setting) (s : State) (plain : Option ℕ) → MatchOption plain (n ≡ 0) (λ at. at ≡ offset) → RefinesState x (abstract_of view backing old out) s → (IsTrue (is_failed old) → ⊥)
-      → Does (abstract_of view backing old out) (abstract_of view backing new out) [] [] (guest_of (abstract_of view backing new out) ≡ guest_of (abstract_of view backing old out))
-      → RefinesCommand x (abstract_of view backing old out) (abstract_of view backing new out) s (read_special offset n) (reply_of (R.NotCompressed plain))
-  tried_as out x s None empty stands works does = done_as x _ _ s _ _ _ refl stands (record { failed = λ f. absurd (works f); may = λ _. tt }) (does_if (λ h. (empty, h)) does) (λ _ _. refl) (λ _. tt)
-  tried_as out x s (Some at) own stands works does = done_as x _ _ s _ _ _ refl stands (record { failed = λ f. absurd (works f); may = λ _. tt }) does (λ _ _. refl) (λ _. tt)
+-- What is told where a special read is refused: nothing, unless it is as compressed or as not compressed.
+pub refused_specially : (known : Bytes) (offset n : ℕ) (e : ImageError) → (e ≡ I.Compressed → (0 < n) × IsCompressedAt known offset) → ((at : ℕ) → e ≡ I.NotCompressed at → IsRightlySpecial known offset n (not_compressed at)) → IsRightlySpecial known offset n (refusal_of e)
+refused_specially known offset n I.ReadOnly is not = λ no. absurd cc
+refused_specially known offset n I.BeyondSize is not = λ no. absurd cc
+refused_specially known offset n I.Version is not = λ no. absurd cc
+refused_specially known offset n I.UnalignedTable is not = λ no. absurd cc
+refused_specially known offset n I.InvalidOption is not = λ no. absurd cc
+refused_specially known offset n I.Preallocation is not = λ no. absurd cc
+refused_specially known offset n I.Compressed is not = λ _. is refl
+refused_specially known offset n I.InUse is not = λ no. absurd cc
+refused_specially known offset n I.TablePrepared is not = λ no. absurd cc
+refused_specially known offset n I.OutdatedMapping is not = λ no. absurd cc
+refused_specially known offset n I.ForeignState is not = λ no. absurd cc
+refused_specially known offset n I.Dependency is not = λ no. absurd cc
+refused_specially known offset n I.Limit is not = λ no. absurd cc
+refused_specially known offset n I.Memory is not = tt
+refused_specially known offset n I.Storage is not = tt
+refused_specially known offset n I.Failed is not = λ no. absurd cc
+refused_specially known offset n I.MappingPrepared is not = λ no. absurd cc
+refused_specially known offset n (I.NotCompressed at) is not = not at refl
+refused_specially known offset n I.Metadata is not = λ no. absurd cc
+refused_specially known offset n I.Overflow is not = λ no. absurd cc
+refused_specially known offset n (I.StillInUse tables) is not = λ no. absurd cc
 
--- what comes where the work meets it names no offset
-pub met_own : (offset : ℕ) (e : ImageError) → IsMet e ⊎ (e ≡ I.NotCompressed offset) → IsOwnOffset offset e
-met_own offset e (inr is) = subst (IsOwnOffset offset) (sym is) refl
-met_own offset I.ReadOnly (inl met) = tt
-met_own offset I.BeyondSize (inl met) = tt
-met_own offset I.Version (inl met) = tt
-met_own offset I.UnalignedTable (inl met) = tt
-met_own offset I.InvalidOption (inl met) = tt
-met_own offset I.Preallocation (inl met) = tt
-met_own offset I.Compressed (inl met) = tt
-met_own offset I.InUse (inl met) = tt
-met_own offset I.TablePrepared (inl met) = tt
-met_own offset I.OutdatedMapping (inl met) = tt
-met_own offset I.ForeignState (inl met) = tt
-met_own offset I.Dependency (inl met) = tt
-met_own offset I.Limit (inl met) = tt
-met_own offset I.Memory (inl met) = tt
-met_own offset I.Storage (inl met) = tt
-met_own offset I.Failed (inl met) = tt
-met_own offset I.MappingPrepared (inl met) = tt
-met_own offset (I.NotCompressed at) (inl met) = absurd met
-met_own offset I.Metadata (inl met) = tt
-met_own offset I.Overflow (inl met) = tt
-met_own offset (I.StillInUse tables) (inl met) = tt
+-- of no bytes none is refused
+some_bytes : {A : Type 0} (n : ℕ) (e : ImageError) (r : Result A ImageError) (a : A) → r ≡ Err e → (n ≡ 0 → r ≡ Ok a) → 0 < n
+some_bytes zero e r a is none = absurd (let no : Err e ≡ Ok a = sym is ∙ none refl in cc)
+some_bytes (suc n) e r a is none = omega arith
+
+-- only a range of no bytes is done
+done_empty : (n : ℕ) (r : Result (Unit {0}) ImageError) → (0 < n → IsErr r) → IfOk r (λ _. n ≡ 0)
+done_empty n (Err e) some = tt
+done_empty zero (Ok _) some = refl
+done_empty (suc n) (Ok _) some = absurd (let no : false ≡ true = some (omega arith) in cc)
+
+-- and only such a one is answered by no offset
+own_offset : (offset n : ℕ) (r : Result (Option ℕ) ImageError) → (0 < n → IfOk r (λ at. at ≡ Some offset)) → (n ≡ 0 → r ≡ Ok None) → IfOk r (λ plain. MatchOption plain (n ≡ 0) (λ at. at ≡ offset))
+own_offset offset n (Err e) some none = tt
+own_offset offset zero (Ok None) some none = refl
+own_offset offset zero (Ok (Some at)) some none = absurd (let no : Ok (Some at) ≡ Ok None = none refl in let inner : Some at ≡ None = cc in cc)
+own_offset offset (suc n) (Ok None) some none = absurd (let no : None ≡ Some offset = some (omega arith) in cc)
+own_offset offset (suc n) (Ok (Some at)) some none = let same : Some at ≡ Some offset = some (omega arith) in cc
+
+-- what an image's call tells is told
+pub told_specially : (known : Bytes) (offset n : ℕ) (r : Result (Unit {0}) ImageError) → (0 < n → IsErr r) → (n ≡ 0 → r ≡ Ok tt) → IfErr r (λ e. IsMet e ⊎ (e ≡ I.NotCompressed offset)) → (0 < n → IfErr r (TellsCompressed known offset)) → TellsSpecial known offset n r
+told_specially known offset n (Ok _) some none met tells = done_empty n (Ok tt) some
+told_specially known offset n (Err e) fails none met tells =
+    let some = some_bytes n e (Err e) tt refl none in
+    refused_specially known offset n e (λ is. (some, (tells some).0 is)) (λ at is. plain at is met)
+  where
+    plain : (at : ℕ) → e ≡ I.NotCompressed at → IsMet e ⊎ (e ≡ I.NotCompressed offset) → IsRightlySpecial known offset n (not_compressed at)
+    plain at is (inl met) = absurd (subst IsMet is met)
+    plain at is (inr own) =
+        let same : I.NotCompressed at ≡ I.NotCompressed offset = sym is ∙ own in
+        let here : at ≡ offset = cc in
+        let some = some_bytes n e (Err e) tt refl none in
+        (some, here, (tells some).1 own)
+
+some_plain : (n at : ℕ) (r : Result (Option ℕ) ImageError) → r ≡ Ok (Some at) → (n ≡ 0 → r ≡ Ok None) → 0 < n
+some_plain zero at r is none = absurd (let no : Ok (Some at) ≡ Ok None = sym is ∙ none refl in let inner : Some at ≡ None = cc in cc)
+some_plain (suc n) at r is none = omega arith
+
+pub told_plainly : (known : Bytes) (offset n : ℕ) (r : Result (Option ℕ) ImageError) → (0 < n → IfOk r (λ at. at ≡ Some offset)) → (n ≡ 0 → r ≡ Ok None) → IfErr r IsMet → (0 < n → TellsWhether known offset r) → TellsPlain known offset n r
+told_plainly known offset n (Ok None) own none met tells = own_offset offset n (Ok None) own none
+told_plainly known offset n (Ok (Some at)) own none met tells = let some = some_plain n at (Ok (Some at)) refl none in (some, own_offset offset n (Ok (Some at)) own none, tells some)
+told_plainly known offset n (Err e) own none met tells =
+    let some = some_bytes n e (Err e) None refl none in
+    refused_specially known offset n e (λ is. (some, tells some is)) (λ at is. absurd (subst IsMet is met))

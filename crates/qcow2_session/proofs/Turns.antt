@@ -4,10 +4,10 @@ use Rattle.std.specs.Prelude.{Option, Some, None, IfSome, Result, Ok, Err, IsErr
 use Rattle.image_access.proofs.Passing.{passes_on}
 use Rattle.qcow2_metadata.specs.Bytes.{byte_at}
 use Rattle.qcow2_metadata.specs.Guest.{Value}
-use Rattle.qcow2_laws.specs.Stops.{GivenBytes, IsGiven, checkpoint_with, StopOkEverywhere}
-use Rattle.qcow2_laws.specs.AbstractImages.{AbstractImage, guest_of}
-use Rattle.qcow2_laws.specs.Calls.{Refusal, memory, storage, another, IsFault, Works, Acts, Does, Refuses}
-use Rattle.qcow2_laws.proofs.Compose.{works_less, works_then, rests_then}
+use Rattle.qcow2_disk.specs.Stops.{GivenBytes, IsGiven, checkpoint_with, StopOkEverywhere}
+use Rattle.qcow2_disk.specs.AbstractImages.{AbstractImage, guest_of}
+use Rattle.qcow2_disk.specs.Calls.{Refusal, memory, storage, not_compressed, another, IsFault, Works, Acts, Does, Refuses}
+use Rattle.qcow2_disk.proofs.Compose.{works_less, works_then, rests_then}
 
 -- a refusal that was passed on
 pub refused_is : {A E : Type 0} (r : Result A E) (e : E) → IsErr r × IsErrAnd r (λ x. x ≡ e) → r ≡ Err e
@@ -48,6 +48,7 @@ pub refuses_fault : {old new : AbstractImage} {given : List GivenBytes} {asked :
     → Refuses old new given asked e A → Refuses old new given asked e (B e)
 refuses_fault B memory why to r = refuses_if to r
 refuses_fault B storage why to r = record { acts = r.acts; answer = λ sound. inr (tt, r.fault refl); fault = r.fault }
+refuses_fault {new = new} {A = A} B (not_compressed n) why to r = record { acts = r.acts; answer = λ sound. ⊎_elim (λ (a : new.is_sound × A). absurd (why a.1)) (λ h. inr h) (r.answer sound); fault = r.fault }
 refuses_fault {new = new} {A = A} B (another n) why to r = record { acts = r.acts; answer = λ sound. ⊎_elim (λ (a : new.is_sound × A). absurd (why a.1)) (λ h. inr h) (r.answer sound); fault = r.fault }
 
 module _ {old new : AbstractImage} {gs fewer : List GivenBytes} (within : IsWithin old gs fewer) where

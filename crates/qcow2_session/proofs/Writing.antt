@@ -3,10 +3,10 @@ use Rattle.std.proofs.Common.{◌≡◌, ⊎_elim, inl, inr, ℕ, ◌+◌, ◌%�
 use Rattle.std.proofs.Math.Seq.{take-add}
 use Rattle.std.proofs.lemmas.Grind.{common_steps}
 use Rattle.std.proofs.lemmas.List.{take-append-drop}
-use Rattle.qcow2_laws.specs.Disk.{Disk, with_bytes}
-use Rattle.qcow2_laws.specs.Mappings.{gift_of}
-use Rattle.qcow2_laws.specs.AbstractImages.{AbstractImage, Guest, guest_of}
-use Rattle.qcow2_laws.specs.Calls.{Refusal, memory, storage, another, Does, Refuses, MayWrite, WritesSome, with_disk}
+use Rattle.qcow2_disk.specs.Disk.{Disk, with_bytes}
+use Rattle.qcow2_disk.specs.Mappings.{gift_of}
+use Rattle.qcow2_disk.specs.AbstractImages.{AbstractImage, Guest, guest_of}
+use Rattle.qcow2_disk.specs.Calls.{Refusal, memory, storage, not_compressed, another, Does, Refuses, MayWrite, WritesSome, with_disk}
 use Rattle.qcow2_image.specs.declared.image.Qcow2.{Qcow2}
 use Rattle.qcow2_session.specs.Sessions.{cluster_size_of, EndsCluster}
 use Rattle.qcow2_session.proofs.Bytes.{no_bytes, with_both, part_within, rest_long, rest_part}
@@ -62,6 +62,7 @@ module _ (offset at count : ℕ) (bytes : List ℕ) (le : count ≤ length bytes
         ),
       )
   may_write_more storage g g' new so_far may = (le, may.1 ∙ ap (λ (d : Disk). with_disk g' d) (no_more g'.disk) ∙ so_far)
+  may_write_more (not_compressed n) g g' new so_far may = (le, may.1 ∙ ap (λ (d : Disk). with_disk g' d) (no_more g'.disk) ∙ so_far)
   may_write_more (another n) g g' new so_far may = (le, may.1 ∙ ap (λ (d : Disk). with_disk g' d) (no_more g'.disk) ∙ so_far)
 
   module _ (old mid new : AbstractImage) (first : Does old mid (gift_of offset bytes ∷ []) [] (guest_of mid ≡ with_disk (guest_of old) (with_bytes (guest_of old).disk offset (take count bytes)))) where

@@ -1,7 +1,8 @@
 -- What commands and replies mean in words of a guest's disk.
-use Rattle.std.specs.Prelude.{ℕ, ◌≡◌, Some, None, Result, Ok, Err}
-use Rattle.qcow2_laws.specs.Calls.{to_zero, to_backing, another}
-use Rattle.qcow2_laws.specs.Runs.{Command, Reply, read, write, get_mapping, read_mapped, prepare, put, commit, discard, clear, read_special, flush, get_size, done, bytes_are, mapping_is, prepared_is, range_is, number_is, refused, write_refused, misuse}
+use Rattle.std.specs.Prelude.{ℕ, ◌≡◌, Option, Result, Ok, Err}
+use Rattle.qcow2_disk.specs.Calls.{to_zero, to_kept_zero, to_backing}
+use Rattle.qcow2_metadata.specs.Bytes.{Bytes}
+use Rattle.qcow2_disk.specs.Runs.{Command, Reply, IsRightlyPlain, IsRightlySpecial, read, write, get_mapping, read_mapped, prepare, put, commit, discard, clear, read_special, try_read_special, flush, get_size, done, bytes_are, mapping_is, prepared_is, range_is, plain_at, number_is, refused, write_refused, misuse}
 use Rattle.qcow2_alloc.specs.declared.error.ImageError.{ImageError}
 use Rattle.qcow2_alloc.specs.declared.error.ImageError.TheVariants.{NotCompressed}
 use Rattle.qcow2_image.specs.Calls.{refusal_of}
@@ -20,24 +21,22 @@ command_of (C.PrepareDataMapping slot offset n overwrite) = prepare slot offset 
 command_of (C.WriteMapped slot at bytes) = put slot at bytes.items
 command_of (C.CommitDataMapping slot) = commit slot
 command_of (C.DiscardDataMapping slot) = discard slot
-command_of (C.EnsureZeroMapping offset n) = clear to_zero offset n
+command_of (C.EnsureZeroMapping offset n) = clear to_kept_zero offset n
 command_of (C.DiscardToZero offset n) = clear to_zero offset n
 command_of (C.DiscardToAny offset n) = clear to_zero offset n
 command_of (C.DiscardToBacking offset n) = clear to_backing offset n
 command_of (C.ReadvSpecial offset n) = read_special offset n
-command_of (C.TryReadvSpecial offset n) = read_special offset n
+command_of (C.TryReadvSpecial offset n) = try_read_special offset n
 command_of C.Flush = flush
 command_of C.Size = get_size
 
--- an offset that is answered in the place of a refusal means that refusal
 abbrev pub reply_of : SessionReply → Reply
 reply_of R.Done = done
 reply_of (R.Bytes bytes) = bytes_are bytes.items
 reply_of (R.Mapping m) = mapping_is m.offset (found_kind m.kind) m.length
 reply_of (R.Prepared offset n existing) = prepared_is offset n existing
 reply_of (R.Range offset n) = range_is offset n
-reply_of (R.NotCompressed None) = done
-reply_of (R.NotCompressed (Some at)) = refused (another 18)
+reply_of (R.NotCompressed at) = plain_at at
 reply_of (R.Size n) = number_is n
 reply_of (R.Refused e) = refused (refusal_of e)
 reply_of (R.WriteRefused e n) = write_refused (refusal_of e) n
@@ -52,3 +51,12 @@ reply_of_clearing (Err e) = R.Refused e
 abbrev pub IsOwnOffset : ℕ → ImageError → Type 0
 IsOwnOffset offset (NotCompressed at) = at ≡ offset
 IsOwnOffset offset e = Unit {0}
+
+-- what a special read of n bytes at an offset tells of the known bytes, where it is done or refused, and where an offset is answered
+abbrev pub TellsSpecial : Bytes → (offset n : ℕ) → Result (Unit {0}) ImageError → Type 0
+TellsSpecial known offset n (Ok _) = n ≡ 0
+TellsSpecial known offset n (Err e) = IsRightlySpecial known offset n (refusal_of e)
+
+abbrev pub TellsPlain : Bytes → (offset n : ℕ) → Result (Option ℕ) ImageError → Type 0
+TellsPlain known offset n (Ok at) = IsRightlyPlain known offset n at
+TellsPlain known offset n (Err e) = IsRightlySpecial known offset n (refusal_of e)

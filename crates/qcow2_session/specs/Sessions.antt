@@ -5,12 +5,12 @@ use Rattle.image_access.specs.Backing.{BackingView}
 use Rattle.image_access.specs.Moments.{StorageView}
 use Rattle.qcow2_metadata.specs.Bytes.{Bytes}
 use Rattle.qcow2_metadata.specs.Header.{cluster_size}
-use Rattle.qcow2_laws.specs.Disk.{with_bytes}
-use Rattle.qcow2_laws.specs.Mappings.{gift_of}
-use Rattle.qcow2_laws.specs.AbstractImages.{Setting, Guest, guest_of, IsOpened}
-use Rattle.qcow2_laws.specs.Calls.{Does, Refuses, Shows, with_disk, MayWrite}
-use Rattle.qcow2_laws.specs.Found.{IsFoundIn}
-use Rattle.qcow2_laws.specs.Runs.{Command as RunCommand, Reply as RunReply, get_mapping, mapping_is, Found, State, RefinesState, RefinesCommand, RefinesWholeRun, RefinesDisk, begun, found_after}
+use Rattle.qcow2_disk.specs.Disk.{with_bytes}
+use Rattle.qcow2_disk.specs.Mappings.{gift_of}
+use Rattle.qcow2_disk.specs.AbstractImages.{Setting, Guest, guest_of, IsOpened}
+use Rattle.qcow2_disk.specs.Calls.{Does, Refuses, Shows, with_disk, MayWrite}
+use Rattle.qcow2_disk.specs.Found.{IsFoundIn}
+use Rattle.qcow2_disk.specs.Runs.{Command as RunCommand, Reply as RunReply, get_mapping, mapping_is, Found, State, RefinesState, RefinesCommand, RefinesWholeRun, RefinesDisk, begun, found_after}
 use Rattle.qcow2_alloc.specs.declared.error.ImageError.{ImageError}
 use Rattle.qcow2_alloc.specs.declared.error.ImageError.TheVariants.{BeyondSize, Dependency, Failed, ReadOnly, TablePrepared}
 use Rattle.qcow2_alloc.specs.ImageFile.{contents_in}

@@ -6,8 +6,8 @@ use Rattle.image_access.specs.Moments.{StorageView}
 use Rattle.qcow2_metadata.specs.Bytes.{Bytes, byte_at}
 use Rattle.qcow2_metadata.specs.Consistent.{IsConsistent}
 use Rattle.qcow2_metadata.specs.Header.{header, cluster_size}
-use Rattle.qcow2_laws.specs.Disk.{Disk, disk}
-use Rattle.qcow2_laws.specs.Stops.{StopOkEverywhere, checkpoint_at}
+use Rattle.qcow2_disk.specs.Disk.{Disk, disk}
+use Rattle.qcow2_disk.specs.Stops.{StopOkEverywhere, checkpoint_at}
 use Rattle.qcow2_session.specs.Conversions.{IsRawOf}
 use Rattle.qimg.specs.Printing.{◌␣◌}
 use Rattle.qimg.specs.declared.words.Invocation.{Invocation}

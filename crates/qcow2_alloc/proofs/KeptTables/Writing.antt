@@ -14,14 +14,15 @@ use Rattle.qcow2_metadata.specs.Header.{cluster_size}
 use Rattle.qcow2_metadata.specs.Entries.{host_offset, block_offset}
 use Rattle.qcow2_metadata.specs.Named.{named_by_reftable, named_by_l1_table}
 use Rattle.qcow2_metadata.specs.Tables.{CachedTable, known}
-use Rattle.qcow2_laws.specs.Stops.{StopOkEverywhere}
+use Rattle.qcow2_disk.specs.Stops.{StopOkEverywhere}
 use Rattle.qcow2_laws.specs.Clusters.{Direction}
 use Rattle.qcow2_laws.specs.CrashInvariant.{Pending, SameTop}
 use Rattle.qcow2_laws.specs.Caches.{known_bytes, AreClean, HasL2, HasBlock, CacheInvariantOver, BlocksMayGo, TablesMayGo, IsWrittenSo, IsSafeBetween, UnseenTableWrite}
 use Rattle.qcow2_laws.proofs.Tops.{SameTop-sym, SameTop-trans}
 use Rattle.qcow2_laws.proofs.Shares.{table_has, block_has}
 use Rattle.qcow2_laws.proofs.Caches.{rbs_free, l2s_free}
-use Rattle.qcow2_laws.proofs.Lists.{within_is, differs}
+use Rattle.qcow2_laws.proofs.Lists.{differs}
+use Rattle.qcow2_disk.proofs.Within.{within_is}
 use Rattle.qcow2_laws.proofs.Steps.{table_is_written}
 use Rattle.qcow2_alloc.specs.declared.async_lru_cache.slot.Slot.{Slot}
 use Rattle.qcow2_alloc.specs.declared.async_lru_cache.error.CacheError.{CacheError}

@@ -10,14 +10,14 @@ use Rattle.image_access.proofs.Passing.{passes_if}
 use Rattle.qcow2_metadata.specs.Bytes.{Bytes, byte_at}
 use Rattle.qcow2_metadata.specs.Header.{cluster_size}
 use Rattle.qcow2_metadata.specs.Guest.{known_byte}
-use Rattle.qcow2_laws.specs.Disk.{disk}
+use Rattle.qcow2_disk.specs.Disk.{disk}
 use Rattle.qcow2_laws.specs.CrashInvariant.{Pending}
 use Rattle.qcow2_laws.specs.SafeSteps.{StateInvariant}
-use Rattle.qcow2_laws.specs.Mappings.{PreparedMapping}
-use Rattle.qcow2_laws.specs.Stops.{StopOkEverywhere, checkpoint_with}
+use Rattle.qcow2_disk.specs.Mappings.{PreparedMapping}
+use Rattle.qcow2_disk.specs.Stops.{StopOkEverywhere, checkpoint_with}
 use Rattle.qcow2_laws.specs.Unseen.{SameUsedBytes, used_by_guests}
-use Rattle.qcow2_laws.specs.AbstractImages.{Setting, Guest, guest_of, meaning_at}
-use Rattle.qcow2_laws.specs.Calls.{Works}
+use Rattle.qcow2_disk.specs.AbstractImages.{Setting, Guest, guest_of, meaning_at}
+use Rattle.qcow2_disk.specs.Calls.{Works}
 use Rattle.qcow2_laws.proofs.Unseen.{unseen_disk}
 use Rattle.qcow2_metadata.specs.declared.header.HeaderFields.{HeaderFields}
 use Rattle.qcow2_alloc.specs.ImageFile.{state_in, contents_in, known_in}

@@ -9,8 +9,8 @@ use Rattle.image_access.proofs.Passing.{passes_none}
 use Rattle.qcow2_metadata.specs.Entries.{l1_entry}
 use Rattle.qcow2_laws.specs.CrashInvariant.{Pending}
 use Rattle.qcow2_laws.specs.Unseen.{KeepsFormat}
-use Rattle.qcow2_laws.specs.AbstractImages.{Guest, AbstractImage, guest_of}
-use Rattle.qcow2_laws.specs.Calls.{Refusal, storage, Works, Does, Refuses, IsSame}
+use Rattle.qcow2_disk.specs.AbstractImages.{Guest, AbstractImage, guest_of}
+use Rattle.qcow2_disk.specs.Calls.{Refusal, storage, Works, Does, Refuses, IsSame}
 use Rattle.qcow2_laws.proofs.Formats.{l1_format}
 use Rattle.qcow2_laws.proofs.SafeSteps.{leads_then, steps_endure}
 use Rattle.qcow2_laws.proofs.Unseen.{unseen_then}

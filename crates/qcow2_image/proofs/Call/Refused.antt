@@ -7,13 +7,13 @@ use Rattle.image_access.proofs.Passing.{passes_if}
 use Rattle.qcow2_metadata.specs.Bytes.{byte_at}
 use Rattle.qcow2_metadata.specs.declared.header.HeaderFields.{HeaderFields}
 use Rattle.qcow2_metadata.specs.Header.{cluster_size}
-use Rattle.qcow2_laws.specs.Calls.{IsFault, IsSame, Refuses, Works, with_slot}
-use Rattle.qcow2_laws.specs.Disk.{Disk}
-use Rattle.qcow2_laws.specs.Mappings.{IsPrepared}
-use Rattle.qcow2_laws.proofs.Compose.{works_then}
+use Rattle.qcow2_disk.specs.Calls.{IsFault, IsSame, Refuses, Works, with_slot}
+use Rattle.qcow2_disk.specs.Disk.{Disk}
+use Rattle.qcow2_disk.specs.Mappings.{IsPrepared}
+use Rattle.qcow2_disk.proofs.Compose.{works_then}
 use Rattle.qcow2_laws.specs.CrashInvariant.{Pending, SameCovers}
-use Rattle.qcow2_laws.specs.Stops.{StopOkEverywhere, checkpoint_with}
-use Rattle.qcow2_laws.specs.AbstractImages.{Guest, Setting, guest_of}
+use Rattle.qcow2_disk.specs.Stops.{StopOkEverywhere, checkpoint_with}
+use Rattle.qcow2_disk.specs.AbstractImages.{Guest, Setting, guest_of}
 use Rattle.qcow2_alloc.specs.ImageError.{IsFault as FaultOfTables}
 use Rattle.qcow2_alloc.specs.declared.error.ImageError.{ImageError}
 use Rattle.qcow2_alloc.specs.declared.error.ImageError.TheVariants as I

@@ -3,8 +3,8 @@ use Rattle.std.proofs.Common.{◌≡◌, ◌⊎◌, inl, inr, Bool, true, false,
 use Rattle.std.specs.Prelude.{Option, IsTrue}
 use Rattle.image_access.specs.Backing.{BackingView}
 use Rattle.image_access.specs.Moments.{StorageView}
-use Rattle.qcow2_laws.specs.Stops.{GivenBytes}
-use Rattle.qcow2_laws.specs.Calls.{storage, IsFault, Works, Does, Refuses, IsSame}
+use Rattle.qcow2_disk.specs.Stops.{GivenBytes}
+use Rattle.qcow2_disk.specs.Calls.{storage, IsFault, Works, Does, Refuses, IsSame}
 use Rattle.qcow2_alloc.specs.declared.error.ImageError.{ImageError}
 use Rattle.qcow2_alloc.specs.declared.error.ImageError.TheVariants as I
 use Rattle.qcow2_image.specs.declared.image.Qcow2.{Qcow2}

@@ -3,8 +3,8 @@ use Rattle.std.proofs.Common.{◌≡◌, ◌⊎◌, ⊎_elim, inl, inr, ℕ, zer
 use Rattle.std.specs.Prelude.{slice_get, slice_set}
 use Rattle.std.specs.Option.{option_map_or}
 use Rattle.std.proofs.lemmas.Bool.{cases_eq, eq-eqb, ne_eqb, cond-true, cond-false}
-use Rattle.qcow2_laws.specs.Mappings.{PreparedMapping}
-use Rattle.qcow2_laws.specs.AbstractImages.{meaning_at}
+use Rattle.qcow2_disk.specs.Mappings.{PreparedMapping}
+use Rattle.qcow2_disk.specs.AbstractImages.{meaning_at}
 use Rattle.qcow2_image.specs.declared.prepared.Prepared.{Prepared}
 use Rattle.qcow2_image.specs.ImageInvariant.{over_all}
 use Rattle.qcow2_image.proofs.Shares.{over_all_at}

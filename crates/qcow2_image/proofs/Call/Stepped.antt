@@ -8,9 +8,9 @@ use Rattle.qcow2_metadata.specs.Bytes.{Bytes, byte_at}
 use Rattle.qcow2_metadata.specs.declared.header.HeaderFields.{HeaderFields}
 use Rattle.qcow2_metadata.specs.Header.{cluster_size}
 use Rattle.qcow2_laws.specs.CrashInvariant.{Pending}
-use Rattle.qcow2_laws.specs.SafeSteps.{SafeStep, SafeThroughout}
-use Rattle.qcow2_laws.specs.Stops.{GivenBytes, StopOkEverywhere, checkpoint_with}
-use Rattle.qcow2_laws.specs.Calls.{Works}
+use Rattle.qcow2_laws.specs.SafeSteps.{SafeStep}
+use Rattle.qcow2_disk.specs.Stops.{SafeThroughout, GivenBytes, StopOkEverywhere, checkpoint_with}
+use Rattle.qcow2_disk.specs.Calls.{Works}
 use Rattle.qcow2_laws.specs.Unseen.{KeepsFormat}
 use Rattle.qcow2_alloc.specs.ImageFile.{state_in, view_in, known_in}
 use Rattle.qcow2_image.specs.declared.image.Qcow2.{Qcow2}

@@ -10,14 +10,14 @@ use Rattle.qcow2_metadata.specs.declared.header.HeaderFields.{HeaderFields}
 use Rattle.qcow2_metadata.specs.Header.{cluster_size, entries_per_cluster}
 use Rattle.qcow2_metadata.specs.Cover.{cover}
 use Rattle.qcow2_metadata.specs.L2Mapping.{IsInReach, dropped_run}
-use Rattle.qcow2_laws.specs.AbstractImages.{Guest, Setting, guest_of}
-use Rattle.qcow2_laws.specs.Calls.{Works, cleared, with_disk}
+use Rattle.qcow2_disk.specs.AbstractImages.{Guest, Setting, guest_of}
+use Rattle.qcow2_disk.specs.Calls.{Works, cleared, with_disk}
 use Rattle.qcow2_laws.specs.CrashInvariant.{Pending}
-use Rattle.qcow2_laws.specs.Disk.{Disk}
+use Rattle.qcow2_disk.specs.Disk.{Disk}
 use Rattle.qcow2_laws.specs.Guests.{table_at}
-use Rattle.qcow2_laws.specs.Mappings.{gift_shown}
+use Rattle.qcow2_disk.specs.Mappings.{gift_shown}
 use Rattle.qcow2_laws.specs.Steps.{guest_at}
-use Rattle.qcow2_laws.proofs.Compose.{works_less, works_then}
+use Rattle.qcow2_disk.proofs.Compose.{works_less, works_then}
 use Rattle.qcow2_laws.proofs.Places.{Sizes-from}
 use Rattle.qcow2_alloc.specs.CacheMarks.{l2_pins}
 use Rattle.qcow2_alloc.specs.declared.clusters_to_free.ClustersToFreeEntry.{ClustersToFreeEntry}

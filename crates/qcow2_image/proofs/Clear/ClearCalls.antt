@@ -11,21 +11,21 @@ use Rattle.qcow2_metadata.specs.declared.header.HeaderFields.{HeaderFields}
 use Rattle.qcow2_metadata.specs.Header.{cluster_size, entries_per_cluster}
 use Rattle.qcow2_metadata.specs.Guest.{Value, known_byte}
 use Rattle.qcow2_metadata.specs.Bytes.{Bytes, laid_over}
-use Rattle.qcow2_laws.specs.AbstractImages.{AbstractImage, Setting, guest_of}
-use Rattle.qcow2_laws.specs.Calls.{Clearing, to_zero, to_backing, Refusal, storage, another, Works, Refuses, cleared, with_disk}
-use Rattle.qcow2_laws.specs.Disk.{Disk}
-use Rattle.qcow2_laws.specs.Mappings.{gift_shown}
-use Rattle.qcow2_laws.specs.Rules.{answered, touched_to}
-use Rattle.qcow2_laws.specs.Stops.{GivenBytes}
+use Rattle.qcow2_disk.specs.AbstractImages.{AbstractImage, Setting, guest_of}
+use Rattle.qcow2_disk.specs.Calls.{Clearing, to_zero, to_kept_zero, to_backing, IsFault, IsSame, Refusal, storage, another, Works, Refuses, cleared, with_disk}
+use Rattle.qcow2_disk.specs.Disk.{Disk}
+use Rattle.qcow2_disk.specs.Mappings.{gift_shown}
+use Rattle.qcow2_disk.specs.Rules.{answered, touched_to}
+use Rattle.qcow2_disk.specs.Stops.{GivenBytes}
 use Rattle.qcow2_laws.proofs.Places.{Sizes-from}
-use Rattle.qcow2_laws.proofs.Compose.{works_less, works_then}
-use Rattle.qcow2_laws.proofs.ForUsers.{laid_outside}
+use Rattle.qcow2_disk.proofs.Compose.{works_less, works_then}
+use Rattle.qcow2_disk.proofs.ForUsers.{laid_outside}
 use Rattle.qcow2_alloc.specs.declared.error.ImageError.{ImageError}
 use Rattle.qcow2_alloc.specs.declared.error.ImageError.TheVariants as I
 use Rattle.qcow2_alloc.specs.ImageFile.{contents_in, known_in}
 use Rattle.qcow2_image.specs.CallParts.{EndsFreeing, RefusedCall, UnseenCall}
 use Rattle.qcow2_image.specs.Calls.{refusal_of}
-use Rattle.qcow2_image.specs.Clearing.{Clears, ClearsCovers, ClearsPart, IsUnderMapping, IsWhole, from_in, gifts_between, gifts_of_clear, needs_zeros, refuses_to_clear, rounds_past, setting_of, shown_by, to_in}
+use Rattle.qcow2_image.specs.Clearing.{Clears, ClearsCovers, ClearsPart, IsUnderMapping, IsWhole, RefusesUngiven, from_in, gifts_between, gifts_of_clear, needs_zeros, refuses_to_clear, rounds_past, setting_of, shown_by, to_in}
 use Rattle.qcow2_image.specs.declared.discarding.Clearance.{Clearance}
 use Rattle.qcow2_image.specs.declared.image.Qcow2.{Qcow2}
 use Rattle.qcow2_image.specs.declared.prepared.Prepared.{Prepared}
@@ -69,7 +69,7 @@ none_fails false false false false true f x is fault = let same : I.Version ≡ 
 none_fails false false false false false true x is fault = let same : I.Overflow ≡ x = cc in absurd (let no : another 20 ≡ storage = ap refusal_of same ∙ fault in cc)
 none_fails false false false false false false x is fault = absurd cc
 
-works_if : (a : Bool) (more rest : Option ImageError) → option_or (option_or (refuse_if a I.Failed) more) rest ≡ None → a ≡ false
+pub works_if : (a : Bool) (more rest : Option ImageError) → option_or (option_or (refuse_if a I.Failed) more) rest ≡ None → a ≡ false
 works_if false more rest is = refl
 works_if true more rest is = absurd cc
 
@@ -89,6 +89,7 @@ none_laid from to values d le =
 none_cleared : (x : Setting) (d : Disk) (how : Clearing) (from to : ℕ) → to ≤ from → cleared x d how from to ≡ d
 none_cleared x d to_backing from to le = none_laid from to (λ f i. known_byte (x.backing (f + i))) d le
 none_cleared x d to_zero from to le = none_laid from to (λ f i. known_byte 0) d le
+none_cleared x d to_kept_zero from to le = none_laid from to (λ f i. known_byte 0) d le
 
 -- what is refused gives nothing more
 pub refuses_more : (v w : AbstractImage) (gs : List GivenBytes) (e : Refusal) (still : Type 0) → Refuses v w [] [] e still → Refuses v w gs [] e still
@@ -104,6 +105,10 @@ clears_early view backing old how offset n x is = λ out.
     let v = abstract_of view backing old out in
     refuses_more v v (gifts_of_clear view backing old how offset n) (refusal_of x) _
     (refuses_early v (refusal_of x) (none_fails (is_failed old) (is_external old) (not (is_writable old)) (passes (size_of old) offset n) (needs_zeros how && nat_lt old.file.header.fields.version 3) (rounds_past (cluster_size old.file.header.fields) (size_of old) offset n) x is))
+
+-- nor did that give anything
+pub ungiven_early : {S F : Type 0} (view : S → StorageView) (backing : F → BackingView) (old : Qcow2 S F) (x : ImageError) → RefusesUngiven view backing old old x
+ungiven_early view backing old x none out = refuses_early (abstract_of view backing old out) (refusal_of x) (λ is. none (subst IsFault (sym is) tt))
 
 pub under_before : (h h' : HeaderFields) (offset : ℕ) (out : List (Option Prepared)) → MovesTables h h' → IsUnderMapping h' offset out → IsUnderMapping h offset out
 under_before h h' offset out format under =
@@ -176,11 +181,20 @@ module _ {S F : Type 0} (view : S → StorageView) (backing : F → BackingView)
         (record { begins = from_whole h some rows (size_of old) offset n; ends = to_whole h some rows (size_of old) offset n; within = to_within h some rows (size_of old) offset n; version = version })
 
     -- that was refused
+    refused_ungiven : (e : ImageError) (marked : Bool) → number_of entries ≡ number_of old → failed_after e (is_failed entries) marked → (e ≡ I.Memory → IsTrue entries.file.caches.is_changed → IsTrue marked)
+        → ((out : List (Option Prepared)) → UnseenCall view backing old begun out → RefusedCall view backing begun entries out e) → (out : List (Option Prepared))
+        → Refuses (abstract_of view backing old out) (abstract_of view backing (record entries { is_failed = marked }) out) [] [] (refusal_of e) (IsSame (abstract_of view backing old out) (abstract_of view backing (record entries { is_failed = marked }) out))
+    refused_ungiven e marked number marks memory refused out = refuses_left view backing out old usable entries marked number e marks memory (λ sound. refused_then view backing out old begun entries (begins out sound) e (refused out (begins out sound)))
+
+    pub ungiven_refused : (e : ImageError) (marked : Bool) → number_of entries ≡ number_of old → failed_after e (is_failed entries) marked → (e ≡ I.Memory → IsTrue entries.file.caches.is_changed → IsTrue marked)
+        → ((out : List (Option Prepared)) → UnseenCall view backing old begun out → RefusedCall view backing begun entries out e) → RefusesUngiven view backing old (record entries { is_failed = marked }) e
+    ungiven_refused e marked number marks memory refused none out = refused_ungiven e marked number marks memory refused out
+
     pub clear_refused : (e : ImageError) (marked : Bool) → number_of entries ≡ number_of old → failed_after e (is_failed entries) marked → (e ≡ I.Memory → IsTrue entries.file.caches.is_changed → IsTrue marked)
         → ((out : List (Option Prepared)) → UnseenCall view backing old begun out → RefusedCall view backing begun entries out e) → Clears view backing how old (record entries { is_failed = marked }) offset n (Err e)
     clear_refused e marked number marks memory refused = λ out.
         refuses_more (abstract_of view backing old out) (abstract_of view backing (record entries { is_failed = marked }) out) gifts (refusal_of e) _
-        (refuses_left view backing out old usable entries marked number e marks memory (λ sound. refused_then view backing out old begun entries (begins out sound) e (refused out (begins out sound))))
+        (refused_ungiven e marked number marks memory refused out)
 
     module _ (parts : (out : List (Option Prepared)) → UnseenCall view backing old begun out → ClearsPart view backing how from to begun entries out) (freed : Qcow2 S F) (r : Result (Unit {0}) ImageError)
         (ends : (out : List (Option Prepared)) → ImageInvariant view backing (pending_in view backing entries out) entries out → EndsFreeing view backing entries freed out r) (number : number_of freed ≡ number_of old) where
@@ -226,4 +240,14 @@ module _ {S F : Type 0} (view : S → StorageView) (backing : F → BackingView)
             };
             answer = λ sound. inr ((ended sound).1, failed sound);
             fault = marked;
+          }
+
+      -- it was a fault
+      pub ungiven_broke : (x : ImageError) → r ≡ Err x → RefusesUngiven view backing old freed x
+      ungiven_broke x refused none out =
+          let fault : ImageInvariant view backing (pending_in view backing old out) old out → ⊥ = λ sound. none (subst (EndsFreeing view backing entries freed out) refused (ends out (part out sound).sound)).1 in
+          record {
+            acts = record { number = number; works = λ sound. absurd (fault sound); rests = λ was. absurd (let no : true ≡ false = sym was ∙ usable in cc) };
+            answer = λ sound. absurd (fault sound);
+            fault = λ is. absurd (none (subst IsFault (sym is) tt));
           }

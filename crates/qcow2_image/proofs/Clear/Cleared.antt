@@ -12,15 +12,15 @@ use Rattle.qcow2_metadata.specs.declared.header.HeaderFields.{HeaderFields}
 use Rattle.qcow2_metadata.specs.Header.{cluster_size}
 use Rattle.qcow2_metadata.specs.Cover.{cover}
 use Rattle.qcow2_metadata.specs.L2Mapping.{IsInReach, dropped_run}
-use Rattle.qcow2_laws.specs.AbstractImages.{Setting}
-use Rattle.qcow2_laws.specs.Calls.{Works, cleared}
+use Rattle.qcow2_disk.specs.AbstractImages.{Setting}
+use Rattle.qcow2_disk.specs.Calls.{Works, cleared}
 use Rattle.qcow2_laws.specs.CrashInvariant.{Pending}
-use Rattle.qcow2_laws.specs.Disk.{Disk, disk, uncovered, zeroed}
+use Rattle.qcow2_disk.specs.Disk.{Disk, disk, uncovered, zeroed}
 use Rattle.qcow2_laws.specs.GuestLaws.{ClearsRange, MapsEntry, MapsInTurn}
-use Rattle.qcow2_laws.specs.Mappings.{gift_shown}
+use Rattle.qcow2_disk.specs.Mappings.{gift_shown}
 use Rattle.qcow2_laws.specs.SafeSteps.{DriverState}
 use Rattle.qcow2_laws.specs.Steps.{guest_at}
-use Rattle.qcow2_laws.specs.Stops.{GivenBytes}
+use Rattle.qcow2_disk.specs.Stops.{GivenBytes}
 use Rattle.qcow2_laws.proofs.MappedRanges.{clusters_in_turn_are_a_range}
 use Rattle.qcow2_alloc.specs.CacheMarks.{KeepsMarks}
 use Rattle.qcow2_alloc.specs.declared.cache.MetadataCaches.{MetadataCaches}

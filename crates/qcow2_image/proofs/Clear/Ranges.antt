@@ -5,8 +5,8 @@ use Rattle.std.proofs.lemmas.Bool.{cases_eq, cases_lt, cond-true, cond-false, eq
 use Rattle.std.proofs.lemmas.Nat.{div-add-mod', mod-mul-add, mod_below}
 use Rattle.qcow2_metadata.specs.declared.header.HeaderFields.{HeaderFields}
 use Rattle.qcow2_metadata.specs.Header.{cluster_size, entries_per_cluster, rounded_up, rounded_down}
-use Rattle.qcow2_laws.specs.Found.{rest_of_table}
-use Rattle.qcow2_laws.specs.Rules.{touched_from, touched_to}
+use Rattle.qcow2_disk.specs.Found.{rest_of_table}
+use Rattle.qcow2_disk.specs.Rules.{touched_from, touched_to}
 use Rattle.qcow2_image.specs.Clearing.{rounds_past}
 use Rattle.qcow2_image.specs.Refusals.{passes}
 
@@ -67,7 +67,7 @@ module _ (h : HeaderFields) (some : 0 < cluster_size h) (rows : 0 < entries_per_
       ap (λ t. from + (t - from % t)) table_is ∙ omega (arith, is, below)
 
   -- it is a cluster's
-  table_whole : (rounded_down table from + table) % cluster_size h ≡ 0
+  pub table_whole : (rounded_down table from + table) % cluster_size h ≡ 0
   table_whole =
       let a : from / table * table ≡ from / table * (cluster_size h / 8) * cluster_size h = sym (mul_assoc (from / table) (cluster_size h / 8) (cluster_size h)) in
       let r : (from / table * (cluster_size h / 8) + cluster_size h / 8) * cluster_size h ≡ from / table * (cluster_size h / 8) * cluster_size h + cluster_size h / 8 * cluster_size h = omega arith in

@@ -5,11 +5,11 @@ use Rattle.std.proofs.lemmas.Bool.{cases_eq, cond-true, cond-false, eq-eqb, ne_e
 use mathlib.Core.Path.{fun_ext}
 use Rattle.image_access.specs.Backing.{BackingView}
 use Rattle.image_access.specs.Moments.{StorageView}
-use Rattle.qcow2_laws.specs.Calls.{Refusal, storage, IsFault, IsSame, Works, Rests, Does, Refuses, with_disk, with_slot}
-use Rattle.qcow2_laws.specs.Mappings.{PreparedMapping, gift_of_commit, committed}
-use Rattle.qcow2_laws.specs.Stops.{GivenBytes}
-use Rattle.qcow2_laws.specs.AbstractImages.{AbstractImage, Guest, guest_of, meaning_at}
-use Rattle.qcow2_laws.proofs.Compose.{works_less, works_then}
+use Rattle.qcow2_disk.specs.Calls.{Refusal, storage, IsFault, IsSame, Works, Rests, Does, Refuses, with_disk, with_slot}
+use Rattle.qcow2_disk.specs.Mappings.{PreparedMapping, gift_of_commit, committed}
+use Rattle.qcow2_disk.specs.Stops.{GivenBytes}
+use Rattle.qcow2_disk.specs.AbstractImages.{AbstractImage, Guest, guest_of, meaning_at}
+use Rattle.qcow2_disk.proofs.Compose.{works_less, works_then}
 use Rattle.qcow2_alloc.specs.declared.error.ImageError.{ImageError}
 use Rattle.qcow2_image.specs.declared.image.Qcow2.{Qcow2}
 use Rattle.qcow2_image.specs.declared.prepared.Prepared.{Prepared}
@@ -37,7 +37,7 @@ true_or_false true = inl refl
 true_or_false false = inr refl
 
 -- where nothing is private any more, and its place is free, it is committed
-all_shown : (a b c : Guest) (k : ℕ) (m m' : PreparedMapping) → ShowsPart a b k m m' → ((o : ℕ) → m'.is_private o ≡ false) → c ≡ with_slot b k None → c ≡ with_slot (with_disk a (committed a.disk m)) k None
+pub all_shown : (a b c : Guest) (k : ℕ) (m m' : PreparedMapping) → ShowsPart a b k m m' → ((o : ℕ) → m'.is_private o ≡ false) → c ≡ with_slot b k None → c ≡ with_slot (with_disk a (committed a.disk m)) k None
 all_shown a b c k m m' shows visible free =
     let values : b.disk.value ≡ (committed a.disk m).value = fun_ext (λ o. shows.visible o (visible o)) in
     let size = shows.size in

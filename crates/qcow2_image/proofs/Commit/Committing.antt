@@ -22,18 +22,18 @@ use Rattle.qcow2_metadata.specs.Named.{in_cluster, named_by_cover, named_for_tab
 use Rattle.qcow2_metadata.specs.declared.l2_mapping.L2Mapping.TheVariants.{Data, Zero}
 use Rattle.qcow2_metadata.specs.Consistent.{CoverIsAligned}
 use Rattle.qcow2_metadata.proofs.MadeEntries.{cover_of-copied_entry, cluster_is_host}
-use Rattle.qcow2_laws.specs.Disk.{Disk, disk}
+use Rattle.qcow2_disk.specs.Disk.{Disk, disk}
 use Rattle.qcow2_laws.specs.CrashInvariant.{Pending, CrashInvariant}
 use Rattle.qcow2_laws.specs.GuestLaws.{Kept as HostedKept, Held as HostedHeld}
 use Rattle.qcow2_laws.specs.Guests.{names, marks, marked_by_cover, table_at}
 use Rattle.qcow2_laws.specs.SafeSteps.{DriverState, StateInvariant, SafeStep}
-use Rattle.qcow2_laws.specs.Mappings.{PreparedMapping, gift_shown, gift_of_commit, committed}
-use Rattle.qcow2_laws.specs.Stops.{GivenBytes, IsGiven}
+use Rattle.qcow2_disk.specs.Mappings.{PreparedMapping, gift_shown, gift_of_commit, committed}
+use Rattle.qcow2_disk.specs.Stops.{GivenBytes, IsGiven}
 use Rattle.qcow2_laws.specs.Steps.{guest_at, EntryChanges}
-use Rattle.qcow2_laws.specs.AbstractImages.{guest_of}
+use Rattle.qcow2_disk.specs.AbstractImages.{guest_of}
 use Rattle.qcow2_laws.proofs.Blocks.{entry_top}
 use Rattle.qcow2_laws.proofs.CachedChanges.{Takes, takes_held, takes_own}
-use Rattle.qcow2_laws.proofs.Compose.{works_less}
+use Rattle.qcow2_disk.proofs.Compose.{works_less}
 use Rattle.qcow2_laws.proofs.KeptClusters.{kept_committed}
 use Rattle.qcow2_laws.proofs.MappedAnew.{Maps, pending_after, private_committed, committed_held, committed_dropped}
 use Rattle.qcow2_laws.proofs.Places.{Sizes-from, cover_at}
@@ -492,11 +492,26 @@ module _ {S F : Type 0} (view : S → StorageView) (backing : F → BackingView)
         let back_all : cluster_of h p * cluster_size h + (o - cluster_of h p * cluster_size h) ≡ o = omega arith in
         inr (inl (omega arith, omega arith, is.2 ∙ ap (λ n. (disk known below).value n) back ∙ disk_here o here ∙ ap (λ n. (committed d m).value n) (sym back_all)))
 
+    -- it is none of those beside the mapping
+    beside_mine : (g : ℕ) → (g < p.guest / cluster_size h) ⊎ (p.guest + p.length ≤ g * cluster_size h) → g ≡ cluster_of h p + i → ⊥
+    beside_mine g (inl below) is = omega (arith, below, is)
+    beside_mine g (inr past) is =
+        let lt = within in
+        let none = pending.no_more in
+        let f : p.guest / cluster_size h * cluster_size h + p.guest % cluster_size h ≡ p.guest = div-add-mod' p.guest (cluster_size h) in
+        let at : g * cluster_size h ≡ (cluster_of h p + i) * cluster_size h = ap (λ n. n * cluster_size h) is in
+        let r : (cluster_of h p + i) * cluster_size h ≡ cluster_of h p * cluster_size h + i * cluster_size h = omega arith in
+        let more : length p.shares.items ≡ i + 1 + (length p.shares.items - i - 1) = omega (arith, lt) in
+        let span : length p.shares.items * cluster_size h ≡ (i + 1 + (length p.shares.items - i - 1)) * cluster_size h = ap (λ n. n * cluster_size h) more in
+        let parts : (i + 1 + (length p.shares.items - i - 1)) * cluster_size h ≡ i * cluster_size h + cluster_size h + (length p.shares.items - i - 1) * cluster_size h = omega arith in
+        omega (arith, none, f, at, r, span, parts, past)
+
     enters_q : CommitsPart view backing old final out k p q
     enters_q = record {
       works = works_less (abstract_of view backing old out) (abstract_of view backing final now) (given below) (gift_of_commit (cluster_size h) d m ∷ []) [] gives_less (stepped_works view backing old final out now given made.after steps);
       sound = stepped_sound view backing old final out now given made.after steps;
       shows = shows_part;
+      beside = λ g outside. made.mapped.unseen.covers g (λ same. beside_mine g outside (same ∙ guest_is));
     }
 
     -- so it is of the mapping that is left

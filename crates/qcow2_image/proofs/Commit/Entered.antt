@@ -1,9 +1,10 @@
 -- The shares of a prepared mapping are entered one after another, until nothing of it is private.
-use Rattle.std.proofs.Common.{◌≡◌, inl, inr, ℕ, ◌+◌, ◌-◌, ◌*◌, ◌/◌, ◌%◌, ◌^◌, ◌<◌, ◌≤◌, Bool, true, false, List, length, [], ◌∷◌, ◌++◌, refl, sym, ap, ◌∙◌, subst, arith, min}
+use Rattle.std.proofs.Common.{◌≡◌, ◌⊎◌, inl, inr, ℕ, ◌+◌, ◌-◌, ◌*◌, ◌/◌, ◌%◌, ◌^◌, ◌<◌, ◌≤◌, Bool, true, false, List, length, [], ◌∷◌, ◌++◌, refl, sym, ap, ◌∙◌, subst, arith, min}
 use Rattle.std.specs.Prelude.{Option, Some, None, IsSome, IsTrue, slice_get, slice_set, ◌==◌}
 use Rattle.std.specs.Option.{option_map, option_map_or}
 use Rattle.std.specs.Map.{lookup}
 use Rattle.std.proofs.lemmas.Bool.{cases_eq, cond-true, cond-false, eq-eqb, ne_eqb}
+use Rattle.std.proofs.lemmas.List.{append-nil}
 use Rattle.std.proofs.lemmas.Nat.{pow_pos}
 use Rattle.std.proofs.lemmas.Option.{slice_get_within}
 use Rattle.std.proofs.Math.Pow.{pow_mono}
@@ -14,10 +15,10 @@ use Rattle.qcow2_metadata.specs.Bytes.{Bytes}
 use Rattle.qcow2_metadata.specs.declared.header.HeaderFields.{HeaderFields}
 use Rattle.qcow2_metadata.specs.Header.{cluster_size, entries_per_cluster, rounded_down, rounded_up}
 use Rattle.qcow2_metadata.specs.L2Mapping.{IsHostCluster}
-use Rattle.qcow2_laws.specs.AbstractImages.{Guest, Setting, guest_of, meaning_at}
-use Rattle.qcow2_laws.specs.Calls.{Works}
-use Rattle.qcow2_laws.specs.Mappings.{PreparedMapping, first_of, end_of, gift_shown, gift_of_commit, committed}
-use Rattle.qcow2_laws.proofs.Compose.{works_less, works_then}
+use Rattle.qcow2_disk.specs.AbstractImages.{Guest, Setting, guest_of, meaning_at}
+use Rattle.qcow2_disk.specs.Calls.{Works}
+use Rattle.qcow2_disk.specs.Mappings.{PreparedMapping, first_of, end_of, gift_shown, gift_of_commit, committed}
+use Rattle.qcow2_disk.proofs.Compose.{works_less, works_then}
 use Rattle.qcow2_alloc.specs.CacheMarks.{l2_pins}
 use Rattle.qcow2_alloc.specs.declared.cache.MetadataCaches.{MetadataCaches}
 use Rattle.qcow2_alloc.specs.declared.async_lru_cache.slot.Slot.{Slot}
@@ -27,9 +28,9 @@ use Rattle.qcow2_image.specs.declared.image.Qcow2.{Qcow2}
 use Rattle.qcow2_image.specs.declared.prepared.Prepared.{Prepared}
 use Rattle.qcow2_image.specs.declared.prepared.Share.{Share}
 use Rattle.qcow2_image.specs.declared.prepared.Share.TheVariants.{InPlace, Kept, New}
-use Rattle.qcow2_image.specs.CallParts.{CommitsPart, EntersAll, ShowsPart}
+use Rattle.qcow2_image.specs.CallParts.{CommitsPart, EntersAll, IsEntered, ShowsPart}
 use Rattle.qcow2_image.specs.Image.{Stays}
-use Rattle.qcow2_image.specs.UnseenSteps.{EntersShare, dropped_by}
+use Rattle.qcow2_image.specs.UnseenSteps.{DropsNothing, EntersShare, dropped_by}
 use Rattle.qcow2_image.specs.ImageInvariant.{cluster_of, host_of, is_entered, pins_by, pending_in, abstract_of, meaning, is_private, IsShareAt, IsPending, IsReadyWith, ImageInvariant}
 use Rattle.qcow2_image.proofs.Apart.{pins_own}
 use Rattle.qcow2_image.proofs.Call.Called.{works_none}
@@ -85,6 +86,11 @@ module _ (a b c : Guest) (k : ℕ) (ma mb mc : PreparedMapping) (first : ShowsPa
     visible = λ o isnt. then.visible o isnt ∙ value_same o (mb.is_private o) refl;
   }
 
+-- a cluster beside a range is beside the same range
+outside_same : (f f' n n' s s' g : ℕ) → f' ≡ f → n' ≡ n → s' ≡ s → (g < f / s) ⊎ (f + n ≤ g * s) → (g < f' / s') ⊎ (f' + n' ≤ g * s')
+outside_same f f' n n' s s' g from more size is =
+    subst (λ x. (g < f' / x) ⊎ (f' + n' ≤ g * x)) (sym size) (subst (λ x. (g < f' / s) ⊎ (f' + x ≤ g * s)) (sym more) (subst (λ x. (g < x / s) ⊎ (x + n ≤ g * s)) (sym from) is))
+
 module _ {S F : Type 0} (view : S → StorageView) (backing : F → BackingView) (out : List (Option Prepared)) (k : ℕ) where
   -- ---- a commit in parts
   -- nothing is entered yet
@@ -98,6 +104,7 @@ module _ {S F : Type 0} (view : S → StorageView) (backing : F → BackingView)
         works = subst (λ now. Works v (abstract_of view backing image now) gifts []) (sym same) (works_less v v [] gifts [] (λ o x never. absurd never) (works_none v sound));
         sound = subst (λ now. ImageInvariant view backing (pending_in view backing image now) image now) (sym same) sound;
         shows = subst (λ now. ShowsPart (guest_of v) (guest_of (abstract_of view backing image now)) k m m) (sym same) (shows_none (guest_of v) k m (ap (meaning_at (meaning view backing image)) placed));
+        beside = λ g outside. refl;
       }
 
   pub parts_then : (a b c : Qcow2 S F) (p q r : Prepared) → CommitsPart view backing a b out k p q → CommitsPart view backing b c (slice_set out k (Some q)) k q r → CommitsPart view backing a c out k p r
@@ -119,6 +126,7 @@ module _ {S F : Type 0} (view : S → StorageView) (backing : F → BackingView)
         sound = subst (λ now. ImageInvariant view backing (pending_in view backing c now) c now) end then.sound;
         shows = shows_then (guest_of va) (guest_of vb) (guest_of (abstract_of view backing c (slice_set out k (Some r)))) k ma mb mc first.shows
             (subst (λ now. ShowsPart (guest_of vb) (guest_of (abstract_of view backing c now)) k mb mc) end then.shows);
+        beside = λ g outside. first.beside g outside ∙ then.beside g (outside_same p.guest q.guest p.length q.length va.setting.cluster_size vb.setting.cluster_size g first.shows.from first.shows.length sizes outside);
       }
 
 -- ---- one share is entered
@@ -218,21 +226,27 @@ all_in_place view backing image p each o = by_test (is_private view backing imag
 module _ {S F : Type 0} (view : S → StorageView) (backing : F → BackingView) where
   pub record EntersFirst (old now : Qcow2 S F) (p q : Prepared) (n : ℕ) (entered : Bool) : Type 0 where
     pub stays : Stays old now
+    pub header : now.file.header ≡ old.file.header
     pub none : entered ≡ false → (now ≡ old) × (q ≡ p)
     pub table : q.table ≡ p.table
     pub count : length q.shares.items ≡ length p.shares.items
     pub in_place : (j : ℕ) → j < n → slice_get q.shares.items j ≡ Some InPlace
     pub parts : (out : List (Option Prepared)) (k : ℕ) → slice_get out k ≡ Some (Some p) → IsSome p.table → ImageInvariant view backing (pending_in view backing old out) old out
         → CommitsPart view backing old now out k p q × (IsTrue entered → IsTrue now.file.caches.is_changed)
+    pub storage : now.file.storage ≡ old.file.storage
+    pub quiet : DropsNothing p → DropsNothing q × (now.file.free_list ≡ old.file.free_list)
 
   pub first_none : (old : Qcow2 S F) (p : Prepared) → EntersFirst old old p p 0 false
   first_none old p = record {
     stays = record { image = record { number = refl; size = refl; writable = refl; external = refl }; failed = refl };
+    header = refl;
     none = λ _. (refl, refl);
     table = refl;
     count = refl;
     in_place = λ j lt. absurd (omega arith);
     parts = λ out k placed some sound. (parts_none view backing out k old p placed sound, λ never. absurd (let e : false ≡ true = never in cc));
+    storage = refl;
+    quiet = λ none. (none, refl);
   }
 
   module _ (old now new : Qcow2 S F) (p q r : Prepared) (n : ℕ) (entered : Bool) (first : EntersFirst old now p q n entered) where
@@ -242,6 +256,7 @@ module _ {S F : Type 0} (view : S → StorageView) (backing : F → BackingView)
         subst (λ (x : Qcow2 S F). EntersFirst old x p r (n + 1) entered) (sym same.0) (subst (λ (x : Prepared). EntersFirst old now p x (n + 1) entered) (sym same.1)
         (record {
           stays = first.stays;
+          header = first.header;
           none = first.none;
           table = first.table;
           count = first.count;
@@ -250,7 +265,20 @@ module _ {S F : Type 0} (view : S → StorageView) (backing : F → BackingView)
             | inr other ↦ first.in_place j (omega arith)
           ];
           parts = first.parts;
+          storage = first.storage;
+          quiet = first.quiet;
         }))
+
+    -- what is in place drops nothing
+    left_of : (q r : Prepared) (n : ℕ) → EntersShare n q r now new → DropsNothing q → DropsNothing r
+    left_of q r n enters none i share at = elim (cases_eq i n) [
+      | inl here ↦
+          let there : Some share ≡ Some InPlace =
+          sym at ∙ ap (λ (l : List Share). slice_get l i) enters.shares ∙ ap (slice_get (slice_set q.shares.items n InPlace)) here ∙ get_set_same q.shares.items n InPlace enters.share enters.was in
+          let is : share ≡ InPlace = cc in
+          ap dropped_by is
+      | inr other ↦ none i share (sym (ap (λ (l : List Share). slice_get l i) enters.shares ∙ get_set_other q.shares.items n i InPlace other) ∙ at)
+    ]
 
     -- or it is entered
     pub first_true : EntersShare n q r now new → Stays now new → EntersFirst old new p r (n + 1) true
@@ -261,6 +289,7 @@ module _ {S F : Type 0} (view : S → StorageView) (backing : F → BackingView)
             image = record { number = stays.image.number ∙ first.stays.image.number; size = stays.image.size ∙ first.stays.image.size; writable = stays.image.writable ∙ first.stays.image.writable; external = stays.image.external ∙ first.stays.image.external };
             failed = stays.failed ∙ first.stays.failed;
           };
+          header = ap (λ (m : Qcow2 S F). m.file.header) enters.lists ∙ ap (λ (m : Qcow2 S F). m.file.header) enters.enters.rest ∙ first.header;
           none = λ never. absurd (let e : true ≡ false = never in cc);
           table = table ∙ first.table;
           count = ap (λ (l : List Share). length l) enters.shares ∙ length_set q.shares.items n InPlace ∙ first.count;
@@ -275,6 +304,14 @@ module _ {S F : Type 0} (view : S → StorageView) (backing : F → BackingView)
                 parts_then view backing out k old now new p q r before (entered_part view backing now new n q r enters (slice_set out k (Some q)) k at there.0 there.1 before.sound),
                 λ _. entered_noted view backing now new n q r enters (slice_set out k (Some q)) k at there.0 there.1 before.sound,
               );
+          storage = ap (λ (m : Qcow2 S F). m.file.storage) enters.lists ∙ ap (λ (m : Qcow2 S F). m.file.storage) enters.enters.rest ∙ first.storage;
+          quiet = λ none.
+              let before = first.quiet none in
+              let last : new.file.free_list ≡ enters.mid.file.free_list ++ dropped_by enters.share = ap (λ (m : Qcow2 S F). m.file.free_list) enters.lists in
+              let rest : enters.mid.file.free_list ≡ now.file.free_list = ap (λ (m : Qcow2 S F). m.file.free_list) enters.enters.rest in (
+                λ i share at. left_of q r n enters before.0 i share at,
+                last ∙ ap (λ l. enters.mid.file.free_list ++ l) (before.0 n enters.share enters.was) ∙ append-nil enters.mid.file.free_list ∙ rest ∙ before.1,
+              );
         }
 
   -- all are
@@ -283,3 +320,7 @@ module _ {S F : Type 0} (view : S → StorageView) (backing : F → BackingView)
       let parts = first.parts out k placed some sound in
       let many = first.count in
       (record { part = parts.0; visible = all_in_place view backing now q (λ j lt. first.in_place j (omega arith)) }, parts.1)
+
+  -- and all are in place
+  pub entered_whole : (old now : Qcow2 S F) (p q : Prepared) (n : ℕ) (entered : Bool) → EntersFirst old now p q n entered → n ≡ length p.shares.items → IsEntered p q
+  entered_whole old now p q n entered first all = record { table = first.table; many = first.count; in_place = λ j lt. first.in_place j (omega (arith, lt, all)) }

@@ -9,12 +9,12 @@ use Rattle.image_access.proofs.Passing.{passes_none}
 use Rattle.qcow2_metadata.specs.Bytes.{Bytes}
 use Rattle.qcow2_metadata.specs.declared.header.HeaderFields.{HeaderFields}
 use Rattle.qcow2_laws.specs.Changes.{held_to_dropped}
-use Rattle.qcow2_laws.specs.Disk.{disk}
+use Rattle.qcow2_disk.specs.Disk.{disk}
 use Rattle.qcow2_laws.specs.CrashInvariant.{Pending, CrashInvariant}
 use Rattle.qcow2_laws.specs.SafeSteps.{DriverState, SafeStep}
 use Rattle.qcow2_laws.specs.Caches.{AreSettled}
-use Rattle.qcow2_laws.specs.AbstractImages.{guest_of}
-use Rattle.qcow2_laws.specs.Calls.{with_slot}
+use Rattle.qcow2_disk.specs.AbstractImages.{guest_of}
+use Rattle.qcow2_disk.specs.Calls.{with_slot}
 use Rattle.qcow2_laws.proofs.SafeSteps.{endures_none}
 use Rattle.qcow2_laws.proofs.Steps.{pending_is_changed}
 use Rattle.qcow2_metadata.specs.Tables.{CachedTable}

@@ -9,12 +9,11 @@ use Rattle.qcow2_metadata.specs.Consistent.{IsConsistent}
 use Rattle.qcow2_metadata.specs.declared.header.HeaderFields.{HeaderFields}
 use Rattle.qcow2_metadata.specs.Header.{HeaderView, header}
 use Rattle.qcow2_metadata.specs.HeaderWrite.{new_header, new_fields, HasNewNames}
-use Rattle.qcow2_laws.specs.Disk.{disk}
-use Rattle.qcow2_laws.specs.SafeSteps.{SafeThroughout}
+use Rattle.qcow2_disk.specs.Disk.{disk}
+use Rattle.qcow2_disk.specs.Stops.{SafeThroughout, Checkpoint, checkpoint_at, checkpoint_with, IsAsked, StopOkEverywhere}
 use Rattle.qcow2_laws.specs.NewImages.{IsNewImage}
-use Rattle.qcow2_laws.specs.Stops.{Checkpoint, checkpoint_at, checkpoint_with, IsAsked, StopOkEverywhere}
 use Rattle.qcow2_laws.specs.Tops.{places_of, with_places}
-use Rattle.qcow2_laws.specs.AbstractImages.{IsOpened}
+use Rattle.qcow2_disk.specs.AbstractImages.{IsOpened}
 use Rattle.qcow2_alloc.specs.declared.error.ImageError.{ImageError}
 use Rattle.qcow2_alloc.specs.ImageFile.{nothing_given, view_in}
 use Rattle.qcow2_image.specs.declared.builder.Qcow2CreateBuilder.{Qcow2CreateBuilder}

@@ -4,9 +4,9 @@ use Rattle.std.specs.Prelude.{Result, Ok, Err, IfOk, IfErr, IsTrue}
 use Rattle.image_access.specs.Backing.{BackingView}
 use Rattle.image_access.specs.Moments.{StorageView}
 use Rattle.qcow2_laws.specs.CrashInvariant.{Pending}
-use Rattle.qcow2_laws.specs.Calls.{Does, IsFault, IsSame}
+use Rattle.qcow2_disk.specs.Calls.{Does, IsFault, IsSame}
 use Rattle.qcow2_laws.specs.SafeSteps.{SafeStep}
-use Rattle.qcow2_laws.specs.AbstractImages.{contents_of}
+use Rattle.qcow2_disk.specs.AbstractImages.{contents_of}
 use Rattle.qcow2_laws.proofs.Formats.{format_same, format_then}
 use Rattle.qcow2_laws.proofs.SafeSteps.{leads_then, steps_endure}
 use Rattle.qcow2_laws.proofs.Unseen.{unseen_then}

@@ -1,5 +1,5 @@
 -- Parts of growing after one another, and the L1 table in the place of the former one.
-use Rattle.std.proofs.Common.{◌≡◌, inl, inr, ⊎_elim, ℕ, ◌+◌, ◌-◌, ◌*◌, ◌/◌, ◌^◌, ◌<◌, ◌≤◌, List, [], ◌∷◌, ◌++◌, Result, Ok, Err, Bool, refl, sym, ap, ◌∙◌, subst, arith}
+use Rattle.std.proofs.Common.{◌≡◌, inl, inr, ⊎_elim, ℕ, ◌-◌, ◌*◌, ◌/◌, ◌^◌, ◌<◌, ◌≤◌, List, [], ◌∷◌, ◌++◌, Result, Ok, Err, Bool, refl, sym, ap, ◌∙◌, subst, arith}
 use Rattle.std.specs.Prelude.{OnOk}
 use Rattle.std.proofs.Math.Nat.{div-lt_iff_lt-mul}
 use Rattle.image_access.specs.Backing.{BackingView}
@@ -12,10 +12,10 @@ use Rattle.qcow2_metadata.specs.EntryTable.{entry_count}
 use Rattle.qcow2_laws.specs.CrashInvariant.{Pending}
 use Rattle.qcow2_laws.specs.Guests.{guests}
 use Rattle.qcow2_laws.proofs.Places.{Sizes}
-use Rattle.qcow2_laws.specs.Stops.{Checkpoint, StopOkEverywhere}
+use Rattle.qcow2_disk.specs.Stops.{Checkpoint, StopOkEverywhere}
 use Rattle.qcow2_laws.specs.Tops.{places_of, with_places}
 use Rattle.qcow2_laws.proofs.SafeSteps.{leads_then, steps_endure}
-use Rattle.qcow2_laws.proofs.Stops.{kept_more}
+use Rattle.qcow2_disk.proofs.Stops.{kept_more}
 use Rattle.qcow2_alloc.specs.declared.error.ImageError.{ImageError}
 use Rattle.qcow2_alloc.specs.ImageFile.{nothing_given, view_in, known_in, state_in}
 use Rattle.qcow2_alloc.proofs.FileSteps.{pending_same}
@@ -86,7 +86,7 @@ module _ {S F : Type 0} (view : S → StorageView) (backing : F → BackingView)
   resized_then p a b c size (Err e) first same then = lasts_then p (pending_then p a b) a b c [] (size ∷ []) first then
 
   -- an entry behind the last byte's reaches the size
-  reaches_so : (h : HeaderFields) (size i : ℕ) → Sizes h → i ≡ (size - 1) / cluster_size h / entries_per_cluster h → i < h.l1_entries → size ≤ guests h * cluster_size h
+  pub reaches_so : (h : HeaderFields) (size i : ℕ) → Sizes h → i ≡ (size - 1) / cluster_size h / entries_per_cluster h → i < h.l1_entries → size ≤ guests h * cluster_size h
   reaches_so h size i sizes is lt =
       let entry = (div-lt_iff_lt-mul sizes.entries).0 (subst (λ n. n < h.l1_entries) is lt) in
       let byte = (div-lt_iff_lt-mul sizes.some).0 entry in

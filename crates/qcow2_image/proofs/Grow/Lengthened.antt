@@ -16,7 +16,7 @@ use Rattle.qcow2_laws.specs.Changes.{fresh_to_spent}
 use Rattle.qcow2_laws.specs.CrashInvariant.{Pending}
 use Rattle.qcow2_laws.specs.Guests.{over_guests, names}
 use Rattle.qcow2_laws.specs.SafeSteps.{SafeStep}
-use Rattle.qcow2_laws.specs.Stops.{StopOkEverywhere, checkpoint_with}
+use Rattle.qcow2_disk.specs.Stops.{StopOkEverywhere, checkpoint_with}
 use Rattle.qcow2_laws.specs.Unseen.{used_by_guests}
 use Rattle.qcow2_laws.proofs.Formats.{guests_format}
 use Rattle.qcow2_laws.proofs.Guests.{over_guests-same}

@@ -13,7 +13,7 @@ use Rattle.qcow2_metadata.specs.Cover.{cover, cover_of, entry_cover}
 use Rattle.qcow2_metadata.specs.L2Table.{L2TableView}
 use Rattle.qcow2_metadata.specs.declared.l2_mapping.L2Mapping.{L2Mapping}
 use Rattle.qcow2_metadata.specs.declared.l2_mapping.L2Mapping.TheVariants.{Data, Zero, Compressed, Uncovered}
-use Rattle.qcow2_laws.specs.Alike.{IsAlike, IsAlikeAt, IsAlikeRun, IsLongestRun}
+use Rattle.qcow2_disk.specs.Alike.{IsAlike, IsAlikeAt, IsAlikeRun, IsLongestRun}
 use Rattle.qcow2_laws.specs.Guests.{table_at}
 use Rattle.qcow2_laws.proofs.Places.{Sizes, cover_none, cover_in}
 use Rattle.qcow2_alloc.specs.TableCaches.{IsTableOf}
@@ -30,7 +30,7 @@ use Rattle.qcow2_image.specs.declared.image.Qcow2.{Qcow2}
 use Rattle.qcow2_image.specs.declared.mapping.MappingKind.{MappingKind}
 use Rattle.qcow2_image.specs.declared.mapping.MappingKind.TheVariants as M
 use Rattle.qcow2_image.specs.Image.{size_of}
-use Rattle.qcow2_laws.specs.Found.{Kind, raw, indirect, zeros, special, eof, kind_at, rest_of_table}
+use Rattle.qcow2_disk.specs.Found.{Kind, raw, indirect, zeros, special, eof, kind_at, rest_of_table}
 use Rattle.qcow2_image.specs.declared.mapping.Place.TheVariants.{Image, DataFile}
 use Rattle.qcow2_image.specs.Found.{found_kind, mapping_of, l1_index_of, AreAlikeBehind, IsAlikeTo, IsRunBehind, IsFound, IsFoundWhole, IsMappedAs}
 

@@ -17,7 +17,7 @@ use Rattle.qcow2_image.specs.declared.image.Qcow2.{Qcow2}
 use Rattle.qcow2_image.specs.declared.mapping.MappingKind.TheVariants as Kind
 use Rattle.qcow2_image.specs.declared.mapping.Place.TheVariants.{Image}
 use Rattle.qcow2_image.specs.Image.{size_of}
-use Rattle.qcow2_laws.specs.Found.{raw, kind_at}
+use Rattle.qcow2_disk.specs.Found.{raw, kind_at}
 use Rattle.qcow2_image.specs.Found.{IsFoundWhole}
 
 picked : (a z d : Bool) (v w : L2Mapping) (x host : ℕ) (m copied : Bool) → ((h : ℕ) (k : Bool) → v ≡ Data h k → ⊥) → ((h : ℕ) (k : Bool) → w ≡ Data h k → ⊥)

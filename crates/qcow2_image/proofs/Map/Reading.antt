@@ -9,10 +9,10 @@ use Rattle.qcow2_metadata.specs.Guest.{known_byte}
 use Rattle.qcow2_metadata.specs.Cover.{cover}
 use Rattle.qcow2_metadata.specs.declared.l2_mapping.L2Mapping.{L2Mapping}
 use Rattle.qcow2_metadata.specs.declared.l2_mapping.L2Mapping.TheVariants.{Data, Zero, Compressed, Uncovered}
-use Rattle.qcow2_laws.specs.Disk.{disk}
+use Rattle.qcow2_disk.specs.Disk.{disk}
 use Rattle.qcow2_laws.specs.SafeSteps.{DriverState, StateInvariant}
-use Rattle.qcow2_laws.specs.Found.{raw, indirect, zeros, kind_at}
-use Rattle.qcow2_laws.specs.Alike.{IsAlikeRun}
+use Rattle.qcow2_disk.specs.Found.{raw, indirect, zeros, kind_at}
+use Rattle.qcow2_disk.specs.Alike.{IsAlikeRun}
 use Rattle.qcow2_laws.proofs.Alike.{run_shows_data, run_shows_zero, run_shows_uncovered}
 use Rattle.qcow2_image.specs.ImageInvariant.{backing_bytes}
 

@@ -7,13 +7,13 @@ use Rattle.qcow2_metadata.specs.Header.{header, cluster_size}
 use Rattle.qcow2_metadata.specs.declared.header.HeaderFields.{HeaderFields}
 use Rattle.qcow2_metadata.specs.declared.l2_mapping.L2Mapping.{L2Mapping}
 use Rattle.qcow2_metadata.specs.declared.l2_mapping.L2Mapping.TheVariants.{Data, Zero, Compressed, Uncovered}
-use Rattle.qcow2_laws.specs.Calls.{Refusal, Does, Refuses, IsSame, storage}
-use Rattle.qcow2_laws.specs.AbstractImages.{AbstractImage}
-use Rattle.qcow2_laws.specs.Found.{Kind, raw, indirect, zeros, special, eof, kind_at, IsFoundIn}
+use Rattle.qcow2_disk.specs.Calls.{Refusal, Does, Refuses, IsSame, storage}
+use Rattle.qcow2_disk.specs.AbstractImages.{AbstractImage}
+use Rattle.qcow2_disk.specs.Found.{Kind, raw, indirect, zeros, special, eof, kind_at, IsCompressed, IsCompressedAt, IsFoundIn}
 use Rattle.qcow2_alloc.specs.ImageError.{IsOfTables}
 use Rattle.qcow2_alloc.specs.declared.error.ImageError.{ImageError}
 use Rattle.qcow2_alloc.specs.declared.error.ImageError.TheVariants as I
-use Rattle.qcow2_image.specs.SpecialReads.{IsCompressed, IsCompressedAt, is_special}
+use Rattle.qcow2_image.specs.SpecialReads.{is_special}
 
 special_compressed : (h : HeaderFields) (b : Bool) (offset o : ℕ) (v : L2Mapping) → special o ≡ kind_at h b offset v → IsCompressed v
 special_compressed h b offset o (Data host copied) e = absurd cc

@@ -12,7 +12,7 @@ use Rattle.qcow2_metadata.specs.HeaderWrite.{autoclear_cleared}
 use Rattle.qcow2_metadata.specs.Entries.{l1_entry, reftable_entry}
 use Rattle.qcow2_laws.specs.Caches.{CacheInvariantOver, AreSettled}
 use Rattle.qcow2_laws.specs.CrashInvariant.{Pending, CrashInvariant}
-use Rattle.qcow2_laws.specs.Stops.{StopOkEverywhere}
+use Rattle.qcow2_disk.specs.Stops.{StopOkEverywhere}
 use Rattle.qcow2_laws.specs.Tops.{WritesHeader, resized}
 use Rattle.qcow2_laws.proofs.HeaderWrites.{autoclear_beside}
 use Rattle.qcow2_laws.proofs.SafeSteps.{endures_none, endures_write}

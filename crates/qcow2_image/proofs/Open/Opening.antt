@@ -17,8 +17,8 @@ use Rattle.qcow2_laws.specs.Caches.{AreSettled}
 use Rattle.qcow2_laws.specs.Clusters.{Neither}
 use Rattle.qcow2_laws.specs.CrashInvariant.{Pending, CrashInvariant}
 use Rattle.qcow2_laws.specs.Opened.{nothing_pending, surplus_of}
-use Rattle.qcow2_laws.specs.Stops.{StopOkEverywhere}
-use Rattle.qcow2_laws.specs.AbstractImages.{IsOpened}
+use Rattle.qcow2_disk.specs.Stops.{StopOkEverywhere}
+use Rattle.qcow2_disk.specs.AbstractImages.{IsOpened}
 use Rattle.qcow2_laws.proofs.Opened.{opened_guarded}
 use Rattle.qcow2_laws.proofs.Places.{l1_entry-past}
 use Rattle.qcow2_alloc.specs.declared.image_file.ImageFile.{ImageFile}

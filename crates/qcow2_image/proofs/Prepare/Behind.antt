@@ -7,14 +7,14 @@ use Rattle.image_access.specs.Moments.{StorageView}
 use Rattle.qcow2_metadata.specs.Bytes.{is_within}
 use Rattle.qcow2_metadata.specs.declared.header.HeaderFields.{HeaderFields}
 use Rattle.qcow2_metadata.specs.declared.l2_mapping.L2Mapping.{L2Mapping}
-use Rattle.qcow2_metadata.specs.declared.l2_mapping.L2Mapping.TheVariants.{Data}
+use Rattle.qcow2_metadata.specs.declared.l2_mapping.L2Mapping.TheVariants.{Data, Zero}
 use Rattle.qcow2_metadata.specs.Cover.{cover}
 use Rattle.qcow2_metadata.specs.Guest.{known_byte}
 use Rattle.qcow2_metadata.specs.Entries.{count as count_of}
 use Rattle.qcow2_metadata.specs.Header.{cluster_size, entries_per_cluster}
 use Rattle.qcow2_metadata.specs.L2Mapping.{IsHostCluster, IsInReach, named_run}
 use Rattle.qcow2_laws.specs.Changes.{with_held}
-use Rattle.qcow2_laws.specs.Mappings.{is_copied_data}
+use Rattle.qcow2_disk.specs.Mappings.{is_copied_data}
 use Rattle.qcow2_laws.proofs.Formats.{cover_format, size_format}
 use Rattle.qcow2_alloc.specs.declared.clusters_to_free.ClustersToFreeEntry.{ClustersToFreeEntry}
 use Rattle.qcow2_alloc.specs.declared.error.ImageError.{ImageError}
@@ -29,11 +29,16 @@ use Rattle.qcow2_image.specs.CallParts.{UnseenCall}
 use Rattle.qcow2_image.specs.Ranges.{Ends, FindsBehind, IsSharedAt, MayGoOn, SharesAt, StandsBehind}
 use Rattle.qcow2_image.proofs.Call.Refused.{back_refused, goes_stays}
 use Rattle.qcow2_image.proofs.Prepare.Gaining.{following_same}
-use Rattle.qcow2_image.specs.UnseenSteps.{is_announced, pending_then, UnseenFillingStep}
+use Rattle.qcow2_image.specs.UnseenSteps.{is_announced, pending_then, IsFilled, UnseenFillingStep}
 use Rattle.qcow2_image.proofs.Prepare.Extending.{within_as}
 use Rattle.qcow2_image.proofs.Prepare.Filling.{goes_none}
 use Rattle.qcow2_image.proofs.Shares.{place_in}
 use Rattle.qcow2_image.proofs.Sound.{free_more}
+
+-- a host cluster that is in use isn't the mapping's own
+not_own : {A B C : Type 0} → (C → ⊥) → (A ⊎ B) → A ⊎ (B × (C → ⊥))
+not_own never (inl a) = inl a
+not_own never (inr b) = inr (b, never)
 
 module _ {S F : Type 0} (view : S → StorageView) (backing : F → BackingView) (old : Qcow2 S F) (out : List (Option Prepared)) (k : ℕ) (p : Prepared) (at : slice_get out k ≡ Some (Some p)) (n table : ℕ) (overwrite : Bool) (may : MayGoOn old.file.header.fields n table p)
     (sound : ImageInvariant view backing (pending_in view backing old out) old out) where
@@ -72,7 +77,7 @@ module _ {S F : Type 0} (view : S → StorageView) (backing : F → BackingView)
       let e : cluster_of h p + count ≡ cluster_of h p / entries_per_cluster h * entries_per_cluster h + (cluster_of h p % entries_per_cluster h + count) = omega arith in
       ap (λ c. c % entries_per_cluster h) e ∙ mod-mul-add (cluster_of h p / entries_per_cluster h) (entries_per_cluster h) (cluster_of h p % entries_per_cluster h + count) may.within
 
-  table_is : (cluster_of h p + count) / entries_per_cluster h ≡ cluster_of h p / entries_per_cluster h
+  pub table_is : (cluster_of h p + count) / entries_per_cluster h ≡ cluster_of h p / entries_per_cluster h
   table_is =
       let split : cluster_of h p / entries_per_cluster h * entries_per_cluster h + cluster_of h p % entries_per_cluster h ≡ cluster_of h p = div-add-mod' (cluster_of h p) (entries_per_cluster h) in
       let e : cluster_of h p + count ≡ cluster_of h p / entries_per_cluster h * entries_per_cluster h + (cluster_of h p % entries_per_cluster h + count) = omega arith in
@@ -114,6 +119,34 @@ module _ {S F : Type 0} (view : S → StorageView) (backing : F → BackingView)
     filled = λ o here entered. absurd (let e : false ≡ true = entered in cc);
   }
 
+  -- what is announced of it is what is announced of the range
+  announced_here : (o : ℕ) → o / cluster_size h ≡ cluster_of h p + count → (overwrite && is_within p.guest (min n (p.length + cluster_size h)) o ≡ false)
+      → is_announced (cluster_size h) (p.guest + p.length) (n - p.length) overwrite (o % cluster_size h) ≡ false
+  announced_here o here opened =
+      let o_is : o / cluster_size h * cluster_size h + o % cluster_size h ≡ o = div-add-mod' o (cluster_size h) in
+      let there : o / cluster_size h * cluster_size h ≡ (cluster_of h p + count) * cluster_size h = ap (λ c. c * cluster_size h) here in
+      let is = next_is in
+      let begins = next_begins in
+      let more = may.more in
+      ap (λ b. overwrite && b) (sym (within_as p.guest (min n (p.length + cluster_size h)) o ((p.guest + p.length) % cluster_size h) (min (n - p.length) (cluster_size h - (p.guest + p.length) % cluster_size h)) (o % cluster_size h)
+      (omega arith) (omega arith) (omega arith))) ∙ opened
+
+  -- what was filled of it shows what the guest saw
+  module _ (new : Qcow2 S F) (first : ℕ) (fills : IsFilled view backing old new first (p.guest + p.length) (n - p.length) overwrite) where
+    filled_here : (o : ℕ) → o / cluster_size h ≡ cluster_of h p + count → (overwrite && is_within p.guest (min n (p.length + cluster_size h)) o ≡ false)
+        → known_byte (contents_in view new.file (first * cluster_size h + o % cluster_size h)) ≡ (disk_of view backing old).value o
+    filled_here o here opened =
+        let o_is : o / cluster_size h * cluster_size h + o % cluster_size h ≡ o = div-add-mod' o (cluster_size h) in
+        let there : o / cluster_size h * cluster_size h ≡ (cluster_of h p + count) * cluster_size h = ap (λ c. c * cluster_size h) here in
+        let is = next_is in
+        let begins = next_begins in
+        let guest : p.guest + p.length - (p.guest + p.length) % cluster_size h + o % cluster_size h ≡ o = omega arith in
+        fills (o % cluster_size h) (mod_below o (cluster_size h) (pow_pos h.cluster_bits)) (announced_here o here opened) ∙ ap (disk_of view backing old).value guest
+
+    pub filled_there : (s : ℕ) → s ≡ cluster_size h → (o : ℕ) → o / s ≡ p.guest / s + count → (overwrite && is_within p.guest (min n (p.length + s)) o ≡ false)
+        → known_byte (contents_in view new.file (first * s + o % s)) ≡ (disk_of view backing old).value o
+    filled_there s is o = subst (λ x. o / x ≡ p.guest / x + count → (overwrite && is_within p.guest (min n (p.length + x)) o ≡ false) → known_byte (contents_in view new.file (first * x + o % x)) ≡ (disk_of view backing old).value o) (sym is) (filled_here o)
+
   -- ---- in a new cluster
   module _ (new : Qcow2 S F) (mapping : L2Mapping) (reach : IsInReach mapping) (other : is_copied_data mapping ≡ false) (covered : cover h (known_in view old.file) (cluster_of h p + count) ≡ mapping)
       (share : Share) (shared : IsSharedAt view backing (pending_in view backing old out) old new out (p.guest + p.length) (n - p.length) overwrite mapping (p.offset + p.length) share) where
@@ -152,32 +185,6 @@ module _ {S F : Type 0} (view : S → StorageView) (backing : F → BackingView)
       drops = ap (λ (x : HeaderFields). listed_run (named_run x.cluster_bits mapping)) (sym shared.gained.goes.header) ∙ ap (λ v. listed_run (named_run hn.cluster_bits v)) (sym stays_covered);
     }
 
-    -- what is announced of it is what is announced of the range
-    announced_here : (o : ℕ) → o / cluster_size h ≡ cluster_of h p + count → (overwrite && is_within p.guest (min n (p.length + cluster_size h)) o ≡ false)
-        → is_announced (cluster_size h) (p.guest + p.length) (n - p.length) overwrite (o % cluster_size h) ≡ false
-    announced_here o here opened =
-        let o_is : o / cluster_size h * cluster_size h + o % cluster_size h ≡ o = div-add-mod' o (cluster_size h) in
-        let there : o / cluster_size h * cluster_size h ≡ (cluster_of h p + count) * cluster_size h = ap (λ c. c * cluster_size h) here in
-        let is = next_is in
-        let begins = next_begins in
-        let more = may.more in
-        ap (λ b. overwrite && b) (sym (within_as p.guest (min n (p.length + cluster_size h)) o ((p.guest + p.length) % cluster_size h) (min (n - p.length) (cluster_size h - (p.guest + p.length) % cluster_size h)) (o % cluster_size h)
-        (omega arith) (omega arith) (omega arith))) ∙ opened
-
-    filled_here : (o : ℕ) → o / cluster_size h ≡ cluster_of h p + count → (overwrite && is_within p.guest (min n (p.length + cluster_size h)) o ≡ false)
-        → known_byte (contents_in view new.file (run.first_cluster * cluster_size h + o % cluster_size h)) ≡ (disk_of view backing old).value o
-    filled_here o here opened =
-        let o_is : o / cluster_size h * cluster_size h + o % cluster_size h ≡ o = div-add-mod' o (cluster_size h) in
-        let there : o / cluster_size h * cluster_size h ≡ (cluster_of h p + count) * cluster_size h = ap (λ c. c * cluster_size h) here in
-        let is = next_is in
-        let begins = next_begins in
-        let guest : p.guest + p.length - (p.guest + p.length) % cluster_size h + o % cluster_size h ≡ o = omega arith in
-        shared.gained.filled (ap (cover h (known_in view old.file)) next_cluster ∙ covered) (o % cluster_size h) (mod_below o (cluster_size h) (pow_pos h.cluster_bits)) (announced_here o here opened) ∙ ap (disk_of view backing old).value guest
-
-    filled_there : (s : ℕ) → s ≡ cluster_size h → (o : ℕ) → o / s ≡ p.guest / s + count → (overwrite && is_within p.guest (min n (p.length + s)) o ≡ false)
-        → known_byte (contents_in view new.file (run.first_cluster * s + o % s)) ≡ (disk_of view backing old).value o
-    filled_there s is o = subst (λ x. o / x ≡ p.guest / x + count → (overwrite && is_within p.guest (min n (p.length + x)) o ≡ false) → known_byte (contents_in view new.file (run.first_cluster * x + o % x)) ≡ (disk_of view backing old).value o) (sym is) (filled_here o)
-
     behind_as_new : StandsBehind view backing old new out n overwrite p (New (run ∷ []) dropped)
     behind_as_new = record {
       pending = with_held (pending_then (pending_in view backing old out) old new) (run_of run);
@@ -192,20 +199,24 @@ module _ {S F : Type 0} (view : S → StorageView) (backing : F → BackingView)
       stands = stands;
       filled = λ o here entered opened.
           ap (λ at. known_byte (contents_in view new.file at)) (place_in hn p o count here ∙ ap (λ b. b + o % cluster_size hn) (sym place))
-          ∙ filled_there (cluster_size hn) size o here opened;
+          ∙ filled_there new run.first_cluster (shared.gained.filled (ap (cover h (known_in view old.file)) next_cluster ∙ covered)) (cluster_size hn) size o here opened;
     }
 
     pub behind_new : StandsBehind view backing old new out n overwrite p share
     behind_new = subst (λ (x : Share). StandsBehind view backing old new out n overwrite p x) (sym shared.is) behind_as_new
 
   -- ---- what was found at its place
-  pub finds_shared : (new : Qcow2 S F) (mapping : L2Mapping) → IsInReach mapping → is_copied_data mapping ≡ false → cover h (known_in view old.file) (cluster_of h p + count) ≡ mapping
+  pub finds_shared : (new : Qcow2 S F) (mapping : L2Mapping) → IsInReach mapping → is_copied_data mapping ≡ false → (mapping ≡ Zero (Some (p.offset + p.length, true)) → ⊥) → cover h (known_in view old.file) (cluster_of h p + count) ≡ mapping
       → (r : Result (Option Share) ImageError) → SharesAt view backing (pending_in view backing old out) old new out (p.guest + p.length) (n - p.length) overwrite mapping (p.offset + p.length) r → FindsBehind view backing old new out n overwrite p r
-  finds_shared new mapping reach other covered (Ok (Some share)) is = behind_new new mapping reach other covered share is
-  finds_shared new mapping reach other covered (Ok None) is =
+  finds_shared new mapping reach other never covered (Ok (Some share)) is = behind_new new mapping reach other covered share is
+  finds_shared new mapping reach other never covered (Ok None) is =
+      let hn = new.file.header.fields in
       let same : cluster_size new.file.header.fields ≡ cluster_size h = size_format h new.file.header.fields is.0.header in
+      let here : cover hn (known_in view new.file) ((p.guest + p.length) / cluster_size hn) ≡ mapping =
+      ap (λ s. cover hn (known_in view new.file) ((p.guest + p.length) / s)) same ∙ ap (cover hn (known_in view new.file)) next_cluster
+      ∙ cover_format h hn is.0.header (known_in view new.file) (cluster_of h p + count) ∙ sym (is.0.covers (cluster_of h p + count)) ∙ covered in
       let ends : Ends view new p = record {
         cluster = ap (λ s. (p.guest + p.length) % s) same ∙ next_begins;
-        because = inr (inr (subst (λ (x : HeaderFields). (IsHostCluster x.cluster_bits ((p.offset + p.length) / cluster_size x) → ⊥) ⊎ (count_of new.file.header.fields (known_in view new.file) ((p.offset + p.length) / cluster_size x) ≢ 0)) (sym is.0.header) is.1));
+        because = inr (inr (not_own (λ own. never (sym here ∙ own)) (subst (λ (x : HeaderFields). (IsHostCluster x.cluster_bits ((p.offset + p.length) / cluster_size x) → ⊥) ⊎ (count_of new.file.header.fields (known_in view new.file) ((p.offset + p.length) / cluster_size x) ≢ 0)) (sym is.0.header) is.1)));
       } in (goes_stays view backing out old new is.0, ends)
-  finds_shared new mapping reach other covered (Err e) is = back_refused view backing out old new e is
+  finds_shared new mapping reach other never covered (Err e) is = back_refused view backing out old new e is

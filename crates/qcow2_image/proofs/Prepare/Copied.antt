@@ -1,12 +1,12 @@
 -- What is copied into a new cluster: all that isn't announced.
-use Rattle.std.proofs.Common.{◌≡◌, ◌⊎◌, inl, inr, ℕ, ◌+◌, ◌-◌, ◌*◌, ◌/◌, ◌%◌, ◌<◌, ◌≤◌, Bool, true, false, Some, sym, ◌∙◌, subst, arith, min}
+use Rattle.std.proofs.Common.{◌≡◌, ◌⊎◌, inl, inr, ℕ, ◌+◌, ◌-◌, ◌*◌, ◌/◌, ◌%◌, ◌<◌, ◌≤◌, Bool, true, false, Option, Some, None, sym, ◌∙◌, subst, arith, min}
 use Rattle.std.specs.Prelude.{nat_lt, ◌&&◌, ◌==◌}
 use Rattle.std.proofs.lemmas.Bool.{cases_lt, cases_eq, cond-true, cond-false, eq-eqb, ne_eqb, and_from, le-leb, lt-ltb}
 use Rattle.std.proofs.lemmas.Nat.{div-add-mod', mod_below}
 use Rattle.std.proofs.Math.Nat.{div-mul-le_self}
 use Rattle.qcow2_metadata.specs.Bytes.{is_within}
 use Rattle.qcow2_image.specs.declared.copy_range.CopyRange.{CopyRange}
-use Rattle.qcow2_image.specs.CopyRange.{announced_range_of, copy_range_of, uncut_copy_range}
+use Rattle.qcow2_image.specs.CopyRange.{HasByte, announced_range_of, copy_range_of, uncut_copy_range}
 
 -- a byte lies in a range
 pub record IsInside (r : CopyRange) (i : ℕ) : Type 0 where
@@ -64,5 +64,16 @@ copied cs alignment start length i o some within lt none =
       record { from = omega arith; below = omega arith },
     )
 
-pub same_range : (r s : CopyRange) (i : ℕ) → Some r ≡ Some s → IsInside s i → IsInside r i
-same_range r s i same inside = let is : r ≡ s = cc in subst (λ x. IsInside x i) (sym is) inside
+-- so does one of the part that was found
+pub none_has : (r : Option CopyRange) (i : ℕ) → r ≡ None → HasByte r i → ⊥
+none_has None i is has = has
+none_has (Some r) i is has = absurd cc
+
+pub some_has : (r : Option CopyRange) (s : CopyRange) (i : ℕ) → r ≡ Some s → HasByte r i → HasByte (Some s) i
+some_has r s i is has = subst (λ (x : Option CopyRange). HasByte x i) is has
+
+pub has_copied : (cs alignment start length : ℕ) (o : Bool) (r : Option CopyRange) → 0 < alignment → start < cs → r ≡ copy_range_of cs alignment (announced_range_of cs start length o)
+    → (i : ℕ) → i < cs → (o && is_within start (min length (cs - start)) i) ≡ false → HasByte r i
+has_copied cs alignment start length o r some within is i lt none =
+    let all = copied cs alignment start length i o some within lt none in
+    subst (λ (x : Option CopyRange). HasByte x i) (sym (is ∙ all.1)) (all.2.from, all.2.below)

@@ -11,9 +11,9 @@ use Rattle.qcow2_metadata.specs.Bytes.{Bytes, is_within}
 use Rattle.qcow2_metadata.specs.declared.header.HeaderFields.{HeaderFields}
 use Rattle.qcow2_metadata.specs.Guest.{known_byte}
 use Rattle.qcow2_metadata.specs.Header.{cluster_size, entries_per_cluster, rounded_up}
-use Rattle.qcow2_laws.specs.AbstractImages.{Guest, guest_of, meaning_at}
-use Rattle.qcow2_laws.specs.Calls.{with_slot}
-use Rattle.qcow2_laws.specs.Mappings.{PreparedMapping, IsPrepared}
+use Rattle.qcow2_disk.specs.AbstractImages.{Guest, guest_of, meaning_at}
+use Rattle.qcow2_disk.specs.Calls.{with_slot}
+use Rattle.qcow2_disk.specs.Mappings.{PreparedMapping, IsPrepared}
 use Rattle.qcow2_alloc.specs.ImageFile.{contents_in, known_in, nothing_given}
 use Rattle.qcow2_image.specs.declared.image.Qcow2.{Qcow2}
 use Rattle.qcow2_image.specs.declared.prepared.Prepared.{Prepared}

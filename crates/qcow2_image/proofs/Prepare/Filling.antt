@@ -13,7 +13,7 @@ use Rattle.qcow2_metadata.specs.Bytes.{byte_at}
 use Rattle.qcow2_metadata.specs.declared.header.HeaderFields.{HeaderFields}
 use Rattle.qcow2_metadata.specs.Header.{cluster_size}
 use Rattle.qcow2_metadata.specs.Named.{named_for_tables}
-use Rattle.qcow2_laws.specs.Disk.{disk}
+use Rattle.qcow2_disk.specs.Disk.{disk}
 use Rattle.qcow2_laws.specs.Guests.{over_guests, names}
 use Rattle.qcow2_laws.specs.CrashInvariant.{Pending}
 use Rattle.qcow2_laws.specs.Tops.{WritesAt}
@@ -40,7 +40,7 @@ use Rattle.qcow2_metadata.specs.Bytes.{Bytes}
 use Rattle.qcow2_metadata.specs.Cover.{cover}
 use Rattle.qcow2_metadata.specs.declared.l2_mapping.L2Mapping.{L2Mapping}
 use Rattle.qcow2_metadata.specs.declared.l2_mapping.L2Mapping.TheVariants.{Data, Zero, Compressed, Uncovered}
-use Rattle.qcow2_laws.specs.Alike.{IsAlike, IsAlikeRun}
+use Rattle.qcow2_disk.specs.Alike.{IsAlike, IsAlikeRun}
 use Rattle.qcow2_laws.proofs.Unseen.{unseen_disk}
 use Rattle.qcow2_image.specs.ImageInvariant.{held_by, place_of, backing_bytes, disk_of, ImageInvariant}
 use Rattle.qcow2_image.proofs.Shares.{Standing, in_new, in_kept, kept_used, over_all_at, private_stands}
@@ -48,6 +48,31 @@ use Rattle.qcow2_image.proofs.Call.Answered.{same_guest, same_slot, tidies_kept,
 use Rattle.qcow2_image.proofs.Call.Called.{copied_then}
 use Rattle.qcow2_image.proofs.Map.Loading.{still_moved}
 use Rattle.qcow2_image.proofs.Write.Written.{written, writes, sound_written, since_written, same_l1_written}
+
+-- a write to the storage is there or isn't
+pub written_or_not : (r : Result (Unit {0}) ImageError) (old changed new : List ℕ) → IsWritten r old changed new → (new ≡ old) ⊎ (new ≡ changed)
+written_or_not (Ok done) old changed new is = inr is
+written_or_not (Err I.Storage) old changed new is = is
+written_or_not (Err I.ReadOnly) old changed new is = inl is
+written_or_not (Err I.BeyondSize) old changed new is = inl is
+written_or_not (Err I.Version) old changed new is = inl is
+written_or_not (Err I.UnalignedTable) old changed new is = inl is
+written_or_not (Err I.InvalidOption) old changed new is = inl is
+written_or_not (Err I.Preallocation) old changed new is = inl is
+written_or_not (Err I.Compressed) old changed new is = inl is
+written_or_not (Err I.InUse) old changed new is = inl is
+written_or_not (Err I.TablePrepared) old changed new is = inl is
+written_or_not (Err I.OutdatedMapping) old changed new is = inl is
+written_or_not (Err I.ForeignState) old changed new is = inl is
+written_or_not (Err I.Dependency) old changed new is = inl is
+written_or_not (Err I.Limit) old changed new is = inl is
+written_or_not (Err I.Memory) old changed new is = inl is
+written_or_not (Err I.Failed) old changed new is = inl is
+written_or_not (Err I.MappingPrepared) old changed new is = inl is
+written_or_not (Err (I.NotCompressed offset)) old changed new is = inl is
+written_or_not (Err I.Metadata) old changed new is = inl is
+written_or_not (Err I.Overflow) old changed new is = inl is
+written_or_not (Err (I.StillInUse tables)) old changed new is = inl is
 
 module _ {S F : Type 0} (view : S → StorageView) (backing : F → BackingView) (out : List (Option Prepared)) where
   pub goes_kept : (a b : Qcow2 S F) (p p' : Pending) → ImageInvariant view backing p a out → HoldsAll view backing p out → HoldsAll view backing p' out → UnseenStep view backing p p' a b out → UnseenFillingStep view backing p p' a b out
@@ -167,34 +192,9 @@ module _ {S F : Type 0} (view : S → StorageView) (backing : F → BackingView)
     still : (view_in view new.file).contents ≡ (view_in view old.file).contents → UnseenFillingStep view backing p p old (record old { file = record old.file { storage = new.file.storage } }) out
     still same = goes_kept old (record old { file = record old.file { storage = new.file.storage } }) p p sound holds holds (still_moved view backing old out p sound new.file.storage (w.honest sound.file.honest) w.time same)
 
-    by_answer : (x : Result (Unit {0}) ImageError) → IsWritten x (view_in view old.file).contents (overwritten (view_in view old.file).contents at bytes) (view_in view new.file).contents
-        → ((view_in view new.file).contents ≡ (view_in view old.file).contents) ⊎ ((view_in view new.file).contents ≡ overwritten (view_in view old.file).contents at bytes)
-    by_answer (Ok done) is = inr is
-    by_answer (Err I.Storage) is = is
-    by_answer (Err I.ReadOnly) is = inl is
-    by_answer (Err I.BeyondSize) is = inl is
-    by_answer (Err I.Version) is = inl is
-    by_answer (Err I.UnalignedTable) is = inl is
-    by_answer (Err I.InvalidOption) is = inl is
-    by_answer (Err I.Preallocation) is = inl is
-    by_answer (Err I.Compressed) is = inl is
-    by_answer (Err I.InUse) is = inl is
-    by_answer (Err I.TablePrepared) is = inl is
-    by_answer (Err I.OutdatedMapping) is = inl is
-    by_answer (Err I.ForeignState) is = inl is
-    by_answer (Err I.Dependency) is = inl is
-    by_answer (Err I.Limit) is = inl is
-    by_answer (Err I.Memory) is = inl is
-    by_answer (Err I.Failed) is = inl is
-    by_answer (Err I.MappingPrepared) is = inl is
-    by_answer (Err (I.NotCompressed offset)) is = inl is
-    by_answer (Err I.Metadata) is = inl is
-    by_answer (Err I.Overflow) is = inl is
-    by_answer (Err (I.StillInUse tables)) is = inl is
-
     pub goes_data : UnseenFillingStep view backing p p old new out
     goes_data = subst (λ (image : Qcow2 S F). UnseenFillingStep view backing p p old image out) (sym w.rest)
-        (⊎_elim still (λ (is : (view_in view new.file).contents ≡ overwritten (view_in view old.file).contents at bytes). goes_written old p sound cluster at bytes own new.file.storage (w.honest sound.file.honest) w.time is) (by_answer r (w.written sound.file.honest)))
+        (⊎_elim still (λ (is : (view_in view new.file).contents ≡ overwritten (view_in view old.file).contents at bytes). goes_written old p sound cluster at bytes own new.file.storage (w.honest sound.file.honest) w.time is) (written_or_not r (view_in view old.file).contents (overwritten (view_in view old.file).contents at bytes) (view_in view new.file).contents (w.written sound.file.honest)))
 
 -- a range of the same length in an image of the same file
 pub own_of : {S F : Type 0} (view : S → StorageView) (backing : F → BackingView) (p : Pending) (old new : Qcow2 S F) (out : List (Option Prepared)) (cluster at n m : ℕ) → m ≡ n → new.file.header ≡ old.file.header

@@ -23,12 +23,12 @@ use Rattle.qcow2_metadata.specs.TableBytes.{entry_at, ChangesEntry}
 use Rattle.qcow2_metadata.proofs.EntryTables.{on_sector}
 use Rattle.qcow2_metadata.proofs.TablesAt.{entry_stands}
 use Rattle.qcow2_metadata.proofs.WrittenTables.{IsL1TableOf-written_entry}
-use Rattle.qcow2_laws.specs.Stops.{Checkpoint, StopOkEverywhere}
+use Rattle.qcow2_disk.specs.Stops.{Checkpoint, StopOkEverywhere, SafeThroughout}
 use Rattle.qcow2_laws.specs.Changes.{one_at, with_fresh, renamed}
 use Rattle.qcow2_laws.specs.CrashInvariant.{Pending, SameIn}
 use Rattle.qcow2_laws.specs.Guests.{table_at}
 use Rattle.qcow2_laws.specs.Caches.{AreClean, IsFreeAt, IsFreeOf, HasL2, HasOwnL2, HasBlock}
-use Rattle.qcow2_laws.specs.SafeSteps.{SafeStep, SafeThroughout}
+use Rattle.qcow2_laws.specs.SafeSteps.{SafeStep}
 use Rattle.qcow2_laws.specs.Tops.{IsSameBut, IsSameOutside, WritesL1Entry, IsNewTable}
 use Rattle.qcow2_laws.specs.Unseen.{IsUnseen}
 use Rattle.qcow2_laws.proofs.Beside.{overwritten_but, l1_entry_beside}

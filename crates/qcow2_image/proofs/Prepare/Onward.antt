@@ -9,13 +9,13 @@ use Rattle.image_access.specs.Backing.{BackingView}
 use Rattle.image_access.specs.Moments.{StorageView}
 use Rattle.qcow2_metadata.specs.declared.header.HeaderFields.{HeaderFields}
 use Rattle.qcow2_metadata.specs.Header.{cluster_size, entries_per_cluster}
-use Rattle.qcow2_laws.specs.AbstractImages.{Guest, guest_of, meaning_at}
-use Rattle.qcow2_laws.specs.Calls.{Works, with_slot}
-use Rattle.qcow2_laws.specs.Disk.{Disk}
-use Rattle.qcow2_laws.specs.Found.{rest_of_table}
-use Rattle.qcow2_laws.specs.Mappings.{PreparedMapping, IsPrepared}
+use Rattle.qcow2_disk.specs.AbstractImages.{Guest, guest_of, meaning_at}
+use Rattle.qcow2_disk.specs.Calls.{Works, with_slot}
+use Rattle.qcow2_disk.specs.Disk.{Disk}
+use Rattle.qcow2_disk.specs.Found.{rest_of_table}
+use Rattle.qcow2_disk.specs.Mappings.{PreparedMapping, IsPrepared}
 use Rattle.qcow2_laws.specs.Unseen.{KeepsFormat}
-use Rattle.qcow2_laws.proofs.Compose.{works_then}
+use Rattle.qcow2_disk.proofs.Compose.{works_then}
 use Rattle.qcow2_alloc.specs.ImageFile.{contents_in, known_in, state_in, KeepsHeader}
 use Rattle.qcow2_alloc.proofs.Following.{header_format, header_same, header_then}
 use Rattle.qcow2_alloc.specs.declared.error.ImageError.{ImageError}

@@ -3,9 +3,9 @@ use Rattle.std.proofs.Common.{◌≡◌, ℕ, Bool, false, List, [], Option, Som
 use Rattle.std.specs.Prelude.{Result, Ok, Err, IfErr, IsTrue, slice_set}
 use Rattle.image_access.specs.Backing.{BackingView}
 use Rattle.image_access.specs.Moments.{StorageView}
-use Rattle.qcow2_laws.specs.Calls.{Does, with_slot}
-use Rattle.qcow2_laws.specs.Mappings.{IsPrepared}
-use Rattle.qcow2_laws.specs.AbstractImages.{guest_of}
+use Rattle.qcow2_disk.specs.Calls.{Does, with_slot}
+use Rattle.qcow2_disk.specs.Mappings.{IsPrepared}
+use Rattle.qcow2_disk.specs.AbstractImages.{guest_of}
 use Rattle.qcow2_alloc.specs.declared.error.ImageError.{ImageError}
 use Rattle.qcow2_alloc.specs.declared.error.ImageError.TheVariants as I
 use Rattle.qcow2_image.specs.declared.image.Qcow2.{Qcow2}

@@ -11,13 +11,13 @@ use Rattle.qcow2_metadata.specs.declared.header.HeaderFields.{HeaderFields}
 use Rattle.qcow2_metadata.specs.declared.l2_mapping.L2Mapping.TheVariants.{Data, Zero}
 use Rattle.qcow2_metadata.specs.Header.{cluster_size, entries_per_cluster, rounded_down, rounded_up, with_tables_of}
 use Rattle.qcow2_metadata.specs.Cover.{cover}
-use Rattle.qcow2_laws.specs.Alike.{IsDataAt}
-use Rattle.qcow2_laws.specs.Mappings.{PreparedMapping, is_copied_data}
+use Rattle.qcow2_disk.specs.Alike.{IsDataAt}
+use Rattle.qcow2_disk.specs.Mappings.{PreparedMapping, is_copied_data}
 use Rattle.qcow2_laws.specs.SafeSteps.{DriverState, StateInvariant}
 use Rattle.qcow2_laws.proofs.Guests.{named-is}
 use Rattle.qcow2_laws.proofs.Places.{Sizes-from}
 use Rattle.qcow2_laws.proofs.Tops.{for_tables-top, IsTop-top}
-use Rattle.qcow2_laws.specs.Found.{rest_of_table}
+use Rattle.qcow2_disk.specs.Found.{rest_of_table}
 use Rattle.qcow2_alloc.specs.declared.error.ImageError.{ImageError}
 use Rattle.qcow2_alloc.specs.ImageFile.{contents_in, known_in, state_in}
 use Rattle.qcow2_image.specs.declared.image.Qcow2.{Qcow2}

@@ -11,12 +11,12 @@ use Rattle.qcow2_metadata.specs.declared.header.HeaderFields.{HeaderFields}
 use Rattle.qcow2_metadata.specs.Header.{cluster_size, rounded_up}
 use Rattle.qcow2_metadata.specs.Tables.{CachedTable}
 use Rattle.qcow2_laws.specs.Caches.{AreSettled}
-use Rattle.qcow2_laws.specs.Calls.{with_slot}
-use Rattle.qcow2_laws.specs.Disk.{disk}
+use Rattle.qcow2_disk.specs.Calls.{with_slot}
+use Rattle.qcow2_disk.specs.Disk.{disk}
 use Rattle.qcow2_laws.specs.CrashInvariant.{Pending, SameCovers}
 use Rattle.qcow2_laws.specs.SafeSteps.{SafeStep}
-use Rattle.qcow2_laws.specs.Mappings.{IsPrepared}
-use Rattle.qcow2_laws.specs.AbstractImages.{Guest, guest_of}
+use Rattle.qcow2_disk.specs.Mappings.{IsPrepared}
+use Rattle.qcow2_disk.specs.AbstractImages.{Guest, guest_of}
 use Rattle.qcow2_alloc.specs.CacheMarks.{l2_pins, SameTables}
 use Rattle.qcow2_alloc.specs.declared.cache.MetadataCaches.{MetadataCaches}
 use Rattle.qcow2_alloc.specs.ImageFile.{state_in, contents_in, known_in, nothing_given}

@@ -3,7 +3,7 @@ use Rattle.std.proofs.Common.{◌≡◌, inl, inr, ℕ, ◌+◌, ◌-◌, ◌*�
 use Rattle.qcow2_alloc.specs.declared.error.ImageError.{ImageError}
 use Rattle.qcow2_metadata.specs.declared.l2_mapping.L2Mapping.{L2Mapping}
 use Rattle.qcow2_metadata.specs.L2Mapping.{IsInReach, named_run}
-use Rattle.qcow2_laws.specs.Mappings.{is_copied_data}
+use Rattle.qcow2_disk.specs.Mappings.{is_copied_data}
 use Rattle.std.specs.Prelude.{◌↔◌, IsSome, IsTrue, min, nat_le, nat_lt, slice_get, ◌&&◌}
 use Rattle.std.proofs.lemmas.Bool.{cases_lt, cond-true, le-leb, lt-ltb, lt-leb, le-ltb}
 use Rattle.std.proofs.lemmas.Nat.{div-mul-add, div-add-mod', mod_below, pow_pos}
@@ -20,7 +20,7 @@ use Rattle.qcow2_metadata.specs.declared.l2_mapping.L2Mapping.TheVariants.{Data}
 use Rattle.qcow2_laws.specs.Changes.{with_held}
 use Rattle.qcow2_laws.specs.CrashInvariant.{Pending}
 use Rattle.qcow2_laws.specs.Guests.{table_at}
-use Rattle.qcow2_laws.specs.AbstractImages.{guest_of}
+use Rattle.qcow2_disk.specs.AbstractImages.{guest_of}
 use Rattle.qcow2_laws.proofs.Formats.{cover_format, l1_format, size_format}
 use Rattle.qcow2_alloc.specs.CacheMarks.{l2_pins}
 use Rattle.qcow2_alloc.specs.MetadataCaches.{IsEntryAt, l2_at}
@@ -33,7 +33,7 @@ use Rattle.qcow2_alloc.specs.declared.clusters_to_free.ClustersToFreeEntry.{Clus
 use Rattle.qcow2_image.specs.Found.{l1_index_of, l2_index_of}
 use Rattle.qcow2_image.specs.Image.{number_of}
 use Rattle.qcow2_image.specs.CallParts.{IsReadied}
-use Rattle.qcow2_image.specs.UnseenSteps.{is_announced, UnseenFillingStep, RefusedFillingStep, HoldsAll, HoldsTable, IsGained, UnseenStep, Pins, SameHeld, pending_then}
+use Rattle.qcow2_image.specs.UnseenSteps.{is_announced, IsFilled, UnseenFillingStep, RefusedFillingStep, HoldsAll, HoldsTable, IsGained, UnseenStep, Pins, SameHeld, pending_then}
 use Rattle.qcow2_image.specs.ImageInvariant.{run_of, to_free, of_data, of_tables, held_in, listed_run, disk_of, pending_in, abstract_of, meaning, is_entered, is_private, cluster_of, host_of, place_of, IsNewAt, IsShareAt, ImageInvariant}
 use Rattle.qcow2_image.proofs.Shares.{place_in, private_shared}
 use Rattle.qcow2_image.proofs.Formats.{entry_at_format, l1_shared}
@@ -65,6 +65,22 @@ within_cluster size offset m o here =
     let o_is : o / size * size + o % size ≡ o = div-add-mod' o size in
     let same : o ≡ offset / size * size + o % size = sym o_is ∙ ap (λ c. c * size + o % size) here in
     ap (λ x. is_within x m o) (sym offset_is) ∙ ap (λ y. is_within (offset / size * size + offset % size) m y) same ∙ within_shift (offset / size * size) (offset % size) m (o % size)
+
+-- what was filled shows what the guest saw
+pub filled_byte : {S F : Type 0} (view : S → StorageView) (backing : F → BackingView) (old filled : Qcow2 S F) (first offset length : ℕ) (overwrite : Bool) → IsFilled view backing old filled first offset length overwrite
+    → (size : ℕ) → size ≡ cluster_size old.file.header.fields → (o : ℕ) → o / size ≡ offset / size → (overwrite && is_within offset (min length (size - offset % size)) o ≡ false)
+    → known_byte (contents_in view filled.file (first * size + o % size)) ≡ (disk_of view backing old).value o
+filled_byte view backing old filled first offset length overwrite fills size is o here opened =
+    let h = old.file.header.fields in
+    let open_there : is_announced (cluster_size h) offset length overwrite (o % cluster_size h) ≡ false =
+    subst (λ x. is_announced x offset length overwrite (o % x) ≡ false) is (ap (λ b. overwrite && b) (sym (within_cluster size offset (min length (size - offset % size)) o here)) ∙ opened) in
+    let same_guest : o / cluster_size h ≡ offset / cluster_size h = subst (λ x. o / x ≡ offset / x) is here in
+    let o_is : o / cluster_size h * cluster_size h + o % cluster_size h ≡ o = div-add-mod' o (cluster_size h) in
+    let offset_is : offset / cluster_size h * cluster_size h + offset % cluster_size h ≡ offset = div-add-mod' offset (cluster_size h) in
+    let product : o / cluster_size h * cluster_size h ≡ offset / cluster_size h * cluster_size h = ap (λ c. c * cluster_size h) same_guest in
+    let place : offset - offset % cluster_size h + o % cluster_size h ≡ o = omega arith in
+    ap (λ x. known_byte (contents_in view filled.file (first * x + o % x))) is
+    ∙ fills (o % cluster_size h) (mod_below o (cluster_size h) (pow_pos h.cluster_bits)) open_there ∙ ap (disk_of view backing old).value place
 
 -- no pin
 pub not_pinned : (n : ℕ) (b : Bool) → (IsTrue b ↔ (0 < n)) → b ≡ false → n ≡ 0
@@ -205,20 +221,6 @@ module _ {S F : Type 0} (view : S → StorageView) (backing : F → BackingView)
       abbrev pinned : Qcow2 S F
       pinned = record mid { file = record mid.file { caches = new.file.caches } }
 
-      byte_of : (size : ℕ) → size ≡ cluster_size old.file.header.fields → (o : ℕ) → o / size ≡ offset / size → (overwrite && is_within offset (min length (size - offset % size)) o ≡ false)
-          → known_byte (contents_in view filled.file (n.first_cluster * size + o % size)) ≡ (guest_of (abstract_of view backing old out)).disk.value o
-      byte_of size is o here opened =
-          let h = old.file.header.fields in
-          let open_there : is_announced (cluster_size h) offset length overwrite (o % cluster_size h) ≡ false =
-          subst (λ x. is_announced x offset length overwrite (o % x) ≡ false) is (ap (λ b. overwrite && b) (sym (within_cluster size offset (min length (size - offset % size)) o here)) ∙ opened) in
-          let same_guest : o / cluster_size h ≡ offset / cluster_size h = subst (λ x. o / x ≡ offset / x) is here in
-          let o_is : o / cluster_size h * cluster_size h + o % cluster_size h ≡ o = div-add-mod' o (cluster_size h) in
-          let offset_is : offset / cluster_size h * cluster_size h + offset % cluster_size h ≡ offset = div-add-mod' offset (cluster_size h) in
-          let product : o / cluster_size h * cluster_size h ≡ offset / cluster_size h * cluster_size h = ap (λ c. c * cluster_size h) same_guest in
-          let place : offset - offset % cluster_size h + o % cluster_size h ≡ o = omega arith in
-          ap (λ x. known_byte (contents_in view filled.file (n.first_cluster * x + o % x))) is
-          ∙ gained.filled covered (o % cluster_size h) (mod_below o (cluster_size h) (pow_pos h.cluster_bits)) open_there ∙ ap (disk_of view backing old).value place
-
       held_place : (o : ℕ) → 0 < q.held ((n.first_cluster * cluster_size hm + o % cluster_size hm) / cluster_size filled.file.header.fields)
       held_place o =
           let size : cluster_size filled.file.header.fields ≡ cluster_size hm = size_format old.file.header.fields filled.file.header.fields gained.goes.header ∙ sym (size_format old.file.header.fields hm goes_on.header) in
@@ -232,7 +234,7 @@ module _ {S F : Type 0} (view : S → StorageView) (backing : F → BackingView)
           let place = place_in hm p o 0 (here ∙ sym first_cluster) in
           let begin : place_of hm p o ≡ n.first_cluster * cluster_size hm + o % cluster_size hm = omega (arith, host_is, place) in
           ap known_byte (cond-true _ _ _ private ∙ ap (contents_in view mid.file) begin ∙ same (n.first_cluster * cluster_size hm + o % cluster_size hm) (held_place o))
-          ∙ byte_of (cluster_size hm) (ap (λ (x : HeaderFields). cluster_size x) goes_on.header) o here opened
+          ∙ filled_byte view backing old filled n.first_cluster offset length overwrite (gained.filled covered) (cluster_size hm) (ap (λ (x : HeaderFields). cluster_size x) goes_on.header) o here opened
 
       pub readied_new : IsReadied view backing old new out k offset length overwrite p
       readied_new =

@@ -6,9 +6,9 @@ use Rattle.qcow2_metadata.specs.Header.{cluster_size}
 use Rattle.qcow2_metadata.specs.Cover.{cover}
 use Rattle.qcow2_metadata.specs.declared.l2_mapping.L2Mapping.{L2Mapping}
 use Rattle.qcow2_metadata.specs.declared.l2_mapping.L2Mapping.TheVariants.{Data, Zero, Compressed, Uncovered}
-use Rattle.qcow2_laws.specs.Alike.{IsLongestRun}
+use Rattle.qcow2_disk.specs.Alike.{IsLongestRun}
 use Rattle.qcow2_laws.proofs.Alike.{are_alike, longest_is, run_data, run_less}
-use Rattle.qcow2_laws.specs.Found.{kind_at, rest_of_table}
+use Rattle.qcow2_disk.specs.Found.{kind_at, rest_of_table}
 use Rattle.qcow2_image.specs.Found.{writable_place}
 use Rattle.qcow2_image.specs.Preparing.{IsPlaceOf, IsWritableAt}
 

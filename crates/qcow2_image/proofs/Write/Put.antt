@@ -16,19 +16,19 @@ use Rattle.qcow2_metadata.specs.Cover.{cover}
 use Rattle.qcow2_metadata.specs.Guest.{known_byte}
 use Rattle.qcow2_metadata.specs.Named.{in_cluster, named_by_cover, named_for_tables}
 use Rattle.qcow2_metadata.specs.declared.l2_mapping.L2Mapping.TheVariants.{Data, Zero}
-use Rattle.qcow2_laws.specs.Alike.{AreDataAt}
-use Rattle.qcow2_laws.specs.Calls.{Works}
-use Rattle.qcow2_laws.specs.Disk.{Disk, disk, with_bytes}
+use Rattle.qcow2_disk.specs.Alike.{AreDataAt}
+use Rattle.qcow2_disk.specs.Calls.{Works}
+use Rattle.qcow2_disk.specs.Disk.{Disk, disk, with_bytes}
 use Rattle.qcow2_laws.specs.CrashInvariant.{Pending}
 use Rattle.qcow2_laws.specs.Guests.{names}
 use Rattle.qcow2_laws.specs.GuestLaws.{Hosting, IsHostedAt, IsHeld, IsGivenAt, WritesRun}
 use Rattle.qcow2_laws.specs.GuestLaws.{InPlace as HostedInPlace, Kept as HostedKept, Held as HostedHeld, is_private as is_hosted_privately}
-use Rattle.qcow2_laws.specs.Mappings.{PreparedMapping, gift_of_put, put_mapping, put_disk}
-use Rattle.qcow2_laws.specs.AbstractImages.{guest_of, meaning_at}
+use Rattle.qcow2_disk.specs.Mappings.{PreparedMapping, gift_of_put, put_mapping, put_disk}
+use Rattle.qcow2_disk.specs.AbstractImages.{guest_of, meaning_at}
 use Rattle.qcow2_laws.specs.SafeSteps.{DriverState}
-use Rattle.qcow2_laws.specs.Stops.{GivenBytes, IsGiven}
+use Rattle.qcow2_disk.specs.Stops.{GivenBytes, IsGiven}
 use Rattle.qcow2_laws.proofs.Consistency.{in_own}
-use Rattle.qcow2_laws.proofs.ForUsers.{laid_inside, laid_outside}
+use Rattle.qcow2_disk.proofs.ForUsers.{laid_inside, laid_outside}
 use Rattle.qcow2_laws.proofs.KeptClusters.{kept_aligned, kept_unlaid}
 use Rattle.qcow2_laws.proofs.Places.{in_one}
 use Rattle.qcow2_laws.proofs.PutRuns.{beside_tables, run_written}
@@ -163,6 +163,10 @@ module _ {S F : Type 0} (view : S → StorageView) (backing : F → BackingView)
 
   steps : Steps view backing old new out out (λ _. gifts) before
   steps = steps_written view backing old out sound storage (q.offset + at) bytes is no_table (λ _. gifts) honest time run.leads run.covers
+
+  -- what stands for each guest cluster stays
+  pub put_covers : (g : ℕ) → cover h (known_in view old.file) g ≡ cover h (known_in view new.file) g
+  put_covers g = run.covers g
 
   pub put_works : Works (abstract_of view backing old out) (abstract_of view backing new out) gifts []
   put_works = stepped_works view backing old new out out (λ _. gifts) before steps

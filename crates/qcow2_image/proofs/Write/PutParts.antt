@@ -10,13 +10,13 @@ use Rattle.qcow2_metadata.specs.Header.{cluster_size}
 use Rattle.qcow2_metadata.specs.Cover.{cover}
 use Rattle.qcow2_metadata.specs.declared.l2_mapping.L2Mapping.{L2Mapping}
 use Rattle.qcow2_metadata.specs.declared.l2_mapping.L2Mapping.TheVariants.{Data, Zero, Compressed, Uncovered}
-use Rattle.qcow2_laws.specs.Alike.{AreDataAt}
-use Rattle.qcow2_laws.specs.Calls.{Works, Does, storage}
-use Rattle.qcow2_laws.specs.Mappings.{gift_of_put}
-use Rattle.qcow2_laws.specs.Stops.{GivenBytes}
-use Rattle.qcow2_laws.specs.AbstractImages.{Guest, guest_of, meaning_at}
+use Rattle.qcow2_disk.specs.Alike.{AreDataAt}
+use Rattle.qcow2_disk.specs.Calls.{Works, Does, storage}
+use Rattle.qcow2_disk.specs.Mappings.{gift_of_put}
+use Rattle.qcow2_disk.specs.Stops.{GivenBytes}
+use Rattle.qcow2_disk.specs.AbstractImages.{Guest, guest_of, meaning_at}
 use Rattle.qcow2_laws.proofs.Alike.{run_data}
-use Rattle.qcow2_laws.proofs.Compose.{works_less, works_then}
+use Rattle.qcow2_disk.proofs.Compose.{works_less, works_then}
 use Rattle.qcow2_alloc.specs.declared.error.ImageError.{ImageError}
 use Rattle.qcow2_alloc.specs.declared.error.ImageError.TheVariants as I
 use Rattle.qcow2_alloc.specs.declared.image_storage.ImageStorage.{ImageStorage}
@@ -26,7 +26,7 @@ use Rattle.qcow2_image.specs.declared.image.Qcow2.{Qcow2}
 use Rattle.qcow2_image.specs.declared.mapping.MappingKind.TheVariants as Kind
 use Rattle.qcow2_image.specs.declared.mapping.Place.TheVariants.{Image}
 use Rattle.qcow2_image.specs.declared.prepared.Prepared.{Prepared}
-use Rattle.qcow2_laws.specs.Found.{raw, kind_at}
+use Rattle.qcow2_disk.specs.Found.{raw, kind_at}
 use Rattle.qcow2_image.specs.Found.{IsMappedAs}
 use Rattle.qcow2_image.specs.CallParts.{put_guest, IsPut, IsWritten, PutsPart}
 use Rattle.qcow2_image.specs.ImageInvariant.{ImageInvariant, pending_in, abstract_of, meaning}
@@ -34,7 +34,7 @@ use Rattle.qcow2_image.proofs.Call.Called.{Quietly, quiet_works, quiet_sound, qu
 use Rattle.qcow2_image.proofs.Call.Called.{works_none}
 use Rattle.qcow2_image.proofs.Call.Settled.{settled_does, settled_refuses}
 use Rattle.qcow2_image.proofs.Call.Answered.{same_guest}
-use Rattle.qcow2_laws.proofs.RunSteps.{acts_none}
+use Rattle.qcow2_disk.proofs.RunSteps.{acts_none}
 use Rattle.qcow2_image.specs.Calls.{Puts, gifts_of_put, refusal_of}
 use Rattle.qcow2_image.specs.Image.{number_of, is_failed}
 use Rattle.qcow2_image.specs.Refusals.{Marks}
@@ -42,11 +42,11 @@ use Rattle.qcow2_image.proofs.Map.Loading.{still_moved}
 use Rattle.std.proofs.lemmas.Bool.{cases_lt, cases_eq, cond-true, cond-false, eq-eqb, ne_eqb}
 use Rattle.qcow2_metadata.specs.Bytes.{byte_at, laid_over}
 use Rattle.qcow2_metadata.specs.Guest.{known_byte}
-use Rattle.qcow2_laws.specs.Disk.{with_bytes}
-use Rattle.qcow2_laws.specs.Mappings.{PreparedMapping, put_mapping, put_disk}
-use Rattle.qcow2_laws.proofs.ForUsers.{laid_outside}
+use Rattle.qcow2_disk.specs.Disk.{with_bytes}
+use Rattle.qcow2_disk.specs.Mappings.{PreparedMapping, put_mapping, put_disk}
+use Rattle.qcow2_disk.proofs.ForUsers.{laid_outside}
 use mathlib.Core.Path.{fun_ext}
-use Rattle.qcow2_image.proofs.Write.Put.{put_works, put_sound, put_seen}
+use Rattle.qcow2_image.proofs.Write.Put.{put_covers, put_works, put_sound, put_seen}
 
 -- what is mapped in place stands in a row
 mapped_data : (h : HeaderFields) (known : Bytes) (offset n host : ℕ) (backed : Bool) (v : L2Mapping) → cover h known (offset / cluster_size h) ≡ v → raw false host true ≡ kind_at h backed offset v
@@ -100,17 +100,19 @@ module _ {S F : Type 0} (view : S → StorageView) (backing : F → BackingView)
             (ap (λ g. put_guest g k (meaning view backing b p) at bytes) same ∙ ap (λ m. put_guest (guest_of (abstract_of view backing a out)) k m at bytes) mean) part.is;
       }
 
+  -- what is mapped in place is data in a row
+  pub mapped_in_place : (old : Qcow2 S F) → (p.table ≡ None → IsMappedAs view old (p.guest + at) (Kind.Raw Image (p.offset + at) true) (length bytes))
+      → p.table ≡ None → AreDataAt old.file.header.fields (known_in view old.file) true (p.guest + at) (p.offset + at) (length bytes)
+  mapped_in_place old mapped none =
+      let h = old.file.header.fields in
+      let known = known_in view old.file in
+      let run = mapped none in
+      mapped_data h known (p.guest + at) (length bytes) (p.offset + at) (is_some old.backing) (cover h known ((p.guest + at) / cluster_size h)) refl run.kind_is
+      (λ w covered start copied is_data. run_data h known (p.guest + at) (length bytes) run.alike start copied (covered ∙ is_data))
+
   -- the write itself
   module _ (old : Qcow2 S F) (sound : ImageInvariant view backing (pending_in view backing old out) old out) (fits : at + length bytes ≤ p.length)
-      (mapped : p.table ≡ None → IsMappedAs view old (p.guest + at) (Kind.Raw Image (p.offset + at) true) (length bytes)) where
-    data_of : p.table ≡ None → AreDataAt old.file.header.fields (known_in view old.file) true (p.guest + at) (p.offset + at) (length bytes)
-    data_of none =
-        let h = old.file.header.fields in
-        let known = known_in view old.file in
-        let run = mapped none in
-        mapped_data h known (p.guest + at) (length bytes) (p.offset + at) (is_some old.backing) (cover h known ((p.guest + at) / cluster_size h)) refl run.kind_is
-        (λ w covered start copied is_data. run_data h known (p.guest + at) (length bytes) run.alike start copied (covered ∙ is_data))
-
+      (in_place : p.table ≡ None → AreDataAt old.file.header.fields (known_in view old.file) true (p.guest + at) (p.offset + at) (length bytes)) where
     module _ (storage : ImageStorage S) (honest : (view (storage_of storage)).is_honest) (time : Passing (view_in view old.file) (view (storage_of storage)) (λ c. c ≡ (view (storage_of storage)).contents)) where
       abbrev new : Qcow2 S F
       new = record old { file = record old.file { storage = storage } }
@@ -120,10 +122,14 @@ module _ {S F : Type 0} (view : S → StorageView) (backing : F → BackingView)
           → Works (abstract_of view backing old out) (abstract_of view backing new out) (gifts old) [] × ImageInvariant view backing (pending_in view backing new out) new out
           × (guest_of (abstract_of view backing new out) ≡ put_guest (guest_of (abstract_of view backing old out)) k (meaning view backing old p) at bytes)
       puts_changed is = (
-        put_works view backing old out sound storage bytes k p at is honest time placed fits data_of,
-        put_sound view backing old out sound storage bytes k p at is honest time placed fits data_of,
-        put_seen view backing old out sound storage bytes k p at is honest time placed fits data_of,
+        put_works view backing old out sound storage bytes k p at is honest time placed fits in_place,
+        put_sound view backing old out sound storage bytes k p at is honest time placed fits in_place,
+        put_seen view backing old out sound storage bytes k p at is honest time placed fits in_place,
       )
+
+      pub puts_covers : (view (storage_of storage)).contents ≡ overwritten (view_in view old.file).contents (p.offset + at) bytes
+          → (g : ℕ) → cover old.file.header.fields (known_in view old.file) g ≡ cover new.file.header.fields (known_in view new.file) g
+      puts_covers is = put_covers view backing old out sound storage bytes k p at is honest time placed fits in_place
 
       -- or it isn't
       puts_still : (e : ImageError) → (view (storage_of storage)).contents ≡ (view_in view old.file).contents → PutsPart view backing old new out k p at bytes (Err e)

@@ -12,8 +12,8 @@ use Rattle.qcow2_metadata.specs.declared.header.HeaderFields.{HeaderFields}
 use Rattle.qcow2_metadata.specs.Header.{cluster_size}
 use Rattle.qcow2_metadata.specs.Named.{named_for_tables}
 use Rattle.qcow2_laws.specs.CrashInvariant.{Pending, SameIn, SameCovers}
-use Rattle.qcow2_laws.specs.SafeSteps.{SafeThroughout, SafeStep}
-use Rattle.qcow2_laws.specs.Stops.{GivenBytes, StopOkEverywhere, checkpoint_with}
+use Rattle.qcow2_laws.specs.SafeSteps.{SafeStep}
+use Rattle.qcow2_disk.specs.Stops.{SafeThroughout, GivenBytes, StopOkEverywhere, checkpoint_with}
 use Rattle.qcow2_metadata.specs.Entries.{l1_entry}
 use Rattle.qcow2_laws.specs.Tops.{IsSameBut, WritesAt}
 use Rattle.qcow2_laws.proofs.Beside.{overwritten_but}

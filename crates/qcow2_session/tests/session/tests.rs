@@ -1,6 +1,7 @@
 mod commands;
 mod images;
 mod mappings;
+mod sizes;
 mod writes;
 
 use super::{read, write};

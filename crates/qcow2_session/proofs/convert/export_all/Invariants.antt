@@ -1,7 +1,7 @@
 use Rattle.std.proofs.Common.{◌≡◌, ◌-◌, ◌≤◌, [], List}
 use Rattle.std.specs.Prelude.{Option}
-use Rattle.qcow2_laws.specs.Calls.{Does}
-use Rattle.qcow2_laws.specs.AbstractImages.{guest_of}
+use Rattle.qcow2_disk.specs.Calls.{Does}
+use Rattle.qcow2_disk.specs.AbstractImages.{guest_of}
 use Rattle.qcow2_image.specs.Image.{number_of}
 use Rattle.qcow2_image.specs.ImageInvariant.{abstract_of}
 use Rattle.qcow2_image.specs.declared.prepared.Prepared.{Prepared}

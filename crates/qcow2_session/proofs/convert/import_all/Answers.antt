@@ -2,9 +2,9 @@ use Rattle.std.proofs.Common.{◌≡◌, ◌+◌, ◌-◌, ◌%◌, ◌<◌, ◌
 use Rattle.std.proofs.Math.Nat.{zero-mod, add-mod_right}
 use Rattle.std.proofs.lemmas.Grind.{common_steps}
 use Rattle.image_access.specs.Contents.{bytes_at}
-use Rattle.qcow2_laws.specs.Calls.{with_disk}
-use Rattle.qcow2_laws.specs.Disk.{with_bytes}
-use Rattle.qcow2_laws.specs.AbstractImages.{guest_of}
+use Rattle.qcow2_disk.specs.Calls.{with_disk}
+use Rattle.qcow2_disk.specs.Disk.{with_bytes}
+use Rattle.qcow2_disk.specs.AbstractImages.{guest_of}
 use Rattle.qcow2_image.specs.ImageInvariant.{abstract_of}
 use Rattle.qcow2_session.proofs.Converting.{imports_none, all_more, all_refused, same_range}
 use Rattle.qcow2_session.proofs.Turns.{refused_is, does_if}

@@ -1,10 +1,10 @@
 use Rattle.std.proofs.Common.{◌≡◌, ◌∙◌, ⊎_elim, inl, inr, false, true, refl, sym, ap, subst, Option, Some, None, is_some, [], map}
 use Rattle.qcow2_metadata.specs.Bytes.{byte_at}
 use Rattle.qcow2_metadata.specs.Header.{header, cluster_size}
-use Rattle.qcow2_laws.specs.AbstractImages.{Setting}
-use Rattle.qcow2_laws.specs.Headline.{nothing_below, setting_in, IsHeadline}
-use Rattle.qcow2_laws.specs.Runs.{RefinesDisk}
-use Rattle.qcow2_laws.proofs.Headline.{from_bytes}
+use Rattle.qcow2_disk.specs.AbstractImages.{Setting}
+use Rattle.qcow2_disk.specs.Headline.{nothing_below, setting_in, IsHeadline}
+use Rattle.qcow2_disk.specs.Runs.{RefinesDisk}
+use Rattle.qcow2_disk.proofs.Headline.{from_bytes}
 use Rattle.qcow2_image.specs.ImageInvariant.{backing_bytes, image_abstraction}
 use Rattle.qcow2_image.specs.Opened.{IsKeptSince}
 use Rattle.qcow2_image.specs.Image.{storage_of_image}

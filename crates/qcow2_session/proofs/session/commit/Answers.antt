@@ -1,13 +1,13 @@
 use Rattle.std.proofs.Common.{◌≡◌, refl, sym, ap, subst, ◌∙◌, List, Option, Some, None, Err}
 use Rattle.std.specs.Prelude.{slice_get, slice_set}
-use Rattle.qcow2_laws.specs.Runs.{RefinesCommand}
-use Rattle.qcow2_laws.proofs.RunSteps.{done_as, refused_as, none_as}
+use Rattle.qcow2_disk.specs.Runs.{RefinesCommand}
+use Rattle.qcow2_disk.proofs.RunSteps.{done_as, refused_as, none_as}
 use Rattle.qcow2_image.specs.ImageInvariant.{image_abstraction}
 use Rattle.qcow2_session.proofs.Places.{set_found, set_twice, get_set_same}
 use Rattle.qcow2_session.proofs.Meanings.{found_at, none_at, does_commit, refuses_commit}
 use Rattle.qcow2_session.proofs.Answering.{not_both, not_spent, kept_is}
-use Rattle.qcow2_laws.specs.Runs.{commit, done, misuse, refused}
-use Rattle.qcow2_laws.specs.AbstractImages.{abstract_image}
+use Rattle.qcow2_disk.specs.Runs.{commit, done, misuse, refused}
+use Rattle.qcow2_disk.specs.AbstractImages.{abstract_image}
 use Rattle.qcow2_image.specs.Calls.{refusal_of, Commits}
 use Rattle.qcow2_session.proofs.session.commit.Goals as goal
 

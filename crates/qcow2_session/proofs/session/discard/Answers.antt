@@ -1,9 +1,9 @@
 use Rattle.std.proofs.Common.{refl, sym, subst, ◌∙◌, List, Option, None}
-use Rattle.qcow2_laws.specs.Runs.{RefinesCommand}
-use Rattle.qcow2_laws.proofs.RunSteps.{done_as, none_as}
+use Rattle.qcow2_disk.specs.Runs.{RefinesCommand}
+use Rattle.qcow2_disk.proofs.RunSteps.{done_as, none_as}
 use Rattle.qcow2_image.specs.ImageInvariant.{abstract_of, image_abstraction}
-use Rattle.qcow2_laws.specs.Runs.{discard, done, misuse}
-use Rattle.qcow2_laws.specs.AbstractImages.{abstract_image}
+use Rattle.qcow2_disk.specs.Runs.{discard, done, misuse}
+use Rattle.qcow2_disk.specs.AbstractImages.{abstract_image}
 use Rattle.qcow2_session.proofs.Places.{set_found}
 use Rattle.qcow2_session.proofs.Meanings.{found_at, none_at, does_discard}
 use Rattle.qcow2_session.proofs.session.discard.Goals as goal

@@ -1,5 +1,5 @@
 use Rattle.std.proofs.Common.{refl, sym, ◌∙◌}
-use Rattle.qcow2_laws.proofs.RunSteps.{refused_as, flushed_as}
+use Rattle.qcow2_disk.proofs.RunSteps.{refused_as, flushed_as}
 use Rattle.qcow2_image.proofs.Free.{whole}
 use Rattle.qcow2_session.proofs.Answering.{error_is, none_to_free, not_both}
 use Rattle.qcow2_session.proofs.session.flush.Goals as goal

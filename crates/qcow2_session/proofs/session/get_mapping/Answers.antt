@@ -1,7 +1,7 @@
 use Rattle.std.proofs.Common.{◌≡◌, refl, sym, ap, subst, ◌∙◌, Some, is_some, arith}
 use Rattle.std.specs.Prelude.{slice_set}
-use Rattle.qcow2_laws.specs.Found.{IsFoundIn}
-use Rattle.qcow2_laws.proofs.RunSteps.{done_as, refused_as}
+use Rattle.qcow2_disk.specs.Found.{IsFoundIn}
+use Rattle.qcow2_disk.proofs.RunSteps.{done_as, refused_as}
 use Rattle.qcow2_alloc.specs.ImageFile.{known_in}
 use Rattle.qcow2_image.specs.Found.{found_kind}
 use Rattle.std.specs.Prelude.{◌==◌, if◌then◌else◌}

@@ -1,13 +1,13 @@
 use Rattle.std.proofs.Common.{refl, sym, subst, ◌∙◌, List, Option}
-use Rattle.qcow2_laws.specs.Runs.{RefinesCommand}
-use Rattle.qcow2_laws.proofs.RunSteps.{done_as, refused_as, none_as}
+use Rattle.qcow2_disk.specs.Runs.{RefinesCommand}
+use Rattle.qcow2_disk.proofs.RunSteps.{done_as, refused_as, none_as}
 use Rattle.qcow2_image.specs.ImageInvariant.{image_abstraction}
-use Rattle.qcow2_laws.specs.Runs.{prepare, prepared_is, misuse}
-use Rattle.qcow2_laws.specs.AbstractImages.{abstract_image}
+use Rattle.qcow2_disk.specs.Runs.{prepare, prepared_is, misuse}
+use Rattle.qcow2_disk.specs.AbstractImages.{abstract_image}
 use Rattle.std.specs.Prelude.{slice_set, Some, None}
 use Rattle.qcow2_metadata.specs.Header.{header}
 use Rattle.qcow2_metadata.specs.declared.header.HeaderFields.{HeaderFields}
-use Rattle.qcow2_laws.specs.Mappings.{IsPrivateIn, IsHiddenIn}
+use Rattle.qcow2_disk.specs.Mappings.{IsPrivateIn, IsHiddenIn}
 use Rattle.qcow2_alloc.specs.ImageFile.{known_in}
 use Rattle.qcow2_image.proofs.HiddenBytes.{header_is, hidden_in}
 use Rattle.qcow2_session.proofs.Meanings.{taken, untaken, none_at, found_at, so_in_slot, host_at, prepared_at, does_prepare}

@@ -1,6 +1,6 @@
 use Rattle.std.proofs.Common.{◌≡◌, ◌-◌, ◌≤◌, length, ◌+◌, ◌^◌, ◌<◌, [], take, List}
-use Rattle.qcow2_laws.specs.Calls.{Does, Shows}
-use Rattle.qcow2_laws.specs.AbstractImages.{guest_of}
+use Rattle.qcow2_disk.specs.Calls.{Does, Shows}
+use Rattle.qcow2_disk.specs.AbstractImages.{guest_of}
 use Rattle.std.specs.Prelude.{Option}
 use Rattle.qcow2_image.specs.Image.{number_of, size_of}
 use Rattle.qcow2_image.specs.ImageInvariant.{abstract_of}

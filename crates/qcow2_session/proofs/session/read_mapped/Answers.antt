@@ -1,11 +1,11 @@
 use Rattle.std.proofs.Common.{refl, ap, ◌∙◌, Some, arith}
-use Rattle.qcow2_laws.proofs.RunSteps.{done_as, refused_as, none_as}
+use Rattle.qcow2_disk.proofs.RunSteps.{done_as, refused_as, none_as}
 use Rattle.qcow2_session.proofs.Turns.{does_if, does_why}
 use Rattle.qcow2_session.specs.Sessions.{range_of}
 use Rattle.qcow2_session.proofs.session.read_mapped.Goals.{then-at-mapping-via-then-at-mapping, then-at-mapping-via-else-at-mapping+then-length-mapping}
 use Rattle.qcow2_session.proofs.Meanings.{found_here, live, is_beyond}
 use Rattle.qcow2_session.proofs.Answering.{unusable_first, error_is, not_both}
-use Rattle.qcow2_laws.specs.Runs.{misuse}
+use Rattle.qcow2_disk.specs.Runs.{misuse}
 use Rattle.qcow2_session.proofs.session.read_mapped.Goals as goal
 
 pub returns-in_default-clause-goes : goal.returns-in_default-clause-goes

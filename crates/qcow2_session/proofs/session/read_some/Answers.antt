@@ -1,7 +1,7 @@
 use Rattle.std.proofs.Common.{◌≡◌, ◌∙◌, ◌+◌, ◌++◌, sym, subst, ap, [], take, drop, arith}
 use Rattle.std.proofs.lemmas.Grind.{common_steps}
-use Rattle.qcow2_laws.specs.Calls.{another}
-use Rattle.qcow2_laws.specs.AbstractImages.{Guest}
+use Rattle.qcow2_disk.specs.Calls.{another}
+use Rattle.qcow2_disk.specs.AbstractImages.{Guest}
 use Rattle.qcow2_image.specs.ImageInvariant.{abstract_of}
 use Rattle.qcow2_session.specs.Sessions.{ReadsFirst}
 use Rattle.qcow2_session.proofs.Bytes.{shows_as}

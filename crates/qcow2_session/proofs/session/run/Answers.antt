@@ -3,9 +3,9 @@ use Rattle.std.specs.Prelude.{replicate}
 use Rattle.std.proofs.lemmas.Grind.{common_steps}
 use Rattle.std.proofs.lemmas.List.{take_more, take_all, map-append}
 use Rattle.qcow2_image.specs.ImageInvariant.{abstract_of, image_abstraction}
-use Rattle.qcow2_laws.specs.Runs.{RefinesWholeRun, begun, started}
-use Rattle.qcow2_laws.specs.AbstractImages.{guest_of}
-use Rattle.qcow2_laws.proofs.RunSteps.{begins, completes, means_the_disk}
+use Rattle.qcow2_disk.specs.Runs.{RefinesWholeRun, begun, started}
+use Rattle.qcow2_disk.specs.AbstractImages.{guest_of}
+use Rattle.qcow2_disk.proofs.RunSteps.{begins, completes, means_the_disk}
 use Rattle.qcow2_session.specs.Commands.{command_of, reply_of}
 use Rattle.qcow2_image.proofs.Free.{free_places, nothing_since, whole}
 use Rattle.qcow2_alloc.specs.ImageFile.{contents_in}

@@ -1,7 +1,7 @@
 use Rattle.std.proofs.Common.{◌≡◌, vec_len, take, map, []}
 use Rattle.std.specs.Prelude.{None, replicate}
-use Rattle.qcow2_laws.specs.Runs.{State, RefinesState, begun}
-use Rattle.qcow2_laws.specs.AbstractImages.{Setting}
+use Rattle.qcow2_disk.specs.Runs.{State, RefinesState, begun}
+use Rattle.qcow2_disk.specs.AbstractImages.{Setting}
 use Rattle.qcow2_image.specs.Image.{number_of}
 use Rattle.qcow2_image.specs.ImageInvariant.{abstract_of, image_abstraction}
 use Rattle.qcow2_session.specs.Commands.{command_of, reply_of}

@@ -1,5 +1,5 @@
 use Rattle.std.proofs.Common.{refl, ap, sym, subst}
-use Rattle.qcow2_laws.proofs.RunSteps.{done_as, refused_as, none_as}
+use Rattle.qcow2_disk.proofs.RunSteps.{done_as, refused_as, none_as}
 use Rattle.qcow2_session.specs.Commands.{command_of}
 use Rattle.qcow2_session.specs.Sessions.{CommandSteps}
 use Rattle.qcow2_session.proofs.Answering.{reading_first, error_is, write_error_is, not_both, reads_answer, writes_answer, write_refused_answer}

@@ -1,9 +1,9 @@
 use Rattle.std.proofs.Common.{◌≡◌, ◌+◌, ◌-◌, ◌^◌, ◌<◌, ◌≤◌, length, [], ◌∷◌, take, List}
 use Rattle.std.specs.Prelude.{Option}
-use Rattle.qcow2_laws.specs.Calls.{Does, with_disk}
-use Rattle.qcow2_laws.specs.Disk.{with_bytes}
-use Rattle.qcow2_laws.specs.Mappings.{gift_of}
-use Rattle.qcow2_laws.specs.AbstractImages.{guest_of}
+use Rattle.qcow2_disk.specs.Calls.{Does, with_disk}
+use Rattle.qcow2_disk.specs.Disk.{with_bytes}
+use Rattle.qcow2_disk.specs.Mappings.{gift_of}
+use Rattle.qcow2_disk.specs.AbstractImages.{guest_of}
 use Rattle.qcow2_image.specs.Image.{number_of, size_of}
 use Rattle.qcow2_image.specs.ImageInvariant.{abstract_of}
 use Rattle.qcow2_image.specs.declared.prepared.Prepared.{Prepared}

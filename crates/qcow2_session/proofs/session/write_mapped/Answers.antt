@@ -1,9 +1,9 @@
 use Rattle.std.proofs.Common.{refl, length, arith}
-use Rattle.qcow2_laws.proofs.RunSteps.{done_as, refused_as, none_as}
+use Rattle.qcow2_disk.proofs.RunSteps.{done_as, refused_as, none_as}
 use Rattle.qcow2_image.specs.ImageInvariant.{image_abstraction}
 use Rattle.qcow2_session.proofs.Meanings.{found_at, none_at, does_put, refuses_put, is_past}
 use Rattle.qcow2_session.proofs.Answering.{mapping_first, error_is, not_both}
-use Rattle.qcow2_laws.specs.Runs.{misuse}
+use Rattle.qcow2_disk.specs.Runs.{misuse}
 use Rattle.qcow2_session.proofs.session.write_mapped.Goals as goal
 use Rattle.qcow2_session.proofs.session.write_mapped.Goals.{then-at-length-via-then-at-length, then-at-length-via-else-at-length+then-len-length}
 

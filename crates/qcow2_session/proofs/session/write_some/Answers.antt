@@ -1,6 +1,6 @@
 use Rattle.std.proofs.Common.{◌≡◌, sym, subst, ap, ◌∙◌, Err, [], ◌∷◌, Some, None, min, length, refl, arith}
-use Rattle.qcow2_laws.specs.Mappings.{gift_of}
-use Rattle.qcow2_laws.specs.AbstractImages.{Setting, guest_of}
+use Rattle.qcow2_disk.specs.Mappings.{gift_of}
+use Rattle.qcow2_disk.specs.AbstractImages.{Setting, guest_of}
 use Rattle.qcow2_image.specs.Calls.{refusal_of, Commits}
 use Rattle.qcow2_image.specs.Prepared.{IsKept, length_of}
 use Rattle.qcow2_image.specs.Refusals.{refuses_to_prepare}

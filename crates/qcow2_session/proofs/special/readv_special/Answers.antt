@@ -1,5 +1,5 @@
 use Rattle.std.proofs.Common.{refl}
-use Rattle.qcow2_laws.proofs.RunSteps.{done_as, refused_as}
+use Rattle.qcow2_disk.proofs.RunSteps.{done_as, refused_told}
 use Rattle.qcow2_session.proofs.Answering.{unusable_first, error_is, not_both}
 use Rattle.qcow2_session.proofs.Turns.{does_if}
 use Rattle.qcow2_session.proofs.special.readv_special.Goals as goal
@@ -9,4 +9,4 @@ returns-in-Ok-clause-goes g c = λ slots x s stands founds. done_as x _ _ s _ _ 
     (does_if (λ h. (c.in-Ok.ensures.empty, h)) (c.in-Ok.ensures.sees slots.prepared.items)) (λ _ _. refl) (λ _. tt)
 
 pub returns-in-Err-clause-goes : goal.returns-in-Err-clause-goes
-returns-in-Err-clause-goes g c = λ slots x s stands founds. refused_as x _ _ s _ _ _ _ refl stands (record { failed = λ f. error_is (unusable_first c.args.image.now _ c.in-Err.ensures.early f); may = λ _. tt }) (c.in-Err.ensures.sees slots.prepared.items) (λ f. f) (λ _ _. refl) tt
+returns-in-Err-clause-goes g c = λ slots x s stands founds. refused_told x _ _ s _ _ _ _ refl stands (record { failed = λ f. error_is (unusable_first c.args.image.now _ c.in-Err.ensures.early f); may = λ _. tt }) (c.in-Err.ensures.sees slots.prepared.items) (λ f. f) (λ _ _. refl) (c.in-Err.ensures.tells slots.prepared.items)

@@ -300,3 +300,40 @@ fn special_reads_leave_their_slice(rt: HostRuntime) -> Result<(), Fail> {
     );
     Ok(())
 }
+
+// What is refused beside a prepared range: zeroing in its table, preparing there, and another disk below.
+fn refused_beside<S: Storage>(image: &mut Qcow2<S>) -> [u8; 3] {
+    let zeroed = refusal(image.ensure_zero_mapping(512, 512));
+    let prepared = refusal(prepare_and_release(image, 1024, 512));
+    let below = match image.set_backing(None) {
+        Ok(()) => 0,
+        Err((_disk, refusal)) => refusal.number(),
+    };
+    [zeroed, prepared, below]
+}
+
+// A range is prepared, written and committed, with the refusals beside it; then the range beside it is zeroed.
+fn around_a_mapping<S: Storage>(
+    alloc: Global,
+    storage: S,
+) -> Result<([u8; 3], (u64, u64), Vec<u8>), ImageError> {
+    let mut image = opened(alloc, storage, true)?;
+    let prepared = image.prepare_data_mapping(0, 512, true)?;
+    let refused = refused_beside(&mut image);
+    let written = image.write_mapped(&prepared, 0, &[0x11; 512]);
+    commit_own(&mut image, prepared)?;
+    written?;
+    let zeroed = image.ensure_zero_mapping(512, 512)?;
+    let shown = read(alloc, &mut image, 510, 4)?;
+    Ok((refused, zeroed, shown))
+}
+
+#[test]
+fn a_table_under_a_mapping_stays_as_it_is(rt: HostRuntime) -> Result<(), Fail> {
+    let alloc = rt.alloc();
+    let (refused, zeroed, shown) = around_a_mapping(alloc, fresh(alloc)?)?;
+    assert_eq!(rt; refused, [9, 9, 17]);
+    assert_eq!(rt; zeroed, (512, 512));
+    assert_eq!(rt; shown.as_slice(), [0x11, 0x11, 0, 0].as_slice());
+    Ok(())
+}

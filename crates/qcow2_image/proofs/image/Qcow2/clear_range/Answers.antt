@@ -2,14 +2,14 @@ use Rattle.std.proofs.Common.{◌≡◌, ◌<◌, ◌+◌, ◌-◌, ℕ, min, sy
 use Rattle.std.specs.Prelude.{Ok, Err, IfErr, IfOk, IsTrue, Result}
 use Rattle.qcow2_alloc.specs.declared.error.ImageError.TheVariants.{Memory, TablePrepared}
 use Rattle.qcow2_image.specs.CallParts.{EndsFreeing, UnseenCall}
-use Rattle.qcow2_image.specs.Clearing.{Clears, ClearsOrRefuses, ClearsPart, IsUnderMapping, IsWhole, from_in, refuses_to_clear, to_in}
+use Rattle.qcow2_image.specs.Clearing.{Clears, ClearsOrRefuses, ClearsPart, IsUnderMapping, IsWhole, RefusesUngiven, from_in, refuses_to_clear, to_in}
 use Rattle.qcow2_image.specs.declared.image.Qcow2.{Qcow2}
 use Rattle.qcow2_image.specs.Image.{is_failed}
 use Rattle.qcow2_image.specs.ImageInvariant.{ImageInvariant, pending_in}
 use Rattle.qcow2_image.specs.Refusals.{Marks}
 use Rattle.qcow2_image.proofs.Call.Called.{Quietly}
 use Rattle.qcow2_image.proofs.Call.Settled.{is_fault, outcome}
-use Rattle.qcow2_image.proofs.Clear.ClearCalls.{begins, clear_broke, clear_covers, clear_done, clear_refused, clear_works, clears_early, clears_nothing, err_is, if_some, not_refused, refused_for, under_after, under_before, whole_in}
+use Rattle.qcow2_image.proofs.Clear.ClearCalls.{begins, clear_broke, clear_covers, clear_done, clear_refused, clear_works, clears_early, clears_nothing, err_is, if_some, not_refused, refused_for, under_after, under_before, ungiven_broke, ungiven_early, ungiven_refused, whole_in}
 use Rattle.qcow2_image.proofs.image.Qcow2.clear_range.Goals as goal
 
 pub returns-in_err-from-clause-early : goal.returns-in_err-from-clause-early
@@ -185,3 +185,60 @@ returns-clause-covers g c = λ out sound.
     let ends = subst (λ (image : Qcow2 _ _). (out : _) → ImageInvariant view below (pending_in view below image out) image out → EndsFreeing view below image freed out c.end_freeing.result) same c.end_freeing.ensures.frees in
     let number = c.end_freeing.ensures.image.number ∙ c.mark_failure.ensures.image.number ∙ c.clear_between-cleared.ensures.stays.image.number ∙ c.begin.ensures.stays.image.number in
     clear_covers view below old how offset n works begun entries quiet parts freed c.end_freeing.result ends number c.in_ok-end_freeing.was out sound
+
+pub returns-in_err-from-clause-ungiven : goal.returns-in_err-from-clause-ungiven
+returns-in_err-from-clause-ungiven g c =
+    let old = c.args.self.now in
+    subst (λ (r : Result _ _). IfErr r (RefusesUngiven g.S.Storage.view g.F.BackingDisk.backing old old)) (sym (err_is c.from_residual.result c.from_residual.ensures)) (ungiven_early g.S.Storage.view g.F.BackingDisk.backing old c.in_err-from.field-0.0)
+
+pub returns-in_err-mark_failure-clause-ungiven : goal.returns-in_err-mark_failure-clause-ungiven
+returns-in_err-mark_failure-clause-ungiven g c =
+    let view = g.S.Storage.view in
+    let below = g.F.BackingDisk.backing in
+    let old = c.args.self.now in
+    let begun = c.begin.new.self in
+    let entries = c.clear_between-cleared.new.self in
+    let e = c.in_err-mark_failure.field-0.0 in
+    let marked = is_failed c.mark_failure.new.self in
+    let range = not_refused c.check_clear.result _ (refuses_to_clear old c.args.offset c.args.length c.args.how) (c.in_ok-from.from, c.in_ok-from.to) c.check_clear.ensures.refusal c.in_ok-from.was in
+    let from : c.in_ok-from.from ≡ from_in c.args.self.now c.args.offset c.args.length = ap (λ (r : ℕ × ℕ). r.0) range.1 in
+    let to : c.in_ok-from.to ≡ to_in c.args.self.now c.args.offset c.args.length = ap (λ (r : ℕ × ℕ). r.1) range.1 in
+    let works = clear_works old c.args.offset c.args.length c.args.how range.0 in
+    let quiet : (out : _) → _ → Quietly view below out old begun = λ out sound. record { keeps = c.begin.ensures.keeps (pending_in view below old out) out sound; list = c.begin.ensures.list } in
+    let done : c.clear_between-cleared.result ≡ Err c.in_err-mark_failure.field-0.0 = sym c.mark_failure.ensures.answer ∙ c.in_err-mark_failure.was in
+    subst (λ (r : Result _ _). IfErr r (RefusesUngiven view below old c.mark_failure.new.self)) (sym (err_is c.from_residual-in_err-mark_failure.result c.from_residual-in_err-mark_failure.ensures))
+    (subst (λ (image : Qcow2 _ _). RefusesUngiven view below old image e) (sym c.mark_failure.ensures.rest)
+    (ungiven_refused view below old c.args.how c.args.offset c.args.length works begun entries quiet e marked (c.clear_between-cleared.ensures.stays.image.number ∙ c.begin.ensures.stays.image.number)
+    (subst (λ (r : Result _ _). Marks r (is_failed entries) marked) done c.mark_failure.ensures.marks) (subst (λ (r : Result _ _). IfErr r (λ x. x ≡ Memory → IsTrue entries.file.caches.is_changed → IsTrue marked)) done c.mark_failure.ensures.memory)
+    (λ out call. subst (ClearsOrRefuses view below c.args.how c.in_ok-from.from c.in_ok-from.to begun entries out) done (c.clear_between-cleared.ensures.clears out call.sound
+    (subst (λ n. IsWhole begun.file.header.fields c.args.how n c.in_ok-from.to) (sym from) (subst (λ n. IsWhole begun.file.header.fields c.args.how (from_in old c.args.offset c.args.length) n) (sym to)
+    (whole_in view below old c.args.how c.args.offset c.args.length works begun entries quiet out call c.in_ok-from.ensures.version)))))))
+
+pub returns-in_err-end_freeing-clause-ungiven : goal.returns-in_err-end_freeing-clause-ungiven
+returns-in_err-end_freeing-clause-ungiven g c =
+    let view = g.S.Storage.view in
+    let below = g.F.BackingDisk.backing in
+    let old = c.args.self.now in
+    let begun = c.begin.new.self in
+    let entries = c.clear_between-cleared.new.self in
+    let freed = c.end_freeing.new.self in
+    let how = c.args.how in
+    let offset = c.args.offset in
+    let n = c.args.length in
+    let range = not_refused c.check_clear.result _ (refuses_to_clear old c.args.offset c.args.length c.args.how) (c.in_ok-from.from, c.in_ok-from.to) c.check_clear.ensures.refusal c.in_ok-from.was in
+    let from : c.in_ok-from.from ≡ from_in c.args.self.now c.args.offset c.args.length = ap (λ (r : ℕ × ℕ). r.0) range.1 in
+    let to : c.in_ok-from.to ≡ to_in c.args.self.now c.args.offset c.args.length = ap (λ (r : ℕ × ℕ). r.1) range.1 in
+    let works = clear_works old c.args.offset c.args.length c.args.how range.0 in
+    let quiet : (out : _) → _ → Quietly view below out old begun = λ out sound. record { keeps = c.begin.ensures.keeps (pending_in view below old out) out sound; list = c.begin.ensures.list } in
+    let done : c.clear_between-cleared.result ≡ Ok c.in_ok-mark_failure.field-0 = sym c.mark_failure.ensures.answer ∙ c.in_ok-mark_failure.was in
+    let marks = subst (λ (r : Result _ _). Marks r (is_failed entries) (is_failed c.mark_failure.new.self)) done c.mark_failure.ensures.marks in
+    let same : c.mark_failure.new.self ≡ c.clear_between-cleared.new.self = c.mark_failure.ensures.rest ∙ ap (λ f. record entries { is_failed = f }) marks in
+    let parts : (out : _) → UnseenCall view below old begun out → ClearsPart view below how (from_in old offset n) (to_in old offset n) begun entries out = λ out call. subst (λ k. ClearsPart view below how k (to_in old offset n) begun entries out) from (subst (λ k. ClearsPart view below how c.in_ok-from.from k begun entries out) to
+    (subst (ClearsOrRefuses view below how c.in_ok-from.from c.in_ok-from.to begun entries out) done (c.clear_between-cleared.ensures.clears out call.sound
+    (subst (λ k. IsWhole begun.file.header.fields how k c.in_ok-from.to) (sym from) (subst (λ k. IsWhole begun.file.header.fields how (from_in old offset n) k) (sym to)
+    (whole_in view below old how offset n works begun entries quiet out call c.in_ok-from.ensures.version)))))) in
+    let ends = subst (λ (image : Qcow2 _ _). (out : _) → ImageInvariant view below (pending_in view below image out) image out → EndsFreeing view below image freed out c.end_freeing.result) same c.end_freeing.ensures.frees in
+    let number = c.end_freeing.ensures.image.number ∙ c.mark_failure.ensures.image.number ∙ c.clear_between-cleared.ensures.stays.image.number ∙ c.begin.ensures.stays.image.number in
+    let x = c.in_err-end_freeing.field-0.0 in
+    subst (λ (r : Result _ _). IfErr r (RefusesUngiven view below old freed)) (sym (err_is c.from_residual-in_err-end_freeing.result c.from_residual-in_err-end_freeing.ensures))
+    (ungiven_broke view below old how offset n works begun entries quiet parts freed c.end_freeing.result ends number x c.in_err-end_freeing.was)

@@ -1,8 +1,10 @@
 use Rattle.std.proofs.Common.{◌≡◌, inl, inr, ◌++◌, [], None, Err, refl, sym, ap, ◌∙◌, subst, rules}
 use Rattle.std.specs.Prelude.{IsTrue, IsSome}
 use Rattle.image_access.proofs.Passing.{passes_none}
-use Rattle.qcow2_laws.specs.Calls.{storage}
+use Rattle.qcow2_disk.specs.Calls.{storage}
 use Rattle.qcow2_alloc.specs.ImageFile.{view_in}
+use Rattle.qcow2_alloc.specs.ImageStorage.{storage_of}
+use Rattle.qcow2_image.specs.declared.image.Qcow2.{Qcow2}
 use Rattle.qcow2_image.specs.declared.prepared.CommitRefused.{CommitRefused}
 use Rattle.qcow2_image.specs.declared.prepared.CommitRefused.TheVariants.{Kept}
 use Rattle.qcow2_image.specs.Calls.{Commits, refusal_of}
@@ -67,3 +69,17 @@ returns-after-entered-clause-sees g c =
             (λ out sound. record { keeps = c.begin.ensures.keeps (pending_in view below old out) out sound; list = c.begin.ensures.list }) c.enter_shares-entered.ensures.enters c.end_freeing.ensures.frees out k placed number x c.in-Err.is marked same)
       ]
     ]
+
+pub returns-then-is_none-clause-quiet : goal.returns-then-is_none-clause-quiet
+returns-then-is_none-clause-quiet g c = λ nothing none. ap (λ (image : Qcow2 _ _). storage_of image.file.storage) c.let_go.ensures.rest.rest
+
+pub returns-in-Ok-clause-quiet : goal.returns-in-Ok-clause-quiet
+returns-in-Ok-clause-quiet g c = λ nothing none.
+    ap (λ (image : Qcow2 _ _). storage_of image.file.storage) c.let_go-in-Ok.ensures.rest.rest
+    ∙ ap (λ (image : Qcow2 _ _). storage_of image.file.storage) (c.end_freeing.ensures.idle (c.enter_shares-entered.ensures.quiet none ∙ c.begin.ensures.list ∙ nothing)).1
+    ∙ ap storage_of c.enter_shares-entered.ensures.storage ∙ c.begin.ensures.storage
+
+pub returns-after-entered-clause-quiet : goal.returns-after-entered-clause-quiet
+returns-after-entered-clause-quiet g c = λ nothing none.
+    ap (λ (image : Qcow2 _ _). storage_of image.file.storage) (c.end_freeing.ensures.idle (c.enter_shares-entered.ensures.quiet none ∙ c.begin.ensures.list ∙ nothing)).1
+    ∙ ap storage_of c.enter_shares-entered.ensures.storage ∙ c.begin.ensures.storage

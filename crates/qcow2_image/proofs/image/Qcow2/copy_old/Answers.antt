@@ -3,7 +3,7 @@ use Rattle.std.proofs.lemmas.List.{length-replicate, get_or-replicate}
 use Rattle.qcow2_metadata.specs.Cover.{cover}
 use Rattle.qcow2_metadata.specs.Guest.{known_byte}
 use Rattle.qcow2_metadata.specs.Header.{cluster_size}
-use Rattle.qcow2_laws.specs.Disk.{Disk}
+use Rattle.qcow2_disk.specs.Disk.{Disk}
 use Rattle.qcow2_alloc.specs.ImageFile.{known_in, state_in}
 use Rattle.qcow2_image.specs.Found.{found_kind, IsMappedAs}
 use Rattle.qcow2_image.specs.ImageInvariant.{backing_bytes}

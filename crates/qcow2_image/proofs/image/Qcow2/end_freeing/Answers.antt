@@ -1,10 +1,14 @@
-use Rattle.std.proofs.Common.{sym, subst}
+use Rattle.std.proofs.Common.{refl, sym, subst}
 use Rattle.std.specs.Prelude.{Result}
 use Rattle.qcow2_laws.specs.CrashInvariant.{Pending}
 use Rattle.qcow2_image.specs.declared.image.Qcow2.{Qcow2}
 use Rattle.qcow2_image.specs.Image.{is_failed}
 use Rattle.qcow2_image.specs.CallParts.{EndsFreeing}
-use Rattle.qcow2_image.specs.ImageInvariant.{ImageInvariant}
+use Rattle.qcow2_image.specs.ImageInvariant.{ImageInvariant, pending_in}
+use Rattle.qcow2_image.specs.UnseenSteps.{UnseenFillingStep}
+use Rattle.qcow2_image.proofs.Call.Refused.{goes_stays}
+use Rattle.qcow2_image.proofs.Prepare.Filling.{goes_none}
+use Rattle.qcow2_image.proofs.Prepare.Gaining.{following_same}
 use Rattle.qcow2_image.proofs.Flush.Freeing.{all_listed, beside, ends_freeing}
 use Rattle.qcow2_image.proofs.image.Qcow2.end_freeing.Goals as goal
 
@@ -21,3 +25,11 @@ returns-clause-frees g c = λ out sound.
     (subst (λ (x : Result _ _). EndsFreeing view below old (record new { is_failed = is_failed c.mark_failure.new.self }) out x) (sym c.mark_failure.ensures.answer)
     (ends_freeing view below old sound.works new (is_failed c.mark_failure.new.self) c.free_listed-freed.ensures.stays.image.number out sound r c.mark_failure.ensures.marks c.mark_failure.ensures.memory c.free_listed-freed.ensures.noted
     (c.free_listed-freed.ensures.faults p out listed) (c.free_listed-freed.ensures.frees p out listed)))
+
+pub returns-then-is_empty-clause-frees : goal.returns-then-is_empty-clause-frees
+returns-then-is_empty-clause-frees g c = λ out sound.
+    let view = g.S.Storage.view in
+    let below = g.F.BackingDisk.backing in
+    let old = c.args.self.now in
+    let p : Pending = pending_in view below old out in
+    goes_stays view below out old old (subst (λ q. UnseenFillingStep view below p q old old out) (sym (following_same view below out p old old refl)) (goes_none view below out old p sound))

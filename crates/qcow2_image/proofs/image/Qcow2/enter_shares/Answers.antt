@@ -1,6 +1,6 @@
 use Rattle.std.proofs.Common.{◌≡◌, ◌+◌, length, sym, subst, arith, rules}
 use Rattle.qcow2_image.proofs.Shares.{freed_none}
-use Rattle.qcow2_image.proofs.Commit.Entered.{EntersFirst, enters_all, first_false, first_none, first_true}
+use Rattle.qcow2_image.proofs.Commit.Entered.{EntersFirst, entered_whole, enters_all, first_false, first_none, first_true}
 use Rattle.qcow2_image.proofs.image.Qcow2.enter_shares.Goals.{then-enter_share, else-enter_share}
 use Rattle.qcow2_image.proofs.image.Qcow2.enter_shares.Goals as goal
 
@@ -36,3 +36,17 @@ returns-clause-left g c =
     let end : c.len-i-end.result ≡ length c.args.prepared.now.shares.items = search rules in
     let count = c.loop-i.invariant.count in
     freed_none c.loop-i.prepared.shares.items (λ j lt. c.loop-i.invariant.in_place j (omega (arith, end, count, c.loop-i-test.false)))
+
+pub returns-clause-storage : goal.returns-clause-storage
+returns-clause-storage g c = c.loop-i.invariant.storage
+
+pub returns-clause-quiet : goal.returns-clause-quiet
+returns-clause-quiet g c = λ none. (c.loop-i.invariant.quiet none).1
+
+pub returns-clause-header : goal.returns-clause-header
+returns-clause-header g c = c.loop-i.invariant.header
+
+pub returns-clause-in_place : goal.returns-clause-in_place
+returns-clause-in_place g c =
+    let end : c.len-i-end.result ≡ length c.args.prepared.now.shares.items = search rules in
+    entered_whole g.S.Storage.view g.F.BackingDisk.backing c.args.self.now c.loop-i.self c.args.prepared.now c.loop-i.prepared c.loop-i.i c.loop-i.entered c.loop-i.invariant (omega (arith, end, c.loop-i-test.false, c.loop-i.auto.i-end))

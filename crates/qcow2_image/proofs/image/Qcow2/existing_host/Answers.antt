@@ -1,7 +1,7 @@
 use Rattle.std.proofs.Common.{◌≡◌, sym, ap, ◌∙◌, subst, arith, min, is_some}
-use Rattle.qcow2_laws.specs.Alike.{IsLongestRun}
+use Rattle.qcow2_disk.specs.Alike.{IsLongestRun}
 use Rattle.qcow2_alloc.specs.ImageFile.{known_in}
-use Rattle.qcow2_laws.specs.Found.{rest_of_table}
+use Rattle.qcow2_disk.specs.Found.{rest_of_table}
 use Rattle.qcow2_image.specs.Found.{writable_place}
 use Rattle.qcow2_image.specs.Preparing.{IsPlaceOf}
 use Rattle.qcow2_image.proofs.Prepare.Writable.{place_found, short_of}

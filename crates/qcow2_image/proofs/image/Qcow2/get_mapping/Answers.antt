@@ -1,8 +1,8 @@
 use Rattle.std.proofs.Common.{◌≡◌, [], sym, ap, ◌∙◌, subst, IfOk, is_some}
-use Rattle.qcow2_laws.specs.Calls.{Does, Refuses, IsSame}
-use Rattle.qcow2_laws.specs.AbstractImages.{guest_of}
+use Rattle.qcow2_disk.specs.Calls.{Does, Refuses, IsSame}
+use Rattle.qcow2_disk.specs.AbstractImages.{guest_of}
 use Rattle.qcow2_image.specs.declared.image.Qcow2.{Qcow2}
-use Rattle.qcow2_laws.specs.Found.{IsFoundIn, IsFound as IsFoundOf}
+use Rattle.qcow2_disk.specs.Found.{IsFoundIn, IsFound as IsFoundOf}
 use Rattle.qcow2_laws.proofs.Unseen.{known_header}
 use Rattle.qcow2_alloc.specs.ImageFile.{known_in, state_in}
 use Rattle.qcow2_image.specs.Found.{IsFound, found_kind}

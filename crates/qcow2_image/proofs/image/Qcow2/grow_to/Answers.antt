@@ -1,4 +1,5 @@
 use Rattle.qcow2_alloc.proofs.AllocationSteps.{handed_on}
+use Rattle.qcow2_image.specs.declared.image.Qcow2.{Qcow2}
 use Rattle.qcow2_image.specs.Growing.{Resizes}
 use Rattle.qcow2_image.specs.UnseenSteps.{pending_then}
 use Rattle.std.proofs.Common.{[], ap, ◌∙◌, ◌-◌, ◌/◌, ◌^◌}
@@ -16,7 +17,7 @@ returns-clause-resizes g c = λ p sound.
     let old = c.args.self.now in
     let mid = c.grow_l1_table.new.self in
     let first = extends_moving g.S.Storage.view g.F.BackingDisk.backing p (pending_then p old mid) old mid (c.in_ok-grow_l1_table.ensures.lengthens p [] sound) in
-    resized_then g.S.Storage.view g.F.BackingDisk.backing p old mid c.write_size.new.self c.args.size c.write_size.result first c.write_size.ensures.list (c.write_size.ensures.resizes (pending_then p old mid) first.sound)
+    resized_then g.S.Storage.view g.F.BackingDisk.backing p old mid c.write_size.new.self c.args.size c.write_size.result first (ap (λ (i : Qcow2 _ _). i.file.free_list) c.write_size.ensures.rest) (c.write_size.ensures.resizes (pending_then p old mid) first.sound)
 
 pub returns-clause-reaches : goal.returns-clause-reaches
 returns-clause-reaches g c = λ p sound.
@@ -24,5 +25,5 @@ returns-clause-reaches g c = λ p sound.
     let mid = c.grow_l1_table.new.self in
     let first = extends_moving g.S.Storage.view g.F.BackingDisk.backing p (pending_then p old mid) old mid (c.in_ok-grow_l1_table.ensures.lengthens p [] sound) in
     resized_reaches g.S.Storage.view g.F.BackingDisk.backing p old mid c.write_size.new.self c.args.size c.l1_index.result c.write_size.result
-    (resized_then g.S.Storage.view g.F.BackingDisk.backing p old mid c.write_size.new.self c.args.size c.write_size.result first c.write_size.ensures.list (c.write_size.ensures.resizes (pending_then p old mid) first.sound))
-    (c.l1_index.ensures ∙ ap (λ m. m / 2 ^ c.cluster_bits-bits.result / (2 ^ c.cluster_bits-bits.result / 8)) c.new.ensures ∙ ap (λ n. (c.args.size - 1) / 2 ^ n / (2 ^ n / 8)) c.cluster_bits-bits.ensures.value) c.in_ok-grow_l1_table.ensures.reaches c.write_size.ensures.table
+    (resized_then g.S.Storage.view g.F.BackingDisk.backing p old mid c.write_size.new.self c.args.size c.write_size.result first (ap (λ (i : Qcow2 _ _). i.file.free_list) c.write_size.ensures.rest) (c.write_size.ensures.resizes (pending_then p old mid) first.sound))
+    (c.l1_index.ensures ∙ ap (λ m. m / 2 ^ c.cluster_bits-bits.result / (2 ^ c.cluster_bits-bits.result / 8)) c.new.ensures ∙ ap (λ n. (c.args.size - 1) / 2 ^ n / (2 ^ n / 8)) c.cluster_bits-bits.ensures.value) c.in_ok-grow_l1_table.ensures.reaches (ap (λ (i : Qcow2 _ _). i.l1_table) c.write_size.ensures.rest)

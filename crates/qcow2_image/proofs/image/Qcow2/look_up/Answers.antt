@@ -2,12 +2,12 @@ use Rattle.std.proofs.Common.{◌≡◌, ◌-◌, ◌/◌, sym, ap, ◌∙◌, s
 use Rattle.std.proofs.lemmas.Nat.{mod_below}
 use Rattle.qcow2_metadata.specs.Header.{cluster_size, entries_per_cluster}
 use Rattle.qcow2_metadata.specs.Entries.{host_offset}
-use Rattle.qcow2_laws.specs.Alike.{IsLongestRun}
+use Rattle.qcow2_disk.specs.Alike.{IsLongestRun}
 use Rattle.qcow2_laws.specs.Guests.{table_at}
 use Rattle.qcow2_laws.proofs.Places.{Sizes-from, cover_none}
 use Rattle.qcow2_laws.proofs.Tops.{IsTop-top}
 use Rattle.qcow2_alloc.specs.ImageFile.{contents_in, known_in}
-use Rattle.qcow2_laws.specs.Found.{kind_at, rest_of_table}
+use Rattle.qcow2_disk.specs.Found.{kind_at, rest_of_table}
 use Rattle.qcow2_image.specs.Found.{l1_index_of, NamesTable, IsRunFrom}
 use Rattle.qcow2_image.proofs.Map.Loading.{caches_moved, with_caches, if_ok}
 use Rattle.qcow2_image.proofs.Map.Looked.{none_found}

@@ -2,7 +2,7 @@ use Rattle.std.proofs.Common.{◌≡◌, ◌/◌, ◌<◌, inl, sym, ap, ◌∙�
 use Rattle.std.specs.Prelude.{Ok}
 use Rattle.qcow2_metadata.specs.Cover.{cover}
 use Rattle.qcow2_metadata.specs.Header.{cluster_size}
-use Rattle.qcow2_laws.specs.AbstractImages.{Guest}
+use Rattle.qcow2_disk.specs.AbstractImages.{Guest}
 use Rattle.qcow2_laws.specs.Changes.{with_held}
 use Rattle.qcow2_laws.proofs.Formats.{cover_format, size_format}
 use Rattle.qcow2_alloc.specs.ImageFile.{known_in}

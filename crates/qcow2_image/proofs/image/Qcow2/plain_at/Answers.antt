@@ -1,9 +1,8 @@
 use Rattle.std.proofs.Common.{sym, ◌∙◌, subst, is_some}
-use Rattle.qcow2_laws.specs.Found.{IsFoundIn, IsFound as IsFoundOf}
+use Rattle.qcow2_disk.specs.Found.{IsCompressedAt, IsFoundIn, IsFound as IsFoundOf}
 use Rattle.qcow2_laws.proofs.Unseen.{known_header}
 use Rattle.qcow2_alloc.specs.ImageFile.{known_in, state_in}
 use Rattle.qcow2_image.specs.Found.{found_kind}
-use Rattle.qcow2_image.specs.SpecialReads.{IsCompressedAt}
 use Rattle.qcow2_image.proofs.Map.Special.{found_special, found_plain}
 use Rattle.qcow2_image.proofs.image.Qcow2.plain_at.Goals as goal
 

@@ -50,7 +50,7 @@ returns-in-None-clause-readies g c = λ out sound holds.
     let old = c.args.self.now in
     let p = pending_in view below old out in
     let cluster : c.cluster-cluster.result ≡ c.args.offset / cluster_size old.file.header.fields = c.cluster-cluster.ensures ∙ ap (λ o. o / 2 ^ c.cluster_bits.result) c.new.ensures ∙ ap (λ b. c.args.offset / 2 ^ b) c.cluster_bits.ensures.value in
-    c.prepare_new.ensures.readies out sound holds (not_pinned _ c.l2_is_pinned.result c.l2_is_pinned.ensures c.if-l2_is_pinned.false)
+    c.prepare_private.ensures.readies out sound holds (not_pinned _ c.l2_is_pinned.result c.l2_is_pinned.ensures c.if-l2_is_pinned.false)
     (first_stands view below old p c.args.offset c.args.table c.cluster-cluster.result c.in_ok-old.old cluster holds (c.in_ok-old.ensures.says p (l1_index_of old.file.header.fields c.args.offset) sound.file))
 
 pub returns-in-Some-clause-first : goal.returns-in-Some-clause-first
@@ -65,4 +65,4 @@ returns-in-Some-clause-room g c =
 
 pub returns-in-None-clause-room : goal.returns-in-None-clause-room
 returns-in-None-clause-room g c =
-    if_room c.args.self.now.file.header.fields c.args.length c.args.offset c.args.table c.clusters_in.result (vec_capacity c.in_ok-room.room) c.clusters_in.ensures.enough c.in_ok-room.ensures.capacity c.prepare_new.result c.prepare_new.ensures.first c.prepare_new.ensures.room
+    if_room c.args.self.now.file.header.fields c.args.length c.args.offset c.args.table c.clusters_in.result (vec_capacity c.in_ok-room.room) c.clusters_in.ensures.enough c.in_ok-room.ensures.capacity c.prepare_private.result c.prepare_private.ensures.first c.prepare_private.ensures.room

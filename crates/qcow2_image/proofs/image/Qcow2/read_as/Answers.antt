@@ -6,7 +6,7 @@ use Rattle.qcow2_metadata.specs.Bytes.{byte_at}
 use Rattle.qcow2_metadata.specs.Guest.{known_byte}
 use Rattle.qcow2_metadata.specs.Header.{cluster_size}
 use Rattle.qcow2_metadata.specs.Cover.{cover}
-use Rattle.qcow2_laws.specs.Disk.{disk}
+use Rattle.qcow2_disk.specs.Disk.{disk}
 use Rattle.qcow2_alloc.specs.MetadataCaches.{known_of}
 use Rattle.qcow2_alloc.specs.ImageFile.{known_in, state_in, view_in}
 use Rattle.qcow2_image.specs.Found.{found_kind, is_data_file}

@@ -1,5 +1,5 @@
 use Rattle.std.proofs.Common.{◌≡◌, ◌+◌, ◌∙◌, length, Err, subst, sym, arith, IfOk}
-use Rattle.qcow2_laws.specs.Calls.{Shows}
+use Rattle.qcow2_disk.specs.Calls.{Shows}
 use Rattle.qcow2_alloc.specs.declared.error.ImageError.TheVariants.{OutdatedMapping}
 use Rattle.qcow2_alloc.proofs.AllocationSteps.{handed_on}
 use Rattle.qcow2_image.specs.Found.{IsFoundWhole, further_by}

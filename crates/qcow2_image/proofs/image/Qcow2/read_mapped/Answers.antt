@@ -1,7 +1,7 @@
 use Rattle.std.proofs.Common.{◌≡◌, ◌+◌, ◌<◌, [], Err, sym, ap, ◌∙◌, subst, rules, length}
 use Rattle.std.specs.Prelude.{Result}
-use Rattle.qcow2_laws.specs.Calls.{Shows, IsSame}
-use Rattle.qcow2_laws.specs.AbstractImages.{guest_of}
+use Rattle.qcow2_disk.specs.Calls.{Shows, IsSame}
+use Rattle.qcow2_disk.specs.AbstractImages.{guest_of}
 use Rattle.qcow2_image.specs.Calls.{Answers}
 use Rattle.qcow2_image.specs.declared.image.Qcow2.{Qcow2}
 use Rattle.qcow2_alloc.specs.declared.error.ImageError.TheVariants.{OutdatedMapping}

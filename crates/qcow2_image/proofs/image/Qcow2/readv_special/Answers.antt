@@ -1,5 +1,5 @@
 use Rattle.std.proofs.Common.{◌≡◌, [], IfErr, subst}
-use Rattle.qcow2_laws.specs.Calls.{another, storage}
+use Rattle.qcow2_disk.specs.Calls.{not_compressed, storage}
 use Rattle.qcow2_alloc.specs.ImageFile.{known_in}
 use Rattle.qcow2_alloc.proofs.AllocationSteps.{handed_on}
 use Rattle.qcow2_alloc.specs.declared.error.ImageError.TheVariants.{Compressed, NotCompressed}
@@ -30,5 +30,5 @@ returns-in-Some-clause-tells g c = λ some out sound.
 
 pub returns-in-Some-clause-sees : goal.returns-in-Some-clause-sees
 returns-in-Some-clause-sees g c = λ out.
-    let none : another 18 ≡ storage → ⊥ = λ is. cc in
-    refuses_after (another 18) none (c.in_ok-try_readv_special.ensures.sees out)
+    let none : not_compressed c.in-Some.offset ≡ storage → ⊥ = λ is. cc in
+    refuses_after (not_compressed c.in-Some.offset) none (c.in_ok-try_readv_special.ensures.sees out)

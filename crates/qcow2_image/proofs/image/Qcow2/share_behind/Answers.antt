@@ -1,10 +1,18 @@
-use Rattle.std.proofs.Common.{◌≡◌, ◌+◌, ◌-◌, ◌/◌, ◌^◌, true, arith, refl, sym, ap, ◌∙◌, subst}
+use Rattle.std.proofs.Common.{◌≡◌, ◌+◌, ◌-◌, ◌/◌, ◌^◌, Some, true, false, arith, inl, refl, sym, ap, ◌∙◌, subst}
 use Rattle.qcow2_metadata.specs.Header.{cluster_size}
-use Rattle.qcow2_metadata.specs.declared.l2_mapping.L2Mapping.TheVariants.{Data}
+use Rattle.qcow2_metadata.specs.declared.l2_mapping.L2Mapping.TheVariants.{Data, Zero}
 use Rattle.qcow2_image.specs.ImageInvariant.{pending_in}
 use Rattle.qcow2_image.specs.Found.{l1_index_of}
-use Rattle.qcow2_image.specs.Ranges.{SharesAt}
-use Rattle.qcow2_image.proofs.Prepare.Behind.{behind_in_place, ends_elsewhere, finds_shared, next_says}
+use Rattle.qcow2_metadata.specs.Cover.{cover}
+use Rattle.qcow2_alloc.proofs.AllocationSteps.{handed_on}
+use Rattle.qcow2_alloc.specs.ImageFile.{known_in}
+use Rattle.qcow2_image.specs.declared.image.Qcow2.{Qcow2}
+use Rattle.qcow2_image.specs.Ranges.{FindsBehind, SharesAt}
+use Rattle.qcow2_image.specs.UnseenSteps.{IsFilled, IsKeptAlone, UnseenFillingStep}
+use Rattle.qcow2_image.proofs.Call.Refused.{back_refused}
+use Rattle.qcow2_image.proofs.Prepare.Gaining.{following_same}
+use Rattle.qcow2_image.proofs.Prepare.KeptShares.{behind_alone, behind_kept}
+use Rattle.qcow2_image.proofs.Prepare.Behind.{behind_in_place, ends_elsewhere, finds_shared, next_cluster, next_says}
 use Rattle.qcow2_image.proofs.image.Qcow2.share_behind.Goals as goal
 
 pub returns-in-Some-copied_place-clause-finds : goal.returns-in-Some-copied_place-clause-finds
@@ -30,8 +38,50 @@ returns-in-Some-2-clause-finds g c = λ out k at may sound.
     let covered = next_says view below old out k p at c.args.length c.args.table c.args.overwrite may sound c.cluster-cluster.result c.in_ok-old.old cluster (c.in_ok-old.ensures.says (pending_in view below old out) (l1_index_of h p.guest) sound.file) in
     ends_elsewhere view below old out k p at c.args.length c.args.table c.args.overwrite may sound c.in-Some-copied_place.place (covered ∙ c.in-Some-copied_place.ensures.place.0) (λ is. c.if-place-host.false (is ∙ sym c.in-Some-checked_add.ensures.1))
 
-pub returns-in-None-clause-finds : goal.returns-in-None-clause-finds
-returns-in-None-clause-finds g c = λ out k at may sound.
+pub returns-in_err-fill_kept-in-None-clause-finds : goal.returns-in_err-fill_kept-in-None-clause-finds
+returns-in_err-fill_kept-in-None-clause-finds g c = λ out k at may sound.
+    let view = g.S.Storage.view in
+    let below = g.F.BackingDisk.backing in
+    let old = c.args.self.now in
+    let new = c.fill_kept.new.self in
+    let p = c.args.prepared.now in
+    let before = pending_in view below old out in
+    let h = old.file.header.fields in
+    let host = c.in-Some-checked_add.host in
+    let cluster : c.cluster-cluster.result ≡ (p.guest + p.length) / cluster_size h = c.cluster-cluster.ensures ∙ ap (λ o. o / 2 ^ c.cluster_bits.result) (c.new.ensures ∙ c.in-Some.ensures.1) ∙ ap (λ b. (p.guest + p.length) / 2 ^ b) c.cluster_bits.ensures.value in
+    let covered = next_says view below old out k p at c.args.length c.args.table c.args.overwrite may sound c.cluster-cluster.result c.in_ok-old.old cluster (c.in_ok-old.ensures.says (pending_in view below old out) (l1_index_of h p.guest) sound.file) in
+    let kept : cover h (known_in view old.file) ((p.guest + p.length) / cluster_size h) ≡ Zero (Some (c.in-Some-checked_add.host, true)) =
+    ap (cover h (known_in view old.file)) (next_cluster view below old out k p at c.args.length c.args.table c.args.overwrite may sound) ∙ covered ∙ c.keeps.ensures.answer.0 c.if-keeps.true in
+    let alone = behind_alone view below old out k p at c.args.length c.args.table c.args.overwrite may sound c.in-Some-checked_add.host c.in-Some-checked_add.ensures.1 kept (c.keeps.ensures.reach c.if-keeps.true) in
+    let goes = c.fill_kept.ensures.goes before out sound (λ m. omega arith) (subst (λ x. IsKeptAlone view below old out x host) (sym c.in-Some.ensures.1) alone) in
+    let list = ap (λ (image : Qcow2 _ _). image.file.free_list) c.fill_kept.ensures.rest in
+    handed_on (λ r. FindsBehind view below old new out c.args.length c.args.overwrite c.args.prepared.now r) c.from_residual-in_err-fill_kept-in-None.result c.in_err-fill_kept-in-None.field-0.0 c.from_residual-in_err-fill_kept-in-None.ensures
+    (back_refused view below out old new c.in_err-fill_kept-in-None.field-0.0 (inl (subst (λ q. UnseenFillingStep view below before q old new out) (sym (following_same view below out before old new list)) goes)))
+
+pub returns-in_ok-fill_kept-in-None-clause-finds : goal.returns-in_ok-fill_kept-in-None-clause-finds
+returns-in_ok-fill_kept-in-None-clause-finds g c = λ out k at may sound.
+    let view = g.S.Storage.view in
+    let below = g.F.BackingDisk.backing in
+    let old = c.args.self.now in
+    let new = c.fill_kept.new.self in
+    let p = c.args.prepared.now in
+    let before = pending_in view below old out in
+    let h = old.file.header.fields in
+    let host = c.in-Some-checked_add.host in
+    let cluster : c.cluster-cluster.result ≡ (p.guest + p.length) / cluster_size h = c.cluster-cluster.ensures ∙ ap (λ o. o / 2 ^ c.cluster_bits.result) (c.new.ensures ∙ c.in-Some.ensures.1) ∙ ap (λ b. (p.guest + p.length) / 2 ^ b) c.cluster_bits.ensures.value in
+    let covered = next_says view below old out k p at c.args.length c.args.table c.args.overwrite may sound c.cluster-cluster.result c.in_ok-old.old cluster (c.in_ok-old.ensures.says (pending_in view below old out) (l1_index_of h p.guest) sound.file) in
+    let kept : cover h (known_in view old.file) ((p.guest + p.length) / cluster_size h) ≡ Zero (Some (c.in-Some-checked_add.host, true)) =
+    ap (cover h (known_in view old.file)) (next_cluster view below old out k p at c.args.length c.args.table c.args.overwrite may sound) ∙ covered ∙ c.keeps.ensures.answer.0 c.if-keeps.true in
+    let alone = behind_alone view below old out k p at c.args.length c.args.table c.args.overwrite may sound c.in-Some-checked_add.host c.in-Some-checked_add.ensures.1 kept (c.keeps.ensures.reach c.if-keeps.true) in
+    let goes = c.fill_kept.ensures.goes before out sound (λ m. omega arith) (subst (λ x. IsKeptAlone view below old out x host) (sym c.in-Some.ensures.1) alone) in
+    let list = ap (λ (image : Qcow2 _ _). image.file.free_list) c.fill_kept.ensures.rest in
+    let covers = subst (λ x. cover h (known_in view old.file) (x / cluster_size h) ≡ Zero (Some (c.in-Some-checked_add.host, true))) (sym c.in-Some.ensures.1) kept in
+    let filled = subst (λ x. IsFilled view below old new (host / cluster_size h) x (c.args.length - p.length) c.args.overwrite) c.in-Some.ensures.1
+    (subst (λ x. IsFilled view below old new (host / cluster_size h) c.in-Some.next x c.args.overwrite) c.saturating_sub-left.ensures (c.in_ok-fill_kept-in-None.ensures.fills before out sound covers)) in
+    behind_kept view below old out k p at c.args.length c.args.table c.args.overwrite may sound c.in-Some-checked_add.host c.in-Some-checked_add.ensures.1 kept (c.keeps.ensures.reach c.if-keeps.true) new goes list filled
+
+pub returns-in-None-2-clause-finds : goal.returns-in-None-2-clause-finds
+returns-in-None-2-clause-finds g c = λ out k at may sound.
     let view = g.S.Storage.view in
     let below = g.F.BackingDisk.backing in
     let old = c.args.self.now in
@@ -45,7 +95,7 @@ returns-in-None-clause-finds g c = λ out k at may sound.
     let r = c.share_at.result in
     let cluster : c.cluster-cluster.result ≡ (p.guest + p.length) / cluster_size h = c.cluster-cluster.ensures ∙ ap (λ o. o / 2 ^ c.cluster_bits.result) (c.new.ensures ∙ c.in-Some.ensures.1) ∙ ap (λ b. (p.guest + p.length) / 2 ^ b) c.cluster_bits.ensures.value in
     let covered = next_says view below old out k p at c.args.length c.args.table c.args.overwrite may sound c.cluster-cluster.result c.in_ok-old.old cluster (c.in_ok-old.ensures.says (pending_in view below old out) (l1_index_of h p.guest) sound.file) in
-    finds_shared view below old out k p at c.args.length c.args.table c.args.overwrite may sound new mapping c.in_ok-old.ensures.reach (c.in-None.ensures.none refl) covered r
+    finds_shared view below old out k p at c.args.length c.args.table c.args.overwrite may sound new mapping c.in_ok-old.ensures.reach (c.in-None-2.ensures.none refl) (λ own. let yes = c.keeps.ensures.answer.1 (own ∙ ap (λ b. Zero (Some (b, true))) (sym c.in-Some-checked_add.ensures.1)) in let e : true ≡ false = sym yes ∙ c.if-keeps.false in cc) covered r
     (subst (λ x. SharesAt view below before old new out x (n - p.length) o mapping (p.offset + p.length) r) c.in-Some.ensures.1
     (subst (λ x. SharesAt view below before old new out c.in-Some.next x o mapping (p.offset + p.length) r) c.saturating_sub-left.ensures
     (subst (λ x. SharesAt view below before old new out c.in-Some.next c.saturating_sub-left.result o mapping x r) c.in-Some-checked_add.ensures.1 (c.share_at.ensures.shares before out sound (λ m. omega arith)))))

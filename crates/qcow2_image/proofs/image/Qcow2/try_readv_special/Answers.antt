@@ -1,6 +1,6 @@
 use Rattle.std.proofs.Common.{◌≡◌, [], sym, ◌∙◌, subst}
 use Rattle.std.specs.Prelude.{Result}
-use Rattle.qcow2_laws.specs.Calls.{IsSame}
+use Rattle.qcow2_disk.specs.Calls.{IsSame}
 use Rattle.qcow2_image.specs.Calls.{Answers}
 use Rattle.qcow2_image.specs.declared.image.Qcow2.{Qcow2}
 use Rattle.qcow2_alloc.specs.ImageFile.{known_in}

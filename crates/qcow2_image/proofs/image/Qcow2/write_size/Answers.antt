@@ -1,22 +1,52 @@
-use Rattle.qcow2_alloc.specs.ImageError.{of_storage}
+use Rattle.std.proofs.Common.{◌≡◌, ◌∙◌, refl, sym, ap, subst}
+use Rattle.std.specs.Prelude.{Err}
+use Rattle.qcow2_metadata.specs.Header.{HeaderView, with_fields, with_size}
+use Rattle.qcow2_metadata.specs.HeaderWrite.{size_written}
+use Rattle.image_access.specs.Moments.{Changes}
 use Rattle.qcow2_alloc.specs.ImageStorage.{storage_of}
-use Rattle.qcow2_alloc.proofs.AllocationSteps.{handed_on}
-use Rattle.qcow2_image.specs.Growing.{Resizes}
-use Rattle.qcow2_image.proofs.Grow.Resized.{written_as, lasts_resized, resized_so}
+use Rattle.qcow2_image.specs.declared.image.Qcow2.{Qcow2}
+use Rattle.qcow2_image.specs.Resizing.{WritesSize}
+use Rattle.qcow2_image.proofs.Sizing.SizeWritten.{resizes_refused, resizes_so, size_is_refused, size_is_set}
 use Rattle.qcow2_image.proofs.image.Qcow2.write_size.Goals as goal
 
-pub returns-in_err-write_size-clause-resizes : goal.returns-in_err-write_size-clause-resizes
-returns-in_err-write_size-clause-resizes g c = λ p sound.
+pub returns-in-Ok-clause-writes : goal.returns-in-Ok-clause-writes
+returns-in-Ok-clause-writes g c = λ out sound.
     let view = g.S.Storage.view in
     let old = c.args.self.now in
-    handed_on (Resizes view g.F.BackingDisk.backing p old (record old { file = record old.file { storage = c.write_size.new.storage; header = c.set_size.new.self } }) c.args.size)
-    c.from_residual.result (of_storage c.in_err-write_size.field-0.0) c.from_residual.ensures
-    (lasts_resized view g.F.BackingDisk.backing p old sound c.args.size c.ranges.size.fits c.write_size.result (storage_of c.will_write.new.self) (storage_of c.write_size.new.storage) c.will_write.ensures.storage
-    (written_as view g.F.BackingDisk.backing p old sound c.args.size c.ranges.size.fits c.set_size.new.self c.set_size.ensures c.write_size.result (storage_of c.will_write.new.self) (storage_of c.write_size.new.storage) c.write_size.ensures.written) c.write_size.ensures.calls)
+    let after = c.write_size.new.storage in
+    let asked = storage_of c.will_write.new.self in
+    let wrote = subst (λ (v : HeaderView). Changes (view asked) (view (storage_of after)) c.write_size.result (size_written v.fields (view asked).contents)) c.set_size.ensures c.write_size.ensures.written in
+    size_is_set view g.F.BackingDisk.backing out old sound c.args.size c.ranges.size.fits after c.write_size.result asked c.will_write.ensures.storage wrote c.write_size.ensures.calls c.in-Ok.field-0 c.in-Ok.is _
+    (ap (λ (v : HeaderView). record old { file = record old.file { storage = after; header = v } }) c.set_size.ensures)
 
-pub returns-clause-resizes : goal.returns-clause-resizes
-returns-clause-resizes g c = λ p sound.
+pub returns-in-Ok-clause-resizes : goal.returns-in-Ok-clause-resizes
+returns-in-Ok-clause-resizes g c = λ p sound.
     let view = g.S.Storage.view in
     let old = c.args.self.now in
-    resized_so view g.F.BackingDisk.backing p old sound c.args.size c.ranges.size.fits c.set_size.new.self c.set_size.ensures c.write_size.result c.write_size.new.storage (storage_of c.will_write.new.self) c.will_write.ensures.storage
-    c.write_size.ensures.written c.write_size.ensures.calls c.in_ok-write_size.field-0 c.in_ok-write_size.was
+    let after = c.write_size.new.storage in
+    let asked = storage_of c.will_write.new.self in
+    let wrote = subst (λ (v : HeaderView). Changes (view asked) (view (storage_of after)) c.write_size.result (size_written v.fields (view asked).contents)) c.set_size.ensures c.write_size.ensures.written in
+    resizes_so view g.F.BackingDisk.backing p old sound c.args.size c.ranges.size.fits after c.write_size.result asked c.will_write.ensures.storage wrote c.write_size.ensures.calls c.in-Ok.field-0 c.in-Ok.is _
+    (ap (λ (v : HeaderView). record old { file = record old.file { storage = after; header = v } }) c.set_size.ensures)
+
+pub returns-in-Err-clause-writes : goal.returns-in-Err-clause-writes
+returns-in-Err-clause-writes g c = λ out sound.
+    let view = g.S.Storage.view in
+    let old = c.args.self.now in
+    let after = c.write_size.new.storage in
+    let asked = storage_of c.will_write.new.self in
+    let wrote = subst (λ (v : HeaderView). Changes (view asked) (view (storage_of after)) c.write_size.result (size_written v.fields (view asked).contents)) c.set_size.ensures c.write_size.ensures.written in
+    let header : c.set_size-in-Err.new.self ≡ old.file.header = c.set_size-in-Err.ensures ∙ ap (λ n. with_fields c.set_size.new.self (with_size c.set_size.new.self.fields n)) c.size-old.ensures ∙ ap (λ (v : HeaderView). with_fields v (with_size v.fields old.file.header.fields.size)) c.set_size.ensures in
+    let new : Qcow2 _ _ = record old { file = record old.file { storage = after; header = c.set_size-in-Err.new.self } } in
+    subst (λ e. WritesSize view g.F.BackingDisk.backing old new out c.args.size (Err e)) (sym c.from.ensures)
+    (size_is_refused view g.F.BackingDisk.backing out old sound c.args.size c.ranges.size.fits after c.write_size.result asked c.will_write.ensures.storage wrote c.write_size.ensures.calls c.in-Err.refusal c.in-Err.is new
+    (ap (λ (v : HeaderView). record old { file = record old.file { storage = after; header = v } }) header))
+
+pub returns-in-Err-clause-resizes : goal.returns-in-Err-clause-resizes
+returns-in-Err-clause-resizes g c = λ p sound.
+    let view = g.S.Storage.view in
+    let old = c.args.self.now in
+    let after = c.write_size.new.storage in
+    let asked = storage_of c.will_write.new.self in
+    let wrote = subst (λ (v : HeaderView). Changes (view asked) (view (storage_of after)) c.write_size.result (size_written v.fields (view asked).contents)) c.set_size.ensures c.write_size.ensures.written in
+    resizes_refused view g.F.BackingDisk.backing p old sound c.args.size c.ranges.size.fits after c.write_size.result asked c.will_write.ensures.storage wrote c.write_size.ensures.calls _ c.in-Err.refusal refl

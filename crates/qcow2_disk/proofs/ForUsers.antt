@@ -1,0 +1,108 @@
+-- Laws that a user would quote: what was given, put and committed.
+use Rattle.std.proofs.Common.{◌≡◌, IsTrue, ◌⊎◌, ⊎_elim, inl, inr, ◌+◌, ◌-◌, ◌<◌, ◌≤◌, ltb, leb, ℕ, refl, sym, ap, ◌∙◌, subst, Bool, true, false, Option, Some, List, [], ◌∷◌, length, eqb, arith}
+use Rattle.std.specs.Prelude.{if◌then◌else◌}
+use Rattle.std.proofs.lemmas.Bool.{cases_lt, cond-true, cond-false, eq-eqb, le-leb, lt-ltb, lt-leb, le-ltb, and_from, and_left, and_right}
+use Rattle.qcow2_metadata.specs.Bytes.{byte_at, laid_over, is_within}
+use Rattle.qcow2_metadata.specs.Guest.{Value, known_byte}
+use Rattle.qcow2_disk.specs.Disk.{Disk, disk, with_bytes}
+use Rattle.qcow2_disk.specs.AbstractImages.{Guest}
+use Rattle.qcow2_disk.specs.Runs.{given_at}
+use Rattle.qcow2_disk.specs.Stops.{IsGiven}
+use Rattle.qcow2_disk.specs.Mappings.{PreparedMapping, gift_of_put, put_disk, put_mapping, committed}
+use Rattle.qcow2_disk.specs.ForUsers.{PrivateBytesAreUnseen, CommittedIsReadBack, PutIsReadInPlace, HiddenBytesAreNotGiven, FlushedIsExact}
+
+pub exact : FlushedIsExact
+exact backing b d stop =
+    let size = ⊎_elim (λ (e : (disk b backing).size ≡ d.size). e) (λ h. absurd h) stop.size in
+    (size, (λ o lt. ⊎_elim (λ (e : (disk b backing).value o ≡ d.value o). e) (λ h. absurd h) (stop.values o (subst (λ s. o < s) (sym size) lt) lt)))
+
+some_is : {X : Type 0} {a b : X} → Some a ≡ Some b → a ≡ b
+some_is e = cc
+
+byte_is : {a b : ℕ} → known_byte a ≡ known_byte b → a ≡ b
+byte_is e = cc
+
+both : {X : Type 0} (test : Bool) (a x b c v : X) → a ≡ v → c ≡ v → (if test then (if test then a else x) else (if test then b else c)) ≡ v
+both true a x b c v e f = e
+both false a x b c v e f = f
+
+pub laid_inside : {A : Type 0} (place n : ℕ) (top under : ℕ → A) (i : ℕ) → i < n → laid_over place n top under (place + i) ≡ top i
+unfolding laid_over
+laid_inside place n top under i lt =
+    let inside : is_within place n (place + i) ≡ true = and_from _ _ (le-leb place (place + i) (omega arith)) (lt-ltb (place + i) (place + n) (omega arith)) in
+    let at : place + i - place ≡ i = omega arith in
+    cond-true (is_within place n (place + i)) (top (place + i - place)) (under (place + i)) inside ∙ ap top at
+
+pub laid_outside : {A : Type 0} (place n : ℕ) (top under : ℕ → A) (o : ℕ) → (o < place) ⊎ (place + n ≤ o) → laid_over place n top under o ≡ under o
+unfolding laid_over
+laid_outside place n top under o (inl below) = cond-false _ _ _ (and_left (leb place o) (ltb o (place + n)) (lt-leb place o below))
+laid_outside place n top under o (inr past) = cond-false _ _ _ (and_right (leb place o) (ltb o (place + n)) (le-ltb o (place + n) past))
+
+either : {X : Type 0} (test : Bool) (a b v : X) → a ≡ v → b ≡ v → (if test then a else b) ≡ v
+either true a b v e f = e
+either false a b v e f = f
+
+-- bytes that are put where a mapping is private leave the disk
+put_unseen : (d : Disk) (m : PreparedMapping) (at : ℕ) (bytes : List ℕ) → ((i : ℕ) → i < length bytes → IsTrue (m.is_private (m.from + at + i))) → (o : ℕ) → (put_disk d m at bytes).value o ≡ d.value o
+put_unseen d m at bytes private o = elim (cases_lt o (m.from + at)) [
+  | inl below ↦ either (m.is_private o) (d.value o) ((with_bytes d (m.from + at) bytes).value o) (d.value o) refl (laid_outside (m.from + at) (length bytes) (λ k. known_byte (byte_at bytes k)) d.value o (inl below))
+  | inr above ↦ elim (cases_lt o (m.from + at + length bytes)) [
+    | inl inside ↦
+        let here : m.from + at + (o - (m.from + at)) ≡ o = omega arith in
+        cond-true (m.is_private o) (d.value o) ((with_bytes d (m.from + at) bytes).value o) (subst (λ n. IsTrue (m.is_private n)) here (private (o - (m.from + at)) (omega arith)))
+    | inr past ↦ either (m.is_private o) (d.value o) ((with_bytes d (m.from + at) bytes).value o) (d.value o) refl (laid_outside (m.from + at) (length bytes) (λ k. known_byte (byte_at bytes k)) d.value o (inr past))
+  ]
+]
+
+pub unseen : PrivateBytesAreUnseen
+unseen x found g0 g1 g2 g3 slot offset n host count at overwrite is_existing bytes prepared private put discard =
+    let same1 : g1.disk ≡ g0.disk = ap (λ (g : Guest). g.disk) prepared.1.3 in
+    let same2 : g2.disk ≡ put_disk g1.disk put.0 at bytes = ap (λ (g : Guest). g.disk) put.3 in
+    let same3 : g3.disk ≡ g2.disk = ap (λ (g : Guest). g.disk) discard.1 in (
+      ap (λ (d : Disk). d.size) (same3 ∙ same2) ∙ ap (λ (d : Disk). d.size) same1,
+      (λ o. ap (λ (d : Disk). d.value o) (same3 ∙ same2) ∙ put_unseen g1.disk put.0 at bytes (λ i lt. private put.0 i put.1 lt) o ∙ ap (λ (d : Disk). d.value o) same1),
+    )
+
+-- what stands at a place of the bytes that were put, once they are committed
+there_at : (g : Disk) (m : PreparedMapping) (at : ℕ) (bytes : List ℕ) (i : ℕ) → i < length bytes
+    → (committed (put_disk g m at bytes) (put_mapping m at bytes)).value (m.from + at + i) ≡ known_byte (byte_at bytes i)
+there_at g m at bytes i lt =
+    let o = m.from + at + i in
+    let inside : laid_over (m.from + at) (length bytes) (λ k. known_byte (byte_at bytes k)) m.shown o ≡ known_byte (byte_at bytes i) = laid_inside (m.from + at) (length bytes) (λ k. known_byte (byte_at bytes k)) m.shown i lt in
+    let inside2 : laid_over (m.from + at) (length bytes) (λ k. known_byte (byte_at bytes k)) g.value o ≡ known_byte (byte_at bytes i) = laid_inside (m.from + at) (length bytes) (λ k. known_byte (byte_at bytes k)) g.value i lt in
+    both (m.is_private o) _ (m.shown o) (g.value o) _ (known_byte (byte_at bytes i)) inside inside2
+
+pub read_back : CommittedIsReadBack
+read_back x found g0 g1 g2 g3 m slot at n i bytes answer there put commit read lt within =
+    let m-is : put.0 ≡ m = some_is (sym put.1 ∙ there) in
+    let slot-is : g1.slots slot ≡ Some (put_mapping put.0 at bytes) = ap (λ (g : Guest). g.slots slot) put.3 ∙ cond-true (eqb slot slot) (Some (put_mapping put.0 at bytes)) (g0.slots slot) (eq-eqb slot slot refl) in
+    let c-is : commit.0 ≡ put_mapping put.0 at bytes = some_is (sym commit.1 ∙ slot-is) in
+    let disk-is : g2.disk ≡ committed (put_disk g0.disk put.0 at bytes) (put_mapping put.0 at bytes) =
+    ap (λ (g : Guest). g.disk) commit.2 ∙ ap (λ (d : Disk). committed d commit.0) (ap (λ (g : Guest). g.disk) put.3) ∙ ap (λ (k : PreparedMapping). committed (put_disk g0.disk put.0 at bytes) k) c-is in
+    let shown : g2.disk.value (m.from + at + i) ≡ known_byte (byte_at answer i) = read.1 i lt in
+    let was : g2.disk.value (m.from + at + i) ≡ known_byte (byte_at bytes i) =
+    subst (λ (k : PreparedMapping). g2.disk.value (k.from + at + i) ≡ known_byte (byte_at bytes i)) m-is (ap (λ (d : Disk). d.value (put.0.from + at + i)) disk-is ∙ there_at g0.disk put.0 at bytes i within) in
+    byte_is (sym shown ∙ was)
+
+pub read_in_place : PutIsReadInPlace
+read_in_place x found g0 g1 g2 m slot at offset n i bytes answer there put read lt =
+    let o = offset + i in
+    let m-is : put.0 ≡ m = some_is (sym put.1 ∙ there) in
+    let disk-is : g1.disk ≡ put_disk g0.disk m at bytes = ap (λ (g : Guest). g.disk) put.3 ∙ ap (λ (k : PreparedMapping). put_disk g0.disk k at bytes) m-is in
+    let shown : known_byte (byte_at answer i) ≡ (put_disk g0.disk m at bytes).value o = sym (read.1 i lt) ∙ ap (λ (d : Disk). d.value o) disk-is in (
+      λ private. shown ∙ cond-true (m.is_private o) (g0.disk.value o) ((with_bytes g0.disk (m.from + at) bytes).value o) private,
+      λ plain. shown ∙ cond-false (m.is_private o) (g0.disk.value o) ((with_bytes g0.disk (m.from + at) bytes).value o) plain,
+    )
+
+-- what a put gives: a byte of those that were put, or where they are hidden what the disk shows
+pub put_given : (d : Disk) (m : PreparedMapping) (at : ℕ) (bytes : List ℕ) (o : ℕ) (v : Value) → IsGiven (gift_of_put d m at bytes ∷ []) o v
+    → (m.from + at ≤ o) × (o < m.from + at + length bytes) × (v ≡ (if m.is_hidden o then d.value o else known_byte (byte_at bytes (o - (m.from + at)))))
+put_given d m at bytes o v (inr none) = absurd none
+put_given d m at bytes o v (inl given) =
+    let here : m.from + at + (o - (m.from + at)) ≡ o = omega (arith, given.0) in
+    (given.0, given.1, given.2 ∙ ap (λ n. if m.is_hidden n then d.value n else known_byte (byte_at bytes (o - (m.from + at)))) here)
+
+pub hidden_given : HiddenBytesAreNotGiven
+hidden_given x g m slot at o bytes v there hidden given =
+    let is = put_given g.disk m at bytes o v (subst (λ (n : Option PreparedMapping). IsGiven (given_at n (λ k. gift_of_put g.disk k at bytes)) o v) there given) in
+    is.2 ∙ cond-true (m.is_hidden o) (g.disk.value o) (known_byte (byte_at bytes (o - (m.from + at)))) hidden

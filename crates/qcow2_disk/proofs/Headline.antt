@@ -1,0 +1,73 @@
+-- A run of an image that was opened from bytes.
+use Rattle.std.proofs.Common.{◌≡◌, ◌⊎◌, ⊎_elim, inl, inr, ℕ, ◌≤◌, List, [], ◌∷◌, false, refl, sym, ap, ◌∙◌, subst, arith}
+use mathlib.Core.Path.{fun_ext}
+use Rattle.image_access.specs.Moments.{StorageView, Passing}
+use Rattle.image_access.proofs.Passing.{passes_if, passes_on}
+use Rattle.qcow2_metadata.specs.Bytes.{Bytes, byte_at}
+use Rattle.qcow2_metadata.specs.Consistent.{IsConsistent}
+use Rattle.qcow2_disk.specs.Disk.{Disk, disk}
+use Rattle.qcow2_disk.specs.Stops.{GivenBytes, checkpoint_at, StopOkEverywhere, StopOk, SafeThroughout}
+use Rattle.qcow2_disk.specs.AbstractImages.{Setting, Guest, Abstraction, abstract_image, guest_of, IsOpened}
+use Rattle.qcow2_disk.specs.Runs.{Command, Reply, State, Run, RefinesDisk, IsStopIn, started, given_by, asked_by}
+use Rattle.qcow2_disk.specs.Headline.{nothing_below, setting_in, guest_in, IsHeadline}
+use Rattle.qcow2_disk.proofs.Stops.{stop_of_kept, stop_more}
+use Rattle.qcow2_disk.proofs.RunSteps.{passes_run}
+
+-- nothing was given since, so the disk is the same
+same_disk : (backing : Bytes) (d : Disk) (b : Bytes) → StopOkEverywhere backing (checkpoint_at d) b → disk b backing ≡ d
+same_disk backing d b kept =
+    let size : (disk b backing).size ≡ d.size = ⊎_elim (λ (e : (disk b backing).size ≡ d.size). e) (λ h. absurd h) kept.size in
+    let values : (disk b backing).value ≡ d.value = fun_ext (λ o. ⊎_elim (λ (e : (disk b backing).value o ≡ d.value o). e) (λ h. absurd h) (kept.values o)) in
+    λ i. record { size = size i; value = values i }
+
+at_once : (backing b : Bytes) → IsConsistent b → StopOkEverywhere backing (checkpoint_at (disk b backing)) b
+at_once backing b consistent = record { consistent = consistent; size = inl refl; values = λ o. inl refl }
+
+-- what a stop may leave where a run begins falls under its first command, or its end
+first_stop : (x : Setting) (s end : State) (commands : List Command) (replies : List Reply) (run : Run x s commands replies end) (b : Bytes) → StopOk x.backing s.mark b → IsStopIn x s end commands replies run b
+first_stop x s end [] [] run b at = subst (λ (t : State). StopOk x.backing t.mark b) (sym run) at
+first_stop x s end (command ∷ commands) (reply ∷ replies) run b at = inl (stop_more x.backing (given_by x s.guest command) (asked_by command) s.mark b at)
+first_stop x s end [] (reply ∷ replies) run b at = absurd run
+first_stop x s end (command ∷ commands) [] run b at = absurd run
+
+module _ {D P : Type 0} (spec : Abstraction D P) (before : StorageView) (opened new : D) (commands : List Command) (replies : List Reply)
+    (consistent : IsConsistent (byte_at before.contents)) (nothing_before : (c : List ℕ) → before.had_since before.moment c → c ≡ before.contents)
+    (since : SafeThroughout before (spec.storage opened) (byte_at before.contents) (λ _. []) []) (clean : spec.known opened ≡ byte_at (spec.storage opened).contents)
+    (setting : spec.setting opened ≡ setting_in (byte_at before.contents)) (refines : RefinesDisk spec opened new commands replies) where
+  abbrev b : Bytes
+  b = byte_at before.contents
+
+  start : StopOkEverywhere nothing_below (checkpoint_at (disk b nothing_below)) b
+  start = at_once nothing_below b consistent
+
+  backing-is : (spec.setting opened).backing ≡ nothing_below
+  backing-is = ap (λ (x : Setting). x.backing) setting
+
+  shows : guest_of (abstract_image spec opened []) ≡ guest_in b
+  shows =
+      let known : disk (spec.known opened) (spec.setting opened).backing ≡ disk (byte_at (spec.storage opened).contents) nothing_below =
+      ap (λ (k : Bytes). disk k (spec.setting opened).backing) clean ∙ ap (λ (k : Bytes). disk (byte_at (spec.storage opened).contents) k) backing-is in
+      ap (λ (d : Disk). record (guest_in b) { disk = d }) (known ∙ same_disk nothing_below (disk b nothing_below) (byte_at (spec.storage opened).contents) (since.contents nothing_below (checkpoint_at (disk b nothing_below)) start start))
+
+  abbrev In : List ℕ → Type 0
+  In c = IsStopIn (spec.setting opened) (started (guest_of (abstract_image spec opened []))) refines.end commands replies refines.run (byte_at c)
+
+  kept_in : (c : List ℕ) → StopOkEverywhere nothing_below (checkpoint_at (disk b nothing_below)) (byte_at c) → In c
+  kept_in c kept = first_stop (spec.setting opened) (started (guest_of (abstract_image spec opened []))) refines.end commands replies refines.run (byte_at c)
+      (subst (λ (g : Guest). StopOk (spec.setting opened).backing (checkpoint_at g.disk) (byte_at c)) (sym shows)
+      (subst (λ (k : Bytes). StopOk k (checkpoint_at (disk b nothing_below)) (byte_at c)) (sym backing-is) (stop_of_kept nothing_below (checkpoint_at (disk b nothing_below)) (byte_at c) kept)))
+
+  opening : Passing before (spec.storage opened) In
+  opening = passes_if In (λ c kept. kept_in c (kept nothing_below (checkpoint_at (disk b nothing_below)) start start)) since.moments
+
+  whole : Passing before (spec.storage new) In
+  whole = passes_on In opening (passes_run spec opened new commands replies refines) (λ c h. h)
+
+  pub from_bytes : IsHeadline spec before new commands replies
+  from_bytes = record {
+    opened = opened;
+    setting = setting;
+    shows = shows;
+    refines = refines;
+    stops = λ c had. ⊎_elim (λ (h : before.had_since before.moment c). subst In (sym (nothing_before c h)) (kept_in before.contents start)) (λ p. p) (whole.each before.moment c (omega arith) had);
+  }

@@ -1,0 +1,6 @@
+pub mod ForUsers
+pub mod Stops
+pub mod RunSteps
+pub mod Headline
+pub mod Compose
+pub mod Within

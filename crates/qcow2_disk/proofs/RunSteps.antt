@@ -1,0 +1,430 @@
+-- One call is one step of a run.
+use Rattle.std.proofs.Common.{◌≡◌, ◌⊎◌, ⊎_elim, inl, inr, ℕ, List, [], ◌∷◌, ◌++◌, Bool, true, false, IsTrue, refl, sym, ap, ◌∙◌, subst, Option, None}
+use mathlib.Core.Path.{fun_ext}
+use Rattle.image_access.specs.Moments.{Passing}
+use Rattle.image_access.proofs.Passing.{passes_none, passes_if, passes_more, passes_on, since_start as since_began}
+use Rattle.qcow2_metadata.specs.Bytes.{Bytes, byte_at}
+use Rattle.qcow2_metadata.specs.Consistent.{IsConsistent}
+use Rattle.qcow2_disk.specs.Disk.{Disk, disk}
+use Rattle.qcow2_disk.specs.Stops.{GivenBytes, Checkpoint, checkpoint_at, checkpoint_with, StopOkEverywhere, StopOk}
+use Rattle.qcow2_disk.specs.Mappings.{PreparedMapping}
+use Rattle.qcow2_disk.specs.AbstractImages.{Setting, Guest, Abstraction, AbstractImage, abstract_image, guest_of, contents_of, IsWhole}
+use Rattle.qcow2_disk.specs.Calls.{Refusal, Acts, Does, Refuses, IsFault, Works, Rests, Stops}
+use Rattle.qcow2_disk.specs.Runs.{Command, Reply, Found, CommandMeaning, IsFaultReply, MayAnswer, IsAnswerOfFailed, IsRightlyTold, State, CommandStep, Run, IsSafeWhile, IsStretch, RefinesGuest, RefinesAlong, IsStopIn, RefinesState, RefinesCommand, RefinesRun, RefinesWholeRun, RefinesDisk, IsOwnStretch, started, checkpoint_during, checkpoint_after, stepped, given_by, asked_by, flush, shrink, done, number_is}
+use Rattle.qcow2_disk.proofs.Stops.{stop_of_kept, stop_more, kept_more}
+
+bool_cases : (b : Bool) → (b ≡ true) ⊎ (b ≡ false)
+bool_cases true = inl refl
+bool_cases false = inr refl
+
+-- how a call ends on an image that worked
+pub record Ends (found : ℕ → Option Found) (old new : AbstractImage) (command : Command) (reply : Reply) : Type 0 where
+  pub ends : (new.is_sound × CommandMeaning old.setting found (guest_of old) command reply (guest_of new)) ⊎ (IsFaultReply reply × IsTrue new.is_failed)
+  pub finds : new.is_sound → IsRightlyTold new.setting old.known new command reply
+  pub mark : (x : Setting) (s : State) → new.is_sound → (checkpoint_after x s command reply (guest_of new) ≡ checkpoint_during x s command)
+      ⊎ (StopOkEverywhere new.setting.backing (checkpoint_after x s command reply (guest_of new)) new.known × StopOkEverywhere new.setting.backing (checkpoint_after x s command reply (guest_of new)) (contents_of new))
+
+-- what a command may be answered, on an image that failed and on one that works
+pub record IsAnswer (old : AbstractImage) (command : Command) (reply : Reply) : Type 0 where
+  pub failed : IsTrue old.is_failed → IsAnswerOfFailed command reply
+  pub may : old.is_sound → MayAnswer (guest_of old).disk command reply
+
+-- a fault isn't an answer
+mark_of_fault : (x : Setting) (s : State) (command : Command) (reply : Reply) (new : Guest) → IsFaultReply reply → checkpoint_after x s command reply new ≡ checkpoint_during x s command
+mark_of_fault x s flush done new fault = absurd fault
+mark_of_fault x s (shrink size) (number_is answer) new fault = absurd fault
+mark_of_fault x s command reply new fault = refl
+
+module _ (x : Setting) (old new : AbstractImage) (s : State) (command : Command) (reply : Reply) (stands : RefinesState x old s) where
+  rested : IsTrue s.is_failed → IsAnswerOfFailed command reply → Rests old new → RefinesCommand x old new s command reply
+  rested failed answer rests =
+      let not_ok : s.is_failed ≡ false → ⊥ = λ e. let t : s.is_failed ≡ true = failed in cc in
+      let at : StopOk x.backing s.mark (contents_of new) = subst (λ c. StopOk x.backing s.mark (byte_at c)) (sym rests.contents) stands.at_rest in
+      record {
+        end = s;
+        step = inl (failed, answer, refl);
+        stands = record {
+          setting = rests.setting ∙ stands.setting;
+          works = λ e. absurd (not_ok e);
+          failed = λ _. rests.failed;
+          guest = λ e. absurd (not_ok e);
+          known = λ e. absurd (not_ok e);
+          contents = λ e. absurd (not_ok e);
+          at_rest = at;
+        };
+        stretch = record {
+          safe = record { moments = λ e. absurd (not_ok e); at_return = at; silent = λ _. rests.moments; unchanged = λ _. rests.contents };
+          own = λ e. absurd (not_ok e);
+          told = λ e. absurd (not_ok e);
+        };
+        surplus = λ e. absurd (not_ok e);
+        since = λ e. e;
+      }
+
+  module _ (ok : s.is_failed ≡ false) (may : MayAnswer s.guest.disk command reply) (acts : Works old new (given_by x s.guest command) (asked_by command)) where
+    not_failed : IsTrue s.is_failed → ⊥
+    not_failed failed = let t : s.is_failed ≡ true = failed in cc
+
+    backing-is : old.setting.backing ≡ x.backing
+    backing-is = ap (λ (y : Setting). y.backing) stands.setting
+
+    new_backing : new.setting.backing ≡ x.backing
+    new_backing = ap (λ (y : Setting). y.backing) (acts.setting ∙ stands.setting)
+
+    stops : Stops old new (given_by x s.guest command) (asked_by command) s.mark
+    stops = acts.stops s.mark (subst (λ b. StopOkEverywhere b s.mark (contents_of old)) (sym backing-is) (stands.contents ok), subst (λ b. StopOkEverywhere b s.mark old.known) (sym backing-is) (stands.known ok))
+
+    kept_contents : StopOkEverywhere x.backing (checkpoint_during x s command) (contents_of new)
+    kept_contents = subst (λ b. StopOkEverywhere b (checkpoint_during x s command) (contents_of new)) backing-is stops.contents
+
+    kept_known : new.is_sound → StopOkEverywhere x.backing (checkpoint_during x s command) new.known
+    kept_known sound = subst (λ b. StopOkEverywhere b (checkpoint_during x s command) new.known) backing-is (stops.known sound)
+
+    moments : Passing old.storage new.storage (λ c. StopOk x.backing (checkpoint_during x s command) (byte_at c))
+    moments =
+        passes_if (λ c. StopOk x.backing (checkpoint_during x s command) (byte_at c))
+        (λ c k. stop_of_kept x.backing (checkpoint_during x s command) (byte_at c) (subst (λ b. StopOkEverywhere b (checkpoint_during x s command) (byte_at c)) backing-is k)) stops.moments
+
+    own : IsOwnStretch x.backing old.storage new.storage old.known (given_by x s.guest command) (asked_by command)
+    own m contents known = subst (λ b. Passing old.storage new.storage (λ c. StopOkEverywhere b (checkpoint_with (given_by x s.guest command) (asked_by command) m) (byte_at c))) backing-is
+        (acts.stops m (subst (λ b. StopOkEverywhere b m (contents_of old)) (sym backing-is) contents, subst (λ b. StopOkEverywhere b m old.known) (sym backing-is) known)).moments
+
+    safe_to : (after : Checkpoint) → StopOk x.backing after (contents_of new) → IsSafeWhile x.backing old.storage new.storage s.is_failed (checkpoint_during x s command) after
+    safe_to after at = record { moments = λ _. moments; at_return = at; silent = λ f. absurd (not_failed f); unchanged = λ f. absurd (not_failed f) }
+
+    failing : IsFaultReply reply → IsTrue new.is_failed → RefinesCommand x old new s command reply
+    failing fault failed =
+        let at : StopOk x.backing (checkpoint_after x s command reply s.guest) (contents_of new) =
+        subst (λ m. StopOk x.backing m (contents_of new)) (sym (mark_of_fault x s command reply s.guest fault)) (stop_of_kept x.backing (checkpoint_during x s command) (contents_of new) kept_contents) in
+        record {
+          end = stepped x s command reply s.guest true;
+          step = inr (inr (ok, may, fault, refl));
+          stands = record {
+            setting = acts.setting ∙ stands.setting;
+            works = λ e. absurd (cc);
+            failed = λ _. failed;
+            guest = λ e. absurd (cc);
+            known = λ e. absurd (cc);
+            contents = λ e. absurd (cc);
+            at_rest = at;
+          };
+          stretch = record { safe = safe_to (checkpoint_after x s command reply s.guest) at; own = λ _. own; told = λ e. absurd (cc) };
+          surplus = λ e. absurd (cc);
+          since = λ _. ok;
+        }
+
+    going : new.is_sound → CommandMeaning x s.found s.guest command reply (guest_of new) → IsRightlyTold new.setting old.known new command reply
+        → ((checkpoint_after x s command reply (guest_of new) ≡ checkpoint_during x s command)
+        ⊎ (StopOkEverywhere new.setting.backing (checkpoint_after x s command reply (guest_of new)) new.known × StopOkEverywhere new.setting.backing (checkpoint_after x s command reply (guest_of new)) (contents_of new)))
+        → RefinesCommand x old new s command reply
+    going sound means finds mark =
+        let after = checkpoint_after x s command reply (guest_of new) in
+        let kept : StopOkEverywhere x.backing after (contents_of new) =
+        ⊎_elim
+        (λ (e : checkpoint_after x s command reply (guest_of new) ≡ checkpoint_during x s command). subst (λ m. StopOkEverywhere x.backing m (contents_of new)) (sym e) kept_contents)
+        (λ (f : StopOkEverywhere new.setting.backing (checkpoint_after x s command reply (guest_of new)) new.known × StopOkEverywhere new.setting.backing (checkpoint_after x s command reply (guest_of new)) (contents_of new)).
+        subst (λ b. StopOkEverywhere b (checkpoint_after x s command reply (guest_of new)) (contents_of new)) new_backing f.1) mark in
+        let at = stop_of_kept x.backing after (contents_of new) kept in
+        record {
+          end = stepped x s command reply (guest_of new) false;
+          step = inr (inl (ok, may, ((guest_of new), means, refl)));
+          stands = record {
+            setting = acts.setting ∙ stands.setting;
+            works = λ _. sound;
+            failed = λ e. absurd (let t : false ≡ true = e in cc);
+            guest = λ _. refl;
+            known = λ _. ⊎_elim
+                (λ (e : checkpoint_after x s command reply (guest_of new) ≡ checkpoint_during x s command). subst (λ m. StopOkEverywhere x.backing m new.known) (sym e) (kept_known sound))
+                (λ (f : StopOkEverywhere new.setting.backing (checkpoint_after x s command reply (guest_of new)) new.known × StopOkEverywhere new.setting.backing (checkpoint_after x s command reply (guest_of new)) (contents_of new)).
+                subst (λ b. StopOkEverywhere b (checkpoint_after x s command reply (guest_of new)) new.known) new_backing f.0) mark;
+            contents = λ _. kept;
+            at_rest = at;
+          };
+          stretch = record { safe = safe_to after at; own = λ _. own; told = λ _. subst (λ y. IsRightlyTold y old.known new command reply) (acts.setting ∙ stands.setting) finds };
+          surplus = λ _. acts.surplus sound;
+          since = λ _. ok;
+        }
+
+  -- the whole step, from what the call's contract says
+  pub called : IsAnswer old command reply → Acts old new (given_by old.setting (guest_of old) command) (asked_by command) → (old.is_sound → Ends s.found old new command reply) → RefinesCommand x old new s command reply
+  called answer acts ends = elim (bool_cases s.is_failed) [
+    | inl failed ↦ rested failed (answer.failed (stands.failed failed)) (acts.rests (stands.failed failed))
+    | inr ok ↦
+        let sound = stands.works ok in
+        let may : MayAnswer s.guest.disk command reply = subst (λ (h : Guest). MayAnswer h.disk command reply) (stands.guest ok) (answer.may sound) in
+        let worked : Works old new (given_by x s.guest command) (asked_by command) =
+        subst (λ y. Works old new (given_by y s.guest command) (asked_by command)) stands.setting
+        (subst (λ h. Works old new (given_by old.setting h command) (asked_by command)) (stands.guest ok) (acts.works sound)) in
+        ⊎_elim
+        (λ (done : new.is_sound × CommandMeaning old.setting s.found (guest_of old) command reply (guest_of new)).
+        going ok may worked done.0
+        (subst (λ y. CommandMeaning y s.found s.guest command reply (guest_of new)) stands.setting (subst (λ h. CommandMeaning old.setting s.found h command reply (guest_of new)) (stands.guest ok) done.1))
+        ((ends sound).finds done.0) ((ends sound).mark x s done.0))
+        (λ (broke : IsFaultReply reply × IsTrue new.is_failed). failing ok may worked broke.0 broke.1)
+        (ends sound).ends
+  ]
+
+-- a call that was answered, and one that was refused
+pub done_as : (x : Setting) (old new : AbstractImage) (s : State) (command is : Command) (reply : Reply) → command ≡ is → RefinesState x old s → IsAnswer old is reply
+    → Does old new (given_by old.setting (guest_of old) is) (asked_by is) (CommandMeaning old.setting s.found (guest_of old) is reply (guest_of new))
+    → ((x' : Setting) (s' : State) → checkpoint_after x' s' is reply (guest_of new) ≡ checkpoint_during x' s' is) → (old.is_sound → IsRightlyTold new.setting old.known new is reply) → RefinesCommand x old new s command reply
+done_as x old new s command is reply e stands answer does mark finds =
+    subst (λ q. RefinesCommand x old new s q reply) (sym e) (called x old new s is reply stands answer does.acts
+    (λ sound. record { ends = inl (does.answer sound); finds = λ _. finds sound; mark = λ x' s' _. inl (mark x' s') }))
+
+pub refused_told : (x : Setting) (old new : AbstractImage) (s : State) (command is : Command) (reply : Reply) (error : Refusal) → command ≡ is → RefinesState x old s → IsAnswer old is reply
+    → Refuses old new (given_by old.setting (guest_of old) is) (asked_by is) error (CommandMeaning old.setting s.found (guest_of old) is reply (guest_of new)) → (IsFault error → IsFaultReply reply)
+    → ((x' : Setting) (s' : State) → checkpoint_after x' s' is reply (guest_of new) ≡ checkpoint_during x' s' is) → (old.is_sound → IsRightlyTold new.setting old.known new is reply) → RefinesCommand x old new s command reply
+refused_told x old new s command is reply error e stands answer refuses fault mark finds =
+    subst (λ q. RefinesCommand x old new s q reply) (sym e) (called x old new s is reply stands answer refuses.acts
+    (λ sound. record {
+      ends = ⊎_elim (λ h. inl h) (λ (b : IsFault error × IsTrue new.is_failed). inr (fault b.0, b.1)) (refuses.answer sound);
+      finds = λ _. finds sound;
+      mark = λ x' s' _. inl (mark x' s');
+    }))
+
+-- one that tells nothing but its refusal
+pub refused_as : (x : Setting) (old new : AbstractImage) (s : State) (command is : Command) (reply : Reply) (error : Refusal) → command ≡ is → RefinesState x old s → IsAnswer old is reply
+    → Refuses old new (given_by old.setting (guest_of old) is) (asked_by is) error (CommandMeaning old.setting s.found (guest_of old) is reply (guest_of new)) → (IsFault error → IsFaultReply reply)
+    → ((x' : Setting) (s' : State) → checkpoint_after x' s' is reply (guest_of new) ≡ checkpoint_during x' s' is) → IsRightlyTold new.setting old.known new is reply → RefinesCommand x old new s command reply
+refused_as x old new s command is reply error e stands answer refuses fault mark finds = refused_told x old new s command is reply error e stands answer refuses fault mark (λ _. finds)
+
+-- no call at all
+pub acts_none : (v : AbstractImage) (given : List GivenBytes) (asked : List ℕ) → Acts v v given asked
+acts_none v given asked = record {
+  number = refl;
+  works = λ _. record {
+    setting = refl;
+    surplus = λ _. refl;
+    stops = λ m starts. record {
+      moments = passes_none v.storage (λ c. StopOkEverywhere v.setting.backing (checkpoint_with given asked m) (byte_at c));
+      contents = kept_more v.setting.backing given asked m (contents_of v) starts.0;
+      known = λ _. kept_more v.setting.backing given asked m v.known starts.1;
+    };
+  };
+  rests = λ failed. record { setting = refl; failed = failed; contents = refl; moments = passes_none v.storage (λ c. c ≡ v.storage.contents) };
+}
+
+-- a flush that succeeded: what is on the storage is what the guest sees
+kept_at_once : (v : AbstractImage) (b : Bytes) → IsWhole v → b ≡ v.known → StopOkEverywhere v.setting.backing (checkpoint_at (guest_of v).disk) b
+kept_at_once v b whole same = record {
+  consistent = subst (λ (a : Bytes). IsConsistent a) (sym same) whole.consistent;
+  size = inl (ap (λ (a : Bytes). (disk a v.setting.backing).size) same);
+  values = λ o. inl (ap (λ (a : Bytes). (disk a v.setting.backing).value o) same);
+}
+
+pub flushed_as : (x : Setting) (old new : AbstractImage) (s : State) (command is : Command) (reply : Reply) → command ≡ is → RefinesState x old s → IsAnswer old is reply
+    → Does old new (given_by old.setting (guest_of old) is) (asked_by is) ((new.known ≡ contents_of new) × CommandMeaning old.setting s.found (guest_of old) is reply (guest_of new))
+    → (new.is_sound → IsWhole new)
+    → ((x' : Setting) (s' : State) → checkpoint_after x' s' is reply (guest_of new) ≡ checkpoint_at (guest_of new).disk) → IsRightlyTold new.setting old.known new is reply → RefinesCommand x old new s command reply
+flushed_as x old new s command is reply e stands answer does whole mark finds =
+    subst (λ q. RefinesCommand x old new s q reply) (sym e) (called x old new s is reply stands answer does.acts
+    (λ sound. let a = does.answer sound in record {
+      ends = inl (a.0, a.1.1);
+      finds = λ _. finds;
+      mark = λ x' s' _. inr (
+        subst (λ m. StopOkEverywhere new.setting.backing m new.known) (sym (mark x' s')) (kept_at_once new new.known (whole a.0) refl),
+        subst (λ m. StopOkEverywhere new.setting.backing m (contents_of new)) (sym (mark x' s')) (kept_at_once new (contents_of new) (whole a.0) (sym a.1.0)),
+      );
+    }))
+
+-- a command that was misused: nothing is called
+pub none_as : (x : Setting) (v : AbstractImage) (s : State) (command is : Command) (reply : Reply) → command ≡ is → RefinesState x v s → IsAnswer v is reply
+    → (v.is_sound → CommandMeaning v.setting s.found (guest_of v) is reply (guest_of v))
+    → ((x' : Setting) (s' : State) → checkpoint_after x' s' is reply (guest_of v) ≡ checkpoint_during x' s' is) → IsRightlyTold v.setting v.known v is reply → RefinesCommand x v v s command reply
+none_as x v s command is reply e stands answer means mark finds =
+    subst (λ q. RefinesCommand x v v s q reply) (sym e) (called x v v s is reply stands answer
+    (acts_none v (given_by v.setting (guest_of v) is) (asked_by is))
+    (λ sound. record { ends = inl (sound, means sound); finds = λ _. finds; mark = λ x' s' _. inl (mark x' s') }))
+
+-- where a run begins
+pub begins : (v : AbstractImage) → v.is_sound → IsWhole v → v.known ≡ contents_of v → RefinesState v.setting v (started (guest_of v))
+begins v sound whole same = record {
+  setting = refl;
+  works = λ _. sound;
+  failed = λ e. absurd (let t : false ≡ true = e in cc);
+  guest = λ _. refl;
+  known = λ _. kept_at_once v v.known whole refl;
+  contents = λ _. kept_at_once v (contents_of v) whole (sym same);
+  at_rest = stop_of_kept v.setting.backing (checkpoint_at (guest_of v).disk) (contents_of v) (kept_at_once v (contents_of v) whole (sym same));
+}
+
+-- a run goes on by one step
+pub Run-push : (x : Setting) (old mid new : State) (commands : List Command) (replies : List Reply) (command : Command) (reply : Reply)
+    → Run x old commands replies mid → CommandStep x mid command reply new → Run x old (commands ++ command ∷ []) (replies ++ reply ∷ []) new
+Run-push x old mid new [] [] command reply run step = (new, subst (λ s. CommandStep x s command reply new) run step, refl)
+Run-push x old mid new (c ∷ commands) (r ∷ replies) command reply run step =
+    (run.0, run.1, Run-push x run.0 mid new commands replies command reply run.2 step)
+Run-push x old mid new [] (r ∷ replies) command reply run step = absurd run
+Run-push x old mid new (c ∷ commands) [] command reply run step = absurd run
+
+-- an image that stands at a place of a run is as the run says
+said_at : {x : Setting} {v : AbstractImage} {s : State} (before : ℕ → ℕ) → RefinesState x v s → (s.is_failed ≡ false → v.surplus ≡ before) → RefinesGuest v s before
+said_at before stands same = record { works = stands.works; failed = stands.failed; guest = stands.guest; consistent = λ ok. (stands.known ok).consistent; surplus = same }
+
+module _ {D P : Type 0} (spec : Abstraction D P) (x : Setting) (before : ℕ → ℕ) where
+  -- so does the image along it
+  along_push : (old mid new : D) (out : List (Option P)) (s t end : State) (commands : List Command) (replies : List Reply) (command : Command) (reply : Reply) (run : Run x s commands replies t) (step : CommandStep x t command reply end)
+      → RefinesAlong spec x before old mid s t commands replies run → RefinesGuest (abstract_image spec new out) end before → IsStretch x (spec.storage mid) (spec.known mid) (abstract_image spec new out) t command reply end
+      → RefinesAlong spec x before old new s end (commands ++ command ∷ []) (replies ++ reply ∷ []) (Run-push x s t end commands replies command reply run step)
+  unfolding Run-push
+  along_push old mid new out s t end [] [] command reply run step same said stretch = (
+    new,
+    out,
+    said,
+    subst (λ (d : D). IsStretch x (spec.storage d) (spec.known d) (abstract_image spec new out) s command reply end) same
+        (subst (λ (r : State). IsStretch x (spec.storage mid) (spec.known mid) (abstract_image spec new out) r command reply end) run stretch),
+    refl,
+  )
+  along_push old mid new out s t end (c ∷ commands) (r ∷ replies) command reply run step so_far said stretch =
+      (so_far.0, so_far.1, so_far.2, so_far.3, along_push so_far.0 mid new out run.0 t end commands replies command reply run.2 step so_far.4 said stretch)
+  along_push old mid new out s t end [] (r ∷ replies) command reply run step so_far said stretch = absurd run
+  along_push old mid new out s t end (c ∷ commands) [] command reply run step so_far said stretch = absurd run
+
+  -- the moments of a run fall under its commands
+  within : (old new : D) (s end : State) (commands : List Command) (replies : List Reply) (run : Run x s commands replies end) → RefinesAlong spec x before old new s end commands replies run
+      → StopOk x.backing s.mark (byte_at (spec.storage old).contents) → Passing (spec.storage old) (spec.storage new) (λ c. IsStopIn x s end commands replies run (byte_at c))
+  within old new s end [] [] run same at = subst (λ (d : D). Passing (spec.storage old) (spec.storage d) (λ c. StopOk x.backing end.mark (byte_at c))) (sym same) (passes_none (spec.storage old) (λ c. StopOk x.backing end.mark (byte_at c)))
+  within old new s end (command ∷ commands) (reply ∷ replies) run safe at =
+      let here : Passing (spec.storage old) (spec.storage safe.0) (λ c. StopOk x.backing (checkpoint_during x s command) (byte_at c)) = elim (bool_cases s.is_failed) [
+        | inl failed ↦ passes_if (λ c. StopOk x.backing (checkpoint_during x s command) (byte_at c))
+            (λ c e. subst (λ k. StopOk x.backing (checkpoint_during x s command) (byte_at k)) (sym e) (stop_more x.backing (given_by x s.guest command) (asked_by command) s.mark (byte_at (spec.storage old).contents) at)) (safe.3.safe.silent failed)
+        | inr ok ↦ safe.3.safe.moments ok
+      ] in
+      passes_more here (within safe.0 new run.0 end commands replies run.2 safe.4 safe.3.safe.at_return)
+  within old new s end [] (reply ∷ replies) run safe at = absurd run
+  within old new s end (command ∷ commands) [] run safe at = absurd run
+
+  stop_at_end : (s end : State) (commands : List Command) (replies : List Reply) (run : Run x s commands replies end) (b : Bytes) → StopOk x.backing end.mark b → IsStopIn x s end commands replies run b
+  stop_at_end s end [] [] run b at = at
+  stop_at_end s end (command ∷ commands) (reply ∷ replies) run b at = inr (stop_at_end run.0 end commands replies run.2 b at)
+  stop_at_end s end [] (reply ∷ replies) run b at = absurd run
+  stop_at_end s end (command ∷ commands) [] run b at = absurd run
+
+  rest_at_end : (old new : D) (s end : State) (commands : List Command) (replies : List Reply) (run : Run x s commands replies end) → RefinesAlong spec x before old new s end commands replies run
+      → StopOk x.backing s.mark (byte_at (spec.storage old).contents) → StopOk x.backing end.mark (byte_at (spec.storage new).contents)
+  rest_at_end old new s end [] [] run same at = subst (λ (d : D). StopOk x.backing end.mark (byte_at (spec.storage d).contents)) (sym same) (subst (λ (t : State). StopOk x.backing t.mark (byte_at (spec.storage old).contents)) (sym run) at)
+  rest_at_end old new s end (command ∷ commands) (reply ∷ replies) run safe at = rest_at_end safe.0 new run.0 end commands replies run.2 safe.4 safe.3.safe.at_return
+  rest_at_end old new s end [] (reply ∷ replies) run safe at = absurd run
+  rest_at_end old new s end (command ∷ commands) [] run safe at = absurd run
+
+  -- what stood at its start falls under the first, or the end
+  first_in : (old new : D) (s end : State) (commands : List Command) (replies : List Reply) (run : Run x s commands replies end) → RefinesAlong spec x before old new s end commands replies run
+      → StopOk x.backing s.mark (byte_at (spec.storage old).contents) → IsStopIn x s end commands replies run (byte_at (spec.storage old).contents)
+  first_in old new s end [] [] run same at = subst (λ (t : State). StopOk x.backing t.mark (byte_at (spec.storage old).contents)) (sym run) at
+  first_in old new s end (command ∷ commands) (reply ∷ replies) run safe at = inl (stop_more x.backing (given_by x s.guest command) (asked_by command) s.mark (byte_at (spec.storage old).contents) at)
+  first_in old new s end [] (reply ∷ replies) run safe at = absurd run
+  first_in old new s end (command ∷ commands) [] run safe at = absurd run
+
+  -- and so do those while its mappings are let go
+  pub whole_passes : (old last new : D) (s end : State) (commands : List Command) (replies : List Reply) (run : Run x s commands replies end)
+      → StopOk x.backing s.mark (byte_at (spec.storage old).contents) → RefinesAlong spec x before old last s end commands replies run → IsSafeWhile x.backing (spec.storage last) (spec.storage new) end.is_failed end.mark end.mark
+      → Passing (spec.storage old) (spec.storage new) (λ c. IsStopIn x s end commands replies run (byte_at c))
+  whole_passes old last new s end commands replies run at stops leaves =
+      let In = λ (k : List ℕ). IsStopIn x s end commands replies run (byte_at k) in
+      let there = rest_at_end old last s end commands replies run stops at in
+      let ending : Passing (spec.storage last) (spec.storage new) In = elim (bool_cases end.is_failed) [
+        | inl failed ↦ passes_if In (λ k e. subst In (sym e) (stop_at_end s end commands replies run (byte_at (spec.storage last).contents) there)) (leaves.silent failed)
+        | inr ok ↦ passes_if In (λ k stop. stop_at_end s end commands replies run (byte_at k) stop) (leaves.moments ok)
+      ] in
+      passes_on In (within old last s end commands replies run stops at) ending (λ k h. h)
+
+  -- and none but these since its start
+  pub since_start : (old last new : D) (s end : State) (commands : List Command) (replies : List Reply) (run : Run x s commands replies end) → ((c : List ℕ) → (spec.storage old).had_since (spec.storage old).moment c → c ≡ (spec.storage old).contents)
+      → StopOk x.backing s.mark (byte_at (spec.storage old).contents) → RefinesAlong spec x before old last s end commands replies run → IsSafeWhile x.backing (spec.storage last) (spec.storage new) end.is_failed end.mark end.mark
+      → (c : List ℕ) → (spec.storage new).had_since (spec.storage old).moment c → IsStopIn x s end commands replies run (byte_at c)
+  since_start old last new s end commands replies run only at stops leaves c had =
+      let In = λ (k : List ℕ). IsStopIn x s end commands replies run (byte_at k) in
+      ⊎_elim (λ (e : c ≡ (spec.storage old).contents). subst In (sym e) (first_in old last s end commands replies run stops at))
+      (λ (p : In c). p) (since_began only (whole_passes old last new s end commands replies run at stops leaves) c had)
+
+module _ {D P : Type 0} (spec : Abstraction D P) where
+  pub ran_none : (x : Setting) (d : D) (out : List (Option P)) (s : State) → RefinesState x (abstract_image spec d out) s → RefinesRun spec x d out d out s [] []
+  ran_none x d out s stands = record { end = s; run = refl; along = refl; stands = stands; surplus = λ _. refl }
+
+  pub ran_more : (x : Setting) (old mid new : D) (before out out' : List (Option P)) (s : State) (commands : List Command) (replies : List Reply) (command : Command) (reply : Reply)
+      → (ran : RefinesRun spec x old before mid out s commands replies) → RefinesCommand x (abstract_image spec mid out) (abstract_image spec new out') ran.end command reply
+      → RefinesRun spec x old before new out' s (commands ++ command ∷ []) (replies ++ reply ∷ [])
+  ran_more x old mid new before out out' s commands replies command reply ran goes = record {
+    end = goes.end;
+    run = Run-push x s ran.end goes.end commands replies command reply ran.run goes.step;
+    along = along_push spec x (spec.surplus old before) old mid new out' s ran.end goes.end commands replies command reply ran.run goes.step ran.along
+        (said_at (spec.surplus old before) goes.stands (λ e. goes.surplus e ∙ ran.surplus (goes.since e))) goes.stretch;
+    stands = goes.stands;
+    surplus = λ e. goes.surplus e ∙ ran.surplus (goes.since e);
+  }
+
+  -- a run whose mappings are let go at its end
+  module _ (x : Setting) (old last new : D) (before out : List (Option P)) (s : State) (commands : List Command) (replies : List Reply) (ran : RefinesRun spec x old before last out s commands replies)
+      (does : Does (abstract_image spec last out) (abstract_image spec new []) [] [] ((guest_of (abstract_image spec new [])).disk ≡ (guest_of (abstract_image spec last out)).disk)) where
+    backing_then : (spec.setting last).backing ≡ x.backing
+    backing_then = ap (λ (y : Setting). y.backing) ran.stands.setting
+
+    at_end : ran.end.is_failed ≡ false → Stops (abstract_image spec last out) (abstract_image spec new []) [] [] ran.end.mark
+    at_end ok =
+        (does.acts.works (ran.stands.works ok)).stops ran.end.mark
+        (subst (λ b. StopOkEverywhere b ran.end.mark (byte_at (spec.storage last).contents)) (sym backing_then) (ran.stands.contents ok), subst (λ b. StopOkEverywhere b ran.end.mark (spec.known last)) (sym backing_then) (ran.stands.known ok))
+
+    setting_then : spec.setting new ≡ x
+    setting_then = elim (bool_cases ran.end.is_failed) [
+      | inl failed ↦ (does.acts.rests (ran.stands.failed failed)).setting ∙ ran.stands.setting
+      | inr ok ↦ (does.acts.works (ran.stands.works ok)).setting ∙ ran.stands.setting
+    ]
+
+    kept_then : ran.end.is_failed ≡ false → StopOkEverywhere x.backing ran.end.mark (byte_at (spec.storage new).contents)
+    kept_then ok = subst (λ b. StopOkEverywhere b ran.end.mark (byte_at (spec.storage new).contents)) backing_then (at_end ok).contents
+
+    resting : StopOk x.backing ran.end.mark (byte_at (spec.storage new).contents)
+    resting = elim (bool_cases ran.end.is_failed) [
+      | inl failed ↦ subst (λ k. StopOk x.backing ran.end.mark (byte_at k)) (sym (does.acts.rests (ran.stands.failed failed)).contents) ran.stands.at_rest
+      | inr ok ↦ stop_of_kept x.backing ran.end.mark (byte_at (spec.storage new).contents) (kept_then ok)
+    ]
+
+    pub completes : ((k : ℕ) → (abstract_image spec new []).slots k ≡ None) → spec.surplus old before ≡ spec.surplus old [] → RefinesWholeRun spec x old new s commands replies
+    completes empty same = record {
+      end = ran.end;
+      run = ran.run;
+      last = last;
+      along = subst (λ (k : ℕ → ℕ). RefinesAlong spec x k old last s ran.end commands replies ran.run) same ran.along;
+      leaves = record {
+        moments = λ ok. passes_if (λ c. StopOk x.backing ran.end.mark (byte_at c))
+            (λ c k. stop_of_kept x.backing ran.end.mark (byte_at c) (subst (λ b. StopOkEverywhere b ran.end.mark (byte_at c)) backing_then k)) (at_end ok).moments;
+        at_return = resting;
+        silent = λ failed. (does.acts.rests (ran.stands.failed failed)).moments;
+        unchanged = λ failed. (does.acts.rests (ran.stands.failed failed)).contents;
+      };
+      stands = record {
+        setting = setting_then;
+        works = λ ok. (does.answer (ran.stands.works ok)).0;
+        failed = λ failed. (does.acts.rests (ran.stands.failed failed)).failed;
+        guest = λ ok.
+            ap (λ (f : ℕ → Option PreparedMapping). record (guest_of (abstract_image spec new [])) { slots = f }) (fun_ext empty)
+            ∙ ap (λ (d : Disk). record { disk = d; slots = λ _. None }) ((does.answer (ran.stands.works ok)).1 ∙ ap (λ (g : Guest). g.disk) (ran.stands.guest ok));
+        known = λ ok. subst (λ b. StopOkEverywhere b ran.end.mark (spec.known new)) backing_then ((at_end ok).known (does.answer (ran.stands.works ok)).0);
+        contents = kept_then;
+        at_rest = resting;
+      };
+      surplus = λ ok. (does.acts.works (ran.stands.works ok)).surplus (does.answer (ran.stands.works ok)).0 ∙ ran.surplus ok ∙ same;
+    }
+
+  -- a whole run of an image that was just opened
+  pub means_the_disk : (old new : D) (commands : List Command) (replies : List Reply) → ((c : List ℕ) → (spec.storage old).had_since (spec.storage old).moment c → c ≡ (spec.storage old).contents)
+      → RefinesState (spec.setting old) (abstract_image spec old []) (started (guest_of (abstract_image spec old [])))
+      → RefinesWholeRun spec (spec.setting old) old new (started (guest_of (abstract_image spec old []))) commands replies → RefinesDisk spec old new commands replies
+  means_the_disk old new commands replies only stands all = record {
+    end = all.end;
+    run = all.run;
+    at_start = stands.at_rest;
+    last = all.last;
+    along = all.along;
+    leaves = all.leaves;
+    at_end = said_at (spec.surplus old []) all.stands all.surplus;
+    setting = all.stands.setting;
+    since_start = since_start spec (spec.setting old) (spec.surplus old []) old all.last new (started (guest_of (abstract_image spec old []))) all.end commands replies all.run only stands.at_rest all.along all.leaves;
+  }
+
+  -- the moments of a whole run, with what is let go at its end
+  pub passes_run : (old new : D) (commands : List Command) (replies : List Reply) (all : RefinesDisk spec old new commands replies)
+      → Passing (spec.storage old) (spec.storage new) (λ c. IsStopIn (spec.setting old) (started (guest_of (abstract_image spec old []))) all.end commands replies all.run (byte_at c))
+  passes_run old new commands replies all =
+      whole_passes spec (spec.setting old) (spec.surplus old []) old all.last new (started (guest_of (abstract_image spec old []))) all.end commands replies all.run all.at_start all.along all.leaves

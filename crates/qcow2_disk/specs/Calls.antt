@@ -1,0 +1,147 @@
+-- What each call does to an image.
+use Rattle.std.specs.Prelude.{ℕ, ◌+◌, ◌≡◌, ◌⊎◌, ◌≤◌, ◌<◌, ◌==◌, ◌||◌, Bool, true, false, IsTrue, List, [], ◌∷◌, length, take, Option, nat_le, if◌then◌else◌}
+use Rattle.image_access.specs.Moments.{Passing}
+use Rattle.image_access.specs.declared.storage.PreallocateMode.{PreallocateMode}
+use Rattle.image_access.specs.declared.storage.PreallocateMode.TheVariants as Mode
+use Rattle.qcow2_metadata.specs.Bytes.{byte_at}
+use Rattle.qcow2_metadata.specs.Header.{rounded_up}
+use Rattle.qcow2_metadata.specs.Guest.{known_byte}
+use Rattle.qcow2_disk.specs.Disk.{Disk, with_bytes, zeroed, uncovered, grown, shrunk}
+use Rattle.qcow2_disk.specs.Stops.{GivenBytes, Checkpoint, checkpoint_with, StopOkEverywhere}
+use Rattle.qcow2_disk.specs.Mappings.{PreparedMapping, gift_shown}
+use Rattle.qcow2_disk.specs.Rules.{touched_from, touched_to}
+use Rattle.qcow2_disk.specs.AbstractImages.{Setting, Guest, AbstractImage, guest_of, contents_of}
+
+-- why a call was refused, as far as the state after it and what it tells depend on that
+pub data Refusal : Type 0 where
+  memory : Refusal
+  storage : Refusal
+  -- no compressed data stand at this guest offset
+  not_compressed : (offset : ℕ) → Refusal
+  another : ℕ → Refusal
+
+-- the storage failed, or memory was refused
+abbrev pub IsFault : Refusal → Type 0
+IsFault memory = Unit {0}
+IsFault storage = Unit {0}
+IsFault (not_compressed offset) = ⊥
+IsFault (another number) = ⊥
+
+-- ---- what is said of every call
+
+-- where a stop may find the image, with what a call gives and asks
+pub record Stops (old new : AbstractImage) (given : List GivenBytes) (asked : List ℕ) (m : Checkpoint) : Type 0 where
+  pub moments : Passing old.storage new.storage (λ c. StopOkEverywhere old.setting.backing (checkpoint_with given asked m) (byte_at c))
+  pub contents : StopOkEverywhere old.setting.backing (checkpoint_with given asked m) (contents_of new)
+  pub known : new.is_sound → StopOkEverywhere old.setting.backing (checkpoint_with given asked m) new.known
+
+abbrev pub StartsAt : AbstractImage → Checkpoint → Type 0
+StartsAt v m = StopOkEverywhere v.setting.backing m (contents_of v) × StopOkEverywhere v.setting.backing m v.known
+
+-- what a call does to a sound image
+pub record Works (old new : AbstractImage) (given : List GivenBytes) (asked : List ℕ) : Type 0 where
+  pub setting : new.setting ≡ old.setting
+  pub surplus : new.is_sound → new.surplus ≡ old.surplus
+  pub stops : (m : Checkpoint) → StartsAt old m → Stops old new given asked m
+
+-- a failed image writes nothing checkpoint_with
+pub record Rests (old new : AbstractImage) : Type 0 where
+  pub setting : new.setting ≡ old.setting
+  pub failed : IsTrue new.is_failed
+  pub contents : new.storage.contents ≡ old.storage.contents
+  pub moments : Passing old.storage new.storage (λ c. c ≡ old.storage.contents)
+
+-- a call that gives these values and asks for these sizes
+pub record Acts (old new : AbstractImage) (given : List GivenBytes) (asked : List ℕ) : Type 0 where
+  pub number : new.number ≡ old.number
+  pub works : old.is_sound → Works old new given asked
+  pub rests : IsTrue old.is_failed → Rests old new
+
+-- it was answered: the image is sound, and this was done
+pub record Does (old new : AbstractImage) (given : List GivenBytes) (asked : List ℕ) (done : Type 0) : Type 0 where
+  pub acts : Acts old new given asked
+  pub answer : old.is_sound → new.is_sound × done
+
+-- it was refused: the image is sound, and this is so; or it failed, by a fault or want of memory. A fault always fails it.
+pub record Refuses (old new : AbstractImage) (given : List GivenBytes) (asked : List ℕ) (e : Refusal) (still : Type 0) : Type 0 where
+  pub acts : Acts old new given asked
+  pub answer : old.is_sound → (new.is_sound × still) ⊎ (IsFault e × IsTrue new.is_failed)
+  pub fault : e ≡ storage → IsTrue new.is_failed
+
+-- the guest sees what it saw
+abbrev pub IsSame : AbstractImage → AbstractImage → Type 0
+IsSame old new = guest_of new ≡ guest_of old
+
+-- ---- what single calls do
+
+-- the disk has these bytes at an offset
+abbrev pub Shows : Disk → ℕ → List ℕ → Type 0
+Shows d offset bytes = (i : ℕ) → i < length bytes → d.value (offset + i) ≡ known_byte (byte_at bytes i)
+
+abbrev pub with_disk : Guest → Disk → Guest
+with_disk g d = record g { disk = d }
+
+abbrev pub with_slot : Guest → ℕ → Option PreparedMapping → Guest
+with_slot g slot m = record g { slots = λ k. if k == slot then m else g.slots k }
+
+-- A refused write: the leading bytes that it names are there. Where memory was refused, of those behind them any may be.
+pub record WritesSome (old : Disk) (offset : ℕ) (bytes : List ℕ) (n : ℕ) (new : Disk) : Type 0 where
+  pub size : new.size ≡ old.size
+  pub values : (o : ℕ) → (new.value o ≡ (with_bytes old offset (take n bytes)).value o) ⊎ (new.value o ≡ (with_bytes old offset bytes).value o)
+
+abbrev pub MayWrite : Refusal → Guest → ℕ → List ℕ → ℕ → Guest → Type 0
+MayWrite memory old offset bytes n new = (n ≤ length bytes) × ((d : Disk) × WritesSome old.disk offset bytes n d × (new ≡ with_disk old d))
+MayWrite e old offset bytes n new = (n ≤ length bytes) × (new ≡ with_disk old (with_bytes old.disk offset (take n bytes)))
+
+-- how whole clusters are cleared: to zeros without host clusters; to zeros that keep the host clusters which are marked copied; or to what the backing shows
+pub data Clearing : Type 0 where
+  to_zero : Clearing
+  to_kept_zero : Clearing
+  to_backing : Clearing
+
+abbrev pub cleared : Setting → Disk → Clearing → ℕ → ℕ → Disk
+cleared x d to_backing from to = uncovered d x.backing from to
+cleared x d to_zero from to = zeroed d from to
+cleared x d to_kept_zero from to = zeroed d from to
+
+abbrev pub cleared_at : Setting → Disk → Clearing → ℕ → ℕ → Disk
+cleared_at x d how offset n = cleared x d how (touched_from x.cluster_size offset) (touched_to x.cluster_size d.size offset n)
+
+abbrev pub gift_of_clear : Setting → Disk → Clearing → ℕ → ℕ → GivenBytes
+gift_of_clear x d how offset n = gift_shown (cleared_at x d how offset n) (touched_from x.cluster_size offset) (touched_to x.cluster_size d.size offset n)
+
+abbrev pub shows_old : PreallocateMode → Bool
+shows_old Mode.None = true
+shows_old mode = false
+
+abbrev pub grown_to : Setting → Disk → ℕ → PreallocateMode → Disk
+grown_to x d size mode = if nat_le size d.size then d else grown x.cluster_size d size (shows_old mode)
+
+-- A refused grow: where bytes are to be zeros past the size, they may be; else none changes.
+pub record MayGrow (x : Setting) (old : Disk) (size : ℕ) (mode : PreallocateMode) (new : Disk) : Type 0 where
+  pub same_size : new.size ≡ old.size
+  pub values : (o : ℕ) → (new.value o ≡ old.value o)
+      ⊎ ((shows_old mode ≡ false) × (old.size < size) × (old.size ≤ o) × (o < rounded_up x.cluster_size size) × (new.value o ≡ known_byte 0))
+
+-- a size that isn't larger gives nothing
+abbrev pub gift_of_grow : Setting → Disk → ℕ → PreallocateMode → List GivenBytes
+gift_of_grow x d size mode =
+    if nat_le size d.size || shows_old mode then [] else gift_shown (zeroed d d.size (rounded_up x.cluster_size size)) d.size (rounded_up x.cluster_size size) ∷ []
+
+-- Where a shrink may end: at the old size; at the new one, where nothing was uncovered; or between, at the end of the clusters that were.
+abbrev pub IsShrinkEnd : ℕ → (old size answer : ℕ) → Type 0
+IsShrinkEnd cluster_size old size answer = (answer ≡ old) ⊎ ((answer ≡ size) ⊎ ((rounded_up cluster_size answer ≡ answer) × (rounded_up cluster_size size < answer) × (answer < old)))
+
+-- the new size, and the backing's bytes on whole clusters up to where it ends
+pub record IsShrunk (x : Setting) (old : Disk) (size answer : ℕ) (new : Disk) : Type 0 where
+  pub no_smaller : old.size ≤ size → (answer ≡ old.size) × (new ≡ old)
+  pub smaller : size < old.size → IsShrinkEnd x.cluster_size old.size size answer × (new ≡ shrunk x.cluster_size old x.backing size answer)
+
+-- what it uncovers at most
+abbrev pub gift_of_shrink : Setting → Disk → ℕ → GivenBytes
+gift_of_shrink x d size = gift_shown (uncovered d x.backing (rounded_up x.cluster_size size) (rounded_up x.cluster_size d.size)) (rounded_up x.cluster_size size) (rounded_up x.cluster_size d.size)
+
+-- what an answered one uncovered: the old size counts to its cluster's end
+abbrev pub gift_of_shrunk : Setting → Disk → (size answer : ℕ) → GivenBytes
+gift_of_shrunk x d size answer =
+    gift_shown (shrunk x.cluster_size d x.backing size answer) (rounded_up x.cluster_size size) (if answer == d.size then rounded_up x.cluster_size answer else answer)

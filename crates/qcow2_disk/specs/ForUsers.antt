@@ -1,0 +1,46 @@
+-- Laws that a user would quote.
+use Rattle.std.specs.Prelude.{ℕ, ◌+◌, ◌≡◌, ◌<◌, Bool, false, IsTrue, List, length, Option, Some}
+use Rattle.qcow2_metadata.specs.Bytes.{Bytes, byte_at}
+use Rattle.qcow2_metadata.specs.Guest.{Value, known_byte}
+use Rattle.qcow2_disk.specs.Disk.{Disk, disk, with_bytes}
+use Rattle.qcow2_disk.specs.Stops.{IsGiven, checkpoint_at, StopOk}
+use Rattle.qcow2_disk.specs.Mappings.{PreparedMapping}
+use Rattle.qcow2_disk.specs.AbstractImages.{Setting, Guest}
+use Rattle.qcow2_disk.specs.Runs.{Found, CommandMeaning, given_by, read, prepare, put, commit, discard, done, bytes_are, prepared_is}
+
+-- Preparing, writing to private clusters and discarding leaves every guest byte.
+abbrev pub PrivateBytesAreUnseen : Type 0
+PrivateBytesAreUnseen =
+    (x : Setting) (found : ℕ → Option Found) (g0 g1 g2 g3 : Guest) (slot offset n host count at : ℕ) (overwrite is_existing : Bool) (bytes : List ℕ)
+    → CommandMeaning x found g0 (prepare slot offset n overwrite) (prepared_is host count is_existing) g1
+    → ((m : PreparedMapping) (i : ℕ) → g1.slots slot ≡ Some m → i < length bytes → IsTrue (m.is_private (m.from + at + i)))
+    → CommandMeaning x found g1 (put slot at bytes) done g2 → CommandMeaning x found g2 (discard slot) done g3
+    → (g3.disk.size ≡ g0.disk.size) × ((o : ℕ) → g3.disk.value o ≡ g0.disk.value o)
+
+-- What was put into a mapping and committed is read back, wherever it was private or in place.
+abbrev pub CommittedIsReadBack : Type 0
+CommittedIsReadBack =
+    (x : Setting) (found : ℕ → Option Found) (g0 g1 g2 g3 : Guest) (m : PreparedMapping) (slot at n i : ℕ) (bytes answer : List ℕ)
+    → g0.slots slot ≡ Some m → CommandMeaning x found g0 (put slot at bytes) done g1 → CommandMeaning x found g1 (commit slot) done g2
+    → CommandMeaning x found g2 (read (m.from + at) n) (bytes_are answer) g3
+    → i < length answer → i < length bytes → byte_at answer i ≡ byte_at bytes i
+
+-- Before the commit the old bytes are read wherever the mapping is private, and the new ones at once wherever it is in place.
+abbrev pub PutIsReadInPlace : Type 0
+PutIsReadInPlace =
+    (x : Setting) (found : ℕ → Option Found) (g0 g1 g2 : Guest) (m : PreparedMapping) (slot at offset n i : ℕ) (bytes answer : List ℕ)
+    → g0.slots slot ≡ Some m → CommandMeaning x found g0 (put slot at bytes) done g1 → CommandMeaning x found g1 (read offset n) (bytes_are answer) g2 → i < length answer
+    → (IsTrue (m.is_private (offset + i)) → known_byte (byte_at answer i) ≡ g0.disk.value (offset + i))
+    × (m.is_private (offset + i) ≡ false → known_byte (byte_at answer i) ≡ (with_bytes g0.disk (m.from + at) bytes).value (offset + i))
+
+-- What a put gives where its mapping is hidden is what the disk shows: until the commit no stop leaves any of the bytes that were put there.
+abbrev pub HiddenBytesAreNotGiven : Type 0
+HiddenBytesAreNotGiven =
+    (x : Setting) (g : Guest) (m : PreparedMapping) (slot at o : ℕ) (bytes : List ℕ) (v : Value)
+    → g.slots slot ≡ Some m → IsTrue (m.is_hidden o) → IsGiven (given_by x g (put slot at bytes)) o v → v ≡ g.disk.value o
+
+-- A stop right after a flush gives exactly the disk.
+abbrev pub FlushedIsExact : Type 0
+FlushedIsExact =
+    (backing b : Bytes) (d : Disk) → StopOk backing (checkpoint_at d) b
+    → ((disk b backing).size ≡ d.size) × ((o : ℕ) → o < d.size → (disk b backing).value o ≡ d.value o)

@@ -1,0 +1,30 @@
+-- The headline, of the bytes on a storage and of nothing that stands in memory.
+use Rattle.std.specs.Prelude.{ℕ, ◌≡◌, false, List, [], None}
+use Rattle.image_access.specs.Moments.{StorageView}
+use Rattle.qcow2_metadata.specs.Bytes.{Bytes, byte_at}
+use Rattle.qcow2_metadata.specs.Header.{header, cluster_size}
+use Rattle.qcow2_disk.specs.Disk.{disk}
+use Rattle.qcow2_disk.specs.AbstractImages.{Setting, Guest, Abstraction, abstract_image, guest_of}
+use Rattle.qcow2_disk.specs.Runs.{Command, Reply, RefinesDisk, IsStopIn, started}
+
+-- no disk below: all its bytes are zero
+abbrev pub nothing_below : Bytes
+nothing_below o = 0
+
+-- the setting of an image that stands in these bytes, with nothing below
+abbrev pub setting_in : Bytes → Setting
+setting_in b = record { cluster_size = cluster_size (header b); is_backed = false; backing = nothing_below }
+
+-- what a guest sees of it: its disk, and no prepared mapping
+abbrev pub guest_in : Bytes → Guest
+guest_in b = record { disk = disk b nothing_below; slots = λ _. None }
+
+-- An image was opened from these contents and answered these commands. It shows the disk that they hold, and the replies are a run of that disk.
+-- At each return the disk is the run's, the known bytes are consistent, and each surplus is as at the start. Whatever the storage held since before the opening may be left by a stop.
+pub record IsHeadline {D P : Type 0} (spec : Abstraction D P) (before : StorageView) (new : D) (commands : List Command) (replies : List Reply) : Type 0 where
+  pub opened : D
+  pub setting : spec.setting opened ≡ setting_in (byte_at before.contents)
+  pub shows : guest_of (abstract_image spec opened []) ≡ guest_in (byte_at before.contents)
+  pub refines : RefinesDisk spec opened new commands replies
+  pub stops : (c : List ℕ) → (spec.storage new).had_since before.moment c
+      → IsStopIn (spec.setting opened) (started (guest_of (abstract_image spec opened []))) refines.end commands replies refines.run (byte_at c)

@@ -1,0 +1,12 @@
+pub mod Disk
+pub mod Stops
+pub mod Rules
+pub mod Mappings
+pub mod AbstractImages
+pub mod Calls
+pub mod Found
+pub mod ClearedCovers
+pub mod Runs
+pub mod Headline
+pub mod ForUsers
+pub mod Alike

@@ -1,0 +1,55 @@
+-- What a stop may leave: nothing but what was flushed, or given by calls since.
+use Rattle.std.specs.Prelude.{ℕ, ◌+◌, ◌-◌, ◌≡◌, ◌<◌, ◌≤◌, ◌⊎◌, ◌++◌, List, [], ◌∷◌}
+use Rattle.image_access.specs.Moments.{StorageView, Passing}
+use Rattle.qcow2_metadata.specs.Bytes.{Bytes, byte_at}
+use Rattle.qcow2_metadata.specs.Guest.{Value}
+use Rattle.qcow2_metadata.specs.Consistent.{IsConsistent}
+use Rattle.qcow2_disk.specs.Disk.{Disk, disk}
+
+-- values that a call writes, zeroes or uncovers from an offset on
+pub record GivenBytes : Type 0 where
+  pub from : ℕ
+  pub count : ℕ
+  pub value : ℕ → Value
+
+abbrev pub IsIn : GivenBytes → ℕ → Value → Type 0
+IsIn g o v = (g.from ≤ o) × (o < g.from + g.count) × (v ≡ g.value (o - g.from))
+
+abbrev pub IsGiven : List GivenBytes → ℕ → Value → Type 0
+IsGiven [] o v = ⊥
+IsGiven (g ∷ gifts) o v = IsIn g o v ⊎ IsGiven gifts o v
+
+abbrev pub IsAsked : List ℕ → ℕ → Type 0
+IsAsked [] size = ⊥
+IsAsked (asked ∷ sizes) size = (size ≡ asked) ⊎ IsAsked sizes size
+
+-- what was flushed last, and what was given and asked since
+pub record Checkpoint : Type 0 where
+  pub last : Disk
+  pub given : List GivenBytes
+  pub asked : List ℕ
+
+-- nothing was given since
+abbrev pub checkpoint_at : Disk → Checkpoint
+checkpoint_at d = record { last = d; given = []; asked = [] }
+
+abbrev pub checkpoint_with : List GivenBytes → List ℕ → Checkpoint → Checkpoint
+checkpoint_with given asked m = record m { given = given ++ m.given; asked = asked ++ m.asked }
+
+-- The image is consistent. Its size is that of the last flush or one asked for since; each byte below both sizes is that of the last flush or one given since.
+pub record StopOk (backing : Bytes) (m : Checkpoint) (image : Bytes) : Type 0 where
+  pub consistent : IsConsistent image
+  pub size : ((disk image backing).size ≡ m.last.size) ⊎ IsAsked m.asked (disk image backing).size
+  pub values : (o : ℕ) → o < (disk image backing).size → o < m.last.size
+      → ((disk image backing).value o ≡ m.last.value o) ⊎ IsGiven m.given o ((disk image backing).value o)
+
+-- What calls keep: the same with values past both sizes too, since a size that grows again may show them.
+pub record StopOkEverywhere (backing : Bytes) (m : Checkpoint) (image : Bytes) : Type 0 where
+  pub consistent : IsConsistent image
+  pub size : ((disk image backing).size ≡ m.last.size) ⊎ IsAsked m.asked (disk image backing).size
+  pub values : (o : ℕ) → ((disk image backing).value o ≡ m.last.value o) ⊎ IsGiven m.given o ((disk image backing).value o)
+
+-- At each moment of a storage since, what was kept of it and of what was known is kept.
+pub record SafeThroughout (old new : StorageView) (known : Bytes) (given : Bytes → List GivenBytes) (asked : List ℕ) : Type 0 where
+  pub moments : Passing old new (λ c. (backing : Bytes) (m : Checkpoint) → StopOkEverywhere backing m (byte_at old.contents) → StopOkEverywhere backing m known → StopOkEverywhere backing (checkpoint_with (given backing) asked m) (byte_at c))
+  pub contents : (backing : Bytes) (m : Checkpoint) → StopOkEverywhere backing m (byte_at old.contents) → StopOkEverywhere backing m known → StopOkEverywhere backing (checkpoint_with (given backing) asked m) (byte_at new.contents)

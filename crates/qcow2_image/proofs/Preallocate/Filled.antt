@@ -1,0 +1,232 @@
+-- Parts of preallocation, one after another.
+use Rattle.std.proofs.Common.{◌≡◌, ◌⊎◌, ⊎_elim, inl, inr, ℕ, ◌+◌, ◌-◌, ◌%◌, ◌^◌, ◌<◌, ◌≤◌, min, true, false, List, [], ◌∷◌, refl, sym, ap, ◌∙◌, subst, arith}
+use Rattle.std.specs.Prelude.{IsTrue, Option, Result, Ok, Err}
+use Rattle.image_access.specs.Backing.{BackingView}
+use Rattle.image_access.specs.Moments.{StorageView}
+use Rattle.qcow2_metadata.specs.declared.header.HeaderFields.{HeaderFields}
+use Rattle.qcow2_metadata.specs.Header.{cluster_size, entries_per_cluster}
+use Rattle.qcow2_disk.specs.Found.{rest_of_table}
+use Rattle.std.proofs.lemmas.Bool.{cases_lt}
+use Rattle.qcow2_disk.specs.AbstractImages.{Guest, guest_of}
+use Rattle.qcow2_disk.specs.Calls.{Works, with_disk}
+use Rattle.qcow2_disk.specs.Disk.{Disk, zeroed}
+use Rattle.qcow2_disk.specs.Stops.{GivenBytes}
+use Rattle.qcow2_disk.proofs.Compose.{works_less, works_then}
+use Rattle.qcow2_alloc.specs.ImageError.{IsFault as FaultOfTables}
+use Rattle.qcow2_alloc.specs.ImageFile.{known_in}
+use Rattle.qcow2_alloc.specs.declared.error.ImageError.{ImageError}
+use Rattle.qcow2_alloc.specs.declared.error.ImageError.TheVariants as I
+use Rattle.qcow2_image.specs.CallParts.{RefusedCall, UnseenCall}
+use Rattle.qcow2_image.specs.Clearing.{ClearsPart, IsUnderMapping}
+use Rattle.qcow2_image.specs.declared.discarding.Clearance.TheVariants.{KeptZeros}
+use Rattle.qcow2_image.specs.declared.image.Qcow2.{Qcow2}
+use Rattle.qcow2_image.specs.declared.prepared.Prepared.{Prepared}
+use Rattle.qcow2_image.specs.ImageInvariant.{ImageInvariant, abstract_of, disk_of, pending_in}
+use Rattle.qcow2_image.specs.MovedTables.{MovesTables}
+use Rattle.qcow2_image.specs.Preallocation.{FilledCovers, FillsOrRefuses, FillsPart, FillsSome, InterruptedGiving, IsUnderMappingIn, MayBeZero, RefusedFill, gift_of_zeros}
+use Rattle.qcow2_image.specs.Refusals.{IsMet}
+use Rattle.qcow2_image.proofs.Call.Called.{works_none}
+use Rattle.qcow2_image.proofs.Clear.ClearCalls.{under_before}
+use Rattle.qcow2_image.proofs.Clear.Ranges.{table_end, table_whole}
+use Rattle.qcow2_image.proofs.Moved.{moves_then}
+use Rattle.std.proofs.lemmas.Nat.{pow_pos}
+use Rattle.qcow2_image.proofs.Preallocate.Covers.{covers_before, covers_cleared, covers_from, covers_none, covers_stay, covers_then}
+use Rattle.qcow2_image.proofs.Preallocate.Pieces.{none_of}
+use Rattle.qcow2_image.proofs.Preallocate.Zeros.{may_none, may_then, may_wider, may_zeroed, shown_zeros, zeroed_before, zeroed_none, zeroed_then, zeros_wider}
+
+-- what comes where the work meets it isn't that a table is prepared
+pub met_taken : {A : Type 0} (e : ImageError) → IsMet e → e ≡ I.TablePrepared → A
+met_taken e met is = absurd (subst (λ (x : ImageError). IsMet x) is met)
+
+-- a prepared table of a part is one of the whole, by the header before
+pub taken_wider : (h h' : HeaderFields) (from to from' to' : ℕ) (out : List (Option Prepared)) → MovesTables h h' → from' ≤ from → to ≤ to' → IsUnderMappingIn h' from to out → IsUnderMappingIn h from' to' out
+taken_wider h h' from to from' to' out moves low high is = let a = is.low in let b = is.high in record {
+  offset = is.offset;
+  low = omega arith;
+  high = omega arith;
+  under = under_before h h' is.offset out moves is.under;
+}
+
+pub taken_here : (h : HeaderFields) (from to : ℕ) (out : List (Option Prepared)) → from < to → IsUnderMapping h from out → IsUnderMappingIn h from to out
+taken_here h from to out lt under = record { offset = from; low = omega arith; high = lt; under = under }
+
+-- where the first L2 table of a range ends, or the range does
+module _ (h : HeaderFields) (some : 0 < cluster_size h) (rows : 0 < entries_per_cluster h) (from to next : ℕ) (whole : to % cluster_size h ≡ 0) (is : next ≡ min to (min (from + rest_of_table h from) (2 ^ 64 - 1))) (high : to < 2 ^ 64) where
+  pub next_within : next ≤ from + rest_of_table h from
+  next_within = omega (arith, is)
+
+  pub next_whole : next % cluster_size h ≡ 0
+  next_whole = elim (cases_lt (from + rest_of_table h from) to) [
+    | inl before ↦
+        let e : next ≡ from + rest_of_table h from = omega (arith, is, before, high) in
+        ap (λ x. x % cluster_size h) (e ∙ table_end h some rows from) ∙ table_whole h some rows from
+    | inr behind ↦
+        let e : next ≡ to = omega (arith, is, behind, high) in
+        ap (λ x. x % cluster_size h) e ∙ whole
+  ]
+
+module _ {S F : Type 0} (view : S → StorageView) (backing : F → BackingView) (out : List (Option Prepared)) where
+  -- zeros of a part are zeros of the whole
+  wider_works : (old new : Qcow2 S F) (from to from' to' : ℕ) → from' ≤ from → to ≤ to' → Works (abstract_of view backing old out) (abstract_of view backing new out) (gift_of_zeros from to ∷ []) []
+      → Works (abstract_of view backing old out) (abstract_of view backing new out) (gift_of_zeros from' to' ∷ []) []
+  wider_works old new from to from' to' low high works =
+      works_less (abstract_of view backing old out) (abstract_of view backing new out) (gift_of_zeros from to ∷ []) (gift_of_zeros from' to' ∷ []) [] (λ o w given. inr (zeros_wider from to from' to' low high o w given)) works
+
+  -- a sound image that is marked as failed
+  pub given_broken : (given : List GivenBytes) (old new : Qcow2 S F) (e : ImageError) → FaultOfTables e → (e ≡ I.Memory → IsTrue new.file.caches.is_changed) → ImageInvariant view backing (pending_in view backing new out) new out
+      → Works (abstract_of view backing old out) (abstract_of view backing new out) given [] → InterruptedGiving view backing given old new out e
+  given_broken given old new e fault noted sound works = record {
+    fault = fault;
+    noted = noted;
+    works = record {
+      setting = works.setting;
+      surplus = λ now. absurd (let f : true ≡ false = now.works in cc);
+      stops = λ m starts. let s = works.stops m starts in record { moments = s.moments; contents = s.contents; known = λ now. absurd (let f : true ≡ false = now.works in cc) };
+    };
+  }
+
+  -- ---- nothing yet
+  pub fills_none : (image : Qcow2 S F) (first from : ℕ) → ImageInvariant view backing (pending_in view backing image out) image out → Works (abstract_of view backing image out) (abstract_of view backing image out) [] [] → FillsPart view backing first from from image image out
+  fills_none image first from sound works = record {
+    works = none_of _ _ (gift_of_zeros from from ∷ []) works;
+    sound = sound;
+    shows = ap (λ (d : Disk). with_disk (guest_of (abstract_of view backing image out)) d) (sym (zeroed_none (disk_of view backing image) from from (omega arith)));
+    header = refl;
+    covers = covers_none (cluster_size image.file.header.fields) (pow_pos image.file.header.fields.cluster_bits) first from image.file.header.fields (known_in view image.file);
+  }
+
+  -- a refused part that no guest sees
+  pub fill_unseen : (old new : Qcow2 S F) (from to : ℕ) (e : ImageError) → RefusedCall view backing old new out e → FillsSome view backing from to old new out ⊎ InterruptedGiving view backing (gift_of_zeros from to ∷ []) old new out e
+  fill_unseen old new from to e (inl stays) = inl (record {
+    works = none_of _ _ (gift_of_zeros from to ∷ []) stays.works;
+    sound = stays.sound;
+    now = disk_of view backing old;
+    may = may_none from to (disk_of view backing old);
+    shows = stays.same;
+  })
+  fill_unseen old new from to e (inr breaks) = inr (record { fault = breaks.fault; noted = breaks.noted; works = none_of _ _ (gift_of_zeros from to ∷ []) breaks.works })
+
+  -- refused before anything was done
+  pub refused_here : (image : Qcow2 S F) (from to : ℕ) (e : ImageError) → (e ≡ I.TablePrepared → ⊥) → ImageInvariant view backing (pending_in view backing image out) image out → RefusedFill view backing from to image image out e
+  refused_here image from to e other sound = record {
+    left = inl (record {
+      works = none_of _ _ (gift_of_zeros from to ∷ []) (works_none (abstract_of view backing image out) sound);
+      sound = sound;
+      now = disk_of view backing image;
+      may = may_none from to (disk_of view backing image);
+      shows = refl;
+    });
+    taken = λ is. absurd (other is);
+  }
+
+  -- ---- one part after another
+  module _ (a b c : Qcow2 S F) (zeros from mid to : ℕ) (low : from ≤ mid) (high : mid ≤ to) where
+    as_large : (x y : ℕ) → MovesTables a.file.header.fields b.file.header.fields → FilledCovers (cluster_size b.file.header.fields) zeros x y b.file.header.fields (known_in view b.file) c.file.header.fields (known_in view c.file)
+        → FilledCovers (cluster_size a.file.header.fields) zeros x y b.file.header.fields (known_in view b.file) c.file.header.fields (known_in view c.file)
+    as_large x y moves covers = subst (λ size. FilledCovers size zeros x y b.file.header.fields (known_in view b.file) c.file.header.fields (known_in view c.file)) (ap (λ (h : HeaderFields). cluster_size h) moves) covers
+
+    pub fills_then : FillsPart view backing zeros from mid a b out → FillsPart view backing zeros mid to b c out → FillsPart view backing zeros from to a c out
+    fills_then first then = record {
+      works = works_then (abstract_of view backing a out) (abstract_of view backing b out) (abstract_of view backing c out) (gift_of_zeros from to ∷ []) [] first.sound (wider_works a b from mid from to (omega arith) high first.works) (wider_works b c mid to from to low (omega arith) then.works);
+      sound = then.sound;
+      shows = then.shows ∙ ap (λ (g : Guest). with_disk g (zeroed g.disk mid to)) first.shows ∙ ap (λ (d : Disk). with_disk (guest_of (abstract_of view backing a out)) d) (zeroed_then (disk_of view backing a) from mid to low high);
+      header = moves_then a.file.header.fields b.file.header.fields c.file.header.fields first.header then.header;
+      covers = covers_then (cluster_size a.file.header.fields) (pow_pos a.file.header.fields.cluster_bits) zeros a.file.header.fields (known_in view a.file) b.file.header.fields (known_in view b.file) c.file.header.fields (known_in view c.file) from mid to low high first.covers
+          (as_large mid to first.header then.covers);
+    }
+
+    -- the later part of the range may come first
+    pub fills_before : FillsPart view backing zeros mid to a b out → FillsPart view backing zeros from mid b c out → FillsPart view backing zeros from to a c out
+    fills_before first then = record {
+      works = works_then (abstract_of view backing a out) (abstract_of view backing b out) (abstract_of view backing c out) (gift_of_zeros from to ∷ []) [] first.sound (wider_works a b mid to from to low (omega arith) first.works) (wider_works b c from mid from to (omega arith) high then.works);
+      sound = then.sound;
+      shows = then.shows ∙ ap (λ (g : Guest). with_disk g (zeroed g.disk from mid)) first.shows ∙ ap (λ (d : Disk). with_disk (guest_of (abstract_of view backing a out)) d) (zeroed_before (disk_of view backing a) from mid to low high);
+      header = moves_then a.file.header.fields b.file.header.fields c.file.header.fields first.header then.header;
+      covers = covers_before (cluster_size a.file.header.fields) (pow_pos a.file.header.fields.cluster_bits) zeros a.file.header.fields (known_in view a.file) b.file.header.fields (known_in view b.file) c.file.header.fields (known_in view c.file) from mid to low high first.covers
+          (as_large from mid first.header then.covers);
+    }
+
+  -- a part that is refused after one that wasn't, of a range that has both
+  module _ (a b c : Qcow2 S F) (zeros from to x y x' y' : ℕ) (low : from ≤ x) (high : y ≤ to) (low' : from ≤ x') (high' : y' ≤ to) (first : FillsPart view backing zeros x y a b out) where
+    some_after : FillsSome view backing x' y' b c out → FillsSome view backing from to a c out
+    some_after then = record {
+      works = works_then (abstract_of view backing a out) (abstract_of view backing b out) (abstract_of view backing c out) (gift_of_zeros from to ∷ []) [] first.sound (wider_works a b x y from to low high first.works) (wider_works b c x' y' from to low' high' then.works);
+      sound = then.sound;
+      now = then.now;
+      may = may_then from to (disk_of view backing a) (zeroed (disk_of view backing a) x y) then.now (may_wider x y from to (disk_of view backing a) (zeroed (disk_of view backing a) x y) low high (may_zeroed x y (disk_of view backing a)))
+          (subst (λ (d : Disk). MayBeZero from to d then.now) (ap (λ (g : Guest). g.disk) first.shows) (may_wider x' y' from to (disk_of view backing b) then.now low' high' then.may));
+      shows = then.shows ∙ ap (λ (g : Guest). with_disk g then.now) first.shows;
+    }
+
+    broken_after : (e : ImageError) → InterruptedGiving view backing (gift_of_zeros x' y' ∷ []) b c out e → InterruptedGiving view backing (gift_of_zeros from to ∷ []) a c out e
+    broken_after e then = record {
+      fault = then.fault;
+      noted = then.noted;
+      works = works_then (abstract_of view backing a out) (abstract_of view backing b out) (abstract_of view backing (record c { is_failed = true }) out) (gift_of_zeros from to ∷ []) [] first.sound (wider_works a b x y from to low high first.works)
+          (wider_works b (record c { is_failed = true }) x' y' from to low' high' then.works);
+    }
+
+    pub refused_after : (e : ImageError) → RefusedFill view backing x' y' b c out e → RefusedFill view backing from to a c out e
+    refused_after e then = record {
+      left = ⊎_elim (λ (some : FillsSome view backing x' y' b c out). inl (some_after some)) (λ (broken : InterruptedGiving view backing (gift_of_zeros x' y' ∷ []) b c out e). inr (broken_after e broken)) then.left;
+      taken = λ is. taken_wider a.file.header.fields b.file.header.fields x' y' from to out first.header low' high' (then.taken is);
+    }
+
+  -- a part, and then a step that no guest sees
+  module _ (a b c : Qcow2 S F) (zeros from to : ℕ) (first : FillsPart view backing zeros from to a b out) where
+    pub fills_stays : UnseenCall view backing b c out → FillsPart view backing zeros from to a c out
+    fills_stays then = record {
+      works = works_then (abstract_of view backing a out) (abstract_of view backing b out) (abstract_of view backing c out) (gift_of_zeros from to ∷ []) [] first.sound first.works (none_of _ _ (gift_of_zeros from to ∷ []) then.works);
+      sound = then.sound;
+      shows = then.same ∙ first.shows;
+      header = moves_then a.file.header.fields b.file.header.fields c.file.header.fields first.header then.header;
+      covers = covers_stay (cluster_size a.file.header.fields) (pow_pos a.file.header.fields.cluster_bits) zeros a.file.header.fields (known_in view a.file) b.file.header.fields (known_in view b.file) c.file.header.fields (known_in view c.file) from to first.covers then.covers;
+    }
+
+    -- that is refused
+    pub fills_refused : (to' : ℕ) (e : ImageError) → to ≤ to' → IsMet e → RefusedCall view backing b c out e → RefusedFill view backing from to' a c out e
+    fills_refused to' e high met then =
+        refused_after a b c zeros from to' from to from to' (omega arith) high (omega arith) (omega arith) first e (record { left = fill_unseen b c from to' e then; taken = met_taken e met })
+
+  -- whole clusters are cleared
+  pub cleared_fills : (old new : Qcow2 S F) (from to : ℕ) → from % cluster_size old.file.header.fields ≡ 0 → ClearsPart view backing KeptZeros from to old new out → FillsPart view backing 0 from to old new out
+  cleared_fills old new from to whole part = record {
+    works = works_less (abstract_of view backing old out) (abstract_of view backing new out) _ (gift_of_zeros from to ∷ []) [] (λ o w given. inr (shown_zeros (disk_of view backing old) from to o w given)) part.works;
+    sound = part.sound;
+    shows = part.shows;
+    header = part.header;
+    covers = covers_cleared old.file.header.fields new.file.header.fields (known_in view old.file) (known_in view new.file) from to whole part.covers;
+  }
+
+  -- where all are zeros, those from the start on are
+  pub zeros_from : (old new : Qcow2 S F) (from to : ℕ) → from % cluster_size old.file.header.fields ≡ 0 → FillsPart view backing 0 from to old new out → FillsPart view backing from from to old new out
+  zeros_from old new from to whole part = record {
+    works = part.works;
+    sound = part.sound;
+    shows = part.shows;
+    header = part.header;
+    covers = covers_from (cluster_size old.file.header.fields) (pow_pos old.file.header.fields.cluster_bits) from to old.file.header.fields (known_in view old.file) new.file.header.fields (known_in view new.file) whole part.covers;
+  }
+
+  -- where they begin before the range, that may be anywhere before it
+  pub zeros_all : (old new : Qcow2 S F) (first from to : ℕ) → from % cluster_size old.file.header.fields ≡ 0 → first ≤ from → FillsPart view backing 0 from to old new out → FillsPart view backing first from to old new out
+  zeros_all old new first from to whole le part =
+      let is = zeros_from old new from to whole part in
+      record {
+        works = part.works;
+        sound = part.sound;
+        shows = part.shows;
+        header = part.header;
+        covers = record {
+          beside = part.covers.beside;
+          zeros = λ g t at. part.covers.zeros g t (omega arith);
+          copied = λ g t lt. is.covers.copied g t (omega (arith, lt, le));
+        };
+      }
+
+  -- the answer of one part is that of both
+  module _ (a b c : Qcow2 S F) (zeros from mid to : ℕ) (low : from ≤ mid) (high : mid ≤ to) (first : FillsPart view backing zeros from mid a b out) where
+    -- the last part clears whole clusters
+    pub fills_or_refuses : zeros ≤ mid → mid % cluster_size b.file.header.fields ≡ 0 → (r : Result (Unit {0}) ImageError) → FillsOrRefuses view backing 0 mid to b c out r → FillsOrRefuses view backing zeros from to a c out r
+    fills_or_refuses le whole (Ok done) then = fills_then a b c zeros from mid to low high first (zeros_all b c zeros mid to whole le then)
+    fills_or_refuses le whole (Err e) then = refused_after a b c zeros from to from mid mid to (omega arith) high low (omega arith) first e then

@@ -1,0 +1,112 @@
+-- What a larger disk says of the tables: the L1 table reaches its last byte, and an L2 table that is prepared refuses it only behind the old end.
+use Rattle.std.proofs.Common.{◌≡◌, ℕ, ◌+◌, ◌*◌, ◌-◌, ◌/◌, ◌%◌, ◌<◌, ◌≤◌, Bool, true, false, List, Option, refl, sym, ap, ◌∙◌, subst, arith, inl, inr}
+use Rattle.std.specs.Prelude.{IfErr, OnOk, Result, Ok, Err, None, Some}
+use Rattle.std.proofs.lemmas.Bool.{cases_lt}
+use Rattle.std.proofs.lemmas.Nat.{div-add-mod', mod_below}
+use Rattle.image_access.specs.Backing.{BackingView}
+use Rattle.image_access.specs.Moments.{StorageView}
+use Rattle.image_access.specs.declared.storage.PreallocateMode.{PreallocateMode}
+use Rattle.image_access.specs.declared.storage.PreallocateMode.TheVariants as Mode
+use Rattle.qcow2_metadata.specs.Bytes.{Bytes}
+use Rattle.qcow2_metadata.specs.Cover.{cover}
+use Rattle.qcow2_metadata.specs.L2Table.{copied_host, zero_cover}
+use Rattle.qcow2_metadata.specs.declared.header.HeaderFields.{HeaderFields}
+use Rattle.qcow2_metadata.specs.declared.l2_mapping.L2Mapping.{L2Mapping}
+use Rattle.qcow2_metadata.specs.declared.l2_mapping.L2Mapping.TheVariants.{Uncovered}
+use Rattle.qcow2_metadata.specs.Header.{HeaderView, cluster_size, rounded_up, with_fields, with_size}
+use Rattle.qcow2_disk.specs.Mappings.{is_copied_data}
+use Rattle.qcow2_laws.specs.Guests.{guests}
+use Rattle.qcow2_laws.proofs.Guests.{past_guests}
+use Rattle.qcow2_laws.proofs.Places.{Sizes}
+use Rattle.qcow2_alloc.specs.declared.error.ImageError.{ImageError}
+use Rattle.qcow2_alloc.specs.declared.error.ImageError.TheVariants as I
+use Rattle.qcow2_alloc.specs.ImageError.{IsFault as IsFaultOfTables}
+use Rattle.qcow2_alloc.specs.ImageFile.{known_in}
+use Rattle.qcow2_alloc.proofs.PlacedBlocks.{file_sizes}
+use Rattle.qcow2_image.specs.CallParts.{UnseenCall}
+use Rattle.qcow2_image.specs.declared.image.Qcow2.{Qcow2}
+use Rattle.qcow2_image.specs.declared.prepared.Prepared.{Prepared}
+use Rattle.qcow2_image.specs.Growing.{ReachesSize}
+use Rattle.qcow2_image.specs.Image.{is_failed, number_of, size_of}
+use Rattle.qcow2_image.specs.ImageInvariant.{ImageInvariant, disk_of, pending_in}
+use Rattle.qcow2_image.specs.MovedTables.{MovesTables}
+use Rattle.qcow2_image.specs.Preallocation.{FilledCovers, FillsGrown, RefusedGrown}
+use Rattle.qcow2_image.specs.Refusals.{failed_after}
+use Rattle.qcow2_image.specs.Resizing.{GrowsTables, RefusesUnchanged, boundary_in}
+use Rattle.qcow2_image.proofs.Call.Refused.{refuses_left}
+use Rattle.qcow2_image.proofs.Preallocate.Filled.{taken_wider}
+use Rattle.qcow2_image.proofs.Preallocate.Grown.{up_least}
+use Rattle.qcow2_image.proofs.Preallocate.Turns.{same_size}
+use Rattle.qcow2_image.proofs.Sizes.{disk_size}
+
+-- ---- what stands for a filled cluster lies under an L1 entry
+copied_stands : (v : L2Mapping) → v ≡ Uncovered → is_copied_data v ≡ true → ⊥
+copied_stands v is copied = let no : true ≡ false = sym copied ∙ ap is_copied_data is in absurd cc
+
+zeros_stand : (kept : Option ℕ) → zero_cover kept ≡ Uncovered → ⊥
+zeros_stand None is = absurd cc
+zeros_stand (Some host) is = absurd cc
+
+covers_reach : (h h' : HeaderFields) (known known' : Bytes) (first from size : ℕ) → MovesTables h h' → Sizes h' → from < size → FilledCovers (cluster_size h) first from (rounded_up (cluster_size h) size) h known h' known' → ReachesSize (with_size h' size)
+covers_reach h h' known known' first from size moves sizes larger covers =
+    let cs = cluster_size h in
+    let g = (size - 1) / cs in
+    let same = same_size h h' moves in
+    let some : 0 < cs = let s = sizes.some in omega (arith, s, same) in
+    let least = up_least cs size some in
+    let parts : g * cs + (size - 1) % cs ≡ size - 1 = div-add-mod' (size - 1) cs in
+    let below = mod_below (size - 1) cs some in
+    let touches : (from < rounded_up cs size) × (from < g * cs + cs) × (g * cs < rounded_up cs size) = (omega (arith, larger, least), omega (arith, larger, parts, below), omega (arith, larger, parts, least)) in
+    let stands : cover h' known' g ≡ Uncovered → ⊥ = λ none. elim (cases_lt (g * cs) first) [
+      | inl before ↦ copied_stands (cover h' known' g) none (covers.copied g touches before)
+      | inr behind ↦ zeros_stand (copied_host (cover h known g)) (sym (covers.zeros g touches behind) ∙ none)
+    ] in
+    elim (cases_lt g (guests h')) [
+      | inr past ↦ absurd (stands (past_guests h' known' g sizes past))
+      | inl lt ↦ last_reached (cluster_size h') cs g (guests h') size same lt parts below
+    ]
+  where
+    last_reached : (cs' cs g n size : ℕ) → cs' ≡ cs → g < n → g * cs + (size - 1) % cs ≡ size - 1 → (size - 1) % cs < cs → size ≤ n * cs'
+    last_reached cs' cs g n size same lt parts below =
+        let e : n * cs ≡ (g + 1 + (n - (g + 1))) * cs = ap (λ k. k * cs) (let s : n ≡ g + 1 + (n - (g + 1)) = omega (arith, lt) in s) in
+        let r : (g + 1 + (n - (g + 1))) * cs ≡ g * cs + cs + (n - (g + 1)) * cs = omega arith in
+        subst (λ c. size ≤ n * c) (sym same) (omega (arith, e, r, parts, below))
+
+module _ {S F : Type 0} (view : S → StorageView) (backing : F → BackingView) (out : List (Option Prepared)) where
+  -- what fills the range behind the old end leaves that
+  module _ (long filled : Qcow2 S F) (size : ℕ) (sound : ImageInvariant view backing (pending_in view backing long out) long out) (larger : size_of long < size) where
+    filled_reaches : (first : ℕ) → MovesTables long.file.header.fields filled.file.header.fields → ImageInvariant view backing (pending_in view backing filled out) filled out
+        → FilledCovers (cluster_size long.file.header.fields) first (disk_of view backing long).size (rounded_up (cluster_size long.file.header.fields) size) long.file.header.fields (known_in view long.file) filled.file.header.fields (known_in view filled.file)
+        → ReachesSize (with_size filled.file.header.fields size)
+    filled_reaches first moves filled_sound covers =
+        covers_reach long.file.header.fields filled.file.header.fields (known_in view long.file) (known_in view filled.file) first (disk_of view backing long).size size moves
+        (file_sizes view (pending_in view backing filled out) filled.file filled_sound.file) (let s = disk_size view backing long out sound in omega (arith, larger, s)) covers
+
+    pub reaches_filled : (mode : PreallocateMode) → (mode ≡ Mode.None → filled ≡ long) → ReachesSize (with_size long.file.header.fields size) → FillsGrown view backing size mode long filled out → ReachesSize (with_size filled.file.header.fields size)
+    reaches_filled Mode.None same reached fills = subst (λ (image : Qcow2 S F). ReachesSize (with_size image.file.header.fields size)) (sym (same refl)) reached
+    reaches_filled Mode.Zero same reached fills = filled_reaches _ fills.header fills.sound (fills.covers refl)
+    reaches_filled Mode.FormatAllocate same reached fills = filled_reaches _ fills.header fills.sound (fills.covers refl)
+    reaches_filled Mode.FullAllocate same reached fills = filled_reaches _ fills.header fills.sound (fills.covers refl)
+    reaches_filled Mode.WriteData same reached fills = filled_reaches _ fills.header fills.sound (fills.covers refl)
+
+  -- a table that is prepared is one of the range, by the header of the call's begin
+  pub taken_behind : (old long filled new : Qcow2 S F) (size : ℕ) (mode : PreallocateMode) (e : ImageError) → UnseenCall view backing old long out → RefusedGrown view backing size mode long filled out e → GrowsTables old new size out (Err e)
+  taken_behind old long filled new size mode e call refused is =
+      let d = disk_of view backing long in
+      let end = rounded_up (cluster_size long.file.header.fields) size in
+      let shown = disk_size view backing long out call.sound in
+      let moved : size_of long ≡ size_of old = ap (λ (h : HeaderFields). h.size) call.header in
+      let last : end ≡ boundary_in old size = ap (λ n. rounded_up n size) (same_size old.file.header.fields long.file.header.fields call.header) in
+      taken_wider old.file.header.fields long.file.header.fields d.size end (size_of old) (boundary_in old size) out call.header (omega (arith, shown, moved)) (omega (arith, last)) (refused.taken is)
+
+  -- the size is written last
+  pub tables_sized : (old filled new : Qcow2 S F) (marked : Bool) (size : ℕ) (r : Result (Unit {0}) ImageError) → IfErr r IsFaultOfTables → OnOk r (new.file.header ≡ with_fields filled.file.header (with_size filled.file.header.fields size))
+      → ReachesSize (with_size filled.file.header.fields size) → GrowsTables old (record new { is_failed = marked }) size out r
+  tables_sized old filled new marked size (Ok x) cause header reached = subst (λ (v : HeaderView). ReachesSize v.fields) (sym header) reached
+  tables_sized old filled new marked size (Err e) cause header reached = λ is. absurd (elim cause [ inl fault ↦ (let no : I.TablePrepared ≡ I.Storage = sym is ∙ fault in cc) | inr fault ↦ (let no : I.TablePrepared ≡ I.Memory = sym is ∙ fault in cc) ])
+
+  -- ---- the entries can't tell zeros
+  pub refuses_version : (old long filled : Qcow2 S F) (e : ImageError) (marked : Bool) → is_failed old ≡ false → UnseenCall view backing old long out → filled ≡ long → e ≡ I.Version → number_of filled ≡ number_of old → failed_after e (is_failed filled) marked
+      → RefusesUnchanged view backing old (record filled { is_failed = marked }) out (Err e)
+  refuses_version old long filled e marked usable call same is number marks =
+      refuses_left view backing out old usable filled marked number e marks (λ want. absurd (let no : I.Version ≡ I.Memory = sym is ∙ want in cc)) (λ sound. inl (subst (λ (image : Qcow2 S F). UnseenCall view backing old image out) (sym same) call))

@@ -1,0 +1,306 @@
+-- The size of the disk is written: the image is as sound as before, whatever mappings are out, and shows the same bytes.
+use Rattle.std.proofs.Common.{◌≡◌, inl, inr, ℕ, ◌+◌, ◌/◌, ◌^◌, ◌<◌, ◌≢◌, Bool, true, false, List, [], ◌∷◌, Option, Some, None, Result, Ok, Err, refl, sym, ap, ◌∙◌, subst, arith}
+use Rattle.std.specs.Prelude.{IfSome, IsTrue, slice_get}
+use Rattle.std.proofs.lemmas.Bool.{cond-true, cond-false}
+use mathlib.Core.Path.{fun_ext}
+use Rattle.image_access.specs.Backing.{BackingView}
+use Rattle.image_access.specs.Moments.{StorageView, Calls, Changes, Passing}
+use Rattle.image_access.specs.declared.error.StorageError.{StorageError}
+use Rattle.image_access.specs.declared.error.StorageError.TheVariants as SE
+use Rattle.image_access.proofs.Passing.{passes_if}
+use Rattle.qcow2_metadata.specs.Bytes.{Bytes, byte_at}
+use Rattle.qcow2_metadata.specs.Cover.{cover, cover_under}
+use Rattle.qcow2_metadata.specs.declared.header.HeaderFields.{HeaderFields}
+use Rattle.qcow2_metadata.specs.Entries.{l1_entry}
+use Rattle.qcow2_metadata.specs.Guest.{guest_value, known_byte}
+use Rattle.qcow2_metadata.specs.Header.{cluster_size, with_fields, with_size}
+use Rattle.qcow2_metadata.specs.HeaderWrite.{size_written}
+use Rattle.qcow2_disk.specs.AbstractImages.{guest_of, meaning_at}
+use Rattle.qcow2_disk.specs.Calls.{with_disk}
+use Rattle.qcow2_disk.specs.Disk.{disk}
+use Rattle.qcow2_disk.specs.Stops.{SafeThroughout, StopOkEverywhere, checkpoint_with}
+use Rattle.qcow2_laws.specs.CrashInvariant.{Pending}
+use Rattle.qcow2_laws.specs.SafeSteps.{SafeStep}
+use Rattle.qcow2_laws.specs.Tops.{WritesHeader, resized}
+use Rattle.qcow2_laws.specs.Unseen.{SameUsedBytes, used_by_guests}
+use Rattle.qcow2_laws.proofs.Headers.{header_elsewhere, header_fixed, header_l1, header_known_l1, header_known_covers}
+use Rattle.qcow2_laws.proofs.Mixes.{tied}
+use Rattle.qcow2_laws.proofs.SafeSteps.{endures_write}
+use Rattle.qcow2_laws.proofs.Steps.{header_is_written}
+use Rattle.qcow2_laws.proofs.Unseen.{known_header, named_some, table_bytes}
+use Rattle.qcow2_laws.proofs.Values.{guest_value-same, size_is, value_is}
+use Rattle.qcow2_alloc.specs.declared.allocation.Allocator.{Allocator}
+use Rattle.qcow2_alloc.specs.declared.error.ImageError.TheVariants as I
+use Rattle.qcow2_alloc.specs.declared.image_storage.ImageStorage.{ImageStorage}
+use Rattle.qcow2_alloc.specs.ImageError.{of_storage}
+use Rattle.qcow2_alloc.specs.ImageFile.{nothing_given, view_in, contents_in, known_in, state_in, HasReftable}
+use Rattle.qcow2_alloc.specs.ImageStorage.{storage_of}
+use Rattle.qcow2_alloc.specs.MetadataCaches.{known_of, order_of}
+use Rattle.qcow2_alloc.proofs.Numbers.{size_writes}
+use Rattle.qcow2_image.specs.CallParts.{UnseenCall}
+use Rattle.qcow2_image.specs.declared.image.Qcow2.{Qcow2}
+use Rattle.qcow2_image.specs.declared.prepared.Prepared.{Prepared}
+use Rattle.qcow2_image.specs.declared.prepared.Share.{Share}
+use Rattle.qcow2_image.specs.declared.prepared.Share.TheVariants.{InPlace, Kept, New}
+use Rattle.qcow2_image.specs.Growing.{Extends, Resizes}
+use Rattle.qcow2_image.specs.ImageInvariant.{ImageInvariant, IsReadyWith, IsShareAt, abstract_of, backing_bytes, cluster_of, disk_of, is_private, meaning, pending_in, place_of}
+use Rattle.qcow2_image.specs.Resizing.{MayStand, SetsSize, WritesSize}
+use Rattle.qcow2_image.specs.UnseenSteps.{HoldsAll}
+use Rattle.qcow2_image.proofs.Call.Answered.{same_guest, same_mapping}
+use Rattle.qcow2_image.proofs.Call.Called.{listed}
+use Rattle.qcow2_image.proofs.Call.Refused.{stays_kept}
+use Rattle.qcow2_image.proofs.Map.Loading.{still_moved}
+use Rattle.qcow2_image.proofs.Prepare.Entering.{unlisted}
+use Rattle.qcow2_image.proofs.Open.HeaderKept.{resized_l1, resized_reftable, placed_settled, placed_sound}
+use Rattle.qcow2_image.proofs.Ready.{still_ready}
+use Rattle.qcow2_image.proofs.Shares.{private_used}
+use Rattle.qcow2_image.proofs.Sound.{pending_is}
+
+-- ---- what is read with a header of another size
+module _ (h : HeaderFields) (size : ℕ) where
+  module _ (known on_storage : Bytes) where
+    share_sized : (q : Prepared) (i : ℕ) (share : Share) → IsShareAt h known on_storage q i share → IsShareAt (with_size h size) known on_storage q i share
+    unfolding cover cover_under l1_entry
+    share_sized q i InPlace is = is
+    share_sized q i Kept is = record { first = is.first; place = is.place; nameable = is.nameable; entry = is.entry }
+    share_sized q i (New taken dropped) is = record { first = is.first; is = is.is; place = is.place; nameable = is.nameable; entry = is.entry; reach = is.reach; drops = is.drops }
+
+    ready_sized : (q : Prepared) (t : Option ℕ) → IsReadyWith h known on_storage q t → IsReadyWith (with_size h size) known on_storage q t
+    unfolding l1_entry
+    ready_sized q None is = is
+    ready_sized q (Some table) is = record {
+      some = is.some;
+      begins = is.begins;
+      enough = is.enough;
+      no_more = is.no_more;
+      within = is.within;
+      named = record { real = is.named.real; place = is.named.place; within = is.named.within };
+      copied = is.copied;
+      each = λ i share at. share_sized q i share (is.each i share at);
+    }
+
+  value_sized : (b backing : Bytes) (o : ℕ) → guest_value (with_size h size) b b backing o ≡ guest_value h b b backing o
+  unfolding guest_value cover cover_under l1_entry
+  value_sized b backing o = refl
+
+module _ {S F : Type 0} (view : S → StorageView) (backing : F → BackingView) (out : List (Option Prepared)) (p : Pending) (old : Qcow2 S F) (sound : ImageInvariant view backing p old out) (size : ℕ) (fits : size < 2 ^ 64) where
+  abbrev h : HeaderFields
+  h = old.file.header.fields
+
+  abbrev on_storage : Bytes
+  on_storage = contents_in view old.file
+
+  abbrev known : Bytes
+  known = known_in view old.file
+
+  abbrev changed : List ℕ
+  changed = size_written (with_size old.file.header.fields size) (view_in view old.file).contents
+
+  -- what is there where it is written
+  leads_at : (b : Bytes) → WritesHeader h (resized h size h.autoclear) on_storage known b (known_of h old.file.caches b)
+      → SafeStep (state_in view old.file p) (record (state_in view old.file p) { header = with_size h size; on_storage = b; known = known_of h old.file.caches b }) nothing_given (size ∷ [])
+  leads_at b writes = header_is_written.size (state_in view old.file p) b (known_of h old.file.caches b) size h.autoclear sound.file.caches.kept.kept.guarded writes
+
+  -- whatever the storage answers
+  pub lasts_resized : {T : Type 0} (result : Result T StorageError) (asked after : S) → asked ≡ storage_of old.file.storage → Changes (view asked) (view after) result (size_written (with_size old.file.header.fields size) (view asked).contents)
+      → Calls (view asked) (view after) result → SafeThroughout (view_in view old.file) (view after) known nothing_given (size ∷ [])
+  lasts_resized result asked after same wrote called =
+      let writes = size_writes view p old.file sound.file size fits in
+      endures_write {result = result} (view_in view old.file) (view after) known nothing_given (size ∷ []) changed
+      (subst (λ (s : S). Calls (view s) (view after) result) same called)
+      (subst (λ (s : S). Changes (view s) (view after) result (size_written (with_size old.file.header.fields size) (view s).contents)) same wrote)
+      sound.file.honest (leads_at (byte_at changed) writes).on_storage
+
+  module _ (storage : ImageStorage S) (is : (view (storage_of storage)).contents ≡ size_written (with_size old.file.header.fields size) (view_in view old.file).contents) (honest : (view (storage_of storage)).is_honest) where
+    abbrev pub sized : Qcow2 S F
+    sized = record old { file = record old.file { storage = storage; header = with_fields old.file.header (with_size old.file.header.fields size) } }
+
+    writes_now : WritesHeader h (resized h size h.autoclear) on_storage known (contents_in view sized.file) (known_of h old.file.caches (contents_in view sized.file))
+    writes_now = subst (λ (c : List ℕ). WritesHeader h (resized h size h.autoclear) on_storage known (byte_at c) (known_of h old.file.caches (byte_at c))) (sym is) (size_writes view p old.file sound.file size fits)
+
+    pub leads_now : SafeStep (state_in view old.file p) (state_in view sized.file p) nothing_given (size ∷ [])
+    leads_now = leads_at (contents_in view sized.file) writes_now
+
+    reftable_now : (a : Option Allocator) → IfSome a (λ x. HasReftable view old.file x.reftable) → IfSome a (λ x. HasReftable view sized.file x.reftable)
+    reftable_now None has = tt
+    reftable_now (Some a) has = record {
+      cluster = has.cluster;
+      bits = has.bits;
+      count = has.count;
+      entries = λ k. has.entries k ∙ sym (resized_reftable view p old.file sound.file size h.autoclear (contents_in view sized.file) writes_now k);
+    }
+
+    -- the L1 entries and what stands for guest clusters stay
+    l1_now : (i : ℕ) → l1_entry h (contents_in view sized.file) i ≡ l1_entry h on_storage i
+    l1_now i = sym (header_l1 h (resized h size h.autoclear) (order_of old.file.caches) p on_storage known (contents_in view sized.file) (known_in view sized.file) sound.file.caches.kept.kept.guarded writes_now i)
+
+    known_l1_now : (i : ℕ) → l1_entry h known i ≡ l1_entry h (known_in view sized.file) i
+    known_l1_now i = header_known_l1 h (resized h size h.autoclear) (order_of old.file.caches) p on_storage known (contents_in view sized.file) (known_in view sized.file) sound.file.caches.kept.kept.guarded writes_now i
+
+    covers_now : (g : ℕ) → cover h known g ≡ cover h (known_in view sized.file) g
+    covers_now g = header_known_covers h (resized h size h.autoclear) (order_of old.file.caches) p on_storage known (contents_in view sized.file) (known_in view sized.file) sound.file.caches.kept.kept.guarded writes_now g
+
+    top : (i : ℕ) → l1_entry h on_storage i ≡ l1_entry h known i
+    top = sound.file.caches.kept.kept.guarded.same_top.l1
+
+    pub resized_sound : ImageInvariant view backing p sized out
+    resized_sound =
+        let l1 = resized_l1 view p old.file sound.file size h.autoclear (contents_in view sized.file) writes_now in
+        let blocks = resized_reftable view p old.file sound.file size h.autoclear (contents_in view sized.file) writes_now in record {
+          works = sound.works;
+          file = record {
+            honest = honest;
+            caches = placed_sound view p p old.file sound.file (resized h size h.autoclear) (contents_in view sized.file) writes_now leads_now.sound l1 blocks;
+            settled = placed_settled view p p old.file sound.file (resized h size h.autoclear) (contents_in view sized.file) writes_now leads_now.sound l1 blocks;
+            room = sound.file.room;
+          };
+          l1_table = record { cluster = sound.l1_table.cluster; bits = sound.l1_table.bits; count = sound.l1_table.count; entries = λ i. sound.l1_table.entries i ∙ sym (l1 i) };
+          reftable = reftable_now old.allocator sound.reftable;
+          below = sound.below;
+          ready = λ k q at. let was = sound.ready k q at in record {
+            own = was.own;
+            mapped = ready_sized h size (known_in view sized.file) (contents_in view sized.file) q q.table
+                (still_ready h known on_storage (known_in view sized.file) (contents_in view sized.file) q top (λ i. l1_now i ∙ top i ∙ known_l1_now i) (λ i _. l1_now i) (λ i. covers_now (cluster_of h q + i)) q.table was.mapped);
+          };
+          pinned = sound.pinned;
+          once = sound.once;
+        }
+
+    -- what guests use stands elsewhere than the header
+    used_bytes : SameUsedBytes (state_in view old.file p) (state_in view sized.file p)
+    used_bytes = table_bytes (state_in view old.file p) (state_in view sized.file p) sound.file.caches.kept.kept.guarded 0
+        (header_fixed h (resized h size h.autoclear) (order_of old.file.caches) p on_storage known (contents_in view sized.file) (known_in view sized.file) sound.file.caches.kept.kept.guarded writes_now) writes_now.known_others
+
+    disk_now : (below : Bytes) → disk (known_in view sized.file) below ≡ record (disk known below) { size = size }
+    unfolding disk
+    disk_now below =
+        let s = state_in view old.file p in
+        let s' = state_in view sized.file p in
+        let guarded = sound.file.caches.kept.kept.guarded in
+        let was = known_header s guarded in
+        let is' = known_header s' leads_now.sound in
+        let now : (disk (known_in view sized.file) below).size ≡ size = size_is (with_size h size) (known_in view sized.file) below is' in
+        let value : (disk (known_in view sized.file) below).value ≡ (disk known below).value = fun_ext (λ o.
+        value_is (with_size h size) (known_in view sized.file) below o is'
+        ∙ value_sized h size (known_in view sized.file) below o
+        ∙ sym (guest_value-same h known (known_in view sized.file) below o (covers_now (o / cluster_size h)) (guarded.known_aligned (o / cluster_size h))
+        (λ place some. sym (used_bytes place (let one = named_some s s' guarded (place / cluster_size h) (o / cluster_size h) some in omega arith))))
+        ∙ sym (value_is h known below o was)) in
+        λ j. record { size = now j; value = value j }
+
+    -- the same bytes stand where mappings have theirs
+    module _ (holds : HoldsAll view backing p out) where
+      elsewhere : (o : ℕ) → 0 < used_by_guests (state_in view old.file p) (o / cluster_size h) → o / cluster_size h ≢ 0
+      elsewhere o some = header_elsewhere h (resized h size h.autoclear) (order_of old.file.caches) p on_storage known (contents_in view sized.file) (known_in view sized.file) sound.file.caches.kept.kept.guarded writes_now o
+          (let t = (tied h p on_storage known (o / cluster_size h)).known in omega arith)
+
+      place_now : (k : ℕ) (q : Prepared) → slice_get out k ≡ Some (Some q) → (o : ℕ) → IsTrue (is_private view backing old q o) → contents_in view sized.file (place_of h q o) ≡ contents_in view old.file (place_of h q o)
+      place_now k q at o private = sym (writes_now.others (place_of h q o) (elsewhere (place_of h q o) (private_used view backing old out p sound holds k q at o private)))
+
+      shown_now : (k : ℕ) (q : Prepared) → slice_get out k ≡ Some (Some q) → (o : ℕ) (b : Bool) → is_private view backing old q o ≡ b → (meaning view backing sized q).shown o ≡ (meaning view backing old q).shown o
+      shown_now k q at o true is' = ap known_byte (cond-true _ _ _ is' ∙ place_now k q at o is' ∙ sym (cond-true _ _ _ is'))
+      shown_now k q at o false is' = ap known_byte (cond-false _ _ _ is' ∙ sym (cond-false _ _ _ is'))
+
+      slot_now : (k : ℕ) (m : Option (Option Prepared)) → slice_get out k ≡ m → meaning_at (meaning view backing sized) m ≡ meaning_at (meaning view backing old) m
+      slot_now k None at = refl
+      slot_now k (Some None) at = refl
+      slot_now k (Some (Some q)) at = ap Some (same_mapping _ _ refl refl refl refl (fun_ext (λ o. shown_now k q at o (is_private view backing old q o) refl)))
+
+      pub guest_now : guest_of (abstract_of view backing sized out) ≡ with_disk (guest_of (abstract_of view backing old out)) (record (disk_of view backing old) { size = size })
+      guest_now = same_guest _ _ (disk_now (backing_bytes view backing old.backing)) (fun_ext (λ k. slot_now k (slice_get out k) refl))
+
+-- ---- as a part of a call
+module _ {S F : Type 0} (view : S → StorageView) (backing : F → BackingView) (out : List (Option Prepared)) (old : Qcow2 S F) (sound : ImageInvariant view backing (pending_in view backing old out) old out) (size : ℕ) (fits : size < 2 ^ 64) where
+  abbrev q : Pending
+  q = pending_in view backing old out
+
+  -- the storage took it
+  module _ (storage : ImageStorage S) (is : (view (storage_of storage)).contents ≡ size_written (with_size old.file.header.fields size) (view_in view old.file).contents) (honest : (view (storage_of storage)).is_honest)
+      (since : SafeThroughout (view_in view old.file) (view (storage_of storage)) (known_in view old.file) nothing_given (size ∷ [])) where
+    abbrev now : Qcow2 S F
+    now = sized view backing out q old sound size fits storage is honest
+
+    pending_now : q ≡ pending_in view backing now out
+    pending_now = pending_is view backing now out q (leads_now view backing out q old sound size fits storage is honest).sound (record { held = λ k. refl; fresh = λ k. refl; spent = λ k. refl; dropped = λ k. refl })
+
+    pub sets_size : SetsSize view backing size old now out
+    sets_size =
+        let leads = leads_now view backing out q old sound size fits storage is honest in record {
+          works = record {
+            setting = refl;
+            surplus = λ still. ap (λ (x : Pending). x.surplus) (sym pending_now);
+            stops = λ m starts. record {
+              moments = passes_if (λ c. StopOkEverywhere (backing_bytes view backing old.backing) (checkpoint_with [] (size ∷ []) m) (byte_at c)) (λ c kept. kept (backing_bytes view backing old.backing) m starts.0 starts.1) since.moments;
+              contents = since.contents (backing_bytes view backing old.backing) m starts.0 starts.1;
+              known = λ still. leads.known (backing_bytes view backing old.backing) m starts.0 starts.1;
+            };
+          };
+          sound = subst (λ (x : Pending). ImageInvariant view backing x now out) pending_now (resized_sound view backing out q old sound size fits storage is honest);
+          shows = guest_now view backing out q old sound size fits storage is honest (λ k. omega arith);
+        }
+
+  -- it failed, or had no memory for it
+  module _ (storage : ImageStorage S) (honest : (view (storage_of storage)).is_honest) where
+    abbrev unsized : Qcow2 S F
+    unsized = record old { file = record old.file { storage = storage } }
+
+    unsized_fails : SafeThroughout (view_in view old.file) (view (storage_of storage)) (known_in view old.file) nothing_given (size ∷ []) → MayStand view backing old unsized out size I.Storage
+    unsized_fails since = record {
+      fault = refl;
+      works = record {
+        setting = refl;
+        surplus = λ still. absurd (let no : true ≡ false = still.works in cc);
+        stops = λ m starts. record {
+          moments = passes_if (λ c. StopOkEverywhere (backing_bytes view backing old.backing) (checkpoint_with [] (size ∷ []) m) (byte_at c)) (λ c kept. kept (backing_bytes view backing old.backing) m starts.0 starts.1) since.moments;
+          contents = since.contents (backing_bytes view backing old.backing) m starts.0 starts.1;
+          known = λ still. absurd (let no : true ≡ false = still.works in cc);
+        };
+      };
+    }
+
+    unsized_stays : Passing (view_in view old.file) (view (storage_of storage)) (λ c. c ≡ (view (storage_of storage)).contents) → (view (storage_of storage)).contents ≡ (view_in view old.file).contents → UnseenCall view backing old unsized out
+    unsized_stays time same =
+        stays_kept view backing out old unsized sound (listed view backing out old unsized (λ s. record { keeps = still_moved view backing old out q s storage honest time same; list = refl }) sound)
+
+  -- as the storage's call says it
+  module _ (storage : ImageStorage S) (result : Result (Unit {0}) StorageError) (asked : S) (same : asked ≡ storage_of old.file.storage)
+      (wrote : Changes (view asked) (view (storage_of storage)) result (size_written (with_size old.file.header.fields size) (view asked).contents)) (called : Calls (view asked) (view (storage_of storage)) result) where
+    calls : Calls (view_in view old.file) (view (storage_of storage)) result
+    calls = subst (λ (s : S). Calls (view s) (view (storage_of storage)) result) same called
+
+    changes : Changes (view_in view old.file) (view (storage_of storage)) result (size_written (with_size old.file.header.fields size) (view_in view old.file).contents)
+    changes = subst (λ (s : S). Changes (view s) (view (storage_of storage)) result (size_written (with_size old.file.header.fields size) (view s).contents)) same wrote
+
+    since : SafeThroughout (view_in view old.file) (view (storage_of storage)) (known_in view old.file) nothing_given (size ∷ [])
+    since = lasts_resized view backing out q old sound size fits result asked (storage_of storage) same wrote called
+
+    pub size_is_set : (x : Unit {0}) → result ≡ Ok x → (new : Qcow2 S F) → new ≡ record old { file = record old.file { storage = storage; header = with_fields old.file.header (with_size old.file.header.fields size) } } → WritesSize view backing old new out size (Ok x)
+    size_is_set x done new is =
+        let contents = rw done at (changes sound.file.honest) in
+        subst (λ (a : Qcow2 S F). SetsSize view backing size old a out) (sym is) (sets_size storage contents (calls.honest sound.file.honest) since)
+
+    pub size_is_refused : (e : StorageError) → result ≡ Err e → (new : Qcow2 S F) → new ≡ record old { file = record old.file { storage = storage } } → WritesSize view backing old new out size (Err (of_storage e))
+    size_is_refused SE.Fault done new is = inr (subst (λ (a : Qcow2 S F). MayStand view backing old a out size I.Storage) (sym is) (unsized_fails storage (calls.honest sound.file.honest) since))
+    size_is_refused SE.Memory done new is =
+        let contents = rw done at (changes sound.file.honest) in
+        inl (subst (λ (a : Qcow2 S F). UnseenCall view backing old a out) (sym is) (unsized_stays storage (calls.honest sound.file.honest) calls.time contents))
+
+-- ---- while no mapping is out, whatever is pending
+module _ {S F : Type 0} (view : S → StorageView) (backing : F → BackingView) (p : Pending) (old : Qcow2 S F) (sound : ImageInvariant view backing p old []) (size : ℕ) (fits : size < 2 ^ 64) (storage : ImageStorage S) (result : Result (Unit {0}) StorageError) (asked : S)
+    (same : asked ≡ storage_of old.file.storage) (wrote : Changes (view asked) (view (storage_of storage)) result (size_written (with_size old.file.header.fields size) (view asked).contents)) (called : Calls (view asked) (view (storage_of storage)) result) where
+  all_since : SafeThroughout (view_in view old.file) (view (storage_of storage)) (known_in view old.file) nothing_given (size ∷ [])
+  all_since = lasts_resized view backing [] p old sound size fits result asked (storage_of storage) same wrote called
+
+  pub resizes_so : (x : Unit {0}) → result ≡ Ok x → (new : Qcow2 S F) → new ≡ record old { file = record old.file { storage = storage; header = with_fields old.file.header (with_size old.file.header.fields size) } } → Resizes view backing p old new size (Ok x)
+  resizes_so x done new is =
+      let calls : Calls (view_in view old.file) (view (storage_of storage)) result = subst (λ (s : S). Calls (view s) (view (storage_of storage)) result) same called in
+      let contents = rw done at (subst (λ (s : S). Changes (view s) (view (storage_of storage)) result (size_written (with_size old.file.header.fields size) (view s).contents)) same wrote sound.file.honest) in
+      let honest = calls.honest sound.file.honest in
+      let final = sized view backing [] p old sound size fits storage contents honest in
+      let extends : Extends view backing p p old (sized view backing [] p old sound size fits storage contents honest) (size ∷ []) =
+      record { sound = resized_sound view backing [] p old sound size fits storage contents honest; leads = leads_now view backing [] p old sound size fits storage contents honest; since = all_since; format = refl } in
+      subst (λ (a : Qcow2 S F). Resizes view backing p old a size (Ok x)) (sym is)
+      (subst (λ (r : Pending). Extends view backing p r old final (size ∷ [])) (unlisted view backing [] p old final refl) extends, refl)
+
+  pub resizes_refused : (new : Qcow2 S F) (e : StorageError) → new ≡ record old { file = record old.file { storage = storage } } → Resizes view backing p old new size (Err (of_storage e))
+  resizes_refused new e is = subst (λ (a : Qcow2 S F). Resizes view backing p old a size (Err (of_storage e))) (sym is) all_since

@@ -1,0 +1,23 @@
+use Rattle.std.proofs.Common.{◌≡◌, ◌≤◌, ◌%◌, ◌∙◌, ap, subst, sym}
+use Rattle.std.proofs.lemmas.Nat.{pow_pos}
+use Rattle.qcow2_metadata.specs.Header.{cluster_size, rounded_up}
+use Rattle.qcow2_alloc.specs.declared.error.ImageError.TheVariants.{Overflow}
+use Rattle.qcow2_image.specs.Preallocation.{FillsOrRefuses}
+use Rattle.qcow2_image.proofs.Preallocate.Filled.{refused_here}
+use Rattle.qcow2_image.proofs.Preallocate.Grown.{up_to_end, up_whole}
+use Rattle.qcow2_image.proofs.image.Qcow2.allocate_grown.Goals as goal
+
+pub returns-in_default-clause-fills : goal.returns-in_default-clause-fills
+returns-in_default-clause-fills g c = λ out sound le.
+    refused_here g.S.Storage.view g.F.BackingDisk.backing out c.args.self.now c.args.old (rounded_up (cluster_size c.args.self.now.file.header.fields) c.args.size) Overflow (λ is. cc) sound
+
+pub returns-clause-fills : goal.returns-clause-fills
+returns-clause-fills g c = λ out sound le.
+    let view = g.S.Storage.view in
+    let below = g.F.BackingDisk.backing in
+    let old = c.args.self.now in
+    let cs = cluster_size old.file.header.fields in
+    let some = pow_pos old.file.header.fields.cluster_bits in
+    let end : c.in-Some.end ≡ rounded_up (cluster_size c.args.self.now.file.header.fields) c.args.size = c.in-Some.ensures.some ∙ ap (λ s. rounded_up s c.args.size) c.cluster_size.ensures.value in
+    subst (λ n. FillsOrRefuses view below n c.args.old n old c.fill_range.new.self out c.fill_range.result) end
+    (c.fill_range.ensures.fills out sound (subst (λ n. c.args.old ≤ n) (sym end) (up_to_end cs c.args.old c.args.size some le)) (subst (λ n. n % cs ≡ 0) (sym end) (up_whole cs c.args.size some)))

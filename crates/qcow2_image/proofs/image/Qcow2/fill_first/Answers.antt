@@ -1,0 +1,112 @@
+use Rattle.std.proofs.Common.{◌≡◌, ◌∙◌, ◌+◌, ◌^◌, ◌≤◌, ◌<◌, ◌∷◌, [], None, inl, min, refl, sym, ap, subst, arith, rules}
+use Rattle.qcow2_laws.specs.CrashInvariant.{Pending}
+use Rattle.qcow2_alloc.proofs.AllocationSteps.{handed_on}
+use Rattle.qcow2_image.specs.ImageInvariant.{ImageInvariant, abstract_of}
+use Rattle.qcow2_image.specs.Preallocation.{FillsFirst, FillsPart}
+use Rattle.qcow2_image.proofs.Call.Called.{works_none}
+use Rattle.qcow2_image.proofs.Flush.Freeing.{all_listed, beside, freed_refused, tidy_stays}
+use Rattle.qcow2_image.proofs.Free.{free_places}
+use Rattle.qcow2_image.proofs.Preallocate.Filled.{fill_unseen, fills_none, fills_refused, fills_stays, met_taken, refused_after, taken_here}
+use Rattle.qcow2_image.proofs.Preallocate.Piece.{all_filled, all_fits, all_next, all_put, all_within, piece_gone}
+use Rattle.qcow2_image.proofs.image.Qcow2.fill_first.Goals as goal
+
+pub returns-in_err-prepared-clause-fills : goal.returns-in_err-prepared-clause-fills
+returns-in_err-prepared-clause-fills g c = λ out sound whole.
+    let view = g.S.Storage.view in
+    let below = g.F.BackingDisk.backing in
+    let old = c.args.self.now in
+    let new = c.prepare.new.self in
+    let e = c.in_err-prepared.field-0.0 in
+    let most = c.most.ensures in
+    let asked = c.min.ensures in
+    let few = c.requires.few in
+    let lt = c.requires.some in
+    let some : 0 < c.min.result = omega (arith, most, asked, few, lt) in
+    handed_on (λ r. FillsFirst view below c.args.to c.args.from c.args.to old new out r) c.from_residual.result e c.from_residual.ensures
+    (record {
+      left = fill_unseen view below out old new c.args.from c.args.to e (c.in_err-prepared.ensures.readies some out sound);
+      taken = λ is. let t = c.in_err-prepared.ensures.taken some out sound is in
+          taken_here old.file.header.fields c.args.from c.args.to out lt (record { place = t.place; other = t.other; is_out = t.is_out; keeps_table = t.keeps_table; same_table = t.same_table });
+    })
+
+pub returns-in-Err-clause-fills : goal.returns-in-Err-clause-fills
+returns-in-Err-clause-fills g c = λ out sound whole.
+    let view = g.S.Storage.view in
+    let below = g.F.BackingDisk.backing in
+    let old = c.args.self.now in
+    let mid = c.prepare.new.self in
+    let p = c.in_ok-prepared.prepared in
+    let from = c.args.from in
+    let to = c.args.to in
+    let n = c.min.result in
+    let e = c.in-Err.refusal in
+    let e' = c.free_after.result in
+    let lt = c.requires.some in
+    let few = subst (λ m. 2 ^ 21 ≤ m) (sym c.most.ensures) c.requires.few in
+    let asked = c.min.ensures in
+    let some : 0 < c.min.result = omega (arith, asked, few, lt) in
+    let counted = c.min-count.ensures ∙ ap (min p.length) (c.most-2.ensures ∙ sym c.most.ensures) in
+    let ready = c.in_ok-prepared.ensures.readies some (None ∷ out) ((free_places view below).free old [] out sound) 0 refl in
+    let answered = c.in_ok-prepared.ensures.answers some out sound in
+    let fits = all_fits view below out old mid p from to c.most.result n c.min-count.result sound ready answered lt whole few asked counted in
+    let within = all_within view below out old mid p from to c.most.result n c.min-count.result sound ready answered lt whole few asked counted in
+    let put = all_put view below out old mid p from to c.most.result n c.min-count.result sound ready answered lt whole few asked counted c.put_zeros.new.self _ c.in-Err.ensures.written in
+    refused_after view below out old old c.free_after.new.self to from to from from from (from + p.length) (omega arith) (omega (arith, lt)) (omega arith) within (fills_none view below out old to from sound (works_none (abstract_of view below old out) sound)) e'
+    (record {
+      left = piece_gone view below out old mid p from n sound ready answered fits c.put_zeros.new.self c.let_go.new.self c.free_after.new.self to e e' within put c.let_go.ensures.sees c.free_after.ensures.fault (λ still. c.free_after.ensures.frees out still);
+      taken = λ is. met_taken e c.in-Err.ensures.cause (c.free_after.ensures.taken (inl c.in-Err.ensures.cause) is);
+    })
+
+pub returns-in_err-free_listed-clause-fills : goal.returns-in_err-free_listed-clause-fills
+returns-in_err-free_listed-clause-fills g c = λ out sound whole.
+    let view = g.S.Storage.view in
+    let below = g.F.BackingDisk.backing in
+    let old = c.args.self.now in
+    let mid = c.prepare.new.self in
+    let done = c.commit_filled.new.self in
+    let new = c.free_listed.new.self in
+    let p = c.in_ok-prepared.prepared in
+    let from = c.args.from in
+    let to = c.args.to in
+    let n = c.min.result in
+    let e = c.in_err-free_listed.field-0.0 in
+    let lt = c.requires.some in
+    let few = subst (λ m. 2 ^ 21 ≤ m) (sym c.most.ensures) c.requires.few in
+    let asked = c.min.ensures in
+    let some : 0 < c.min.result = omega (arith, asked, few, lt) in
+    let counted = c.min-count.ensures ∙ ap (min p.length) (c.most-2.ensures ∙ sym c.most.ensures) in
+    let ready = c.in_ok-prepared.ensures.readies some (None ∷ out) ((free_places view below).free old [] out sound) 0 refl in
+    let answered = c.in_ok-prepared.ensures.answers some out sound in
+    let within = all_within view below out old mid p from to c.most.result n c.min-count.result sound ready answered lt whole few asked counted in
+    let part = all_filled view below out old mid p from to c.most.result n c.min-count.result sound ready answered lt whole few asked counted (c.in_ok-prepared.ensures.some some) c.put_zeros.new.self done c.in_default.ensures.written c.commit_filled.ensures.commits c.commit_filled.ensures.header in
+    let listed = subst (λ (x : Pending). ImageInvariant view below x done out) (all_listed view below done out) part.sound in
+    handed_on (λ r. FillsFirst view below to from to old new out r) c.from_residual-in_err-free_listed.result e c.from_residual-in_err-free_listed.ensures
+    (fills_refused view below out old done new to from (from + p.length) part to e within c.in_err-free_listed.ensures.cause
+    (freed_refused view below done out new e part.sound (c.in_err-free_listed.ensures.frees (beside view below done out) out listed)))
+
+pub returns-clause-fills : goal.returns-clause-fills
+returns-clause-fills g c = λ out sound whole.
+    let view = g.S.Storage.view in
+    let below = g.F.BackingDisk.backing in
+    let old = c.args.self.now in
+    let mid = c.prepare.new.self in
+    let done = c.commit_filled.new.self in
+    let new = c.free_listed.new.self in
+    let p = c.in_ok-prepared.prepared in
+    let from = c.args.from in
+    let to = c.args.to in
+    let n = c.min.result in
+    let lt = c.requires.some in
+    let few = subst (λ m. 2 ^ 21 ≤ m) (sym c.most.ensures) c.requires.few in
+    let asked = c.min.ensures in
+    let some : 0 < c.min.result = omega (arith, asked, few, lt) in
+    let counted = c.min-count.ensures ∙ ap (min p.length) (c.most-2.ensures ∙ sym c.most.ensures) in
+    let high : c.args.to < 2 ^ 64 = search rules in
+    let ready = c.in_ok-prepared.ensures.readies some (None ∷ out) ((free_places view below).free old [] out sound) 0 refl in
+    let answered = c.in_ok-prepared.ensures.answers some out sound in
+    let next : c.min-next.result ≡ c.args.from + c.in_ok-prepared.prepared.length =
+    all_next view below out old mid p from to c.most.result n c.min-count.result sound ready answered lt whole few asked counted c.min-next.result (c.min-next.ensures ∙ ap (min to) c.saturating_add.ensures) high in
+    let part = all_filled view below out old mid p from to c.most.result n c.min-count.result sound ready answered lt whole few asked counted (c.in_ok-prepared.ensures.some some) c.put_zeros.new.self done c.in_default.ensures.written c.commit_filled.ensures.commits c.commit_filled.ensures.header in
+    let listed = subst (λ (x : Pending). ImageInvariant view below x done out) (all_listed view below done out) part.sound in
+    subst (λ k. FillsPart view below to from k old new out) (sym next)
+    (fills_stays view below out old done new to from (from + p.length) part (tidy_stays view below done out new part.sound (c.in_ok-free_listed.ensures.frees (beside view below done out) out listed)))

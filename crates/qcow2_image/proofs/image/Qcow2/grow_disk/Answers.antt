@@ -1,0 +1,294 @@
+use Rattle.std.proofs.Common.{◌≡◌, ◌∙◌, ◌-◌, ◌<◌, sym, ap, subst, arith}
+use Rattle.std.specs.Prelude.{Err, IfErr, IsTrue, Ok, OnOk, Result}
+use Rattle.qcow2_metadata.specs.declared.header.HeaderFields.{HeaderFields}
+use Rattle.qcow2_metadata.specs.EntryTable.{entry_count}
+use Rattle.qcow2_metadata.specs.Header.{with_size}
+use Rattle.qcow2_alloc.specs.declared.error.ImageError.TheVariants.{Memory, Version}
+use Rattle.qcow2_alloc.specs.ImageError.{IsFault}
+use Rattle.qcow2_image.specs.CallParts.{UnseenCall}
+use Rattle.qcow2_image.specs.declared.image.Qcow2.{Qcow2}
+use Rattle.qcow2_image.specs.Found.{l1_index_of}
+use Rattle.qcow2_image.specs.Growing.{ReachesSize}
+use Rattle.qcow2_image.specs.Image.{is_failed}
+use Rattle.qcow2_image.specs.ImageInvariant.{ImageInvariant, pending_in}
+use Rattle.qcow2_image.specs.LongerTables.{MakesEntry}
+use Rattle.qcow2_image.specs.Preallocation.{FillsGrown, FillsGrownOrRefuses}
+use Rattle.qcow2_image.specs.Refusals.{IsMet, Marks}
+use Rattle.qcow2_image.specs.Resizing.{GrowsTables, GrowsTo, RefusesUnchanged, WritesSizeLast}
+use Rattle.qcow2_image.proofs.Call.Refused.{stays_then}
+use Rattle.qcow2_image.proofs.Clear.ClearCalls.{err_is}
+use Rattle.qcow2_image.proofs.Preallocate.Filled.{met_taken}
+use Rattle.qcow2_image.proofs.Preallocate.Turns.{same_version}
+use Rattle.qcow2_image.proofs.Sizing.Growing.{grows_in_part, grows_not, grows_sized, last_in_part, last_not, last_sized, reaches_lengthened, unchanged_not}
+use Rattle.qcow2_image.proofs.Sizing.GrownTables.{reaches_filled, refuses_version, tables_sized, taken_behind}
+use Rattle.qcow2_image.proofs.Sizing.Shrinking.{begun_call}
+use Rattle.qcow2_image.proofs.image.Qcow2.grow_disk.Goals as goal
+
+pub returns-in_err-mark_failure-clause-sees : goal.returns-in_err-mark_failure-clause-sees
+returns-in_err-mark_failure-clause-sees g c =
+    let view = g.S.Storage.view in
+    let below = g.F.BackingDisk.backing in
+    let old = c.args.self.now in
+    let begun = c.begin.new.self in
+    let mid = c.renew_l1_table-longer.new.self in
+    let first = begun_call view below old begun (λ out sound. record { keeps = c.begin.ensures.keeps (pending_in view below old out) out sound; list = c.begin.ensures.list }) in
+    let e = c.in_err-mark_failure.field-0.0 in
+    let marked = is_failed c.mark_failure.new.self in
+    let done : c.renew_l1_table-longer.result ≡ Err c.in_err-mark_failure.field-0.0 = sym c.mark_failure.ensures.answer ∙ c.in_err-mark_failure.was in
+    subst (λ (r : Result _ _). GrowsTo view below old c.mark_failure.new.self c.args.size c.args.mode r) (sym (err_is c.from_residual.result c.from_residual.ensures))
+    (subst (λ (image : Qcow2 _ _). GrowsTo view below old image c.args.size c.args.mode (Err e)) (sym c.mark_failure.ensures.rest)
+    (grows_not view below old c.args.size c.args.mode c.requires.usable c.requires.larger begun mid e marked first
+    (λ out sound. subst (MakesEntry view below begun mid out) done (c.renew_l1_table-longer.ensures.makes out sound))
+    (c.renew_l1_table-longer.ensures.stays.image.number ∙ c.begin.ensures.stays.image.number)
+    (subst (λ (r : Result _ _). Marks r (is_failed mid) marked) done c.mark_failure.ensures.marks)
+    (subst (λ (r : Result _ _). IfErr r (λ x. x ≡ Memory → IsTrue mid.file.caches.is_changed → IsTrue marked)) done c.mark_failure.ensures.memory)))
+
+pub returns-in_err-mark_failure-clause-last : goal.returns-in_err-mark_failure-clause-last
+returns-in_err-mark_failure-clause-last g c = λ out sound.
+    let view = g.S.Storage.view in
+    let below = g.F.BackingDisk.backing in
+    let old = c.args.self.now in
+    let begun = c.begin.new.self in
+    let mid = c.renew_l1_table-longer.new.self in
+    let first = begun_call view below old begun (λ out sound. record { keeps = c.begin.ensures.keeps (pending_in view below old out) out sound; list = c.begin.ensures.list }) in
+    let e = c.in_err-mark_failure.field-0.0 in
+    let done : c.renew_l1_table-longer.result ≡ Err c.in_err-mark_failure.field-0.0 = sym c.mark_failure.ensures.answer ∙ c.in_err-mark_failure.was in
+    subst (λ (image : Qcow2 _ _). WritesSizeLast view below old image) (sym c.mark_failure.ensures.rest)
+    (last_not view below old c.args.size c.args.mode c.requires.usable c.requires.larger begun mid e (is_failed c.mark_failure.new.self) first
+    (λ out sound. subst (MakesEntry view below begun mid out) done (c.renew_l1_table-longer.ensures.makes out sound)) out sound)
+
+pub returns-in_err-mark_fault-clause-sees : goal.returns-in_err-mark_fault-clause-sees
+returns-in_err-mark_fault-clause-sees g c =
+    let view = g.S.Storage.view in
+    let below = g.F.BackingDisk.backing in
+    let old = c.args.self.now in
+    let begun = c.begin.new.self in
+    let mid = c.renew_l1_table-longer.new.self in
+    let first = begun_call view below old begun (λ out sound. record { keeps = c.begin.ensures.keeps (pending_in view below old out) out sound; list = c.begin.ensures.list }) in
+    let long = c.mark_failure.new.self in
+    let made : c.renew_l1_table-longer.result ≡ Ok c.in_ok-mark_failure.field-0 = sym c.mark_failure.ensures.answer ∙ c.in_ok-mark_failure.was in
+    let kept = subst (λ (r : Result _ _). Marks r (is_failed mid) (is_failed long)) made c.mark_failure.ensures.marks in
+    let same : c.mark_failure.new.self ≡ c.renew_l1_table-longer.new.self = c.mark_failure.ensures.rest ∙ ap (λ f. record mid { is_failed = f }) kept in
+    let longer : (out : _) → ImageInvariant view below (pending_in view below old out) old out → UnseenCall view below old c.mark_failure.new.self out = λ out sound.
+    let call = first out sound in
+    subst (λ (image : Qcow2 _ _). UnseenCall view below old image out) (sym same) (stays_then view below out old begun mid call (subst (MakesEntry view below begun mid out) made (c.renew_l1_table-longer.ensures.makes out call.sound))) in
+    let numbered = c.mark_failure.ensures.image.number ∙ c.renew_l1_table-longer.ensures.stays.image.number ∙ c.begin.ensures.stays.image.number in
+    let filled = c.fill_grown-filled.new.self in
+    let e = c.in_err-mark_fault.field-0.0 in
+    let marked = is_failed c.mark_fault.new.self in
+    let done : c.fill_grown-filled.result ≡ Err c.in_err-mark_fault.field-0.0 = sym c.mark_fault.ensures.answer ∙ c.in_err-mark_fault.was in
+    subst (λ (r : Result _ _). GrowsTo view below old c.mark_fault.new.self c.args.size c.args.mode r) (sym (err_is c.from_residual-in_err-mark_fault.result c.from_residual-in_err-mark_fault.ensures))
+    (subst (λ (image : Qcow2 _ _). GrowsTo view below old image c.args.size c.args.mode (Err e)) (sym c.mark_fault.ensures.rest)
+    (grows_in_part view below old c.args.size c.args.mode c.requires.usable c.requires.larger long longer filled e marked
+    (subst (λ (r : Result _ _). Marks r (is_failed filled) marked) done c.mark_fault.ensures.marks)
+    (subst (λ (r : Result _ _). IfErr r (λ x. IsFault x → IsTrue marked)) done c.mark_fault.ensures.fault)
+    (λ out sound. subst (FillsGrownOrRefuses view below c.args.size c.args.mode long filled out) done (c.fill_grown-filled.ensures.fills out sound))
+    (c.fill_grown-filled.ensures.stays.image.number ∙ numbered)))
+
+pub returns-in_err-mark_fault-clause-last : goal.returns-in_err-mark_fault-clause-last
+returns-in_err-mark_fault-clause-last g c = λ out sound.
+    let view = g.S.Storage.view in
+    let below = g.F.BackingDisk.backing in
+    let old = c.args.self.now in
+    let begun = c.begin.new.self in
+    let mid = c.renew_l1_table-longer.new.self in
+    let first = begun_call view below old begun (λ out sound. record { keeps = c.begin.ensures.keeps (pending_in view below old out) out sound; list = c.begin.ensures.list }) in
+    let long = c.mark_failure.new.self in
+    let made : c.renew_l1_table-longer.result ≡ Ok c.in_ok-mark_failure.field-0 = sym c.mark_failure.ensures.answer ∙ c.in_ok-mark_failure.was in
+    let kept = subst (λ (r : Result _ _). Marks r (is_failed mid) (is_failed long)) made c.mark_failure.ensures.marks in
+    let same : c.mark_failure.new.self ≡ c.renew_l1_table-longer.new.self = c.mark_failure.ensures.rest ∙ ap (λ f. record mid { is_failed = f }) kept in
+    let longer : (out : _) → ImageInvariant view below (pending_in view below old out) old out → UnseenCall view below old c.mark_failure.new.self out = λ out sound.
+    let call = first out sound in
+    subst (λ (image : Qcow2 _ _). UnseenCall view below old image out) (sym same) (stays_then view below out old begun mid call (subst (MakesEntry view below begun mid out) made (c.renew_l1_table-longer.ensures.makes out call.sound))) in
+    let numbered = c.mark_failure.ensures.image.number ∙ c.renew_l1_table-longer.ensures.stays.image.number ∙ c.begin.ensures.stays.image.number in
+    let filled = c.fill_grown-filled.new.self in
+    let e = c.in_err-mark_fault.field-0.0 in
+    let marked = is_failed c.mark_fault.new.self in
+    let done : c.fill_grown-filled.result ≡ Err c.in_err-mark_fault.field-0.0 = sym c.mark_fault.ensures.answer ∙ c.in_err-mark_fault.was in
+    subst (λ (image : Qcow2 _ _). WritesSizeLast view below old image) (sym c.mark_fault.ensures.rest)
+    (last_in_part view below old c.args.size c.args.mode c.requires.usable c.requires.larger long longer filled e marked
+    (subst (λ (r : Result _ _). Marks r (is_failed filled) marked) done c.mark_fault.ensures.marks)
+    (subst (λ (r : Result _ _). IfErr r (λ x. IsFault x → IsTrue marked)) done c.mark_fault.ensures.fault)
+    (λ out sound. subst (FillsGrownOrRefuses view below c.args.size c.args.mode long filled out) done (c.fill_grown-filled.ensures.fills out sound)) out sound)
+
+pub returns-clause-sees : goal.returns-clause-sees
+returns-clause-sees g c =
+    let view = g.S.Storage.view in
+    let below = g.F.BackingDisk.backing in
+    let old = c.args.self.now in
+    let begun = c.begin.new.self in
+    let mid = c.renew_l1_table-longer.new.self in
+    let first = begun_call view below old begun (λ out sound. record { keeps = c.begin.ensures.keeps (pending_in view below old out) out sound; list = c.begin.ensures.list }) in
+    let long = c.mark_failure.new.self in
+    let made : c.renew_l1_table-longer.result ≡ Ok c.in_ok-mark_failure.field-0 = sym c.mark_failure.ensures.answer ∙ c.in_ok-mark_failure.was in
+    let kept = subst (λ (r : Result _ _). Marks r (is_failed mid) (is_failed long)) made c.mark_failure.ensures.marks in
+    let same : c.mark_failure.new.self ≡ c.renew_l1_table-longer.new.self = c.mark_failure.ensures.rest ∙ ap (λ f. record mid { is_failed = f }) kept in
+    let longer : (out : _) → ImageInvariant view below (pending_in view below old out) old out → UnseenCall view below old c.mark_failure.new.self out = λ out sound.
+    let call = first out sound in
+    subst (λ (image : Qcow2 _ _). UnseenCall view below old image out) (sym same) (stays_then view below out old begun mid call (subst (MakesEntry view below begun mid out) made (c.renew_l1_table-longer.ensures.makes out call.sound))) in
+    let numbered = c.mark_failure.ensures.image.number ∙ c.renew_l1_table-longer.ensures.stays.image.number ∙ c.begin.ensures.stays.image.number in
+    let filled = c.fill_grown-filled.new.self in
+    let put : c.fill_grown-filled.result ≡ Ok c.in_ok-mark_fault.field-0 = sym c.mark_fault.ensures.answer ∙ c.in_ok-mark_fault.was in
+    let stayed = subst (λ (r : Result _ _). Marks r (is_failed filled) (is_failed c.mark_fault.new.self)) put c.mark_fault.ensures.marks in
+    let whole : c.mark_fault.new.self ≡ c.fill_grown-filled.new.self = c.mark_fault.ensures.rest ∙ ap (λ f. record filled { is_failed = f }) stayed in
+    let fills : (out : _) → ImageInvariant view below (pending_in view below long out) long out → FillsGrown view below c.args.size c.args.mode long c.mark_fault.new.self out = λ out sound.
+    subst (λ (image : Qcow2 _ _). FillsGrown view below c.args.size c.args.mode long image out) (sym whole)
+    (subst (FillsGrownOrRefuses view below c.args.size c.args.mode long filled out) put (c.fill_grown-filled.ensures.fills out sound)) in
+    let new = c.write_size-written.new.self in
+    subst (λ (image : Qcow2 _ _). GrowsTo view below old image c.args.size c.args.mode c.mark_fault-2.result) (sym c.mark_fault-2.ensures.rest)
+    (subst (λ (r : Result _ _). GrowsTo view below old (record new { is_failed = is_failed c.mark_fault-2.new.self }) c.args.size c.args.mode r) (sym c.mark_fault-2.ensures.answer)
+    (grows_sized view below old c.args.size c.args.mode c.requires.usable c.requires.larger long longer c.mark_fault.new.self fills new
+    (ap (λ (i : Qcow2 _ _). i.number) c.write_size-written.ensures.rest ∙ c.mark_fault.ensures.image.number ∙ c.fill_grown-filled.ensures.stays.image.number ∙ numbered)
+    c.write_size-written.result (is_failed c.mark_fault-2.new.self) c.mark_fault-2.ensures.marks c.write_size-written.ensures.cause c.mark_fault-2.ensures.fault c.write_size-written.ensures.writes))
+
+pub returns-clause-last : goal.returns-clause-last
+returns-clause-last g c = λ out sound.
+    let view = g.S.Storage.view in
+    let below = g.F.BackingDisk.backing in
+    let old = c.args.self.now in
+    let begun = c.begin.new.self in
+    let mid = c.renew_l1_table-longer.new.self in
+    let first = begun_call view below old begun (λ out sound. record { keeps = c.begin.ensures.keeps (pending_in view below old out) out sound; list = c.begin.ensures.list }) in
+    let long = c.mark_failure.new.self in
+    let made : c.renew_l1_table-longer.result ≡ Ok c.in_ok-mark_failure.field-0 = sym c.mark_failure.ensures.answer ∙ c.in_ok-mark_failure.was in
+    let kept = subst (λ (r : Result _ _). Marks r (is_failed mid) (is_failed long)) made c.mark_failure.ensures.marks in
+    let same : c.mark_failure.new.self ≡ c.renew_l1_table-longer.new.self = c.mark_failure.ensures.rest ∙ ap (λ f. record mid { is_failed = f }) kept in
+    let longer : (out : _) → ImageInvariant view below (pending_in view below old out) old out → UnseenCall view below old c.mark_failure.new.self out = λ out sound.
+    let call = first out sound in
+    subst (λ (image : Qcow2 _ _). UnseenCall view below old image out) (sym same) (stays_then view below out old begun mid call (subst (MakesEntry view below begun mid out) made (c.renew_l1_table-longer.ensures.makes out call.sound))) in
+    let numbered = c.mark_failure.ensures.image.number ∙ c.renew_l1_table-longer.ensures.stays.image.number ∙ c.begin.ensures.stays.image.number in
+    let filled = c.fill_grown-filled.new.self in
+    let put : c.fill_grown-filled.result ≡ Ok c.in_ok-mark_fault.field-0 = sym c.mark_fault.ensures.answer ∙ c.in_ok-mark_fault.was in
+    let stayed = subst (λ (r : Result _ _). Marks r (is_failed filled) (is_failed c.mark_fault.new.self)) put c.mark_fault.ensures.marks in
+    let whole : c.mark_fault.new.self ≡ c.fill_grown-filled.new.self = c.mark_fault.ensures.rest ∙ ap (λ f. record filled { is_failed = f }) stayed in
+    let fills : (out : _) → ImageInvariant view below (pending_in view below long out) long out → FillsGrown view below c.args.size c.args.mode long c.mark_fault.new.self out = λ out sound.
+    subst (λ (image : Qcow2 _ _). FillsGrown view below c.args.size c.args.mode long image out) (sym whole)
+    (subst (FillsGrownOrRefuses view below c.args.size c.args.mode long filled out) put (c.fill_grown-filled.ensures.fills out sound)) in
+    let new = c.write_size-written.new.self in
+    subst (λ (image : Qcow2 _ _). WritesSizeLast view below old image) (sym c.mark_fault-2.ensures.rest)
+    (last_sized view below old c.args.size c.args.mode c.requires.usable c.requires.larger long longer c.mark_fault.new.self fills new
+    (ap (λ (i : Qcow2 _ _). i.number) c.write_size-written.ensures.rest ∙ c.mark_fault.ensures.image.number ∙ c.fill_grown-filled.ensures.stays.image.number ∙ numbered)
+    (is_failed c.mark_fault-2.new.self) c.write_size-written.ensures.time out sound)
+
+pub returns-in_err-mark_failure-clause-version : goal.returns-in_err-mark_failure-clause-version
+returns-in_err-mark_failure-clause-version g c = λ zero lacks out sound.
+    let view = g.S.Storage.view in
+    let below = g.F.BackingDisk.backing in
+    let old = c.args.self.now in
+    let begun = c.begin.new.self in
+    let mid = c.renew_l1_table-longer.new.self in
+    let first = begun_call view below old begun (λ out sound. record { keeps = c.begin.ensures.keeps (pending_in view below old out) out sound; list = c.begin.ensures.list }) in
+    let e = c.in_err-mark_failure.field-0.0 in
+    let marked = is_failed c.mark_failure.new.self in
+    let done : c.renew_l1_table-longer.result ≡ Err c.in_err-mark_failure.field-0.0 = sym c.mark_failure.ensures.answer ∙ c.in_err-mark_failure.was in
+    subst (λ (r : Result _ _). RefusesUnchanged view below old c.mark_failure.new.self out r) (sym (err_is c.from_residual.result c.from_residual.ensures))
+    (subst (λ (image : Qcow2 _ _). RefusesUnchanged view below old image out (Err e)) (sym c.mark_failure.ensures.rest)
+    (unchanged_not view below old c.args.size c.args.mode c.requires.usable c.requires.larger begun mid e marked first
+    (λ list still. subst (MakesEntry view below begun mid list) done (c.renew_l1_table-longer.ensures.makes list still))
+    (c.renew_l1_table-longer.ensures.stays.image.number ∙ c.begin.ensures.stays.image.number)
+    (subst (λ (r : Result _ _). Marks r (is_failed mid) marked) done c.mark_failure.ensures.marks)
+    (subst (λ (r : Result _ _). IfErr r (λ x. x ≡ Memory → IsTrue mid.file.caches.is_changed → IsTrue marked)) done c.mark_failure.ensures.memory) out))
+
+pub returns-in_err-mark_failure-clause-tables : goal.returns-in_err-mark_failure-clause-tables
+returns-in_err-mark_failure-clause-tables g c = λ out sound.
+    let e = c.in_err-mark_failure.field-0.0 in
+    let done : c.renew_l1_table-longer.result ≡ Err c.in_err-mark_failure.field-0.0 = sym c.mark_failure.ensures.answer ∙ c.in_err-mark_failure.was in
+    subst (λ (r : Result _ _). GrowsTables c.args.self.now c.mark_failure.new.self c.args.size out r) (sym (err_is c.from_residual.result c.from_residual.ensures))
+    (λ is. met_taken e (subst (λ (r : Result _ _). IfErr r IsMet) done c.renew_l1_table-longer.ensures.cause) is)
+
+pub returns-in_err-mark_fault-clause-version : goal.returns-in_err-mark_fault-clause-version
+returns-in_err-mark_fault-clause-version g c = λ zero lacks out sound.
+    let view = g.S.Storage.view in
+    let below = g.F.BackingDisk.backing in
+    let old = c.args.self.now in
+    let begun = c.begin.new.self in
+    let mid = c.renew_l1_table-longer.new.self in
+    let first = begun_call view below old begun (λ out sound. record { keeps = c.begin.ensures.keeps (pending_in view below old out) out sound; list = c.begin.ensures.list }) in
+    let long = c.mark_failure.new.self in
+    let made : c.renew_l1_table-longer.result ≡ Ok c.in_ok-mark_failure.field-0 = sym c.mark_failure.ensures.answer ∙ c.in_ok-mark_failure.was in
+    let kept = subst (λ (r : Result _ _). Marks r (is_failed mid) (is_failed long)) made c.mark_failure.ensures.marks in
+    let same : c.mark_failure.new.self ≡ c.renew_l1_table-longer.new.self = c.mark_failure.ensures.rest ∙ ap (λ f. record mid { is_failed = f }) kept in
+    let begins = first out sound in
+    let lengthens = subst (MakesEntry view below begun mid out) made (c.renew_l1_table-longer.ensures.makes out begins.sound) in
+    let call : UnseenCall view below old c.mark_failure.new.self out = subst (λ (image : Qcow2 _ _). UnseenCall view below old image out) (sym same) (stays_then view below out old begun mid begins lengthens) in
+    let filled = c.fill_grown-filled.new.self in
+    let e = c.in_err-mark_fault.field-0.0 in
+    let marked = is_failed c.mark_fault.new.self in
+    let done : c.fill_grown-filled.result ≡ Err c.in_err-mark_fault.field-0.0 = sym c.mark_fault.ensures.answer ∙ c.in_err-mark_fault.was in
+    let refused = c.fill_grown-filled.ensures.version zero (subst (λ n. n < 3) (sym (same_version old.file.header.fields long.file.header.fields call.header)) lacks) in
+    let fault : Err e ≡ Err Version = sym done ∙ refused.0 in
+    subst (λ (r : Result _ _). RefusesUnchanged view below old c.mark_fault.new.self out r) (sym (err_is c.from_residual-in_err-mark_fault.result c.from_residual-in_err-mark_fault.ensures))
+    (subst (λ (image : Qcow2 _ _). RefusesUnchanged view below old image out (Err e)) (sym c.mark_fault.ensures.rest)
+    (refuses_version view below out old long filled e marked c.requires.usable call refused.1 (let is : e ≡ Version = cc in is)
+    (c.fill_grown-filled.ensures.stays.image.number ∙ c.mark_failure.ensures.image.number ∙ c.renew_l1_table-longer.ensures.stays.image.number ∙ c.begin.ensures.stays.image.number)
+    (subst (λ (r : Result _ _). Marks r (is_failed filled) marked) done c.mark_fault.ensures.marks)))
+
+pub returns-in_err-mark_fault-clause-tables : goal.returns-in_err-mark_fault-clause-tables
+returns-in_err-mark_fault-clause-tables g c = λ out sound.
+    let view = g.S.Storage.view in
+    let below = g.F.BackingDisk.backing in
+    let old = c.args.self.now in
+    let begun = c.begin.new.self in
+    let mid = c.renew_l1_table-longer.new.self in
+    let first = begun_call view below old begun (λ out sound. record { keeps = c.begin.ensures.keeps (pending_in view below old out) out sound; list = c.begin.ensures.list }) in
+    let long = c.mark_failure.new.self in
+    let made : c.renew_l1_table-longer.result ≡ Ok c.in_ok-mark_failure.field-0 = sym c.mark_failure.ensures.answer ∙ c.in_ok-mark_failure.was in
+    let kept = subst (λ (r : Result _ _). Marks r (is_failed mid) (is_failed long)) made c.mark_failure.ensures.marks in
+    let same : c.mark_failure.new.self ≡ c.renew_l1_table-longer.new.self = c.mark_failure.ensures.rest ∙ ap (λ f. record mid { is_failed = f }) kept in
+    let begins = first out sound in
+    let lengthens = subst (MakesEntry view below begun mid out) made (c.renew_l1_table-longer.ensures.makes out begins.sound) in
+    let call : UnseenCall view below old c.mark_failure.new.self out = subst (λ (image : Qcow2 _ _). UnseenCall view below old image out) (sym same) (stays_then view below out old begun mid begins lengthens) in
+    let filled = c.fill_grown-filled.new.self in
+    let e = c.in_err-mark_fault.field-0.0 in
+    let done : c.fill_grown-filled.result ≡ Err c.in_err-mark_fault.field-0.0 = sym c.mark_fault.ensures.answer ∙ c.in_err-mark_fault.was in
+    subst (λ (r : Result _ _). GrowsTables old c.mark_fault.new.self c.args.size out r) (sym (err_is c.from_residual-in_err-mark_fault.result c.from_residual-in_err-mark_fault.ensures))
+    (taken_behind view below out old long filled c.mark_fault.new.self c.args.size c.args.mode e call
+    (subst (FillsGrownOrRefuses view below c.args.size c.args.mode long filled out) done (c.fill_grown-filled.ensures.fills out call.sound)))
+
+pub returns-clause-version : goal.returns-clause-version
+returns-clause-version g c = λ zero lacks out sound.
+    let view = g.S.Storage.view in
+    let below = g.F.BackingDisk.backing in
+    let old = c.args.self.now in
+    let begun = c.begin.new.self in
+    let mid = c.renew_l1_table-longer.new.self in
+    let first = begun_call view below old begun (λ out sound. record { keeps = c.begin.ensures.keeps (pending_in view below old out) out sound; list = c.begin.ensures.list }) in
+    let long = c.mark_failure.new.self in
+    let made : c.renew_l1_table-longer.result ≡ Ok c.in_ok-mark_failure.field-0 = sym c.mark_failure.ensures.answer ∙ c.in_ok-mark_failure.was in
+    let kept = subst (λ (r : Result _ _). Marks r (is_failed mid) (is_failed long)) made c.mark_failure.ensures.marks in
+    let same : c.mark_failure.new.self ≡ c.renew_l1_table-longer.new.self = c.mark_failure.ensures.rest ∙ ap (λ f. record mid { is_failed = f }) kept in
+    let begins = first out sound in
+    let lengthens = subst (MakesEntry view below begun mid out) made (c.renew_l1_table-longer.ensures.makes out begins.sound) in
+    let call : UnseenCall view below old c.mark_failure.new.self out = subst (λ (image : Qcow2 _ _). UnseenCall view below old image out) (sym same) (stays_then view below out old begun mid begins lengthens) in
+    let put : c.fill_grown-filled.result ≡ Ok c.in_ok-mark_fault.field-0 = sym c.mark_fault.ensures.answer ∙ c.in_ok-mark_fault.was in
+    let refused = c.fill_grown-filled.ensures.version zero (subst (λ n. n < 3) (sym (same_version old.file.header.fields long.file.header.fields call.header)) lacks) in
+    absurd (let no : Ok c.in_ok-mark_fault.field-0 ≡ Err Version = sym put ∙ refused.0 in cc)
+
+pub returns-clause-tables : goal.returns-clause-tables
+returns-clause-tables g c = λ out sound.
+    let view = g.S.Storage.view in
+    let below = g.F.BackingDisk.backing in
+    let old = c.args.self.now in
+    let begun = c.begin.new.self in
+    let mid = c.renew_l1_table-longer.new.self in
+    let first = begun_call view below old begun (λ out sound. record { keeps = c.begin.ensures.keeps (pending_in view below old out) out sound; list = c.begin.ensures.list }) in
+    let long = c.mark_failure.new.self in
+    let made : c.renew_l1_table-longer.result ≡ Ok c.in_ok-mark_failure.field-0 = sym c.mark_failure.ensures.answer ∙ c.in_ok-mark_failure.was in
+    let kept = subst (λ (r : Result _ _). Marks r (is_failed mid) (is_failed long)) made c.mark_failure.ensures.marks in
+    let same : c.mark_failure.new.self ≡ c.renew_l1_table-longer.new.self = c.mark_failure.ensures.rest ∙ ap (λ f. record mid { is_failed = f }) kept in
+    let begins = first out sound in
+    let lengthens = subst (MakesEntry view below begun mid out) made (c.renew_l1_table-longer.ensures.makes out begins.sound) in
+    let call : UnseenCall view below old c.mark_failure.new.self out = subst (λ (image : Qcow2 _ _). UnseenCall view below old image out) (sym same) (stays_then view below out old begun mid begins lengthens) in
+    let filled = c.fill_grown-filled.new.self in
+    let put : c.fill_grown-filled.result ≡ Ok c.in_ok-mark_fault.field-0 = sym c.mark_fault.ensures.answer ∙ c.in_ok-mark_fault.was in
+    let stayed = subst (λ (r : Result _ _). Marks r (is_failed filled) (is_failed c.mark_fault.new.self)) put c.mark_fault.ensures.marks in
+    let whole : c.mark_fault.new.self ≡ c.fill_grown-filled.new.self = c.mark_fault.ensures.rest ∙ ap (λ f. record filled { is_failed = f }) stayed in
+    let fills = subst (FillsGrownOrRefuses view below c.args.size c.args.mode long filled out) put (c.fill_grown-filled.ensures.fills out call.sound) in
+    let reach = subst (λ (r : Result _ _). OnOk r (l1_index_of begun.file.header.fields (c.args.size - 1) < entry_count mid.l1_table)) made c.renew_l1_table-longer.ensures.reaches in
+    let lengthened = subst (λ (image : Qcow2 _ _). ReachesSize (with_size image.file.header.fields c.args.size)) (sym same) (reaches_lengthened view below out begun mid c.args.size lengthens reach) in
+    let reached = reaches_filled view below out long filled c.args.size call.sound (let l = c.requires.larger in let s = ap (λ (h : HeaderFields). h.size) call.header in omega (arith, l, s)) c.args.mode c.fill_grown-filled.ensures.unfilled lengthened fills in
+    let new = c.write_size-written.new.self in
+    subst (λ (image : Qcow2 _ _). GrowsTables old image c.args.size out c.mark_fault-2.result) (sym c.mark_fault-2.ensures.rest)
+    (subst (λ (r : Result _ _). GrowsTables old (record new { is_failed = is_failed c.mark_fault-2.new.self }) c.args.size out r) (sym c.mark_fault-2.ensures.answer)
+    (tables_sized view below out old c.mark_fault.new.self new (is_failed c.mark_fault-2.new.self) c.args.size c.write_size-written.result c.write_size-written.ensures.cause c.write_size-written.ensures.header
+    (subst (λ (image : Qcow2 _ _). ReachesSize (with_size image.file.header.fields c.args.size)) (sym whole) reached)))

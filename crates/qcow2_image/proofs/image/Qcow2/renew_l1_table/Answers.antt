@@ -1,0 +1,38 @@
+use Rattle.std.proofs.Common.{◌≡◌, ◌<◌, ◌/◌, ◌^◌, sym, ap, ◌∙◌, subst}
+use Rattle.qcow2_metadata.specs.EntryTable.{EntryTableView, entry_count}
+use Rattle.qcow2_laws.specs.CrashInvariant.{Pending}
+use Rattle.qcow2_alloc.proofs.AllocationSteps.{handed_on}
+use Rattle.qcow2_alloc.proofs.KeptTables.Turning.{always_ok}
+use Rattle.qcow2_image.specs.Found.{l1_index_of}
+use Rattle.qcow2_image.specs.ImageInvariant.{ImageInvariant, pending_in}
+use Rattle.qcow2_image.specs.LongerTables.{MakesEntry}
+use Rattle.qcow2_image.proofs.Flush.Freeing.{all_listed, beside}
+use Rattle.qcow2_image.proofs.Grow.Lengthened.{freed_then, refused_moved, stays_moved}
+use Rattle.qcow2_image.proofs.image.Qcow2.renew_l1_table.Goals as goal
+
+pub returns-in_err-grow_l1_table-clause-makes : goal.returns-in_err-grow_l1_table-clause-makes
+returns-in_err-grow_l1_table-clause-makes g c = λ out sound.
+    let view = g.S.Storage.view in
+    let below = g.F.BackingDisk.backing in
+    let old = c.args.self.now in
+    let e = c.in_err-grow_l1_table.field-0.0 in
+    handed_on (MakesEntry view below old c.grow_l1_table.new.self out) c.from_residual.result e c.from_residual.ensures
+    (refused_moved view below out old c.grow_l1_table.new.self sound e (c.in_err-grow_l1_table.ensures.lengthens (pending_in view below old out) out sound))
+
+pub returns-clause-makes : goal.returns-clause-makes
+returns-clause-makes g c = λ out sound.
+    let view = g.S.Storage.view in
+    let below = g.F.BackingDisk.backing in
+    let old = c.args.self.now in
+    let mid = c.grow_l1_table.new.self in
+    let first = stays_moved view below out old mid sound (c.in_ok-grow_l1_table.ensures.lengthens (pending_in view below old out) out sound) in
+    let listed = subst (λ (x : Pending). ImageInvariant view below x mid out) (all_listed view below mid out) first.sound in
+    freed_then view below out old mid c.free_listed.new.self first c.free_listed.result (c.free_listed.ensures.frees (beside view below mid out) out listed)
+
+pub returns-clause-reaches : goal.returns-clause-reaches
+returns-clause-reaches g c =
+    let old = c.args.self.now in
+    let idx : c.l1_index-index.result ≡ l1_index_of old.file.header.fields c.args.offset =
+    c.l1_index-index.ensures ∙ ap (λ n. n / 2 ^ c.cluster_bits.result / (2 ^ c.cluster_bits.result / 8)) c.new.ensures ∙ ap (λ b. c.args.offset / 2 ^ b / (2 ^ b / 8)) c.cluster_bits.ensures.value in
+    always_ok c.free_listed.result
+    (subst (λ i. i < entry_count c.free_listed.new.self.l1_table) idx (subst (λ (t : EntryTableView). c.l1_index-index.result < entry_count t) (sym c.free_listed.ensures.table) c.in_ok-grow_l1_table.ensures.reaches))

@@ -1,0 +1,32 @@
+use Rattle.std.proofs.Common.{◌≡◌, ◌≤◌, ◌∙◌, true, false, sym, ap, subst}
+use Rattle.std.specs.Prelude.{Result}
+use Rattle.qcow2_image.specs.Resizing.{GrowsTo, refuses_to_resize, takes_over}
+use Rattle.qcow2_image.proofs.Clear.ClearCalls.{err_is, not_refused, refused_for}
+use Rattle.qcow2_image.proofs.Sizing.GrowCalls.{grows_early, grows_nothing, grows_over}
+use Rattle.qcow2_image.proofs.Sizing.ShrinkCalls.{resize_works}
+use Rattle.qcow2_image.proofs.image.Qcow2.resize_grow.Goals as goal
+
+pub returns-in_err-check_resize-clause-sees : goal.returns-in_err-check_resize-clause-sees
+returns-in_err-check_resize-clause-sees g c =
+    let view = g.S.Storage.view in
+    let below = g.F.BackingDisk.backing in
+    let old = c.args.self.now in
+    let e = c.in_err-check_resize.field-0.0 in
+    subst (λ (r : Result _ _). GrowsTo view below old old c.args.size c.args.mode r) (sym (err_is c.from_residual.result c.from_residual.ensures))
+    (grows_early view below old c.args.size c.args.mode e (refused_for c.check_resize.result tt (refuses_to_resize old) e c.check_resize.ensures c.in_err-check_resize.was))
+
+pub returns-then-size-clause-sees : goal.returns-then-size-clause-sees
+returns-then-size-clause-sees g c =
+    let old = c.args.self.now in
+    let usable = resize_works old (not_refused c.check_resize.result tt (refuses_to_resize old) c.in_ok-check_resize.field-0 c.check_resize.ensures c.in_ok-check_resize.was).0 in
+    grows_nothing g.S.Storage.view g.F.BackingDisk.backing old c.args.size c.args.mode usable (subst (λ n. c.args.size ≤ n) c.size.ensures c.if-size.true)
+
+pub returns-then-takes_over-clause-sees : goal.returns-then-takes_over-clause-sees
+returns-then-takes_over-clause-sees g c = grows_over g.S.Storage.view g.F.BackingDisk.backing c.args.self.now c.args.size c.args.mode
+
+pub returns-then-takes_over-clause-version : goal.returns-then-takes_over-clause-version
+returns-then-takes_over-clause-version g c = λ none larger zero lacks out sound.
+    absurd (let no : true ≡ false = sym c.if-takes_over.true ∙ c.takes_over.ensures ∙ ap (takes_over c.args.self.now) zero in cc)
+
+pub returns-then-takes_over-clause-tables : goal.returns-then-takes_over-clause-tables
+returns-then-takes_over-clause-tables g c = λ none larger out sound is. absurd cc

@@ -1,0 +1,37 @@
+use Rattle.std.proofs.Common.{◌≤◌, ◌∙◌, sym, subst}
+use Rattle.std.specs.Prelude.{Ok, Result}
+use Rattle.qcow2_alloc.specs.ImageFile.{l2_pins}
+use Rattle.qcow2_image.specs.Resizing.{Shrinks, refuses_to_resize}
+use Rattle.qcow2_image.proofs.Backings.{found_pinned, none_prepared}
+use Rattle.qcow2_image.proofs.Clear.ClearCalls.{err_is, not_refused, refused_for}
+use Rattle.qcow2_image.proofs.Sizing.ShrinkCalls.{met_prepared, resize_works, shrinks_early, shrinks_nothing, shrinks_prepared}
+use Rattle.qcow2_image.proofs.image.Qcow2.resize_shrink.Goals as goal
+
+pub returns-in_err-check_resize-clause-sees : goal.returns-in_err-check_resize-clause-sees
+returns-in_err-check_resize-clause-sees g c =
+    let view = g.S.Storage.view in
+    let below = g.F.BackingDisk.backing in
+    let old = c.args.self.now in
+    let e = c.in_err-check_resize.field-0.0 in
+    subst (λ (r : Result _ _). Shrinks view below old old c.args.size r) (sym (err_is c.from_residual.result c.from_residual.ensures))
+    (shrinks_early view below old c.args.size e (refused_for c.check_resize.result tt (refuses_to_resize old) e c.check_resize.ensures c.in_err-check_resize.was))
+
+pub returns-then-size-clause-sees : goal.returns-then-size-clause-sees
+returns-then-size-clause-sees g c =
+    let view = g.S.Storage.view in
+    let below = g.F.BackingDisk.backing in
+    let old = c.args.self.now in
+    let usable = resize_works old (not_refused c.check_resize.result tt (refuses_to_resize old) c.in_ok-check_resize.field-0 c.check_resize.ensures c.in_ok-check_resize.was).0 in
+    subst (λ n. Shrinks view below old old c.args.size (Ok n)) (sym c.size-then-size.ensures) (shrinks_nothing view below old c.args.size usable (subst (λ n. n ≤ c.args.size) c.size.ensures c.if-size.true))
+
+pub returns-then-is_some-clause-late : goal.returns-then-is_some-clause-late
+returns-then-is_some-clause-late g c = λ none.
+    met_prepared g.S.Storage.view g.F.BackingDisk.backing c.args.self.now c.args.size
+    (found_pinned (l2_pins c.args.self.now.file.caches) c.first_pinned_l2.result c.first_pinned_l2.ensures.some (sym c.is_some.ensures ∙ c.if-is_some.true))
+
+pub returns-then-is_some-clause-sees : goal.returns-then-is_some-clause-sees
+returns-then-is_some-clause-sees g c = shrinks_prepared g.S.Storage.view g.F.BackingDisk.backing c.args.self.now c.args.size
+
+pub returns-clause-prepared : goal.returns-clause-prepared
+returns-clause-prepared g c = λ none smaller out sound has.
+    absurd (none_prepared g.S.Storage.view g.F.BackingDisk.backing c.args.self.now out sound (c.first_pinned_l2.ensures.none (sym c.is_some.ensures ∙ c.if-is_some.false)) has)

@@ -1,0 +1,74 @@
+use Rattle.std.proofs.Common.{◌∙◌, sym, ap, subst}
+use Rattle.std.specs.Prelude.{Err, IfSome, nat_lt}
+use Rattle.image_access.proofs.Passing.{passes_none}
+use Rattle.qcow2_metadata.specs.Header.{HeaderView, cluster_size, rounded_up}
+use Rattle.qcow2_alloc.specs.ImageError.{IsFault}
+use Rattle.qcow2_alloc.specs.ImageFile.{view_in}
+use Rattle.qcow2_image.specs.declared.image.Qcow2.{Qcow2}
+use Rattle.qcow2_image.specs.Image.{is_failed}
+use Rattle.qcow2_image.specs.Resizing.{Shrinks, UncoversTail, WritesSizeLast}
+use Rattle.qcow2_image.proofs.Sizing.Shrinking.{shrinks_done, shrinks_stopped, shrinks_unwritten, size_is_last}
+use Rattle.qcow2_image.proofs.image.Qcow2.shrink.Goals as goal
+
+pub returns-in-Some-clause-sees : goal.returns-in-Some-clause-sees
+returns-in-Some-clause-sees g c =
+    let view = g.S.Storage.view in
+    let below = g.F.BackingDisk.backing in
+    let old = c.args.self.now in
+    let mid = c.uncover_tail-end.new.self in
+    let size = c.args.size in
+    let at = c.uncover_tail-end.result.0 in
+    let e = c.in-Some.refusal in
+    subst (λ (image : Qcow2 _ _). Shrinks view below old image size (Err e)) (sym c.mark_refused.ensures.rest)
+    (shrinks_stopped view below old mid size at c.requires.usable c.requires.smaller e (is_failed c.mark_refused.new.self) c.uncover_tail-end.ensures.image.number
+    (subst (λ r. IfSome r IsFault) c.in-Some.is c.uncover_tail-end.ensures.cause) c.mark_refused.ensures.marks (λ any. c.mark_refused.ensures.changed (c.lies_between-any.ensures ∙ any))
+    (λ out sound. subst (λ r. UncoversTail view below old mid size at r out) c.in-Some.is (c.uncover_tail-end.ensures.uncovers out sound)))
+
+pub returns-in-Some-clause-last : goal.returns-in-Some-clause-last
+returns-in-Some-clause-last g c = λ out sound.
+    let view = g.S.Storage.view in
+    let old = c.args.self.now in
+    let mid = c.uncover_tail-end.new.self in
+    subst (λ (image : Qcow2 _ _). WritesSizeLast view g.F.BackingDisk.backing old image) (sym c.mark_refused.ensures.rest)
+    (size_is_last view g.F.BackingDisk.backing old mid mid c.args.size c.uncover_tail-end.result.0 c.uncover_tail-end.result.1 c.uncover_tail-end.ensures.uncovers (passes_none (view_in view mid.file) _) out sound)
+
+pub returns-in-Err-clause-sees : goal.returns-in-Err-clause-sees
+returns-in-Err-clause-sees g c =
+    let view = g.S.Storage.view in
+    let below = g.F.BackingDisk.backing in
+    let old = c.args.self.now in
+    let mid = c.uncover_tail-end.new.self in
+    let new = c.write_size.new.self in
+    let size = c.args.size in
+    let at = c.uncover_tail-end.result.0 in
+    let e = c.in-Err.refusal in
+    subst (λ (image : Qcow2 _ _). Shrinks view below old image size (Err e)) (sym c.mark_refused-in-Err.ensures.rest)
+    (shrinks_unwritten view below old mid size at c.requires.usable c.requires.smaller new e (is_failed c.mark_refused-in-Err.new.self) (ap (λ (i : Qcow2 _ _). i.number) c.write_size.ensures.rest ∙ c.uncover_tail-end.ensures.image.number)
+    c.in-Err.ensures.cause c.mark_refused-in-Err.ensures.marks
+    (λ any. c.mark_refused-in-Err.ensures.changed (c.lies_between-any.ensures ∙ ap (λ (v : HeaderView). nat_lt (rounded_up (cluster_size v.fields) size) at) (sym c.in-Err.ensures.restored) ∙ any))
+    (λ out sound. subst (λ r. UncoversTail view below old mid size at r out) c.in_default.is (c.uncover_tail-end.ensures.uncovers out sound)) c.in-Err.ensures.writes)
+
+pub returns-in-Err-clause-last : goal.returns-in-Err-clause-last
+returns-in-Err-clause-last g c = λ out sound.
+    let view = g.S.Storage.view in
+    let old = c.args.self.now in
+    let mid = c.uncover_tail-end.new.self in
+    let new = c.write_size.new.self in
+    subst (λ (image : Qcow2 _ _). WritesSizeLast view g.F.BackingDisk.backing old image) (sym c.mark_refused-in-Err.ensures.rest)
+    (size_is_last view g.F.BackingDisk.backing old mid new c.args.size c.uncover_tail-end.result.0 c.uncover_tail-end.result.1 c.uncover_tail-end.ensures.uncovers c.write_size.ensures.time out sound)
+
+pub returns-clause-sees : goal.returns-clause-sees
+returns-clause-sees g c =
+    let view = g.S.Storage.view in
+    let below = g.F.BackingDisk.backing in
+    let old = c.args.self.now in
+    let mid = c.uncover_tail-end.new.self in
+    let new = c.write_size.new.self in
+    let size = c.args.size in
+    let at = c.uncover_tail-end.result.0 in
+    shrinks_done view below old mid size at c.requires.usable c.requires.smaller new (ap (λ (i : Qcow2 _ _). i.number) c.write_size.ensures.rest ∙ c.uncover_tail-end.ensures.image.number)
+    (λ out sound. subst (λ r. UncoversTail view below old mid size at r out) c.in_default.is (c.uncover_tail-end.ensures.uncovers out sound)) c.in_default-write_size.ensures.writes
+
+pub returns-clause-last : goal.returns-clause-last
+returns-clause-last g c = λ out sound.
+    size_is_last g.S.Storage.view g.F.BackingDisk.backing c.args.self.now c.uncover_tail-end.new.self c.write_size.new.self c.args.size c.uncover_tail-end.result.0 c.uncover_tail-end.result.1 c.uncover_tail-end.ensures.uncovers c.write_size.ensures.time out sound

@@ -1,0 +1,108 @@
+use Rattle.std.proofs.Common.{◌≡◌, ◌∙◌, ◌+◌, ◌-◌, ◌^◌, ◌<◌, min, ap, subst, arith, rules}
+use Rattle.qcow2_disk.specs.Found.{rest_of_table}
+use Rattle.qcow2_laws.specs.CrashInvariant.{Pending}
+use Rattle.qcow2_laws.proofs.Places.{Sizes-from}
+use Rattle.qcow2_alloc.proofs.AllocationSteps.{handed_on}
+use Rattle.qcow2_alloc.specs.ImageFile.{contents_in}
+use Rattle.qcow2_image.specs.ImageInvariant.{ImageInvariant, abstract_of}
+use Rattle.qcow2_image.specs.Preallocation.{FillsFirst}
+use Rattle.qcow2_image.proofs.Call.Called.{works_none}
+use Rattle.qcow2_image.proofs.Flush.Freeing.{all_listed, beside, freed_refused, tidy_stays}
+use Rattle.qcow2_image.proofs.Preallocate.Filled.{cleared_fills, fill_unseen, fills_none, fills_refused, fills_stays, next_whole, next_within, taken_here}
+use Rattle.qcow2_image.proofs.image.Qcow2.zero_first.Goals as goal
+
+pub returns-then-to-from-clause-fills : goal.returns-then-to-from-clause-fills
+returns-then-to-from-clause-fills g c = λ out sound le whole version.
+    let view = g.S.Storage.view in
+    let below = g.F.BackingDisk.backing in
+    let old = c.args.self.now in
+    fills_none view below out old 0 c.args.from sound (works_none (abstract_of view below old out) sound)
+
+pub returns-in_err-clear_between-clause-fills : goal.returns-in_err-clear_between-clause-fills
+returns-in_err-clear_between-clause-fills g c = λ out sound le whole version.
+    let view = g.S.Storage.view in
+    let below = g.F.BackingDisk.backing in
+    let old = c.args.self.now in
+    let new = c.clear_between.new.self in
+    let h = old.file.header.fields in
+    let from = c.args.from in
+    let to = c.args.to in
+    let e = c.in_err-clear_between.field-0.0 in
+    let sizes = Sizes-from h (contents_in view old.file) sound.file.caches.kept.kept.guarded.top.header_reads in
+    let rest = c.rest_of_table.ensures.value in
+    let is : c.min-next.result ≡ min c.args.to (min (c.args.from + rest_of_table c.args.self.now.file.header.fields c.args.from) (2 ^ 64 - 1)) = c.min-next.ensures ∙ ap (min to) (c.saturating_add.ensures ∙ ap (λ n. min (from + n) (2 ^ 64 - 1)) rest) in
+    let high : c.args.to < 2 ^ 64 = search rules in
+    handed_on (λ r. FillsFirst view below 0 from to old new out r) c.from_residual.result e c.from_residual.ensures
+    (record {
+      left = fill_unseen view below out old new from to e (c.in_err-clear_between.ensures.clears out sound (record {
+        begins = whole.0;
+        ends = next_whole h sizes.some sizes.entries from to c.min-next.result whole.1 is high;
+        within = next_within h sizes.some sizes.entries from to c.min-next.result whole.1 is high;
+        version = λ _. version;
+      }));
+      taken = λ same. taken_here h from to out c.if-to-from.false (c.in_err-clear_between.ensures.taken out sound same);
+    })
+
+pub returns-in_err-free_listed-clause-fills : goal.returns-in_err-free_listed-clause-fills
+returns-in_err-free_listed-clause-fills g c = λ out sound le whole version.
+    let view = g.S.Storage.view in
+    let below = g.F.BackingDisk.backing in
+    let old = c.args.self.now in
+    let mid = c.clear_between.new.self in
+    let new = c.free_listed.new.self in
+    let h = old.file.header.fields in
+    let from = c.args.from in
+    let to = c.args.to in
+    let next = c.min-next.result in
+    let e = c.in_err-free_listed.field-0.0 in
+    let sizes = Sizes-from h (contents_in view old.file) sound.file.caches.kept.kept.guarded.top.header_reads in
+    let rest = c.rest_of_table.ensures.value in
+    let is : c.min-next.result ≡ min c.args.to (min (c.args.from + rest_of_table c.args.self.now.file.header.fields c.args.from) (2 ^ 64 - 1)) = c.min-next.ensures ∙ ap (min to) (c.saturating_add.ensures ∙ ap (λ n. min (from + n) (2 ^ 64 - 1)) rest) in
+    let high : c.args.to < 2 ^ 64 = search rules in
+    let part = cleared_fills view below out old mid from next whole.0 (c.in_ok-clear_between.ensures.clears out sound (record {
+      begins = whole.0;
+      ends = next_whole h sizes.some sizes.entries from to next whole.1 is high;
+      within = next_within h sizes.some sizes.entries from to next whole.1 is high;
+      version = λ _. version;
+    })) in
+    let listed = subst (λ (x : Pending). ImageInvariant view below x mid out) (all_listed view below mid out) part.sound in
+    handed_on (λ r. FillsFirst view below 0 from to old new out r) c.from_residual-in_err-free_listed.result e c.from_residual-in_err-free_listed.ensures
+    (fills_refused view below out old mid new 0 from next part to e (omega (arith, is)) c.in_err-free_listed.ensures.cause
+    (freed_refused view below mid out new e part.sound (c.in_err-free_listed.ensures.frees (beside view below mid out) out listed)))
+
+pub returns-clause-whole : goal.returns-clause-whole
+returns-clause-whole g c = λ out sound whole.
+    let view = g.S.Storage.view in
+    let old = c.args.self.now in
+    let h = old.file.header.fields in
+    let from = c.args.from in
+    let to = c.args.to in
+    let sizes = Sizes-from h (contents_in view old.file) sound.file.caches.kept.kept.guarded.top.header_reads in
+    let is : c.min-next.result ≡ min c.args.to (min (c.args.from + rest_of_table c.args.self.now.file.header.fields c.args.from) (2 ^ 64 - 1)) =
+    c.min-next.ensures ∙ ap (min to) (c.saturating_add.ensures ∙ ap (λ n. min (from + n) (2 ^ 64 - 1)) c.rest_of_table.ensures.value) in
+    let high : c.args.to < 2 ^ 64 = search rules in
+    next_whole h sizes.some sizes.entries from to c.min-next.result whole.1 is high
+
+pub returns-clause-fills : goal.returns-clause-fills
+returns-clause-fills g c = λ out sound le whole version.
+    let view = g.S.Storage.view in
+    let below = g.F.BackingDisk.backing in
+    let old = c.args.self.now in
+    let mid = c.clear_between.new.self in
+    let new = c.free_listed.new.self in
+    let h = old.file.header.fields in
+    let from = c.args.from in
+    let to = c.args.to in
+    let next = c.min-next.result in
+    let sizes = Sizes-from h (contents_in view old.file) sound.file.caches.kept.kept.guarded.top.header_reads in
+    let rest = c.rest_of_table.ensures.value in
+    let is : c.min-next.result ≡ min c.args.to (min (c.args.from + rest_of_table c.args.self.now.file.header.fields c.args.from) (2 ^ 64 - 1)) = c.min-next.ensures ∙ ap (min to) (c.saturating_add.ensures ∙ ap (λ n. min (from + n) (2 ^ 64 - 1)) rest) in
+    let high : c.args.to < 2 ^ 64 = search rules in
+    let part = cleared_fills view below out old mid from next whole.0 (c.in_ok-clear_between.ensures.clears out sound (record {
+      begins = whole.0;
+      ends = next_whole h sizes.some sizes.entries from to next whole.1 is high;
+      within = next_within h sizes.some sizes.entries from to next whole.1 is high;
+      version = λ _. version;
+    })) in
+    let listed = subst (λ (x : Pending). ImageInvariant view below x mid out) (all_listed view below mid out) part.sound in
+    fills_stays view below out old mid new 0 from next part (tidy_stays view below mid out new part.sound (c.in_ok-free_listed.ensures.frees (beside view below mid out) out listed))

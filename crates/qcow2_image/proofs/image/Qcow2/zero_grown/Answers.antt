@@ -1,0 +1,37 @@
+use Rattle.std.proofs.Common.{◌≡◌, ◌≤◌, ◌%◌, ◌∙◌, ap, subst, sym, arith}
+use Rattle.std.proofs.lemmas.Nat.{pow_pos}
+use Rattle.qcow2_metadata.specs.Header.{cluster_size, rounded_up}
+use Rattle.qcow2_alloc.specs.declared.error.ImageError.TheVariants.{Overflow, Version}
+use Rattle.qcow2_image.specs.Preallocation.{FillsOrRefuses}
+use Rattle.qcow2_image.proofs.Preallocate.Filled.{refused_here}
+use Rattle.qcow2_image.proofs.Preallocate.Grown.{up_least, up_rising, up_whole}
+use Rattle.qcow2_image.proofs.image.Qcow2.zero_grown.Goals as goal
+
+pub returns-then-version-lt3-clause-fills : goal.returns-then-version-lt3-clause-fills
+returns-then-version-lt3-clause-fills g c = λ out sound le.
+    refused_here g.S.Storage.view g.F.BackingDisk.backing out c.args.self.now c.args.old (rounded_up (cluster_size c.args.self.now.file.header.fields) c.args.size) Version (λ is. cc) sound
+
+pub returns-in_default-clause-fills : goal.returns-in_default-clause-fills
+returns-in_default-clause-fills g c = λ out sound le.
+    refused_here g.S.Storage.view g.F.BackingDisk.backing out c.args.self.now c.args.old (rounded_up (cluster_size c.args.self.now.file.header.fields) c.args.size) Overflow (λ is. cc) sound
+
+pub returns-in_default-rounded_up-clause-fills : goal.returns-in_default-rounded_up-clause-fills
+returns-in_default-rounded_up-clause-fills g c = λ out sound le.
+    refused_here g.S.Storage.view g.F.BackingDisk.backing out c.args.self.now c.args.old (rounded_up (cluster_size c.args.self.now.file.header.fields) c.args.size) Overflow (λ is. cc) sound
+
+pub returns-clause-fills : goal.returns-clause-fills
+returns-clause-fills g c = λ out sound le.
+    let view = g.S.Storage.view in
+    let below = g.F.BackingDisk.backing in
+    let old = c.args.self.now in
+    let cs = cluster_size old.file.header.fields in
+    let some = pow_pos old.file.header.fields.cluster_bits in
+    let size = c.cluster_size-cluster_size.ensures.value in
+    let from : c.in-Some.from ≡ rounded_up (cluster_size c.args.self.now.file.header.fields) c.args.old = c.in-Some.ensures.some ∙ ap (λ s. rounded_up s c.args.old) size in
+    let end : c.in-Some-rounded_up.end ≡ rounded_up (cluster_size c.args.self.now.file.header.fields) c.args.size = c.in-Some-rounded_up.ensures.some ∙ ap (λ s. rounded_up s c.args.size) size in
+    let version : 3 ≤ c.args.self.now.file.header.fields.version = subst (λ v. 3 ≤ v) c.version.ensures.value c.if-version-lt3.false in
+    let least = up_least cs c.args.old some in
+    let rising = up_rising cs c.args.old c.args.size some le in
+    subst (λ n. FillsOrRefuses view below (rounded_up cs c.args.old) c.args.old n old c.zero_between.new.self out c.zero_between.result) end
+    (subst (λ n. FillsOrRefuses view below n c.args.old c.in-Some-rounded_up.end old c.zero_between.new.self out c.zero_between.result) from
+    (c.zero_between.ensures.fills out sound (omega (arith, from, least)) (omega (arith, from, end, rising)) (subst (λ n. n % cs ≡ 0) (sym from) (up_whole cs c.args.old some), subst (λ n. n % cs ≡ 0) (sym end) (up_whole cs c.args.size some)) version))

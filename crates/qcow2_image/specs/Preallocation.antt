@@ -1,0 +1,160 @@
+-- What preallocation does: zeros stand behind the end of a disk before its size grows.
+use Rattle.std.specs.Prelude.{ℕ, ◌+◌, ◌*◌, ◌-◌, ◌%◌, ◌^◌, ◌≡◌, ◌⊎◌, ◌<◌, ◌≤◌, List, [], ◌∷◌, length, replicate, Option, Result, Ok, Err, None, true, false, IsSome, IsTrue, if◌then◌else◌}
+use Rattle.image_access.specs.Backing.{BackingView}
+use Rattle.image_access.specs.Moments.{StorageView}
+use Rattle.image_access.specs.declared.storage.PreallocateMode.{PreallocateMode}
+use Rattle.qcow2_metadata.specs.declared.header.HeaderFields.{HeaderFields}
+use Rattle.qcow2_metadata.specs.Guest.{known_byte}
+use Rattle.qcow2_metadata.specs.Header.{cluster_size, rounded_up}
+use Rattle.qcow2_disk.specs.AbstractImages.{guest_of}
+use Rattle.qcow2_disk.specs.Calls.{MayGrow, Works, gift_of_grow, shows_old, with_disk, with_slot}
+use Rattle.qcow2_disk.specs.Disk.{Disk, zeroed}
+use Rattle.qcow2_disk.specs.Mappings.{committed, gift_of_commit, is_copied_data}
+use Rattle.qcow2_disk.specs.Stops.{GivenBytes}
+use Rattle.qcow2_alloc.specs.ImageError.{IsFault as IsFaultOfTables}
+use Rattle.qcow2_alloc.specs.declared.error.ImageError.{ImageError}
+use Rattle.qcow2_alloc.specs.declared.error.ImageError.TheVariants as I
+use Rattle.qcow2_image.specs.declared.image.Qcow2.{Qcow2}
+use Rattle.qcow2_image.specs.declared.preallocation.ZeroWrites.{ZeroWrites}
+use Rattle.qcow2_image.specs.declared.preallocation.ZeroWrites.TheVariants.{Short, Taken, Plain}
+use Rattle.qcow2_image.specs.declared.prepared.Prepared.{Prepared}
+use Rattle.qcow2_image.specs.CallParts.{AreCopied, StaysBeside}
+use Rattle.qcow2_image.specs.Clearing.{IsUnderMapping, cleared_cover, setting_of}
+use Rattle.qcow2_image.specs.ImageInvariant.{ImageInvariant, abstract_of, disk_of, meaning, pending_in}
+use Rattle.qcow2_image.specs.MovedTables.{CoversStay, MovesTables}
+use Rattle.qcow2_image.specs.declared.discarding.Clearance.TheVariants.{KeptZeros}
+use Rattle.qcow2_metadata.specs.Bytes.{Bytes}
+use Rattle.qcow2_metadata.specs.Cover.{cover}
+use Rattle.image_access.specs.declared.storage.PreallocateMode.TheVariants as Mode
+use Rattle.qcow2_alloc.specs.ImageFile.{known_in}
+
+-- zeros from one offset up to another
+abbrev pub gift_of_zeros : (from to : ℕ) → GivenBytes
+gift_of_zeros from to = record { from = from; count = to - from; value = λ i. known_byte 0 }
+
+-- of the bytes from one offset up to another any may be zeros now; all others are as before
+pub record MayBeZero (from to : ℕ) (old new : Disk) : Type 0 where
+  pub size : new.size ≡ old.size
+  pub values : (o : ℕ) → (new.value o ≡ old.value o) ⊎ ((from ≤ o) × (o < to) × (new.value o ≡ known_byte 0))
+
+-- the disk with zeros behind its end, up to the end of the last cluster of a larger size, unless the old bytes are to show
+abbrev pub filled_to : ℕ → Disk → ℕ → PreallocateMode → Disk
+filled_to size_of_cluster d size mode = if shows_old mode then d else zeroed d d.size (rounded_up size_of_cluster size)
+
+-- a mapping that is out, and isn't existing, lies in the L2 table of some offset of a range
+pub record IsUnderMappingIn (h : HeaderFields) (from to : ℕ) (out : List (Option Prepared)) : Type 0 where
+  pub offset : ℕ
+  pub low : from ≤ offset
+  pub high : offset < to
+  pub under : IsUnderMapping h offset out
+
+-- a guest cluster has a byte of a range
+abbrev pub Touches : (size_of_cluster from to g : ℕ) → Type 0
+Touches size_of_cluster from to g = (from < to) × (from < g * size_of_cluster + size_of_cluster) × (g * size_of_cluster < to)
+
+-- What stands for guest clusters once a range is filled. Those with a byte of it are explicit zeros, from a first offset on, and copied data before it. All others stand as before.
+pub record FilledCovers (size_of_cluster first from to : ℕ) (h : HeaderFields) (known : Bytes) (h' : HeaderFields) (known' : Bytes) : Type 0 where
+  pub beside : (g : ℕ) → (Touches size_of_cluster from to g → ⊥) → cover h known g ≡ cover h' known' g
+  pub zeros : (g : ℕ) → Touches size_of_cluster from to g → first ≤ g * size_of_cluster → cover h' known' g ≡ cleared_cover KeptZeros (cover h known g)
+  pub copied : (g : ℕ) → Touches size_of_cluster from to g → g * size_of_cluster < first → is_copied_data (cover h' known' g) ≡ true
+
+-- from where on a mode leaves zeros that have no bytes in the file: from the first boundary at or past the old size on, or nowhere
+abbrev pub first_zeros : (size_of_cluster old size : ℕ) → PreallocateMode → ℕ
+first_zeros size_of_cluster old size Mode.None = rounded_up size_of_cluster size
+first_zeros size_of_cluster old size Mode.Zero = rounded_up size_of_cluster old
+first_zeros size_of_cluster old size Mode.FormatAllocate = rounded_up size_of_cluster size
+first_zeros size_of_cluster old size Mode.FullAllocate = rounded_up size_of_cluster size
+first_zeros size_of_cluster old size Mode.WriteData = rounded_up size_of_cluster size
+
+-- two offsets are those of clusters
+abbrev pub IsWholeRange : HeaderFields → (from to : ℕ) → Type 0
+IsWholeRange h from to = (from % cluster_size h ≡ 0) × (to % cluster_size h ≡ 0)
+
+-- how many zeros are written at once at most
+abbrev pub most_of : ZeroWrites → ℕ
+most_of Short = 2 ^ 64 - 1
+most_of Taken = 2 ^ 64 - 1
+most_of (Plain zeros) = length zeros.items
+
+-- the bytes that are written are zeros
+abbrev pub AreZeros : ZeroWrites → Type 0
+AreZeros Short = Unit {0}
+AreZeros Taken = Unit {0}
+AreZeros (Plain zeros) = zeros.items ≡ replicate (length zeros.items) 0
+
+module _ {S F : Type 0} (view : S → StorageView) (backing : F → BackingView) where
+  -- a part of a call: zeros stand from one offset up to another
+  pub record FillsPart (first from to : ℕ) (old new : Qcow2 S F) (out : List (Option Prepared)) : Type 0 where
+    pub works : Works (abstract_of view backing old out) (abstract_of view backing new out) (gift_of_zeros from to ∷ []) []
+    pub sound : ImageInvariant view backing (pending_in view backing new out) new out
+    pub shows : guest_of (abstract_of view backing new out) ≡ with_disk (guest_of (abstract_of view backing old out)) (zeroed (disk_of view backing old) from to)
+    pub header : MovesTables old.file.header.fields new.file.header.fields
+    pub covers : FilledCovers (cluster_size old.file.header.fields) first from to old.file.header.fields (known_in view old.file) new.file.header.fields (known_in view new.file)
+
+  -- it was refused on its way: all is sound, and any of these bytes may be zeros
+  pub record FillsSome (from to : ℕ) (old new : Qcow2 S F) (out : List (Option Prepared)) : Type 0 where
+    pub works : Works (abstract_of view backing old out) (abstract_of view backing new out) (gift_of_zeros from to ∷ []) []
+    pub sound : ImageInvariant view backing (pending_in view backing new out) new out
+    pub now : Disk
+    pub may : MayBeZero from to (disk_of view backing old) now
+    pub shows : guest_of (abstract_of view backing new out) ≡ with_disk (guest_of (abstract_of view backing old out)) now
+
+  -- or it broke off: once the image is marked as failed, a stop is as safe as before, but that these values were given
+  pub record InterruptedGiving (given : List GivenBytes) (old new : Qcow2 S F) (out : List (Option Prepared)) (e : ImageError) : Type 0 where
+    pub fault : IsFaultOfTables e
+    pub noted : e ≡ I.Memory → IsTrue new.file.caches.is_changed
+    pub works : Works (abstract_of view backing old out) (abstract_of view backing (record new { is_failed = true }) out) given []
+
+  -- a refused part: one or the other, and that a table is prepared only where one of the range is
+  pub record RefusedFill (from to : ℕ) (old new : Qcow2 S F) (out : List (Option Prepared)) (e : ImageError) : Type 0 where
+    pub left : FillsSome from to old new out ⊎ InterruptedGiving (gift_of_zeros from to ∷ []) old new out e
+    pub taken : e ≡ I.TablePrepared → IsUnderMappingIn old.file.header.fields from to out
+
+  abbrev pub FillsOrRefuses : (first from to : ℕ) → Qcow2 S F → Qcow2 S F → List (Option Prepared) → Result (Unit {0}) ImageError → Type 0
+  FillsOrRefuses first from to old new out (Ok _) = FillsPart first from to old new out
+  FillsOrRefuses first from to old new out (Err e) = RefusedFill from to old new out e
+
+  -- so far the range is filled, or it was refused
+  abbrev pub FillsFirst : (first from to : ℕ) → Qcow2 S F → Qcow2 S F → List (Option Prepared) → Result ℕ ImageError → Type 0
+  FillsFirst first from to old new out (Ok next) = FillsPart first from next old new out
+  FillsFirst first from to old new out (Err e) = RefusedFill from to old new out e
+
+  -- a mapping that is out is committed, and its place is free
+  pub record CommitsWhole (old new : Qcow2 S F) (out : List (Option Prepared)) (k : ℕ) (p : Prepared) (free : List (Option Prepared)) : Type 0 where
+    pub works : Works (abstract_of view backing old out) (abstract_of view backing new free) (gift_of_commit (abstract_of view backing old out).setting.cluster_size (guest_of (abstract_of view backing old out)).disk (meaning view backing old p) ∷ []) []
+    pub sound : ImageInvariant view backing (pending_in view backing new free) new free
+    pub shows : guest_of (abstract_of view backing new free) ≡ with_slot (with_disk (guest_of (abstract_of view backing old out)) (committed (guest_of (abstract_of view backing old out)).disk (meaning view backing old p))) k None
+    pub beside : StaysBeside view p.guest (p.guest + p.length) old new
+    pub copied : IsSome p.table → AreCopied view p.guest (p.guest + p.length) new
+    pub still : p.table ≡ None → CoversStay old.file.header.fields (known_in view old.file) new.file.header.fields (known_in view new.file)
+
+  -- ---- behind the end of a disk that grows
+
+  abbrev pub gifts_of_growing : Qcow2 S F → ℕ → PreallocateMode → List GivenBytes
+  gifts_of_growing image size mode = gift_of_grow (setting_of view backing image) (disk_of view backing image) size mode
+
+  -- zeros stand behind the end of the disk, as a mode asks; its size is as it was
+  pub record FillsGrown (size : ℕ) (mode : PreallocateMode) (old new : Qcow2 S F) (out : List (Option Prepared)) : Type 0 where
+    pub works : Works (abstract_of view backing old out) (abstract_of view backing new out) (gifts_of_growing old size mode) []
+    pub sound : ImageInvariant view backing (pending_in view backing new out) new out
+    pub shows : guest_of (abstract_of view backing new out) ≡ with_disk (guest_of (abstract_of view backing old out)) (filled_to (cluster_size old.file.header.fields) (disk_of view backing old) size mode)
+    pub header : MovesTables old.file.header.fields new.file.header.fields
+    pub covers : shows_old mode ≡ false → FilledCovers (cluster_size old.file.header.fields) (first_zeros (cluster_size old.file.header.fields) (disk_of view backing old).size size mode) (disk_of view backing old).size (rounded_up (cluster_size old.file.header.fields) size) old.file.header.fields (known_in view old.file) new.file.header.fields (known_in view new.file)
+    pub same : shows_old mode ≡ true → CoversStay old.file.header.fields (known_in view old.file) new.file.header.fields (known_in view new.file)
+
+  -- it was refused: each byte behind the end is as before or zero, and all others are as before
+  pub record FillsGrownInPart (size : ℕ) (mode : PreallocateMode) (old new : Qcow2 S F) (out : List (Option Prepared)) : Type 0 where
+    pub works : Works (abstract_of view backing old out) (abstract_of view backing new out) (gifts_of_growing old size mode) []
+    pub sound : ImageInvariant view backing (pending_in view backing new out) new out
+    pub now : Disk
+    pub may : MayGrow (setting_of view backing old) (disk_of view backing old) size mode now
+    pub shows : guest_of (abstract_of view backing new out) ≡ with_disk (guest_of (abstract_of view backing old out)) now
+
+  -- or it broke off; that a table is prepared refuses it only where one of the range behind the end is
+  pub record RefusedGrown (size : ℕ) (mode : PreallocateMode) (old new : Qcow2 S F) (out : List (Option Prepared)) (e : ImageError) : Type 0 where
+    pub left : FillsGrownInPart size mode old new out ⊎ InterruptedGiving (gifts_of_growing old size mode) old new out e
+    pub taken : e ≡ I.TablePrepared → IsUnderMappingIn old.file.header.fields (disk_of view backing old).size (rounded_up (cluster_size old.file.header.fields) size) out
+
+  abbrev pub FillsGrownOrRefuses : ℕ → PreallocateMode → Qcow2 S F → Qcow2 S F → List (Option Prepared) → Result (Unit {0}) ImageError → Type 0
+  FillsGrownOrRefuses size mode old new out (Ok _) = FillsGrown size mode old new out
+  FillsGrownOrRefuses size mode old new out (Err e) = RefusedGrown size mode old new out e

@@ -1,0 +1,155 @@
+-- What a disk of another size is: the tail is uncovered, or the L1 table made longer, and the size is written last.
+use Rattle.std.specs.Prelude.{ℕ, ◌≡◌, ◌⊎◌, ◌<◌, ◌≤◌, Bool, false, is_some, not, true, List, [], ◌∷◌, Option, Some, None, IsTrue, Result, Ok, Err}
+use Rattle.std.specs.Option.{option_or}
+use Rattle.image_access.specs.Backing.{BackingView}
+use Rattle.image_access.specs.Moments.{StorageView, Passing}
+use Rattle.image_access.specs.declared.storage.PreallocateMode.{PreallocateMode}
+use Rattle.image_access.specs.declared.storage.PreallocateMode.TheVariants as Mode
+use Rattle.qcow2_metadata.specs.Bytes.{byte_at}
+use Rattle.qcow2_metadata.specs.Header.{header, cluster_size, rounded_up}
+use Rattle.qcow2_disk.specs.AbstractImages.{guest_of}
+use Rattle.qcow2_disk.specs.Calls.{Does, Refuses, Works, IsSame, IsShrinkEnd, IsShrunk, MayGrow, cleared, gift_of_grow, gift_of_shrink, gift_of_shrunk, grown_to, to_backing, with_disk}
+use Rattle.qcow2_disk.specs.Disk.{Disk}
+use Rattle.qcow2_disk.specs.Stops.{GivenBytes}
+use Rattle.qcow2_alloc.specs.ImageError.{IsFault as IsFaultOfTables}
+use Rattle.qcow2_alloc.specs.ImageFile.{view_in}
+use Rattle.qcow2_alloc.specs.declared.error.ImageError.{ImageError}
+use Rattle.qcow2_alloc.specs.declared.error.ImageError.TheVariants as I
+use Rattle.qcow2_image.specs.Backings.{HasPrepared}
+use Rattle.qcow2_image.specs.CallParts.{UnseenCall}
+use Rattle.qcow2_image.specs.Calls.{refusal_of}
+use Rattle.qcow2_image.specs.Clearing.{RefusesUngiven, gifts_between, setting_of}
+use Rattle.qcow2_image.specs.declared.discarding.Clearance.TheVariants.{Uncovered}
+use Rattle.qcow2_image.specs.declared.image.Qcow2.{Qcow2}
+use Rattle.qcow2_image.specs.declared.prepared.Prepared.{Prepared}
+use Rattle.qcow2_image.specs.Growing.{ReachesSize}
+use Rattle.qcow2_image.specs.Image.{is_external, is_failed, is_writable, number_of, size_of}
+use Rattle.qcow2_image.specs.ImageInvariant.{ImageInvariant, abstract_of, disk_of, pending_in}
+use Rattle.qcow2_image.specs.Preallocation.{IsUnderMappingIn}
+use Rattle.qcow2_image.specs.Refusals.{refuse_if, unusable}
+
+-- the size that it has afterwards: the one asked for, or the old one where that was refused
+abbrev pub size_after : {A : Type 0} → Result A ImageError → (old asked : ℕ) → ℕ
+size_after (Ok _) old asked = asked
+size_after (Err e) old asked = old
+
+module _ {S F : Type 0} where
+  -- of a call that changes the size, in this order: what makes the image unusable, and that it isn't to be written
+  abbrev pub refuses_to_resize : Qcow2 S F → Option ImageError
+  refuses_to_resize image = option_or (unusable image) (refuse_if (not (is_writable image)) I.ReadOnly)
+
+  -- it is the same image, with a disk of this size
+  pub record IsResized (size : ℕ) (old new : Qcow2 S F) : Type 0 where
+    pub number : number_of new ≡ number_of old
+    pub size_is : size_of new ≡ size
+    pub writable : is_writable new ≡ is_writable old
+    pub external : is_external new ≡ is_external old
+
+  -- a mode takes clusters, and there is a disk below
+  abbrev pub takes_over : Qcow2 S F → PreallocateMode → Bool
+  takes_over image Mode.None = false
+  takes_over image Mode.Zero = false
+  takes_over image mode = is_some image.backing
+
+  -- its version is below 3, so no entry can say that a cluster is zeros
+  abbrev pub LacksZeros : Qcow2 S F → Type 0
+  LacksZeros image = image.file.header.fields.version < 3
+
+  -- the first boundary at or behind an offset
+  abbrev pub boundary_in : Qcow2 S F → ℕ → ℕ
+  boundary_in image offset = rounded_up (cluster_size image.file.header.fields) offset
+
+  -- What a larger disk says of the tables. An answer leaves an L1 table with an entry for each byte. A prepared L2 table refuses it only where one of the range behind the old end is.
+  abbrev pub GrowsTables : Qcow2 S F → Qcow2 S F → ℕ → List (Option Prepared) → Result (Unit {0}) ImageError → Type 0
+  GrowsTables old new size out (Ok _) = ReachesSize new.file.header.fields
+  GrowsTables old new size out (Err e) = e ≡ I.TablePrepared → IsUnderMappingIn old.file.header.fields (size_of old) (boundary_in old size) out
+
+-- What refuses a smaller disk where nothing did so before: a fault, or a prepared mapping, which is told exactly where one is out. Then nothing changed.
+pub record IsMetShrinking {S F : Type 0} (view : S → StorageView) (backing : F → BackingView) (old new : Qcow2 S F) (e : ImageError) : Type 0 where
+  pub cause : IsFaultOfTables e ⊎ (e ≡ I.MappingPrepared)
+  pub same : e ≡ I.MappingPrepared → new ≡ old
+  pub prepared : e ≡ I.MappingPrepared → (out : List (Option Prepared)) → (abstract_of view backing old out).is_sound → HasPrepared out
+
+-- Where one turn ends that begins at an offset: at the end of the disk; or at a boundary before that, with clusters in between.
+pub record IsTurnEnd (cluster_size end at next : ℕ) : Type 0 where
+  pub on : at < next
+  pub within : next ≤ end
+  pub whole : (next ≡ end) ⊎ ((rounded_up cluster_size next ≡ next) × (rounded_up cluster_size at < next))
+
+module _ {S F : Type 0} (view : S → StorageView) (backing : F → BackingView) where
+  -- The size is written last: each moment since has the old size, or is what stands on the storage then.
+  abbrev pub WritesSizeLast : Qcow2 S F → Qcow2 S F → Type 0
+  WritesSizeLast old new = Passing (view_in view old.file) (view_in view new.file) (λ c. ((header (byte_at c)).size ≡ size_of old) ⊎ (c ≡ (view_in view new.file).contents))
+
+  -- what a smaller disk gives at most, and what it gives where the tail was uncovered up to an answer
+  abbrev pub gifts_of_shrink : Qcow2 S F → ℕ → List GivenBytes
+  gifts_of_shrink image size = gift_of_shrink (setting_of view backing image) (disk_of view backing image) size ∷ []
+
+  abbrev pub gifts_of_shrunk : Qcow2 S F → (size answer : ℕ) → List GivenBytes
+  gifts_of_shrunk image size answer = gift_of_shrunk (setting_of view backing image) (disk_of view backing image) size answer ∷ []
+
+  -- The disk has this size, and its tail is uncovered up to the answer; or that was refused.
+  abbrev pub Shrinks : Qcow2 S F → Qcow2 S F → ℕ → Result ℕ ImageError → Type 0
+  Shrinks old new size (Ok answer) = (out : List (Option Prepared)) → let v = abstract_of view backing old out in let w = abstract_of view backing new out in
+      Does v w (gifts_of_shrunk old size answer) (size ∷ []) ((d : Disk) × IsShrunk v.setting (guest_of v).disk size answer d × (guest_of w ≡ with_disk (guest_of v) d))
+  Shrinks old new size (Err e) = (out : List (Option Prepared)) → let v = abstract_of view backing old out in let w = abstract_of view backing new out in
+      Refuses v w (gifts_of_shrink old size) (size ∷ []) (refusal_of e) (IsSame v w)
+
+  -- what a larger disk gives: zeros behind the old end, where the mode asks for them
+  abbrev pub gifts_of_grow : Qcow2 S F → ℕ → PreallocateMode → List GivenBytes
+  gifts_of_grow image size mode = gift_of_grow (setting_of view backing image) (disk_of view backing image) size mode
+
+  -- The disk has this size; or that was refused. Then bytes behind its end may be zeros, where the mode asks for them.
+  abbrev pub GrowsTo : Qcow2 S F → Qcow2 S F → ℕ → PreallocateMode → Result (Unit {0}) ImageError → Type 0
+  GrowsTo old new size mode (Ok _) = (out : List (Option Prepared)) → let v = abstract_of view backing old out in let w = abstract_of view backing new out in
+      Does v w (gifts_of_grow old size mode) (size ∷ []) (guest_of w ≡ with_disk (guest_of v) (grown_to v.setting (guest_of v).disk size mode))
+  GrowsTo old new size mode (Err e) = (out : List (Option Prepared)) → let v = abstract_of view backing old out in let w = abstract_of view backing new out in
+      Refuses v w (gifts_of_grow old size mode) (size ∷ []) (refusal_of e) ((d : Disk) × MayGrow v.setting (guest_of v).disk size mode d × (guest_of w ≡ with_disk (guest_of v) d))
+
+  -- it is refused, and no byte of the disk changes
+  abbrev pub RefusesUnchanged : Qcow2 S F → Qcow2 S F → List (Option Prepared) → Result (Unit {0}) ImageError → Type 0
+  RefusesUnchanged old new out (Ok _) = ⊥
+  RefusesUnchanged old new out (Err e) = Refuses (abstract_of view backing old out) (abstract_of view backing new out) [] [] (refusal_of e) (IsSame (abstract_of view backing old out) (abstract_of view backing new out))
+
+  -- ---- parts of the work
+
+  -- the whole clusters behind one offset show the disk below, up to those behind another
+  abbrev pub ShowsBelow : (at next : ℕ) → Qcow2 S F → Qcow2 S F → List (Option Prepared) → Type 0
+  ShowsBelow at next old new out = guest_of (abstract_of view backing new out) ≡ with_disk (guest_of (abstract_of view backing old out)) (cleared (setting_of view backing old) (disk_of view backing old) to_backing (boundary_in old at) (boundary_in old next))
+
+  -- they are uncovered
+  pub record UncoversPart (at next : ℕ) (old new : Qcow2 S F) (out : List (Option Prepared)) : Type 0 where
+    pub works : Works (abstract_of view backing old out) (abstract_of view backing new out) (gifts_between view backing old Uncovered (boundary_in old at) (boundary_in old next)) []
+    pub sound : ImageInvariant view backing (pending_in view backing new out) new out
+    pub shows : ShowsBelow at next old new out
+
+  -- one turn of that
+  abbrev pub UncoversNext : Qcow2 S F → Qcow2 S F → ℕ → Result ℕ ImageError → Type 0
+  UncoversNext old new at (Ok next) = (out : List (Option Prepared)) → ImageInvariant view backing (pending_in view backing old out) old out
+      → UncoversPart at next old new out × IsTurnEnd (cluster_size old.file.header.fields) (size_of old) at next
+  UncoversNext old new at (Err e) =
+      ((out : List (Option Prepared)) → let v = abstract_of view backing old out in let w = abstract_of view backing new out in
+      Refuses v w (gifts_between view backing old Uncovered (boundary_in old at) (boundary_in old (size_of old))) [] (refusal_of e) (IsSame v w))
+      × RefusesUngiven view backing old new e
+
+  -- All turns: up to an offset the tail is uncovered. A fault ended them, and the image failed then, unless memory was refused before the last turn changed anything.
+  abbrev pub UncoversTail : Qcow2 S F → Qcow2 S F → (size at : ℕ) → Option ImageError → List (Option Prepared) → Type 0
+  UncoversTail old new size at None out = UncoversPart size at old new out × IsShrinkEnd (cluster_size old.file.header.fields) (size_of old) size at
+  UncoversTail old new size at (Some e) out =
+      Works (abstract_of view backing old out) (abstract_of view backing new out) (gifts_between view backing old Uncovered (boundary_in old size) (boundary_in old (size_of old))) []
+      × ((ImageInvariant view backing (pending_in view backing new out) new out × ShowsBelow size at old new out × IsShrinkEnd (cluster_size old.file.header.fields) (size_of old) size at) ⊎ IsTrue (is_failed new))
+
+  -- a refused write of the size: it may stand on the storage, where that failed
+  pub record MayStand (old new : Qcow2 S F) (out : List (Option Prepared)) (size : ℕ) (e : ImageError) : Type 0 where
+    pub fault : e ≡ I.Storage
+    pub works : Works (abstract_of view backing old out) (abstract_of view backing (record new { is_failed = true }) out) [] (size ∷ [])
+
+  -- the disk has another size, and else shows what it showed
+  pub record SetsSize (size : ℕ) (old new : Qcow2 S F) (out : List (Option Prepared)) : Type 0 where
+    pub works : Works (abstract_of view backing old out) (abstract_of view backing new out) [] (size ∷ [])
+    pub sound : ImageInvariant view backing (pending_in view backing new out) new out
+    pub shows : guest_of (abstract_of view backing new out) ≡ with_disk (guest_of (abstract_of view backing old out)) (record (disk_of view backing old) { size = size })
+
+  abbrev pub WritesSize : Qcow2 S F → Qcow2 S F → List (Option Prepared) → ℕ → Result (Unit {0}) ImageError → Type 0
+  WritesSize old new out size (Ok _) = SetsSize size old new out
+  WritesSize old new out size (Err e) = UnseenCall view backing old new out ⊎ MayStand old new out size e

@@ -1,0 +1,272 @@
+//! The first cluster of a prepared range.
+ghost use Rattle.std.specs.Prelude.{List, Option, ◌≡◌, ◌+◌, ◌-◌, ◌/◌, ◌%◌, ◌^◌, ◌<◌, ◌≤◌, true, false, Some, [], ◌∷◌, vec_capacity, IfOk, IfErr, IsSome, IsTrue, OnOk};
+ghost use Rattle.qcow2_metadata.specs.L2Mapping.{IsHostCluster, IsInReach, greatest_offset};
+ghost use Rattle.qcow2_metadata.specs.Header.{cluster_size};
+ghost use Rattle.qcow2_metadata.specs.Cover.{cover};
+ghost use Rattle.qcow2_disk.specs.Mappings.{is_copied_data};
+ghost use Rattle.qcow2_laws.specs.CrashInvariant.{Pending};
+ghost use Rattle.qcow2_alloc.specs.CacheMarks.{l2_pins};
+ghost use Rattle.qcow2_alloc.specs.MetadataCaches.{l2_at};
+ghost use Rattle.qcow2_alloc.specs.ImageFile.{known_in, KeepsHeader};
+ghost use Rattle.qcow2_alloc.specs.declared.error.ImageError.TheVariants.{TablePrepared};
+ghost use Rattle.qcow2_image.specs.Image.{Stays, is_writable, number_of};
+ghost use Rattle.qcow2_image.specs.Prepared.{image_of, length_of};
+ghost use Rattle.qcow2_image.specs.Refusals.{IsMet, IsMetPreparing};
+ghost use Rattle.qcow2_image.specs.declared.prepared.Prepared.{Prepared};
+ghost use Rattle.qcow2_image.specs.declared.mapping.Place.TheVariants.{Image};
+ghost use Rattle.qcow2_image.specs.CallParts.{Readies};
+ghost use Rattle.qcow2_image.specs.ImageInvariant.{ImageInvariant, pending_in};
+ghost use Rattle.qcow2_image.specs.Ranges.{HasRoom, IsFirst};
+ghost use Rattle.qcow2_image.specs.UnseenSteps.{Gains, HoldsAll, HoldsTable, ListGrows, Pins, SameHeld, TakesData, UnseenStep};
+
+use crate::mappings::{copied_place, kept_place};
+use crate::prepared::Share;
+use crate::{Place, Prepared, Qcow2};
+use image_access::{Storage, WrappedFormat};
+use qcow2_alloc::{ClustersToFreeList, ImageError, PendingClusters};
+use qcow2_metadata::{ClusterCount, GuestOffset, HostCluster, L2Mapping};
+
+// A list of one share, in the room that was made for it.
+fn of_one(share: Share, mut room: Vec<Share>) -> Vec<Share>
+    requires empty { room.items ≡ [] }
+    requires room { 0 < vec_capacity room }
+    ensures one { result.items ≡ share ∷ [] }
+    ensures room { vec_capacity result ≡ vec_capacity room }
+{
+    room.push_reserved(share);
+    room
+}
+
+#[tactic(auto, using(crate::proofs::Call::MetErrors::tables_met, crate::proofs::Call::MetErrors::storage_met, crate::proofs::Call::MetErrors::metadata_met, crate::proofs::Call::MetErrors::metadata_of_tables))]
+impl<S: Storage, F: WrappedFormat<S>> Qcow2<S, F> {
+    // Makes the first cluster of a range ready, with room for the shares of those behind it.
+    pub(crate) fn prepare_first(
+        &mut self,
+        table: HostCluster,
+        offset: u64,
+        length: u64,
+        overwrite: bool,
+    ) -> Result<Prepared, ImageError>
+        requires writable { IsTrue (is_writable self.old) }
+        ensures stays { Stays self.old self.new }
+        ensures header { KeepsHeader self.old.file.header self.new.file.header }
+        ensures cause { IfErr result IsMetPreparing }
+        ensures taken { IfErr result (λ e. e ≡ TablePrepared → 0 < l2_pins self.old.file.caches table) }
+        ensures own { IfOk result (λ p. image_of p ≡ number_of self.old) }
+        ensures readies { (out : List (Option Prepared)) → ImageInvariant S.view F.backing (pending_in S.view F.backing self.old out) self.old out
+            → HoldsTable S.view F.backing self.old offset table → Readies S.view F.backing self.old self.new out offset length overwrite result }
+        ensures first { IfOk result (IsFirst self.old.file.header.fields offset table) }
+        ensures room { IfOk result (HasRoom self.old.file.header.fields length) }
+    {
+        if self.file.caches.l2_is_pinned(table) {
+            return Err(ImageError::TablePrepared);
+        }
+        let room = Vec::with_capacity(self.file.alloc, self.clusters_in(offset, length))?;
+        let cluster = GuestOffset::new(offset).cluster(self.file.header.cluster_bits());
+        let old = self.cover_in(table, cluster)?;
+        match copied_place(&old) {
+            Some(host) => Ok(self.prepare_at(table, offset, host, Share::InPlace, room)),
+            None => self.prepare_private(table, offset, length, overwrite, &old, room),
+        }
+    }
+
+    // Makes a range ready where its first cluster isn't copied data: in the host cluster that its zero entry keeps, or in a new one.
+    fn prepare_private(
+        &mut self,
+        table: HostCluster,
+        offset: u64,
+        length: u64,
+        overwrite: bool,
+        old: &L2Mapping,
+        room: Vec<Share>,
+    ) -> Result<Prepared, ImageError>
+        requires writable { IsTrue (is_writable self.old) }
+        requires reach { IsInReach old.now }
+        requires other { is_copied_data old.now ≡ false }
+        requires empty { room.items ≡ [] }
+        requires room { 0 < vec_capacity room }
+        ensures stays { Stays self.old self.new }
+        ensures cause { IfErr result IsMet }
+        ensures own { IfOk result (λ p. image_of p ≡ number_of self.old) }
+        ensures first { IfOk result (IsFirst self.old.file.header.fields offset table) }
+        ensures room { IfOk result (λ p. vec_capacity p.shares ≡ vec_capacity room) }
+        ensures readies { (out : List (Option Prepared)) → ImageInvariant S.view F.backing (pending_in S.view F.backing self.old out) self.old out
+            → HoldsTable S.view F.backing self.old offset table → l2_pins self.old.file.caches table ≡ 0 → cover self.old.file.header.fields (known_in S.view self.old.file) (offset / cluster_size self.old.file.header.fields) ≡ old.now
+            → Readies S.view F.backing self.old self.new out offset length overwrite result }
+        ensures header { KeepsHeader self.old.file.header self.new.file.header }
+    {
+        match kept_place(old) {
+            Some(host) => self.prepare_kept(table, offset, length, overwrite, host, room),
+            None => self.prepare_new(table, offset, length, overwrite, old, room),
+        }
+    }
+
+    // Makes a range ready in the host cluster that a zero entry keeps.
+    fn prepare_kept(
+        &mut self,
+        table: HostCluster,
+        offset: u64,
+        length: u64,
+        overwrite: bool,
+        host: u64,
+        room: Vec<Share>,
+    ) -> Result<Prepared, ImageError>
+        requires reach { host ≤ greatest_offset }
+        requires empty { room.items ≡ [] }
+        requires room { 0 < vec_capacity room }
+        ensures stays { Stays self.old self.new }
+        ensures cause { IfErr result IsMet }
+        ensures own { IfOk result (λ p. image_of p ≡ number_of self.old) }
+        ensures first { IfOk result (IsFirst self.old.file.header.fields offset table) }
+        ensures room { IfOk result (λ p. vec_capacity p.shares ≡ vec_capacity room) }
+        ensures readies { (out : List (Option Prepared)) → ImageInvariant S.view F.backing (pending_in S.view F.backing self.old out) self.old out
+            → HoldsTable S.view F.backing self.old offset table → l2_pins self.old.file.caches table ≡ 0
+            → cover self.old.file.header.fields (known_in S.view self.old.file) (offset / cluster_size self.old.file.header.fields) ≡ L2Mapping.Zero (Some (host, true))
+            → Readies S.view F.backing self.old self.new out offset length overwrite result }
+        ensures header { self.new.file.header ≡ self.old.file.header }
+    {
+        self.fill_kept(host, offset, length, overwrite)?;
+        Ok(self.prepare_at(table, offset, host, Share::Kept, room))
+    }
+
+    // Makes a range ready in a new cluster.
+    fn prepare_new(
+        &mut self,
+        table: HostCluster,
+        offset: u64,
+        length: u64,
+        overwrite: bool,
+        old: &L2Mapping,
+        room: Vec<Share>,
+    ) -> Result<Prepared, ImageError>
+        requires writable { IsTrue (is_writable self.old) }
+        requires reach { IsInReach old.now }
+        requires other { is_copied_data old.now ≡ false }
+        requires empty { room.items ≡ [] }
+        requires room { 0 < vec_capacity room }
+        ensures stays { Stays self.old self.new }
+        ensures cause { IfErr result IsMet }
+        ensures own { IfOk result (λ p. image_of p ≡ number_of self.old) }
+        ensures first { IfOk result (IsFirst self.old.file.header.fields offset table) }
+        ensures room { IfOk result (λ p. vec_capacity p.shares ≡ vec_capacity room) }
+        ensures readies { (out : List (Option Prepared)) → ImageInvariant S.view F.backing (pending_in S.view F.backing self.old out) self.old out
+            → HoldsTable S.view F.backing self.old offset table → l2_pins self.old.file.caches table ≡ 0 → cover self.old.file.header.fields (known_in S.view self.old.file) (offset / cluster_size self.old.file.header.fields) ≡ old.now
+            → Readies S.view F.backing self.old self.new out offset length overwrite result }
+        ensures header { KeepsHeader self.old.file.header self.new.file.header }
+    {
+        let dropped = self.named_by(old)?;
+        let pending = self.new_cluster(offset, length, overwrite, old)?;
+        match self.load_l2(table) {
+            Ok(()) => {
+                let bits = self.file.header.cluster_bits();
+                let host = pending.cluster().offset(bits).value();
+                let mut taken = ClustersToFreeList::new();
+                pending.hand_back(&mut taken);
+                let share = Share::New { taken, dropped };
+                Ok(self.prepare_at(table, offset, host, share, room))
+            }
+            Err(refusal) => {
+                self.hand_back(pending);
+                Err(refusal)
+            }
+        }
+    }
+
+    // Brings a table into its cache.
+    fn load_l2(&mut self, table: HostCluster) -> Result<(), ImageError>
+        ensures header { self.new.file.header ≡ self.old.file.header }
+        ensures stays { Stays self.old self.new }
+        ensures cause { IfErr result IsMet }
+        ensures list { self.new.file.free_list ≡ self.old.file.free_list }
+        ensures keeps { (p : Pending) (out : List (Option Prepared)) → ImageInvariant S.view F.backing p self.old out → UnseenStep S.view F.backing p p self.old self.new out }
+        ensures contents { (p : Pending) (out : List (Option Prepared)) → ImageInvariant S.view F.backing p self.old out → SameHeld S.view F.backing p self.old self.new }
+        ensures held { OnOk result (IsSome (l2_at self.new.file.caches table)) }
+    {
+        self.file
+            .caches
+            .l2_get_or_insert(&mut self.file.storage, table)
+    }
+
+    // The mapping of the rest of a cluster, which stands at a place. Its table is kept as it is.
+    fn prepare_at(
+        &mut self,
+        table: HostCluster,
+        offset: u64,
+        host: u64,
+        share: Share,
+        room: Vec<Share>,
+    ) -> Prepared
+        requires near { host < 2 ^ 63 }
+        requires empty { room.items ≡ [] }
+        requires room { 0 < vec_capacity room }
+        ensures stays { Stays self.old self.new }
+        ensures pins { Pins table self.old self.new }
+        ensures own { image_of result ≡ number_of self.old }
+        ensures some { 0 < length_of result }
+        ensures share { result.shares.items ≡ share ∷ [] }
+        ensures room { vec_capacity result.shares ≡ vec_capacity room }
+        ensures value { result ≡ record result {
+          image = self.old.number;
+          guest = offset;
+          place = Image;
+          offset = host + offset % cluster_size self.old.file.header.fields;
+          length = cluster_size self.old.file.header.fields - offset % cluster_size self.old.file.header.fields;
+          table = Some table;
+        } }
+    {
+        let bits = self.file.header.cluster_bits();
+        let guest = GuestOffset::new(offset);
+        self.file.caches.l2_pin(table);
+        Prepared {
+            image: self.number,
+            guest: offset,
+            place: Place::Image,
+            offset: host + guest.in_cluster_offset(bits),
+            length: guest.remaining_in_cluster(bits),
+            table: Some(table),
+            shares: of_one(share, room),
+        }
+    }
+
+    // Takes a cluster for the one at an offset, of which the old mapping is known, and fills it with the old bytes where they aren't announced as overwritten.
+    fn new_cluster(
+        &mut self,
+        offset: u64,
+        length: u64,
+        overwrite: bool,
+        old: &L2Mapping,
+    ) -> Result<PendingClusters, ImageError>
+        requires writable { IsTrue (is_writable self.old) }
+        requires reach { IsInReach old.now }
+        ensures nameable { IfOk result (λ p. IsHostCluster self.old.file.header.fields.cluster_bits p.first_cluster) }
+        ensures header { KeepsHeader self.old.file.header self.new.file.header }
+        ensures stays { Stays self.old self.new }
+        ensures cause { IfErr result IsMet }
+        ensures gains { (p : Pending) (out : List (Option Prepared)) → ImageInvariant S.view F.backing p self.old out → HoldsAll S.view F.backing p out → Gains S.view F.backing p self.old self.new out offset length overwrite old.now result }
+    {
+        let pending = self.take_data()?;
+        match self.fill_cluster(pending.cluster(), offset, length, overwrite, old) {
+            Ok(()) => Ok(pending),
+            Err(refusal) => {
+                self.hand_back(pending);
+                Err(refusal)
+            }
+        }
+    }
+
+    // Takes a cluster for data.
+    fn take_data(&mut self) -> Result<PendingClusters, ImageError>
+        requires writable { IsTrue (is_writable self.old) }
+        ensures nameable { IfOk result (λ p. IsHostCluster self.old.file.header.fields.cluster_bits p.first_cluster) }
+        ensures header { KeepsHeader self.old.file.header self.new.file.header }
+        ensures list { ListGrows self.old self.new }
+        ensures stays { Stays self.old self.new }
+        ensures cause { IfErr result IsMet }
+        ensures takes { (p : Pending) (out : List (Option Prepared)) → ImageInvariant S.view F.backing p self.old out → HoldsAll S.view F.backing p out → TakesData S.view F.backing p self.old self.new out result }
+    {
+        let Some(allocator) = &mut self.allocator else {
+            unreachable!();
+        };
+        allocator.allocate_data(&mut self.file, ClusterCount::new(1))
+    }
+}

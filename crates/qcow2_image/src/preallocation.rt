@@ -1,0 +1,255 @@
+//! Preallocation: zeros behind the end of a disk, before its size grows.
+ghost use Rattle.std.specs.Prelude.{ℕ, List, Option, ◌≡◌, ◌%◌, ◌^◌, ◌<◌, ◌≤◌, Err, IfOk, IfErr, IsTrue, max, replicate, slice_get, slice_set, None, Some};
+ghost use Rattle.image_access.specs.declared.storage.PreallocateMode.TheVariants.{None as PreallocateNone, Zero};
+ghost use Rattle.qcow2_metadata.specs.Header.{cluster_size, rounded_up as rounded_up_to};
+ghost use Rattle.image_access.specs.Contents.{zeroed};
+ghost use Rattle.image_access.specs.Moments.{Calls, Changes};
+ghost use Rattle.qcow2_alloc.specs.declared.error.ImageError.TheVariants.{Version};
+ghost use Rattle.qcow2_image.specs.declared.prepared.Prepared.{Prepared};
+ghost use Rattle.qcow2_image.specs.CallParts.{WritesBytes};
+ghost use Rattle.qcow2_image.specs.Image.{Stays, is_writable, size_of};
+ghost use Rattle.qcow2_image.specs.ImageInvariant.{ImageInvariant, pending_in};
+ghost use Rattle.qcow2_image.specs.Preallocation.{AreZeros, CommitsWhole, FillsFirst, FillsGrownOrRefuses, FillsOrRefuses, IsWholeRange, most_of};
+ghost use Rattle.qcow2_image.specs.Refusals.{IsMet, IsMetPreparing};
+
+use crate::discarding::{Clearance, rounded_up};
+use crate::{Prepared, Qcow2};
+use image_access::{PreallocateMode, Storage, StorageError, WrappedFormat};
+use qcow2_alloc::{ImageError, WriteKind};
+use std::alloc::Global;
+
+// How many zeros are written at once where they are written as bytes: those of the largest cluster.
+const PIECE: usize = 2097152;
+
+// How zeros are written into clusters.
+#[derive(Drop)]
+pub(crate) enum ZeroWrites {
+    // By the storage, which may give the place back.
+    Short,
+    // By the storage, and the place stays taken where it can.
+    Taken,
+    // As bytes, at most so many at once.
+    Plain(Vec<u8>),
+}
+
+#[tactic(auto, using(crate::proofs::Call::MetErrors::tables_met, crate::proofs::Call::MetErrors::storage_met))]
+impl ZeroWrites {
+    // Bytes that are zeros, so many at once.
+    fn plain(alloc: Global, count: usize) -> Result<Self, ImageError>
+        ensures most { IfOk result (λ writes. most_of writes ≡ count) }
+        ensures zeros { IfOk result AreZeros }
+        ensures cause { IfErr result IsMet }
+    {
+        let zeros = vec![in alloc; 0; count]?;
+        Ok(ZeroWrites::Plain(zeros))
+    }
+
+    // How many zeros are written at once at most.
+    fn most(&self) -> u64
+        ensures { result ≡ most_of self.now }
+    {
+        match self {
+            ZeroWrites::Short | ZeroWrites::Taken => u64::MAX,
+            ZeroWrites::Plain(zeros) => zeros.len() as u64,
+        }
+    }
+
+    // Writes so many zeros to a storage.
+    fn write<S: Storage>(&self, storage: &mut S, at: u64, count: u64) -> Result<(), StorageError>
+        requires few { count ≤ most_of self.now }
+        requires zeros { AreZeros self.now }
+        ensures written { Changes (S.view storage.old) (S.view storage.new) result (zeroed (S.view storage.old).contents at count) }
+        ensures calls { Calls (S.view storage.old) (S.view storage.new) result }
+    {
+        match self {
+            ZeroWrites::Short => storage.write_zeroes(at, count),
+            ZeroWrites::Taken => storage.write_allocated_zeroes(at, count),
+            ZeroWrites::Plain(zeros) => storage.write(at, &zeros[..count as usize]),
+        }
+    }
+}
+
+#[tactic(auto, using(crate::proofs::Call::MetErrors::tables_met, crate::proofs::Call::MetErrors::storage_met, crate::proofs::Call::MetErrors::metadata_met, crate::proofs::Call::MetErrors::metadata_of_tables))]
+impl<S: Storage, F: WrappedFormat<S>> Qcow2<S, F> {
+    // Puts zeros behind the end of a disk that is to have a larger size, up to the end of its last cluster, as a mode asks.
+    pub(crate) fn fill_grown(
+        &mut self,
+        old: u64,
+        size: u64,
+        mode: PreallocateMode,
+    ) -> Result<(), ImageError>
+        requires writable { IsTrue (is_writable self.old) }
+        requires end { old ≡ size_of self.old }
+        requires larger { old < size }
+        ensures stays { Stays self.old self.new }
+        ensures cause { IfErr result IsMetPreparing }
+        ensures unfilled { mode ≡ PreallocateNone → self.new ≡ self.old }
+        ensures version { mode ≡ Zero → self.old.file.header.fields.version < 3 → (result ≡ Err Version) × (self.new ≡ self.old) }
+        ensures fills { (out : List (Option Prepared)) → ImageInvariant S.view F.backing (pending_in S.view F.backing self.old out) self.old out
+            → FillsGrownOrRefuses S.view F.backing size mode self.old self.new out result }
+    {
+        match mode {
+            PreallocateMode::None => Ok(()),
+            PreallocateMode::Zero => self.zero_grown(old, size),
+            PreallocateMode::FormatAllocate => self.allocate_grown(old, size, &ZeroWrites::Short),
+            PreallocateMode::FullAllocate => self.allocate_grown(old, size, &ZeroWrites::Taken),
+            PreallocateMode::WriteData => {
+                let writes = ZeroWrites::plain(self.file.alloc, PIECE)?;
+                self.allocate_grown(old, size, &writes)
+            }
+        }
+    }
+
+    // Puts zeros there, with clusters of their own.
+    fn allocate_grown(&mut self, old: u64, size: u64, writes: &ZeroWrites) -> Result<(), ImageError>
+        requires writable { IsTrue (is_writable self.old) }
+        requires few { 2 ^ 21 ≤ most_of writes.now }
+        requires zeros { AreZeros writes.now }
+        ensures stays { Stays self.old self.new }
+        ensures cause { IfErr result IsMetPreparing }
+        ensures fills { (out : List (Option Prepared)) → ImageInvariant S.view F.backing (pending_in S.view F.backing self.old out) self.old out
+            → old ≤ size → FillsOrRefuses S.view F.backing (rounded_up_to (cluster_size self.old.file.header.fields) size) old (rounded_up_to (cluster_size self.old.file.header.fields) size) self.old self.new out result }
+    {
+        let Some(end) = rounded_up(size, self.file.header.cluster_size()) else {
+            return Err(ImageError::Overflow);
+        };
+        self.fill_range(old, end, writes)
+    }
+
+    // Makes whole clusters there zeros that have none, and puts zeros into the rest of the cluster before them.
+    fn zero_grown(&mut self, old: u64, size: u64) -> Result<(), ImageError>
+        requires writable { IsTrue (is_writable self.old) }
+        ensures stays { Stays self.old self.new }
+        ensures cause { IfErr result IsMetPreparing }
+        ensures version { self.old.file.header.fields.version < 3 → (result ≡ Err Version) × (self.new ≡ self.old) }
+        ensures fills { (out : List (Option Prepared)) → ImageInvariant S.view F.backing (pending_in S.view F.backing self.old out) self.old out
+            → old ≤ size → FillsOrRefuses S.view F.backing (rounded_up_to (cluster_size self.old.file.header.fields) old) old (rounded_up_to (cluster_size self.old.file.header.fields) size) self.old self.new out result }
+    {
+        if self.file.header.version() < 3 {
+            return Err(ImageError::Version);
+        }
+        let cluster_size = self.file.header.cluster_size();
+        let Some(from) = rounded_up(old, cluster_size) else {
+            return Err(ImageError::Overflow);
+        };
+        let Some(end) = rounded_up(size, cluster_size) else {
+            return Err(ImageError::Overflow);
+        };
+        self.zero_between(old, from, end)
+    }
+
+    // Makes the clusters of a range read as zeros, and puts zeros into the cluster before them from an offset on.
+    fn zero_between(&mut self, old: u64, from: u64, end: u64) -> Result<(), ImageError>
+        requires writable { IsTrue (is_writable self.old) }
+        ensures stays { Stays self.old self.new }
+        ensures cause { IfErr result IsMetPreparing }
+        ensures fills { (out : List (Option Prepared)) → ImageInvariant S.view F.backing (pending_in S.view F.backing self.old out) self.old out → old ≤ from → from ≤ end → IsWholeRange self.old.file.header.fields from end
+            → 3 ≤ self.old.file.header.fields.version → FillsOrRefuses S.view F.backing from old end self.old self.new out result }
+    {
+        let next = self.zero_first(from, end)?;
+        self.fill_range(old, from, &ZeroWrites::Short)?;
+        self.zero_range(next, end)
+    }
+
+    // Makes whole clusters read as zeros, table by table.
+    fn zero_range(&mut self, from: u64, to: u64) -> Result<(), ImageError>
+        requires writable { IsTrue (is_writable self.old) }
+        ensures stays { Stays self.old self.new }
+        ensures cause { IfErr result IsMetPreparing }
+        ensures fills { (out : List (Option Prepared)) → ImageInvariant S.view F.backing (pending_in S.view F.backing self.old out) self.old out → from ≤ to → IsWholeRange self.old.file.header.fields from to
+            → 3 ≤ self.old.file.header.fields.version → FillsOrRefuses S.view F.backing 0 from to self.old self.new out result }
+    {
+        let mut at = from;
+        while at < to {
+            at = self.zero_first(at, to)?;
+        }
+        Ok(())
+    }
+
+    // Makes those read as zeros that the first L2 table of a range covers; where they end.
+    fn zero_first(&mut self, from: u64, to: u64) -> Result<u64, ImageError>
+        requires writable { IsTrue (is_writable self.old) }
+        ensures stays { Stays self.old self.new }
+        ensures cause { IfErr result IsMetPreparing }
+        ensures next { IfOk result (λ next. (from ≤ next) × (from < to → from < next) × (next ≤ max from to)) }
+        ensures whole { (out : List (Option Prepared)) → ImageInvariant S.view F.backing (pending_in S.view F.backing self.old out) self.old out → IsWholeRange self.old.file.header.fields from to → IfOk result (λ next. next % cluster_size self.old.file.header.fields ≡ 0) }
+        ensures fills { (out : List (Option Prepared)) → ImageInvariant S.view F.backing (pending_in S.view F.backing self.old out) self.old out → from ≤ to → IsWholeRange self.old.file.header.fields from to
+            → 3 ≤ self.old.file.header.fields.version → FillsFirst S.view F.backing 0 from to self.old self.new out result }
+    {
+        if to <= from {
+            return Ok(from);
+        }
+        let next = to.min(from.saturating_add(self.rest_of_table(from)));
+        self.clear_between(from, next, Clearance::KeptZeros)?;
+        self.free_listed()?;
+        Ok(next)
+    }
+
+    // Puts zeros into a range, which has clusters of its own then.
+    fn fill_range(&mut self, from: u64, to: u64, writes: &ZeroWrites) -> Result<(), ImageError>
+        requires writable { IsTrue (is_writable self.old) }
+        requires few { 2 ^ 21 ≤ most_of writes.now }
+        requires zeros { AreZeros writes.now }
+        ensures stays { Stays self.old self.new }
+        ensures cause { IfErr result IsMetPreparing }
+        ensures fills { (out : List (Option Prepared)) → ImageInvariant S.view F.backing (pending_in S.view F.backing self.old out) self.old out
+            → from ≤ to → to % cluster_size self.old.file.header.fields ≡ 0 → FillsOrRefuses S.view F.backing to from to self.old self.new out result }
+    {
+        let mut at = from;
+        while at < to {
+            at = self.fill_first(at, to, writes)?;
+        }
+        Ok(())
+    }
+
+    // Puts zeros into the first bytes of a range, by a mapping that is prepared; where they end.
+    fn fill_first(&mut self, from: u64, to: u64, writes: &ZeroWrites) -> Result<u64, ImageError>
+        requires writable { IsTrue (is_writable self.old) }
+        requires few { 2 ^ 21 ≤ most_of writes.now }
+        requires zeros { AreZeros writes.now }
+        requires some { from < to }
+        ensures stays { Stays self.old self.new }
+        ensures cause { IfErr result IsMetPreparing }
+        ensures next { IfOk result (λ next. (from < next) × (next ≤ to)) }
+        ensures fills { (out : List (Option Prepared)) → ImageInvariant S.view F.backing (pending_in S.view F.backing self.old out) self.old out
+            → to % cluster_size self.old.file.header.fields ≡ 0 → FillsFirst S.view F.backing to from to self.old self.new out result }
+    {
+        let prepared = self.prepare(from, writes.most().min(to - from), true)?;
+        let next = to.min(from.saturating_add(prepared.length));
+        let count = prepared.length.min(writes.most());
+        if let Err(refusal) = self.put_zeros(prepared.offset, count, writes) {
+            self.let_go(prepared);
+            return Err(self.free_after(refusal));
+        }
+        self.commit_filled(prepared);
+        self.free_listed()?;
+        Ok(next)
+    }
+
+    fn put_zeros(&mut self, host: u64, count: u64, writes: &ZeroWrites) -> Result<(), ImageError>
+        requires few { count ≤ most_of writes.now }
+        requires zeros { AreZeros writes.now }
+        ensures stays { Stays self.old self.new }
+        ensures cause { IfErr result IsMet }
+        ensures written { WritesBytes S.view self.old self.new host (replicate count 0) result }
+    {
+        self.file.storage.will_write(WriteKind::Data);
+        writes.write(&mut self.file.storage, host, count)?;
+        Ok(())
+    }
+
+    // Commits a mapping into which zeros were written. What it drops is to be freed.
+    fn commit_filled(&mut self, mut prepared: Prepared)
+        ensures stays { Stays self.old self.new }
+        ensures header { self.new.file.header ≡ self.old.file.header }
+        ensures commits { (out : List (Option Prepared)) (k : ℕ) → slice_get out k ≡ Some (Some prepared) → ImageInvariant S.view F.backing (pending_in S.view F.backing self.old out) self.old out
+            → CommitsWhole S.view F.backing self.old self.new out k prepared (slice_set out k None) }
+    {
+        if prepared.table.is_none() {
+            self.let_go(prepared);
+            return;
+        }
+        let _entered = self.enter_shares(&mut prepared);
+        self.let_go(prepared);
+    }
+}

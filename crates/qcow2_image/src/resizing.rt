@@ -1,0 +1,266 @@
+//! A disk of another size: what lies behind a smaller one is dropped first, and the size is written last.
+ghost use Rattle.std.specs.Prelude.{ℕ, List, Option, ◌≡◌, ◌⊎◌, ◌+◌, ◌-◌, ◌<◌, ◌≤◌, nat_lt, [], Some, None, Ok, Err, IfOk, IfErr, IfSome, OnOk, OnErr, IsTrue, MatchOption, false};
+ghost use Rattle.image_access.specs.Moments.{Passing};
+ghost use Rattle.image_access.specs.declared.storage.PreallocateMode.TheVariants.{Zero};
+ghost use Rattle.qcow2_metadata.specs.EntryTable.{entry_count};
+ghost use Rattle.qcow2_image.specs.Found.{l1_index_of};
+ghost use Rattle.qcow2_metadata.specs.Header.{cluster_size, rounded_up as rounded_up_to, with_fields, with_size};
+ghost use Rattle.qcow2_laws.specs.CrashInvariant.{Pending};
+ghost use Rattle.qcow2_alloc.specs.declared.error.ImageError.TheVariants.{MappingPrepared, Preallocation};
+ghost use Rattle.qcow2_alloc.specs.ImageError.{IsFault};
+ghost use Rattle.qcow2_alloc.specs.ImageFile.{view_in};
+ghost use Rattle.qcow2_image.specs.Backings.{HasPrepared};
+ghost use Rattle.qcow2_image.specs.declared.prepared.Prepared.{Prepared};
+ghost use Rattle.qcow2_image.specs.Growing.{Resizes};
+ghost use Rattle.qcow2_image.specs.Image.{IsSameImage, Stays, is_failed, is_writable, size_of};
+ghost use Rattle.qcow2_image.specs.ImageInvariant.{ImageInvariant, abstract_of, pending_in};
+ghost use Rattle.qcow2_image.specs.LongerTables.{MakesEntry};
+ghost use Rattle.qcow2_image.specs.Refusals.{IsMet, IsMetPreparing, Marks, failed_after};
+ghost use Rattle.qcow2_image.specs.Resizing.{GrowsTables, GrowsTo, IsMetShrinking, IsResized, LacksZeros, RefusesUnchanged, Shrinks, UncoversNext, UncoversTail, WritesSize, WritesSizeLast, refuses_to_resize, size_after, takes_over};
+
+use crate::Qcow2;
+use crate::discarding::{Clearance, rounded_up};
+use image_access::{PreallocateMode, Storage, WrappedFormat};
+use qcow2_alloc::{ImageError, WriteKind};
+use qcow2_metadata::GuestOffset;
+
+// A fault or want of memory ends a call, and any other refusal of a part doesn't.
+fn ends_call(refusal: ImageError) -> Option<ImageError>
+    ensures some { IfSome result (λ e. (e ≡ refusal) × IsFault e) }
+    ensures none { result ≡ None → IsFault refusal → ⊥ }
+{
+    match refusal {
+        ImageError::Storage | ImageError::Memory => Some(refusal),
+        _ => None,
+    }
+}
+
+impl<S: Storage, F: WrappedFormat<S>> Qcow2<S, F> {
+    /// Makes the disk smaller, and drops the whole clusters behind its new end, so that the disk below shows there should it grow again.
+    /// Answers the offset up to which that was done, which is less than the old size only where dropping the next cluster is refused. A size
+    /// that isn't smaller changes nothing, and answers the old one. It is refused while a mapping is prepared that isn't existing (17).
+    pub fn resize_shrink(&mut self, size: u64) -> Result<u64, ImageError>
+        ensures early { IfSome (refuses_to_resize self.old) (λ e. (result ≡ Err e) × (self.new ≡ self.old)) }
+        ensures no_smaller { refuses_to_resize self.old ≡ None → size_of self.old ≤ size → (result ≡ Ok (size_of self.old)) × (self.new ≡ self.old) }
+        ensures prepared { refuses_to_resize self.old ≡ None → size < size_of self.old → (out : List (Option Prepared)) → (abstract_of S.view F.backing self.old out).is_sound → HasPrepared out → (result ≡ Err MappingPrepared) × (self.new ≡ self.old) }
+        ensures late { refuses_to_resize self.old ≡ None → IfErr result (IsMetShrinking S.view F.backing self.old self.new) }
+        ensures marks { Marks result (is_failed self.old) (is_failed self.new) }
+        ensures image { size < size_of self.old → IsResized (size_after result (size_of self.old) size) self.old self.new }
+        ensures sees { Shrinks S.view F.backing self.old self.new size result }
+        ensures last { (out : List (Option Prepared)) → (abstract_of S.view F.backing self.old out).is_sound → WritesSizeLast S.view F.backing self.old self.new }
+    {
+        self.check_resize()?;
+        if self.file.header.size() <= size {
+            return Ok(self.file.header.size());
+        }
+        if self.file.caches.first_pinned_l2().is_some() {
+            return Err(ImageError::MappingPrepared);
+        }
+        self.shrink(size)
+    }
+
+    // What refuses every call that changes the size.
+    fn check_resize(&self) -> Result<(), ImageError>
+        ensures { MatchOption (refuses_to_resize self.now) (result ≡ Ok tt) (λ e. result ≡ Err e) }
+    {
+        self.check_usable()?;
+        if !self.writable() {
+            return Err(ImageError::ReadOnly);
+        }
+        Ok(())
+    }
+
+    // Makes the disk smaller: the tail is uncovered, and then the size is written.
+    fn shrink(&mut self, size: u64) -> Result<u64, ImageError>
+        requires usable { is_failed self.old ≡ false }
+        requires smaller { size < size_of self.old }
+        ensures cause { IfErr result IsFault }
+        ensures marks { Marks result (is_failed self.old) (is_failed self.new) }
+        ensures image { IsResized (size_after result (size_of self.old) size) self.old self.new }
+        ensures sees { Shrinks S.view F.backing self.old self.new size result }
+        ensures last { (out : List (Option Prepared)) → (abstract_of S.view F.backing self.old out).is_sound → WritesSizeLast S.view F.backing self.old self.new }
+    {
+        let (end, stopped) = self.uncover_tail(size);
+        let any = self.lies_between(size, end);
+        if let Some(refusal) = stopped {
+            self.mark_refused(&refusal, any);
+            return Err(refusal);
+        }
+        if let Err(refusal) = self.write_size(size) {
+            self.mark_refused(&refusal, any);
+            return Err(refusal);
+        }
+        Ok(end)
+    }
+
+    // Uncovers the whole clusters behind a size, in turns: up to where, and the refusal that ended the call. Any other one ends the turns.
+    fn uncover_tail(&mut self, size: u64) -> (u64, Option<ImageError>)
+        requires smaller { size < size_of self.old }
+        ensures image { IsSameImage self.old self.new }
+        ensures cause { IfSome result.1 IsFault }
+        ensures marks { MatchOption result.1 (is_failed self.new ≡ is_failed self.old) (λ e. Marks {A = Unit {0}} (Err e) (is_failed self.old) (is_failed self.new)) }
+        ensures uncovers { (out : List (Option Prepared)) → ImageInvariant S.view F.backing (pending_in S.view F.backing self.old out) self.old out → UncoversTail S.view F.backing self.old self.new size result.0 result.1 out }
+    {
+        self.begin();
+        let end = self.file.header.size();
+        let mut at = size;
+        while at < end {
+            match self.uncover_from(at) {
+                Ok(next) => at = next,
+                Err(refusal) => return (at, ends_call(refusal)),
+            }
+        }
+        (at, None)
+    }
+
+    // Uncovers the whole clusters from an offset on, as far as one L2 table goes. Answers where the next turn begins.
+    fn uncover_from(&mut self, at: u64) -> Result<u64, ImageError>
+        requires inside { at < size_of self.old }
+        ensures on { IfOk result (λ next. (at < next) × (next ≤ size_of self.old)) }
+        ensures image { IsSameImage self.old self.new }
+        ensures marks { Marks result (is_failed self.old) (is_failed self.new) }
+        ensures uncovers { UncoversNext S.view F.backing self.old self.new at result }
+    {
+        let end = self.file.header.size();
+        let (from, count) = self.clear_range(at, end - at, Clearance::Uncovered)?;
+        let next = from.saturating_add(count);
+        if at < next && next < end {
+            Ok(next)
+        } else {
+            Ok(end)
+        }
+    }
+
+    // Whether a cluster begins at or behind a size, and before an end.
+    fn lies_between(&self, size: u64, end: u64) -> bool
+        ensures { result ≡ nat_lt (rounded_up_to (cluster_size self.now.file.header.fields) size) end }
+    {
+        match rounded_up(size, self.file.header.cluster_size()) {
+            Some(first) => first < end,
+            None => false,
+        }
+    }
+
+    /// Makes the disk larger. The mode says what its new bytes are, and what place they take. A size that isn't larger changes nothing. A mode that
+    /// takes clusters is refused where there is a disk below (6). Zeros that take none need version 3, and are refused below it (3).
+    pub fn resize_grow(&mut self, size: u64, mode: PreallocateMode) -> Result<(), ImageError>
+        ensures early { IfSome (refuses_to_resize self.old) (λ e. (result ≡ Err e) × (self.new ≡ self.old)) }
+        ensures no_larger { refuses_to_resize self.old ≡ None → size ≤ size_of self.old → (result ≡ Ok tt) × (self.new ≡ self.old) }
+        ensures preallocation { refuses_to_resize self.old ≡ None → size_of self.old < size → IsTrue (takes_over self.old mode) → (result ≡ Err Preallocation) × (self.new ≡ self.old) }
+        ensures late { refuses_to_resize self.old ≡ None → IfErr result (λ e. IsMetPreparing e ⊎ ((e ≡ Preallocation) × IsTrue (takes_over self.old mode))) }
+        ensures marks { Marks result (is_failed self.old) (is_failed self.new) }
+        ensures image { size_of self.old < size → IsResized (size_after result (size_of self.old) size) self.old self.new }
+        ensures sees { GrowsTo S.view F.backing self.old self.new size mode result }
+        ensures last { (out : List (Option Prepared)) → (abstract_of S.view F.backing self.old out).is_sound → WritesSizeLast S.view F.backing self.old self.new }
+        ensures version { refuses_to_resize self.old ≡ None → size_of self.old < size → mode ≡ Zero → LacksZeros self.old → (out : List (Option Prepared)) → (abstract_of S.view F.backing self.old out).is_sound
+            → RefusesUnchanged S.view F.backing self.old self.new out result }
+        ensures tables { refuses_to_resize self.old ≡ None → size_of self.old < size → (out : List (Option Prepared)) → (abstract_of S.view F.backing self.old out).is_sound → GrowsTables self.old self.new size out result }
+    {
+        self.check_resize()?;
+        if size <= self.file.header.size() {
+            return Ok(());
+        }
+        if self.takes_over(mode) {
+            return Err(ImageError::Preallocation);
+        }
+        self.grow_disk(size, mode)
+    }
+
+    // Whether a mode takes clusters, and there is a disk below.
+    fn takes_over(&self, mode: PreallocateMode) -> bool
+        ensures { result ≡ takes_over self.now mode }
+    {
+        match mode {
+            PreallocateMode::None | PreallocateMode::Zero => false,
+            PreallocateMode::FormatAllocate
+            | PreallocateMode::FullAllocate
+            | PreallocateMode::WriteData => self.backing.is_some(),
+        }
+    }
+
+    // Makes the disk larger: a longer L1 table, zeros behind its end as the mode asks, and then the size.
+    fn grow_disk(&mut self, size: u64, mode: PreallocateMode) -> Result<(), ImageError>
+        requires usable { is_failed self.old ≡ false }
+        requires writable { IsTrue (is_writable self.old) }
+        requires larger { size_of self.old < size }
+        ensures cause { IfErr result IsMetPreparing }
+        ensures marks { Marks result (is_failed self.old) (is_failed self.new) }
+        ensures image { IsResized (size_after result (size_of self.old) size) self.old self.new }
+        ensures sees { GrowsTo S.view F.backing self.old self.new size mode result }
+        ensures last { (out : List (Option Prepared)) → (abstract_of S.view F.backing self.old out).is_sound → WritesSizeLast S.view F.backing self.old self.new }
+        ensures version { mode ≡ Zero → LacksZeros self.old → (out : List (Option Prepared)) → (abstract_of S.view F.backing self.old out).is_sound → RefusesUnchanged S.view F.backing self.old self.new out result }
+        ensures tables { (out : List (Option Prepared)) → (abstract_of S.view F.backing self.old out).is_sound → GrowsTables self.old self.new size out result }
+    {
+        self.begin();
+        let longer = self.renew_l1_table(size - 1);
+        self.mark_failure(longer)?;
+        let end = self.file.header.size();
+        let filled = self.fill_grown(end, size, mode);
+        self.mark_fault(filled)?;
+        let written = self.write_size(size);
+        self.mark_fault(written)
+    }
+
+    // Behind the first change of a call, a fault or want of memory marks the image as failed.
+    fn mark_fault(&mut self, done: Result<(), ImageError>) -> Result<(), ImageError>
+        ensures answer { result ≡ done }
+        ensures image { IsSameImage self.old self.new }
+        ensures marks { Marks done (is_failed self.old) (is_failed self.new) }
+        ensures rest { self.new ≡ record self.old { is_failed = is_failed self.new } }
+        ensures fault { IfErr done (λ e. IsFault e → IsTrue (is_failed self.new)) }
+    {
+        if let Err(ImageError::Storage | ImageError::Memory) = &done {
+            self.is_failed = true;
+        }
+        done
+    }
+
+    // Makes a new L1 table that has an entry for an offset, with all old entries. The clusters of the old one are freed then.
+    fn renew_l1_table(&mut self, offset: u64) -> Result<(), ImageError>
+        requires writable { IsTrue (is_writable self.old) }
+        ensures stays { Stays self.old self.new }
+        ensures cause { IfErr result IsMet }
+        ensures reaches { OnOk result (l1_index_of self.old.file.header.fields offset < entry_count self.new.l1_table) }
+        ensures makes { (out : List (Option Prepared)) → ImageInvariant S.view F.backing (pending_in S.view F.backing self.old out) self.old out → MakesEntry S.view F.backing self.old self.new out result }
+    {
+        let index = GuestOffset::new(offset).l1_index(self.file.header.cluster_bits());
+        self.grow_l1_table(index)?;
+        self.free_listed()
+    }
+
+    // A fault or want of memory refused a call. It marks the image as failed, where the storage failed or anything changed before.
+    fn mark_refused(&mut self, refusal: &ImageError, changed: bool)
+        requires { IsFault refusal.now }
+        ensures image { IsSameImage self.old self.new }
+        ensures marks { failed_after refusal.now (is_failed self.old) (is_failed self.new) }
+        ensures rest { self.new ≡ record self.old { is_failed = is_failed self.new } }
+        ensures changed { IsTrue changed → IsTrue (is_failed self.new) }
+    {
+        self.note(refusal);
+        if changed {
+            self.is_failed = true;
+        }
+    }
+
+    // Writes the size, as the last write of a call. Refused, the size in memory is the old one again.
+    pub(crate) fn write_size(&mut self, size: u64) -> Result<(), ImageError>
+        ensures cause { IfErr result IsFault }
+        ensures rest { self.new ≡ record self.old { file = record self.old.file { storage = self.new.file.storage; header = self.new.file.header } } }
+        ensures header { OnOk result (self.new.file.header ≡ with_fields self.old.file.header (with_size self.old.file.header.fields size)) }
+        ensures restored { OnErr result (self.new.file.header ≡ self.old.file.header) }
+        ensures time { Passing (view_in S.view self.old.file) (view_in S.view self.new.file) (λ c. c ≡ (view_in S.view self.new.file).contents) }
+        ensures writes { (out : List (Option Prepared)) → ImageInvariant S.view F.backing (pending_in S.view F.backing self.old out) self.old out → WritesSize S.view F.backing self.old self.new out size result }
+        ensures resizes { (p : Pending) → ImageInvariant S.view F.backing p self.old [] → Resizes S.view F.backing p self.old self.new size result }
+    {
+        let old = self.file.header.size();
+        self.file.header.set_size(size);
+        self.file.storage.will_write(WriteKind::Other);
+        match self.file.header.write_size(&mut self.file.storage) {
+            Ok(()) => Ok(()),
+            Err(refusal) => {
+                self.file.header.set_size(old);
+                Err(ImageError::from(refusal))
+            }
+        }
+    }
+}

@@ -1,5 +1,0 @@
-use Rattle.qcow2_laws.proofs.ForUsers.{exact}
-use Rattle.qcow2_laws.proofs.laws.flushed_is_exact.Goals as goal
-
-pub returns : goal.returns
-returns c = exact

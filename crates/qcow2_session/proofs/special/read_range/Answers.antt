@@ -1,0 +1,14 @@
+use Rattle.std.proofs.Common.{◌≡◌, ◌<◌, length, sym, ◌∙◌, subst, arith}
+use Rattle.std.proofs.lemmas.Grind.{common_steps}
+use Rattle.qcow2_alloc.specs.ImageFile.{known_in}
+use Rattle.qcow2_image.proofs.Sizes.{sound_is_usable}
+use Rattle.qcow2_session.proofs.SpecialReads.{told_specially}
+use Rattle.qcow2_session.proofs.special.read_range.Goals as goal
+
+pub returns-clause-tells : goal.returns-clause-tells
+returns-clause-tells g c = λ out sound.
+    let old = c.args.image.now in
+    let usable = sound_is_usable g.S.Storage.view g.F.BackingDisk.backing old out sound in
+    let long : length c.deref_mut.result.now ≡ c.args.length = grind (arith, common_steps) in
+    told_specially (known_in g.S.Storage.view old.file) c.args.offset c.args.length c.readv_special.result (λ some. c.readv_special.ensures.some (subst (λ n. 0 < n) (sym long) some)) (λ none. (c.readv_special.ensures.nothing usable (long ∙ none)).0)
+    (c.readv_special.ensures.late usable) (λ some. c.readv_special.ensures.tells (subst (λ n. 0 < n) (sym long) some) out sound)
