@@ -10,7 +10,7 @@ use Rattle.qcow2_disk.specs.Stops.{GivenBytes, Checkpoint, checkpoint_at, checkp
 use Rattle.qcow2_disk.specs.Mappings.{PreparedMapping}
 use Rattle.qcow2_disk.specs.AbstractImages.{Setting, Guest, Abstraction, AbstractImage, abstract_image, guest_of, contents_of, IsWhole}
 use Rattle.qcow2_disk.specs.Calls.{Refusal, Acts, Does, Refuses, IsFault, Works, Rests, Stops}
-use Rattle.qcow2_disk.specs.Runs.{Command, Reply, Found, CommandMeaning, IsFaultReply, MayAnswer, IsAnswerOfFailed, IsRightlyTold, State, CommandStep, Run, IsSafeWhile, IsStretch, RefinesGuest, RefinesAlong, IsStopIn, RefinesState, RefinesCommand, RefinesRun, RefinesWholeRun, RefinesDisk, IsOwnStretch, started, checkpoint_during, checkpoint_after, stepped, given_by, asked_by, flush, shrink, done, number_is}
+use Rattle.qcow2_disk.specs.Runs.{Command, Reply, Found, CommandMeaning, IsFaultReply, MayAnswer, IsAnswerOfFailed, IsRightlyTold, ResizesLast, State, CommandStep, Run, IsSafeWhile, IsStretch, RefinesGuest, RefinesAlong, IsStopIn, RefinesState, RefinesCommand, RefinesRun, RefinesWholeRun, RefinesDisk, IsOwnStretch, started, checkpoint_during, checkpoint_after, stepped, given_by, asked_by, flush, shrink, done, number_is}
 use Rattle.qcow2_disk.proofs.Stops.{stop_of_kept, stop_more, kept_more}
 
 bool_cases : (b : Bool) → (b ≡ true) ⊎ (b ≡ false)
@@ -24,8 +24,9 @@ pub record Ends (found : ℕ → Option Found) (old new : AbstractImage) (comman
   pub mark : (x : Setting) (s : State) → new.is_sound → (checkpoint_after x s command reply (guest_of new) ≡ checkpoint_during x s command)
       ⊎ (StopOkEverywhere new.setting.backing (checkpoint_after x s command reply (guest_of new)) new.known × StopOkEverywhere new.setting.backing (checkpoint_after x s command reply (guest_of new)) (contents_of new))
 
--- what a command may be answered, on an image that failed and on one that works
-pub record IsAnswer (old : AbstractImage) (command : Command) (reply : Reply) : Type 0 where
+-- what a command may be answered, on an image that failed and on one that works, and how a resize passes
+pub record IsAnswer (old new : AbstractImage) (command : Command) (reply : Reply) : Type 0 where
+  pub sized : old.is_sound → ResizesLast (guest_of old).disk.size old.storage new.storage command
   pub failed : IsTrue old.is_failed → IsAnswerOfFailed command reply
   pub may : old.is_sound → MayAnswer (guest_of old).disk command reply
 
@@ -55,13 +56,14 @@ module _ (x : Setting) (old new : AbstractImage) (s : State) (command : Command)
         stretch = record {
           safe = record { moments = λ e. absurd (not_ok e); at_return = at; silent = λ _. rests.moments; unchanged = λ _. rests.contents };
           own = λ e. absurd (not_ok e);
+          sized = λ e. absurd (not_ok e);
           told = λ e. absurd (not_ok e);
         };
         surplus = λ e. absurd (not_ok e);
         since = λ e. e;
       }
 
-  module _ (ok : s.is_failed ≡ false) (may : MayAnswer s.guest.disk command reply) (acts : Works old new (given_by x s.guest command) (asked_by command)) where
+  module _ (ok : s.is_failed ≡ false) (may : MayAnswer s.guest.disk command reply) (sized : ResizesLast s.guest.disk.size old.storage new.storage command) (acts : Works old new (given_by x s.guest command) (asked_by command)) where
     not_failed : IsTrue s.is_failed → ⊥
     not_failed failed = let t : s.is_failed ≡ true = failed in cc
 
@@ -108,7 +110,7 @@ module _ (x : Setting) (old new : AbstractImage) (s : State) (command : Command)
             contents = λ e. absurd (cc);
             at_rest = at;
           };
-          stretch = record { safe = safe_to (checkpoint_after x s command reply s.guest) at; own = λ _. own; told = λ e. absurd (cc) };
+          stretch = record { safe = safe_to (checkpoint_after x s command reply s.guest) at; own = λ _. own; sized = λ _. sized; told = λ e. absurd (cc) };
           surplus = λ e. absurd (cc);
           since = λ _. ok;
         }
@@ -140,39 +142,40 @@ module _ (x : Setting) (old new : AbstractImage) (s : State) (command : Command)
             contents = λ _. kept;
             at_rest = at;
           };
-          stretch = record { safe = safe_to after at; own = λ _. own; told = λ _. subst (λ y. IsRightlyTold y old.known new command reply) (acts.setting ∙ stands.setting) finds };
+          stretch = record { safe = safe_to after at; own = λ _. own; sized = λ _. sized; told = λ _. subst (λ y. IsRightlyTold y old.known new command reply) (acts.setting ∙ stands.setting) finds };
           surplus = λ _. acts.surplus sound;
           since = λ _. ok;
         }
 
   -- the whole step, from what the call's contract says
-  pub called : IsAnswer old command reply → Acts old new (given_by old.setting (guest_of old) command) (asked_by command) → (old.is_sound → Ends s.found old new command reply) → RefinesCommand x old new s command reply
+  pub called : IsAnswer old new command reply → Acts old new (given_by old.setting (guest_of old) command) (asked_by command) → (old.is_sound → Ends s.found old new command reply) → RefinesCommand x old new s command reply
   called answer acts ends = elim (bool_cases s.is_failed) [
     | inl failed ↦ rested failed (answer.failed (stands.failed failed)) (acts.rests (stands.failed failed))
     | inr ok ↦
         let sound = stands.works ok in
         let may : MayAnswer s.guest.disk command reply = subst (λ (h : Guest). MayAnswer h.disk command reply) (stands.guest ok) (answer.may sound) in
+        let sized : ResizesLast s.guest.disk.size old.storage new.storage command = subst (λ (h : Guest). ResizesLast h.disk.size old.storage new.storage command) (stands.guest ok) (answer.sized sound) in
         let worked : Works old new (given_by x s.guest command) (asked_by command) =
         subst (λ y. Works old new (given_by y s.guest command) (asked_by command)) stands.setting
         (subst (λ h. Works old new (given_by old.setting h command) (asked_by command)) (stands.guest ok) (acts.works sound)) in
         ⊎_elim
         (λ (done : new.is_sound × CommandMeaning old.setting s.found (guest_of old) command reply (guest_of new)).
-        going ok may worked done.0
+        going ok may sized worked done.0
         (subst (λ y. CommandMeaning y s.found s.guest command reply (guest_of new)) stands.setting (subst (λ h. CommandMeaning old.setting s.found h command reply (guest_of new)) (stands.guest ok) done.1))
         ((ends sound).finds done.0) ((ends sound).mark x s done.0))
-        (λ (broke : IsFaultReply reply × IsTrue new.is_failed). failing ok may worked broke.0 broke.1)
+        (λ (broke : IsFaultReply reply × IsTrue new.is_failed). failing ok may sized worked broke.0 broke.1)
         (ends sound).ends
   ]
 
 -- a call that was answered, and one that was refused
-pub done_as : (x : Setting) (old new : AbstractImage) (s : State) (command is : Command) (reply : Reply) → command ≡ is → RefinesState x old s → IsAnswer old is reply
+pub done_as : (x : Setting) (old new : AbstractImage) (s : State) (command is : Command) (reply : Reply) → command ≡ is → RefinesState x old s → IsAnswer old new is reply
     → Does old new (given_by old.setting (guest_of old) is) (asked_by is) (CommandMeaning old.setting s.found (guest_of old) is reply (guest_of new))
     → ((x' : Setting) (s' : State) → checkpoint_after x' s' is reply (guest_of new) ≡ checkpoint_during x' s' is) → (old.is_sound → IsRightlyTold new.setting old.known new is reply) → RefinesCommand x old new s command reply
 done_as x old new s command is reply e stands answer does mark finds =
     subst (λ q. RefinesCommand x old new s q reply) (sym e) (called x old new s is reply stands answer does.acts
     (λ sound. record { ends = inl (does.answer sound); finds = λ _. finds sound; mark = λ x' s' _. inl (mark x' s') }))
 
-pub refused_told : (x : Setting) (old new : AbstractImage) (s : State) (command is : Command) (reply : Reply) (error : Refusal) → command ≡ is → RefinesState x old s → IsAnswer old is reply
+pub refused_told : (x : Setting) (old new : AbstractImage) (s : State) (command is : Command) (reply : Reply) (error : Refusal) → command ≡ is → RefinesState x old s → IsAnswer old new is reply
     → Refuses old new (given_by old.setting (guest_of old) is) (asked_by is) error (CommandMeaning old.setting s.found (guest_of old) is reply (guest_of new)) → (IsFault error → IsFaultReply reply)
     → ((x' : Setting) (s' : State) → checkpoint_after x' s' is reply (guest_of new) ≡ checkpoint_during x' s' is) → (old.is_sound → IsRightlyTold new.setting old.known new is reply) → RefinesCommand x old new s command reply
 refused_told x old new s command is reply error e stands answer refuses fault mark finds =
@@ -184,7 +187,7 @@ refused_told x old new s command is reply error e stands answer refuses fault ma
     }))
 
 -- one that tells nothing but its refusal
-pub refused_as : (x : Setting) (old new : AbstractImage) (s : State) (command is : Command) (reply : Reply) (error : Refusal) → command ≡ is → RefinesState x old s → IsAnswer old is reply
+pub refused_as : (x : Setting) (old new : AbstractImage) (s : State) (command is : Command) (reply : Reply) (error : Refusal) → command ≡ is → RefinesState x old s → IsAnswer old new is reply
     → Refuses old new (given_by old.setting (guest_of old) is) (asked_by is) error (CommandMeaning old.setting s.found (guest_of old) is reply (guest_of new)) → (IsFault error → IsFaultReply reply)
     → ((x' : Setting) (s' : State) → checkpoint_after x' s' is reply (guest_of new) ≡ checkpoint_during x' s' is) → IsRightlyTold new.setting old.known new is reply → RefinesCommand x old new s command reply
 refused_as x old new s command is reply error e stands answer refuses fault mark finds = refused_told x old new s command is reply error e stands answer refuses fault mark (λ _. finds)
@@ -213,7 +216,7 @@ kept_at_once v b whole same = record {
   values = λ o. inl (ap (λ (a : Bytes). (disk a v.setting.backing).value o) same);
 }
 
-pub flushed_as : (x : Setting) (old new : AbstractImage) (s : State) (command is : Command) (reply : Reply) → command ≡ is → RefinesState x old s → IsAnswer old is reply
+pub flushed_as : (x : Setting) (old new : AbstractImage) (s : State) (command is : Command) (reply : Reply) → command ≡ is → RefinesState x old s → IsAnswer old new is reply
     → Does old new (given_by old.setting (guest_of old) is) (asked_by is) ((new.known ≡ contents_of new) × CommandMeaning old.setting s.found (guest_of old) is reply (guest_of new))
     → (new.is_sound → IsWhole new)
     → ((x' : Setting) (s' : State) → checkpoint_after x' s' is reply (guest_of new) ≡ checkpoint_at (guest_of new).disk) → IsRightlyTold new.setting old.known new is reply → RefinesCommand x old new s command reply
@@ -229,7 +232,7 @@ flushed_as x old new s command is reply e stands answer does whole mark finds =
     }))
 
 -- a command that was misused: nothing is called
-pub none_as : (x : Setting) (v : AbstractImage) (s : State) (command is : Command) (reply : Reply) → command ≡ is → RefinesState x v s → IsAnswer v is reply
+pub none_as : (x : Setting) (v : AbstractImage) (s : State) (command is : Command) (reply : Reply) → command ≡ is → RefinesState x v s → IsAnswer v v is reply
     → (v.is_sound → CommandMeaning v.setting s.found (guest_of v) is reply (guest_of v))
     → ((x' : Setting) (s' : State) → checkpoint_after x' s' is reply (guest_of v) ≡ checkpoint_during x' s' is) → IsRightlyTold v.setting v.known v is reply → RefinesCommand x v v s command reply
 none_as x v s command is reply e stands answer means mark finds =

@@ -44,7 +44,7 @@ pub record Works (old new : AbstractImage) (given : List GivenBytes) (asked : Li
   pub surplus : new.is_sound → new.surplus ≡ old.surplus
   pub stops : (m : Checkpoint) → StartsAt old m → Stops old new given asked m
 
--- a failed image writes nothing checkpoint_with
+-- a failed image writes nothing more
 pub record Rests (old new : AbstractImage) : Type 0 where
   pub setting : new.setting ≡ old.setting
   pub failed : IsTrue new.is_failed

@@ -6,6 +6,7 @@ pub mod AbstractImages
 pub mod Calls
 pub mod Found
 pub mod ClearedCovers
+pub mod GrownCovers
 pub mod Runs
 pub mod Headline
 pub mod ForUsers

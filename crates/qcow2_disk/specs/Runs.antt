@@ -12,6 +12,7 @@ use Rattle.qcow2_disk.specs.Mappings.{PreparedMapping, IsPrepared, put_mapping, 
 use Rattle.qcow2_disk.specs.Found.{Kind, IsFoundIn, IsCompressedAt}
 use Rattle.qcow2_disk.specs.AbstractImages.{Setting, HostRange, Guest, Abstraction, AbstractImage, abstract_image, guest_of, contents_of}
 use Rattle.qcow2_disk.specs.ClearedCovers.{IsRightlyCleared}
+use Rattle.qcow2_disk.specs.GrownCovers.{IsRightlyGrown}
 use Rattle.qcow2_disk.specs.Calls.{Refusal, memory, storage, not_compressed, another, IsFault, Shows, with_disk, with_slot, MayWrite, Clearing, cleared_at, gift_of_clear, grown_to, gift_of_grow, MayGrow, IsShrunk, gift_of_shrink, gift_of_shrunk}
 
 pub data Command : Type 0 where
@@ -115,6 +116,7 @@ CommandMeaning x found old command misuse new = IsMisuse found old command × (n
 CommandMeaning x found old command reply new = ⊥
 
 -- This may be answered: a read or a write is done, and a range prepared or cleared, within the size alone. A refused write names no more bytes than it has. The size, the number of leaks, dropping a mapping and a lookup at or past the size are refused by no want of memory, nor else.
+-- A size that isn't larger, or isn't smaller, meets no fault.
 abbrev pub MayAnswer : Disk → Command → Reply → Type 0
 MayAnswer d (read offset n) (bytes_are bytes) = 0 < n → offset + n ≤ d.size
 MayAnswer d (write offset bytes) done = 0 < length bytes → offset + length bytes ≤ d.size
@@ -123,6 +125,8 @@ MayAnswer d (prepare slot offset n overwrite) (prepared_is host count is_existin
 MayAnswer d (clear how offset n) (range_is from count) = 0 < n → offset + n ≤ d.size
 MayAnswer d (get_mapping place offset max) (refused e) = offset < d.size
 MayAnswer d (discard slot) (refused e) = ⊥
+MayAnswer d (grow size mode) (refused e) = IsFault e → d.size < size
+MayAnswer d (shrink size) (refused e) = IsFault e → size < d.size
 MayAnswer d get_size (refused e) = ⊥
 MayAnswer d get_leaked (refused e) = ⊥
 MayAnswer d command reply = Unit {0}
@@ -243,7 +247,7 @@ abbrev pub IsRightlyPlain : (before : Bytes) → (offset n : ℕ) → Option ℕ
 IsRightlyPlain before offset n (Some at) = (0 < n) × (at ≡ offset) × (¬ IsCompressedAt before offset)
 IsRightlyPlain before offset n None = n ≡ 0
 
--- What a lookup answers is what is found in the known bytes, which it leaves as they were. What is told of preparing, clearing and special reads is so. After a flush nothing is left to be freed.
+-- What a lookup answers is what is found in the known bytes, which it leaves as they were. What is told of preparing, clearing, special reads and a larger size is so. After a flush nothing is left to be freed.
 abbrev pub IsRightlyTold : Setting → (before : Bytes) → AbstractImage → Command → Reply → Type 0
 IsRightlyTold x before new (get_mapping place offset max) (mapping_is from kind n) = IsFoundIn new.known x.is_backed offset max kind n × (new.known ≡ before)
 IsRightlyTold x before new (prepare slot offset n overwrite) (prepared_is host count is_existing) = IsPreparedRightly before new slot n (record { offset = host; length = count; is_existing = is_existing })
@@ -251,13 +255,21 @@ IsRightlyTold x before new (clear how offset n) (range_is from count) = IsRightl
 IsRightlyTold x before new (read_special offset n) (refused e) = IsRightlySpecial before offset n e
 IsRightlyTold x before new (try_read_special offset n) (refused e) = IsRightlySpecial before offset n e
 IsRightlyTold x before new (try_read_special offset n) (plain_at at) = IsRightlyPlain before offset n at
+IsRightlyTold x before new (grow size mode) done = IsRightlyGrown mode size before new.known
 IsRightlyTold x before new flush done = (c : ℕ) → new.to_be_freed c ≡ 0
 IsRightlyTold x before new command reply = Unit {0}
+
+-- A resize writes its size last: each moment on the way has the size from before it, or is what stands at its return.
+abbrev pub ResizesLast : (size : ℕ) → (old new : StorageView) → Command → Type 0
+ResizesLast size old new (grow asked mode) = Passing old new (λ c. ((header (byte_at c)).size ≡ size) ⊎ (c ≡ new.contents))
+ResizesLast size old new (shrink asked) = Passing old new (λ c. ((header (byte_at c)).size ≡ size) ⊎ (c ≡ new.contents))
+ResizesLast size old new command = Unit {0}
 
 -- The stretch of one command, from a storage with what was known over it: each moment on the way is safe and its own, and the reply is as it is then.
 pub record IsStretch (x : Setting) (old : StorageView) (known : Bytes) (new : AbstractImage) (s : State) (command : Command) (reply : Reply) (end : State) : Type 0 where
   pub safe : IsSafeWhile x.backing old new.storage s.is_failed (checkpoint_during x s command) end.mark
   pub own : s.is_failed ≡ false → IsOwnStretch x.backing old new.storage known (given_by x s.guest command) (asked_by command)
+  pub sized : s.is_failed ≡ false → ResizesLast s.guest.disk.size old new.storage command
   pub told : end.is_failed ≡ false → IsRightlyTold x known new command reply
 
 -- Along a run: for each command there is the image at its return, with the mappings that are prepared then, and its stretch is as said.
