@@ -5,11 +5,11 @@ use Rattle.qcow2_metadata.specs.Bytes.{Bytes, byte_at}
 use Rattle.qcow2_metadata.specs.Guest.{Value}
 use Rattle.qcow2_disk.specs.Disk.{disk}
 use Rattle.qcow2_disk.specs.Stops.{GivenBytes, IsGiven, Checkpoint, checkpoint_with, StopOkEverywhere}
-use Rattle.qcow2_disk.specs.AbstractImages.{Setting, AbstractImage, guest_of, contents_of}
+use Rattle.qcow2_disk.specs.AbstractImages.{Setting, AbstractImage, contents_of}
 use Rattle.qcow2_disk.specs.Calls.{Works, Rests}
 use Rattle.qcow2_disk.proofs.Stops.{given_more, given_front, given_split, kept_twice}
 
-module _ (v : AbstractImage) (gs fewer : List GivenBytes) (asked : List ℕ) (within : (o : ℕ) (w : Value) → IsGiven gs o w → (w ≡ (guest_of v).disk.value o) ⊎ IsGiven fewer o w) (m : Checkpoint)
+module _ (v : AbstractImage) (gs fewer : List GivenBytes) (asked : List ℕ) (within : (o : ℕ) (w : Value) → IsGiven gs o w → (w ≡ (disk v.known v.setting.backing).value o) ⊎ IsGiven fewer o w) (m : Checkpoint)
     (known : StopOkEverywhere v.setting.backing m v.known) where
   kept_less : (b : Bytes) → StopOkEverywhere v.setting.backing (checkpoint_with gs asked m) b → StopOkEverywhere v.setting.backing (checkpoint_with fewer asked m) b
   kept_less b k = record {
@@ -18,8 +18,8 @@ module _ (v : AbstractImage) (gs fewer : List GivenBytes) (asked : List ℕ) (wi
     values = λ o. ⊎_elim (λ h. inl h)
         (λ h. ⊎_elim
         (λ g. ⊎_elim
-        (λ (e : (disk b v.setting.backing).value o ≡ (guest_of v).disk.value o). ⊎_elim (λ (s : (guest_of v).disk.value o ≡ m.last.value o). inl (e ∙ s))
-        (λ (q : IsGiven m.given o ((guest_of v).disk.value o)). inr (given_more fewer m.given o _ (subst (λ w. IsGiven m.given o w) (sym e) q))) (known.values o))
+        (λ (e : (disk b v.setting.backing).value o ≡ (disk v.known v.setting.backing).value o). ⊎_elim (λ (s : (disk v.known v.setting.backing).value o ≡ m.last.value o). inl (e ∙ s))
+        (λ (q : IsGiven m.given o ((disk v.known v.setting.backing).value o)). inr (given_more fewer m.given o _ (subst (λ w. IsGiven m.given o w) (sym e) q))) (known.values o))
         (λ (f : IsGiven fewer o ((disk b v.setting.backing).value o)). inr (given_front fewer m.given o _ f))
         (within o _ g))
         (λ q. inr (given_more fewer m.given o _ q))
@@ -28,7 +28,7 @@ module _ (v : AbstractImage) (gs fewer : List GivenBytes) (asked : List ℕ) (wi
   }
 
 -- a call that gives only what is there already or is one of fewer gifts, gives those
-pub works_less : (old new : AbstractImage) (gs fewer : List GivenBytes) (asked : List ℕ) → ((o : ℕ) (w : Value) → IsGiven gs o w → (w ≡ (guest_of old).disk.value o) ⊎ IsGiven fewer o w)
+pub works_less : (old new : AbstractImage) (gs fewer : List GivenBytes) (asked : List ℕ) → ((o : ℕ) (w : Value) → IsGiven gs o w → (w ≡ (disk old.known old.setting.backing).value o) ⊎ IsGiven fewer o w)
     → Works old new gs asked → Works old new fewer asked
 works_less old new gs fewer asked within w = record {
   setting = w.setting;

@@ -5,7 +5,7 @@ use Rattle.image_access.specs.Moments.{Passing}
 use Rattle.image_access.proofs.Passing.{passes_none, passes_if, passes_more, passes_on, since_start as since_began}
 use Rattle.qcow2_metadata.specs.Bytes.{Bytes, byte_at}
 use Rattle.qcow2_metadata.specs.Consistent.{IsConsistent}
-use Rattle.qcow2_disk.specs.Disk.{Disk, disk}
+use Rattle.qcow2_disk.specs.Disk.{Disk, disk, disk_with}
 use Rattle.qcow2_disk.specs.Stops.{GivenBytes, Checkpoint, checkpoint_at, checkpoint_with, StopOkEverywhere, StopOk}
 use Rattle.qcow2_disk.specs.Mappings.{PreparedMapping}
 use Rattle.qcow2_disk.specs.AbstractImages.{Setting, Guest, Abstraction, AbstractImage, abstract_image, guest_of, contents_of, IsWhole}
@@ -210,10 +210,12 @@ acts_none v given asked = record {
 
 -- a flush that succeeded: what is on the storage is what the guest sees
 kept_at_once : (v : AbstractImage) (b : Bytes) → IsWhole v → b ≡ v.known → StopOkEverywhere v.setting.backing (checkpoint_at (guest_of v).disk) b
-kept_at_once v b whole same = record {
+kept_at_once v b whole same =
+    let shown : disk b v.setting.backing ≡ (guest_of v).disk =
+    ap (λ (a : Bytes). disk a v.setting.backing) same ∙ ap (λ (a : Bytes). disk_with v.known a v.setting.backing) (sym whole.in_image) in record {
   consistent = subst (λ (a : Bytes). IsConsistent a) (sym same) whole.consistent;
-  size = inl (ap (λ (a : Bytes). (disk a v.setting.backing).size) same);
-  values = λ o. inl (ap (λ (a : Bytes). (disk a v.setting.backing).value o) same);
+  size = inl (ap (λ (d : Disk). d.size) shown);
+  values = λ o. inl (ap (λ (d : Disk). d.value o) shown);
 }
 
 pub flushed_as : (x : Setting) (old new : AbstractImage) (s : State) (command is : Command) (reply : Reply) → command ≡ is → RefinesState x old s → IsAnswer old new is reply

@@ -4,7 +4,7 @@ use Rattle.image_access.specs.Moments.{StorageView}
 use Rattle.qcow2_metadata.specs.Bytes.{Bytes, byte_at}
 use Rattle.qcow2_metadata.specs.Header.{header, cluster_size}
 use Rattle.qcow2_metadata.specs.Consistent.{IsConsistent}
-use Rattle.qcow2_disk.specs.Disk.{Disk, disk}
+use Rattle.qcow2_disk.specs.Disk.{Disk, disk_with}
 use Rattle.qcow2_disk.specs.Mappings.{PreparedMapping}
 
 -- what doesn't change while commands run
@@ -32,8 +32,12 @@ pub record Abstraction (D P : Type 0) : Type 1 where
   pub setting : D → Setting
   pub is_failed : D → Bool
   pub storage : D → StorageView
+  -- how often the disk below has failed, up to the greatest u64
+  pub faults_below : D → ℕ
   -- the bytes on the storage with the modified tables laid over them
   pub known : D → Bytes
+  -- the bytes that data stand in: the known ones, where the image itself has its data
+  pub data_bytes : D → Bytes
   -- it is as the driver keeps it, and its storage is honest
   pub is_sound : D → List (Option P) → Type 0
   pub surplus : D → List (Option P) → ℕ → ℕ
@@ -55,7 +59,9 @@ pub record AbstractImage : Type 1 where
   pub setting : Setting
   pub is_failed : Bool
   pub storage : StorageView
+  pub faults_below : ℕ
   pub known : Bytes
+  pub data_bytes : Bytes
   pub is_sound : Type 0
   pub surplus : ℕ → ℕ
   pub to_be_freed : ℕ → ℕ
@@ -73,7 +79,9 @@ abstract_image spec d out = record {
   setting = spec.setting d;
   is_failed = spec.is_failed d;
   storage = spec.storage d;
+  faults_below = spec.faults_below d;
   known = spec.known d;
+  data_bytes = spec.data_bytes d;
   is_sound = spec.is_sound d out;
   surplus = spec.surplus d out;
   to_be_freed = spec.to_be_freed d;
@@ -87,11 +95,12 @@ contents_of v = byte_at v.storage.contents
 
 -- what a guest sees of it
 abbrev pub guest_of : AbstractImage → Guest
-guest_of v = record { disk = disk v.known v.setting.backing; slots = v.slots }
+guest_of v = record { disk = disk_with v.known v.data_bytes v.setting.backing; slots = v.slots }
 
 -- what a sound image is
 pub record IsWhole (v : AbstractImage) : Type 0 where
   pub consistent : IsConsistent v.known
+  pub in_image : v.data_bytes ≡ v.known
   pub cluster_size : v.setting.cluster_size ≡ cluster_size (header v.known)
 
 -- an image that was just opened: it is sound, and nothing is modified

@@ -9,9 +9,13 @@ pub record Disk : Type 0 where
   pub size : ℕ
   pub value : ℕ → Value
 
--- the disk of an image whose data stand in the image itself, over the bytes of its backing disk
-unfoldable pub disk : Bytes → Bytes → Disk
-disk image backing = record { size = (header image).size; value = guest_value (header image) image image backing }
+-- the disk of an image whose data stand in these bytes, over the bytes of its backing disk
+unfoldable pub disk_with : (image data_bytes backing : Bytes) → Disk
+disk_with image data_bytes backing = record { size = (header image).size; value = guest_value (header image) image data_bytes backing }
+
+-- the same of an image whose data stand in the image itself
+abbrev pub disk : Bytes → Bytes → Disk
+disk image backing = disk_with image image backing
 
 -- ---- what calls change
 

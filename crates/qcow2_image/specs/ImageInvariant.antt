@@ -140,6 +140,11 @@ module _ {S F : Type 0} (view : S → StorageView) (backing : F → BackingView)
   backing_bytes None = λ o. 0
   backing_bytes (Some f) = byte_at (backing f).bytes
 
+  -- how often it has failed
+  abbrev pub faults_below : Option F → ℕ
+  faults_below None = 0
+  faults_below (Some f) = (backing f).faults
+
   -- whether there is one, and its bytes
   abbrev pub below_of : Option F → Bool × Bytes
   below_of disk = (is_some disk, backing_bytes disk)
@@ -215,7 +220,9 @@ module _ {S F : Type 0} (view : S → StorageView) (backing : F → BackingView)
     setting = λ image. record { cluster_size = cluster_size image.file.header.fields; is_backed = is_some image.backing; backing = backing_bytes image.backing };
     is_failed = is_failed;
     storage = λ image. view_in view image.file;
+    faults_below = λ image. faults_below image.backing;
     known = λ image. known_in view image.file;
+    data_bytes = λ image. known_in view image.file;
     is_sound = λ image out. ImageInvariant (pending_in image out) image out;
     surplus = surplus_in;
     to_be_freed = λ image k. if is_writable image then to_free of_tables image.file.free_list k + to_free of_data image.file.free_list k else 0;

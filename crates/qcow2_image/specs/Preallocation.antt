@@ -9,6 +9,7 @@ use Rattle.qcow2_metadata.specs.Header.{cluster_size, rounded_up}
 use Rattle.qcow2_disk.specs.AbstractImages.{guest_of}
 use Rattle.qcow2_disk.specs.Calls.{MayGrow, Works, gift_of_grow, shows_old, with_disk, with_slot}
 use Rattle.qcow2_disk.specs.Disk.{Disk, zeroed}
+pub use Rattle.qcow2_disk.specs.GrownCovers.{Touches, FilledCovers, first_zeros}
 use Rattle.qcow2_disk.specs.Mappings.{committed, gift_of_commit, is_copied_data}
 use Rattle.qcow2_disk.specs.Stops.{GivenBytes}
 use Rattle.qcow2_alloc.specs.ImageError.{IsFault as IsFaultOfTables}
@@ -47,24 +48,6 @@ pub record IsUnderMappingIn (h : HeaderFields) (from to : ℕ) (out : List (Opti
   pub low : from ≤ offset
   pub high : offset < to
   pub under : IsUnderMapping h offset out
-
--- a guest cluster has a byte of a range
-abbrev pub Touches : (size_of_cluster from to g : ℕ) → Type 0
-Touches size_of_cluster from to g = (from < to) × (from < g * size_of_cluster + size_of_cluster) × (g * size_of_cluster < to)
-
--- What stands for guest clusters once a range is filled. Those with a byte of it are explicit zeros, from a first offset on, and copied data before it. All others stand as before.
-pub record FilledCovers (size_of_cluster first from to : ℕ) (h : HeaderFields) (known : Bytes) (h' : HeaderFields) (known' : Bytes) : Type 0 where
-  pub beside : (g : ℕ) → (Touches size_of_cluster from to g → ⊥) → cover h known g ≡ cover h' known' g
-  pub zeros : (g : ℕ) → Touches size_of_cluster from to g → first ≤ g * size_of_cluster → cover h' known' g ≡ cleared_cover KeptZeros (cover h known g)
-  pub copied : (g : ℕ) → Touches size_of_cluster from to g → g * size_of_cluster < first → is_copied_data (cover h' known' g) ≡ true
-
--- from where on a mode leaves zeros that have no bytes in the file: from the first boundary at or past the old size on, or nowhere
-abbrev pub first_zeros : (size_of_cluster old size : ℕ) → PreallocateMode → ℕ
-first_zeros size_of_cluster old size Mode.None = rounded_up size_of_cluster size
-first_zeros size_of_cluster old size Mode.Zero = rounded_up size_of_cluster old
-first_zeros size_of_cluster old size Mode.FormatAllocate = rounded_up size_of_cluster size
-first_zeros size_of_cluster old size Mode.FullAllocate = rounded_up size_of_cluster size
-first_zeros size_of_cluster old size Mode.WriteData = rounded_up size_of_cluster size
 
 -- two offsets are those of clusters
 abbrev pub IsWholeRange : HeaderFields → (from to : ℕ) → Type 0

@@ -43,11 +43,11 @@ module _ (s : DriverState) (backing : Bytes) (sound : StateInvariant s) where
   mark = record { last = disk s.on_storage backing; given = gift_shown (disk s.known backing) 0 (guests s.header * cluster_size s.header) ∷ []; asked = [] }
 
   pub storage_kept : StopOkEverywhere backing mark s.on_storage
-  unfolding disk
+  unfolding disk_with
   storage_kept = record { consistent = guarded_consistent s.header s.direction s.pending s.on_storage s.known sound; size = inl refl; values = λ o. inl refl }
 
   pub known_kept : StopOkEverywhere backing mark s.known
-  unfolding disk
+  unfolding disk_with
   known_kept = record {
     consistent = known_consistent s.header s.direction s.pending s.on_storage s.known sound;
     size = inl (size_is s.header s.known backing known_is ∙ sym (size_is s.header s.on_storage backing sound.top.header_is));
@@ -58,7 +58,7 @@ module _ (s : DriverState) (backing : Bytes) (sound : StateInvariant s) where
   }
 
   old_size : (given : List GivenBytes) (b : Bytes) → StopOkEverywhere backing (checkpoint_with given [] mark) b → (header b).size ≡ s.header.size
-  unfolding disk
+  unfolding disk_with
   old_size given b kept = elim kept.size [
     | inl e ↦ sym (size_is (header b) b backing refl) ∙ e ∙ size_is s.header s.on_storage backing sound.top.header_is
     | inr asked ↦ absurd asked

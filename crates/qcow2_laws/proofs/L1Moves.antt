@@ -175,7 +175,7 @@ module _ (h : HeaderFields) (offset entries : ℕ) (d : Direction) (p : Pending)
       top_now same_top_now new.longer covers known_covers unlaid (named_by_cover h c) refl)
 
   disk_same : (backing : Bytes) → disk known' backing ≡ disk known backing
-  unfolding disk
+  unfolding disk_with
   disk_same backing =
       let was = (IsTop-top h on_storage known guarded.same_top guarded.top).header_is in
       let is = (IsTop-top (with_places h (with_l1_at h offset entries)) on_storage' known' same_top_now top_now).header_is in

@@ -242,7 +242,7 @@ module _ (old new : DriverState) (sound : StateInvariant old) where
 
     pub disk_stays : SameCovers old.header old.known new.known
         → ((place : ℕ) → 0 < over_guests old.header (names old.header old.known (place / cluster_size old.header)) → new.known place ≡ old.known place) → disk new.known backing ≡ disk old.known backing
-    unfolding disk
+    unfolding disk_with
     disk_stays covers bytes =
         let value : (disk new.known backing).value ≡ (disk old.known backing).value = fun_ext (λ o.
         value_stays o (covers (o / cluster_size old.header)) (λ place some. bytes place (named_some (place / cluster_size old.header) (o / cluster_size old.header) some))) in

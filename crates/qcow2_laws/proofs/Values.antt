@@ -50,11 +50,11 @@ guest_value-same h b c backing o same aligned bytes =
 -- ---- disks of images whose headers are known
 
 pub value_is : (h : HeaderFields) (b backing : Bytes) (o : ℕ) → header b ≡ h → (disk b backing).value o ≡ guest_value h b b backing o
-unfolding disk
+unfolding disk_with
 value_is h b backing o is = ap (λ t. guest_value t b b backing o) is
 
 pub size_is : (h : HeaderFields) (b backing : Bytes) → header b ≡ h → (disk b backing).size ≡ h.size
-unfolding disk
+unfolding disk_with
 size_is h b backing is = ap (λ (t : HeaderFields). t.size) is
 
 -- an image that shows the same, but for what is given

@@ -26,7 +26,7 @@ use Rattle.qcow2_image.specs.ImageInvariant.{abstract_of}
 use Rattle.qcow2_image.proofs.Create.ThreeWrites.{new_unwritten}
 
 disk_size : (b backing : Bytes) → (disk b backing).size ≡ (header b).size
-unfolding disk
+unfolding disk_with
 disk_size b backing = refl
 
 -- what is kept of an unwritten image is unwritten

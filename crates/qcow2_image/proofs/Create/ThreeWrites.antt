@@ -31,7 +31,7 @@ unfolding guest_value
 uncovered_shows h b backing o none = ap (λ (m : L2Mapping). value_under h b b backing o m) none
 
 no_table_shows : (b backing : Bytes) (o : ℕ) → (header b).l1_entries ≡ 0 → (disk b backing).value o ≡ known_byte (backing o)
-unfolding disk
+unfolding disk_with
 no_table_shows b backing o none =
     let h = header b in
     uncovered_shows h b backing o (cover_none h b (o / cluster_size h) (ap host_offset (l1_entry-past h b (o / cluster_size h / entries_per_cluster h) (omega (arith, none)))))

@@ -172,7 +172,7 @@ module _ {S F : Type 0} (view : S → StorageView) (backing : F → BackingView)
         (header_fixed h (resized h size h.autoclear) (order_of old.file.caches) p on_storage known (contents_in view sized.file) (known_in view sized.file) sound.file.caches.kept.kept.guarded writes_now) writes_now.known_others
 
     disk_now : (below : Bytes) → disk (known_in view sized.file) below ≡ record (disk known below) { size = size }
-    unfolding disk
+    unfolding disk_with
     disk_now below =
         let s = state_in view old.file p in
         let s' = state_in view sized.file p in
