@@ -5,7 +5,7 @@ use Rattle.image_access.specs.Moments.{StorageView, Passing}
 use Rattle.image_access.proofs.Passing.{passes_if, passes_on}
 use Rattle.qcow2_metadata.specs.Bytes.{Bytes, byte_at}
 use Rattle.qcow2_metadata.specs.Consistent.{IsConsistent}
-use Rattle.qcow2_disk.specs.Disk.{Disk, disk}
+use Rattle.qcow2_disk.specs.Disk.{Disk, disk, disk_with}
 use Rattle.qcow2_disk.specs.Stops.{GivenBytes, checkpoint_at, StopOkEverywhere, StopOk, SafeThroughout}
 use Rattle.qcow2_disk.specs.AbstractImages.{Setting, Guest, Abstraction, abstract_image, guest_of, IsOpened}
 use Rattle.qcow2_disk.specs.Runs.{Command, Reply, State, Run, RefinesDisk, IsStopIn, started, given_by, asked_by}
@@ -32,7 +32,7 @@ first_stop x s end (command ∷ commands) [] run b at = absurd run
 
 module _ {D P : Type 0} (spec : Abstraction D P) (before : StorageView) (opened new : D) (commands : List Command) (replies : List Reply)
     (consistent : IsConsistent (byte_at before.contents)) (nothing_before : (c : List ℕ) → before.had_since before.moment c → c ≡ before.contents)
-    (since : SafeThroughout before (spec.storage opened) (byte_at before.contents) (λ _. []) []) (clean : spec.known opened ≡ byte_at (spec.storage opened).contents)
+    (since : SafeThroughout before (spec.storage opened) (byte_at before.contents) (λ _. []) []) (clean : spec.known opened ≡ byte_at (spec.storage opened).contents) (in_image : spec.data_bytes opened ≡ spec.known opened)
     (setting : spec.setting opened ≡ setting_in (byte_at before.contents)) (refines : RefinesDisk spec opened new commands replies) where
   abbrev b : Bytes
   b = byte_at before.contents
@@ -45,8 +45,9 @@ module _ {D P : Type 0} (spec : Abstraction D P) (before : StorageView) (opened 
 
   shows : guest_of (abstract_image spec opened []) ≡ guest_in b
   shows =
-      let known : disk (spec.known opened) (spec.setting opened).backing ≡ disk (byte_at (spec.storage opened).contents) nothing_below =
-      ap (λ (k : Bytes). disk k (spec.setting opened).backing) clean ∙ ap (λ (k : Bytes). disk (byte_at (spec.storage opened).contents) k) backing-is in
+      let known : disk_with (spec.known opened) (spec.data_bytes opened) (spec.setting opened).backing ≡ disk (byte_at (spec.storage opened).contents) nothing_below =
+      ap (λ (k : Bytes). disk_with (spec.known opened) k (spec.setting opened).backing) in_image
+      ∙ ap (λ (k : Bytes). disk k (spec.setting opened).backing) clean ∙ ap (λ (k : Bytes). disk (byte_at (spec.storage opened).contents) k) backing-is in
       ap (λ (d : Disk). record (guest_in b) { disk = d }) (known ∙ same_disk nothing_below (disk b nothing_below) (byte_at (spec.storage opened).contents) (since.contents nothing_below (checkpoint_at (disk b nothing_below)) start start))
 
   abbrev In : List ℕ → Type 0

@@ -43,5 +43,5 @@ returns-clause-headline g c = λ honest consistent.
     ⊎_elim
     (λ (none : IsUntouched view below opened new c.run-replies.result.items). inl (none.0, subst (λ (image : _). IsKeptSince before (view (storage_of_image image))) (sym none.1) since))
     (λ (refines : RefinesDisk (image_abstraction view below) opened new (map command_of c.args.commands.now) (map reply_of c.run-replies.result.items)).
-    inr (from_bytes (image_abstraction view below) before opened new _ _ consistent (g.S.Storage.only_now c.args.storage) since is.clean setting refines))
+    inr (from_bytes (image_abstraction view below) before opened new _ _ consistent (g.S.Storage.only_now c.args.storage) since is.clean refl setting refines))
     (c.run-replies.ensures.means is)
