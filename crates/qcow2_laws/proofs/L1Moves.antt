@@ -9,7 +9,7 @@ use Rattle.qcow2_metadata.specs.Entries.{l1_entry, reftable_entry, count, count_
 use Rattle.qcow2_metadata.specs.Cover.{cover, cover_under}
 use Rattle.qcow2_metadata.specs.Named.{in_run, table_in, named_for_tables, named_by_reftable, named_by_l1_table, named_by_cover}
 use Rattle.qcow2_metadata.specs.Consistent.{IsAligned}
-use Rattle.qcow2_disk.specs.Disk.{disk}
+use Rattle.qcow2_disk.specs.Disk.{disk, disk_with}
 use Rattle.qcow2_disk.specs.Stops.{Checkpoint, StopOkEverywhere}
 use Rattle.qcow2_laws.specs.Clusters.{Direction}
 use Rattle.qcow2_laws.specs.Guests.{over_guests, names, named_in_either, marked_by_l1_table}

@@ -7,7 +7,7 @@ use Rattle.qcow2_metadata.specs.Header.{header, cluster_size}
 use Rattle.qcow2_metadata.specs.Entries.{l1_entry}
 use Rattle.qcow2_metadata.specs.Cover.{cover}
 use Rattle.qcow2_metadata.specs.Named.{named_by_cover, named_for_tables}
-use Rattle.qcow2_disk.specs.Disk.{disk}
+use Rattle.qcow2_disk.specs.Disk.{disk, disk_with}
 use Rattle.qcow2_laws.specs.Guests.{over_guests, names, named_in_either}
 use Rattle.qcow2_laws.specs.CrashInvariant.{SameCovers, SameIn}
 use Rattle.qcow2_laws.specs.Tops.{IsSameOutside, WritesL1Entry, IsNewTable, WritesReftableEntry}

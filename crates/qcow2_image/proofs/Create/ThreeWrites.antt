@@ -17,7 +17,7 @@ use Rattle.qcow2_metadata.specs.Guest.{guest_value, value_under, known_byte}
 use Rattle.qcow2_metadata.specs.RefBlock.{RefBlockView, IsRefBlockAt}
 use Rattle.qcow2_metadata.specs.declared.l2_mapping.L2Mapping.{L2Mapping}
 use Rattle.qcow2_metadata.specs.declared.l2_mapping.L2Mapping.TheVariants.{Uncovered}
-use Rattle.qcow2_disk.specs.Disk.{disk}
+use Rattle.qcow2_disk.specs.Disk.{disk, disk_with}
 use Rattle.qcow2_laws.specs.NewImages.{IsNewImage}
 use Rattle.qcow2_laws.proofs.NewImages.{new_image_consistent}
 use Rattle.qcow2_laws.proofs.Places.{cover_none, l1_entry-past}

@@ -17,7 +17,7 @@ use Rattle.qcow2_metadata.specs.Header.{cluster_size, with_fields, with_size}
 use Rattle.qcow2_metadata.specs.HeaderWrite.{size_written}
 use Rattle.qcow2_disk.specs.AbstractImages.{guest_of, meaning_at}
 use Rattle.qcow2_disk.specs.Calls.{with_disk}
-use Rattle.qcow2_disk.specs.Disk.{disk}
+use Rattle.qcow2_disk.specs.Disk.{disk, disk_with}
 use Rattle.qcow2_disk.specs.Stops.{SafeThroughout, StopOkEverywhere, checkpoint_with}
 use Rattle.qcow2_laws.specs.CrashInvariant.{Pending}
 use Rattle.qcow2_laws.specs.SafeSteps.{SafeStep}
