@@ -3,11 +3,15 @@ use Rattle.std.proofs.Common.{◌≡◌, ◌⊎◌, ⊎_elim, inl, inr, ℕ, Lis
 use Rattle.image_access.proofs.Passing.{passes_if, passes_on}
 use Rattle.qcow2_metadata.specs.Bytes.{Bytes, byte_at}
 use Rattle.qcow2_metadata.specs.Guest.{Value}
-use Rattle.qcow2_disk.specs.Disk.{disk}
+use Rattle.qcow2_disk.specs.Disk.{disk, disk_with}
 use Rattle.qcow2_disk.specs.Stops.{GivenBytes, IsGiven, Checkpoint, checkpoint_with, StopOkEverywhere}
-use Rattle.qcow2_disk.specs.AbstractImages.{Setting, AbstractImage, contents_of}
+use Rattle.qcow2_disk.specs.AbstractImages.{Setting, AbstractImage, contents_of, guest_of}
 use Rattle.qcow2_disk.specs.Calls.{Works, Rests}
 use Rattle.qcow2_disk.proofs.Stops.{given_more, given_front, given_split, kept_twice}
+
+-- what a guest sees of an image that has its data itself
+pub shown_is : (v : AbstractImage) → v.data_bytes ≡ v.known → (guest_of v).disk ≡ disk v.known v.setting.backing
+shown_is v in_image = ap (λ (k : Bytes). disk_with v.known k v.setting.backing) in_image
 
 module _ (v : AbstractImage) (gs fewer : List GivenBytes) (asked : List ℕ) (within : (o : ℕ) (w : Value) → IsGiven gs o w → (w ≡ (disk v.known v.setting.backing).value o) ⊎ IsGiven fewer o w) (m : Checkpoint)
     (known : StopOkEverywhere v.setting.backing m v.known) where

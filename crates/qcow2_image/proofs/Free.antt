@@ -74,6 +74,7 @@ module _ {S F : Type 0} (view : S → StorageView) (backing : F → BackingView)
       let stand = state_in view image.file (pending_in view backing image out) in
       record {
         consistent = sound_is_consistent.known stand sound.file.caches.kept.kept.guarded;
+        in_image = refl;
         cluster_size = ap (λ (h : HeaderFields). cluster_size h) (sym (known_header stand sound.file.caches.kept.kept.guarded));
       }
 

@@ -8,7 +8,7 @@ use Rattle.image_access.specs.Backing.{BackingView}
 use Rattle.image_access.specs.Moments.{StorageView}
 use Rattle.qcow2_alloc.specs.declared.error.ImageError.{ImageError}
 use Rattle.qcow2_alloc.specs.declared.error.ImageError.TheVariants as I
-use Rattle.qcow2_disk.specs.AbstractImages.{guest_of}
+use Rattle.qcow2_disk.specs.AbstractImages.{AbstractImage, guest_of}
 use Rattle.qcow2_disk.specs.Calls.{Refusal, another}
 use Rattle.qcow2_disk.specs.Runs.{Command, Reply, IsAnswerOfFailed, read, write, get_mapping, prepare, done, bytes_are, prepared_is, refused, write_refused}
 use Rattle.qcow2_disk.proofs.RunSteps.{IsAnswer}
@@ -86,27 +86,30 @@ read_within P never None size offset n early some = elim (cases_lt size (offset 
 
 module _ {S F : Type 0} (view : S → StorageView) (backing : F → BackingView) (image : Qcow2 S F) (out : List (Option Prepared)) where
   pub reads_answer : (P : ImageError → Type 0) → ((e : ImageError) → P e → ⊥) → (offset n : ℕ) (bytes : List ℕ) → IfSome (refuses_to_read image offset n) P
-      → IsAnswer (abstract_of view backing image out) (read offset n) (bytes_are bytes)
+      → {w : AbstractImage} → IsAnswer (abstract_of view backing image out) w (read offset n) (bytes_are bytes)
   reads_answer P never offset n bytes early = record {
+    sized = λ _. tt;
     failed = λ f. absurd (never I.Failed (reading_first image P offset n early f));
     may = λ sound some. subst (λ size. offset + n ≤ size) (disk_size view backing image out sound) (read_within P never (unusable image) (size_of image) offset n early some);
   }
 
   pub writes_answer : (P : ImageError → Type 0) → ((e : ImageError) → P e → ⊥) → (offset : ℕ) (bytes : List ℕ) → IfSome (refuses_to_prepare image offset (length bytes)) P
-      → IsAnswer (abstract_of view backing image out) (write offset bytes) done
+      → {w : AbstractImage} → IsAnswer (abstract_of view backing image out) w (write offset bytes) done
   writes_answer P never offset bytes early = record {
+    sized = λ _. tt;
     failed = λ f. absurd (never I.Failed (preparing_first image P offset (length bytes) early f));
     may = λ sound some. subst (λ size. offset + length bytes ≤ size) (disk_size view backing image out sound) (within P never (unusable image) _ (size_of image) offset (length bytes) early some);
   }
 
   pub write_refused_answer : (P : ImageError → Type 0) (offset : ℕ) (bytes : List ℕ) (e : ImageError) (n : ℕ) → (P I.Failed → (refusal_of e ≡ another 16) × (n ≡ 0)) → IfSome (refuses_to_prepare image offset (length bytes)) P → n ≤ length bytes
-      → IsAnswer (abstract_of view backing image out) (write offset bytes) (write_refused (refusal_of e) n)
-  write_refused_answer P offset bytes e n is early no_more = record { failed = λ f. is (preparing_first image P offset (length bytes) early f); may = λ _. no_more }
+      → {w : AbstractImage} → IsAnswer (abstract_of view backing image out) w (write offset bytes) (write_refused (refusal_of e) n)
+  write_refused_answer P offset bytes e n is early no_more = record { sized = λ _. tt; failed = λ f. is (preparing_first image P offset (length bytes) early f); may = λ _. no_more }
 
   -- a range was prepared
   pub prepares_answer : (P : ImageError → Type 0) → ((e : ImageError) → P e → ⊥) → (slot offset n : ℕ) (overwrite : Bool) (host count : ℕ) (is_existing : Bool) → IfSome (refuses_to_prepare image offset n) P
-      → IsAnswer (abstract_of view backing image out) (prepare slot offset n overwrite) (prepared_is host count is_existing)
+      → {w : AbstractImage} → IsAnswer (abstract_of view backing image out) w (prepare slot offset n overwrite) (prepared_is host count is_existing)
   prepares_answer P never slot offset n overwrite host count is_existing early = record {
+    sized = λ _. tt;
     failed = λ f. absurd (never I.Failed (preparing_first image P offset n early f));
     may = λ sound some. subst (λ size. offset + n ≤ size) (disk_size view backing image out sound) (within P never (unusable image) _ (size_of image) offset n early some);
   }
@@ -120,8 +123,9 @@ module _ {S F : Type 0} (view : S → StorageView) (backing : F → BackingView)
 
   -- a lookup was refused
   pub lookup_answer : (slot offset max : ℕ) (e : ImageError) → (IsTrue (is_failed image) → refusal_of e ≡ another 16) → (unusable image ≡ None → size_of image ≤ offset → ⊥)
-      → IsAnswer (abstract_of view backing image out) (get_mapping slot offset max) (refused (refusal_of e))
+      → {w : AbstractImage} → IsAnswer (abstract_of view backing image out) w (get_mapping slot offset max) (refused (refusal_of e))
   lookup_answer slot offset max e failed past = record {
+    sized = λ _. tt;
     failed = failed;
     may = λ sound. elim (cases_lt offset (size_of image)) [
       | inl below ↦ subst (λ size. offset < size) (disk_size view backing image out sound) below

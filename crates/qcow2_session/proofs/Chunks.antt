@@ -6,7 +6,7 @@ use mathlib.Core.Path.{fun_ext}
 use Rattle.qcow2_metadata.specs.Bytes.{byte_at, laid_over, is_within}
 use Rattle.qcow2_metadata.specs.Header.{rounded_down}
 use Rattle.qcow2_metadata.specs.Guest.{Value, known_byte}
-use Rattle.qcow2_disk.specs.Disk.{Disk, with_bytes}
+use Rattle.qcow2_disk.specs.Disk.{Disk, disk, with_bytes}
 use Rattle.qcow2_disk.specs.Stops.{GivenBytes, IsGiven}
 use Rattle.qcow2_disk.specs.Mappings.{PreparedMapping, IsPrepared, put_disk, put_mapping, committed, gift_of, gift_of_put, gift_of_commit}
 use Rattle.qcow2_disk.specs.AbstractImages.{Abstraction, HasFreePlaces, Guest, abstract_image, guest_of}
@@ -15,6 +15,7 @@ use Rattle.qcow2_disk.proofs.ForUsers.{put_given}
 use Rattle.qcow2_disk.proofs.Within.{within_is}
 use Rattle.qcow2_session.proofs.Bytes.{cut_long, cut_short, cut_part, byte_in, laid_in, laid_out, no_bytes, same_values, part_within}
 use Rattle.qcow2_session.proofs.Places.{enters, leaves}
+use Rattle.qcow2_disk.proofs.Compose.{shown_is}
 use Rattle.qcow2_session.proofs.Turns.{none_within, does_if, refuses_if, refuses_fault, refuses_why, does_less, does_then, refuses_then, refused_then, IsWithin}
 
 some_is : {X : Type 0} {a b : X} → Some a ≡ Some b → a ≡ b
@@ -126,7 +127,7 @@ shift g = record { disk = g.disk; slots = λ k. g.slots (suc k) }
 shift_slot : (g : Guest) (m : Option PreparedMapping) → shift (with_slot g 0 m) ≡ shift g
 shift_slot g m = ap (λ (f : ℕ → Option PreparedMapping). record g { slots = f }) (fun_ext (λ k. cond-false (eqb (suc k) 0) m (g.slots (suc k)) (ne_eqb (suc k) 0 (λ e. absurd (omega arith)))))
 
-module _ {D P : Type 0} (spec : Abstraction D P) (has : HasFreePlaces spec) (d0 d1 : D) (p : P) (out : List (Option P)) (offset n : ℕ) (bytes : List ℕ) (count : n ≡ min (length bytes) (spec.means d1 p).length) where
+module _ {D P : Type 0} (spec : Abstraction D P) (has : HasFreePlaces spec) (in_image : (d : D) → spec.data_bytes d ≡ spec.known d) (d0 d1 : D) (p : P) (out : List (Option P)) (offset n : ℕ) (bytes : List ℕ) (count : n ≡ min (length bytes) (spec.means d1 p).length) where
   -- as many of the first bytes as the mapping has room for
   abbrev chunk : List ℕ
   chunk = take n bytes
@@ -155,7 +156,8 @@ module _ {D P : Type 0} (spec : Abstraction D P) (has : HasFreePlaces spec) (d0 
   guest1 r = ap shift r.1 ∙ shift_slot (guest_of (abstract_image spec d0 (None ∷ out))) (Some (spec.means d1 p))
 
   puts_within : Ready → IsWithin (abstract_image spec d1 (Some p ∷ out)) put_gifts gifts
-  puts_within r o w h = put_within (spec.setting d0).cluster_size (guest_of (abstract_image spec d0 out)).disk (spec.means d1 p) offset bytes chunk long short part r.0 (guest_of (abstract_image spec d1 (Some p ∷ out))).disk o w h
+  puts_within r o w h = ⊎_elim (λ (e : w ≡ (guest_of (abstract_image spec d1 (Some p ∷ out))).disk.value o). inl (e ∙ ap (λ (d : Disk). d.value o) (shown_is (abstract_image spec d1 (Some p ∷ out)) (in_image d1)))) (λ (g : IsGiven gifts o w). inr g)
+      (put_within (spec.setting d0).cluster_size (guest_of (abstract_image spec d0 out)).disk (spec.means d1 p) offset bytes chunk long short part r.0 (guest_of (abstract_image spec d1 (Some p ∷ out))).disk o w h)
 
   module _ (prepares : Does (abstract_image spec d0 (None ∷ out)) (abstract_image spec d1 (Some p ∷ out)) [] [] Ready) where
     ready : Does (abstract_image spec d0 out) (abstract_image spec d1 (Some p ∷ out)) gifts [] Ready
@@ -204,7 +206,7 @@ module _ {D P : Type 0} (spec : Abstraction D P) (has : HasFreePlaces spec) (d0 
           let there : IsGiven (gift_of_commit size disk2 mapping2 ∷ []) o w =
           subst (λ (d : Disk). IsGiven (gift_of_commit size d mapping2 ∷ []) o w) disk-is
           (subst (λ (m : PreparedMapping). IsGiven (gift_of_commit size (guest_of (abstract_image spec d2 (Some p ∷ out))).disk m ∷ []) o w) (meaning2 h) given) in
-          ⊎_elim (λ (e : w ≡ disk2.value o). inl (e ∙ sym (ap (λ (d : Disk). d.value o) disk-is))) (λ g. inr g)
+          ⊎_elim (λ (e : w ≡ disk2.value o). inl (e ∙ ap (λ (d : Disk). d.value o) (sym disk-is ∙ shown_is (abstract_image spec d2 (Some p ∷ out)) (in_image d2)))) (λ g. inr g)
           (commit_within (spec.setting d0).cluster_size (guest_of (abstract_image spec d0 out)).disk (spec.means d1 p) offset bytes chunk long short part h.0.0 size o w there)
 
       -- all was done

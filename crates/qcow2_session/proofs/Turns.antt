@@ -5,7 +5,8 @@ use Rattle.image_access.proofs.Passing.{passes_on}
 use Rattle.qcow2_metadata.specs.Bytes.{byte_at}
 use Rattle.qcow2_metadata.specs.Guest.{Value}
 use Rattle.qcow2_disk.specs.Stops.{GivenBytes, IsGiven, checkpoint_with, StopOkEverywhere}
-use Rattle.qcow2_disk.specs.AbstractImages.{AbstractImage, guest_of}
+use Rattle.qcow2_disk.specs.Disk.{disk}
+use Rattle.qcow2_disk.specs.AbstractImages.{AbstractImage}
 use Rattle.qcow2_disk.specs.Calls.{Refusal, memory, storage, not_compressed, another, IsFault, Works, Acts, Does, Refuses}
 use Rattle.qcow2_disk.proofs.Compose.{works_less, works_then, rests_then}
 
@@ -21,7 +22,7 @@ nothing_refused S X (Some x) r a early was = absurd (let no : Ok a ≡ Err x = s
 
 -- what a call gives was there already, or is given anyway
 abbrev pub IsWithin : AbstractImage → List GivenBytes → List GivenBytes → Type 0
-IsWithin v more gs = (o : ℕ) (w : Value) → IsGiven more o w → (w ≡ (guest_of v).disk.value o) ⊎ IsGiven gs o w
+IsWithin v more gs = (o : ℕ) (w : Value) → IsGiven more o w → (w ≡ (disk v.known v.setting.backing).value o) ⊎ IsGiven gs o w
 
 pub none_within : (v : AbstractImage) (gs : List GivenBytes) → IsWithin v [] gs
 none_within v gs o w h = absurd h

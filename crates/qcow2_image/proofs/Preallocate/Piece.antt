@@ -226,9 +226,9 @@ module _ {S F : Type 0} (view : S → StorageView) (backing : F → BackingView)
     piece_filled mid2 new put commits header2 header3 first covers =
         let cs = (abstract_of view backing mid2 (Some p ∷ out)).setting.cluster_size in
         record {
-          works = filled_works (image_abstraction view backing) (free_places view backing) old mid p out (cluster_size old.file.header.fields) from n sound ready.sound ready.works ready.prepared ready.is fits mid2 put.sound put.works put.is new cs commits.sound commits.works commits.shows;
-          sound = filled_sound (image_abstraction view backing) (free_places view backing) old mid p out (cluster_size old.file.header.fields) from n sound ready.sound ready.works ready.prepared ready.is fits mid2 put.sound put.works put.is new cs commits.sound commits.works commits.shows;
-          shows = filled_shows (image_abstraction view backing) (free_places view backing) old mid p out (cluster_size old.file.header.fields) from n sound ready.sound ready.works ready.prepared ready.is fits mid2 put.sound put.works put.is new cs commits.sound commits.works commits.shows;
+          works = filled_works (image_abstraction view backing) (free_places view backing) (λ _. refl) old mid p out (cluster_size old.file.header.fields) from n sound ready.sound ready.works ready.prepared ready.is fits mid2 put.sound put.works put.is new cs commits.sound commits.works commits.shows;
+          sound = filled_sound (image_abstraction view backing) (free_places view backing) (λ _. refl) old mid p out (cluster_size old.file.header.fields) from n sound ready.sound ready.works ready.prepared ready.is fits mid2 put.sound put.works put.is new cs commits.sound commits.works commits.shows;
+          shows = filled_shows (image_abstraction view backing) (free_places view backing) (λ _. refl) old mid p out (cluster_size old.file.header.fields) from n sound ready.sound ready.works ready.prepared ready.is fits mid2 put.sound put.works put.is new cs commits.sound commits.works commits.shows;
           header = subst (λ (h : HeaderFields). MovesTables old.file.header.fields h) (ap (λ x. x.fields) (sym (header3 ∙ header2))) ready.header;
           covers = covers;
         }
@@ -243,13 +243,13 @@ module _ {S F : Type 0} (view : S → StorageView) (backing : F → BackingView)
       sound_now = (free_places view backing).left gone [] out gone_sound
 
       works_now : Works (abstract_of view backing old out) (abstract_of view backing gone out) (gift_of_zeros from (from + p.length) ∷ []) []
-      works_now = gone_works (image_abstraction view backing) (free_places view backing) old mid p out (cluster_size old.file.header.fields) from n sound ready.sound ready.works ready.prepared ready.is fits mid2 put.sound put.works gone
+      works_now = gone_works (image_abstraction view backing) (free_places view backing) (λ _. refl) old mid p out (cluster_size old.file.header.fields) from n sound ready.sound ready.works ready.prepared ready.is fits mid2 put.sound put.works gone
           ((discards (Some p ∷ out) 0 refl).acts.works put.sound) gone_sound
 
       pub piece_gone : (frees : ImageInvariant view backing (pending_in view backing gone out) gone out → RefusedCall view backing gone new out e') → FillsSome view backing from (from + p.length) old new out ⊎ InterruptedGiving view backing (gift_of_zeros from (from + p.length) ∷ []) old new out e'
       piece_gone frees = ⊎_elim
           (λ (same : guest_of (abstract_of view backing mid2 (Some p ∷ out)) ≡ guest_of (abstract_of view backing mid (Some p ∷ out))).
-          let still = gone_same (image_abstraction view backing) (free_places view backing) old mid p out (cluster_size old.file.header.fields) from n sound ready.sound ready.works ready.prepared ready.is fits mid2 put.sound put.works gone same ((discards (Some p ∷ out) 0 refl).answer put.sound).1 in
+          let still = gone_same (image_abstraction view backing) (free_places view backing) (λ _. refl) old mid p out (cluster_size old.file.header.fields) from n sound ready.sound ready.works ready.prepared ready.is fits mid2 put.sound put.works gone same ((discards (Some p ∷ out) 0 refl).answer put.sound).1 in
           some_then still (frees sound_now))
           (λ (failed : e ≡ I.Storage).
           let is = fault (inl failed) in

@@ -4,12 +4,12 @@ use Rattle.std.proofs.lemmas.Bool.{cond-false, ne_eqb}
 use mathlib.Core.Path.{fun_ext}
 use Rattle.image_access.proofs.Passing.{passes_none}
 use Rattle.qcow2_metadata.specs.Guest.{Value}
-use Rattle.qcow2_disk.specs.Disk.{Disk, zeroed}
+use Rattle.qcow2_disk.specs.Disk.{Disk, disk, zeroed}
 use Rattle.qcow2_disk.specs.Mappings.{PreparedMapping, IsPrepared, committed, gift_of_commit, gift_of_put, put_disk, put_mapping}
 use Rattle.qcow2_disk.specs.Stops.{GivenBytes, IsGiven}
 use Rattle.qcow2_disk.specs.AbstractImages.{Abstraction, AbstractImage, Guest, HasFreePlaces, abstract_image, guest_of}
 use Rattle.qcow2_disk.specs.Calls.{Works, with_disk, with_slot}
-use Rattle.qcow2_disk.proofs.Compose.{works_less, works_then}
+use Rattle.qcow2_disk.proofs.Compose.{shown_is, works_less, works_then}
 use Rattle.qcow2_image.specs.Preallocation.{gift_of_zeros}
 use Rattle.qcow2_image.proofs.Preallocate.Zeros.{commit_within, filled, put_within, zeros_of}
 
@@ -27,7 +27,7 @@ behind_slot g m = ap (λ (f : ℕ → Option PreparedMapping). record g { slots 
 some_same : {X : Type 0} {a b : X} → Some a ≡ Some b → a ≡ b
 some_same e = cc
 
-module _ {D P : Type 0} (spec : Abstraction D P) (has : HasFreePlaces spec) where
+module _ {D P : Type 0} (spec : Abstraction D P) (has : HasFreePlaces spec) (in_image : (d : D) → spec.data_bytes d ≡ spec.known d) where
   abbrev at_place : D → Option P → List (Option P) → AbstractImage
   at_place d p out = abstract_image spec d (p ∷ out)
 
@@ -69,9 +69,9 @@ module _ {D P : Type 0} (spec : Abstraction D P) (has : HasFreePlaces spec) wher
 
     -- zeros are put into it
     module _ (d2 : D) (sound2 : spec.is_sound d2 (Some p ∷ out)) (puts : Works (at_place d1 (Some p) out) (at_place d2 (Some p) out) (gift_of_put (guest_of (at_place d1 (Some p) out)).disk m 0 zeros ∷ []) []) where
-      puts_given : (o : ℕ) (w : Value) → IsGiven (gift_of_put (guest_of (at_place d1 (Some p) out)).disk m 0 zeros ∷ []) o w → (w ≡ (guest_of (at_place d1 (Some p) out)).disk.value o) ⊎ IsGiven gifts o w
+      puts_given : (o : ℕ) (w : Value) → IsGiven (gift_of_put (guest_of (at_place d1 (Some p) out)).disk m 0 zeros ∷ []) o w → (w ≡ (disk (spec.known d1) (spec.setting d1).backing).value o) ⊎ IsGiven gifts o w
       puts_given o w given =
-          ⊎_elim (λ (same : w ≡ disk0.value o). inl (same ∙ ap (λ (d : Disk). d.value o) (sym ready_disk))) (λ (zero : IsGiven gifts o w). inr zero)
+          ⊎_elim (λ (same : w ≡ disk0.value o). inl (same ∙ ap (λ (d : Disk). d.value o) (sym ready_disk ∙ shown_is (at_place d1 (Some p) out) (in_image d1)))) (λ (zero : IsGiven gifts o w). inr zero)
           (put_within size disk0 m offset n prepared fits o w (subst (λ (d : Disk). IsGiven (gift_of_put d m 0 zeros ∷ []) o w) ready_disk given))
 
       pub put_works : Works (abstract_image spec d0 out) (at_place d2 (Some p) out) gifts []
@@ -109,9 +109,9 @@ module _ {D P : Type 0} (spec : Abstraction D P) (has : HasFreePlaces spec) wher
         disk2_is : (guest_of (at_place d2 (Some p) out)).disk ≡ disk2
         disk2_is = ap (λ (g : Guest). g.disk) guest2
 
-        commits_given : (o : ℕ) (w : Value) → IsGiven (gift_of_commit cs (guest_of (at_place d2 (Some p) out)).disk (spec.means d2 p) ∷ []) o w → (w ≡ (guest_of (at_place d2 (Some p) out)).disk.value o) ⊎ IsGiven gifts o w
+        commits_given : (o : ℕ) (w : Value) → IsGiven (gift_of_commit cs (guest_of (at_place d2 (Some p) out)).disk (spec.means d2 p) ∷ []) o w → (w ≡ (disk (spec.known d2) (spec.setting d2).backing).value o) ⊎ IsGiven gifts o w
         commits_given o w given =
-            ⊎_elim (λ (same : w ≡ disk2.value o). inl (same ∙ ap (λ (d : Disk). d.value o) (sym disk2_is))) (λ (zero : IsGiven gifts o w). inr zero)
+            ⊎_elim (λ (same : w ≡ disk2.value o). inl (same ∙ ap (λ (d : Disk). d.value o) (sym disk2_is ∙ shown_is (at_place d2 (Some p) out) (in_image d2)))) (λ (zero : IsGiven gifts o w). inr zero)
             (commit_within size disk0 m offset n prepared fits cs o w
             (subst (λ (d : Disk). IsGiven (gift_of_commit cs d mapping2 ∷ []) o w) disk2_is
             (subst (λ (x : PreparedMapping). IsGiven (gift_of_commit cs (guest_of (at_place d2 (Some p) out)).disk x ∷ []) o w) means_is given)))

@@ -16,7 +16,7 @@ returns-in_default-clause-goes g c = λ x s stands founds.
     let spec = image_abstraction g.S.Storage.view g.F.BackingDisk.backing in
     let out = c.args.slots.now.prepared.items in
     subst (λ (o : List (Option _)). RefinesCommand x (abstract_image spec c.args.image.now out) (abstract_image spec c.args.image.now o) s (commit c.args.slot) misuse) (sym (c.put.ensures.is ∙ set_found out c.args.slot None c.in_default.ensures.was))
-    (none_as x (abstract_image spec c.args.image.now out) s _ _ misuse refl stands (record { failed = λ _. tt; may = λ _. tt }) (λ _. (none_at spec c.args.image.now out c.args.slot c.in_default.ensures.was, refl)) (λ _ _. refl) tt)
+    (none_as x (abstract_image spec c.args.image.now out) s _ _ misuse refl stands (record { sized = λ _. tt; failed = λ _. tt; may = λ _. tt }) (λ _. (none_at spec c.args.image.now out c.args.slot c.in_default.ensures.was, refl)) (λ _ _. refl) tt)
 
 pub fill-requires-clause-free : goal.fill-requires-clause-free
 fill-requires-clause-free g c =
@@ -27,7 +27,7 @@ returns-in-Ok-clause-goes g c = λ x s stands founds.
     let spec = image_abstraction g.S.Storage.view g.F.BackingDisk.backing in
     let out = c.args.slots.now.prepared.items in
     subst (λ (o : List (Option _)). RefinesCommand x (abstract_image spec c.args.image.now out) (abstract_image spec c.commit_data_mapping.new.self o) s (commit c.args.slot) done) (sym c.put.ensures.is)
-    (done_as x _ _ s _ _ _ refl stands (record { failed = λ f. absurd (not_both (c.in-Ok.ensures.failed (c.in-Some.ensures.own ∙ c.put.ensures.image ∙ c.requires) f)); may = λ _. tt }) (does_commit s.found c.args.slot _ (found_at spec c.args.image.now out c.args.slot c.in-Some.prepared c.in-Some.ensures.was)
+    (done_as x _ _ s _ _ _ refl stands (record { sized = λ _. tt; failed = λ f. absurd (not_both (c.in-Ok.ensures.failed (c.in-Some.ensures.own ∙ c.put.ensures.image ∙ c.requires) f)); may = λ _. tt }) (does_commit s.found c.args.slot _ (found_at spec c.args.image.now out c.args.slot c.in-Some.prepared c.in-Some.ensures.was)
     (c.in-Ok.ensures.sees out c.args.slot c.in-Some.ensures.was)) (λ _ _. refl) (λ _. tt))
 
 pub returns-in-Err-Spent-clause-goes : goal.returns-in-Err-Spent-clause-goes
@@ -35,7 +35,7 @@ returns-in-Err-Spent-clause-goes g c = λ x s stands founds.
     let spec = image_abstraction g.S.Storage.view g.F.BackingDisk.backing in
     let out = c.args.slots.now.prepared.items in
     subst (λ (o : List (Option _)). RefinesCommand x (abstract_image spec c.args.image.now out) (abstract_image spec c.commit_data_mapping.new.self o) s (commit c.args.slot) (refused (refusal_of c.in-Err-Spent.refusal))) (sym c.put.ensures.is)
-    (refused_as x _ _ s _ _ _ _ refl stands (record { failed = λ f. absurd (not_spent c.in-Err-Spent.field-0-is (c.in-Err-Spent.ensures.failed (c.in-Some.ensures.own ∙ c.put.ensures.image ∙ c.requires) f)); may = λ _. tt })
+    (refused_as x _ _ s _ _ _ _ refl stands (record { sized = λ _. tt; failed = λ f. absurd (not_spent c.in-Err-Spent.field-0-is (c.in-Err-Spent.ensures.failed (c.in-Some.ensures.own ∙ c.put.ensures.image ∙ c.requires) f)); may = λ _. tt })
     (refuses_commit s.found c.args.slot _ (found_at spec c.args.image.now out c.args.slot c.in-Some.prepared c.in-Some.ensures.was)
     (subst (λ r. Commits g.S.Storage.view g.F.BackingDisk.backing c.args.image.now c.commit_data_mapping.new.self c.in-Some.prepared (Err r)) c.in-Err-Spent.field-0-is c.in-Err-Spent.ensures.sees out c.args.slot c.in-Some.ensures.was).1) (λ f. f) (λ _ _. refl) tt)
 
@@ -45,6 +45,6 @@ returns-in-Err-Kept-clause-goes g c = λ x s stands founds.
     let out = c.args.slots.now.prepared.items in
     subst (λ (o : List (Option _)). RefinesCommand x (abstract_image spec c.args.image.now out) (abstract_image spec c.commit_data_mapping.new.self o) s (commit c.args.slot) (refused (refusal_of c.in-Err-Kept.refusal)))
     (sym (c.fill.ensures.is ∙ ap (λ (o : List (Option _)). slice_set o c.args.slot (Some c.in-Err-Kept.prepared)) c.put.ensures.is ∙ set_twice out c.args.slot None (Some c.in-Err-Kept.prepared)))
-    (refused_as x _ _ s _ _ _ _ refl stands (record { failed = λ f. kept_is c.in-Err-Kept.field-0-is (c.in-Err-Kept.ensures.failed (c.in-Some.ensures.own ∙ c.put.ensures.image ∙ c.requires) f); may = λ _. tt })
+    (refused_as x _ _ s _ _ _ _ refl stands (record { sized = λ _. tt; failed = λ f. kept_is c.in-Err-Kept.field-0-is (c.in-Err-Kept.ensures.failed (c.in-Some.ensures.own ∙ c.put.ensures.image ∙ c.requires) f); may = λ _. tt })
     (refuses_commit s.found c.args.slot _ (found_at spec c.args.image.now out c.args.slot c.in-Some.prepared c.in-Some.ensures.was)
     (subst (λ r. Commits g.S.Storage.view g.F.BackingDisk.backing c.args.image.now c.commit_data_mapping.new.self c.in-Some.prepared (Err r)) c.in-Err-Kept.field-0-is c.in-Err-Kept.ensures.sees out c.args.slot c.in-Some.ensures.was).1) (λ f. f) (λ _ _. refl) tt)

@@ -5,8 +5,8 @@ use Rattle.qcow2_session.proofs.Answering.{error_is, none_to_free, not_both}
 use Rattle.qcow2_session.proofs.session.flush.Goals as goal
 
 pub returns-in-Err-clause-goes : goal.returns-in-Err-clause-goes
-returns-in-Err-clause-goes g c = λ slots x s stands founds. refused_as x _ _ s _ _ _ _ refl stands (record { failed = λ f. error_is (c.in-Err.ensures.early f); may = λ _. tt }) (c.in-Err.ensures.sees slots.prepared.items) (λ f. f) (λ _ _. refl) tt
+returns-in-Err-clause-goes g c = λ slots x s stands founds. refused_as x _ _ s _ _ _ _ refl stands (record { sized = λ _. tt; failed = λ f. error_is (c.in-Err.ensures.early f); may = λ _. tt }) (c.in-Err.ensures.sees slots.prepared.items) (λ f. f) (λ _ _. refl) tt
 
 pub returns-clause-goes : goal.returns-clause-goes
-returns-clause-goes g c = λ slots x s stands founds. flushed_as x _ _ s _ _ _ refl stands (record { failed = λ f. absurd (not_both (c.in_default.ensures.early f)); may = λ _. tt }) (c.in_default.ensures.sees slots.prepared.items) (whole g.S.Storage.view g.F.BackingDisk.backing _ slots.prepared.items) (λ _ _. refl)
+returns-clause-goes g c = λ slots x s stands founds. flushed_as x _ _ s _ _ _ refl stands (record { sized = λ _. tt; failed = λ f. absurd (not_both (c.in_default.ensures.early f)); may = λ _. tt }) (c.in_default.ensures.sees slots.prepared.items) (whole g.S.Storage.view g.F.BackingDisk.backing _ slots.prepared.items) (λ _ _. refl)
     (none_to_free g.S.Storage.view g.F.BackingDisk.backing c.flush.new.self slots.prepared.items (λ writes. c.in_default.ensures.emptied (sym c.flush.ensures.image.writable ∙ writes)))

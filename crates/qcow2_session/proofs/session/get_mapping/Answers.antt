@@ -13,7 +13,7 @@ use Rattle.qcow2_session.proofs.session.get_mapping.Goals as goal
 
 pub returns-in-Ok-clause-goes : goal.returns-in-Ok-clause-goes
 returns-in-Ok-clause-goes g c = λ x s stands founds.
-    done_as x _ _ s _ _ _ refl stands (record { failed = λ f. absurd (not_both (unusable_first c.args.image.now _ c.in-Ok.ensures.early f)); may = λ _. tt })
+    done_as x _ _ s _ _ _ refl stands (record { sized = λ _. tt; failed = λ f. absurd (not_both (unusable_first c.args.image.now _ c.in-Ok.ensures.early f)); may = λ _. tt })
     (does_if (λ same. (c.in-Ok.ensures.own.1, omega (arith, c.in-Ok.ensures.own, c.in-Ok.ensures.within), same)) (c.in-Ok.ensures.sees c.args.slots.now.prepared.items)) (λ _ _. refl)
     (λ sound. (
       subst (λ n. IsFoundIn (known_in g.S.Storage.view c.get_mapping.new.self.file) (is_some c.get_mapping.new.self.backing) c.args.offset c.args.max (found_kind c.in-Ok.mapping.kind) n) (sym c.in-Ok.ensures.own.2) (c.in-Ok.ensures.run c.args.slots.now.prepared.items sound),

@@ -16,10 +16,10 @@ use Rattle.qcow2_session.proofs.Answering.{preparing_first, prepares_answer, err
 use Rattle.qcow2_session.proofs.session.prepare.Goals as goal
 
 pub returns-then-is_some-clause-goes : goal.returns-then-is_some-clause-goes
-returns-then-is_some-clause-goes g c = λ x s stands founds. none_as x _ s _ _ misuse refl stands (record { failed = λ _. tt; may = λ _. tt }) (λ _. (taken (image_abstraction g.S.Storage.view g.F.BackingDisk.backing) c.args.image.now c.args.slots.now.prepared.items c.args.slot c.get.result c.get.ensures (sym c.is_some.ensures ∙ c.if-is_some.true), refl)) (λ _ _. refl) tt
+returns-then-is_some-clause-goes g c = λ x s stands founds. none_as x _ s _ _ misuse refl stands (record { sized = λ _. tt; failed = λ _. tt; may = λ _. tt }) (λ _. (taken (image_abstraction g.S.Storage.view g.F.BackingDisk.backing) c.args.image.now c.args.slots.now.prepared.items c.args.slot c.get.result c.get.ensures (sym c.is_some.ensures ∙ c.if-is_some.true), refl)) (λ _ _. refl) tt
 
 pub returns-in-Err-clause-goes : goal.returns-in-Err-clause-goes
-returns-in-Err-clause-goes g c = λ x s stands founds. refused_as x _ _ s _ _ _ _ refl stands (record { failed = λ f. error_is (preparing_first c.args.image.now _ c.args.offset c.args.length c.in-Err.ensures.early f); may = λ _. tt }) (c.in-Err.ensures.sees c.args.slots.now.prepared.items) (λ f. f) (λ _ _. refl) tt
+returns-in-Err-clause-goes g c = λ x s stands founds. refused_as x _ _ s _ _ _ _ refl stands (record { sized = λ _. tt; failed = λ f. error_is (preparing_first c.args.image.now _ c.args.offset c.args.length c.in-Err.ensures.early f); may = λ _. tt }) (c.in-Err.ensures.sees c.args.slots.now.prepared.items) (λ f. f) (λ _ _. refl) tt
 
 pub returns-in-Ok-clause-goes : goal.returns-in-Ok-clause-goes
 returns-in-Ok-clause-goes g c = λ x s stands founds.

@@ -9,7 +9,7 @@ pub returns-in-Ok-clause-goes : goal.returns-in-Ok-clause-goes
 returns-in-Ok-clause-goes g c = λ x s stands founds. done_as x _ _ s _ _ _ (ap command_of c.in-Read.is) stands (reads_answer g.S.Storage.view g.F.BackingDisk.backing c.args.image.now c.args.slots.now.prepared.items _ (λ e h. not_both h) _ _ _ c.in-Ok.ensures.early) (c.in-Ok.ensures.sees c.args.slots.now.prepared.items) (λ _ _. refl) (λ _. tt)
 
 pub returns-in-Err-clause-goes : goal.returns-in-Err-clause-goes
-returns-in-Err-clause-goes g c = λ x s stands founds. refused_as x _ _ s _ _ _ _ (ap command_of c.in-Read.is) stands (record { failed = λ f. error_is (reading_first c.args.image.now _ _ _ c.in-Err.ensures.early f); may = λ _. tt }) (c.in-Err.ensures.sees c.args.slots.now.prepared.items) (λ f. f) (λ _ _. refl) tt
+returns-in-Err-clause-goes g c = λ x s stands founds. refused_as x _ _ s _ _ _ _ (ap command_of c.in-Read.is) stands (record { sized = λ _. tt; failed = λ f. error_is (reading_first c.args.image.now _ _ _ c.in-Err.ensures.early f); may = λ _. tt }) (c.in-Err.ensures.sees c.args.slots.now.prepared.items) (λ f. f) (λ _ _. refl) tt
 
 pub returns-in-Ok-write-clause-goes : goal.returns-in-Ok-write-clause-goes
 returns-in-Ok-write-clause-goes g c = λ x s stands founds. done_as x _ _ s _ _ _ (ap command_of c.in-Write.is) stands (writes_answer g.S.Storage.view g.F.BackingDisk.backing c.args.image.now c.args.slots.now.prepared.items _ (λ e h. not_both h) _ _ (rw c.deref.ensures.value at c.in-Ok-write.ensures.early)) (rw c.deref.ensures.value at (c.in-Ok-write.ensures.sees c.args.slots.now.prepared.items)) (λ _ _. refl) (λ _. tt)
@@ -21,7 +21,7 @@ pub returns-in-Flush-clause-goes : goal.returns-in-Flush-clause-goes
 returns-in-Flush-clause-goes g c = subst (λ q. CommandSteps g.S.Storage.view g.F.BackingDisk.backing c.args.image.now c.flush.new.image c.args.slots.now c.args.slots.now q c.flush.result) (sym c.in-Flush.is) (c.flush.ensures.goes c.args.slots.now)
 
 pub returns-in-Size-clause-goes : goal.returns-in-Size-clause-goes
-returns-in-Size-clause-goes g c = λ x s stands founds. none_as x _ s _ _ _ (ap command_of c.in-Size.is) stands (record { failed = λ _. tt; may = λ _. tt }) (λ sound. (c.size.ensures.sees c.args.slots.now.prepared.items sound, refl)) (λ _ _. refl) tt
+returns-in-Size-clause-goes g c = λ x s stands founds. none_as x _ s _ _ _ (ap command_of c.in-Size.is) stands (record { sized = λ _. tt; failed = λ _. tt; may = λ _. tt }) (λ sound. (c.size.ensures.sees c.args.slots.now.prepared.items sound, refl)) (λ _ _. refl) tt
 
 pub returns-in-GetMapping-clause-goes : goal.returns-in-GetMapping-clause-goes
 returns-in-GetMapping-clause-goes g c = subst (λ q. CommandSteps g.S.Storage.view g.F.BackingDisk.backing c.args.image.now c.get_mapping.new.image c.args.slots.now c.get_mapping.new.slots q c.get_mapping.result) (sym c.in-GetMapping.is) c.get_mapping.ensures.goes

@@ -11,13 +11,13 @@ pub returns-in_default-clause-goes : goal.returns-in_default-clause-goes
 returns-in_default-clause-goes g c = λ x s stands founds.
     let spec = image_abstraction g.S.Storage.view g.F.BackingDisk.backing in
     let out = c.args.slots.now.prepared.items in
-    none_as x _ s _ _ misuse refl stands (record { failed = λ _. tt; may = λ _. tt }) (λ _. (is_past (c.args.at) (length c.args.bytes.now.items) (none_at spec c.args.image.now out c.args.slot c.in_default.ensures) tt, refl)) (λ _ _. refl) tt
+    none_as x _ s _ _ misuse refl stands (record { sized = λ _. tt; failed = λ _. tt; may = λ _. tt }) (λ _. (is_past (c.args.at) (length c.args.bytes.now.items) (none_at spec c.args.image.now out c.args.slot c.in_default.ensures) tt, refl)) (λ _ _. refl) tt
 
 pub returns-then-at-length-clause-goes : goal.returns-then-at-length-clause-goes
 returns-then-at-length-clause-goes g c = λ x s stands founds.
     let spec = image_abstraction g.S.Storage.view g.F.BackingDisk.backing in
     let out = c.args.slots.now.prepared.items in
-    none_as x _ s _ _ misuse refl stands (record { failed = λ _. tt; may = λ _. tt }) (λ _. (
+    none_as x _ s _ _ misuse refl stands (record { sized = λ _. tt; failed = λ _. tt; may = λ _. tt }) (λ _. (
       is_past c.args.at (length c.args.bytes.now.items) (found_at spec c.args.image.now out c.args.slot c.in-Some.prepared.now c.in-Some.ensures)
           (elim c.then-at-length.branch [
             | then-at-length-via-then-at-length w ↦ omega (arith, w.if-at-length.true, c.length-length.ensures)
@@ -30,12 +30,12 @@ pub returns-in-Ok-clause-goes : goal.returns-in-Ok-clause-goes
 returns-in-Ok-clause-goes g c = λ x s stands founds.
     let spec = image_abstraction g.S.Storage.view g.F.BackingDisk.backing in
     let out = c.args.slots.now.prepared.items in
-    done_as x _ _ s _ _ _ refl stands (record { failed = λ f. absurd (not_both (mapping_first c.args.image.now _ _ c.in-Ok.ensures.early f)); may = λ _. tt }) (does_put s.found c.args.slot _ (found_at spec c.args.image.now out c.args.slot c.in-Some.prepared.now c.in-Some.ensures) c.args.at c.args.bytes.now.items (omega (arith, c.if-at-length.false, c.if-len-length.false, c.len.ensures, c.length-length.ensures))
+    done_as x _ _ s _ _ _ refl stands (record { sized = λ _. tt; failed = λ f. absurd (not_both (mapping_first c.args.image.now _ _ c.in-Ok.ensures.early f)); may = λ _. tt }) (does_put s.found c.args.slot _ (found_at spec c.args.image.now out c.args.slot c.in-Some.prepared.now c.in-Some.ensures) c.args.at c.args.bytes.now.items (omega (arith, c.if-at-length.false, c.if-len-length.false, c.len.ensures, c.length-length.ensures))
     (rw c.deref.ensures.value at (c.in-Ok.ensures.sees out c.args.slot c.in-Some.ensures))) (λ _ _. refl) (λ _. tt)
 
 pub returns-in-Err-clause-goes : goal.returns-in-Err-clause-goes
 returns-in-Err-clause-goes g c = λ x s stands founds.
     let spec = image_abstraction g.S.Storage.view g.F.BackingDisk.backing in
     let out = c.args.slots.now.prepared.items in
-    refused_as x _ _ s _ _ _ _ refl stands (record { failed = λ f. error_is (mapping_first c.args.image.now _ _ c.in-Err.ensures.early f); may = λ _. tt }) (refuses_put s.found c.args.slot _ (found_at spec c.args.image.now out c.args.slot c.in-Some.prepared.now c.in-Some.ensures) c.args.at c.args.bytes.now.items
+    refused_as x _ _ s _ _ _ _ refl stands (record { sized = λ _. tt; failed = λ f. error_is (mapping_first c.args.image.now _ _ c.in-Err.ensures.early f); may = λ _. tt }) (refuses_put s.found c.args.slot _ (found_at spec c.args.image.now out c.args.slot c.in-Some.prepared.now c.in-Some.ensures) c.args.at c.args.bytes.now.items
     (rw c.deref.ensures.value at (c.in-Err.ensures.sees out c.args.slot c.in-Some.ensures))) (λ f. f) (λ _ _. refl) tt

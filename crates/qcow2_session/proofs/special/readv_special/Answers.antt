@@ -5,8 +5,8 @@ use Rattle.qcow2_session.proofs.Turns.{does_if}
 use Rattle.qcow2_session.proofs.special.readv_special.Goals as goal
 
 pub returns-in-Ok-clause-goes : goal.returns-in-Ok-clause-goes
-returns-in-Ok-clause-goes g c = λ slots x s stands founds. done_as x _ _ s _ _ _ refl stands (record { failed = λ f. absurd (not_both (unusable_first c.args.image.now _ c.in-Ok.ensures.early f)); may = λ _. tt })
+returns-in-Ok-clause-goes g c = λ slots x s stands founds. done_as x _ _ s _ _ _ refl stands (record { sized = λ _. tt; failed = λ f. absurd (not_both (unusable_first c.args.image.now _ c.in-Ok.ensures.early f)); may = λ _. tt })
     (does_if (λ h. (c.in-Ok.ensures.empty, h)) (c.in-Ok.ensures.sees slots.prepared.items)) (λ _ _. refl) (λ _. tt)
 
 pub returns-in-Err-clause-goes : goal.returns-in-Err-clause-goes
-returns-in-Err-clause-goes g c = λ slots x s stands founds. refused_told x _ _ s _ _ _ _ refl stands (record { failed = λ f. error_is (unusable_first c.args.image.now _ c.in-Err.ensures.early f); may = λ _. tt }) (c.in-Err.ensures.sees slots.prepared.items) (λ f. f) (λ _ _. refl) (c.in-Err.ensures.tells slots.prepared.items)
+returns-in-Err-clause-goes g c = λ slots x s stands founds. refused_told x _ _ s _ _ _ _ refl stands (record { sized = λ _. tt; failed = λ f. error_is (unusable_first c.args.image.now _ c.in-Err.ensures.early f); may = λ _. tt }) (c.in-Err.ensures.sees slots.prepared.items) (λ f. f) (λ _ _. refl) (c.in-Err.ensures.tells slots.prepared.items)
