@@ -2,6 +2,7 @@
 """The program is killed at random moments of a long script. The image is then consistent but for leaks, and there is a place in the script such that each byte has its value of
 the last flush before it, or one written since. Seeds are fixed; the moments are not."""
 
+import os
 import random
 import signal
 import subprocess
@@ -94,7 +95,9 @@ def killed(steps, text, seconds):
     done = subprocess.run(["qemu-img", "check", "-f", "qcow2", "disk"], stdout=subprocess.PIPE, stderr=subprocess.STDOUT)
     if done.returncode not in (0, 3):
         raise AssertionError(f"after {seconds:.4f} s: qemu-img check ended with {done.returncode}: {done.stdout.decode(errors='replace')}")
-    checks.equal(done.returncode, 3 if leaks else 0, f"after {seconds:.4f} s: the status of qemu-img check beside {checks.shown(leaks)}")
+    # QEMU looks for leaks only as far as the file goes: one past its end was counted, and not written yet
+    seen = [cluster for cluster in leaks if cluster * CLUSTER < os.path.getsize("disk")]
+    checks.equal(done.returncode, 3 if seen else 0, f"after {seconds:.4f} s: the status of qemu-img check beside {checks.shown(leaks)}")
     found = bytes_of("disk")
     if not whole_parts(found) or not may_be_found(steps, found):
         raise AssertionError(f"after {seconds:.4f} s the image shows bytes of no moment")
