@@ -12,7 +12,7 @@ use Rattle.qcow2_disk.specs.Mappings.{PreparedMapping, IsPrivateIn}
 use Rattle.qcow2_image.specs.declared.prepared.Prepared.{Prepared}
 use Rattle.qcow2_disk.specs.Found.{rest_of_table}
 use Rattle.qcow2_image.specs.Found.{l1_index_of}
-use Rattle.qcow2_image.specs.Ranges.{EndsAt}
+use Rattle.qcow2_image.specs.Ranges.{BeginsInKept, EndsAt}
 use Rattle.qcow2_image.specs.Prepared.{length_of, offset_of, table_of}
 
 -- an existing mapping of no byte, at offset 0
@@ -34,6 +34,7 @@ module _ (h : HeaderFields) (known : Bytes) (offset : ℕ) where
 
   -- The mapping p of n bytes, which means m. It is existing exactly where all of them may be written where they are, and is just that range then.
   -- Else it is the rest of the first cluster at least, and behind that as much of the range as can stand in a row, within one L2 table; where it is shorter than the range, there is a cause.
+  -- It begins in the host cluster that the zero entry of its first guest cluster keeps, where there is one.
   -- What is copied data is in place, where it is; all else is private, at the same byte of a cluster that is its own by the header and what is known now, or that its zero entry keeps.
   pub record IsAnswered (n : ℕ) (h' : HeaderFields) (now : Bytes) (p : Prepared) (m : PreparedMapping) : Type 0 where
     pub existing : IsNone (table_of p) ↔ ((place : ℕ) × IsWritableAt n place)
@@ -42,6 +43,7 @@ module _ (h : HeaderFields) (known : Bytes) (offset : ℕ) where
     pub most : IsSome (table_of p) → n < length_of p → length_of p ≡ cluster_size h - offset % cluster_size h
     pub within : length_of p ≤ rest_of_table h offset
     pub short : length_of p < n → EndsAt h' now (offset + length_of p) (offset_of p + length_of p)
+    pub kept : BeginsInKept h offset (cover h known (offset / cluster_size h)) p
     pub private : IsPrivateIn h known m
     pub in_place : (i : ℕ) → i < length_of p → m.is_private (offset + i) ≡ false → IsDataAt h known true (offset + i) (offset_of p + i)
     pub own : (i : ℕ) → i < length_of p → IsTrue (m.is_private (offset + i))

@@ -39,6 +39,10 @@ module _ (h : HeaderFields) where
     pub rest : p.length ≡ cluster_size h - offset % cluster_size h
     pub one : length p.shares.items ≡ 1
 
+  -- where the entry of the first guest cluster of a range is a zero entry that keeps a host cluster, marked copied, a mapping begins there, at the range's byte
+  abbrev pub BeginsInKept : (offset : ℕ) → L2Mapping → Prepared → Type 0
+  BeginsInKept offset first p = (host : ℕ) → first ≡ Zero (Some (host, true)) → p.offset ≡ host + offset % cluster_size h
+
   -- a mapping ends where its last cluster does
   abbrev pub IsWhole : Prepared → Type 0
   IsWhole p = p.guest % cluster_size h + p.length ≡ length p.shares.items * cluster_size h
@@ -60,10 +64,11 @@ module _ (h : HeaderFields) where
     pub shares : q.shares.items ≡ p.shares.items ++ share ∷ []
     pub rest : q ≡ record p { length = min n (p.length + cluster_size h); shares = q.shares }
 
-  -- it is as long or longer, at most as long as the range, or as it was, and ends where a cluster does if the range goes on
+  -- it begins at the same place, is as long or longer, at most as long as the range, or as it was, and ends where a cluster does if the range goes on
   pub record IsLonger (n : ℕ) (p q : Prepared) : Type 0 where
     pub image : q.image ≡ p.image
     pub guest : q.guest ≡ p.guest
+    pub place : q.offset ≡ p.offset
     pub under : q.table ≡ p.table
     pub more : p.length ≤ q.length
     pub most : n < q.length → q.length ≡ p.length
@@ -87,13 +92,14 @@ module _ {S F : Type 0} (view : S → StorageView) where
     pub known : known_in view new.file ≡ known_in view old.file
     pub changed : new.file.caches.is_changed ≡ old.file.caches.is_changed
 
-  -- A mapping of a range of n bytes: the rest of the first cluster at least, and at most that or the range. Where it is shorter than the range, it ends for a cause.
+  -- A mapping of a range of n bytes: the rest of the first cluster at least, and at most that or the range. Where it is shorter than the range, it ends for a cause. It begins in the host cluster that the first guest cluster keeps.
   pub record Reaches (image : Qcow2 S F) (offset n : ℕ) (p : Prepared) : Type 0 where
     pub guest : p.guest ≡ offset
     pub under : (table : ℕ) × (p.table ≡ Some table)
     pub first : cluster_size image.file.header.fields - offset % cluster_size image.file.header.fields ≤ p.length
     pub most : (n < p.length) → p.length ≡ cluster_size image.file.header.fields - offset % cluster_size image.file.header.fields
     pub short : p.length < n → Ends image p
+    pub kept : BeginsInKept image.file.header.fields offset (cover image.file.header.fields (known_in view image.file) (offset / cluster_size image.file.header.fields)) p
 
   module _ (backing : F → BackingView) where
     -- just this cluster is taken for data, or it can't be named, or is in use

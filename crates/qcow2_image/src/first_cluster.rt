@@ -10,13 +10,13 @@ ghost use Rattle.qcow2_alloc.specs.MetadataCaches.{l2_at};
 ghost use Rattle.qcow2_alloc.specs.ImageFile.{known_in, KeepsHeader};
 ghost use Rattle.qcow2_alloc.specs.declared.error.ImageError.TheVariants.{TablePrepared};
 ghost use Rattle.qcow2_image.specs.Image.{Stays, is_writable, number_of};
-ghost use Rattle.qcow2_image.specs.Prepared.{image_of, length_of};
+ghost use Rattle.qcow2_image.specs.Prepared.{image_of, length_of, offset_of};
 ghost use Rattle.qcow2_image.specs.Refusals.{IsMet, IsMetPreparing};
 ghost use Rattle.qcow2_image.specs.declared.prepared.Prepared.{Prepared};
 ghost use Rattle.qcow2_image.specs.declared.mapping.Place.TheVariants.{Image};
 ghost use Rattle.qcow2_image.specs.CallParts.{Readies};
 ghost use Rattle.qcow2_image.specs.ImageInvariant.{ImageInvariant, pending_in};
-ghost use Rattle.qcow2_image.specs.Ranges.{HasRoom, IsFirst};
+ghost use Rattle.qcow2_image.specs.Ranges.{BeginsInKept, HasRoom, IsFirst};
 ghost use Rattle.qcow2_image.specs.UnseenSteps.{Gains, HoldsAll, HoldsTable, ListGrows, Pins, SameHeld, TakesData, UnseenStep};
 
 use crate::mappings::{copied_place, kept_place};
@@ -57,6 +57,8 @@ impl<S: Storage, F: WrappedFormat<S>> Qcow2<S, F> {
             → HoldsTable S.view F.backing self.old offset table → Readies S.view F.backing self.old self.new out offset length overwrite result }
         ensures first { IfOk result (IsFirst self.old.file.header.fields offset table) }
         ensures room { IfOk result (HasRoom self.old.file.header.fields length) }
+        ensures kept { (out : List (Option Prepared)) → ImageInvariant S.view F.backing (pending_in S.view F.backing self.old out) self.old out
+            → HoldsTable S.view F.backing self.old offset table → IfOk result (BeginsInKept self.old.file.header.fields offset (cover self.old.file.header.fields (known_in S.view self.old.file) (offset / cluster_size self.old.file.header.fields))) }
     {
         if self.file.caches.l2_is_pinned(table) {
             return Err(ImageError::TablePrepared);
@@ -90,6 +92,7 @@ impl<S: Storage, F: WrappedFormat<S>> Qcow2<S, F> {
         ensures own { IfOk result (λ p. image_of p ≡ number_of self.old) }
         ensures first { IfOk result (IsFirst self.old.file.header.fields offset table) }
         ensures room { IfOk result (λ p. vec_capacity p.shares ≡ vec_capacity room) }
+        ensures kept { IfOk result (BeginsInKept self.old.file.header.fields offset old.now) }
         ensures readies { (out : List (Option Prepared)) → ImageInvariant S.view F.backing (pending_in S.view F.backing self.old out) self.old out
             → HoldsTable S.view F.backing self.old offset table → l2_pins self.old.file.caches table ≡ 0 → cover self.old.file.header.fields (known_in S.view self.old.file) (offset / cluster_size self.old.file.header.fields) ≡ old.now
             → Readies S.view F.backing self.old self.new out offset length overwrite result }
@@ -119,6 +122,7 @@ impl<S: Storage, F: WrappedFormat<S>> Qcow2<S, F> {
         ensures own { IfOk result (λ p. image_of p ≡ number_of self.old) }
         ensures first { IfOk result (IsFirst self.old.file.header.fields offset table) }
         ensures room { IfOk result (λ p. vec_capacity p.shares ≡ vec_capacity room) }
+        ensures place { IfOk result (λ p. offset_of p ≡ host + offset % cluster_size self.old.file.header.fields) }
         ensures readies { (out : List (Option Prepared)) → ImageInvariant S.view F.backing (pending_in S.view F.backing self.old out) self.old out
             → HoldsTable S.view F.backing self.old offset table → l2_pins self.old.file.caches table ≡ 0
             → cover self.old.file.header.fields (known_in S.view self.old.file) (offset / cluster_size self.old.file.header.fields) ≡ L2Mapping.Zero (Some (host, true))

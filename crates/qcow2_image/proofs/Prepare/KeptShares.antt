@@ -10,7 +10,8 @@ use Rattle.qcow2_metadata.specs.Header.{cluster_size, entries_per_cluster}
 use Rattle.qcow2_metadata.specs.Cover.{cover}
 use Rattle.qcow2_metadata.specs.Guest.{known_byte}
 use Rattle.qcow2_metadata.specs.L2Mapping.{greatest_offset}
-use Rattle.qcow2_metadata.specs.declared.l2_mapping.L2Mapping.TheVariants.{Zero}
+use Rattle.qcow2_metadata.specs.declared.l2_mapping.L2Mapping.{L2Mapping}
+use Rattle.qcow2_metadata.specs.declared.l2_mapping.L2Mapping.TheVariants.{Data, Zero}
 use Rattle.qcow2_laws.specs.CrashInvariant.{Pending}
 use Rattle.qcow2_disk.specs.AbstractImages.{guest_of}
 use Rattle.qcow2_laws.specs.Guests.{table_at}
@@ -27,7 +28,7 @@ use Rattle.qcow2_image.specs.declared.prepared.Share.TheVariants.{Kept}
 use Rattle.qcow2_image.specs.Image.{number_of}
 use Rattle.qcow2_image.specs.CallParts.{IsReadied}
 use Rattle.qcow2_image.specs.ImageInvariant.{abstract_of, cluster_of, held_in, host_of, is_private, meaning, of_data, of_tables, pending_in, pins_by, place_of, share_of, to_free, IsKeptAt, IsPending, IsReadyWith, ImageInvariant}
-use Rattle.qcow2_image.specs.Ranges.{MayGoOn, StandsBehind}
+use Rattle.qcow2_image.specs.Ranges.{BeginsInKept, MayGoOn, StandsBehind}
 use Rattle.qcow2_image.specs.UnseenSteps.{HoldsTable, IsFilled, IsKeptAlone, Pins, UnseenFillingStep}
 use Rattle.qcow2_image.proofs.Apart.{pins_own}
 use Rattle.qcow2_image.proofs.Call.Slots.{over_all_two}
@@ -43,6 +44,19 @@ get_past [] = refl
 get_past (x ∷ xs) = get_past xs
 
 -- ---- the first cluster of a range
+
+-- it begins in the host cluster that is kept
+pub begins_kept : (h : HeaderFields) (offset : ℕ) (first : L2Mapping) (host : ℕ) (p : Prepared) → first ≡ Zero (Some (host, true)) → p.offset ≡ host + offset % cluster_size h → BeginsInKept h offset first p
+begins_kept h offset first host p is place other at =
+    let both : Zero (Some (host, true)) ≡ Zero (Some (other, true)) = sym is ∙ at in
+    let pair : (host, true) ≡ (other, true) = cc in
+    let same : host ≡ other = ap (λ (x : ℕ × Bool). x.0) pair in
+    place ∙ ap (λ b. b + offset % cluster_size h) same
+
+-- data keep none
+pub data_keep_none : (h : HeaderFields) (offset : ℕ) (first : L2Mapping) (host : ℕ) (p : Prepared) → first ≡ Data host true → BeginsInKept h offset first p
+data_keep_none h offset first host p is other at = absurd (let both : Data host true ≡ Zero (Some (other, true)) = sym is ∙ at in cc)
+
 module _ {S F : Type 0} (view : S → StorageView) (backing : F → BackingView) (out : List (Option Prepared)) (old : Qcow2 S F) (sound : ImageInvariant view backing (pending_in view backing old out) old out) (offset table host : ℕ) (holds : HoldsTable view backing old offset table)
     (unpinned : l2_pins old.file.caches table ≡ 0) (kept : cover old.file.header.fields (known_in view old.file) (offset / cluster_size old.file.header.fields) ≡ Zero (Some (host, true))) where
   abbrev before : Pending

@@ -190,7 +190,7 @@ module _ {S F : Type 0} (view : S → StorageView) (backing : F → BackingView)
   so_far_none old p n end table overwrite whole room bound = record {
     stays = record { image = record { number = refl; size = refl; writable = refl; external = refl }; failed = refl };
     header = header_same old.file.header old.file.header refl;
-    longer = record { image = refl; guest = refl; under = refl; more = omega arith; most = λ past. refl; whole = λ less. whole };
+    longer = record { image = refl; guest = refl; place = refl; under = refl; more = omega arith; most = λ past. refl; whole = λ less. whole };
     room = subst (λ m. p.guest % cluster_size old.file.header.fields + m < vec_capacity p.shares * cluster_size old.file.header.fields) (sym bound) room;
     goes = λ start out k free under is. is;
   }
@@ -259,6 +259,7 @@ module _ {S F : Type 0} (view : S → StorageView) (backing : F → BackingView)
           longer = record {
             image = ap (λ (x : Prepared). x.image) next.rest ∙ so.longer.image;
             guest = r_guest ∙ so.longer.guest;
+            place = ap (λ (x : Prepared). x.offset) next.rest ∙ so.longer.place;
             under = ap (λ (x : Prepared). x.table) next.rest ∙ so.longer.under;
             more = let l = length_is in let m = so.longer.more in omega arith;
             most = λ past. absurd (let l = length_is in omega arith);

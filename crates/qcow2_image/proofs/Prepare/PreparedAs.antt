@@ -28,7 +28,7 @@ use Rattle.qcow2_image.specs.CallParts.{IsExisting, PreparesRange}
 use Rattle.qcow2_image.specs.Prepared.{offset_of}
 use Rattle.qcow2_image.specs.MovedTables.{MovesTables, CoversStay}
 use Rattle.qcow2_image.specs.Preparing.{IsAnswered, IsHeldAlone, IsKeptBy, IsTaken, IsWritableAt}
-use Rattle.qcow2_image.specs.Ranges.{Reaches}
+use Rattle.qcow2_image.specs.Ranges.{BeginsInKept, Reaches}
 use Rattle.qcow2_image.specs.ImageInvariant.{of_data, to_free, held_by, cluster_of, host_of, is_entered, is_private, meaning, pending_in, IsPending, IsReadyWith, IsShareAt, ImageInvariant}
 use Rattle.qcow2_image.proofs.Call.Slots.{get_set_same}
 use Rattle.qcow2_image.proofs.Shares.{byte_cluster, byte_place, byte_share, held_at, held_once, host_cluster, never_private, over_all_at, private_is as private_share}
@@ -58,6 +58,7 @@ module _ (h k : HeaderFields) (b c : Bytes) (same : CoversStay h c (with_tables_
     most = is.most;
     within = is.within;
     short = is.short;
+    kept = λ host at. is.kept host (sym (same (offset / cluster_size h)) ∙ at);
     private = λ o from to. is.private o from to ∙ ap (λ v. not (is_copied_data v)) (sym (same (o / cluster_size h)));
     in_place = λ i lt isnt. data_still (offset + i) (offset_of p + i) (is.in_place i lt isnt);
     own = λ i lt private.
@@ -105,6 +106,7 @@ answered_existing view backing image known now offset n p number any existing wr
       most = λ is. absurd (let e : true ≡ false = sym is ∙ none in cc);
       within = subst (λ l. l ≤ rest_of_table image.file.header.fields offset) (sym existing.length_is) writable.0;
       short = λ less. absurd (let long = existing.length_is in omega arith);
+      kept = λ host at. absurd (let none : offset + 0 ≡ offset = omega arith in let first = writable.1 0 any in let e : Zero (Some (host, true)) ≡ Data first.0 true = sym at ∙ ap (λ o. cover h known (o / cluster_size h)) (sym none) ∙ first.1 in cc);
       private = λ o from to.
           let at = in_range (cluster_size h) offset n o (pow_pos h.cluster_bits) any (subst (λ g. rounded_down (cluster_size image.file.header.fields) g ≤ o) existing.guest_is from)
           (subst (λ l. o < rounded_up (cluster_size image.file.header.fields) (offset + l)) existing.length_is (subst (λ g. o < rounded_up (cluster_size image.file.header.fields) (g + p.length)) existing.guest_is to)) in
@@ -265,6 +267,7 @@ module _ {S F : Type 0} (view : S → StorageView) (backing : F → BackingView)
             let parts : (length p.shares.items + (entries_per_cluster h - cluster_of h p % entries_per_cluster h - length p.shares.items)) * cluster_size h ≡ length p.shares.items * cluster_size h + (entries_per_cluster h - cluster_of h p % entries_per_cluster h - length p.shares.items) * cluster_size h = omega arith in
             omega arith;
         short = reaches.short;
+        kept = subst (λ o. BeginsInKept h o (cover h now (o / cluster_size h)) p) (sym guest) reaches.kept;
         private = λ o from to.
             let byte = in_range (cluster_size h) p.guest p.length o (pow_pos h.cluster_bits) pending.some from to in
             let cluster : o / cluster_size h ≡ cluster_of h p + index byte.0 byte.1 = sym byte.2 ∙ here byte.0 byte.1 in

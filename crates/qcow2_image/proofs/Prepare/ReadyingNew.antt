@@ -1,5 +1,5 @@
 -- A mapping is made ready in a new cluster, or in place.
-use Rattle.std.proofs.Common.{◌≡◌, inl, inr, ℕ, ◌+◌, ◌-◌, ◌*◌, ◌/◌, ◌%◌, ◌<◌, Bool, true, false, List, [], ◌∷◌, Option, Some, None, refl, sym, ap, ◌∙◌, subst, arith}
+use Rattle.std.proofs.Common.{◌≡◌, inl, inr, ℕ, ◌+◌, ◌-◌, ◌*◌, ◌/◌, ◌%◌, ◌^◌, ◌<◌, Bool, true, false, List, [], ◌∷◌, Option, Some, None, refl, sym, ap, ◌∙◌, subst, arith}
 use Rattle.qcow2_alloc.specs.declared.error.ImageError.{ImageError}
 use Rattle.qcow2_metadata.specs.declared.l2_mapping.L2Mapping.{L2Mapping}
 use Rattle.qcow2_metadata.specs.L2Mapping.{IsInReach, named_run}
@@ -90,13 +90,14 @@ not_pinned n b iff isnt = elim (cases_lt 0 n) [
 ]
 
 -- what the first cluster of an offset has, in a table that is held for it
-pub first_stands : {S F : Type 0} (view : S → StorageView) (backing : F → BackingView) (old : Qcow2 S F) (p : Pending) (offset table cluster : ℕ) (first : L2Mapping) → cluster ≡ offset / cluster_size old.file.header.fields
+pub first_stands : {S F : Type 0} (view : S → StorageView) (backing : F → BackingView) (old : Qcow2 S F) (p : Pending) (offset table guest bits cluster : ℕ) (first : L2Mapping) → cluster ≡ guest / 2 ^ bits → guest ≡ offset → bits ≡ old.file.header.fields.cluster_bits
     → HoldsTable view backing old offset table
     → (IsEntryAt old.file.header.fields (known_in view old.file) (l1_index_of old.file.header.fields offset) table (cluster % entries_per_cluster old.file.header.fields) → cluster / entries_per_cluster old.file.header.fields ≡ l1_index_of old.file.header.fields offset
     → cover old.file.header.fields (known_in view old.file) cluster ≡ first)
     → cover old.file.header.fields (known_in view old.file) (offset / cluster_size old.file.header.fields) ≡ first
-first_stands view backing old p offset table cluster first is holds stands =
+first_stands view backing old p offset table guest bits cluster first found here same holds stands =
     let h = old.file.header.fields in
+    let is : cluster ≡ offset / cluster_size old.file.header.fields = found ∙ ap (λ o. o / 2 ^ bits) here ∙ ap (λ b. offset / 2 ^ b) same in
     subst (λ g. cover old.file.header.fields (known_in view old.file) g ≡ first) is
     (stands (subst (λ g. IsEntryAt old.file.header.fields (known_in view old.file) (l1_index_of old.file.header.fields offset) table (g % entries_per_cluster old.file.header.fields)) (sym is) holds.entry)
     (ap (λ g. g / entries_per_cluster old.file.header.fields) is))

@@ -1,13 +1,17 @@
-use Rattle.std.proofs.Common.{◌≡◌, rules, refl, ◌/◌, ◌^◌, sym, ap, ◌∙◌, subst, List, length}
+use Rattle.std.proofs.Common.{◌≡◌, rules, refl, ◌/◌, sym, ap, ◌∙◌, subst, List, length}
+use Rattle.qcow2_metadata.specs.Cover.{cover}
 use Rattle.std.specs.Prelude.{vec_capacity}
 use Rattle.qcow2_image.specs.declared.prepared.Share.{Share}
 use Rattle.qcow2_metadata.specs.Header.{cluster_size}
+use Rattle.qcow2_alloc.specs.ImageFile.{known_in}
 use Rattle.qcow2_alloc.proofs.AllocationSteps.{handed_on}
 use Rattle.qcow2_image.specs.declared.prepared.Prepared.{Prepared}
 use Rattle.qcow2_image.specs.Found.{l1_index_of}
 use Rattle.qcow2_image.specs.CallParts.{IsReadied, Readies}
 use Rattle.qcow2_image.specs.ImageInvariant.{pending_in}
 use Rattle.qcow2_image.specs.Ranges.{IsFirst}
+use Rattle.qcow2_image.proofs.Map.Loading.{if_ok}
+use Rattle.qcow2_image.proofs.Prepare.KeptShares.{data_keep_none}
 use Rattle.qcow2_image.proofs.Prepare.Onward.{if_room, room_as}
 use Rattle.qcow2_image.proofs.Prepare.Owning.{refused as any_refusal}
 use Rattle.qcow2_image.proofs.Prepare.ReadyingNew.{back_none, first_stands, not_pinned, readied_in_place}
@@ -37,8 +41,7 @@ returns-in-Some-clause-readies g c = λ out sound holds k free.
     let below = g.F.BackingDisk.backing in
     let old = c.args.self.now in
     let p = pending_in view below old out in
-    let cluster : c.cluster-cluster.result ≡ c.args.offset / cluster_size old.file.header.fields = c.cluster-cluster.ensures ∙ ap (λ o. o / 2 ^ c.cluster_bits.result) c.new.ensures ∙ ap (λ b. c.args.offset / 2 ^ b) c.cluster_bits.ensures.value in
-    let covered = first_stands view below old p c.args.offset c.args.table c.cluster-cluster.result c.in_ok-old.old cluster holds (c.in_ok-old.ensures.says p (l1_index_of old.file.header.fields c.args.offset) sound.file) in
+    let covered = first_stands view below old p c.args.offset c.args.table c.new.result c.cluster_bits.result c.cluster-cluster.result c.in_ok-old.old c.cluster-cluster.ensures c.new.ensures c.cluster_bits.ensures.value holds (c.in_ok-old.ensures.says p (l1_index_of old.file.header.fields c.args.offset) sound.file) in
     subst (λ (x : Prepared). IsReadied view below old c.prepare_at.new.self out k c.args.offset c.args.length c.args.overwrite x) (sym c.prepare_at.ensures.value)
     (readied_in_place view below out old c.prepare_at.new.self c.prepare_at.result c.prepare_at.ensures.share k c.args.offset c.args.length c.args.table c.in-Some.host c.args.overwrite free sound holds (not_pinned _ c.l2_is_pinned.result c.l2_is_pinned.ensures c.if-l2_is_pinned.false)
     (covered ∙ c.in-Some.ensures.place.0) c.prepare_at.ensures.pins)
@@ -49,9 +52,8 @@ returns-in-None-clause-readies g c = λ out sound holds.
     let below = g.F.BackingDisk.backing in
     let old = c.args.self.now in
     let p = pending_in view below old out in
-    let cluster : c.cluster-cluster.result ≡ c.args.offset / cluster_size old.file.header.fields = c.cluster-cluster.ensures ∙ ap (λ o. o / 2 ^ c.cluster_bits.result) c.new.ensures ∙ ap (λ b. c.args.offset / 2 ^ b) c.cluster_bits.ensures.value in
     c.prepare_private.ensures.readies out sound holds (not_pinned _ c.l2_is_pinned.result c.l2_is_pinned.ensures c.if-l2_is_pinned.false)
-    (first_stands view below old p c.args.offset c.args.table c.cluster-cluster.result c.in_ok-old.old cluster holds (c.in_ok-old.ensures.says p (l1_index_of old.file.header.fields c.args.offset) sound.file))
+    (first_stands view below old p c.args.offset c.args.table c.new.result c.cluster_bits.result c.cluster-cluster.result c.in_ok-old.old c.cluster-cluster.ensures c.new.ensures c.cluster_bits.ensures.value holds (c.in_ok-old.ensures.says p (l1_index_of old.file.header.fields c.args.offset) sound.file))
 
 pub returns-in-Some-clause-first : goal.returns-in-Some-clause-first
 returns-in-Some-clause-first g c =
@@ -66,3 +68,20 @@ returns-in-Some-clause-room g c =
 pub returns-in-None-clause-room : goal.returns-in-None-clause-room
 returns-in-None-clause-room g c =
     if_room c.args.self.now.file.header.fields c.args.length c.args.offset c.args.table c.clusters_in.result (vec_capacity c.in_ok-room.room) c.clusters_in.ensures.enough c.in_ok-room.ensures.capacity c.prepare_private.result c.prepare_private.ensures.first c.prepare_private.ensures.room
+
+pub returns-in-Some-clause-kept : goal.returns-in-Some-clause-kept
+returns-in-Some-clause-kept g c = λ out sound holds.
+    let view = g.S.Storage.view in
+    let old = c.args.self.now in
+    let h = old.file.header.fields in
+    let p = pending_in view g.F.BackingDisk.backing old out in
+    let covered = first_stands view g.F.BackingDisk.backing old p c.args.offset c.args.table c.new.result c.cluster_bits.result c.cluster-cluster.result c.in_ok-old.old c.cluster-cluster.ensures c.new.ensures c.cluster_bits.ensures.value holds (c.in_ok-old.ensures.says p (l1_index_of old.file.header.fields c.args.offset) sound.file) in
+    data_keep_none h c.args.offset (cover h (known_in view old.file) (c.args.offset / cluster_size h)) c.in-Some.host c.prepare_at.result (covered ∙ c.in-Some.ensures.place.0)
+
+pub returns-in-None-clause-kept : goal.returns-in-None-clause-kept
+returns-in-None-clause-kept g c = λ out sound holds.
+    let view = g.S.Storage.view in
+    let old = c.args.self.now in
+    let p = pending_in view g.F.BackingDisk.backing old out in
+    let covered = first_stands view g.F.BackingDisk.backing old p c.args.offset c.args.table c.new.result c.cluster_bits.result c.cluster-cluster.result c.in_ok-old.old c.cluster-cluster.ensures c.new.ensures c.cluster_bits.ensures.value holds (c.in_ok-old.ensures.says p (l1_index_of old.file.header.fields c.args.offset) sound.file) in
+    if_ok c.prepare_private.result (λ p begins host at. begins host (sym covered ∙ at)) c.prepare_private.ensures.kept

@@ -1,7 +1,9 @@
-use Rattle.std.proofs.Common.{◌≡◌, ◌-◌, ◌%◌, [], ◌∷◌, refl, sym, ap, ◌∙◌, subst, arith}
+use Rattle.std.proofs.Common.{◌≡◌, ◌+◌, ◌-◌, ◌/◌, ◌%◌, [], ◌∷◌, refl, sym, ap, ◌∙◌, subst, arith}
 use Rattle.std.specs.Prelude.{None}
+use Rattle.qcow2_metadata.specs.Cover.{cover}
 use Rattle.qcow2_metadata.specs.Header.{cluster_size}
 use Rattle.qcow2_metadata.specs.declared.header.HeaderFields.{HeaderFields}
+use Rattle.qcow2_alloc.specs.ImageFile.{known_in}
 use Rattle.qcow2_alloc.proofs.AllocationSteps.{handed_on}
 use Rattle.qcow2_alloc.proofs.Following.{header_format, header_then}
 use Rattle.qcow2_image.specs.CallParts.{IsReadied, PreparesRange}
@@ -64,10 +66,12 @@ returns-in-Ok-clause-reaches g c = λ out k free sound holds.
     let on = c.in-Ok.ensures.goes old out k free first.under ready in
     let size : cluster_size new.file.header.fields ≡ cluster_size old.file.header.fields = ap (λ (x : HeaderFields). cluster_size x) (header_format old.file.header new.file.header (header_then old.file.header mid.file.header new.file.header c.in_ok-prepared.ensures.header c.in-Ok.ensures.header)) in
     let rest : cluster_size new.file.header.fields - c.args.offset % cluster_size new.file.header.fields ≡ p.length = ap (λ s. s - c.args.offset % s) size ∙ sym first.rest in
+    let same = ap (λ s. cover new.file.header.fields (known_in view new.file) (c.args.offset / s)) size ∙ sym (on.0.covers (c.args.offset / cluster_size old.file.header.fields)) in
     record {
       guest = longer.guest ∙ first.guest;
       under = (c.args.table, longer.under ∙ first.under);
       first = let more = longer.more in omega arith;
       most = λ past. longer.most past ∙ sym rest;
       short = on.1;
+      kept = λ host at. longer.place ∙ c.in_ok-prepared.ensures.kept out sound holds host (sym same ∙ at) ∙ ap (λ s. host + c.args.offset % s) (sym size);
     }

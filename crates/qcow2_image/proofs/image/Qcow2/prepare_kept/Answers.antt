@@ -1,4 +1,4 @@
-use Rattle.std.proofs.Common.{◌-◌, ◌%◌, List, length, inl, refl, sym, ap, subst, arith}
+use Rattle.std.proofs.Common.{◌+◌, ◌-◌, ◌%◌, ◌∙◌, List, length, inl, refl, sym, ap, subst, arith}
 use Rattle.qcow2_metadata.specs.Header.{cluster_size}
 use Rattle.qcow2_alloc.proofs.AllocationSteps.{handed_on}
 use Rattle.qcow2_image.specs.declared.image.Qcow2.{Qcow2}
@@ -41,3 +41,7 @@ pub returns-clause-first : goal.returns-clause-first
 returns-clause-first g c =
     subst (λ (x : Prepared). IsFirst c.args.self.now.file.header.fields c.args.offset c.args.table x) (sym c.prepare_at.ensures.value)
     (record { guest = refl; under = refl; rest = ap (λ (image : Qcow2 _ _). cluster_size image.file.header.fields - c.args.offset % cluster_size image.file.header.fields) c.fill_kept.ensures.rest; one = ap (λ (l : List Share). length l) c.prepare_at.ensures.share })
+
+pub returns-clause-place : goal.returns-clause-place
+returns-clause-place g c =
+    ap (λ (x : Prepared). x.offset) c.prepare_at.ensures.value ∙ ap (λ (image : Qcow2 _ _). c.args.host + c.args.offset % cluster_size image.file.header.fields) c.fill_kept.ensures.rest

@@ -1,5 +1,13 @@
-use Rattle.std.proofs.Common.{◌∙◌}
+use Rattle.std.proofs.Common.{refl, ◌∙◌}
+use Rattle.qcow2_image.proofs.Map.Loading.{if_ok, if_ok_any}
+use Rattle.qcow2_image.proofs.Prepare.KeptShares.{begins_kept}
 use Rattle.qcow2_image.proofs.image.Qcow2.prepare_private.Goals as goal
 
 pub returns-in-Some-clause-readies : goal.returns-in-Some-clause-readies
 returns-in-Some-clause-readies g c = λ out sound holds unpinned covered. c.prepare_kept.ensures.readies out sound holds unpinned (covered ∙ c.in-Some.ensures.place.0)
+
+pub returns-in-Some-clause-kept : goal.returns-in-Some-clause-kept
+returns-in-Some-clause-kept g c = if_ok c.prepare_kept.result (λ p place. begins_kept c.args.self.now.file.header.fields c.args.offset c.args.old.now c.in-Some.host p c.in-Some.ensures.place.0 place) c.prepare_kept.ensures.place
+
+pub returns-in-None-clause-kept : goal.returns-in-None-clause-kept
+returns-in-None-clause-kept g c = if_ok_any c.prepare_new.result (λ p host at. absurd (c.in-None.ensures.none refl host at))
