@@ -39,12 +39,12 @@ pub trait Storage: Drop {
         ensures written { Changes (view self.old) (view self.new) result (overwritten (view self.old).contents at bytes.now) }
         ensures calls { Calls (view self.old) (view self.new) result };
 
-    /// Writes so many zeros at an offset, as `write` does. The device may give the place back.
+    /// Writes so many zeros at an offset, as `write` does. The place that they take may be given back.
     fn write_zeroes(&mut self, at: u64, length: u64) -> Result<(), StorageError>
         ensures zeroed { Changes (view self.old) (view self.new) result (zeroed (view self.old).contents at length) }
         ensures calls { Calls (view self.old) (view self.new) result };
 
-    /// The same, and the place stays taken on the device where it can.
+    /// The same, and the place that they take stays taken where it can.
     fn write_allocated_zeroes(&mut self, at: u64, length: u64) -> Result<(), StorageError>
         ensures zeroed { Changes (view self.old) (view self.new) result (zeroed (view self.old).contents at length) }
         ensures calls { Calls (view self.old) (view self.new) result };
@@ -54,7 +54,7 @@ pub trait Storage: Drop {
         ensures resized { Changes (view self.old) (view self.new) result (resized (view self.old).contents size) }
         ensures calls { Calls (view self.old) (view self.new) result };
 
-    /// Hands what was written on to the device.
+    /// Hands all that was written on: of a file, to the operating system. That outlives an end of the program, and a loss of power only after `sync`.
     fn flush(&mut self) -> Result<(), StorageError>
         ensures same { ContentsStay (view self.old) (view self.new) }
         ensures calls { Calls (view self.old) (view self.new) result };
@@ -64,7 +64,7 @@ pub trait Storage: Drop {
         ensures same { ContentsStay (view self.old) (view self.new) }
         ensures calls { Calls (view self.old) (view self.new) result };
 
-    /// Forgets what it keeps of earlier reads, so that the next reads ask the device.
+    /// Forgets what it keeps of earlier reads, so that the next reads ask anew.
     fn invalidate_cache(&mut self) -> Result<(), StorageError>
         ensures same { ContentsStay (view self.old) (view self.new) }
         ensures calls { Calls (view self.old) (view self.new) result };
@@ -87,7 +87,7 @@ pub enum StoragePreallocate {
     None,
     /// The added bytes are zero, by the quickest way.
     Zero,
-    /// The place is taken on the device, without writing to it.
+    /// The place is taken, without writing to it.
     Allocate,
     /// Zeros are written to all of it.
     WriteData,

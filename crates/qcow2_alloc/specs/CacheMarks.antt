@@ -53,7 +53,7 @@ module _ {S : Type 0} where
   abbrev pub IsInUseOrFault : MetadataCaches S → ImageError → Type 0
   IsInUseOrFault caches e = ((e ≡ I.InUse) × AreAllPinned caches) ⊎ IsFault e
 
--- What invalidating a cache answers, and leaves of its entries: none has a pin, and none stays; or there was no memory for the answer, and all stay; or those with a pin stay, and
+-- What invalidating a cache answers, and leaves of its entries. Where none has a pin, none stays. Where there was no memory for the answer, all stay. Else those with a pin stay, and
 -- their clusters are answered.
 abbrev pub LeavesPinned : {V : Type 0} → List (ℕ × Slot V) → Result (Unit {0}) ImageError → List (ℕ × Slot V) → Type 0
 LeavesPinned es (Ok _) fs = (pinned es ≡ []) × (fs ≡ [])

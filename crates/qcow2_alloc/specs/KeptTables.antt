@@ -48,7 +48,7 @@ pub record IsSafeSince (old new : StorageView) (known : Bytes) : Type 0 where
   pub moments : Passing old new (λ c. IsSafeBetween (byte_at old.contents) known (byte_at c))
   pub contents : IsSafeBetween (byte_at old.contents) known (byte_at new.contents)
 
--- Since an earlier view of a storage, at each moment and now, each cluster is as it was then or as was known; and of the kind of tables that the direction has written last none is written
+-- Since an earlier view of a storage, at each moment and now, each cluster is as it was then or as was known. Of the kind of tables that the direction has written last, none is written
 -- before all of the other kind are.
 pub record IsInOrderSince (h : HeaderFields) (d : Direction) (old new : StorageView) (known : Bytes) : Type 0 where
   pub moments : Passing old new (λ c. IsMixed h d (byte_at old.contents) known (byte_at c))

@@ -28,7 +28,7 @@ module _ {S : Type 0} (view : S → StorageView) (file : ImageFile S) where
   abbrev pub IsFull : ℕ → Type 0
   IsFull n = (start : ℕ) → start + n ≤ nameable_clusters file.header.fields → (k : ℕ) × (start ≤ k) × (k < start + n) × IsUsed view file k
 
-  -- Below an end there is no room for so many clusters of a reftable and the refblocks that they lack: one of them is in use, or one of those that were taken before.
+  -- Below an end there is no room for so many clusters of a reftable and the refblocks that they lack. One of them is in use, or one of those that were taken before.
   abbrev pub HasNoRoom : (ℕ → ℕ) → EntryTableView → ℕ → ℕ → Type 0
   HasNoRoom taken t clusters end =
       (first n : ℕ) → 0 < first → n ≡ opened t (counts_per_block file.header.fields) first n + clusters → first + n ≤ end
@@ -43,7 +43,7 @@ module _ {S : Type 0} (view : S → StorageView) (file : ImageFile S) where
   IsLowestRoom t clusters end room =
       (first n : ℕ) → 0 < first → first < room → n ≡ opened t (counts_per_block file.header.fields) first n + clusters → first + n ≤ end → (k : ℕ) × (first ≤ k) × (k < first + n) × (k < room) × IsUsed view file k
 
-  -- a longer reftable lies behind as many clusters as its room lacked refblocks, in the lowest room below the clusters that it has entries for, and those that can be named
+  -- A longer reftable lies behind as many clusters as its room lacked refblocks. Its room is the lowest below the clusters that it has entries for, and those that can be named.
   pub record LiesLowest (old new : EntryTableView) : Type 0 where
     pub first : ℕ
     pub blocks : ℕ

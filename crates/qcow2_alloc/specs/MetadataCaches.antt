@@ -252,8 +252,8 @@ module _ {S : Type 0} where
 
   -- ---- a modified table is put in
 
-  -- It is laid over what was known, and nothing else changes; at each moment on the way a stop is as safe as before. The caches are sound again, whatever is pending, where it stands so
-  -- and the order of writes is kept; and where it is named so, no refblock is new that wasn't.
+  -- It is laid over what was known, and nothing else changes; at each moment on the way a stop is as safe as before. Where it stands so, and the order of writes is kept, the caches are
+  -- sound again, whatever is pending. Where it is named so, no refblock is new that wasn't.
   pub record LaidOver (Stands : Bytes → Bytes → Type 0) (IsNamed : Bytes → Type 0) (h : HeaderFields) (old : StorageView) (caches : MetadataCaches S) (new : StorageView) (caches' : MetadataCaches S) (t : CachedTable) : Type 0 where
     pub honest : new.is_honest
     pub known : known_of h caches' (byte_at new.contents) ≡ known (cluster_size h) (t ∷ []) (known_of h caches (byte_at old.contents))

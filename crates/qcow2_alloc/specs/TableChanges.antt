@@ -37,7 +37,7 @@ module _ {S : Type 0} (caches caches' : MetadataCaches S) (cluster index : ℕ) 
   CountsLess b true = (index < counts_of b) × (0 < count_at b index) × SetsCount b (count_at b index - 1)
   CountsLess b false = index < counts_of b → count_at b index ≡ 0
 
-  -- the L2 table of a cluster has another entry at this place, and what it names no longer is answered; no other entry changes, no other L2 table and no refblock
+  -- The L2 table of a cluster has another entry at this place, and what it names no longer is answered. No other entry changes, no other L2 table and no refblock.
   pub record SetsEntry (t : L2TableView) (entry : ℕ) (answer : Option (ℕ × ℕ)) : Type 0 where
     pub change : ChangesHeld (l2_at caches) (l2_at caches') cluster (changed_table t)
         (λ bytes. ChangesEntry t.bytes bytes index entry × (answer ≡ dropped_run t.cluster_bits (cover_at t index) (cover_at (changed_table t bytes) index)))

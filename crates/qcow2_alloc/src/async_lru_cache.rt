@@ -106,8 +106,8 @@ impl<B: AsyncLruCacheBackend> AsyncLruCache<B> {
         )
     }
 
-    /// Puts a value in front, under a key that isn't there as if it were loaded, or in the place of the one that is there, which is flushed first:
-    /// true. It is taken only then. False where nothing may be flushed and it had to be, and where there is no value.
+    /// Puts a value in front: true. Under a key that isn't there it is put as if it were loaded. Else it takes the place of the value that is there,
+    /// which is flushed first. It is taken only then. False where nothing may be flushed and it had to be, and where there is no value.
     pub fn insert(
         &mut self,
         store: &mut B::Store,

@@ -77,7 +77,7 @@ fn tallies<S: Storage>(
     Ok(Findings { names, offsets })
 }
 
-/// What is wrong with the image on a storage, by its bytes alone: each breach, in the order of `Breach` and then by rising number, and each cluster that is counted more often than
+/// What is wrong with the image on a storage, by its bytes alone. That is each breach, in the order of `Breach` and then by rising number, and each cluster that is counted more often than
 /// named. There is no breach exactly where the image is consistent. Refused `Format` for a header, L1 table or reftable that doesn't read, and `Limit` for one that is too long or ends past 64 bits.
 pub fn check<S: Storage>(alloc: Global, storage: &mut S) -> Result<Report, MetadataError>
     ensures breaches { (S.view storage.old).is_honest → IfOk result (λ r. r.breaches.items

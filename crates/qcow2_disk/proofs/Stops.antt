@@ -42,7 +42,7 @@ asked_split (k ∷ ns) ms n (inr asked) = ⊎_elim (λ l. inl (inr l)) (λ r. in
 pub stop_of_kept : (backing : Bytes) (m : Checkpoint) (b : Bytes) → StopOkEverywhere backing m b → StopOk backing m b
 stop_of_kept backing m b kept = record { consistent = kept.consistent; size = kept.size; values = λ o _ _. kept.values o }
 
--- what is safe stays so with checkpoint_with given and asked
+-- what is safe stays so with more given and asked
 pub stop_more : (backing : Bytes) (given : List GivenBytes) (asked : List ℕ) (m : Checkpoint) (b : Bytes) → StopOk backing m b → StopOk backing (checkpoint_with given asked m) b
 stop_more backing given asked m b stop = record {
   consistent = stop.consistent;
@@ -90,6 +90,6 @@ kept_twice backing given asked m b kept = record {
   values = λ o. ⊎_elim (λ h. inl h) (λ h. inr (⊎_elim (λ l. given_front given m.given o _ l) (λ r. r) (given_split given (given ++ m.given) o _ h))) (kept.values o);
 }
 
--- what is kept is kept with checkpoint_with given
+-- what is kept is kept with more given
 pub kept_more : (backing : Bytes) (given : List GivenBytes) (asked : List ℕ) (m : Checkpoint) (b : Bytes) → StopOkEverywhere backing m b → StopOkEverywhere backing (checkpoint_with given asked m) b
 kept_more backing given asked m b kept = kept_on backing m given asked b b kept.consistent (inl refl) (λ o. inl refl) kept

@@ -176,7 +176,7 @@ begun s = record s { found = λ _. None }
 abbrev pub over : State → State
 over s = record s { guest = record s.guest { slots = λ _. None } }
 
--- the mark of the call under way
+-- the checkpoint of the command under way: what it gives and asks for is added before it returns
 abbrev pub checkpoint_during : Setting → State → Command → Checkpoint
 checkpoint_during x old command = checkpoint_with (given_by x old.guest command) (asked_by command) old.mark
 
@@ -209,14 +209,14 @@ Run x old (command ∷ commands) [] new = ⊥
 
 -- ---- what a stop leaves on the way
 
--- While a call is under way, at each moment the bytes are what a stop may leave at its mark; at its return, at the mark then. An image that has failed writes nothing.
+-- While a call is under way, at each moment the bytes are what a stop may leave at its checkpoint; at its return, at the checkpoint then. An image that has failed writes nothing.
 pub record IsSafeWhile (backing : Bytes) (old new : StorageView) (failed : Bool) (under after : Checkpoint) : Type 0 where
   pub moments : failed ≡ false → Passing old new (λ c. StopOk backing under (byte_at c))
   pub at_return : StopOk backing after (byte_at new.contents)
   pub silent : IsTrue failed → Passing old new (λ c. c ≡ old.contents)
   pub unchanged : IsTrue failed → new.contents ≡ old.contents
 
--- An image at the return of a command: it is sound unless it failed; the guest sees what the run says, the known image is consistent, and nothing was lost or gained since the start.
+-- An image at the return of a command, where it didn't fail: it is sound, and the guest sees what the run says. The known image is consistent, and no cluster was lost or gained since the start.
 pub record RefinesGuest (v : AbstractImage) (s : State) (before : ℕ → ℕ) : Type 0 where
   pub works : s.is_failed ≡ false → v.is_sound
   pub failed : IsTrue s.is_failed → IsTrue v.is_failed
@@ -265,7 +265,7 @@ ResizesLast size old new (grow asked mode) = Passing old new (λ c. ((header (by
 ResizesLast size old new (shrink asked) = Passing old new (λ c. ((header (byte_at c)).size ≡ size) ⊎ (c ≡ new.contents))
 ResizesLast size old new command = Unit {0}
 
--- The stretch of one command, from a storage with what was known over it: each moment on the way is safe and its own, and the reply is as it is then.
+-- The stretch of one command, from a storage with what was known over it. Each moment on the way is safe and its own, and the reply is as it is then.
 pub record IsStretch (x : Setting) (old : StorageView) (known : Bytes) (new : AbstractImage) (s : State) (command : Command) (reply : Reply) (end : State) : Type 0 where
   pub safe : IsSafeWhile x.backing old new.storage s.is_failed (checkpoint_during x s command) end.mark
   pub own : s.is_failed ≡ false → IsOwnStretch x.backing old new.storage known (given_by x s.guest command) (asked_by command)
@@ -282,7 +282,7 @@ RefinesAlong {D = D} {P = P} spec x before old new s end (command ∷ commands) 
 RefinesAlong spec x before old new s end [] (reply ∷ replies) run = ⊥
 RefinesAlong spec x before old new s end (command ∷ commands) [] run = ⊥
 
--- the bytes are what a stop may leave at the mark of one of a run's commands, or at its end
+-- the bytes are what a stop may leave at the checkpoint of one of a run's commands, or at its end
 abbrev pub IsStopIn : (x : Setting) (s end : State) (commands : List Command) (replies : List Reply) → Run x s commands replies end → Bytes → Type 0
 IsStopIn x s end [] [] run b = StopOk x.backing end.mark b
 IsStopIn x s end (command ∷ commands) (reply ∷ replies) run b = StopOk x.backing (checkpoint_during x s command) b ⊎ IsStopIn x run.0 end commands replies run.2 b
@@ -336,7 +336,7 @@ module _ {D P : Type 0} (spec : Abstraction D P) where
     pub end : State
     -- the replies are a run of the disk
     pub run : Run (spec.setting old) (started (guest_of (abstract_image spec old []))) commands replies end
-    -- Where it begins a stop is safe. Along it each moment is safe at the mark of the command under way, and at each return the guest sees what the run says.
+    -- Where it begins a stop is safe. Along it each moment is safe at the checkpoint of the command under way, and at each return the guest sees what the run says.
     pub at_start : StopOk (spec.setting old).backing (checkpoint_at (guest_of (abstract_image spec old [])).disk) (byte_at (spec.storage old).contents)
     pub last : D
     pub along : RefinesAlong spec (spec.setting old) (spec.surplus old []) old last (started (guest_of (abstract_image spec old []))) end commands replies run

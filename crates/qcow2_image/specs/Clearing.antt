@@ -71,7 +71,7 @@ module _ {S F : Type 0} (image : Qcow2 S F) (offset n : ℕ) where
   abbrev pub to_in : ℕ
   to_in = touched_to (cluster_size image.file.header.fields) (size_of image) offset n
 
-  -- of clearing a range, in this order: what makes the image unusable, that it isn't to be written, a range beyond the size, version 2 where zeros are needed, and offsets past 64 bits
+  -- Of clearing a range, in this order: what makes the image unusable, and that it isn't to be written. Then a range beyond the size, version 2 where zeros are needed, and offsets past 64 bits.
   abbrev pub refuses_to_clear : Clearance → Option ImageError
   refuses_to_clear how =
       option_or (unusable image) (option_or (refuse_if (not (is_writable image)) I.ReadOnly) (option_or (refuse_if (passes (size_of image) offset n) I.BeyondSize)

@@ -26,7 +26,7 @@ pub record IsUnwritten (n : ℕ) (b : Bytes) : Type 0 where
   pub size : (header b).size ≡ n
   pub shows_below : (backing : Bytes) (o : ℕ) → (disk b backing).value o ≡ known_byte (backing o)
 
--- what a stop may leave while an image of this size is created: nothing that is taken for an image, or an unwritten image of no bytes or of that size
+-- What a stop may leave while an image of this size is created. It is nothing that is taken for an image, or an unwritten image of no bytes or of that size.
 abbrev pub IsStopOfCreating : ℕ → Bytes → Type 0
 IsStopOfCreating n b = (begins_image b ≡ false) ⊎ (IsUnwritten 0 b ⊎ IsUnwritten n b)
 

@@ -33,9 +33,9 @@ module _ (h : HeaderFields) (known : Bytes) (offset : ℕ) where
   IsWritableAt n place = (n ≤ rest_of_table h offset) × AreDataAt h known true offset place n
 
   -- The mapping p of n bytes, which means m. It is existing exactly where all of them may be written where they are, and is just that range then.
-  -- Else it is the rest of the first cluster at least, and behind that as much of the range as can stand in a row, within one L2 table; where it is shorter than the range, there is a cause.
+  -- Else it is the rest of the first cluster at least, and behind that as much of the range as can stand in a row, within one L2 table. Where it is shorter than the range, there is a cause.
   -- It begins in the host cluster that the zero entry of its first guest cluster keeps, where there is one.
-  -- What is copied data is in place, where it is; all else is private, at the same byte of a cluster that is its own by the header and what is known now, or that its zero entry keeps.
+  -- What is copied data is in place, where it is. All else is private, at the same byte of a cluster: one that is its own by the header and what is known now, or that its zero entry keeps.
   pub record IsAnswered (n : ℕ) (h' : HeaderFields) (now : Bytes) (p : Prepared) (m : PreparedMapping) : Type 0 where
     pub existing : IsNone (table_of p) ↔ ((place : ℕ) × IsWritableAt n place)
     pub whole : IsNone (table_of p) → length_of p ≡ n
@@ -49,7 +49,7 @@ module _ (h : HeaderFields) (known : Bytes) (offset : ℕ) where
     pub own : (i : ℕ) → i < length_of p → IsTrue (m.is_private (offset + i))
         → ((offset_of p + i) % cluster_size h ≡ (offset + i) % cluster_size h) × (IsHeldAlone h' now ((offset_of p + i) / cluster_size h) ⊎ IsKeptBy h known ((offset + i) / cluster_size h) ((offset_of p + i) / cluster_size h))
 
-  -- why the mapping may be refused as of a prepared table: one that is out, and isn't existing, lies in the same L2 table, and not all of the range may be written where it is
+  -- Why the mapping may be refused as of a prepared table. One that is out, and isn't existing, lies in the same L2 table, and not all of the range may be written where it is.
   pub record IsTaken (n : ℕ) (out : List (Option Prepared)) : Type 0 where
     pub place : ℕ
     pub other : Prepared

@@ -74,7 +74,7 @@ module _ (h : HeaderFields) where
     pub most : n < q.length → q.length ≡ p.length
     pub whole : q.length < n → IsWhole q
 
-  -- Why a mapping ends at guest byte e and at byte f of the file before its range does. A cluster ends there; and its L2 table does, or what follows is copied data elsewhere, or the host cluster that would follow can't be named, or is in use and isn't kept by the zero entry of what follows.
+  -- Why a mapping ends at guest byte e and at byte f of the file before its range does. A cluster ends there. Its L2 table does too, or what follows is copied data elsewhere. Or the host cluster that would follow can't be named, or is in use and isn't kept by the zero entry of what follows.
   pub record EndsAt (known : Bytes) (e f : ℕ) : Type 0 where
     pub cluster : e % cluster_size h ≡ 0
     pub because : (e % (cluster_size h * entries_per_cluster h) ≡ 0)
@@ -131,7 +131,7 @@ module _ {S F : Type 0} (view : S → StorageView) where
         × ((IsHostCluster old.file.header.fields.cluster_bits (host / cluster_size old.file.header.fields) → ⊥) ⊎ (count new.file.header.fields (known_in view new.file) (host / cluster_size old.file.header.fields) ≢ 0))
     SharesAt p old new out offset n overwrite mapping host (Err e) = RefusedFillingStep view backing p old new out e
 
-    -- a share for the guest cluster behind a mapping that is out stands ready; where it isn't in place, its cluster has what the guest sees, but where that is announced as overwritten
+    -- A share for the guest cluster behind a mapping that is out stands ready. Where it isn't in place, its cluster has what the guest sees, but where that is announced as overwritten.
     pub record StandsBehind (old new : Qcow2 S F) (out : List (Option Prepared)) (n : ℕ) (overwrite : Bool) (p : Prepared) (share : Share) : Type 0 where
       pub pending : Pending
       pub goes : UnseenFillingStep view backing (pending_in view backing old out) pending old new out

@@ -155,7 +155,7 @@ impl<S: Storage, F: WrappedFormat<S>> Qcow2<S, F> {
         Ok(Some(Share::New { taken, dropped }))
     }
 
-    // Takes a cluster for the one at an offset, of which the old mapping is known, and fills it with the old bytes where they aren't announced as overwritten; None where it can't be taken.
+    // Takes a cluster for the one at an offset, of which the old mapping is known; None where it can't be taken. Fills it with the old bytes, where they aren't announced as overwritten.
     fn new_cluster_at(
         &mut self,
         cluster: HostCluster,

@@ -79,7 +79,7 @@ step_endures {result = result} old new s s' given asked changed call changes hon
     endures_write {result = result} old new s.known given asked changed call changes honest (λ backing m ok known_ok.
     subst (λ (b : Bytes). StopOkEverywhere backing (checkpoint_with (given backing) asked m) b) is' (leads.on_storage backing m (subst (StopOkEverywhere backing m) (sym is) ok) known_ok))
 
--- checkpoint_with calls after a step
+-- more calls after a step
 pub steps_endure : (old mid new : StorageView) (s s' : DriverState) (first then : Bytes → List GivenBytes) (asked asks : List ℕ) → s.on_storage ≡ byte_at old.contents
     → SafeThroughout old mid s.known first asked → SafeStep s s' first asked → SafeThroughout mid new s'.known then asks → SafeThroughout old new s.known (both_given first then) (asks ++ asked)
 steps_endure old mid new s s' first then asked asks is one leads two =

@@ -77,7 +77,7 @@ module _ (h : HeaderFields) (d : Direction) (p : Pending) (on_storage known : By
       let none = held_unnamed d (cluster h p on_storage known c) (p.surplus c) (tied h p on_storage known c) some (good h d p on_storage known guarded c) in
       record { no_table = none.1; no_entry = none.0 }
 
-  -- where what is known of entries is on the storage, no mix has checkpoint_with
+  -- where what is known of entries is on the storage, no mix has more
   pub written_covers : (d ≡ RbDependsOnL2 → SameCovers h on_storage known) → Written d (cluster h p on_storage known c)
   written_covers = written d
     where

@@ -30,7 +30,7 @@ with_l1_table s offset entries on_storage' known' = record {
   known = known';
 }
 
--- What stands for each guest cluster stays, on the storage and as known, though the header changes; so do the bytes that guests use, how often they use each cluster, how much checkpoint_with often it is counted, and the disk.
+-- What stands for each guest cluster stays, on the storage and as known, though the header changes. So do the bytes that guests use, how often they use each cluster, how much more often it is counted, and the disk.
 pub record KeepsGuests (old new : DriverState) : Type 0 where
   pub storage_covers : (g : ℕ) → cover old.header old.on_storage g ≡ cover new.header new.on_storage g
   pub covers : (g : ℕ) → cover old.header old.known g ≡ cover new.header new.known g
@@ -113,7 +113,7 @@ KeptClusterIsCommitted =
 
 -- ---- one storage write over a run of clusters
 
--- How a guest byte has a place to itself: it is copied data there; the zero entry of its cluster keeps the place; or the place is held, and nothing names it.
+-- How a guest byte has a place to itself. It is copied data there, or the zero entry of its cluster keeps the place, or the place is held and nothing names it.
 pub data Hosting : Type 0 where
   InPlace : Hosting
   Kept : Hosting
@@ -156,7 +156,7 @@ pub record WritesRun (hosting : ℕ → Hosting) (offset place : ℕ) (bytes : L
       → SameIn (cluster_size old.header) k old.on_storage new.on_storage × SameIn (cluster_size old.header) k old.known new.known
   pub shows : (backing : Bytes) → disk new.known backing ≡ with_seen_bytes hosting (disk old.known backing) offset bytes
 
--- One storage write goes over a run of clusters, each of them data in place, kept or held: guests see at once what is in place, and nothing else of it. No table stands at such a place.
+-- One storage write goes over a run of clusters, each of them data in place, kept or held. Guests see at once what is in place, and nothing else of it. No table stands at such a place.
 pub record RunIsWritten : Type 0 where
   pub written : (s : DriverState) (on_storage' known' : Bytes) (hosting : ℕ → Hosting) (offset place : ℕ) (bytes : List ℕ) (given : List GivenBytes) → StateInvariant s
       → ((i : ℕ) → i < length bytes → IsHostedAt s (hosting (offset + i)) (offset + i) (place + i))

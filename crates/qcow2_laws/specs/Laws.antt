@@ -1,4 +1,4 @@
--- The laws of the order of writes: every step of the driver leads from a sound stand to a sound one, and a stop is as safe as before.
+-- The laws of the order of writes: every step of the driver keeps the invariant, and leaves a stop as safe as before.
 use Rattle.std.specs.Prelude.{ℕ, ◌+◌, ◌-◌, ◌*◌, ◌/◌, ◌<◌, ◌≤◌, ◌≡◌, ◌⊎◌, List, [], ◌∷◌, ◌++◌}
 use Rattle.qcow2_metadata.specs.Bytes.{Bytes}
 use Rattle.qcow2_metadata.specs.declared.header.HeaderFields.{HeaderFields}

@@ -1,4 +1,4 @@
--- Steps of the driver: what is guarded is guarded again, and what was kept is kept, with what a step gives and asks.
+-- Steps of the driver: the invariant holds again, and a stop is as safe as before, with what a step gives and asks for.
 use Rattle.std.specs.Prelude.{ℕ, List}
 use Rattle.qcow2_metadata.specs.Bytes.{Bytes}
 use Rattle.qcow2_metadata.specs.declared.header.HeaderFields.{HeaderFields}

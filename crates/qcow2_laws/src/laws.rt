@@ -83,7 +83,7 @@ pub fn kept_cluster_is_committed()
     ensures { KeptClusterIsCommitted }
 {}
 
-/// One storage write goes over clusters that are each data in place, kept by a zero entry or held: guests see at once what is in place, and nothing else of it.
+/// One storage write goes over clusters that are each data in place, kept by a zero entry or held. Guests see at once what is in place, and nothing else of it.
 pub fn run_is_written()
     ensures { RunIsWritten }
 {}

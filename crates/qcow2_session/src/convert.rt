@@ -91,7 +91,7 @@ fn import_at<R: Storage, S: Storage, F: WrappedFormat<S>>(
     }
 }
 
-/// Makes a raw disk as an image's disk is, cluster by cluster: it is resized to no bytes, then to the disk's size, and each cluster
+/// Makes a raw disk as an image's disk is, cluster by cluster. It is resized to no bytes, then to the disk's size, and each cluster
 /// that isn't all zeros is written. The answer is the number of bytes. Before any work a failed image (16) and a missing data
 /// file (12) are refused, and want of memory. After another refusal the raw disk may have any bytes. What the image's guest sees stays.
 pub fn to_raw<S: Storage, F: WrappedFormat<S>, R: Storage>(

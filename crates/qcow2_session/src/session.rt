@@ -134,7 +134,7 @@ pub fn read<S: Storage, F: WrappedFormat<S>>(
 }
 
 /// Fills the buffer with the guest's bytes, from an offset in bytes on, whatever clusters and tables they lie in. A failed image
-/// (16), a missing data file (12) and a range of one byte or more that passes the size (2) are refused first; then what the work
+/// (16), a missing data file (12) and a range of one byte or more that passes the size (2) are refused first. Then comes what the work
 /// meets, such as compressed data (7). After a refusal the buffer may hold any bytes.
 pub fn read_into<S: Storage, F: WrappedFormat<S>>(
     image: &mut Qcow2<S, F>,

@@ -18,8 +18,8 @@ pub struct Script {
     pub is_cut: bool,
 }
 
-/// Reads lines to the end of the input, or to the first one that can't be read: one that asks for no command, one whose
-/// bytes aren't UTF-8, or one in which a read fails.
+/// Reads lines to the end of the input, or to the first one that can't be read. Such a line asks for no command, its bytes aren't
+/// UTF-8, or a read fails in it.
 pub fn read_script<R: BufRead>(alloc: Global, input: &mut R) -> Result<Script, AllocError>
     ensures { IfSome (R.remaining input.old) (λ text. IfOk result (λ script. IsScriptOf text (map order script.commands.items) script.is_cut)) }
 {

@@ -22,7 +22,7 @@ const BROKEN: u8 = 2;
 /// The exit status of a consistent image with leaked clusters.
 const LEAKING: u8 = 3;
 
-/// Prints the report of an image, which is only read, and answers the exit status: 0 where it is consistent without leaked
+/// Prints the report of an image, which is only read, and answers the exit status. That is 0 where it is consistent without leaked
 /// clusters, 3 with some, and 2 where it isn't consistent.
 pub fn check<S: Storage, W: Write>(
     alloc: Global,

@@ -123,7 +123,7 @@ module _ {S F : Type 0} (view : S → StorageView) (backing : F → BackingView)
   freed_refused new e sound frees = elim frees [ inl tidies ↦ inl (tidy_stays new sound tidies) | inr broke ↦ inr (broke_off view backing out old new e broke) ]
 
 module _ {S F : Type 0} (view : S → StorageView) (backing : F → BackingView) (old : Qcow2 S F) (usable : is_failed old ≡ false) (new : Qcow2 S F) (marked : Bool) (number : number_of new ≡ number_of old) where
-  -- all that is known is written, and nothing is abstract_of of it; or it was refused
+  -- all that is known is written, and nothing is left of it; or it was refused
   pub flushes_settled : (r : Result (Unit {0}) ImageError) → Marks r (is_failed new) marked → IfErr r (λ e. e ≡ I.Memory → IsTrue new.file.caches.is_changed → IsTrue marked)
       → ((out : List (Option Prepared)) → ImageInvariant view backing (pending_in view backing old out) old out → FreesListed view backing (beside view backing old out) old new out r)
       → IfOk r (λ done. known_in view new.file ≡ contents_in view new.file) → Flushes view backing old (record new { is_failed = marked }) r

@@ -163,7 +163,7 @@ module _ {S F : Type 0} (view : S → StorageView) (backing : F → BackingView)
 
 -- ---- a whole write into a mapping
 
--- of no bytes nothing is abstract_of
+-- of no bytes nothing is left
 laid_nothing : {A : Type 0} (place : ℕ) (top under : ℕ → A) (o : ℕ) → laid_over place 0 top under o ≡ under o
 laid_nothing place top under o = laid_outside place 0 top under o (elim (cases_lt o place) [ inl below ↦ inl below | inr past ↦ inr (omega arith) ])
 
