@@ -1,3 +1,4 @@
+pub mod FaultCounts
 pub mod Called
 pub mod Answers
 pub mod Answered

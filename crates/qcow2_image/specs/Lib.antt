@@ -6,6 +6,7 @@ pub mod ImageInvariant
 pub mod Calls
 pub mod UnseenSteps
 pub mod NewTables
+pub mod Faults
 pub mod Found
 pub mod CallParts
 pub mod Opened

@@ -9,6 +9,7 @@ ghost use Rattle.qcow2_alloc.specs.CacheMarks.{l2_pins};
 ghost use Rattle.qcow2_alloc.specs.MetadataCaches.{l2_at};
 ghost use Rattle.qcow2_alloc.specs.ImageFile.{known_in, KeepsHeader};
 ghost use Rattle.qcow2_alloc.specs.declared.error.ImageError.TheVariants.{TablePrepared};
+ghost use Rattle.qcow2_image.specs.Faults.{CountsFaults};
 ghost use Rattle.qcow2_image.specs.Image.{Stays, is_writable, number_of};
 ghost use Rattle.qcow2_image.specs.Prepared.{image_of, length_of, offset_of};
 ghost use Rattle.qcow2_image.specs.Refusals.{IsMet, IsMetPreparing};
@@ -185,6 +186,7 @@ impl<S: Storage, F: WrappedFormat<S>> Qcow2<S, F> {
         ensures keeps { (p : Pending) (out : List (Option Prepared)) → ImageInvariant S.view F.backing p self.old out → UnseenStep S.view F.backing p p self.old self.new out }
         ensures contents { (p : Pending) (out : List (Option Prepared)) → ImageInvariant S.view F.backing p self.old out → SameHeld S.view F.backing p self.old self.new }
         ensures held { OnOk result (IsSome (l2_at self.new.file.caches table)) }
+        ensures faults { CountsFaults S.view F.backing self.old self.new result }
     {
         self.file
             .caches

@@ -56,6 +56,7 @@ impl<S: Storage, F: WrappedFormat<S>> Qcow2<S, F> {
     ghost use Rattle.std.specs.String.{string_bytes};
     ghost use Rattle.qcow2_metadata.specs.Header.{header, cluster_size};
     ghost use Rattle.qcow2_alloc.specs.declared.error.ImageError.TheVariants.{Dependency, Failed, Memory};
+    ghost use Rattle.qcow2_image.specs.Faults.{NoFewerFaults};
     ghost use Rattle.qcow2_image.specs.Image.{storage_of_image, HasNothingToFree, Stays, KeepsRest, IsSameImage, is_failed, is_writable, is_external, leaked_in, number_of, size_of};
     ghost use Rattle.std.specs.Prelude.{List, Option};
     ghost use Rattle.qcow2_disk.specs.AbstractImages.{guest_of};
@@ -427,6 +428,7 @@ impl<S: Storage, F: WrappedFormat<S>> Qcow2<S, F> {
     pub(crate) fn begin(&mut self)
         ensures stays { Stays self.old self.new }
         ensures list { self.new.file.free_list ≡ self.old.file.free_list }
+        ensures faults { NoFewerFaults S.view F.backing self.old self.new }
         ensures storage { storage_of self.new.file.storage ≡ storage_of self.old.file.storage }
         ensures keeps { (p : Pending) (out : List (Option Prepared)) → ImageInvariant S.view F.backing p self.old out → UnseenStep S.view F.backing p p self.old self.new out }
         ensures known { (p : Pending) (out : List (Option Prepared)) → ImageInvariant S.view F.backing p self.old out → known_in S.view self.new.file ≡ known_in S.view self.old.file }

@@ -3,6 +3,7 @@ ghost use Rattle.std.specs.Prelude.{◌≡◌, ◌≢◌, ◌+◌, ◌^◌, ◌<
 ghost use Rattle.qcow2_disk.specs.Calls.{Shows};
 ghost use Rattle.qcow2_laws.specs.CrashInvariant.{Pending};
 ghost use Rattle.qcow2_image.specs.Calls.{Answers, Puts};
+ghost use Rattle.qcow2_image.specs.Faults.{CountsFaults, IsNotOfStorage};
 ghost use Rattle.qcow2_image.specs.Found.{AreBytesOf, IsFoundWhole, IsMappedAs, further_by};
 ghost use Rattle.qcow2_image.specs.CallParts.{PutsPart, WritesBytes};
 ghost use Rattle.qcow2_image.specs.UnseenSteps.{UnseenStep};
@@ -52,6 +53,7 @@ impl<S: Storage, F: WrappedFormat<S>> Qcow2<S, F> {
         ensures outdated { (out : List (Option Prepared)) → (abstract_of S.view F.backing self.old out).is_sound → result ≡ Err OutdatedMapping
             → ¬ IsFoundWhole S.view self.new (mapping.now.offset + at) (further_by at mapping.now.kind) (length bytes.old) }
         ensures sees { Answers S.view F.backing self.old self.new [] (λ done old new. (new ≡ old) × Shows old.disk (mapping.now.offset + at) bytes.new) result }
+        ensures faults { CountsFaults S.view F.backing self.old self.new result }
     {
         self.check_usable()?;
         if mapping.image != self.number {
@@ -78,6 +80,7 @@ impl<S: Storage, F: WrappedFormat<S>> Qcow2<S, F> {
         ensures outdated { 0 < length bytes.old → (p : Pending) (out : List (Option Prepared)) → ImageInvariant S.view F.backing p self.old out → result ≡ Err OutdatedMapping
             → ¬ IsFoundWhole S.view self.new (mapping.now.offset + at) (further_by at mapping.now.kind) (length bytes.old) }
         ensures shows { 0 < length bytes.old → (p : Pending) (out : List (Option Prepared)) → ImageInvariant S.view F.backing p self.old out → IfOk result (λ done. Shows (disk_of S.view F.backing self.new) (mapping.now.offset + at) bytes.new) }
+        ensures faults { CountsFaults S.view F.backing self.old self.new result }
     {
         let offset = self.place_within(mapping.offset, at)?;
         let kind = mapping.kind.further(at);
@@ -90,6 +93,7 @@ impl<S: Storage, F: WrappedFormat<S>> Qcow2<S, F> {
         ensures place { IfOk result (λ place. place ≡ offset + at) }
         ensures cause { IfErr result IsMet }
         ensures past { IfErr result (λ e. size_of self.now ≤ offset + at) }
+        ensures faults { IfErr result IsNotOfStorage }
     {
         let size = self.size();
         if offset >= size || at >= size - offset {
@@ -111,6 +115,7 @@ impl<S: Storage, F: WrappedFormat<S>> Qcow2<S, F> {
         ensures keeps { (p : Pending) (out : List (Option Prepared)) → ImageInvariant S.view F.backing p self.old out → UnseenStep S.view F.backing p p self.old self.new out }
         ensures outdated { (p : Pending) (out : List (Option Prepared)) → ImageInvariant S.view F.backing p self.old out → result ≡ Err OutdatedMapping → ¬ IsFoundWhole S.view self.new offset wanted.now length }
         ensures mapped { 0 < length → (p : Pending) (out : List (Option Prepared)) → ImageInvariant S.view F.backing p self.old out → IfOk result (λ done. IsMappedAs S.view self.new offset wanted.now length) }
+        ensures faults { CountsFaults S.view F.backing self.old self.new result }
     {
         let (kind, found) = self.look_up(offset, length)?;
         if found >= length && wanted.is(&kind) {
@@ -134,6 +139,7 @@ impl<S: Storage, F: WrappedFormat<S>> Qcow2<S, F> {
         ensures outdated { result ≡ Err OutdatedMapping → (kind.now ≡ Eof) × (self.new ≡ self.old) }
         ensures shows { (p : Pending) (out : List (Option Prepared)) → ImageInvariant S.view F.backing p self.old out → IsMappedAs S.view self.old offset kind.now (length bytes.old)
             → IfOk result (λ done. Shows (disk_of S.view F.backing self.new) offset bytes.new) }
+        ensures faults { CountsFaults S.view F.backing self.old self.new result }
     {
         match kind {
             MappingKind::Raw {
@@ -161,6 +167,7 @@ impl<S: Storage, F: WrappedFormat<S>> Qcow2<S, F> {
         ensures file { self.new.file ≡ self.old.file }
         ensures keeps { (p : Pending) (out : List (Option Prepared)) → ImageInvariant S.view F.backing p self.old out → UnseenStep S.view F.backing p p self.old self.new out }
         ensures reads { IsHonestBacking S.view F.backing self.old.backing → IfOk result (λ done. (length bytes.new ≡ length bytes.old) × AreBytesOf (backing_bytes S.view F.backing self.old.backing) offset bytes.new) }
+        ensures faults { CountsFaults S.view F.backing self.old self.new result }
     {
         let Some(backing) = &mut self.backing else {
             bytes.fill(0);
@@ -182,6 +189,7 @@ impl<S: Storage, F: WrappedFormat<S>> Qcow2<S, F> {
         ensures slice { bytes.new ≡ bytes.old }
         ensures tells { 0 < length bytes.old → (out : List (Option Prepared)) → (abstract_of S.view F.backing self.old out).is_sound → IfErr result (TellsCompressed (known_in S.view self.old.file) offset) }
         ensures sees { Answers S.view F.backing self.old self.new [] (λ done was is. is ≡ was) result }
+        ensures faults { CountsFaults S.view F.backing self.old self.new result }
     {
         match self.try_readv_special(bytes, offset)? {
             None => Ok(()),
@@ -204,6 +212,7 @@ impl<S: Storage, F: WrappedFormat<S>> Qcow2<S, F> {
         ensures slice { bytes.new ≡ bytes.old }
         ensures tells { 0 < length bytes.old → (out : List (Option Prepared)) → (abstract_of S.view F.backing self.old out).is_sound → TellsWhether (known_in S.view self.old.file) offset result }
         ensures sees { Answers S.view F.backing self.old self.new [] (λ at was is. is ≡ was) result }
+        ensures faults { CountsFaults S.view F.backing self.old self.new result }
     {
         self.check_usable()?;
         if bytes.is_empty() {
@@ -222,6 +231,7 @@ impl<S: Storage, F: WrappedFormat<S>> Qcow2<S, F> {
         ensures answer { IfOk result (λ at. at ≡ Some offset) }
         ensures keeps { (p : Pending) (out : List (Option Prepared)) → ImageInvariant S.view F.backing p self.old out → UnseenStep S.view F.backing p p self.old self.new out }
         ensures tells { (p : Pending) (out : List (Option Prepared)) → ImageInvariant S.view F.backing p self.old out → TellsWhether (known_in S.view self.old.file) offset result }
+        ensures faults { CountsFaults S.view F.backing self.old self.new result }
     {
         let (kind, _length) = self.look_up(offset, length)?;
         if kind.is_special() {
@@ -249,6 +259,7 @@ impl<S: Storage, F: WrappedFormat<S>> Qcow2<S, F> {
             → ¬ IsFoundWhole S.view self.new (prepared.now.guest + at) (Raw Image (prepared.now.offset + at) true) (length bytes.now) }
         ensures private { IsSome (table_of prepared.now) → result ≢ Err OutdatedMapping }
         ensures sees { Puts S.view F.backing self.old self.new prepared.now at bytes.now result }
+        ensures faults { CountsFaults S.view F.backing self.old self.new result }
     {
         self.check_usable()?;
         if prepared.image != self.number {
@@ -278,6 +289,7 @@ impl<S: Storage, F: WrappedFormat<S>> Qcow2<S, F> {
         ensures private { IsSome (table_of prepared.now) → result ≢ Err OutdatedMapping }
         ensures puts { 0 < length bytes.now → at + length bytes.now ≤ prepared.now.length → (out : List (Option Prepared)) (k : ℕ) → slice_get out k ≡ Some (Some prepared.now)
             → ImageInvariant S.view F.backing (pending_in S.view F.backing self.old out) self.old out → PutsPart S.view F.backing self.old self.new out k prepared.now at bytes.now result }
+        ensures faults { CountsFaults S.view F.backing self.old self.new result }
     {
         let Some(host) = prepared.offset.checked_add(at) else {
             return Err(ImageError::Overflow);
@@ -302,6 +314,7 @@ impl<S: Storage, F: WrappedFormat<S>> Qcow2<S, F> {
         ensures mapped { table_of prepared.now ≡ None → 0 < length → (p : Pending) (out : List (Option Prepared)) → ImageInvariant S.view F.backing p self.old out
             → IfOk result (λ done. IsMappedAs S.view self.new (prepared.now.guest + at) (Raw Image host true) length) }
         ensures private { IsSome (table_of prepared.now) → result ≡ Ok tt }
+        ensures faults { CountsFaults S.view F.backing self.old self.new result }
     {
         if prepared.table.is_some() {
             return Ok(());
@@ -320,6 +333,7 @@ impl<S: Storage, F: WrappedFormat<S>> Qcow2<S, F> {
         ensures cause { IfErr result IsMet }
         ensures current { result ≢ Err OutdatedMapping }
         ensures written { WritesBytes S.view self.old self.new host bytes.now result }
+        ensures faults { CountsFaults S.view F.backing self.old self.new result }
     {
         self.file.storage.will_write(WriteKind::Data);
         self.file.storage.write(host, bytes)?;

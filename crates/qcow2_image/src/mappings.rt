@@ -17,6 +17,7 @@ ghost use Rattle.qcow2_alloc.specs.CacheMarks.{l2_pins};
 ghost use Rattle.qcow2_alloc.specs.ImageError.{IsFault, IsOfTables};
 ghost use Rattle.qcow2_disk.specs.Alike.{IsAlike};
 ghost use Rattle.qcow2_disk.specs.Found.{IsFoundIn, kind_at, rest_of_table};
+ghost use Rattle.qcow2_image.specs.Faults.{CountsFaults, IsNotOfStorage};
 ghost use Rattle.qcow2_image.specs.Found.{found_kind, mapping_of, IsRunBehind, NamesTable, IsRunFrom, IsFound, l1_index_of, l2_index_of};
 ghost use Rattle.qcow2_image.specs.UnseenSteps.{DropsNothing, HoldsTable, UnseenStep, EntersCluster, EntersShare, FreesLater, Unpins, dropped_by, freed_by};
 ghost use Rattle.qcow2_image.specs.ImageInvariant.{HasL1Table, ImageInvariant, listed_run, meaning, pending_in, abstract_of};
@@ -158,6 +159,7 @@ impl<S: Storage, F: WrappedFormat<S>> Qcow2<S, F> {
         ensures sees { Answers S.view F.backing self.old self.new [] (λ found old new. new ≡ old) result }
         ensures known { (out : List (Option Prepared)) → (abstract_of S.view F.backing self.old out).is_sound → known_in S.view self.new.file ≡ known_in S.view self.old.file }
         ensures run { (out : List (Option Prepared)) → (abstract_of S.view F.backing self.old out).is_sound → IfOk result (λ (mapping, n). IsFoundIn (known_in S.view self.new.file) (is_some self.new.backing) offset max (found_kind mapping.kind) n) }
+        ensures faults { CountsFaults S.view F.backing self.old self.new result }
     {
         self.check_usable()?;
         self.begin();
@@ -186,6 +188,7 @@ impl<S: Storage, F: WrappedFormat<S>> Qcow2<S, F> {
         ensures some { IfOk result (λ (kind, n). offset < size_of self.old → 0 < max → 0 < n) }
         ensures past { size_of self.old ≤ offset → result ≡ Ok (Eof, 0) }
         ensures found { (p : Pending) (out : List (Option Prepared)) → ImageInvariant S.view F.backing p self.old out → IfOk result (λ (kind, n). IsFound S.view self.new offset max kind n) }
+        ensures faults { CountsFaults S.view F.backing self.old self.new result }
     {
         let size = self.file.header.size();
         if offset >= size {
@@ -217,6 +220,7 @@ impl<S: Storage, F: WrappedFormat<S>> Qcow2<S, F> {
     fn l2_cluster(&self, offset: u64) -> Result<Option<HostCluster>, ImageError>
         ensures cause { IfErr result IsOfTables }
         ensures names { HasL1Table S.view F.backing self.now.file self.now.l1_table → IfOk result (NamesTable S.view self.now offset) }
+        ensures faults { IfErr result IsNotOfStorage }
     {
         let bits = self.file.header.cluster_bits();
         let Some(entry) = self.l1_table.get(GuestOffset::new(offset).l1_index(bits)) else {
@@ -251,6 +255,7 @@ impl<S: Storage, F: WrappedFormat<S>> Qcow2<S, F> {
         ensures run { (p : Pending) → FileInvariant S.view p self.now.file
             → IsEntryAt self.now.file.header.fields (known_in S.view self.now.file) (l1_index_of self.now.file.header.fields offset) table (l2_index_of self.now.file.header.fields offset)
             → max ≤ rest_of_table self.now.file.header.fields offset → IfOk result (λ (kind, n). IsRunFrom S.view self.now offset max kind n) }
+        ensures faults { IfErr result IsNotOfStorage }
     {
         let bits = self.file.header.cluster_bits();
         let Some(table) = self.file.caches.l2_peek(table) else {
@@ -274,6 +279,7 @@ impl<S: Storage, F: WrappedFormat<S>> Qcow2<S, F> {
         requires near { distance ≤ 2 ^ 42 }
         ensures alike { IfOk result (λ alike. IsTrue alike ↔ IsAlike distance (mapping_of table.now first) (mapping_of table.now next)) }
         ensures cause { IfErr result IsOfTables }
+        ensures faults { IfErr result IsNotOfStorage }
     {
         let first = table.get_mapping(first)?;
         let next = table.get_mapping(next)?;
@@ -292,6 +298,7 @@ impl<S: Storage, F: WrappedFormat<S>> Qcow2<S, F> {
         ensures bounded { IfOk result (λ n. n ≤ 2 ^ 41) }
         ensures run { IfOk result (IsRunBehind table.now cluster max) }
         ensures cause { IfErr result IsOfTables }
+        ensures faults { IfErr result IsNotOfStorage }
     {
         let size = cluster_size(table);
         let mut count = 0;

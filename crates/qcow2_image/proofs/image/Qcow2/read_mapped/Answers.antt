@@ -12,6 +12,7 @@ use Rattle.qcow2_image.specs.ImageInvariant.{pending_in}
 use Rattle.qcow2_image.proofs.Call.Answers.{usable_works}
 use Rattle.qcow2_image.proofs.Call.Called.{told_answers, tells_quietly, quietly_then}
 use Rattle.qcow2_image.proofs.Map.Loading.{if_ok}
+use Rattle.qcow2_image.proofs.Call.FaultCounts.{counted_marked}
 use Rattle.qcow2_image.proofs.image.Qcow2.read_mapped.Goals as goal
 
 pub returns-clause-sees : goal.returns-clause-sees
@@ -43,3 +44,6 @@ returns-clause-outdated g c = λ out sound is whole.
     let same : c.mark_failure.new.self ≡ new = c.mark_failure.ensures.rest ∙ ap (λ f. record new { is_failed = f }) marks in
     c.read_current-done.ensures.outdated some p out (c.begin.ensures.keeps p out sound).sound answer
     (subst (λ (image : Qcow2 _ _). IsFoundWhole view image (c.args.mapping.now.offset + c.args.at) (further_by c.args.at c.args.mapping.now.kind) (length c.args.bytes.now)) same whole)
+
+pub returns-clause-faults : goal.returns-clause-faults
+returns-clause-faults g c = counted_marked g.S.Storage.view g.F.BackingDisk.backing c.args.self.now c.begin.new.self c.read_current-done.new.self c.mark_failure.new.self c.read_current-done.result c.mark_failure.result c.begin.ensures.faults c.read_current-done.ensures.faults c.mark_failure.ensures.answer c.mark_failure.ensures.rest

@@ -10,6 +10,7 @@ use Rattle.qcow2_image.specs.ImageInvariant.{pending_in}
 use Rattle.qcow2_image.proofs.Call.Answers.{usable_works}
 use Rattle.qcow2_image.proofs.Call.Called.{told_answers, tells_quietly, quietly_then}
 use Rattle.qcow2_image.proofs.Map.Loading.{if_ok}
+use Rattle.qcow2_image.proofs.Call.FaultCounts.{counted_marked}
 use Rattle.qcow2_image.proofs.image.Qcow2.try_readv_special.Goals as goal
 
 pub returns-clause-sees : goal.returns-clause-sees
@@ -32,3 +33,6 @@ returns-clause-tells g c = λ some out sound.
     let p = pending_in view g.F.BackingDisk.backing c.args.self.now out in
     subst (λ r. TellsWhether (known_in view c.args.self.now.file) c.args.offset r) (sym c.mark_failure.ensures.answer)
     (subst (λ k. TellsWhether k c.args.offset c.plain_at-plain.result) (c.begin.ensures.known p out sound) (c.plain_at-plain.ensures.tells p out (c.begin.ensures.keeps p out sound).sound))
+
+pub returns-clause-faults : goal.returns-clause-faults
+returns-clause-faults g c = counted_marked g.S.Storage.view g.F.BackingDisk.backing c.args.self.now c.begin.new.self c.plain_at-plain.new.self c.mark_failure.new.self c.plain_at-plain.result c.mark_failure.result c.begin.ensures.faults c.plain_at-plain.ensures.faults c.mark_failure.ensures.answer c.mark_failure.ensures.rest

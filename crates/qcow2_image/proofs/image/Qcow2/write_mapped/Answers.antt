@@ -13,6 +13,7 @@ use Rattle.qcow2_image.specs.ImageInvariant.{pending_in}
 use Rattle.qcow2_image.proofs.Call.Answers.{usable_works}
 use Rattle.qcow2_image.proofs.Call.Called.{Quietly, quiet_sound}
 use Rattle.qcow2_image.proofs.Write.PutParts.{puts_early, puts_none, puts_then, puts_settled}
+use Rattle.qcow2_image.proofs.Call.FaultCounts.{counted_marked}
 use Rattle.qcow2_image.proofs.image.Qcow2.write_mapped.Goals as goal
 
 pub returns-then-is_empty-clause-sees : goal.returns-then-is_empty-clause-sees
@@ -57,3 +58,6 @@ returns-then-prepared-self-clause-sees g c =
 pub returns-then-not-writable-clause-sees : goal.returns-then-not-writable-clause-sees
 returns-then-not-writable-clause-sees g c =
     puts_early g.S.Storage.view g.F.BackingDisk.backing c.args.self.now c.args.prepared.now c.args.at c.args.bytes.now (usable_works c.args.self.now c.check_usable.result c.in_ok-check_usable.was c.check_usable.ensures) ReadOnly (λ is. cc)
+
+pub returns-clause-faults : goal.returns-clause-faults
+returns-clause-faults g c = counted_marked g.S.Storage.view g.F.BackingDisk.backing c.args.self.now c.begin.new.self c.write_current-done.new.self c.mark_failure.new.self c.write_current-done.result c.mark_failure.result c.begin.ensures.faults c.write_current-done.ensures.faults c.mark_failure.ensures.answer c.mark_failure.ensures.rest
