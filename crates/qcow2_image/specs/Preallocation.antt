@@ -9,7 +9,7 @@ use Rattle.qcow2_metadata.specs.Header.{cluster_size, rounded_up}
 use Rattle.qcow2_disk.specs.AbstractImages.{guest_of}
 use Rattle.qcow2_disk.specs.Calls.{MayGrow, Works, gift_of_grow, shows_old, with_disk, with_slot}
 use Rattle.qcow2_disk.specs.Disk.{Disk, zeroed}
-pub use Rattle.qcow2_disk.specs.GrownCovers.{Touches, FilledCovers, first_zeros}
+pub use Rattle.qcow2_disk.specs.GrownCovers.{Touches, FilledCovers, GrownCovers, first_zeros}
 use Rattle.qcow2_disk.specs.Mappings.{committed, gift_of_commit, is_copied_data}
 use Rattle.qcow2_disk.specs.Stops.{GivenBytes}
 use Rattle.qcow2_alloc.specs.ImageError.{IsFault as IsFaultOfTables}
@@ -21,6 +21,7 @@ use Rattle.qcow2_image.specs.declared.preallocation.ZeroWrites.TheVariants.{Shor
 use Rattle.qcow2_image.specs.declared.prepared.Prepared.{Prepared}
 use Rattle.qcow2_image.specs.CallParts.{AreCopied, StaysBeside}
 use Rattle.qcow2_image.specs.Clearing.{IsUnderMapping, cleared_cover, setting_of}
+use Rattle.qcow2_image.specs.Image.{size_of}
 use Rattle.qcow2_image.specs.ImageInvariant.{ImageInvariant, abstract_of, disk_of, meaning, pending_in}
 use Rattle.qcow2_image.specs.MovedTables.{CoversStay, MovesTables}
 use Rattle.qcow2_image.specs.declared.discarding.Clearance.TheVariants.{KeptZeros}
@@ -122,8 +123,7 @@ module _ {S F : Type 0} (view : S → StorageView) (backing : F → BackingView)
     pub sound : ImageInvariant view backing (pending_in view backing new out) new out
     pub shows : guest_of (abstract_of view backing new out) ≡ with_disk (guest_of (abstract_of view backing old out)) (filled_to (cluster_size old.file.header.fields) (disk_of view backing old) size mode)
     pub header : MovesTables old.file.header.fields new.file.header.fields
-    pub covers : shows_old mode ≡ false → FilledCovers (cluster_size old.file.header.fields) (first_zeros (cluster_size old.file.header.fields) (disk_of view backing old).size size mode) (disk_of view backing old).size (rounded_up (cluster_size old.file.header.fields) size) old.file.header.fields (known_in view old.file) new.file.header.fields (known_in view new.file)
-    pub same : shows_old mode ≡ true → CoversStay old.file.header.fields (known_in view old.file) new.file.header.fields (known_in view new.file)
+    pub covers : GrownCovers mode (size_of old) size old.file.header.fields (known_in view old.file) new.file.header.fields (known_in view new.file)
 
   -- it was refused: each byte behind the end is as before or zero, and all others are as before
   pub record FillsGrownInPart (size : ℕ) (mode : PreallocateMode) (old new : Qcow2 S F) (out : List (Option Prepared)) : Type 0 where

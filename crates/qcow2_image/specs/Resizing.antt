@@ -10,9 +10,10 @@ use Rattle.qcow2_metadata.specs.Header.{header, cluster_size, rounded_up}
 use Rattle.qcow2_disk.specs.AbstractImages.{guest_of}
 use Rattle.qcow2_disk.specs.Calls.{Does, Refuses, Works, IsSame, IsShrinkEnd, IsShrunk, MayGrow, cleared, gift_of_grow, gift_of_shrink, gift_of_shrunk, grown_to, to_backing, with_disk}
 use Rattle.qcow2_disk.specs.Disk.{Disk}
+use Rattle.qcow2_disk.specs.GrownCovers.{GrownCovers}
 use Rattle.qcow2_disk.specs.Stops.{GivenBytes}
 use Rattle.qcow2_alloc.specs.ImageError.{IsFault as IsFaultOfTables}
-use Rattle.qcow2_alloc.specs.ImageFile.{view_in}
+use Rattle.qcow2_alloc.specs.ImageFile.{known_in, view_in}
 use Rattle.qcow2_alloc.specs.declared.error.ImageError.{ImageError}
 use Rattle.qcow2_alloc.specs.declared.error.ImageError.TheVariants as I
 use Rattle.qcow2_image.specs.Backings.{HasPrepared}
@@ -25,6 +26,7 @@ use Rattle.qcow2_image.specs.declared.prepared.Prepared.{Prepared}
 use Rattle.qcow2_image.specs.Growing.{ReachesSize}
 use Rattle.qcow2_image.specs.Image.{is_external, is_failed, is_writable, number_of, size_of}
 use Rattle.qcow2_image.specs.ImageInvariant.{ImageInvariant, abstract_of, disk_of, pending_in}
+use Rattle.qcow2_image.specs.MovedTables.{CoversStay}
 use Rattle.qcow2_image.specs.Preallocation.{IsUnderMappingIn}
 use Rattle.qcow2_image.specs.Refusals.{refuse_if, unusable}
 
@@ -58,11 +60,6 @@ module _ {S F : Type 0} where
   -- the first boundary at or behind an offset
   abbrev pub boundary_in : Qcow2 S F → ℕ → ℕ
   boundary_in image offset = rounded_up (cluster_size image.file.header.fields) offset
-
-  -- What a larger disk says of the tables. An answer leaves an L1 table with an entry for each byte. A prepared L2 table refuses it only where one of the range behind the old end is.
-  abbrev pub GrowsTables : Qcow2 S F → Qcow2 S F → ℕ → List (Option Prepared) → Result (Unit {0}) ImageError → Type 0
-  GrowsTables old new size out (Ok _) = ReachesSize new.file.header.fields
-  GrowsTables old new size out (Err e) = e ≡ I.TablePrepared → IsUnderMappingIn old.file.header.fields (size_of old) (boundary_in old size) out
 
 -- What refuses a smaller disk where nothing did so before: a fault, or a prepared mapping, which is told exactly where one is out. Then nothing changed.
 pub record IsMetShrinking {S F : Type 0} (view : S → StorageView) (backing : F → BackingView) (old new : Qcow2 S F) (e : ImageError) : Type 0 where
@@ -106,6 +103,16 @@ module _ {S F : Type 0} (view : S → StorageView) (backing : F → BackingView)
   GrowsTo old new size mode (Err e) = (out : List (Option Prepared)) → let v = abstract_of view backing old out in let w = abstract_of view backing new out in
       Refuses v w (gifts_of_grow old size mode) (size ∷ []) (refusal_of e) ((d : Disk) × MayGrow v.setting (guest_of v).disk size mode d × (guest_of w ≡ with_disk (guest_of v) d))
 
+  -- What a larger disk leaves of the tables: an L1 table with an entry for each byte, and for each guest cluster what the mode asks for.
+  pub record LeavesTables (mode : PreallocateMode) (size : ℕ) (old new : Qcow2 S F) : Type 0 where
+    pub reaches : ReachesSize new.file.header.fields
+    pub covers : GrownCovers mode (size_of old) size old.file.header.fields (known_in view old.file) new.file.header.fields (known_in view new.file)
+
+  -- An answer leaves that. A prepared L2 table refuses it only where one of the range behind the old end is.
+  abbrev pub GrowsTables : Qcow2 S F → Qcow2 S F → ℕ → PreallocateMode → List (Option Prepared) → Result (Unit {0}) ImageError → Type 0
+  GrowsTables old new size mode out (Ok _) = LeavesTables mode size old new
+  GrowsTables old new size mode out (Err e) = e ≡ I.TablePrepared → IsUnderMappingIn old.file.header.fields (size_of old) (boundary_in old size) out
+
   -- it is refused, and no byte of the disk changes
   abbrev pub RefusesUnchanged : Qcow2 S F → Qcow2 S F → List (Option Prepared) → Result (Unit {0}) ImageError → Type 0
   RefusesUnchanged old new out (Ok _) = ⊥
@@ -144,11 +151,12 @@ module _ {S F : Type 0} (view : S → StorageView) (backing : F → BackingView)
     pub fault : e ≡ I.Storage
     pub works : Works (abstract_of view backing old out) (abstract_of view backing (record new { is_failed = true }) out) [] (size ∷ [])
 
-  -- the disk has another size, and else shows what it showed
+  -- the disk has another size, and else shows what it showed; the same stands for each guest cluster
   pub record SetsSize (size : ℕ) (old new : Qcow2 S F) (out : List (Option Prepared)) : Type 0 where
     pub works : Works (abstract_of view backing old out) (abstract_of view backing new out) [] (size ∷ [])
     pub sound : ImageInvariant view backing (pending_in view backing new out) new out
     pub shows : guest_of (abstract_of view backing new out) ≡ with_disk (guest_of (abstract_of view backing old out)) (record (disk_of view backing old) { size = size })
+    pub covers : CoversStay old.file.header.fields (known_in view old.file) new.file.header.fields (known_in view new.file)
 
   abbrev pub WritesSize : Qcow2 S F → Qcow2 S F → List (Option Prepared) → ℕ → Result (Unit {0}) ImageError → Type 0
   WritesSize old new out size (Ok _) = SetsSize size old new out

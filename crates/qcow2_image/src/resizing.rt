@@ -154,7 +154,7 @@ impl<S: Storage, F: WrappedFormat<S>> Qcow2<S, F> {
         ensures last { (out : List (Option Prepared)) → (abstract_of S.view F.backing self.old out).is_sound → WritesSizeLast S.view F.backing self.old self.new }
         ensures version { refuses_to_resize self.old ≡ None → size_of self.old < size → mode ≡ Zero → LacksZeros self.old → (out : List (Option Prepared)) → (abstract_of S.view F.backing self.old out).is_sound
             → RefusesUnchanged S.view F.backing self.old self.new out result }
-        ensures tables { refuses_to_resize self.old ≡ None → size_of self.old < size → (out : List (Option Prepared)) → (abstract_of S.view F.backing self.old out).is_sound → GrowsTables self.old self.new size out result }
+        ensures tables { refuses_to_resize self.old ≡ None → size_of self.old < size → (out : List (Option Prepared)) → (abstract_of S.view F.backing self.old out).is_sound → GrowsTables S.view F.backing self.old self.new size mode out result }
     {
         self.check_resize()?;
         if size <= self.file.header.size() {
@@ -189,7 +189,7 @@ impl<S: Storage, F: WrappedFormat<S>> Qcow2<S, F> {
         ensures sees { GrowsTo S.view F.backing self.old self.new size mode result }
         ensures last { (out : List (Option Prepared)) → (abstract_of S.view F.backing self.old out).is_sound → WritesSizeLast S.view F.backing self.old self.new }
         ensures version { mode ≡ Zero → LacksZeros self.old → (out : List (Option Prepared)) → (abstract_of S.view F.backing self.old out).is_sound → RefusesUnchanged S.view F.backing self.old self.new out result }
-        ensures tables { (out : List (Option Prepared)) → (abstract_of S.view F.backing self.old out).is_sound → GrowsTables self.old self.new size out result }
+        ensures tables { (out : List (Option Prepared)) → (abstract_of S.view F.backing self.old out).is_sound → GrowsTables S.view F.backing self.old self.new size mode out result }
     {
         self.begin();
         let longer = self.renew_l1_table(size - 1);

@@ -2,7 +2,7 @@
 use Rattle.std.proofs.Common.{◌≡◌, ℕ, ◌+◌, ◌*◌, ◌-◌, ◌/◌, ◌%◌, ◌<◌, ◌≤◌, Bool, true, false, List, Option, refl, sym, ap, ◌∙◌, subst, arith, inl, inr}
 use Rattle.std.specs.Prelude.{IfErr, OnOk, Result, Ok, Err, None, Some}
 use Rattle.std.proofs.lemmas.Bool.{cases_lt}
-use Rattle.std.proofs.lemmas.Nat.{div-add-mod', mod_below}
+use Rattle.std.proofs.lemmas.Nat.{div-add-mod', mod_below, pow_pos}
 use Rattle.image_access.specs.Backing.{BackingView}
 use Rattle.image_access.specs.Moments.{StorageView}
 use Rattle.image_access.specs.declared.storage.PreallocateMode.{PreallocateMode}
@@ -14,6 +14,7 @@ use Rattle.qcow2_metadata.specs.declared.header.HeaderFields.{HeaderFields}
 use Rattle.qcow2_metadata.specs.declared.l2_mapping.L2Mapping.{L2Mapping}
 use Rattle.qcow2_metadata.specs.declared.l2_mapping.L2Mapping.TheVariants.{Uncovered}
 use Rattle.qcow2_metadata.specs.Header.{HeaderView, cluster_size, rounded_up, with_fields, with_size}
+use Rattle.qcow2_disk.specs.GrownCovers.{FilledCovers, GrownCovers, first_zeros}
 use Rattle.qcow2_disk.specs.Mappings.{is_copied_data}
 use Rattle.qcow2_laws.specs.Guests.{guests}
 use Rattle.qcow2_laws.proofs.Guests.{past_guests}
@@ -29,11 +30,12 @@ use Rattle.qcow2_image.specs.declared.prepared.Prepared.{Prepared}
 use Rattle.qcow2_image.specs.Growing.{ReachesSize}
 use Rattle.qcow2_image.specs.Image.{is_failed, number_of, size_of}
 use Rattle.qcow2_image.specs.ImageInvariant.{ImageInvariant, disk_of, pending_in}
-use Rattle.qcow2_image.specs.MovedTables.{MovesTables}
-use Rattle.qcow2_image.specs.Preallocation.{FilledCovers, FillsGrown, RefusedGrown}
+use Rattle.qcow2_image.specs.MovedTables.{CoversStay, MovesTables}
+use Rattle.qcow2_image.specs.Preallocation.{FillsGrown, RefusedGrown}
 use Rattle.qcow2_image.specs.Refusals.{failed_after}
-use Rattle.qcow2_image.specs.Resizing.{GrowsTables, RefusesUnchanged, boundary_in}
+use Rattle.qcow2_image.specs.Resizing.{GrowsTables, RefusesUnchanged, WritesSize, boundary_in}
 use Rattle.qcow2_image.proofs.Call.Refused.{refuses_left}
+use Rattle.qcow2_image.proofs.Preallocate.Covers.{covers_stay, stay_covers}
 use Rattle.qcow2_image.proofs.Preallocate.Filled.{taken_wider}
 use Rattle.qcow2_image.proofs.Preallocate.Grown.{up_least}
 use Rattle.qcow2_image.proofs.Preallocate.Turns.{same_size}
@@ -72,25 +74,59 @@ covers_reach h h' known known' first from size moves sizes larger covers =
         let r : (g + 1 + (n - (g + 1))) * cs ≡ g * cs + cs + (n - (g + 1)) * cs = omega arith in
         subst (λ c. size ≤ n * c) (sym same) (omega (arith, e, r, parts, below))
 
+-- ---- steps before and behind leave what stands
+module _ (mode : PreallocateMode) (size : ℕ) (h : HeaderFields) (k : Bytes) (long : HeaderFields) (kl : Bytes) (filled : HeaderFields) (kf : Bytes) (new : HeaderFields) (kn : Bytes) where
+  abbrev cs : ℕ
+  cs = cluster_size h
+
+  abbrev end : ℕ
+  end = rounded_up cs size
+
+  grown_between : MovesTables h long → CoversStay h k long kl → GrownCovers mode long.size size long kl filled kf → CoversStay filled kf new kn → GrownCovers mode h.size size h k new kn
+  grown_between moves before grown behind = record {
+    filled = λ hides.
+        let was = subst (λ c. FilledCovers c (first_zeros c long.size size mode) long.size (rounded_up c size) long kl filled kf) (same_size h long moves) (grown.filled hides) in
+        let then = subst (λ n. FilledCovers cs (first_zeros cs n size mode) n end long kl filled kf) (ap (λ (x : HeaderFields). x.size) moves) was in
+        let first = first_zeros cs h.size size mode in
+        covers_stay cs (pow_pos h.cluster_bits) first h k filled kf new kn h.size end (stay_covers cs (pow_pos h.cluster_bits) first h k long kl filled kf h.size end before then) behind;
+    same = λ shows g. before g ∙ grown.same shows g ∙ behind g;
+  }
+
 module _ {S F : Type 0} (view : S → StorageView) (backing : F → BackingView) (out : List (Option Prepared)) where
   -- what fills the range behind the old end leaves that
   module _ (long filled : Qcow2 S F) (size : ℕ) (sound : ImageInvariant view backing (pending_in view backing long out) long out) (larger : size_of long < size) where
     filled_reaches : (first : ℕ) → MovesTables long.file.header.fields filled.file.header.fields → ImageInvariant view backing (pending_in view backing filled out) filled out
-        → FilledCovers (cluster_size long.file.header.fields) first (disk_of view backing long).size (rounded_up (cluster_size long.file.header.fields) size) long.file.header.fields (known_in view long.file) filled.file.header.fields (known_in view filled.file)
+        → FilledCovers (cluster_size long.file.header.fields) first (size_of long) (rounded_up (cluster_size long.file.header.fields) size) long.file.header.fields (known_in view long.file) filled.file.header.fields (known_in view filled.file)
         → ReachesSize (with_size filled.file.header.fields size)
     filled_reaches first moves filled_sound covers =
-        covers_reach long.file.header.fields filled.file.header.fields (known_in view long.file) (known_in view filled.file) first (disk_of view backing long).size size moves
-        (file_sizes view (pending_in view backing filled out) filled.file filled_sound.file) (let s = disk_size view backing long out sound in omega (arith, larger, s)) covers
+        covers_reach long.file.header.fields filled.file.header.fields (known_in view long.file) (known_in view filled.file) first (size_of long) size moves
+        (file_sizes view (pending_in view backing filled out) filled.file filled_sound.file) larger covers
 
     pub reaches_filled : (mode : PreallocateMode) → (mode ≡ Mode.None → filled ≡ long) → ReachesSize (with_size long.file.header.fields size) → FillsGrown view backing size mode long filled out → ReachesSize (with_size filled.file.header.fields size)
     reaches_filled Mode.None same reached fills = subst (λ (image : Qcow2 S F). ReachesSize (with_size image.file.header.fields size)) (sym (same refl)) reached
-    reaches_filled Mode.Zero same reached fills = filled_reaches _ fills.header fills.sound (fills.covers refl)
-    reaches_filled Mode.FormatAllocate same reached fills = filled_reaches _ fills.header fills.sound (fills.covers refl)
-    reaches_filled Mode.FullAllocate same reached fills = filled_reaches _ fills.header fills.sound (fills.covers refl)
-    reaches_filled Mode.WriteData same reached fills = filled_reaches _ fills.header fills.sound (fills.covers refl)
+    reaches_filled Mode.Zero same reached fills = filled_reaches _ fills.header fills.sound (fills.covers.filled refl)
+    reaches_filled Mode.FormatAllocate same reached fills = filled_reaches _ fills.header fills.sound (fills.covers.filled refl)
+    reaches_filled Mode.FullAllocate same reached fills = filled_reaches _ fills.header fills.sound (fills.covers.filled refl)
+    reaches_filled Mode.WriteData same reached fills = filled_reaches _ fills.header fills.sound (fills.covers.filled refl)
+
+  -- what stands for the guest clusters, by the images before and after
+  abbrev pub Leaves : Qcow2 S F → Qcow2 S F → ℕ → PreallocateMode → Type 0
+  Leaves old new size mode = GrownCovers mode (size_of old) size old.file.header.fields (known_in view old.file) new.file.header.fields (known_in view new.file)
+
+  pub leaves_filled : (old long filled new : Qcow2 S F) (size : ℕ) (mode : PreallocateMode) → UnseenCall view backing old long out → FillsGrown view backing size mode long filled out
+      → CoversStay filled.file.header.fields (known_in view filled.file) new.file.header.fields (known_in view new.file) → Leaves old new size mode
+  leaves_filled old long filled new size mode call fills stay =
+      grown_between mode size old.file.header.fields (known_in view old.file) long.file.header.fields (known_in view long.file) filled.file.header.fields (known_in view filled.file) new.file.header.fields (known_in view new.file)
+      call.header call.covers fills.covers stay
+
+  -- the size may be refused
+  pub leaves_sized : (old long filled new : Qcow2 S F) (size : ℕ) (mode : PreallocateMode) (r : Result (Unit {0}) ImageError) → UnseenCall view backing old long out → FillsGrown view backing size mode long filled out → WritesSize view backing filled new out size r
+      → OnOk r (Leaves old new size mode)
+  leaves_sized old long filled new size mode (Ok x) call fills sets = leaves_filled old long filled new size mode call fills sets.covers
+  leaves_sized old long filled new size mode (Err e) call fills refused = tt
 
   -- a table that is prepared is one of the range, by the header of the call's begin
-  pub taken_behind : (old long filled new : Qcow2 S F) (size : ℕ) (mode : PreallocateMode) (e : ImageError) → UnseenCall view backing old long out → RefusedGrown view backing size mode long filled out e → GrowsTables old new size out (Err e)
+  pub taken_behind : (old long filled new : Qcow2 S F) (size : ℕ) (mode : PreallocateMode) (e : ImageError) → UnseenCall view backing old long out → RefusedGrown view backing size mode long filled out e → GrowsTables view backing old new size mode out (Err e)
   taken_behind old long filled new size mode e call refused is =
       let d = disk_of view backing long in
       let end = rounded_up (cluster_size long.file.header.fields) size in
@@ -100,10 +136,10 @@ module _ {S F : Type 0} (view : S → StorageView) (backing : F → BackingView)
       taken_wider old.file.header.fields long.file.header.fields d.size end (size_of old) (boundary_in old size) out call.header (omega (arith, shown, moved)) (omega (arith, last)) (refused.taken is)
 
   -- the size is written last
-  pub tables_sized : (old filled new : Qcow2 S F) (marked : Bool) (size : ℕ) (r : Result (Unit {0}) ImageError) → IfErr r IsFaultOfTables → OnOk r (new.file.header ≡ with_fields filled.file.header (with_size filled.file.header.fields size))
-      → ReachesSize (with_size filled.file.header.fields size) → GrowsTables old (record new { is_failed = marked }) size out r
-  tables_sized old filled new marked size (Ok x) cause header reached = subst (λ (v : HeaderView). ReachesSize v.fields) (sym header) reached
-  tables_sized old filled new marked size (Err e) cause header reached = λ is. absurd (elim cause [ inl fault ↦ (let no : I.TablePrepared ≡ I.Storage = sym is ∙ fault in cc) | inr fault ↦ (let no : I.TablePrepared ≡ I.Memory = sym is ∙ fault in cc) ])
+  pub tables_sized : (old filled new : Qcow2 S F) (marked : Bool) (size : ℕ) (mode : PreallocateMode) (r : Result (Unit {0}) ImageError) → IfErr r IsFaultOfTables → OnOk r (new.file.header ≡ with_fields filled.file.header (with_size filled.file.header.fields size))
+      → ReachesSize (with_size filled.file.header.fields size) → OnOk r (Leaves old new size mode) → GrowsTables view backing old (record new { is_failed = marked }) size mode out r
+  tables_sized old filled new marked size mode (Ok x) cause header reached covers = record { reaches = subst (λ (v : HeaderView). ReachesSize v.fields) (sym header) reached; covers = covers }
+  tables_sized old filled new marked size mode (Err e) cause header reached covers = λ is. absurd (elim cause [ inl fault ↦ (let no : I.TablePrepared ≡ I.Storage = sym is ∙ fault in cc) | inr fault ↦ (let no : I.TablePrepared ≡ I.Memory = sym is ∙ fault in cc) ])
 
   -- ---- the entries can't tell zeros
   pub refuses_version : (old long filled : Qcow2 S F) (e : ImageError) (marked : Bool) → is_failed old ≡ false → UnseenCall view backing old long out → filled ≡ long → e ≡ I.Version → number_of filled ≡ number_of old → failed_after e (is_failed filled) marked

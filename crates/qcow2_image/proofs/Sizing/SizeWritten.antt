@@ -44,6 +44,7 @@ use Rattle.qcow2_image.specs.declared.prepared.Share.{Share}
 use Rattle.qcow2_image.specs.declared.prepared.Share.TheVariants.{InPlace, Kept, New}
 use Rattle.qcow2_image.specs.Growing.{Extends, Resizes}
 use Rattle.qcow2_image.specs.ImageInvariant.{ImageInvariant, IsReadyWith, IsShareAt, abstract_of, backing_bytes, cluster_of, disk_of, is_private, meaning, pending_in, place_of}
+use Rattle.qcow2_image.specs.MovedTables.{CoversStay}
 use Rattle.qcow2_image.specs.Resizing.{MayStand, SetsSize, WritesSize}
 use Rattle.qcow2_image.specs.UnseenSteps.{HoldsAll}
 use Rattle.qcow2_image.proofs.Call.Answered.{same_guest, same_mapping}
@@ -78,6 +79,10 @@ module _ (h : HeaderFields) (size : ℕ) where
       copied = is.copied;
       each = λ i share at. share_sized q i share (is.each i share at);
     }
+
+  cover_sized : (b : Bytes) (g : ℕ) → cover h b g ≡ cover (with_size h size) b g
+  unfolding cover cover_under l1_entry
+  cover_sized b g = refl
 
   value_sized : (b backing : Bytes) (o : ℕ) → guest_value (with_size h size) b b backing o ≡ guest_value h b b backing o
   unfolding guest_value cover cover_under l1_entry
@@ -139,6 +144,9 @@ module _ {S F : Type 0} (view : S → StorageView) (backing : F → BackingView)
 
     covers_now : (g : ℕ) → cover h known g ≡ cover h (known_in view sized.file) g
     covers_now g = header_known_covers h (resized h size h.autoclear) (order_of old.file.caches) p on_storage known (contents_in view sized.file) (known_in view sized.file) sound.file.caches.kept.kept.guarded writes_now g
+
+    pub covers_stay : CoversStay h known sized.file.header.fields (known_in view sized.file)
+    covers_stay g = covers_now g ∙ cover_sized h size (known_in view sized.file) g
 
     top : (i : ℕ) → l1_entry h on_storage i ≡ l1_entry h known i
     top = sound.file.caches.kept.kept.guarded.same_top.l1
@@ -237,6 +245,7 @@ module _ {S F : Type 0} (view : S → StorageView) (backing : F → BackingView)
           };
           sound = subst (λ (x : Pending). ImageInvariant view backing x now out) pending_now (resized_sound view backing out q old sound size fits storage is honest);
           shows = guest_now view backing out q old sound size fits storage is honest (λ k. omega arith);
+          covers = covers_stay view backing out q old sound size fits storage is honest;
         }
 
   -- it failed, or had no memory for it

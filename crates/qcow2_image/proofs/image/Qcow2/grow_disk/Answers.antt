@@ -20,7 +20,7 @@ use Rattle.qcow2_image.proofs.Clear.ClearCalls.{err_is}
 use Rattle.qcow2_image.proofs.Preallocate.Filled.{met_taken}
 use Rattle.qcow2_image.proofs.Preallocate.Turns.{same_version}
 use Rattle.qcow2_image.proofs.Sizing.Growing.{grows_in_part, grows_not, grows_sized, last_in_part, last_not, last_sized, reaches_lengthened, unchanged_not}
-use Rattle.qcow2_image.proofs.Sizing.GrownTables.{reaches_filled, refuses_version, tables_sized, taken_behind}
+use Rattle.qcow2_image.proofs.Sizing.GrownTables.{leaves_sized, reaches_filled, refuses_version, tables_sized, taken_behind}
 use Rattle.qcow2_image.proofs.Sizing.Shrinking.{begun_call}
 use Rattle.qcow2_image.proofs.image.Qcow2.grow_disk.Goals as goal
 
@@ -193,7 +193,7 @@ pub returns-in_err-mark_failure-clause-tables : goal.returns-in_err-mark_failure
 returns-in_err-mark_failure-clause-tables g c = λ out sound.
     let e = c.in_err-mark_failure.field-0.0 in
     let done : c.renew_l1_table-longer.result ≡ Err c.in_err-mark_failure.field-0.0 = sym c.mark_failure.ensures.answer ∙ c.in_err-mark_failure.was in
-    subst (λ (r : Result _ _). GrowsTables c.args.self.now c.mark_failure.new.self c.args.size out r) (sym (err_is c.from_residual.result c.from_residual.ensures))
+    subst (λ (r : Result _ _). GrowsTables g.S.Storage.view g.F.BackingDisk.backing c.args.self.now c.mark_failure.new.self c.args.size c.args.mode out r) (sym (err_is c.from_residual.result c.from_residual.ensures))
     (λ is. met_taken e (subst (λ (r : Result _ _). IfErr r IsMet) done c.renew_l1_table-longer.ensures.cause) is)
 
 pub returns-in_err-mark_fault-clause-version : goal.returns-in_err-mark_fault-clause-version
@@ -241,7 +241,7 @@ returns-in_err-mark_fault-clause-tables g c = λ out sound.
     let filled = c.fill_grown-filled.new.self in
     let e = c.in_err-mark_fault.field-0.0 in
     let done : c.fill_grown-filled.result ≡ Err c.in_err-mark_fault.field-0.0 = sym c.mark_fault.ensures.answer ∙ c.in_err-mark_fault.was in
-    subst (λ (r : Result _ _). GrowsTables old c.mark_fault.new.self c.args.size out r) (sym (err_is c.from_residual-in_err-mark_fault.result c.from_residual-in_err-mark_fault.ensures))
+    subst (λ (r : Result _ _). GrowsTables view below old c.mark_fault.new.self c.args.size c.args.mode out r) (sym (err_is c.from_residual-in_err-mark_fault.result c.from_residual-in_err-mark_fault.ensures))
     (taken_behind view below out old long filled c.mark_fault.new.self c.args.size c.args.mode e call
     (subst (FillsGrownOrRefuses view below c.args.size c.args.mode long filled out) done (c.fill_grown-filled.ensures.fills out call.sound)))
 
@@ -287,8 +287,10 @@ returns-clause-tables g c = λ out sound.
     let reach = subst (λ (r : Result _ _). OnOk r (l1_index_of begun.file.header.fields (c.args.size - 1) < entry_count mid.l1_table)) made c.renew_l1_table-longer.ensures.reaches in
     let lengthened = subst (λ (image : Qcow2 _ _). ReachesSize (with_size image.file.header.fields c.args.size)) (sym same) (reaches_lengthened view below out begun mid c.args.size lengthens reach) in
     let reached = reaches_filled view below out long filled c.args.size call.sound (let l = c.requires.larger in let s = ap (λ (h : HeaderFields). h.size) call.header in omega (arith, l, s)) c.args.mode c.fill_grown-filled.ensures.unfilled lengthened fills in
+    let grown = subst (λ (image : Qcow2 _ _). FillsGrown view below c.args.size c.args.mode long image out) (sym whole) fills in
     let new = c.write_size-written.new.self in
-    subst (λ (image : Qcow2 _ _). GrowsTables old image c.args.size out c.mark_fault-2.result) (sym c.mark_fault-2.ensures.rest)
-    (subst (λ (r : Result _ _). GrowsTables old (record new { is_failed = is_failed c.mark_fault-2.new.self }) c.args.size out r) (sym c.mark_fault-2.ensures.answer)
-    (tables_sized view below out old c.mark_fault.new.self new (is_failed c.mark_fault-2.new.self) c.args.size c.write_size-written.result c.write_size-written.ensures.cause c.write_size-written.ensures.header
-    (subst (λ (image : Qcow2 _ _). ReachesSize (with_size image.file.header.fields c.args.size)) (sym whole) reached)))
+    subst (λ (image : Qcow2 _ _). GrowsTables view below old image c.args.size c.args.mode out c.mark_fault-2.result) (sym c.mark_fault-2.ensures.rest)
+    (subst (λ (r : Result _ _). GrowsTables view below old (record new { is_failed = is_failed c.mark_fault-2.new.self }) c.args.size c.args.mode out r) (sym c.mark_fault-2.ensures.answer)
+    (tables_sized view below out old c.mark_fault.new.self new (is_failed c.mark_fault-2.new.self) c.args.size c.args.mode c.write_size-written.result c.write_size-written.ensures.cause c.write_size-written.ensures.header
+    (subst (λ (image : Qcow2 _ _). ReachesSize (with_size image.file.header.fields c.args.size)) (sym whole) reached)
+    (leaves_sized view below out old long c.mark_fault.new.self new c.args.size c.args.mode c.write_size-written.result call grown (c.write_size-written.ensures.writes out grown.sound))))
