@@ -75,17 +75,17 @@ module _ (x : Setting) (d d' : Disk) (size answer : ℕ) (some : 0 < x.cluster_s
 abbrev refusal : (A : Type 0) → ImageError → Result A ImageError
 refusal A e = Err e
 
-not_early : {A Same : Type 0} (a b c : Bool) (e : ImageError) → IfSome (option_or (option_or (refuse_if a I.Failed) (refuse_if b I.Dependency)) (refuse_if c I.ReadOnly)) (λ f. (refusal A e ≡ Err f) × Same) → IsFault (refusal_of e)
+not_early : (A Same : Type 0) (a b c : Bool) (e : ImageError) → IfSome (option_or (option_or (refuse_if a I.Failed) (refuse_if b I.Dependency)) (refuse_if c I.ReadOnly)) (λ f. (refusal A e ≡ Err f) × Same) → IsFault (refusal_of e)
     → option_or (option_or (refuse_if a I.Failed) (refuse_if b I.Dependency)) (refuse_if c I.ReadOnly) ≡ None
-not_early true b c e early fault = absurd (subst IsFault (error_is early) fault)
-not_early false true c e early fault = absurd (subst IsFault (error_is early) fault)
-not_early false false true e early fault = absurd (subst IsFault (error_is early) fault)
-not_early false false false e early fault = refl
+not_early A Same true b c e early fault = absurd (subst IsFault (error_is early) fault)
+not_early A Same false true c e early fault = absurd (subst IsFault (error_is early) fault)
+not_early A Same false false true e early fault = absurd (subst IsFault (error_is early) fault)
+not_early A Same false false false e early fault = refl
 
 -- where it is answered nothing refused it
-none_early : {A Same : Type 0} (a : A) (o : Option ImageError) → IfSome o (λ f. (Ok a ≡ Err f) × Same) → o ≡ None
-none_early a None early = refl
-none_early a (Some f) early = absurd (not_both early)
+pub none_early : {A : Type 0} (Same : Type 0) (a : A) (o : Option ImageError) → IfSome o (λ f. (Ok a ≡ Err f) × Same) → o ≡ None
+none_early Same a None early = refl
+none_early Same a (Some f) early = absurd (not_both early)
 
 module _ {S F : Type 0} (view : S → StorageView) (backing : F → BackingView) (old new : Qcow2 S F) (size : ℕ) where
   -- what is refused before any work, and that the size is written last
@@ -102,7 +102,7 @@ module _ {S F : Type 0} (view : S → StorageView) (backing : F → BackingView)
   -- where a call has nothing to do, it meets no fault
   has_work : {A : Type 0} (e : ImageError) (answer : A) → IsEarly {A = A} (Err e) → IsFault (refusal_of e) → (refuses_to_resize old ≡ None → (refusal A e ≡ Ok answer) × (new ≡ old)) → ⊥
   has_work {A = A} e answer early fault nothing =
-      let no : refusal A e ≡ Ok answer = (nothing (not_early (is_failed old) (is_external old) (not (is_writable old)) e early fault)).0 in
+      let no : refusal A e ≡ Ok answer = (nothing (not_early A (new ≡ old) (is_failed old) (is_external old) (not (is_writable old)) e early fault)).0 in
       cc
 
   module _ (out : List (Option Prepared)) where
@@ -140,7 +140,7 @@ module _ {S F : Type 0} (view : S → StorageView) (backing : F → BackingView)
             failed = λ f. error_is (first_of_all old _ _ early f);
             may = λ sound fault. elim (cases_lt (size_of old) size) [
               | inl larger ↦ subst (λ n. n < size) (disk_size view backing old out sound) larger
-              | inr no ↦ absurd (has_work e tt early fault (λ none. nothing none no))
+              | inr le ↦ absurd (has_work e tt early fault (λ none. nothing none le))
             ];
           })
           (sees out) (λ f. f) (λ _ _. refl) tt
@@ -162,7 +162,7 @@ module _ {S F : Type 0} (view : S → StorageView) (backing : F → BackingView)
             failed = λ f. error_is (first_of_all old _ _ early f);
             may = λ sound fault. elim (cases_lt size (size_of old)) [
               | inl smaller ↦ subst (λ n. size < n) (disk_size view backing old out sound) smaller
-              | inr no ↦ absurd (has_work e (size_of old) early fault (λ none. nothing none no))
+              | inr le ↦ absurd (has_work e (size_of old) early fault (λ none. nothing none le))
             ];
           })
           (sees out) (λ f. f) (λ _ _. refl) tt
