@@ -5,12 +5,14 @@ use Rattle.image_access.specs.Moments.{Passing}
 use Rattle.image_access.proofs.Passing.{passes_none, passes_if, passes_more, passes_on, since_start as since_began}
 use Rattle.qcow2_metadata.specs.Bytes.{Bytes, byte_at}
 use Rattle.qcow2_metadata.specs.Consistent.{IsConsistent}
+use Rattle.qcow2_metadata.specs.Guest.{Value}
 use Rattle.qcow2_disk.specs.Disk.{Disk, disk, disk_with}
-use Rattle.qcow2_disk.specs.Stops.{GivenBytes, Checkpoint, checkpoint_at, checkpoint_with, StopOkEverywhere, StopOk}
+use Rattle.qcow2_disk.specs.Stops.{GivenBytes, IsGiven, Checkpoint, checkpoint_at, checkpoint_with, StopOkEverywhere, StopOk}
 use Rattle.qcow2_disk.specs.Mappings.{PreparedMapping}
 use Rattle.qcow2_disk.specs.AbstractImages.{Setting, Guest, Abstraction, AbstractImage, abstract_image, guest_of, contents_of, IsWhole}
 use Rattle.qcow2_disk.specs.Calls.{Refusal, Acts, Does, Refuses, IsFault, Works, Rests, Stops}
 use Rattle.qcow2_disk.specs.Runs.{Command, Reply, Found, CommandMeaning, IsFaultReply, MayAnswer, IsAnswerOfFailed, IsRightlyTold, ResizesLast, State, CommandStep, Run, IsSafeWhile, IsStretch, RefinesGuest, RefinesAlong, IsStopIn, RefinesState, RefinesCommand, RefinesRun, RefinesWholeRun, RefinesDisk, IsOwnStretch, started, checkpoint_during, checkpoint_after, stepped, given_by, asked_by, flush, shrink, done, number_is}
+use Rattle.qcow2_disk.proofs.Compose.{works_less}
 use Rattle.qcow2_disk.proofs.Stops.{stop_of_kept, stop_more, kept_more}
 
 bool_cases : (b : Bool) → (b ≡ true) ⊎ (b ≡ false)
@@ -21,7 +23,7 @@ bool_cases false = inr refl
 pub record Ends (found : ℕ → Option Found) (old new : AbstractImage) (command : Command) (reply : Reply) : Type 0 where
   pub ends : (new.is_sound × CommandMeaning old.setting found (guest_of old) command reply (guest_of new)) ⊎ (IsFaultReply reply × IsTrue new.is_failed)
   pub finds : new.is_sound → IsRightlyTold new.setting old.known new command reply
-  pub mark : (x : Setting) (s : State) → new.is_sound → (checkpoint_after x s command reply (guest_of new) ≡ checkpoint_during x s command)
+  pub mark : (x : Setting) (s : State) → RefinesState x old s → s.is_failed ≡ false → new.is_sound → (checkpoint_after x s command reply (guest_of new) ≡ checkpoint_during x s command)
       ⊎ (StopOkEverywhere new.setting.backing (checkpoint_after x s command reply (guest_of new)) new.known × StopOkEverywhere new.setting.backing (checkpoint_after x s command reply (guest_of new)) (contents_of new))
 
 -- what a command may be answered, on an image that failed and on one that works, and how a resize passes
@@ -162,7 +164,7 @@ module _ (x : Setting) (old new : AbstractImage) (s : State) (command : Command)
         (λ (done : new.is_sound × CommandMeaning old.setting s.found (guest_of old) command reply (guest_of new)).
         going ok may sized worked done.0
         (subst (λ y. CommandMeaning y s.found s.guest command reply (guest_of new)) stands.setting (subst (λ h. CommandMeaning old.setting s.found h command reply (guest_of new)) (stands.guest ok) done.1))
-        ((ends sound).finds done.0) ((ends sound).mark x s done.0))
+        ((ends sound).finds done.0) ((ends sound).mark x s stands ok done.0))
         (λ (broke : IsFaultReply reply × IsTrue new.is_failed). failing ok may sized worked broke.0 broke.1)
         (ends sound).ends
   ]
@@ -173,7 +175,7 @@ pub done_as : (x : Setting) (old new : AbstractImage) (s : State) (command is : 
     → ((x' : Setting) (s' : State) → checkpoint_after x' s' is reply (guest_of new) ≡ checkpoint_during x' s' is) → (old.is_sound → IsRightlyTold new.setting old.known new is reply) → RefinesCommand x old new s command reply
 done_as x old new s command is reply e stands answer does mark finds =
     subst (λ q. RefinesCommand x old new s q reply) (sym e) (called x old new s is reply stands answer does.acts
-    (λ sound. record { ends = inl (does.answer sound); finds = λ _. finds sound; mark = λ x' s' _. inl (mark x' s') }))
+    (λ sound. record { ends = inl (does.answer sound); finds = λ _. finds sound; mark = λ x' s' _ _ _. inl (mark x' s') }))
 
 pub refused_told : (x : Setting) (old new : AbstractImage) (s : State) (command is : Command) (reply : Reply) (error : Refusal) → command ≡ is → RefinesState x old s → IsAnswer old new is reply
     → Refuses old new (given_by old.setting (guest_of old) is) (asked_by is) error (CommandMeaning old.setting s.found (guest_of old) is reply (guest_of new)) → (IsFault error → IsFaultReply reply)
@@ -183,7 +185,7 @@ refused_told x old new s command is reply error e stands answer refuses fault ma
     (λ sound. record {
       ends = ⊎_elim (λ h. inl h) (λ (b : IsFault error × IsTrue new.is_failed). inr (fault b.0, b.1)) (refuses.answer sound);
       finds = λ _. finds sound;
-      mark = λ x' s' _. inl (mark x' s');
+      mark = λ x' s' _ _ _. inl (mark x' s');
     }))
 
 -- one that tells nothing but its refusal
@@ -227,10 +229,37 @@ flushed_as x old new s command is reply e stands answer does whole mark finds =
     (λ sound. let a = does.answer sound in record {
       ends = inl (a.0, a.1.1);
       finds = λ _. finds;
-      mark = λ x' s' _. inr (
+      mark = λ x' s' _ _ _. inr (
         subst (λ m. StopOkEverywhere new.setting.backing m new.known) (sym (mark x' s')) (kept_at_once new new.known (whole a.0) refl),
         subst (λ m. StopOkEverywhere new.setting.backing m (contents_of new)) (sym (mark x' s')) (kept_at_once new (contents_of new) (whole a.0) (sym a.1.0)),
       );
+    }))
+
+-- One that was answered, and gave less than it might have given. Its mark afterwards has what it gave alone.
+pub gave_less : (x : Setting) (old new : AbstractImage) (s : State) (command is : Command) (reply : Reply) (given : Setting → Guest → List GivenBytes) → command ≡ is → RefinesState x old s → IsAnswer old new is reply
+    → (does : Does old new (given old.setting (guest_of old)) (asked_by is) (CommandMeaning old.setting s.found (guest_of old) is reply (guest_of new)))
+    → (old.is_sound → (o : ℕ) (w : Value) → IsGiven (given old.setting (guest_of old)) o w → IsGiven (given_by old.setting (guest_of old) is) o w)
+    → ((x' : Setting) (s' : State) → checkpoint_after x' s' is reply (guest_of new) ≡ checkpoint_with (given x' s'.guest) (asked_by is) s'.mark) → IsRightlyTold new.setting old.known new is reply → RefinesCommand x old new s command reply
+gave_less x old new s command is reply given e stands answer does within mark finds =
+    let gs = given old.setting (guest_of old) in
+    subst (λ q. RefinesCommand x old new s q reply) (sym e) (called x old new s is reply stands answer
+    (record {
+      number = does.acts.number;
+      works = λ sound. works_less old new gs (given_by old.setting (guest_of old) is) (asked_by is) (λ o w g. inr (within sound o w g)) (does.acts.works sound);
+      rests = does.acts.rests;
+    })
+    (λ sound. record {
+      ends = inl (does.answer sound);
+      finds = λ _. finds;
+      mark = λ x' s' there ok sound'.
+          let works = does.acts.works sound in
+          let below : old.setting.backing ≡ x'.backing = ap (λ (y : Setting). y.backing) there.setting in
+          let stops = works.stops s'.mark (subst (λ b. StopOkEverywhere b s'.mark (contents_of old)) (sym below) (there.contents ok), subst (λ b. StopOkEverywhere b s'.mark old.known) (sym below) (there.known ok)) in
+          let gave : gs ≡ given x' s'.guest = ap (λ (y : Setting). given y (guest_of old)) there.setting ∙ ap (λ (h : Guest). given x' h) (there.guest ok) in
+          let marked : checkpoint_with gs (asked_by is) s'.mark ≡ checkpoint_after x' s' is reply (guest_of new) = ap (λ (l : List GivenBytes). checkpoint_with l (asked_by is) s'.mark) gave ∙ sym (mark x' s') in
+          let as_marked : (b : Bytes) → StopOkEverywhere old.setting.backing (checkpoint_with gs (asked_by is) s'.mark) b → StopOkEverywhere new.setting.backing (checkpoint_after x' s' is reply (guest_of new)) b = λ b kept.
+          subst (λ (y : Setting). StopOkEverywhere y.backing (checkpoint_after x' s' is reply (guest_of new)) b) (sym works.setting) (subst (λ m. StopOkEverywhere old.setting.backing m b) marked kept) in
+          inr (as_marked new.known (stops.known sound'), as_marked (contents_of new) stops.contents);
     }))
 
 -- a command that was misused: nothing is called
@@ -240,7 +269,7 @@ pub none_as : (x : Setting) (v : AbstractImage) (s : State) (command is : Comman
 none_as x v s command is reply e stands answer means mark finds =
     subst (λ q. RefinesCommand x v v s q reply) (sym e) (called x v v s is reply stands answer
     (acts_none v (given_by v.setting (guest_of v) is) (asked_by is))
-    (λ sound. record { ends = inl (sound, means sound); finds = λ _. finds; mark = λ x' s' _. inl (mark x' s') }))
+    (λ sound. record { ends = inl (sound, means sound); finds = λ _. finds; mark = λ x' s' _ _ _. inl (mark x' s') }))
 
 -- where a run begins
 pub begins : (v : AbstractImage) → v.is_sound → IsWhole v → v.known ≡ contents_of v → RefinesState v.setting v (started (guest_of v))

@@ -12,4 +12,5 @@ mod LookingUp
 mod Converting
 mod Exporting
 mod Cleared
+mod Resized
 mod SpecialReads

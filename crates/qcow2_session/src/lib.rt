@@ -5,6 +5,7 @@ mod clearing;
 pub mod convert;
 mod headline;
 pub mod session;
+mod sizing;
 mod slots;
 mod special;
 

@@ -9,9 +9,10 @@ ghost use Rattle.qcow2_session.specs.Sessions.{IsRightlyBeyond, IsOfReading, IsO
 ghost use Rattle.qcow2_image.specs.declared.prepared.Prepared.{Prepared};
 
 use crate::clearing::{discard_to_any, discard_to_backing, discard_to_zero, ensure_zero};
+use crate::sizing::{grow, shrink};
 use crate::slots::Slots;
 use crate::special::{readv_special, try_readv_special};
-use image_access::{Storage, WrappedFormat};
+use image_access::{PreallocateMode, Storage, WrappedFormat};
 use qcow2_image::{CommitRefused, ImageError, Mapping, Prepared, Qcow2};
 use std::alloc::Global;
 
@@ -78,6 +79,13 @@ pub enum Command {
         length: u64,
     },
     Flush,
+    ResizeGrow {
+        size: u64,
+        mode: PreallocateMode,
+    },
+    ResizeShrink {
+        size: u64,
+    },
     Size,
 }
 
@@ -102,6 +110,8 @@ pub enum Reply {
     },
     /// The offset of a range that doesn't begin in a compressed cluster, or none of no bytes.
     NotCompressed(Option<u64>),
+    /// The offset up to which a smaller disk's tail was dropped.
+    Shrunk(u64),
     Size(u64),
     Refused(ImageError),
     /// A write was refused after so many leading bytes were written.
@@ -330,6 +340,8 @@ fn step<S: Storage, F: WrappedFormat<S>>(
             try_readv_special(alloc, image, *offset, *length)
         }
         Command::Flush => flush(image),
+        Command::ResizeGrow { size, mode } => grow(image, *size, *mode),
+        Command::ResizeShrink { size } => shrink(image, *size),
         Command::Size => Reply::Size(image.size()),
     }
 }

@@ -3,6 +3,8 @@ use Rattle.std.specs.Prelude.{ℕ, Bool, true, false, ◌&&◌, ◌||◌, ◌==�
 use Rattle.std.specs.List.{list_all, slice_split}
 use Rattle.std.specs.Result.{result_ok}
 use Rattle.std.specs.Str.{bytes_eq}
+use Rattle.image_access.specs.declared.storage.PreallocateMode.{PreallocateMode}
+use Rattle.image_access.specs.declared.storage.PreallocateMode.TheVariants as Mode
 use Rattle.hex.specs.Hex.{decode_of, decode_sized}
 use Rattle.qcow2_session.specs.declared.session.Command.{Command}
 use Rattle.qcow2_session.specs.declared.session.Command.TheVariants as C
@@ -22,6 +24,8 @@ pub data Order : Type 0 where
   discards_to_any : (offset length : ℕ) → Order
   discards_to_backing : (offset length : ℕ) → Order
   reads_special : (offset length : ℕ) → Order
+  grows : (size : ℕ) (mode : PreallocateMode) → Order
+  shrinks : (size : ℕ) → Order
   flushes : Order
   sizes : Order
   -- what no line asks for
@@ -40,6 +44,8 @@ order (C.DiscardToZero offset length) = discards_to_zero offset length
 order (C.DiscardToAny offset length) = discards_to_any offset length
 order (C.DiscardToBacking offset length) = discards_to_backing offset length
 order (C.ReadvSpecial offset length) = reads_special offset length
+order (C.ResizeGrow size mode) = grows size mode
+order (C.ResizeShrink size) = shrinks size
 order C.Flush = flushes
 order C.Size = sizes
 order _ = other
@@ -162,6 +168,34 @@ abbrev pub clear_of : (ℕ → ℕ → Order) → Option (ℕ × ℕ) → Option
 clear_of clears (Some range) = Some (clears range.0 range.1)
 clear_of clears None = None
 
+-- the word of how a larger disk takes its place
+abbrev pub mode_of : List ℕ → Option PreallocateMode
+mode_of word =
+    if bytes_eq word (codes "none") then Some Mode.None
+    else if bytes_eq word (codes "zero") then Some Mode.Zero
+    else if bytes_eq word (codes "format") then Some Mode.FormatAllocate
+    else if bytes_eq word (codes "full") then Some Mode.FullAllocate
+    else if bytes_eq word (codes "write") then Some Mode.WriteData
+    else None
+
+abbrev pub grows_with : Option ℕ → Option PreallocateMode → Option Order
+grows_with (Some size) (Some mode) = Some (grows size mode)
+grows_with _ _ = None
+
+-- SIZE MODE of a `grow`
+abbrev pub grow_of : List (List ℕ) → Option Order
+grow_of (size ∷ how ∷ []) = grows_with (number_of size) (mode_of how)
+grow_of _ = None
+
+abbrev pub shrinks_with : Option ℕ → Option Order
+shrinks_with (Some size) = Some (shrinks size)
+shrinks_with None = None
+
+-- SIZE of a `shrink`
+abbrev pub shrink_of : List (List ℕ) → Option Order
+shrink_of (size ∷ []) = shrinks_with (number_of size)
+shrink_of _ = None
+
 -- a line of one word
 abbrev pub order_alone : Order → List (List ℕ) → Option Order
 order_alone asked [] = Some asked
@@ -184,6 +218,8 @@ order_of_words (name ∷ operands) =
     else if bytes_eq name (codes "dany") then clear_of discards_to_any (range_alone operands)
     else if bytes_eq name (codes "dback") then clear_of discards_to_backing (range_alone operands)
     else if bytes_eq name (codes "special") then special_of operands
+    else if bytes_eq name (codes "grow") then grow_of operands
+    else if bytes_eq name (codes "shrink") then shrink_of operands
     else if bytes_eq name (codes "flush") then order_alone flushes operands
     else if bytes_eq name (codes "size") then order_alone sizes operands
     else None

@@ -46,6 +46,7 @@ line_of (R.Prepared offset length existing) = Some (prepared_line existing offse
 line_of (R.Range offset length) = Some (codes "range" ␣ decimal offset ␣ decimal length)
 line_of (R.NotCompressed None) = Some (codes "ok")
 line_of (R.NotCompressed (Some offset)) = Some (codes "not compressed" ␣ decimal offset)
+line_of (R.Shrunk offset) = Some (codes "shrunk" ␣ decimal offset)
 line_of (R.Size size) = Some (codes "size" ␣ decimal size)
 line_of (R.Refused _) = None
 line_of (R.WriteRefused _ _) = None

@@ -1,11 +1,12 @@
 ghost use Rattle.std.specs.Prelude.{◌≡◌, ◌==◌, List, ℕ, map, IfOk, IsErrOf, None, Some};
 ghost use Rattle.std.specs.List.{list_all, slice_split};
-ghost use Rattle.qimg.specs.Lines.{length_within, is_lower_hex_digit, bytes_of, byte_of, order, order_alone, read_of, special_of, map_of, write_of, fill_of, slot_within, overwrite_of, prepare_of, put_of, slot_alone, range_alone, clear_of, zeroes, discards_to_zero, discards_to_any, discards_to_backing, order_of_words, order_of_line};
+ghost use Rattle.qimg.specs.Lines.{length_within, is_lower_hex_digit, bytes_of, byte_of, order, order_alone, read_of, special_of, map_of, write_of, fill_of, slot_within, overwrite_of, mode_of, grow_of, shrink_of, prepare_of, put_of, slot_alone, range_alone, clear_of, zeroes, discards_to_zero, discards_to_any, discards_to_backing, order_of_words, order_of_line};
 ghost use Rattle.qimg.specs.Numbers.{number_of};
 ghost use Rattle.qimg.specs.declared.lines.LineError.TheVariants.{Unreadable, Memory};
 
 use crate::numbers::number;
 use hex::FromHexError;
+use image_access::PreallocateMode;
 use qcow2_session::Command;
 use std::alloc::{AllocError, Global};
 
@@ -69,6 +70,8 @@ fn parse_words(alloc: Global, words: &[&str]) -> Result<Command, LineError>
         "dany" => discard_to_any_command(operands),
         "dback" => discard_to_backing_command(operands),
         "special" => special_command(operands),
+        "grow" => grow_command(operands),
+        "shrink" => shrink_command(operands),
         "flush" => alone(Command::Flush, operands),
         "size" => alone(Command::Size, operands),
         _ => Err(LineError::Unreadable),
@@ -228,6 +231,46 @@ fn discard_to_backing_command(operands: &[&str]) -> Result<Command, LineError>
 {
     let (offset, length) = range_of_operands(operands)?;
     Ok(Command::DiscardToBacking { offset, length })
+}
+
+fn grow_command(operands: &[&str]) -> Result<Command, LineError>
+    ensures ok { IfOk result (λ command. grow_of (map (λ word. word.now) operands.now) ≡ Some (order command)) }
+    ensures unreadable { IsErrOf result Unreadable → grow_of (map (λ word. word.now) operands.now) ≡ None }
+{
+    let [size, how] = operands else {
+        return Err(LineError::Unreadable);
+    };
+    let (Some(size), Some(mode)) = (number(size), preallocation(how)) else {
+        return Err(LineError::Unreadable);
+    };
+    Ok(Command::ResizeGrow { size, mode })
+}
+
+fn shrink_command(operands: &[&str]) -> Result<Command, LineError>
+    ensures ok { IfOk result (λ command. shrink_of (map (λ word. word.now) operands.now) ≡ Some (order command)) }
+    ensures unreadable { IsErrOf result Unreadable → shrink_of (map (λ word. word.now) operands.now) ≡ None }
+{
+    let [size] = operands else {
+        return Err(LineError::Unreadable);
+    };
+    let Some(size) = number(size) else {
+        return Err(LineError::Unreadable);
+    };
+    Ok(Command::ResizeShrink { size })
+}
+
+// How a larger disk takes the place that it adds.
+fn preallocation(word: &str) -> Option<PreallocateMode>
+    ensures { result ≡ mode_of word.now }
+{
+    match word {
+        "none" => Some(PreallocateMode::None),
+        "zero" => Some(PreallocateMode::Zero),
+        "format" => Some(PreallocateMode::FormatAllocate),
+        "full" => Some(PreallocateMode::FullAllocate),
+        "write" => Some(PreallocateMode::WriteData),
+        _ => None,
+    }
 }
 
 // The offset and the length of a line that names nothing else.

@@ -27,6 +27,7 @@ pub fn print_reply<W: Write>(output: &mut W, reply: &Reply) -> io::Result<()>
             writeln!(output, "{kind} {offset} {length}")
         }
         Reply::Range { offset, length } => writeln!(output, "range {offset} {length}"),
+        Reply::Shrunk(offset) => writeln!(output, "shrunk {offset}"),
         Reply::Size(size) => writeln!(output, "size {size}"),
         Reply::Refused(e) | Reply::WriteRefused(e, 0) => print_refusal(output, e),
         Reply::WriteRefused(e, written) => {

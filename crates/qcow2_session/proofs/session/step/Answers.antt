@@ -58,3 +58,9 @@ returns-in-ReadvSpecial-clause-goes g c = subst (λ q. CommandSteps g.S.Storage.
 
 pub returns-in-TryReadvSpecial-clause-goes : goal.returns-in-TryReadvSpecial-clause-goes
 returns-in-TryReadvSpecial-clause-goes g c = subst (λ q. CommandSteps g.S.Storage.view g.F.BackingDisk.backing c.args.image.now c.try_readv_special.new.image c.args.slots.now c.args.slots.now q c.try_readv_special.result) (sym c.in-TryReadvSpecial.is) (c.try_readv_special.ensures.goes c.args.slots.now)
+
+pub returns-in-ResizeGrow-clause-goes : goal.returns-in-ResizeGrow-clause-goes
+returns-in-ResizeGrow-clause-goes g c = subst (λ q. CommandSteps g.S.Storage.view g.F.BackingDisk.backing c.args.image.now c.grow.new.image c.args.slots.now c.args.slots.now q c.grow.result) (sym c.in-ResizeGrow.is) (c.grow.ensures.goes c.args.slots.now)
+
+pub returns-in-ResizeShrink-clause-goes : goal.returns-in-ResizeShrink-clause-goes
+returns-in-ResizeShrink-clause-goes g c = subst (λ q. CommandSteps g.S.Storage.view g.F.BackingDisk.backing c.args.image.now c.shrink.new.image c.args.slots.now c.args.slots.now q c.shrink.result) (sym c.in-ResizeShrink.is) (c.shrink.ensures.goes c.args.slots.now)

@@ -1,0 +1,18 @@
+use Rattle.std.proofs.Common.{[]}
+use Rattle.qcow2_session.proofs.Resized.{none_early, grow_done, grow_refused}
+use Rattle.qcow2_session.proofs.sizing.grow.Goals as goal
+
+pub returns-in-Ok-clause-goes : goal.returns-in-Ok-clause-goes
+returns-in-Ok-clause-goes g c = λ slots x s stands founds.
+    grow_done g.S.Storage.view g.F.BackingDisk.backing c.args.image.now c.resize_grow.new.self c.args.size slots.prepared.items x s stands c.in-Ok.ensures.last c.args.mode c.in-Ok.ensures.early
+    (λ sound larger. (c.in-Ok.ensures.tables (none_early _ tt _ c.in-Ok.ensures.early) larger slots.prepared.items sound).covers) c.in-Ok.ensures.sees
+
+pub returns-in-Err-clause-goes : goal.returns-in-Err-clause-goes
+returns-in-Err-clause-goes g c = λ slots x s stands founds.
+    grow_refused g.S.Storage.view g.F.BackingDisk.backing c.args.image.now c.resize_grow.new.self c.args.size slots.prepared.items x s stands c.in-Err.ensures.last c.args.mode _ c.in-Err.ensures.early c.in-Err.ensures.no_larger c.in-Err.ensures.sees
+
+pub returns-in-Ok-clause-number : goal.returns-in-Ok-clause-number
+returns-in-Ok-clause-number g c = (c.in-Ok.ensures.sees []).acts.number
+
+pub returns-in-Err-clause-number : goal.returns-in-Err-clause-number
+returns-in-Err-clause-number g c = (c.in-Err.ensures.sees []).acts.number

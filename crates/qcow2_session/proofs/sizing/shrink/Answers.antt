@@ -1,0 +1,17 @@
+use Rattle.std.proofs.Common.{[]}
+use Rattle.qcow2_session.proofs.Resized.{shrink_done, shrink_refused}
+use Rattle.qcow2_session.proofs.sizing.shrink.Goals as goal
+
+pub returns-in-Ok-clause-goes : goal.returns-in-Ok-clause-goes
+returns-in-Ok-clause-goes g c = λ slots x s stands founds.
+    shrink_done g.S.Storage.view g.F.BackingDisk.backing c.args.image.now c.resize_shrink.new.self c.args.size slots.prepared.items x s stands c.in-Ok.ensures.last _ c.in-Ok.ensures.early c.in-Ok.ensures.sees
+
+pub returns-in-Err-clause-goes : goal.returns-in-Err-clause-goes
+returns-in-Err-clause-goes g c = λ slots x s stands founds.
+    shrink_refused g.S.Storage.view g.F.BackingDisk.backing c.args.image.now c.resize_shrink.new.self c.args.size slots.prepared.items x s stands c.in-Err.ensures.last _ c.in-Err.ensures.early c.in-Err.ensures.no_smaller c.in-Err.ensures.sees
+
+pub returns-in-Ok-clause-number : goal.returns-in-Ok-clause-number
+returns-in-Ok-clause-number g c = (c.in-Ok.ensures.sees []).acts.number
+
+pub returns-in-Err-clause-number : goal.returns-in-Err-clause-number
+returns-in-Err-clause-number g c = (c.in-Err.ensures.sees []).acts.number

@@ -1,0 +1,41 @@
+//! The commands that change the size of the disk.
+ghost use Rattle.std.specs.Prelude.{◌≡◌};
+ghost use Rattle.qcow2_image.specs.Image.{number_of};
+ghost use Rattle.qcow2_session.specs.Sessions.{CommandSteps, Finds};
+ghost use Rattle.qcow2_session.specs.declared.session.Command.TheVariants.{ResizeGrow, ResizeShrink};
+ghost use Rattle.qcow2_session.specs.declared.slots.Slots.{Slots};
+
+use crate::session::Reply;
+use image_access::{PreallocateMode, Storage, WrappedFormat};
+use qcow2_image::Qcow2;
+
+// Makes the disk larger. The mode says what its new bytes are, and what place they take.
+pub(crate) fn grow<S: Storage, F: WrappedFormat<S>>(
+    image: &mut Qcow2<S, F>,
+    size: u64,
+    mode: PreallocateMode,
+) -> Reply
+    ensures number { number_of image.new ≡ number_of image.old }
+    ensures goes { (slots : Slots) → CommandSteps S.view F.backing image.old image.new slots slots (ResizeGrow size mode) result }
+    ensures finds { (slots : Slots) → Finds slots slots (ResizeGrow size mode) result }
+{
+    match image.resize_grow(size, mode) {
+        Ok(()) => Reply::Done,
+        Err(refusal) => Reply::Refused(refusal),
+    }
+}
+
+// Makes the disk smaller. It is replied the offset up to which the clusters behind the new end were dropped.
+pub(crate) fn shrink<S: Storage, F: WrappedFormat<S>>(
+    image: &mut Qcow2<S, F>,
+    size: u64,
+) -> Reply
+    ensures number { number_of image.new ≡ number_of image.old }
+    ensures goes { (slots : Slots) → CommandSteps S.view F.backing image.old image.new slots slots (ResizeShrink size) result }
+    ensures finds { (slots : Slots) → Finds slots slots (ResizeShrink size) result }
+{
+    match image.resize_shrink(size) {
+        Ok(offset) => Reply::Shrunk(offset),
+        Err(refusal) => Reply::Refused(refusal),
+    }
+}
