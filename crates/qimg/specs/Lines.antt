@@ -8,7 +8,7 @@ use Rattle.image_access.specs.declared.storage.PreallocateMode.TheVariants as Mo
 use Rattle.hex.specs.Hex.{decode_of, decode_sized}
 use Rattle.qcow2_session.specs.declared.session.Command.{Command}
 use Rattle.qcow2_session.specs.declared.session.Command.TheVariants as C
-use Rattle.qimg.specs.Numbers.{number_of}
+use Rattle.program_parts.specs.Numbers.{number_of}
 
 -- what a command does to the image
 pub data Order : Type 0 where

@@ -8,11 +8,7 @@ use Rattle.qcow2_image.specs.declared.mapping.Place.{Place}
 use Rattle.qcow2_image.specs.declared.mapping.Place.TheVariants as P
 use Rattle.qcow2_session.specs.declared.session.Reply.{Reply}
 use Rattle.qcow2_session.specs.declared.session.Reply.TheVariants as R
-
--- words with one space between them
-infixr 5 ◌␣◌
-abbrev pub ◌␣◌ : List ℕ → List ℕ → List ℕ
-left ␣ right = left ++ (codes " " ++ right)
+use Rattle.program_parts.specs.Lines.{◌␣◌}
 
 abbrev pub place_word : Place → List ℕ
 place_word P.Image = codes "image"

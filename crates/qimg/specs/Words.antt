@@ -3,7 +3,7 @@ use Rattle.std.specs.Prelude.{ℕ, ◌&&◌, codes, List, [], ◌∷◌, Option,
 use Rattle.std.specs.Str.{bytes_eq}
 use Rattle.qimg.specs.declared.words.Invocation.{Invocation}
 use Rattle.qimg.specs.declared.words.Invocation.TheVariants as I
-use Rattle.qimg.specs.Numbers.{number_of}
+use Rattle.program_parts.specs.Numbers.{number_of}
 
 -- an image made, run commands on, checked, made of a raw disk, or a raw disk made of it
 pub data Asked : Type 0 where

@@ -1,16 +1,16 @@
 //! The report of an image, as it is printed.
-ghost use Rattle.std.specs.Prelude.{◌≡◌, ◌≤◌, ◌∷◌, ◌++◌, [], OnOk, codes};
+ghost use Rattle.std.specs.Prelude.{◌≡◌, ◌≤◌, []};
 ghost use Rattle.std.specs.Io.KnownBytes.{Appends};
 ghost use Rattle.image_access.specs.Moments.{ContentsStay};
 ghost use Rattle.qcow2_metadata.specs.Bytes.{byte_at};
-ghost use Rattle.qimg.specs.Reports.{kind_word, breach_line, leak_line, consistent_line, verdict_line, text_of_lines, text_of_report, IsFoundConsistent};
+ghost use Rattle.program_parts.specs.Reports.{text_of_report, IsFoundConsistent};
 
 use crate::program::{REFUSED, end, refuse};
 use image_access::Storage;
+use program_parts::print_report;
 use qcow2_image::ImageError;
-use qcow2_session::{Breach, Kind, Leak, Report, check};
+use qcow2_session::{Report, check};
 use std::alloc::Global;
-use std::io;
 use std::io::Write;
 
 /// Prints the report of the image in the storage, which is only read, and answers the exit status: 0 where it is consistent.
@@ -36,96 +36,5 @@ fn tell<W: Write>(output: &mut W, report: &Report) -> u8
     match report.breaches.as_slice() {
         [] => status,
         _ => REFUSED,
-    }
-}
-
-// Prints the lines of a report.
-fn print_report<W: Write>(output: &mut W, report: &Report) -> io::Result<()>
-    ensures { OnOk result (Appends (W.contents output.old) (W.contents output.new) (text_of_report report.now.breaches.items report.now.leaks.items)) }
-{
-    print_breaches(output, &report.breaches)?;
-    print_leaks(output, &report.leaks)?;
-    print_verdict(output, report.breaches.len(), report.leaks.len())
-}
-
-// The last line.
-fn print_verdict<W: Write>(output: &mut W, breaches: usize, leaks: usize) -> io::Result<()>
-    ensures { OnOk result (Appends (W.contents output.old) (W.contents output.new) (verdict_line breaches leaks ++ 10 ∷ [])) }
-{
-    if breaches == 0 {
-        print_consistent(output, leaks)
-    } else {
-        writeln!(output, "broken, {breaches} breaches")
-    }
-}
-
-fn print_consistent<W: Write>(output: &mut W, leaks: usize) -> io::Result<()>
-    ensures { OnOk result (Appends (W.contents output.old) (W.contents output.new) (consistent_line leaks ++ 10 ∷ [])) }
-{
-    writeln!(output, "consistent, {leaks} leaked")
-}
-
-fn print_breaches<W: Write>(output: &mut W, breaches: &[Breach]) -> io::Result<()>
-    ensures { OnOk result (Appends (W.contents output.old) (W.contents output.new) (text_of_lines breach_line breaches.now)) }
-{
-    for breach in breaches {
-        print_breach(output, breach)?;
-    }
-    Ok(())
-}
-
-fn print_leaks<W: Write>(output: &mut W, leaks: &[Leak]) -> io::Result<()>
-    ensures { OnOk result (Appends (W.contents output.old) (W.contents output.new) (text_of_lines leak_line leaks.now)) }
-{
-    for leak in leaks {
-        print_leak(output, leak)?;
-    }
-    Ok(())
-}
-
-fn print_leak<W: Write>(output: &mut W, leak: &Leak) -> io::Result<()>
-    ensures { OnOk result (Appends (W.contents output.old) (W.contents output.new) (leak_line leak.now ++ 10 ∷ [])) }
-{
-    let Leak {
-        cluster,
-        count,
-        named,
-    } = *leak;
-    writeln!(output, "leak {cluster} {count} {named}")
-}
-
-fn print_breach<W: Write>(output: &mut W, breach: &Breach) -> io::Result<()>
-    ensures { OnOk result (Appends (W.contents output.old) (W.contents output.new) (breach_line breach.now ++ 10 ∷ [])) }
-{
-    match *breach {
-        Breach::Snapshots { count } => writeln!(output, "snapshots {count}"),
-        Breach::External => writeln!(output, "external"),
-        Breach::Unaligned { kind, offset } => {
-            let kind = kind_word(kind);
-            writeln!(output, "unaligned {kind} {offset}")
-        }
-        Breach::Under {
-            cluster,
-            count,
-            named,
-        } => writeln!(output, "under {cluster} {count} {named}"),
-        Breach::Shared { cluster, named } => writeln!(output, "shared {cluster} {named}"),
-        Breach::Copied {
-            cluster,
-            count,
-            named,
-        } => writeln!(output, "copied {cluster} {count} {named}"),
-    }
-}
-
-fn kind_word(kind: Kind) -> &'static str
-    ensures { result.now ≡ kind_word kind }
-{
-    match kind {
-        Kind::L1 => "l1",
-        Kind::Reftable => "reftable",
-        Kind::L2 => "l2",
-        Kind::Refblock => "refblock",
-        Kind::Data => "data",
     }
 }

@@ -1,12 +1,12 @@
 ghost use Rattle.std.specs.Prelude.{◌≡◌, ◌==◌, List, ℕ, map, IfOk, IsErrOf, None, Some};
 ghost use Rattle.std.specs.List.{list_all, slice_split};
 ghost use Rattle.qimg.specs.Lines.{length_within, is_lower_hex_digit, bytes_of, byte_of, order, order_alone, read_of, special_of, map_of, write_of, fill_of, slot_within, overwrite_of, mode_of, grow_of, shrink_of, prepare_of, put_of, slot_alone, range_alone, clear_of, zeroes, discards_to_zero, discards_to_any, discards_to_backing, order_of_words, order_of_line};
-ghost use Rattle.qimg.specs.Numbers.{number_of};
+ghost use Rattle.program_parts.specs.Numbers.{number_of};
 ghost use Rattle.qimg.specs.declared.lines.LineError.TheVariants.{Unreadable, Memory};
 
-use crate::numbers::number;
 use hex::FromHexError;
 use image_access::PreallocateMode;
+use program_parts::number;
 use qcow2_session::Command;
 use std::alloc::{AllocError, Global};
 

@@ -5,7 +5,6 @@ mod checking;
 mod conversions;
 mod lines;
 mod messages;
-mod numbers;
 mod printing;
 mod program;
 mod reading;

@@ -2,7 +2,7 @@ ghost use Rattle.std.specs.Prelude.{◌≡◌, map, string_bytes};
 ghost use Rattle.std.specs.Option.{option_map};
 ghost use Rattle.qimg.specs.Words.{asked, asked_by};
 
-use crate::numbers::number;
+use program_parts::number;
 
 /// The line that is printed where the words are not understood.
 pub const USAGE: &str =

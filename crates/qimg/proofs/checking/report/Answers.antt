@@ -1,4 +1,4 @@
-use Rattle.qimg.proofs.Texts.{found_consistent}
+use Rattle.program_parts.proofs.Texts.{found_consistent}
 use Rattle.qimg.proofs.checking.report.Goals as goal
 
 pub returns-clause-consistent : goal.returns-clause-consistent

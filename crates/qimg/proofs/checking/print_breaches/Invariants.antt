@@ -1,7 +1,0 @@
-use Rattle.std.proofs.Common.{take}
-use Rattle.std.specs.Io.KnownBytes.{Appends}
-use Rattle.qimg.specs.Reports.{breach_line, text_of_lines}
-use Rattle.qimg.proofs.checking.print_breaches.Given as goal
-
-abbrev pub invariant-loop-breach : goal.invariant-loop-breach
-invariant-loop-breach g l = Appends (g.W.Write.contents l.initial.output) (g.W.Write.contents l.output) (text_of_lines breach_line (take l.breach-index l.breaches))
