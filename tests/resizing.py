@@ -255,9 +255,9 @@ def a_size_past_the_limit_is_refused():
 
 
 def the_greatest_size():
-    """Its L1 table has 4,194,304 entries of eight bytes."""
-    size = 137438953472
-    create("disk", 65536, 512)
+    """Its L1 table has 4,194,304 entries of eight bytes. An entry covers 512 GiB where clusters have 2 MiB."""
+    size = 4194304 << 39
+    create("disk", 65536, 2097152)
     lines = [(f"grow {size} none", "ok"), (f"fill {size - 1} 1 77", "ok"), (f"read {size - 2} 2", "data 0077"), (f"grow {size + 1} none", "refused 13 limit"), (f"shrink {size - 1}", f"shrunk {size}"), ("size", f"size {size - 1}")]
     status, said = checks.ran("run", "disk", input="".join(f"{line}\n" for line, _ in lines).encode(), stdout=subprocess.PIPE, stderr=subprocess.DEVNULL, timeout=600)
     equal((status, said.splitlines()), (1, [answer for _, answer in lines]), "the answers")
@@ -319,7 +319,8 @@ def a_file_has_no_room(mode):
     before = filled(size, 512, 64)
     kept = read_disk("disk", size)
     refused = 0
-    for room in range(len(before), len(before) + 400 * 512, 512):
+    end = len(before) // 512 * 512
+    for room in [*range(end, end + 10 * 512, 512), *range(end + 10 * 512, end + 400 * 512, 17 * 512)]:
         with open("disk", "wb") as it:
             it.write(before)
         with checks.kept("disk"):
@@ -345,7 +346,10 @@ def a_file_has_no_room(mode):
 
 # Beside QEMU
 
-FORMS = [(cluster, version, width) for cluster in (512, 4096, 65536) for version, width in ((2, 16), (3, 1), (3, 16), (3, 64))]
+# The size of a cluster, the version, and the bits of a count.
+FORMS = [(512, 2, 16), (512, 3, 1), (512, 3, 16), (512, 3, 64), (4096, 2, 16), (4096, 3, 1), (4096, 3, 64), (65536, 2, 16), (65536, 3, 16)]
+# The bits of a count, and what QEMU takes as it grows an image.
+WAYS = [(1, "off"), (16, "metadata"), (16, "falloc"), (64, "full")]
 
 
 class Resized(Disk):
@@ -425,7 +429,6 @@ def of_qemu_resized_by_qimg(cluster, version, width):
             qemu_io("disk", f"read -P 0 {first} {seen_by_qemu(size) - first}")
         qemu_io("disk", *disk.commands(4, 3 * cluster))
         write_lines("disk", disk.lines(4, min(3 * cluster, 1048576)))
-        same_sized_disk(disk)
         answers("disk", [disk.shrink(old + (2 * step + 1) * cluster - 77), ("flush", "ok")])
         same_sized_disk(disk)
         write_lines("disk", disk.lines(3, cluster))
@@ -484,9 +487,8 @@ def main():
     for cluster, version, width in FORMS:
         every.run(f"of QEMU, resized by qimg: cluster {cluster}, version {version}, width {width}", of_qemu_resized_by_qimg, cluster, version, width)
     for cluster in (512, 4096, 65536):
-        for width in (1, 16, 64):
-            for way in ("off", "metadata", "falloc", "full"):
-                every.run(f"of qimg, resized by QEMU: cluster {cluster}, width {width}, {way}", of_qimg_resized_by_qemu, cluster, width, way)
+        for width, way in WAYS:
+            every.run(f"of qimg, resized by QEMU: cluster {cluster}, width {width}, {way}", of_qimg_resized_by_qemu, cluster, width, way)
     for line in BAD_LINES:
         every.run(line, a_line_is_not_read, line)
     every.done()
