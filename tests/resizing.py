@@ -320,7 +320,7 @@ def a_file_has_no_room(mode):
     kept = read_disk("disk", size)
     refused = 0
     end = len(before) // 512 * 512
-    for room in [*range(end, end + 10 * 512, 512), *range(end + 10 * 512, end + 400 * 512, 17 * 512)]:
+    for room in [*range(end, end + 10 * 512, 512), *range(end + 10 * 512, end + 400 * 512, 29 * 512)]:
         with open("disk", "wb") as it:
             it.write(before)
         with checks.kept("disk"):
@@ -478,8 +478,8 @@ def main():
         a_prepared_mapping_keeps_the_size,
     ):
         every.run(check.__name__, check)
-    for cluster, width in ((512, 1), (512, 16), (512, 64), (4096, 8)):
-        for mode in MODES:
+    for cluster, width, modes in ((512, 1, MODES), (512, 16, MODES), (512, 64, MODES), (4096, 8, ["zero", "format"])):
+        for mode in modes:
             every.run(f"stops of a grow: cluster {cluster}, width {width}, {mode}", stops_of_a_grow, cluster, width, mode)
         every.run(f"stops of a shrink: cluster {cluster}, width {width}", stops_of_a_shrink, cluster, width)
     for mode in MODES:
