@@ -215,10 +215,10 @@ kept_at_once : (v : AbstractImage) (b : Bytes) → IsWhole v → b ≡ v.known �
 kept_at_once v b whole same =
     let shown : disk b v.setting.backing ≡ (guest_of v).disk =
     ap (λ (a : Bytes). disk a v.setting.backing) same ∙ ap (λ (a : Bytes). disk_with v.known a v.setting.backing) (sym whole.in_image) in record {
-  consistent = subst (λ (a : Bytes). IsConsistent a) (sym same) whole.consistent;
-  size = inl (ap (λ (d : Disk). d.size) shown);
-  values = λ o. inl (ap (λ (d : Disk). d.value o) shown);
-}
+      consistent = subst (λ (a : Bytes). IsConsistent a) (sym same) whole.consistent;
+      size = inl (ap (λ (d : Disk). d.size) shown);
+      values = λ o. inl (ap (λ (d : Disk). d.value o) shown);
+    }
 
 pub flushed_as : (x : Setting) (old new : AbstractImage) (s : State) (command is : Command) (reply : Reply) → command ≡ is → RefinesState x old s → IsAnswer old new is reply
     → Does old new (given_by old.setting (guest_of old) is) (asked_by is) ((new.known ≡ contents_of new) × CommandMeaning old.setting s.found (guest_of old) is reply (guest_of new))

@@ -26,10 +26,7 @@ pub(crate) fn grow<S: Storage, F: WrappedFormat<S>>(
 }
 
 // Makes the disk smaller. It is replied the offset up to which the clusters behind the new end were dropped.
-pub(crate) fn shrink<S: Storage, F: WrappedFormat<S>>(
-    image: &mut Qcow2<S, F>,
-    size: u64,
-) -> Reply
+pub(crate) fn shrink<S: Storage, F: WrappedFormat<S>>(image: &mut Qcow2<S, F>, size: u64) -> Reply
     ensures number { number_of image.new ≡ number_of image.old }
     ensures goes { (slots : Slots) → CommandSteps S.view F.backing image.old image.new slots slots (ResizeShrink size) result }
     ensures finds { (slots : Slots) → Finds slots slots (ResizeShrink size) result }
