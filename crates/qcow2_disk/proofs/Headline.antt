@@ -1,13 +1,13 @@
 -- A run of an image that was opened from bytes.
-use Rattle.std.proofs.Common.{◌≡◌, ◌⊎◌, ⊎_elim, inl, inr, ℕ, ◌≤◌, List, [], ◌∷◌, false, refl, sym, ap, ◌∙◌, subst, arith}
+use Rattle.std.proofs.Common.{◌≡◌, ⊎_elim, inl, ℕ, List, [], ◌∷◌, refl, sym, ap, ◌∙◌, subst, arith}
 use mathlib.Core.Path.{fun_ext}
 use Rattle.image_access.specs.Moments.{StorageView, Passing}
 use Rattle.image_access.proofs.Passing.{passes_if, passes_on}
 use Rattle.qcow2_metadata.specs.Bytes.{Bytes, byte_at}
 use Rattle.qcow2_metadata.specs.Consistent.{IsConsistent}
 use Rattle.qcow2_disk.specs.Disk.{Disk, disk, disk_with}
-use Rattle.qcow2_disk.specs.Stops.{GivenBytes, checkpoint_at, StopOkEverywhere, StopOk, SafeThroughout}
-use Rattle.qcow2_disk.specs.AbstractImages.{Setting, Guest, Abstraction, abstract_image, guest_of, IsOpened}
+use Rattle.qcow2_disk.specs.Stops.{checkpoint_at, StopOkEverywhere, StopOk, SafeThroughout}
+use Rattle.qcow2_disk.specs.AbstractImages.{Setting, Guest, Abstraction, abstract_image, guest_of}
 use Rattle.qcow2_disk.specs.Runs.{Command, Reply, State, Run, RefinesDisk, IsStopIn, started, given_by, asked_by}
 use Rattle.qcow2_disk.specs.Headline.{nothing_below, setting_in, guest_in, IsHeadline}
 use Rattle.qcow2_disk.proofs.Stops.{stop_of_kept, stop_more}

@@ -1,10 +1,9 @@
 -- What is private to a mapping that is out is hidden from stops, but where a zero cluster keeps its host cluster.
-use Rattle.std.proofs.Common.{◌≡◌, ◌⊎◌, inl, inr, ℕ, ◌+◌, ◌/◌, Bool, true, false, List, Option, Some, None, IsTrue, sym, ap, ◌∙◌, subst}
+use Rattle.std.proofs.Common.{◌≡◌, ◌⊎◌, inl, inr, ℕ, ◌+◌, ◌/◌, true, false, List, Option, Some, IsTrue, sym, ap, ◌∙◌, subst}
 use Rattle.std.specs.Prelude.{slice_get}
 use Rattle.std.specs.Option.{option_map_or}
 use Rattle.image_access.specs.Backing.{BackingView}
 use Rattle.image_access.specs.Moments.{StorageView}
-use Rattle.qcow2_metadata.specs.Bytes.{Bytes}
 use Rattle.qcow2_metadata.specs.Cover.{cover}
 use Rattle.qcow2_metadata.specs.Header.{header, cluster_size}
 use Rattle.qcow2_metadata.specs.declared.header.HeaderFields.{HeaderFields}
@@ -12,7 +11,7 @@ use Rattle.qcow2_metadata.specs.declared.l2_mapping.L2Mapping.TheVariants.{Zero}
 use Rattle.qcow2_disk.specs.Mappings.{IsHiddenIn}
 use Rattle.qcow2_laws.specs.SafeSteps.{DriverState}
 use Rattle.qcow2_laws.proofs.Unseen.{known_header}
-use Rattle.qcow2_alloc.specs.ImageFile.{state_in, contents_in, known_in}
+use Rattle.qcow2_alloc.specs.ImageFile.{state_in, known_in}
 use Rattle.qcow2_image.specs.declared.image.Qcow2.{Qcow2}
 use Rattle.qcow2_image.specs.declared.prepared.Prepared.{Prepared}
 use Rattle.qcow2_image.specs.declared.prepared.Share.{Share}

@@ -1,5 +1,5 @@
 -- What preallocation does: zeros stand behind the end of a disk before its size grows.
-use Rattle.std.specs.Prelude.{ℕ, ◌+◌, ◌*◌, ◌-◌, ◌%◌, ◌^◌, ◌≡◌, ◌⊎◌, ◌<◌, ◌≤◌, List, [], ◌∷◌, length, replicate, Option, Result, Ok, Err, None, true, false, IsSome, IsTrue, if◌then◌else◌}
+use Rattle.std.specs.Prelude.{ℕ, ◌+◌, ◌-◌, ◌%◌, ◌^◌, ◌≡◌, ◌⊎◌, ◌<◌, ◌≤◌, List, [], ◌∷◌, length, replicate, Option, Result, Ok, Err, None, true, IsSome, IsTrue, if◌then◌else◌}
 use Rattle.image_access.specs.Backing.{BackingView}
 use Rattle.image_access.specs.Moments.{StorageView}
 use Rattle.image_access.specs.declared.storage.PreallocateMode.{PreallocateMode}
@@ -10,7 +10,7 @@ use Rattle.qcow2_disk.specs.AbstractImages.{guest_of}
 use Rattle.qcow2_disk.specs.Calls.{MayGrow, Works, gift_of_grow, shows_old, with_disk, with_slot}
 use Rattle.qcow2_disk.specs.Disk.{Disk, zeroed}
 pub use Rattle.qcow2_disk.specs.GrownCovers.{Touches, FilledCovers, GrownCovers, first_zeros}
-use Rattle.qcow2_disk.specs.Mappings.{committed, gift_of_commit, is_copied_data}
+use Rattle.qcow2_disk.specs.Mappings.{committed, gift_of_commit}
 use Rattle.qcow2_disk.specs.Stops.{GivenBytes}
 use Rattle.qcow2_alloc.specs.ImageError.{IsFault as IsFaultOfTables}
 use Rattle.qcow2_alloc.specs.declared.error.ImageError.{ImageError}
@@ -20,14 +20,10 @@ use Rattle.qcow2_image.specs.declared.preallocation.ZeroWrites.{ZeroWrites}
 use Rattle.qcow2_image.specs.declared.preallocation.ZeroWrites.TheVariants.{Short, Taken, Plain}
 use Rattle.qcow2_image.specs.declared.prepared.Prepared.{Prepared}
 use Rattle.qcow2_image.specs.CallParts.{AreCopied, StaysBeside}
-use Rattle.qcow2_image.specs.Clearing.{IsUnderMapping, cleared_cover, setting_of}
+use Rattle.qcow2_image.specs.Clearing.{IsUnderMapping, setting_of}
 use Rattle.qcow2_image.specs.Image.{size_of}
 use Rattle.qcow2_image.specs.ImageInvariant.{ImageInvariant, abstract_of, disk_of, meaning, pending_in}
 use Rattle.qcow2_image.specs.MovedTables.{CoversStay, MovesTables}
-use Rattle.qcow2_image.specs.declared.discarding.Clearance.TheVariants.{KeptZeros}
-use Rattle.qcow2_metadata.specs.Bytes.{Bytes}
-use Rattle.qcow2_metadata.specs.Cover.{cover}
-use Rattle.image_access.specs.declared.storage.PreallocateMode.TheVariants as Mode
 use Rattle.qcow2_alloc.specs.ImageFile.{known_in}
 
 -- zeros from one offset up to another

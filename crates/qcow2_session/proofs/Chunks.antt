@@ -6,7 +6,7 @@ use mathlib.Core.Path.{fun_ext}
 use Rattle.qcow2_metadata.specs.Bytes.{byte_at, laid_over, is_within}
 use Rattle.qcow2_metadata.specs.Header.{rounded_down}
 use Rattle.qcow2_metadata.specs.Guest.{Value, known_byte}
-use Rattle.qcow2_disk.specs.Disk.{Disk, disk, with_bytes}
+use Rattle.qcow2_disk.specs.Disk.{Disk, with_bytes}
 use Rattle.qcow2_disk.specs.Stops.{GivenBytes, IsGiven}
 use Rattle.qcow2_disk.specs.Mappings.{PreparedMapping, IsPrepared, put_disk, put_mapping, committed, gift_of, gift_of_put, gift_of_commit}
 use Rattle.qcow2_disk.specs.AbstractImages.{Abstraction, HasFreePlaces, Guest, abstract_image, guest_of}

@@ -2,7 +2,7 @@
 use Rattle.std.proofs.Common.{◌≡◌, ◌∷◌, [], inl, inr, refl, sym, ap, ◌∙◌, subst, ℕ, ◌+◌, ◌<◌, ◌≤◌, Bool, true, false, IsTrue, List, Option, Some, None, arith}
 use Rattle.std.specs.Prelude.{Result, Ok, Err, IfSome, OnOk, ◌&&◌, nat_lt, not}
 use Rattle.std.specs.Option.{option_or}
-use Rattle.std.proofs.lemmas.Bool.{cases_lt, cases_Bool, lt-ltb}
+use Rattle.std.proofs.lemmas.Bool.{cases_lt, lt-ltb}
 use Rattle.std.proofs.lemmas.Grind.{common_steps}
 use Rattle.image_access.specs.Backing.{BackingView}
 use Rattle.image_access.specs.Moments.{StorageView}
@@ -21,7 +21,7 @@ use Rattle.qcow2_image.specs.Calls.{Answers}
 use Rattle.qcow2_image.specs.Clearing.{from_in, setting_of, to_in}
 use Rattle.qcow2_image.specs.declared.image.Qcow2.{Qcow2}
 use Rattle.qcow2_image.specs.declared.prepared.Prepared.{Prepared}
-use Rattle.qcow2_image.specs.Image.{is_failed, is_writable, size_of}
+use Rattle.qcow2_image.specs.Image.{is_writable, size_of}
 use Rattle.qcow2_image.specs.ImageInvariant.{ImageInvariant, abstract_of, disk_of, pending_in}
 use Rattle.qcow2_image.specs.Refusals.{passes, refuse_if, unusable}
 use Rattle.qcow2_image.proofs.HiddenBytes.{header_is}

@@ -1,5 +1,5 @@
 -- A disk of another size is one step of a run.
-use Rattle.std.proofs.Common.{◌≡◌, ◌⊎◌, ◌∷◌, [], inl, inr, refl, sym, ap, ◌∙◌, subst, ℕ, ◌+◌, ◌-◌, ◌<◌, ◌≤◌, cond, Bool, true, false, List, Option, Some, None, arith}
+use Rattle.std.proofs.Common.{◌≡◌, ◌⊎◌, ◌∷◌, [], inl, inr, refl, sym, ap, subst, ℕ, ◌-◌, ◌<◌, ◌≤◌, cond, Bool, true, false, List, Option, Some, None, arith}
 use Rattle.std.specs.Prelude.{Result, Ok, Err, IfSome, ◌==◌, not}
 use Rattle.std.specs.Option.{option_or}
 use Rattle.std.proofs.lemmas.Bool.{cases_lt, cases_eq, cond-true, cond-false, eq-eqb, ne_eqb}
@@ -11,7 +11,7 @@ use Rattle.qcow2_metadata.specs.Bytes.{byte_at}
 use Rattle.qcow2_metadata.specs.declared.header.HeaderFields.{HeaderFields}
 use Rattle.qcow2_metadata.specs.Guest.{Value}
 use Rattle.qcow2_metadata.specs.Header.{header, cluster_size, rounded_up}
-use Rattle.qcow2_disk.specs.AbstractImages.{AbstractImage, Guest, Setting, guest_of}
+use Rattle.qcow2_disk.specs.AbstractImages.{AbstractImage, Setting, guest_of}
 use Rattle.qcow2_disk.specs.Calls.{IsFault, IsShrinkEnd, IsShrunk, gift_of_shrink, gift_of_shrunk}
 use Rattle.qcow2_disk.specs.Disk.{Disk}
 use Rattle.qcow2_disk.specs.GrownCovers.{GrownCovers, IsRightlyGrown}
@@ -26,7 +26,7 @@ use Rattle.qcow2_image.specs.declared.image.Qcow2.{Qcow2}
 use Rattle.qcow2_image.specs.declared.prepared.Prepared.{Prepared}
 use Rattle.qcow2_image.specs.Image.{is_external, is_failed, is_writable, size_of}
 use Rattle.qcow2_image.specs.ImageInvariant.{ImageInvariant, abstract_of, pending_in}
-use Rattle.qcow2_image.specs.Refusals.{refuse_if, unusable}
+use Rattle.qcow2_image.specs.Refusals.{refuse_if}
 use Rattle.qcow2_image.specs.Resizing.{GrowsTo, Shrinks, WritesSizeLast, refuses_to_resize}
 use Rattle.qcow2_image.proofs.Clear.Touched.{rounded_from}
 use Rattle.qcow2_image.proofs.HiddenBytes.{header_is}

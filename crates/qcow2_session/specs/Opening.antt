@@ -1,5 +1,5 @@
 -- The headline, of an image that is opened from the bytes of a storage.
-use Rattle.std.specs.Prelude.{ℕ, ◌≡◌, ◌⊎◌, List, [], map, Vec, Result, Ok, Err}
+use Rattle.std.specs.Prelude.{◌≡◌, ◌⊎◌, List, [], map, Vec, Result, Ok, Err}
 use Rattle.std.specs.Global.{Global}
 use Rattle.image_access.specs.Backing.{BackingView}
 use Rattle.image_access.specs.Moments.{StorageView, ContentsStay}

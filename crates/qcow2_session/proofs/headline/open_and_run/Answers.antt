@@ -1,8 +1,7 @@
-use Rattle.std.proofs.Common.{◌≡◌, ◌∙◌, ⊎_elim, inl, inr, false, true, refl, sym, ap, subst, Option, Some, None, is_some, [], map}
+use Rattle.std.proofs.Common.{◌≡◌, ◌∙◌, ⊎_elim, inl, inr, false, refl, sym, ap, subst, Option, Some, None, is_some, map}
 use Rattle.qcow2_metadata.specs.Bytes.{byte_at}
-use Rattle.qcow2_metadata.specs.Header.{header, cluster_size}
-use Rattle.qcow2_disk.specs.AbstractImages.{Setting}
-use Rattle.qcow2_disk.specs.Headline.{nothing_below, setting_in, IsHeadline}
+use Rattle.qcow2_metadata.specs.Header.{cluster_size}
+use Rattle.qcow2_disk.specs.Headline.{setting_in}
 use Rattle.qcow2_disk.specs.Runs.{RefinesDisk}
 use Rattle.qcow2_disk.proofs.Headline.{from_bytes}
 use Rattle.qcow2_image.specs.ImageInvariant.{backing_bytes, image_abstraction}

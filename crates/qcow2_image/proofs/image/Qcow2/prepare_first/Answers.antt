@@ -1,4 +1,4 @@
-use Rattle.std.proofs.Common.{◌≡◌, rules, refl, ◌/◌, sym, ap, ◌∙◌, subst, List, length}
+use Rattle.std.proofs.Common.{rules, refl, ◌/◌, sym, ap, ◌∙◌, subst, List, length}
 use Rattle.qcow2_metadata.specs.Cover.{cover}
 use Rattle.std.specs.Prelude.{vec_capacity}
 use Rattle.qcow2_image.specs.declared.prepared.Share.{Share}
