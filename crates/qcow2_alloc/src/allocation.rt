@@ -22,10 +22,7 @@ use crate::{
     ClusterKind, ClustersToFreeEntry, ClustersToFreeList, ImageError, ImageFile, PendingClusters,
 };
 use image_access::Storage;
-use qcow2_metadata::{ClusterCount, HostCluster, RefTable};
-
-/// The greatest offset of a host cluster.
-pub const MAX_HOST_OFFSET: u64 = 0x00ff_ffff_ffff_fe00;
+use qcow2_metadata::{ClusterCount, HostCluster, MAX_HOST_OFFSET, RefTable};
 
 /// Takes clusters. No cluster below the first free one has count 0.
 #[derive(Drop)]

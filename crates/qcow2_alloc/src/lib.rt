@@ -16,7 +16,7 @@ mod reftable_growth;
 mod reftable_length;
 mod reftable_naming;
 
-pub use allocation::{Allocator, MAX_HOST_OFFSET};
+pub use allocation::Allocator;
 pub use cache::{Direction, L2CacheBackend, MetadataCaches, RefBlockCacheBackend};
 pub use clusters_to_free::{
     ClusterKind, ClustersToFreeEntry, ClustersToFreeList, PendingClusters, TakenClusters,

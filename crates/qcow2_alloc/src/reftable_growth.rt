@@ -18,13 +18,12 @@ ghost use Rattle.qcow2_alloc.specs.Limits.{IsFaultOr, HasNoRoomFor, LiesLowest, 
 ghost use Rattle.qcow2_alloc.specs.LowestRuns.{NoFreeBelowHint, KeepsUsed};
 ghost use Rattle.qcow2_alloc.specs.MetadataCaches.{order_of};
 
-use crate::reftable_length::{MAX_ENTRIES, grown_length};
+use crate::reftable_length::grown_length;
 use crate::{
-    Allocator, ClustersToFreeEntry, ClustersToFreeList, ImageError, ImageFile, MAX_HOST_OFFSET,
-    PendingClusters,
+    Allocator, ClustersToFreeEntry, ClustersToFreeList, ImageError, ImageFile, PendingClusters,
 };
 use image_access::Storage;
-use qcow2_metadata::{Header, RefTable};
+use qcow2_metadata::{Header, MAX_HOST_OFFSET, MAX_REFTABLE_ENTRIES, RefTable};
 use std::alloc::Global;
 
 #[tactic(auto, using(crate::proofs::TableErrors::metadata_of_tables))]
@@ -79,7 +78,7 @@ impl Allocator {
         ensures limit { IfErr result (IsFaultOr ((entries : ℕ) → entries ≤ 2 ^ 20 → IsLongEnough (entry_count self.now.reftable) index (entries_per_cluster header.now.fields) (counts_per_block header.now.fields) entries → ⊥)) }
     {
         let index = index as u64;
-        if index > MAX_ENTRIES {
+        if index > MAX_REFTABLE_ENTRIES as u64 {
             return Err(ImageError::Limit);
         }
         let old = self.reftable.len() as u64;

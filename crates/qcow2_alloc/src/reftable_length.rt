@@ -2,8 +2,7 @@
 ghost use Rattle.std.specs.Prelude.{ℕ, ◌+◌, ◌-◌, ◌*◌, ◌^◌, ◌<◌, ◌≤◌, ◌↔◌, IsTrue, IfSome, IfNone};
 ghost use Rattle.qcow2_alloc.specs.Growing.{IsLongEnough, IsLeastLength};
 
-/// The greatest number of entries of a reftable.
-pub(crate) const MAX_ENTRIES: u64 = 1_048_576;
+use qcow2_metadata::MAX_REFTABLE_ENTRIES;
 
 // The least length that is long enough for an index, up to the greatest one.
 pub(crate) fn grown_length(old: u64, index: u64, per_cluster: u64, per_block: u64) -> Option<u64>
@@ -15,7 +14,8 @@ pub(crate) fn grown_length(old: u64, index: u64, per_cluster: u64, per_block: u6
     ensures small { IfSome result (λ length. length ≤ 2 ^ 20) }
     ensures none { IfNone result ((length : ℕ) → length ≤ 2 ^ 20 → IsLongEnough old index per_cluster per_block length → ⊥) }
 {
-    'lengths: for clusters in index / per_cluster + 1..MAX_ENTRIES / per_cluster + 1 {
+    let most = MAX_REFTABLE_ENTRIES as u64;
+    'lengths: for clusters in index / per_cluster + 1..most / per_cluster + 1 {
         let length = clusters * per_cluster;
         if has_room(old, index, clusters, length, per_block) {
             return Some(length);

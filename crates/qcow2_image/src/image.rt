@@ -5,12 +5,10 @@ use image_access::{BackingDisk, Format, Storage, WrappedFormat};
 use qcow2_alloc::{
     Allocator, ClustersToFreeList, ImageError, ImageFile, ImageStorage, MetadataCaches, WriteKind,
 };
-use qcow2_metadata::{Header, HostCluster, L1Table};
+use qcow2_metadata::{Header, HostCluster, L1Table, MAGIC};
 use std::alloc::Global;
 
 /// The first four bytes of every image.
-const MAGIC: u32 = 0x5146_49fb;
-
 /// How many L2 tables are cached.
 const L2_TABLES: usize = 128;
 

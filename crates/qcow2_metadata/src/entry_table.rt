@@ -11,13 +11,10 @@ ghost use Rattle.qcow2_metadata.specs.TableBytes.{entry_at as entry_of, ChangesE
 ghost use Rattle.qcow2_metadata.specs.EntryTable.{entry_count, HasRoom, IsEntryTable, EachReads, SomeUnread, IsClear, PassesLimit, IsOfLengthOrMemory, IsReasonNotToLoad};
 
 use crate::table_bytes::{entry_at, load, put, set_entry, zeros};
-use crate::{ClusterCount, HostCluster, MetadataError};
+use crate::{ClusterCount, HostCluster, MAX_HOST_OFFSET, MetadataError};
 use image_access::{Storage, StorageError};
 use std::alloc::Global;
 use std::marker::Model;
-
-/// The greatest offset of a cluster that an entry names.
-const GREATEST_OFFSET: u64 = 0x00ff_ffff_ffff_fe00;
 
 impl HostCluster {
     /// Whether an entry can name it.
@@ -26,7 +23,7 @@ impl HostCluster {
         ensures { IsTrue result ↔ IsHostCluster cluster_bits self }
     {
         match self.checked_offset(cluster_bits) {
-            Some(offset) => offset.value() <= GREATEST_OFFSET,
+            Some(offset) => offset.value() <= MAX_HOST_OFFSET,
             None => false,
         }
     }

@@ -7,7 +7,7 @@ mod extensions;
 mod load;
 mod write;
 
-use crate::{HostOffset, MetadataError};
+use crate::{HostOffset, MAX_L1_ENTRIES, MAX_REFTABLE_ENTRIES, MetadataError};
 pub(crate) use load::{cluster_bytes, read_first_cluster, require_readable};
 use std::marker::Model;
 
@@ -62,10 +62,6 @@ impl Model for Header {
 
 /// The incompatible bit of an external data file.
 const DATA_FILE_BIT: u64 = 1 << 2;
-
-const MAX_L1_ENTRIES: u32 = 4_194_304;
-
-const MAX_REFTABLE_ENTRIES: u64 = 1_048_576;
 
 impl Header {
     /// All numbers of the header.
@@ -309,7 +305,7 @@ impl Header {
         ensures err { IfErr result (λ e. (e ≡ MetadataError.Limit) × (4194304 < entries)) }
         ensures same { OnErr result (self.new ≡ self.old) }
     {
-        if entries > MAX_L1_ENTRIES {
+        if entries as usize > MAX_L1_ENTRIES {
             return Err(MetadataError::Limit);
         }
         self.fields = HeaderFields {
@@ -326,7 +322,7 @@ impl Header {
         ensures err { IfErr result (λ e. (e ≡ MetadataError.Limit) × (1048576 < clusters * entries_per_cluster self.old.fields)) }
         ensures same { OnErr result (self.new ≡ self.old) }
     {
-        if u64::from(clusters) * (self.cluster_size() / 8) > MAX_REFTABLE_ENTRIES {
+        if u64::from(clusters) * (self.cluster_size() / 8) > MAX_REFTABLE_ENTRIES as u64 {
             return Err(MetadataError::Limit);
         }
         self.fields = HeaderFields {

@@ -15,12 +15,10 @@ ghost use Rattle.qcow2_metadata.specs.EntryTable.{entry_table, entry_count, IsL1
 
 use crate::entry_table::EntryTable;
 use crate::l2_mapping::{COPIED, host_offset, is_copied};
-use crate::{ClusterCount, Header, HostCluster, HostOffset, MetadataError};
+use crate::{ClusterCount, Header, HostCluster, HostOffset, MAX_L1_ENTRIES, MetadataError};
 use image_access::{Storage, StorageError};
 use std::alloc::Global;
 use std::marker::Model;
-
-const MAX_ENTRIES: usize = 4_194_304;
 
 /// Bits 0 to 8 and 56 to 62, which have no meaning.
 pub(crate) const RESERVED: u64 = 0x7f00_0000_0000_01ff;
@@ -75,7 +73,7 @@ impl L1Table {
         ensures limit { 4194304 < entries → result ≡ Err MetadataError.Limit }
         ensures err { IfErr result (IsOfLengthOrMemory (4194304 < entries)) }
     {
-        let table = EntryTable::new_cleared(alloc, header.cluster_bits(), entries, MAX_ENTRIES)?;
+        let table = EntryTable::new_cleared(alloc, header.cluster_bits(), entries, MAX_L1_ENTRIES)?;
         Ok(L1Table { table })
     }
 
@@ -108,7 +106,7 @@ impl L1Table {
             bits,
             cluster,
             entries,
-            MAX_ENTRIES,
+            MAX_L1_ENTRIES,
             RESERVED,
         )?;
         Ok(L1Table { table })
@@ -208,7 +206,7 @@ impl L1Table {
         ensures limit { 4194304 < entries → result ≡ Err MetadataError.Limit }
         ensures err { IfErr result (IsOfLengthOrMemory (4194304 < entries)) }
     {
-        let table = self.table.clone_and_grow(alloc, entries, MAX_ENTRIES)?;
+        let table = self.table.clone_and_grow(alloc, entries, MAX_L1_ENTRIES)?;
         Ok(L1Table { table })
     }
 

@@ -6,7 +6,7 @@ ghost use Rattle.qcow2_metadata.specs.Header.{HeaderFields};
 ghost use Rattle.qcow2_metadata.specs.Named.{named_by_cover};
 ghost use Rattle.qcow2_metadata.specs.L2Mapping.{greatest_offset, IsInReach, HasAlignedHost, host_of, is_marked, named_run, run_has, dropped_run};
 
-use crate::{ClusterCount, HostCluster, HostOffset};
+use crate::{ClusterCount, HostCluster, HostOffset, MAX_HOST_OFFSET};
 
 /// What an L2 table says of a guest cluster. Host offsets are those of bytes in the file.
 #[derive(Clone, Copy, Debug, PartialEq, Eq)]
@@ -27,14 +27,12 @@ pub(crate) const COPIED: u64 = 1 << 63;
 
 pub(crate) const ZERO: u64 = 1;
 
-const HOST_OFFSET: u64 = 0x00ff_ffff_ffff_fe00;
-
 /// The bits of an L1 or L2 entry that are a host offset.
 pub fn host_offset(entry: u64) -> u64
     ensures value { result ≡ host_offset_of entry }
     ensures reach { result ≤ greatest_offset }
 {
-    entry & HOST_OFFSET
+    entry & MAX_HOST_OFFSET
 }
 
 /// Whether an L1 or L2 entry is marked copied.

@@ -13,12 +13,12 @@ ghost use Rattle.qcow2_metadata.specs.TableBytes.{entry_at, ChangesEntry};
 ghost use Rattle.qcow2_metadata.specs.EntryTable.{entry_table, entry_count, IsRefTable, IsRefTableOf, IsRefTableBut, NamesRefTable, SomeUnread, PassesLimit, IsOfLengthOrMemory, IsReasonNotToLoad};
 
 use crate::entry_table::EntryTable;
-use crate::{ClusterCount, Header, HostCluster, HostOffset, MetadataError};
+use crate::{
+    ClusterCount, Header, HostCluster, HostOffset, MAX_REFTABLE_ENTRIES, MetadataError,
+};
 use image_access::{Storage, StorageError};
 use std::alloc::Global;
 use std::marker::Model;
-
-const MAX_ENTRIES: usize = 1_048_576;
 
 /// Bits 0 to 8, which have no meaning.
 pub(crate) const RESERVED: u64 = 0x1ff;
@@ -60,7 +60,7 @@ impl RefTable {
         ensures limit { 1048576 < entries → result ≡ Err MetadataError.Limit }
         ensures err { IfErr result (IsOfLengthOrMemory (1048576 < entries)) }
     {
-        let table = EntryTable::new_cleared(alloc, header.cluster_bits(), entries, MAX_ENTRIES)?;
+        let table = EntryTable::new_cleared(alloc, header.cluster_bits(), entries, MAX_REFTABLE_ENTRIES)?;
         Ok(RefTable { table })
     }
 
@@ -93,7 +93,7 @@ impl RefTable {
             bits,
             cluster,
             entries,
-            MAX_ENTRIES,
+            MAX_REFTABLE_ENTRIES,
             RESERVED,
         )?;
         Ok(RefTable { table })
@@ -187,7 +187,7 @@ impl RefTable {
         ensures limit { 1048576 < entries → result ≡ Err MetadataError.Limit }
         ensures err { IfErr result (IsOfLengthOrMemory (1048576 < entries)) }
     {
-        let table = self.table.clone_and_grow(alloc, entries, MAX_ENTRIES)?;
+        let table = self.table.clone_and_grow(alloc, entries, MAX_REFTABLE_ENTRIES)?;
         Ok(RefTable { table })
     }
 

@@ -5,8 +5,9 @@ ghost use Rattle.std.specs.String.{string_bytes};
 ghost use Rattle.qcow2_metadata.specs.Header.{IsShort};
 ghost use Rattle.qcow2_metadata.specs.HeaderWrite.{extension_size as extension_size_of, name_place as name_place_of, CanBeNew, HasNewNames, new_fields as new_fields_of, new_header};
 
-use super::load::{HEADER_LENGTH, MAGIC, cluster_bytes};
+use super::load::{HEADER_LENGTH, cluster_bytes};
 use super::{DATA_FILE_BIT, Header, HeaderFields};
+use crate::MAGIC;
 
 fn length_of(name: Option<&str>) -> usize
     ensures { result ≡ length (unwrap_or (option_copied name.entry) []) }

@@ -10,13 +10,11 @@ ghost use Rattle.image_access.specs.Contents.{bytes_at};
 ghost use Rattle.image_access.specs.declared.error.StorageError.{StorageError};
 
 use super::extensions::{read_extensions, text};
-use super::{DATA_FILE_BIT, Header, MAX_L1_ENTRIES, MAX_REFTABLE_ENTRIES};
+use super::{DATA_FILE_BIT, Header};
 use crate::big_endian::{read_u32, read_u64};
-use crate::{HeaderFields, MetadataError};
+use crate::{HeaderFields, MAGIC, MAX_L1_ENTRIES, MAX_REFTABLE_ENTRIES, MetadataError};
 use image_access::{Storage, StorageError};
 use std::alloc::{AllocError, Global};
-
-pub(super) const MAGIC: u32 = 0x5146_49fb;
 
 /// The bytes of the header of version 2.
 const OLD_HEADER_LENGTH: u32 = 72;
@@ -128,8 +126,8 @@ fn is_within_limits(fields: &HeaderFields) -> bool
     ensures { IsTrue result ↔ IsWithinLimits fields.now }
 {
     let entries = cluster_bytes(fields.cluster_bits) / 8;
-    fields.l1_entries <= MAX_L1_ENTRIES
-        && u64::from(fields.reftable_clusters) * entries <= MAX_REFTABLE_ENTRIES
+    fields.l1_entries as usize <= MAX_L1_ENTRIES
+        && u64::from(fields.reftable_clusters) * entries <= MAX_REFTABLE_ENTRIES as u64
 }
 
 fn has_aligned_tables(fields: &HeaderFields, writable: bool) -> bool
