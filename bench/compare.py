@@ -4,7 +4,7 @@
 qemu-io runs with the cache mode `unsafe`: a flush hands the tables to the operating system, as qimg's does,
 and doesn't wait for the device. Then qimg alone on a small image and on a large one, with the same amount of work: its peak memory
 is to stay the same. Then ranges that are zeroed and discarded beside qemu-io, raw disks made into images and back beside qemu-img convert, and qimg check beside qemu-img check.
-Each figure is the median of three runs, each on a new image, and of five from ranges on, both programs in turn. The words `scripts`, `clear`, `convert` or `check` do those parts alone."""
+Then new images that take their place, beside qemu-img create. Each figure is the median of three runs, each on a new image, and of five from ranges on, both programs in turn. The words `scripts`, `clear`, `convert`, `check` or `create` do those parts alone."""
 
 import os
 import random
@@ -197,6 +197,15 @@ def checks():
         beside(f"check: 1 GiB of data, clusters of {cluster}", ([QIMG, "check", "disk"],), (["qemu-img", "check", "-f", "qcow2", "disk"],), "qemu-img check")
 
 
+def creates():
+    """A new image of 1 GiB has the place of its clusters."""
+    for cluster in (65536, 4096):
+        for mode, way in (("zero", "off"), ("format", "metadata"), ("full", "falloc"), ("write", "full")):
+            own = ([QIMG, "create", "disk", str(LARGE), str(cluster), "16", mode], "disk")
+            other = (["qemu-img", "create", "-q", "-f", "qcow2", "-o", f"cluster_size={cluster},preallocation={way}", "by_qemu", str(LARGE)], "by_qemu")
+            beside(f"create: 1 GiB, {mode} beside preallocation={way}, clusters of {cluster}", own, other, "qemu-img create")
+
+
 def in_a_room(part):
     """Does a part in a new folder, which is gone in the end."""
     here, room = os.getcwd(), tempfile.mkdtemp(prefix="qimg-bench-")
@@ -212,9 +221,9 @@ def main():
     if not os.access("/usr/bin/time", os.X_OK):
         print("/usr/bin/time is missing: install the package time")
         return 1
-    parts = sys.argv[1:] or ["scripts", "clear", "convert", "check"]
+    parts = sys.argv[1:] or ["scripts", "clear", "convert", "check", "create"]
     failed = "scripts" in parts and scripts()
-    for word, part in (("clear", clears), ("convert", conversions), ("check", checks)):
+    for word, part in (("clear", clears), ("convert", conversions), ("check", checks), ("create", creates)):
         if word in parts:
             in_a_room(part)
     return 1 if failed else 0

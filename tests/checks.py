@@ -130,8 +130,8 @@ def qimg(*words, given=b"", **how):
     return status, text
 
 
-def create(file, size, cluster, width=16):
-    equal(qimg("create", file, str(size), str(cluster), str(width), "none"), (0, "created\n"), "create")
+def create(file, size, cluster, width=16, mode="none"):
+    equal(qimg("create", file, str(size), str(cluster), str(width), mode), (0, "created\n"), "create")
 
 
 def run(file, *lines, status=0):

@@ -1,24 +1,16 @@
 #!/usr/bin/env -S python3 -B
 """System calls of the program and growths of its memory fail in turn: what it prints then, and its status. A call is made to fail by strace, a growth by a library that is loaded before."""
 
-import os
 import resource
 import subprocess
 
 import checks
 from checks import Checks, create, equal
+from failing import failing, has_failed, refuser, refusing
 
 STORAGE = "refused 15 storage\n"
 FAILED = "refused 16 failed\n"
 MEMORY = "refused 14 memory\n"
-
-
-def failing(file, call, number, words, error="EIO", **how):
-    """The status and the output of the program where its call of that number on a file fails."""
-    strace = ["strace", "-f", "-qq", "-o", "calls", "-P", file, "-e", f"trace={call}", "-e", f"inject={call}:error={error}:when={number}"]
-    with checks.kept(file):
-        done = subprocess.run([*strace, checks.QIMG, *words], stdout=subprocess.PIPE, stderr=subprocess.DEVNULL, timeout=600, **how)
-    return done.returncode, done.stdout.decode()
 
 
 def each(call, words, given=b""):
@@ -26,9 +18,8 @@ def each(call, words, given=b""):
     told = []
     for number in range(1, 60):
         told.append(failing("disk", call, number, words, input=given))
-        with open("calls") as calls:
-            if "INJECTED" not in calls.read():
-                return told
+        if not has_failed():
+            return told
     raise AssertionError(f"more than {len(told)} calls of {call}")
 
 
@@ -142,21 +133,12 @@ def each_call_of_mixed_ranges(call):
     raise AssertionError(f"more than 60 calls of {call}")
 
 
-def refusing(library, growth, words, given):
-    """The status and the output of the program where its growth of memory of that number is refused, and whether it came to it."""
-    if os.path.isfile("refused"):
-        os.remove("refused")
-    done = subprocess.run([checks.QIMG, *words], input=given, stdout=subprocess.PIPE, stderr=subprocess.DEVNULL, env={"LD_PRELOAD": library, "REFUSED_GROWTH": str(growth)}, timeout=600)
-    return done.returncode, done.stdout.decode(), os.path.isfile("refused")
-
-
 NEEDS_NO_MEMORY = ("put", "commit", "drop")
 
 
 def each_growth_of_mixed_ranges():
     """Writing what is prepared, committing and dropping it takes no memory. An image that isn't marked as failed keeps each surplus."""
-    library = os.path.abspath("refused_memory.so")
-    subprocess.run(["cc", "-shared", "-fPIC", "-o", library, f"{checks.ROOT}/tests/refused_memory.c"], check=True)
+    library = refuser()
     given = "".join(f"{line}\n" for line, _ in MIXED).encode()
     met = set()
     for growth in range(1, 2000):

@@ -1,5 +1,5 @@
 #!/usr/bin/env -S python3 -B
-"""Growing and shrinking on real files: what is answered, seen and written, what a stop leaves, and what is refused. Then beside QEMU's tools: each one reads what the other one grew or shrank."""
+"""Growing and shrinking on real files: what is answered, seen and written, what a stop leaves, and what is refused. Each of the system's calls and each growth of memory fails in turn. Then beside QEMU's tools: each one reads what the other one grew or shrank."""
 
 import json
 import os
@@ -13,6 +13,7 @@ sys.path.insert(0, os.path.join(os.path.dirname(os.path.abspath(__file__)), "int
 from qemu import Disk, qemu_io, read_disk, same_disk, seen_by_qemu, tool, write_lines  # noqa: E402
 import checks  # noqa: E402
 from checks import Checks, answers, consistent, contents, create, equal, number_at, put, qimg, run  # noqa: E402
+from failing import failing, has_failed, refuser, refusing  # noqa: E402
 from writes import is_consistent, numbers_at  # noqa: E402
 
 MODES = ["none", "zero", "format", "full", "write"]
@@ -30,11 +31,16 @@ def rows(lines, status=0, size=65536):
 # The changes of a file
 
 def changed(lines):
-    """Runs lines on an image, and answers what was printed and each change of its file: where, and the bytes, or None where the file was set to that length."""
+    """Runs lines on an image, and answers what was printed and each change of its file."""
     with checks.kept("disk"):
-        done = subprocess.run(
-            ["strace", "-f", "-qq", "-xx", "-s", "4194304", "-e", "trace=pwrite64,ftruncate,fallocate", "-o", "calls", checks.QIMG, "run", "disk"],
-            input="".join(f"{line}\n" for line in lines).encode(), stdout=subprocess.PIPE, stderr=subprocess.DEVNULL, timeout=600)
+        return changes_by("run", "disk", given="".join(f"{line}\n" for line in lines))
+
+
+def changes_by(*words, given=""):
+    """Runs the program, and answers what was printed and each change of a file: where, and the bytes, or None where the file was set to that length."""
+    done = subprocess.run(
+        ["strace", "-f", "-qq", "-xx", "-s", "4194304", "-e", "trace=pwrite64,ftruncate,fallocate", "-o", "calls", checks.QIMG, *words],
+        input=given.encode(), stdout=subprocess.PIPE, stderr=subprocess.DEVNULL, timeout=600)
     made = []
     with open("calls") as calls:
         for line in calls:
@@ -346,6 +352,113 @@ def a_file_has_no_room(mode):
     raise AssertionError("it was never done")
 
 
+# One of the system's calls fails, or one growth of memory
+
+CALLS = ["pread64", "pwrite64", "ftruncate", "lseek"]
+STORAGE, MEMORY, FAILED = "refused 15 storage", "refused 14 memory", "refused 16 failed"
+
+
+class Resize:
+    """A resize of an image with data, behind which lines come that change nothing, whichever size the disk has then."""
+
+    def __init__(self, old, size, line, answer, hole=range(0)):
+        self.old, self.size, self.answer = old, size, answer
+        create("disk", old, 512, 64)
+        run("disk", *[f"fill {at} {min(512, old - at)} {at // 512 % 255 + 1:02x}" for at in range(0, old, 1536) if at not in hole], "flush")
+        self.first = run("disk", "map 0 1")[0]
+        self.before, self.bytes, self.surplus = contents("disk"), read_disk("disk", old), consistent("disk").surplus
+        self.given = "".join(f"{it}\n" for it in [line, *(it for it, _ in self.later(old))]).encode()
+
+    def later(self, now):
+        return [("size", f"size {now}"), ("read 0 1", "data 01"), ("map 0 1", self.first), ("fill 0 1 01", "ok"), (f"grow {min(self.old, self.size)} none", "ok"), (f"shrink {max(self.old, self.size)}", f"shrunk {now}"), ("flush", "ok")]
+
+    def begin(self):
+        with open("disk", "wb") as it:
+            it.write(self.before)
+
+    def leaves(self, now, what):
+        """The file is consistent and has this size, and the bytes below both sizes that it had. Behind the smaller one each cluster is as it was, or zeros."""
+        is_consistent("disk", what)
+        equal(run("disk", "size"), [f"size {now}"], f"the size {what}")
+        kept = min(self.old, self.size)
+        found = read_disk("disk", now)
+        equal(found[:kept] == self.bytes[:kept], True, f"the bytes {what}")
+        for at in [kept, *range(-(-kept // 512) * 512, now, 512)]:
+            piece = found[at:at + 512 - at % 512]
+            if piece not in (self.bytes[at:at + len(piece)], bytes(len(piece))):
+                raise AssertionError(f"the cluster at {at} {what}")
+
+    def failed(self, status, output, refusal, what):
+        """What is answered and left where something failed. Answers in what: in opening, in the resize, or in a later line."""
+        said = output.splitlines()
+        equal(status, 1, f"the status {what}")
+        if said == [refusal]:
+            equal(contents("disk") == self.before, True, f"the file {what}")
+            return "opening"
+        is_done = said[0] == self.answer
+        now = self.size if is_done else self.old
+        wanted = [self.answer, *(answer for _, answer in self.later(now))]
+        at = next((at for at, want in enumerate(wanted) if said[at] != want), len(wanted))
+        equal(said[at], refusal, f"the first refusal {what}")
+        is_marked = refusal == STORAGE or FAILED in said
+        rest = wanted[at + 1:]
+        if is_marked and at < len(wanted):
+            rest = [*(it if it.startswith("size") else FAILED for it in rest), FAILED]
+        equal(said[at + 1:], rest, f"the later answers {what}")
+        self.leaves(now, what)
+        if not is_marked and not is_done:
+            equal(consistent("disk").surplus, self.surplus, f"the surpluses {what}")
+        return "later" if is_done else "resize"
+
+    def is_done(self, status, output):
+        return (status, output.splitlines()) == (0, [self.answer, *(answer for _, answer in self.later(self.size))])
+
+
+def a_grow(mode):
+    return Resize(16 * 512 - 100, 150 * 512 - 300, f"grow {150 * 512 - 300} {mode}", "ok")
+
+
+def a_shrink():
+    """One L2 table is missing: it is made on the way."""
+    return Resize(150 * 512 - 300, 21 * 512 + 100, f"shrink {21 * 512 + 100}", f"shrunk {150 * 512 - 300}", range(32768, 65536))
+
+
+def each_call_fails(made, *words):
+    """Each of the system's calls fails in turn: then the image is marked as failed, and the file has the old size; once the resize was answered, the new one."""
+    resize = made(*words)
+    met = []
+    for call in CALLS:
+        for number in range(1, 2000):
+            resize.begin()
+            status, output = failing("disk", call, number, ["run", "disk"], input=resize.given)
+            if not has_failed():
+                equal(resize.is_done(status, output), True, f"without a failure: {output}")
+                break
+            met.append(resize.failed(status, output, STORAGE, f"after {call} {number}"))
+        else:
+            raise AssertionError(f"more calls of {call}")
+    equal(met.count("resize") > 3, True, f"how many calls failed in the resize: {met.count('resize')}")
+
+
+def each_growth_fails(made, *words):
+    """Each growth of memory is refused in turn. Where nothing changed before, the image isn't marked, and keeps each surplus."""
+    library = refuser()
+    resize = made(*words)
+    met = []
+    for growth in range(1, 5000):
+        resize.begin()
+        status, output, came = refusing(library, growth, ["run", "disk"], resize.given)
+        if resize.is_done(status, output):
+            # A call may do with less.
+            if came:
+                continue
+            equal("resize" in met, True, "whether one was refused in the resize")
+            return
+        equal(came, True, f"whether growth {growth} was refused")
+        met.append(resize.failed(status, output, MEMORY, f"after growth {growth}"))
+    raise AssertionError("more growths")
+
+
 # Beside QEMU
 
 # The size of a cluster, the version, and the bits of a count.
@@ -486,6 +599,10 @@ def main():
         every.run(f"stops of a shrink: cluster {cluster}, width {width}", stops_of_a_shrink, cluster, width)
     for mode in MODES:
         every.run(f"a file has no room: {mode}", a_file_has_no_room, mode)
+        every.run(f"each call of a grow fails: {mode}", each_call_fails, a_grow, mode)
+        every.run(f"each growth of a grow fails: {mode}", each_growth_fails, a_grow, mode)
+    every.run("each call of a shrink fails", each_call_fails, a_shrink)
+    every.run("each growth of a shrink fails", each_growth_fails, a_shrink)
     for cluster, version, width in FORMS:
         every.run(f"of QEMU, resized by qimg: cluster {cluster}, version {version}, width {width}", of_qemu_resized_by_qimg, cluster, version, width)
     for cluster in (512, 4096, 65536):

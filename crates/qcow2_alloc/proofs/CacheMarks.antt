@@ -26,21 +26,25 @@ module _ {S : Type 0} where
   pub marks_then : (a b c : MetadataCaches S) → KeepsMarks a b → KeepsMarks b c → KeepsMarks a c
   marks_then a b c first then = record { pins = λ k. then.pins k ∙ first.pins k; room = λ r. then.room (first.room r); changed = λ is. then.changed (first.changed is) }
 
-  pub marks_tables : (c : MetadataCaches S) (l2 : Cache (L2CacheBackend S) ℕ L2TableView) → KeepsPins eqb c.l2.entries l2.entries → KeepsMarks c (record c { l2 = l2 })
-  marks_tables c l2 keeps = record { pins = keeps.pins; room = λ r. record { some = r.some; free = r.free }; changed = λ is. is }
+  pub marks_tables : (c : MetadataCaches S) (l2 : Cache (L2CacheBackend S) ℕ L2TableView) → l2 ≡ with_entries c.l2 l2.entries → KeepsPins eqb c.l2.entries l2.entries → KeepsMarks c (record c { l2 = l2 })
+  marks_tables c l2 others keeps = record {
+    pins = keeps.pins;
+    room = λ r. record { tables = subst (λ n. 0 < n) (sym (ap (λ (x : Cache (L2CacheBackend S) ℕ L2TableView). x.size) others)) r.tables; some = r.some; free = r.free };
+    changed = λ is. is;
+  }
 
   pub marks_blocks : (c : MetadataCaches S) (rb : Cache (RefBlockCacheBackend S) ℕ RefBlockView) → rb ≡ with_entries c.rb rb.entries → KeepsPins eqb c.rb.entries rb.entries → KeepsMarks c (record c { rb = rb })
   marks_blocks c rb others keeps = record {
     pins = λ _. refl;
-    room = λ r. record { some = subst (λ n. 0 < n) (sym (ap (λ (x : Cache (RefBlockCacheBackend S) ℕ RefBlockView). x.size) others)) r.some; free = keeps.free r.free };
+    room = λ r. record { tables = r.tables; some = subst (λ n. 0 < n) (sym (ap (λ (x : Cache (RefBlockCacheBackend S) ℕ RefBlockView). x.size) others)) r.some; free = keeps.free r.free };
     changed = λ is. is;
   }
 
   pub marks_turned : (a b : MetadataCaches S) (d : _) → KeepsMarks a b → KeepsMarks a (record b { direction = d })
-  marks_turned a b d keeps = record { pins = keeps.pins; room = λ r. let s = keeps.room r in record { some = s.some; free = s.free }; changed = keeps.changed }
+  marks_turned a b d keeps = record { pins = keeps.pins; room = λ r. let s = keeps.room r in record { tables = s.tables; some = s.some; free = s.free }; changed = keeps.changed }
 
   pub marks_noted : (a b : MetadataCaches S) → KeepsMarks a b → KeepsMarks a (record b { is_changed = true })
-  marks_noted a b keeps = record { pins = keeps.pins; room = λ r. let s = keeps.room r in record { some = s.some; free = s.free }; changed = λ _. refl }
+  marks_noted a b keeps = record { pins = keeps.pins; room = λ r. let s = keeps.room r in record { tables = s.tables; some = s.some; free = s.free }; changed = λ _. refl }
 
 -- ---- values without their pins
 module _ {V : Type 0} where
@@ -169,7 +173,7 @@ module _ {S : Type 0} (c : MetadataCaches S) (k : ℕ) (l2 : Cache (L2CacheBacke
         refblocks = refl;
         l2_at = λ cluster. same_values (eqb cluster) c.l2.entries es same;
         order = refl;
-        room = λ r. record { some = r.some; free = r.free };
+        room = λ r. record { tables = r.tables; some = r.some; free = r.free };
       })
 
   set_answer : (s : Slot L2TableView) (n : ℕ) → lookup (eqb k) c.l2.entries ≡ Some s → l2 ≡ with_entries c.l2 (set_value (eqb k) c.l2.entries (slot_of s.value n)) → SetsPins c (record c { l2 = l2 }) k n
@@ -216,5 +220,5 @@ module _ {S : Type 0} (c : MetadataCaches S) (m : Bool) where
     refblocks = refl;
     l2_at = λ cluster. refl;
     order = refl;
-    room = λ r. record { some = r.some; free = r.free };
+    room = λ r. record { tables = r.tables; some = r.some; free = r.free };
   }

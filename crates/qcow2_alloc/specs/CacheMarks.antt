@@ -19,8 +19,9 @@ module _ {S : Type 0} where
   abbrev pub l2_pins : MetadataCaches S → ℕ → ℕ
   l2_pins caches cluster = option_map_or (λ s. s.pins) (lookup (λ k. cluster == k) caches.l2.entries) 0
 
-  -- there is always an entry for a refblock: none is pinned
+  -- there is always an entry for a refblock: none is pinned; and there is one for an L2 table where none of those is
   pub record HasRoom (caches : MetadataCaches S) : Type 0 where
+    pub tables : 0 < caches.l2.size
     pub some : 0 < caches.rb.size
     pub free : pinned caches.rb.entries ≡ []
 

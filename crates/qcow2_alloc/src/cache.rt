@@ -58,7 +58,7 @@ impl<S: Storage> MetadataCaches<S> {
         ensures settled { IfOk result (λ caches. (on_storage : Bytes) → AreSettled header.now.fields (refblocks caches) on_storage) }
         ensures order { IfOk result (λ caches. order_of caches ≡ Neither) }
         ensures sizes { IfOk result (λ caches. (caches.l2.size ≡ l2_entries) × (caches.rb.size ≡ rb_entries)) }
-        ensures room { IfOk result (λ caches. 0 < rb_entries → HasRoom caches) }
+        ensures room { IfOk result (λ caches. 0 < l2_entries → 0 < rb_entries → HasRoom caches) }
         ensures pins { IfOk result (λ caches. (cluster : ℕ) → l2_pins caches cluster ≡ 0) }
         ensures unchanged { IfOk result (λ caches. IsFalse caches.is_changed) }
     {

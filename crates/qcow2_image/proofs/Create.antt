@@ -1,5 +1,7 @@
 pub mod Cleared
 pub mod FirstBlocks
 pub mod FirstImage
+pub mod NewDisks
 pub mod ThreeWrites
 pub mod Creating
+pub mod TakingPlace

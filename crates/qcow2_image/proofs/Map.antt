@@ -1,5 +1,7 @@
 pub mod Looked
+pub mod Aligned
 pub mod Loading
 pub mod Reading
 pub mod Near
 pub mod Special
+pub mod Unmodified

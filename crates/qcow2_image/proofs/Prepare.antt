@@ -3,6 +3,7 @@ pub mod Placing
 pub mod Naming
 pub mod Entering
 pub mod Owning
+pub mod Lacking
 pub mod Gaining
 pub mod Filling
 pub mod Copied

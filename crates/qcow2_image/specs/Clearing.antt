@@ -31,6 +31,7 @@ use Rattle.qcow2_alloc.specs.declared.error.ImageError.{ImageError}
 use Rattle.qcow2_alloc.specs.declared.error.ImageError.TheVariants as I
 use Rattle.qcow2_alloc.specs.ImageFile.{FileInvariant, contents_in, known_in, state_in}
 use Rattle.qcow2_alloc.specs.MetadataCaches.{CacheInvariant, IsEntryAt, MadeEntry, NotesHeld, known_of, l2_at, order_of}
+use Rattle.qcow2_image.specs.Backings.{HasPrepared}
 use Rattle.qcow2_image.specs.CallParts.{RefusedCall}
 use Rattle.qcow2_image.specs.Calls.{Answers, refusal_of}
 use Rattle.qcow2_image.specs.declared.discarding.Clearance.{Clearance}
@@ -41,6 +42,7 @@ use Rattle.qcow2_image.specs.Found.{l1_index_of}
 use Rattle.qcow2_image.specs.Image.{is_writable, size_of}
 use Rattle.qcow2_image.specs.ImageInvariant.{ImageInvariant, abstract_of, disk_of, listed_run, of_data, pending_in, to_free}
 use Rattle.qcow2_image.specs.MovedTables.{MovesTables}
+use Rattle.qcow2_image.specs.NewTables.{IsFaultOrLacksTable}
 use Rattle.qcow2_image.specs.Prepared.{table_of}
 use Rattle.qcow2_image.specs.Refusals.{passes, refuse_if, unusable}
 
@@ -114,6 +116,11 @@ module _ {S F : Type 0} (view : S → StorageView) (backing : F → BackingView)
   -- A refusal that is no fault gives nothing.
   abbrev pub RefusesUngiven : Qcow2 S F → Qcow2 S F → ImageError → Type 0
   RefusesUngiven old new e = (IsFault (refusal_of e) → ⊥) → (out : List (Option Prepared)) → let v = abstract_of view backing old out in let w = abstract_of view backing new out in Refuses v w [] [] (refusal_of e) (IsSame v w)
+
+  -- A refusal that is no fault gives nothing. Where nothing refused the range at once, and no mapping is prepared, its first offset has no L2 table of its own then.
+  pub record RefusesClearing (how : Clearance) (old new : Qcow2 S F) (offset n : ℕ) (e : ImageError) : Type 0 where
+    pub ungiven : RefusesUngiven old new e
+    pub lacks : refuses_to_clear old offset n how ≡ None → (out : List (Option Prepared)) → (abstract_of view backing old out).is_sound → (HasPrepared out → ⊥) → IsFaultOrLacksTable view new (from_in old offset n) e
 
   -- ---- parts of the work
 

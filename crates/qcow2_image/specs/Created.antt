@@ -1,8 +1,12 @@
 -- What creating an image makes of a storage, and what a stop may leave of it.
-use Rattle.std.specs.Prelude.{ℕ, ◌≡◌, ◌==◌, ◌&&◌, ◌||◌, ◌⊎◌, ◌*◌, ◌^◌, ◌≤◌, Bool, false, None, Some, Result, Ok, Err, length, nat_lt, if◌then◌else◌}
+use Rattle.std.specs.Prelude.{ℕ, ◌≡◌, ◌==◌, ◌&&◌, ◌||◌, ◌⊎◌, ◌*◌, ◌^◌, ◌<◌, ◌≤◌, Bool, true, false, None, Some, Result, Ok, Err, [], length, nat_lt, if◌then◌else◌}
+use Rattle.image_access.specs.Backing.{BackingView}
 use Rattle.image_access.specs.Moments.{StorageView, Passing}
+use Rattle.image_access.specs.declared.storage.PreallocateMode.{PreallocateMode}
+use Rattle.image_access.specs.declared.storage.PreallocateMode.TheVariants as Mode
 use Rattle.qcow2_metadata.specs.Bytes.{Bytes, byte_at, number_at}
 use Rattle.qcow2_metadata.specs.Consistent.{IsConsistent}
+use Rattle.qcow2_metadata.specs.Cover.{cover}
 use Rattle.qcow2_metadata.specs.EntryTable.{EntryTableView}
 use Rattle.qcow2_metadata.specs.declared.header.HeaderFields.{HeaderFields}
 use Rattle.qcow2_metadata.specs.Guest.{known_byte}
@@ -10,11 +14,18 @@ use Rattle.qcow2_metadata.specs.Header.{HeaderView, header, cluster_size, count_
 use Rattle.qcow2_metadata.specs.HeaderWrite.{new_header, HasNewNames}
 use Rattle.qcow2_metadata.specs.RefBlock.{RefBlockView, count_at}
 use Rattle.qcow2_metadata.specs.TableBytes.{entry_at}
+use Rattle.qcow2_metadata.specs.declared.l2_mapping.L2Mapping.{L2Mapping}
+use Rattle.qcow2_metadata.specs.declared.l2_mapping.L2Mapping.TheVariants.{Zero, Uncovered}
 use Rattle.qcow2_disk.specs.Disk.{disk}
+use Rattle.qcow2_disk.specs.Mappings.{is_copied_data}
 use Rattle.qcow2_laws.specs.NewImages.{IsNewImage}
 use Rattle.qcow2_alloc.specs.declared.error.ImageError.{ImageError}
-use Rattle.qcow2_image.specs.Growing.{SameFormat, ReachesSize}
+use Rattle.qcow2_image.specs.Growing.{Grows, SameFormat, ReachesSize}
 use Rattle.qcow2_image.specs.declared.builder.Qcow2CreateBuilder.{Qcow2CreateBuilder}
+use Rattle.qcow2_image.specs.declared.image.Qcow2.{Qcow2}
+use Rattle.qcow2_image.specs.Image.{size_of}
+use Rattle.qcow2_image.specs.ImageInvariant.{abstract_of}
+use Rattle.qcow2_image.specs.Resizing.{GrowsTables, GrowsTo, IsResized, refuses_to_resize, size_after}
 
 -- the first eight bytes are the magic, and version 2 or 3
 abbrev pub begins_image : Bytes → Bool
@@ -26,18 +37,40 @@ pub record IsUnwritten (n : ℕ) (b : Bytes) : Type 0 where
   pub size : (header b).size ≡ n
   pub shows_below : (backing : Bytes) (o : ℕ) → (disk b backing).value o ≡ known_byte (backing o)
 
--- What a stop may leave while an image of this size is created. It is nothing that is taken for an image, or an unwritten image of no bytes or of that size.
-abbrev pub IsStopOfCreating : ℕ → Bytes → Type 0
-IsStopOfCreating n b = (begins_image b ≡ false) ⊎ (IsUnwritten 0 b ⊎ IsUnwritten n b)
+-- A consistent image of this size that shows zeros at each place, also past its end, while no disk is below it.
+pub record ShowsZeros (n : ℕ) (b : Bytes) : Type 0 where
+  pub consistent : IsConsistent b
+  pub size : (header b).size ≡ n
+  pub zeros : (o : ℕ) → (disk b (λ i. 0)).value o ≡ known_byte 0
+
+-- A new disk of this size, by the mode that it is made in: unwritten where no place is taken, and else zeros.
+abbrev pub IsNewDisk : PreallocateMode → ℕ → Bytes → Type 0
+IsNewDisk Mode.None n b = IsUnwritten n b
+IsNewDisk mode n b = ShowsZeros n b
+
+-- what a mode leaves for a guest cluster: nothing; zeros that have no host cluster; or data in a cluster of its own
+abbrev pub IsCoverOf : PreallocateMode → L2Mapping → Type 0
+IsCoverOf Mode.None v = v ≡ Uncovered
+IsCoverOf Mode.Zero v = v ≡ Zero None
+IsCoverOf mode v = is_copied_data v ≡ true
+
+-- So it is for each guest cluster that begins below the size, and nothing stands for all others.
+pub record IsPreallocated (mode : PreallocateMode) (n : ℕ) (b : Bytes) : Type 0 where
+  pub inside : (g : ℕ) → g * cluster_size (header b) < n → IsCoverOf mode (cover (header b) b g)
+  pub behind : (g : ℕ) → n ≤ g * cluster_size (header b) → cover (header b) b g ≡ Uncovered
+
+-- What a stop may leave while an image of this size is created in a mode. It is nothing that is taken for an image, or a new disk of no bytes or of that size.
+abbrev pub IsStopOfCreating : PreallocateMode → ℕ → Bytes → Type 0
+IsStopOfCreating mode n b = (begins_image b ≡ false) ⊎ (IsNewDisk mode 0 b ⊎ IsNewDisk mode n b)
 
 -- so does one at each moment since
-abbrev pub StopsCreating : ℕ → StorageView → StorageView → Type 0
-StopsCreating n old new = Passing old new (λ c. IsStopOfCreating n (byte_at c))
+abbrev pub StopsCreating : PreallocateMode → ℕ → StorageView → StorageView → Type 0
+StopsCreating mode n old new = Passing old new (λ c. IsStopOfCreating mode n (byte_at c))
 
 -- and the storage is still honest
-pub record StaysCreating (n : ℕ) (old new : StorageView) : Type 0 where
+pub record StaysCreating (mode : PreallocateMode) (n : ℕ) (old new : StorageView) : Type 0 where
   pub honest : new.is_honest
-  pub moments : StopsCreating n old new
+  pub moments : StopsCreating mode n old new
 
 module _ {S : Type 0} where
   -- clusters and counts that images may have
@@ -53,7 +86,8 @@ module _ {S : Type 0} where
   -- the image that was asked for stands on an honest storage
   pub record IsCreated (builder : Qcow2CreateBuilder S) (storage : StorageView) : Type 0 where
     pub honest : storage.is_honest
-    pub unwritten : IsUnwritten builder.size (byte_at storage.contents)
+    pub new_disk : IsNewDisk builder.preallocate builder.size (byte_at storage.contents)
+    pub covers : IsPreallocated builder.preallocate builder.size (byte_at storage.contents)
     pub version : (header (byte_at storage.contents)).version ≡ 3
     pub clusters : cluster_size (header (byte_at storage.contents)) ≡ builder.cluster_size
     pub counts : count_width (header (byte_at storage.contents)) ≡ builder.refcount_width
@@ -84,10 +118,31 @@ pub record NamesOne (h : HeaderFields) (t : EntryTableView) : Type 0 where
 
 -- the three clusters are written, or a stop is as said above
 abbrev pub WritesThree : HeaderFields → StorageView → StorageView → Result (Unit {0}) ImageError → Type 0
-WritesThree h old new (Ok _) = StaysCreating 0 old new × IsNewImage h (byte_at new.contents)
-WritesThree h old new (Err _) = StaysCreating 0 old new
+WritesThree h old new (Ok _) = StaysCreating Mode.None 0 old new × IsNewImage h (byte_at new.contents)
+WritesThree h old new (Err _) = StaysCreating Mode.None 0 old new
+
+-- a new disk of this size stands there, and the header has the format that it had
+pub record IsEnlarged (mode : PreallocateMode) (n : ℕ) (old new : StorageView) : Type 0 where
+  pub stays : StaysCreating mode n old new
+  pub new_disk : IsNewDisk mode n (byte_at new.contents)
+  pub covers : IsPreallocated mode n (byte_at new.contents)
+  pub format : SameFormat (header (byte_at old.contents)) (header (byte_at new.contents))
+  pub reaches : ReachesSize (header (byte_at new.contents))
 
 -- it is opened, made larger and flushed, or a stop is as said above
-abbrev pub Enlarges : ℕ → StorageView → StorageView → Result (Unit {0}) ImageError → Type 0
-Enlarges n old new (Ok _) = StaysCreating n old new × IsUnwritten n (byte_at new.contents) × SameFormat (header (byte_at old.contents)) (header (byte_at new.contents)) × ReachesSize (header (byte_at new.contents))
-Enlarges n old new (Err _) = StopsCreating n old new
+abbrev pub Enlarges : PreallocateMode → ℕ → StorageView → StorageView → Result (Unit {0}) ImageError → Type 0
+Enlarges mode n old new (Ok _) = IsEnlarged mode n old new
+Enlarges mode n old new (Err _) = StopsCreating mode n old new
+
+module _ {S F : Type 0} (view : S → StorageView) (backing : F → BackingView) where
+  -- an open image of which no mapping is prepared is made larger, and place is taken for that
+  pub record TakesPlace (mode : PreallocateMode) (old new : Qcow2 S F) (size : ℕ) (r : Result (Unit {0}) ImageError) : Type 0 where
+    pub no_larger : refuses_to_resize old ≡ None → size ≤ size_of old → new ≡ old
+    pub image : size_of old < size → IsResized (size_after r (size_of old) size) old new
+    pub sees : GrowsTo view backing old new size mode r
+    pub tables : refuses_to_resize old ≡ None → size_of old < size → (abstract_of view backing old []).is_sound → GrowsTables view backing old new size mode [] r
+
+  -- it is made larger in a mode
+  abbrev pub GrowsBy : PreallocateMode → Qcow2 S F → Qcow2 S F → ℕ → Result (Unit {0}) ImageError → Type 0
+  GrowsBy Mode.None old new size r = (abstract_of view backing old []).is_sound → Grows view backing old new size r
+  GrowsBy mode old new size r = TakesPlace mode old new size r

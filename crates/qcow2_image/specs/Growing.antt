@@ -15,6 +15,7 @@ use Rattle.qcow2_alloc.specs.declared.error.ImageError.{ImageError}
 use Rattle.qcow2_alloc.specs.ImageFile.{view_in, known_in, state_in, nothing_given}
 use Rattle.qcow2_image.specs.declared.image.Qcow2.{Qcow2}
 use Rattle.qcow2_image.specs.Image.{size_of}
+use Rattle.qcow2_image.specs.MovedTables.{CoversStay}
 use Rattle.qcow2_image.specs.UnseenSteps.{pending_then}
 use Rattle.qcow2_image.specs.ImageInvariant.{ImageInvariant, pending_in}
 
@@ -50,9 +51,10 @@ module _ {S F : Type 0} (view : S → StorageView) where
         × (ReachesSize old.file.header.fields → ReachesSize new.file.header.fields)
     Grows old new size (Err e) = Lasts old new (size ∷ [])
 
-    -- what is listed is freed, and all tables are written; what is listed then is pending still
+    -- What is listed is freed, and all tables are written. What is listed then is pending still, and the same stands for each guest cluster.
     abbrev pub WritesBack : Pending → Qcow2 S F → Qcow2 S F → Result (Unit {0}) ImageError → Type 0
     WritesBack p old new (Ok _) = Extends (with_listed p old.file.free_list) (with_listed p new.file.free_list) old new [] × KeepsFormat old.file.header.fields new.file.header.fields
+        × CoversStay old.file.header.fields (known_in view old.file) new.file.header.fields (known_in view new.file)
     WritesBack p old new (Err e) = Lasts old new []
 
     -- so they are of a disk that was made larger

@@ -10,6 +10,7 @@ pub mod Faults
 pub mod Found
 pub mod CallParts
 pub mod Opened
+pub mod CountedOpening
 pub mod Preparing
 pub mod Created
 pub mod MovedTables
@@ -21,3 +22,4 @@ pub mod Clearing
 pub mod SpecialReads
 pub mod Resizing
 pub mod Preallocation
+pub mod Unwritten

@@ -16,17 +16,24 @@ use Rattle.qcow2_laws.specs.CrashInvariant.{Pending}
 use Rattle.qcow2_laws.specs.Guests.{table_at}
 use Rattle.qcow2_alloc.specs.Allocation.{StandAt}
 use Rattle.qcow2_alloc.specs.declared.error.ImageError.{ImageError}
+use Rattle.qcow2_alloc.specs.ImageError.{IsFault}
 use Rattle.qcow2_alloc.specs.ImageFile.{contents_in, InterruptedFileStep}
 use Rattle.qcow2_alloc.specs.MetadataCaches.{order_of, l2_tables, refblocks, l2_at}
 use Rattle.qcow2_alloc.specs.TableCaches.{IsTableOf}
 use Rattle.qcow2_image.specs.declared.image.Qcow2.{Qcow2}
 use Rattle.qcow2_image.specs.declared.prepared.Prepared.{Prepared}
+use Rattle.qcow2_image.specs.Found.{l1_index_of}
 use Rattle.qcow2_image.specs.UnseenSteps.{NamesOwn, UnseenStep, RefusedStep, pending_then}
 
 -- a table of the image's format says what is known of the guest clusters of an L1 entry
 pub record SaysKnown (h : HeaderFields) (known : Bytes) (index : ℕ) (t : L2TableView) : Type 0 where
   pub format : IsTableOf h t
   pub says : (g : ℕ) → g / entries_per_cluster h ≡ index → cover h known g ≡ entry_cover h (entry_at t.bytes (g % entries_per_cluster h))
+
+module _ {S F : Type 0} where
+  -- a refusal is a fault, or left the L1 table as it was
+  abbrev pub IsFaultOrKeepsL1Table : Qcow2 S F → Qcow2 S F → ImageError → Type 0
+  IsFaultOrKeepsL1Table old new e = IsFault e ⊎ (new.l1_table ≡ old.l1_table)
 
 module _ {S F : Type 0} (view : S → StorageView) where
   -- what has to stand on the storage before an L1 entry names a new table: counts, and what the order of writes asks for
@@ -43,6 +50,14 @@ module _ {S F : Type 0} (view : S → StorageView) where
   -- an L1 entry may be written: it names no table that is marked copied
   abbrev pub MayName : Qcow2 S F → ℕ → Type 0
   MayName image index = ¬ NamesOwn (l1_entry image.file.header.fields (contents_in view image.file) index)
+
+  -- no L2 table of its own stands for an offset: the L1 table has no entry for it, or one that names no table, or one that isn't marked copied
+  abbrev pub LacksTable : Qcow2 S F → ℕ → Type 0
+  LacksTable image offset = MayName image (l1_index_of image.file.header.fields offset)
+
+  -- a refusal is a fault, or no L2 table of its own stands for an offset still
+  abbrev pub IsFaultOrLacksTable : Qcow2 S F → ℕ → ImageError → Type 0
+  IsFaultOrLacksTable image offset e = IsFault e ⊎ LacksTable image offset
 
   -- an L1 entry names the table in a cluster, and is marked copied
   pub record NamesCopied (image : Qcow2 S F) (index cluster : ℕ) : Type 0 where

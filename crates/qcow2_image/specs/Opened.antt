@@ -9,6 +9,7 @@ use Rattle.qcow2_metadata.specs.EntryTable.{EntryTableView}
 use Rattle.qcow2_metadata.specs.Header.{HeaderView, header, with_fields, has_data_file}
 use Rattle.qcow2_metadata.specs.HeaderLoad.{IsHeaderIn}
 use Rattle.qcow2_laws.specs.CrashInvariant.{Pending}
+use Rattle.qcow2_laws.specs.Opened.{surplus_of}
 use Rattle.qcow2_disk.specs.Stops.{SafeThroughout}
 use Rattle.qcow2_disk.specs.AbstractImages.{IsOpened}
 use Rattle.qcow2_alloc.specs.declared.allocation.Allocator.{Allocator}
@@ -75,6 +76,11 @@ module _ {S F : Type 0} (view : S → StorageView) (backing : F → BackingView)
     pub l1_table : HasL1Table view backing file table
     pub reftable : IfSome allocator (λ a. HasReftable view file a.reftable)
 
-  -- where a consistent image stands on an honest storage, it is sound as it is opened, and nothing is modified
+  -- An image is sound as it is opened, and nothing is modified. Each cluster is counted as much more often than named as these bytes have it.
+  pub record IsOpenedFrom (b : Bytes) (image : Qcow2 S F) : Type 0 where
+    pub opened : IsOpened (abstract_of view backing image [])
+    pub surplus : (abstract_of view backing image []).surplus ≡ surplus_of (header b) b
+
+  -- so it is where a consistent image stands on an honest storage
   abbrev pub Opens : StorageView → Qcow2 S F → Type 0
-  Opens storage image = storage.is_honest → IsConsistent (byte_at storage.contents) → IsOpened (abstract_of view backing image [])
+  Opens storage image = storage.is_honest → IsConsistent (byte_at storage.contents) → IsOpenedFrom (byte_at storage.contents) image

@@ -35,7 +35,7 @@ module _ (h : HeaderFields) (known : Bytes) (offset : ℕ) where
   -- The mapping p of n bytes, which means m. It is existing exactly where all of them may be written where they are, and is just that range then.
   -- Else it is the rest of the first cluster at least, and behind that as much of the range as can stand in a row, within one L2 table. Where it is shorter than the range, there is a cause.
   -- It begins in the host cluster that the zero entry of its first guest cluster keeps, where there is one.
-  -- What is copied data is in place, where it is. All else is private, at the same byte of a cluster: one that is its own by the header and what is known now, or that its zero entry keeps.
+  -- What is copied data is in place, where it is, and still is there at the return. All else is private, at the same byte of a cluster: one that is its own by the header and what is known now, or that its zero entry keeps.
   pub record IsAnswered (n : ℕ) (h' : HeaderFields) (now : Bytes) (p : Prepared) (m : PreparedMapping) : Type 0 where
     pub existing : IsNone (table_of p) ↔ ((place : ℕ) × IsWritableAt n place)
     pub whole : IsNone (table_of p) → length_of p ≡ n
@@ -46,6 +46,7 @@ module _ (h : HeaderFields) (known : Bytes) (offset : ℕ) where
     pub kept : BeginsInKept h offset (cover h known (offset / cluster_size h)) p
     pub private : IsPrivateIn h known m
     pub in_place : (i : ℕ) → i < length_of p → m.is_private (offset + i) ≡ false → IsDataAt h known true (offset + i) (offset_of p + i)
+    pub stays : (i : ℕ) → i < length_of p → m.is_private (offset + i) ≡ false → IsDataAt h' now true (offset + i) (offset_of p + i)
     pub own : (i : ℕ) → i < length_of p → IsTrue (m.is_private (offset + i))
         → ((offset_of p + i) % cluster_size h ≡ (offset + i) % cluster_size h) × (IsHeldAlone h' now ((offset_of p + i) / cluster_size h) ⊎ IsKeptBy h known ((offset + i) / cluster_size h) ((offset_of p + i) / cluster_size h))
 

@@ -1,10 +1,11 @@
 -- When the calls on an image are refused, and what a refusal leaves.
 use Rattle.std.specs.Prelude.{◌≡◌, ◌⊎◌, ℕ, ◌+◌, ◌==◌, ◌&&◌, Bool, true, not, nat_lt, Option, Some, None, Result, Ok, Err, if◌then◌else◌}
 use Rattle.std.specs.Option.{option_or}
+use Rattle.qcow2_alloc.specs.ImageError.{IsFault}
 use Rattle.qcow2_alloc.specs.declared.error.ImageError.{ImageError}
 use Rattle.qcow2_alloc.specs.declared.error.ImageError.TheVariants as I
 use Rattle.qcow2_image.specs.declared.image.Qcow2.{Qcow2}
-use Rattle.qcow2_image.specs.Image.{is_failed, is_external, is_writable, size_of, number_of}
+use Rattle.qcow2_image.specs.Image.{HasNothingToFree, is_failed, is_external, is_writable, size_of, number_of}
 
 -- a refusal, where a test says so
 abbrev pub refuse_if : Bool → ImageError → Option ImageError
@@ -59,6 +60,10 @@ IsMet (I.StillInUse tables) = Unit {0}
 -- of preparing, also that the L2 table is kept as it is for another mapping
 abbrev pub IsMetPreparing : ImageError → Type 0
 IsMetPreparing e = IsMet e ⊎ (e ≡ I.TablePrepared)
+
+-- What a refused preparation leaves: no cluster is to be freed then, but after a fault, and where a table is kept as it is for another mapping.
+abbrev pub FreesRefused : {S F : Type 0} → Qcow2 S F → ImageError → Type 0
+FreesRefused new e = IsFault e ⊎ ((e ≡ I.TablePrepared) ⊎ HasNothingToFree new)
 
 -- a failing storage marks the image as failed, want of memory may, and nothing else does
 abbrev pub failed_after : ImageError → Bool → Bool → Type 0

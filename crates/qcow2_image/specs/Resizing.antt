@@ -1,5 +1,5 @@
 -- What a disk of another size is: the tail is uncovered, or the L1 table made longer, and the size is written last.
-use Rattle.std.specs.Prelude.{ℕ, ◌≡◌, ◌⊎◌, ◌<◌, ◌≤◌, Bool, false, is_some, not, true, List, [], ◌∷◌, Option, Some, None, IsTrue, Result, Ok, Err}
+use Rattle.std.specs.Prelude.{ℕ, ◌^◌, ◌≡◌, ◌⊎◌, ◌<◌, ◌≤◌, Bool, false, is_some, not, true, List, [], ◌∷◌, Option, Some, None, IsTrue, Result, Ok, Err}
 use Rattle.std.specs.Option.{option_or}
 use Rattle.image_access.specs.Backing.{BackingView}
 use Rattle.image_access.specs.Moments.{StorageView, Passing}
@@ -23,10 +23,11 @@ use Rattle.qcow2_image.specs.Clearing.{RefusesUngiven, gifts_between, setting_of
 use Rattle.qcow2_image.specs.declared.discarding.Clearance.TheVariants.{Uncovered}
 use Rattle.qcow2_image.specs.declared.image.Qcow2.{Qcow2}
 use Rattle.qcow2_image.specs.declared.prepared.Prepared.{Prepared}
-use Rattle.qcow2_image.specs.Growing.{ReachesSize}
+use Rattle.qcow2_image.specs.Growing.{ReachesSize, SameFormat}
 use Rattle.qcow2_image.specs.Image.{is_external, is_failed, is_writable, number_of, size_of}
 use Rattle.qcow2_image.specs.ImageInvariant.{ImageInvariant, abstract_of, disk_of, pending_in}
 use Rattle.qcow2_image.specs.MovedTables.{CoversStay}
+use Rattle.qcow2_image.specs.NewTables.{LacksTable}
 use Rattle.qcow2_image.specs.Preallocation.{IsUnderMappingIn}
 use Rattle.qcow2_image.specs.Refusals.{refuse_if, unusable}
 
@@ -73,6 +74,15 @@ pub record IsTurnEnd (cluster_size end at next : ℕ) : Type 0 where
   pub within : next ≤ end
   pub whole : (next ≡ end) ⊎ ((rounded_up cluster_size next ≡ next) × (rounded_up cluster_size at < next))
 
+module _ {S F : Type 0} (view : S → StorageView) where
+  -- Why the tail isn't uncovered from an offset on. The disk's end, rounded up, passes 64 bits; or the first whole cluster has no L2 table of its own.
+  abbrev pub CantUncover : (end : ℕ) → Qcow2 S F → ℕ → Type 0
+  CantUncover end image offset = (2 ^ 64 ≤ boundary_in image end) ⊎ LacksTable view image (boundary_in image offset)
+
+  -- a refused turn is a fault, or has one of these causes
+  abbrev pub IsFaultOrCantUncover : (end : ℕ) → Qcow2 S F → ℕ → ImageError → Type 0
+  IsFaultOrCantUncover end image offset e = IsFaultOfTables e ⊎ CantUncover end image offset
+
 module _ {S F : Type 0} (view : S → StorageView) (backing : F → BackingView) where
   -- The size is written last: each moment since has the old size, or is what stands on the storage then.
   abbrev pub WritesSizeLast : Qcow2 S F → Qcow2 S F → Type 0
@@ -103,8 +113,9 @@ module _ {S F : Type 0} (view : S → StorageView) (backing : F → BackingView)
   GrowsTo old new size mode (Err e) = (out : List (Option Prepared)) → let v = abstract_of view backing old out in let w = abstract_of view backing new out in
       Refuses v w (gifts_of_grow old size mode) (size ∷ []) (refusal_of e) ((d : Disk) × MayGrow v.setting (guest_of v).disk size mode d × (guest_of w ≡ with_disk (guest_of v) d))
 
-  -- What a larger disk leaves of the tables: an L1 table with an entry for each byte, and for each guest cluster what the mode asks for.
+  -- What a larger disk leaves of the tables: a header of the same format, an L1 table with an entry for each byte, and for each guest cluster what the mode asks for.
   pub record LeavesTables (mode : PreallocateMode) (size : ℕ) (old new : Qcow2 S F) : Type 0 where
+    pub format : SameFormat old.file.header.fields new.file.header.fields
     pub reaches : ReachesSize new.file.header.fields
     pub covers : GrownCovers mode (size_of old) size old.file.header.fields (known_in view old.file) new.file.header.fields (known_in view new.file)
 

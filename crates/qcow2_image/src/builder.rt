@@ -1,14 +1,18 @@
 //! Making a new image.
-ghost use Rattle.std.specs.Prelude.{◌≡◌, ◌^◌, [], IfSome, IfOk, OnOk, IsSome, is_some, false};
+ghost use Rattle.std.specs.Prelude.{◌≡◌, ◌^◌, [], IfSome, IfOk, OnOk, IsSome, IsTrue, is_some, false};
 ghost use Rattle.image_access.specs.Moments.{Passing};
 ghost use Rattle.qcow2_metadata.specs.Bytes.{byte_at};
 ghost use Rattle.qcow2_alloc.specs.ImageStorage.{storage_of};
-ghost use Rattle.qcow2_image.specs.Growing.{GrowsWhole};
+ghost use Rattle.qcow2_alloc.specs.ImageFile.{view_in};
+ghost use Rattle.qcow2_disk.specs.AbstractImages.{IsOpened};
+ghost use Rattle.qcow2_image.specs.Image.{is_writable};
 ghost use Rattle.qcow2_image.specs.ImageInvariant.{abstract_of};
-ghost use Rattle.qcow2_image.specs.Created.{IsUnwritten, IsNewHeader, CountsThree, NamesOne, WritesThree, Enlarges};
+ghost use Rattle.qcow2_image.specs.Created.{IsUnwritten, IsNewHeader, CountsThree, NamesOne, WritesThree, Enlarges, GrowsBy};
 
 use crate::Qcow2;
-use image_access::{BackingDisk, Storage, StorageError, StoragePreallocate, WrappedFormat};
+use image_access::{
+    BackingDisk, PreallocateMode, Storage, StorageError, StoragePreallocate, WrappedFormat,
+};
 use qcow2_alloc::{ImageError, ImageStorage, WriteKind};
 use qcow2_metadata::{Header, HostCluster, RefBlock, RefTable};
 use std::alloc::{AllocError, Global};
@@ -18,6 +22,7 @@ use std::alloc::{AllocError, Global};
 pub struct Qcow2CreateBuilder<S: Storage> {
     image: S,
     size: u64,
+    preallocate: PreallocateMode,
     cluster_size: u64,
     refcount_width: u64,
 }
@@ -66,18 +71,18 @@ fn power_of_two(number: u64) -> Option<u32>
 impl<S: Storage> Qcow2CreateBuilder<S> {
     ghost use Rattle.std.specs.Prelude.{Err};
     ghost use Rattle.qcow2_alloc.specs.declared.error.ImageError.TheVariants.{InvalidOption};
-    ghost use Rattle.qcow2_image.specs.Created.{StopsCreating, IsCreated, IsAllowed};
+    ghost use Rattle.qcow2_image.specs.Created.{StopsCreating, IsCreated, IsAllowed, IsNewDisk};
     ghost use Rattle.std.specs.Prelude.{true, false};
-    ghost use Rattle.qcow2_disk.specs.AbstractImages.{IsOpened};
-    ghost use Rattle.qcow2_image.specs.Image.{number_of, is_failed, is_writable};
+    ghost use Rattle.qcow2_image.specs.Image.{number_of, is_failed};
 
-    /// A disk of no bytes, clusters of 65,536 bytes and counts of 16 bits.
+    /// A disk of no bytes for which no place is taken, clusters of 65,536 bytes and counts of 16 bits.
     pub fn new(image: S) -> Qcow2CreateBuilder<S>
-        ensures { result ≡ record { image = image; size = 0; cluster_size = 65536; refcount_width = 16 } }
+        ensures { result ≡ record { image = image; size = 0; preallocate = PreallocateMode.None; cluster_size = 65536; refcount_width = 16 } }
     {
         Qcow2CreateBuilder {
             image,
             size: 0,
+            preallocate: PreallocateMode::None,
             cluster_size: 65536,
             refcount_width: 16,
         }
@@ -91,11 +96,26 @@ impl<S: Storage> Qcow2CreateBuilder<S> {
         self
     }
 
+    /// What place is taken for the disk, and what its bytes are.
+    pub fn preallocate(mut self, mode: PreallocateMode) -> Qcow2CreateBuilder<S>
+        ensures { result ≡ record self { preallocate = mode } }
+    {
+        self.preallocate = mode;
+        self
+    }
+
     /// The size of the disk that was asked for, in bytes.
     pub fn get_size(&self) -> u64
         ensures { result ≡ self.now.size }
     {
         self.size
+    }
+
+    /// What place was asked for.
+    pub fn get_preallocate(&self) -> PreallocateMode
+        ensures { result ≡ self.now.preallocate }
+    {
+        self.preallocate
     }
 
     /// The size of a cluster, in bytes: a power of two from 512 to 2,097,152.
@@ -114,16 +134,17 @@ impl<S: Storage> Qcow2CreateBuilder<S> {
         self
     }
 
-    /// Writes the new image, and hands its storage back. Clusters or counts that images don't have are refused, and then
-    /// nothing was written.
+    /// Writes the new image, and hands its storage back. Its disk shows zeros, and takes the place that was asked for. Clusters or counts
+    /// that images don't have are refused, and then nothing was written.
     pub fn create(self, alloc: Global) -> (S, Result<(), ImageError>)
-        ensures stops { (S.view self.image).is_honest → StopsCreating self.size (S.view self.image) (S.view result.0) }
+        ensures stops { (S.view self.image).is_honest → StopsCreating self.preallocate self.size (S.view self.image) (S.view result.0) }
         ensures created { (S.view self.image).is_honest → IfOk result.1 (λ done. IsCreated self (S.view result.0)) }
         ensures refused { ¬ IsAllowed self → (result.1 ≡ Err InvalidOption) × (result.0 ≡ self.image) }
     {
         let Qcow2CreateBuilder {
             image,
             size,
+            preallocate,
             cluster_size,
             refcount_width,
         } = self;
@@ -141,7 +162,7 @@ impl<S: Storage> Qcow2CreateBuilder<S> {
         if let Err(refusal) = write_new_image(alloc, &mut storage, &header) {
             return (storage.into_inner(), Err(refusal));
         }
-        grow_new_image::<S, NoBacking>(alloc, storage.into_inner(), size)
+        grow_new_image::<S, NoBacking>(alloc, storage.into_inner(), size, preallocate)
     }
 
     /// Writes the new image and opens it for writing, with no disk below it. A refusal hands the storage back.
@@ -151,7 +172,7 @@ impl<S: Storage> Qcow2CreateBuilder<S> {
         number: u64,
     ) -> Result<Qcow2<S, F>, (S, ImageError)>
         ensures opens { (S.view self.image).is_honest → IfOk result (λ image. IsOpened (abstract_of S.view F.backing image [])) }
-        ensures unwritten { (S.view self.image).is_honest → IfOk result (λ image. IsUnwritten self.size (abstract_of S.view F.backing image []).known) }
+        ensures new_disk { (S.view self.image).is_honest → IfOk result (λ image. IsNewDisk self.preallocate self.size (abstract_of S.view F.backing image []).known) }
         ensures ok { IfOk result (λ image. (number_of image ≡ number) × (is_failed image ≡ false) × (is_writable image ≡ true)) }
         ensures below { IfOk result (λ image. is_some image.backing ≡ false) }
     {
@@ -237,13 +258,14 @@ fn grow_new_image<S: Storage, F: WrappedFormat<S>>(
     alloc: Global,
     storage: S,
     size: u64,
+    mode: PreallocateMode,
 ) -> (S, Result<(), ImageError>)
-    ensures { (S.view storage).is_honest → IsUnwritten 0 (byte_at (S.view storage).contents) → Enlarges size (S.view storage) (S.view result.0) result.1 }
+    ensures { (S.view storage).is_honest → IsUnwritten 0 (byte_at (S.view storage).contents) → Enlarges mode size (S.view storage) (S.view result.0) result.1 }
 {
     match Qcow2::<S, F>::open_image(alloc, storage, true, 0) {
         Err((storage, refusal)) => (storage, Err(refusal)),
         Ok(mut image) => {
-            let done = grow_and_flush(&mut image, size);
+            let done = grow_and_flush(&mut image, size, mode);
             (image.into_storage(), done)
         }
     }
@@ -252,9 +274,25 @@ fn grow_new_image<S: Storage, F: WrappedFormat<S>>(
 fn grow_and_flush<S: Storage, F: WrappedFormat<S>>(
     image: &mut Qcow2<S, F>,
     size: u64,
+    mode: PreallocateMode,
 ) -> Result<(), ImageError>
-    ensures { (abstract_of S.view F.backing image.old []).is_sound → GrowsWhole S.view F.backing image.old image.new size result }
+    ensures { IsOpened (abstract_of S.view F.backing image.old []) → IsTrue (is_writable image.old) → is_some image.old.backing ≡ false → IsUnwritten 0 (byte_at (view_in S.view image.old.file).contents)
+        → Enlarges mode size (view_in S.view image.old.file) (view_in S.view image.new.file) result }
 {
-    image.grow(size)?;
+    grow_by(image, size, mode)?;
     image.flush()
+}
+
+// Makes the disk larger in a mode. Where no place is taken the old bytes show, whatever disk is below.
+fn grow_by<S: Storage, F: WrappedFormat<S>>(
+    image: &mut Qcow2<S, F>,
+    size: u64,
+    mode: PreallocateMode,
+) -> Result<(), ImageError>
+    ensures { GrowsBy S.view F.backing mode image.old image.new size result }
+{
+    match mode {
+        PreallocateMode::None => image.grow(size),
+        _ => image.resize_grow(size, mode),
+    }
 }

@@ -10,6 +10,7 @@ ghost use Rattle.qcow2_image.specs.Found.{IsMappedAs};
 ghost use Rattle.qcow2_image.specs.declared.prepared.Prepared.{Prepared};
 ghost use Rattle.qcow2_image.specs.Image.{Stays};
 ghost use Rattle.qcow2_image.specs.Refusals.{IsMet};
+ghost use Rattle.qcow2_image.specs.Faults.{CountsFaults};
 ghost use Rattle.qcow2_metadata.specs.L2Mapping.{IsHostCluster, IsInReach, greatest_offset};
 ghost use Rattle.qcow2_metadata.specs.Cover.{cover};
 ghost use Rattle.qcow2_metadata.specs.Header.{cluster_size};
@@ -40,6 +41,7 @@ impl<S: Storage, F: WrappedFormat<S>> Qcow2<S, F> {
         ensures list { self.new.file.free_list ≡ self.old.file.free_list }
         ensures fills { (p : Pending) (out : List (Option Prepared)) → ImageInvariant S.view F.backing p self.old out → HoldsAll S.view F.backing p out → 0 < p.held cluster → over_all held_by out cluster ≡ 0
             → cover self.old.file.header.fields (known_in S.view self.old.file) (offset / cluster_size self.old.file.header.fields) ≡ old.now → IfOk result (λ done. IsFilled S.view F.backing self.old self.new cluster offset length overwrite) }
+        ensures faults { CountsFaults S.view F.backing self.old self.new result }
     {
         let Some(range) = self.part_to_fill(offset, length, overwrite) else {
             return Ok(());
@@ -70,6 +72,7 @@ impl<S: Storage, F: WrappedFormat<S>> Qcow2<S, F> {
         ensures fills { (p : Pending) (out : List (Option Prepared)) → ImageInvariant S.view F.backing p self.old out
             → cover self.old.file.header.fields (known_in S.view self.old.file) (offset / cluster_size self.old.file.header.fields) ≡ L2Mapping.Zero (Some (host, true))
             → IfOk result (λ done. IsFilled S.view F.backing self.old self.new (host / cluster_size self.old.file.header.fields) offset length overwrite) }
+        ensures faults { CountsFaults S.view F.backing self.old self.new result }
     {
         match self.part_to_fill(offset, length, overwrite) {
             None => Ok(()),
@@ -104,6 +107,7 @@ impl<S: Storage, F: WrappedFormat<S>> Qcow2<S, F> {
         ensures goes { (p : Pending) (out : List (Option Prepared)) (cluster : ℕ) → ImageInvariant S.view F.backing p self.old out → HoldsAll S.view F.backing p out → IsOwn S.view F.backing p self.old out cluster at length → UnseenFillingStep S.view F.backing p p self.old self.new out }
         ensures list { self.new.file.free_list ≡ self.old.file.free_list }
         ensures copies { (p : Pending) (out : List (Option Prepared)) → ImageInvariant S.view F.backing p self.old out → IsMappedAs S.view self.old guest kind.now length → IfOk result (λ done. IsCopied S.view F.backing self.old self.new at guest length) }
+        ensures faults { CountsFaults S.view F.backing self.old self.new result }
     {
         if let MappingKind::Zero { explicit: _ } = kind {
             return self.write_zeros(at, length);
@@ -118,6 +122,7 @@ impl<S: Storage, F: WrappedFormat<S>> Qcow2<S, F> {
         ensures stays { Stays self.old self.new }
         ensures cause { IfErr result IsMet }
         ensures written { WritesBytes S.view self.old self.new at (replicate length 0) result }
+        ensures faults { CountsFaults S.view F.backing self.old self.new result }
     {
         self.file.storage.will_write(WriteKind::Data);
         self.file.storage.write_zeroes(at, length)?;

@@ -7,15 +7,19 @@ ghost use Rattle.qcow2_metadata.specs.L2Table.{copied_host};
 ghost use Rattle.qcow2_laws.specs.CrashInvariant.{Pending};
 ghost use Rattle.qcow2_disk.specs.Rules.{touched_from, touched_to};
 ghost use Rattle.qcow2_alloc.specs.CacheMarks.{l2_pins};
+ghost use Rattle.qcow2_alloc.specs.ImageError.{IsFault};
 ghost use Rattle.qcow2_alloc.specs.ImageFile.{known_in, FileInvariant};
-ghost use Rattle.qcow2_alloc.specs.MetadataCaches.{IsEntryAt};
+ghost use Rattle.qcow2_alloc.specs.MetadataCaches.{IsEntryAt, l2_at};
 ghost use Rattle.qcow2_alloc.specs.declared.error.ImageError.TheVariants.{TablePrepared};
 ghost use Rattle.qcow2_image.specs.declared.prepared.Prepared.{Prepared};
+ghost use Rattle.qcow2_image.specs.Backings.{HasPrepared};
+ghost use Rattle.qcow2_image.specs.NewTables.{IsFaultOrLacksTable};
 ghost use Rattle.qcow2_image.specs.Image.{HasNothingToFree, IsSameImage, Stays, is_failed, is_writable, size_of};
 ghost use Rattle.qcow2_image.specs.ImageInvariant.{ImageInvariant, abstract_of, pending_in, listed_run};
 ghost use Rattle.qcow2_image.specs.UnseenSteps.{FreesLater, HoldsTable};
 ghost use Rattle.qcow2_image.specs.Refusals.{IsMet, IsMetPreparing, Marks, passes as passes_size};
-ghost use Rattle.qcow2_image.specs.Clearing.{Clears, ClearsCovers, ClearsEntry, ClearsOrRefuses, ClearsTable, IsUnderMapping, IsWhole, ReadsAll, ReadsDropped, RefusesUngiven, cleared_cover, from_in, to_in, listed_by, needs_zeros, refuses_to_clear, rounds_past};
+ghost use Rattle.qcow2_image.specs.Clearing.{Clears, ClearsCovers, ClearsEntry, ClearsOrRefuses, ClearsTable, IsUnderMapping, IsWhole, ReadsAll, ReadsDropped, RefusesClearing, cleared_cover, from_in, to_in, listed_by, needs_zeros, refuses_to_clear, rounds_past};
+ghost use Rattle.qcow2_image.specs.Faults.{CountsFaults, IsNotOfStorage};
 
 use crate::Qcow2;
 use crate::mappings::passes;
@@ -86,7 +90,9 @@ fn list_run(
     run: Option<(HostCluster, ClusterCount)>,
 ) -> Result<(), ImageError>
     ensures cause { IfErr result IsMet }
+    ensures fault { IfErr result IsFault }
     ensures listed { OnOk result (list.new ≡ list.old ++ listed_run run) }
+    ensures faults { IfErr result IsNotOfStorage }
 {
     if let Some((first, count)) = run {
         list.push(alloc, ClustersToFreeEntry::data(first, count))?;
@@ -113,6 +119,7 @@ impl<S: Storage, F: WrappedFormat<S>> Qcow2<S, F> {
         ensures covers { (out : List (Option Prepared)) → (abstract_of S.view F.backing self.old out).is_sound
             → OnOk result (ClearsCovers Clearance.Uncovered (from_in self.old offset length) (to_in self.old offset length) self.old.file.header.fields (known_in S.view self.old.file) self.new.file.header.fields (known_in S.view self.new.file)) }
         ensures emptied { from_in self.old offset length < to_in self.old offset length → OnOk result (HasNothingToFree self.new) }
+        ensures faults { CountsFaults S.view F.backing self.old self.new result }
     {
         self.clear_range(offset, length, Clearance::Uncovered)
     }
@@ -134,6 +141,7 @@ impl<S: Storage, F: WrappedFormat<S>> Qcow2<S, F> {
         ensures covers { (out : List (Option Prepared)) → (abstract_of S.view F.backing self.old out).is_sound
             → OnOk result (ClearsCovers Clearance.Zeros (from_in self.old offset length) (to_in self.old offset length) self.old.file.header.fields (known_in S.view self.old.file) self.new.file.header.fields (known_in S.view self.new.file)) }
         ensures emptied { from_in self.old offset length < to_in self.old offset length → OnOk result (HasNothingToFree self.new) }
+        ensures faults { CountsFaults S.view F.backing self.old self.new result }
     {
         self.clear_range(offset, length, Clearance::Zeros)
     }
@@ -155,6 +163,7 @@ impl<S: Storage, F: WrappedFormat<S>> Qcow2<S, F> {
         ensures covers { (out : List (Option Prepared)) → (abstract_of S.view F.backing self.old out).is_sound
             → OnOk result (ClearsCovers Clearance.Zeros (from_in self.old offset length) (to_in self.old offset length) self.old.file.header.fields (known_in S.view self.old.file) self.new.file.header.fields (known_in S.view self.new.file)) }
         ensures emptied { from_in self.old offset length < to_in self.old offset length → OnOk result (HasNothingToFree self.new) }
+        ensures faults { CountsFaults S.view F.backing self.old self.new result }
     {
         self.discard_to_zero_unsafe(offset, length)
     }
@@ -176,6 +185,7 @@ impl<S: Storage, F: WrappedFormat<S>> Qcow2<S, F> {
         ensures covers { (out : List (Option Prepared)) → (abstract_of S.view F.backing self.old out).is_sound
             → OnOk result (ClearsCovers Clearance.KeptZeros (from_in self.old offset length) (to_in self.old offset length) self.old.file.header.fields (known_in S.view self.old.file) self.new.file.header.fields (known_in S.view self.new.file)) }
         ensures emptied { from_in self.old offset length < to_in self.old offset length → OnOk result (HasNothingToFree self.new) }
+        ensures faults { CountsFaults S.view F.backing self.old self.new result }
     {
         self.clear_range(offset, length, Clearance::KeptZeros)
     }
@@ -197,7 +207,8 @@ impl<S: Storage, F: WrappedFormat<S>> Qcow2<S, F> {
         ensures covers { (out : List (Option Prepared)) → (abstract_of S.view F.backing self.old out).is_sound
             → OnOk result (ClearsCovers how (from_in self.old offset length) (to_in self.old offset length) self.old.file.header.fields (known_in S.view self.old.file) self.new.file.header.fields (known_in S.view self.new.file)) }
         ensures emptied { from_in self.old offset length < to_in self.old offset length → OnOk result (HasNothingToFree self.new) }
-        ensures ungiven { IfErr result (RefusesUngiven S.view F.backing self.old self.new) }
+        ensures refused { IfErr result (RefusesClearing S.view F.backing how self.old self.new offset length) }
+        ensures faults { CountsFaults S.view F.backing self.old self.new result }
     {
         let (from, to) = self.check_clear(offset, length, how)?;
         if to <= from {
@@ -221,6 +232,7 @@ impl<S: Storage, F: WrappedFormat<S>> Qcow2<S, F> {
         ensures writable { IfOk result (λ range. IsTrue (is_writable self.now)) }
         ensures end { IfOk result (λ range. offset + length < 2 ^ 64) }
         ensures version { IfOk result (λ range. IsTrue (needs_zeros how) → 3 ≤ self.now.file.header.fields.version) }
+        ensures faults { IfErr result IsNotOfStorage }
     {
         self.check_usable()?;
         if !self.writable() {
@@ -265,12 +277,15 @@ impl<S: Storage, F: WrappedFormat<S>> Qcow2<S, F> {
         requires some { from < to }
         ensures stays { Stays self.old self.new }
         ensures cause { IfErr result IsMetPreparing }
+        ensures lacks { (out : List (Option Prepared)) → ImageInvariant S.view F.backing (pending_in S.view F.backing self.old out) self.old out → IsWhole self.old.file.header.fields how from to
+            → (HasPrepared out → ⊥) → IfErr result (IsFaultOrLacksTable S.view self.new from) }
         ensures clears { (out : List (Option Prepared)) → ImageInvariant S.view F.backing (pending_in S.view F.backing self.old out) self.old out → IsWhole self.old.file.header.fields how from to
             → ClearsOrRefuses S.view F.backing how from to self.old self.new out result }
         ensures taken { (out : List (Option Prepared)) → ImageInvariant S.view F.backing (pending_in S.view F.backing self.old out) self.old out
             → IfErr result (λ e. e ≡ TablePrepared → IsUnderMapping self.old.file.header.fields from out) }
         ensures free { (out : List (Option Prepared)) → ImageInvariant S.view F.backing (pending_in S.view F.backing self.old out) self.old out
             → IfOk result (λ done. IsUnderMapping self.old.file.header.fields from out → ⊥) }
+        ensures faults { CountsFaults S.view F.backing self.old self.new result }
     {
         let table = self.table_for(from)?;
         if self.file.caches.l2_is_pinned(table) {
@@ -295,7 +310,10 @@ impl<S: Storage, F: WrappedFormat<S>> Qcow2<S, F> {
     ) -> Result<ClustersToFreeList, ImageError>
         requires near { first + count < 2 ^ 64 }
         ensures cause { IfErr result IsMet }
+        ensures only_faults { (p : Pending) (i : ℕ) → FileInvariant S.view p self.now.file → IsEntryAt self.now.file.header.fields (known_in S.view self.now.file) i table (first % entries_per_cluster self.now.file.header.fields)
+            → first / entries_per_cluster self.now.file.header.fields ≡ i → first % entries_per_cluster self.now.file.header.fields + count ≤ entries_per_cluster self.now.file.header.fields → IsSome (l2_at self.now.file.caches table) → IfErr result IsFault }
         ensures reads { IfOk result (ReadsAll S.view F.backing how table first count self.now) }
+        ensures faults { IfErr result IsNotOfStorage }
     {
         let mut dropped = ClustersToFreeList::new();
         for i in 0..count {
@@ -314,7 +332,10 @@ impl<S: Storage, F: WrappedFormat<S>> Qcow2<S, F> {
         how: Clearance,
     ) -> Result<(), ImageError>
         ensures cause { IfErr result IsMet }
+        ensures only_faults { (p : Pending) (i : ℕ) → FileInvariant S.view p self.now.file → IsEntryAt self.now.file.header.fields (known_in S.view self.now.file) i table (cluster % entries_per_cluster self.now.file.header.fields)
+            → cluster / entries_per_cluster self.now.file.header.fields ≡ i → IsSome (l2_at self.now.file.caches table) → IfErr result IsFault }
         ensures reads { OnOk result (ReadsDropped S.view F.backing how table cluster self.now list.old list.new) }
+        ensures faults { IfErr result IsNotOfStorage }
     {
         let old = self.cover_in(table, cluster)?;
         let run = how.dropped(old, self.file.header.cluster_bits());

@@ -60,6 +60,7 @@ impl<S: Storage, F: WrappedFormat<S>> Qcow2<S, F> {
         ensures room { IfOk result (HasRoom self.old.file.header.fields length) }
         ensures kept { (out : List (Option Prepared)) → ImageInvariant S.view F.backing (pending_in S.view F.backing self.old out) self.old out
             → HoldsTable S.view F.backing self.old offset table → IfOk result (BeginsInKept self.old.file.header.fields offset (cover self.old.file.header.fields (known_in S.view self.old.file) (offset / cluster_size self.old.file.header.fields))) }
+        ensures faults { CountsFaults S.view F.backing self.old self.new result }
     {
         if self.file.caches.l2_is_pinned(table) {
             return Err(ImageError::TablePrepared);
@@ -98,6 +99,7 @@ impl<S: Storage, F: WrappedFormat<S>> Qcow2<S, F> {
             → HoldsTable S.view F.backing self.old offset table → l2_pins self.old.file.caches table ≡ 0 → cover self.old.file.header.fields (known_in S.view self.old.file) (offset / cluster_size self.old.file.header.fields) ≡ old.now
             → Readies S.view F.backing self.old self.new out offset length overwrite result }
         ensures header { KeepsHeader self.old.file.header self.new.file.header }
+        ensures faults { CountsFaults S.view F.backing self.old self.new result }
     {
         match kept_place(old) {
             Some(host) => self.prepare_kept(table, offset, length, overwrite, host, room),
@@ -129,6 +131,7 @@ impl<S: Storage, F: WrappedFormat<S>> Qcow2<S, F> {
             → cover self.old.file.header.fields (known_in S.view self.old.file) (offset / cluster_size self.old.file.header.fields) ≡ L2Mapping.Zero (Some (host, true))
             → Readies S.view F.backing self.old self.new out offset length overwrite result }
         ensures header { self.new.file.header ≡ self.old.file.header }
+        ensures faults { CountsFaults S.view F.backing self.old self.new result }
     {
         self.fill_kept(host, offset, length, overwrite)?;
         Ok(self.prepare_at(table, offset, host, Share::Kept, room))
@@ -158,6 +161,7 @@ impl<S: Storage, F: WrappedFormat<S>> Qcow2<S, F> {
             → HoldsTable S.view F.backing self.old offset table → l2_pins self.old.file.caches table ≡ 0 → cover self.old.file.header.fields (known_in S.view self.old.file) (offset / cluster_size self.old.file.header.fields) ≡ old.now
             → Readies S.view F.backing self.old self.new out offset length overwrite result }
         ensures header { KeepsHeader self.old.file.header self.new.file.header }
+        ensures faults { CountsFaults S.view F.backing self.old self.new result }
     {
         let dropped = self.named_by(old)?;
         let pending = self.new_cluster(offset, length, overwrite, old)?;
@@ -249,6 +253,7 @@ impl<S: Storage, F: WrappedFormat<S>> Qcow2<S, F> {
         ensures stays { Stays self.old self.new }
         ensures cause { IfErr result IsMet }
         ensures gains { (p : Pending) (out : List (Option Prepared)) → ImageInvariant S.view F.backing p self.old out → HoldsAll S.view F.backing p out → Gains S.view F.backing p self.old self.new out offset length overwrite old.now result }
+        ensures faults { CountsFaults S.view F.backing self.old self.new result }
     {
         let pending = self.take_data()?;
         match self.fill_cluster(pending.cluster(), offset, length, overwrite, old) {
@@ -269,6 +274,7 @@ impl<S: Storage, F: WrappedFormat<S>> Qcow2<S, F> {
         ensures stays { Stays self.old self.new }
         ensures cause { IfErr result IsMet }
         ensures takes { (p : Pending) (out : List (Option Prepared)) → ImageInvariant S.view F.backing p self.old out → HoldsAll S.view F.backing p out → TakesData S.view F.backing p self.old self.new out result }
+        ensures faults { CountsFaults S.view F.backing self.old self.new result }
     {
         let Some(allocator) = &mut self.allocator else {
             unreachable!();

@@ -54,7 +54,9 @@ impl<S: Storage, F: WrappedFormat<S>> Qcow2<S, F> {
     ghost use Rattle.std.specs.String.{string_bytes};
     ghost use Rattle.qcow2_metadata.specs.Header.{header, cluster_size};
     ghost use Rattle.qcow2_alloc.specs.declared.error.ImageError.TheVariants.{Dependency, Failed, Memory};
-    ghost use Rattle.qcow2_image.specs.Faults.{NoFewerFaults};
+    ghost use Rattle.qcow2_alloc.specs.Faults.{FaultsTold};
+    ghost use Rattle.qcow2_image.specs.CountedOpening.{OpeningCounts};
+    ghost use Rattle.qcow2_image.specs.Faults.{CountsFaults, NoFewerFaults};
     ghost use Rattle.qcow2_image.specs.Image.{storage_of_image, HasNothingToFree, Stays, KeepsRest, IsSameImage, is_failed, is_writable, is_external, leaked_in, number_of, size_of};
     ghost use Rattle.std.specs.Prelude.{List, Option};
     ghost use Rattle.qcow2_disk.specs.AbstractImages.{guest_of};
@@ -76,6 +78,7 @@ impl<S: Storage, F: WrappedFormat<S>> Qcow2<S, F> {
     ghost use Rattle.qcow2_image.specs.ImageInvariant.{HasL1Table};
     ghost use Rattle.qcow2_image.specs.Created.{begins_image};
     ghost use Rattle.qcow2_image.specs.Growing.{SameFormat, WritesBack};
+    ghost use Rattle.qcow2_image.specs.Unwritten.{OnlyReads};
     ghost use Rattle.qcow2_image.specs.Opened.{IsFresh, StaysFresh, IsLoaded, IsKeptSince, SameNames, HasNamesIn, NeedsAnother, IsRefusedAlone, storage_after, Opens};
     ghost use Rattle.std.specs.Option.{is_some};
 
@@ -84,6 +87,7 @@ impl<S: Storage, F: WrappedFormat<S>> Qcow2<S, F> {
         ensures answer { (S.view storage.old).is_honest → IfOk result (λ found. found ≡ begins_image (byte_at (S.view storage.old).contents)) }
         ensures same { ContentsStay (S.view storage.old) (S.view storage.new) }
         ensures honest { (S.view storage.old).is_honest → (S.view storage.new).is_honest }
+        ensures faults { FaultsTold (S.view storage.old).faults (S.view storage.new).faults result }
         ensures time { Passing (S.view storage.old) (S.view storage.new) (λ c. c ≡ (S.view storage.new).contents) }
         ensures cause { IfErr result IsMet }
     {
@@ -106,6 +110,7 @@ impl<S: Storage, F: WrappedFormat<S>> Qcow2<S, F> {
         ensures since { (S.view metadata).is_honest → IsConsistent (byte_at (S.view metadata).contents) → IsKeptSince (S.view metadata) (S.view (storage_after result)) }
         ensures format { (S.view metadata).is_honest → IfOk result (λ image. SameFormat (header (byte_at (S.view metadata).contents)) image.file.header.fields) }
         ensures ok { IfOk result (λ image. (number_of image ≡ number) × (is_failed image ≡ false) × (is_writable image ≡ writable)) }
+        ensures faults { OpeningCounts S.view (S.view metadata).faults result }
         ensures below { IfOk result (λ image. is_some image.backing ≡ false) }
         ensures names { (S.view metadata).is_honest → IfOk result (λ image. HasNamesIn image.file.header (S.view metadata).contents) }
         ensures reading { writable ≡ false → ContentsStay (S.view metadata) (S.view (storage_after result)) }
@@ -126,6 +131,7 @@ impl<S: Storage, F: WrappedFormat<S>> Qcow2<S, F> {
         ensures since { (S.view metadata).is_honest → IsConsistent (byte_at (S.view metadata).contents) → IsKeptSince (S.view metadata) (S.view (storage_after result)) }
         ensures format { (S.view metadata).is_honest → IfOk result (λ image. SameFormat (header (byte_at (S.view metadata).contents)) image.file.header.fields) }
         ensures ok { IfOk result (λ image. (number_of image ≡ number) × (is_failed image ≡ false) × (is_writable image ≡ writable)) }
+        ensures faults { OpeningCounts S.view (S.view metadata).faults result }
         ensures below { IfOk result (λ image. is_some image.backing ≡ false) }
         ensures names { (S.view metadata).is_honest → IfOk result (λ image. HasNamesIn image.file.header (S.view metadata).contents) }
         ensures reading { writable ≡ false → ContentsStay (S.view metadata) (S.view (storage_after result)) }
@@ -147,6 +153,7 @@ impl<S: Storage, F: WrappedFormat<S>> Qcow2<S, F> {
         ensures since { (S.view metadata).is_honest → IsConsistent (byte_at (S.view metadata).contents) → IsKeptSince (S.view metadata) (S.view (storage_after result)) }
         ensures format { (S.view metadata).is_honest → IfOk result (λ image. SameFormat (header (byte_at (S.view metadata).contents)) image.file.header.fields) }
         ensures ok { IfOk result (λ image. (number_of image ≡ number) × (is_failed image ≡ false) × (is_writable image ≡ writable)) }
+        ensures faults { OpeningCounts S.view (S.view metadata).faults result }
         ensures below { IfOk result (λ image. is_some image.backing ≡ false) }
         ensures names { (S.view metadata).is_honest → IfOk result (λ image. HasNamesIn image.file.header (S.view metadata).contents) }
         ensures reading { writable ≡ false → ContentsStay (S.view metadata) (S.view (storage_after result)) }
@@ -194,6 +201,7 @@ impl<S: Storage, F: WrappedFormat<S>> Qcow2<S, F> {
     fn load_l1_table(file: &mut ImageFile<S>) -> Result<L1Table, ImageError>
         ensures rest { file.new ≡ record file.old { storage = file.new.storage } }
         ensures honest { (view_in S.view file.old).is_honest → (view_in S.view file.new).is_honest }
+        ensures faults { FaultsTold (view_in S.view file.old).faults (view_in S.view file.new).faults result }
         ensures same { ContentsStay (view_in S.view file.old) (view_in S.view file.new) }
         ensures time { Passing (view_in S.view file.old) (view_in S.view file.new) (λ c. c ≡ (view_in S.view file.new).contents) }
         ensures table { (view_in S.view file.old).is_honest → IfOk result (HasL1Table S.view F.backing file.new) }
@@ -221,6 +229,7 @@ impl<S: Storage, F: WrappedFormat<S>> Qcow2<S, F> {
     fn load_allocator(file: &mut ImageFile<S>) -> Result<Allocator, ImageError>
         ensures format { OnOk result (SameFormat file.old.header.fields file.new.header.fields) }
         ensures names { OnOk result (SameNames file.old.header file.new.header) }
+        ensures faults { FaultsTold (view_in S.view file.old).faults (view_in S.view file.new).faults result }
         ensures since { (p : Pending) → IsFresh S.view F.backing p file.old → IsKeptSince (view_in S.view file.old) (view_in S.view file.new) }
         ensures loaded { (p : Pending) → IsFresh S.view F.backing p file.old → IfOk result (λ allocator. StaysFresh S.view F.backing p file.old file.new × HasReftable S.view file.new allocator.reftable) }
         ensures cause { IfErr result IsMet }
@@ -237,6 +246,7 @@ impl<S: Storage, F: WrappedFormat<S>> Qcow2<S, F> {
         ensures reading { writable ≡ false → ContentsStay (view_in S.view file.old) (view_in S.view file.new) }
         ensures format { OnOk result (SameFormat file.old.header.fields file.new.header.fields) }
         ensures names { OnOk result (SameNames file.old.header file.new.header) }
+        ensures faults { FaultsTold (view_in S.view file.old).faults (view_in S.view file.new).faults result }
         ensures since { (p : Pending) → IsFresh S.view F.backing p file.old → IsKeptSince (view_in S.view file.old) (view_in S.view file.new) }
         ensures loaded { (p : Pending) → IsFresh S.view F.backing p file.old → IfOk result (λ tables. IsLoaded S.view F.backing p file.new tables.l1_table tables.allocator) }
         ensures cause { IfErr result IsMet }
@@ -366,6 +376,8 @@ impl<S: Storage, F: WrappedFormat<S>> Qcow2<S, F> {
         ensures sees { Flushes S.view F.backing self.old self.new result }
         ensures emptied { IsTrue (is_writable self.old) → OnOk result (HasNothingToFree self.new) }
         ensures writes { (p : Pending) → ImageInvariant S.view F.backing (with_listed p self.old.file.free_list) self.old [] → WritesBack S.view F.backing p self.old self.new result }
+        ensures unwritten { is_writable self.old ≡ false → OnlyReads S.view F.backing self.old self.new }
+        ensures faults { CountsFaults S.view F.backing self.old self.new result }
     {
         if self.is_failed {
             return Err(ImageError::Failed);
@@ -381,6 +393,8 @@ impl<S: Storage, F: WrappedFormat<S>> Qcow2<S, F> {
         ensures emptied { IsTrue (is_writable self.old) → OnOk result (HasNothingToFree self.new) }
         ensures frees { (p : Pending) (out : List (Option Prepared)) → ImageInvariant S.view F.backing (with_listed p self.old.file.free_list) self.old out → FreesListed S.view F.backing p self.old self.new out result }
         ensures written { IfOk result (λ done. known_in S.view self.new.file ≡ contents_in S.view self.new.file) }
+        ensures unwritten { is_writable self.old ≡ false → OnlyReads S.view F.backing self.old self.new }
+        ensures faults { CountsFaults S.view F.backing self.old self.new result }
     {
         self.free_listed()?;
         self.file.caches.flush_all(&mut self.file.storage)?;
@@ -398,6 +412,8 @@ impl<S: Storage, F: WrappedFormat<S>> Qcow2<S, F> {
         ensures frees { (p : Pending) (out : List (Option Prepared)) → ImageInvariant S.view F.backing (with_listed p self.old.file.free_list) self.old out → FreesListed S.view F.backing p self.old self.new out result }
         ensures faults { (p : Pending) (out : List (Option Prepared)) → ImageInvariant S.view F.backing (with_listed p self.old.file.free_list) self.old out → IfErr result IsFault }
         ensures noted { IsTrue self.old.file.caches.is_changed → IsTrue self.new.file.caches.is_changed }
+        ensures untouched { is_writable self.old ≡ false → self.new ≡ self.old }
+        ensures counts { CountsFaults S.view F.backing self.old self.new result }
     {
         let Some(allocator) = &mut self.allocator else {
             return Ok(());
@@ -414,6 +430,7 @@ impl<S: Storage, F: WrappedFormat<S>> Qcow2<S, F> {
         ensures frees { (out : List (Option Prepared)) → ImageInvariant S.view F.backing (pending_in S.view F.backing self.old out) self.old out
             → EndsFreeing S.view F.backing self.old self.new out result }
         ensures idle { self.old.file.free_list ≡ [] → (result ≡ Ok tt) × (self.new ≡ self.old) }
+        ensures faults { CountsFaults S.view F.backing self.old self.new result }
     {
         if self.file.free_list.is_empty() {
             return Ok(());

@@ -15,6 +15,7 @@ ghost use Rattle.qcow2_image.specs.Image.{Stays, IsSameImage, is_failed, is_writ
 ghost use Rattle.qcow2_image.specs.Prepared.{image_of, table_of};
 ghost use Rattle.qcow2_image.specs.Refusals.{unusable, refuses_mapping, refuses_to_read, IsMet, Marks};
 ghost use Rattle.qcow2_image.specs.SpecialReads.{TellsCompressed, TellsWhether};
+ghost use Rattle.qcow2_image.specs.Unwritten.{OnlyReads};
 ghost use Rattle.qcow2_alloc.specs.declared.error.ImageError.TheVariants.{NotCompressed, OutdatedMapping, ReadOnly};
 ghost use Rattle.qcow2_alloc.specs.ImageFile.{known_in};
 
@@ -29,6 +30,7 @@ impl<S: Storage, F: WrappedFormat<S>> Qcow2<S, F> {
     pub fn check_read(&self, offset: u64, length: u64) -> Result<(), ImageError>
         ensures refusal { MatchOption (refuses_to_read self.now offset length) (result ≡ Ok tt) (λ e. result ≡ Err e) }
         ensures end { IfOk result (λ done. offset + length < 2 ^ 64) }
+        ensures faults { IfErr result IsNotOfStorage }
     {
         self.check_usable()?;
         if passes(self.size(), offset, length) {
@@ -54,6 +56,7 @@ impl<S: Storage, F: WrappedFormat<S>> Qcow2<S, F> {
             → ¬ IsFoundWhole S.view self.new (mapping.now.offset + at) (further_by at mapping.now.kind) (length bytes.old) }
         ensures sees { Answers S.view F.backing self.old self.new [] (λ done old new. (new ≡ old) × Shows old.disk (mapping.now.offset + at) bytes.new) result }
         ensures faults { CountsFaults S.view F.backing self.old self.new result }
+        ensures unwritten { OnlyReads S.view F.backing self.old self.new }
     {
         self.check_usable()?;
         if mapping.image != self.number {
@@ -81,6 +84,7 @@ impl<S: Storage, F: WrappedFormat<S>> Qcow2<S, F> {
             → ¬ IsFoundWhole S.view self.new (mapping.now.offset + at) (further_by at mapping.now.kind) (length bytes.old) }
         ensures shows { 0 < length bytes.old → (p : Pending) (out : List (Option Prepared)) → ImageInvariant S.view F.backing p self.old out → IfOk result (λ done. Shows (disk_of S.view F.backing self.new) (mapping.now.offset + at) bytes.new) }
         ensures faults { CountsFaults S.view F.backing self.old self.new result }
+        ensures unwritten { OnlyReads S.view F.backing self.old self.new }
     {
         let offset = self.place_within(mapping.offset, at)?;
         let kind = mapping.kind.further(at);
@@ -116,6 +120,7 @@ impl<S: Storage, F: WrappedFormat<S>> Qcow2<S, F> {
         ensures outdated { (p : Pending) (out : List (Option Prepared)) → ImageInvariant S.view F.backing p self.old out → result ≡ Err OutdatedMapping → ¬ IsFoundWhole S.view self.new offset wanted.now length }
         ensures mapped { 0 < length → (p : Pending) (out : List (Option Prepared)) → ImageInvariant S.view F.backing p self.old out → IfOk result (λ done. IsMappedAs S.view self.new offset wanted.now length) }
         ensures faults { CountsFaults S.view F.backing self.old self.new result }
+        ensures unwritten { OnlyReads S.view F.backing self.old self.new }
     {
         let (kind, found) = self.look_up(offset, length)?;
         if found >= length && wanted.is(&kind) {
@@ -140,6 +145,7 @@ impl<S: Storage, F: WrappedFormat<S>> Qcow2<S, F> {
         ensures shows { (p : Pending) (out : List (Option Prepared)) → ImageInvariant S.view F.backing p self.old out → IsMappedAs S.view self.old offset kind.now (length bytes.old)
             → IfOk result (λ done. Shows (disk_of S.view F.backing self.new) offset bytes.new) }
         ensures faults { CountsFaults S.view F.backing self.old self.new result }
+        ensures unwritten { OnlyReads S.view F.backing self.old self.new }
     {
         match kind {
             MappingKind::Raw {
@@ -190,6 +196,7 @@ impl<S: Storage, F: WrappedFormat<S>> Qcow2<S, F> {
         ensures tells { 0 < length bytes.old → (out : List (Option Prepared)) → (abstract_of S.view F.backing self.old out).is_sound → IfErr result (TellsCompressed (known_in S.view self.old.file) offset) }
         ensures sees { Answers S.view F.backing self.old self.new [] (λ done was is. is ≡ was) result }
         ensures faults { CountsFaults S.view F.backing self.old self.new result }
+        ensures unwritten { OnlyReads S.view F.backing self.old self.new }
     {
         match self.try_readv_special(bytes, offset)? {
             None => Ok(()),
@@ -213,6 +220,7 @@ impl<S: Storage, F: WrappedFormat<S>> Qcow2<S, F> {
         ensures tells { 0 < length bytes.old → (out : List (Option Prepared)) → (abstract_of S.view F.backing self.old out).is_sound → TellsWhether (known_in S.view self.old.file) offset result }
         ensures sees { Answers S.view F.backing self.old self.new [] (λ at was is. is ≡ was) result }
         ensures faults { CountsFaults S.view F.backing self.old self.new result }
+        ensures unwritten { OnlyReads S.view F.backing self.old self.new }
     {
         self.check_usable()?;
         if bytes.is_empty() {
@@ -232,6 +240,7 @@ impl<S: Storage, F: WrappedFormat<S>> Qcow2<S, F> {
         ensures keeps { (p : Pending) (out : List (Option Prepared)) → ImageInvariant S.view F.backing p self.old out → UnseenStep S.view F.backing p p self.old self.new out }
         ensures tells { (p : Pending) (out : List (Option Prepared)) → ImageInvariant S.view F.backing p self.old out → TellsWhether (known_in S.view self.old.file) offset result }
         ensures faults { CountsFaults S.view F.backing self.old self.new result }
+        ensures unwritten { OnlyReads S.view F.backing self.old self.new }
     {
         let (kind, _length) = self.look_up(offset, length)?;
         if kind.is_special() {

@@ -8,8 +8,10 @@ ghost use Rattle.qcow2_image.specs.Found.{l1_index_of};
 ghost use Rattle.qcow2_image.specs.Image.{HasNothingToFree, Stays, is_writable};
 ghost use Rattle.qcow2_image.specs.ImageInvariant.{ImageInvariant, pending_in};
 ghost use Rattle.qcow2_image.specs.LongerTables.{run_of_table, listed, with_table, IsLonger, StandsWhole, PlacesTable, NamesTable, TakesTable, Lengthens, MakesEntry};
+ghost use Rattle.qcow2_image.specs.NewTables.{IsFaultOrLacksTable};
 ghost use Rattle.qcow2_image.specs.Refusals.{IsMet};
 ghost use Rattle.qcow2_image.specs.UnseenSteps.{ListGrows};
+ghost use Rattle.qcow2_image.specs.Faults.{CountsFaults, IsNotOfStorage};
 
 use crate::Qcow2;
 use image_access::{Storage, WrappedFormat};
@@ -26,10 +28,12 @@ impl<S: Storage, F: WrappedFormat<S>> Qcow2<S, F> {
         requires writable { IsTrue (is_writable self.old) }
         ensures stays { Stays self.old self.new }
         ensures cause { IfErr result IsMet }
+        ensures lacks { (out : List (Option Prepared)) → ImageInvariant S.view F.backing (pending_in S.view F.backing self.old out) self.old out → IfErr result (IsFaultOrLacksTable S.view self.new offset) }
         ensures reaches { OnOk result (l1_index_of self.old.file.header.fields offset < entry_count self.new.l1_table) }
         ensures none { l1_index_of self.old.file.header.fields offset < entry_count self.old.l1_table → self.new ≡ self.old }
         ensures emptied { entry_count self.old.l1_table ≤ l1_index_of self.old.file.header.fields offset → OnOk result (HasNothingToFree self.new) }
         ensures makes { (out : List (Option Prepared)) → ImageInvariant S.view F.backing (pending_in S.view F.backing self.old out) self.old out → MakesEntry S.view F.backing self.old self.new out result }
+        ensures faults { CountsFaults S.view F.backing self.old self.new result }
     {
         let index = GuestOffset::new(offset).l1_index(self.file.header.cluster_bits());
         if self.l1_table.in_bounds(index) {
@@ -46,6 +50,7 @@ impl<S: Storage, F: WrappedFormat<S>> Qcow2<S, F> {
         ensures lengthens { (p : Pending) (out : List (Option Prepared)) → ImageInvariant S.view F.backing p self.old out → Lengthens S.view F.backing p self.old self.new out result }
         ensures reaches { OnOk result (index < entry_count self.new.l1_table) }
         ensures list { OnOk result (ListGrows self.old self.new) }
+        ensures faults { CountsFaults S.view F.backing self.old self.new result }
     {
         if index >= MAX_L1_ENTRIES {
             return Err(ImageError::Limit);
@@ -69,6 +74,7 @@ impl<S: Storage, F: WrappedFormat<S>> Qcow2<S, F> {
     fn former_l1_table(&self) -> Result<Option<PendingClusters>, ImageError>
         ensures cause { IfErr result IsMet }
         ensures run { IfOk result (λ former. former ≡ run_of_table self.now.l1_table self.now.l1_table.cluster) }
+        ensures faults { IfErr result IsNotOfStorage }
     {
         let Some(cluster) = self.l1_table.get_cluster() else {
             return Ok(None);
@@ -85,6 +91,7 @@ impl<S: Storage, F: WrappedFormat<S>> Qcow2<S, F> {
         ensures takes { (p : Pending) (out : List (Option Prepared)) → ImageInvariant S.view F.backing p self.old out → IsLonger self.old table → TakesTable S.view F.backing p self.old self.new out result }
         ensures entries { OnOk result (entry_count self.new.l1_table ≡ entry_count table) }
         ensures list { OnOk result (ListGrows self.old self.new) }
+        ensures faults { CountsFaults S.view F.backing self.old self.new result }
     {
         let Some(allocator) = &mut self.allocator else {
             return Err(ImageError::ReadOnly);
@@ -111,6 +118,7 @@ impl<S: Storage, F: WrappedFormat<S>> Qcow2<S, F> {
             → NamesTable S.view F.backing p self.old self.new out table cluster result }
         ensures entries { OnOk result (entry_count self.new.l1_table ≡ entry_count table) }
         ensures list { self.new.file.free_list ≡ self.old.file.free_list }
+        ensures faults { CountsFaults S.view F.backing self.old self.new result }
     {
         self.place_l1_table(&mut table, cluster)?;
         self.name_l1_table(table, cluster)
@@ -128,6 +136,7 @@ impl<S: Storage, F: WrappedFormat<S>> Qcow2<S, F> {
         ensures places { (p : Pending) (out : List (Option Prepared)) → ImageInvariant S.view F.backing (with_table p table.old cluster) self.old out → IsLonger self.old table.old
             → PlacesTable S.view F.backing (with_table p table.old cluster) self.old self.new out table.new cluster result }
         ensures table { OnOk result (table.new ≡ record table.old { cluster = Some cluster }) }
+        ensures faults { CountsFaults S.view F.backing self.old self.new result }
     {
         if !cluster.is_nameable(table.cluster_bits()) {
             return Err(ImageError::Limit);
@@ -148,6 +157,7 @@ impl<S: Storage, F: WrappedFormat<S>> Qcow2<S, F> {
             → NamesTable S.view F.backing p self.old self.new out table cluster result }
         ensures entries { OnOk result (entry_count self.new.l1_table ≡ entry_count table) }
         ensures list { self.new.file.free_list ≡ self.old.file.free_list }
+        ensures faults { CountsFaults S.view F.backing self.old self.new result }
     {
         let offset = cluster.offset(self.file.header.cluster_bits());
         self.file.header.set_l1_table(offset, table.len() as u32)?;

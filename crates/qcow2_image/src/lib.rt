@@ -26,6 +26,6 @@ pub use prepared::{CommitRefused, Prepared};
 pub use qcow2_alloc::async_lru_cache::{AsyncLruCache, AsyncLruCacheBackend, CacheError};
 pub use qcow2_alloc::{
     Allocator, ClusterKind, ClustersToFreeEntry, ClustersToFreeList, Direction, ImageError,
-    ImageFile, ImageStorage, L2CacheBackend, MetadataCaches, PendingClusters,
-    RefBlockCacheBackend, TakenClusters, WriteKind,
+    ImageFile, ImageStorage, L2CacheBackend, MetadataCaches, PendingClusters, RefBlockCacheBackend,
+    TakenClusters, WriteKind,
 };

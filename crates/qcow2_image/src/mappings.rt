@@ -1,13 +1,14 @@
 //! What a guest range is mapped to, and making it writable.
-ghost use Rattle.std.specs.Prelude.{◌↔◌, ℕ, List, Option, is_some, ◌≡◌, ◌≢◌, ◌+◌, ◌*◌, ◌-◌, ◌/◌, ◌%◌, true, Some, ◌^◌, ◌<◌, ◌≤◌, [], ◌∷◌, ◌++◌, length, slice_get, IfOk, IfErr, IfSome, OnOk, IsOk, IsNone, IsSome, IsTrue, IsFalse, MatchOption, Ok, Err, None, false};
+ghost use Rattle.std.specs.Prelude.{◌↔◌, ℕ, List, Option, is_some, ◌≡◌, ◌⊎◌, ◌≢◌, ◌+◌, ◌*◌, ◌-◌, ◌/◌, ◌%◌, true, Some, ◌^◌, ◌<◌, ◌≤◌, [], ◌∷◌, ◌++◌, length, slice_get, IfOk, IfErr, IfSome, OnOk, IsOk, IsNone, IsSome, IsTrue, IsFalse, MatchOption, Ok, Err, None, false};
 ghost use Rattle.qcow2_metadata.specs.L2Mapping.{IsInReach, greatest_offset, named_run};
 ghost use Rattle.qcow2_disk.specs.Mappings.{is_copied_data};
 ghost use Rattle.qcow2_image.specs.Image.{HasNothingToFree, Stays, IsSameImage, is_failed, is_writable, number_of, size_of};
 ghost use Rattle.qcow2_image.specs.Prepared.{image_of, length_of, offset_of, table_of, IsKept};
 ghost use Rattle.qcow2_image.specs.Preparing.{IsAnswered, IsOfNothing, IsPlaceOf, IsTaken};
 ghost use Rattle.qcow2_image.specs.Ranges.{LetsGo, Reaches};
+ghost use Rattle.qcow2_image.specs.Unwritten.{OnlyReads};
 ghost use Rattle.qcow2_laws.specs.CrashInvariant.{Pending};
-ghost use Rattle.qcow2_alloc.specs.MetadataCaches.{IsEntryAt};
+ghost use Rattle.qcow2_alloc.specs.MetadataCaches.{IsEntryAt, l2_at};
 ghost use Rattle.qcow2_alloc.specs.ImageFile.{known_in, FileInvariant};
 ghost use Rattle.qcow2_alloc.specs.ImageStorage.{storage_of};
 ghost use Rattle.qcow2_image.specs.declared.prepared.Prepared.{Prepared};
@@ -17,7 +18,8 @@ ghost use Rattle.qcow2_alloc.specs.CacheMarks.{l2_pins};
 ghost use Rattle.qcow2_alloc.specs.ImageError.{IsFault, IsOfTables};
 ghost use Rattle.qcow2_disk.specs.Alike.{IsAlike};
 ghost use Rattle.qcow2_disk.specs.Found.{IsFoundIn, kind_at, rest_of_table};
-ghost use Rattle.qcow2_image.specs.Faults.{CountsFaults, IsNotOfStorage};
+ghost use Rattle.qcow2_image.specs.Faults.{CountsFaults, IsNotOfStorage, NoFewerFaults, TellsFault};
+ghost use Rattle.qcow2_image.specs.declared.image.Qcow2.{Qcow2};
 ghost use Rattle.qcow2_image.specs.Found.{found_kind, mapping_of, IsRunBehind, NamesTable, IsRunFrom, IsFound, l1_index_of, l2_index_of};
 ghost use Rattle.qcow2_image.specs.UnseenSteps.{DropsNothing, HoldsTable, UnseenStep, EntersCluster, EntersShare, FreesLater, Unpins, dropped_by, freed_by};
 ghost use Rattle.qcow2_image.specs.ImageInvariant.{HasL1Table, ImageInvariant, listed_run, meaning, pending_in, abstract_of};
@@ -25,7 +27,7 @@ ghost use Rattle.qcow2_metadata.specs.Header.{cluster_size, entries_per_cluster}
 ghost use Rattle.qcow2_metadata.specs.Cover.{cover};
 ghost use Rattle.qcow2_image.specs.declared.mapping.Place.TheVariants.{Image};
 ghost use Rattle.qcow2_image.specs.declared.mapping.MappingKind.TheVariants.{Eof};
-ghost use Rattle.qcow2_image.specs.Refusals.{unusable, refuses_to_prepare, passes as passes_size, IsMet, IsMetPreparing, Marks};
+ghost use Rattle.qcow2_image.specs.Refusals.{FreesRefused, unusable, refuses_to_prepare, passes as passes_size, IsMet, IsMetPreparing, Marks};
 ghost use Rattle.qcow2_image.specs.declared.prepared.CommitRefused.TheVariants.{Kept, Spent};
 ghost use Rattle.qcow2_image.specs.declared.prepared.Share.TheVariants.{InPlace};
 ghost use Rattle.qcow2_alloc.specs.declared.error.ImageError.TheVariants.{Failed, ForeignState, TablePrepared};
@@ -79,6 +81,7 @@ pub(crate) fn passes(size: u64, offset: u64, length: u64) -> bool
 fn refused_commit(refusal: ImageError, prepared: Prepared, is_changed: bool) -> CommitRefused
     ensures spent { IsTrue is_changed → result ≡ Spent refusal }
     ensures kept { IsFalse is_changed → result ≡ Kept refusal prepared }
+    ensures reason { reason_of result ≡ refusal }
 {
     if is_changed {
         let Prepared {
@@ -98,6 +101,7 @@ fn refused_commit(refusal: ImageError, prepared: Prepared, is_changed: bool) -> 
 // Whether nothing more is done after a refusal.
 fn is_last(refusal: &ImageError) -> bool
     ensures fault { IsFault refusal.now → IsTrue result }
+    ensures last { IsTrue result → IsFault refusal.now ⊎ (refusal.now ≡ TablePrepared) }
 {
     matches!(
         refusal,
@@ -160,6 +164,7 @@ impl<S: Storage, F: WrappedFormat<S>> Qcow2<S, F> {
         ensures known { (out : List (Option Prepared)) → (abstract_of S.view F.backing self.old out).is_sound → known_in S.view self.new.file ≡ known_in S.view self.old.file }
         ensures run { (out : List (Option Prepared)) → (abstract_of S.view F.backing self.old out).is_sound → IfOk result (λ (mapping, n). IsFoundIn (known_in S.view self.new.file) (is_some self.new.backing) offset max (found_kind mapping.kind) n) }
         ensures faults { CountsFaults S.view F.backing self.old self.new result }
+        ensures unwritten { OnlyReads S.view F.backing self.old self.new }
     {
         self.check_usable()?;
         self.begin();
@@ -189,6 +194,7 @@ impl<S: Storage, F: WrappedFormat<S>> Qcow2<S, F> {
         ensures past { size_of self.old ≤ offset → result ≡ Ok (Eof, 0) }
         ensures found { (p : Pending) (out : List (Option Prepared)) → ImageInvariant S.view F.backing p self.old out → IfOk result (λ (kind, n). IsFound S.view self.new offset max kind n) }
         ensures faults { CountsFaults S.view F.backing self.old self.new result }
+        ensures unwritten { OnlyReads S.view F.backing self.old self.new }
     {
         let size = self.file.header.size();
         if offset >= size {
@@ -348,8 +354,10 @@ impl<S: Storage, F: WrappedFormat<S>> Qcow2<S, F> {
         ensures some { IfOk result (λ p. 0 < length → 0 < length_of p) }
         ensures end { IfOk result (λ p. offset + length < 2 ^ 64) }
         ensures sees { Prepares S.view F.backing self.old self.new offset length overwrite result }
+        ensures emptied { refuses_to_prepare self.old offset length ≡ None → (out : List (Option Prepared)) → (abstract_of S.view F.backing self.old out).is_sound → IfErr result (FreesRefused self.new) }
         ensures maps { 0 < length → (out : List (Option Prepared)) → (abstract_of S.view F.backing self.old out).is_sound
             → IfOk result (λ p. IsAnswered self.old.file.header.fields (known_in S.view self.old.file) offset length self.new.file.header.fields (known_in S.view self.new.file) p (meaning S.view F.backing self.new p)) }
+        ensures faults { CountsFaults S.view F.backing self.old self.new result }
     {
         self.check_prepare(offset, length)?;
         if length == 0 {
@@ -365,6 +373,7 @@ impl<S: Storage, F: WrappedFormat<S>> Qcow2<S, F> {
         ensures refusal { MatchOption (refuses_to_prepare self.now offset length) (result ≡ Ok tt) (λ e. result ≡ Err e) }
         ensures writable { result ≡ Ok tt → 0 < length → IsTrue (is_writable self.now) }
         ensures end { IfOk result (λ done. offset + length < 2 ^ 64) }
+        ensures faults { IfErr result IsNotOfStorage }
     {
         self.check_usable()?;
         if passes(self.file.header.size(), offset, length) {
@@ -393,6 +402,7 @@ impl<S: Storage, F: WrappedFormat<S>> Qcow2<S, F> {
         }
     }
 
+    // Makes a range ready. Where that is refused, the clusters that are to be freed are freed, but after a fault and under another mapping.
     pub(crate) fn prepare(
         &mut self,
         offset: u64,
@@ -410,18 +420,18 @@ impl<S: Storage, F: WrappedFormat<S>> Qcow2<S, F> {
             → PreparesRange S.view F.backing self.old self.new out offset length overwrite result }
         ensures answers { 0 < length → (out : List (Option Prepared)) → ImageInvariant S.view F.backing (pending_in S.view F.backing self.old out) self.old out
             → IfOk result (λ q. IsAnswered self.old.file.header.fields (known_in S.view self.old.file) offset length self.new.file.header.fields (known_in S.view self.new.file) q (meaning S.view F.backing self.new q)) }
+        ensures emptied { 0 < length → (out : List (Option Prepared)) → ImageInvariant S.view F.backing (pending_in S.view F.backing self.old out) self.old out → IfErr result (FreesRefused self.new) }
+        ensures faults { CountsFaults S.view F.backing self.old self.new result }
     {
-        let table = self.table_for(offset)?;
-        match self.existing_host(table, offset, length)? {
-            Some(host) => Ok(self.existing_at(offset, host, length)),
-            None => self.prepare_or_free(table, offset, length, overwrite),
+        match self.prepare_range(offset, length, overwrite) {
+            Ok(prepared) => Ok(prepared),
+            Err(refusal) => Err(self.free_after(refusal)),
         }
     }
 
-    // Makes a range ready in a held table. Where that is refused, the clusters that are to be freed are freed.
-    fn prepare_or_free(
+    // Makes a range ready: as it stands, or in the L2 table that it needs.
+    fn prepare_range(
         &mut self,
-        table: HostCluster,
         offset: u64,
         length: u64,
         overwrite: bool,
@@ -429,17 +439,20 @@ impl<S: Storage, F: WrappedFormat<S>> Qcow2<S, F> {
         requires writable { IsTrue (is_writable self.old) }
         ensures stays { Stays self.old self.new }
         ensures cause { IfErr result IsMetPreparing }
-        ensures taken { IfErr result (λ e. e ≡ TablePrepared → 0 < l2_pins self.old.file.caches table) }
+        ensures taken { 0 < length → (out : List (Option Prepared)) → ImageInvariant S.view F.backing (pending_in S.view F.backing self.old out) self.old out
+            → IfErr result (λ e. e ≡ TablePrepared → IsTaken self.old.file.header.fields (known_in S.view self.old.file) offset length out) }
         ensures own { IfOk result (λ p. image_of p ≡ number_of self.old) }
-        ensures some { IfOk result (λ p. 0 < length_of p) }
-        ensures readies { (out : List (Option Prepared)) → ImageInvariant S.view F.backing (pending_in S.view F.backing self.old out) self.old out
-            → HoldsTable S.view F.backing self.old offset table → PreparesRange S.view F.backing self.old self.new out offset length overwrite result }
-        ensures reaches { (out : List (Option Prepared)) (k : ℕ) → slice_get out k ≡ Some None → ImageInvariant S.view F.backing (pending_in S.view F.backing self.old out) self.old out
-            → HoldsTable S.view F.backing self.old offset table → IfOk result (Reaches S.view self.new offset length) }
+        ensures some { IfOk result (λ p. 0 < length → 0 < length_of p) }
+        ensures readies { 0 < length → (out : List (Option Prepared)) → ImageInvariant S.view F.backing (pending_in S.view F.backing self.old out) self.old out
+            → PreparesRange S.view F.backing self.old self.new out offset length overwrite result }
+        ensures answers { 0 < length → (out : List (Option Prepared)) → ImageInvariant S.view F.backing (pending_in S.view F.backing self.old out) self.old out
+            → IfOk result (λ q. IsAnswered self.old.file.header.fields (known_in S.view self.old.file) offset length self.new.file.header.fields (known_in S.view self.new.file) q (meaning S.view F.backing self.new q)) }
+        ensures faults { CountsFaults S.view F.backing self.old self.new result }
     {
-        match self.prepare_in(table, offset, length, overwrite) {
-            Ok(prepared) => Ok(prepared),
-            Err(refusal) => Err(self.free_after(refusal)),
+        let table = self.table_for(offset)?;
+        match self.existing_host(table, offset, length)? {
+            Some(host) => Ok(self.existing_at(offset, host, length)),
+            None => self.prepare_in(table, offset, length, overwrite),
         }
     }
 
@@ -449,7 +462,9 @@ impl<S: Storage, F: WrappedFormat<S>> Qcow2<S, F> {
         ensures cause { IsMetPreparing refusal → IsMetPreparing result }
         ensures taken { IsMetPreparing refusal → result ≡ TablePrepared → refusal ≡ TablePrepared }
         ensures fault { IsFault refusal → (result ≡ refusal) × (self.new ≡ self.old) }
+        ensures emptied { IsTrue (is_writable self.old) → (out : List (Option Prepared)) → ImageInvariant S.view F.backing (pending_in S.view F.backing self.old out) self.old out → FreesRefused self.new result }
         ensures frees { (out : List (Option Prepared)) → ImageInvariant S.view F.backing (pending_in S.view F.backing self.old out) self.old out → RefusedCall S.view F.backing self.old self.new out result }
+        ensures faults { (start : Qcow2 S F) → CountsFaults S.view F.backing {T = Unit {0}} start self.old (Err refusal) → CountsFaults S.view F.backing {T = Unit {0}} start self.new (Err result) }
     {
         if is_last(&refusal) {
             return refusal;
@@ -471,6 +486,7 @@ impl<S: Storage, F: WrappedFormat<S>> Qcow2<S, F> {
         ensures place { (p : Pending) → FileInvariant S.view p self.now.file
             → IsEntryAt self.now.file.header.fields (known_in S.view self.now.file) (l1_index_of self.now.file.header.fields offset) table (l2_index_of self.now.file.header.fields offset)
             → 0 < length → IfOk result (IsPlaceOf self.now.file.header.fields (known_in S.view self.now.file) offset length) }
+        ensures faults { IfErr result IsNotOfStorage }
     {
         let max = length.min(self.rest_of_table(offset));
         let (kind, found) = self.run_in_table(table, offset, max)?;
@@ -498,6 +514,7 @@ impl<S: Storage, F: WrappedFormat<S>> Qcow2<S, F> {
             → HoldsTable S.view F.backing self.old offset table → PreparesRange S.view F.backing self.old self.new out offset length overwrite result }
         ensures reaches { (out : List (Option Prepared)) (k : ℕ) → slice_get out k ≡ Some None → ImageInvariant S.view F.backing (pending_in S.view F.backing self.old out) self.old out
             → HoldsTable S.view F.backing self.old offset table → IfOk result (Reaches S.view self.new offset length) }
+        ensures faults { CountsFaults S.view F.backing self.old self.new result }
     {
         let mut prepared = self.prepare_first(table, offset, length, overwrite)?;
         match self.prepare_rest(&mut prepared, table, length, overwrite) {
@@ -517,8 +534,11 @@ impl<S: Storage, F: WrappedFormat<S>> Qcow2<S, F> {
     ) -> Result<L2Mapping, ImageError>
         ensures reach { IfOk result IsInReach }
         ensures cause { IfErr result IsMet }
+        ensures reads { (p : Pending) (i : ℕ) → FileInvariant S.view p self.now.file → IsEntryAt self.now.file.header.fields (known_in S.view self.now.file) i table (cluster % entries_per_cluster self.now.file.header.fields)
+            → cluster / entries_per_cluster self.now.file.header.fields ≡ i → IsSome (l2_at self.now.file.caches table) → IsOk result }
         ensures says { (p : Pending) (i : ℕ) → FileInvariant S.view p self.now.file → IsEntryAt self.now.file.header.fields (known_in S.view self.now.file) i table (cluster % entries_per_cluster self.now.file.header.fields)
             → cluster / entries_per_cluster self.now.file.header.fields ≡ i → IfOk result (λ mapping. cover self.now.file.header.fields (known_in S.view self.now.file) cluster ≡ mapping) }
+        ensures faults { IfErr result IsNotOfStorage }
     {
         let Some(held) = self.file.caches.l2_peek(table) else {
             return Err(ImageError::InUse);
@@ -531,6 +551,7 @@ impl<S: Storage, F: WrappedFormat<S>> Qcow2<S, F> {
         requires { IsInReach mapping.now }
         ensures list { IfOk result (λ list. list ≡ listed_run (named_run self.now.file.header.fields.cluster_bits mapping.now)) }
         ensures cause { IfErr result IsMet }
+        ensures faults { IfErr result IsNotOfStorage }
     {
         let mut list = ClustersToFreeList::new();
         let mapping = *mapping;
@@ -554,11 +575,12 @@ impl<S: Storage, F: WrappedFormat<S>> Qcow2<S, F> {
         ensures failed { image_of prepared ≡ number_of self.old → IsTrue (is_failed self.old) → (result ≡ Err (Kept Failed prepared)) × (self.new ≡ self.old) }
         ensures kept { IfErr result (IsKept prepared) }
         ensures late { image_of prepared ≡ number_of self.old → is_failed self.old ≡ false → IfErr result (λ r. IsMet (reason_of r)) }
-        ensures existing { image_of prepared ≡ number_of self.old → is_failed self.old ≡ false → IsNone (table_of prepared) → result ≡ Ok tt }
+        ensures existing { image_of prepared ≡ number_of self.old → is_failed self.old ≡ false → IsNone (table_of prepared) → (result ≡ Ok tt) × LetsGo S.view self.old self.new }
         ensures image { IsSameImage self.old self.new }
         ensures sees { Commits S.view F.backing self.old self.new prepared result }
         ensures emptied { image_of prepared ≡ number_of self.old → IsSome (table_of prepared) → IsTrue (is_writable self.old) → OnOk result (HasNothingToFree self.new) }
         ensures quiet { HasNothingToFree self.old → DropsNothing prepared → storage_of self.new.file.storage ≡ storage_of self.old.file.storage }
+        ensures faults { NoFewerFaults S.view F.backing self.old self.new × IfErr result (λ r. TellsFault S.view F.backing self.old self.new (reason_of r)) }
     {
         if prepared.image != self.number {
             return Err(CommitRefused::Kept(ImageError::ForeignState, prepared));
@@ -591,6 +613,7 @@ impl<S: Storage, F: WrappedFormat<S>> Qcow2<S, F> {
         ensures left { freed_by prepared.new.shares.items ≡ [] }
         ensures storage { self.new.file.storage ≡ self.old.file.storage }
         ensures quiet { DropsNothing prepared.old → self.new.file.free_list ≡ self.old.file.free_list }
+        ensures faults { NoFewerFaults S.view F.backing self.old self.new }
     {
         let mut entered = false;
         for i in 0..prepared.shares.len() {
@@ -648,6 +671,8 @@ impl<S: Storage, F: WrappedFormat<S>> Qcow2<S, F> {
         ensures foreign { IfErr result (λ (e, p). (image_of prepared ≢ number_of self.old) × (e ≡ ForeignState) × (p ≡ prepared) × (self.new ≡ self.old)) }
         ensures stays { Stays self.old self.new }
         ensures sees { IfOk result (λ done. Discards S.view F.backing self.old self.new prepared) }
+        ensures rest { IfOk result (λ done. LetsGo S.view self.old self.new) }
+        ensures faults { NoFewerFaults S.view F.backing self.old self.new }
     {
         if prepared.image != self.number {
             return Err((ImageError::ForeignState, prepared));
@@ -662,6 +687,7 @@ impl<S: Storage, F: WrappedFormat<S>> Qcow2<S, F> {
         ensures list { self.new.file.free_list ≡ self.old.file.free_list ++ freed_by prepared.shares.items }
         ensures rest { LetsGo S.view self.old self.new }
         ensures sees { Discards S.view F.backing self.old self.new prepared }
+        ensures faults { NoFewerFaults S.view F.backing self.old self.new }
     {
         let Prepared {
             image: _,

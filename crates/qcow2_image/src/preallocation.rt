@@ -11,6 +11,7 @@ ghost use Rattle.qcow2_image.specs.Image.{Stays, is_writable, size_of};
 ghost use Rattle.qcow2_image.specs.ImageInvariant.{ImageInvariant, pending_in};
 ghost use Rattle.qcow2_image.specs.Preallocation.{AreZeros, CommitsWhole, FillsFirst, FillsGrownOrRefuses, FillsOrRefuses, IsWholeRange, most_of};
 ghost use Rattle.qcow2_image.specs.Refusals.{IsMet, IsMetPreparing};
+ghost use Rattle.qcow2_image.specs.Faults.{CountsFaults, IsNotOfStorage, NoFewerFaults};
 
 use crate::discarding::{Clearance, rounded_up};
 use crate::{Prepared, Qcow2};
@@ -39,6 +40,7 @@ impl ZeroWrites {
         ensures most { IfOk result (λ writes. most_of writes ≡ count) }
         ensures zeros { IfOk result AreZeros }
         ensures cause { IfErr result IsMet }
+        ensures faults { IfErr result IsNotOfStorage }
     {
         let zeros = vec![in alloc; 0; count]?;
         Ok(ZeroWrites::Plain(zeros))
@@ -87,6 +89,7 @@ impl<S: Storage, F: WrappedFormat<S>> Qcow2<S, F> {
         ensures version { mode ≡ Zero → self.old.file.header.fields.version < 3 → (result ≡ Err Version) × (self.new ≡ self.old) }
         ensures fills { (out : List (Option Prepared)) → ImageInvariant S.view F.backing (pending_in S.view F.backing self.old out) self.old out
             → FillsGrownOrRefuses S.view F.backing size mode self.old self.new out result }
+        ensures faults { CountsFaults S.view F.backing self.old self.new result }
     {
         match mode {
             PreallocateMode::None => Ok(()),
@@ -109,6 +112,7 @@ impl<S: Storage, F: WrappedFormat<S>> Qcow2<S, F> {
         ensures cause { IfErr result IsMetPreparing }
         ensures fills { (out : List (Option Prepared)) → ImageInvariant S.view F.backing (pending_in S.view F.backing self.old out) self.old out
             → old ≤ size → FillsOrRefuses S.view F.backing (rounded_up_to (cluster_size self.old.file.header.fields) size) old (rounded_up_to (cluster_size self.old.file.header.fields) size) self.old self.new out result }
+        ensures faults { CountsFaults S.view F.backing self.old self.new result }
     {
         let Some(end) = rounded_up(size, self.file.header.cluster_size()) else {
             return Err(ImageError::Overflow);
@@ -124,6 +128,7 @@ impl<S: Storage, F: WrappedFormat<S>> Qcow2<S, F> {
         ensures version { self.old.file.header.fields.version < 3 → (result ≡ Err Version) × (self.new ≡ self.old) }
         ensures fills { (out : List (Option Prepared)) → ImageInvariant S.view F.backing (pending_in S.view F.backing self.old out) self.old out
             → old ≤ size → FillsOrRefuses S.view F.backing (rounded_up_to (cluster_size self.old.file.header.fields) old) old (rounded_up_to (cluster_size self.old.file.header.fields) size) self.old self.new out result }
+        ensures faults { CountsFaults S.view F.backing self.old self.new result }
     {
         if self.file.header.version() < 3 {
             return Err(ImageError::Version);
@@ -145,6 +150,7 @@ impl<S: Storage, F: WrappedFormat<S>> Qcow2<S, F> {
         ensures cause { IfErr result IsMetPreparing }
         ensures fills { (out : List (Option Prepared)) → ImageInvariant S.view F.backing (pending_in S.view F.backing self.old out) self.old out → old ≤ from → from ≤ end → IsWholeRange self.old.file.header.fields from end
             → 3 ≤ self.old.file.header.fields.version → FillsOrRefuses S.view F.backing from old end self.old self.new out result }
+        ensures faults { CountsFaults S.view F.backing self.old self.new result }
     {
         let next = self.zero_first(from, end)?;
         self.fill_range(old, from, &ZeroWrites::Short)?;
@@ -158,6 +164,7 @@ impl<S: Storage, F: WrappedFormat<S>> Qcow2<S, F> {
         ensures cause { IfErr result IsMetPreparing }
         ensures fills { (out : List (Option Prepared)) → ImageInvariant S.view F.backing (pending_in S.view F.backing self.old out) self.old out → from ≤ to → IsWholeRange self.old.file.header.fields from to
             → 3 ≤ self.old.file.header.fields.version → FillsOrRefuses S.view F.backing 0 from to self.old self.new out result }
+        ensures faults { CountsFaults S.view F.backing self.old self.new result }
     {
         let mut at = from;
         while at < to {
@@ -175,6 +182,7 @@ impl<S: Storage, F: WrappedFormat<S>> Qcow2<S, F> {
         ensures whole { (out : List (Option Prepared)) → ImageInvariant S.view F.backing (pending_in S.view F.backing self.old out) self.old out → IsWholeRange self.old.file.header.fields from to → IfOk result (λ next. next % cluster_size self.old.file.header.fields ≡ 0) }
         ensures fills { (out : List (Option Prepared)) → ImageInvariant S.view F.backing (pending_in S.view F.backing self.old out) self.old out → from ≤ to → IsWholeRange self.old.file.header.fields from to
             → 3 ≤ self.old.file.header.fields.version → FillsFirst S.view F.backing 0 from to self.old self.new out result }
+        ensures faults { CountsFaults S.view F.backing self.old self.new result }
     {
         if to <= from {
             return Ok(from);
@@ -194,6 +202,7 @@ impl<S: Storage, F: WrappedFormat<S>> Qcow2<S, F> {
         ensures cause { IfErr result IsMetPreparing }
         ensures fills { (out : List (Option Prepared)) → ImageInvariant S.view F.backing (pending_in S.view F.backing self.old out) self.old out
             → from ≤ to → to % cluster_size self.old.file.header.fields ≡ 0 → FillsOrRefuses S.view F.backing to from to self.old self.new out result }
+        ensures faults { CountsFaults S.view F.backing self.old self.new result }
     {
         let mut at = from;
         while at < to {
@@ -213,6 +222,7 @@ impl<S: Storage, F: WrappedFormat<S>> Qcow2<S, F> {
         ensures next { IfOk result (λ next. (from < next) × (next ≤ to)) }
         ensures fills { (out : List (Option Prepared)) → ImageInvariant S.view F.backing (pending_in S.view F.backing self.old out) self.old out
             → to % cluster_size self.old.file.header.fields ≡ 0 → FillsFirst S.view F.backing to from to self.old self.new out result }
+        ensures faults { CountsFaults S.view F.backing self.old self.new result }
     {
         let prepared = self.prepare(from, writes.most().min(to - from), true)?;
         let next = to.min(from.saturating_add(prepared.length));
@@ -232,6 +242,7 @@ impl<S: Storage, F: WrappedFormat<S>> Qcow2<S, F> {
         ensures stays { Stays self.old self.new }
         ensures cause { IfErr result IsMet }
         ensures written { WritesBytes S.view self.old self.new host (replicate count 0) result }
+        ensures faults { CountsFaults S.view F.backing self.old self.new result }
     {
         self.file.storage.will_write(WriteKind::Data);
         writes.write(&mut self.file.storage, host, count)?;
@@ -244,6 +255,7 @@ impl<S: Storage, F: WrappedFormat<S>> Qcow2<S, F> {
         ensures header { self.new.file.header ≡ self.old.file.header }
         ensures commits { (out : List (Option Prepared)) (k : ℕ) → slice_get out k ≡ Some (Some prepared) → ImageInvariant S.view F.backing (pending_in S.view F.backing self.old out) self.old out
             → CommitsWhole S.view F.backing self.old self.new out k prepared (slice_set out k None) }
+        ensures faults { NoFewerFaults S.view F.backing self.old self.new }
     {
         if prepared.table.is_none() {
             self.let_go(prepared);

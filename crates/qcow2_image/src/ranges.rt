@@ -13,6 +13,7 @@ ghost use Rattle.qcow2_image.specs.CallParts.{IsReadied};
 ghost use Rattle.qcow2_image.specs.ImageInvariant.{pending_in, ImageInvariant};
 ghost use Rattle.qcow2_image.specs.UnseenSteps.{HoldsAll, ListGrows};
 ghost use Rattle.qcow2_image.specs.Ranges.{FindsBehind, GainsAt, GoesNext, GoesOn, HasRoom, IsLonger, IsNext, IsWhole, MayGoOn, SharesAt, TakesDataAt};
+ghost use Rattle.qcow2_image.specs.Faults.{CountsFaults};
 
 use crate::mappings::{copied_place, keeps};
 use crate::prepared::Share;
@@ -52,6 +53,7 @@ impl<S: Storage, F: WrappedFormat<S>> Qcow2<S, F> {
         ensures longer { IsLonger self.old.file.header.fields length prepared.old prepared.new }
         ensures goes { (start : Qcow2 S F) (out : List (Option Prepared)) (k : ℕ) → slice_get out k ≡ Some None → prepared.old.table ≡ Some table
             → IsReadied S.view F.backing start self.old out k prepared.old.guest length overwrite prepared.old → GoesOn S.view F.backing start self.new out k length overwrite prepared.new result }
+        ensures faults { CountsFaults S.view F.backing self.old self.new result }
     {
         let end = length.min(self.rest_of_table(prepared.guest));
         while prepared.length < end {
@@ -80,6 +82,7 @@ impl<S: Storage, F: WrappedFormat<S>> Qcow2<S, F> {
         ensures next { result ≡ Ok true → IsNext self.old.file.header.fields length prepared.old prepared.new }
         ensures goes { (out : List (Option Prepared)) (k : ℕ) → slice_get out k ≡ Some (Some prepared.old) → MayGoOn self.old.file.header.fields length table prepared.old
             → ImageInvariant S.view F.backing (pending_in S.view F.backing self.old out) self.old out → GoesNext S.view F.backing self.old self.new out k length overwrite prepared.old prepared.new result }
+        ensures faults { CountsFaults S.view F.backing self.old self.new result }
     {
         let Some(share) = self.share_behind(prepared, table, length, overwrite)? else {
             return Ok(false);
@@ -104,6 +107,7 @@ impl<S: Storage, F: WrappedFormat<S>> Qcow2<S, F> {
         ensures cause { IfErr result IsMet }
         ensures finds { (out : List (Option Prepared)) (k : ℕ) → slice_get out k ≡ Some (Some prepared.now) → MayGoOn self.old.file.header.fields length table prepared.now
             → ImageInvariant S.view F.backing (pending_in S.view F.backing self.old out) self.old out → FindsBehind S.view F.backing self.old self.new out length overwrite prepared.now result }
+        ensures faults { CountsFaults S.view F.backing self.old self.new result }
     {
         let Some(next) = prepared.guest.checked_add(prepared.length) else {
             return Err(ImageError::Overflow);
@@ -141,6 +145,7 @@ impl<S: Storage, F: WrappedFormat<S>> Qcow2<S, F> {
         ensures cause { IfErr result IsMet }
         ensures shares { (p : Pending) (out : List (Option Prepared)) → ImageInvariant S.view F.backing p self.old out → HoldsAll S.view F.backing p out
             → SharesAt S.view F.backing p self.old self.new out offset length overwrite old.now host result }
+        ensures faults { CountsFaults S.view F.backing self.old self.new result }
     {
         let bits = self.file.header.cluster_bits();
         let Some(cluster) = HostOffset::new(host).checked_cluster(bits) else {
@@ -172,6 +177,7 @@ impl<S: Storage, F: WrappedFormat<S>> Qcow2<S, F> {
         ensures nameable { IfOk result (λ run. IsSome run → IsHostCluster self.old.file.header.fields.cluster_bits cluster) }
         ensures gains { (p : Pending) (out : List (Option Prepared)) → ImageInvariant S.view F.backing p self.old out → HoldsAll S.view F.backing p out
             → GainsAt S.view F.backing p self.old self.new out offset length overwrite old.now cluster result }
+        ensures faults { CountsFaults S.view F.backing self.old self.new result }
     {
         let Some(pending) = self.take_data_at(cluster)? else {
             return Ok(None);
@@ -195,6 +201,7 @@ impl<S: Storage, F: WrappedFormat<S>> Qcow2<S, F> {
         ensures list { ListGrows self.old self.new }
         ensures takes { (p : Pending) (out : List (Option Prepared)) → ImageInvariant S.view F.backing p self.old out → HoldsAll S.view F.backing p out
             → TakesDataAt S.view F.backing p self.old self.new out cluster result }
+        ensures faults { CountsFaults S.view F.backing self.old self.new result }
     {
         let Some(allocator) = &mut self.allocator else {
             unreachable!();

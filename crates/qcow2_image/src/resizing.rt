@@ -16,7 +16,8 @@ ghost use Rattle.qcow2_image.specs.Image.{IsSameImage, Stays, is_failed, is_writ
 ghost use Rattle.qcow2_image.specs.ImageInvariant.{ImageInvariant, abstract_of, pending_in};
 ghost use Rattle.qcow2_image.specs.LongerTables.{MakesEntry};
 ghost use Rattle.qcow2_image.specs.Refusals.{IsMet, IsMetPreparing, Marks, failed_after};
-ghost use Rattle.qcow2_image.specs.Resizing.{GrowsTables, GrowsTo, IsMetShrinking, IsResized, LacksZeros, RefusesUnchanged, Shrinks, UncoversNext, UncoversTail, WritesSize, WritesSizeLast, refuses_to_resize, size_after, takes_over};
+ghost use Rattle.qcow2_image.specs.Resizing.{CantUncover, GrowsTables, GrowsTo, IsFaultOrCantUncover, IsMetShrinking, IsResized, LacksZeros, RefusesUnchanged, Shrinks, UncoversNext, UncoversTail, WritesSize, WritesSizeLast, refuses_to_resize, size_after, takes_over};
+ghost use Rattle.qcow2_image.specs.Faults.{CountsFaults, NoFewerFaults, TellsFault};
 
 use crate::Qcow2;
 use crate::discarding::{Clearance, rounded_up};
@@ -47,7 +48,9 @@ impl<S: Storage, F: WrappedFormat<S>> Qcow2<S, F> {
         ensures marks { Marks result (is_failed self.old) (is_failed self.new) }
         ensures image { size < size_of self.old → IsResized (size_after result (size_of self.old) size) self.old self.new }
         ensures sees { Shrinks S.view F.backing self.old self.new size result }
+        ensures stops { (out : List (Option Prepared)) → (abstract_of S.view F.backing self.old out).is_sound → IfOk result (λ answer. answer < size_of self.old → CantUncover S.view (size_of self.old) self.new answer) }
         ensures last { (out : List (Option Prepared)) → (abstract_of S.view F.backing self.old out).is_sound → WritesSizeLast S.view F.backing self.old self.new }
+        ensures faults { CountsFaults S.view F.backing self.old self.new result }
     {
         self.check_resize()?;
         if self.file.header.size() <= size {
@@ -78,7 +81,10 @@ impl<S: Storage, F: WrappedFormat<S>> Qcow2<S, F> {
         ensures marks { Marks result (is_failed self.old) (is_failed self.new) }
         ensures image { IsResized (size_after result (size_of self.old) size) self.old self.new }
         ensures sees { Shrinks S.view F.backing self.old self.new size result }
+        ensures stops { refuses_to_resize self.old ≡ None → (out : List (Option Prepared)) → (abstract_of S.view F.backing self.old out).is_sound → (HasPrepared out → ⊥)
+            → IfOk result (λ answer. answer < size_of self.old → CantUncover S.view (size_of self.old) self.new answer) }
         ensures last { (out : List (Option Prepared)) → (abstract_of S.view F.backing self.old out).is_sound → WritesSizeLast S.view F.backing self.old self.new }
+        ensures faults { CountsFaults S.view F.backing self.old self.new result }
     {
         let (end, stopped) = self.uncover_tail(size);
         let any = self.lies_between(size, end);
@@ -100,6 +106,9 @@ impl<S: Storage, F: WrappedFormat<S>> Qcow2<S, F> {
         ensures cause { IfSome result.1 IsFault }
         ensures marks { MatchOption result.1 (is_failed self.new ≡ is_failed self.old) (λ e. Marks {A = Unit {0}} (Err e) (is_failed self.old) (is_failed self.new)) }
         ensures uncovers { (out : List (Option Prepared)) → ImageInvariant S.view F.backing (pending_in S.view F.backing self.old out) self.old out → UncoversTail S.view F.backing self.old self.new size result.0 result.1 out }
+        ensures stops { refuses_to_resize self.old ≡ None → (out : List (Option Prepared)) → (abstract_of S.view F.backing self.old out).is_sound → (HasPrepared out → ⊥)
+            → result.1 ≡ None → result.0 < size_of self.old → CantUncover S.view (size_of self.old) self.new result.0 }
+        ensures faults { NoFewerFaults S.view F.backing self.old self.new × IfSome result.1 (TellsFault S.view F.backing self.old self.new) }
     {
         self.begin();
         let end = self.file.header.size();
@@ -120,6 +129,9 @@ impl<S: Storage, F: WrappedFormat<S>> Qcow2<S, F> {
         ensures image { IsSameImage self.old self.new }
         ensures marks { Marks result (is_failed self.old) (is_failed self.new) }
         ensures uncovers { UncoversNext S.view F.backing self.old self.new at result }
+        ensures stops { refuses_to_resize self.old ≡ None → (out : List (Option Prepared)) → (abstract_of S.view F.backing self.old out).is_sound → (HasPrepared out → ⊥)
+            → IfErr result (IsFaultOrCantUncover S.view (size_of self.old) self.new at) }
+        ensures faults { CountsFaults S.view F.backing self.old self.new result }
     {
         let end = self.file.header.size();
         let (from, count) = self.clear_range(at, end - at, Clearance::Uncovered)?;
@@ -155,6 +167,7 @@ impl<S: Storage, F: WrappedFormat<S>> Qcow2<S, F> {
         ensures version { refuses_to_resize self.old ≡ None → size_of self.old < size → mode ≡ Zero → LacksZeros self.old → (out : List (Option Prepared)) → (abstract_of S.view F.backing self.old out).is_sound
             → RefusesUnchanged S.view F.backing self.old self.new out result }
         ensures tables { refuses_to_resize self.old ≡ None → size_of self.old < size → (out : List (Option Prepared)) → (abstract_of S.view F.backing self.old out).is_sound → GrowsTables S.view F.backing self.old self.new size mode out result }
+        ensures faults { CountsFaults S.view F.backing self.old self.new result }
     {
         self.check_resize()?;
         if size <= self.file.header.size() {
@@ -190,6 +203,7 @@ impl<S: Storage, F: WrappedFormat<S>> Qcow2<S, F> {
         ensures last { (out : List (Option Prepared)) → (abstract_of S.view F.backing self.old out).is_sound → WritesSizeLast S.view F.backing self.old self.new }
         ensures version { mode ≡ Zero → LacksZeros self.old → (out : List (Option Prepared)) → (abstract_of S.view F.backing self.old out).is_sound → RefusesUnchanged S.view F.backing self.old self.new out result }
         ensures tables { (out : List (Option Prepared)) → (abstract_of S.view F.backing self.old out).is_sound → GrowsTables S.view F.backing self.old self.new size mode out result }
+        ensures faults { CountsFaults S.view F.backing self.old self.new result }
     {
         self.begin();
         let longer = self.renew_l1_table(size - 1);
@@ -222,6 +236,7 @@ impl<S: Storage, F: WrappedFormat<S>> Qcow2<S, F> {
         ensures cause { IfErr result IsMet }
         ensures reaches { OnOk result (l1_index_of self.old.file.header.fields offset < entry_count self.new.l1_table) }
         ensures makes { (out : List (Option Prepared)) → ImageInvariant S.view F.backing (pending_in S.view F.backing self.old out) self.old out → MakesEntry S.view F.backing self.old self.new out result }
+        ensures faults { CountsFaults S.view F.backing self.old self.new result }
     {
         let index = GuestOffset::new(offset).l1_index(self.file.header.cluster_bits());
         self.grow_l1_table(index)?;
@@ -251,6 +266,7 @@ impl<S: Storage, F: WrappedFormat<S>> Qcow2<S, F> {
         ensures time { Passing (view_in S.view self.old.file) (view_in S.view self.new.file) (λ c. c ≡ (view_in S.view self.new.file).contents) }
         ensures writes { (out : List (Option Prepared)) → ImageInvariant S.view F.backing (pending_in S.view F.backing self.old out) self.old out → WritesSize S.view F.backing self.old self.new out size result }
         ensures resizes { (p : Pending) → ImageInvariant S.view F.backing p self.old [] → Resizes S.view F.backing p self.old self.new size result }
+        ensures faults { CountsFaults S.view F.backing self.old self.new result }
     {
         let old = self.file.header.size();
         self.file.header.set_size(size);

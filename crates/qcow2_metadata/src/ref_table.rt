@@ -13,9 +13,7 @@ ghost use Rattle.qcow2_metadata.specs.TableBytes.{entry_at, ChangesEntry};
 ghost use Rattle.qcow2_metadata.specs.EntryTable.{entry_table, entry_count, IsRefTable, IsRefTableOf, IsRefTableBut, NamesRefTable, SomeUnread, PassesLimit, IsOfLengthOrMemory, IsReasonNotToLoad};
 
 use crate::entry_table::EntryTable;
-use crate::{
-    ClusterCount, Header, HostCluster, HostOffset, MAX_REFTABLE_ENTRIES, MetadataError,
-};
+use crate::{ClusterCount, Header, HostCluster, HostOffset, MAX_REFTABLE_ENTRIES, MetadataError};
 use image_access::{Storage, StorageError};
 use std::alloc::Global;
 use std::marker::Model;
@@ -60,7 +58,12 @@ impl RefTable {
         ensures limit { 1048576 < entries → result ≡ Err MetadataError.Limit }
         ensures err { IfErr result (IsOfLengthOrMemory (1048576 < entries)) }
     {
-        let table = EntryTable::new_cleared(alloc, header.cluster_bits(), entries, MAX_REFTABLE_ENTRIES)?;
+        let table = EntryTable::new_cleared(
+            alloc,
+            header.cluster_bits(),
+            entries,
+            MAX_REFTABLE_ENTRIES,
+        )?;
         Ok(RefTable { table })
     }
 
@@ -187,7 +190,9 @@ impl RefTable {
         ensures limit { 1048576 < entries → result ≡ Err MetadataError.Limit }
         ensures err { IfErr result (IsOfLengthOrMemory (1048576 < entries)) }
     {
-        let table = self.table.clone_and_grow(alloc, entries, MAX_REFTABLE_ENTRIES)?;
+        let table = self
+            .table
+            .clone_and_grow(alloc, entries, MAX_REFTABLE_ENTRIES)?;
         Ok(RefTable { table })
     }
 

@@ -14,3 +14,6 @@ mod Exporting
 mod Cleared
 mod Resized
 mod SpecialReads
+mod Told
+mod Unwritten
+mod Counting

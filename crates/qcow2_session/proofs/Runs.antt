@@ -26,12 +26,24 @@ module _ {D P : Type 0} (spec : Abstraction D P) where
     pub ran : RefinesRun spec x old before new out s commands replies
     pub found : (end : State) → Run x s commands replies end → end.is_failed ≡ false → (k : ℕ) → end.found k ≡ found_in mappings k
 
-none_found : (n k : ℕ) → None ≡ found_in (replicate n None) k
+pub none_found : (n k : ℕ) → None ≡ found_in (replicate n None) k
 none_found zero k = refl
 none_found (suc n) zero = refl
 none_found (suc n) (suc k) = none_found n k
 
 module _ {D P : Type 0} (spec : Abstraction D P) where
+  -- an image stands where it stood, with free places
+  pub free_stands : HasFreePlaces spec → (d : D) (n : ℕ) (x : Setting) (s : State) → RefinesState x (abstract_image spec d []) s → RefinesState x (abstract_image spec d (replicate n None)) (begun s)
+  free_stands has d n x s stands = record {
+    setting = stands.setting;
+    works = λ ok. sound_none spec has d n (stands.works ok);
+    failed = stands.failed;
+    guest = λ ok. sym (guest_none spec has d n) ∙ stands.guest ok;
+    known = stands.known;
+    contents = stands.contents;
+    at_rest = stands.at_rest;
+  }
+
   -- nothing was answered yet
   pub first_of_all : HasFreePlaces spec → (d : D) (n : ℕ) (x : Setting) (s : State) (out : List (Option P)) (mappings : List (Option Mapping)) (replies : List Reply)
       → out ≡ replicate n None → mappings ≡ replicate n None → replies ≡ []
@@ -42,15 +54,7 @@ module _ {D P : Type 0} (spec : Abstraction D P) where
       (subst (λ (m : List (Option Mapping)). GoesOn spec x d free d free (begun s) [] replies m) (sym nothing)
       (subst (λ (r : List Reply). GoesOn spec x d free d free (begun s) [] r (replicate n None)) (sym unanswered)
       (record {
-        ran = ran_none spec x d free (begun s) (record {
-          setting = stands.setting;
-          works = λ ok. sound_none spec has d n (stands.works ok);
-          failed = stands.failed;
-          guest = λ ok. sym (guest_none spec has d n) ∙ stands.guest ok;
-          known = stands.known;
-          contents = stands.contents;
-          at_rest = stands.at_rest;
-        });
+        ran = ran_none spec x d free (begun s) (free_stands has d n x s stands);
         found = λ end same ok k. ap (λ (t : State). t.found k) same ∙ none_found n k;
       })))
 

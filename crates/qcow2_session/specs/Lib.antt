@@ -1,4 +1,6 @@
 pub mod Commands
+pub mod CountedFaults
 pub mod Conversions
 pub mod Sessions
+pub mod Told
 pub mod Opening

@@ -1,6 +1,7 @@
 //! The commands that zero and discard ranges.
-ghost use Rattle.std.specs.Prelude.{◌≡◌};
-ghost use Rattle.qcow2_image.specs.Image.{number_of};
+ghost use Rattle.std.specs.Prelude.{◌≡◌, false};
+ghost use Rattle.qcow2_image.specs.Image.{number_of, IsSameImage, is_writable};
+ghost use Rattle.qcow2_session.specs.CountedFaults.{CommandCounts};
 ghost use Rattle.qcow2_session.specs.Commands.{reply_of_clearing};
 ghost use Rattle.qcow2_session.specs.Sessions.{CommandSteps, Finds};
 ghost use Rattle.qcow2_session.specs.declared.session.Command.TheVariants.{EnsureZeroMapping, DiscardToZero, DiscardToAny, DiscardToBacking};
@@ -16,7 +17,9 @@ pub(crate) fn ensure_zero<S: Storage, F: WrappedFormat<S>>(
     offset: u64,
     length: u64,
 ) -> Reply
-    ensures number { number_of image.new ≡ number_of image.old }
+    ensures image { IsSameImage image.old image.new }
+    ensures reading { is_writable image.old ≡ false → image.new ≡ image.old }
+    ensures faults { CommandCounts S.view F.backing image.old image.new result }
     ensures goes { (slots : Slots) → CommandSteps S.view F.backing image.old image.new slots slots (EnsureZeroMapping offset length) result }
     ensures finds { (slots : Slots) → Finds slots slots (EnsureZeroMapping offset length) result }
 {
@@ -29,7 +32,9 @@ pub(crate) fn discard_to_zero<S: Storage, F: WrappedFormat<S>>(
     offset: u64,
     length: u64,
 ) -> Reply
-    ensures number { number_of image.new ≡ number_of image.old }
+    ensures image { IsSameImage image.old image.new }
+    ensures reading { is_writable image.old ≡ false → image.new ≡ image.old }
+    ensures faults { CommandCounts S.view F.backing image.old image.new result }
     ensures goes { (slots : Slots) → CommandSteps S.view F.backing image.old image.new slots slots (DiscardToZero offset length) result }
     ensures finds { (slots : Slots) → Finds slots slots (DiscardToZero offset length) result }
 {
@@ -42,7 +47,9 @@ pub(crate) fn discard_to_any<S: Storage, F: WrappedFormat<S>>(
     offset: u64,
     length: u64,
 ) -> Reply
-    ensures number { number_of image.new ≡ number_of image.old }
+    ensures image { IsSameImage image.old image.new }
+    ensures reading { is_writable image.old ≡ false → image.new ≡ image.old }
+    ensures faults { CommandCounts S.view F.backing image.old image.new result }
     ensures goes { (slots : Slots) → CommandSteps S.view F.backing image.old image.new slots slots (DiscardToAny offset length) result }
     ensures finds { (slots : Slots) → Finds slots slots (DiscardToAny offset length) result }
 {
@@ -55,7 +62,9 @@ pub(crate) fn discard_to_backing<S: Storage, F: WrappedFormat<S>>(
     offset: u64,
     length: u64,
 ) -> Reply
-    ensures number { number_of image.new ≡ number_of image.old }
+    ensures image { IsSameImage image.old image.new }
+    ensures reading { is_writable image.old ≡ false → image.new ≡ image.old }
+    ensures faults { CommandCounts S.view F.backing image.old image.new result }
     ensures goes { (slots : Slots) → CommandSteps S.view F.backing image.old image.new slots slots (DiscardToBacking offset length) result }
     ensures finds { (slots : Slots) → Finds slots slots (DiscardToBacking offset length) result }
 {

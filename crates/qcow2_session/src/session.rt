@@ -1,11 +1,16 @@
 //! Commands, one after the other, on one image.
-ghost use Rattle.std.specs.Prelude.{◌≡◌, ◌+◌, ◌^◌, ◌≤◌, ◌⊎◌, ◌<◌, ◌++◌, ◌∷◌, ℕ, List, [], length, vec_len, IfSome, IfErr, IfOk, Option, Err};
-ghost use Rattle.qcow2_image.specs.Image.{number_of, size_of};
+ghost use Rattle.std.specs.Prelude.{◌≡◌, ◌+◌, ◌^◌, ◌≤◌, ◌⊎◌, ◌<◌, ◌++◌, ◌∷◌, ℕ, List, [], length, vec_len, IfSome, IfErr, IfOk, IsTrue, Option, Err, false};
+ghost use Rattle.qcow2_image.specs.Image.{IsSameImage, is_failed, is_writable, number_of, size_of};
 ghost use Rattle.qcow2_image.specs.Prepared.{image_of};
 ghost use Rattle.qcow2_image.specs.ImageInvariant.{abstract_of};
 ghost use Rattle.qcow2_image.specs.Calls.{Discards};
 ghost use Rattle.qcow2_image.specs.Refusals.{unusable, refuses_to_read, refuses_to_prepare};
+ghost use Rattle.qcow2_image.specs.Faults.{CountsFaults, NoFewerFaults, TellsFault};
+ghost use Rattle.qcow2_session.specs.CountedFaults.{CommandCounts, RunCounts};
 ghost use Rattle.qcow2_session.specs.Sessions.{IsRightlyBeyond, IsOfReading, IsOfWriting, EndsCluster, Reads, ReadsInto, ReadsFirst, Writes, WritesFirst, CommandSteps, Finds, ReleasesMappings, RunsThrough, RunRefinesDisk, LookupsFindContents};
+ghost use Rattle.qcow2_image.specs.Ranges.{LetsGo};
+ghost use Rattle.qcow2_image.specs.Unwritten.{IsOnlyRead, IsUnmodified};
+ghost use Rattle.qcow2_session.specs.Told.{IsNeverWritten, LeavesUnwritten, StaysUnwritten, TellsOfImage, TellsThrough};
 ghost use Rattle.qcow2_image.specs.declared.prepared.Prepared.{Prepared};
 
 use crate::clearing::{discard_to_any, discard_to_backing, discard_to_zero, ensure_zero};
@@ -128,7 +133,9 @@ pub fn read<S: Storage, F: WrappedFormat<S>>(
     offset: u64,
     length: u64,
 ) -> Result<Vec<u8>, ImageError>
-    ensures number { number_of image.new ≡ number_of image.old }
+    ensures image { IsSameImage image.old image.new }
+    ensures unwritten { StaysUnwritten S.view F.backing image.old image.new }
+    ensures faults { CountsFaults S.view F.backing image.old image.new result }
     ensures early { IfSome (refuses_to_read image.old offset length) (λ e. (result ≡ Err e) × (image.new ≡ image.old)) }
     ensures beyond { IfErr result (IsRightlyBeyond image.old offset length) }
     ensures cause { IfErr result IsOfReading }
@@ -151,7 +158,9 @@ pub fn read_into<S: Storage, F: WrappedFormat<S>>(
     offset: u64,
     bytes: &mut [u8],
 ) -> Result<(), ImageError>
-    ensures number { number_of image.new ≡ number_of image.old }
+    ensures image { IsSameImage image.old image.new }
+    ensures unwritten { StaysUnwritten S.view F.backing image.old image.new }
+    ensures faults { CountsFaults S.view F.backing image.old image.new result }
     ensures early { IfSome (refuses_to_read image.old offset (length bytes.old)) (λ e. (result ≡ Err e) × (image.new ≡ image.old)) }
     ensures beyond { IfErr result (IsRightlyBeyond image.old offset (length bytes.old)) }
     ensures cause { IfErr result IsOfReading }
@@ -174,10 +183,11 @@ fn read_some<S: Storage, F: WrappedFormat<S>>(
     offset: u64,
     bytes: &mut [u8],
 ) -> Result<usize, ImageError>
-    ensures number { number_of image.new ≡ number_of image.old }
+    ensures image { IsSameImage image.old image.new }
+    ensures unwritten { StaysUnwritten S.view F.backing image.old image.new }
+    ensures faults { CountsFaults S.view F.backing image.old image.new result }
     ensures some { IfOk result (λ n. 0 < n) }
     ensures within { IfOk result (λ n. n ≤ length bytes.old) }
-    ensures size { size_of image.new ≡ size_of image.old }
     ensures beyond { 0 < length bytes.old → IfErr result (IsRightlyBeyond image.old offset (length bytes.old)) }
     ensures cause { IfErr result IsOfReading }
     ensures sees { ReadsFirst S.view F.backing image.old image.new offset bytes.new result }
@@ -198,7 +208,9 @@ pub fn write<S: Storage, F: WrappedFormat<S>>(
     offset: u64,
     bytes: &[u8],
 ) -> Result<(), (ImageError, u64)>
-    ensures number { number_of image.new ≡ number_of image.old }
+    ensures image { IsSameImage image.old image.new }
+    ensures unwritten { StaysUnwritten S.view F.backing image.old image.new }
+    ensures faults { NoFewerFaults S.view F.backing image.old image.new × IfErr result (λ (e, n). TellsFault S.view F.backing image.old image.new e) }
     ensures early { IfSome (refuses_to_prepare image.old offset (length bytes.now)) (λ e. (result ≡ Err (e, 0)) × (image.new ≡ image.old)) }
     ensures within { IfErr result (λ (e, n). n ≤ length bytes.now) }
     ensures beyond { IfErr result (λ (e, n). IsRightlyBeyond image.old offset (length bytes.now) e) }
@@ -228,11 +240,12 @@ fn write_some<S: Storage, F: WrappedFormat<S>>(
     offset: u64,
     bytes: &[u8],
 ) -> Result<usize, ImageError>
-    ensures number { number_of image.new ≡ number_of image.old }
+    ensures image { IsSameImage image.old image.new }
+    ensures unwritten { StaysUnwritten S.view F.backing image.old image.new }
+    ensures faults { CountsFaults S.view F.backing image.old image.new result }
     ensures early { IfSome (refuses_to_prepare image.old offset (length bytes.now)) (λ e. (result ≡ Err e) × (image.new ≡ image.old)) }
     ensures some { IfOk result (λ n. 0 < length bytes.now → 0 < n) }
     ensures within { IfOk result (λ n. n ≤ length bytes.now) }
-    ensures size { size_of image.new ≡ size_of image.old }
     ensures beyond { IfErr result (IsRightlyBeyond image.old offset (length bytes.now)) }
     ensures cause { IfErr result IsOfWriting }
     ensures end { IfOk result (λ n. offset + length bytes.now < 2 ^ 64) }
@@ -258,8 +271,9 @@ fn write_some<S: Storage, F: WrappedFormat<S>>(
 // Discards a mapping of the image.
 fn release<S: Storage, F: WrappedFormat<S>>(image: &mut Qcow2<S, F>, prepared: Prepared)
     requires { image_of prepared ≡ number_of image.old }
-    ensures number { number_of image.new ≡ number_of image.old }
-    ensures size { size_of image.new ≡ size_of image.old }
+    ensures image { IsSameImage image.old image.new }
+    ensures rest { LetsGo S.view image.old image.new }
+    ensures faults { NoFewerFaults S.view F.backing image.old image.new }
     ensures sees { Discards S.view F.backing image.old image.new prepared }
 {
     match image.discard_data_mapping(prepared) {
@@ -275,9 +289,12 @@ pub fn run<S: Storage, F: WrappedFormat<S>>(
     commands: &[Command],
 ) -> Vec<Reply>
     ensures number { number_of image.new ≡ number_of image.old }
+    ensures faults { RunCounts S.view F.backing image.old image.new result.items }
     ensures count { (result.items ≡ []) ⊎ (vec_len result ≡ length commands.now) }
     ensures runs { RunsThrough S.view F.backing image.old image.new commands.now result.items }
     ensures means { RunRefinesDisk S.view F.backing image.old image.new commands.now result.items }
+    ensures tells { TellsThrough S.view F.backing image.old image.new commands.now result.items }
+    ensures unwritten { IsNeverWritten S.view F.backing image.old image.new }
     ensures maps { LookupsFindContents S.view F.backing image.old image.new commands.now result.items }
 {
     let Ok(mut replies) = Vec::with_capacity(alloc, commands.len()) else {
@@ -303,9 +320,13 @@ fn step<S: Storage, F: WrappedFormat<S>>(
 ) -> Reply
     requires { slots.old.image ≡ number_of image.old }
     ensures number { number_of image.new ≡ number_of image.old }
+    ensures faults { CommandCounts S.view F.backing image.old image.new result }
     ensures slots { slots.new.image ≡ slots.old.image }
     ensures goes { CommandSteps S.view F.backing image.old image.new slots.old slots.new command.now result }
     ensures finds { Finds slots.old slots.new command.now result }
+    ensures tells { TellsOfImage S.view F.backing image.old image.new slots.old.prepared.items slots.new.prepared.items command.now result }
+    ensures size { IsTrue (is_failed image.old) → size_of image.new ≡ size_of image.old }
+    ensures unwritten { LeavesUnwritten S.view F.backing image.old slots.old.prepared.items image.new slots.new.prepared.items }
 {
     match command {
         Command::Read { offset, length } => match read(alloc, image, *offset, *length) {
@@ -353,10 +374,13 @@ fn get_mapping<S: Storage, F: WrappedFormat<S>>(
     offset: u64,
     max: u64,
 ) -> Reply
-    ensures number { number_of image.new ≡ number_of image.old }
+    ensures image { IsSameImage image.old image.new }
+    ensures faults { CommandCounts S.view F.backing image.old image.new result }
     ensures slots { slots.new.image ≡ slots.old.image }
     ensures goes { CommandSteps S.view F.backing image.old image.new slots.old slots.new (Command.GetMapping slot offset max) result }
     ensures finds { Finds slots.old slots.new (Command.GetMapping slot offset max) result }
+    ensures unwritten { LeavesUnwritten S.view F.backing image.old slots.old.prepared.items image.new slots.new.prepared.items }
+    ensures tells { TellsOfImage S.view F.backing image.old image.new slots.old.prepared.items slots.new.prepared.items (Command.GetMapping slot offset max) result }
 {
     match image.get_mapping(offset, max) {
         Ok((mapping, _)) => {
@@ -375,7 +399,9 @@ fn read_mapped<S: Storage, F: WrappedFormat<S>>(
     at: u64,
     length: u64,
 ) -> Reply
-    ensures number { number_of image.new ≡ number_of image.old }
+    ensures image { IsSameImage image.old image.new }
+    ensures unwritten { StaysUnwritten S.view F.backing image.old image.new }
+    ensures faults { CommandCounts S.view F.backing image.old image.new result }
     ensures goes { CommandSteps S.view F.backing image.old image.new slots.now slots.now (Command.ReadMapped slot at length) result }
     ensures finds { Finds slots.now slots.now (Command.ReadMapped slot at length) result }
 {
@@ -400,7 +426,9 @@ fn read_range<S: Storage, F: WrappedFormat<S>>(
     length: u64,
 ) -> Result<Vec<u8>, ImageError>
     requires { at + length ≤ mapping.now.length }
-    ensures number { number_of image.new ≡ number_of image.old }
+    ensures image { IsSameImage image.old image.new }
+    ensures unwritten { StaysUnwritten S.view F.backing image.old image.new }
+    ensures faults { CountsFaults S.view F.backing image.old image.new result }
     ensures early { IfSome (unusable image.old) (λ e. (result ≡ Err e) × (image.new ≡ image.old)) }
     ensures sees { Reads S.view F.backing image.old image.new (mapping.now.offset + at) length result }
 {
@@ -419,10 +447,13 @@ fn prepare<S: Storage, F: WrappedFormat<S>>(
     overwrite: bool,
 ) -> Reply
     requires { slots.old.image ≡ number_of image.old }
-    ensures number { number_of image.new ≡ number_of image.old }
+    ensures image { IsSameImage image.old image.new }
+    ensures faults { CommandCounts S.view F.backing image.old image.new result }
     ensures slots { slots.new.image ≡ slots.old.image }
     ensures goes { CommandSteps S.view F.backing image.old image.new slots.old slots.new (Command.PrepareDataMapping slot offset length overwrite) result }
     ensures finds { Finds slots.old slots.new (Command.PrepareDataMapping slot offset length overwrite) result }
+    ensures unwritten { LeavesUnwritten S.view F.backing image.old slots.old.prepared.items image.new slots.new.prepared.items }
+    ensures tells { TellsOfImage S.view F.backing image.old image.new slots.old.prepared.items slots.new.prepared.items (Command.PrepareDataMapping slot offset length overwrite) result }
 {
     if slots.get(slot).is_some() {
         return Reply::Misuse;
@@ -448,7 +479,9 @@ fn write_mapped<S: Storage, F: WrappedFormat<S>>(
     at: u64,
     bytes: &Vec<u8>,
 ) -> Reply
-    ensures number { number_of image.new ≡ number_of image.old }
+    ensures image { IsSameImage image.old image.new }
+    ensures reading { is_writable image.old ≡ false → image.new ≡ image.old }
+    ensures faults { CommandCounts S.view F.backing image.old image.new result }
     ensures goes { CommandSteps S.view F.backing image.old image.new slots.now slots.now (Command.WriteMapped slot at bytes.now) result }
     ensures finds { Finds slots.now slots.now (Command.WriteMapped slot at bytes.now) result }
 {
@@ -471,10 +504,12 @@ fn commit<S: Storage, F: WrappedFormat<S>>(
     slot: u8,
 ) -> Reply
     requires { slots.old.image ≡ number_of image.old }
-    ensures number { number_of image.new ≡ number_of image.old }
+    ensures image { IsSameImage image.old image.new }
+    ensures faults { CommandCounts S.view F.backing image.old image.new result }
     ensures slots { slots.new.image ≡ slots.old.image }
     ensures goes { CommandSteps S.view F.backing image.old image.new slots.old slots.new (Command.CommitDataMapping slot) result }
     ensures finds { Finds slots.old slots.new (Command.CommitDataMapping slot) result }
+    ensures unwritten { LeavesUnwritten S.view F.backing image.old slots.old.prepared.items image.new slots.new.prepared.items }
 {
     let Some(prepared) = slots.put(slot, None) else {
         return Reply::Misuse;
@@ -495,10 +530,12 @@ fn discard<S: Storage, F: WrappedFormat<S>>(
     slot: u8,
 ) -> Reply
     requires { slots.old.image ≡ number_of image.old }
-    ensures number { number_of image.new ≡ number_of image.old }
+    ensures image { IsSameImage image.old image.new }
+    ensures faults { CommandCounts S.view F.backing image.old image.new result }
     ensures slots { slots.new.image ≡ slots.old.image }
     ensures goes { CommandSteps S.view F.backing image.old image.new slots.old slots.new (Command.DiscardDataMapping slot) result }
     ensures finds { Finds slots.old slots.new (Command.DiscardDataMapping slot) result }
+    ensures unwritten { LeavesUnwritten S.view F.backing image.old slots.old.prepared.items image.new slots.new.prepared.items }
 {
     match slots.put(slot, None) {
         None => Reply::Misuse,
@@ -510,7 +547,9 @@ fn discard<S: Storage, F: WrappedFormat<S>>(
 }
 
 fn flush<S: Storage, F: WrappedFormat<S>>(image: &mut Qcow2<S, F>) -> Reply
-    ensures number { number_of image.new ≡ number_of image.old }
+    ensures image { IsSameImage image.old image.new }
+    ensures unwritten { StaysUnwritten S.view F.backing image.old image.new }
+    ensures faults { CommandCounts S.view F.backing image.old image.new result }
     ensures goes { (slots : Slots) → CommandSteps S.view F.backing image.old image.new slots slots Command.Flush result }
     ensures finds { (slots : Slots) → Finds slots slots Command.Flush result }
 {
@@ -523,7 +562,9 @@ fn flush<S: Storage, F: WrappedFormat<S>>(image: &mut Qcow2<S, F>) -> Reply
 // Discards what stands in a slot.
 fn release_slot<S: Storage, F: WrappedFormat<S>>(image: &mut Qcow2<S, F>, slot: Option<Prepared>)
     requires { IfSome slot (λ p. image_of p ≡ number_of image.old) }
-    ensures number { number_of image.new ≡ number_of image.old }
+    ensures image { IsSameImage image.old image.new }
+    ensures unwritten { IsUnmodified S.view image.old → IsOnlyRead S.view image.old image.new }
+    ensures faults { NoFewerFaults S.view F.backing image.old image.new }
     ensures sees { (out : List (Option Prepared)) → ReleasesMappings S.view F.backing image.old image.new (out ++ slot ∷ []) out }
 {
     if let Some(prepared) = slot {
@@ -534,7 +575,9 @@ fn release_slot<S: Storage, F: WrappedFormat<S>>(image: &mut Qcow2<S, F>, slot: 
 // Discards what is left.
 fn discard_all<S: Storage, F: WrappedFormat<S>>(image: &mut Qcow2<S, F>, slots: Slots)
     requires { slots.image ≡ number_of image.old }
-    ensures { ReleasesMappings S.view F.backing image.old image.new slots.prepared.items [] }
+    ensures sees { ReleasesMappings S.view F.backing image.old image.new slots.prepared.items [] }
+    ensures unwritten { IsUnmodified S.view image.old → IsOnlyRead S.view image.old image.new }
+    ensures faults { NoFewerFaults S.view F.backing image.old image.new }
 {
     let Slots {
         image: _,

@@ -1,6 +1,7 @@
 //! The commands that change the size of the disk.
-ghost use Rattle.std.specs.Prelude.{◌≡◌};
-ghost use Rattle.qcow2_image.specs.Image.{number_of};
+ghost use Rattle.std.specs.Prelude.{◌≡◌, IsTrue, false};
+ghost use Rattle.qcow2_image.specs.Image.{number_of, is_failed, is_writable, size_of};
+ghost use Rattle.qcow2_session.specs.CountedFaults.{CommandCounts};
 ghost use Rattle.qcow2_session.specs.Sessions.{CommandSteps, Finds};
 ghost use Rattle.qcow2_session.specs.declared.session.Command.TheVariants.{ResizeGrow, ResizeShrink};
 ghost use Rattle.qcow2_session.specs.declared.slots.Slots.{Slots};
@@ -16,6 +17,9 @@ pub(crate) fn grow<S: Storage, F: WrappedFormat<S>>(
     mode: PreallocateMode,
 ) -> Reply
     ensures number { number_of image.new ≡ number_of image.old }
+    ensures reading { is_writable image.old ≡ false → image.new ≡ image.old }
+    ensures size { IsTrue (is_failed image.old) → size_of image.new ≡ size_of image.old }
+    ensures faults { CommandCounts S.view F.backing image.old image.new result }
     ensures goes { (slots : Slots) → CommandSteps S.view F.backing image.old image.new slots slots (ResizeGrow size mode) result }
     ensures finds { (slots : Slots) → Finds slots slots (ResizeGrow size mode) result }
 {
@@ -28,6 +32,9 @@ pub(crate) fn grow<S: Storage, F: WrappedFormat<S>>(
 // Makes the disk smaller. It is replied the offset up to which the clusters behind the new end were dropped.
 pub(crate) fn shrink<S: Storage, F: WrappedFormat<S>>(image: &mut Qcow2<S, F>, size: u64) -> Reply
     ensures number { number_of image.new ≡ number_of image.old }
+    ensures reading { is_writable image.old ≡ false → image.new ≡ image.old }
+    ensures size { IsTrue (is_failed image.old) → size_of image.new ≡ size_of image.old }
+    ensures faults { CommandCounts S.view F.backing image.old image.new result }
     ensures goes { (slots : Slots) → CommandSteps S.view F.backing image.old image.new slots slots (ResizeShrink size) result }
     ensures finds { (slots : Slots) → Finds slots slots (ResizeShrink size) result }
 {

@@ -2,12 +2,15 @@
 ghost use Rattle.std.specs.Prelude.{◌≡◌, [], List, Option, IfErr, IfOk, IfSome, MatchOption, Err};
 ghost use Rattle.qcow2_alloc.specs.ImageFile.{known_in};
 ghost use Rattle.qcow2_image.specs.Calls.{Answers};
-ghost use Rattle.qcow2_image.specs.Image.{number_of};
+ghost use Rattle.qcow2_image.specs.Image.{IsSameImage};
 ghost use Rattle.qcow2_image.specs.Refusals.{unusable};
 ghost use Rattle.qcow2_image.specs.ImageInvariant.{abstract_of};
 ghost use Rattle.qcow2_image.specs.declared.prepared.Prepared.{Prepared};
+ghost use Rattle.qcow2_image.specs.Faults.{CountsFaults};
+ghost use Rattle.qcow2_session.specs.CountedFaults.{CommandCounts};
 ghost use Rattle.qcow2_session.specs.Commands.{IsOwnOffset, TellsPlain, TellsSpecial};
 ghost use Rattle.qcow2_session.specs.Sessions.{CommandSteps, Finds};
+ghost use Rattle.qcow2_session.specs.Told.{StaysUnwritten};
 ghost use Rattle.qcow2_session.specs.declared.session.Command.TheVariants.{ReadvSpecial, TryReadvSpecial};
 ghost use Rattle.qcow2_session.specs.declared.slots.Slots.{Slots};
 
@@ -23,7 +26,9 @@ pub(crate) fn readv_special<S: Storage, F: WrappedFormat<S>>(
     offset: u64,
     length: u64,
 ) -> Reply
-    ensures number { number_of image.new ≡ number_of image.old }
+    ensures image { IsSameImage image.old image.new }
+    ensures unwritten { StaysUnwritten S.view F.backing image.old image.new }
+    ensures faults { CommandCounts S.view F.backing image.old image.new result }
     ensures goes { (slots : Slots) → CommandSteps S.view F.backing image.old image.new slots slots (ReadvSpecial offset length) result }
     ensures finds { (slots : Slots) → Finds slots slots (ReadvSpecial offset length) result }
 {
@@ -40,7 +45,9 @@ pub(crate) fn try_readv_special<S: Storage, F: WrappedFormat<S>>(
     offset: u64,
     length: u64,
 ) -> Reply
-    ensures number { number_of image.new ≡ number_of image.old }
+    ensures image { IsSameImage image.old image.new }
+    ensures unwritten { StaysUnwritten S.view F.backing image.old image.new }
+    ensures faults { CommandCounts S.view F.backing image.old image.new result }
     ensures goes { (slots : Slots) → CommandSteps S.view F.backing image.old image.new slots slots (TryReadvSpecial offset length) result }
     ensures finds { (slots : Slots) → Finds slots slots (TryReadvSpecial offset length) result }
 {
@@ -56,7 +63,9 @@ fn read_range<S: Storage, F: WrappedFormat<S>>(
     offset: u64,
     length: u64,
 ) -> Result<(), ImageError>
-    ensures number { number_of image.new ≡ number_of image.old }
+    ensures image { IsSameImage image.old image.new }
+    ensures unwritten { StaysUnwritten S.view F.backing image.old image.new }
+    ensures faults { CountsFaults S.view F.backing image.old image.new result }
     ensures early { IfSome (unusable image.old) (λ e. (result ≡ Err e) × (image.new ≡ image.old)) }
     ensures empty { IfOk result (λ done. length ≡ 0) }
     ensures own { IfErr result (IsOwnOffset offset) }
@@ -74,7 +83,9 @@ fn try_range<S: Storage, F: WrappedFormat<S>>(
     offset: u64,
     length: u64,
 ) -> Result<Option<u64>, ImageError>
-    ensures number { number_of image.new ≡ number_of image.old }
+    ensures image { IsSameImage image.old image.new }
+    ensures unwritten { StaysUnwritten S.view F.backing image.old image.new }
+    ensures faults { CountsFaults S.view F.backing image.old image.new result }
     ensures early { IfSome (unusable image.old) (λ e. (result ≡ Err e) × (image.new ≡ image.old)) }
     ensures answer { IfOk result (λ plain. MatchOption plain (length ≡ 0) (λ at. at ≡ offset)) }
     ensures tells { (out : List (Option Prepared)) → (abstract_of S.view F.backing image.old out).is_sound → TellsPlain (known_in S.view image.old.file) offset length result }

@@ -1,13 +1,15 @@
 -- What the words after the program's name ask for.
-use Rattle.std.specs.Prelude.{ℕ, ◌&&◌, codes, List, [], ◌∷◌, Option, Some, None, if◌then◌else◌}
+use Rattle.std.specs.Prelude.{ℕ, codes, List, [], ◌∷◌, Option, Some, None, if◌then◌else◌}
 use Rattle.std.specs.Str.{bytes_eq}
+use Rattle.image_access.specs.declared.storage.PreallocateMode.{PreallocateMode}
 use Rattle.qimg.specs.declared.words.Invocation.{Invocation}
 use Rattle.qimg.specs.declared.words.Invocation.TheVariants as I
 use Rattle.program_parts.specs.Numbers.{number_of}
+use Rattle.qimg.specs.Lines.{mode_of}
 
 -- an image made, run commands on, checked, made of a raw disk, or a raw disk made of it
 pub data Asked : Type 0 where
-  creates : (file : List ℕ) (size cluster width : ℕ) → Asked
+  creates : (file : List ℕ) (size cluster width : ℕ) (mode : PreallocateMode) → Asked
   runs : (file : List ℕ) → Asked
   checks : (file : List ℕ) → Asked
   imports : (raw file : List ℕ) (cluster width : ℕ) → Asked
@@ -15,21 +17,21 @@ pub data Asked : Type 0 where
 
 -- an invocation, with the names of its files
 abbrev pub asked : Invocation → Asked
-asked (I.Create file size cluster width) = creates file.now size cluster width
+asked (I.Create file size cluster width mode) = creates file.now size cluster width mode
 asked (I.Run file) = runs file.now
 asked (I.Check file) = checks file.now
 asked (I.Import raw file cluster width) = imports raw.now file.now cluster width
 asked (I.Export file raw) = exports file.now raw.now
 
-abbrev pub creates_with : List ℕ → Option ℕ → Option ℕ → Option ℕ → Option Asked
-creates_with file (Some size) (Some cluster) (Some width) = Some (creates file size cluster width)
-creates_with file _ _ _ = None
+abbrev pub creates_with : List ℕ → Option ℕ → Option ℕ → Option ℕ → Option PreallocateMode → Option Asked
+creates_with file (Some size) (Some cluster) (Some width) (Some mode) = Some (creates file size cluster width mode)
+creates_with file _ _ _ _ = None
 
 abbrev pub imports_with : List ℕ → List ℕ → Option ℕ → Option ℕ → Option Asked
 imports_with raw file (Some cluster) (Some width) = Some (imports raw file cluster width)
 imports_with raw file _ _ = None
 
--- `run FILE`, `check FILE`, `export FILE RAW`, `import RAW FILE CLUSTER WIDTH` with two numbers, or `create FILE SIZE CLUSTER WIDTH none` with three; nothing else is read
+-- `run FILE`, `check FILE`, `export FILE RAW`, `import RAW FILE CLUSTER WIDTH` with two numbers, or `create FILE SIZE CLUSTER WIDTH MODE` with three and a mode's word; nothing else is read
 abbrev pub asked_by : List (List ℕ) → Option Asked
 asked_by (name ∷ file ∷ []) =
     if bytes_eq name (codes "run") then Some (runs file)
@@ -39,7 +41,5 @@ asked_by (name ∷ file ∷ raw ∷ []) = if bytes_eq name (codes "export") then
 asked_by (name ∷ raw ∷ file ∷ cluster ∷ width ∷ []) =
     if bytes_eq name (codes "import") then imports_with raw file (number_of cluster) (number_of width) else None
 asked_by (name ∷ file ∷ size ∷ cluster ∷ width ∷ mode ∷ []) =
-    if bytes_eq name (codes "create") && bytes_eq mode (codes "none")
-    then creates_with file (number_of size) (number_of cluster) (number_of width)
-    else None
+    if bytes_eq name (codes "create") then creates_with file (number_of size) (number_of cluster) (number_of width) (mode_of mode) else None
 asked_by _ = None

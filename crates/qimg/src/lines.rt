@@ -260,7 +260,7 @@ fn shrink_command(operands: &[&str]) -> Result<Command, LineError>
 }
 
 // How a larger disk takes the place that it adds.
-fn preallocation(word: &str) -> Option<PreallocateMode>
+pub(crate) fn preallocation(word: &str) -> Option<PreallocateMode>
     ensures { result ≡ mode_of word.now }
 {
     match word {

@@ -40,12 +40,14 @@ pub fn create<S: Storage, W: Write>(
         size,
         cluster,
         width,
+        mode,
     } = *invocation
     else {
         return (print_usage(output), storage);
     };
     let (storage, made) = Qcow2CreateBuilder::new(storage)
         .size(size)
+        .preallocate(mode)
         .cluster_size(cluster)
         .refcount_width(width)
         .create(alloc);

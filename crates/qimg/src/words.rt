@@ -2,6 +2,8 @@ ghost use Rattle.std.specs.Prelude.{◌≡◌, map, string_bytes};
 ghost use Rattle.std.specs.Option.{option_map};
 ghost use Rattle.qimg.specs.Words.{asked, asked_by};
 
+use crate::lines::preallocation;
+use image_access::PreallocateMode;
 use program_parts::number;
 
 /// The line that is printed where the words are not understood.
@@ -17,6 +19,7 @@ pub enum Invocation<'a> {
         size: u64,
         cluster: u64,
         width: u64,
+        mode: PreallocateMode,
     },
     /// Run the commands of the standard input on an image.
     Run {
@@ -63,15 +66,15 @@ pub fn words(words: &[String]) -> Option<Invocation<'_>>
                 width: number(width.as_str())?,
             },
         ),
-        [name, file, size, cluster, width, mode]
-            if name.as_str() == "create" && mode.as_str() == "none" => {
-            Some(Invocation::Create {
+        [name, file, size, cluster, width, mode] if name.as_str() == "create" => Some(
+            Invocation::Create {
                 file: file.as_str(),
                 size: number(size.as_str())?,
                 cluster: number(cluster.as_str())?,
                 width: number(width.as_str())?,
-            })
-        }
+                mode: preallocation(mode.as_str())?,
+            },
+        ),
         _ => None,
     }
 }

@@ -358,7 +358,7 @@ module _ {S : Type 0} (caches : MetadataCaches S) (key : ℕ) (b : Bool) (rb : C
   pub removed_marks : KeepsMarks caches (record caches { rb = rb })
   removed_marks = record {
     pins = λ _. refl;
-    room = λ r. record { some = subst (λ (c : Cache (RefBlockCacheBackend S) ℕ RefBlockView). 0 < c.size) (sym is) r.some; free = ap pinned entries_is ∙ free_case b r.free };
+    room = λ r. record { tables = r.tables; some = subst (λ (c : Cache (RefBlockCacheBackend S) ℕ RefBlockView). 0 < c.size) (sym is) r.some; free = ap pinned entries_is ∙ free_case b r.free };
     changed = λ noted. noted;
   }
 

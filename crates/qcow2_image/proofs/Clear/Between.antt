@@ -22,6 +22,7 @@ use Rattle.qcow2_laws.proofs.Places.{Sizes-from}
 use Rattle.qcow2_alloc.specs.CacheMarks.{l2_pins}
 use Rattle.qcow2_alloc.specs.declared.clusters_to_free.ClustersToFreeEntry.{ClustersToFreeEntry}
 use Rattle.qcow2_alloc.specs.ImageFile.{contents_in, known_in}
+use Rattle.qcow2_alloc.specs.MetadataCaches.{IsEntryAt}
 use Rattle.qcow2_alloc.proofs.KeptTables.Standing.{own_cluster}
 use Rattle.qcow2_image.specs.CallParts.{UnseenCall}
 use Rattle.qcow2_image.specs.Clearing.{ClearsCovers, ClearsPart, ClearsTable, IsUnderMapping, IsWhole, MayClear, ReadsAll, ReadsDropped, cleared_cover, gifts_between, is_between, listed_by, setting_of, shown_by}
@@ -163,6 +164,17 @@ module _ {S F : Type 0} (view : S → StorageView) (backing : F → BackingView)
         ],
       )
 
+-- a cluster that so many clusters behind one has its entry in the same table
+pub entry_behind : (h : HeaderFields) (known : Bytes) (table first n k i : ℕ) → IsEntryAt h known i table (first % entries_per_cluster h) → first / entries_per_cluster h ≡ i → first % entries_per_cluster h + n ≤ entries_per_cluster h → k < n
+    → IsEntryAt h known i table ((first + k) % entries_per_cluster h) × ((first + k) / entries_per_cluster h ≡ i)
+entry_behind h known table first n k i at here fits lt =
+    let row = entries_per_cluster h in
+    let split : first / row * row + first % row ≡ first = div-add-mod' first row in
+    let e : first + k ≡ first / row * row + (first % row + k) = omega (arith, split) in
+    let column : (first + k) % row ≡ first % row + k = ap (λ x. x % row) e ∙ mod-mul-add (first / row) row (first % row + k) (omega (arith, fits, lt)) in
+    let above : (first + k) / row ≡ first / row = ap (λ x. x / row) e ∙ div-mul-add (first / row) row (first % row + k) (omega (arith, fits, lt)) in
+    (record { real = at.real; place = at.place; within = subst (λ x. x < row) (sym column) (omega (arith, fits, lt)) }, above ∙ here)
+
 -- ---- a part before
 module _ {S F : Type 0} (view : S → StorageView) (backing : F → BackingView) (out : List (Option Prepared)) where
   pub covers_before : (how : Clearance) (from to : ℕ) (h h' h'' : HeaderFields) (known known' known'' : Bytes) → MovesTables h h' → CoversStay h known h' known' → ClearsCovers how from to h' known' h'' known'' → ClearsCovers how from to h known h'' known''
@@ -198,6 +210,14 @@ module _ {S F : Type 0} (view : S → StorageView) (backing : F → BackingView)
 
   pub whole_format : (h h' : HeaderFields) (how : Clearance) (from to : ℕ) → MovesTables h h' → IsWhole h how from to → IsWhole h' how from to
   whole_format h h' how from to format whole = subst (λ (x : HeaderFields). IsWhole x how from to) (sym format) (record { begins = whole.begins; ends = whole.ends; within = whole.within; version = whole.version })
+
+  -- the entries of whole clusters stand in one table
+  pub fits_table : (old mid : Qcow2 S F) (how : Clearance) (from to : ℕ) → UnseenCall view backing old mid out → IsWhole old.file.header.fields how from to → from < to
+      → from / cluster_size mid.file.header.fields % entries_per_cluster mid.file.header.fields + (to - from) / cluster_size mid.file.header.fields ≤ entries_per_cluster mid.file.header.fields
+  fits_table old mid how from to found whole_old lt =
+      let h = mid.file.header.fields in
+      let whole = whole_format old.file.header.fields h how from to found.header whole_old in
+      row_within (cluster_size h) (entries_per_cluster h) (pow_pos h.cluster_bits) from to whole.begins whole.ends lt (Sizes-from h (contents_in view mid.file) found.sound.file.caches.kept.kept.guarded.top.header_reads).entries whole.within
 
   module _ (old mid b new : Qcow2 S F) (how : Clearance) (from to table : ℕ) (found : UnseenCall view backing old mid out) (holds : HoldsTable view backing mid from table) (whole_old : IsWhole old.file.header.fields how from to) (lt : from < to)
       (unpinned : l2_pins mid.file.caches table ≡ 0) (list : List ClustersToFreeEntry)

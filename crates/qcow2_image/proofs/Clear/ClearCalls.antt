@@ -243,6 +243,9 @@ module _ {S F : Type 0} (view : S → StorageView) (backing : F → BackingView)
           }
 
       -- it was a fault
+      pub fault_broke : (x : ImageError) → r ≡ Err x → (out : List (Option Prepared)) → ImageInvariant view backing (pending_in view backing old out) old out → IsFault (refusal_of x)
+      fault_broke x refused out sound = (subst (EndsFreeing view backing entries freed out) refused (ends out (part out sound).sound)).1
+
       pub ungiven_broke : (x : ImageError) → r ≡ Err x → RefusesUngiven view backing old freed x
       ungiven_broke x refused none out =
           let fault : ImageInvariant view backing (pending_in view backing old out) old out → ⊥ = λ sound. none (subst (EndsFreeing view backing entries freed out) refused (ends out (part out sound).sound)).1 in

@@ -234,6 +234,7 @@ module _ {S F : Type 0} (view : S → StorageView) (backing : F → BackingView)
     pub parts : (out : List (Option Prepared)) (k : ℕ) → slice_get out k ≡ Some (Some p) → IsSome p.table → ImageInvariant view backing (pending_in view backing old out) old out
         → CommitsPart view backing old now out k p q × (IsTrue entered → IsTrue now.file.caches.is_changed)
     pub storage : now.file.storage ≡ old.file.storage
+    pub below : now.backing ≡ old.backing
     pub quiet : DropsNothing p → DropsNothing q × (now.file.free_list ≡ old.file.free_list)
 
   pub first_none : (old : Qcow2 S F) (p : Prepared) → EntersFirst old old p p 0 false
@@ -246,6 +247,7 @@ module _ {S F : Type 0} (view : S → StorageView) (backing : F → BackingView)
     in_place = λ j lt. absurd (omega arith);
     parts = λ out k placed some sound. (parts_none view backing out k old p placed sound, λ never. absurd (let e : false ≡ true = never in cc));
     storage = refl;
+    below = refl;
     quiet = λ none. (none, refl);
   }
 
@@ -266,6 +268,7 @@ module _ {S F : Type 0} (view : S → StorageView) (backing : F → BackingView)
           ];
           parts = first.parts;
           storage = first.storage;
+          below = first.below;
           quiet = first.quiet;
         }))
 
@@ -305,6 +308,7 @@ module _ {S F : Type 0} (view : S → StorageView) (backing : F → BackingView)
                 λ _. entered_noted view backing now new n q r enters (slice_set out k (Some q)) k at there.0 there.1 before.sound,
               );
           storage = ap (λ (m : Qcow2 S F). m.file.storage) enters.lists ∙ ap (λ (m : Qcow2 S F). m.file.storage) enters.enters.rest ∙ first.storage;
+          below = ap (λ (m : Qcow2 S F). m.backing) enters.lists ∙ ap (λ (m : Qcow2 S F). m.backing) enters.enters.rest ∙ first.below;
           quiet = λ none.
               let before = first.quiet none in
               let last : new.file.free_list ≡ enters.mid.file.free_list ++ dropped_by enters.share = ap (λ (m : Qcow2 S F). m.file.free_list) enters.lists in

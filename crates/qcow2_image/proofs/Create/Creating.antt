@@ -3,6 +3,8 @@ use Rattle.std.proofs.Common.{◌≡◌, ◌⊎◌, inl, inr, ⊎_elim, ℕ, ◌
 use Rattle.std.specs.Prelude.{IfOk}
 use Rattle.image_access.specs.Backing.{BackingView}
 use Rattle.image_access.specs.Moments.{StorageView}
+use Rattle.image_access.specs.declared.storage.PreallocateMode.{PreallocateMode}
+use Rattle.image_access.specs.declared.storage.PreallocateMode.TheVariants as Mode
 use Rattle.image_access.proofs.Passing.{passes_on, passes_if}
 use Rattle.qcow2_metadata.specs.Bytes.{Bytes, byte_at}
 use Rattle.qcow2_metadata.specs.Consistent.{IsConsistent}
@@ -18,11 +20,12 @@ use Rattle.qcow2_alloc.specs.declared.error.ImageError.{ImageError}
 use Rattle.qcow2_alloc.specs.ImageFile.{nothing_given, view_in}
 use Rattle.qcow2_image.specs.declared.builder.Qcow2CreateBuilder.{Qcow2CreateBuilder}
 use Rattle.qcow2_image.specs.declared.image.Qcow2.{Qcow2}
-use Rattle.qcow2_image.specs.Created.{IsUnwritten, IsStopOfCreating, StopsCreating, StaysCreating, IsNewHeader, IsCreated, Enlarges}
+use Rattle.qcow2_image.specs.Created.{IsNewDisk, IsUnwritten, ShowsZeros, IsStopOfCreating, StopsCreating, StaysCreating, IsNewHeader, IsCreated, Enlarges}
 use Rattle.qcow2_image.specs.Growing.{SameFormat, GrowsWhole, ReachesSize}
 use Rattle.qcow2_image.specs.Image.{size_of, storage_of_image}
 use Rattle.qcow2_image.specs.Opened.{IsKeptSince, Opens, storage_after}
 use Rattle.qcow2_image.specs.ImageInvariant.{abstract_of}
+use Rattle.qcow2_image.proofs.Create.NewDisks.{new_disk_consistent, unwritten_covers, unwritten_new}
 use Rattle.qcow2_image.proofs.Create.ThreeWrites.{new_unwritten}
 
 disk_size : (b backing : Bytes) → (disk b backing).size ≡ (header b).size
@@ -62,52 +65,85 @@ unwritten_either size old c unwritten kept = ⊎_elim
 pub opens_unwritten : (n : ℕ) (old new : StorageView) → IsUnwritten n (byte_at old.contents) → IsKeptSince old new → IsUnwritten n (byte_at new.contents)
 opens_unwritten n old new unwritten since = unwritten_still n (byte_at old.contents) (byte_at new.contents) unwritten (λ backing m ok. since.contents backing m ok ok)
 
-pub opening_stops : (size : ℕ) (old new : StorageView) → IsUnwritten 0 (byte_at old.contents) → IsKeptSince old new → StopsCreating size old new
-opening_stops size old new unwritten since =
-    passes_if (λ c. IsStopOfCreating size (byte_at c)) (λ c kept. inr (inl (unwritten_still 0 (byte_at old.contents) (byte_at c) unwritten (λ backing m ok. kept backing m ok ok)))) since.moments
+opens_zeros : (n : ℕ) (old new : StorageView) → ShowsZeros n (byte_at old.contents) → IsKeptSince old new → ShowsZeros n (byte_at new.contents)
+opens_zeros n old new shows since =
+    let b = byte_at old.contents in
+    let c = byte_at new.contents in
+    let start : StopOkEverywhere (λ o. 0) (checkpoint_at (disk b (λ o. 0))) b = record { consistent = shows.consistent; size = inl refl; values = λ o. inl refl } in
+    let kept : StopOkEverywhere (λ o. 0) (checkpoint_with [] [] (checkpoint_at (disk b (λ o. 0)))) c = since.contents (λ o. 0) (checkpoint_at (disk b (λ o. 0))) start start in
+    record {
+      consistent = kept.consistent;
+      size = ⊎_elim (λ same. sym (disk_size c (λ o. 0)) ∙ same ∙ disk_size b (λ o. 0) ∙ shows.size) (λ none. absurd none) kept.size;
+      zeros = λ o. ⊎_elim (λ same. same ∙ shows.zeros o) (λ none. absurd none) (kept.values o);
+    }
 
--- ---- it is made larger and flushed
+pub opening_stops : (mode : PreallocateMode) (size : ℕ) (old new : StorageView) → IsUnwritten 0 (byte_at old.contents) → IsKeptSince old new → StopsCreating mode size old new
+opening_stops mode size old new unwritten since =
+    passes_if (λ c. IsStopOfCreating mode size (byte_at c)) (λ c kept. inr (inl (unwritten_new mode 0 (byte_at c) (unwritten_still 0 (byte_at old.contents) (byte_at c) unwritten (λ backing m ok. kept backing m ok ok))))) since.moments
+
+-- ---- it is made larger and flushed, where no place is taken
 module _ (size : ℕ) (old new : StorageView) (known : Bytes) (unwritten : IsUnwritten 0 (byte_at old.contents)) (clean : known ≡ byte_at old.contents) (since : SafeThroughout old new known nothing_given (size ∷ [])) where
   as_known : (backing : Bytes) (m : Checkpoint) → StopOkEverywhere backing m (byte_at old.contents) → StopOkEverywhere backing m known
   as_known backing m ok = subst (StopOkEverywhere backing m) (sym clean) ok
 
-  pub growing_stops : StopsCreating size old new
+  pub growing_stops : StopsCreating Mode.None size old new
   growing_stops =
-      passes_if (λ c. IsStopOfCreating size (byte_at c)) (λ c kept. inr (unwritten_either size (byte_at old.contents) (byte_at c) unwritten (λ backing m ok. kept backing m ok (as_known backing m ok)))) since.moments
+      passes_if (λ c. IsStopOfCreating Mode.None size (byte_at c)) (λ c kept. inr (unwritten_either size (byte_at old.contents) (byte_at c) unwritten (λ backing m ok. kept backing m ok (as_known backing m ok)))) since.moments
 
   pub grown_unwritten : (header (byte_at new.contents)).size ≡ size → IsUnwritten size (byte_at new.contents)
   grown_unwritten is = unwritten_as 0 (byte_at old.contents) (byte_at new.contents) (size ∷ []) unwritten (λ backing m ok. since.contents backing m ok (as_known backing m ok)) size is
 
-module _ {S F : Type 0} (view : S → StorageView) (backing : F → BackingView) (size : ℕ) (start : S) (mid new : Qcow2 S F) (unwritten : IsUnwritten 0 (byte_at (view start).contents)) (since : IsKeptSince (view start) (view (storage_of_image mid)))
-    (opened : IsOpened (abstract_of view backing mid [])) (format : SameFormat (header (byte_at (view start).contents)) mid.file.header.fields) where
-  unwritten_mid : IsUnwritten 0 (byte_at (view_in view mid.file).contents)
-  unwritten_mid = opens_unwritten 0 (view start) (view_in view mid.file) unwritten since
+-- the headers on the storages are those of the images
+pub format_stored : (h h' k k' : HeaderFields) → h ≡ k → h' ≡ k' → SameFormat k k' → SameFormat h h'
+format_stored h h' k k' is is' format = subst (λ x. SameFormat x h') (sym is) (subst (λ x. SameFormat k x) (sym is') format)
 
-  all_stops : StopsCreating size (view_in view mid.file) (view_in view new.file) → StopsCreating size (view start) (view_in view new.file)
-  all_stops then = passes_on (λ c. IsStopOfCreating size (byte_at c)) (opening_stops size (view start) (view_in view mid.file) unwritten since) then (λ c is. is)
-
-  enlarged : (r : Result (Unit {0}) ImageError) → GrowsWhole view backing mid new size r → Enlarges size (view start) (view_in view new.file) r
+module _ {S F : Type 0} (view : S → StorageView) (backing : F → BackingView) (size : ℕ) (old new : Qcow2 S F) (unwritten : IsUnwritten 0 (byte_at (view_in view old.file).contents)) (opened : IsOpened (abstract_of view backing old [])) where
+  pub enlarged : (r : Result (Unit {0}) ImageError) → GrowsWhole view backing old new size r → Enlarges Mode.None size (view_in view old.file) (view_in view new.file) r
   enlarged (Ok x) grows =
       let extends = grows.1 in
-      let mid_is = opened.sound.file.caches.kept.kept.guarded.top.header_is in
+      let old_is = opened.sound.file.caches.kept.kept.guarded.top.header_is in
       let new_is = extends.sound.file.caches.kept.kept.guarded.top.header_is in
-      let none : size_of mid ≡ 0 = ap (λ (h : HeaderFields). h.size) (sym mid_is) ∙ unwritten_mid.size in
-      let is : (header (byte_at (view_in view new.file).contents)).size ≡ size = ap (λ (h : HeaderFields). h.size) new_is ∙ grows.2 ∙ ap (λ n. max n size) none ∙ omega arith in (
-        record { honest = extends.sound.file.honest; moments = all_stops (growing_stops size (view_in view mid.file) (view_in view new.file) _ unwritten_mid opened.clean extends.since) },
-        grown_unwritten size (view_in view mid.file) (view_in view new.file) _ unwritten_mid opened.clean extends.since is,
-        subst (λ (h : HeaderFields). SameFormat (header (byte_at (view start).contents)) h) (sym new_is) (extends.format ∙ ap (λ h. with_places h (places_of new.file.header.fields)) format),
-        subst ReachesSize (sym new_is) (grows.3 (omega (arith, none))),
-      )
-  enlarged (Err e) lasts = all_stops (growing_stops size (view_in view mid.file) (view_in view new.file) _ unwritten_mid opened.clean lasts)
+      let none : size_of old ≡ 0 = ap (λ (h : HeaderFields). h.size) (sym old_is) ∙ unwritten.size in
+      let is : (header (byte_at (view_in view new.file).contents)).size ≡ size = ap (λ (h : HeaderFields). h.size) new_is ∙ grows.2 ∙ ap (λ n. max n size) none ∙ omega arith in
+      let disk_is = grown_unwritten size (view_in view old.file) (view_in view new.file) _ unwritten opened.clean extends.since is in
+      record {
+        stays = record { honest = extends.sound.file.honest; moments = growing_stops size (view_in view old.file) (view_in view new.file) _ unwritten opened.clean extends.since };
+        new_disk = disk_is;
+        covers = unwritten_covers size (byte_at (view_in view new.file).contents) disk_is;
+        format = format_stored _ _ old.file.header.fields new.file.header.fields old_is new_is extends.format;
+        reaches = subst ReachesSize (sym new_is) (grows.3 (omega (arith, none)));
+      }
+  enlarged (Err e) lasts = growing_stops size (view_in view old.file) (view_in view new.file) _ unwritten opened.clean lasts
 
-  pub enlarged_so : (last : S) (r : Result (Unit {0}) ImageError) → last ≡ storage_of_image new → GrowsWhole view backing mid new size r → Enlarges size (view start) (view last) r
-  enlarged_so last r is grows = subst (λ (s : S). Enlarges size (view start) (view s) r) (sym is) (enlarged r grows)
+-- ---- it was opened before that
+module _ {S F : Type 0} (view : S → StorageView) (backing : F → BackingView) (mode : PreallocateMode) (size : ℕ) (start : S) (mid : Qcow2 S F) (unwritten : IsUnwritten 0 (byte_at (view start).contents)) (since : IsKeptSince (view start) (view (storage_of_image mid)))
+    (opened : IsOpened (abstract_of view backing mid [])) (format : SameFormat (header (byte_at (view start).contents)) mid.file.header.fields) where
+  pub unwritten_mid : IsUnwritten 0 (byte_at (view_in view mid.file).contents)
+  unwritten_mid = opens_unwritten 0 (view start) (view_in view mid.file) unwritten since
+
+  all_stops : (new : StorageView) → StopsCreating mode size (view_in view mid.file) new → StopsCreating mode size (view start) new
+  all_stops new then = passes_on (λ c. IsStopOfCreating mode size (byte_at c)) (opening_stops mode size (view start) (view_in view mid.file) unwritten since) then (λ c is. is)
+
+  opened_first : (new : StorageView) (r : Result (Unit {0}) ImageError) → Enlarges mode size (view_in view mid.file) new r → Enlarges mode size (view start) new r
+  opened_first new (Ok x) done =
+      let mid_is = opened.sound.file.caches.kept.kept.guarded.top.header_is in
+      record {
+        stays = record { honest = done.stays.honest; moments = all_stops new done.stays.moments };
+        new_disk = done.new_disk;
+        covers = done.covers;
+        format = done.format ∙ ap (λ h. with_places h (places_of (header (byte_at new.contents)))) (mid_is ∙ format);
+        reaches = done.reaches;
+      }
+  opened_first new (Err e) stops = all_stops new stops
+
+  pub enlarged_so : (new : Qcow2 S F) (last : S) (r : Result (Unit {0}) ImageError) → last ≡ storage_of_image new → Enlarges mode size (view_in view mid.file) (view_in view new.file) r → Enlarges mode size (view start) (view last) r
+  enlarged_so new last r is done = subst (λ (s : S). Enlarges mode size (view start) (view s) r) (sym is) (opened_first (view_in view new.file) r done)
 
 -- ---- the whole call
 
 -- a stop that may leave an image of no bytes
-pub stops_at_none : (n : ℕ) (old new : StorageView) → StopsCreating 0 old new → StopsCreating n old new
-stops_at_none n old new stops = passes_if (λ c. IsStopOfCreating n (byte_at c)) (λ c stop. ⊎_elim (λ none. inl none) (λ either. ⊎_elim (λ u. inr (inl u)) (λ u. inr (inl u)) either) stop) stops
+pub stops_at_none : (mode : PreallocateMode) (n : ℕ) (old new : StorageView) → StopsCreating Mode.None 0 old new → StopsCreating mode n old new
+stops_at_none mode n old new stops = passes_if (λ c. IsStopOfCreating mode n (byte_at c)) (λ c stop. ⊎_elim (λ none. inl none) (λ either. inr (inl (unwritten_new mode 0 (byte_at c) (⊎_elim (λ u. u) (λ u. u) either)))) stop) stops
 
 pub new_header_is : (v : HeaderView) (bits order : ℕ) → v ≡ new_header bits order None None None → HasNewNames v → IsNewHeader v
 new_header_is v bits order is names = record {
@@ -116,41 +152,50 @@ new_header_is v bits order is names = record {
 }
 
 module _ {S : Type 0} (view : S → StorageView) (builder : Qcow2CreateBuilder S) (bits order : ℕ) (v : HeaderView) (is : v ≡ new_header bits order None None None) (start mid last : S) (same : start ≡ builder.image)
-    (three : StaysCreating 0 (view start) (view mid) × IsNewImage v.fields (byte_at (view mid).contents)) where
+    (three : StaysCreating Mode.None 0 (view start) (view mid) × IsNewImage v.fields (byte_at (view mid).contents)) where
   pub unwritten : IsUnwritten 0 (byte_at (view mid).contents)
   unwritten = new_unwritten v.fields (byte_at (view mid).contents) three.1 (ap (λ (w : HeaderView). w.fields.size) is)
 
-  pub creating_stops : (r : Result (Unit {0}) ImageError) → Enlarges builder.size (view mid) (view last) r → StopsCreating builder.size (view builder.image) (view last)
+  pub creating_stops : (r : Result (Unit {0}) ImageError) → Enlarges builder.preallocate builder.size (view mid) (view last) r → StopsCreating builder.preallocate builder.size (view builder.image) (view last)
   creating_stops r enlarges =
-      subst (λ (s : S). StopsCreating builder.size (view s) (view last)) same
-      (passes_on (λ c. IsStopOfCreating builder.size (byte_at c)) (stops_at_none builder.size (view start) (view mid) three.0.moments) (stops_of r enlarges) (λ c stop. stop))
+      subst (λ (s : S). StopsCreating builder.preallocate builder.size (view s) (view last)) same
+      (passes_on (λ c. IsStopOfCreating builder.preallocate builder.size (byte_at c)) (stops_at_none builder.preallocate builder.size (view start) (view mid) three.0.moments) (stops_of r enlarges) (λ c stop. stop))
     where
-      stops_of : (r : Result (Unit {0}) ImageError) → Enlarges builder.size (view mid) (view last) r → StopsCreating builder.size (view mid) (view last)
-      stops_of (Ok x) done = done.0.moments
+      stops_of : (r : Result (Unit {0}) ImageError) → Enlarges builder.preallocate builder.size (view mid) (view last) r → StopsCreating builder.preallocate builder.size (view mid) (view last)
+      stops_of (Ok x) done = done.stays.moments
       stops_of (Err e) stops = stops
 
   -- the header keeps what it was made of
   header_then : SameFormat (header (byte_at (view mid).contents)) (header (byte_at (view last).contents)) → header (byte_at (view last).contents) ≡ with_places (new_fields bits order None None None) (places_of (header (byte_at (view last).contents)))
   header_then format = format ∙ ap (λ h. with_places h (places_of (header (byte_at (view last).contents)))) (three.1.header_is ∙ ap (λ (w : HeaderView). w.fields) is)
 
-  pub created_so : builder.cluster_size ≡ 2 ^ bits → builder.refcount_width ≡ 2 ^ order → (r : Result (Unit {0}) ImageError) → Enlarges builder.size (view mid) (view last) r → IfOk r (λ done. IsCreated builder (view last))
-  created_so clusters counts (Ok x) done = let h = header_then done.2 in record {
-    honest = done.0.honest;
-    unwritten = done.1;
+  pub created_so : builder.cluster_size ≡ 2 ^ bits → builder.refcount_width ≡ 2 ^ order → (r : Result (Unit {0}) ImageError) → Enlarges builder.preallocate builder.size (view mid) (view last) r → IfOk r (λ done. IsCreated builder (view last))
+  created_so clusters counts (Ok x) done = let h = header_then done.format in record {
+    honest = done.stays.honest;
+    new_disk = done.new_disk;
+    covers = done.covers;
     version = ap (λ (k : HeaderFields). k.version) h;
     clusters = ap (λ (k : HeaderFields). 2 ^ k.cluster_bits) h ∙ sym clusters;
     counts = ap (λ (k : HeaderFields). 2 ^ k.refcount_order) h ∙ sym counts;
-    reaches = done.3;
+    reaches = done.reaches;
     no_backing_file = ap (λ (k : HeaderFields). k.backing_offset) h;
   }
   created_so clusters counts (Err e) stops = tt
 
 -- ---- and is opened then
-pub opened_unwritten : {S F : Type 0} (view : S → StorageView) (backing : F → BackingView) (builder : Qcow2CreateBuilder S) (storage : S) (done : Result (Unit {0}) ImageError) (x : Unit {0}) → done ≡ Ok x → IfOk done (λ d. IsCreated builder (view storage))
+new_opened : (mode : PreallocateMode) (n : ℕ) (old new : StorageView) → IsNewDisk mode n (byte_at old.contents) → IsKeptSince old new → IsNewDisk mode n (byte_at new.contents)
+new_opened Mode.None n old new disk_is since = opens_unwritten n old new disk_is since
+new_opened Mode.Zero n old new disk_is since = opens_zeros n old new disk_is since
+new_opened Mode.FormatAllocate n old new disk_is since = opens_zeros n old new disk_is since
+new_opened Mode.FullAllocate n old new disk_is since = opens_zeros n old new disk_is since
+new_opened Mode.WriteData n old new disk_is since = opens_zeros n old new disk_is since
+
+pub opened_new : {S F : Type 0} (view : S → StorageView) (backing : F → BackingView) (builder : Qcow2CreateBuilder S) (storage : S) (done : Result (Unit {0}) ImageError) (x : Unit {0}) → done ≡ Ok x → IfOk done (λ d. IsCreated builder (view storage))
     → (result : Result (Qcow2 S F) (S × ImageError)) → IfOk result (Opens view backing (view storage)) → ((view storage).is_honest → IsConsistent (byte_at (view storage).contents) → IsKeptSince (view storage) (view (storage_after result)))
-    → IfOk result (λ image. IsUnwritten builder.size (abstract_of view backing image []).known)
-opened_unwritten view backing builder storage done x is created (Err e) opens since = tt
-opened_unwritten view backing builder storage done x is created (Ok image) opens since =
+    → IfOk result (λ image. IsNewDisk builder.preallocate builder.size (abstract_of view backing image []).known)
+opened_new view backing builder storage done x is created (Err e) opens since = tt
+opened_new view backing builder storage done x is created (Ok image) opens since =
     let made : IsCreated builder (view storage) = subst (λ (r : Result (Unit {0}) ImageError). IfOk r (λ d. IsCreated builder (view storage))) is created in
-    let opened = opens made.honest made.unwritten.consistent in
-    subst (IsUnwritten builder.size) (sym opened.clean) (opens_unwritten builder.size (view storage) (view_in view image.file) made.unwritten (since made.honest made.unwritten.consistent))
+    let consistent = new_disk_consistent builder.preallocate builder.size (byte_at (view storage).contents) made.new_disk in
+    let opened = opens made.honest consistent in
+    subst (IsNewDisk builder.preallocate builder.size) (sym opened.opened.clean) (new_opened builder.preallocate builder.size (view storage) (view_in view image.file) made.new_disk (since made.honest consistent))

@@ -3,6 +3,7 @@ use Rattle.std.proofs.Common.{◌≡◌, inl, inr, ℕ, ◌*◌, ◌/◌, ◌^�
 use Rattle.std.specs.Prelude.{IfSome, OnOk}
 use Rattle.image_access.specs.Contents.{overwritten}
 use Rattle.image_access.specs.Moments.{StorageView, Passing, Changes, Calls}
+use Rattle.image_access.specs.declared.storage.PreallocateMode.TheVariants as Mode
 use Rattle.image_access.specs.declared.error.StorageError.{StorageError}
 use Rattle.image_access.proofs.Passing.{passes_none, passes_on, passes_if, passes_change}
 use Rattle.qcow2_metadata.specs.Bytes.{Bytes, byte_at}
@@ -44,13 +45,13 @@ new_unwritten h b new none = record {
 }
 
 -- ---- moments
-pub stops_none : (n : ℕ) (v : StorageView) → v.is_honest → StaysCreating n v v
+pub stops_none : (n : ℕ) (v : StorageView) → v.is_honest → StaysCreating Mode.None n v v
 stops_none n v honest = record { honest = honest; moments = passes_none v _ }
 
-pub stops_write : {T : Type 0} (result : Result T StorageError) (n : ℕ) (start old new : StorageView) (changed : List ℕ) → StaysCreating n start old → Calls old new result → Changes old new result changed → IsStopOfCreating n (byte_at old.contents)
-    → IsStopOfCreating n (byte_at changed) → StaysCreating n start new
+pub stops_write : {T : Type 0} (result : Result T StorageError) (n : ℕ) (start old new : StorageView) (changed : List ℕ) → StaysCreating Mode.None n start old → Calls old new result → Changes old new result changed → IsStopOfCreating Mode.None n (byte_at old.contents)
+    → IsStopOfCreating Mode.None n (byte_at changed) → StaysCreating Mode.None n start new
 stops_write result n start old new changed stops calls changes before after =
-    record { honest = calls.honest stops.honest; moments = passes_change (λ c. IsStopOfCreating n (byte_at c)) changed stops.moments calls changes stops.honest before after }
+    record { honest = calls.honest stops.honest; moments = passes_change (λ c. IsStopOfCreating Mode.None n (byte_at c)) changed stops.moments calls changes stops.honest before after }
 
 module _ {S : Type 0} (view : S → StorageView) (v : HeaderView) (new : IsNewHeader v) (block : RefBlockView) (counts : CountsThree v.fields block) (t : EntryTableView) (names : NamesOne v.fields t)
     (start : S) (honest : (view start).is_honest) (empty : (view start).contents ≡ []) where
@@ -77,7 +78,7 @@ module _ {S : Type 0} (view : S → StorageView) (v : HeaderView) (new : IsNewHe
     blank_first : IsBlank c1
     blank_first = blank_still (view start).contents (2 * cluster_size h) block.bytes (omega (arith, large)) blank
 
-    pub stops_first : StaysCreating 0 (view start) (view s1)
+    pub stops_first : StaysCreating Mode.None 0 (view start) (view s1)
     stops_first =
         stops_write r1 0 (view start) (view start) (view s1) c1 (stops_none 0 (view start) honest) (subst (λ (s : S). Calls (view s) (view s1) r1) same called) writes_first (inl (no_image (view start).contents blank)) (inl (no_image c1 blank_first))
 
@@ -102,7 +103,7 @@ module _ {S : Type 0} (view : S → StorageView) (v : HeaderView) (new : IsNewHe
       blank_second : IsBlank c2
       blank_second = blank_still (view s1).contents (cluster_size h) t.bytes large blank_there
 
-      pub stops_second : StaysCreating 0 (view start) (view s2)
+      pub stops_second : StaysCreating Mode.None 0 (view start) (view s2)
       stops_second = stops_write r2 0 (view start) (view s1) (view s2) c2 stops_first called' writes_second (inl (no_image (view s1).contents blank_there)) (inl (no_image c2 blank_second))
 
       module _ (y : Unit {0}) (done' : r2 ≡ Ok y) (stands : (view told).is_honest → IfSome block.cluster (λ c. OnOk r1 (IsRefBlockAt (byte_at (view s1).contents) (c * 2 ^ block.cluster_bits) block)))
@@ -120,7 +121,7 @@ module _ {S : Type 0} (view : S → StorageView) (v : HeaderView) (new : IsNewHe
         pub new_there : IsNewImage h (byte_at (header_written v (view s2).contents))
         new_there = is_new_image v new block counts t names (view s1).contents (view s2).contents block_stands second_is there
 
-        pub stops_third : StaysCreating 0 (view start) (view s3)
+        pub stops_third : StaysCreating Mode.None 0 (view start) (view s3)
         stops_third =
             let none : h.size ≡ 0 = ap (λ (w : HeaderView). w.fields.size) new.is in
             stops_write r3 0 (view start) (view s2) (view s3) (header_written v (view s2).contents) stops_second called'' wrote'' (inl (no_image (view s2).contents (subst IsBlank (sym second_is) blank_second)))
@@ -130,12 +131,12 @@ module _ {S : Type 0} (view : S → StorageView) (v : HeaderView) (new : IsNewHe
         new_stands z done'' = let is = rw done'' at (wrote'' stops_second.honest) in subst (λ (l : List ℕ). IsNewImage h (byte_at l)) (sym is) new_there
 
 -- ---- one part after another
-pub stops_then : (n : ℕ) (old mid new : StorageView) → StaysCreating n old mid → StaysCreating n mid new → StaysCreating n old new
-stops_then n old mid new first then = record { honest = then.honest; moments = passes_on (λ c. IsStopOfCreating n (byte_at c)) first.moments then.moments (λ c is. is) }
+pub stops_then : (n : ℕ) (old mid new : StorageView) → StaysCreating Mode.None n old mid → StaysCreating Mode.None n mid new → StaysCreating Mode.None n old new
+stops_then n old mid new first then = record { honest = then.honest; moments = passes_on (λ c. IsStopOfCreating Mode.None n (byte_at c)) first.moments then.moments (λ c is. is) }
 
-pub stops_cleared : (n : ℕ) (old new : StorageView) → new.is_honest → Passing old new (λ c. c ≡ []) → StaysCreating n old new
-stops_cleared n old new honest time = record { honest = honest; moments = passes_if (λ c. IsStopOfCreating n (byte_at c)) (λ c none. inl (no_image c (λ i lt. ap (λ (l : List ℕ). byte_at l i) none))) time }
+pub stops_cleared : (n : ℕ) (old new : StorageView) → new.is_honest → Passing old new (λ c. c ≡ []) → StaysCreating Mode.None n old new
+stops_cleared n old new honest time = record { honest = honest; moments = passes_if (λ c. IsStopOfCreating Mode.None n (byte_at c)) (λ c none. inl (no_image c (λ i lt. ap (λ (l : List ℕ). byte_at l i) none))) time }
 
-pub writes_then : (h : HeaderFields) (old mid new : StorageView) (r : Result (Unit {0}) ImageError) → StaysCreating 0 old mid → WritesThree h mid new r → WritesThree h old new r
+pub writes_then : (h : HeaderFields) (old mid new : StorageView) (r : Result (Unit {0}) ImageError) → StaysCreating Mode.None 0 old mid → WritesThree h mid new r → WritesThree h old new r
 writes_then h old mid new (Ok x) first then = (stops_then 0 old mid new first then.0, then.1)
 writes_then h old mid new (Err e) first then = stops_then 0 old mid new first then

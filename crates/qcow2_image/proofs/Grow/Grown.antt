@@ -29,7 +29,7 @@ use Rattle.qcow2_alloc.specs.FreeList.{with_listed}
 use Rattle.qcow2_image.proofs.Flush.Freeing.{all_listed, beside}
 use Rattle.qcow2_image.specs.UnseenSteps.{UnseenFreeingStep, FreesListed, UnseenStep, ListGrows, pending_then}
 use Rattle.qcow2_image.specs.ImageInvariant.{of_data, of_tables, to_free, pending_in, ImageInvariant}
-use Rattle.qcow2_image.proofs.Moved.{moves_format}
+use Rattle.qcow2_image.proofs.Moved.{format_stay, moves_format}
 use Rattle.qcow2_image.proofs.Sound.{IsOnly, free_more, pending_is}
 
 module _ {S F : Type 0} (view : S → StorageView) (backing : F → BackingView) where
@@ -152,7 +152,7 @@ module _ {S F : Type 0} (view : S → StorageView) (backing : F → BackingView)
       back : (s : Result (Unit {0}) ImageError) (failed : Bool) → Marks s (is_failed big) failed → FreesListed view backing p old big [] s → WritesBack view backing p old (record big { is_failed = failed }) s
       back (Ok x) failed marks tidies =
           subst (λ (f : Bool). WritesBack view backing p old (record big { is_failed = f }) (Ok x)) (sym marks)
-          (extends_tidying (with_listed p old.file.free_list) (with_listed p big.file.free_list) old big tidies, tidies.unseen.header)
+          (extends_tidying (with_listed p old.file.free_list) (with_listed p big.file.free_list) old big tidies, tidies.unseen.header, format_stay old.file.header.fields big.file.header.fields (known_in view old.file) (known_in view big.file) tidies.unseen.header tidies.unseen.covers)
       back (Err e) failed marks frees = elim frees [ inl tidies ↦ tidies.since | inr broke ↦ broke.breaks.since ]
 
   -- after the disk was made larger

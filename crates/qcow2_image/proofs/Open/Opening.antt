@@ -150,7 +150,7 @@ module _ {S F : Type 0} (view : S → StorageView) (backing : F → BackingView)
       }
 
   pub opened : (image : Qcow2 S F) (surplus : ℕ → ℕ) → is_failed image ≡ false → IsHonestBacking view backing image.backing → IsLoaded view backing (nothing_pending surplus) image.file image.l1_table image.allocator
-      → IsOpened (abstract_of view backing image [])
+      → IsOpened (abstract_of view backing image []) × ((abstract_of view backing image []).surplus ≡ surplus)
   opened image surplus works below loaded =
       let p = nothing_pending surplus in
       let at : ImageInvariant view backing p image [] = record {
@@ -169,4 +169,4 @@ module _ {S F : Type 0} (view : S → StorageView) (backing : F → BackingView)
         spent = λ k. ap (λ l. to_free of_tables l k) (sym loaded.fresh.list);
         dropped = λ k. ap (λ l. to_free of_data l k) (sym loaded.fresh.list);
       }) in
-      record { sound = subst (λ q. ImageInvariant view backing q image []) is at; clean = loaded.fresh.clean (contents_in view image.file) }
+      (record { sound = subst (λ q. ImageInvariant view backing q image []) is at; clean = loaded.fresh.clean (contents_in view image.file) }, sym (ap (λ (q : Pending). q.surplus) is))

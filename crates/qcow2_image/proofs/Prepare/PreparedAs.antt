@@ -61,6 +61,7 @@ module _ (h k : HeaderFields) (b c : Bytes) (same : CoversStay h c (with_tables_
     kept = λ host at. is.kept host (sym (same (offset / cluster_size h)) ∙ at);
     private = λ o from to. is.private o from to ∙ ap (λ v. not (is_copied_data v)) (sym (same (o / cluster_size h)));
     in_place = λ i lt isnt. data_still (offset + i) (offset_of p + i) (is.in_place i lt isnt);
+    stays = is.stays;
     own = λ i lt private.
         let own = is.own i lt private in (
           own.0,
@@ -93,9 +94,9 @@ in_range size offset n o some any from to =
     ]
 
 -- all of the range is written where it is
-pub answered_existing : {S F : Type 0} (view : S → StorageView) (backing : F → BackingView) (image : Qcow2 S F) (known now : Bytes) (offset n : ℕ) (p : Prepared) (number : ℕ) → 0 < n → IsExisting p number offset n
-    → IsWritableAt image.file.header.fields known offset n p.offset → IsAnswered image.file.header.fields known offset n image.file.header.fields now p (meaning view backing image p)
-answered_existing view backing image known now offset n p number any existing writable =
+pub answered_existing : {S F : Type 0} (view : S → StorageView) (backing : F → BackingView) (image : Qcow2 S F) (known : Bytes) (offset n : ℕ) (p : Prepared) (number : ℕ) → 0 < n → IsExisting p number offset n
+    → IsWritableAt image.file.header.fields known offset n p.offset → IsAnswered image.file.header.fields known offset n image.file.header.fields known p (meaning view backing image p)
+answered_existing view backing image known offset n p number any existing writable =
     let h = image.file.header.fields in
     let none : is_some p.table ≡ false = ap is_some existing.table in
     let never : (o : ℕ) → is_private view backing image p o ≡ false = never_private view backing image p existing.shares in
@@ -113,6 +114,7 @@ answered_existing view backing image known now offset n p number any existing wr
           let there = writable.1 at.0 at.1 in
           never o ∙ ap (λ v. not (is_copied_data v)) (sym there.1) ∙ ap (λ g. not (is_copied_data (cover image.file.header.fields known g))) at.2;
       in_place = λ i lt is. writable.1 i (subst (λ l. i < l) existing.length_is lt);
+      stays = λ i lt is. writable.1 i (subst (λ l. i < l) existing.length_is lt);
       own = λ i lt is. absurd (let e : true ≡ false = sym is ∙ never (offset + i) in cc);
     }
 
@@ -274,6 +276,7 @@ module _ {S F : Type 0} (view : S → StorageView) (backing : F → BackingView)
             let share = its byte.0 byte.1 in
             private_share view backing image p o (index byte.0 byte.1) share.0 cluster share.1 ∙ entered_as h now (contents_in view image.file) p (index byte.0 byte.1) share.0 (stands byte.0 byte.1) ∙ ap (λ g. not (is_copied_data (cover h now g))) (sym cluster);
         in_place = is_in_place;
+        stays = is_in_place;
         own = λ i lt private. own_as i lt (its i lt).0 (sym (private_is i lt) ∙ private) (its i lt).1 (stands i lt);
       }
 

@@ -13,10 +13,11 @@ use Rattle.qcow2_metadata.specs.L2Table.{copied_host, zero_cover}
 use Rattle.qcow2_metadata.specs.declared.header.HeaderFields.{HeaderFields}
 use Rattle.qcow2_metadata.specs.declared.l2_mapping.L2Mapping.{L2Mapping}
 use Rattle.qcow2_metadata.specs.declared.l2_mapping.L2Mapping.TheVariants.{Uncovered}
-use Rattle.qcow2_metadata.specs.Header.{HeaderView, cluster_size, rounded_up, with_fields, with_size}
+use Rattle.qcow2_metadata.specs.Header.{HeaderView, cluster_size, rounded_up, with_fields, with_size, with_tables_of}
 use Rattle.qcow2_disk.specs.GrownCovers.{FilledCovers, GrownCovers, first_zeros}
 use Rattle.qcow2_disk.specs.Mappings.{is_copied_data}
 use Rattle.qcow2_laws.specs.Guests.{guests}
+use Rattle.qcow2_laws.specs.Tops.{places_of, with_places}
 use Rattle.qcow2_laws.proofs.Guests.{past_guests}
 use Rattle.qcow2_laws.proofs.Places.{Sizes}
 use Rattle.qcow2_alloc.specs.declared.error.ImageError.{ImageError}
@@ -27,7 +28,7 @@ use Rattle.qcow2_alloc.proofs.PlacedBlocks.{file_sizes}
 use Rattle.qcow2_image.specs.CallParts.{UnseenCall}
 use Rattle.qcow2_image.specs.declared.image.Qcow2.{Qcow2}
 use Rattle.qcow2_image.specs.declared.prepared.Prepared.{Prepared}
-use Rattle.qcow2_image.specs.Growing.{ReachesSize}
+use Rattle.qcow2_image.specs.Growing.{ReachesSize, SameFormat}
 use Rattle.qcow2_image.specs.Image.{is_failed, number_of, size_of}
 use Rattle.qcow2_image.specs.ImageInvariant.{ImageInvariant, disk_of, pending_in}
 use Rattle.qcow2_image.specs.MovedTables.{CoversStay, MovesTables}
@@ -92,6 +93,12 @@ module _ (mode : PreallocateMode) (size : ℕ) (h : HeaderFields) (k : Bytes) (l
     same = λ shows g. before g ∙ grown.same shows g ∙ behind g;
   }
 
+-- tables move, and then the size is written
+format_sized : (h m h' : HeaderFields) (size : ℕ) → MovesTables h m → h' ≡ with_size m size → SameFormat h h'
+format_sized h m h' size moves is =
+    let e : h' ≡ with_size (with_tables_of h m) size = is ∙ ap (λ (k : HeaderFields). with_size k size) moves in
+    subst (λ (k : HeaderFields). k ≡ with_places h (places_of k)) (sym e) refl
+
 module _ {S F : Type 0} (view : S → StorageView) (backing : F → BackingView) (out : List (Option Prepared)) where
   -- what fills the range behind the old end leaves that
   module _ (long filled : Qcow2 S F) (size : ℕ) (sound : ImageInvariant view backing (pending_in view backing long out) long out) (larger : size_of long < size) where
@@ -136,10 +143,10 @@ module _ {S F : Type 0} (view : S → StorageView) (backing : F → BackingView)
       taken_wider old.file.header.fields long.file.header.fields d.size end (size_of old) (boundary_in old size) out call.header (omega (arith, shown, moved)) (omega (arith, last)) (refused.taken is)
 
   -- the size is written last
-  pub tables_sized : (old filled new : Qcow2 S F) (marked : Bool) (size : ℕ) (mode : PreallocateMode) (r : Result (Unit {0}) ImageError) → IfErr r IsFaultOfTables → OnOk r (new.file.header ≡ with_fields filled.file.header (with_size filled.file.header.fields size))
+  pub tables_sized : (old filled new : Qcow2 S F) (marked : Bool) (size : ℕ) (mode : PreallocateMode) (r : Result (Unit {0}) ImageError) → MovesTables old.file.header.fields filled.file.header.fields → IfErr r IsFaultOfTables → OnOk r (new.file.header ≡ with_fields filled.file.header (with_size filled.file.header.fields size))
       → ReachesSize (with_size filled.file.header.fields size) → OnOk r (Leaves old new size mode) → GrowsTables view backing old (record new { is_failed = marked }) size mode out r
-  tables_sized old filled new marked size mode (Ok x) cause header reached covers = record { reaches = subst (λ (v : HeaderView). ReachesSize v.fields) (sym header) reached; covers = covers }
-  tables_sized old filled new marked size mode (Err e) cause header reached covers = λ is. absurd (elim cause [ inl fault ↦ (let no : I.TablePrepared ≡ I.Storage = sym is ∙ fault in cc) | inr fault ↦ (let no : I.TablePrepared ≡ I.Memory = sym is ∙ fault in cc) ])
+  tables_sized old filled new marked size mode (Ok x) moves cause header reached covers = record { format = format_sized old.file.header.fields filled.file.header.fields new.file.header.fields size moves (ap (λ (v : HeaderView). v.fields) header); reaches = subst (λ (v : HeaderView). ReachesSize v.fields) (sym header) reached; covers = covers }
+  tables_sized old filled new marked size mode (Err e) moves cause header reached covers = λ is. absurd (elim cause [ inl fault ↦ (let no : I.TablePrepared ≡ I.Storage = sym is ∙ fault in cc) | inr fault ↦ (let no : I.TablePrepared ≡ I.Memory = sym is ∙ fault in cc) ])
 
   -- ---- the entries can't tell zeros
   pub refuses_version : (old long filled : Qcow2 S F) (e : ImageError) (marked : Bool) → is_failed old ≡ false → UnseenCall view backing old long out → filled ≡ long → e ≡ I.Version → number_of filled ≡ number_of old → failed_after e (is_failed filled) marked

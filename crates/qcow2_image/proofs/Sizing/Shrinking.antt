@@ -1,6 +1,7 @@
 -- A smaller disk: turns one after another, and then the size.
-use Rattle.std.proofs.Common.{◌≡◌, ◌⊎◌, inl, inr, ℕ, ◌-◌, ◌<◌, ◌≤◌, Bool, true, false, List, [], ◌∷◌, refl, sym, ap, ◌∙◌, subst, arith, cond}
-use Rattle.std.specs.Prelude.{◌==◌, IfSome, IsTrue, Option, Some, None, Ok, Err, nat_lt}
+use Rattle.std.proofs.Common.{◌≡◌, ◌⊎◌, inl, inr, ℕ, ◌-◌, ◌^◌, ◌<◌, ◌≤◌, Bool, true, false, List, [], ◌∷◌, refl, sym, ap, ◌∙◌, subst, arith, cond}
+use Rattle.std.specs.Prelude.{◌==◌, IfSome, IsTrue, Option, Some, None, Ok, Err, nat_lt, not}
+use Rattle.std.specs.Option.{option_or}
 use Rattle.std.proofs.lemmas.Bool.{cases_lt, cond-true, cond-false, eq-eqb, ne_eqb, lt-ltb}
 use Rattle.std.proofs.lemmas.Nat.{pow_pos}
 use Rattle.image_access.specs.Backing.{BackingView}
@@ -8,7 +9,7 @@ use Rattle.image_access.specs.Moments.{StorageView, Passing}
 use Rattle.image_access.proofs.Passing.{passes_if, passes_on}
 use Rattle.qcow2_metadata.specs.Bytes.{byte_at}
 use Rattle.qcow2_metadata.specs.Guest.{Value, known_byte}
-use Rattle.qcow2_metadata.specs.Header.{header, cluster_size, rounded_up}
+use Rattle.qcow2_metadata.specs.Header.{HeaderView, header, cluster_size, rounded_up, with_fields, with_size}
 use Rattle.qcow2_disk.specs.AbstractImages.{AbstractImage, Guest, Setting, guest_of}
 use Rattle.qcow2_disk.specs.Calls.{IsFault, IsSame, IsShrinkEnd, IsShrunk, Works, with_disk}
 use Rattle.qcow2_disk.specs.Disk.{Disk, shrunk}
@@ -19,19 +20,23 @@ use Rattle.qcow2_alloc.specs.declared.error.ImageError.{ImageError}
 use Rattle.qcow2_alloc.specs.declared.error.ImageError.TheVariants as I
 use Rattle.qcow2_alloc.specs.ImageError.{IsFault as IsFaultOfTables}
 use Rattle.qcow2_alloc.specs.ImageFile.{state_in, view_in}
+use Rattle.qcow2_image.specs.Backings.{HasPrepared}
 use Rattle.qcow2_image.specs.CallParts.{UnseenCall}
 use Rattle.qcow2_image.specs.Calls.{refusal_of}
 use Rattle.qcow2_image.specs.Clearing.{setting_of}
 use Rattle.qcow2_image.specs.declared.image.Qcow2.{Qcow2}
 use Rattle.qcow2_image.specs.declared.prepared.Prepared.{Prepared}
-use Rattle.qcow2_image.specs.Image.{IsSameImage, is_failed, number_of, size_of}
+use Rattle.qcow2_image.specs.Found.{l1_index_of}
+use Rattle.qcow2_image.specs.Image.{IsSameImage, is_external, is_failed, is_writable, number_of, size_of}
 use Rattle.qcow2_image.specs.ImageInvariant.{ImageInvariant, abstract_of, disk_of, pending_in}
-use Rattle.qcow2_image.specs.Refusals.{failed_after}
-use Rattle.qcow2_image.specs.Resizing.{IsTurnEnd, SetsSize, ShowsBelow, Shrinks, UncoversNext, UncoversPart, UncoversTail, WritesSize, WritesSizeLast, boundary_in, gifts_of_shrink, gifts_of_shrunk}
+use Rattle.qcow2_image.specs.NewTables.{MayName}
+use Rattle.qcow2_image.specs.Refusals.{failed_after, refuse_if}
+use Rattle.qcow2_image.specs.Resizing.{CantUncover, IsFaultOrCantUncover, IsTurnEnd, SetsSize, ShowsBelow, Shrinks, UncoversNext, UncoversPart, UncoversTail, WritesSize, WritesSizeLast, boundary_in, gifts_of_shrink, gifts_of_shrunk, refuses_to_resize}
 use Rattle.qcow2_image.proofs.Call.Called.{Quietly, listed}
 use Rattle.qcow2_image.proofs.Call.Refused.{stays_kept}
 use Rattle.qcow2_image.proofs.Call.Settled.{is_fault, outcome}
 use Rattle.qcow2_image.proofs.Clear.Touched.{rounded_from}
+use Rattle.qcow2_image.proofs.Prepare.Entering.{may_still}
 use Rattle.qcow2_image.proofs.Sizes.{disk_size}
 use Rattle.qcow2_image.proofs.Sizing.Tails.{end_so_far, given_as, given_below, given_is, mono_up, none_below, none_between, shown_below, uncovers_none, uncovers_still, uncovers_then, works_asking}
 
@@ -388,3 +393,32 @@ module _ {S F : Type 0} (view : S → StorageView) (backing : F → BackingView)
       (passes_if (λ c. ((header (byte_at c)).size ≡ size_of old) ⊎ (c ≡ (view_in view new.file).contents)) (λ c is. inl is)
       (size_stays_in_calls (state_in view old.file (pending_in view backing old out)) v m works.0 sound.file.caches.kept.kept.guarded refl refl works.1))
       time (λ c is. inr is)
+
+-- ---- why it stops early
+-- nothing refuses another size still
+resizes_still : {S F : Type 0} (a b : Qcow2 S F) → IsSameImage a b → is_failed b ≡ is_failed a → refuses_to_resize a ≡ None → refuses_to_resize b ≡ None
+resizes_still a b image failed none =
+    subst (λ f. option_or (option_or (refuse_if f I.Failed) (refuse_if (is_external b) I.Dependency)) (refuse_if (not (is_writable b)) I.ReadOnly) ≡ None) (sym failed)
+    (subst (λ f. option_or (option_or (refuse_if (is_failed a) I.Failed) (refuse_if f I.Dependency)) (refuse_if (not (is_writable b)) I.ReadOnly) ≡ None) (sym image.external)
+    (subst (λ f. option_or (option_or (refuse_if (is_failed a) I.Failed) (refuse_if (is_external a) I.Dependency)) (refuse_if (not f) I.ReadOnly) ≡ None) (sym image.writable) none))
+
+module _ {S F : Type 0} (view : S → StorageView) (backing : F → BackingView) (out : List (Option Prepared)) where
+  pub tail_stops : (old now new : Qcow2 S F) (size at end : ℕ) → IsUncoveredSoFar view backing old now size at end → (e : ImageError)
+      → (refuses_to_resize now ≡ None → ImageInvariant view backing (pending_in view backing now out) now out → (HasPrepared out → ⊥) → IsFaultOrCantUncover view (size_of now) new at e)
+      → refuses_to_resize old ≡ None → ImageInvariant view backing (pending_in view backing old out) old out → (HasPrepared out → ⊥) → (IsFaultOfTables e → ⊥) → CantUncover view (size_of old) new at
+  tail_stops old now new size at end so e stops none sound unprepared no_fault =
+      elim (stops (resizes_still old now so.image so.failed none) (so.so_far out sound).0.sound unprepared) [
+        | inl fault ↦ absurd (no_fault fault)
+        | inr cant ↦ subst (λ n. CantUncover view n new at) so.image.size cant
+      ]
+
+  -- the size is written behind that
+  pub written_stops : (end at size : ℕ) (mid new : Qcow2 S F) → ImageInvariant view backing (pending_in view backing mid out) mid out → ImageInvariant view backing (pending_in view backing new out) new out → new.l1_table ≡ mid.l1_table
+      → new.file.header ≡ with_fields mid.file.header (with_size mid.file.header.fields size) → CantUncover view end mid at → CantUncover view end new at
+  written_stops end at size mid new sound sound' table header cant =
+      let cs : cluster_size new.file.header.fields ≡ cluster_size mid.file.header.fields = ap (λ (h : HeaderView). cluster_size h.fields) header in
+      elim cant [
+        | inl past ↦ inl (subst (λ n. 2 ^ 64 ≤ rounded_up n end) (sym cs) past)
+        | inr lacks ↦ inr (subst (λ (h : HeaderView). MayName view new (l1_index_of h.fields (rounded_up (cluster_size h.fields) at))) (sym header)
+            (may_still view backing out (pending_in view backing mid out) (pending_in view backing new out) mid new sound sound' table (l1_index_of mid.file.header.fields (boundary_in mid at)) lacks))
+      ]

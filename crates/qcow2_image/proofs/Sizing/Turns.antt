@@ -1,6 +1,8 @@
 -- One turn uncovers whole clusters up to the end of an L2 table, or is refused.
-use Rattle.std.proofs.Common.{◌≡◌, ◌⊎◌, inr, ℕ, ◌+◌, ◌-◌, ◌^◌, ◌<◌, ◌≤◌, List, [], sym, ap, ◌∙◌, subst, arith, min}
-use Rattle.std.specs.Prelude.{Option, Ok, Err}
+use Rattle.std.proofs.Common.{◌≡◌, ◌⊎◌, inl, inr, refl, Bool, true, false, None, ℕ, ◌+◌, ◌-◌, ◌^◌, ◌<◌, ◌≤◌, List, [], sym, ap, ◌∙◌, subst, arith, min}
+use Rattle.std.specs.Prelude.{◌||◌, ◌&&◌, ◌==◌, Option, Ok, Err, nat_le, nat_lt, not}
+use Rattle.std.specs.Option.{option_or}
+use Rattle.std.proofs.lemmas.Bool.{le-ltb, leb-true}
 use Rattle.std.proofs.lemmas.Nat.{pow_pos}
 use Rattle.image_access.specs.Backing.{BackingView}
 use Rattle.image_access.specs.Moments.{StorageView}
@@ -15,17 +17,21 @@ use Rattle.qcow2_disk.specs.Stops.{GivenBytes, IsGiven}
 use Rattle.qcow2_disk.proofs.Compose.{works_less}
 use Rattle.qcow2_laws.proofs.Places.{Sizes-from}
 use Rattle.qcow2_alloc.specs.declared.error.ImageError.{ImageError}
+use Rattle.qcow2_alloc.specs.declared.error.ImageError.TheVariants as I
 use Rattle.qcow2_alloc.specs.ImageFile.{contents_in}
+use Rattle.qcow2_image.specs.Backings.{HasPrepared}
 use Rattle.qcow2_image.specs.Calls.{refusal_of}
-use Rattle.qcow2_image.specs.Clearing.{Clears, RefusesUngiven, setting_of}
+use Rattle.qcow2_image.specs.Clearing.{Clears, RefusesClearing, RefusesUngiven, rounds_past, setting_of}
 use Rattle.qcow2_image.specs.declared.discarding.Clearance.TheVariants.{Uncovered}
 use Rattle.qcow2_image.specs.declared.image.Qcow2.{Qcow2}
 use Rattle.qcow2_image.specs.declared.prepared.Prepared.{Prepared}
-use Rattle.qcow2_image.specs.Image.{size_of}
+use Rattle.qcow2_image.specs.Image.{is_external, is_failed, is_writable, size_of}
 use Rattle.qcow2_image.specs.ImageInvariant.{ImageInvariant, abstract_of, disk_of, pending_in}
-use Rattle.qcow2_image.specs.Resizing.{IsTurnEnd, UncoversNext, UncoversPart, boundary_in}
+use Rattle.qcow2_image.specs.NewTables.{LacksTable}
+use Rattle.qcow2_image.specs.Refusals.{passes, refuse_if}
+use Rattle.qcow2_image.specs.Resizing.{IsFaultOrCantUncover, IsTurnEnd, UncoversNext, UncoversPart, boundary_in, refuses_to_resize}
 use Rattle.qcow2_image.proofs.Sizes.{disk_size}
-use Rattle.qcow2_image.proofs.Sizing.Tails.{given_as, given_below, given_is, shown_below, to_at_most, turn_numbers}
+use Rattle.qcow2_image.proofs.Sizing.Tails.{given_as, given_below, given_is, mono_up, shown_below, to_at_most, turn_numbers}
 
 -- a call that gives fewer bytes gives these too
 pub refuses_giving : (v w : AbstractImage) (gs more : List GivenBytes) (e : Refusal) (still : Type 0) → (v.is_sound → (o : ℕ) (x : Value) → IsGiven gs o x → IsGiven more o x) → Refuses v w gs [] e still → Refuses v w more [] e still
@@ -34,6 +40,25 @@ refuses_giving v w gs more e still within r = record {
   answer = r.answer;
   fault = r.fault;
 }
+
+-- ---- what refuses a turn at once
+past_of : (a b c : Bool) → a || b && c ≡ true → (a ≡ true) ⊎ (c ≡ true)
+past_of true b c is = inl refl
+past_of false true c is = inr is
+past_of false false c is = absurd (cc)
+
+rounds_if : (a b c d f : Bool) → option_or (option_or (refuse_if a I.Failed) (refuse_if b I.Dependency)) (refuse_if c I.ReadOnly) ≡ None → d ≡ false → f ≡ false
+    → option_or (option_or (refuse_if a I.Failed) (refuse_if b I.Dependency)) (option_or (refuse_if c I.ReadOnly) (option_or (refuse_if d I.BeyondSize) (option_or None (refuse_if f I.Overflow)))) ≡ None
+rounds_if true b c d f none far near = absurd (cc)
+rounds_if false true c d f none far near = absurd (cc)
+rounds_if false false true d f none far near = absurd (cc)
+rounds_if false false false true f none far near = absurd (cc)
+rounds_if false false false false true none far near = absurd (cc)
+rounds_if false false false false false none far near = refl
+
+within_end : (a : Bool) (size n : ℕ) → n ≡ size → a && nat_lt size n ≡ false
+within_end false size n is = refl
+within_end true size n is = le-ltb size n (omega (arith, is))
 
 module _ {S F : Type 0} (view : S → StorageView) (backing : F → BackingView) (old new : Qcow2 S F) (at end : ℕ) where
   abbrev h : HeaderFields
@@ -90,3 +115,27 @@ module _ {S F : Type 0} (view : S → StorageView) (backing : F → BackingView)
         (clears out)),
     ungiven,
   )
+
+  -- why a turn is refused, where nothing refuses a resize and no mapping is prepared
+  pub turn_stops : (e : ImageError) → end ≡ size_of old → at < size_of old → refuses_to_resize old ≡ None → Clears view backing Uncovered old new at (end - at) (Err e) → RefusesClearing view backing Uncovered old new at (end - at) e
+      → (out : List (Option Prepared)) → ImageInvariant view backing (pending_in view backing old out) old out → (HasPrepared out → ⊥) → IsFaultOrCantUncover view (size_of old) new at e
+  turn_stops e is lt none clears refused out sound unprepared = by_case (rounds_past (cluster_size old.file.header.fields) (size_of old) at (end - at)) refl
+    where
+      whole : at + (end - at) ≡ size_of old
+      whole = omega (arith, is, lt)
+
+      same_size : cluster_size new.file.header.fields ≡ cluster_size old.file.header.fields
+      same_size = ap (λ (s : Setting). s.cluster_size) ((clears out).acts.works sound).setting
+
+      long : (nat_le (2 ^ 64) (rounded_up (cluster_size old.file.header.fields) at) ≡ true) ⊎ (nat_le (2 ^ 64) (rounded_up (cluster_size old.file.header.fields) (at + (end - at))) ≡ true) → 2 ^ 64 ≤ boundary_in old (size_of old)
+      long (inl past) = let le = leb-true (2 ^ 64) (boundary_in old at) past in let up = mono_up (cluster_size old.file.header.fields) (some out sound) at (size_of old) (omega (arith, lt)) in omega (arith, le, up)
+      long (inr past) = subst (λ k. 2 ^ 64 ≤ boundary_in old k) whole (leb-true (2 ^ 64) (boundary_in old (at + (end - at))) past)
+
+      by_case : (f : Bool) → rounds_past (cluster_size old.file.header.fields) (size_of old) at (end - at) ≡ f → IsFaultOrCantUncover view (size_of old) new at e
+      by_case true past = inr (inl (subst (λ k. 2 ^ 64 ≤ rounded_up k (size_of old)) (sym same_size) (long (past_of (nat_le (2 ^ 64) (boundary_in old at)) (at + (end - at) == size_of old) (nat_le (2 ^ 64) (boundary_in old (at + (end - at)))) past))))
+      by_case false near =
+          let met = rounds_if (is_failed old) (is_external old) (not (is_writable old)) (passes (size_of old) at (end - at)) (rounds_past (cluster_size old.file.header.fields) (size_of old) at (end - at)) none (within_end (nat_lt 0 (end - at)) (size_of old) (at + (end - at)) whole) near in
+          elim (refused.lacks met out sound unprepared) [
+            | inl fault ↦ inl fault
+            | inr lacks ↦ inr (inr (subst (λ k. LacksTable view new (rounded_up k at)) (sym same_size) lacks))
+          ]

@@ -1,10 +1,13 @@
-use Rattle.std.proofs.Common.{◌≡◌, ◌∙◌, ⊎_elim, inl, inr, false, refl, sym, ap, subst, Option, Some, None, is_some, map}
+use Rattle.std.proofs.Common.{◌≡◌, ◌∙◌, ⊎_elim, inl, inr, false, refl, sym, ap, subst, Option, Some, None, is_some, map, []}
 use Rattle.qcow2_metadata.specs.Bytes.{byte_at}
 use Rattle.qcow2_metadata.specs.Header.{cluster_size}
 use Rattle.qcow2_disk.specs.Headline.{setting_in}
-use Rattle.qcow2_disk.specs.Runs.{RefinesDisk}
+use Rattle.qcow2_disk.specs.AbstractImages.{guest_of}
+use Rattle.qcow2_disk.specs.Runs.{RefinesDisk, started}
+use Rattle.qcow2_disk.proofs.RunSteps.{begins}
 use Rattle.qcow2_disk.proofs.Headline.{from_bytes}
-use Rattle.qcow2_image.specs.ImageInvariant.{backing_bytes, image_abstraction}
+use Rattle.qcow2_image.specs.ImageInvariant.{abstract_of, backing_bytes, image_abstraction}
+use Rattle.qcow2_image.proofs.Free.{whole}
 use Rattle.qcow2_image.specs.Opened.{IsKeptSince}
 use Rattle.qcow2_image.specs.Image.{storage_of_image}
 use Rattle.qcow2_session.specs.Commands.{command_of, reply_of}
@@ -31,7 +34,7 @@ returns-clause-headline g c = λ honest consistent.
     let before = view c.args.storage in
     let opened = c.in-Ok.image in
     let new = c.run-replies.new.image in
-    let is = c.in-Ok.ensures.opens honest consistent in
+    let is = (c.in-Ok.ensures.opens honest consistent).opened in
     let since : IsKeptSince before (view (storage_of_image opened)) = c.in-Ok.ensures.since honest consistent in
     let alone : opened.backing ≡ None = none_there opened.backing c.in-Ok.ensures.below in
     let setting : (image_abstraction view below).setting opened ≡ setting_in (byte_at before.contents) = λ i. record {
@@ -44,3 +47,15 @@ returns-clause-headline g c = λ honest consistent.
     (λ (refines : RefinesDisk (image_abstraction view below) opened new (map command_of c.args.commands.now) (map reply_of c.run-replies.result.items)).
     inr (from_bytes (image_abstraction view below) before opened new _ _ consistent (g.S.Storage.only_now c.args.storage) since is.clean refl setting refines))
     (c.run-replies.ensures.means is)
+
+pub returns-clause-tells : goal.returns-clause-tells
+returns-clause-tells g c = λ honest consistent.
+    let view = g.S.Storage.view in
+    let below = g.F.BackingDisk.backing in
+    let opened = c.in-Ok.image in
+    let v = abstract_of view below opened [] in
+    let is = c.in-Ok.ensures.opens honest consistent in
+    record { opened = opened; is = is; run = c.run-replies.ensures.tells v.setting (started (guest_of v)) (begins v is.opened.sound (whole view below opened [] is.opened.sound) is.opened.clean) }
+
+pub returns-clause-faults : goal.returns-clause-faults
+returns-clause-faults g c = (c.in-Ok.image, c.run-replies.ensures.faults)

@@ -10,3 +10,9 @@ returns-in-Err-clause-goes g c = λ slots x s stands founds. refused_as x _ _ s 
 pub returns-clause-goes : goal.returns-clause-goes
 returns-clause-goes g c = λ slots x s stands founds. flushed_as x _ _ s _ _ _ refl stands (record { sized = λ _. tt; failed = λ f. absurd (not_both (c.in_default.ensures.early f)); may = λ _. tt }) (c.in_default.ensures.sees slots.prepared.items) (whole g.S.Storage.view g.F.BackingDisk.backing _ slots.prepared.items) (λ _ _. refl)
     (none_to_free g.S.Storage.view g.F.BackingDisk.backing c.flush.new.self slots.prepared.items (λ writes. c.in_default.ensures.emptied (sym c.flush.ensures.image.writable ∙ writes)))
+
+pub returns-in-Err-clause-unwritten : goal.returns-in-Err-clause-unwritten
+returns-in-Err-clause-unwritten g c = λ reading out sound clean. c.flush.ensures.unwritten reading _ out sound clean
+
+pub returns-clause-unwritten : goal.returns-clause-unwritten
+returns-clause-unwritten g c = λ reading out sound clean. c.flush.ensures.unwritten reading _ out sound clean

@@ -31,3 +31,12 @@ pub returns-in-Err-clause-goes : goal.returns-in-Err-clause-goes
 returns-in-Err-clause-goes g c = λ x s stands founds. refused_as x _ _ s _ _ _ _ refl stands
     (lookup_answer g.S.Storage.view g.F.BackingDisk.backing c.args.image.now c.args.slots.now.prepared.items c.args.slot c.args.offset c.args.max _ (λ f. error_is (unusable_first c.args.image.now _ c.in-Err.ensures.early f))
     (λ usable past. let no = (c.in-Err.ensures.past usable past).0 in absurd cc)) (c.in-Err.ensures.sees c.args.slots.now.prepared.items) (λ f. f) (λ _ _. refl) tt
+
+pub returns-in-Ok-clause-tells : goal.returns-in-Ok-clause-tells
+returns-in-Ok-clause-tells g c = c.in-Ok.ensures.own.0 ∙ sym c.get_mapping.ensures.image.number
+
+pub returns-in-Ok-clause-unwritten : goal.returns-in-Ok-clause-unwritten
+returns-in-Ok-clause-unwritten g c = λ reading sound clean existing. record { reading = c.get_mapping.ensures.image.writable ∙ reading; read = c.get_mapping.ensures.unwritten _ c.args.slots.now.prepared.items sound clean; existing = existing }
+
+pub returns-in-Err-clause-unwritten : goal.returns-in-Err-clause-unwritten
+returns-in-Err-clause-unwritten g c = λ reading sound clean existing. record { reading = c.get_mapping.ensures.image.writable ∙ reading; read = c.get_mapping.ensures.unwritten _ c.args.slots.now.prepared.items sound clean; existing = existing }

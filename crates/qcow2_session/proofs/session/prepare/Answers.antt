@@ -1,10 +1,10 @@
-use Rattle.std.proofs.Common.{refl, sym, subst, ◌∙◌, List, Option}
+use Rattle.std.proofs.Common.{◌≡◌, refl, sym, ap, subst, ◌∙◌, List, Option}
 use Rattle.qcow2_disk.specs.Runs.{RefinesCommand}
 use Rattle.qcow2_disk.proofs.RunSteps.{done_as, refused_as, none_as}
 use Rattle.qcow2_image.specs.ImageInvariant.{image_abstraction}
 use Rattle.qcow2_disk.specs.Runs.{prepare, prepared_is, misuse}
 use Rattle.qcow2_disk.specs.AbstractImages.{abstract_image}
-use Rattle.std.specs.Prelude.{slice_set, Some, None}
+use Rattle.std.specs.Prelude.{slice_get, slice_set, Some, None}
 use Rattle.qcow2_metadata.specs.Header.{header}
 use Rattle.qcow2_metadata.specs.declared.header.HeaderFields.{HeaderFields}
 use Rattle.qcow2_disk.specs.Mappings.{IsPrivateIn, IsHiddenIn}
@@ -13,6 +13,13 @@ use Rattle.qcow2_image.proofs.HiddenBytes.{header_is, hidden_in}
 use Rattle.qcow2_session.proofs.Meanings.{taken, untaken, none_at, found_at, so_in_slot, host_at, prepared_at, does_prepare}
 use Rattle.qcow2_session.proofs.Places.{get_set_same}
 use Rattle.qcow2_session.proofs.Answering.{preparing_first, prepares_answer, error_is, not_both}
+use Rattle.qcow2_image.specs.Refusals.{refuses_to_prepare}
+use Rattle.qcow2_session.proofs.Told.{none_refused}
+use Rattle.qcow2_image.proofs.Map.Unmodified.{read_none, read_same}
+use Rattle.qcow2_session.proofs.Unwritten.{existing_set, nothing_prepared, prepare_same}
+use Rattle.qcow2_image.specs.declared.image.Qcow2.{Qcow2}
+use Rattle.qcow2_image.specs.Image.{is_writable}
+use Rattle.qcow2_session.specs.Told.{AreExisting}
 use Rattle.qcow2_session.proofs.session.prepare.Goals as goal
 
 pub returns-then-is_some-clause-goes : goal.returns-then-is_some-clause-goes
@@ -43,3 +50,39 @@ returns-in-Ok-clause-goes g c = λ x s stands founds.
       hidden = so_in_slot (abstract_image spec new out') c.args.slot (spec.means new c.in-Ok.prepared) (λ m. IsHiddenIn (header (known_in g.S.Storage.view new.file)) (known_in g.S.Storage.view new.file) m) is-at
           (hidden_in g.S.Storage.view g.F.BackingDisk.backing new out' ((c.in-Ok.ensures.sees out c.args.slot free).answer sound).0 c.args.slot c.in-Ok.prepared there);
     }))
+
+pub returns-in-Ok-clause-tells : goal.returns-in-Ok-clause-tells
+returns-in-Ok-clause-tells g c = λ sound.
+    let old = c.args.image.now in
+    let out = c.args.slots.now.prepared.items in
+    let p = c.in-Ok.prepared in
+    let free = untaken (image_abstraction g.S.Storage.view g.F.BackingDisk.backing) old out c.args.slot c.get.result c.get.ensures (sym c.is_some.ensures ∙ c.if-is_some.false) in (
+      p,
+      subst (λ (o : List (Option _)). slice_get o c.args.slot ≡ Some (Some p)) (sym c.fill.ensures.is) (get_set_same out c.args.slot (Some p) None free),
+      record {
+        nothing = λ none. (c.in-Ok.ensures.nothing (ap (λ n. refuses_to_prepare old c.args.offset n) (sym none) ∙ none_refused _ (refuses_to_prepare old c.args.offset c.args.length) p c.in-Ok.ensures.early) none).1;
+        answered = λ some. c.in-Ok.ensures.maps some out sound;
+      },
+    )
+
+pub returns-in-Ok-clause-unwritten : goal.returns-in-Ok-clause-unwritten
+returns-in-Ok-clause-unwritten g c = λ reading sound clean existing.
+    let old = c.args.image.now in
+    let new = c.prepare_data_mapping.new.self in
+    let same = prepare_same old reading _ c.args.offset c.args.length c.prepare_data_mapping.ensures.early c.prepare_data_mapping.ensures.nothing in
+    let p = nothing_prepared old reading _ c.in-Ok.prepared c.args.offset c.args.length c.in-Ok.ensures.early c.in-Ok.ensures.nothing in
+    record {
+      reading = ap is_writable same ∙ reading;
+      read = read_same g.S.Storage.view old new (ap (λ (image : Qcow2 _ _). image.file) same) clean;
+      existing = subst AreExisting (sym c.fill.ensures.is) (existing_set c.args.slots.now.prepared.items c.args.slot (Some c.in-Ok.prepared) existing p.0);
+    }
+
+pub returns-in-Err-clause-unwritten : goal.returns-in-Err-clause-unwritten
+returns-in-Err-clause-unwritten g c = λ reading sound clean existing.
+    let old = c.args.image.now in
+    let new = c.prepare_data_mapping.new.self in
+    let same = prepare_same old reading _ c.args.offset c.args.length c.prepare_data_mapping.ensures.early c.prepare_data_mapping.ensures.nothing in
+    record { reading = ap is_writable same ∙ reading; read = read_same g.S.Storage.view old new (ap (λ (image : Qcow2 _ _). image.file) same) clean; existing = existing }
+
+pub returns-then-is_some-clause-unwritten : goal.returns-then-is_some-clause-unwritten
+returns-then-is_some-clause-unwritten g c = λ reading sound clean existing. record { reading = reading; read = read_none g.S.Storage.view c.args.image.now clean; existing = existing }

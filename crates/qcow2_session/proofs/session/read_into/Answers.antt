@@ -8,6 +8,9 @@ use Rattle.qcow2_session.proofs.Bytes.{shows_as, shows_both, first_two}
 use Rattle.qcow2_session.proofs.Beyond.{part_refused}
 use Rattle.qcow2_session.proofs.Reading.{reads_refused}
 use Rattle.qcow2_session.proofs.Turns.{refused_is, refuses_here, none_within, does_if, refuses_if, does_then, refuses_then}
+use Rattle.qcow2_session.proofs.Told.{same_then}
+use Rattle.qcow2_image.proofs.Map.Unmodified.{read_then}
+use Rattle.qcow2_image.proofs.Call.FaultCounts.{fewer_then}
 use Rattle.qcow2_session.proofs.session.read_into.Goals as goal
 
 pub returns-in_default-clause-sees : goal.returns-in_default-clause-sees
@@ -22,10 +25,13 @@ returns-in_err-done-clause-sees g c =
 
 pub loop-done-preserved : goal.loop-done-preserved
 loop-done-preserved g c = record {
+  faults = fewer_then g.S.Storage.view g.F.BackingDisk.backing c.args.image.now c.loop-done.image c.read_some.new.image c.loop-done.invariant.faults c.read_some.ensures.faults.no_fewer;
   within = grind (arith, common_steps);
   end = grind (arith, common_steps);
-  number = c.read_some.ensures.number ∙ c.loop-done.invariant.number;
-  size = c.read_some.ensures.size ∙ c.loop-done.invariant.size;
+  image = same_then c.loop-done.invariant.image c.read_some.ensures.image;
+  unwritten = λ reading out sound clean.
+      let so_far = c.loop-done.invariant.unwritten reading out sound clean in
+      read_then g.S.Storage.view so_far (c.read_some.ensures.unwritten (c.loop-done.invariant.image.writable ∙ reading) out ((c.loop-done.invariant.shown out).answer sound).0 so_far.unmodified);
   shown = λ out.
       let view = g.S.Storage.view in
       let below = g.F.BackingDisk.backing in
@@ -53,5 +59,10 @@ returns-in_err-done-clause-beyond g c =
     subst (λ r. IfErr r (IsRightlyBeyond c.args.image.now c.args.offset (length c.args.bytes.now))) (sym (refused_is _ c.in_err-done.field-0.0 c.from_residual-in_err-done.ensures))
     (let part = take (length c.loop-done.bytes - c.loop-done.done) (drop c.loop-done.done c.loop-done.bytes) in
     let rest : length part ≡ length c.loop-done.bytes - c.loop-done.done = grind (arith, common_steps) in
-    part_refused c.args.image.now c.loop-done.image c.args.offset (length c.args.bytes.now) c.in-Some.at (length part) c.in_err-done.field-0.0 c.loop-done.invariant.size (omega (arith, c.in-Some.ensures.1))
+    part_refused c.args.image.now c.loop-done.image c.args.offset (length c.args.bytes.now) c.in-Some.at (length part) c.in_err-done.field-0.0 c.loop-done.invariant.image.size (omega (arith, c.in-Some.ensures.1))
     (omega (arith, rest, c.in-Some.ensures.1, c.loop-done.invariant.within, c.loop-done.auto.bytes)) (c.in_err-done.ensures.beyond (omega (arith, rest, c.loop-done-test.true))))
+
+pub returns-in_err-done-clause-unwritten : goal.returns-in_err-done-clause-unwritten
+returns-in_err-done-clause-unwritten g c = λ reading out sound clean.
+    let so_far = c.loop-done.invariant.unwritten reading out sound clean in
+    read_then g.S.Storage.view so_far (c.read_some.ensures.unwritten (c.loop-done.invariant.image.writable ∙ reading) out ((c.loop-done.invariant.shown out).answer sound).0 so_far.unmodified)

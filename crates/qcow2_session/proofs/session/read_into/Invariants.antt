@@ -2,17 +2,20 @@ use Rattle.std.proofs.Common.{◌≡◌, ◌-◌, ◌≤◌, length, ◌+◌, �
 use Rattle.qcow2_disk.specs.Calls.{Does, Shows}
 use Rattle.qcow2_disk.specs.AbstractImages.{guest_of}
 use Rattle.std.specs.Prelude.{Option}
-use Rattle.qcow2_image.specs.Image.{number_of, size_of}
+use Rattle.qcow2_image.specs.Image.{IsSameImage}
 use Rattle.qcow2_image.specs.ImageInvariant.{abstract_of}
 use Rattle.qcow2_image.specs.declared.prepared.Prepared.{Prepared}
+use Rattle.qcow2_session.specs.Told.{StaysUnwritten}
+use Rattle.qcow2_image.specs.Faults.{NoFewerFaults}
 use Rattle.qcow2_session.proofs.session.read_into.Given as goal
 
 abbrev pub invariant-loop-done : goal.invariant-loop-done
 invariant-loop-done g l = record {
+  faults : NoFewerFaults g.S.Storage.view g.F.BackingDisk.backing l.fn.image l.image;
   within : l.done ≤ length l.bytes;
   end : l.fn.offset + length l.bytes < 2 ^ 64;
-  number : number_of l.image ≡ number_of l.fn.image;
-  size : size_of l.image ≡ size_of l.fn.image;
+  image : IsSameImage l.fn.image l.image;
+  unwritten : StaysUnwritten g.S.Storage.view g.F.BackingDisk.backing l.fn.image l.image;
   shown : (out : List (Option Prepared)) → let v = abstract_of g.S.Storage.view g.F.BackingDisk.backing l.fn.image out in let w = abstract_of g.S.Storage.view g.F.BackingDisk.backing l.image out in
       Does v w [] [] (Shows (guest_of v).disk l.fn.offset (take l.done l.bytes) × (guest_of w ≡ guest_of v));
 }

@@ -8,14 +8,21 @@ use Rattle.qcow2_disk.specs.AbstractImages.{guest_of}
 use Rattle.qcow2_disk.proofs.RunSteps.{begins, completes, means_the_disk}
 use Rattle.qcow2_session.specs.Commands.{command_of, reply_of}
 use Rattle.qcow2_image.proofs.Free.{free_places, nothing_since, whole}
-use Rattle.qcow2_alloc.specs.ImageFile.{contents_in}
+use Rattle.qcow2_alloc.specs.ImageFile.{contents_in, view_in}
 use Rattle.qcow2_session.proofs.LookingUp.{looked_up, none_said}
 use Rattle.qcow2_session.proofs.Places.{surplus_none}
-use Rattle.qcow2_session.proofs.Runs.{GoesOn, first_of_all, goes_on, map_more}
+use Rattle.qcow2_session.proofs.Runs.{GoesOn, first_of_all, free_stands, goes_on, map_more}
+use Rattle.qcow2_session.specs.Told.{IsToldRun, free_slots}
+use Rattle.qcow2_session.proofs.Told.{IsToldSoFar, first_told, told_more}
+use Rattle.qcow2_image.proofs.Map.Unmodified.{holds_none}
+use Rattle.qcow2_session.proofs.Unwritten.{existing_none, never_written}
+use Rattle.qcow2_session.specs.CountedFaults.{RunCounts}
+use Rattle.qcow2_session.proofs.Counting.{none_counted, run_counts_more, run_counts_still}
 use Rattle.qcow2_session.proofs.session.run.Goals as goal
 
 pub loop-command-init : goal.loop-command-init
 loop-command-init g c = record {
+  faults = subst (λ l. RunCounts g.S.Storage.view g.F.BackingDisk.backing c.args.image.now c.args.image.now l) (sym c.in-Ok.ensures.items) (none_counted g.S.Storage.view g.F.BackingDisk.backing c.args.image.now);
   own = grind (arith, common_steps);
   number = refl;
   answered = c.in-Ok.ensures.len;
@@ -23,10 +30,13 @@ loop-command-init g c = record {
       let view = g.S.Storage.view in
       let below = g.F.BackingDisk.backing in
       first_of_all (image_abstraction view below) (free_places view below) c.args.image.now 256 x s _ _ _ c.in-Some.ensures.prepared c.in-Some.ensures.mappings (ap (λ l. map reply_of l) c.in-Ok.ensures.items) stands;
+  told = λ x s stands. first_told g.S.Storage.view g.F.BackingDisk.backing x c.args.image.now s _ _ _ c.in-Some.ensures.prepared c.in-Some.ensures.mappings c.in-Ok.ensures.items stands;
 }
 
 pub loop-command-preserved : goal.loop-command-preserved
 loop-command-preserved g c = record {
+  faults = subst (λ l. RunCounts g.S.Storage.view g.F.BackingDisk.backing c.args.image.now c.step-reply.new.image l) (sym c.push_reserved.ensures.items)
+      (run_counts_more g.S.Storage.view g.F.BackingDisk.backing c.args.image.now c.loop-command.image c.step-reply.new.image c.loop-command.replies.items c.step-reply.result c.loop-command.invariant.faults c.step-reply.ensures.faults);
   own = c.step-reply.ensures.slots ∙ c.loop-command.invariant.own ∙ sym c.step-reply.ensures.number;
   number = c.step-reply.ensures.number ∙ c.loop-command.invariant.number;
   answered = c.push_reserved.ensures.len ∙ ap (λ n. n + 1) c.loop-command.invariant.answered;
@@ -45,10 +55,23 @@ loop-command-preserved g c = record {
       (subst (λ k. GoesOn spec x first free next out (begun s) k (map reply_of replies ++ reply_of c.step-reply.result ∷ []) found) (sym (map_more command_of commands done c.command-item.result split))
       (goes_on spec x first c.loop-command.image next free c.loop-command.slots.prepared.items out (begun s) (map command_of (take done commands)) (map reply_of replies)
       c.loop-command.slots.mappings.items found (command_of c.command-item.result) (reply_of c.step-reply.result) (c.loop-command.invariant.ran x s stands) (c.step-reply.ensures.goes x) c.step-reply.ensures.finds));
+  told = λ x s stands.
+      let view = g.S.Storage.view in
+      let below = g.F.BackingDisk.backing in
+      let done = c.loop-command.command-index in
+      let commands = c.args.commands.now in
+      let next = c.step-reply.new.image in
+      let out = c.step-reply.new.slots.prepared.items in
+      let found = c.step-reply.new.slots.mappings.items in
+      let split = take_more commands done c.command-item.result c.loop-command-test.true ∙ ap (λ q. take done commands ++ q ∷ []) (sym c.command-item.is) in
+      subst (λ l. IsToldSoFar view below x c.args.image.now next out (begun s) (take (done + 1) commands) l found) (sym c.push_reserved.ensures.items)
+      (subst (λ l. IsToldSoFar view below x c.args.image.now next out (begun s) l (c.loop-command.replies.items ++ c.step-reply.result ∷ []) found) (sym split)
+      (told_more view below x c.args.image.now c.loop-command.image next c.loop-command.slots.prepared.items out (begun s) (take done commands) c.loop-command.replies.items
+      c.loop-command.slots.mappings.items found c.command-item.result c.step-reply.result (c.loop-command.invariant.told x s stands) (c.step-reply.ensures.goes x) c.step-reply.ensures.tells c.step-reply.ensures.size c.step-reply.ensures.unwritten c.step-reply.ensures.finds));
 }
 
 pub returns-clause-number : goal.returns-clause-number
-returns-clause-number g c = c.discard_all.ensures.acts.number ∙ c.loop-command.invariant.number
+returns-clause-number g c = c.discard_all.ensures.sees.acts.number ∙ c.loop-command.invariant.number
 
 pub returns-clause-runs : goal.returns-clause-runs
 returns-clause-runs g c = λ x s stands.
@@ -61,7 +84,7 @@ returns-clause-runs g c = λ x s stands.
     let all : take c.loop-command.command-index c.args.commands.now ≡ c.args.commands.now = take_all c.loop-command.command-index c.args.commands.now c.loop-command-test.false in
     inr (subst (λ k. RefinesWholeRun spec x old new (begun s) (map command_of k) replies) all
     (completes spec x old c.loop-command.image new (replicate 256 None) c.loop-command.slots.prepared.items (begun s) (map command_of (take c.loop-command.command-index c.args.commands.now)) replies
-    (c.loop-command.invariant.ran x s stands).ran c.discard_all.ensures (λ k. refl) (surplus_none spec (free_places view below) old 256)))
+    (c.loop-command.invariant.ran x s stands).ran c.discard_all.ensures.sees (λ k. refl) (surplus_none spec (free_places view below) old 256)))
 
 pub returns-clause-means : goal.returns-clause-means
 returns-clause-means g c = λ opened.
@@ -94,3 +117,41 @@ returns-clause-maps g c = λ opened.
     ⊎_elim (λ untouched. none_said b (is_some old.backing) commands replies untouched.0)
     (λ means. looked_up spec (spec.setting old) (spec.surplus old []) b old means.last (started (guest_of (abstract_of view g.F.BackingDisk.backing old []))) means.end commands (map reply_of replies) means.run means.along refl opened.clean)
     (returns-clause-means g c opened)
+
+pub returns-in_default-clause-faults : goal.returns-in_default-clause-faults
+returns-in_default-clause-faults g c = subst (λ l. RunCounts g.S.Storage.view g.F.BackingDisk.backing c.args.image.now c.args.image.now l) (sym c.new.ensures.items) (none_counted g.S.Storage.view g.F.BackingDisk.backing c.args.image.now)
+
+pub returns-in_default-new-clause-faults : goal.returns-in_default-new-clause-faults
+returns-in_default-new-clause-faults g c = subst (λ l. RunCounts g.S.Storage.view g.F.BackingDisk.backing c.args.image.now c.args.image.now l) (sym c.new-in_default-new.ensures.items) (none_counted g.S.Storage.view g.F.BackingDisk.backing c.args.image.now)
+
+pub returns-clause-faults : goal.returns-clause-faults
+returns-clause-faults g c = run_counts_still g.S.Storage.view g.F.BackingDisk.backing c.args.image.now c.loop-command.image c.discard_all.new.image c.loop-command.replies.items c.loop-command.invariant.faults c.discard_all.ensures.faults
+
+pub returns-clause-tells : goal.returns-clause-tells
+returns-clause-tells g c = λ x s stands.
+    let view = g.S.Storage.view in
+    let below = g.F.BackingDisk.backing in
+    let new = c.discard_all.new.image in
+    let all : take c.loop-command.command-index c.args.commands.now ≡ c.args.commands.now = take_all c.loop-command.command-index c.args.commands.now c.loop-command-test.false in
+    let told = c.loop-command.invariant.told x s stands in
+    inr (subst (λ k. IsToldRun view below c.args.image.now new x (begun s) k c.loop-command.replies.items) all
+    (record { end = told.end; last = c.loop-command.image; left = c.loop-command.slots.prepared.items; along = told.along; leaves = c.discard_all.ensures.sees }))
+
+pub returns-clause-unwritten : goal.returns-clause-unwritten
+returns-clause-unwritten g c = λ reading opened.
+    let view = g.S.Storage.view in
+    let below = g.F.BackingDisk.backing in
+    let old = c.args.image.now in
+    let before = abstract_of view below old [] in
+    let x = before.setting in
+    let s = started (guest_of before) in
+    let stands = begins before opened.sound (whole view below old [] opened.sound) opened.clean in
+    let told = c.loop-command.invariant.told x s stands in
+    never_written view below x old free_slots (begun s) (take c.loop-command.command-index c.args.commands.now) c.loop-command.replies.items c.loop-command.image c.loop-command.slots.prepared.items told.end c.discard_all.new.image told.along
+    (free_stands (image_abstraction view below) (free_places view below) old 256 x s stands) reading opened.clean existing_none told.stands c.discard_all.ensures.sees.acts.rests c.discard_all.ensures.unwritten
+
+pub returns-in_default-clause-unwritten : goal.returns-in_default-clause-unwritten
+returns-in_default-clause-unwritten g c = λ reading opened. holds_none (view_in g.S.Storage.view c.args.image.now.file)
+
+pub returns-in_default-new-clause-unwritten : goal.returns-in_default-new-clause-unwritten
+returns-in_default-new-clause-unwritten g c = λ reading opened. holds_none (view_in g.S.Storage.view c.args.image.now.file)

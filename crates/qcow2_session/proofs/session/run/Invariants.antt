@@ -4,16 +4,21 @@ use Rattle.qcow2_disk.specs.Runs.{State, RefinesState, begun}
 use Rattle.qcow2_disk.specs.AbstractImages.{Setting}
 use Rattle.qcow2_image.specs.Image.{number_of}
 use Rattle.qcow2_image.specs.ImageInvariant.{abstract_of, image_abstraction}
+use Rattle.qcow2_session.specs.CountedFaults.{RunCounts}
 use Rattle.qcow2_session.specs.Commands.{command_of, reply_of}
 use Rattle.qcow2_session.proofs.Runs.{GoesOn}
+use Rattle.qcow2_session.proofs.Told.{IsToldSoFar}
 use Rattle.qcow2_session.proofs.session.run.Given as goal
 
 abbrev pub invariant-loop-command : goal.invariant-loop-command
 invariant-loop-command g l = record {
+  faults : RunCounts g.S.Storage.view g.F.BackingDisk.backing l.fn.image l.image l.replies.items;
   own : l.slots.image ≡ number_of l.image;
   number : number_of l.image ≡ number_of l.fn.image;
   answered : vec_len l.replies ≡ l.command-index;
   ran : (x : Setting) (s : State) → RefinesState x (abstract_of g.S.Storage.view g.F.BackingDisk.backing l.fn.image []) s
       → GoesOn (image_abstraction g.S.Storage.view g.F.BackingDisk.backing) x l.fn.image (replicate 256 None) l.image l.slots.prepared.items (begun s)
       (map command_of (take l.command-index l.commands)) (map reply_of l.replies.items) l.slots.mappings.items;
+  told : (x : Setting) (s : State) → RefinesState x (abstract_of g.S.Storage.view g.F.BackingDisk.backing l.fn.image []) s
+      → IsToldSoFar g.S.Storage.view g.F.BackingDisk.backing x l.fn.image l.image l.slots.prepared.items (begun s) (take l.command-index l.commands) l.replies.items l.slots.mappings.items;
 }

@@ -1,8 +1,12 @@
-use Rattle.std.proofs.Common.{refl, ap, sym, subst}
+use Rattle.std.proofs.Common.{refl, ap, sym, subst, ◌∙◌}
 use Rattle.qcow2_disk.proofs.RunSteps.{done_as, refused_as, none_as}
 use Rattle.qcow2_session.specs.Commands.{command_of}
 use Rattle.qcow2_session.specs.Sessions.{CommandSteps}
 use Rattle.qcow2_session.proofs.Answering.{reading_first, error_is, write_error_is, not_both, reads_answer, writes_answer, write_refused_answer}
+use Rattle.qcow2_session.specs.Told.{TellsOfImage}
+use Rattle.qcow2_session.specs.declared.session.Reply.TheVariants.{Bytes, Done, Refused, Size, WriteRefused}
+use Rattle.qcow2_image.proofs.Map.Unmodified.{read_none}
+use Rattle.qcow2_session.proofs.Unwritten.{left_same}
 use Rattle.qcow2_session.proofs.session.step.Goals as goal
 
 pub returns-in-Ok-clause-goes : goal.returns-in-Ok-clause-goes
@@ -64,3 +68,123 @@ returns-in-ResizeGrow-clause-goes g c = subst (λ q. CommandSteps g.S.Storage.vi
 
 pub returns-in-ResizeShrink-clause-goes : goal.returns-in-ResizeShrink-clause-goes
 returns-in-ResizeShrink-clause-goes g c = subst (λ q. CommandSteps g.S.Storage.view g.F.BackingDisk.backing c.args.image.now c.shrink.new.image c.args.slots.now c.args.slots.now q c.shrink.result) (sym c.in-ResizeShrink.is) (c.shrink.ensures.goes c.args.slots.now)
+
+pub returns-in-Ok-clause-tells : goal.returns-in-Ok-clause-tells
+returns-in-Ok-clause-tells g c = subst (λ q. TellsOfImage g.S.Storage.view g.F.BackingDisk.backing c.args.image.now c.read.new.image c.args.slots.now.prepared.items c.args.slots.now.prepared.items q (Bytes c.in-Ok.bytes)) (sym c.in-Read.is) tt
+
+pub returns-in-Err-clause-tells : goal.returns-in-Err-clause-tells
+returns-in-Err-clause-tells g c = subst (λ q. TellsOfImage g.S.Storage.view g.F.BackingDisk.backing c.args.image.now c.read.new.image c.args.slots.now.prepared.items c.args.slots.now.prepared.items q (Refused c.in-Err.refusal)) (sym c.in-Read.is) tt
+
+pub returns-in-Ok-write-clause-tells : goal.returns-in-Ok-write-clause-tells
+returns-in-Ok-write-clause-tells g c = subst (λ q. TellsOfImage g.S.Storage.view g.F.BackingDisk.backing c.args.image.now c.write.new.image c.args.slots.now.prepared.items c.args.slots.now.prepared.items q Done) (sym c.in-Write.is) tt
+
+pub returns-in-Err-write-clause-tells : goal.returns-in-Err-write-clause-tells
+returns-in-Err-write-clause-tells g c = subst (λ q. TellsOfImage g.S.Storage.view g.F.BackingDisk.backing c.args.image.now c.write.new.image c.args.slots.now.prepared.items c.args.slots.now.prepared.items q (WriteRefused c.in-Err-write.refusal c.in-Err-write.done)) (sym c.in-Write.is) tt
+
+pub returns-in-Flush-clause-tells : goal.returns-in-Flush-clause-tells
+returns-in-Flush-clause-tells g c = subst (λ q. TellsOfImage g.S.Storage.view g.F.BackingDisk.backing c.args.image.now c.flush.new.image c.args.slots.now.prepared.items c.args.slots.now.prepared.items q c.flush.result) (sym c.in-Flush.is) tt
+
+pub returns-in-Size-clause-tells : goal.returns-in-Size-clause-tells
+returns-in-Size-clause-tells g c = subst (λ q. TellsOfImage g.S.Storage.view g.F.BackingDisk.backing c.args.image.now c.args.image.now c.args.slots.now.prepared.items c.args.slots.now.prepared.items q (Size c.size.result)) (sym c.in-Size.is) c.size.ensures.value
+
+pub returns-in-GetMapping-clause-tells : goal.returns-in-GetMapping-clause-tells
+returns-in-GetMapping-clause-tells g c = subst (λ q. TellsOfImage g.S.Storage.view g.F.BackingDisk.backing c.args.image.now c.get_mapping.new.image c.args.slots.now.prepared.items c.get_mapping.new.slots.prepared.items q c.get_mapping.result) (sym c.in-GetMapping.is) c.get_mapping.ensures.tells
+
+pub returns-in-ReadMapped-clause-tells : goal.returns-in-ReadMapped-clause-tells
+returns-in-ReadMapped-clause-tells g c = subst (λ q. TellsOfImage g.S.Storage.view g.F.BackingDisk.backing c.args.image.now c.read_mapped.new.image c.args.slots.now.prepared.items c.args.slots.now.prepared.items q c.read_mapped.result) (sym c.in-ReadMapped.is) tt
+
+pub returns-in-PrepareDataMapping-clause-tells : goal.returns-in-PrepareDataMapping-clause-tells
+returns-in-PrepareDataMapping-clause-tells g c = subst (λ q. TellsOfImage g.S.Storage.view g.F.BackingDisk.backing c.args.image.now c.prepare.new.image c.args.slots.now.prepared.items c.prepare.new.slots.prepared.items q c.prepare.result) (sym c.in-PrepareDataMapping.is) c.prepare.ensures.tells
+
+pub returns-in-WriteMapped-clause-tells : goal.returns-in-WriteMapped-clause-tells
+returns-in-WriteMapped-clause-tells g c = subst (λ q. TellsOfImage g.S.Storage.view g.F.BackingDisk.backing c.args.image.now c.write_mapped.new.image c.args.slots.now.prepared.items c.args.slots.now.prepared.items q c.write_mapped.result) (sym c.in-WriteMapped.is) tt
+
+pub returns-in-CommitDataMapping-clause-tells : goal.returns-in-CommitDataMapping-clause-tells
+returns-in-CommitDataMapping-clause-tells g c = subst (λ q. TellsOfImage g.S.Storage.view g.F.BackingDisk.backing c.args.image.now c.commit.new.image c.args.slots.now.prepared.items c.commit.new.slots.prepared.items q c.commit.result) (sym c.in-CommitDataMapping.is) tt
+
+pub returns-in-DiscardDataMapping-clause-tells : goal.returns-in-DiscardDataMapping-clause-tells
+returns-in-DiscardDataMapping-clause-tells g c = subst (λ q. TellsOfImage g.S.Storage.view g.F.BackingDisk.backing c.args.image.now c.discard.new.image c.args.slots.now.prepared.items c.discard.new.slots.prepared.items q c.discard.result) (sym c.in-DiscardDataMapping.is) tt
+
+pub returns-in-EnsureZeroMapping-clause-tells : goal.returns-in-EnsureZeroMapping-clause-tells
+returns-in-EnsureZeroMapping-clause-tells g c = subst (λ q. TellsOfImage g.S.Storage.view g.F.BackingDisk.backing c.args.image.now c.ensure_zero.new.image c.args.slots.now.prepared.items c.args.slots.now.prepared.items q c.ensure_zero.result) (sym c.in-EnsureZeroMapping.is) tt
+
+pub returns-in-DiscardToZero-clause-tells : goal.returns-in-DiscardToZero-clause-tells
+returns-in-DiscardToZero-clause-tells g c = subst (λ q. TellsOfImage g.S.Storage.view g.F.BackingDisk.backing c.args.image.now c.discard_to_zero.new.image c.args.slots.now.prepared.items c.args.slots.now.prepared.items q c.discard_to_zero.result) (sym c.in-DiscardToZero.is) tt
+
+pub returns-in-DiscardToAny-clause-tells : goal.returns-in-DiscardToAny-clause-tells
+returns-in-DiscardToAny-clause-tells g c = subst (λ q. TellsOfImage g.S.Storage.view g.F.BackingDisk.backing c.args.image.now c.discard_to_any.new.image c.args.slots.now.prepared.items c.args.slots.now.prepared.items q c.discard_to_any.result) (sym c.in-DiscardToAny.is) tt
+
+pub returns-in-DiscardToBacking-clause-tells : goal.returns-in-DiscardToBacking-clause-tells
+returns-in-DiscardToBacking-clause-tells g c = subst (λ q. TellsOfImage g.S.Storage.view g.F.BackingDisk.backing c.args.image.now c.discard_to_backing.new.image c.args.slots.now.prepared.items c.args.slots.now.prepared.items q c.discard_to_backing.result) (sym c.in-DiscardToBacking.is) tt
+
+pub returns-in-ReadvSpecial-clause-tells : goal.returns-in-ReadvSpecial-clause-tells
+returns-in-ReadvSpecial-clause-tells g c = subst (λ q. TellsOfImage g.S.Storage.view g.F.BackingDisk.backing c.args.image.now c.readv_special.new.image c.args.slots.now.prepared.items c.args.slots.now.prepared.items q c.readv_special.result) (sym c.in-ReadvSpecial.is) tt
+
+pub returns-in-TryReadvSpecial-clause-tells : goal.returns-in-TryReadvSpecial-clause-tells
+returns-in-TryReadvSpecial-clause-tells g c = subst (λ q. TellsOfImage g.S.Storage.view g.F.BackingDisk.backing c.args.image.now c.try_readv_special.new.image c.args.slots.now.prepared.items c.args.slots.now.prepared.items q c.try_readv_special.result) (sym c.in-TryReadvSpecial.is) tt
+
+pub returns-in-ResizeGrow-clause-tells : goal.returns-in-ResizeGrow-clause-tells
+returns-in-ResizeGrow-clause-tells g c = subst (λ q. TellsOfImage g.S.Storage.view g.F.BackingDisk.backing c.args.image.now c.grow.new.image c.args.slots.now.prepared.items c.args.slots.now.prepared.items q c.grow.result) (sym c.in-ResizeGrow.is) tt
+
+pub returns-in-ResizeShrink-clause-tells : goal.returns-in-ResizeShrink-clause-tells
+returns-in-ResizeShrink-clause-tells g c = subst (λ q. TellsOfImage g.S.Storage.view g.F.BackingDisk.backing c.args.image.now c.shrink.new.image c.args.slots.now.prepared.items c.args.slots.now.prepared.items q c.shrink.result) (sym c.in-ResizeShrink.is) tt
+
+pub returns-in-Ok-clause-unwritten : goal.returns-in-Ok-clause-unwritten
+returns-in-Ok-clause-unwritten g c = λ reading sound clean existing. record { reading = c.read.ensures.image.writable ∙ reading; read = c.read.ensures.unwritten reading c.args.slots.now.prepared.items sound clean; existing = existing }
+
+pub returns-in-Err-clause-unwritten : goal.returns-in-Err-clause-unwritten
+returns-in-Err-clause-unwritten g c = λ reading sound clean existing. record { reading = c.read.ensures.image.writable ∙ reading; read = c.read.ensures.unwritten reading c.args.slots.now.prepared.items sound clean; existing = existing }
+
+pub returns-in-Ok-write-clause-unwritten : goal.returns-in-Ok-write-clause-unwritten
+returns-in-Ok-write-clause-unwritten g c = λ reading sound clean existing. record { reading = c.write.ensures.image.writable ∙ reading; read = c.write.ensures.unwritten reading c.args.slots.now.prepared.items sound clean; existing = existing }
+
+pub returns-in-Err-write-clause-unwritten : goal.returns-in-Err-write-clause-unwritten
+returns-in-Err-write-clause-unwritten g c = λ reading sound clean existing. record { reading = c.write.ensures.image.writable ∙ reading; read = c.write.ensures.unwritten reading c.args.slots.now.prepared.items sound clean; existing = existing }
+
+pub returns-in-Flush-clause-unwritten : goal.returns-in-Flush-clause-unwritten
+returns-in-Flush-clause-unwritten g c = λ reading sound clean existing. record { reading = c.flush.ensures.image.writable ∙ reading; read = c.flush.ensures.unwritten reading c.args.slots.now.prepared.items sound clean; existing = existing }
+
+pub returns-in-Size-clause-unwritten : goal.returns-in-Size-clause-unwritten
+returns-in-Size-clause-unwritten g c = λ reading sound clean existing. record { reading = reading; read = read_none g.S.Storage.view c.args.image.now clean; existing = existing }
+
+pub returns-in-GetMapping-clause-unwritten : goal.returns-in-GetMapping-clause-unwritten
+returns-in-GetMapping-clause-unwritten g c = c.get_mapping.ensures.unwritten
+
+pub returns-in-ReadMapped-clause-unwritten : goal.returns-in-ReadMapped-clause-unwritten
+returns-in-ReadMapped-clause-unwritten g c = λ reading sound clean existing. record { reading = c.read_mapped.ensures.image.writable ∙ reading; read = c.read_mapped.ensures.unwritten reading c.args.slots.now.prepared.items sound clean; existing = existing }
+
+pub returns-in-PrepareDataMapping-clause-unwritten : goal.returns-in-PrepareDataMapping-clause-unwritten
+returns-in-PrepareDataMapping-clause-unwritten g c = c.prepare.ensures.unwritten
+
+pub returns-in-WriteMapped-clause-unwritten : goal.returns-in-WriteMapped-clause-unwritten
+returns-in-WriteMapped-clause-unwritten g c = λ reading sound clean existing. left_same g.S.Storage.view g.F.BackingDisk.backing c.args.image.now c.write_mapped.new.image c.args.slots.now.prepared.items (c.write_mapped.ensures.reading reading) reading clean existing
+
+pub returns-in-CommitDataMapping-clause-unwritten : goal.returns-in-CommitDataMapping-clause-unwritten
+returns-in-CommitDataMapping-clause-unwritten g c = c.commit.ensures.unwritten
+
+pub returns-in-DiscardDataMapping-clause-unwritten : goal.returns-in-DiscardDataMapping-clause-unwritten
+returns-in-DiscardDataMapping-clause-unwritten g c = c.discard.ensures.unwritten
+
+pub returns-in-EnsureZeroMapping-clause-unwritten : goal.returns-in-EnsureZeroMapping-clause-unwritten
+returns-in-EnsureZeroMapping-clause-unwritten g c = λ reading sound clean existing. left_same g.S.Storage.view g.F.BackingDisk.backing c.args.image.now c.ensure_zero.new.image c.args.slots.now.prepared.items (c.ensure_zero.ensures.reading reading) reading clean existing
+
+pub returns-in-DiscardToZero-clause-unwritten : goal.returns-in-DiscardToZero-clause-unwritten
+returns-in-DiscardToZero-clause-unwritten g c = λ reading sound clean existing. left_same g.S.Storage.view g.F.BackingDisk.backing c.args.image.now c.discard_to_zero.new.image c.args.slots.now.prepared.items (c.discard_to_zero.ensures.reading reading) reading clean existing
+
+pub returns-in-DiscardToAny-clause-unwritten : goal.returns-in-DiscardToAny-clause-unwritten
+returns-in-DiscardToAny-clause-unwritten g c = λ reading sound clean existing. left_same g.S.Storage.view g.F.BackingDisk.backing c.args.image.now c.discard_to_any.new.image c.args.slots.now.prepared.items (c.discard_to_any.ensures.reading reading) reading clean existing
+
+pub returns-in-DiscardToBacking-clause-unwritten : goal.returns-in-DiscardToBacking-clause-unwritten
+returns-in-DiscardToBacking-clause-unwritten g c = λ reading sound clean existing. left_same g.S.Storage.view g.F.BackingDisk.backing c.args.image.now c.discard_to_backing.new.image c.args.slots.now.prepared.items (c.discard_to_backing.ensures.reading reading) reading clean existing
+
+pub returns-in-ReadvSpecial-clause-unwritten : goal.returns-in-ReadvSpecial-clause-unwritten
+returns-in-ReadvSpecial-clause-unwritten g c = λ reading sound clean existing. record { reading = c.readv_special.ensures.image.writable ∙ reading; read = c.readv_special.ensures.unwritten reading c.args.slots.now.prepared.items sound clean; existing = existing }
+
+pub returns-in-TryReadvSpecial-clause-unwritten : goal.returns-in-TryReadvSpecial-clause-unwritten
+returns-in-TryReadvSpecial-clause-unwritten g c = λ reading sound clean existing. record { reading = c.try_readv_special.ensures.image.writable ∙ reading; read = c.try_readv_special.ensures.unwritten reading c.args.slots.now.prepared.items sound clean; existing = existing }
+
+pub returns-in-ResizeGrow-clause-unwritten : goal.returns-in-ResizeGrow-clause-unwritten
+returns-in-ResizeGrow-clause-unwritten g c = λ reading sound clean existing. left_same g.S.Storage.view g.F.BackingDisk.backing c.args.image.now c.grow.new.image c.args.slots.now.prepared.items (c.grow.ensures.reading reading) reading clean existing
+
+pub returns-in-ResizeShrink-clause-unwritten : goal.returns-in-ResizeShrink-clause-unwritten
+returns-in-ResizeShrink-clause-unwritten g c = λ reading sound clean existing. left_same g.S.Storage.view g.F.BackingDisk.backing c.args.image.now c.shrink.new.image c.args.slots.now.prepared.items (c.shrink.ensures.reading reading) reading clean existing

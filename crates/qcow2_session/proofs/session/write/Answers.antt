@@ -1,4 +1,5 @@
-use Rattle.std.proofs.Common.{◌≡◌, ◌∙◌, subst, take, drop, length, ◌<◌, ap, arith}
+use Rattle.std.proofs.Common.{◌≡◌, ℕ, ◌∙◌, subst, take, drop, length, ◌<◌, ap, arith}
+use Rattle.std.specs.Prelude.{IfSome, Option, Some, None, Result, Err}
 use Rattle.std.proofs.lemmas.Grind.{common_steps}
 use Rattle.std.proofs.lemmas.List.{take_rest}
 use Rattle.qcow2_disk.specs.Calls.{another, with_disk}
@@ -8,7 +9,11 @@ use Rattle.qcow2_image.specs.ImageInvariant.{abstract_of}
 use Rattle.qcow2_image.specs.Calls.{refusal_of}
 use Rattle.qcow2_session.proofs.Writing.{ends_on, writes_more, write_refused}
 use Rattle.qcow2_session.proofs.Beyond.{part_refused}
-use Rattle.qcow2_session.proofs.Turns.{does_if, refuses_here, refuses_if}
+use Rattle.qcow2_session.proofs.Turns.{does_if, refuses_here, refuses_if, nothing_refused}
+use Rattle.qcow2_image.specs.Refusals.{refuses_to_prepare}
+use Rattle.qcow2_session.proofs.Told.{same_then}
+use Rattle.qcow2_image.proofs.Map.Unmodified.{read_then}
+use Rattle.qcow2_image.proofs.Call.FaultCounts.{fewer_then}
 use Rattle.qcow2_session.proofs.session.write.Goals as goal
 
 pub returns-in_default-clause-sees : goal.returns-in_default-clause-sees
@@ -16,9 +21,12 @@ returns-in_default-clause-sees g c = λ out. refuses_if (λ same. (c.loop-done.i
 
 pub loop-done-preserved : goal.loop-done-preserved
 loop-done-preserved g c = record {
+  faults = fewer_then g.S.Storage.view g.F.BackingDisk.backing c.args.image.now c.loop-done.image c.write_some-in-loop-done.new.image c.loop-done.invariant.faults c.write_some-in-loop-done.ensures.faults.no_fewer;
   within = grind (arith, common_steps);
-  number = c.write_some-in-loop-done.ensures.number ∙ c.loop-done.invariant.number;
-  size = c.write_some-in-loop-done.ensures.size ∙ c.loop-done.invariant.size;
+  image = same_then c.loop-done.invariant.image c.write_some-in-loop-done.ensures.image;
+  unwritten = λ reading out sound clean.
+      let so_far = c.loop-done.invariant.unwritten reading out sound clean in
+      read_then g.S.Storage.view so_far (c.write_some-in-loop-done.ensures.unwritten (c.loop-done.invariant.image.writable ∙ reading) out ((c.loop-done.invariant.written out).answer sound).0 so_far.unmodified);
   ends = λ out sound more.
       let view = g.S.Storage.view in
       let below = g.F.BackingDisk.backing in
@@ -52,5 +60,21 @@ returns-in_default-clause-beyond g c = λ is. absurd (c.in_default.ensures (omeg
 
 pub returns-in-Err-write_some-clause-beyond : goal.returns-in-Err-write_some-clause-beyond
 returns-in-Err-write_some-clause-beyond g c =
-    part_refused c.args.image.now c.loop-done.image c.args.offset (length c.args.bytes.now) c.in-Some.at (length (drop c.loop-done.done c.args.bytes.now)) c.in-Err-write_some.refusal c.loop-done.invariant.size (grind (arith, common_steps)) (grind (arith, common_steps))
+    part_refused c.args.image.now c.loop-done.image c.args.offset (length c.args.bytes.now) c.in-Some.at (length (drop c.loop-done.done c.args.bytes.now)) c.in-Err-write_some.refusal c.loop-done.invariant.image.size (grind (arith, common_steps)) (grind (arith, common_steps))
     (rw (take_rest c.args.bytes.now c.loop-done.done) at c.in-Err-write_some.ensures.beyond)
+
+pub returns-in-Err-write_some-clause-early : goal.returns-in-Err-write_some-clause-early
+returns-in-Err-write_some-clause-early g c = nothing_refused _ _ (refuses_to_prepare c.args.image.now c.args.offset (length c.args.bytes.now)) c.write_some.result c.in-Ok.count c.write_some.ensures.early c.in-Ok.is
+
+pub returns-in-Err-write_some-clause-unwritten : goal.returns-in-Err-write_some-clause-unwritten
+returns-in-Err-write_some-clause-unwritten g c = λ reading out sound clean.
+    let so_far = c.loop-done.invariant.unwritten reading out sound clean in
+    read_then g.S.Storage.view so_far (c.write_some-in-loop-done.ensures.unwritten (c.loop-done.invariant.image.writable ∙ reading) out ((c.loop-done.invariant.written out).answer sound).0 so_far.unmodified)
+
+-- what refused the first part refused the whole
+refused_first : (A B : Type 0) {E : Type 0} (X : Type 0) (o : Option E) (e : E) (n : ℕ) → IfSome o (λ x. (◌≡◌ {A = Result A E} (Err e) (Err x)) × X) → IfSome o (λ x. (◌≡◌ {A = Result B (E × ℕ)} (Err (e, n)) (Err (x, n))) × X)
+refused_first A B X None e n early = tt
+refused_first A B X (Some x) e n early = (let is = early.0 in cc, early.1)
+
+pub returns-in-Err-clause-early : goal.returns-in-Err-clause-early
+returns-in-Err-clause-early g c = refused_first ℕ (Unit {0}) _ (refuses_to_prepare c.args.image.now c.args.offset (length c.args.bytes.now)) c.in-Err.refusal 0 c.in-Err.ensures.early

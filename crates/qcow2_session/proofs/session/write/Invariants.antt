@@ -4,19 +4,22 @@ use Rattle.qcow2_disk.specs.Calls.{Does, with_disk}
 use Rattle.qcow2_disk.specs.Disk.{with_bytes}
 use Rattle.qcow2_disk.specs.Mappings.{gift_of}
 use Rattle.qcow2_disk.specs.AbstractImages.{guest_of}
-use Rattle.qcow2_image.specs.Image.{number_of, size_of}
+use Rattle.qcow2_image.specs.Image.{IsSameImage}
 use Rattle.qcow2_image.specs.ImageInvariant.{abstract_of}
 use Rattle.qcow2_image.specs.declared.prepared.Prepared.{Prepared}
 use Rattle.qcow2_session.specs.Sessions.{EndsCluster}
+use Rattle.qcow2_session.specs.Told.{StaysUnwritten}
+use Rattle.qcow2_image.specs.Faults.{NoFewerFaults}
 use Rattle.qcow2_session.proofs.session.write.Given as goal
 
 abbrev pub invariant-loop-done : goal.invariant-loop-done
 invariant-loop-done g l = record {
+  faults : NoFewerFaults g.S.Storage.view g.F.BackingDisk.backing l.fn.image l.image;
   within : l.done ≤ length l.bytes;
-  number : number_of l.image ≡ number_of l.fn.image;
-  size : size_of l.image ≡ size_of l.fn.image;
+  image : IsSameImage l.fn.image l.image;
   ends : (out : List (Option Prepared)) → (abstract_of g.S.Storage.view g.F.BackingDisk.backing l.fn.image out).is_sound → l.done < length l.bytes → EndsCluster l.fn.image (l.fn.offset + l.done);
   end : l.fn.offset + length l.bytes < 2 ^ 64;
+  unwritten : StaysUnwritten g.S.Storage.view g.F.BackingDisk.backing l.fn.image l.image;
   written : (out : List (Option Prepared)) → let v = abstract_of g.S.Storage.view g.F.BackingDisk.backing l.fn.image out in let w = abstract_of g.S.Storage.view g.F.BackingDisk.backing l.image out in
       Does v w (gift_of l.fn.offset l.bytes ∷ []) [] (guest_of w ≡ with_disk (guest_of v) (with_bytes (guest_of v).disk l.fn.offset (take l.done l.bytes)));
 }

@@ -1,5 +1,8 @@
-use Rattle.std.proofs.Common.{[]}
+use Rattle.std.proofs.Common.{[], ap}
 use Rattle.qcow2_session.proofs.Resized.{none_early, grow_done, grow_refused}
+use Rattle.qcow2_session.proofs.Unwritten.{resizes_failed, resizes_reading, same_early}
+use Rattle.qcow2_image.specs.Image.{size_of}
+use Rattle.qcow2_image.specs.Resizing.{refuses_to_resize}
 use Rattle.qcow2_session.proofs.sizing.grow.Goals as goal
 
 pub returns-in-Ok-clause-goes : goal.returns-in-Ok-clause-goes
@@ -16,3 +19,15 @@ returns-in-Ok-clause-number g c = (c.in-Ok.ensures.sees []).acts.number
 
 pub returns-in-Err-clause-number : goal.returns-in-Err-clause-number
 returns-in-Err-clause-number g c = (c.in-Err.ensures.sees []).acts.number
+
+pub returns-in-Ok-clause-reading : goal.returns-in-Ok-clause-reading
+returns-in-Ok-clause-reading g c = λ reading. same_early _ (refuses_to_resize c.args.image.now) (resizes_reading c.args.image.now reading) c.resize_grow.ensures.early
+
+pub returns-in-Ok-clause-size : goal.returns-in-Ok-clause-size
+returns-in-Ok-clause-size g c = λ failed. ap size_of (same_early _ (refuses_to_resize c.args.image.now) (resizes_failed c.args.image.now failed) c.resize_grow.ensures.early)
+
+pub returns-in-Err-clause-reading : goal.returns-in-Err-clause-reading
+returns-in-Err-clause-reading g c = λ reading. same_early _ (refuses_to_resize c.args.image.now) (resizes_reading c.args.image.now reading) c.resize_grow.ensures.early
+
+pub returns-in-Err-clause-size : goal.returns-in-Err-clause-size
+returns-in-Err-clause-size g c = λ failed. ap size_of (same_early _ (refuses_to_resize c.args.image.now) (resizes_failed c.args.image.now failed) c.resize_grow.ensures.early)

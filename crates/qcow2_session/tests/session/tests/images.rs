@@ -2,8 +2,8 @@
 use super::{
     copied, created, fresh, guest_bytes, mapped, number_at, opened, refusal, stopped, written,
 };
-use image_access::{Format, Storage, TraceStorage};
-use qcow2_image::{ImageError, MappingKind, Qcow2, Qcow2CreateBuilder};
+use image_access::{Format, PreallocateMode, Storage, TraceStorage};
+use qcow2_image::{ImageError, MappingKind, Place, Qcow2, Qcow2CreateBuilder};
 use std::alloc::{AllocError, Global};
 use std::test::Fail;
 
@@ -121,6 +121,70 @@ fn a_builder_says_its_size(rt: HostRuntime) -> Result<(), Fail> {
     let storage = TraceStorage::new(alloc, Vec::new(alloc))?;
     let builder = Qcow2CreateBuilder::new(storage).size(1024);
     assert_eq!(rt; builder.get_size(), 1024);
+    assert_eq!(rt; builder.get_preallocate(), PreallocateMode::None);
+    let builder = builder.preallocate(PreallocateMode::Zero);
+    assert_eq!(rt; builder.get_preallocate(), PreallocateMode::Zero);
+    Ok(())
+}
+
+// Makes an image in clusters of 512 bytes that takes place in a mode.
+fn preallocated<S: Storage>(
+    alloc: Global,
+    storage: S,
+    size: u64,
+    mode: PreallocateMode,
+) -> Result<S, ImageError> {
+    let builder = Qcow2CreateBuilder::new(storage)
+        .size(size)
+        .preallocate(mode)
+        .cluster_size(512);
+    let (storage, done) = builder.create(alloc);
+    done?;
+    Ok(storage)
+}
+
+// Data that stand in a cluster of their own.
+fn data_at(offset: u64) -> MappingKind {
+    MappingKind::Raw {
+        place: Place::Image,
+        offset,
+        writable: true,
+    }
+}
+
+#[test]
+fn a_new_disk_of_explicit_zeros(rt: HostRuntime) -> Result<(), Fail> {
+    let alloc = rt.alloc();
+    let storage = TraceStorage::new(alloc, Vec::new(alloc))?;
+    let storage = preallocated(alloc, storage, 65536, PreallocateMode::Zero)?;
+    assert_eq!(rt;
+        mapped(alloc, copied(alloc, &storage)?, 0, 65536)?,
+        (MappingKind::Zero { explicit: true }, 32768)
+    );
+    let storage = written(alloc, storage, 0, &[0x11; 512])?;
+    assert_eq!(rt; mapped(alloc, storage, 0, 512)?, (data_at(3072), 512));
+    Ok(())
+}
+
+#[test]
+fn a_new_disk_with_clusters(rt: HostRuntime) -> Result<(), Fail> {
+    let alloc = rt.alloc();
+    for mode in [
+        PreallocateMode::FormatAllocate,
+        PreallocateMode::FullAllocate,
+        PreallocateMode::WriteData,
+    ] {
+        let storage = TraceStorage::new(alloc, Vec::new(alloc))?;
+        let storage = preallocated(alloc, storage, 1024, mode)?;
+        assert_eq!(rt;
+            mapped(alloc, copied(alloc, &storage)?, 0, 1024)?,
+            (data_at(2560), 1024)
+        );
+        assert_eq!(rt;
+            guest_bytes(alloc, storage, 0, 1024)?.as_slice(),
+            [0; 1024].as_slice()
+        );
+    }
     Ok(())
 }
 

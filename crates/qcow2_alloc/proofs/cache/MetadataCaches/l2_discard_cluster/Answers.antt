@@ -19,7 +19,7 @@ use Rattle.qcow2_alloc.proofs.cache.MetadataCaches.l2_discard_cluster.Goals as g
 
 pub returns-then-index-entries-clause-marks : goal.returns-then-index-entries-clause-marks
 returns-then-index-entries-clause-marks g c =
-    marks_tables c.args.self.now (with_entries c.args.self.now.l2 (set_at (eqb c.args.cluster) c.args.self.now.l2.entries c.in_ok-table.table.now)) (set_keeps_pins c.args.cluster c.args.self.now.l2.entries c.in_ok-table.table.now)
+    marks_tables c.args.self.now (with_entries c.args.self.now.l2 (set_at (eqb c.args.cluster) c.args.self.now.l2.entries c.in_ok-table.table.now)) refl (set_keeps_pins c.args.cluster c.args.self.now.l2.entries c.in_ok-table.table.now)
 
 pub returns-then-index-entries-clause-discarded : goal.returns-then-index-entries-clause-discarded
 returns-then-index-entries-clause-discarded g c = λ h p on_storage i sound at own there.
@@ -36,7 +36,7 @@ returns-then-index-entries-clause-noted g c = λ h p on_storage i sound at there
 pub returns-clause-marks : goal.returns-clause-marks
 returns-clause-marks g c =
     marks_noted c.args.self.now (record c.args.self.now { l2 = with_entries c.args.self.now.l2 (set_at (eqb c.args.cluster) c.args.self.now.l2.entries c.discard_cluster.new.self) })
-    (marks_tables c.args.self.now (with_entries c.args.self.now.l2 (set_at (eqb c.args.cluster) c.args.self.now.l2.entries c.discard_cluster.new.self)) (set_keeps_pins c.args.cluster c.args.self.now.l2.entries c.discard_cluster.new.self))
+    (marks_tables c.args.self.now (with_entries c.args.self.now.l2 (set_at (eqb c.args.cluster) c.args.self.now.l2.entries c.discard_cluster.new.self)) refl (set_keeps_pins c.args.cluster c.args.self.now.l2.entries c.discard_cluster.new.self))
 
 pub returns-clause-discarded : goal.returns-clause-discarded
 returns-clause-discarded g c = λ h p on_storage i sound at own there.

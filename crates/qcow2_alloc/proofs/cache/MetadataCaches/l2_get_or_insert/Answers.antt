@@ -50,19 +50,19 @@ returns-clause-keeps g c =
 
 pub returns-in_err-before_l2-clause-marks : goal.returns-in_err-before_l2-clause-marks
 returns-in_err-before_l2-clause-marks g c =
-    marks_then c.args.self.now (record c.args.self.now { l2 = c.get_or_insert.new.self }) c.before_l2.new.self (marks_tables c.args.self.now c.get_or_insert.new.self c.get_or_insert.ensures.pins) c.before_l2.ensures.marks
+    marks_then c.args.self.now (record c.args.self.now { l2 = c.get_or_insert.new.self }) c.before_l2.new.self (marks_tables c.args.self.now c.get_or_insert.new.self c.get_or_insert.ensures.others c.get_or_insert.ensures.pins) c.before_l2.ensures.marks
 
 pub returns-in_err-get_or_insert-2-clause-marks : goal.returns-in_err-get_or_insert-2-clause-marks
 returns-in_err-get_or_insert-2-clause-marks g c =
     marks_then c.args.self.now c.before_l2.new.self (record c.before_l2.new.self { l2 = c.get_or_insert-2.new.self })
-    (marks_then c.args.self.now (record c.args.self.now { l2 = c.get_or_insert.new.self }) c.before_l2.new.self (marks_tables c.args.self.now c.get_or_insert.new.self c.get_or_insert.ensures.pins) c.before_l2.ensures.marks)
-    (marks_tables c.before_l2.new.self c.get_or_insert-2.new.self c.get_or_insert-2.ensures.pins)
+    (marks_then c.args.self.now (record c.args.self.now { l2 = c.get_or_insert.new.self }) c.before_l2.new.self (marks_tables c.args.self.now c.get_or_insert.new.self c.get_or_insert.ensures.others c.get_or_insert.ensures.pins) c.before_l2.ensures.marks)
+    (marks_tables c.before_l2.new.self c.get_or_insert-2.new.self c.get_or_insert-2.ensures.others c.get_or_insert-2.ensures.pins)
 
 pub returns-clause-marks : goal.returns-clause-marks
 returns-clause-marks g c =
     marks_then c.args.self.now c.before_l2.new.self (record c.before_l2.new.self { l2 = c.get_or_insert-2.new.self })
-    (marks_then c.args.self.now (record c.args.self.now { l2 = c.get_or_insert.new.self }) c.before_l2.new.self (marks_tables c.args.self.now c.get_or_insert.new.self c.get_or_insert.ensures.pins) c.before_l2.ensures.marks)
-    (marks_tables c.before_l2.new.self c.get_or_insert-2.new.self c.get_or_insert-2.ensures.pins)
+    (marks_then c.args.self.now (record c.args.self.now { l2 = c.get_or_insert.new.self }) c.before_l2.new.self (marks_tables c.args.self.now c.get_or_insert.new.self c.get_or_insert.ensures.others c.get_or_insert.ensures.pins) c.before_l2.ensures.marks)
+    (marks_tables c.before_l2.new.self c.get_or_insert-2.new.self c.get_or_insert-2.ensures.others c.get_or_insert-2.ensures.pins)
 
 pub returns-in_err-before_l2-clause-refusals : goal.returns-in_err-before_l2-clause-refusals
 returns-in_err-before_l2-clause-refusals g c = λ h here p honest sound settled.

@@ -65,19 +65,19 @@ returns-clause-held g c =
 
 pub returns-in_err-before_l2-clause-marks : goal.returns-in_err-before_l2-clause-marks
 returns-in_err-before_l2-clause-marks g c =
-    marks_then c.args.self.now (record c.args.self.now { l2 = c.insert.new.self }) c.before_l2.new.self (marks_tables c.args.self.now c.insert.new.self c.insert.ensures.pins) c.before_l2.ensures.marks
+    marks_then c.args.self.now (record c.args.self.now { l2 = c.insert.new.self }) c.before_l2.new.self (marks_tables c.args.self.now c.insert.new.self c.insert.ensures.others c.insert.ensures.pins) c.before_l2.ensures.marks
 
 pub returns-in_err-insert-2-clause-marks : goal.returns-in_err-insert-2-clause-marks
 returns-in_err-insert-2-clause-marks g c =
     marks_then c.args.self.now c.before_l2.new.self (record c.before_l2.new.self { l2 = c.insert-2.new.self })
-    (marks_then c.args.self.now (record c.args.self.now { l2 = c.insert.new.self }) c.before_l2.new.self (marks_tables c.args.self.now c.insert.new.self c.insert.ensures.pins) c.before_l2.ensures.marks)
-    (marks_tables c.before_l2.new.self c.insert-2.new.self c.insert-2.ensures.pins)
+    (marks_then c.args.self.now (record c.args.self.now { l2 = c.insert.new.self }) c.before_l2.new.self (marks_tables c.args.self.now c.insert.new.self c.insert.ensures.others c.insert.ensures.pins) c.before_l2.ensures.marks)
+    (marks_tables c.before_l2.new.self c.insert-2.new.self c.insert-2.ensures.others c.insert-2.ensures.pins)
 
 pub returns-clause-marks : goal.returns-clause-marks
 returns-clause-marks g c =
     marks_then c.args.self.now c.before_l2.new.self (record c.before_l2.new.self { l2 = c.insert-2.new.self })
-    (marks_then c.args.self.now (record c.args.self.now { l2 = c.insert.new.self }) c.before_l2.new.self (marks_tables c.args.self.now c.insert.new.self c.insert.ensures.pins) c.before_l2.ensures.marks)
-    (marks_tables c.before_l2.new.self c.insert-2.new.self c.insert-2.ensures.pins)
+    (marks_then c.args.self.now (record c.args.self.now { l2 = c.insert.new.self }) c.before_l2.new.self (marks_tables c.args.self.now c.insert.new.self c.insert.ensures.others c.insert.ensures.pins) c.before_l2.ensures.marks)
+    (marks_tables c.before_l2.new.self c.insert-2.new.self c.insert-2.ensures.others c.insert-2.ensures.pins)
 
 pub returns-in_err-insert-clause-refusals : goal.returns-in_err-insert-clause-refusals
 returns-in_err-insert-clause-refusals g c = λ h p honest sound settled fits clean holds.

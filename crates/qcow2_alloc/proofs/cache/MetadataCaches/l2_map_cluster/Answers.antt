@@ -59,14 +59,14 @@ returns-then-index-entries-clause-noted g c = λ h p on_storage i sound at there
 
 pub returns-then-index-entries-clause-marks : goal.returns-then-index-entries-clause-marks
 returns-then-index-entries-clause-marks g c = elim c.then-index-entries.branch [
-  | then-index-entries-via-then-index-entries w ↦ rw w.self-is (marks_tables c.args.self.now (with_entries c.args.self.now.l2 (set_at (eqb c.args.cluster) c.args.self.now.l2.entries c.in_ok-table.table.now)) (set_keeps_pins c.args.cluster c.args.self.now.l2.entries c.in_ok-table.table.now))
-  | then-index-entries-via-else-index-entries+then-not-is_nameable w ↦ rw w.self-is (marks_tables c.args.self.now (with_entries c.args.self.now.l2 (set_at (eqb c.args.cluster) c.args.self.now.l2.entries c.in_ok-table.table.now)) (set_keeps_pins c.args.cluster c.args.self.now.l2.entries c.in_ok-table.table.now))
+  | then-index-entries-via-then-index-entries w ↦ rw w.self-is (marks_tables c.args.self.now (with_entries c.args.self.now.l2 (set_at (eqb c.args.cluster) c.args.self.now.l2.entries c.in_ok-table.table.now)) refl (set_keeps_pins c.args.cluster c.args.self.now.l2.entries c.in_ok-table.table.now))
+  | then-index-entries-via-else-index-entries+then-not-is_nameable w ↦ rw w.self-is (marks_tables c.args.self.now (with_entries c.args.self.now.l2 (set_at (eqb c.args.cluster) c.args.self.now.l2.entries c.in_ok-table.table.now)) refl (set_keeps_pins c.args.cluster c.args.self.now.l2.entries c.in_ok-table.table.now))
 ]
 
 pub returns-clause-marks : goal.returns-clause-marks
 returns-clause-marks g c =
     marks_noted c.args.self.now (record c.args.self.now { l2 = with_entries c.args.self.now.l2 (set_at (eqb c.args.cluster) c.args.self.now.l2.entries c.map_cluster.new.self) })
-    (marks_tables c.args.self.now (with_entries c.args.self.now.l2 (set_at (eqb c.args.cluster) c.args.self.now.l2.entries c.map_cluster.new.self)) (set_keeps_pins c.args.cluster c.args.self.now.l2.entries c.map_cluster.new.self))
+    (marks_tables c.args.self.now (with_entries c.args.self.now.l2 (set_at (eqb c.args.cluster) c.args.self.now.l2.entries c.map_cluster.new.self)) refl (set_keeps_pins c.args.cluster c.args.self.now.l2.entries c.map_cluster.new.self))
 
 pub returns-clause-entry : goal.returns-clause-entry
 returns-clause-entry g c =

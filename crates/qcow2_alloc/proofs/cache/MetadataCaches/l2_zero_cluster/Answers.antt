@@ -21,7 +21,7 @@ use Rattle.qcow2_alloc.proofs.cache.MetadataCaches.l2_zero_cluster.Goals as goal
 
 pub returns-then-index-entries-clause-marks : goal.returns-then-index-entries-clause-marks
 returns-then-index-entries-clause-marks g c =
-    marks_tables c.args.self.now (with_entries c.args.self.now.l2 (set_at (eqb c.args.cluster) c.args.self.now.l2.entries c.in_ok-table.table.now)) (set_keeps_pins c.args.cluster c.args.self.now.l2.entries c.in_ok-table.table.now)
+    marks_tables c.args.self.now (with_entries c.args.self.now.l2 (set_at (eqb c.args.cluster) c.args.self.now.l2.entries c.in_ok-table.table.now)) refl (set_keeps_pins c.args.cluster c.args.self.now.l2.entries c.in_ok-table.table.now)
 
 pub returns-then-index-entries-clause-zeroed : goal.returns-then-index-entries-clause-zeroed
 returns-then-index-entries-clause-zeroed g c = λ h p on_storage i sound at own there.
@@ -38,7 +38,7 @@ returns-then-index-entries-clause-noted g c = λ h p on_storage i sound at there
 pub returns-clause-marks : goal.returns-clause-marks
 returns-clause-marks g c =
     marks_noted c.args.self.now (record c.args.self.now { l2 = with_entries c.args.self.now.l2 (set_at (eqb c.args.cluster) c.args.self.now.l2.entries c.zero_cluster.new.self) })
-    (marks_tables c.args.self.now (with_entries c.args.self.now.l2 (set_at (eqb c.args.cluster) c.args.self.now.l2.entries c.zero_cluster.new.self)) (set_keeps_pins c.args.cluster c.args.self.now.l2.entries c.zero_cluster.new.self))
+    (marks_tables c.args.self.now (with_entries c.args.self.now.l2 (set_at (eqb c.args.cluster) c.args.self.now.l2.entries c.zero_cluster.new.self)) refl (set_keeps_pins c.args.cluster c.args.self.now.l2.entries c.zero_cluster.new.self))
 
 pub returns-clause-zeroed : goal.returns-clause-zeroed
 returns-clause-zeroed g c = λ h p on_storage i sound at own there.

@@ -1,10 +1,16 @@
-use Rattle.std.proofs.Common.{◌≡◌, inl, ◌-◌, ◌/◌, ◌%◌, ◌^◌, ◌++◌, ap, ◌∙◌, subst, arith}
+use Rattle.std.proofs.Common.{◌≡◌, inl, ◌-◌, ◌/◌, ◌%◌, ◌^◌, ◌++◌, ap, ◌∙◌, subst, arith, ◌+◌, ◌≤◌, sym}
 use Rattle.qcow2_alloc.proofs.AllocationSteps.{handed_on}
-use Rattle.qcow2_metadata.specs.Header.{cluster_size}
+use Rattle.qcow2_metadata.specs.Header.{cluster_size, entries_per_cluster}
 use Rattle.qcow2_alloc.specs.CacheMarks.{l2_pins}
 use Rattle.qcow2_image.specs.Clearing.{ClearsOrRefuses, ClearsTable, ReadsAll}
-use Rattle.qcow2_image.specs.Found.{l2_index_of}
-use Rattle.qcow2_image.proofs.Clear.Between.{clears_between, no_pins, pinned_under, under_pinned}
+use Rattle.qcow2_image.specs.Found.{l2_index_of, l1_index_of}
+use Rattle.qcow2_image.proofs.Clear.Between.{clears_between, no_pins, pinned_under, under_pinned, fits_table}
+use Rattle.std.specs.Prelude.{IfErr}
+use Rattle.qcow2_alloc.specs.ImageFile.{known_in}
+use Rattle.qcow2_alloc.specs.MetadataCaches.{IsEntryAt}
+use Rattle.qcow2_image.specs.ImageInvariant.{pending_in}
+use Rattle.qcow2_image.specs.NewTables.{IsFaultOrLacksTable}
+use Rattle.qcow2_image.proofs.Backings.{some_prepared}
 use Rattle.qcow2_image.proofs.image.Qcow2.clear_between.Goals as goal
 
 pub returns-in_err-table-clause-clears : goal.returns-in_err-table-clause-clears
@@ -55,3 +61,31 @@ returns-clause-free g c = λ out sound under.
     let pinned = under_pinned g.S.Storage.view g.F.BackingDisk.backing out c.args.self.now c.table_for.new.self c.args.from c.in_ok-table.table found.0 found.1 under in
     let none = no_pins c.l2_is_pinned.result (l2_pins c.table_for.new.self.file.caches c.in_ok-table.table) c.l2_is_pinned.ensures c.if-l2_is_pinned.false in
     omega (arith, pinned, none)
+
+pub returns-in_err-table-clause-lacks : goal.returns-in_err-table-clause-lacks
+returns-in_err-table-clause-lacks g c = λ out sound whole none.
+    handed_on (λ r. IfErr r (IsFaultOrLacksTable g.S.Storage.view c.table_for.new.self c.args.from)) c.from_residual.result c.in_err-table.field-0.0 c.from_residual.ensures (c.in_err-table.ensures.lacks out sound none)
+
+pub returns-then-l2_is_pinned-clause-lacks : goal.returns-then-l2_is_pinned-clause-lacks
+returns-then-l2_is_pinned-clause-lacks g c = λ out sound whole none.
+    let found = c.in_ok-table.ensures.finds out sound in
+    absurd (none (some_prepared g.S.Storage.view g.F.BackingDisk.backing c.table_for.new.self out found.0.sound c.in_ok-table.table (c.l2_is_pinned.ensures.0 c.if-l2_is_pinned.true)))
+
+pub returns-in_err-dropped-clause-lacks : goal.returns-in_err-dropped-clause-lacks
+returns-in_err-dropped-clause-lacks g c = λ out sound whole none.
+    let view = g.S.Storage.view in
+    let below = g.F.BackingDisk.backing in
+    let old = c.args.self.now in
+    let mid = c.table_for.new.self in
+    let h = mid.file.header.fields in
+    let from = c.args.from in
+    let to = c.args.to in
+    let found = c.in_ok-table.ensures.finds out sound in
+    let bits = c.cluster_bits-bits.ensures.value in
+    let first : c.cluster-first.result ≡ c.args.from / cluster_size c.table_for.new.self.file.header.fields = c.cluster-first.ensures ∙ ap (λ o. o / 2 ^ c.cluster_bits-bits.result) c.new.ensures ∙ ap (λ n. from / 2 ^ n) bits in
+    let count : (c.args.to - c.args.from) / 2 ^ c.cluster_bits-bits.result ≡ (c.args.to - c.args.from) / cluster_size c.table_for.new.self.file.header.fields = ap (λ n. (to - from) / 2 ^ n) bits in
+    let fits = subst (λ n. n % entries_per_cluster h + (to - from) / 2 ^ c.cluster_bits-bits.result ≤ entries_per_cluster h) (sym first)
+    (subst (λ n. from / cluster_size h % entries_per_cluster h + n ≤ entries_per_cluster h) (sym count) (fits_table view below out old mid c.args.how from to found.0 whole c.requires.some)) in
+    let at = subst (λ n. IsEntryAt h (known_in view mid.file) (l1_index_of h from) c.in_ok-table.table (n % entries_per_cluster h)) (sym first) found.1.entry in
+    handed_on (λ r. IfErr r (IsFaultOrLacksTable view mid from)) c.from_residual-in_err-dropped.result c.in_err-dropped.field-0.0 c.from_residual-in_err-dropped.ensures
+    (inl (c.in_err-dropped.ensures.only_faults (pending_in view below mid out) (l1_index_of h from) found.0.sound.file at (ap (λ n. n / entries_per_cluster h) first) fits found.1.held))

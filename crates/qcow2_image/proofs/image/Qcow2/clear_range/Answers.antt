@@ -1,15 +1,19 @@
-use Rattle.std.proofs.Common.{◌≡◌, ◌<◌, ◌+◌, ◌-◌, ℕ, min, sym, ap, ◌∙◌, subst, arith}
-use Rattle.std.specs.Prelude.{Ok, Err, IfErr, IfOk, IsTrue, Result}
+use Rattle.std.proofs.Common.{◌≡◌, ◌<◌, ◌+◌, ◌-◌, ℕ, min, sym, ap, ◌∙◌, subst, arith, inl, refl}
+use Rattle.std.specs.Prelude.{None, Some, Ok, Err, IfErr, IfOk, IsTrue, Result}
 use Rattle.qcow2_alloc.specs.declared.error.ImageError.TheVariants.{Memory, TablePrepared}
+use Rattle.qcow2_image.specs.Backings.{HasPrepared}
+use Rattle.qcow2_image.specs.NewTables.{IsFaultOrLacksTable}
 use Rattle.qcow2_image.specs.CallParts.{EndsFreeing, UnseenCall}
-use Rattle.qcow2_image.specs.Clearing.{Clears, ClearsOrRefuses, ClearsPart, IsUnderMapping, IsWhole, RefusesUngiven, from_in, refuses_to_clear, to_in}
+use Rattle.qcow2_image.specs.Clearing.{Clears, ClearsOrRefuses, ClearsPart, IsUnderMapping, IsWhole, RefusesClearing, from_in, refuses_to_clear, to_in}
 use Rattle.qcow2_image.specs.declared.image.Qcow2.{Qcow2}
 use Rattle.qcow2_image.specs.Image.{is_failed}
 use Rattle.qcow2_image.specs.ImageInvariant.{ImageInvariant, pending_in}
 use Rattle.qcow2_image.specs.Refusals.{Marks}
 use Rattle.qcow2_image.proofs.Call.Called.{Quietly}
 use Rattle.qcow2_image.proofs.Call.Settled.{is_fault, outcome}
-use Rattle.qcow2_image.proofs.Clear.ClearCalls.{begins, clear_broke, clear_covers, clear_done, clear_refused, clear_works, clears_early, clears_nothing, err_is, if_some, not_refused, refused_for, under_after, under_before, ungiven_broke, ungiven_early, ungiven_refused, whole_in}
+use Rattle.qcow2_image.proofs.Sizing.Shrinking.{fault_of}
+use Rattle.qcow2_image.proofs.Clear.ClearCalls.{begins, clear_broke, clear_covers, clear_done, clear_refused, clear_works, clears_early, clears_nothing, err_is, fault_broke, if_some, not_refused, refused_for, under_after, under_before, ungiven_broke, ungiven_early, ungiven_refused, whole_in}
+use Rattle.qcow2_image.proofs.Call.FaultCounts.{counted_marked, counted_ok, counted_on, fewer_then, untouched}
 use Rattle.qcow2_image.proofs.image.Qcow2.clear_range.Goals as goal
 
 pub returns-in_err-from-clause-early : goal.returns-in_err-from-clause-early
@@ -186,13 +190,15 @@ returns-clause-covers g c = λ out sound.
     let number = c.end_freeing.ensures.image.number ∙ c.mark_failure.ensures.image.number ∙ c.clear_between-cleared.ensures.stays.image.number ∙ c.begin.ensures.stays.image.number in
     clear_covers view below old how offset n works begun entries quiet parts freed c.end_freeing.result ends number c.in_ok-end_freeing.was out sound
 
-pub returns-in_err-from-clause-ungiven : goal.returns-in_err-from-clause-ungiven
-returns-in_err-from-clause-ungiven g c =
+pub returns-in_err-from-clause-refused : goal.returns-in_err-from-clause-refused
+returns-in_err-from-clause-refused g c =
     let old = c.args.self.now in
-    subst (λ (r : Result _ _). IfErr r (RefusesUngiven g.S.Storage.view g.F.BackingDisk.backing old old)) (sym (err_is c.from_residual.result c.from_residual.ensures)) (ungiven_early g.S.Storage.view g.F.BackingDisk.backing old c.in_err-from.field-0.0)
+    let refused = refused_for c.check_clear.result _ (refuses_to_clear old c.args.offset c.args.length c.args.how) c.in_err-from.field-0.0 c.check_clear.ensures.refusal c.in_err-from.was in
+    subst (λ (r : Result _ _). IfErr r (RefusesClearing g.S.Storage.view g.F.BackingDisk.backing c.args.how old old c.args.offset c.args.length)) (sym (err_is c.from_residual.result c.from_residual.ensures))
+    (record { ungiven = ungiven_early g.S.Storage.view g.F.BackingDisk.backing old c.in_err-from.field-0.0; lacks = λ none out sound unprepared. absurd (let no : None ≡ Some c.in_err-from.field-0.0 = sym none ∙ refused in cc) })
 
-pub returns-in_err-mark_failure-clause-ungiven : goal.returns-in_err-mark_failure-clause-ungiven
-returns-in_err-mark_failure-clause-ungiven g c =
+pub returns-in_err-mark_failure-clause-refused : goal.returns-in_err-mark_failure-clause-refused
+returns-in_err-mark_failure-clause-refused g c =
     let view = g.S.Storage.view in
     let below = g.F.BackingDisk.backing in
     let old = c.args.self.now in
@@ -206,16 +212,24 @@ returns-in_err-mark_failure-clause-ungiven g c =
     let works = clear_works old c.args.offset c.args.length c.args.how range.0 in
     let quiet : (out : _) → _ → Quietly view below out old begun = λ out sound. record { keeps = c.begin.ensures.keeps (pending_in view below old out) out sound; list = c.begin.ensures.list } in
     let done : c.clear_between-cleared.result ≡ Err c.in_err-mark_failure.field-0.0 = sym c.mark_failure.ensures.answer ∙ c.in_err-mark_failure.was in
-    subst (λ (r : Result _ _). IfErr r (RefusesUngiven view below old c.mark_failure.new.self)) (sym (err_is c.from_residual-in_err-mark_failure.result c.from_residual-in_err-mark_failure.ensures))
-    (subst (λ (image : Qcow2 _ _). RefusesUngiven view below old image e) (sym c.mark_failure.ensures.rest)
-    (ungiven_refused view below old c.args.how c.args.offset c.args.length works begun entries quiet e marked (c.clear_between-cleared.ensures.stays.image.number ∙ c.begin.ensures.stays.image.number)
-    (subst (λ (r : Result _ _). Marks r (is_failed entries) marked) done c.mark_failure.ensures.marks) (subst (λ (r : Result _ _). IfErr r (λ x. x ≡ Memory → IsTrue entries.file.caches.is_changed → IsTrue marked)) done c.mark_failure.ensures.memory)
-    (λ out call. subst (ClearsOrRefuses view below c.args.how c.in_ok-from.from c.in_ok-from.to begun entries out) done (c.clear_between-cleared.ensures.clears out call.sound
-    (subst (λ n. IsWhole begun.file.header.fields c.args.how n c.in_ok-from.to) (sym from) (subst (λ n. IsWhole begun.file.header.fields c.args.how (from_in old c.args.offset c.args.length) n) (sym to)
-    (whole_in view below old c.args.how c.args.offset c.args.length works begun entries quiet out call c.in_ok-from.ensures.version)))))))
+    let whole : (out : _) → UnseenCall view below old begun out → IsWhole begun.file.header.fields c.args.how c.in_ok-from.from c.in_ok-from.to = λ out call.
+    subst (λ n. IsWhole begun.file.header.fields c.args.how n c.in_ok-from.to) (sym from) (subst (λ n. IsWhole begun.file.header.fields c.args.how (from_in old c.args.offset c.args.length) n) (sym to)
+    (whole_in view below old c.args.how c.args.offset c.args.length works begun entries quiet out call c.in_ok-from.ensures.version)) in
+    let lacking : (out : _) → ImageInvariant view below (pending_in view below old out) old out → (HasPrepared out → ⊥) → IsFaultOrLacksTable view entries c.in_ok-from.from c.in_err-mark_failure.field-0.0 = λ out sound unprepared.
+    let call = begins view below old c.args.how c.args.offset c.args.length works begun entries quiet out sound in
+    subst (λ (r : Result _ _). IfErr r (IsFaultOrLacksTable view entries c.in_ok-from.from)) done (c.clear_between-cleared.ensures.lacks out call.sound (whole out call) unprepared) in
+    subst (λ (r : Result _ _). IfErr r (RefusesClearing view below c.args.how old c.mark_failure.new.self c.args.offset c.args.length)) (sym (err_is c.from_residual-in_err-mark_failure.result c.from_residual-in_err-mark_failure.ensures))
+    (subst (λ (image : Qcow2 _ _). RefusesClearing view below c.args.how old image c.args.offset c.args.length e) (sym c.mark_failure.ensures.rest) (record {
+      lacks = λ none out sound unprepared. subst (λ n. IsFaultOrLacksTable view entries n e) from (lacking out sound unprepared);
+      ungiven =
+          ungiven_refused view below old c.args.how c.args.offset c.args.length works begun entries quiet e marked (c.clear_between-cleared.ensures.stays.image.number ∙ c.begin.ensures.stays.image.number)
+          (subst (λ (r : Result _ _). Marks r (is_failed entries) marked) done c.mark_failure.ensures.marks) (subst (λ (r : Result _ _). IfErr r (λ x. x ≡ Memory → IsTrue entries.file.caches.is_changed → IsTrue marked)) done c.mark_failure.ensures.memory)
+          (λ out call. subst (ClearsOrRefuses view below c.args.how c.in_ok-from.from c.in_ok-from.to begun entries out) done (c.clear_between-cleared.ensures.clears out call.sound
+          (whole out call)));
+    }))
 
-pub returns-in_err-end_freeing-clause-ungiven : goal.returns-in_err-end_freeing-clause-ungiven
-returns-in_err-end_freeing-clause-ungiven g c =
+pub returns-in_err-end_freeing-clause-refused : goal.returns-in_err-end_freeing-clause-refused
+returns-in_err-end_freeing-clause-refused g c =
     let view = g.S.Storage.view in
     let below = g.F.BackingDisk.backing in
     let old = c.args.self.now in
@@ -240,5 +254,32 @@ returns-in_err-end_freeing-clause-ungiven g c =
     let ends = subst (λ (image : Qcow2 _ _). (out : _) → ImageInvariant view below (pending_in view below image out) image out → EndsFreeing view below image freed out c.end_freeing.result) same c.end_freeing.ensures.frees in
     let number = c.end_freeing.ensures.image.number ∙ c.mark_failure.ensures.image.number ∙ c.clear_between-cleared.ensures.stays.image.number ∙ c.begin.ensures.stays.image.number in
     let x = c.in_err-end_freeing.field-0.0 in
-    subst (λ (r : Result _ _). IfErr r (RefusesUngiven view below old freed)) (sym (err_is c.from_residual-in_err-end_freeing.result c.from_residual-in_err-end_freeing.ensures))
-    (ungiven_broke view below old how offset n works begun entries quiet parts freed c.end_freeing.result ends number x c.in_err-end_freeing.was)
+    subst (λ (r : Result _ _). IfErr r (RefusesClearing view below how old freed offset n)) (sym (err_is c.from_residual-in_err-end_freeing.result c.from_residual-in_err-end_freeing.ensures)) (record {
+      ungiven = ungiven_broke view below old how offset n works begun entries quiet parts freed c.end_freeing.result ends number x c.in_err-end_freeing.was;
+      lacks = λ none out sound unprepared. inl (fault_of x (fault_broke view below old how offset n works begun entries quiet parts freed c.end_freeing.result ends number x c.in_err-end_freeing.was out sound));
+    })
+
+pub returns-in_err-mark_failure-clause-faults : goal.returns-in_err-mark_failure-clause-faults
+returns-in_err-mark_failure-clause-faults g c =
+    let view = g.S.Storage.view in
+    let below = g.F.BackingDisk.backing in
+    let old = c.args.self.now in
+    let cleared = counted_marked view below old c.begin.new.self c.clear_between-cleared.new.self c.mark_failure.new.self c.clear_between-cleared.result c.mark_failure.result c.begin.ensures.faults c.clear_between-cleared.ensures.faults c.mark_failure.ensures.answer c.mark_failure.ensures.rest in
+    counted_on view below old old c.mark_failure.new.self c.mark_failure.result c.in_err-mark_failure.field-0.0 c.from_residual-in_err-mark_failure.result (untouched view below old old refl refl) cleared c.in_err-mark_failure.was c.from_residual-in_err-mark_failure.ensures
+
+pub returns-in_err-end_freeing-clause-faults : goal.returns-in_err-end_freeing-clause-faults
+returns-in_err-end_freeing-clause-faults g c =
+    let view = g.S.Storage.view in
+    let below = g.F.BackingDisk.backing in
+    let old = c.args.self.now in
+    let cleared = counted_marked view below old c.begin.new.self c.clear_between-cleared.new.self c.mark_failure.new.self c.clear_between-cleared.result c.mark_failure.result c.begin.ensures.faults c.clear_between-cleared.ensures.faults c.mark_failure.ensures.answer c.mark_failure.ensures.rest in
+    counted_on view below old c.mark_failure.new.self c.end_freeing.new.self c.end_freeing.result c.in_err-end_freeing.field-0.0 c.from_residual-in_err-end_freeing.result cleared.no_fewer c.end_freeing.ensures.faults c.in_err-end_freeing.was
+    c.from_residual-in_err-end_freeing.ensures
+
+pub returns-clause-faults : goal.returns-clause-faults
+returns-clause-faults g c =
+    let view = g.S.Storage.view in
+    let below = g.F.BackingDisk.backing in
+    let old = c.args.self.now in
+    let cleared = counted_marked view below old c.begin.new.self c.clear_between-cleared.new.self c.mark_failure.new.self c.clear_between-cleared.result c.mark_failure.result c.begin.ensures.faults c.clear_between-cleared.ensures.faults c.mark_failure.ensures.answer c.mark_failure.ensures.rest in
+    counted_ok view below old c.end_freeing.new.self _ (fewer_then view below old c.mark_failure.new.self c.end_freeing.new.self cleared.no_fewer c.end_freeing.ensures.faults.no_fewer)

@@ -12,6 +12,8 @@ use Rattle.qcow2_image.specs.Image.{is_failed}
 use Rattle.qcow2_image.specs.ImageInvariant.{abstract_of, pending_in}
 use Rattle.qcow2_image.proofs.Call.Settled.{is_fault, outcome}
 use Rattle.qcow2_image.proofs.Commit.CommitCalls.{commit_broke, commit_broke_off, commit_done, commit_existing, commit_kept, refuses_unsound, true_or_false}
+use Rattle.qcow2_image.proofs.Call.FaultCounts.{counted_as, fewer_then}
+use Rattle.qcow2_image.specs.Faults.{CountsFaults}
 use Rattle.qcow2_image.proofs.image.Qcow2.commit_data_mapping.Goals.{then-entered, else-entered}
 use Rattle.qcow2_image.proofs.image.Qcow2.commit_data_mapping.Goals as goal
 
@@ -83,3 +85,23 @@ pub returns-after-entered-clause-quiet : goal.returns-after-entered-clause-quiet
 returns-after-entered-clause-quiet g c = λ nothing none.
     ap (λ (image : Qcow2 _ _). storage_of image.file.storage) (c.end_freeing.ensures.idle (c.enter_shares-entered.ensures.quiet none ∙ c.begin.ensures.list ∙ nothing)).1
     ∙ ap storage_of c.enter_shares-entered.ensures.storage ∙ c.begin.ensures.storage
+
+pub returns-in-Ok-clause-faults : goal.returns-in-Ok-clause-faults
+returns-in-Ok-clause-faults g c =
+    let view = g.S.Storage.view in
+    let below = g.F.BackingDisk.backing in
+    let old = c.args.self.now in
+    let entered = c.enter_shares-entered.new.self in
+    let freed = c.end_freeing.new.self in
+    let first = fewer_then view below old c.begin.new.self entered c.begin.ensures.faults c.enter_shares-entered.ensures.faults in
+    (fewer_then view below old freed c.let_go-in-Ok.new.self (fewer_then view below old entered freed first c.end_freeing.ensures.faults.no_fewer) c.let_go-in-Ok.ensures.faults, tt)
+
+pub returns-after-entered-clause-faults : goal.returns-after-entered-clause-faults
+returns-after-entered-clause-faults g c =
+    let view = g.S.Storage.view in
+    let below = g.F.BackingDisk.backing in
+    let old = c.args.self.now in
+    let entered = c.enter_shares-entered.new.self in
+    let first = fewer_then view below old c.begin.new.self entered c.begin.ensures.faults c.enter_shares-entered.ensures.faults in
+    let told : CountsFaults view below {T = Unit {0}} old c.end_freeing.new.self (Err c.in-Err.refusal) = counted_as view below old entered c.end_freeing.new.self c.end_freeing.result c.in-Err.refusal first c.end_freeing.ensures.faults c.in-Err.is in
+    (told.no_fewer, λ is. told.rose (sym c.refused_commit.ensures.reason ∙ is))

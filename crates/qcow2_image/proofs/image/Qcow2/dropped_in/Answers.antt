@@ -1,6 +1,12 @@
-use Rattle.std.proofs.Common.{◌≡◌, ◌+◌, suc, ap, ◌∙◌, subst, arith}
+use Rattle.std.proofs.Common.{◌≡◌, ◌+◌, suc, ap, ◌∙◌, subst, arith, ◌/◌, ◌%◌, sym}
 use Rattle.qcow2_image.specs.Clearing.{ReadsAll, ReadsDropped}
-use Rattle.qcow2_image.proofs.Clear.Between.{reads_next}
+use Rattle.qcow2_image.proofs.Clear.Between.{reads_next, entry_behind}
+use Rattle.std.specs.Prelude.{IfErr}
+use Rattle.qcow2_metadata.specs.Header.{entries_per_cluster}
+use Rattle.qcow2_alloc.specs.ImageError.{IsFault}
+use Rattle.qcow2_alloc.specs.ImageFile.{known_in}
+use Rattle.qcow2_alloc.specs.MetadataCaches.{IsEntryAt}
+use Rattle.qcow2_alloc.proofs.AllocationSteps.{handed_on}
 use Rattle.qcow2_image.proofs.image.Qcow2.dropped_in.Goals as goal
 
 pub loop-i-preserved : goal.loop-i-preserved
@@ -19,3 +25,13 @@ pub returns-clause-reads : goal.returns-clause-reads
 returns-clause-reads g c =
     let all : c.loop-i.i ≡ c.args.count = omega (arith, c.loop-i-test.false, c.loop-i.auto.i-end) in
     subst (λ n. ReadsAll g.S.Storage.view g.F.BackingDisk.backing c.args.how c.args.table c.args.first n c.args.self.now c.loop-i.dropped) all c.loop-i.invariant
+
+pub returns-in_err-list_dropped-clause-only_faults : goal.returns-in_err-list_dropped-clause-only_faults
+returns-in_err-list_dropped-clause-only_faults g c = λ p i sound at here fits some.
+    let image = c.args.self.now in
+    let behind : c.new-cluster.result ≡ c.args.first + c.loop-i.i = c.new-cluster.ensures ∙ ap (λ n. n + c.loop-i.i) c.value.ensures in
+    let e = c.in_err-list_dropped.field-0.0 in
+    let there = entry_behind image.file.header.fields (known_in g.S.Storage.view image.file) c.args.table c.args.first c.args.count c.loop-i.i i at here fits (omega (arith, c.loop-i-test.true)) in
+    handed_on (λ r. IfErr r IsFault) c.from_residual.result e c.from_residual.ensures
+    (c.in_err-list_dropped.ensures.only_faults p i sound (subst (λ n. IsEntryAt image.file.header.fields (known_in g.S.Storage.view image.file) i c.args.table (n % entries_per_cluster image.file.header.fields)) (sym behind) there.0)
+    (ap (λ n. n / entries_per_cluster image.file.header.fields) behind ∙ there.1) some)

@@ -10,6 +10,7 @@ use Rattle.qcow2_image.proofs.Call.Refused.{goes_stays}
 use Rattle.qcow2_image.proofs.Prepare.Filling.{goes_none}
 use Rattle.qcow2_image.proofs.Prepare.Gaining.{following_same}
 use Rattle.qcow2_image.proofs.Flush.Freeing.{all_listed, beside, ends_freeing}
+use Rattle.qcow2_image.proofs.Call.FaultCounts.{counted_marked, untouched}
 use Rattle.qcow2_image.proofs.image.Qcow2.end_freeing.Goals as goal
 
 pub returns-clause-frees : goal.returns-clause-frees
@@ -33,3 +34,8 @@ returns-then-is_empty-clause-frees g c = λ out sound.
     let old = c.args.self.now in
     let p : Pending = pending_in view below old out in
     goes_stays view below out old old (subst (λ q. UnseenFillingStep view below p q old old out) (sym (following_same view below out p old old refl)) (goes_none view below out old p sound))
+
+pub returns-clause-faults : goal.returns-clause-faults
+returns-clause-faults g c =
+    counted_marked g.S.Storage.view g.F.BackingDisk.backing c.args.self.now c.args.self.now c.free_listed-freed.new.self c.mark_failure.new.self c.free_listed-freed.result c.mark_failure.result (untouched g.S.Storage.view g.F.BackingDisk.backing c.args.self.now c.args.self.now refl refl)
+    c.free_listed-freed.ensures.counts c.mark_failure.ensures.answer c.mark_failure.ensures.rest

@@ -3,6 +3,11 @@ use Rattle.qcow2_alloc.proofs.AllocationSteps.{handed_on}
 use Rattle.qcow2_image.specs.UnseenSteps.{Ensures, pending_then}
 use Rattle.qcow2_image.proofs.Map.Loading.{with_caches}
 use Rattle.qcow2_image.proofs.Prepare.Owning.{refused, keeps_loaded, holds_table}
+use Rattle.std.specs.Prelude.{IfErr}
+use Rattle.qcow2_image.specs.NewTables.{IsFaultOrLacksTable}
+use Rattle.qcow2_alloc.specs.ImageFile.{contents_in}
+use Rattle.qcow2_image.specs.Found.{l1_index_of}
+use Rattle.qcow2_image.proofs.Prepare.Lacking.{fault_alone, named_place}
 use Rattle.qcow2_image.proofs.image.Qcow2.ensure_l2.Goals as goal
 
 pub returns-in_err-cluster-clause-ready : goal.returns-in_err-cluster-clause-ready
@@ -30,3 +35,22 @@ returns-clause-ready g c = λ p out sound.
       holds_table g.S.Storage.view g.F.BackingDisk.backing out p old mid c.args.offset c.in_ok-cluster.cluster owned.0 c.l2_get_or_insert.new.storage c.l2_get_or_insert.new.self stay c.l2_get_or_insert.ensures.marks.room c.l2_get_or_insert.ensures.marks.pins owned.1
           c.in_ok-l2_get_or_insert.ensures.held,
     )
+
+pub returns-in_err-cluster-clause-lacks : goal.returns-in_err-cluster-clause-lacks
+returns-in_err-cluster-clause-lacks g c = λ p out sound none.
+    handed_on (λ r. IfErr r (IsFaultOrLacksTable g.S.Storage.view c.own_l2.new.self c.args.offset)) c.from_residual.result c.in_err-cluster.field-0.0 c.from_residual.ensures (c.in_err-cluster.ensures.lacks p out sound)
+
+pub returns-in_err-l2_get_or_insert-clause-lacks : goal.returns-in_err-l2_get_or_insert-clause-lacks
+returns-in_err-l2_get_or_insert-clause-lacks g c = λ p out sound none.
+    let view = g.S.Storage.view in
+    let below = g.F.BackingDisk.backing in
+    let old = c.args.self.now in
+    let mid = c.own_l2.new.self in
+    let q = pending_then p old mid in
+    let owned = c.in_ok-cluster.ensures.owns p out sound in
+    let loaded = with_caches view below mid out q owned.0.sound c.l2_get_or_insert.new.storage c.l2_get_or_insert.new.self in
+    let file = owned.0.sound.file in
+    let e = c.in_err-l2_get_or_insert.field-0.0 in
+    handed_on (λ r. IfErr r (IsFaultOrLacksTable view loaded c.args.offset)) c.from_residual-in_err-l2_get_or_insert.result e c.from_residual-in_err-l2_get_or_insert.ensures
+    (inl (fault_alone view below out q mid owned.0.sound none e
+    (c.in_err-l2_get_or_insert.ensures.refusals mid.file.header.fields (named_place mid.file.header.fields (contents_in view mid.file) (l1_index_of old.file.header.fields c.args.offset) c.in_ok-cluster.cluster owned.1.place) q file.honest file.caches file.settled)))

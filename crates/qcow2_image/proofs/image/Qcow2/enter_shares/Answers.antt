@@ -1,6 +1,7 @@
 use Rattle.std.proofs.Common.{◌≡◌, ◌+◌, length, sym, subst, arith, rules}
 use Rattle.qcow2_image.proofs.Shares.{freed_none}
 use Rattle.qcow2_image.proofs.Commit.Entered.{EntersFirst, entered_whole, enters_all, first_false, first_none, first_true}
+use Rattle.qcow2_image.proofs.Call.FaultCounts.{untouched}
 use Rattle.qcow2_image.proofs.image.Qcow2.enter_shares.Goals.{then-enter_share, else-enter_share}
 use Rattle.qcow2_image.proofs.image.Qcow2.enter_shares.Goals as goal
 
@@ -50,3 +51,6 @@ pub returns-clause-in_place : goal.returns-clause-in_place
 returns-clause-in_place g c =
     let end : c.len-i-end.result ≡ length c.args.prepared.now.shares.items = search rules in
     entered_whole g.S.Storage.view g.F.BackingDisk.backing c.args.self.now c.loop-i.self c.args.prepared.now c.loop-i.prepared c.loop-i.i c.loop-i.entered c.loop-i.invariant (omega (arith, end, c.loop-i-test.false, c.loop-i.auto.i-end))
+
+pub returns-clause-faults : goal.returns-clause-faults
+returns-clause-faults g c = untouched g.S.Storage.view g.F.BackingDisk.backing c.args.self.now c.loop-i.self c.loop-i.invariant.storage c.loop-i.invariant.below

@@ -1,11 +1,15 @@
-use Rattle.std.proofs.Common.{◌≡◌, subst, arith}
+use Rattle.std.proofs.Common.{◌≡◌, refl, subst, arith}
 use Rattle.qcow2_alloc.proofs.AllocationSteps.{handed_on}
 use Rattle.qcow2_image.specs.Preallocation.{FillsOrRefuses, FillsPart}
 use Rattle.qcow2_image.proofs.Preallocate.Turns.{filled_first, filled_next, filled_refused}
+use Rattle.qcow2_image.proofs.Call.FaultCounts.{counted_ok, counted_on, fewer_then, untouched}
 use Rattle.qcow2_image.proofs.image.Qcow2.fill_range.Goals as goal
 
 pub loop-at-init : goal.loop-at-init
-loop-at-init g c = filled_first g.S.Storage.view g.F.BackingDisk.backing c.args.from c.args.to c.args.self.now
+loop-at-init g c = record {
+  turns = filled_first g.S.Storage.view g.F.BackingDisk.backing c.args.from c.args.to c.args.self.now;
+  faults = untouched g.S.Storage.view g.F.BackingDisk.backing c.args.self.now c.args.self.now refl refl;
+}
 
 pub returns-in_err-at-clause-fills : goal.returns-in_err-at-clause-fills
 returns-in_err-at-clause-fills g c = λ out sound le whole.
@@ -13,18 +17,28 @@ returns-in_err-at-clause-fills g c = λ out sound le whole.
     let below = g.F.BackingDisk.backing in
     let e = c.in_err-at.field-0.0 in
     handed_on (λ r. FillsOrRefuses view below c.args.to c.args.from c.args.to c.args.self.now c.fill_first.new.self out r) c.from_residual.result e c.from_residual.ensures
-    (filled_refused view below c.args.from c.args.to c.loop-at.at c.args.self.now c.loop-at.self c.fill_first.new.self c.loop-at-test.true c.loop-at.invariant e c.in_err-at.ensures.fills out sound whole)
+    (filled_refused view below c.args.from c.args.to c.loop-at.at c.args.self.now c.loop-at.self c.fill_first.new.self c.loop-at-test.true c.loop-at.invariant.turns e c.in_err-at.ensures.fills out sound whole)
 
 pub loop-at-preserved : goal.loop-at-preserved
 loop-at-preserved g c =
     let next = c.in_ok-at.ensures.next in
-    filled_next g.S.Storage.view g.F.BackingDisk.backing c.args.from c.args.to c.loop-at.at c.args.self.now c.loop-at.self c.fill_first.new.self c.loop-at-test.true c.loop-at.invariant c.in_ok-at.at c.fill_first.ensures.stays next.0 next.1 c.in_ok-at.ensures.fills
+    record {
+      turns = filled_next g.S.Storage.view g.F.BackingDisk.backing c.args.from c.args.to c.loop-at.at c.args.self.now c.loop-at.self c.fill_first.new.self c.loop-at-test.true c.loop-at.invariant.turns c.in_ok-at.at c.fill_first.ensures.stays next.0 next.1 c.in_ok-at.ensures.fills;
+      faults = fewer_then g.S.Storage.view g.F.BackingDisk.backing c.args.self.now c.loop-at.self c.fill_first.new.self c.loop-at.invariant.faults c.fill_first.ensures.faults.no_fewer;
+    }
 
 pub returns-clause-fills : goal.returns-clause-fills
 returns-clause-fills g c = λ out sound le whole.
     let view = g.S.Storage.view in
     let below = g.F.BackingDisk.backing in
-    let high = c.loop-at.invariant.high in
+    let high = c.loop-at.invariant.turns.high in
     let past = c.loop-at-test.false in
     let end : c.loop-at.at ≡ c.args.to = omega (arith, high, past, le) in
-    subst (λ n. FillsPart view below c.args.to c.args.from n c.args.self.now c.loop-at.self out) end (c.loop-at.invariant.so_far out sound whole)
+    subst (λ n. FillsPart view below c.args.to c.args.from n c.args.self.now c.loop-at.self out) end (c.loop-at.invariant.turns.so_far out sound whole)
+
+pub returns-in_err-at-clause-faults : goal.returns-in_err-at-clause-faults
+returns-in_err-at-clause-faults g c =
+    counted_on g.S.Storage.view g.F.BackingDisk.backing c.args.self.now c.loop-at.self c.fill_first.new.self c.fill_first.result c.in_err-at.field-0.0 c.from_residual.result c.loop-at.invariant.faults c.fill_first.ensures.faults c.in_err-at.was c.from_residual.ensures
+
+pub returns-clause-faults : goal.returns-clause-faults
+returns-clause-faults g c = counted_ok g.S.Storage.view g.F.BackingDisk.backing c.args.self.now c.loop-at.self tt c.loop-at.invariant.faults

@@ -8,6 +8,8 @@ use Rattle.qcow2_image.specs.Image.{is_failed}
 use Rattle.qcow2_image.specs.ImageInvariant.{ImageInvariant}
 use Rattle.qcow2_image.proofs.Grow.Grown.{written_back}
 use Rattle.qcow2_image.proofs.Flush.Freeing.{all_listed, beside, flushes_settled, frees_on}
+use Rattle.qcow2_image.proofs.Call.FaultCounts.{counted_marked}
+use Rattle.qcow2_image.proofs.Map.Unmodified.{read_call}
 use Rattle.qcow2_image.proofs.image.Qcow2.flush.Goals as goal
 
 pub returns-clause-sees : goal.returns-clause-sees
@@ -40,3 +42,12 @@ returns-clause-writes g c = λ p sound.
     written_back view below p old new c.mark_failure.new.self c.write_back-done.result c.mark_failure.result
     (frees_on view below [] old mid new p c.write_back-done.result c.begin.ensures.list first (c.write_back-done.ensures.frees p [] (subst (λ l. ImageInvariant view below (with_listed p l) mid []) (sym c.begin.ensures.list) first.sound)))
     c.mark_failure.ensures.answer c.mark_failure.ensures.rest c.mark_failure.ensures.marks
+
+pub returns-clause-faults : goal.returns-clause-faults
+returns-clause-faults g c =
+    counted_marked g.S.Storage.view g.F.BackingDisk.backing c.args.self.now c.begin.new.self c.write_back-done.new.self c.mark_failure.new.self c.write_back-done.result c.mark_failure.result c.begin.ensures.faults c.write_back-done.ensures.faults c.mark_failure.ensures.answer c.mark_failure.ensures.rest
+
+pub returns-clause-unwritten : goal.returns-clause-unwritten
+returns-clause-unwritten g c = λ reading.
+    read_call g.S.Storage.view g.F.BackingDisk.backing c.args.self.now c.begin.new.self c.write_back-done.new.self c.mark_failure.new.self (is_failed c.mark_failure.new.self) c.begin.ensures.storage c.begin.ensures.keeps c.begin.ensures.known
+    (c.write_back-done.ensures.unwritten (c.begin.ensures.stays.image.writable ∙ reading)) c.mark_failure.ensures.rest

@@ -1,7 +1,8 @@
-use Rattle.std.proofs.Common.{inl, subst}
+use Rattle.std.proofs.Common.{inl, subst, Err}
 use Rattle.qcow2_laws.specs.CrashInvariant.{Pending}
 use Rattle.qcow2_image.specs.ImageInvariant.{ImageInvariant}
 use Rattle.qcow2_image.proofs.Flush.Freeing.{all_listed, beside, freed_refused, tidy_stays}
+use Rattle.qcow2_image.proofs.Call.FaultCounts.{counted_as, counted_still}
 use Rattle.qcow2_image.proofs.image.Qcow2.free_after.Goals as goal
 
 pub returns-in-Ok-clause-frees : goal.returns-in-Ok-clause-frees
@@ -17,3 +18,21 @@ returns-in-Err-clause-frees g c = λ out sound.
     let below = g.F.BackingDisk.backing in
     let old = c.args.self.now in
     freed_refused view below old out c.free_listed.new.self c.in-Err.fault sound (c.in-Err.ensures.frees (beside view below old out) out (subst (λ (x : Pending). ImageInvariant view below x old out) (all_listed view below old out) sound))
+
+pub returns-in-Err-clause-emptied : goal.returns-in-Err-clause-emptied
+returns-in-Err-clause-emptied g c = λ may out sound.
+    let view = g.S.Storage.view in
+    let below = g.F.BackingDisk.backing in
+    let old = c.args.self.now in
+    inl (c.in-Err.ensures.faults (beside view below old out) out (subst (λ (x : Pending). ImageInvariant view below x old out) (all_listed view below old out) sound))
+
+pub returns-then-is_last-clause-faults : goal.returns-then-is_last-clause-faults
+returns-then-is_last-clause-faults g c = λ start told. told
+
+pub returns-in-Ok-clause-faults : goal.returns-in-Ok-clause-faults
+returns-in-Ok-clause-faults g c = λ start told.
+    counted_still g.S.Storage.view g.F.BackingDisk.backing start c.args.self.now c.free_listed.new.self (Err c.args.refusal) told c.free_listed.ensures.counts.no_fewer
+
+pub returns-in-Err-clause-faults : goal.returns-in-Err-clause-faults
+returns-in-Err-clause-faults g c = λ start told.
+    counted_as g.S.Storage.view g.F.BackingDisk.backing start c.args.self.now c.free_listed.new.self c.free_listed.result c.in-Err.fault told.no_fewer c.free_listed.ensures.counts c.in-Err.is

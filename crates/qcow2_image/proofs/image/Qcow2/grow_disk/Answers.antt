@@ -1,4 +1,4 @@
-use Rattle.std.proofs.Common.{◌≡◌, ◌∙◌, ◌-◌, ◌<◌, sym, ap, subst, arith}
+use Rattle.std.proofs.Common.{◌≡◌, ◌∙◌, ◌-◌, ◌<◌, sym, ap, subst, arith, refl}
 use Rattle.std.specs.Prelude.{Err, IfErr, IsTrue, Ok, OnOk, Result}
 use Rattle.qcow2_metadata.specs.declared.header.HeaderFields.{HeaderFields}
 use Rattle.qcow2_metadata.specs.EntryTable.{entry_count}
@@ -17,11 +17,13 @@ use Rattle.qcow2_image.specs.Refusals.{IsMet, Marks}
 use Rattle.qcow2_image.specs.Resizing.{GrowsTables, GrowsTo, RefusesUnchanged, WritesSizeLast}
 use Rattle.qcow2_image.proofs.Call.Refused.{stays_then}
 use Rattle.qcow2_image.proofs.Clear.ClearCalls.{err_is}
+use Rattle.qcow2_image.proofs.Moved.{moves_then}
 use Rattle.qcow2_image.proofs.Preallocate.Filled.{met_taken}
 use Rattle.qcow2_image.proofs.Preallocate.Turns.{same_version}
 use Rattle.qcow2_image.proofs.Sizing.Growing.{grows_in_part, grows_not, grows_sized, last_in_part, last_not, last_sized, reaches_lengthened, unchanged_not}
 use Rattle.qcow2_image.proofs.Sizing.GrownTables.{leaves_sized, reaches_filled, refuses_version, tables_sized, taken_behind}
 use Rattle.qcow2_image.proofs.Sizing.Shrinking.{begun_call}
+use Rattle.qcow2_image.proofs.Call.FaultCounts.{counted_marked, counted_on, untouched}
 use Rattle.qcow2_image.proofs.image.Qcow2.grow_disk.Goals as goal
 
 pub returns-in_err-mark_failure-clause-sees : goal.returns-in_err-mark_failure-clause-sees
@@ -291,6 +293,32 @@ returns-clause-tables g c = λ out sound.
     let new = c.write_size-written.new.self in
     subst (λ (image : Qcow2 _ _). GrowsTables view below old image c.args.size c.args.mode out c.mark_fault-2.result) (sym c.mark_fault-2.ensures.rest)
     (subst (λ (r : Result _ _). GrowsTables view below old (record new { is_failed = is_failed c.mark_fault-2.new.self }) c.args.size c.args.mode out r) (sym c.mark_fault-2.ensures.answer)
-    (tables_sized view below out old c.mark_fault.new.self new (is_failed c.mark_fault-2.new.self) c.args.size c.args.mode c.write_size-written.result c.write_size-written.ensures.cause c.write_size-written.ensures.header
+    (tables_sized view below out old c.mark_fault.new.self new (is_failed c.mark_fault-2.new.self) c.args.size c.args.mode c.write_size-written.result (moves_then old.file.header.fields long.file.header.fields c.mark_fault.new.self.file.header.fields call.header grown.header) c.write_size-written.ensures.cause c.write_size-written.ensures.header
     (subst (λ (image : Qcow2 _ _). ReachesSize (with_size image.file.header.fields c.args.size)) (sym whole) reached)
     (leaves_sized view below out old long c.mark_fault.new.self new c.args.size c.args.mode c.write_size-written.result call grown (c.write_size-written.ensures.writes out grown.sound))))
+
+pub returns-in_err-mark_failure-clause-faults : goal.returns-in_err-mark_failure-clause-faults
+returns-in_err-mark_failure-clause-faults g c =
+    let view = g.S.Storage.view in
+    let below = g.F.BackingDisk.backing in
+    let old = c.args.self.now in
+    let longer = counted_marked view below old c.begin.new.self c.renew_l1_table-longer.new.self c.mark_failure.new.self c.renew_l1_table-longer.result c.mark_failure.result c.begin.ensures.faults c.renew_l1_table-longer.ensures.faults c.mark_failure.ensures.answer c.mark_failure.ensures.rest in
+    counted_on view below old old c.mark_failure.new.self c.mark_failure.result c.in_err-mark_failure.field-0.0 c.from_residual.result (untouched view below old old refl refl) longer c.in_err-mark_failure.was c.from_residual.ensures
+
+pub returns-in_err-mark_fault-clause-faults : goal.returns-in_err-mark_fault-clause-faults
+returns-in_err-mark_fault-clause-faults g c =
+    let view = g.S.Storage.view in
+    let below = g.F.BackingDisk.backing in
+    let old = c.args.self.now in
+    let longer = counted_marked view below old c.begin.new.self c.renew_l1_table-longer.new.self c.mark_failure.new.self c.renew_l1_table-longer.result c.mark_failure.result c.begin.ensures.faults c.renew_l1_table-longer.ensures.faults c.mark_failure.ensures.answer c.mark_failure.ensures.rest in
+    let filled = counted_marked view below old c.mark_failure.new.self c.fill_grown-filled.new.self c.mark_fault.new.self c.fill_grown-filled.result c.mark_fault.result longer.no_fewer c.fill_grown-filled.ensures.faults c.mark_fault.ensures.answer c.mark_fault.ensures.rest in
+    counted_on view below old old c.mark_fault.new.self c.mark_fault.result c.in_err-mark_fault.field-0.0 c.from_residual-in_err-mark_fault.result (untouched view below old old refl refl) filled c.in_err-mark_fault.was c.from_residual-in_err-mark_fault.ensures
+
+pub returns-clause-faults : goal.returns-clause-faults
+returns-clause-faults g c =
+    let view = g.S.Storage.view in
+    let below = g.F.BackingDisk.backing in
+    let old = c.args.self.now in
+    let longer = counted_marked view below old c.begin.new.self c.renew_l1_table-longer.new.self c.mark_failure.new.self c.renew_l1_table-longer.result c.mark_failure.result c.begin.ensures.faults c.renew_l1_table-longer.ensures.faults c.mark_failure.ensures.answer c.mark_failure.ensures.rest in
+    let filled = counted_marked view below old c.mark_failure.new.self c.fill_grown-filled.new.self c.mark_fault.new.self c.fill_grown-filled.result c.mark_fault.result longer.no_fewer c.fill_grown-filled.ensures.faults c.mark_fault.ensures.answer c.mark_fault.ensures.rest in
+    counted_marked view below old c.mark_fault.new.self c.write_size-written.new.self c.mark_fault-2.new.self c.write_size-written.result c.mark_fault-2.result filled.no_fewer c.write_size-written.ensures.faults c.mark_fault-2.ensures.answer c.mark_fault-2.ensures.rest

@@ -6,6 +6,7 @@ use Rattle.qcow2_image.specs.Ranges.{LetsGo}
 use Rattle.qcow2_image.specs.Calls.{Discards}
 use Rattle.qcow2_image.specs.ImageInvariant.{pins_of}
 use Rattle.qcow2_image.proofs.Commit.LetGo.{discards}
+use Rattle.qcow2_image.proofs.Call.FaultCounts.{untouched}
 use Rattle.qcow2_image.proofs.image.Qcow2.let_go.Goals as goal
 
 pub returns-clause-sees : goal.returns-clause-sees
@@ -34,3 +35,9 @@ returns-clause-rest g c =
     let tables : SameTables old.file.caches caches = subst (λ (m : Qcow2 _ _). SameTables m.file.caches caches) freed un.tables in
     let changed : caches.is_changed ≡ old.file.caches.is_changed = un.changed ∙ ap (λ (m : Qcow2 _ _). m.file.caches.is_changed) freed in
     subst (λ (image : Qcow2 _ _). LetsGo view old image) (sym same) (record { rest = refl; known = tables.known old.file.header.fields (contents_in view old.file); changed = changed })
+
+pub returns-clause-faults : goal.returns-clause-faults
+returns-clause-faults g c =
+    untouched g.S.Storage.view g.F.BackingDisk.backing c.args.self.now c.unpin.new.self
+    (ap (λ (m : Qcow2 _ _). m.file.storage) c.unpin.ensures.rest ∙ ap (λ (m : Qcow2 _ _). m.file.storage) c.free_later.ensures)
+    (ap (λ (m : Qcow2 _ _). m.backing) c.unpin.ensures.rest ∙ ap (λ (m : Qcow2 _ _). m.backing) c.free_later.ensures)

@@ -17,3 +17,6 @@ returns-clause-reads g c = on_ok c.list_run.result (λ listed p i sound at here.
     let run : c.dropped-run.result ≡ dropped_run c.args.self.now.file.header.fields.cluster_bits (cover c.args.self.now.file.header.fields (known_in g.S.Storage.view c.args.self.now.file) c.args.cluster) (cleared_cover c.args.how (cover c.args.self.now.file.header.fields (known_in g.S.Storage.view c.args.self.now.file) c.args.cluster)) =
     c.dropped-run.ensures ∙ ap (λ b. dropped_run b old (cleared_cover how old)) c.cluster_bits.ensures.value ∙ ap (λ (v : L2Mapping). dropped_run h.cluster_bits v (cleared_cover how v)) (sym says) in
     (listed ∙ ap (λ r. c.args.list.now ++ listed_run r) run, subst IsInReach (sym says) c.in_ok-old.ensures.reach)) c.list_run.ensures.listed
+
+pub returns-in_err-old-clause-only_faults : goal.returns-in_err-old-clause-only_faults
+returns-in_err-old-clause-only_faults g c = λ p i sound at here some. absurd (let no = c.in_err-old.ensures.reads p i sound at here some in cc)

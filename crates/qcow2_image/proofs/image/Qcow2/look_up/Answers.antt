@@ -11,6 +11,7 @@ use Rattle.qcow2_disk.specs.Found.{kind_at, rest_of_table}
 use Rattle.qcow2_image.specs.Found.{l1_index_of, NamesTable, IsRunFrom}
 use Rattle.qcow2_image.proofs.Map.Loading.{caches_moved, with_caches, if_ok}
 use Rattle.qcow2_image.proofs.Map.Looked.{none_found}
+use Rattle.qcow2_image.proofs.Map.Unmodified.{read_caches, read_none}
 use Rattle.qcow2_image.proofs.image.Qcow2.look_up.Goals as goal
 
 pub returns-in_err-l2_get_or_insert-in-Some-clause-keeps :
@@ -75,3 +76,18 @@ returns-in_ok-l2_get_or_insert-in-Some-clause-found g c = λ p out sound.
     })
     (c.run_in_table.ensures.run p kept.sound.file
     (record { real = λ none. names.1 (sym there ∙ none); place = there ∙ names.0; within = mod_below (c.args.offset / cluster_size h) (entries_per_cluster h) sizes.entries }) (omega (arith, limit)))
+
+pub returns-in_err-l2_get_or_insert-in-Some-clause-unwritten :
+    goal.returns-in_err-l2_get_or_insert-in-Some-clause-unwritten
+returns-in_err-l2_get_or_insert-in-Some-clause-unwritten g c = λ p out sound clean.
+    let h = c.args.self.now.file.header.fields in
+    read_caches g.S.Storage.view c.args.self.now clean c.l2_get_or_insert.new.storage p c.l2_get_or_insert.new.self (c.l2_get_or_insert.ensures.keeps h p sound.file.honest sound.file.caches) (c.l2_get_or_insert.ensures.ordered h p sound.file.honest sound.file.caches)
+
+pub returns-in_ok-l2_get_or_insert-in-Some-clause-unwritten :
+    goal.returns-in_ok-l2_get_or_insert-in-Some-clause-unwritten
+returns-in_ok-l2_get_or_insert-in-Some-clause-unwritten g c = λ p out sound clean.
+    let h = c.args.self.now.file.header.fields in
+    read_caches g.S.Storage.view c.args.self.now clean c.l2_get_or_insert.new.storage p c.l2_get_or_insert.new.self (c.l2_get_or_insert.ensures.keeps h p sound.file.honest sound.file.caches) (c.l2_get_or_insert.ensures.ordered h p sound.file.honest sound.file.caches)
+
+pub returns-in-None-clause-unwritten : goal.returns-in-None-clause-unwritten
+returns-in-None-clause-unwritten g c = λ p out sound clean. read_none g.S.Storage.view c.args.self.now clean

@@ -1,4 +1,4 @@
-use Rattle.std.proofs.Common.{◌≡◌, ◌⊎◌, sym, refl, arith, subst, inl, inr, ◌∙◌}
+use Rattle.std.proofs.Common.{◌≡◌, ◌⊎◌, sym, refl, arith, subst, ap, inl, inr, ◌∙◌}
 use Rattle.std.specs.Prelude.{None, false}
 use Rattle.qcow2_metadata.specs.Bytes.{byte_at}
 use Rattle.qcow2_laws.specs.Opened.{nothing_pending, surplus_of}
@@ -26,9 +26,11 @@ returns-in-Ok-load_tables-clause-opens g c =
     let image : Qcow2 _ _ = record { number = c.args.number; is_failed = false; file = c.load_tables.new.file; l1_table = tables.l1_table; allocator = tables.allocator; backing = None } in
     let surplus = surplus_of c.in-Ok.header.fields (byte_at contents) in
     subst (λ s. Opens view below (view s) image) c.new-storage.ensures.storage (λ honest consistent.
-    opened view below image surplus refl tt (c.in-Ok-load_tables.ensures.loaded (nothing_pending surplus)
+    let there = c.in-Ok.ensures.ok honest in
+    let is = opened view below image surplus refl tt (c.in-Ok-load_tables.ensures.loaded (nothing_pending surplus)
     (fresh_new view below contents (record { alloc = c.args.alloc; storage = c.load.new.storage; header = c.in-Ok.header; caches = c.in-Ok-new.caches; free_list = c.new-2.result }) consistent
-    (read.honest honest) (read.same honest) (c.in-Ok.ensures.ok honest) new.sound new.known new.settled (new.room (omega arith)) new.pins c.new-2.ensures)))
+    (read.honest honest) (read.same honest) there new.sound new.known new.settled (new.room (omega arith) (omega arith)) new.pins c.new-2.ensures)) in
+    record { opened = is.0; surplus = is.1 ∙ ap (λ h. surplus_of h (byte_at contents)) there.fields })
 
 pub returns-in-Err-clause-since : goal.returns-in-Err-clause-since
 returns-in-Err-clause-since g c = λ honest consistent.
@@ -52,7 +54,7 @@ returns-in-Ok-load_tables-clause-since g c =
     let file : ImageFile _ = record { alloc = c.args.alloc; storage = c.load.new.storage; header = c.in-Ok.header; caches = c.in-Ok-new.caches; free_list = c.new-2.result } in
     kept_opened view below c.load.result c.new-storage.result.storage c.args.metadata c.load_tables.new.file.storage.storage file c.load_tables.new.file c.new-storage.ensures.storage refl read
     (λ honest consistent. c.load_tables.ensures.since (nothing_pending (surplus_of c.in-Ok.header.fields (byte_at contents)))
-    (fresh_new view below contents file consistent (read.honest honest) (read.same honest) (c.in-Ok.ensures.ok honest) new.sound new.known new.settled (new.room (omega arith)) new.pins c.new-2.ensures))
+    (fresh_new view below contents file consistent (read.honest honest) (read.same honest) (c.in-Ok.ensures.ok honest) new.sound new.known new.settled (new.room (omega arith) (omega arith)) new.pins c.new-2.ensures))
 
 pub returns-in-Err-load_tables-clause-since : goal.returns-in-Err-load_tables-clause-since
 returns-in-Err-load_tables-clause-since g c =
@@ -64,7 +66,7 @@ returns-in-Err-load_tables-clause-since g c =
     let file : ImageFile _ = record { alloc = c.args.alloc; storage = c.load.new.storage; header = c.in-Ok.header; caches = c.in-Ok-new.caches; free_list = c.new-2.result } in
     kept_opened view below c.load.result c.new-storage.result.storage c.args.metadata c.into_storage.result file c.load_tables.new.file c.new-storage.ensures.storage c.into_storage.ensures read
     (λ honest consistent. c.load_tables.ensures.since (nothing_pending (surplus_of c.in-Ok.header.fields (byte_at contents)))
-    (fresh_new view below contents file consistent (read.honest honest) (read.same honest) (c.in-Ok.ensures.ok honest) new.sound new.known new.settled (new.room (omega arith)) new.pins c.new-2.ensures))
+    (fresh_new view below contents file consistent (read.honest honest) (read.same honest) (c.in-Ok.ensures.ok honest) new.sound new.known new.settled (new.room (omega arith) (omega arith)) new.pins c.new-2.ensures))
 
 pub returns-in-Ok-load_tables-clause-names : goal.returns-in-Ok-load_tables-clause-names
 returns-in-Ok-load_tables-clause-names g c =

@@ -1,8 +1,10 @@
-use Rattle.std.proofs.Common.{◌≡◌, ◌*◌, ◌/◌, ◌^◌, Ok, arith, sym, ap, ◌∙◌, subst}
+use Rattle.std.proofs.Common.{◌≡◌, ◌*◌, ◌/◌, ◌^◌, Ok, arith, sym, ap, ◌∙◌, subst, ◌≤◌, inr}
 use Rattle.qcow2_metadata.specs.Entries.{host_offset, is_copied}
 use Rattle.qcow2_image.specs.Found.{l1_index_of}
-use Rattle.qcow2_image.specs.NewTables.{OwnsTable}
+use Rattle.qcow2_image.specs.NewTables.{OwnsTable, MayName}
 use Rattle.qcow2_image.proofs.Prepare.Owning.{refused, left_alone, may_none, says_none, entered_owns, owns_already}
+use Rattle.qcow2_metadata.specs.EntryTable.{entry_count}
+use Rattle.qcow2_image.proofs.Prepare.Lacking.{lacks_past, not_within, owns_or_lacks}
 use Rattle.qcow2_image.proofs.image.Qcow2.own_l2.Goals as goal
 
 pub returns-then-not-in_bounds-clause-owns : goal.returns-then-not-in_bounds-clause-owns
@@ -48,3 +50,33 @@ returns-clause-owns g c = λ p out sound.
       real = λ none. absurd (let some = c.in-Some.ensures.some in omega (arith, some, none, offset));
       may = λ own. absurd (let is = sym own.1 ∙ ap is_copied (sym (sound.l1_table.entries c.l1_index-index.result)) ∙ sym c.in-Some.ensures.copied ∙ c.if-entry.false in cc);
     }))
+
+pub returns-then-not-in_bounds-clause-lacks : goal.returns-then-not-in_bounds-clause-lacks
+returns-then-not-in_bounds-clause-lacks g c = λ p out sound.
+    let view = g.S.Storage.view in
+    let below = g.F.BackingDisk.backing in
+    let old = c.args.self.now in
+    let idx : c.l1_index-index.result ≡ l1_index_of old.file.header.fields c.args.offset =
+    c.l1_index-index.ensures ∙ ap (λ n. n / 2 ^ c.cluster_bits-bits.result / (2 ^ c.cluster_bits-bits.result / 8)) c.new.ensures ∙ ap (λ b. c.args.offset / 2 ^ b / (2 ^ b / 8)) c.cluster_bits-bits.ensures.value in
+    inr (lacks_past view below out p old old sound c.args.offset (subst (λ i. entry_count old.l1_table ≤ i) idx (not_within c.in_bounds.result c.l1_index-index.result (entry_count old.l1_table) c.in_bounds.ensures c.if-not-in_bounds.true)))
+
+pub returns-in_default-clause-lacks : goal.returns-in_default-clause-lacks
+returns-in_default-clause-lacks g c = λ p out sound.
+    let view = g.S.Storage.view in
+    let below = g.F.BackingDisk.backing in
+    let old = c.args.self.now in
+    let idx : c.l1_index-index.result ≡ l1_index_of old.file.header.fields c.args.offset =
+    c.l1_index-index.ensures ∙ ap (λ n. n / 2 ^ c.cluster_bits-bits.result / (2 ^ c.cluster_bits-bits.result / 8)) c.new.ensures ∙ ap (λ b. c.args.offset / 2 ^ b / (2 ^ b / 8)) c.cluster_bits-bits.ensures.value in
+    let none = ap host_offset (sym (sound.l1_table.entries c.l1_index-index.result)) ∙ c.in_default.ensures.none in
+    owns_or_lacks view below out p old c.enter_l2.new.self sound c.args.offset (subst (MayName view old) idx (may_none view below out p old sound c.l1_index-index.result none)) c.enter_l2.result
+    (returns-in_default-clause-owns g c p out sound) c.enter_l2.ensures.l1_table
+
+pub returns-clause-lacks : goal.returns-clause-lacks
+returns-clause-lacks g c = λ p out sound.
+    let view = g.S.Storage.view in
+    let below = g.F.BackingDisk.backing in
+    let old = c.args.self.now in
+    let idx : c.l1_index-index.result ≡ l1_index_of old.file.header.fields c.args.offset =
+    c.l1_index-index.ensures ∙ ap (λ n. n / 2 ^ c.cluster_bits-bits.result / (2 ^ c.cluster_bits-bits.result / 8)) c.new.ensures ∙ ap (λ b. c.args.offset / 2 ^ b / (2 ^ b / 8)) c.cluster_bits-bits.ensures.value in
+    let may : MayName view old c.l1_index-index.result = λ own. absurd (let is = sym own.1 ∙ ap is_copied (sym (sound.l1_table.entries c.l1_index-index.result)) ∙ sym c.in-Some.ensures.copied ∙ c.if-entry.false in cc) in
+    owns_or_lacks view below out p old c.replace_l2.new.self sound c.args.offset (subst (MayName view old) idx may) c.replace_l2.result (returns-clause-owns g c p out sound) c.replace_l2.ensures.l1_table

@@ -9,12 +9,14 @@ use Rattle.qcow2_image.proofs.Prepare.Taken.{if_err}
 use Rattle.qcow2_image.specs.declared.image.Qcow2.{Qcow2}
 use Rattle.qcow2_image.specs.Calls.{Prepares}
 use Rattle.qcow2_image.specs.Image.{is_failed}
+use Rattle.qcow2_image.specs.Refusals.{FreesRefused}
 use Rattle.qcow2_image.specs.CallParts.{IsExisting}
 use Rattle.qcow2_image.specs.ImageInvariant.{meaning, pending_in}
 use Rattle.qcow2_image.proofs.Call.Called.{listed}
 use Rattle.qcow2_image.proofs.Call.Answers.{prepare_usable}
 use Rattle.qcow2_image.proofs.Prepare.PrepareCalls.{prepares_nothing, prepares_settled}
 use Rattle.qcow2_image.proofs.Call.Refused.{prepares_after, stays_kept}
+use Rattle.qcow2_image.proofs.Call.FaultCounts.{counted_marked}
 use Rattle.qcow2_image.proofs.image.Qcow2.prepare_data_mapping.Goals as goal
 
 pub returns-then-length-eq0-clause-sees : goal.returns-then-length-eq0-clause-sees
@@ -68,3 +70,20 @@ returns-clause-taken g c = λ may out sound.
     (if_err c.prepare-prepared.result
     (λ e taken is. taken_before view old mid c.args.offset c.args.length stays.header stays.covers out (taken is))
     (c.prepare-prepared.ensures.taken some out stays.sound))
+
+pub returns-clause-emptied : goal.returns-clause-emptied
+returns-clause-emptied g c = λ may out sound.
+    let view = g.S.Storage.view in
+    let below = g.F.BackingDisk.backing in
+    let old = c.args.self.now in
+    let mid = c.begin.new.self in
+    let new = c.prepare-prepared.new.self in
+    let some : 0 < c.args.length = let isnt = c.if-length-eq0.false in omega arith in
+    let stays = stays_kept view below out old mid sound (listed view below out old mid (λ s. record { keeps = c.begin.ensures.keeps (pending_in view below old out) out s; list = c.begin.ensures.list }) sound) in
+    subst (λ (image : Qcow2 _ _). IfErr c.mark_failure.result (FreesRefused image)) (sym c.mark_failure.ensures.rest)
+    (subst (λ (r : Result _ _). IfErr r (FreesRefused (record new { is_failed = is_failed c.mark_failure.new.self }))) (sym c.mark_failure.ensures.answer)
+    (c.prepare-prepared.ensures.emptied some out stays.sound))
+
+pub returns-clause-faults : goal.returns-clause-faults
+returns-clause-faults g c =
+    counted_marked g.S.Storage.view g.F.BackingDisk.backing c.args.self.now c.begin.new.self c.prepare-prepared.new.self c.mark_failure.new.self c.prepare-prepared.result c.mark_failure.result c.begin.ensures.faults c.prepare-prepared.ensures.faults c.mark_failure.ensures.answer c.mark_failure.ensures.rest

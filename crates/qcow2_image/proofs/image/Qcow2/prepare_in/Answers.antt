@@ -1,5 +1,5 @@
 use Rattle.std.proofs.Common.{◌≡◌, ◌+◌, ◌-◌, ◌/◌, ◌%◌, [], ◌∷◌, refl, sym, ap, ◌∙◌, subst, arith}
-use Rattle.std.specs.Prelude.{None}
+use Rattle.std.specs.Prelude.{None, Err}
 use Rattle.qcow2_metadata.specs.Cover.{cover}
 use Rattle.qcow2_metadata.specs.Header.{cluster_size}
 use Rattle.qcow2_metadata.specs.declared.header.HeaderFields.{HeaderFields}
@@ -10,6 +10,7 @@ use Rattle.qcow2_image.specs.CallParts.{IsReadied, PreparesRange}
 use Rattle.qcow2_image.proofs.Call.Refused.{back_refused}
 use Rattle.qcow2_image.proofs.Free.{free_places}
 use Rattle.qcow2_image.proofs.Prepare.Onward.{let_go_broken, refused_free}
+use Rattle.qcow2_image.proofs.Call.FaultCounts.{counted_as, counted_still}
 use Rattle.qcow2_image.proofs.image.Qcow2.prepare_in.Goals as goal
 
 pub returns-in_err-prepared-clause-readies : goal.returns-in_err-prepared-clause-readies
@@ -75,3 +76,12 @@ returns-in-Ok-clause-reaches g c = λ out k free sound holds.
       short = on.1;
       kept = λ host at. longer.place ∙ c.in_ok-prepared.ensures.kept out sound holds host (sym same ∙ at) ∙ ap (λ s. host + c.args.offset % s) (sym size);
     }
+
+pub returns-in-Err-clause-faults : goal.returns-in-Err-clause-faults
+returns-in-Err-clause-faults g c =
+    let view = g.S.Storage.view in
+    let below = g.F.BackingDisk.backing in
+    let old = c.args.self.now in
+    let e = c.in-Err.refusal in
+    counted_still view below old c.prepare_rest.new.self c.let_go.new.self (Err e)
+    (counted_as view below old c.prepare_first.new.self c.prepare_rest.new.self c.prepare_rest.result e c.prepare_first.ensures.faults.no_fewer c.prepare_rest.ensures.faults c.in-Err.is) c.let_go.ensures.faults

@@ -6,6 +6,7 @@ use Rattle.qcow2_image.specs.CallParts.{IsReadied}
 use Rattle.qcow2_image.specs.Ranges.{BreaksOff, Ends, GoesNext, GoesOn}
 use Rattle.qcow2_image.proofs.Call.Slots.{get_set_same}
 use Rattle.qcow2_image.proofs.Prepare.Onward.{may_go_on, so_far_all, so_far_ends, so_far_next}
+use Rattle.qcow2_image.proofs.Call.FaultCounts.{counted_ok, counted_on, fewer_then}
 use Rattle.qcow2_image.proofs.image.Qcow2.prepare_rest.Goals as goal
 
 pub returns-in_err-prepare_next-clause-goes : goal.returns-in_err-prepare_next-clause-goes
@@ -19,7 +20,7 @@ returns-in_err-prepare_next-clause-goes g c = λ start out k free under is.
     let q = c.loop-prepared.prepared in
     let n = c.args.length in
     let e = c.in_err-prepare_next.field-0.0 in
-    let so = c.loop-prepared.invariant in
+    let so = c.loop-prepared.invariant.turns in
     let bound = c.min-end.ensures ∙ ap (min c.args.length) c.rest_of_table.ensures.value in
     let same : c.prepare_next.new.prepared ≡ q = c.prepare_next.ensures.same (λ ok. absurd (let f : Err e ≡ Ok true = sym c.in_err-prepare_next.was ∙ ok in cc)) in
     let before = so.goes start out k free under is in
@@ -42,7 +43,7 @@ returns-then-not-branch-clause-goes g c = λ start out k free under is.
     let p = c.args.prepared.now in
     let q = c.loop-prepared.prepared in
     let n = c.args.length in
-    let so = c.loop-prepared.invariant in
+    let so = c.loop-prepared.invariant.turns in
     let bound = c.min-end.ensures ∙ ap (min c.args.length) c.rest_of_table.ensures.value in
     let answer = c.in_ok-prepare_next.field-0 in
     let never : c.prepare_next.result ≡ Ok true → ⊥ = λ ok. (let f : Ok c.in_ok-prepare_next.field-0 ≡ Ok true = sym c.in_ok-prepare_next.was ∙ ok in let yes : c.in_ok-prepare_next.field-0 ≡ true = cc in absurd (let no : false ≡ true = sym c.if-not-branch.true ∙ yes in cc)) in
@@ -63,12 +64,28 @@ loop-prepared-preserved g c =
     let r = c.prepare_next.new.prepared in
     let n = c.args.length in
     let bound = c.min-end.ensures ∙ ap (min c.args.length) c.rest_of_table.ensures.value in
-    so_far_next view below c.args.self.now now c.args.prepared.now q n c.min-end.result c.args.table c.args.overwrite c.loop-prepared.invariant bound c.loop-prepared-test.true new r c.prepare_next.ensures.stays c.prepare_next.ensures.header
-    (c.prepare_next.ensures.next (c.in_ok-prepare_next.was ∙ ap Ok c.if-not-branch.false)) c.prepare_next.ensures.room
-    (λ out k at may sound. subst (λ b. GoesNext view below now new out k n c.args.overwrite q r (Ok b)) c.if-not-branch.false (c.in_ok-prepare_next.ensures.goes out k at may sound))
+    record {
+      turns = so_far_next view below c.args.self.now now c.args.prepared.now q n c.min-end.result c.args.table c.args.overwrite c.loop-prepared.invariant.turns bound c.loop-prepared-test.true new r c.prepare_next.ensures.stays c.prepare_next.ensures.header
+          (c.prepare_next.ensures.next (c.in_ok-prepare_next.was ∙ ap Ok c.if-not-branch.false)) c.prepare_next.ensures.room
+          (λ out k at may sound. subst (λ b. GoesNext view below now new out k n c.args.overwrite q r (Ok b)) c.if-not-branch.false (c.in_ok-prepare_next.ensures.goes out k at may sound));
+      faults = fewer_then view below c.args.self.now now new c.loop-prepared.invariant.faults c.prepare_next.ensures.faults.no_fewer;
+    }
 
 pub returns-clause-goes : goal.returns-clause-goes
 returns-clause-goes g c = λ start out k free under is.
     let bound = c.min-end.ensures ∙ ap (min c.args.length) c.rest_of_table.ensures.value in
-    so_far_all g.S.Storage.view g.F.BackingDisk.backing c.args.self.now c.loop-prepared.self c.args.prepared.now c.loop-prepared.prepared c.args.length c.min-end.result c.args.table c.args.overwrite c.loop-prepared.invariant bound start out k free under is
+    so_far_all g.S.Storage.view g.F.BackingDisk.backing c.args.self.now c.loop-prepared.self c.args.prepared.now c.loop-prepared.prepared c.args.length c.min-end.result c.args.table c.args.overwrite c.loop-prepared.invariant.turns bound start out k free under is
     (omega (arith, c.loop-prepared-test.false))
+
+pub returns-in_err-prepare_next-clause-faults : goal.returns-in_err-prepare_next-clause-faults
+returns-in_err-prepare_next-clause-faults g c =
+    counted_on g.S.Storage.view g.F.BackingDisk.backing c.args.self.now c.loop-prepared.self c.prepare_next.new.self c.prepare_next.result c.in_err-prepare_next.field-0.0 c.from_residual.result c.loop-prepared.invariant.faults c.prepare_next.ensures.faults
+    c.in_err-prepare_next.was c.from_residual.ensures
+
+pub returns-then-not-branch-clause-faults : goal.returns-then-not-branch-clause-faults
+returns-then-not-branch-clause-faults g c =
+    counted_ok g.S.Storage.view g.F.BackingDisk.backing c.args.self.now c.prepare_next.new.self tt
+    (fewer_then g.S.Storage.view g.F.BackingDisk.backing c.args.self.now c.loop-prepared.self c.prepare_next.new.self c.loop-prepared.invariant.faults c.prepare_next.ensures.faults.no_fewer)
+
+pub returns-clause-faults : goal.returns-clause-faults
+returns-clause-faults g c = counted_ok g.S.Storage.view g.F.BackingDisk.backing c.args.self.now c.loop-prepared.self tt c.loop-prepared.invariant.faults

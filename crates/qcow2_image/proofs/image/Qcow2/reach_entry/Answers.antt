@@ -1,4 +1,4 @@
-use Rattle.std.proofs.Common.{◌≡◌, ◌<◌, ◌/◌, ◌^◌, sym, ap, ◌∙◌, subst}
+use Rattle.std.proofs.Common.{◌≡◌, ◌<◌, ◌/◌, ◌^◌, sym, ap, ◌∙◌, subst, ◌≤◌}
 use Rattle.qcow2_metadata.specs.EntryTable.{EntryTableView, entry_count}
 use Rattle.qcow2_laws.specs.CrashInvariant.{Pending}
 use Rattle.qcow2_alloc.proofs.AllocationSteps.{handed_on}
@@ -8,6 +8,9 @@ use Rattle.qcow2_image.specs.ImageInvariant.{ImageInvariant, pending_in}
 use Rattle.qcow2_image.specs.LongerTables.{MakesEntry}
 use Rattle.qcow2_image.proofs.Flush.Freeing.{all_listed, beside}
 use Rattle.qcow2_image.proofs.Grow.Lengthened.{freed_then, makes_none, refused_moved, stays_moved}
+use Rattle.std.specs.Prelude.{IfErr}
+use Rattle.qcow2_image.specs.NewTables.{IsFaultOrLacksTable}
+use Rattle.qcow2_image.proofs.Prepare.Lacking.{fault_or_lacking, not_within, short_lacking}
 use Rattle.qcow2_image.proofs.image.Qcow2.reach_entry.Goals as goal
 
 pub returns-then-in_bounds-clause-makes : goal.returns-then-in_bounds-clause-makes
@@ -39,3 +42,26 @@ returns-clause-reaches g c =
     c.l1_index-index.ensures ∙ ap (λ n. n / 2 ^ c.cluster_bits.result / (2 ^ c.cluster_bits.result / 8)) c.new.ensures ∙ ap (λ b. c.args.offset / 2 ^ b / (2 ^ b / 8)) c.cluster_bits.ensures.value in
     always_ok c.free_listed.result
     (subst (λ i. i < entry_count c.free_listed.new.self.l1_table) idx (subst (λ (t : EntryTableView). c.l1_index-index.result < entry_count t) (sym c.free_listed.ensures.table) c.in_ok-grow_l1_table.ensures.reaches))
+
+pub returns-in_err-grow_l1_table-clause-lacks : goal.returns-in_err-grow_l1_table-clause-lacks
+returns-in_err-grow_l1_table-clause-lacks g c = λ out sound.
+    let view = g.S.Storage.view in
+    let below = g.F.BackingDisk.backing in
+    let old = c.args.self.now in
+    let idx : c.l1_index-index.result ≡ l1_index_of old.file.header.fields c.args.offset =
+    c.l1_index-index.ensures ∙ ap (λ n. n / 2 ^ c.cluster_bits.result / (2 ^ c.cluster_bits.result / 8)) c.new.ensures ∙ ap (λ b. c.args.offset / 2 ^ b / (2 ^ b / 8)) c.cluster_bits.ensures.value in
+    let p = pending_in view below old out in
+    let past = subst (λ i. entry_count old.l1_table ≤ i) idx (not_within c.in_bounds.result c.l1_index-index.result (entry_count old.l1_table) c.in_bounds.ensures c.if-in_bounds.false) in
+    let e = c.in_err-grow_l1_table.field-0.0 in
+    handed_on (λ r. IfErr r (IsFaultOrLacksTable view c.grow_l1_table.new.self c.args.offset)) c.from_residual.result e c.from_residual.ensures
+    (short_lacking view below out p old c.grow_l1_table.new.self sound c.args.offset past e (c.in_err-grow_l1_table.ensures.lengthens p out sound))
+
+pub returns-clause-lacks : goal.returns-clause-lacks
+returns-clause-lacks g c = λ out sound.
+    let view = g.S.Storage.view in
+    let below = g.F.BackingDisk.backing in
+    let old = c.args.self.now in
+    let mid = c.grow_l1_table.new.self in
+    let first = stays_moved view below out old mid sound (c.in_ok-grow_l1_table.ensures.lengthens (pending_in view below old out) out sound) in
+    let listed = subst (λ (x : Pending). ImageInvariant view below x mid out) (all_listed view below mid out) first.sound in
+    fault_or_lacking view below out c.free_listed.new.self c.args.offset c.free_listed.result (c.free_listed.ensures.faults (beside view below mid out) out listed)

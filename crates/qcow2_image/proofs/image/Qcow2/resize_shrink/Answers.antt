@@ -1,4 +1,4 @@
-use Rattle.std.proofs.Common.{◌≤◌, ◌∙◌, sym, subst}
+use Rattle.std.proofs.Common.{◌≤◌, ◌∙◌, sym, subst, arith}
 use Rattle.std.specs.Prelude.{Ok, Result}
 use Rattle.qcow2_alloc.specs.ImageFile.{l2_pins}
 use Rattle.qcow2_image.specs.Resizing.{Shrinks, refuses_to_resize}
@@ -35,3 +35,14 @@ returns-then-is_some-clause-sees g c = shrinks_prepared g.S.Storage.view g.F.Bac
 pub returns-clause-prepared : goal.returns-clause-prepared
 returns-clause-prepared g c = λ none smaller out sound has.
     absurd (none_prepared g.S.Storage.view g.F.BackingDisk.backing c.args.self.now out sound (c.first_pinned_l2.ensures.none (sym c.is_some.ensures ∙ c.if-is_some.false)) has)
+
+pub returns-clause-stops : goal.returns-clause-stops
+returns-clause-stops g c = λ out sound.
+    let view = g.S.Storage.view in
+    let below = g.F.BackingDisk.backing in
+    let old = c.args.self.now in
+    c.shrink.ensures.stops (not_refused c.check_resize.result tt (refuses_to_resize old) c.in_ok-check_resize.field-0 c.check_resize.ensures c.in_ok-check_resize.was).0 out sound
+    (none_prepared view below old out sound (c.first_pinned_l2.ensures.none (sym c.is_some.ensures ∙ c.if-is_some.false)))
+
+pub returns-then-size-clause-stops : goal.returns-then-size-clause-stops
+returns-then-size-clause-stops g c = λ out sound lt. absurd (let is = c.size-then-size.ensures in omega (arith, lt, is))

@@ -5,9 +5,11 @@ use Rattle.qcow2_metadata.specs.Header.{HeaderView, cluster_size, rounded_up}
 use Rattle.qcow2_alloc.specs.ImageError.{IsFault}
 use Rattle.qcow2_alloc.specs.ImageFile.{view_in}
 use Rattle.qcow2_image.specs.declared.image.Qcow2.{Qcow2}
-use Rattle.qcow2_image.specs.Image.{is_failed}
+use Rattle.qcow2_image.specs.Image.{is_failed, size_of}
 use Rattle.qcow2_image.specs.Resizing.{Shrinks, UncoversTail, WritesSizeLast}
-use Rattle.qcow2_image.proofs.Sizing.Shrinking.{shrinks_done, shrinks_stopped, shrinks_unwritten, size_is_last}
+use Rattle.qcow2_image.proofs.Sizing.Shrinking.{shrinks_done, shrinks_stopped, shrinks_unwritten, size_is_last, written_stops}
+use Rattle.qcow2_image.proofs.Call.FaultCounts.{counted_as, marked_after}
+use Rattle.qcow2_image.specs.Faults.{TellsFault}
 use Rattle.qcow2_image.proofs.image.Qcow2.shrink.Goals as goal
 
 pub returns-in-Some-clause-sees : goal.returns-in-Some-clause-sees
@@ -72,3 +74,33 @@ returns-clause-sees g c =
 pub returns-clause-last : goal.returns-clause-last
 returns-clause-last g c = λ out sound.
     size_is_last g.S.Storage.view g.F.BackingDisk.backing c.args.self.now c.uncover_tail-end.new.self c.write_size.new.self c.args.size c.uncover_tail-end.result.0 c.uncover_tail-end.result.1 c.uncover_tail-end.ensures.uncovers c.write_size.ensures.time out sound
+
+pub returns-clause-stops : goal.returns-clause-stops
+returns-clause-stops g c = λ none out sound unprepared lt.
+    let view = g.S.Storage.view in
+    let below = g.F.BackingDisk.backing in
+    let old = c.args.self.now in
+    let mid = c.uncover_tail-end.new.self in
+    let new = c.write_size.new.self in
+    let at = c.uncover_tail-end.result.0 in
+    let tail = subst (λ r. UncoversTail view below old mid c.args.size at r out) c.in_default.is (c.uncover_tail-end.ensures.uncovers out sound) in
+    written_stops view below out (size_of old) at c.args.size mid new tail.0.sound (c.in_default-write_size.ensures.writes out tail.0.sound).sound (ap (λ (i : Qcow2 _ _). i.l1_table) c.write_size.ensures.rest) c.in_default-write_size.ensures.header
+    (c.uncover_tail-end.ensures.stops none out sound unprepared c.in_default.is lt)
+
+pub returns-in-Some-clause-faults : goal.returns-in-Some-clause-faults
+returns-in-Some-clause-faults g c =
+    let view = g.S.Storage.view in
+    let below = g.F.BackingDisk.backing in
+    let old = c.args.self.now in
+    let mid = c.uncover_tail-end.new.self in
+    let tail = c.uncover_tail-end.ensures.faults in
+    marked_after view below old mid c.mark_refused.new.self (Err c.in-Some.refusal) (record { no_fewer = tail.0; rose = subst (λ r. IfSome r (TellsFault view below old mid)) c.in-Some.is tail.1 }) c.mark_refused.ensures.rest
+
+pub returns-in-Err-clause-faults : goal.returns-in-Err-clause-faults
+returns-in-Err-clause-faults g c =
+    let view = g.S.Storage.view in
+    let below = g.F.BackingDisk.backing in
+    let old = c.args.self.now in
+    let e = c.in-Err.refusal in
+    marked_after view below old c.write_size.new.self c.mark_refused-in-Err.new.self (Err e)
+    (counted_as view below old c.uncover_tail-end.new.self c.write_size.new.self c.write_size.result e c.uncover_tail-end.ensures.faults.0 c.write_size.ensures.faults c.in-Err.is) c.mark_refused-in-Err.ensures.rest

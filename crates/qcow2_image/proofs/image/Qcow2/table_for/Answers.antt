@@ -1,10 +1,12 @@
-use Rattle.std.proofs.Common.{Err, subst}
+use Rattle.std.proofs.Common.{Err, subst, inl}
 use Rattle.qcow2_laws.specs.CrashInvariant.{Pending}
 use Rattle.qcow2_alloc.proofs.AllocationSteps.{handed_on}
 use Rattle.qcow2_image.specs.CallParts.{FindsTable}
 use Rattle.qcow2_image.specs.ImageInvariant.{ImageInvariant, pending_in}
 use Rattle.qcow2_image.proofs.Call.Refused.{finds, finds_after, left_refused, stays_kept}
 use Rattle.qcow2_image.proofs.Flush.Freeing.{all_listed, beside, freed_refused, tidy_stays}
+use Rattle.std.specs.Prelude.{IfErr}
+use Rattle.qcow2_image.specs.NewTables.{IsFaultOrLacksTable}
 use Rattle.qcow2_image.proofs.image.Qcow2.table_for.Goals as goal
 
 pub returns-then-has_own_l2-clause-finds : goal.returns-then-has_own_l2-clause-finds
@@ -65,3 +67,43 @@ returns-clause-finds g c = λ out sound.
     (finds_after view below out long mid new first c.args.offset c.ensure_l2-2.result
     (finds_after view below out mid freed new second c.args.offset c.ensure_l2-2.result
     (finds view below out freed new second.sound c.ensure_l2-2.ensures.keeps_rest c.args.offset c.ensure_l2-2.result (c.ensure_l2-2.ensures.ready (pending_in view below freed out) out second.sound))))
+
+pub returns-then-has_own_l2-clause-lacks : goal.returns-then-has_own_l2-clause-lacks
+returns-then-has_own_l2-clause-lacks g c = λ out sound none. c.ensure_l2.ensures.lacks (pending_in g.S.Storage.view g.F.BackingDisk.backing c.args.self.now out) out sound none
+
+pub returns-in_err-reach_entry-clause-lacks : goal.returns-in_err-reach_entry-clause-lacks
+returns-in_err-reach_entry-clause-lacks g c = λ out sound none.
+    handed_on (λ r. IfErr r (IsFaultOrLacksTable g.S.Storage.view c.reach_entry.new.self c.args.offset)) c.from_residual.result c.in_err-reach_entry.field-0.0 c.from_residual.ensures (c.in_err-reach_entry.ensures.lacks out sound)
+
+pub returns-in_err-own_l2-clause-lacks : goal.returns-in_err-own_l2-clause-lacks
+returns-in_err-own_l2-clause-lacks g c = λ out sound none.
+    let view = g.S.Storage.view in
+    let below = g.F.BackingDisk.backing in
+    let long = c.reach_entry.new.self in
+    handed_on (λ r. IfErr r (IsFaultOrLacksTable view c.own_l2.new.self c.args.offset)) c.from_residual-in_err-own_l2.result c.in_err-own_l2.field-0.0 c.from_residual-in_err-own_l2.ensures
+    (c.in_err-own_l2.ensures.lacks (pending_in view below long out) out (c.in_ok-reach_entry.ensures.makes out sound).sound)
+
+pub returns-in_err-free_listed-clause-lacks : goal.returns-in_err-free_listed-clause-lacks
+returns-in_err-free_listed-clause-lacks g c = λ out sound none.
+    let view = g.S.Storage.view in
+    let below = g.F.BackingDisk.backing in
+    let long = c.reach_entry.new.self in
+    let mid = c.own_l2.new.self in
+    let reached = c.in_ok-reach_entry.ensures.makes out sound in
+    let first = stays_kept view below out long mid reached.sound (c.in_ok-own_l2.ensures.owns (pending_in view below long out) out reached.sound).0 in
+    let listed = subst (λ (x : Pending). ImageInvariant view below x mid out) (all_listed view below mid out) first.sound in
+    handed_on (λ r. IfErr r (IsFaultOrLacksTable view c.free_listed.new.self c.args.offset)) c.from_residual-in_err-free_listed.result c.in_err-free_listed.field-0.0 c.from_residual-in_err-free_listed.ensures
+    (inl (c.in_err-free_listed.ensures.faults (beside view below mid out) out listed))
+
+pub returns-clause-lacks : goal.returns-clause-lacks
+returns-clause-lacks g c = λ out sound none.
+    let view = g.S.Storage.view in
+    let below = g.F.BackingDisk.backing in
+    let long = c.reach_entry.new.self in
+    let mid = c.own_l2.new.self in
+    let freed = c.free_listed.new.self in
+    let reached = c.in_ok-reach_entry.ensures.makes out sound in
+    let first = stays_kept view below out long mid reached.sound (c.in_ok-own_l2.ensures.owns (pending_in view below long out) out reached.sound).0 in
+    let listed = subst (λ (x : Pending). ImageInvariant view below x mid out) (all_listed view below mid out) first.sound in
+    let second = tidy_stays view below mid out freed first.sound (c.in_ok-free_listed.ensures.frees (beside view below mid out) out listed) in
+    c.ensure_l2-2.ensures.lacks (pending_in view below freed out) out second.sound none

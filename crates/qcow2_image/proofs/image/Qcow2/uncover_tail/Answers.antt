@@ -1,21 +1,51 @@
-use Rattle.std.proofs.Common.{◌∙◌}
+use Rattle.std.proofs.Common.{◌∙◌, arith, Err}
 use Rattle.qcow2_image.specs.ImageInvariant.{pending_in}
-use Rattle.qcow2_image.proofs.Sizing.Shrinking.{next_so_far, none_so_far, tail_refused}
+use Rattle.qcow2_image.proofs.Sizing.Shrinking.{next_so_far, none_so_far, tail_refused, tail_stops}
+use Rattle.qcow2_image.proofs.Call.FaultCounts.{counted_as, fewer_then, stopped_tells}
+use Rattle.qcow2_image.specs.Faults.{CountsFaults}
 use Rattle.qcow2_image.proofs.image.Qcow2.uncover_tail.Goals as goal
 
 pub loop-at-init : goal.loop-at-init
 loop-at-init g c =
     let view = g.S.Storage.view in
     let below = g.F.BackingDisk.backing in
-    none_so_far view below c.args.self.now c.begin.new.self c.args.size c.size-end.result c.begin.ensures.stays.image c.begin.ensures.stays.failed (c.size-end.ensures ∙ c.begin.ensures.stays.image.size) c.requires.smaller
-    (λ out sound. record { keeps = c.begin.ensures.keeps (pending_in view below c.args.self.now out) out sound; list = c.begin.ensures.list })
+    record {
+      turns = none_so_far view below c.args.self.now c.begin.new.self c.args.size c.size-end.result c.begin.ensures.stays.image c.begin.ensures.stays.failed (c.size-end.ensures ∙ c.begin.ensures.stays.image.size) c.requires.smaller
+          (λ out sound. record { keeps = c.begin.ensures.keeps (pending_in view below c.args.self.now out) out sound; list = c.begin.ensures.list });
+      faults = c.begin.ensures.faults;
+    }
 
 pub loop-at-preserved : goal.loop-at-preserved
-loop-at-preserved g c =
-    next_so_far g.S.Storage.view g.F.BackingDisk.backing c.args.self.now c.loop-at.self c.uncover_from.new.self c.args.size c.loop-at.at c.size-end.result c.loop-at.invariant c.in-Ok.next c.in-Ok.ensures.on.0 c.in-Ok.ensures.on.1 c.in-Ok.ensures.uncovers
-    c.uncover_from.ensures.image c.in-Ok.ensures.marks
+loop-at-preserved g c = record {
+  turns = next_so_far g.S.Storage.view g.F.BackingDisk.backing c.args.self.now c.loop-at.self c.uncover_from.new.self c.args.size c.loop-at.at c.size-end.result c.loop-at.invariant.turns c.in-Ok.next c.in-Ok.ensures.on.0 c.in-Ok.ensures.on.1 c.in-Ok.ensures.uncovers
+      c.uncover_from.ensures.image c.in-Ok.ensures.marks;
+  faults = fewer_then g.S.Storage.view g.F.BackingDisk.backing c.args.self.now c.loop-at.self c.uncover_from.new.self c.loop-at.invariant.faults c.uncover_from.ensures.faults.no_fewer;
+}
 
 pub returns-in-Err-clause-uncovers : goal.returns-in-Err-clause-uncovers
 returns-in-Err-clause-uncovers g c = λ out sound.
-    tail_refused g.S.Storage.view g.F.BackingDisk.backing c.args.self.now c.loop-at.self c.uncover_from.new.self c.args.size c.loop-at.at c.size-end.result c.loop-at.invariant c.loop-at-test.true c.in-Err.refusal c.in-Err.ensures.uncovers out sound
+    tail_refused g.S.Storage.view g.F.BackingDisk.backing c.args.self.now c.loop-at.self c.uncover_from.new.self c.args.size c.loop-at.at c.size-end.result c.loop-at.invariant.turns (omega (arith, c.loop-at-test.true)) c.in-Err.refusal c.in-Err.ensures.uncovers out sound
     c.ends_call.result c.ends_call.ensures.some c.ends_call.ensures.none
+
+pub returns-in-Err-clause-stops : goal.returns-in-Err-clause-stops
+returns-in-Err-clause-stops g c = λ none out sound unprepared is lt.
+    tail_stops g.S.Storage.view g.F.BackingDisk.backing out c.args.self.now c.loop-at.self c.uncover_from.new.self c.args.size c.loop-at.at c.size-end.result c.loop-at.invariant.turns c.in-Err.refusal
+    (λ none sound unprepared. c.in-Err.ensures.stops none out sound unprepared) none sound unprepared (c.ends_call.ensures.none is)
+
+pub returns-clause-stops : goal.returns-clause-stops
+returns-clause-stops g c = λ none out sound unprepared is lt.
+    let last = c.loop-at.invariant.turns.last in
+    absurd (omega (arith, lt, last, c.loop-at-test.false))
+
+pub returns-in-Err-clause-faults : goal.returns-in-Err-clause-faults
+returns-in-Err-clause-faults g c =
+    let view = g.S.Storage.view in
+    let below = g.F.BackingDisk.backing in
+    let old = c.args.self.now in
+    let e = c.in-Err.refusal in
+    let new = c.uncover_from.new.self in
+    let told : CountsFaults view below {T = Unit {0}} old c.uncover_from.new.self (Err c.in-Err.refusal) = counted_as view below old c.loop-at.self new c.uncover_from.result e c.loop-at.invariant.faults c.uncover_from.ensures.faults c.in-Err.is in
+    (told.no_fewer, stopped_tells view below old new e c.ends_call.result told.rose c.ends_call.ensures.some)
+
+pub returns-clause-faults : goal.returns-clause-faults
+returns-clause-faults g c = (c.loop-at.invariant.faults, tt)

@@ -1,11 +1,15 @@
-use Rattle.std.proofs.Common.{◌≡◌, subst, arith}
+use Rattle.std.proofs.Common.{◌≡◌, refl, subst, arith}
 use Rattle.qcow2_alloc.proofs.AllocationSteps.{handed_on}
 use Rattle.qcow2_image.specs.Preallocation.{FillsOrRefuses, FillsPart}
 use Rattle.qcow2_image.proofs.Preallocate.Turns.{zeroed_first, zeroed_next, zeroed_refused}
+use Rattle.qcow2_image.proofs.Call.FaultCounts.{counted_ok, counted_on, fewer_then, untouched}
 use Rattle.qcow2_image.proofs.image.Qcow2.zero_range.Goals as goal
 
 pub loop-at-init : goal.loop-at-init
-loop-at-init g c = zeroed_first g.S.Storage.view g.F.BackingDisk.backing c.args.from c.args.to c.args.self.now
+loop-at-init g c = record {
+  turns = zeroed_first g.S.Storage.view g.F.BackingDisk.backing c.args.from c.args.to c.args.self.now;
+  faults = untouched g.S.Storage.view g.F.BackingDisk.backing c.args.self.now c.args.self.now refl refl;
+}
 
 pub returns-in_err-at-clause-fills : goal.returns-in_err-at-clause-fills
 returns-in_err-at-clause-fills g c = λ out sound le whole version.
@@ -13,19 +17,29 @@ returns-in_err-at-clause-fills g c = λ out sound le whole version.
     let below = g.F.BackingDisk.backing in
     let e = c.in_err-at.field-0.0 in
     handed_on (λ r. FillsOrRefuses view below 0 c.args.from c.args.to c.args.self.now c.zero_first.new.self out r) c.from_residual.result e c.from_residual.ensures
-    (zeroed_refused view below c.args.from c.args.to c.loop-at.at c.args.self.now c.loop-at.self c.zero_first.new.self c.loop-at-test.true c.loop-at.invariant e c.in_err-at.ensures.fills out sound le whole version)
+    (zeroed_refused view below c.args.from c.args.to c.loop-at.at c.args.self.now c.loop-at.self c.zero_first.new.self c.loop-at-test.true c.loop-at.invariant.turns e c.in_err-at.ensures.fills out sound le whole version)
 
 pub loop-at-preserved : goal.loop-at-preserved
 loop-at-preserved g c =
     let next = c.in_ok-at.ensures.next in
-    zeroed_next g.S.Storage.view g.F.BackingDisk.backing c.args.from c.args.to c.loop-at.at c.args.self.now c.loop-at.self c.zero_first.new.self c.loop-at-test.true c.loop-at.invariant c.in_ok-at.at c.zero_first.ensures.stays next.0 next.2 c.in_ok-at.ensures.whole
-    c.in_ok-at.ensures.fills
+    record {
+      turns = zeroed_next g.S.Storage.view g.F.BackingDisk.backing c.args.from c.args.to c.loop-at.at c.args.self.now c.loop-at.self c.zero_first.new.self c.loop-at-test.true c.loop-at.invariant.turns c.in_ok-at.at c.zero_first.ensures.stays next.0 next.2 c.in_ok-at.ensures.whole
+          c.in_ok-at.ensures.fills;
+      faults = fewer_then g.S.Storage.view g.F.BackingDisk.backing c.args.self.now c.loop-at.self c.zero_first.new.self c.loop-at.invariant.faults c.zero_first.ensures.faults.no_fewer;
+    }
 
 pub returns-clause-fills : goal.returns-clause-fills
 returns-clause-fills g c = λ out sound le whole version.
     let view = g.S.Storage.view in
     let below = g.F.BackingDisk.backing in
-    let high = c.loop-at.invariant.high in
+    let high = c.loop-at.invariant.turns.high in
     let past = c.loop-at-test.false in
     let end : c.loop-at.at ≡ c.args.to = omega (arith, high, past, le) in
-    subst (λ n. FillsPart view below 0 c.args.from n c.args.self.now c.loop-at.self out) end (c.loop-at.invariant.so_far out sound le whole version).0
+    subst (λ n. FillsPart view below 0 c.args.from n c.args.self.now c.loop-at.self out) end (c.loop-at.invariant.turns.so_far out sound le whole version).0
+
+pub returns-in_err-at-clause-faults : goal.returns-in_err-at-clause-faults
+returns-in_err-at-clause-faults g c =
+    counted_on g.S.Storage.view g.F.BackingDisk.backing c.args.self.now c.loop-at.self c.zero_first.new.self c.zero_first.result c.in_err-at.field-0.0 c.from_residual.result c.loop-at.invariant.faults c.zero_first.ensures.faults c.in_err-at.was c.from_residual.ensures
+
+pub returns-clause-faults : goal.returns-clause-faults
+returns-clause-faults g c = counted_ok g.S.Storage.view g.F.BackingDisk.backing c.args.self.now c.loop-at.self tt c.loop-at.invariant.faults

@@ -1,0 +1,84 @@
+use Rattle.std.proofs.Common.{inl, refl, sym, subst, None, [], ◌∷◌}
+use Rattle.qcow2_alloc.specs.ImageFile.{known_in}
+use Rattle.qcow2_alloc.proofs.AllocationSteps.{handed_on}
+use Rattle.qcow2_image.specs.CallParts.{PreparesRange}
+use Rattle.qcow2_image.specs.Preparing.{IsPlaceOf, IsWritableAt}
+use Rattle.qcow2_image.specs.ImageInvariant.{meaning, pending_in}
+use Rattle.qcow2_image.proofs.Prepare.PreparedAs.{answered_before, answered_existing, answered_range, taken_before}
+use Rattle.qcow2_image.proofs.Map.Loading.{if_ok}
+use Rattle.qcow2_image.proofs.Free.{free_places}
+use Rattle.qcow2_image.proofs.Prepare.Preparing.{readied_existing}
+use Rattle.qcow2_image.proofs.Call.Refused.{prepares_after, readied_after}
+use Rattle.qcow2_image.proofs.Prepare.Taken.{if_err, taken_by}
+use Rattle.qcow2_image.proofs.image.Qcow2.prepare_range.Goals as goal
+
+pub returns-in_err-table-clause-readies : goal.returns-in_err-table-clause-readies
+returns-in_err-table-clause-readies g c = λ some out sound.
+    handed_on (λ r. PreparesRange g.S.Storage.view g.F.BackingDisk.backing c.args.self.now c.table_for.new.self out c.args.offset c.args.length c.args.overwrite r) c.from_residual.result c.in_err-table.field-0.0 c.from_residual.ensures
+    (c.in_err-table.ensures.finds out sound)
+
+pub returns-in_err-host-clause-readies : goal.returns-in_err-host-clause-readies
+returns-in_err-host-clause-readies g c = λ some out sound.
+    handed_on (λ r. PreparesRange g.S.Storage.view g.F.BackingDisk.backing c.args.self.now c.table_for.new.self out c.args.offset c.args.length c.args.overwrite r) c.from_residual-in_err-host.result c.in_err-host.field-0.0 c.from_residual-in_err-host.ensures
+    (inl (c.in_ok-table.ensures.finds out sound).0)
+
+pub returns-in-Some-clause-readies : goal.returns-in-Some-clause-readies
+returns-in-Some-clause-readies g c = λ some out sound k free.
+    let view = g.S.Storage.view in
+    let below = g.F.BackingDisk.backing in
+    let found = c.in_ok-table.ensures.finds out sound in
+    readied_after view below out c.args.self.now c.table_for.new.self c.table_for.new.self found.0 k c.args.offset c.args.length c.args.overwrite c.existing_at.result
+    (readied_existing view below out c.table_for.new.self found.0.sound c.existing_at.result c.args.offset c.args.length c.existing_at.ensures.existing k free c.args.overwrite)
+
+pub returns-in-None-clause-readies : goal.returns-in-None-clause-readies
+returns-in-None-clause-readies g c = λ some out sound.
+    let found = c.in_ok-table.ensures.finds out sound in
+    prepares_after g.S.Storage.view g.F.BackingDisk.backing out c.args.self.now c.table_for.new.self c.prepare_in.new.self found.0 c.args.offset c.args.length c.args.overwrite c.prepare_in.result
+    (c.prepare_in.ensures.readies out found.0.sound found.1)
+
+pub returns-in-Some-clause-answers : goal.returns-in-Some-clause-answers
+returns-in-Some-clause-answers g c = λ some out sound.
+    let view = g.S.Storage.view in
+    let below = g.F.BackingDisk.backing in
+    let old = c.args.self.now in
+    let mid = c.table_for.new.self in
+    let h = mid.file.header.fields in
+    let known = known_in view mid.file in
+    let q = c.existing_at.result in
+    let found = c.in_ok-table.ensures.finds out sound in
+    let p = pending_in view below mid out in
+    let place = subst (IsPlaceOf h known c.args.offset c.args.length) c.in-Some.is (c.in_ok-host.ensures.place p found.0.sound.file found.1.entry some) in
+    answered_before view old mid c.args.offset c.args.length found.0.header found.0.covers mid.file.header.fields known q (meaning view below mid q)
+    (answered_existing view below mid known c.args.offset c.args.length q mid.number some c.existing_at.ensures.existing (subst (IsWritableAt h known c.args.offset c.args.length) (sym c.existing_at.ensures.offset) place))
+
+pub returns-in-None-clause-answers : goal.returns-in-None-clause-answers
+returns-in-None-clause-answers g c = λ some out sound.
+    let view = g.S.Storage.view in
+    let below = g.F.BackingDisk.backing in
+    let old = c.args.self.now in
+    let mid = c.table_for.new.self in
+    let new = c.prepare_in.new.self in
+    let known = known_in view mid.file in
+    let now = known_in view new.file in
+    let found = c.in_ok-table.ensures.finds out sound in
+    let p = pending_in view below mid out in
+    let place = subst (IsPlaceOf mid.file.header.fields known c.args.offset c.args.length) c.in-None.is (c.in_ok-host.ensures.place p found.0.sound.file found.1.entry some) in
+    let placed = (free_places view below).free mid [] out found.0.sound in
+    if_ok c.prepare_in.result
+    (λ q is. answered_before view old mid c.args.offset c.args.length found.0.header found.0.covers new.file.header.fields now q (meaning view below new q) is)
+    (answered_range view below mid new (None ∷ out) 0 c.args.offset c.args.length c.args.overwrite refl place c.prepare_in.result
+    (c.prepare_in.ensures.readies (None ∷ out) placed found.1) (c.prepare_in.ensures.reaches (None ∷ out) 0 refl placed found.1))
+
+pub returns-in-None-clause-taken : goal.returns-in-None-clause-taken
+returns-in-None-clause-taken g c = λ some out sound.
+    let view = g.S.Storage.view in
+    let below = g.F.BackingDisk.backing in
+    let old = c.args.self.now in
+    let mid = c.table_for.new.self in
+    let found = c.in_ok-table.ensures.finds out sound in
+    let p = pending_in view below mid out in
+    let place = subst (IsPlaceOf mid.file.header.fields (known_in view mid.file) c.args.offset c.args.length) c.in-None.is (c.in_ok-host.ensures.place p found.0.sound.file found.1.entry some) in
+    if_err c.prepare_in.result
+    (λ e taken is.
+    taken_before view old mid c.args.offset c.args.length found.0.header found.0.covers out
+    (taken_by view below mid p out found.0.sound c.args.offset c.in_ok-table.table found.1 (known_in view mid.file) c.args.length (taken is) place)) c.prepare_in.ensures.taken
