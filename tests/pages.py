@@ -1,7 +1,9 @@
 #!/usr/bin/env python3
 """Checks the repository's pages (README.md, docs/*.md, crates/*/README.md): plain sentences, and links, files, names, clauses, wrong bodies and examples that are those of the code as it
-stands. Then a mistake of each kind is planted in a copy of the pages in memory, which its check must find. It needs no program. The last line counts."""
+stands; and that each name of the specs is defined once. Then a mistake of each kind is planted in a copy of the pages or specs in memory, which its check must find. It needs no program. The
+last line counts."""
 
+import copy
 import os
 import re
 import sys
@@ -27,6 +29,8 @@ BLOCK = re.compile(r"(?:impl\b(?:<.*?>)? (?:.* for )?|(?:pub )?trait )(\w+)")
 RECORD = re.compile(r"\s*(?:pub )?record (\w+)")
 DEFINITION = re.compile(r"^\s*(?:unfoldable )?(?:pub )?(?:abbrev|unfoldable|record|data)(?: pub)? (\w+)", re.MULTILINE)
 FIELD = re.compile(r"\s*pub (\w+) :")
+DEFINES = re.compile(r"\s*(?:(?:abbrev|unfoldable) )?pub (?:(record|data) )?(?!(?:use|mod) )(\S+)")
+CONSTRUCTOR = re.compile(r"\s*(\w+) : ")
 
 
 def read(path):
@@ -56,6 +60,7 @@ class Code:
     def __init__(self):
         self.files = files_below()
         self.names, self.definitions, self.fields, self.promises, self.bodies = set(), set(), {}, {}, {}
+        self.specs = {it: read(it) for it in sorted(self.files) if re.match(r"crates/\w+/specs/.*\.antt$", it)}
         for path in self.files - {"tests/pages.py"}:
             if path.endswith((".rt", ".antt", ".py", ".rs", "Makefile", "crates.txt")):
                 text = read(path)
@@ -405,6 +410,28 @@ def empty_tables(pages, code):
                 yield page, item.line, "a table without rows"
 
 
+def names_defined(text):
+    """The names that a module of the specs defines, each with its line: also the constructors of its data, and not the fields of its records."""
+    kind, outer = None, 0
+    for number, line in enumerate(text.split("\n"), 1):
+        indent = len(line) - len(line.lstrip())
+        kind = None if line.strip() and indent <= outer else kind
+        found = CONSTRUCTOR.match(line) if kind == "data" else DEFINES.match(line) if kind is None else None
+        if found:
+            yield found[found.lastindex], number
+        if found and kind is None:
+            kind, outer = found[1], indent
+
+
+def names_defined_twice(pages, code):
+    """Names that two modules of the specs define."""
+    first = {}
+    for path, text in code.specs.items():
+        for name, line in names_defined(text):
+            if first.setdefault(name, path) != path:
+                yield path, line, f"{name} is defined in {first[name]} too"
+
+
 def left_out(pages, code):
     """Crates without a page, or of which the front page or the architecture says nothing; pages that the front page has no link to."""
     crates = [it.split(":")[0] for it in read("crates.txt").split("\n") if it and not it.startswith("#")]
@@ -419,9 +446,9 @@ def left_out(pages, code):
             yield "README.md", 0, f"no link to {page}"
 
 
-CHECKS = [long_sentences, long_readme, dead_links, missing_files, missing_modules, missing_names, misplaced_names, missing_clauses, missing_bodies, other_code, missing_fields, empty_tables, left_out]
+CHECKS = [long_sentences, long_readme, dead_links, missing_files, missing_modules, missing_names, misplaced_names, missing_clauses, missing_bodies, other_code, missing_fields, empty_tables, names_defined_twice, left_out]
 
-# a mistake that each check must find: the page, what is cut from it (nothing, or a text), and what is added
+# a mistake that each check must find: the page or the module of specs, what is cut from it (nothing, or a text), and what is added
 PLANTED = [
     (long_sentences, "docs/FORMAT.md", "", "\n\nA sentence " + "and more of it " * 8 + "ends.\n"),
     (long_sentences, "README.md", "", "\n- one of a list, " + "very " * 30 + "long\n"),
@@ -447,15 +474,19 @@ PLANTED = [
     (other_code, "docs/PROOFS.md", "    ensures headline {", "    ensures headlines {"),
     (missing_fields, "docs/PROOFS.md", "", "\n`IsHeadline`:\n\n| Field | Says |\n|---|---|\n| `nowhere` | |\n"),
     (empty_tables, "docs/WRONG_BODIES.md", "", "\n| Bug | Clauses |\n|---|---|\n"),
+    (names_defined_twice, "crates/qcow2_laws/specs/Laws.antt", "", "\nmodule _ where\n  abbrev pub cluster_size : ℕ\n"),
     (left_out, "README.md", "[guide](crates/guide/README.md)", "guide"),
     (left_out, "README.md", "(docs/FORMAT.md)", ""),
 ]
 
 
 def is_found(check, page, old, new, pages, code):
-    """Whether a check finds the mistake that is planted in a copy of the pages."""
-    planted = {**pages, page: pages[page].replace(old, new, 1) if old else pages[page] + new}
-    return planted != pages and len(list(check(planted, code))) > len(list(check(pages, code)))
+    """Whether a check finds the mistake that is planted in a copy of the pages or of the specs."""
+    texts, changed = {**pages, **code.specs}, copy.copy(code)
+    text = texts[page].replace(old, new, 1) if old else texts[page] + new
+    changed.specs = {it: text if it == page else was for it, was in code.specs.items()}
+    planted = {it: text if it == page else was for it, was in pages.items()}
+    return text != texts[page] and len(list(check(planted, changed))) > len(list(check(pages, code)))
 
 
 def main():

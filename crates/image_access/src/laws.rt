@@ -2,15 +2,15 @@
 //! caller's proof.
 ghost use Rattle.std.specs.Prelude.{◌≡◌, ◌⊎◌, ◌+◌, ◌-◌, ◌<◌, ◌≤◌, List, ℕ, length, take, max};
 ghost use Rattle.image_access.specs.Changes.{replayed, up_to_write, write_offsets, HadSince};
-ghost use Rattle.image_access.specs.Contents.{byte_at, bytes_at, resized, overwritten, zeroed};
+ghost use Rattle.image_access.specs.Contents.{stored_byte, bytes_at, resized, overwritten, zeroed};
 ghost use Rattle.image_access.specs.declared.change.Change.{Change};
 
 /// What a read gives: so many bytes, each that at its offset, zeros past the end.
 #[tactic(auto, using(crate::proofs::Bytes::reads))]
 pub fn reads_give_bytes()
     ensures count { (contents : List ℕ) (at n : ℕ) → length (bytes_at contents at n) ≡ n }
-    ensures each { (contents : List ℕ) (at n i : ℕ) → i < n → byte_at (bytes_at contents at n) i ≡ byte_at contents (at + i) }
-    ensures past { (contents : List ℕ) (offset : ℕ) → length contents ≤ offset → byte_at contents offset ≡ 0 }
+    ensures each { (contents : List ℕ) (at n i : ℕ) → i < n → stored_byte (bytes_at contents at n) i ≡ stored_byte contents (at + i) }
+    ensures past { (contents : List ℕ) (offset : ℕ) → length contents ≤ offset → stored_byte contents offset ≡ 0 }
 {}
 
 /// What a write leaves: in its range the bytes that were written, elsewhere what was there, which is zero past the end.
@@ -27,15 +27,15 @@ pub fn writes_are_read()
 /// What a zeroing leaves in its range.
 #[tactic(auto, using(crate::proofs::Bytes::reads))]
 pub fn zeroes_are_read()
-    ensures { (contents : List ℕ) (at n offset : ℕ) → at ≤ offset → offset < at + n → byte_at (zeroed contents at n) offset ≡ 0 }
+    ensures { (contents : List ℕ) (at n offset : ℕ) → at ≤ offset → offset < at + n → stored_byte (zeroed contents at n) offset ≡ 0 }
 {}
 
 /// What a resize leaves: the size that was asked, the bytes below it, and zeros where it grew and past it.
 #[tactic(auto, using(crate::proofs::Bytes::reads))]
 pub fn resizes_are_read()
     ensures size { (contents : List ℕ) (size : ℕ) → length (resized contents size) ≡ size }
-    ensures below { (contents : List ℕ) (size offset : ℕ) → offset < size → byte_at (resized contents size) offset ≡ byte_at contents offset }
-    ensures past { (contents : List ℕ) (size offset : ℕ) → size ≤ offset → byte_at (resized contents size) offset ≡ 0 }
+    ensures below { (contents : List ℕ) (size offset : ℕ) → offset < size → stored_byte (resized contents size) offset ≡ stored_byte contents offset }
+    ensures past { (contents : List ℕ) (size offset : ℕ) → size ≤ offset → stored_byte (resized contents size) offset ≡ 0 }
 {}
 
 /// The changes up to the n-th write: they have the first n offsets, and leave the contents of a moment since the start.

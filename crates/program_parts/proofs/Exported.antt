@@ -15,14 +15,14 @@ use Rattle.qcow2_image.specs.Image.{storage_of_image}
 use Rattle.qcow2_image.specs.ImageInvariant.{abstract_of}
 use Rattle.qcow2_image.proofs.Free.{whole}
 use Rattle.qcow2_session.specs.Conversions.{IsRawOf, Exports, IsUnchanged}
-use Rattle.program_parts.specs.Conversions.{IsExport, KeepsDisk, disk_alone, nothing_below}
+use Rattle.program_parts.specs.Conversions.{IsExport, KeepsDisk, disk_alone, zeros_below}
 use Rattle.program_parts.proofs.Imported.{none_below, of_ok}
 
 -- contents that are consistent keep their disk
 pub keeps_itself : (storage : StorageView) (contents : List ℕ) → IsConsistent (byte_at storage.contents) → contents ≡ storage.contents
-    → StopOkEverywhere nothing_below (checkpoint_at (disk_alone (byte_at storage.contents))) (byte_at contents)
+    → StopOkEverywhere zeros_below (checkpoint_at (disk_alone (byte_at storage.contents))) (byte_at contents)
 keeps_itself storage contents consistent same =
-    subst (λ c. StopOkEverywhere nothing_below (checkpoint_at (disk_alone (byte_at storage.contents))) (byte_at c)) (sym same)
+    subst (λ c. StopOkEverywhere zeros_below (checkpoint_at (disk_alone (byte_at storage.contents))) (byte_at c)) (sym same)
     (record { consistent = consistent; size = inl refl; values = λ o. inl refl })
 
 -- what is so of a raw disk that was copied is so once it was flushed
@@ -46,7 +46,7 @@ module _ {S F : Type 0} (view : S → StorageView) (backing : F → BackingView)
       let here : IsConsistent v.known = (whole view backing old [] opened.sound).consistent in
       let start : StopOkEverywhere v.setting.backing (checkpoint_at (guest_of v).disk) v.known = record { consistent = here; size = inl refl; values = λ o. inl refl } in
       let stops = (acts.works opened.sound).stops (checkpoint_at (guest_of v).disk) (subst (StopOkEverywhere v.setting.backing (checkpoint_at (guest_of v).disk)) opened.clean start, start) in
-      subst (λ d. StopOkEverywhere nothing_below (checkpoint_at d) (byte_at (view (storage_of_image new)).contents)) disk_is
+      subst (λ d. StopOkEverywhere zeros_below (checkpoint_at d) (byte_at (view (storage_of_image new)).contents)) disk_is
       (subst (λ below. StopOkEverywhere below (checkpoint_at (guest_of v).disk) (byte_at (view (storage_of_image new)).contents)) (none_below view backing old.backing alone) stops.contents)
 
   pub keeps_disk : (result : Result ℕ ImageError) → IsUnchanged view backing old new result → KeepsDisk storage (view (storage_of_image new))

@@ -15,10 +15,10 @@ use Rattle.qcow2_image.specs.Image.{storage_of_image}
 use Rattle.qcow2_image.specs.ImageInvariant.{abstract_of, backing_bytes}
 use Rattle.qcow2_image.proofs.Free.{whole}
 use Rattle.qcow2_session.specs.Conversions.{IsRawOf, Imports}
-use Rattle.program_parts.specs.Conversions.{IsImageOf, nothing_below}
+use Rattle.program_parts.specs.Conversions.{IsImageOf, zeros_below}
 
 -- an image without a disk below has zeros there
-pub none_below : {S F : Type 0} (view : S → StorageView) (backing : F → BackingView) (below : Option F) → is_some below ≡ false → backing_bytes view backing below ≡ nothing_below
+pub none_below : {S F : Type 0} (view : S → StorageView) (backing : F → BackingView) (below : Option F) → is_some below ≡ false → backing_bytes view backing below ≡ zeros_below
 none_below view backing None e = refl
 none_below view backing (Some f) e = absurd cc
 
@@ -45,7 +45,7 @@ module _ {S F : Type 0} (view : S → StorageView) (backing : F → BackingView)
       let clean = done.1.3 in
       let is_whole = whole view backing new [] done.0 in
       let setting : w.setting ≡ v.setting = (does.acts.works opened.sound).setting in
-      let below : w.setting.backing ≡ nothing_below = ap (λ (x : Setting). x.backing) setting ∙ none_below view backing old.backing alone in
+      let below : w.setting.backing ≡ zeros_below = ap (λ (x : Setting). x.backing) setting ∙ none_below view backing old.backing alone in
       let clusters : cluster_size (header w.known) ≡ cluster_size h =
       sym is_whole.cluster_size ∙ ap (λ (x : Setting). x.cluster_size) setting ∙ same_clusters h old.file.header.fields format
       in

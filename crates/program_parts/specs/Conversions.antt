@@ -9,12 +9,12 @@ use Rattle.qcow2_disk.specs.Stops.{StopOkEverywhere, checkpoint_at}
 use Rattle.qcow2_session.specs.Conversions.{IsRawOf}
 
 -- where there is no disk below, it is zeros
-abbrev pub nothing_below : Bytes
-nothing_below = λ o. 0
+abbrev pub zeros_below : Bytes
+zeros_below = λ o. 0
 
 -- the disk of an image with no disk below
 abbrev pub disk_alone : Bytes → Disk
-disk_alone image = disk image nothing_below
+disk_alone image = disk image zeros_below
 
 -- an honest storage has a consistent image whose disk is these bytes
 pub record HasDisk (storage : StorageView) (bytes : List ℕ) : Type 0 where
@@ -34,4 +34,4 @@ pub record IsExport (image : List ℕ) (n : ℕ) (raw : List ℕ) : Type 0 where
 
 -- the image on a storage is consistent still, and its disk is what it was
 abbrev pub KeepsDisk : StorageView → StorageView → Type 0
-KeepsDisk old new = StopOkEverywhere nothing_below (checkpoint_at (disk_alone (byte_at old.contents))) (byte_at new.contents)
+KeepsDisk old new = StopOkEverywhere zeros_below (checkpoint_at (disk_alone (byte_at old.contents))) (byte_at new.contents)

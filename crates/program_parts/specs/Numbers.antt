@@ -9,5 +9,5 @@ abbrev pub is_number : List ℕ → Bool
 is_number word = list_all is_ascii_digit word && nat_lt 0 (length word) && nat_lt (digits_value 10 word) (2 ^ 64)
 
 -- the number that a word writes, leading zeros allowed
-abbrev pub number_of : List ℕ → Option ℕ
-number_of word = if is_number word then Some (digits_value 10 word) else None
+abbrev pub number_of_word : List ℕ → Option ℕ
+number_of_word word = if is_number word then Some (digits_value 10 word) else None

@@ -2,12 +2,12 @@
 ghost use Rattle.std.specs.Prelude.{◌≡◌};
 ghost use Rattle.std.specs.Char.{is_ascii_digit};
 ghost use Rattle.std.specs.List.{list_all};
-ghost use Rattle.program_parts.specs.Numbers.{number_of};
+ghost use Rattle.program_parts.specs.Numbers.{number_of_word};
 
 /// The number that a word writes in decimal digits alone, where it has 64 bits.
 #[tactic(auto, using(crate::proofs::Digits::parsed_number))]
 pub fn number(word: &str) -> Option<u64>
-    ensures { result ≡ number_of word.now }
+    ensures { result ≡ number_of_word word.now }
 {
     if is_digits(word) {
         word.parse().ok()

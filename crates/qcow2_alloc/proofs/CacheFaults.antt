@@ -7,7 +7,7 @@ use Rattle.qcow2_alloc.specs.declared.async_lru_cache.slot.Slot.{Slot}
 use Rattle.qcow2_alloc.specs.declared.async_lru_cache.error.CacheError.{CacheError}
 use Rattle.qcow2_alloc.specs.declared.async_lru_cache.error.CacheError.TheVariants.{InUse, StillInUse, Memory, Backend}
 use Rattle.qcow2_alloc.specs.AsyncLruCacheBackend.{Steps}
-use Rattle.qcow2_alloc.specs.CacheAnswers.{Unit₀, FlushesEntry, FlushesAll, Flushes, Replaces, HasRoom, HasNoRoom, InsertsNew, GetsNew, Evicts}
+use Rattle.qcow2_alloc.specs.CacheAnswers.{Unit₀, FlushesEntry, FlushesAll, Flushes, Replaces, HasRoomForEntry, HasNoRoom, InsertsNew, GetsNew, Evicts}
 
 module _ {S K V E : Type 0} (steps : Steps S K V E) (faults : S → ℕ) (IsFault : E → Type 0) where
   -- a failure with this error, where there was one, raised the number
@@ -74,7 +74,7 @@ module _ {S K V E : Type 0} (steps : Steps S K V E) (faults : S → ℕ) (IsFaul
     flush_answers s t es fs (Err (StillInUse _)) h = absurd h
 
     module _ (eq : K → K → Bool) (size : ℕ) (may_flush : Bool) where
-      room : (s t : S) (es fs : List (K × Slot V)) → HasRoom steps eq size may_flush s es t fs → faults s ≤ faults t
+      room : (s t : S) (es fs : List (K × Slot V)) → HasRoomForEntry steps eq size may_flush s es t fs → faults s ≤ faults t
       room s t es fs h = ⊎_elim
           (λ same. subst (λ t. faults s ≤ faults t) (sym same.1) (omega arith))
           (λ (evicted : Evicts steps eq size may_flush s es t fs). counts.flushed s t evicted.entry.0 evicted.entry.1.value evicted.clean evicted.flushed)
@@ -94,7 +94,7 @@ module _ {S K V E : Type 0} (steps : Steps S K V E) (faults : S → ℕ) (IsFaul
       get_answers s t k es fs (Err Memory) (r, v, had, loaded) = let a = room s r es fs had in let b = counts.loaded r t k v loaded in omega arith
       get_answers s t k es fs (Err InUse) h = no_room s t es fs (Err InUse) h
       get_answers s t k es fs (Err (Backend x)) h = ⊎_elim (λ no. no_room s t es fs (Err (Backend x)) no)
-          (λ (failed : (r : S) × HasRoom steps eq size may_flush s es r fs × steps.load_failed r k x t). fails_after s failed.0 t x (room s failed.0 es fs failed.1) (counts.load_failed failed.0 t k x failed.2)) h
+          (λ (failed : (r : S) × HasRoomForEntry steps eq size may_flush s es r fs × steps.load_failed r k x t). fails_after s failed.0 t x (room s failed.0 es fs failed.1) (counts.load_failed failed.0 t k x failed.2)) h
       get_answers s t k es fs (Err (StillInUse _)) h = absurd h
 
       pub insert_answers : (s t : S) (k : K) (v : V) (es fs : List (K × Slot V)) (left : Option V) (result : Result Bool (CacheError K E)) → InsertsNew steps eq size may_flush k v s es result t fs left → Answers s result t

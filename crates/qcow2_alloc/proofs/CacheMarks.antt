@@ -11,7 +11,7 @@ use Rattle.qcow2_alloc.specs.declared.cache.backends.L2CacheBackend.{L2CacheBack
 use Rattle.qcow2_alloc.specs.declared.cache.backends.RefBlockCacheBackend.{RefBlockCacheBackend}
 use Rattle.qcow2_alloc.specs.declared.cache.MetadataCaches.{MetadataCaches}
 use Rattle.qcow2_alloc.specs.AsyncLruCache.{Cache, slot_of, value_at, set_at, pins_at, pin_at, unpin_at, can_pin, can_unpin, with_entries, KeepsPins}
-use Rattle.qcow2_alloc.specs.KeptTables.{cached_table, cached_tables, AllFit}
+use Rattle.qcow2_alloc.specs.KeptTables.{cached_table, cached_tables, AllValuesFit}
 use Rattle.qcow2_alloc.specs.TableCaches.{IsTableOf}
 use Rattle.qcow2_alloc.specs.MetadataCaches.{l2_tables}
 use Rattle.qcow2_alloc.specs.CacheMarks.{l2_pins, KeepsMarks, SameTables, SetsPins}
@@ -74,15 +74,15 @@ module _ {V : Type 0} where
   AllFit' IsFit [] = Unit {0}
   AllFit' IsFit (e ∷ es) = IsFit e.1 × AllFit' IsFit es
 
-  fit_values : (IsFit : V → Type 0) (es : List (ℕ × Slot V)) → AllFit IsFit es → AllFit' IsFit (values_of es)
+  fit_values : (IsFit : V → Type 0) (es : List (ℕ × Slot V)) → AllValuesFit IsFit es → AllFit' IsFit (values_of es)
   fit_values IsFit [] all = tt
   fit_values IsFit (e ∷ es) all = (all.0, fit_values IsFit es all.1)
 
-  values_fit : (IsFit : V → Type 0) (es : List (ℕ × Slot V)) → AllFit' IsFit (values_of es) → AllFit IsFit es
+  values_fit : (IsFit : V → Type 0) (es : List (ℕ × Slot V)) → AllFit' IsFit (values_of es) → AllValuesFit IsFit es
   values_fit IsFit [] all = tt
   values_fit IsFit (e ∷ es) all = (all.0, values_fit IsFit es all.1)
 
-  pub same_fit : (IsFit : V → Type 0) (es fs : List (ℕ × Slot V)) → values_of fs ≡ values_of es → AllFit IsFit es → AllFit IsFit fs
+  pub same_fit : (IsFit : V → Type 0) (es fs : List (ℕ × Slot V)) → values_of fs ≡ values_of es → AllValuesFit IsFit es → AllValuesFit IsFit fs
   same_fit IsFit es fs same all = values_fit IsFit fs (subst (AllFit' IsFit) (sym same) (fit_values IsFit es all))
 
   value_of : (test : ℕ → Bool) (es : List (ℕ × Slot V)) → value_at test es ≡ lookup test (values_of es)

@@ -25,7 +25,7 @@ use Rattle.qcow2_metadata.specs.L2Table.{L2TableView}
 use Rattle.qcow2_metadata.specs.RefBlock.{RefBlockView}
 use Rattle.qcow2_metadata.specs.declared.header.HeaderFields.{HeaderFields}
 use Rattle.qcow2_alloc.specs.ImageError.{of_storage, of_metadata, of_cache}
-use Rattle.qcow2_alloc.specs.TableSteps.{IsFault, table_steps}
+use Rattle.qcow2_alloc.specs.TableSteps.{IsTableFault, table_steps}
 use Rattle.qcow2_alloc.proofs.CacheFaults as F
 use Rattle.qcow2_alloc.proofs.KeptTables.Fetching.{none_or_some}
 use Rattle.qcow2_alloc.proofs.KeptTables.Inserting.{found_or_not, lookup_none}
@@ -90,7 +90,7 @@ module _ {S V : Type 0} (view : S → StorageView) (bits : ℕ) (bytes : V → L
   abbrev faults : S → ℕ
   faults s = (view s).faults
 
-  counts : F.CountsFaults steps faults IsFault
+  counts : F.CountsFaults steps faults IsTableFault
   counts = record {
     loaded = λ s t k v h. h.calls.cause.no_fewer;
     load_failed = λ s t k x h. record { no_fewer = h.calls.cause.no_fewer; rose = h.calls.cause.fault };
@@ -98,24 +98,24 @@ module _ {S V : Type 0} (view : S → StorageView) (bits : ℕ) (bytes : V → L
     flush_failed = λ s t k v x h. record { no_fewer = h.calls.cause.no_fewer; rose = h.calls.cause.fault };
   }
 
-  fewest : {A : Type 0} (s t : S) (answer : Result A (CacheError ℕ MetadataError)) → F.Answers steps faults IsFault s answer t → faults s ≤ faults t
+  fewest : {A : Type 0} (s t : S) (answer : Result A (CacheError ℕ MetadataError)) → F.Answers steps faults IsTableFault s answer t → faults s ≤ faults t
   fewest s t (Ok _) told = told
   fewest s t (Err C.InUse) told = told
   fewest s t (Err (C.StillInUse _)) told = told
   fewest s t (Err C.Memory) told = told
   fewest s t (Err (C.Backend x)) told = told.no_fewer
 
-  raised : (A : Type 0) (s t : S) (e : CacheError ℕ MetadataError) → F.Answers steps faults IsFault {A = A} s (Err e) t → of_cache e ≡ I.Storage → Rose (faults s) (faults t)
+  raised : (A : Type 0) (s t : S) (e : CacheError ℕ MetadataError) → F.Answers steps faults IsTableFault {A = A} s (Err e) t → of_cache e ≡ I.Storage → Rose (faults s) (faults t)
   raised A s t C.InUse told is = absurd (cc)
   raised A s t (C.StillInUse _) told is = absurd (cc)
   raised A s t C.Memory told is = absurd (cc)
   raised A s t (C.Backend x) told is = told.rose (metadata_fault (Unit {0}) x is)
 
-  tells : {A : Type 0} (s t : S) (answer : Result A (CacheError ℕ MetadataError)) → F.Answers steps faults IsFault s answer t → CacheTells (faults s) (faults t) answer
-  tells {A = A} s t answer told = record { no_fewer = fewest s t answer told; rose = λ e is. raised A s t e (subst (λ a. F.Answers steps faults IsFault s a t) is told) }
+  tells : {A : Type 0} (s t : S) (answer : Result A (CacheError ℕ MetadataError)) → F.Answers steps faults IsTableFault s answer t → CacheTells (faults s) (faults t) answer
+  tells {A = A} s t answer told = record { no_fewer = fewest s t answer told; rose = λ e is. raised A s t e (subst (λ a. F.Answers steps faults IsTableFault s a t) is told) }
 
   pub flush_tells : (s t : S) (es fs : List (ℕ × Slot V)) (answer : Result Unit₀ (CacheError ℕ MetadataError)) → Flushes steps s es answer t fs → CacheTells (faults s) (faults t) answer
-  flush_tells s t es fs answer h = tells s t answer (F.flush_answers steps faults IsFault counts s t es fs answer h)
+  flush_tells s t es fs answer h = tells s t answer (F.flush_answers steps faults IsTableFault counts s t es fs answer h)
 
   module _ (size : ℕ) (may_flush : Bool) (key : ℕ) (s t : S) (es fs : List (ℕ × Slot V)) (answer : Result Bool (CacheError ℕ MetadataError)) where
     still : (b : Bool) → answer ≡ Ok b → t ≡ s → CacheTells (faults s) (faults t) answer
@@ -124,7 +124,7 @@ module _ {S V : Type 0} (view : S → StorageView) (bits : ℕ) (bytes : V → L
     pub get_tells : (IsSome (lookup (eqb key) es) → (answer ≡ Ok true) × (fs ≡ promoted (eqb key) es) × (t ≡ s)) → (IsNone (lookup (eqb key) es) → GetsNew steps eqb size may_flush key s es answer t fs) → CacheTells (faults s) (faults t) answer
     get_tells hit miss = elim (none_or_some (lookup (eqb key) es)) [
       | inl there ↦ still true (hit there).0 (hit there).2
-      | inr missing ↦ tells s t answer (F.get_answers steps faults IsFault counts eqb size may_flush s t key es fs answer (miss missing))
+      | inr missing ↦ tells s t answer (F.get_answers steps faults IsTableFault counts eqb size may_flush s t key es fs answer (miss missing))
     ]
 
     pub put_tells : (value left : Option V) (P : Type 0) → (IsNone value → (answer ≡ Ok false) × P × (t ≡ s) × (left ≡ None))
@@ -133,8 +133,8 @@ module _ {S V : Type 0} (view : S → StorageView) (bits : ℕ) (bytes : V → L
     put_tells None left P nothing there missing = still false (nothing refl).0 (nothing refl).2
     put_tells (Some v) left P nothing there missing =
         found_or_not (lookup_entry (eqb key) es)
-        (λ none. tells s t answer (F.insert_answers steps faults IsFault counts eqb size may_flush s t key v es fs left answer (missing (rw (lookup_none (eqb key) es none) refl))))
-        (λ x some. tells s t answer (F.replace_answers steps faults IsFault counts s t key x (remove_entry (eqb key) es) v may_flush es fs left answer (rw some at there)))
+        (λ none. tells s t answer (F.insert_answers steps faults IsTableFault counts eqb size may_flush s t key v es fs left answer (missing (rw (lookup_none (eqb key) es none) refl))))
+        (λ x some. tells s t answer (F.replace_answers steps faults IsTableFault counts s t key x (remove_entry (eqb key) es) v may_flush es fs left answer (rw some at there)))
 
 -- ---- those of the two caches
 module _ {S : Type 0} (view : S → StorageView) (h : HeaderFields) where

@@ -8,7 +8,7 @@ use Rattle.qcow2_metadata.specs.EntryTable.{EntryTableView, entry_count}
 use Rattle.qcow2_metadata.specs.Header.{counts_per_block, entries_per_cluster}
 use Rattle.qcow2_alloc.specs.declared.image_file.ImageFile.{ImageFile}
 use Rattle.qcow2_alloc.specs.Growing.{IsLeastLength}
-use Rattle.qcow2_alloc.specs.Limits.{nameable_clusters, HasNoRoom, HasNoRoomFor, CantGrow, IsLowestRoom, LiesLowest}
+use Rattle.qcow2_alloc.specs.Limits.{nameable_clusters, HasNoRoomBelow, HasNoRoomFor, CantGrow, IsLowestRoom, LiesLowest}
 use Rattle.qcow2_alloc.specs.LowestRuns.{IsUsed, KeepsUsed}
 use Rattle.qcow2_alloc.specs.Rooms.{opens, opened}
 use Rattle.qcow2_alloc.proofs.Lengths.{one_least}
@@ -81,7 +81,7 @@ full_stays view a b t per clusters end first uses full start n some below is wit
 -- ---- a longer reftable that has no room
 module _ {S : Type 0} (view : S → StorageView) (file : ImageFile S) (taken : ℕ → ℕ) (t : EntryTableView) where
   pub no_room_for : (clusters length limit : ℕ) → clusters ≡ length / entries_per_cluster file.header.fields → ((end : ℕ) → end ≤ length * counts_per_block file.header.fields → end ≤ nameable_clusters file.header.fields → end ≤ limit)
-      → HasNoRoom view file taken t clusters limit → HasNoRoomFor view file taken t length
+      → HasNoRoomBelow view file taken t clusters limit → HasNoRoomFor view file taken t length
   no_room_for clusters length limit is below none end low near first n some is_long within =
       let less = below end low near in
       let same : n ≡ opened t (counts_per_block file.header.fields) first n + clusters = is_long ∙ ap (λ m. opened t (counts_per_block file.header.fields) first n + m) (sym is) in

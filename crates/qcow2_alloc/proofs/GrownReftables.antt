@@ -22,7 +22,7 @@ use Rattle.qcow2_alloc.specs.Allocation.{UnseenAllocatorStep, UnseenAllocatorGro
 use Rattle.qcow2_alloc.specs.ClustersToFree.{metadata_entry}
 use Rattle.qcow2_alloc.specs.FreeList.{of_data, of_tables, to_free, pending_then}
 use Rattle.qcow2_alloc.specs.Growing.{IsCloneOf}
-use Rattle.qcow2_alloc.specs.GrownTables.{named_by_entries, with_run, without_reftable, NamesReftable, EntersReftable}
+use Rattle.qcow2_alloc.specs.GrownTables.{named_by_reftable_entries, with_run, without_reftable, NamesReftable, EntersReftable}
 use Rattle.qcow2_alloc.specs.ImageFile.{FileInvariant, HasReftable}
 use Rattle.qcow2_alloc.specs.Limits.{IsFaultOr}
 use Rattle.qcow2_alloc.specs.LowestRuns.{KeepsUsed}
@@ -41,7 +41,7 @@ none_named h c e zero =
     let none : block_offset e ≡ 0 = ap block_offset zero in
     cond-true {A = ℕ} (block_offset e == 0) 0 (in_cluster h c (block_offset e)) (eq-eqb _ 0 none)
 
-named_alike : (h : HeaderFields) (old t : EntryTableView) → IsCloneOf old t → (c : ℕ) → named_by_entries h t c ≡ named_by_entries h old c
+named_alike : (h : HeaderFields) (old t : EntryTableView) → IsCloneOf old t → (c : ℕ) → named_by_reftable_entries h t c ≡ named_by_reftable_entries h old c
 named_alike h old t clone c =
     let more : entry_count old + (entry_count t - entry_count old) ≡ entry_count t = let le = clone.longer in omega arith in
     sum_below-same (entry_count t) (λ k. table_in h c (block_offset (entry_at t.bytes k))) (λ k. table_in h c (block_offset (entry_at old.bytes k))) (λ k lt. ap (λ e. table_in h c (block_offset e)) (clone.entries k))

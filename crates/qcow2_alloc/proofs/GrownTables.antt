@@ -20,7 +20,7 @@ use Rattle.qcow2_laws.proofs.Shares.{reftable_has}
 use Rattle.qcow2_laws.proofs.Sums.{sum_below-same}
 use Rattle.qcow2_alloc.specs.declared.image_file.ImageFile.{ImageFile}
 use Rattle.qcow2_alloc.specs.Allocation.{run_at, StandAt, HasNone}
-use Rattle.qcow2_alloc.specs.GrownTables.{counted_run, with_run, named_by_entries, StandsGrown}
+use Rattle.qcow2_alloc.specs.GrownTables.{counted_run, with_run, named_by_reftable_entries, StandsGrown}
 use Rattle.qcow2_alloc.specs.ImageFile.{contents_in, known_in, FileInvariant, HasReftable}
 use Rattle.qcow2_alloc.specs.MetadataCaches.{order_of, l2_tables, refblocks}
 use Rattle.qcow2_alloc.proofs.KeptTables.Getting.{cluster_aligned}
@@ -81,12 +81,12 @@ unfolding reftable_entry
 reftable_stands h b place t whole names stands = λ i. rw (names.0, names.1) (stands_entry b place (entry_count t) t.bytes (omega arith) stands i)
 
 -- how often the entries of an image's reftable name a cluster
-pub named_as : (h : HeaderFields) (b : Bytes) (t : EntryTableView) (n c : ℕ) → entry_count t ≡ n → IsRefTableOf h b t → sum_below n (λ k. table_in h c (block_offset (reftable_entry h b k))) ≡ named_by_entries h t c
+pub named_as : (h : HeaderFields) (b : Bytes) (t : EntryTableView) (n c : ℕ) → entry_count t ≡ n → IsRefTableOf h b t → sum_below n (λ k. table_in h c (block_offset (reftable_entry h b k))) ≡ named_by_reftable_entries h t c
 named_as h b t n c many is =
     ap (λ m. sum_below m (λ k. table_in h c (block_offset (reftable_entry h b k)))) (sym many)
     ∙ sum_below-same (entry_count t) (λ k. table_in h c (block_offset (reftable_entry h b k))) (λ k. table_in h c (block_offset (entry_at t.bytes k))) (λ k lt. ap (λ e. table_in h c (block_offset e)) (sym (is k)))
 
-pub named_by_table : (h : HeaderFields) (b : Bytes) (t : EntryTableView) (c : ℕ) → entry_count t ≡ reftable_entries h → IsRefTableOf h b t → named_by_reftable h b c ≡ named_by_entries h t c
+pub named_by_table : (h : HeaderFields) (b : Bytes) (t : EntryTableView) (c : ℕ) → entry_count t ≡ reftable_entries h → IsRefTableOf h b t → named_by_reftable h b c ≡ named_by_reftable_entries h t c
 unfolding named_by_reftable
 named_by_table h b t c many is = named_as h b t (reftable_entries h) c many is
 
@@ -206,7 +206,7 @@ module _ {S : Type 0} (view : S → StorageView) (p : Pending) (first blocks clu
 
   new_blocks : (c : ℕ) → named_by_reftable h' on_storage c ≡ named_by_reftable h on_storage c + run_at first blocks c
   new_blocks c =
-      let now : named_by_reftable h' on_storage c ≡ named_by_entries h t c = named_by_table h' on_storage t c many new_entries in
+      let now : named_by_reftable h' on_storage c ≡ named_by_reftable_entries h t c = named_by_table h' on_storage t c many new_entries in
       let before = named_by_table h on_storage old c has.count has.entries in
       let more = ready.grown.named c in
       omega (arith, now, before, more)

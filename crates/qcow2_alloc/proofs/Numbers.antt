@@ -9,7 +9,7 @@ use Rattle.qcow2_metadata.specs.HeaderWrite.{size_written, l1_table_pointer_writ
 use Rattle.qcow2_metadata.proofs.StillHeader.{size_still, l1_table_still, reftable_still}
 use Rattle.qcow2_metadata.proofs.WrittenHeader.{size_after, l1_table_after, reftable_after}
 use Rattle.qcow2_laws.specs.CrashInvariant.{Pending}
-use Rattle.qcow2_laws.specs.Tops.{WritesHeader, resized, with_l1_at, with_reftable_at}
+use Rattle.qcow2_laws.specs.Tops.{WritesHeader, resized_places, with_l1_at, with_reftable_at}
 use Rattle.qcow2_laws.proofs.HeaderWrites.{size_beside, l1_pointer_beside, reftable_pointer_beside}
 use Rattle.qcow2_alloc.specs.declared.image_file.ImageFile.{ImageFile}
 use Rattle.qcow2_alloc.specs.ImageFile.{view_in, known_in, FileInvariant}
@@ -38,7 +38,7 @@ module _ {S : Type 0} (view : S → StorageView) (p : Pending) (file : ImageFile
   stands = record { fields = sym sound.caches.kept.kept.guarded.top.header_is; reads = reads; backing_name = refl; backing_format = refl; data_file_name = refl }
 
   pub size_writes : (size : ℕ) → size < 2 ^ 64
-      → WritesHeader h (resized h size h.autoclear) (byte_at contents) (known_in view file) (byte_at (size_written (with_size h size) contents)) (known_of h file.caches (byte_at (size_written (with_size h size) contents)))
+      → WritesHeader h (resized_places h size h.autoclear) (byte_at contents) (known_in view file) (byte_at (size_written (with_size h size) contents)) (known_of h file.caches (byte_at (size_written (with_size h size) contents)))
   size_writes size fits =
       let limits = sound.caches.kept.kept.guarded.top.header_reads.within_limits in
       let v : HeaderView = record there { fields = with_size file.header.fields size } in

@@ -19,7 +19,7 @@ use Rattle.qcow2_laws.specs.Changes.{one_at}
 use Rattle.qcow2_laws.proofs.Sums.{sum_below-change}
 use Rattle.qcow2_alloc.specs.Allocation.{run_at, StandAt, HasNone}
 use Rattle.qcow2_alloc.specs.TableCaches.{IsBlockOf}
-use Rattle.qcow2_alloc.specs.GrownTables.{named_by_entries}
+use Rattle.qcow2_alloc.specs.GrownTables.{named_by_reftable_entries}
 use Rattle.qcow2_alloc.specs.Rooms.{lacks, opens, CountsRun}
 use Rattle.qcow2_alloc.proofs.KeptTables.Getting.{cluster_aligned}
 use Rattle.qcow2_alloc.proofs.KeptTables.Standing.{own_cluster}
@@ -31,7 +31,7 @@ pub record EntersSo (h : HeaderFields) (old t0 t : EntryTableView) (first placed
   pub keeps : (k : ℕ) → block_offset (entry_at old.bytes k) ≢ 0 → entry_at t.bytes k ≡ entry_at old.bytes k
   pub aligned : (k : ℕ) → IsAligned h (block_offset (entry_at t.bytes k))
   pub in_room : (k : ℕ) → HasNone old k → block_offset (entry_at t.bytes k) ≢ 0 → 0 < run_at first placed (block_offset (entry_at t.bytes k) / cluster_size h)
-  pub named : (c : ℕ) → named_by_entries h t c ≡ named_by_entries h t0 c + run_at first placed c
+  pub named : (c : ℕ) → named_by_reftable_entries h t c ≡ named_by_reftable_entries h t0 c + run_at first placed c
   pub covered : (c : ℕ) → first ≤ c → c < cluster → block_offset (entry_at t.bytes (c / counts_per_block h)) ≢ 0
   pub untouched : (k : ℕ) → ((c : ℕ) → first ≤ c → c < cluster → c / counts_per_block h ≢ k) → entry_at t.bytes k ≡ entry_at t0.bytes k
 
@@ -147,11 +147,11 @@ module _ (h : HeaderFields) (old t0 t : EntryTableView) (first placed cluster : 
     named_none : (c : ℕ) → table_in h c (block_offset (entry_at t.bytes range)) ≡ 0
     named_none c = cond-true {A = ℕ} (block_offset (entry_at t.bytes range) == 0) 0 _ (eq-eqb _ 0 none_now)
 
-    named_more : (c : ℕ) → named_by_entries h t' c ≡ named_by_entries h t c + one_at (first + placed) c
+    named_more : (c : ℕ) → named_by_reftable_entries h t' c ≡ named_by_reftable_entries h t c + one_at (first + placed) c
     named_more c =
         let f : ℕ → ℕ = λ k. table_in h c (block_offset (entry_at t'.bytes k)) in
         let g : ℕ → ℕ = λ k. table_in h c (block_offset (entry_at t.bytes k)) in
-        let longer : named_by_entries h t' c ≡ sum_below (entry_count t) f = ap (λ n. sum_below n f) count_same in
+        let longer : named_by_reftable_entries h t' c ≡ sum_below (entry_count t) f = ap (λ n. sum_below n f) count_same in
         let change = sum_below-change (entry_count t) f g range within (λ k lt other. ap (λ e. table_in h c (block_offset e)) (same_else k other)) in
         let here = named_here c in
         let none = named_none c in

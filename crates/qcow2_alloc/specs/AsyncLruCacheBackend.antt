@@ -20,8 +20,8 @@ abbrev pub KeepsBytes : {S K : Type 0} → (S → K → List ℕ) → S → S �
 KeepsBytes stored s t = (j : _) → stored t j ≡ stored s j
 
 -- the bytes of a modified value; for another value those that lie under it
-abbrev pub laid_over : {V : Type 0} → (V → Bool) → (V → List ℕ) → V → List ℕ → List ℕ
-laid_over is_modified bytes v under = cond (is_modified v) (bytes v) under
+abbrev pub value_laid_over : {V : Type 0} → (V → Bool) → (V → List ℕ) → V → List ℕ → List ℕ
+value_laid_over is_modified bytes v under = cond (is_modified v) (bytes v) under
 
 -- the laws of a backend
 pub record IsLawful {S K V E : Type 0} (steps : Steps S K V E) (eq : K → K → Bool) (is_modified : V → Bool) (bytes : V → List ℕ) (stored : S → K → List ℕ) (is_honest : S → Type 0) : Type 0 where
@@ -35,23 +35,23 @@ pub record IsLawful {S K V E : Type 0} (steps : Steps S K V E) (eq : K → K →
   pub flush_cleans : (s t : S) (k : K) (v w : V) → steps.flushed s k v w t → (is_modified w ≡ false) × (bytes w ≡ bytes v)
   -- on an honest store a modified value's bytes are then under the key, and no others changed
   pub flush_writes : (s t : S) (k : K) (v w : V) → steps.flushed s k v w t → is_honest s
-      → is_honest t × ((j : K) → stored t j ≡ cond (eq k j) (laid_over is_modified bytes v (stored s j)) (stored s j))
+      → is_honest t × ((j : K) → stored t j ≡ cond (eq k j) (value_laid_over is_modified bytes v (stored s j)) (stored s j))
   -- one that fails changes at most the bytes under the key of a modified value
   pub failed_flush_keeps : (s t : S) (k : K) (v : V) (e : E) → steps.flush_failed s k v e t → is_honest s
       → is_honest t × (is_modified v ≡ false → KeepsBytes stored s t) × ((j : K) → eq k j ≡ false → stored t j ≡ stored s j)
 
 module _ {S K V : Type 0} (eq : K → K → Bool) (is_modified : V → Bool) (bytes : V → List ℕ) (stored : S → K → List ℕ) where
   -- the bytes under a key: those of the store with the cached value laid over
-  abbrev pub known : S → List (K × Slot V) → K → List ℕ
-  known s es j = option_map_or (λ slot. laid_over is_modified bytes slot.value (stored s j)) (lookup (eq j) es) (stored s j)
+  abbrev pub known_under_key : S → List (K × Slot V) → K → List ℕ
+  known_under_key s es j = option_map_or (λ slot. value_laid_over is_modified bytes slot.value (stored s j)) (lookup (eq j) es) (stored s j)
 
   module _ (is_honest : S → Type 0) where
     -- on an honest store all known bytes stay
     pub record KeepsKnown (s : S) (es : List (K × Slot V)) (t : S) (fs : List (K × Slot V)) : Type 0 where
       pub honest : is_honest s → is_honest t
-      pub stays : is_honest s → (j : K) → known t fs j ≡ known s es j
+      pub stays : is_honest s → (j : K) → known_under_key t fs j ≡ known_under_key s es j
 
     -- and a value that was put in is laid over those under its key
     pub record LaysOver (k : K) (v : V) (s : S) (es : List (K × Slot V)) (t : S) (fs : List (K × Slot V)) : Type 0 where
       pub honest : is_honest s → is_honest t
-      pub laid : is_honest s → (j : K) → known t fs j ≡ cond (eq k j) (laid_over is_modified bytes v (known s es j)) (known s es j)
+      pub laid : is_honest s → (j : K) → known_under_key t fs j ≡ cond (eq k j) (value_laid_over is_modified bytes v (known_under_key s es j)) (known_under_key s es j)

@@ -83,8 +83,8 @@ module _ {S K V E : Type 0} (steps : Steps S K V E) where
       pub same : fs ≡ es
 
     -- there is room for one more entry, at once or after an eviction
-    abbrev pub HasRoom : S → List (K × Slot V) → S → List (K × Slot V) → Type 0
-    HasRoom s es t fs = ((length es < size) × (t ≡ s) × (fs ≡ es)) ⊎ Evicts s es t fs
+    abbrev pub HasRoomForEntry : S → List (K × Slot V) → S → List (K × Slot V) → Type 0
+    HasRoomForEntry s es t fs = ((length es < size) × (t ≡ s) × (fs ≡ es)) ⊎ Evicts s es t fs
 
     -- there is none, and the answer says why
     abbrev pub HasNoRoom : S → List (K × Slot V) → Result Bool (CacheError K E) → S → List (K × Slot V) → Type 0
@@ -97,25 +97,25 @@ module _ {S K V E : Type 0} (steps : Steps S K V E) where
 
     -- what `make_room` answers and leaves
     abbrev pub MakesRoom : S → List (K × Slot V) → Result Bool (CacheError K E) → S → List (K × Slot V) → Type 0
-    MakesRoom s es (Ok true) t fs = HasRoom s es t fs
+    MakesRoom s es (Ok true) t fs = HasRoomForEntry s es t fs
     MakesRoom s es (Ok false) t fs = HasNoRoom s es (Ok false) t fs
     MakesRoom s es (Err e) t fs = HasNoRoom s es (Err e) t fs
 
     module _ (k : K) where
       -- what `insert` of v at a new key answers and leaves
       abbrev pub InsertsNew : V → S → List (K × Slot V) → Result Bool (CacheError K E) → S → List (K × Slot V) → Option V → Type 0
-      InsertsNew v s es (Ok true) t fs left = ((gs : List (K × Slot V)) × HasRoom s es t gs × (fs ≡ (k, slot_of v 0) ∷ gs)) × (left ≡ None)
+      InsertsNew v s es (Ok true) t fs left = ((gs : List (K × Slot V)) × HasRoomForEntry s es t gs × (fs ≡ (k, slot_of v 0) ∷ gs)) × (left ≡ None)
       InsertsNew v s es (Ok false) t fs left = HasNoRoom s es (Ok false) t fs × (left ≡ Some v)
-      InsertsNew v s es (Err Memory) t fs left = HasRoom s es t fs × (left ≡ Some v)
+      InsertsNew v s es (Err Memory) t fs left = HasRoomForEntry s es t fs × (left ≡ Some v)
       InsertsNew v s es (Err InUse) t fs left = HasNoRoom s es (Err InUse) t fs × (left ≡ Some v)
       InsertsNew v s es (Err (Backend x)) t fs left = HasNoRoom s es (Err (Backend x)) t fs × (left ≡ Some v)
       InsertsNew v s es (Err (StillInUse _)) t fs left = ⊥
 
       -- what `get_or_insert` of a new key answers and leaves
       abbrev pub GetsNew : S → List (K × Slot V) → Result Bool (CacheError K E) → S → List (K × Slot V) → Type 0
-      GetsNew s es (Ok true) t fs = (r : S) × (gs : List (K × Slot V)) × (v : V) × HasRoom s es r gs × steps.loaded r k v t × (fs ≡ (k, slot_of v 0) ∷ gs)
+      GetsNew s es (Ok true) t fs = (r : S) × (gs : List (K × Slot V)) × (v : V) × HasRoomForEntry s es r gs × steps.loaded r k v t × (fs ≡ (k, slot_of v 0) ∷ gs)
       GetsNew s es (Ok false) t fs = HasNoRoom s es (Ok false) t fs
-      GetsNew s es (Err Memory) t fs = (r : S) × (v : V) × HasRoom s es r fs × steps.loaded r k v t
+      GetsNew s es (Err Memory) t fs = (r : S) × (v : V) × HasRoomForEntry s es r fs × steps.loaded r k v t
       GetsNew s es (Err InUse) t fs = HasNoRoom s es (Err InUse) t fs
-      GetsNew s es (Err (Backend x)) t fs = HasNoRoom s es (Err (Backend x)) t fs ⊎ ((r : S) × HasRoom s es r fs × steps.load_failed r k x t)
+      GetsNew s es (Err (Backend x)) t fs = HasNoRoom s es (Err (Backend x)) t fs ⊎ ((r : S) × HasRoomForEntry s es r fs × steps.load_failed r k x t)
       GetsNew s es (Err (StillInUse _)) t fs = ⊥

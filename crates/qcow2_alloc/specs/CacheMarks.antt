@@ -20,7 +20,7 @@ module _ {S : Type 0} where
   l2_pins caches cluster = option_map_or (λ s. s.pins) (lookup (λ k. cluster == k) caches.l2.entries) 0
 
   -- there is always an entry for a refblock: none is pinned; and there is one for an L2 table where none of those is
-  pub record HasRoom (caches : MetadataCaches S) : Type 0 where
+  pub record CachesHaveRoom (caches : MetadataCaches S) : Type 0 where
     pub tables : 0 < caches.l2.size
     pub some : 0 < caches.rb.size
     pub free : pinned caches.rb.entries ≡ []
@@ -28,7 +28,7 @@ module _ {S : Type 0} where
   -- pins stay, and a change that was noted stays noted
   pub record KeepsMarks (old new : MetadataCaches S) : Type 0 where
     pub pins : (cluster : ℕ) → l2_pins new cluster ≡ l2_pins old cluster
-    pub room : HasRoom old → HasRoom new
+    pub room : CachesHaveRoom old → CachesHaveRoom new
     pub changed : IsTrue old.is_changed → IsTrue new.is_changed
 
   -- the same tables in the same order
@@ -39,7 +39,7 @@ module _ {S : Type 0} where
     pub refblocks : refblocks new ≡ refblocks old
     pub l2_at : (cluster : ℕ) → l2_at new cluster ≡ l2_at old cluster
     pub order : order_of new ≡ order_of old
-    pub room : HasRoom old → HasRoom new
+    pub room : CachesHaveRoom old → CachesHaveRoom new
 
   -- the L2 table of a cluster has so many pins, and the others have as many as before
   pub record SetsPins (old new : MetadataCaches S) (cluster pins : ℕ) : Type 0 where

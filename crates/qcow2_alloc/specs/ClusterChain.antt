@@ -4,9 +4,9 @@ use Rattle.qcow2_alloc.specs.declared.clusters_to_free.Node.{Node, Node', Held-N
 
 -- the entries of a chain of nodes, newest first
 abbrev mutual
-  pub entries_of : Node → List ClustersToFreeEntry
-  entries_of (Node' entry next) = entry ∷ entries_behind next
+  pub chain_entries_of : Node → List ClustersToFreeEntry
+  chain_entries_of (Node' entry next) = entry ∷ entries_behind next
 
   pub entries_behind : Held-Node-next → List ClustersToFreeEntry
   entries_behind None' = []
-  entries_behind (Some' p n) = entries_of n
+  entries_behind (Some' p n) = chain_entries_of n

@@ -4,12 +4,12 @@ use Rattle.std.specs.declared.boxed.Box.{Box}
 use Rattle.qcow2_alloc.specs.declared.clusters_to_free.ClustersToFreeEntry.{ClustersToFreeEntry}
 use Rattle.qcow2_alloc.specs.declared.clusters_to_free.Node.{Node}
 use Rattle.qcow2_alloc.specs.declared.clusters_to_free.ClusterKind.TheVariants.{Data, Metadata}
-use Rattle.qcow2_alloc.specs.ClusterChain.{entries_of}
+use Rattle.qcow2_alloc.specs.ClusterChain.{chain_entries_of}
 
 -- the entries behind a link, newest first
 abbrev pub entries_at : {A : Type 0} → Option (Box Node A) → List ClustersToFreeEntry
 entries_at None = []
-entries_at (Some b) = entries_of b.value
+entries_at (Some b) = chain_entries_of b.value
 
 abbrev pub data_entry : ℕ → ℕ → ClustersToFreeEntry
 data_entry first n = record { first_cluster = first; count = n; kind = Data }

@@ -35,8 +35,8 @@ abbrev pub without_reftable : Pending → HeaderFields → Pending
 without_reftable p h = record p { spent = λ c. p.spent c + reftable_at h c }
 
 -- how often entries of the reftable name a cluster
-abbrev pub named_by_entries : HeaderFields → EntryTableView → ℕ → ℕ
-named_by_entries h t c = sum_below (entry_count t) (λ k. table_in h c (block_offset (entry_at t.bytes k)))
+abbrev pub named_by_reftable_entries : HeaderFields → EntryTableView → ℕ → ℕ
+named_by_reftable_entries h t c = sum_below (entry_count t) (λ k. table_in h c (block_offset (entry_at t.bytes k)))
 
 -- A longer reftable has the old entries, and names refblocks in so many clusters from first on. It is to lie in the clusters behind them, and has entries for all of these.
 pub record IsGrown (h : HeaderFields) (old t : EntryTableView) (first blocks clusters : ℕ) : Type 0 where
@@ -46,7 +46,7 @@ pub record IsGrown (h : HeaderFields) (old t : EntryTableView) (first blocks clu
   pub keeps : (k : ℕ) → block_offset (entry_at old.bytes k) ≢ 0 → entry_at t.bytes k ≡ entry_at old.bytes k
   pub aligned : (k : ℕ) → IsAligned h (block_offset (entry_at t.bytes k))
   pub placed : (k : ℕ) → HasNone old k → block_offset (entry_at t.bytes k) ≢ 0 → 0 < run_at first blocks (block_offset (entry_at t.bytes k) / cluster_size h)
-  pub named : (c : ℕ) → named_by_entries h t c ≡ named_by_entries h old c + run_at first blocks c
+  pub named : (c : ℕ) → named_by_reftable_entries h t c ≡ named_by_reftable_entries h old c + run_at first blocks c
   pub covered : (c : ℕ) → 0 < run_at first (blocks + clusters) c → block_offset (entry_at t.bytes (c / counts_per_block h)) ≢ 0
 
 module _ {S : Type 0} (view : S → StorageView) where

@@ -11,51 +11,51 @@ use Rattle.qcow2_alloc.specs.declared.async_lru_cache.error.CacheError.TheVarian
 use Rattle.qcow2_alloc.specs.declared.error.ImageError.{ImageError}
 use Rattle.qcow2_alloc.specs.declared.error.ImageError.TheVariants as I
 
-abbrev pub number_of : ImageError → ℕ
-number_of I.ReadOnly = 1
-number_of I.BeyondSize = 2
-number_of I.Version = 3
-number_of I.UnalignedTable = 4
-number_of I.InvalidOption = 5
-number_of I.Preallocation = 6
-number_of I.Compressed = 7
-number_of I.InUse = 8
-number_of I.TablePrepared = 9
-number_of I.OutdatedMapping = 10
-number_of I.ForeignState = 11
-number_of I.Dependency = 12
-number_of I.Limit = 13
-number_of I.Memory = 14
-number_of I.Storage = 15
-number_of I.Failed = 16
-number_of I.MappingPrepared = 17
-number_of (I.NotCompressed offset) = 18
-number_of I.Metadata = 19
-number_of I.Overflow = 20
-number_of (I.StillInUse tables) = 21
+abbrev pub error_number_of : ImageError → ℕ
+error_number_of I.ReadOnly = 1
+error_number_of I.BeyondSize = 2
+error_number_of I.Version = 3
+error_number_of I.UnalignedTable = 4
+error_number_of I.InvalidOption = 5
+error_number_of I.Preallocation = 6
+error_number_of I.Compressed = 7
+error_number_of I.InUse = 8
+error_number_of I.TablePrepared = 9
+error_number_of I.OutdatedMapping = 10
+error_number_of I.ForeignState = 11
+error_number_of I.Dependency = 12
+error_number_of I.Limit = 13
+error_number_of I.Memory = 14
+error_number_of I.Storage = 15
+error_number_of I.Failed = 16
+error_number_of I.MappingPrepared = 17
+error_number_of (I.NotCompressed offset) = 18
+error_number_of I.Metadata = 19
+error_number_of I.Overflow = 20
+error_number_of (I.StillInUse tables) = 21
 
-abbrev pub kind_of : ImageError → ErrorKind
-kind_of I.ReadOnly = Kind.Other
-kind_of I.BeyondSize = Kind.UnexpectedEof
-kind_of I.Version = Kind.Unsupported
-kind_of I.UnalignedTable = Kind.InvalidData
-kind_of I.InvalidOption = Kind.InvalidInput
-kind_of I.Preallocation = Kind.Unsupported
-kind_of I.Compressed = Kind.Unsupported
-kind_of I.InUse = Kind.Other
-kind_of I.TablePrepared = Kind.Other
-kind_of I.OutdatedMapping = Kind.Other
-kind_of I.ForeignState = Kind.InvalidInput
-kind_of I.Dependency = Kind.Other
-kind_of I.Limit = Kind.Other
-kind_of I.Memory = Kind.OutOfMemory
-kind_of I.Storage = Kind.Other
-kind_of I.Failed = Kind.Other
-kind_of I.MappingPrepared = Kind.Other
-kind_of (I.NotCompressed offset) = Kind.Other
-kind_of I.Metadata = Kind.InvalidData
-kind_of I.Overflow = Kind.InvalidInput
-kind_of (I.StillInUse tables) = Kind.Other
+abbrev pub error_kind_of : ImageError → ErrorKind
+error_kind_of I.ReadOnly = Kind.Other
+error_kind_of I.BeyondSize = Kind.UnexpectedEof
+error_kind_of I.Version = Kind.Unsupported
+error_kind_of I.UnalignedTable = Kind.InvalidData
+error_kind_of I.InvalidOption = Kind.InvalidInput
+error_kind_of I.Preallocation = Kind.Unsupported
+error_kind_of I.Compressed = Kind.Unsupported
+error_kind_of I.InUse = Kind.Other
+error_kind_of I.TablePrepared = Kind.Other
+error_kind_of I.OutdatedMapping = Kind.Other
+error_kind_of I.ForeignState = Kind.InvalidInput
+error_kind_of I.Dependency = Kind.Other
+error_kind_of I.Limit = Kind.Other
+error_kind_of I.Memory = Kind.OutOfMemory
+error_kind_of I.Storage = Kind.Other
+error_kind_of I.Failed = Kind.Other
+error_kind_of I.MappingPrepared = Kind.Other
+error_kind_of (I.NotCompressed offset) = Kind.Other
+error_kind_of I.Metadata = Kind.InvalidData
+error_kind_of I.Overflow = Kind.InvalidInput
+error_kind_of (I.StillInUse tables) = Kind.Other
 
 abbrev pub of_storage : StorageError → ImageError
 of_storage S.Fault = I.Storage

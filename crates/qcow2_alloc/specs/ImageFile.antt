@@ -11,7 +11,7 @@ use Rattle.qcow2_laws.specs.Caches.{AreSettled}
 use Rattle.qcow2_laws.specs.SafeSteps.{DriverState, SafeStep}
 use Rattle.qcow2_laws.specs.Unseen.{IsUnseen, SameL1Table}
 pub use Rattle.qcow2_alloc.specs.ImageError.{IsFault}
-pub use Rattle.qcow2_alloc.specs.CacheMarks.{l2_pins, HasRoom, KeepsMarks}
+pub use Rattle.qcow2_alloc.specs.CacheMarks.{l2_pins, CachesHaveRoom, KeepsMarks}
 use Rattle.qcow2_alloc.specs.ImageStorage.{storage_of}
 use Rattle.qcow2_alloc.specs.MetadataCaches.{order_of, refblocks, known_of, CacheInvariant}
 use Rattle.qcow2_alloc.specs.declared.allocation.Allocator.{Allocator}
@@ -51,7 +51,7 @@ module _ {S : Type 0} where
       pub honest : (view_in file).is_honest
       pub caches : CacheInvariant file.header.fields p file.caches (contents_in file)
       pub settled : AreSettled file.header.fields (refblocks file.caches) (contents_in file)
-      pub room : HasRoom file.caches
+      pub room : CachesHaveRoom file.caches
 
     -- the allocator's reftable is the one on the storage
     pub record HasReftable (file : ImageFile S) (reftable : EntryTableView) : Type 0 where

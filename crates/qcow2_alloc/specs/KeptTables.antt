@@ -33,9 +33,9 @@ AreLoaded size IsNamed (t ∷ ts) on_storage =
     (t.place % size ≡ 0) × AreElsewhere t.place ts × (t.is_modified ≡ false → IsNamed (t.place / size) → IsCurrent size t on_storage) × AreLoaded size IsNamed ts on_storage
 
 -- each value is fit
-abbrev pub AllFit : {V : Type 0} → (V → Type 0) → List (ℕ × Slot V) → Type 0
-AllFit IsFit [] = Unit {0}
-AllFit IsFit (e ∷ es) = IsFit e.1.value × AllFit IsFit es
+abbrev pub AllValuesFit : {V : Type 0} → (V → Type 0) → List (ℕ × Slot V) → Type 0
+AllValuesFit IsFit [] = Unit {0}
+AllValuesFit IsFit (e ∷ es) = IsFit e.1.value × AllValuesFit IsFit es
 
 -- What is kept of the L2 tables and the refblocks of the caches over the bytes of a storage.
 pub record AreKept (h : HeaderFields) (d : Direction) (p : Pending) (l2s rbs : List CachedTable) (on_storage : Bytes) : Type 0 where

@@ -29,14 +29,14 @@ module _ {S : Type 0} (view : S → StorageView) (file : ImageFile S) where
   IsFull n = (start : ℕ) → start + n ≤ nameable_clusters file.header.fields → (k : ℕ) × (start ≤ k) × (k < start + n) × IsUsed view file k
 
   -- Below an end there is no room for so many clusters of a reftable and the refblocks that they lack. One of them is in use, or one of those that were taken before.
-  abbrev pub HasNoRoom : (ℕ → ℕ) → EntryTableView → ℕ → ℕ → Type 0
-  HasNoRoom taken t clusters end =
+  abbrev pub HasNoRoomBelow : (ℕ → ℕ) → EntryTableView → ℕ → ℕ → Type 0
+  HasNoRoomBelow taken t clusters end =
       (first n : ℕ) → 0 < first → n ≡ opened t (counts_per_block file.header.fields) first n + clusters → first + n ≤ end
       → (k : ℕ) × (first ≤ k) × (k < first + n) × (IsUsed view file k ⊎ (0 < taken k))
 
   -- so it is for a reftable of so many entries, below the clusters that it has entries for, and those that can be named
   abbrev pub HasNoRoomFor : (ℕ → ℕ) → EntryTableView → ℕ → Type 0
-  HasNoRoomFor taken t length = (end : ℕ) → end ≤ length * counts_per_block file.header.fields → end ≤ nameable_clusters file.header.fields → HasNoRoom taken t (length / entries_per_cluster file.header.fields) end
+  HasNoRoomFor taken t length = (end : ℕ) → end ≤ length * counts_per_block file.header.fields → end ≤ nameable_clusters file.header.fields → HasNoRoomBelow taken t (length / entries_per_cluster file.header.fields) end
 
   -- of each lower room for so many clusters of a reftable, below an end, a cluster is in use that isn't of this one
   abbrev pub IsLowestRoom : EntryTableView → ℕ → ℕ → ℕ → Type 0

@@ -26,7 +26,7 @@ use Rattle.qcow2_alloc.specs.declared.error.ImageError.{ImageError}
 use Rattle.qcow2_alloc.specs.declared.image_storage.ImageStorage.{ImageStorage}
 use Rattle.qcow2_alloc.specs.ImageStorage.{storage_of}
 use Rattle.qcow2_alloc.specs.TableCaches.{IsTableOf, IsBlockOf}
-use Rattle.qcow2_alloc.specs.KeptTables.{cached_tables, AllFit, AreKept, IsSafeSince, IsInOrderSince}
+use Rattle.qcow2_alloc.specs.KeptTables.{cached_tables, AllValuesFit, AreKept, IsSafeSince, IsInOrderSince}
 
 -- the header says the same of tables
 pub record HasFormat (g h : HeaderFields) : Type 0 where
@@ -97,8 +97,8 @@ module _ {S : Type 0} where
   pub record CacheInvariant (h : HeaderFields) (p : Pending) (caches : MetadataCaches S) (on_storage : Bytes) : Type 0 where
     pub l2_format : HasFormat caches.l2.backend.header.fields h
     pub rb_format : HasFormat caches.rb.backend.header.fields h
-    pub l2_fit : AllFit (IsTableOf caches.l2.backend.header.fields) caches.l2.entries
-    pub rb_fit : AllFit (IsBlockOf caches.rb.backend.header.fields) caches.rb.entries
+    pub l2_fit : AllValuesFit (IsTableOf caches.l2.backend.header.fields) caches.l2.entries
+    pub rb_fit : AllValuesFit (IsBlockOf caches.rb.backend.header.fields) caches.rb.entries
     pub kept : AreKept h (order_of caches) p (l2_tables caches) (refblocks caches) on_storage
 
   -- they are sound again, nothing known changes, no refblock is new, and a stop is as safe as before
@@ -194,8 +194,8 @@ module _ {S : Type 0} where
     pub sound : (p : Pending) → AreSettled h (refblocks caches) on_storage → CrashInvariant h (order_of caches') p on_storage (known_of h caches' on_storage) → CacheInvariant h p caches' on_storage
 
   -- an entry of the held table of a cluster, whose L1 entry is marked copied, becomes copied data at a host cluster
-  abbrev pub MapsEntry : MetadataCaches S → MetadataCaches S → ℕ → ℕ → ℕ → Option (ℕ × ℕ) → Type 0
-  MapsEntry caches caches' table index host answer =
+  abbrev pub MapsCachedEntry : MetadataCaches S → MetadataCaches S → ℕ → ℕ → ℕ → Option (ℕ × ℕ) → Type 0
+  MapsCachedEntry caches caches' table index host answer =
       (h : HeaderFields) (p : Pending) (on_storage : Bytes) (i : ℕ) → CacheInvariant h p caches on_storage → IsEntryAt h (known_of h caches on_storage) i table index → is_copied (l1_entry h on_storage i) ≡ true → IsSome (l2_at caches table) → IsHostCluster h.cluster_bits host
       → MadeEntry h caches caches' on_storage i index (copied_entry (host * cluster_size h)) answer
 

@@ -12,7 +12,7 @@ use Rattle.qcow2_laws.specs.Changes.{one_at, with_fresh}
 use Rattle.qcow2_laws.specs.CrashInvariant.{Pending, SameIn}
 use Rattle.qcow2_laws.specs.Tops.{IsSameOutside}
 use Rattle.qcow2_alloc.specs.Allocation.{run_at, StandAt, HasNone, UnseenAllocatorStep}
-use Rattle.qcow2_alloc.specs.GrownTables.{with_run, named_by_entries, IsGrown}
+use Rattle.qcow2_alloc.specs.GrownTables.{with_run, named_by_reftable_entries, IsGrown}
 use Rattle.qcow2_alloc.specs.ImageFile.{contents_in, IsFault, RefusedFileStep}
 use Rattle.qcow2_alloc.specs.MetadataCaches.{rb_at}
 use Rattle.qcow2_alloc.specs.declared.allocation.Allocator.{Allocator}
@@ -38,8 +38,8 @@ abbrev pub opened : EntryTableView → ℕ → ℕ → ℕ → ℕ
 opened t per first n = sum_below n (λ i. one_if (opens t per first (first + i)))
 
 -- how many clusters a room has
-abbrev pub length_of : Room → ℕ
-length_of room = room.blocks + room.clusters
+abbrev pub room_length : Room → ℕ
+room_length room = room.blocks + room.clusters
 
 module _ {S : Type 0} (view : S → StorageView) (p : Pending) (old : ImageFile S) (allocator' : Allocator) (new : ImageFile S) where
   -- a cluster is taken where it is counted anywhere, or it is in use
@@ -55,7 +55,7 @@ module _ {S : Type 0} (view : S → StorageView) (p : Pending) (old : ImageFile 
 
   -- the clusters of a room are
   abbrev pub TakesRoom : EntryTableView → Result Room ImageError → Type 0
-  TakesRoom t (Ok room) = UnseenAllocatorStep view p old allocator' new (with_run p old.header.fields t room.first (length_of room))
+  TakesRoom t (Ok room) = UnseenAllocatorStep view p old allocator' new (with_run p old.header.fields t room.first (room_length room))
   TakesRoom t (Err e) = RefusedFileStep view p old allocator' new e
 
 -- a longer reftable in memory has the same entries, and needs so many clusters
@@ -64,7 +64,7 @@ pub record IsLonger (h : HeaderFields) (old t : EntryTableView) (clusters : ℕ)
   pub long : length t.bytes ≡ clusters * cluster_size h
   pub whole : 8 * entry_count t ≡ clusters * cluster_size h
   pub entries : (k : ℕ) → entry_at t.bytes k ≡ entry_at old.bytes k
-  pub named : (c : ℕ) → named_by_entries h t c ≡ named_by_entries h old c
+  pub named : (c : ℕ) → named_by_reftable_entries h t c ≡ named_by_reftable_entries h old c
 
 -- count i of the refblock is that of cluster begin + i: 1 for each one of n from first on
 abbrev pub CountsRun : HeaderFields → RefBlockView → ℕ → ℕ → ℕ → Type 0
@@ -97,7 +97,7 @@ module _ {S : Type 0} (view : S → StorageView) where
     pub record HasPlaced (before after : EntryTableView) (room : Room) : Type 0 where
       pub becomes : UnseenAllocatorStep view q old allocator new q
       pub grown : IsGrown old.header.fields before (placed_at after (room.first + room.blocks)) room.first room.blocks room.clusters
-      pub counts : StandCounting new before after room.first (length_of room)
+      pub counts : StandCounting new before after room.first (room_length room)
       pub uncached : (c : ℕ) → 0 < run_at room.first room.blocks c → rb_at new.caches c ≡ None
 
     abbrev pub PlacesBlocks : EntryTableView → EntryTableView → Room → Result (Unit {0}) ImageError → Type 0

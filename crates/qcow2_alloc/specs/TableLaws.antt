@@ -7,7 +7,7 @@ use Rattle.image_access.specs.Contents.{bytes_at, overwritten}
 use Rattle.image_access.specs.Moments.{StorageView}
 use Rattle.image_access.proofs.Bytes.{bytes_at-overwritten, bytes_at-overwritten_apart}
 use Rattle.qcow2_metadata.specs.declared.error.MetadataError.{MetadataError}
-use Rattle.qcow2_alloc.specs.AsyncLruCacheBackend.{laid_over, IsLawful}
+use Rattle.qcow2_alloc.specs.AsyncLruCacheBackend.{value_laid_over, IsLawful}
 use Rattle.qcow2_alloc.specs.TableSteps.{LoadsTable, FailsToLoad, FlushesTable, FailsToFlush, table_steps}
 
 pub same_number : (k j : ℕ) → eqb k j ≡ true → k ≡ j
@@ -61,7 +61,7 @@ module _ {S V : Type 0} (view : S → StorageView) (cluster_bits : ℕ) (bytes :
   failed_load_keeps s t k e h honest = (h.calls.honest honest, λ j. same_at s t j (h.keeps honest))
 
   flush_writes : (s t : S) (k : ℕ) (v w : V) → FlushesTable view cluster_bits bytes is_modified cleared IsFit s k v w t → (view s).is_honest
-      → (view t).is_honest × ((j : ℕ) → at t j ≡ cond (eqb k j) (laid_over is_modified bytes v (at s j)) (at s j))
+      → (view t).is_honest × ((j : ℕ) → at t j ≡ cond (eqb k j) (value_laid_over is_modified bytes v (at s j)) (at s j))
   flush_writes s t k v w h honest = (
     h.calls.honest honest,
     (elim (is_modified v) as (λ m. is_modified v ≡ m → (j : ℕ) → at t j ≡ cond (eqb k j) (cond m (bytes v) (at s j)) (at s j)) [

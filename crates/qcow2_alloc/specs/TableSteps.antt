@@ -10,54 +10,54 @@ use Rattle.qcow2_metadata.specs.TableBytes.{HasPlace, IsOfStorageOrMemory}
 use Rattle.qcow2_alloc.specs.AsyncLruCacheBackend.{Steps}
 
 -- the storage's answer in a step that is done, or refused
-abbrev pub done : Result (Unit {0}) StorageError
-done = Ok tt
+abbrev pub answer_done : Result (Unit {0}) StorageError
+answer_done = Ok tt
 
-abbrev pub refused : MetadataError → Result (Unit {0}) StorageError
-refused e = storage_result {T = Unit {0}} (Err e)
+abbrev pub answer_refused : MetadataError → Result (Unit {0}) StorageError
+answer_refused e = storage_result {T = Unit {0}} (Err e)
 
 -- the storage failed
-abbrev pub IsFault : MetadataError → Type 0
-IsFault e = IsErrOf (refused e) Fault
+abbrev pub IsTableFault : MetadataError → Type 0
+IsTableFault e = IsErrOf (answer_refused e) Fault
 
 module _ {S V : Type 0} (view : S → StorageView) (cluster_bits : ℕ) (bytes : V → List ℕ) (is_modified : V → Bool) (cleared : V → V) (IsFit : V → Type 0) where
   -- where a cluster begins
-  abbrev pub place_of : ℕ → ℕ
-  place_of k = k * 2 ^ cluster_bits
+  abbrev pub place_of_cluster : ℕ → ℕ
+  place_of_cluster k = k * 2 ^ cluster_bits
 
   -- an unmodified table with the bytes of its cluster
   pub record LoadsTable (s : S) (k : ℕ) (v : V) (t : S) : Type 0 where
     pub unmodified : is_modified v ≡ false
     pub fits : IsFit v
-    pub read : (view s).is_honest → bytes v ≡ bytes_at (view s).contents (place_of k) (2 ^ cluster_bits)
-    pub calls : Calls (view s) (view t) done
+    pub read : (view s).is_honest → bytes v ≡ bytes_at (view s).contents (place_of_cluster k) (2 ^ cluster_bits)
+    pub calls : Calls (view s) (view t) answer_done
     pub keeps : ContentsStay (view s) (view t)
 
   -- a cluster that has a place is refused by the storage, or for memory
   pub record FailsToLoad (s : S) (k : ℕ) (e : MetadataError) (t : S) : Type 0 where
     pub cause : HasPlace cluster_bits k → IsOfStorageOrMemory e
-    pub calls : Calls (view s) (view t) (refused e)
+    pub calls : Calls (view s) (view t) (answer_refused e)
     pub keeps : ContentsStay (view s) (view t)
 
   -- the table's bytes stand in its cluster
-  pub record IsWritten (s : S) (k : ℕ) (v : V) (t : S) : Type 0 where
+  pub record IsTableWritten (s : S) (k : ℕ) (v : V) (t : S) : Type 0 where
     pub fits : length (bytes v) ≡ 2 ^ cluster_bits
-    pub written : (view s).is_honest → (view t).contents ≡ overwritten (view s).contents (place_of k) (bytes v)
+    pub written : (view s).is_honest → (view t).contents ≡ overwritten (view s).contents (place_of_cluster k) (bytes v)
 
   -- one that is modified is written, another one isn't; then it isn't modified
   pub record FlushesTable (s : S) (k : ℕ) (v w : V) (t : S) : Type 0 where
     pub clean : w ≡ cleared v
     pub skips : is_modified v ≡ false → ContentsStay (view s) (view t)
-    pub writes : is_modified v ≡ true → IsWritten s k v t
-    pub calls : Calls (view s) (view t) done
+    pub writes : is_modified v ≡ true → IsTableWritten s k v t
+    pub calls : Calls (view s) (view t) answer_done
 
   -- only a modified one fails; it was written whole or not at all
   pub record FailsToFlush (s : S) (k : ℕ) (v : V) (e : MetadataError) (t : S) : Type 0 where
     pub modified : is_modified v ≡ true
     pub cause : IsFit v → HasPlace cluster_bits k → IsOfStorageOrMemory e
     pub stopped : (view s).is_honest → ((view t).contents ≡ (view s).contents)
-        ⊎ ((length (bytes v) ≡ 2 ^ cluster_bits) × ((view t).contents ≡ overwritten (view s).contents (place_of k) (bytes v)))
-    pub calls : Calls (view s) (view t) (refused e)
+        ⊎ ((length (bytes v) ≡ 2 ^ cluster_bits) × ((view t).contents ≡ overwritten (view s).contents (place_of_cluster k) (bytes v)))
+    pub calls : Calls (view s) (view t) (answer_refused e)
 
   abbrev pub table_steps : Steps S ℕ V MetadataError
   table_steps = record {

@@ -10,13 +10,13 @@ ghost use Rattle.qcow2_alloc.specs.ImageError.{IsOfTables, IsFault};
 ghost use Rattle.qcow2_alloc.specs.ImageStorage.{storage_of};
 ghost use Rattle.qcow2_alloc.specs.AsyncLruCache.{can_remove};
 ghost use Rattle.qcow2_alloc.specs.TableCaches.{IsTableOf, IsBlockOf};
-ghost use Rattle.qcow2_alloc.specs.MetadataCaches.{order_of, l2_at, rb_at, l2_tables, refblocks, known_of, AreAllWritten, CacheInvariant, KeepSound, PutSound, RefusesBy, PutRefusesBy, RaisesCount, LowersCount, TellsZero, RaisesZero, LowersSome, MapsEntry, ZeroesEntry, DiscardsEntry, NotesEntry, NotesHeld, ShowsKnown, TakesOff, TakesBlock, LaysTable, LaysBlock, WritesInOrder};
+ghost use Rattle.qcow2_alloc.specs.MetadataCaches.{order_of, l2_at, rb_at, l2_tables, refblocks, known_of, AreAllWritten, CacheInvariant, KeepSound, PutSound, RefusesBy, PutRefusesBy, RaisesCount, LowersCount, TellsZero, RaisesZero, LowersSome, MapsCachedEntry, ZeroesEntry, DiscardsEntry, NotesEntry, NotesHeld, ShowsKnown, TakesOff, TakesBlock, LaysTable, LaysBlock, WritesInOrder};
 ghost use Rattle.qcow2_metadata.specs.L2Mapping.{IsHostCluster};
 ghost use Rattle.qcow2_metadata.specs.L2Table.{entries_of, cover_at, copied_entry, zero_entry, copied_host};
 ghost use Rattle.qcow2_alloc.specs.TableChanges.{CountsMore, CountsLess, SetsEntry};
 ghost use Rattle.qcow2_alloc.specs.Quiet.{WritesNothing, GetsTableQuietly, GetsBlockQuietly, PutsTableQuietly, PutsBlockQuietly, OtherTablesStay, OtherBlocksStay};
 ghost use Rattle.qcow2_alloc.specs.Faults.{CountsFaults};
-ghost use Rattle.qcow2_alloc.specs.CacheMarks.{l2_pins, HasRoom, KeepsMarks, SameTables, SetsPins, IsInUseOrFault, LeavesPinned};
+ghost use Rattle.qcow2_alloc.specs.CacheMarks.{l2_pins, CachesHaveRoom, KeepsMarks, SameTables, SetsPins, IsInUseOrFault, LeavesPinned};
 
 mod backends;
 
@@ -58,7 +58,7 @@ impl<S: Storage> MetadataCaches<S> {
         ensures settled { IfOk result (λ caches. (on_storage : Bytes) → AreSettled header.now.fields (refblocks caches) on_storage) }
         ensures order { IfOk result (λ caches. order_of caches ≡ Neither) }
         ensures sizes { IfOk result (λ caches. (caches.l2.size ≡ l2_entries) × (caches.rb.size ≡ rb_entries)) }
-        ensures room { IfOk result (λ caches. 0 < l2_entries → 0 < rb_entries → HasRoom caches) }
+        ensures room { IfOk result (λ caches. 0 < l2_entries → 0 < rb_entries → CachesHaveRoom caches) }
         ensures pins { IfOk result (λ caches. (cluster : ℕ) → l2_pins caches cluster ≡ 0) }
         ensures unchanged { IfOk result (λ caches. IsFalse caches.is_changed) }
     {
@@ -282,7 +282,7 @@ impl<S: Storage> MetadataCaches<S> {
         ensures order { order_of self.new ≡ order_of self.old }
         ensures held { OnOk result (IsSome (rb_at self.new cluster)) }
         ensures marks { KeepsMarks self.old self.new }
-        ensures faults { HasRoom self.old → (h : HeaderFields) → HasPlace h.cluster_bits cluster → RefusesBy IsFault S.view storage.old self.old h result }
+        ensures faults { CachesHaveRoom self.old → (h : HeaderFields) → HasPlace h.cluster_bits cluster → RefusesBy IsFault S.view storage.old self.old h result }
         ensures keeps { KeepSound S.view storage.old self.old storage.new self.new }
         ensures ordered { WritesInOrder S.view storage.old self.old storage.new }
         ensures quiet { GetsBlockQuietly self.old cluster → WritesNothing S.view storage.old storage.new }
@@ -346,7 +346,7 @@ impl<S: Storage> MetadataCaches<S> {
         ensures order { order_of self.new ≡ order_of self.old }
         ensures held { OnOk result (IfSome block.cluster (λ cluster. rb_at self.new cluster ≡ Some block)) }
         ensures marks { KeepsMarks self.old self.new }
-        ensures faults { HasRoom self.old → PutRefusesBy IsFault S.view storage.old self.old (λ h. IsBlockOf h block) block.cluster block.bytes block.is_modified result }
+        ensures faults { CachesHaveRoom self.old → PutRefusesBy IsFault S.view storage.old self.old (λ h. IsBlockOf h block) block.cluster block.bytes block.is_modified result }
         ensures keeps { PutSound S.view storage.old self.old storage.new self.new (λ h. IsBlockOf h block) block.cluster block.bytes block.is_modified }
         ensures laid { OnOk result (LaysBlock S.view storage.old self.old storage.new self.new block) }
         ensures refused { OnErr result (KeepSound S.view storage.old self.old storage.new self.new) }
@@ -417,7 +417,7 @@ impl<S: Storage> MetadataCaches<S> {
         ensures marks { KeepsMarks self.old self.new }
         ensures taken { IsTrue result → TakesBlock self.old self.new cluster }
         ensures clean { AreClean (refblocks self.old) → AreClean (refblocks self.new) }
-        ensures gone { (h : HeaderFields) (p : Pending) (on_storage : Bytes) → CacheInvariant h p self.old on_storage → HasRoom self.old → rb_at self.new cluster ≡ None }
+        ensures gone { (h : HeaderFields) (p : Pending) (on_storage : Bytes) → CacheInvariant h p self.old on_storage → CachesHaveRoom self.old → rb_at self.new cluster ≡ None }
     {
         self.rb.remove(cluster)
     }
@@ -498,7 +498,7 @@ impl<S: Storage> MetadataCaches<S> {
     ) -> Option<(HostCluster, ClusterCount)>
         ensures order { order_of self.new ≡ order_of self.old }
         ensures marks { KeepsMarks self.old self.new }
-        ensures mapped { MapsEntry self.old self.new cluster index host result }
+        ensures mapped { MapsCachedEntry self.old self.new cluster index host result }
         ensures noted { NotesEntry self.old self.new cluster index host }
         ensures entry { IfSome (l2_at self.old cluster) (λ t. index < entries_of t → IsHostCluster t.cluster_bits host → SetsEntry self.old self.new cluster index t (copied_entry (host * 2 ^ t.cluster_bits)) result) }
         ensures refused { IfSome (l2_at self.old cluster) (λ t. index < entries_of t → IsHostCluster t.cluster_bits host → ⊥) → (result ≡ None) × (self.new ≡ self.old) }

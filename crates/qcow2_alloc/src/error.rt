@@ -76,11 +76,11 @@ pub enum ImageError {
 }
 
 impl ImageError {
-    ghost use Rattle.qcow2_alloc.specs.ImageError.{number_of, kind_of};
+    ghost use Rattle.qcow2_alloc.specs.ImageError.{error_number_of, error_kind_of};
 
     /// The refusal's number, from 1 to 21.
     pub fn number(&self) -> u8
-        ensures { result ≡ number_of self.now }
+        ensures { result ≡ error_number_of self.now }
     {
         match self {
             ImageError::ReadOnly => 1,
@@ -109,7 +109,7 @@ impl ImageError {
 
     /// The kind of the operating system's errors that it is like.
     pub fn kind(&self) -> ErrorKind
-        ensures { result ≡ kind_of self.now }
+        ensures { result ≡ error_kind_of self.now }
     {
         match self {
             ImageError::BeyondSize => ErrorKind::UnexpectedEof,

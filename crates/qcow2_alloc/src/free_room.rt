@@ -8,10 +8,10 @@ ghost use Rattle.qcow2_alloc.specs.Faults.{CountsFaults};
 ghost use Rattle.qcow2_alloc.specs.GrownTables.{counted_run, with_run};
 ghost use Rattle.qcow2_alloc.specs.ImageError.{IsOfTables};
 ghost use Rattle.qcow2_alloc.specs.ImageFile.{AllocatorInvariant};
-ghost use Rattle.qcow2_alloc.specs.Limits.{IsFaultOr, HasNoRoom, IsLowestRoom};
+ghost use Rattle.qcow2_alloc.specs.Limits.{IsFaultOr, HasNoRoomBelow, IsLowestRoom};
 ghost use Rattle.qcow2_alloc.specs.LowestRuns.{NoFreeBelowHint, IsUsed};
 ghost use Rattle.qcow2_alloc.specs.MetadataCaches.{order_of};
-ghost use Rattle.qcow2_alloc.specs.Rooms.{lacks, opens, opened, length_of, TakesFree, ReachesRoom, TakesRoom};
+ghost use Rattle.qcow2_alloc.specs.Rooms.{lacks, opens, opened, room_length, TakesFree, ReachesRoom, TakesRoom};
 
 use crate::allocation::ends_call;
 use crate::{Allocator, ImageError, ImageFile};
@@ -48,16 +48,16 @@ impl Allocator {
         ensures reftable { self.new.reftable ≡ self.old.reftable }
         ensures first { self.new.first_free_cluster ≡ self.old.first_free_cluster }
         ensures sound { (p : Pending) → AllocatorInvariant S.view self.old p file.old → TakesRoom S.view p file.old self.new file.new self.old.reftable result }
-        ensures blocks { IfOk result (λ room. room.blocks ≡ opened self.old.reftable (counts_per_block file.old.header.fields) room.first (length_of room)) }
+        ensures blocks { IfOk result (λ room. room.blocks ≡ opened self.old.reftable (counts_per_block file.old.header.fields) room.first (room_length room)) }
         ensures clusters { IfOk result (λ room. room.clusters ≡ clusters) }
         ensures above { IfOk result (λ room. 0 < room.first) }
-        ensures below { IfOk result (λ room. room.first + length_of room ≤ end) }
+        ensures below { IfOk result (λ room. room.first + room_length room ≤ end) }
         ensures lowest { (p : Pending) → AllocatorInvariant S.view self.old p file.old → NoFreeBelowHint S.view self.old file.old → IfOk result (λ room. IsLowestRoom S.view file.new self.old.reftable clusters end room.first) }
         ensures header { file.new.header ≡ file.old.header }
         ensures list { file.new.free_list ≡ file.old.free_list }
         ensures cause { IfErr result IsOfTables }
         ensures storage_faults { CountsFaults S.view file.old.storage file.new.storage result }
-        ensures room { (p : Pending) → AllocatorInvariant S.view self.old p file.old → NoFreeBelowHint S.view self.old file.old → IfErr result (IsFaultOr (HasNoRoom S.view file.new (λ k. 0) self.old.reftable clusters end)) }
+        ensures room { (p : Pending) → AllocatorInvariant S.view self.old p file.old → NoFreeBelowHint S.view self.old file.old → IfErr result (IsFaultOr (HasNoRoomBelow S.view file.new (λ k. 0) self.old.reftable clusters end)) }
     {
         let mut first = self.first_free_cluster.max(1);
         'search: while first < end {

@@ -15,7 +15,7 @@ ghost use Rattle.qcow2_alloc.specs.ImageError.{IsOfTables};
 ghost use Rattle.qcow2_alloc.specs.ImageFile.{AllocatorInvariant, KeepsHeader};
 ghost use Rattle.qcow2_alloc.specs.LowestRuns.{KeepsUsed};
 ghost use Rattle.qcow2_alloc.specs.MetadataCaches.{order_of, l2_tables, refblocks, rb_at};
-ghost use Rattle.qcow2_alloc.specs.Rooms.{opened, length_of, placed_at, CountsRun, IsLonger, WritesTo, WritesTable, PlacesBlocks};
+ghost use Rattle.qcow2_alloc.specs.Rooms.{opened, room_length, placed_at, CountsRun, IsLonger, WritesTo, WritesTable, PlacesBlocks};
 ghost use Rattle.qcow2_alloc.specs.TableCaches.{IsBlockOf};
 ghost use Rattle.qcow2_alloc.specs.declared.allocation.Allocator.{Allocator as AllocatorView};
 
@@ -117,19 +117,19 @@ impl Allocator {
         room: Room,
     ) -> Result<(), ImageError>
         requires above { 0 < room.first }
-        requires within { room.first + length_of room ≤ entry_count table.old * counts_per_block file.old.header.fields }
-        requires near { room.first + length_of room ≤ greatest_offset / 2 ^ file.old.header.fields.cluster_bits + 1 }
+        requires within { room.first + room_length room ≤ entry_count table.old * counts_per_block file.old.header.fields }
+        requires near { room.first + room_length room ≤ greatest_offset / 2 ^ file.old.header.fields.cluster_bits + 1 }
         requires bits { table.old.cluster_bits ≡ file.old.header.fields.cluster_bits }
-        requires blocks { room.blocks ≡ opened self.now.reftable (counts_per_block file.old.header.fields) room.first (length_of room) }
+        requires blocks { room.blocks ≡ opened self.now.reftable (counts_per_block file.old.header.fields) room.first (room_length room) }
         ensures marks { KeepsMarks file.old.caches file.new.caches }
         ensures order { order_of file.new.caches ≡ order_of file.old.caches }
         ensures tables { l2_tables file.new.caches ≡ l2_tables file.old.caches }
         ensures clean { AreClean (refblocks file.old.caches) → AreClean (refblocks file.new.caches) }
         ensures rest { table.new ≡ record table.old { bytes = table.new.bytes } }
         ensures as_long { length table.new.bytes ≡ length table.old.bytes }
-        ensures sound { (p : Pending) → AllocatorInvariant S.view self.now (with_run p file.old.header.fields self.now.reftable room.first (length_of room)) file.old
+        ensures sound { (p : Pending) → AllocatorInvariant S.view self.now (with_run p file.old.header.fields self.now.reftable room.first (room_length room)) file.old
             → BlocksMayGo (order_of file.old.caches) (l2_tables file.old.caches) → IsLonger file.old.header.fields self.now.reftable table.old room.clusters
-            → PlacesBlocks S.view (with_run p file.old.header.fields self.now.reftable room.first (length_of room)) file.old self.now file.new self.now.reftable table.new room result }
+            → PlacesBlocks S.view (with_run p file.old.header.fields self.now.reftable room.first (room_length room)) file.old self.now file.new self.now.reftable table.new room result }
         ensures header { file.new.header ≡ file.old.header }
         ensures list { file.new.free_list ≡ file.old.free_list }
         ensures cause { IfErr result IsOfTables }
@@ -166,21 +166,21 @@ impl Allocator {
         room: Room,
     ) -> Result<(), ImageError>
         requires above { 0 < room.first }
-        requires within { room.first + length_of room ≤ entry_count table * counts_per_block file.old.header.fields }
-        requires near { room.first + length_of room ≤ greatest_offset / 2 ^ file.old.header.fields.cluster_bits + 1 }
+        requires within { room.first + room_length room ≤ entry_count table * counts_per_block file.old.header.fields }
+        requires near { room.first + room_length room ≤ greatest_offset / 2 ^ file.old.header.fields.cluster_bits + 1 }
         requires some { 0 < room.clusters }
         requires bits { table.cluster_bits ≡ file.old.header.fields.cluster_bits }
-        requires blocks { room.blocks ≡ opened self.old.reftable (counts_per_block file.old.header.fields) room.first (length_of room) }
+        requires blocks { room.blocks ≡ opened self.old.reftable (counts_per_block file.old.header.fields) room.first (room_length room) }
         requires noted { IsTrue file.old.caches.is_changed }
         ensures marks { KeepsMarks file.old.caches file.new.caches }
         ensures order { order_of file.new.caches ≡ order_of file.old.caches }
         ensures table { OnOk result (entry_count self.new.reftable ≡ entry_count table) }
         ensures place { OnOk result (self.new.reftable.cluster ≡ Some (room.first + room.blocks)) }
         ensures first { self.new.first_free_cluster ≡ self.old.first_free_cluster }
-        ensures sound { (p : Pending) → AllocatorInvariant S.view self.old (with_run p file.old.header.fields self.old.reftable room.first (length_of room)) file.old
+        ensures sound { (p : Pending) → AllocatorInvariant S.view self.old (with_run p file.old.header.fields self.old.reftable room.first (room_length room)) file.old
             → IsLonger file.old.header.fields self.old.reftable table room.clusters
-            → NamesReftable S.view (with_run p file.old.header.fields self.old.reftable room.first (length_of room)) p file.old self.new file.new result }
-        ensures uses { (p : Pending) → AllocatorInvariant S.view self.old (with_run p file.old.header.fields self.old.reftable room.first (length_of room)) file.old
+            → NamesReftable S.view (with_run p file.old.header.fields self.old.reftable room.first (room_length room)) p file.old self.new file.new result }
+        ensures uses { (p : Pending) → AllocatorInvariant S.view self.old (with_run p file.old.header.fields self.old.reftable room.first (room_length room)) file.old
             → IsLonger file.old.header.fields self.old.reftable table room.clusters → KeepsUsed S.view file.old file.new result }
         ensures header { KeepsHeader file.old.header file.new.header }
         ensures list { file.new.free_list ≡ file.old.free_list }

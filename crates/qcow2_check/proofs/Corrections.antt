@@ -4,7 +4,7 @@ use Rattle.std.proofs.lemmas.Bool.{cases_eq}
 use Rattle.std.specs.BTreeMap.{BTreeMap}
 use Rattle.qcow2_check.specs.declared.tally.Tally.{Tally}
 use Rattle.qcow2_check.specs.Tallies.{tally_in, Counts}
-use Rattle.qcow2_check.specs.Counted.{number_of, HasCounts, IsRightOrNone, Corrects, CorrectsUnder}
+use Rattle.qcow2_check.specs.Counted.{entry_number_at, HasCounts, IsRightOrNone, Corrects, CorrectsUnder}
 
 pub corrects_none : (m : BTreeMap ℕ Tally) (truth : ℕ → ℕ) → Corrects m m truth
 corrects_none m truth = record { same_names = λ q. refl; changes = λ q. inl refl }
@@ -50,21 +50,21 @@ module _ (old mid : BTreeMap ℕ Tally) (truth : ℕ → ℕ) (entries : List (�
   no_count none = record {
     corrects = so_far.corrects;
     right = λ i lt k le. elim (cases_eq k j) [
-      | inl same ↦ none_right mid truth (number_of entries i * per_block + k) (right_or_none old mid truth so_far.corrects before)
-          (ap (λ k. truth (number_of entries i * per_block + k)) same ∙ are i j lt inside ∙ sym is ∙ none)
+      | inl same ↦ none_right mid truth (entry_number_at entries i * per_block + k) (right_or_none old mid truth so_far.corrects before)
+          (ap (λ k. truth (entry_number_at entries i * per_block + k)) same ∙ are i j lt inside ∙ sym is ∙ none)
       | inr other ↦ so_far.right i lt k (omega arith)
     ];
   }
 
   pub one_count : (new : BTreeMap ℕ Tally) → Corrects mid new truth
-      → ((i : ℕ) → i < length entries → (tally_in new (number_of entries i * per_block + j)).count ≡ value)
+      → ((i : ℕ) → i < length entries → (tally_in new (entry_number_at entries i * per_block + j)).count ≡ value)
       → CorrectsUnder old new truth entries per_block (j + 1)
   one_count new next set = record {
     corrects = corrects_more old mid new truth so_far.corrects next;
     right = λ i lt k le. elim (cases_eq k j) [
-      | inl same ↦ ap (λ k. (tally_in new (number_of entries i * per_block + k)).count) same ∙ set i lt ∙ is ∙ sym (are i j lt inside)
-          ∙ ap (λ k. truth (number_of entries i * per_block + k)) (sym same)
-      | inr other ↦ still_right mid new truth (number_of entries i * per_block + k) next (so_far.right i lt k (omega arith))
+      | inl same ↦ ap (λ k. (tally_in new (entry_number_at entries i * per_block + k)).count) same ∙ set i lt ∙ is ∙ sym (are i j lt inside)
+          ∙ ap (λ k. truth (entry_number_at entries i * per_block + k)) (sym same)
+      | inr other ↦ still_right mid new truth (entry_number_at entries i * per_block + k) next (so_far.right i lt k (omega arith))
     ];
   }
 
@@ -73,5 +73,5 @@ pub no_counts : (m : BTreeMap ℕ Tally) (truth : ℕ → ℕ) (entries : List (
     → IsRightOrNone m truth → ((j : ℕ) → count j ≡ 0) → CorrectsUnder m m truth entries per_block per_block
 no_counts m truth entries per_block count are before none = record {
   corrects = corrects_none m truth;
-  right = λ i lt j le. none_right m truth (number_of entries i * per_block + j) before (are i j lt le ∙ none j);
+  right = λ i lt j le. none_right m truth (entry_number_at entries i * per_block + j) before (are i j lt le ∙ none j);
 }

@@ -8,7 +8,7 @@ use Rattle.qcow2_metadata.specs.Bytes.{Bytes, byte_at}
 use Rattle.qcow2_metadata.specs.Header.{cluster_size, count_width, counts_per_block, reftable_entries}
 use Rattle.qcow2_metadata.specs.Entries.{block_offset, block_count, reftable_entry, count, count_under}
 use Rattle.qcow2_metadata.proofs.TablesAt.{StandAt, count_stands}
-use Rattle.qcow2_check.specs.Counted.{count_at, HasCounts}
+use Rattle.qcow2_check.specs.Counted.{block_count_or_zero, HasCounts}
 
 pub whole_cluster : (bits : ℕ) → 9 ≤ bits → 2 ^ bits % 8 ≡ 0
 whole_cluster bits low =
@@ -30,7 +30,7 @@ counts_of_bytes h long few is =
 -- a refblock that was read into a buffer
 pub block_counts : (h : HeaderFields) (b : Bytes) (bytes : List ℕ) (place : ℕ) (entries : List (ℕ × ℕ)) (truth : ℕ → ℕ) → h.refcount_order ≤ 6 → cluster_size h % 8 ≡ 0
     → place ≢ 0 → StandAt b place bytes → length bytes ≡ cluster_size h
-    → HasCounts entries (counts_per_block h) truth (count_at h b place) → HasCounts entries (counts_per_block h) truth (block_count (byte_at bytes) (count_width h) 0)
+    → HasCounts entries (counts_per_block h) truth (block_count_or_zero h b place) → HasCounts entries (counts_per_block h) truth (block_count (byte_at bytes) (count_width h) 0)
 block_counts h b bytes place entries truth few whole some stands long are i j lt inside =
     are i j lt inside ∙ cond-false _ _ _ (ne_eqb place 0 some)
     ∙ sym (count_stands b place bytes h.refcount_order j stands (rw long whole) few (rw long inside))
@@ -42,17 +42,17 @@ unfolding reftable_entry
 reftable_entry-past h b k past = cond-false _ _ _ (le-ltb k (reftable_entries h) past)
 
 pub count_is : (h : HeaderFields) (b : Bytes) (k j q : ℕ) → 0 < counts_per_block h → q ≡ k * counts_per_block h + j → j < counts_per_block h
-    → count_at h b (block_offset (reftable_entry h b k)) j ≡ count h b q
+    → block_count_or_zero h b (block_offset (reftable_entry h b k)) j ≡ count h b q
 unfolding count count_under
 count_is h b k j q some split lt =
     let block : q / counts_per_block h ≡ k = ap (λ n. n / counts_per_block h) split ∙ div-mul-add k (counts_per_block h) j lt in
     let down = div-add-mod' q (counts_per_block h) in
     let place : q % counts_per_block h ≡ j =
     let same : q / counts_per_block h * counts_per_block h ≡ k * counts_per_block h = ap (λ n. n * counts_per_block h) block in omega arith in
-    ap (λ k. count_at h b (block_offset (reftable_entry h b k)) j) (sym block) ∙ ap (count_at h b (block_offset (reftable_entry h b (q / counts_per_block h)))) (sym place)
+    ap (λ k. block_count_or_zero h b (block_offset (reftable_entry h b k)) j) (sym block) ∙ ap (block_count_or_zero h b (block_offset (reftable_entry h b (q / counts_per_block h)))) (sym place)
 
 pub count_past : (h : HeaderFields) (b : Bytes) (q : ℕ) → 0 < counts_per_block h → reftable_entries h * counts_per_block h ≤ q → count h b q ≡ 0
 unfolding count count_under
 count_past h b q some le =
     let past : reftable_entries h ≤ q / counts_per_block h = le-div _ _ _ some le in
-    ap (λ e. count_at h b (block_offset e) (q % counts_per_block h)) (reftable_entry-past h b (q / counts_per_block h) past)
+    ap (λ e. block_count_or_zero h b (block_offset e) (q % counts_per_block h)) (reftable_entry-past h b (q / counts_per_block h) past)

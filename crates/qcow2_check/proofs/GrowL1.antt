@@ -9,7 +9,7 @@ use Rattle.qcow2_metadata.specs.Entries.{host_offset, is_copied}
 use Rattle.qcow2_metadata.specs.Named.{named_by_l2_table, table_in}
 use Rattle.qcow2_check.proofs.Sums.{sum_below_none, sum_below_more}
 use Rattle.qcow2_check.specs.declared.tally.Tally.{Tally}
-use Rattle.qcow2_check.specs.Tallies.{Grows, Adds, tally_in}
+use Rattle.qcow2_check.specs.Tallies.{TalliesGrow, AddsToTally, tally_in}
 use Rattle.qcow2_metadata.specs.TableBytes.{entry_at}
 use Rattle.qcow2_check.specs.Marks.{named_by_entries, marked_by_entries, marked_by_l2_table, mark_of_entry, tables_among, marks_among}
 use Rattle.qcow2_check.proofs.Grow.{grows_none, grows_more}
@@ -24,14 +24,14 @@ one_if-and_true false = refl
 -- ---- the entries of the L1 table
 
 pub entry_without_table : (h : HeaderFields) (entry : ℕ) (m : BTreeMap ℕ Tally) → host_offset entry ≡ 0
-    → Grows m m (λ q. table_in h q (host_offset entry)) (λ q. table_in h q (host_offset entry)) (mark_of_entry h entry)
+    → TalliesGrow m m (λ q. table_in h q (host_offset entry)) (λ q. table_in h q (host_offset entry)) (mark_of_entry h entry)
 entry_without_table h entry m none =
     let is = eq-eqb (host_offset entry) 0 none in
     grows_none m _ _ _ (λ q. cond-true _ _ _ is) (λ q. cond-true _ _ _ is) (λ q. cond-true _ _ _ is)
 
 pub entry_with_table : (h : HeaderFields) (entry cluster : ℕ) (copied : Bool) (old new : BTreeMap ℕ Tally)
-    → host_offset entry ≢ 0 → cluster ≡ host_offset entry / cluster_size h → copied ≡ is_copied entry → Adds old new cluster true copied
-    → Grows old new (λ q. table_in h q (host_offset entry)) (λ q. table_in h q (host_offset entry)) (mark_of_entry h entry)
+    → host_offset entry ≢ 0 → cluster ≡ host_offset entry / cluster_size h → copied ≡ is_copied entry → AddsToTally old new cluster true copied
+    → TalliesGrow old new (λ q. table_in h q (host_offset entry)) (λ q. table_in h q (host_offset entry)) (mark_of_entry h entry)
 entry_with_table h entry cluster copied old new some is mark adds =
     let test = ne_eqb (host_offset entry) 0 some in
     let at : (q : ℕ) → table_in h q (host_offset entry) ≡ one_if (eqb cluster q) = λ q. cond-false _ _ _ test ∙ ap (λ c. one_if (eqb c q)) (sym is) in
@@ -43,13 +43,13 @@ entry_with_table h entry cluster copied old new some is mark adds =
       same_count = adds.same_count;
     }
 
-pub entries_none : (h : HeaderFields) (l1 : List ℕ) (m : BTreeMap ℕ Tally) → Grows m m (tables_among h l1 0) (tables_among h l1 0) (marks_among h l1 0)
+pub entries_none : (h : HeaderFields) (l1 : List ℕ) (m : BTreeMap ℕ Tally) → TalliesGrow m m (tables_among h l1 0) (tables_among h l1 0) (marks_among h l1 0)
 entries_none h l1 m = grows_none m _ _ _ (λ q. sum_below_none _) (λ q. sum_below_none _) (λ q. sum_below_none _)
 
 pub entries_more : (h : HeaderFields) (l1 : List ℕ) (i entry : ℕ) (old mid new : BTreeMap ℕ Tally) → entry ≡ entry_at l1 i
-    → Grows old mid (tables_among h l1 i) (tables_among h l1 i) (marks_among h l1 i)
-    → Grows mid new (λ q. table_in h q (host_offset entry)) (λ q. table_in h q (host_offset entry)) (mark_of_entry h entry)
-    → Grows old new (tables_among h l1 (i + 1)) (tables_among h l1 (i + 1)) (marks_among h l1 (i + 1))
+    → TalliesGrow old mid (tables_among h l1 i) (tables_among h l1 i) (marks_among h l1 i)
+    → TalliesGrow mid new (λ q. table_in h q (host_offset entry)) (λ q. table_in h q (host_offset entry)) (mark_of_entry h entry)
+    → TalliesGrow old new (tables_among h l1 (i + 1)) (tables_among h l1 (i + 1)) (marks_among h l1 (i + 1))
 entries_more h l1 i entry old mid new is so_far next =
     let tables : (q : ℕ) → tables_among h l1 (i + 1) q ≡ tables_among h l1 i q + table_in h q (host_offset entry) =
     λ q. sum_below_more i (λ i. table_in h q (host_offset (entry_at l1 i))) ∙ ap (λ e. tables_among h l1 i q + table_in h q (host_offset e)) (sym is) in
@@ -62,7 +62,7 @@ times_zero : (times : ℕ) → times * 0 ≡ 0
 times_zero times = omega arith
 
 pub no_table : (h : HeaderFields) (b : Bytes) (place times : ℕ) (m : BTreeMap ℕ Tally) → place ≡ 0
-    → Grows m m (λ q. times * named_by_l2_table h b q place) (λ _. 0) (λ q. times * marked_by_l2_table h b q place)
+    → TalliesGrow m m (λ q. times * named_by_l2_table h b q place) (λ _. 0) (λ q. times * marked_by_l2_table h b q place)
 unfolding named_by_l2_table
 no_table h b place times m none =
     let is = eq-eqb place 0 none in
@@ -71,8 +71,8 @@ no_table h b place times m none =
 -- it was read into these bytes
 pub one_table : (h : HeaderFields) (b : Bytes) (bytes : List ℕ) (place times : ℕ) (old new : BTreeMap ℕ Tally)
     → place ≢ 0 → StandAt b place bytes → length bytes ≡ cluster_size h
-    → Grows old new (λ q. times * named_by_entries h (byte_at bytes) 0 (entries_per_cluster h) q) (λ _. 0) (λ q. times * marked_by_entries h (byte_at bytes) 0 (entries_per_cluster h) q)
-    → Grows old new (λ q. times * named_by_l2_table h b q place) (λ _. 0) (λ q. times * marked_by_l2_table h b q place)
+    → TalliesGrow old new (λ q. times * named_by_entries h (byte_at bytes) 0 (entries_per_cluster h) q) (λ _. 0) (λ q. times * marked_by_entries h (byte_at bytes) 0 (entries_per_cluster h) q)
+    → TalliesGrow old new (λ q. times * named_by_l2_table h b q place) (λ _. 0) (λ q. times * marked_by_l2_table h b q place)
 unfolding named_by_l2_table
 one_table h b bytes place times old new some stands whole table =
     let test = ne_eqb place 0 some in

@@ -13,11 +13,11 @@ use Rattle.qcow2_metadata.specs.Consistent.{Consistent, CoverIsAligned, CopiedIs
 use Rattle.qcow2_check.specs.declared.report.Breach.{Breach}
 use Rattle.qcow2_check.specs.declared.report.Kind.TheVariants.{L1, Reftable, L2, Refblock, Data}
 use Rattle.qcow2_check.specs.declared.tally.Tally.{Tally}
-use Rattle.qcow2_check.specs.Marks.{marked_at, marked_by_cover, marked_by_entries, marked_by_l2_table, mark_of_entry, marked_under, marked_below}
+use Rattle.qcow2_check.specs.Marks.{marked_at, marks_of_cover, marked_by_entries, marked_by_l2_table, mark_of_entry, marked_under, marked_below}
 use Rattle.qcow2_check.specs.Offsets.{times, off_cluster_if, off_l2_tables, off_refblocks, data_off_at, data_off_below}
 use Rattle.qcow2_check.specs.Lines.{lines, snapshot_lines, external_lines, header_lines, table_offset_lines, offset_lines, is_named, unaligned_line, is_under, under_line, is_shared, shared_line, is_miscopied, copied_line}
 use Rattle.std.specs.BTreeMap.{BTreeMap}
-use Rattle.qcow2_check.specs.Tallies.{tally_in, IsNear}
+use Rattle.qcow2_check.specs.Tallies.{tally_in, TalliesWithin64Bits}
 use Rattle.qcow2_check.specs.Report.{tally, breach_lines, TablesRead, ArePassed}
 use Rattle.qcow2_check.proofs.NoLines.{append-empty, front_empty, back_empty, EndsBelow, lines-empty, fails_each, zero-line, zero_from_line}
 use Rattle.qcow2_check.proofs.Terms.{from_some_term, some-sum}
@@ -150,7 +150,7 @@ module _ (h : HeaderFields) (b : Bytes) where
   own_clusters is q some =
       from_some_term h.l1_entries (λ i. marked_under h b (l1_entry h b i) q)
       (λ i lt under. elim (cases_eq (mark_of_entry h (l1_entry h b i) q) 0) [
-        | inl none ↦ term_under _ _ (λ table terms. from_table_terms h b (CopiedIsOwn h b) (marked_by_cover h) (IsOwnCluster h b) (cover_own h b) is.copied_data q i lt table terms)
+        | inl none ↦ term_under _ _ (λ table terms. from_table_terms h b (CopiedIsOwn h b) (marks_of_cover h) (IsOwnCluster h b) (cover_own h b) is.copied_data q i lt table terms)
             (second_some (mark_of_entry h (l1_entry h b i) q) (marked_by_l2_table h b q (host_offset (l1_entry h b i))) none under)
         | inr mark ↦ term_under _ _ (λ table term. place_own h b (host_offset (l1_entry h b i)) (is_copied (l1_entry h b i)) (is.copied_tables i lt table) q term) mark
       ]) some
@@ -182,7 +182,7 @@ module _ (h : HeaderFields) (b : Bytes) where
         counted = λ q. counted_from_is_under (tally h b q) (fails_each (2 ^ 64) is_under under_line (tally h b) refl end.clusters none.under q);
         tables_once = λ q. once_from_is_shared (tally h b q) (fails_each (2 ^ 64) is_shared shared_line (tally h b) refl end.clusters none.shared q) (few_tables q);
         copied_tables = λ i lt table. own_place h b (host_offset (l1_entry h b i)) (is_copied (l1_entry h b i)) (λ q mark. owns q (some-entry_mark q i lt table mark));
-        copied_data = each_cover h b (CopiedIsOwn h b) (marked_by_cover h) (IsOwnCluster h b) (own_cover h b)
+        copied_data = each_cover h b (CopiedIsOwn h b) (marks_of_cover h) (IsOwnCluster h b) (own_cover h b)
             (λ q i lt table terms. owns q (some-table_mark q i lt table terms));
       }
 
@@ -210,7 +210,7 @@ module _ (h : HeaderFields) (b : Bytes) where
   -- ---- the maps that a walk over an image leaves
 
   pub all_end : (names l2_tables refblocks data' : BTreeMap ℕ Tally) → ArePassed h b (tally_in names) (tally_in l2_tables) (tally_in refblocks) (tally_in data')
-      → IsNear names → IsNear l2_tables → IsNear refblocks → IsNear data' → AllEnd h b
+      → TalliesWithin64Bits names → TalliesWithin64Bits l2_tables → TalliesWithin64Bits refblocks → TalliesWithin64Bits data' → AllEnd h b
   all_end names l2_tables refblocks data' are one two three four = record {
     clusters = subst (EndsBelow (2 ^ 64)) are.clusters_are one;
     l2_tables = subst (EndsBelow (2 ^ 64)) are.l2_tables_are two;

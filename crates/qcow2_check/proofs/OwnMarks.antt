@@ -10,7 +10,7 @@ use Rattle.qcow2_metadata.specs.Named.{named}
 use Rattle.qcow2_metadata.specs.Consistent.{IsOwn, CopiedIsOwn}
 use Rattle.qcow2_metadata.specs.declared.l2_mapping.L2Mapping.{L2Mapping}
 use Rattle.qcow2_metadata.specs.declared.l2_mapping.L2Mapping.TheVariants.{Data, Zero, Compressed, Uncovered}
-use Rattle.qcow2_check.specs.Marks.{marked_at, marked_by_cover}
+use Rattle.qcow2_check.specs.Marks.{marked_at, marks_of_cover}
 use Rattle.qcow2_check.proofs.Terms.{one_if-some, true_from_some}
 use Rattle.qcow2_check.proofs.TallyTests.{both_true, left_true, right_true, same_from_eqb}
 
@@ -27,14 +27,14 @@ module _ (h : HeaderFields) (b : Bytes) where
       let test = true_from_some (eqb (place / cluster_size h) q && copied) some in
       subst IsOwnCluster (same_from_eqb _ _ (left_true _ _ test)) (own (right_true (eqb (place / cluster_size h) q) copied test))
 
-  pub own_cover : (cover : L2Mapping) → ((q : ℕ) → marked_by_cover h q cover ≢ 0 → IsOwnCluster q) → CopiedIsOwn h b cover
+  pub own_cover : (cover : L2Mapping) → ((q : ℕ) → marks_of_cover h q cover ≢ 0 → IsOwnCluster q) → CopiedIsOwn h b cover
   own_cover (Data host copied) each = own_place host copied each
   own_cover (Zero None) each = tt
   own_cover (Zero (Some k)) each = own_place k.0 k.1 each
   own_cover (Compressed place sectors) each = tt
   own_cover Uncovered each = tt
 
-  pub cover_own : (cover : L2Mapping) → CopiedIsOwn h b cover → (q : ℕ) → marked_by_cover h q cover ≢ 0 → IsOwnCluster q
+  pub cover_own : (cover : L2Mapping) → CopiedIsOwn h b cover → (q : ℕ) → marks_of_cover h q cover ≢ 0 → IsOwnCluster q
   cover_own (Data host copied) own q some = place_own host copied own q some
   cover_own (Zero None) own q some = absurd (some refl)
   cover_own (Zero (Some k)) own q some = place_own k.0 k.1 own q some

@@ -6,7 +6,7 @@ use Rattle.std.proofs.lemmas.Bool.{cases_eq, eq-eqb}
 use Rattle.std.proofs.lemmas.Bool.Decides.{eqb_tells, leb_tells}
 use Rattle.std.proofs.lemmas.List.Sums.{sum_by-cons, get_or-le-sum_by}
 use Rattle.qcow2_metadata.specs.Bytes.{sum_below, one_if}
-use Rattle.qcow2_check.specs.Counted.{place_at, number_of}
+use Rattle.qcow2_check.specs.Counted.{place_at, entry_number_at}
 use Rattle.qcow2_check.proofs.Sums.{sum_below-zero}
 use Rattle.qcow2_check.proofs.Terms.{some-sum, one_if-some, true_from_some}
 use Rattle.qcow2_check.proofs.TallyTests.{same_from_eqb}
@@ -26,22 +26,22 @@ module _ (places : List (ℕ × ℕ)) (n : ℕ) (place : ℕ → ℕ) (sums : (f
   none_at : (f : ℕ × ℕ → ℕ) → ((k : ℕ) → k < n → f (place k, k) ≡ 0) → (i : ℕ) → i < length places → f (get_or places i (0, 0)) ≡ 0
   none_at f none i lt = let all = sums f ∙ sum_below-zero n (λ k. f (place k, k)) none in let one = get_or-le-sum_by f places i (0, 0) lt in omega arith
 
-  pub placed : (i : ℕ) → i < length places → place_at places i ≡ place (number_of places i)
-  placed i lt = elim (eqb_tells (place_at places i) (place (number_of places i))) [
+  pub placed : (i : ℕ) → i < length places → place_at places i ≡ place (entry_number_at places i)
+  placed i lt = elim (eqb_tells (place_at places i) (place (entry_number_at places i))) [
     | inl same ↦ same.1
     | inr other ↦ absurd (one_if-some _ (ap not other.0)
         (none_at (λ e. one_if (not (eqb e.0 (place e.1)))) (λ k lt. ap (λ t. one_if (not t)) (eq-eqb (place k) (place k) refl)) i lt))
   ]
 
-  pub numbered : (i : ℕ) → i < length places → number_of places i < n
-  numbered i lt = elim (leb_tells n (number_of places i)) [
+  pub numbered : (i : ℕ) → i < length places → entry_number_at places i < n
+  numbered i lt = elim (leb_tells n (entry_number_at places i)) [
     | inl past ↦ absurd (one_if-some _ past.0 (none_at (λ e. one_if (nat_le n e.1)) (λ k lt. never k lt) i lt))
     | inr below ↦ below.1
   ] where
     never : (k : ℕ) → k < n → one_if (nat_le n k) ≡ 0
     never k lt = elim (leb_tells n k) [ inl past ↦ absurd (omega (arith, past.1)) | inr below ↦ ap one_if below.0 ]
 
-  pub found : (k : ℕ) → k < n → (i : ℕ) × (i < length places) × (number_of places i ≡ k)
+  pub found : (k : ℕ) → k < n → (i : ℕ) × (i < length places) × (entry_number_at places i ≡ k)
   found k lt =
       let some : sum_by (λ e. one_if (eqb e.1 k)) places ≢ 0 =
       λ none. some-sum n (λ m. one_if (eqb m k)) k lt (one_if-some _ (eq-eqb k k refl)) (sym (sums (λ e. one_if (eqb e.1 k))) ∙ none) in

@@ -6,7 +6,7 @@ use Rattle.std.proofs.Math.Nat.{mul-le-mul_left}
 use Rattle.std.specs.BTreeMap.{BTreeMap}
 use Rattle.qcow2_metadata.specs.Bytes.{one_if}
 use Rattle.qcow2_check.specs.declared.tally.Tally.{Tally}
-use Rattle.qcow2_check.specs.Tallies.{Grows, AddsTimes}
+use Rattle.qcow2_check.specs.Tallies.{TalliesGrow, AddsTimes}
 use Rattle.qcow2_check.proofs.Covers.{never_times}
 use Rattle.qcow2_check.proofs.Grow.{grows_more}
 
@@ -14,8 +14,8 @@ one_more : (first next q : ℕ) → first ≤ next → one_if (nat_le first q &&
 one_more first next q le = grind (arith, nat_tests)
 
 pub range_more : (first next times : ℕ) (old mid new : BTreeMap ℕ Tally) → first ≤ next
-    → Grows old mid (λ q. times * one_if (nat_le first q && nat_lt q next)) (λ _. 0) (λ _. 0) → AddsTimes mid new next times false false
-    → Grows old new (λ q. times * one_if (nat_le first q && nat_lt q (next + 1))) (λ _. 0) (λ _. 0)
+    → TalliesGrow old mid (λ q. times * one_if (nat_le first q && nat_lt q next)) (λ _. 0) (λ _. 0) → AddsTimes mid new next times false false
+    → TalliesGrow old new (λ q. times * one_if (nat_le first q && nat_lt q (next + 1))) (λ _. 0) (λ _. 0)
 range_more first next times old mid new le so_far adds =
     grows_more old mid new _ _ _ _ _ _ _ _ _ so_far adds
     (λ q. ap (λ n. times * n) (one_more first next q le) ∙ omega arith)

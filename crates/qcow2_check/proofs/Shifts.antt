@@ -9,7 +9,7 @@ use Rattle.qcow2_metadata.specs.Cover.{entry_cover}
 use Rattle.qcow2_metadata.specs.Named.{named_by_cover}
 use Rattle.qcow2_metadata.proofs.TablesAt.{StandAt, entry_stands}
 use Rattle.qcow2_check.proofs.Sums.{sum_below-same}
-use Rattle.qcow2_check.specs.Marks.{marked_by_cover, named_by_entries, marked_by_entries}
+use Rattle.qcow2_check.specs.Marks.{marks_of_cover, named_by_entries, marked_by_entries}
 
 inside_table : (size j : ℕ) → j < size / 8 → 8 * j + 8 ≤ size
 inside_table size j lt = let down = div-mul-le_self size 8 in omega arith
@@ -25,5 +25,5 @@ module _ (h : HeaderFields) (b : Bytes) (bytes : List ℕ) (place q : ℕ) (stan
 
   pub marked_by_part : marked_by_entries h (byte_at bytes) 0 (entries_per_cluster h) q ≡ marked_by_entries h b place (entries_per_cluster h) q
   marked_by_part =
-      sum_below-same (entries_per_cluster h) (λ j. marked_by_cover h q (entry_cover h (l2_entry (byte_at bytes) 0 j))) (λ j. marked_by_cover h q (entry_cover h (l2_entry b place j)))
-      (λ j lt. ap (λ e. marked_by_cover h q (entry_cover h e)) (entry j lt))
+      sum_below-same (entries_per_cluster h) (λ j. marks_of_cover h q (entry_cover h (l2_entry (byte_at bytes) 0 j))) (λ j. marks_of_cover h q (entry_cover h (l2_entry b place j)))
+      (λ j lt. ap (λ e. marks_of_cover h q (entry_cover h e)) (entry j lt))

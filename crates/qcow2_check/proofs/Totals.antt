@@ -12,7 +12,7 @@ use Rattle.qcow2_metadata.specs.Named.{table_in, in_cluster, named, named_for_ta
 use Rattle.qcow2_check.proofs.Sums.{sum_below_more, sum_below-same}
 use Rattle.qcow2_check.specs.declared.tally.Tally.{Tally}
 use mathlib.Core.Path.{fun_ext}
-use Rattle.qcow2_check.specs.Tallies.{Grows, Adds, CountsAll, tally_in, no_tally, names_of}
+use Rattle.qcow2_check.specs.Tallies.{TalliesGrow, AddsToTally, CountsAll, tally_in, no_tally, names_of}
 use Rattle.qcow2_check.specs.Report.{tally}
 use Rattle.std.proofs.Math.Nat.{mul-le-mul_left}
 use Rattle.qcow2_metadata.specs.TableBytes.{entry_at}
@@ -33,9 +33,9 @@ sum_below-add zero f g = refl
 sum_below-add (suc n) f g = let front = sum_below-add n f g in omega arith
 
 pub blocks_more : (h : HeaderFields) (entries : List ℕ) (k place : ℕ) (old mid new : BTreeMap ℕ Tally) → place ≡ block_offset (entry_at entries k)
-    → Grows old mid (blocks_among h entries k) (blocks_among h entries k) (λ _. 0)
-    → Grows mid new (λ q. table_in h q place) (λ q. table_in h q place) (λ _. 0)
-    → Grows old new (blocks_among h entries (k + 1)) (blocks_among h entries (k + 1)) (λ _. 0)
+    → TalliesGrow old mid (blocks_among h entries k) (blocks_among h entries k) (λ _. 0)
+    → TalliesGrow mid new (λ q. table_in h q place) (λ q. table_in h q place) (λ _. 0)
+    → TalliesGrow old new (blocks_among h entries (k + 1)) (blocks_among h entries (k + 1)) (λ _. 0)
 blocks_more h entries k place old mid new is so_far next =
     let step : (q : ℕ) → blocks_among h entries (k + 1) q ≡ blocks_among h entries k q + table_in h q place =
     λ q. sum_below_more k (λ k. table_in h q (block_offset (entry_at entries k))) ∙ ap (λ p. blocks_among h entries k q + table_in h q p) (sym is) in
@@ -49,17 +49,17 @@ one_if-and_false : (b : Bool) → one_if (b && false) ≡ 0
 one_if-and_false true = refl
 one_if-and_false false = refl
 
-header_names_at : (h : HeaderFields) (old a m new : BTreeMap ℕ Tally) → Adds old a 0 true false
-    → Grows a m (run_in h.l1_offset (8 * h.l1_entries) (cluster_size h)) (run_in h.l1_offset (8 * h.l1_entries) (cluster_size h)) (λ _. 0)
-    → Grows m new (run_in h.reftable_offset (h.reftable_clusters * cluster_size h) (cluster_size h)) (run_in h.reftable_offset (h.reftable_clusters * cluster_size h) (cluster_size h)) (λ _. 0)
-    → Grows old new (named_by_header h) (named_by_header h) (λ _. 0)
+header_names_at : (h : HeaderFields) (old a m new : BTreeMap ℕ Tally) → AddsToTally old a 0 true false
+    → TalliesGrow a m (run_in h.l1_offset (8 * h.l1_entries) (cluster_size h)) (run_in h.l1_offset (8 * h.l1_entries) (cluster_size h)) (λ _. 0)
+    → TalliesGrow m new (run_in h.reftable_offset (h.reftable_clusters * cluster_size h) (cluster_size h)) (run_in h.reftable_offset (h.reftable_clusters * cluster_size h) (cluster_size h)) (λ _. 0)
+    → TalliesGrow old new (named_by_header h) (named_by_header h) (λ _. 0)
 unfolding named_by_header
 header_names_at h old a m new one two three =
     let low : 0 / cluster_size h < 1 = div_below 0 (cluster_size h) 1 (pow_pos h.cluster_bits) (omega (arith, pow_pos h.cluster_bits)) in
     let none : 0 / cluster_size h ≡ 0 = omega arith in
     let first : (q : ℕ) → in_cluster h q 0 ≡ one_if (eqb 0 q) = λ q. ap (λ c. one_if (eqb c q)) none in
     let l1 = run_in h.l1_offset (8 * h.l1_entries) (cluster_size h) in
-    let mid : Grows old m (λ q. in_cluster h q 0 + l1 q) (λ q. in_cluster h q 0 + l1 q) (λ _. 0) =
+    let mid : TalliesGrow old m (λ q. in_cluster h q 0 + l1 q) (λ q. in_cluster h q 0 + l1 q) (λ _. 0) =
     grows_more old a m _ _ _ _ _ _ _ _ _ one two
     (λ q. ap (λ v. v + l1 q) (first q))
     (λ q. ap (λ v. v + l1 q) (first q ∙ sym (one_if-and_true (eqb 0 q))))
@@ -67,15 +67,15 @@ header_names_at h old a m new one two three =
     grows_more old m new _ _ _ _ _ _ _ _ _ mid three (λ q. refl) (λ q. refl) (λ q. omega arith)
 
 pub header_names : (h : HeaderFields) (size : ℕ) → size ≡ cluster_size h → (old a m new : BTreeMap ℕ Tally)
-    → Adds old a 0 true false
-    → Grows a m (λ q. one_if (nat_le (h.l1_offset / size) q && nat_lt q (h.l1_offset / size + (8 * h.l1_entries + size - 1) / size)))
+    → AddsToTally old a 0 true false
+    → TalliesGrow a m (λ q. one_if (nat_le (h.l1_offset / size) q && nat_lt q (h.l1_offset / size + (8 * h.l1_entries + size - 1) / size)))
     (λ q. one_if (nat_le (h.l1_offset / size) q && nat_lt q (h.l1_offset / size + (8 * h.l1_entries + size - 1) / size))) (λ _. 0)
-    → Grows m new (λ q. one_if (nat_le (h.reftable_offset / size) q && nat_lt q (h.reftable_offset / size + (h.reftable_clusters * size + size - 1) / size)))
+    → TalliesGrow m new (λ q. one_if (nat_le (h.reftable_offset / size) q && nat_lt q (h.reftable_offset / size + (h.reftable_clusters * size + size - 1) / size)))
     (λ q. one_if (nat_le (h.reftable_offset / size) q && nat_lt q (h.reftable_offset / size + (h.reftable_clusters * size + size - 1) / size))) (λ _. 0)
-    → Grows old new (named_by_header h) (named_by_header h) (λ _. 0)
+    → TalliesGrow old new (named_by_header h) (named_by_header h) (λ _. 0)
 header_names h size is old a m new one two three =
-    let P : ℕ → Type 0 = λ size. Grows a m (run_in h.l1_offset (8 * h.l1_entries) size) (run_in h.l1_offset (8 * h.l1_entries) size) (λ _. 0) in
-    let Q : ℕ → Type 0 = λ size. Grows m new (run_in h.reftable_offset (h.reftable_clusters * size) size) (run_in h.reftable_offset (h.reftable_clusters * size) size) (λ _. 0) in
+    let P : ℕ → Type 0 = λ size. TalliesGrow a m (run_in h.l1_offset (8 * h.l1_entries) size) (run_in h.l1_offset (8 * h.l1_entries) size) (λ _. 0) in
+    let Q : ℕ → Type 0 = λ size. TalliesGrow m new (run_in h.reftable_offset (h.reftable_clusters * size) size) (run_in h.reftable_offset (h.reftable_clusters * size) size) (λ _. 0) in
     header_names_at h old a m new one (subst P is two) (subst Q is three)
 
 -- ---- the whole image
@@ -120,9 +120,9 @@ pub all_tallies : (h : HeaderFields) (b : Bytes) (l1 reftable : List ℕ) (m0 m1
     → length l1 / 8 ≡ h.l1_entries → length reftable / 8 ≡ reftable_entries h
     → ((k : ℕ) → entry_at reftable k ≡ reftable_entry h b k)
     → ((q : ℕ) → tally_in m0 q ≡ no_tally)
-    → Grows m0 m1 (named_by_header h) (named_by_header h) (λ _. 0)
-    → Grows m1 m2 (blocks_among h reftable (length reftable / 8)) (blocks_among h reftable (length reftable / 8)) (λ _. 0)
-    → Grows m2 m3 (named_below h b (length l1 / 8)) (tables_below h b (length l1 / 8)) (marked_below h b (length l1 / 8))
+    → TalliesGrow m0 m1 (named_by_header h) (named_by_header h) (λ _. 0)
+    → TalliesGrow m1 m2 (blocks_among h reftable (length reftable / 8)) (blocks_among h reftable (length reftable / 8)) (λ _. 0)
+    → TalliesGrow m2 m3 (named_below h b (length l1 / 8)) (tables_below h b (length l1 / 8)) (marked_below h b (length l1 / 8))
     → CountsAll m3 m4 (count h b)
     → tally_in m4 ≡ tally h b
 unfolding named named_for_tables

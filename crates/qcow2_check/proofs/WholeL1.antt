@@ -8,7 +8,7 @@ use Rattle.qcow2_metadata.specs.Entries.{l1_entry, host_offset}
 use Rattle.qcow2_metadata.specs.Named.{table_in, named_by_l2_table}
 use Rattle.qcow2_metadata.specs.TableBytes.{entry_at}
 use Rattle.qcow2_check.specs.declared.tally.Tally.{Tally}
-use Rattle.qcow2_check.specs.Tallies.{Grows}
+use Rattle.qcow2_check.specs.Tallies.{TalliesGrow}
 use Rattle.qcow2_check.specs.Offsets.{data_off_at, data_off_below, data_off_by_tables}
 use Rattle.qcow2_check.specs.Marks.{mark_of_entry, marked_by_l2_table, tables_among, marks_among, tables_below, named_below, marked_below, named_by_tables, marked_by_tables}
 use Rattle.qcow2_check.proofs.Sums.{sum_below-same}
@@ -26,9 +26,9 @@ module _ (h : HeaderFields) (b : Bytes) (l1 places : List ℕ) (n : ℕ) (are : 
   by_entries f = sum_below-same n (λ i. f (entry_at l1 i)) (λ i. f (l1_entry h b i)) (λ i lt. ap f (are i))
 
   pub whole_l1 : (old mid new : BTreeMap ℕ Tally)
-      → Grows old mid (tables_among h l1 n) (tables_among h l1 n) (marks_among h l1 n)
-      → Grows mid new (named_by_tables h b places) (λ _. 0) (marked_by_tables h b places)
-      → Grows old new (named_below h b n) (tables_below h b n) (marked_below h b n)
+      → TalliesGrow old mid (tables_among h l1 n) (tables_among h l1 n) (marks_among h l1 n)
+      → TalliesGrow mid new (named_by_tables h b places) (λ _. 0) (marked_by_tables h b places)
+      → TalliesGrow old new (named_below h b n) (tables_below h b n) (marked_below h b n)
   whole_l1 old mid new entries tables =
       let tables_are : (q : ℕ) → tables_among h l1 n q ≡ tables_below h b n q = λ q. by_entries (λ e. table_in h q (host_offset e)) in
       let marks_are : (q : ℕ) → marks_among h l1 n q ≡ sum_below n (λ i. mark_of_entry h (l1_entry h b i) q) = λ q. by_entries (λ e. mark_of_entry h e q) in
@@ -43,5 +43,5 @@ module _ (h : HeaderFields) (b : Bytes) (l1 places : List ℕ) (n : ℕ) (are : 
       sum_below-add n (λ i. mark_of_entry h (l1_entry h b i) q) (λ i. marked_by_l2_table h b q (host_offset (l1_entry h b i))) in
       omega (arith, split, marks_are q, by_places (λ place. marked_by_l2_table h b q place)))
 
-  pub whole_data : (old new : BTreeMap ℕ Tally) → Grows old new (data_off_by_tables h b places) (λ _. 0) (λ _. 0) → Grows old new (data_off_below h b n) (λ _. 0) (λ _. 0)
+  pub whole_data : (old new : BTreeMap ℕ Tally) → TalliesGrow old new (data_off_by_tables h b places) (λ _. 0) (λ _. 0) → TalliesGrow old new (data_off_below h b n) (λ _. 0) (λ _. 0)
   whole_data old new tables = grows_as old new _ _ (λ o. by_places (λ place. data_off_at h b o place)) tables

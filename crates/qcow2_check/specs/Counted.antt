@@ -11,8 +11,8 @@ use Rattle.qcow2_check.specs.declared.tally.Tally.{Tally}
 use Rattle.qcow2_check.specs.Tallies.{tally_in, names_of}
 
 -- count j of the refblock at a place, 0 without one
-abbrev pub count_at : HeaderFields → Bytes → ℕ → ℕ → ℕ
-count_at h b place j = if place == 0 then 0 else block_count b (count_width h) place j
+abbrev pub block_count_or_zero : HeaderFields → Bytes → ℕ → ℕ → ℕ
+block_count_or_zero h b place j = if place == 0 then 0 else block_count b (count_width h) place j
 
 -- how often the first n reftable entries in these bytes name a cluster
 abbrev pub blocks_among : HeaderFields → List ℕ → ℕ → ℕ → ℕ
@@ -22,12 +22,12 @@ blocks_among h entries n cluster = sum_below n (λ k. table_in h cluster (block_
 abbrev pub place_at : List (ℕ × ℕ) → ℕ → ℕ
 place_at places i = (slice_index_or places i (0, 0)).0
 
-abbrev pub number_of : List (ℕ × ℕ) → ℕ → ℕ
-number_of places i = (slice_index_or places i (0, 0)).1
+abbrev pub entry_number_at : List (ℕ × ℕ) → ℕ → ℕ
+entry_number_at places i = (slice_index_or places i (0, 0)).1
 
 -- under each of these entries the clusters have these counts in truth
 abbrev pub HasCounts : List (ℕ × ℕ) → ℕ → (ℕ → ℕ) → (ℕ → ℕ) → Type 0
-HasCounts entries per_block truth count = (i j : ℕ) → i < length entries → j < per_block → truth (number_of entries i * per_block + j) ≡ count j
+HasCounts entries per_block truth count = (i j : ℕ) → i < length entries → j < per_block → truth (entry_number_at entries i * per_block + j) ≡ count j
 
 -- each count is the true one, or 0
 abbrev pub IsRightOrNone : BTreeMap ℕ Tally → (ℕ → ℕ) → Type 0
@@ -45,4 +45,4 @@ pub record Corrects (old new : BTreeMap ℕ Tally) (truth : ℕ → ℕ) : Type 
 -- the first n counts under each of these entries are the true ones then
 pub record CorrectsUnder (old new : BTreeMap ℕ Tally) (truth : ℕ → ℕ) (entries : List (ℕ × ℕ)) (per_block n : ℕ) : Type 0 where
   pub corrects : Corrects old new truth
-  pub right : (i : ℕ) → i < length entries → AreRight new truth (number_of entries i * per_block) n
+  pub right : (i : ℕ) → i < length entries → AreRight new truth (entry_number_at entries i * per_block) n

@@ -74,5 +74,5 @@ shared_line cluster t = Shared cluster t.named
 abbrev pub copied_line : ℕ → Tally → Breach
 copied_line cluster t = Copied cluster t.count t.named
 
-abbrev pub leak_line : ℕ → Tally → Leak
-leak_line c t = record { cluster = c; count = t.count; named = t.named }
+abbrev pub leak_of_cluster : ℕ → Tally → Leak
+leak_of_cluster c t = record { cluster = c; count = t.count; named = t.named }

@@ -14,15 +14,15 @@ use Rattle.qcow2_metadata.specs.declared.l2_mapping.L2Mapping.TheVariants.{Data,
 abbrev pub marked_at : HeaderFields → ℕ → ℕ → Bool → ℕ
 marked_at h cluster place copied = one_if (place / cluster_size h == cluster && copied)
 
-abbrev pub marked_by_kept : HeaderFields → ℕ → Option (ℕ × Bool) → ℕ
-marked_by_kept h cluster None = 0
-marked_by_kept h cluster (Some k) = marked_at h cluster k.0 k.1
+abbrev pub marks_of_kept : HeaderFields → ℕ → Option (ℕ × Bool) → ℕ
+marks_of_kept h cluster None = 0
+marks_of_kept h cluster (Some k) = marked_at h cluster k.0 k.1
 
-abbrev pub marked_by_cover : HeaderFields → ℕ → L2Mapping → ℕ
-marked_by_cover h cluster (Data host copied) = marked_at h cluster host copied
-marked_by_cover h cluster (Zero kept) = marked_by_kept h cluster kept
-marked_by_cover h cluster (Compressed place sectors) = 0
-marked_by_cover h cluster Uncovered = 0
+abbrev pub marks_of_cover : HeaderFields → ℕ → L2Mapping → ℕ
+marks_of_cover h cluster (Data host copied) = marked_at h cluster host copied
+marks_of_cover h cluster (Zero kept) = marks_of_kept h cluster kept
+marks_of_cover h cluster (Compressed place sectors) = 0
+marks_of_cover h cluster Uncovered = 0
 
 -- how often compressed data touch a cluster
 abbrev pub named_by_compressed : HeaderFields → ℕ → L2Mapping → ℕ
@@ -36,7 +36,7 @@ abbrev pub named_by_entries : HeaderFields → Bytes → ℕ → ℕ → ℕ →
 named_by_entries h b table n cluster = sum_below n (λ j. named_by_cover h cluster (entry_cover h (l2_entry b table j)))
 
 abbrev pub marked_by_entries : HeaderFields → Bytes → ℕ → ℕ → ℕ → ℕ
-marked_by_entries h b table n cluster = sum_below n (λ j. marked_by_cover h cluster (entry_cover h (l2_entry b table j)))
+marked_by_entries h b table n cluster = sum_below n (λ j. marks_of_cover h cluster (entry_cover h (l2_entry b table j)))
 
 -- what the entries of the L2 table at a place mark, 0 for no table
 abbrev pub marked_by_l2_table : HeaderFields → Bytes → ℕ → ℕ → ℕ

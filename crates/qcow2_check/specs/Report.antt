@@ -12,7 +12,7 @@ use Rattle.qcow2_check.specs.declared.report.Leak.{Leak}
 use Rattle.qcow2_check.specs.declared.report.Breach.{Breach}
 use Rattle.qcow2_check.specs.Marks.{marked_below}
 use Rattle.qcow2_check.specs.Offsets.{times, off_l2_tables, off_refblocks, data_off_below}
-use Rattle.qcow2_check.specs.Lines.{lines, header_lines, unaligned_lines, is_under, under_line, is_shared, shared_line, is_miscopied, copied_line, is_leaked, leak_line}
+use Rattle.qcow2_check.specs.Lines.{lines, header_lines, unaligned_lines, is_under, under_line, is_shared, shared_line, is_miscopied, copied_line, is_leaked, leak_of_cluster}
 
 -- what the bytes say of a cluster
 abbrev pub tally : HeaderFields → Bytes → ℕ → Tally
@@ -30,7 +30,7 @@ abbrev pub cluster_lines : (ℕ → Tally) → List Breach
 cluster_lines t = lines (2 ^ 64) is_under under_line t ++ (lines (2 ^ 64) is_shared shared_line t ++ lines (2 ^ 64) is_miscopied copied_line t)
 
 abbrev pub leak_lines_of : (ℕ → Tally) → List Leak
-leak_lines_of t = lines (2 ^ 64) is_leaked leak_line t
+leak_lines_of t = lines (2 ^ 64) is_leaked leak_of_cluster t
 
 unfoldable pub breach_lines : HeaderFields → Bytes → List Breach
 breach_lines h b =

@@ -17,25 +17,25 @@ IsSmall m total =
     (q : ℕ) → ((tally_in m q).named ≤ total) × (((tally_in m q).for_tables ≤ total) × ((tally_in m q).marked ≤ total))
 
 -- no cluster past the numbers of 64 bits is named or counted
-abbrev pub IsNear : BTreeMap ℕ Tally → Type 0
-IsNear m = (q : ℕ) → 2 ^ 64 ≤ q → tally_in m q ≡ no_tally
+abbrev pub TalliesWithin64Bits : BTreeMap ℕ Tally → Type 0
+TalliesWithin64Bits m = (q : ℕ) → 2 ^ 64 ≤ q → tally_in m q ≡ no_tally
 
 -- each cluster is named so much more often
-pub record Grows (old new : BTreeMap ℕ Tally) (named for_tables marked : ℕ → ℕ) : Type 0 where
+pub record TalliesGrow (old new : BTreeMap ℕ Tally) (named for_tables marked : ℕ → ℕ) : Type 0 where
   pub more_named : (q : ℕ) → (tally_in new q).named ≡ (tally_in old q).named + named q
   pub more_for_tables : (q : ℕ) → (tally_in new q).for_tables ≡ (tally_in old q).for_tables + for_tables q
   pub more_marked : (q : ℕ) → (tally_in new q).marked ≡ (tally_in old q).marked + marked q
   pub same_count : (q : ℕ) → (tally_in new q).count ≡ (tally_in old q).count
 
 -- one cluster is named once more
-abbrev pub Adds : BTreeMap ℕ Tally → BTreeMap ℕ Tally → ℕ → Bool → Bool → Type 0
-Adds old new cluster for_table marked =
-    Grows old new (λ q. one_if (cluster == q)) (λ q. one_if (cluster == q && for_table)) (λ q. one_if (cluster == q && marked))
+abbrev pub AddsToTally : BTreeMap ℕ Tally → BTreeMap ℕ Tally → ℕ → Bool → Bool → Type 0
+AddsToTally old new cluster for_table marked =
+    TalliesGrow old new (λ q. one_if (cluster == q)) (λ q. one_if (cluster == q && for_table)) (λ q. one_if (cluster == q && marked))
 
 -- one cluster is named so many times more
 abbrev pub AddsTimes : BTreeMap ℕ Tally → BTreeMap ℕ Tally → ℕ → ℕ → Bool → Bool → Type 0
 AddsTimes old new cluster times for_table marked =
-    Grows old new (λ q. times * one_if (cluster == q)) (λ q. times * one_if (cluster == q && for_table)) (λ q. times * one_if (cluster == q && marked))
+    TalliesGrow old new (λ q. times * one_if (cluster == q)) (λ q. times * one_if (cluster == q && for_table)) (λ q. times * one_if (cluster == q && marked))
 
 abbrev pub names_of : Tally → ℕ × (ℕ × ℕ)
 names_of t = (t.named, (t.for_tables, t.marked))

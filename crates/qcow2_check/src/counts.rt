@@ -7,7 +7,7 @@ ghost use Rattle.qcow2_metadata.specs.Entries.{block_count, block_offset as plac
 ghost use Rattle.qcow2_metadata.specs.MetadataError.{OnlyReads};
 ghost use Rattle.qcow2_metadata.specs.TableBytes.{entry_at as entry_of, IsOfStorageOrMemory};
 ghost use Rattle.qcow2_check.specs.Tallies.{tally_in, CountsAll};
-ghost use Rattle.qcow2_check.specs.Counted.{count_at, number_of, HasCounts, Corrects, CorrectsUnder, IsRightOrNone};
+ghost use Rattle.qcow2_check.specs.Counted.{block_count_or_zero, entry_number_at, HasCounts, Corrects, CorrectsUnder, IsRightOrNone};
 
 use crate::names::Names;
 use crate::source::read_at;
@@ -23,12 +23,12 @@ fn set_counts(
     j: u64,
     count: u64,
 ) -> Result<(), AllocError>
-    requires low { (i : ℕ) → number_of entries.now i < 2 ^ 20 }
+    requires low { (i : ℕ) → entry_number_at entries.now i < 2 ^ 20 }
     requires few { per_block ≤ 2 ^ 24 }
     requires inside { j < per_block }
-    ensures corrects { (truth : ℕ → ℕ) → ((i : ℕ) → i < length entries.now → truth (number_of entries.now i * per_block + j) ≡ count)
+    ensures corrects { (truth : ℕ → ℕ) → ((i : ℕ) → i < length entries.now → truth (entry_number_at entries.now i * per_block + j) ≡ count)
         → OnOk result (Corrects names.old.clusters names.new.clusters truth) }
-    ensures counts { OnOk result ((i : ℕ) → i < length entries.now → (tally_in names.new.clusters (number_of entries.now i * per_block + j)).count ≡ count) }
+    ensures counts { OnOk result ((i : ℕ) → i < length entries.now → (tally_in names.new.clusters (entry_number_at entries.now i * per_block + j)).count ≡ count) }
     ensures total { names.new.total ≡ names.old.total }
 {
     for (_, entry) in entries {
@@ -61,7 +61,7 @@ fn counts_of_block(
     requires bits { header.now.cluster_bits ≤ 21 }
     requires order { header.now.refcount_order ≤ 6 }
     requires whole { length block.now ≡ cluster_size header.now }
-    requires numbers { (i : ℕ) → number_of entries.now i < 2 ^ 20 }
+    requires numbers { (i : ℕ) → entry_number_at entries.now i < 2 ^ 20 }
     ensures corrects { (truth : ℕ → ℕ) → HasCounts entries.now (counts_per_block header.now) truth (block_count (byte_at block.now) (count_width header.now) 0)
         → IsRightOrNone names.old.clusters truth
         → OnOk result (CorrectsUnder names.old.clusters names.new.clusters truth entries.now (counts_per_block header.now) (counts_per_block header.now)) }
@@ -91,9 +91,9 @@ fn counts_of_block_at<S: Storage>(
     requires bits { header.now.cluster_bits ≤ 21 }
     requires order { header.now.refcount_order ≤ 6 }
     requires whole { length buf.old ≡ cluster_size header.now }
-    requires numbers { (i : ℕ) → number_of entries.now i < 2 ^ 20 }
+    requires numbers { (i : ℕ) → entry_number_at entries.now i < 2 ^ 20 }
     ensures corrects { (S.view storage.old).is_honest → (truth : ℕ → ℕ)
-        → HasCounts entries.now (counts_per_block header.now) truth (count_at header.now (byte_at (S.view storage.old).contents) place)
+        → HasCounts entries.now (counts_per_block header.now) truth (block_count_or_zero header.now (byte_at (S.view storage.old).contents) place)
         → IsRightOrNone names.old.clusters truth
         → OnOk result (CorrectsUnder names.old.clusters names.new.clusters truth entries.now (counts_per_block header.now) (counts_per_block header.now)) }
     ensures causes { IfErr result IsOfStorageOrMemory }

@@ -5,8 +5,8 @@ ghost use Rattle.qcow2_metadata.specs.Bytes.{byte_at};
 ghost use Rattle.qcow2_metadata.specs.Header.{cluster_size, entries_per_cluster, has_data_file};
 ghost use Rattle.qcow2_metadata.specs.L2Mapping.{IsInReach};
 ghost use Rattle.qcow2_metadata.specs.Named.{named_by_cover};
-ghost use Rattle.qcow2_check.specs.Tallies.{Grows};
-ghost use Rattle.qcow2_check.specs.Marks.{marked_by_cover, named_by_compressed, named_by_entries, marked_by_entries};
+ghost use Rattle.qcow2_check.specs.Tallies.{TalliesGrow};
+ghost use Rattle.qcow2_check.specs.Marks.{marks_of_cover, named_by_compressed, named_by_entries, marked_by_entries};
 
 use crate::names::Names;
 use qcow2_metadata::{HeaderFields, L2Mapping, entry_at};
@@ -24,7 +24,7 @@ fn names_of_compressed(
     requires near { IsInReach cover.now }
     requires few { times ≤ 2 ^ 22 }
     requires room { names.old.total < 2 ^ 61 }
-    ensures grows { OnOk result (Grows names.old.clusters names.new.clusters (λ q. times * named_by_compressed header.now q cover.now) (λ _. 0) (λ _. 0)) }
+    ensures grows { OnOk result (TalliesGrow names.old.clusters names.new.clusters (λ q. times * named_by_compressed header.now q cover.now) (λ _. 0) (λ _. 0)) }
     ensures total { OnOk result (names.new.total ≤ names.old.total + times * 2 ^ 15) }
 {
     let size: u64 = 1 << header.cluster_bits;
@@ -50,8 +50,8 @@ fn names_of_cover(
     requires near { IsInReach cover.now }
     requires few { times ≤ 2 ^ 22 }
     requires room { names.old.total < 2 ^ 61 }
-    ensures grows { OnOk result (Grows names.old.clusters names.new.clusters
-        (λ q. times * named_by_cover header.now q cover.now) (λ _. 0) (λ q. times * marked_by_cover header.now q cover.now)) }
+    ensures grows { OnOk result (TalliesGrow names.old.clusters names.new.clusters
+        (λ q. times * named_by_cover header.now q cover.now) (λ _. 0) (λ q. times * marks_of_cover header.now q cover.now)) }
     ensures total { OnOk result (names.new.total ≤ names.old.total + times * 2 ^ 15) }
 {
     let copied = cover.is_marked_copied();
@@ -83,7 +83,7 @@ pub(crate) fn names_of_l2_table(
     requires whole { length table.now ≡ cluster_size header.now }
     requires few { times ≤ 2 ^ 22 }
     requires room { names.old.total < 2 ^ 60 }
-    ensures grows { OnOk result (Grows names.old.clusters names.new.clusters
+    ensures grows { OnOk result (TalliesGrow names.old.clusters names.new.clusters
         (λ q. times * named_by_entries header.now (byte_at table.now) 0 (entries_per_cluster header.now) q) (λ _. 0)
         (λ q. times * marked_by_entries header.now (byte_at table.now) 0 (entries_per_cluster header.now) q)) }
     ensures total { OnOk result (names.new.total ≤ names.old.total + times * 2 ^ 33) }

@@ -8,7 +8,7 @@ ghost use Rattle.qcow2_metadata.specs.Entries.{l1_entry, host_offset as place_of
 ghost use Rattle.qcow2_metadata.specs.Named.{table_in};
 ghost use Rattle.qcow2_metadata.specs.MetadataError.{OnlyReads};
 ghost use Rattle.qcow2_metadata.specs.TableBytes.{entry_at as entry_of, IsClusterBits, IsOfStorageOrMemory};
-ghost use Rattle.qcow2_check.specs.Tallies.{tally_in, Grows};
+ghost use Rattle.qcow2_check.specs.Tallies.{tally_in, TalliesGrow};
 ghost use Rattle.qcow2_check.specs.Offsets.{data_off_below};
 ghost use Rattle.qcow2_check.specs.Marks.{named_below, tables_below, marked_below, mark_of_entry, tables_among, marks_among};
 
@@ -22,7 +22,7 @@ use std::alloc::{AllocError, Global};
 fn names_of_l1_entry(names: &mut Names, header: &HeaderFields, entry: u64) -> Result<(), AllocError>
     requires bits { header.now.cluster_bits ≤ 21 }
     requires room { names.old.total < 2 ^ 61 }
-    ensures grows { OnOk result (Grows names.old.clusters names.new.clusters
+    ensures grows { OnOk result (TalliesGrow names.old.clusters names.new.clusters
         (λ q. table_in header.now q (place_of entry)) (λ q. table_in header.now q (place_of entry)) (mark_of_entry header.now entry)) }
     ensures total { OnOk result (names.new.total ≤ names.old.total + 1) }
 {
@@ -42,7 +42,7 @@ fn names_of_l1_entries(
     requires bits { header.now.cluster_bits ≤ 21 }
     requires few { length l1.now ≤ 2 ^ 25 }
     requires room { names.old.total < 2 ^ 59 }
-    ensures grows { OnOk result (Grows names.old.clusters names.new.clusters (tables_among header.now l1.now (length l1.now / 8))
+    ensures grows { OnOk result (TalliesGrow names.old.clusters names.new.clusters (tables_among header.now l1.now (length l1.now / 8))
         (tables_among header.now l1.now (length l1.now / 8)) (marks_among header.now l1.now (length l1.now / 8))) }
     ensures total { OnOk result (names.new.total ≤ names.old.total + 2 ^ 22) }
 {
@@ -83,12 +83,12 @@ pub(crate) fn names_of_l1_table<S: Storage>(
     requires few { length l1.now ≤ 2 ^ 25 }
     requires room { (names.old.total < 2 ^ 58) × (offsets.old.total < 2 ^ 58) }
     ensures grows { (S.view storage.old).is_honest → ((i : ℕ) → entry_of l1.now i ≡ l1_entry header.now (byte_at (S.view storage.old).contents) i)
-        → OnOk result (Grows names.old.clusters names.new.clusters
+        → OnOk result (TalliesGrow names.old.clusters names.new.clusters
         (named_below header.now (byte_at (S.view storage.old).contents) (length l1.now / 8))
         (tables_below header.now (byte_at (S.view storage.old).contents) (length l1.now / 8))
         (marked_below header.now (byte_at (S.view storage.old).contents) (length l1.now / 8))) }
     ensures offsets { (S.view storage.old).is_honest → ((i : ℕ) → entry_of l1.now i ≡ l1_entry header.now (byte_at (S.view storage.old).contents) i)
-        → OnOk result (Grows offsets.old.clusters offsets.new.clusters (data_off_below header.now (byte_at (S.view storage.old).contents) (length l1.now / 8)) (λ _. 0) (λ _. 0)) }
+        → OnOk result (TalliesGrow offsets.old.clusters offsets.new.clusters (data_off_below header.now (byte_at (S.view storage.old).contents) (length l1.now / 8)) (λ _. 0) (λ _. 0)) }
     ensures counts { OnOk result ((q : ℕ) → (tally_in names.new.clusters q).count ≡ (tally_in names.old.clusters q).count) }
     ensures causes { IfErr result IsOfStorageOrMemory }
     ensures reading { OnlyReads (S.view storage.old) (S.view storage.new) result }

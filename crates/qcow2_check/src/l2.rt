@@ -6,7 +6,7 @@ ghost use Rattle.qcow2_metadata.specs.Header.{cluster_size};
 ghost use Rattle.qcow2_metadata.specs.Named.{named_by_l2_table};
 ghost use Rattle.qcow2_metadata.specs.MetadataError.{OnlyReads};
 ghost use Rattle.qcow2_metadata.specs.TableBytes.{IsClusterBits, IsOfStorageOrMemory};
-ghost use Rattle.qcow2_check.specs.Tallies.{tally_in, Grows};
+ghost use Rattle.qcow2_check.specs.Tallies.{tally_in, TalliesGrow};
 ghost use Rattle.qcow2_check.specs.Offsets.{data_off_at, data_off_by_tables};
 ghost use Rattle.qcow2_check.specs.Marks.{marked_by_l2_table, named_by_tables, marked_by_tables};
 
@@ -31,10 +31,10 @@ fn names_of_table_at<S: Storage>(
     requires whole { length buf.old ≡ cluster_size header.now }
     requires few { times ≤ 2 ^ 22 }
     requires room { (names.old.total < 2 ^ 60) × (offsets.old.total < 2 ^ 60) }
-    ensures grows { (S.view storage.old).is_honest → OnOk result (Grows names.old.clusters names.new.clusters
+    ensures grows { (S.view storage.old).is_honest → OnOk result (TalliesGrow names.old.clusters names.new.clusters
         (λ q. times * named_by_l2_table header.now (byte_at (S.view storage.old).contents) q place) (λ _. 0)
         (λ q. times * marked_by_l2_table header.now (byte_at (S.view storage.old).contents) q place)) }
-    ensures offsets { (S.view storage.old).is_honest → OnOk result (Grows offsets.old.clusters offsets.new.clusters
+    ensures offsets { (S.view storage.old).is_honest → OnOk result (TalliesGrow offsets.old.clusters offsets.new.clusters
         (λ o. times * data_off_at header.now (byte_at (S.view storage.old).contents) o place) (λ _. 0) (λ _. 0)) }
     ensures totals { OnOk result ((names.new.total ≤ names.old.total + times * 2 ^ 33) × (offsets.new.total ≤ offsets.old.total + times * 2 ^ 33)) }
     ensures counts { OnOk result ((q : ℕ) → (tally_in names.new.clusters q).count ≡ (tally_in names.old.clusters q).count) }
@@ -63,10 +63,10 @@ pub(crate) fn names_of_l2_tables<S: Storage>(
     requires whole { length buf.old ≡ cluster_size header.now }
     requires few { length places.now ≤ 2 ^ 22 }
     requires room { (names.old.total < 2 ^ 59) × (offsets.old.total < 2 ^ 59) }
-    ensures grows { (S.view storage.old).is_honest → OnOk result (Grows names.old.clusters names.new.clusters
+    ensures grows { (S.view storage.old).is_honest → OnOk result (TalliesGrow names.old.clusters names.new.clusters
         (named_by_tables header.now (byte_at (S.view storage.old).contents) places.now) (λ _. 0)
         (marked_by_tables header.now (byte_at (S.view storage.old).contents) places.now)) }
-    ensures offsets { (S.view storage.old).is_honest → OnOk result (Grows offsets.old.clusters offsets.new.clusters
+    ensures offsets { (S.view storage.old).is_honest → OnOk result (TalliesGrow offsets.old.clusters offsets.new.clusters
         (data_off_by_tables header.now (byte_at (S.view storage.old).contents) places.now) (λ _. 0) (λ _. 0)) }
     ensures counts { OnOk result ((q : ℕ) → (tally_in names.new.clusters q).count ≡ (tally_in names.old.clusters q).count) }
     ensures causes { IfErr result IsOfStorageOrMemory }

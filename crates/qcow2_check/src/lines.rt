@@ -4,7 +4,7 @@ ghost use Rattle.std.specs.Prelude.{◌≡◌, ◌++◌, ◌^◌, ◌≤◌, OnO
 ghost use Rattle.std.specs.BTreeMap.{IsOrdered};
 ghost use Rattle.std.specs.Ordering.{nat_cmp};
 ghost use Rattle.qcow2_check.specs.Tallies.{tally_in};
-ghost use Rattle.qcow2_check.specs.Lines.{lines, lines_of, is_under, is_shared, is_miscopied, is_leaked, under_line, shared_line, copied_line, leak_line, header_lines, is_named, unaligned_line, offset_lines, table_offset_lines, unaligned_lines};
+ghost use Rattle.qcow2_check.specs.Lines.{lines, lines_of, is_under, is_shared, is_miscopied, is_leaked, under_line, shared_line, copied_line, leak_of_cluster, header_lines, is_named, unaligned_line, offset_lines, table_offset_lines, unaligned_lines};
 
 use crate::names::Names;
 use crate::offsets::Offsets;
@@ -65,7 +65,7 @@ fn push_copied(breaches: &mut Vec<Breach>, names: &Names) -> Result<(), AllocErr
 /// A line for each cluster that is counted more often than named.
 fn push_leaks(leaks: &mut Vec<Leak>, names: &Names) -> Result<(), AllocError>
     ensures sorted { IsOrdered nat_cmp names.now.clusters }
-    ensures lines { OnOk result (leaks.new.items ≡ leaks.old.items ++ lines_of is_leaked leak_line names.now.clusters.entries) }
+    ensures lines { OnOk result (leaks.new.items ≡ leaks.old.items ++ lines_of is_leaked leak_of_cluster names.now.clusters.entries) }
 {
     for (cluster, tally) in &names.clusters {
         if tally.count > tally.named {
@@ -172,7 +172,7 @@ pub(crate) fn add_breaches(breaches: &mut Vec<Breach>, names: &Names) -> Result<
 
 /// The leaked clusters.
 pub(crate) fn add_leaks(leaks: &mut Vec<Leak>, names: &Names) -> Result<(), AllocError>
-    ensures { OnOk result (leaks.new.items ≡ leaks.old.items ++ lines (2 ^ 64) is_leaked leak_line (tally_in names.now.clusters)) }
+    ensures { OnOk result (leaks.new.items ≡ leaks.old.items ++ lines (2 ^ 64) is_leaked leak_of_cluster (tally_in names.now.clusters)) }
 {
     push_leaks(leaks, names)?;
     Ok(())

@@ -2,7 +2,7 @@
 
 ghost use Rattle.std.specs.Prelude.{ℕ, ◌≡◌, ◌+◌, ◌-◌, ◌*◌, ◌<◌, ◌≤◌, ◌^◌, ◌&&◌, nat_le, nat_lt, OnOk, OnErr};
 ghost use Rattle.qcow2_metadata.specs.Bytes.{one_if};
-ghost use Rattle.qcow2_check.specs.Tallies.{tally_in, no_tally, Adds, AddsTimes, Counts, Grows, IsNear, IsSmall};
+ghost use Rattle.qcow2_check.specs.Tallies.{tally_in, no_tally, AddsToTally, AddsTimes, Counts, TalliesGrow, TalliesWithin64Bits, IsSmall};
 
 use crate::tally::Tally;
 use std::alloc::{AllocError, Global};
@@ -14,7 +14,7 @@ pub(crate) struct Names {
     pub(crate) clusters: BTreeMap<u64, Tally>,
     pub(crate) total: u64,
     ghost bounded: { IsSmall clusters total },
-    ghost near: { IsNear clusters },
+    ghost near: { TalliesWithin64Bits clusters },
 }
 
 /// So many, or none.
@@ -43,7 +43,7 @@ impl Names {
         marked: bool,
     ) -> Result<(), AllocError>
         requires room { self.old.total < 2 ^ 62 }
-        ensures adds { OnOk result (Adds self.old.clusters self.new.clusters cluster for_table marked) }
+        ensures adds { OnOk result (AddsToTally self.old.clusters self.new.clusters cluster for_table marked) }
         ensures total { OnOk result (self.new.total ≡ self.old.total + 1) }
     {
         self.add_times(cluster, 1, for_table, marked)
@@ -80,7 +80,7 @@ impl Names {
         requires end { last < 2 ^ 63 }
         requires few { times ≤ 2 ^ 22 }
         requires room { self.old.total < 2 ^ 61 }
-        ensures grows { OnOk result (Grows self.old.clusters self.new.clusters (λ q. times * one_if (nat_le first q && nat_le q last)) (λ _. 0) (λ _. 0)) }
+        ensures grows { OnOk result (TalliesGrow self.old.clusters self.new.clusters (λ q. times * one_if (nat_le first q && nat_le q last)) (λ _. 0) (λ _. 0)) }
         ensures total { OnOk result (self.new.total ≤ self.old.total + times * 2 ^ 15) }
     {
         for cluster in first..last + 1 {
@@ -104,7 +104,7 @@ impl Names {
         requires few { n ≤ 2 ^ 32 }
         requires end { first < 2 ^ 62 }
         requires room { self.old.total < 2 ^ 61 }
-        ensures grows { OnOk result (Grows self.old.clusters self.new.clusters
+        ensures grows { OnOk result (TalliesGrow self.old.clusters self.new.clusters
             (λ q. one_if (nat_le first q && nat_lt q (first + n))) (λ q. one_if (nat_le first q && nat_lt q (first + n))) (λ _. 0)) }
         ensures total { OnOk result (self.new.total ≤ self.old.total + n) }
     {

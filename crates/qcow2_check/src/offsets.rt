@@ -4,7 +4,7 @@ ghost use Rattle.std.specs.Prelude.{ℕ, ◌≡◌, ◌+◌, ◌*◌, ◌/◌, �
 ghost use Rattle.qcow2_metadata.specs.Bytes.{byte_at};
 ghost use Rattle.qcow2_metadata.specs.Header.{cluster_size, entries_per_cluster};
 ghost use Rattle.qcow2_metadata.specs.L2Mapping.{host_of};
-ghost use Rattle.qcow2_check.specs.Tallies.{tally_in, no_tally, Grows};
+ghost use Rattle.qcow2_check.specs.Tallies.{tally_in, no_tally, TalliesGrow};
 ghost use Rattle.qcow2_check.specs.Offsets.{off_cluster, off_cluster_if, blocks_off, tables_off, data_off};
 
 use crate::entries::has_external_data;
@@ -30,7 +30,7 @@ fn add_offset(
     requires bits { header.now.cluster_bits ≤ 21 }
     requires few { times ≤ 2 ^ 22 }
     requires room { offsets.old.total < 2 ^ 61 }
-    ensures grows { OnOk result (Grows offsets.old.clusters offsets.new.clusters (λ o. times * off_cluster header.now o place) (λ _. 0) (λ _. 0)) }
+    ensures grows { OnOk result (TalliesGrow offsets.old.clusters offsets.new.clusters (λ o. times * off_cluster header.now o place) (λ _. 0) (λ _. 0)) }
     ensures total { OnOk result (offsets.new.total ≤ offsets.old.total + times) }
 {
     if place % (1 << header.cluster_bits) == 0 {
@@ -48,7 +48,7 @@ pub(crate) fn offsets_of_reftable(
     requires bits { header.now.cluster_bits ≤ 21 }
     requires few { length reftable.now ≤ 2 ^ 23 }
     requires room { offsets.old.total < 2 ^ 57 }
-    ensures grows { OnOk result (Grows offsets.old.clusters offsets.new.clusters (blocks_off header.now reftable.now (length reftable.now / 8)) (λ _. 0) (λ _. 0)) }
+    ensures grows { OnOk result (TalliesGrow offsets.old.clusters offsets.new.clusters (blocks_off header.now reftable.now (length reftable.now / 8)) (λ _. 0) (λ _. 0)) }
 {
     for k in 0..reftable.len() / 8 {
         let entry = entry_at(reftable, k);
@@ -66,7 +66,7 @@ pub(crate) fn offsets_of_l1_table(
     requires bits { header.now.cluster_bits ≤ 21 }
     requires few { length l1.now ≤ 2 ^ 25 }
     requires room { offsets.old.total < 2 ^ 57 }
-    ensures grows { OnOk result (Grows offsets.old.clusters offsets.new.clusters (tables_off header.now l1.now (length l1.now / 8)) (λ _. 0) (λ _. 0)) }
+    ensures grows { OnOk result (TalliesGrow offsets.old.clusters offsets.new.clusters (tables_off header.now l1.now (length l1.now / 8)) (λ _. 0) (λ _. 0)) }
 {
     for i in 0..l1.len() / 8 {
         let entry = entry_at(l1, i);
@@ -85,7 +85,7 @@ fn offset_of_cover(
     requires bits { header.now.cluster_bits ≤ 21 }
     requires few { times ≤ 2 ^ 22 }
     requires room { offsets.old.total < 2 ^ 61 }
-    ensures grows { OnOk result (Grows offsets.old.clusters offsets.new.clusters (λ o. times * off_cluster_if header.now o (host_of cover.now)) (λ _. 0) (λ _. 0)) }
+    ensures grows { OnOk result (TalliesGrow offsets.old.clusters offsets.new.clusters (λ o. times * off_cluster_if header.now o (host_of cover.now)) (λ _. 0) (λ _. 0)) }
     ensures total { OnOk result (offsets.new.total ≤ offsets.old.total + times) }
 {
     match cover.host() {
@@ -106,7 +106,7 @@ pub(crate) fn offsets_of_l2_table(
     requires whole { length table.now ≡ cluster_size header.now }
     requires few { times ≤ 2 ^ 22 }
     requires room { offsets.old.total < 2 ^ 60 }
-    ensures grows { OnOk result (Grows offsets.old.clusters offsets.new.clusters
+    ensures grows { OnOk result (TalliesGrow offsets.old.clusters offsets.new.clusters
         (λ o. times * data_off header.now (byte_at table.now) 0 (entries_per_cluster header.now) o) (λ _. 0) (λ _. 0)) }
     ensures total { OnOk result (offsets.new.total ≤ offsets.old.total + times * 2 ^ 33) }
 {

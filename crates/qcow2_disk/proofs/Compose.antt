@@ -5,7 +5,7 @@ use Rattle.qcow2_metadata.specs.Bytes.{Bytes, byte_at}
 use Rattle.qcow2_metadata.specs.Guest.{Value}
 use Rattle.qcow2_disk.specs.Disk.{disk, disk_with}
 use Rattle.qcow2_disk.specs.Stops.{GivenBytes, IsGiven, Checkpoint, checkpoint_with, StopOkEverywhere}
-use Rattle.qcow2_disk.specs.AbstractImages.{Setting, AbstractImage, contents_of, guest_of}
+use Rattle.qcow2_disk.specs.AbstractImages.{Setting, AbstractImage, stored_bytes, guest_of}
 use Rattle.qcow2_disk.specs.Calls.{Works, Rests}
 use Rattle.qcow2_disk.proofs.Stops.{given_more, given_front, given_split, kept_twice}
 
@@ -40,7 +40,7 @@ works_less old new gs fewer asked within w = record {
   stops = λ m starts. let s = w.stops m starts in record {
     moments = passes_if (λ c. StopOkEverywhere old.setting.backing (checkpoint_with fewer asked m) (byte_at c))
         (λ c k. kept_less old gs fewer asked within m starts.1 (byte_at c) k) s.moments;
-    contents = kept_less old gs fewer asked within m starts.1 (contents_of new) s.contents;
+    contents = kept_less old gs fewer asked within m starts.1 (stored_bytes new) s.contents;
     known = λ h. kept_less old gs fewer asked within m starts.1 new.known (s.known h);
   };
 }
@@ -54,11 +54,11 @@ works_then old mid new gs asked there a b =
       surplus = λ h. b.surplus h ∙ a.surplus there;
       stops = λ m starts.
           let f = a.stops m starts in
-          let l = b.stops (checkpoint_with gs asked m) (subst (λ k. StopOkEverywhere k (checkpoint_with gs asked m) (contents_of mid)) (sym same) f.contents, subst (λ k. StopOkEverywhere k (checkpoint_with gs asked m) mid.known) (sym same) (f.known there)) in
+          let l = b.stops (checkpoint_with gs asked m) (subst (λ k. StopOkEverywhere k (checkpoint_with gs asked m) (stored_bytes mid)) (sym same) f.contents, subst (λ k. StopOkEverywhere k (checkpoint_with gs asked m) mid.known) (sym same) (f.known there)) in
           record {
             moments = passes_on (λ c. StopOkEverywhere old.setting.backing (checkpoint_with gs asked m) (byte_at c)) f.moments l.moments
                 (λ c k. kept_twice old.setting.backing gs asked m (byte_at c) (subst (λ q. StopOkEverywhere q (checkpoint_with gs asked (checkpoint_with gs asked m)) (byte_at c)) same k));
-            contents = kept_twice old.setting.backing gs asked m (contents_of new) (subst (λ q. StopOkEverywhere q (checkpoint_with gs asked (checkpoint_with gs asked m)) (contents_of new)) same l.contents);
+            contents = kept_twice old.setting.backing gs asked m (stored_bytes new) (subst (λ q. StopOkEverywhere q (checkpoint_with gs asked (checkpoint_with gs asked m)) (stored_bytes new)) same l.contents);
             known = λ h. kept_twice old.setting.backing gs asked m new.known (subst (λ q. StopOkEverywhere q (checkpoint_with gs asked (checkpoint_with gs asked m)) new.known) same (l.known h));
           };
     }

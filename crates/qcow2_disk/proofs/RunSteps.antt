@@ -9,8 +9,8 @@ use Rattle.qcow2_metadata.specs.Guest.{Value}
 use Rattle.qcow2_disk.specs.Disk.{Disk, disk, disk_with}
 use Rattle.qcow2_disk.specs.Stops.{GivenBytes, IsGiven, Checkpoint, checkpoint_at, checkpoint_with, StopOkEverywhere, StopOk}
 use Rattle.qcow2_disk.specs.Mappings.{PreparedMapping}
-use Rattle.qcow2_disk.specs.AbstractImages.{Setting, Guest, Abstraction, AbstractImage, abstract_image, guest_of, contents_of, IsWhole}
-use Rattle.qcow2_disk.specs.Calls.{Refusal, Acts, Does, Refuses, IsFault, Works, Rests, Stops}
+use Rattle.qcow2_disk.specs.AbstractImages.{Setting, Guest, Abstraction, AbstractImage, abstract_image, guest_of, stored_bytes, IsWhole}
+use Rattle.qcow2_disk.specs.Calls.{Refusal, Acts, Does, Refuses, IsRefusalByFault, Works, Rests, Stops}
 use Rattle.qcow2_disk.specs.Runs.{Command, Reply, Found, CommandMeaning, IsFaultReply, MayAnswer, IsAnswerOfFailed, IsRightlyTold, ResizesLast, State, CommandStep, Run, IsSafeWhile, IsStretch, RefinesGuest, RefinesAlong, IsStopIn, RefinesState, RefinesCommand, RefinesRun, RefinesWholeRun, RefinesDisk, IsOwnStretch, started, checkpoint_during, checkpoint_after, stepped, given_by, asked_by, flush, shrink, done, number_is}
 use Rattle.qcow2_disk.proofs.Compose.{works_less}
 use Rattle.qcow2_disk.proofs.Stops.{stop_of_kept, stop_more, kept_more}
@@ -24,7 +24,7 @@ pub record Ends (found : ℕ → Option Found) (old new : AbstractImage) (comman
   pub ends : (new.is_sound × CommandMeaning old.setting found (guest_of old) command reply (guest_of new)) ⊎ (IsFaultReply reply × IsTrue new.is_failed)
   pub finds : new.is_sound → IsRightlyTold new.setting old.known new command reply
   pub mark : (x : Setting) (s : State) → RefinesState x old s → s.is_failed ≡ false → new.is_sound → (checkpoint_after x s command reply (guest_of new) ≡ checkpoint_during x s command)
-      ⊎ (StopOkEverywhere new.setting.backing (checkpoint_after x s command reply (guest_of new)) new.known × StopOkEverywhere new.setting.backing (checkpoint_after x s command reply (guest_of new)) (contents_of new))
+      ⊎ (StopOkEverywhere new.setting.backing (checkpoint_after x s command reply (guest_of new)) new.known × StopOkEverywhere new.setting.backing (checkpoint_after x s command reply (guest_of new)) (stored_bytes new))
 
 -- what a command may be answered, on an image that failed and on one that works, and how a resize passes
 pub record IsAnswer (old new : AbstractImage) (command : Command) (reply : Reply) : Type 0 where
@@ -42,7 +42,7 @@ module _ (x : Setting) (old new : AbstractImage) (s : State) (command : Command)
   rested : IsTrue s.is_failed → IsAnswerOfFailed command reply → Rests old new → RefinesCommand x old new s command reply
   rested failed answer rests =
       let not_ok : s.is_failed ≡ false → ⊥ = λ e. let t : s.is_failed ≡ true = failed in cc in
-      let at : StopOk x.backing s.mark (contents_of new) = subst (λ c. StopOk x.backing s.mark (byte_at c)) (sym rests.contents) stands.at_rest in
+      let at : StopOk x.backing s.mark (stored_bytes new) = subst (λ c. StopOk x.backing s.mark (byte_at c)) (sym rests.contents) stands.at_rest in
       record {
         end = s;
         step = inl (failed, answer, refl);
@@ -76,10 +76,10 @@ module _ (x : Setting) (old new : AbstractImage) (s : State) (command : Command)
     new_backing = ap (λ (y : Setting). y.backing) (acts.setting ∙ stands.setting)
 
     stops : Stops old new (given_by x s.guest command) (asked_by command) s.mark
-    stops = acts.stops s.mark (subst (λ b. StopOkEverywhere b s.mark (contents_of old)) (sym backing-is) (stands.contents ok), subst (λ b. StopOkEverywhere b s.mark old.known) (sym backing-is) (stands.known ok))
+    stops = acts.stops s.mark (subst (λ b. StopOkEverywhere b s.mark (stored_bytes old)) (sym backing-is) (stands.contents ok), subst (λ b. StopOkEverywhere b s.mark old.known) (sym backing-is) (stands.known ok))
 
-    kept_contents : StopOkEverywhere x.backing (checkpoint_during x s command) (contents_of new)
-    kept_contents = subst (λ b. StopOkEverywhere b (checkpoint_during x s command) (contents_of new)) backing-is stops.contents
+    kept_contents : StopOkEverywhere x.backing (checkpoint_during x s command) (stored_bytes new)
+    kept_contents = subst (λ b. StopOkEverywhere b (checkpoint_during x s command) (stored_bytes new)) backing-is stops.contents
 
     kept_known : new.is_sound → StopOkEverywhere x.backing (checkpoint_during x s command) new.known
     kept_known sound = subst (λ b. StopOkEverywhere b (checkpoint_during x s command) new.known) backing-is (stops.known sound)
@@ -91,15 +91,15 @@ module _ (x : Setting) (old new : AbstractImage) (s : State) (command : Command)
 
     own : IsOwnStretch x.backing old.storage new.storage old.known (given_by x s.guest command) (asked_by command)
     own m contents known = subst (λ b. Passing old.storage new.storage (λ c. StopOkEverywhere b (checkpoint_with (given_by x s.guest command) (asked_by command) m) (byte_at c))) backing-is
-        (acts.stops m (subst (λ b. StopOkEverywhere b m (contents_of old)) (sym backing-is) contents, subst (λ b. StopOkEverywhere b m old.known) (sym backing-is) known)).moments
+        (acts.stops m (subst (λ b. StopOkEverywhere b m (stored_bytes old)) (sym backing-is) contents, subst (λ b. StopOkEverywhere b m old.known) (sym backing-is) known)).moments
 
-    safe_to : (after : Checkpoint) → StopOk x.backing after (contents_of new) → IsSafeWhile x.backing old.storage new.storage s.is_failed (checkpoint_during x s command) after
+    safe_to : (after : Checkpoint) → StopOk x.backing after (stored_bytes new) → IsSafeWhile x.backing old.storage new.storage s.is_failed (checkpoint_during x s command) after
     safe_to after at = record { moments = λ _. moments; at_return = at; silent = λ f. absurd (not_failed f); unchanged = λ f. absurd (not_failed f) }
 
     failing : IsFaultReply reply → IsTrue new.is_failed → RefinesCommand x old new s command reply
     failing fault failed =
-        let at : StopOk x.backing (checkpoint_after x s command reply s.guest) (contents_of new) =
-        subst (λ m. StopOk x.backing m (contents_of new)) (sym (mark_of_fault x s command reply s.guest fault)) (stop_of_kept x.backing (checkpoint_during x s command) (contents_of new) kept_contents) in
+        let at : StopOk x.backing (checkpoint_after x s command reply s.guest) (stored_bytes new) =
+        subst (λ m. StopOk x.backing m (stored_bytes new)) (sym (mark_of_fault x s command reply s.guest fault)) (stop_of_kept x.backing (checkpoint_during x s command) (stored_bytes new) kept_contents) in
         record {
           end = stepped x s command reply s.guest true;
           step = inr (inr (ok, may, fault, refl));
@@ -119,16 +119,16 @@ module _ (x : Setting) (old new : AbstractImage) (s : State) (command : Command)
 
     going : new.is_sound → CommandMeaning x s.found s.guest command reply (guest_of new) → IsRightlyTold new.setting old.known new command reply
         → ((checkpoint_after x s command reply (guest_of new) ≡ checkpoint_during x s command)
-        ⊎ (StopOkEverywhere new.setting.backing (checkpoint_after x s command reply (guest_of new)) new.known × StopOkEverywhere new.setting.backing (checkpoint_after x s command reply (guest_of new)) (contents_of new)))
+        ⊎ (StopOkEverywhere new.setting.backing (checkpoint_after x s command reply (guest_of new)) new.known × StopOkEverywhere new.setting.backing (checkpoint_after x s command reply (guest_of new)) (stored_bytes new)))
         → RefinesCommand x old new s command reply
     going sound means finds mark =
         let after = checkpoint_after x s command reply (guest_of new) in
-        let kept : StopOkEverywhere x.backing after (contents_of new) =
+        let kept : StopOkEverywhere x.backing after (stored_bytes new) =
         ⊎_elim
-        (λ (e : checkpoint_after x s command reply (guest_of new) ≡ checkpoint_during x s command). subst (λ m. StopOkEverywhere x.backing m (contents_of new)) (sym e) kept_contents)
-        (λ (f : StopOkEverywhere new.setting.backing (checkpoint_after x s command reply (guest_of new)) new.known × StopOkEverywhere new.setting.backing (checkpoint_after x s command reply (guest_of new)) (contents_of new)).
-        subst (λ b. StopOkEverywhere b (checkpoint_after x s command reply (guest_of new)) (contents_of new)) new_backing f.1) mark in
-        let at = stop_of_kept x.backing after (contents_of new) kept in
+        (λ (e : checkpoint_after x s command reply (guest_of new) ≡ checkpoint_during x s command). subst (λ m. StopOkEverywhere x.backing m (stored_bytes new)) (sym e) kept_contents)
+        (λ (f : StopOkEverywhere new.setting.backing (checkpoint_after x s command reply (guest_of new)) new.known × StopOkEverywhere new.setting.backing (checkpoint_after x s command reply (guest_of new)) (stored_bytes new)).
+        subst (λ b. StopOkEverywhere b (checkpoint_after x s command reply (guest_of new)) (stored_bytes new)) new_backing f.1) mark in
+        let at = stop_of_kept x.backing after (stored_bytes new) kept in
         record {
           end = stepped x s command reply (guest_of new) false;
           step = inr (inl (ok, may, ((guest_of new), means, refl)));
@@ -139,7 +139,7 @@ module _ (x : Setting) (old new : AbstractImage) (s : State) (command : Command)
             guest = λ _. refl;
             known = λ _. ⊎_elim
                 (λ (e : checkpoint_after x s command reply (guest_of new) ≡ checkpoint_during x s command). subst (λ m. StopOkEverywhere x.backing m new.known) (sym e) (kept_known sound))
-                (λ (f : StopOkEverywhere new.setting.backing (checkpoint_after x s command reply (guest_of new)) new.known × StopOkEverywhere new.setting.backing (checkpoint_after x s command reply (guest_of new)) (contents_of new)).
+                (λ (f : StopOkEverywhere new.setting.backing (checkpoint_after x s command reply (guest_of new)) new.known × StopOkEverywhere new.setting.backing (checkpoint_after x s command reply (guest_of new)) (stored_bytes new)).
                 subst (λ b. StopOkEverywhere b (checkpoint_after x s command reply (guest_of new)) new.known) new_backing f.0) mark;
             contents = λ _. kept;
             at_rest = at;
@@ -178,19 +178,19 @@ done_as x old new s command is reply e stands answer does mark finds =
     (λ sound. record { ends = inl (does.answer sound); finds = λ _. finds sound; mark = λ x' s' _ _ _. inl (mark x' s') }))
 
 pub refused_told : (x : Setting) (old new : AbstractImage) (s : State) (command is : Command) (reply : Reply) (error : Refusal) → command ≡ is → RefinesState x old s → IsAnswer old new is reply
-    → Refuses old new (given_by old.setting (guest_of old) is) (asked_by is) error (CommandMeaning old.setting s.found (guest_of old) is reply (guest_of new)) → (IsFault error → IsFaultReply reply)
+    → Refuses old new (given_by old.setting (guest_of old) is) (asked_by is) error (CommandMeaning old.setting s.found (guest_of old) is reply (guest_of new)) → (IsRefusalByFault error → IsFaultReply reply)
     → ((x' : Setting) (s' : State) → checkpoint_after x' s' is reply (guest_of new) ≡ checkpoint_during x' s' is) → (old.is_sound → IsRightlyTold new.setting old.known new is reply) → RefinesCommand x old new s command reply
 refused_told x old new s command is reply error e stands answer refuses fault mark finds =
     subst (λ q. RefinesCommand x old new s q reply) (sym e) (called x old new s is reply stands answer refuses.acts
     (λ sound. record {
-      ends = ⊎_elim (λ h. inl h) (λ (b : IsFault error × IsTrue new.is_failed). inr (fault b.0, b.1)) (refuses.answer sound);
+      ends = ⊎_elim (λ h. inl h) (λ (b : IsRefusalByFault error × IsTrue new.is_failed). inr (fault b.0, b.1)) (refuses.answer sound);
       finds = λ _. finds sound;
       mark = λ x' s' _ _ _. inl (mark x' s');
     }))
 
 -- one that tells nothing but its refusal
 pub refused_as : (x : Setting) (old new : AbstractImage) (s : State) (command is : Command) (reply : Reply) (error : Refusal) → command ≡ is → RefinesState x old s → IsAnswer old new is reply
-    → Refuses old new (given_by old.setting (guest_of old) is) (asked_by is) error (CommandMeaning old.setting s.found (guest_of old) is reply (guest_of new)) → (IsFault error → IsFaultReply reply)
+    → Refuses old new (given_by old.setting (guest_of old) is) (asked_by is) error (CommandMeaning old.setting s.found (guest_of old) is reply (guest_of new)) → (IsRefusalByFault error → IsFaultReply reply)
     → ((x' : Setting) (s' : State) → checkpoint_after x' s' is reply (guest_of new) ≡ checkpoint_during x' s' is) → IsRightlyTold new.setting old.known new is reply → RefinesCommand x old new s command reply
 refused_as x old new s command is reply error e stands answer refuses fault mark finds = refused_told x old new s command is reply error e stands answer refuses fault mark (λ _. finds)
 
@@ -203,7 +203,7 @@ acts_none v given asked = record {
     surplus = λ _. refl;
     stops = λ m starts. record {
       moments = passes_none v.storage (λ c. StopOkEverywhere v.setting.backing (checkpoint_with given asked m) (byte_at c));
-      contents = kept_more v.setting.backing given asked m (contents_of v) starts.0;
+      contents = kept_more v.setting.backing given asked m (stored_bytes v) starts.0;
       known = λ _. kept_more v.setting.backing given asked m v.known starts.1;
     };
   };
@@ -221,7 +221,7 @@ kept_at_once v b whole same =
     }
 
 pub flushed_as : (x : Setting) (old new : AbstractImage) (s : State) (command is : Command) (reply : Reply) → command ≡ is → RefinesState x old s → IsAnswer old new is reply
-    → Does old new (given_by old.setting (guest_of old) is) (asked_by is) ((new.known ≡ contents_of new) × CommandMeaning old.setting s.found (guest_of old) is reply (guest_of new))
+    → Does old new (given_by old.setting (guest_of old) is) (asked_by is) ((new.known ≡ stored_bytes new) × CommandMeaning old.setting s.found (guest_of old) is reply (guest_of new))
     → (new.is_sound → IsWhole new)
     → ((x' : Setting) (s' : State) → checkpoint_after x' s' is reply (guest_of new) ≡ checkpoint_at (guest_of new).disk) → IsRightlyTold new.setting old.known new is reply → RefinesCommand x old new s command reply
 flushed_as x old new s command is reply e stands answer does whole mark finds =
@@ -231,7 +231,7 @@ flushed_as x old new s command is reply e stands answer does whole mark finds =
       finds = λ _. finds;
       mark = λ x' s' _ _ _. inr (
         subst (λ m. StopOkEverywhere new.setting.backing m new.known) (sym (mark x' s')) (kept_at_once new new.known (whole a.0) refl),
-        subst (λ m. StopOkEverywhere new.setting.backing m (contents_of new)) (sym (mark x' s')) (kept_at_once new (contents_of new) (whole a.0) (sym a.1.0)),
+        subst (λ m. StopOkEverywhere new.setting.backing m (stored_bytes new)) (sym (mark x' s')) (kept_at_once new (stored_bytes new) (whole a.0) (sym a.1.0)),
       );
     }))
 
@@ -254,12 +254,12 @@ gave_less x old new s command is reply given e stands answer does within mark fi
       mark = λ x' s' there ok sound'.
           let works = does.acts.works sound in
           let below : old.setting.backing ≡ x'.backing = ap (λ (y : Setting). y.backing) there.setting in
-          let stops = works.stops s'.mark (subst (λ b. StopOkEverywhere b s'.mark (contents_of old)) (sym below) (there.contents ok), subst (λ b. StopOkEverywhere b s'.mark old.known) (sym below) (there.known ok)) in
+          let stops = works.stops s'.mark (subst (λ b. StopOkEverywhere b s'.mark (stored_bytes old)) (sym below) (there.contents ok), subst (λ b. StopOkEverywhere b s'.mark old.known) (sym below) (there.known ok)) in
           let gave : gs ≡ given x' s'.guest = ap (λ (y : Setting). given y (guest_of old)) there.setting ∙ ap (λ (h : Guest). given x' h) (there.guest ok) in
           let marked : checkpoint_with gs (asked_by is) s'.mark ≡ checkpoint_after x' s' is reply (guest_of new) = ap (λ (l : List GivenBytes). checkpoint_with l (asked_by is) s'.mark) gave ∙ sym (mark x' s') in
           let as_marked : (b : Bytes) → StopOkEverywhere old.setting.backing (checkpoint_with gs (asked_by is) s'.mark) b → StopOkEverywhere new.setting.backing (checkpoint_after x' s' is reply (guest_of new)) b = λ b kept.
           subst (λ (y : Setting). StopOkEverywhere y.backing (checkpoint_after x' s' is reply (guest_of new)) b) (sym works.setting) (subst (λ m. StopOkEverywhere old.setting.backing m b) marked kept) in
-          inr (as_marked new.known (stops.known sound'), as_marked (contents_of new) stops.contents);
+          inr (as_marked new.known (stops.known sound'), as_marked (stored_bytes new) stops.contents);
     }))
 
 -- a command that was misused: nothing is called
@@ -272,15 +272,15 @@ none_as x v s command is reply e stands answer means mark finds =
     (λ sound. record { ends = inl (sound, means sound); finds = λ _. finds; mark = λ x' s' _ _ _. inl (mark x' s') }))
 
 -- where a run begins
-pub begins : (v : AbstractImage) → v.is_sound → IsWhole v → v.known ≡ contents_of v → RefinesState v.setting v (started (guest_of v))
+pub begins : (v : AbstractImage) → v.is_sound → IsWhole v → v.known ≡ stored_bytes v → RefinesState v.setting v (started (guest_of v))
 begins v sound whole same = record {
   setting = refl;
   works = λ _. sound;
   failed = λ e. absurd (let t : false ≡ true = e in cc);
   guest = λ _. refl;
   known = λ _. kept_at_once v v.known whole refl;
-  contents = λ _. kept_at_once v (contents_of v) whole (sym same);
-  at_rest = stop_of_kept v.setting.backing (checkpoint_at (guest_of v).disk) (contents_of v) (kept_at_once v (contents_of v) whole (sym same));
+  contents = λ _. kept_at_once v (stored_bytes v) whole (sym same);
+  at_rest = stop_of_kept v.setting.backing (checkpoint_at (guest_of v).disk) (stored_bytes v) (kept_at_once v (stored_bytes v) whole (sym same));
 }
 
 -- a run goes on by one step

@@ -90,8 +90,8 @@ abstract_image spec d out = record {
 }
 
 -- the bytes on its storage
-abbrev pub contents_of : AbstractImage → Bytes
-contents_of v = byte_at v.storage.contents
+abbrev pub stored_bytes : AbstractImage → Bytes
+stored_bytes v = byte_at v.storage.contents
 
 -- what a guest sees of it
 abbrev pub guest_of : AbstractImage → Guest
@@ -106,4 +106,4 @@ pub record IsWhole (v : AbstractImage) : Type 0 where
 -- an image that was just opened: it is sound, and nothing is modified
 pub record IsOpened (v : AbstractImage) : Type 0 where
   pub sound : v.is_sound
-  pub clean : v.known ≡ contents_of v
+  pub clean : v.known ≡ stored_bytes v

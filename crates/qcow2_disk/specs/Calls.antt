@@ -6,11 +6,11 @@ use Rattle.image_access.specs.declared.storage.PreallocateMode.TheVariants as Mo
 use Rattle.qcow2_metadata.specs.Bytes.{byte_at}
 use Rattle.qcow2_metadata.specs.Header.{rounded_up}
 use Rattle.qcow2_metadata.specs.Guest.{known_byte}
-use Rattle.qcow2_disk.specs.Disk.{Disk, with_bytes, zeroed, uncovered, grown, shrunk}
+use Rattle.qcow2_disk.specs.Disk.{Disk, with_bytes, zeroed_between, uncovered, grown, shrunk}
 use Rattle.qcow2_disk.specs.Stops.{GivenBytes, Checkpoint, checkpoint_with, StopOkEverywhere}
 use Rattle.qcow2_disk.specs.Mappings.{PreparedMapping, gift_shown}
 use Rattle.qcow2_disk.specs.Rules.{touched_from, touched_to}
-use Rattle.qcow2_disk.specs.AbstractImages.{Setting, Guest, AbstractImage, guest_of, contents_of}
+use Rattle.qcow2_disk.specs.AbstractImages.{Setting, Guest, AbstractImage, guest_of, stored_bytes}
 
 -- why a call was refused, as far as the state after it and what it tells depend on that
 pub data Refusal : Type 0 where
@@ -21,22 +21,22 @@ pub data Refusal : Type 0 where
   another : ℕ → Refusal
 
 -- the storage failed, or memory was refused
-abbrev pub IsFault : Refusal → Type 0
-IsFault memory = Unit {0}
-IsFault storage = Unit {0}
-IsFault (not_compressed offset) = ⊥
-IsFault (another number) = ⊥
+abbrev pub IsRefusalByFault : Refusal → Type 0
+IsRefusalByFault memory = Unit {0}
+IsRefusalByFault storage = Unit {0}
+IsRefusalByFault (not_compressed offset) = ⊥
+IsRefusalByFault (another number) = ⊥
 
 -- ---- what is said of every call
 
 -- where a stop may find the image, with what a call gives and asks
 pub record Stops (old new : AbstractImage) (given : List GivenBytes) (asked : List ℕ) (m : Checkpoint) : Type 0 where
   pub moments : Passing old.storage new.storage (λ c. StopOkEverywhere old.setting.backing (checkpoint_with given asked m) (byte_at c))
-  pub contents : StopOkEverywhere old.setting.backing (checkpoint_with given asked m) (contents_of new)
+  pub contents : StopOkEverywhere old.setting.backing (checkpoint_with given asked m) (stored_bytes new)
   pub known : new.is_sound → StopOkEverywhere old.setting.backing (checkpoint_with given asked m) new.known
 
 abbrev pub StartsAt : AbstractImage → Checkpoint → Type 0
-StartsAt v m = StopOkEverywhere v.setting.backing m (contents_of v) × StopOkEverywhere v.setting.backing m v.known
+StartsAt v m = StopOkEverywhere v.setting.backing m (stored_bytes v) × StopOkEverywhere v.setting.backing m v.known
 
 -- what a call does to a sound image
 pub record Works (old new : AbstractImage) (given : List GivenBytes) (asked : List ℕ) : Type 0 where
@@ -65,7 +65,7 @@ pub record Does (old new : AbstractImage) (given : List GivenBytes) (asked : Lis
 -- it was refused: the image is sound, and this is so; or it failed, by a fault or want of memory. A fault always fails it.
 pub record Refuses (old new : AbstractImage) (given : List GivenBytes) (asked : List ℕ) (e : Refusal) (still : Type 0) : Type 0 where
   pub acts : Acts old new given asked
-  pub answer : old.is_sound → (new.is_sound × still) ⊎ (IsFault e × IsTrue new.is_failed)
+  pub answer : old.is_sound → (new.is_sound × still) ⊎ (IsRefusalByFault e × IsTrue new.is_failed)
   pub fault : e ≡ storage → IsTrue new.is_failed
 
 -- the guest sees what it saw
@@ -101,8 +101,8 @@ pub data Clearing : Type 0 where
 
 abbrev pub cleared : Setting → Disk → Clearing → ℕ → ℕ → Disk
 cleared x d to_backing from to = uncovered d x.backing from to
-cleared x d to_zero from to = zeroed d from to
-cleared x d to_kept_zero from to = zeroed d from to
+cleared x d to_zero from to = zeroed_between d from to
+cleared x d to_kept_zero from to = zeroed_between d from to
 
 abbrev pub cleared_at : Setting → Disk → Clearing → ℕ → ℕ → Disk
 cleared_at x d how offset n = cleared x d how (touched_from x.cluster_size offset) (touched_to x.cluster_size d.size offset n)
@@ -126,7 +126,7 @@ pub record MayGrow (x : Setting) (old : Disk) (size : ℕ) (mode : PreallocateMo
 -- a size that isn't larger gives nothing
 abbrev pub gift_of_grow : Setting → Disk → ℕ → PreallocateMode → List GivenBytes
 gift_of_grow x d size mode =
-    if nat_le size d.size || shows_old mode then [] else gift_shown (zeroed d d.size (rounded_up x.cluster_size size)) d.size (rounded_up x.cluster_size size) ∷ []
+    if nat_le size d.size || shows_old mode then [] else gift_shown (zeroed_between d d.size (rounded_up x.cluster_size size)) d.size (rounded_up x.cluster_size size) ∷ []
 
 -- Where a shrink may end: at the old size; at the new one, where nothing was uncovered; or between, at the end of the clusters that were.
 abbrev pub IsShrinkEnd : ℕ → (old size answer : ℕ) → Type 0

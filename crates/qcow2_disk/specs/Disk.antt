@@ -27,8 +27,8 @@ abbrev pub with_bytes : Disk → ℕ → List ℕ → Disk
 with_bytes d offset bytes = with_values d offset (length bytes) (λ i. known_byte (byte_at bytes i))
 
 -- 0 from one offset up to another
-abbrev pub zeroed : Disk → ℕ → ℕ → Disk
-zeroed d from to = with_values d from (to - from) (λ _. known_byte 0)
+abbrev pub zeroed_between : Disk → ℕ → ℕ → Disk
+zeroed_between d from to = with_values d from (to - from) (λ _. known_byte 0)
 
 -- the backing's bytes from one offset up to another
 abbrev pub uncovered : Disk → Bytes → ℕ → ℕ → Disk
@@ -36,7 +36,7 @@ uncovered d backing from to = with_values d from (to - from) (λ i. known_byte (
 
 -- a larger size; 0 up to the end of the last cluster, unless the old bytes are to show
 abbrev pub grown : ℕ → Disk → ℕ → Bool → Disk
-grown cluster_size d size shows_old = record (if shows_old then d else zeroed d d.size (rounded_up cluster_size size)) { size = size }
+grown cluster_size d size shows_old = record (if shows_old then d else zeroed_between d d.size (rounded_up cluster_size size)) { size = size }
 
 -- a smaller size; the backing shows from the first boundary on, up to where the call answers
 abbrev pub shrunk : ℕ → Disk → Bytes → ℕ → ℕ → Disk

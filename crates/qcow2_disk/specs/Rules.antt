@@ -7,7 +7,7 @@ abbrev pub IsFreeRun : (ℕ → ℕ) → ℕ → ℕ → Type 0
 IsFreeRun counts n first = (i : ℕ) → i < n → counts (first + i) ≡ 0
 
 -- the lowest such run
-pub record IsLowestRun (counts : ℕ → ℕ) (n first : ℕ) : Type 0 where
+pub record IsLowestFreeRun (counts : ℕ → ℕ) (n first : ℕ) : Type 0 where
   pub is_free : IsFreeRun counts n first
   pub lowest : (other : ℕ) → IsFreeRun counts n other → first ≤ other
 
@@ -29,14 +29,14 @@ answered cs size offset length =
     (from, (if nat_lt from to then min to (offset + length) - from else 0))
 
 -- what is copied into a cluster, of which a range may be announced as overwritten
-abbrev pub uncut_copy_range : ℕ → Option (ℕ × ℕ) → ℕ × ℕ
-uncut_copy_range cs None = (0, cs)
-uncut_copy_range cs (Some announced) =
+abbrev pub copied_range : ℕ → Option (ℕ × ℕ) → ℕ × ℕ
+copied_range cs None = (0, cs)
+copied_range cs (Some announced) =
     if announced.0 == 0 then (announced.1, cs) else if announced.1 == cs then (0, announced.0) else (0, cs)
 
 -- none, or a range that is aligned
 abbrev pub copy_range : ℕ → ℕ → Option (ℕ × ℕ) → Option (ℕ × ℕ)
 copy_range cs alignment announced =
-    let r = uncut_copy_range cs announced in
+    let r = copied_range cs announced in
     let a = min alignment cs in
     if nat_lt r.0 r.1 then Some (rounded_down a r.0, rounded_up a r.1) else None

@@ -10,10 +10,10 @@ use Rattle.qcow2_disk.specs.Stops.{GivenBytes, Checkpoint, checkpoint_at, checkp
 use Rattle.qcow2_disk.specs.Rules.{answered}
 use Rattle.qcow2_disk.specs.Mappings.{PreparedMapping, IsPrepared, put_mapping, put_disk, committed, IsPrivateIn, IsHiddenIn, gift_of, gift_of_put, gift_of_commit}
 use Rattle.qcow2_disk.specs.Found.{Kind, IsFoundIn, IsCompressedAt}
-use Rattle.qcow2_disk.specs.AbstractImages.{Setting, HostRange, Guest, Abstraction, AbstractImage, abstract_image, guest_of, contents_of}
+use Rattle.qcow2_disk.specs.AbstractImages.{Setting, HostRange, Guest, Abstraction, AbstractImage, abstract_image, guest_of, stored_bytes}
 use Rattle.qcow2_disk.specs.ClearedCovers.{IsRightlyCleared}
 use Rattle.qcow2_disk.specs.GrownCovers.{IsRightlyGrown}
-use Rattle.qcow2_disk.specs.Calls.{Refusal, memory, storage, not_compressed, another, IsFault, Shows, with_disk, with_slot, MayWrite, Clearing, cleared_at, gift_of_clear, grown_to, gift_of_grow, MayGrow, IsShrunk, gift_of_shrink, gift_of_shrunk}
+use Rattle.qcow2_disk.specs.Calls.{Refusal, memory, storage, not_compressed, another, IsRefusalByFault, Shows, with_disk, with_slot, MayWrite, Clearing, cleared_at, gift_of_clear, grown_to, gift_of_grow, MayGrow, IsShrunk, gift_of_shrink, gift_of_shrunk}
 
 pub data Command : Type 0 where
   read : (offset length : ℕ) → Command
@@ -125,8 +125,8 @@ MayAnswer d (prepare slot offset n overwrite) (prepared_is host count is_existin
 MayAnswer d (clear how offset n) (range_is from count) = 0 < n → offset + n ≤ d.size
 MayAnswer d (get_mapping place offset max) (refused e) = offset < d.size
 MayAnswer d (discard slot) (refused e) = ⊥
-MayAnswer d (grow size mode) (refused e) = IsFault e → d.size < size
-MayAnswer d (shrink size) (refused e) = IsFault e → size < d.size
+MayAnswer d (grow size mode) (refused e) = IsRefusalByFault e → d.size < size
+MayAnswer d (shrink size) (refused e) = IsRefusalByFault e → size < d.size
 MayAnswer d get_size (refused e) = ⊥
 MayAnswer d get_leaked (refused e) = ⊥
 MayAnswer d command reply = Unit {0}
@@ -150,8 +150,8 @@ IsAnswerOfFailed command reply = ⊥
 
 -- the storage failed, or memory was refused
 abbrev pub IsFaultReply : Reply → Type 0
-IsFaultReply (refused e) = IsFault e
-IsFaultReply (write_refused e n) = IsFault e
+IsFaultReply (refused e) = IsRefusalByFault e
+IsFaultReply (write_refused e n) = IsRefusalByFault e
 IsFaultReply reply = ⊥
 
 abbrev pub found_after : (ℕ → Option Found) → Command → Reply → ℕ → Option Found
@@ -298,9 +298,9 @@ pub record RefinesState (x : Setting) (v : AbstractImage) (s : State) : Type 0 w
   pub failed : IsTrue s.is_failed → IsTrue v.is_failed
   pub guest : s.is_failed ≡ false → guest_of v ≡ s.guest
   pub known : s.is_failed ≡ false → StopOkEverywhere x.backing s.mark v.known
-  pub contents : s.is_failed ≡ false → StopOkEverywhere x.backing s.mark (contents_of v)
+  pub contents : s.is_failed ≡ false → StopOkEverywhere x.backing s.mark (stored_bytes v)
   -- what a stop now leaves
-  pub at_rest : StopOk x.backing s.mark (contents_of v)
+  pub at_rest : StopOk x.backing s.mark (stored_bytes v)
 
 -- one step of a run, with the moments on the way
 pub record RefinesCommand (x : Setting) (old new : AbstractImage) (s : State) (command : Command) (reply : Reply) : Type 0 where

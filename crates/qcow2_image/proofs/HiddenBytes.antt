@@ -16,7 +16,7 @@ use Rattle.qcow2_image.specs.declared.image.Qcow2.{Qcow2}
 use Rattle.qcow2_image.specs.declared.prepared.Prepared.{Prepared}
 use Rattle.qcow2_image.specs.declared.prepared.Share.{Share}
 use Rattle.qcow2_image.specs.declared.prepared.Share.TheVariants.{InPlace, Kept, New}
-use Rattle.qcow2_image.specs.ImageInvariant.{pending_in, meaning, host_of, is_entered, is_new, is_private, is_hidden, share_of, IsShareAt, ImageInvariant}
+use Rattle.qcow2_image.specs.ImageInvariant.{pending_in, meaning, host_begin_of, is_entered, is_new, is_private, is_hidden, share_of, IsShareAt, ImageInvariant}
 use Rattle.qcow2_image.proofs.Shares.{private_shared, ready_table, share_here}
 
 module _ {S F : Type 0} (view : S → StorageView) (backing : F → BackingView) (image : Qcow2 S F) (out : List (Option Prepared)) (sound : ImageInvariant view backing (pending_in view backing image out) image out) where
@@ -34,7 +34,7 @@ module _ {S F : Type 0} (view : S → StorageView) (backing : F → BackingView)
     hidden_as : (i : ℕ) (share : Share) → share_of s.header q (o / cluster_size s.header) ≡ Some share → cover s.header s.known (o / cluster_size s.header) ≡ cover s.header s.known (q.guest / cluster_size s.header + i)
         → IsTrue (is_entered share) → IsShareAt s.header s.known s.on_storage q i share → IsHere
     hidden_as i InPlace is here entered at = absurd (let e : false ≡ true = entered in cc)
-    hidden_as i Kept is here entered at = inr (host_of s.header q i, here ∙ at.entry)
+    hidden_as i Kept is here entered at = inr (host_begin_of s.header q i, here ∙ at.entry)
     hidden_as i (New taken dropped) is here entered at = inl (ap (λ m. option_map_or is_new m false) is)
 
     hidden_at : IsTrue (is_private view backing image q o) → IsHere

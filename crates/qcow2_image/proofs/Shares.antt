@@ -31,7 +31,7 @@ use Rattle.qcow2_image.specs.declared.prepared.Prepared.{Prepared}
 use Rattle.qcow2_image.specs.declared.prepared.Share.{Share}
 use Rattle.qcow2_image.specs.declared.prepared.Share.TheVariants.{InPlace, Kept, New}
 use Rattle.qcow2_image.specs.UnseenSteps.{freed_by, HoldsAll}
-use Rattle.qcow2_image.specs.ImageInvariant.{of_data, of_tables, to_free, held_in, held_by, over_all, is_entered, cluster_of, begin_of, host_of, place_of, share_of, IsShareAt, IsPending, IsReadyWith, is_private, ImageInvariant}
+use Rattle.qcow2_image.specs.ImageInvariant.{of_data, of_tables, to_free, held_in, held_by, over_all, is_entered, cluster_of, begin_of, host_begin_of, place_of, share_of, IsShareAt, IsPending, IsReadyWith, is_private, ImageInvariant}
 use Rattle.qcow2_image.proofs.Sound.{free_more}
 
 -- ---- lists of shares
@@ -115,7 +115,7 @@ module _ (h : HeaderFields) (p : Prepared) where
       cond-true (nat_le (cluster_of h p) (cluster_of h p + i)) (slice_get p.shares.items (cluster_of h p + i - cluster_of h p)) None (le-leb (cluster_of h p) (cluster_of h p + i) (omega arith)) ∙ ap (slice_get p.shares.items) e
 
   -- a byte of the i-th guest cluster
-  pub place_in : (o i : ℕ) → o / cluster_size h ≡ cluster_of h p + i → place_of h p o ≡ host_of h p i + o % cluster_size h
+  pub place_in : (o i : ℕ) → o / cluster_size h ≡ cluster_of h p + i → place_of h p o ≡ host_begin_of h p i + o % cluster_size h
   place_in o i here =
       let is : o / cluster_size h * cluster_size h + o % cluster_size h ≡ o = div-add-mod' o (cluster_size h) in
       let q : o / cluster_size h * cluster_size h ≡ (cluster_of h p + i) * cluster_size h = ap (λ n. n * cluster_size h) here in
@@ -143,7 +143,7 @@ module _ (h : HeaderFields) (p : Prepared) where
     pub byte_rest : (p.guest + at + i) % cluster_size h ≡ within % cluster_size h
     byte_rest = ap (λ o. o % cluster_size h) byte_is ∙ mod-mul-add (cluster_of h p + within / cluster_size h) (cluster_size h) (within % cluster_size h) (mod_below within (cluster_size h) some_size)
 
-    pub byte_place : p.offset + at + i ≡ host_of h p (within / cluster_size h) + (p.guest + at + i) % cluster_size h
+    pub byte_place : p.offset + at + i ≡ host_begin_of h p (within / cluster_size h) + (p.guest + at + i) % cluster_size h
     byte_place =
         let w_is : within / cluster_size h * cluster_size h + within % cluster_size h ≡ within = div-add-mod' within (cluster_size h) in
         let begins = pending.begins in
@@ -164,7 +164,7 @@ module _ (h : HeaderFields) (p : Prepared) where
         ]
 
 -- ---- the host cluster of a share that is entered
-module _ (h : HeaderFields) (p : Prepared) (i first : ℕ) (place : first * cluster_size h ≡ host_of h p i) where
+module _ (h : HeaderFields) (p : Prepared) (i first : ℕ) (place : first * cluster_size h ≡ host_begin_of h p i) where
   -- there is no cluster before the first one
   pub host_first : begin_of h p + p.guest % cluster_size h ≡ p.offset → p.offset / cluster_size h + i ≡ first
   host_first begins = elim (cases_lt first i) [
@@ -184,7 +184,7 @@ module _ (h : HeaderFields) (p : Prepared) (i first : ℕ) (place : first * clus
         omega arith
   ]
 
-  pub host_cluster : (o : ℕ) → (host_of h p i + o % cluster_size h) / cluster_size h ≡ first
+  pub host_cluster : (o : ℕ) → (host_begin_of h p i + o % cluster_size h) / cluster_size h ≡ first
   host_cluster o = ap (λ n. (n + o % cluster_size h) / cluster_size h) (sym place) ∙ div-mul-add first (cluster_size h) (o % cluster_size h) (mod_below o (cluster_size h) (pow_pos h.cluster_bits))
 
 -- a new cluster is held once
@@ -239,12 +239,12 @@ pub data Standing (h : HeaderFields) (known : Bytes) (q : Prepared) (o : ℕ) : 
   in_kept : (host : ℕ) → cover h known (o / cluster_size h) ≡ Zero (Some (host, true)) → place_of h q o ≡ host + o % cluster_size h → Standing h known q o
 
 module _ (h : HeaderFields) (known on_storage : Bytes) (q : Prepared) (o : ℕ) (shared : IsShared h q o) where
-  place_there : place_of h q o ≡ host_of h q shared.index + o % cluster_size h
+  place_there : place_of h q o ≡ host_begin_of h q shared.index + o % cluster_size h
   place_there = place_in h q o shared.index shared.here
 
   stands_as : (share : Share) → IsTrue (is_entered share) → slice_get q.shares.items shared.index ≡ Some share → IsShareAt h known on_storage q shared.index share → Standing h known q o
   stands_as InPlace entered is at = absurd (let e : false ≡ true = entered in cc)
-  stands_as Kept entered is at = in_kept (host_of h q shared.index) (ap (cover h known) shared.here ∙ at.entry) place_there
+  stands_as Kept entered is at = in_kept (host_begin_of h q shared.index) (ap (cover h known) shared.here ∙ at.entry) place_there
   stands_as (New taken dropped) entered is at =
       in_new (
       let there : place_of h q o / cluster_size h ≡ at.first = ap (λ n. n / cluster_size h) place_there ∙ host_cluster h q shared.index at.first at.place o in

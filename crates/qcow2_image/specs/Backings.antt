@@ -3,7 +3,7 @@ use Rattle.std.specs.Prelude.{ℕ, ◌≡◌, IsSome, List, Option, Some, slice_
 use Rattle.image_access.specs.Backing.{BackingView}
 use Rattle.image_access.specs.Moments.{StorageView}
 use Rattle.qcow2_disk.specs.Disk.{disk}
-use Rattle.qcow2_disk.specs.AbstractImages.{guest_of, contents_of}
+use Rattle.qcow2_disk.specs.AbstractImages.{guest_of, stored_bytes}
 use Rattle.qcow2_disk.specs.Calls.{with_disk}
 use Rattle.qcow2_alloc.specs.ImageFile.{known_in}
 use Rattle.qcow2_image.specs.declared.image.Qcow2.{Qcow2}
@@ -23,5 +23,5 @@ pub record IsOver {S F : Type 0} (view : S → StorageView) (backing : F → Bac
   pub sound : (abstract_of view backing new out).is_sound
   pub guest : guest_of (abstract_of view backing new out) ≡ with_disk (guest_of (abstract_of view backing old out)) (disk (known_in view old.file) (backing_bytes view backing below))
   pub known : (abstract_of view backing new out).known ≡ (abstract_of view backing old out).known
-  pub contents : contents_of (abstract_of view backing new out) ≡ contents_of (abstract_of view backing old out)
+  pub contents : stored_bytes (abstract_of view backing new out) ≡ stored_bytes (abstract_of view backing old out)
   pub surplus : (abstract_of view backing new out).surplus ≡ (abstract_of view backing old out).surplus

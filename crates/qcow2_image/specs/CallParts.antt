@@ -6,7 +6,7 @@ use Rattle.std.specs.Prelude.{Bool, true, false, ℕ, ◌+◌, ◌*◌, ◌/◌,
 use Rattle.image_access.specs.Backing.{BackingView}
 use Rattle.image_access.specs.Contents.{overwritten}
 use Rattle.image_access.specs.Moments.{StorageView, Passing}
-use Rattle.qcow2_disk.specs.Calls.{IsFault, IsSame, Refuses, Works, with_disk, with_slot}
+use Rattle.qcow2_disk.specs.Calls.{IsRefusalByFault, IsSame, Refuses, Works, with_disk, with_slot}
 use Rattle.qcow2_metadata.specs.Cover.{cover}
 use Rattle.qcow2_image.specs.declared.prepared.Share.TheVariants.{InPlace}
 use Rattle.qcow2_disk.specs.Mappings.{is_copied_data, PreparedMapping, IsPrepared, gift_of_commit, put_mapping, put_disk, committed}
@@ -26,10 +26,10 @@ abbrev pub put_guest : Guest → ℕ → PreparedMapping → ℕ → List ℕ �
 put_guest g k m at bytes = with_slot (with_disk g (put_disk g.disk m at bytes)) k (Some (put_mapping m at bytes))
 
 -- a write to the storage is there, or isn't; only where the storage failed it may be there though it was refused
-abbrev pub IsWritten : Result (Unit {0}) ImageError → List ℕ → List ℕ → List ℕ → Type 0
-IsWritten (Ok _) old changed new = new ≡ changed
-IsWritten (Err I.Storage) old changed new = (new ≡ old) ⊎ (new ≡ changed)
-IsWritten (Err e) old changed new = new ≡ old
+abbrev pub IsWriteOutcome : Result (Unit {0}) ImageError → List ℕ → List ℕ → List ℕ → Type 0
+IsWriteOutcome (Ok _) old changed new = new ≡ changed
+IsWriteOutcome (Err I.Storage) old changed new = (new ≡ old) ⊎ (new ≡ changed)
+IsWriteOutcome (Err e) old changed new = new ≡ old
 
 -- bytes are put into a mapping, or nothing changed; or the storage failed
 abbrev pub IsPut : Result (Unit {0}) ImageError → Guest → Guest → Guest → Type 0
@@ -75,7 +75,7 @@ module _ {S F : Type 0} (view : S → StorageView) where
     pub rest : new ≡ record old { file = record old.file { storage = new.file.storage } }
     pub honest : (view_in view old.file).is_honest → (view_in view new.file).is_honest
     pub time : Passing (view_in view old.file) (view_in view new.file) (λ c. c ≡ (view_in view new.file).contents)
-    pub written : (view_in view old.file).is_honest → IsWritten result (view_in view old.file).contents (overwritten (view_in view old.file).contents host bytes) (view_in view new.file).contents
+    pub written : (view_in view old.file).is_honest → IsWriteOutcome result (view_in view old.file).contents (overwritten (view_in view old.file).contents host bytes) (view_in view new.file).contents
 
   module _ (backing : F → BackingView) where
     -- bytes are put into a mapping that is out
@@ -124,7 +124,7 @@ module _ {S F : Type 0} (view : S → StorageView) where
     EndsFreeing old new out (Ok _) = UnseenCall old new out
     EndsFreeing old new out (Err e) =
         Refuses (abstract_of view backing old out) (abstract_of view backing new out) [] [] (refusal_of e) (IsSame (abstract_of view backing old out) (abstract_of view backing new out))
-        × IsFault (refusal_of e) × (IsTrue old.file.caches.is_changed → IsTrue (is_failed new))
+        × IsRefusalByFault (refusal_of e) × (IsTrue old.file.caches.is_changed → IsTrue (is_failed new))
 
     -- the L2 table of an offset is found or made
     abbrev pub FindsTable : Qcow2 S F → Qcow2 S F → List (Option Prepared) → ℕ → Result ℕ ImageError → Type 0

@@ -6,8 +6,8 @@ use Rattle.qcow2_alloc.specs.declared.error.ImageError.{ImageError}
 use Rattle.qcow2_alloc.specs.declared.error.ImageError.TheVariants as I
 use Rattle.qcow2_disk.specs.Stops.{GivenBytes}
 use Rattle.qcow2_disk.specs.Mappings.{IsPrepared, put_mapping, put_disk, committed, gift_of_put, gift_of_commit}
-use Rattle.qcow2_disk.specs.AbstractImages.{Guest, AbstractImage, guest_of, contents_of}
-use Rattle.qcow2_disk.specs.Calls.{Refusal, memory, storage, not_compressed, another, IsFault, Does, Refuses, IsSame, with_disk, with_slot}
+use Rattle.qcow2_disk.specs.AbstractImages.{Guest, AbstractImage, guest_of, stored_bytes}
+use Rattle.qcow2_disk.specs.Calls.{Refusal, memory, storage, not_compressed, another, IsRefusalByFault, Does, Refuses, IsSame, with_disk, with_slot}
 use Rattle.qcow2_image.specs.declared.image.Qcow2.{Qcow2}
 use Rattle.qcow2_image.specs.declared.prepared.Prepared.{Prepared}
 use Rattle.qcow2_image.specs.declared.prepared.CommitRefused.{CommitRefused}
@@ -45,9 +45,9 @@ reason_of (Spent e) = e
 
 module _ {S F : Type 0} (view : S → StorageView) (backing : F → BackingView) (old new : Qcow2 S F) where
   -- a call that leaves the prepared mappings at their places, and gives these values: what it did, or the guest sees what it saw
-  abbrev pub Answers : {A : Type 0} → List GivenBytes → (A → Guest → Guest → Type 0) → Result A ImageError → Type 0
-  Answers given Done (Ok a) = (out : List (Option Prepared)) → let v = abstract_of view backing old out in let w = abstract_of view backing new out in Does v w given [] (Done a (guest_of v) (guest_of w))
-  Answers given Done (Err e) = (out : List (Option Prepared)) → let v = abstract_of view backing old out in let w = abstract_of view backing new out in Refuses v w given [] (refusal_of e) (IsSame v w)
+  abbrev pub AnswersCall : {A : Type 0} → List GivenBytes → (A → Guest → Guest → Type 0) → Result A ImageError → Type 0
+  AnswersCall given Done (Ok a) = (out : List (Option Prepared)) → let v = abstract_of view backing old out in let w = abstract_of view backing new out in Does v w given [] (Done a (guest_of v) (guest_of w))
+  AnswersCall given Done (Err e) = (out : List (Option Prepared)) → let v = abstract_of view backing old out in let w = abstract_of view backing new out in Refuses v w given [] (refusal_of e) (IsSame v w)
 
   -- a range is prepared, and put at a place that was free
   abbrev pub Prepares : ℕ → ℕ → Bool → Result Prepared ImageError → Type 0
@@ -84,7 +84,7 @@ module _ {S F : Type 0} (view : S → StorageView) (backing : F → BackingView)
       (guest_of w ≡ with_slot (with_disk (guest_of v) (committed (guest_of v).disk (meaning view backing old p))) k None)
   Commits p (Err r) = (out : List (Option Prepared)) (k : ℕ) → slice_get out k ≡ Some (Some p)
       → let v = abstract_of view backing old out in let w = abstract_of view backing new (slice_set out k (handed_back r)) in
-      (v.is_sound → IsFault (refusal_of (reason_of r))) × Refuses v w (gifts_of_commit v p) [] (refusal_of (reason_of r)) (IsSame v w)
+      (v.is_sound → IsRefusalByFault (refusal_of (reason_of r))) × Refuses v w (gifts_of_commit v p) [] (refusal_of (reason_of r)) (IsSame v w)
 
   -- it is dropped, and its place is free
   abbrev pub Discards : Prepared → Type 0
@@ -92,6 +92,6 @@ module _ {S F : Type 0} (view : S → StorageView) (backing : F → BackingView)
       → let v = abstract_of view backing old out in let w = abstract_of view backing new (slice_set out k None) in Does v w [] [] (guest_of w ≡ with_slot (guest_of v) k None)
 
   -- all that is known is on the storage
-  abbrev pub Flushes : Result (Unit {0}) ImageError → Type 0
-  Flushes (Ok _) = (out : List (Option Prepared)) → let v = abstract_of view backing old out in let w = abstract_of view backing new out in Does v w [] [] ((w.known ≡ contents_of w) × IsSame v w)
-  Flushes (Err e) = (out : List (Option Prepared)) → let v = abstract_of view backing old out in let w = abstract_of view backing new out in Refuses v w [] [] (refusal_of e) (IsSame v w)
+  abbrev pub FlushesImage : Result (Unit {0}) ImageError → Type 0
+  FlushesImage (Ok _) = (out : List (Option Prepared)) → let v = abstract_of view backing old out in let w = abstract_of view backing new out in Does v w [] [] ((w.known ≡ stored_bytes w) × IsSame v w)
+  FlushesImage (Err e) = (out : List (Option Prepared)) → let v = abstract_of view backing old out in let w = abstract_of view backing new out in Refuses v w [] [] (refusal_of e) (IsSame v w)

@@ -15,7 +15,7 @@ use Rattle.qcow2_metadata.specs.L2Table.{copied_host, zero_entry}
 use Rattle.qcow2_disk.specs.AbstractImages.{Setting, guest_of}
 use Rattle.qcow2_disk.specs.ClearedCovers.{cleared_cover as cover_by, needs_zeros as zeros_for, ClearsCovers as ClearsBy}
 pub use Rattle.qcow2_disk.specs.ClearedCovers.{is_between, rounds_past}
-use Rattle.qcow2_disk.specs.Calls.{Clearing, to_zero, to_kept_zero, to_backing, IsFault, IsSame, Refuses, Works, cleared, cleared_at, gift_of_clear, with_disk}
+use Rattle.qcow2_disk.specs.Calls.{Clearing, to_zero, to_kept_zero, to_backing, IsRefusalByFault, IsSame, Refuses, Works, cleared, cleared_at, gift_of_clear, with_disk}
 use Rattle.qcow2_laws.specs.CrashInvariant.{Pending}
 use Rattle.qcow2_disk.specs.Found.{rest_of_table}
 use Rattle.qcow2_laws.specs.GuestLaws.{IsZeros, MapsInTurn}
@@ -33,7 +33,7 @@ use Rattle.qcow2_alloc.specs.ImageFile.{FileInvariant, contents_in, known_in, st
 use Rattle.qcow2_alloc.specs.MetadataCaches.{CacheInvariant, IsEntryAt, MadeEntry, NotesHeld, known_of, l2_at, order_of}
 use Rattle.qcow2_image.specs.Backings.{HasPrepared}
 use Rattle.qcow2_image.specs.CallParts.{RefusedCall}
-use Rattle.qcow2_image.specs.Calls.{Answers, refusal_of}
+use Rattle.qcow2_image.specs.Calls.{AnswersCall, refusal_of}
 use Rattle.qcow2_image.specs.declared.discarding.Clearance.{Clearance}
 use Rattle.qcow2_image.specs.declared.discarding.Clearance.TheVariants.{Uncovered, Zeros, KeptZeros}
 use Rattle.qcow2_image.specs.declared.image.Qcow2.{Qcow2}
@@ -53,8 +53,8 @@ shown_by Zeros = to_zero
 shown_by KeptZeros = to_kept_zero
 
 -- what stands for a cleared cluster then, of what stood for it
-abbrev pub cleared_cover : Clearance → L2Mapping → L2Mapping
-cleared_cover how old = cover_by (shown_by how) old
+abbrev pub cover_once_cleared : Clearance → L2Mapping → L2Mapping
+cover_once_cleared how old = cover_by (shown_by how) old
 
 abbrev pub cleared_entry : Clearance → L2Mapping → ℕ
 cleared_entry Uncovered old = 0
@@ -62,8 +62,8 @@ cleared_entry Zeros old = zero_entry None
 cleared_entry KeptZeros old = zero_entry (copied_host old)
 
 -- entries can say that clusters are zeros from version 3 on
-abbrev pub needs_zeros : Clearance → Bool
-needs_zeros how = zeros_for (shown_by how)
+abbrev pub needs_zero_entries : Clearance → Bool
+needs_zero_entries how = zeros_for (shown_by how)
 
 -- the range that a call touches
 module _ {S F : Type 0} (image : Qcow2 S F) (offset n : ℕ) where
@@ -77,7 +77,7 @@ module _ {S F : Type 0} (image : Qcow2 S F) (offset n : ℕ) where
   abbrev pub refuses_to_clear : Clearance → Option ImageError
   refuses_to_clear how =
       option_or (unusable image) (option_or (refuse_if (not (is_writable image)) I.ReadOnly) (option_or (refuse_if (passes (size_of image) offset n) I.BeyondSize)
-      (option_or (refuse_if (needs_zeros how && nat_lt image.file.header.fields.version 3) I.Version) (refuse_if (rounds_past (cluster_size image.file.header.fields) (size_of image) offset n) I.Overflow))))
+      (option_or (refuse_if (needs_zero_entries how && nat_lt image.file.header.fields.version 3) I.Version) (refuse_if (rounds_past (cluster_size image.file.header.fields) (size_of image) offset n) I.Overflow))))
 
 -- a mapping that is out, and isn't existing, lies in the L2 table of an offset
 pub record IsUnderMapping (h : HeaderFields) (offset : ℕ) (out : List (Option Prepared)) : Type 0 where
@@ -88,15 +88,15 @@ pub record IsUnderMapping (h : HeaderFields) (offset : ℕ) (out : List (Option 
   pub same_table : l1_index_of h other.guest ≡ l1_index_of h offset
 
 -- two offsets are those of clusters, within one L2 table, and where zeros are needed entries can say so
-pub record IsWhole (h : HeaderFields) (how : Clearance) (from to : ℕ) : Type 0 where
+pub record IsClearable (h : HeaderFields) (how : Clearance) (from to : ℕ) : Type 0 where
   pub begins : from % cluster_size h ≡ 0
   pub ends : to % cluster_size h ≡ 0
   pub within : to ≤ from + rest_of_table h from
-  pub version : IsTrue (needs_zeros how) → 3 ≤ h.version
+  pub version : IsTrue (needs_zero_entries how) → 3 ≤ h.version
 
 -- Each guest cluster between two offsets is cleared so, and for all others stands what stood for them.
-abbrev pub ClearsCovers : Clearance → (from to : ℕ) → HeaderFields → Bytes → HeaderFields → Bytes → Type 0
-ClearsCovers how from to h known h' known' = ClearsBy (shown_by how) from to h known h' known'
+abbrev pub ClearsImageCovers : Clearance → (from to : ℕ) → HeaderFields → Bytes → HeaderFields → Bytes → Type 0
+ClearsImageCovers how from to h known h' known' = ClearsBy (shown_by how) from to h known h' known'
 
 module _ {S F : Type 0} (view : S → StorageView) (backing : F → BackingView) where
   -- what stays of an image, and its disk, whatever mappings are out
@@ -110,12 +110,12 @@ module _ {S F : Type 0} (view : S → StorageView) (backing : F → BackingView)
   -- Its whole clusters are cleared, and how much of it that was is answered; or it was refused.
   abbrev pub Clears : Clearance → Qcow2 S F → Qcow2 S F → ℕ → ℕ → Result (ℕ × ℕ) ImageError → Type 0
   Clears how old new offset n result =
-      Answers view backing old new (gifts_of_clear old how offset n)
+      AnswersCall view backing old new (gifts_of_clear old how offset n)
       (λ range was is. (range ≡ answered (setting_of old).cluster_size was.disk.size offset n) × (is ≡ with_disk was (cleared_at (setting_of old) was.disk (shown_by how) offset n))) result
 
   -- A refusal that is no fault gives nothing.
   abbrev pub RefusesUngiven : Qcow2 S F → Qcow2 S F → ImageError → Type 0
-  RefusesUngiven old new e = (IsFault (refusal_of e) → ⊥) → (out : List (Option Prepared)) → let v = abstract_of view backing old out in let w = abstract_of view backing new out in Refuses v w [] [] (refusal_of e) (IsSame v w)
+  RefusesUngiven old new e = (IsRefusalByFault (refusal_of e) → ⊥) → (out : List (Option Prepared)) → let v = abstract_of view backing old out in let w = abstract_of view backing new out in Refuses v w [] [] (refusal_of e) (IsSame v w)
 
   -- A refusal that is no fault gives nothing. Where nothing refused the range at once, and no mapping is prepared, its first offset has no L2 table of its own then.
   pub record RefusesClearing (how : Clearance) (old new : Qcow2 S F) (offset n : ℕ) (e : ImageError) : Type 0 where
@@ -134,7 +134,7 @@ module _ {S F : Type 0} (view : S → StorageView) (backing : F → BackingView)
     pub sound : ImageInvariant view backing (pending_in view backing new out) new out
     pub shows : guest_of (abstract_of view backing new out) ≡ with_disk (guest_of (abstract_of view backing old out)) (cleared (setting_of old) (disk_of view backing old) (shown_by how) from to)
     pub header : MovesTables old.file.header.fields new.file.header.fields
-    pub covers : ClearsCovers how from to old.file.header.fields (known_in view old.file) new.file.header.fields (known_in view new.file)
+    pub covers : ClearsImageCovers how from to old.file.header.fields (known_in view old.file) new.file.header.fields (known_in view new.file)
     pub noted : IsTrue new.file.caches.is_changed
 
   abbrev pub ClearsOrRefuses : Clearance → (from to : ℕ) → Qcow2 S F → Qcow2 S F → List (Option Prepared) → Result (Unit {0}) ImageError → Type 0
@@ -144,7 +144,7 @@ module _ {S F : Type 0} (view : S → StorageView) (backing : F → BackingView)
 -- what n guest clusters from one on name no longer once they are cleared
 abbrev pub listed_by : Clearance → HeaderFields → Bytes → (first n : ℕ) → List ClustersToFreeEntry
 listed_by how h known first zero = []
-listed_by how h known first (suc n) = listed_by how h known first n ++ listed_run (dropped_run h.cluster_bits (cover h known (first + n)) (cleared_cover how (cover h known (first + n))))
+listed_by how h known first (suc n) = listed_by how h known first n ++ listed_run (dropped_run h.cluster_bits (cover h known (first + n)) (cover_once_cleared how (cover h known (first + n))))
 
 -- an entry of a held table is cleared, and nothing else changes
 pub record ClearsEntry {S F : Type 0} (how : Clearance) (table index : ℕ) (old new : Qcow2 S F) : Type 0 where
@@ -176,7 +176,7 @@ module _ {S F : Type 0} (view : S → StorageView) (backing : F → BackingView)
     pub copied : is_copied (l1_entry a.file.header.fields (contents_in view a.file) row) ≡ true
     pub found : IsSome (l2_at a.file.caches t)
     pub unpinned : l2_pins a.file.caches t ≡ 0
-    pub version : IsTrue (needs_zeros how) → 3 ≤ a.file.header.fields.version
+    pub version : IsTrue (needs_zero_entries how) → 3 ≤ a.file.header.fields.version
     pub reach : (i : ℕ) → i < n → IsInReach (cover a.file.header.fields (known_in view a.file) (guest_at a.file.header.fields row column + i))
 
   -- they are
@@ -184,7 +184,7 @@ module _ {S F : Type 0} (view : S → StorageView) (backing : F → BackingView)
     pub now : Pending
     pub sound_now : ImageInvariant view backing now (with_caches a caches) out
     pub turn : MapsInTurn (is_cleared how) (guest_at a.file.header.fields row column) n (state_in view a.file p) (state_in view (with_caches a caches).file now)
-    pub cleared_all : (i : ℕ) → i < n → cover a.file.header.fields (known_in view (with_caches a caches).file) (guest_at a.file.header.fields row column + i) ≡ cleared_cover how (cover a.file.header.fields (known_in view a.file) (guest_at a.file.header.fields row column + i))
+    pub cleared_all : (i : ℕ) → i < n → cover a.file.header.fields (known_in view (with_caches a caches).file) (guest_at a.file.header.fields row column + i) ≡ cover_once_cleared how (cover a.file.header.fields (known_in view a.file) (guest_at a.file.header.fields row column + i))
     pub stays : (g : ℕ) → (g < guest_at a.file.header.fields row column) ⊎ (guest_at a.file.header.fields row column + n ≤ g) → cover a.file.header.fields (known_in view a.file) g ≡ cover a.file.header.fields (known_in view (with_caches a caches).file) g
     pub table_stays : table_at a.file.header.fields (known_in view (with_caches a caches).file) row ≡ table_at a.file.header.fields (known_in view a.file) row
     pub held : (k : ℕ) → now.held k ≡ p.held k
@@ -208,7 +208,7 @@ module _ {S F : Type 0} (view : S → StorageView) (backing : F → BackingView)
       let h = image.file.header.fields in
       let known = known_in view image.file in
       (p : Pending) (i : ℕ) → FileInvariant view p image.file → IsEntryAt h known i table (cluster % entries_per_cluster h) → cluster / entries_per_cluster h ≡ i
-      → (new ≡ old ++ listed_run (dropped_run h.cluster_bits (cover h known cluster) (cleared_cover how (cover h known cluster)))) × IsInReach (cover h known cluster)
+      → (new ≡ old ++ listed_run (dropped_run h.cluster_bits (cover h known cluster) (cover_once_cleared how (cover h known cluster)))) × IsInReach (cover h known cluster)
 
   -- so for n of them, from one on
   abbrev pub ReadsAll : Clearance → (table first n : ℕ) → Qcow2 S F → List ClustersToFreeEntry → Type 0

@@ -20,7 +20,7 @@ use Rattle.qcow2_disk.specs.Disk.{disk}
 use Rattle.qcow2_disk.specs.Mappings.{is_copied_data}
 use Rattle.qcow2_laws.specs.NewImages.{IsNewImage}
 use Rattle.qcow2_alloc.specs.declared.error.ImageError.{ImageError}
-use Rattle.qcow2_image.specs.Growing.{Grows, SameFormat, ReachesSize}
+use Rattle.qcow2_image.specs.Growing.{GrowsDisk, SameFormat, ReachesSize}
 use Rattle.qcow2_image.specs.declared.builder.Qcow2CreateBuilder.{Qcow2CreateBuilder}
 use Rattle.qcow2_image.specs.declared.image.Qcow2.{Qcow2}
 use Rattle.qcow2_image.specs.Image.{size_of}
@@ -144,5 +144,5 @@ module _ {S F : Type 0} (view : S → StorageView) (backing : F → BackingView)
 
   -- it is made larger in a mode
   abbrev pub GrowsBy : PreallocateMode → Qcow2 S F → Qcow2 S F → ℕ → Result (Unit {0}) ImageError → Type 0
-  GrowsBy Mode.None old new size r = (abstract_of view backing old []).is_sound → Grows view backing old new size r
+  GrowsBy Mode.None old new size r = (abstract_of view backing old []).is_sound → GrowsDisk view backing old new size r
   GrowsBy mode old new size r = TakesPlace mode old new size r

@@ -27,6 +27,6 @@ module _ {S F : Type 0} (view : S → StorageView) (backing : F → BackingView)
   TellsFault old new e = e ≡ Storage → OneRose old new
 
   -- No call lowers the numbers of faults. Where it is refused as the storage's failure, one of the two rose, or stood at the greatest u64.
-  pub record CountsFaults {T : Type 0} (old new : Qcow2 S F) (result : Result T ImageError) : Type 0 where
+  pub record CountsImageFaults {T : Type 0} (old new : Qcow2 S F) (result : Result T ImageError) : Type 0 where
     pub no_fewer : NoFewerFaults old new
     pub rose : IfErr result (TellsFault old new)

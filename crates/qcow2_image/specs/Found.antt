@@ -78,9 +78,9 @@ pub record IsRunBehind (table : L2TableView) (guest max n : ℕ) : Type 0 where
 
 module _ {S F : Type 0} (view : S → StorageView) (image : Qcow2 S F) (offset : ℕ) where
   -- the L1 entry of an offset names the L2 table in this cluster, or none
-  abbrev pub NamesTable : Option ℕ → Type 0
-  NamesTable None = table_at image.file.header.fields (contents_in view image.file) (l1_index_of image.file.header.fields offset) ≡ 0
-  NamesTable (Some cluster) =
+  abbrev pub NamesL2Table : Option ℕ → Type 0
+  NamesL2Table None = table_at image.file.header.fields (contents_in view image.file) (l1_index_of image.file.header.fields offset) ≡ 0
+  NamesL2Table (Some cluster) =
       (table_at image.file.header.fields (contents_in view image.file) (l1_index_of image.file.header.fields offset) ≡ cluster * cluster_size image.file.header.fields)
       × (table_at image.file.header.fields (contents_in view image.file) (l1_index_of image.file.header.fields offset) ≢ 0)
 
@@ -93,9 +93,9 @@ module _ {S F : Type 0} (view : S → StorageView) (image : Qcow2 S F) (offset :
   IsRunFrom limit kind n = IsLongestOf image.file.header.fields (known_in view image.file) (is_some image.backing) offset limit (found_kind kind) n
 
   -- nothing at or past the size; else such a run within one L2 table and below the size
-  abbrev pub IsFound : ℕ → MappingKind → ℕ → Type 0
-  IsFound max kind n = IsFoundOf image.file.header.fields (known_in view image.file) (is_some image.backing) offset max (found_kind kind) n
+  abbrev pub IsFoundInImage : ℕ → MappingKind → ℕ → Type 0
+  IsFoundInImage max kind n = IsFoundOf image.file.header.fields (known_in view image.file) (is_some image.backing) offset max (found_kind kind) n
 
   -- a range of so many bytes is found as a whole to be mapped so
   abbrev pub IsFoundWhole : MappingKind → ℕ → Type 0
-  IsFoundWhole kind n = IsFound n kind n
+  IsFoundWhole kind n = IsFoundInImage n kind n

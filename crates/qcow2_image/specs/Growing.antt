@@ -16,7 +16,7 @@ use Rattle.qcow2_alloc.specs.ImageFile.{view_in, known_in, state_in, nothing_giv
 use Rattle.qcow2_image.specs.declared.image.Qcow2.{Qcow2}
 use Rattle.qcow2_image.specs.Image.{size_of}
 use Rattle.qcow2_image.specs.MovedTables.{CoversStay}
-use Rattle.qcow2_image.specs.UnseenSteps.{pending_then}
+use Rattle.qcow2_image.specs.UnseenSteps.{pending_with_listed}
 use Rattle.qcow2_image.specs.ImageInvariant.{ImageInvariant, pending_in}
 
 -- the header differs only in numbers that are written again after it was created
@@ -42,14 +42,14 @@ module _ {S F : Type 0} (view : S → StorageView) where
 
     -- the size is written
     abbrev pub Resizes : Pending → Qcow2 S F → Qcow2 S F → ℕ → Result (Unit {0}) ImageError → Type 0
-    Resizes p old new size (Ok _) = Extends p (pending_then p old new) old new (size ∷ []) × (size_of new ≡ size)
+    Resizes p old new size (Ok _) = Extends p (pending_with_listed p old new) old new (size ∷ []) × (size_of new ≡ size)
     Resizes p old new size (Err e) = Lasts old new (size ∷ [])
 
     -- The disk has this size then, unless it was larger. Where the L1 table reached its end it does so still.
-    abbrev pub Grows : Qcow2 S F → Qcow2 S F → ℕ → Result (Unit {0}) ImageError → Type 0
-    Grows old new size (Ok _) = Extends (pending_in view backing old []) (pending_in view backing new []) old new (size ∷ []) × (size_of new ≡ max (size_of old) size)
+    abbrev pub GrowsDisk : Qcow2 S F → Qcow2 S F → ℕ → Result (Unit {0}) ImageError → Type 0
+    GrowsDisk old new size (Ok _) = Extends (pending_in view backing old []) (pending_in view backing new []) old new (size ∷ []) × (size_of new ≡ max (size_of old) size)
         × (ReachesSize old.file.header.fields → ReachesSize new.file.header.fields)
-    Grows old new size (Err e) = Lasts old new (size ∷ [])
+    GrowsDisk old new size (Err e) = Lasts old new (size ∷ [])
 
     -- What is listed is freed, and all tables are written. What is listed then is pending still, and the same stands for each guest cluster.
     abbrev pub WritesBack : Pending → Qcow2 S F → Qcow2 S F → Result (Unit {0}) ImageError → Type 0

@@ -48,7 +48,7 @@ module _ {S F : Type 0} where
     pub external : is_external new ≡ is_external old
 
   -- and is marked as failed where it was before
-  pub record Stays (old new : Qcow2 S F) : Type 0 where
+  pub record ImageStays (old new : Qcow2 S F) : Type 0 where
     pub image : IsSameImage old new
     pub failed : is_failed new ≡ is_failed old
 

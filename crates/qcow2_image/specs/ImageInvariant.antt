@@ -83,8 +83,8 @@ module _ (h : HeaderFields) where
   begin_of p = p.offset - p.guest % cluster_size h
 
   -- where the i-th cluster of a mapping begins in the file: they follow one another
-  abbrev pub host_of : Prepared → ℕ → ℕ
-  host_of p i = begin_of p + i * cluster_size h
+  abbrev pub host_begin_of : Prepared → ℕ → ℕ
+  host_begin_of p i = begin_of p + i * cluster_size h
 
   -- where a guest byte of it stands
   abbrev pub place_of : Prepared → ℕ → ℕ
@@ -99,7 +99,7 @@ module _ (h : HeaderFields) where
     pub record IsNewAt (i : ℕ) (taken dropped : List ClustersToFreeEntry) : Type 0 where
       pub first : ℕ
       pub is : taken ≡ data_entry first 1 ∷ []
-      pub place : first * cluster_size h ≡ host_of p i
+      pub place : first * cluster_size h ≡ host_begin_of p i
       pub nameable : IsHostCluster h.cluster_bits first
       pub entry : is_copied_data (cover h known (cluster_of p + i)) ≡ false
       pub reach : IsInReach (cover h known (cluster_of p + i))
@@ -108,13 +108,13 @@ module _ (h : HeaderFields) where
     -- zeros, whose entry keeps the host cluster
     pub record IsKeptAt (i : ℕ) : Type 0 where
       pub first : ℕ
-      pub place : first * cluster_size h ≡ host_of p i
+      pub place : first * cluster_size h ≡ host_begin_of p i
       pub nameable : IsHostCluster h.cluster_bits first
-      pub entry : cover h known (cluster_of p + i) ≡ Zero (Some (host_of p i, true))
+      pub entry : cover h known (cluster_of p + i) ≡ Zero (Some (host_begin_of p i, true))
 
     -- or copied data, where it stands
     abbrev pub IsShareAt : ℕ → Share → Type 0
-    IsShareAt i InPlace = cover h known (cluster_of p + i) ≡ Data (host_of p i) true
+    IsShareAt i InPlace = cover h known (cluster_of p + i) ≡ Data (host_begin_of p i) true
     IsShareAt i Kept = IsKeptAt i
     IsShareAt i (New taken dropped) = IsNewAt i taken dropped
 

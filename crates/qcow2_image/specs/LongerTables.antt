@@ -28,7 +28,7 @@ use Rattle.qcow2_image.specs.declared.prepared.Prepared.{Prepared}
 use Rattle.qcow2_image.specs.CallParts.{RefusedCall, UnseenCall}
 use Rattle.qcow2_image.specs.ImageInvariant.{below_of, ImageInvariant}
 use Rattle.qcow2_image.specs.MovedTables.{MovesTables, CoversStay}
-use Rattle.qcow2_image.specs.UnseenSteps.{UnseenStep, ListGrows, pending_then}
+use Rattle.qcow2_image.specs.UnseenSteps.{UnseenStep, ListGrows, pending_with_listed}
 
 -- how many clusters a table needs
 abbrev pub clusters_of : EntryTableView → ℕ
@@ -54,7 +54,7 @@ with_table p t cluster = with_fresh p (run_at cluster (clusters_of t))
 
 module _ {S F : Type 0} where
   -- a table has the entries of the image's L1 table, and maybe more, which name nothing
-  pub record IsLonger (image : Qcow2 S F) (t : EntryTableView) : Type 0 where
+  pub record IsLongerL1 (image : Qcow2 S F) (t : EntryTableView) : Type 0 where
     pub bits : t.cluster_bits ≡ image.file.header.fields.cluster_bits
     pub whole : length t.bytes ≡ 8 * entry_count t
     pub longer : image.file.header.fields.l1_entries ≤ entry_count t
@@ -63,7 +63,7 @@ module _ {S F : Type 0} where
   module _ (view : S → StorageView) where
     -- it stands in its clusters, and all counts are written
     pub record StandsWhole (image : Qcow2 S F) (t : EntryTableView) (cluster : ℕ) : Type 0 where
-      pub table : IsLonger image t
+      pub table : IsLongerL1 image t
       pub cluster_is : t.cluster ≡ Some cluster
       pub stands : (i : ℕ) → l1_entry (with_places image.file.header.fields (with_l1_at image.file.header.fields (cluster * cluster_size image.file.header.fields) (entry_count t))) (contents_in view image.file) i ≡ entry_at t.bytes i
       pub counts : SameCounts image.file.header.fields (contents_in view image.file) (known_in view image.file)
@@ -91,7 +91,7 @@ module _ {S F : Type 0} where
 
       -- a part that was refused: all is sound as before but for what is to be freed; or it broke off
       abbrev pub RefusedMove : Pending → Qcow2 S F → Qcow2 S F → List (Option Prepared) → ImageError → Type 0
-      RefusedMove p old new out e = UnseenStep view backing p (pending_then p old new) old new out ⊎ InterruptedMove old new e
+      RefusedMove p old new out e = UnseenStep view backing p (pending_with_listed p old new) old new out ⊎ InterruptedMove old new e
 
       -- a longer table is written to its clusters
       abbrev pub PlacesTable : Pending → Qcow2 S F → Qcow2 S F → List (Option Prepared) → EntryTableView → ℕ → Result (Unit {0}) ImageError → Type 0
@@ -105,12 +105,12 @@ module _ {S F : Type 0} where
 
       -- it gets its clusters, and takes the place of the L1 table
       abbrev pub TakesTable : Pending → Qcow2 S F → Qcow2 S F → List (Option Prepared) → Result (Unit {0}) ImageError → Type 0
-      TakesTable p old new out (Ok _) = UnseenMove p (without_l1 (pending_then p old new) old.file.header.fields) old new out
+      TakesTable p old new out (Ok _) = UnseenMove p (without_l1 (pending_with_listed p old new) old.file.header.fields) old new out
       TakesTable p old new out (Err e) = RefusedMove p old new out e
 
       -- and the clusters of that one are to be freed
       abbrev pub Lengthens : Pending → Qcow2 S F → Qcow2 S F → List (Option Prepared) → Result (Unit {0}) ImageError → Type 0
-      Lengthens p old new out (Ok _) = UnseenMove p (pending_then p old new) old new out
+      Lengthens p old new out (Ok _) = UnseenMove p (pending_with_listed p old new) old new out
       Lengthens p old new out (Err e) = RefusedMove p old new out e
 
       -- a part of a call that no guest sees sees to it that there is an L1 entry

@@ -23,7 +23,7 @@ use Rattle.qcow2_alloc.specs.TableCaches.{IsTableOf}
 use Rattle.qcow2_image.specs.declared.image.Qcow2.{Qcow2}
 use Rattle.qcow2_image.specs.declared.prepared.Prepared.{Prepared}
 use Rattle.qcow2_image.specs.Found.{l1_index_of}
-use Rattle.qcow2_image.specs.UnseenSteps.{NamesOwn, UnseenStep, RefusedStep, pending_then}
+use Rattle.qcow2_image.specs.UnseenSteps.{NamesOwn, UnseenStep, RefusedStep, pending_with_listed}
 
 -- a table of the image's format says what is known of the guest clusters of an L1 entry
 pub record SaysKnown (h : HeaderFields) (known : Bytes) (index : ℕ) (t : L2TableView) : Type 0 where
@@ -81,9 +81,9 @@ module _ {S F : Type 0} (view : S → StorageView) where
     Stores p old new out (Err e) = UnseenStep view backing p p old new out
 
     -- the bytes of a table are written to its cluster, and then it is put into its cache
-    abbrev pub Places : Pending → Qcow2 S F → Qcow2 S F → List (Option Prepared) → ℕ → List ℕ → Result (Unit {0}) ImageError → Type 0
-    Places p old new out cluster bytes (Ok _) = UnseenStep view backing p p old new out × StandsReady new cluster bytes
-    Places p old new out cluster bytes (Err e) = UnseenStep view backing p p old new out
+    abbrev pub PlacesNewTable : Pending → Qcow2 S F → Qcow2 S F → List (Option Prepared) → ℕ → List ℕ → Result (Unit {0}) ImageError → Type 0
+    PlacesNewTable p old new out cluster bytes (Ok _) = UnseenStep view backing p p old new out × StandsReady new cluster bytes
+    PlacesNewTable p old new out cluster bytes (Err e) = UnseenStep view backing p p old new out
 
     -- an L1 entry is written that names a new table
     abbrev pub NamesNew : Pending → Qcow2 S F → Qcow2 S F → List (Option Prepared) → ℕ → ℕ → Result (Unit {0}) ImageError → Type 0
@@ -97,10 +97,10 @@ module _ {S F : Type 0} (view : S → StorageView) where
 
     -- a new table gets its cluster, and is named
     abbrev pub EntersTable : Pending → Qcow2 S F → Qcow2 S F → List (Option Prepared) → ℕ → Result ℕ ImageError → Type 0
-    EntersTable p old new out index (Ok cluster) = UnseenStep view backing p (replacing (pending_then p old new) old index) old new out × NamesCopied new index cluster
+    EntersTable p old new out index (Ok cluster) = UnseenStep view backing p (replacing (pending_with_listed p old new) old index) old new out × NamesCopied new index cluster
     EntersTable p old new out index (Err e) = RefusedStep view backing p old new out e
 
     -- the table of an L1 entry lies in a cluster, and is marked copied
     abbrev pub OwnsTable : Pending → Qcow2 S F → Qcow2 S F → List (Option Prepared) → ℕ → Result ℕ ImageError → Type 0
-    OwnsTable p old new out index (Ok cluster) = UnseenStep view backing p (pending_then p old new) old new out × NamesCopied new index cluster
+    OwnsTable p old new out index (Ok cluster) = UnseenStep view backing p (pending_with_listed p old new) old new out × NamesCopied new index cluster
     OwnsTable p old new out index (Err e) = RefusedStep view backing p old new out e

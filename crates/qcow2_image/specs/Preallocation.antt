@@ -8,7 +8,7 @@ use Rattle.qcow2_metadata.specs.Guest.{known_byte}
 use Rattle.qcow2_metadata.specs.Header.{cluster_size, rounded_up}
 use Rattle.qcow2_disk.specs.AbstractImages.{guest_of}
 use Rattle.qcow2_disk.specs.Calls.{MayGrow, Works, gift_of_grow, shows_old, with_disk, with_slot}
-use Rattle.qcow2_disk.specs.Disk.{Disk, zeroed}
+use Rattle.qcow2_disk.specs.Disk.{Disk, zeroed_between}
 pub use Rattle.qcow2_disk.specs.GrownCovers.{Touches, FilledCovers, GrownCovers, first_zeros}
 use Rattle.qcow2_disk.specs.Mappings.{committed, gift_of_commit}
 use Rattle.qcow2_disk.specs.Stops.{GivenBytes}
@@ -37,7 +37,7 @@ pub record MayBeZero (from to : ℕ) (old new : Disk) : Type 0 where
 
 -- the disk with zeros behind its end, up to the end of the last cluster of a larger size, unless the old bytes are to show
 abbrev pub filled_to : ℕ → Disk → ℕ → PreallocateMode → Disk
-filled_to size_of_cluster d size mode = if shows_old mode then d else zeroed d d.size (rounded_up size_of_cluster size)
+filled_to size_of_cluster d size mode = if shows_old mode then d else zeroed_between d d.size (rounded_up size_of_cluster size)
 
 -- a mapping that is out, and isn't existing, lies in the L2 table of some offset of a range
 pub record IsUnderMappingIn (h : HeaderFields) (from to : ℕ) (out : List (Option Prepared)) : Type 0 where
@@ -67,7 +67,7 @@ module _ {S F : Type 0} (view : S → StorageView) (backing : F → BackingView)
   pub record FillsPart (first from to : ℕ) (old new : Qcow2 S F) (out : List (Option Prepared)) : Type 0 where
     pub works : Works (abstract_of view backing old out) (abstract_of view backing new out) (gift_of_zeros from to ∷ []) []
     pub sound : ImageInvariant view backing (pending_in view backing new out) new out
-    pub shows : guest_of (abstract_of view backing new out) ≡ with_disk (guest_of (abstract_of view backing old out)) (zeroed (disk_of view backing old) from to)
+    pub shows : guest_of (abstract_of view backing new out) ≡ with_disk (guest_of (abstract_of view backing old out)) (zeroed_between (disk_of view backing old) from to)
     pub header : MovesTables old.file.header.fields new.file.header.fields
     pub covers : FilledCovers (cluster_size old.file.header.fields) first from to old.file.header.fields (known_in view old.file) new.file.header.fields (known_in view new.file)
 

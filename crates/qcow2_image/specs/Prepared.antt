@@ -20,6 +20,6 @@ abbrev pub table_of : Prepared → Option ℕ
 table_of p = p.table
 
 -- a refused commit that hands a mapping back hands back this one
-abbrev pub IsKept : Prepared → CommitRefused → Type 0
-IsKept p (Kept e q) = q ≡ p
-IsKept p (Spent e) = Unit {0}
+abbrev pub IsHandedBackBy : Prepared → CommitRefused → Type 0
+IsHandedBackBy p (Kept e q) = q ≡ p
+IsHandedBackBy p (Spent e) = Unit {0}

@@ -29,7 +29,7 @@ use Rattle.qcow2_image.specs.declared.prepared.Share.{Share}
 use Rattle.qcow2_image.specs.declared.prepared.Share.TheVariants.{New}
 use Rattle.qcow2_image.specs.CallParts.{IsReadied, RefusedCall, UnseenCall}
 use Rattle.qcow2_image.specs.ImageInvariant.{run_of, of_data, of_tables, to_free, held_in, held_by, over_all, is_entered, cluster_of, place_of, listed_run, disk_of, pending_in, abstract_of, meaning, IsShareAt, ImageInvariant}
-use Rattle.qcow2_image.specs.UnseenSteps.{IsGained, RefusedFillingStep, UnseenFillingStep, pending_then}
+use Rattle.qcow2_image.specs.UnseenSteps.{IsGained, RefusedFillingStep, UnseenFillingStep, pending_with_listed}
 
 module _ (h : HeaderFields) where
   -- the rest of the first cluster of a range, under a table
@@ -44,19 +44,19 @@ module _ (h : HeaderFields) where
   BeginsInKept offset first p = (host : ℕ) → first ≡ Zero (Some (host, true)) → p.offset ≡ host + offset % cluster_size h
 
   -- a mapping ends where its last cluster does
-  abbrev pub IsWhole : Prepared → Type 0
-  IsWhole p = p.guest % cluster_size h + p.length ≡ length p.shares.items * cluster_size h
+  abbrev pub EndsWithCluster : Prepared → Type 0
+  EndsWithCluster p = p.guest % cluster_size h + p.length ≡ length p.shares.items * cluster_size h
 
   -- a mapping under a table that has an entry for the cluster behind it, of a range of n bytes that goes on there
   pub record MayGoOn (n table : ℕ) (p : Prepared) : Type 0 where
     pub under : p.table ≡ Some table
-    pub whole : IsWhole p
+    pub whole : EndsWithCluster p
     pub more : p.length < n
     pub within : cluster_of h p % entries_per_cluster h + length p.shares.items < entries_per_cluster h
 
   -- it has room for the shares of a range of n bytes, as far as its L2 table goes
-  abbrev pub HasRoom : ℕ → Prepared → Type 0
-  HasRoom n p = p.guest % cluster_size h + min n (rest_of_table h p.guest) < vec_capacity p.shares * cluster_size h
+  abbrev pub HasRoomForRange : ℕ → Prepared → Type 0
+  HasRoomForRange n p = p.guest % cluster_size h + min n (rest_of_table h p.guest) < vec_capacity p.shares * cluster_size h
 
   -- it is longer by the cluster behind it, as far as the range goes
   pub record IsNext (n : ℕ) (p q : Prepared) : Type 0 where
@@ -65,14 +65,14 @@ module _ (h : HeaderFields) where
     pub rest : q ≡ record p { length = min n (p.length + cluster_size h); shares = q.shares }
 
   -- it begins at the same place, is as long or longer, at most as long as the range, or as it was, and ends where a cluster does if the range goes on
-  pub record IsLonger (n : ℕ) (p q : Prepared) : Type 0 where
+  pub record IsLongerMapping (n : ℕ) (p q : Prepared) : Type 0 where
     pub image : q.image ≡ p.image
     pub guest : q.guest ≡ p.guest
     pub place : q.offset ≡ p.offset
     pub under : q.table ≡ p.table
     pub more : p.length ≤ q.length
     pub most : n < q.length → q.length ≡ p.length
-    pub whole : q.length < n → IsWhole q
+    pub whole : q.length < n → EndsWithCluster q
 
   -- Why a mapping ends at guest byte e and at byte f of the file before its range does. A cluster ends there. Its L2 table does too, or what follows is copied data elsewhere. Or the host cluster that would follow can't be named, or is in use and isn't kept by the zero entry of what follows.
   pub record EndsAt (known : Bytes) (e f : ℕ) : Type 0 where
@@ -104,16 +104,16 @@ module _ {S F : Type 0} (view : S → StorageView) where
   module _ (backing : F → BackingView) where
     -- just this cluster is taken for data, or it can't be named, or is in use
     abbrev pub TakesDataAt : Pending → Qcow2 S F → Qcow2 S F → List (Option Prepared) → ℕ → Result (Option ClustersToFreeEntry) ImageError → Type 0
-    TakesDataAt p old new out cluster (Ok (Some n)) = (n.first_cluster ≡ cluster) × (n.count ≡ 1) × (n.kind ≡ Kind.Data) × UnseenFillingStep view backing p (with_held (pending_then p old new) (run_of n)) old new out
+    TakesDataAt p old new out cluster (Ok (Some n)) = (n.first_cluster ≡ cluster) × (n.count ≡ 1) × (n.kind ≡ Kind.Data) × UnseenFillingStep view backing p (with_held (pending_with_listed p old new) (run_of n)) old new out
     TakesDataAt p old new out cluster (Ok None) =
-        UnseenFillingStep view backing p (pending_then p old new) old new out × ((IsHostCluster old.file.header.fields.cluster_bits cluster → ⊥) ⊎ (count new.file.header.fields (known_in view new.file) cluster ≢ 0))
+        UnseenFillingStep view backing p (pending_with_listed p old new) old new out × ((IsHostCluster old.file.header.fields.cluster_bits cluster → ⊥) ⊎ (count new.file.header.fields (known_in view new.file) cluster ≢ 0))
     TakesDataAt p old new out cluster (Err e) = RefusedFillingStep view backing p old new out e
 
     -- so it is, and filled with what the guest sees, but where that is announced as overwritten
     abbrev pub GainsAt : Pending → Qcow2 S F → Qcow2 S F → List (Option Prepared) → ℕ → ℕ → Bool → L2Mapping → ℕ → Result (Option ClustersToFreeEntry) ImageError → Type 0
     GainsAt p old new out offset n overwrite mapping cluster (Ok (Some run)) = (run.first_cluster ≡ cluster) × IsGained view backing p old new out offset n overwrite mapping run
     GainsAt p old new out offset n overwrite mapping cluster (Ok None) =
-        UnseenFillingStep view backing p (pending_then p old new) old new out × ((IsHostCluster old.file.header.fields.cluster_bits cluster → ⊥) ⊎ (count new.file.header.fields (known_in view new.file) cluster ≢ 0))
+        UnseenFillingStep view backing p (pending_with_listed p old new) old new out × ((IsHostCluster old.file.header.fields.cluster_bits cluster → ⊥) ⊎ (count new.file.header.fields (known_in view new.file) cluster ≢ 0))
     GainsAt p old new out offset n overwrite mapping cluster (Err e) = RefusedFillingStep view backing p old new out e
 
     -- the share of a guest cluster at a place in the file: a new cluster, that no mapping has yet
@@ -127,7 +127,7 @@ module _ {S F : Type 0} (view : S → StorageView) where
     abbrev pub SharesAt : Pending → Qcow2 S F → Qcow2 S F → List (Option Prepared) → ℕ → ℕ → Bool → L2Mapping → ℕ → Result (Option Share) ImageError → Type 0
     SharesAt p old new out offset n overwrite mapping host (Ok (Some share)) = IsSharedAt p old new out offset n overwrite mapping host share
     SharesAt p old new out offset n overwrite mapping host (Ok None) =
-        UnseenFillingStep view backing p (pending_then p old new) old new out
+        UnseenFillingStep view backing p (pending_with_listed p old new) old new out
         × ((IsHostCluster old.file.header.fields.cluster_bits (host / cluster_size old.file.header.fields) → ⊥) ⊎ (count new.file.header.fields (known_in view new.file) (host / cluster_size old.file.header.fields) ≢ 0))
     SharesAt p old new out offset n overwrite mapping host (Err e) = RefusedFillingStep view backing p old new out e
 

@@ -17,7 +17,7 @@ use Rattle.qcow2_image.specs.declared.image.Qcow2.{Qcow2}
 use Rattle.qcow2_image.specs.declared.prepared.Prepared.{Prepared}
 use Rattle.qcow2_alloc.specs.CacheMarks.{l2_pins, KeepsMarks, SameTables}
 use Rattle.qcow2_alloc.specs.FreeList.{with_listed, pending_then as since_listed}
-use Rattle.qcow2_alloc.specs.MetadataCaches.{order_of, l2_at, IsEntryAt, MapsEntry, NotesEntry}
+use Rattle.qcow2_alloc.specs.MetadataCaches.{order_of, l2_at, IsEntryAt, MapsCachedEntry, NotesEntry}
 use Rattle.qcow2_image.specs.declared.prepared.Share.{Share}
 use Rattle.qcow2_image.specs.declared.prepared.Share.TheVariants.{InPlace, Kept, New}
 use Rattle.qcow2_laws.specs.CrashInvariant.{SameCovers}
@@ -74,7 +74,7 @@ module _ {S F : Type 0} where
     pub rest : new ≡ record old { file = record old.file { caches = new.file.caches } }
     pub order : order_of new.file.caches ≡ order_of old.file.caches
     pub marks : KeepsMarks old.file.caches new.file.caches
-    pub entered : (t : ℕ) → table ≡ Some t → (answer : Option (ℕ × ℕ)) × MapsEntry old.file.caches new.file.caches t index host answer
+    pub entered : (t : ℕ) → table ≡ Some t → (answer : Option (ℕ × ℕ)) × MapsCachedEntry old.file.caches new.file.caches t index host answer
     pub noted : (t : ℕ) → table ≡ Some t → NotesEntry old.file.caches new.file.caches t index host
 
   -- A share that isn't in place is entered in the table of its mapping, where its cluster stands in the file, and is in place then. What stood there before is to be freed. Nothing else changes.
@@ -107,8 +107,8 @@ module _ {S F : Type 0} where
     pub is : new.file.free_list ≡ old.file.free_list ++ more
 
   -- what is pending, with those
-  abbrev pub pending_then : Pending → Qcow2 S F → Qcow2 S F → Pending
-  pending_then p old new = since_listed p old.file.free_list new.file.free_list
+  abbrev pub pending_with_listed : Pending → Qcow2 S F → Qcow2 S F → Pending
+  pending_with_listed p old new = since_listed p old.file.free_list new.file.free_list
 
   module _ (view : S → StorageView) (backing : F → BackingView) where
     -- Nothing changes that a guest sees, and all is sound again, from what was pending to what is. At each moment what was kept is kept.
@@ -132,7 +132,7 @@ module _ {S F : Type 0} where
 
     -- a part of a call that was refused: all is sound as before but for what is to be freed; or it broke off
     abbrev pub RefusedStep : Pending → Qcow2 S F → Qcow2 S F → List (Option Prepared) → ImageError → Type 0
-    RefusedStep p old new out e = UnseenStep p (pending_then p old new) old new out ⊎ InterruptedFileStep view old.file new.file e
+    RefusedStep p old new out e = UnseenStep p (pending_with_listed p old new) old new out ⊎ InterruptedFileStep view old.file new.file e
 
     -- the L2 table of an offset is held in this cluster, and named by an L1 entry that is marked copied
     pub record HoldsTable (image : Qcow2 S F) (offset table : ℕ) : Type 0 where
@@ -142,7 +142,7 @@ module _ {S F : Type 0} where
 
     -- a part of a call that sees to it: no guest sees it
     abbrev pub Ensures : Pending → Qcow2 S F → Qcow2 S F → List (Option Prepared) → ℕ → Result ℕ ImageError → Type 0
-    Ensures p old new out offset (Ok table) = UnseenStep p (pending_then p old new) old new out × HoldsTable new offset table
+    Ensures p old new out offset (Ok table) = UnseenStep p (pending_with_listed p old new) old new out × HoldsTable new offset table
     Ensures p old new out offset (Err e) = RefusedStep p old new out e
 
     -- A part that the guest doesn't see, who may see clusters written that none of these mappings has. All is sound again, from what was pending to what is.
@@ -170,7 +170,7 @@ module _ {S F : Type 0} where
 
     -- so does a part that was refused, but for what is to be freed; or it broke off
     abbrev pub RefusedFillingStep : Pending → Qcow2 S F → Qcow2 S F → List (Option Prepared) → ImageError → Type 0
-    RefusedFillingStep p old new out e = UnseenFillingStep p (pending_then p old new) old new out ⊎ InterruptedStep old new e
+    RefusedFillingStep p old new out e = UnseenFillingStep p (pending_with_listed p old new) old new out ⊎ InterruptedStep old new e
 
     -- clusters that are held have the bytes that they had
     abbrev pub SameHeld : Pending → Qcow2 S F → Qcow2 S F → Type 0
@@ -181,7 +181,7 @@ module _ {S F : Type 0} where
     HoldsAll p out = (k : ℕ) → over_all held_by out k ≤ p.held k
 
     -- a range of the file lies in a cluster that is held, and that no mapping has yet
-    pub record IsOwn (p : Pending) (image : Qcow2 S F) (out : List (Option Prepared)) (cluster at n : ℕ) : Type 0 where
+    pub record IsInHeldCluster (p : Pending) (image : Qcow2 S F) (out : List (Option Prepared)) (cluster at n : ℕ) : Type 0 where
       pub held : 0 < p.held cluster
       pub unused : over_all held_by out cluster ≡ 0
       pub inside : (i : ℕ) → i < n → (at + i) / cluster_size image.file.header.fields ≡ cluster
@@ -203,7 +203,7 @@ module _ {S F : Type 0} where
 
     -- a cluster is taken for data
     abbrev pub TakesData : Pending → Qcow2 S F → Qcow2 S F → List (Option Prepared) → Result ClustersToFreeEntry ImageError → Type 0
-    TakesData p old new out (Ok n) = (n.count ≡ 1) × (n.kind ≡ Kind.Data) × UnseenFillingStep p (with_held (pending_then p old new) (run_of n)) old new out
+    TakesData p old new out (Ok n) = (n.count ≡ 1) × (n.kind ≡ Kind.Data) × UnseenFillingStep p (with_held (pending_with_listed p old new) (run_of n)) old new out
     TakesData p old new out (Err e) = RefusedFillingStep p old new out e
 
     -- a new cluster that no mapping has yet
@@ -211,7 +211,7 @@ module _ {S F : Type 0} where
       pub one : n.count ≡ 1
       pub kind : n.kind ≡ Kind.Data
       pub unused : over_all held_by out n.first_cluster ≡ 0
-      pub goes : UnseenFillingStep p (with_held (pending_then p old new) (run_of n)) old new out
+      pub goes : UnseenFillingStep p (with_held (pending_with_listed p old new) (run_of n)) old new out
       pub filled : cover old.file.header.fields (known_in view old.file) (offset / cluster_size old.file.header.fields) ≡ mapping → IsFilled old new n.first_cluster offset length overwrite
 
     abbrev pub Gains : Pending → Qcow2 S F → Qcow2 S F → List (Option Prepared) → ℕ → ℕ → Bool → L2Mapping → Result ClustersToFreeEntry ImageError → Type 0

@@ -25,5 +25,5 @@ module _ {S F : Type 0} (view : S → StorageView) where
     pub unmodified : IsUnmodified new
 
   -- so it is of a sound image of which nothing is modified
-  abbrev pub OnlyReads : (F → BackingView) → Qcow2 S F → Qcow2 S F → Type 0
-  OnlyReads backing old new = (p : Pending) (out : List (Option Prepared)) → ImageInvariant view backing p old out → IsUnmodified old → IsOnlyRead old new
+  abbrev pub OnlyReadsImage : (F → BackingView) → Qcow2 S F → Qcow2 S F → Type 0
+  OnlyReadsImage backing old new = (p : Pending) (out : List (Option Prepared)) → ImageInvariant view backing p old out → IsUnmodified old → IsOnlyRead old new

@@ -3,14 +3,14 @@ ghost use Rattle.std.specs.Prelude.{◌≡◌, ◌/◌, ◌^◌, ◌<◌, ◌≤
 ghost use Rattle.qcow2_laws.specs.CrashInvariant.{Pending};
 ghost use Rattle.qcow2_alloc.specs.ImageFile.{known_in};
 ghost use Rattle.qcow2_image.specs.CallParts.{WritesBytes};
-ghost use Rattle.qcow2_image.specs.UnseenSteps.{UnseenFillingStep, HoldsAll, IsCopied, IsFilled, IsKeptAlone, IsOwn, is_announced};
+ghost use Rattle.qcow2_image.specs.UnseenSteps.{UnseenFillingStep, HoldsAll, IsCopied, IsFilled, IsKeptAlone, IsInHeldCluster, is_announced};
 ghost use Rattle.qcow2_image.specs.CopyRange.{HasByte};
 ghost use Rattle.qcow2_image.specs.ImageInvariant.{ImageInvariant, held_by, over_all};
 ghost use Rattle.qcow2_image.specs.Found.{IsMappedAs};
 ghost use Rattle.qcow2_image.specs.declared.prepared.Prepared.{Prepared};
-ghost use Rattle.qcow2_image.specs.Image.{Stays};
+ghost use Rattle.qcow2_image.specs.Image.{ImageStays};
 ghost use Rattle.qcow2_image.specs.Refusals.{IsMet};
-ghost use Rattle.qcow2_image.specs.Faults.{CountsFaults};
+ghost use Rattle.qcow2_image.specs.Faults.{CountsImageFaults};
 ghost use Rattle.qcow2_metadata.specs.L2Mapping.{IsHostCluster, IsInReach, greatest_offset};
 ghost use Rattle.qcow2_metadata.specs.Cover.{cover};
 ghost use Rattle.qcow2_metadata.specs.Header.{cluster_size};
@@ -35,13 +35,13 @@ impl<S: Storage, F: WrappedFormat<S>> Qcow2<S, F> {
         requires nameable { IsHostCluster self.old.file.header.fields.cluster_bits cluster }
         requires reach { IsInReach old.now }
         ensures value { self.new.file.header ≡ self.old.file.header }
-        ensures stays { Stays self.old self.new }
+        ensures stays { ImageStays self.old self.new }
         ensures cause { IfErr result IsMet }
         ensures goes { (p : Pending) (out : List (Option Prepared)) → ImageInvariant S.view F.backing p self.old out → HoldsAll S.view F.backing p out → 0 < p.held cluster → over_all held_by out cluster ≡ 0 → UnseenFillingStep S.view F.backing p p self.old self.new out }
         ensures list { self.new.file.free_list ≡ self.old.file.free_list }
         ensures fills { (p : Pending) (out : List (Option Prepared)) → ImageInvariant S.view F.backing p self.old out → HoldsAll S.view F.backing p out → 0 < p.held cluster → over_all held_by out cluster ≡ 0
             → cover self.old.file.header.fields (known_in S.view self.old.file) (offset / cluster_size self.old.file.header.fields) ≡ old.now → IfOk result (λ done. IsFilled S.view F.backing self.old self.new cluster offset length overwrite) }
-        ensures faults { CountsFaults S.view F.backing self.old self.new result }
+        ensures faults { CountsImageFaults S.view F.backing self.old self.new result }
     {
         let Some(range) = self.part_to_fill(offset, length, overwrite) else {
             return Ok(());
@@ -65,14 +65,14 @@ impl<S: Storage, F: WrappedFormat<S>> Qcow2<S, F> {
         overwrite: bool,
     ) -> Result<(), ImageError>
         requires reach { host ≤ greatest_offset }
-        ensures stays { Stays self.old self.new }
+        ensures stays { ImageStays self.old self.new }
         ensures cause { IfErr result IsMet }
         ensures rest { self.new ≡ record self.old { file = record self.old.file { storage = self.new.file.storage } } }
         ensures goes { (p : Pending) (out : List (Option Prepared)) → ImageInvariant S.view F.backing p self.old out → HoldsAll S.view F.backing p out → IsKeptAlone S.view F.backing self.old out offset host → UnseenFillingStep S.view F.backing p p self.old self.new out }
         ensures fills { (p : Pending) (out : List (Option Prepared)) → ImageInvariant S.view F.backing p self.old out
             → cover self.old.file.header.fields (known_in S.view self.old.file) (offset / cluster_size self.old.file.header.fields) ≡ L2Mapping.Zero (Some (host, true))
             → IfOk result (λ done. IsFilled S.view F.backing self.old self.new (host / cluster_size self.old.file.header.fields) offset length overwrite) }
-        ensures faults { CountsFaults S.view F.backing self.old self.new result }
+        ensures faults { CountsImageFaults S.view F.backing self.old self.new result }
     {
         match self.part_to_fill(offset, length, overwrite) {
             None => Ok(()),
@@ -102,12 +102,12 @@ impl<S: Storage, F: WrappedFormat<S>> Qcow2<S, F> {
         length: u64,
     ) -> Result<(), ImageError>
         ensures value { self.new.file.header ≡ self.old.file.header }
-        ensures stays { Stays self.old self.new }
+        ensures stays { ImageStays self.old self.new }
         ensures cause { IfErr result IsMet }
-        ensures goes { (p : Pending) (out : List (Option Prepared)) (cluster : ℕ) → ImageInvariant S.view F.backing p self.old out → HoldsAll S.view F.backing p out → IsOwn S.view F.backing p self.old out cluster at length → UnseenFillingStep S.view F.backing p p self.old self.new out }
+        ensures goes { (p : Pending) (out : List (Option Prepared)) (cluster : ℕ) → ImageInvariant S.view F.backing p self.old out → HoldsAll S.view F.backing p out → IsInHeldCluster S.view F.backing p self.old out cluster at length → UnseenFillingStep S.view F.backing p p self.old self.new out }
         ensures list { self.new.file.free_list ≡ self.old.file.free_list }
         ensures copies { (p : Pending) (out : List (Option Prepared)) → ImageInvariant S.view F.backing p self.old out → IsMappedAs S.view self.old guest kind.now length → IfOk result (λ done. IsCopied S.view F.backing self.old self.new at guest length) }
-        ensures faults { CountsFaults S.view F.backing self.old self.new result }
+        ensures faults { CountsImageFaults S.view F.backing self.old self.new result }
     {
         if let MappingKind::Zero { explicit: _ } = kind {
             return self.write_zeros(at, length);
@@ -119,10 +119,10 @@ impl<S: Storage, F: WrappedFormat<S>> Qcow2<S, F> {
     }
 
     fn write_zeros(&mut self, at: u64, length: u64) -> Result<(), ImageError>
-        ensures stays { Stays self.old self.new }
+        ensures stays { ImageStays self.old self.new }
         ensures cause { IfErr result IsMet }
         ensures written { WritesBytes S.view self.old self.new at (replicate length 0) result }
-        ensures faults { CountsFaults S.view F.backing self.old self.new result }
+        ensures faults { CountsImageFaults S.view F.backing self.old self.new result }
     {
         self.file.storage.will_write(WriteKind::Data);
         self.file.storage.write_zeroes(at, length)?;

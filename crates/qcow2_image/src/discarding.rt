@@ -14,12 +14,12 @@ ghost use Rattle.qcow2_alloc.specs.declared.error.ImageError.TheVariants.{TableP
 ghost use Rattle.qcow2_image.specs.declared.prepared.Prepared.{Prepared};
 ghost use Rattle.qcow2_image.specs.Backings.{HasPrepared};
 ghost use Rattle.qcow2_image.specs.NewTables.{IsFaultOrLacksTable};
-ghost use Rattle.qcow2_image.specs.Image.{HasNothingToFree, IsSameImage, Stays, is_failed, is_writable, size_of};
+ghost use Rattle.qcow2_image.specs.Image.{HasNothingToFree, IsSameImage, ImageStays, is_failed, is_writable, size_of};
 ghost use Rattle.qcow2_image.specs.ImageInvariant.{ImageInvariant, abstract_of, pending_in, listed_run};
 ghost use Rattle.qcow2_image.specs.UnseenSteps.{FreesLater, HoldsTable};
 ghost use Rattle.qcow2_image.specs.Refusals.{IsMet, IsMetPreparing, Marks, passes as passes_size};
-ghost use Rattle.qcow2_image.specs.Clearing.{Clears, ClearsCovers, ClearsEntry, ClearsOrRefuses, ClearsTable, IsUnderMapping, IsWhole, ReadsAll, ReadsDropped, RefusesClearing, cleared_cover, from_in, to_in, listed_by, needs_zeros, refuses_to_clear, rounds_past};
-ghost use Rattle.qcow2_image.specs.Faults.{CountsFaults, IsNotOfStorage};
+ghost use Rattle.qcow2_image.specs.Clearing.{Clears, ClearsImageCovers, ClearsEntry, ClearsOrRefuses, ClearsTable, IsUnderMapping, IsClearable, ReadsAll, ReadsDropped, RefusesClearing, cover_once_cleared, from_in, to_in, listed_by, needs_zero_entries, refuses_to_clear, rounds_past};
+ghost use Rattle.qcow2_image.specs.Faults.{CountsImageFaults, IsNotOfStorage};
 
 use crate::Qcow2;
 use crate::mappings::passes;
@@ -42,7 +42,7 @@ pub(crate) enum Clearance {
 impl Clearance {
     // Whether entries have to say that clusters are zeros.
     fn needs_zeros(self) -> bool
-        ensures { result ≡ needs_zeros self }
+        ensures { result ≡ needs_zero_entries self }
     {
         match self {
             Clearance::Uncovered => false,
@@ -54,7 +54,7 @@ impl Clearance {
     fn dropped(self, old: L2Mapping, bits: u32) -> Option<(HostCluster, ClusterCount)>
         requires bits { bits < 64 }
         requires reach { IsInReach old }
-        ensures { result ≡ dropped_run bits old (cleared_cover self old) }
+        ensures { result ≡ dropped_run bits old (cover_once_cleared self old) }
     {
         match self {
             Clearance::Uncovered | Clearance::Zeros => old.host_clusters(bits),
@@ -117,9 +117,9 @@ impl<S: Storage, F: WrappedFormat<S>> Qcow2<S, F> {
             → IfErr result (λ e. e ≡ TablePrepared → IsUnderMapping self.old.file.header.fields (from_in self.old offset length) out) × IfOk result (λ range. IsUnderMapping self.old.file.header.fields (from_in self.old offset length) out → ⊥) }
         ensures sees { Clears S.view F.backing Clearance.Uncovered self.old self.new offset length result }
         ensures covers { (out : List (Option Prepared)) → (abstract_of S.view F.backing self.old out).is_sound
-            → OnOk result (ClearsCovers Clearance.Uncovered (from_in self.old offset length) (to_in self.old offset length) self.old.file.header.fields (known_in S.view self.old.file) self.new.file.header.fields (known_in S.view self.new.file)) }
+            → OnOk result (ClearsImageCovers Clearance.Uncovered (from_in self.old offset length) (to_in self.old offset length) self.old.file.header.fields (known_in S.view self.old.file) self.new.file.header.fields (known_in S.view self.new.file)) }
         ensures emptied { from_in self.old offset length < to_in self.old offset length → OnOk result (HasNothingToFree self.new) }
-        ensures faults { CountsFaults S.view F.backing self.old self.new result }
+        ensures faults { CountsImageFaults S.view F.backing self.old self.new result }
     {
         self.clear_range(offset, length, Clearance::Uncovered)
     }
@@ -139,9 +139,9 @@ impl<S: Storage, F: WrappedFormat<S>> Qcow2<S, F> {
             → IfErr result (λ e. e ≡ TablePrepared → IsUnderMapping self.old.file.header.fields (from_in self.old offset length) out) × IfOk result (λ range. IsUnderMapping self.old.file.header.fields (from_in self.old offset length) out → ⊥) }
         ensures sees { Clears S.view F.backing Clearance.Zeros self.old self.new offset length result }
         ensures covers { (out : List (Option Prepared)) → (abstract_of S.view F.backing self.old out).is_sound
-            → OnOk result (ClearsCovers Clearance.Zeros (from_in self.old offset length) (to_in self.old offset length) self.old.file.header.fields (known_in S.view self.old.file) self.new.file.header.fields (known_in S.view self.new.file)) }
+            → OnOk result (ClearsImageCovers Clearance.Zeros (from_in self.old offset length) (to_in self.old offset length) self.old.file.header.fields (known_in S.view self.old.file) self.new.file.header.fields (known_in S.view self.new.file)) }
         ensures emptied { from_in self.old offset length < to_in self.old offset length → OnOk result (HasNothingToFree self.new) }
-        ensures faults { CountsFaults S.view F.backing self.old self.new result }
+        ensures faults { CountsImageFaults S.view F.backing self.old self.new result }
     {
         self.clear_range(offset, length, Clearance::Zeros)
     }
@@ -161,9 +161,9 @@ impl<S: Storage, F: WrappedFormat<S>> Qcow2<S, F> {
             → IfErr result (λ e. e ≡ TablePrepared → IsUnderMapping self.old.file.header.fields (from_in self.old offset length) out) × IfOk result (λ range. IsUnderMapping self.old.file.header.fields (from_in self.old offset length) out → ⊥) }
         ensures sees { Clears S.view F.backing Clearance.Zeros self.old self.new offset length result }
         ensures covers { (out : List (Option Prepared)) → (abstract_of S.view F.backing self.old out).is_sound
-            → OnOk result (ClearsCovers Clearance.Zeros (from_in self.old offset length) (to_in self.old offset length) self.old.file.header.fields (known_in S.view self.old.file) self.new.file.header.fields (known_in S.view self.new.file)) }
+            → OnOk result (ClearsImageCovers Clearance.Zeros (from_in self.old offset length) (to_in self.old offset length) self.old.file.header.fields (known_in S.view self.old.file) self.new.file.header.fields (known_in S.view self.new.file)) }
         ensures emptied { from_in self.old offset length < to_in self.old offset length → OnOk result (HasNothingToFree self.new) }
-        ensures faults { CountsFaults S.view F.backing self.old self.new result }
+        ensures faults { CountsImageFaults S.view F.backing self.old self.new result }
     {
         self.discard_to_zero_unsafe(offset, length)
     }
@@ -183,9 +183,9 @@ impl<S: Storage, F: WrappedFormat<S>> Qcow2<S, F> {
             → IfErr result (λ e. e ≡ TablePrepared → IsUnderMapping self.old.file.header.fields (from_in self.old offset length) out) × IfOk result (λ range. IsUnderMapping self.old.file.header.fields (from_in self.old offset length) out → ⊥) }
         ensures sees { Clears S.view F.backing Clearance.KeptZeros self.old self.new offset length result }
         ensures covers { (out : List (Option Prepared)) → (abstract_of S.view F.backing self.old out).is_sound
-            → OnOk result (ClearsCovers Clearance.KeptZeros (from_in self.old offset length) (to_in self.old offset length) self.old.file.header.fields (known_in S.view self.old.file) self.new.file.header.fields (known_in S.view self.new.file)) }
+            → OnOk result (ClearsImageCovers Clearance.KeptZeros (from_in self.old offset length) (to_in self.old offset length) self.old.file.header.fields (known_in S.view self.old.file) self.new.file.header.fields (known_in S.view self.new.file)) }
         ensures emptied { from_in self.old offset length < to_in self.old offset length → OnOk result (HasNothingToFree self.new) }
-        ensures faults { CountsFaults S.view F.backing self.old self.new result }
+        ensures faults { CountsImageFaults S.view F.backing self.old self.new result }
     {
         self.clear_range(offset, length, Clearance::KeptZeros)
     }
@@ -205,10 +205,10 @@ impl<S: Storage, F: WrappedFormat<S>> Qcow2<S, F> {
             → IfErr result (λ e. e ≡ TablePrepared → IsUnderMapping self.old.file.header.fields (from_in self.old offset length) out) × IfOk result (λ range. IsUnderMapping self.old.file.header.fields (from_in self.old offset length) out → ⊥) }
         ensures sees { Clears S.view F.backing how self.old self.new offset length result }
         ensures covers { (out : List (Option Prepared)) → (abstract_of S.view F.backing self.old out).is_sound
-            → OnOk result (ClearsCovers how (from_in self.old offset length) (to_in self.old offset length) self.old.file.header.fields (known_in S.view self.old.file) self.new.file.header.fields (known_in S.view self.new.file)) }
+            → OnOk result (ClearsImageCovers how (from_in self.old offset length) (to_in self.old offset length) self.old.file.header.fields (known_in S.view self.old.file) self.new.file.header.fields (known_in S.view self.new.file)) }
         ensures emptied { from_in self.old offset length < to_in self.old offset length → OnOk result (HasNothingToFree self.new) }
         ensures refused { IfErr result (RefusesClearing S.view F.backing how self.old self.new offset length) }
-        ensures faults { CountsFaults S.view F.backing self.old self.new result }
+        ensures faults { CountsImageFaults S.view F.backing self.old self.new result }
     {
         let (from, to) = self.check_clear(offset, length, how)?;
         if to <= from {
@@ -231,7 +231,7 @@ impl<S: Storage, F: WrappedFormat<S>> Qcow2<S, F> {
         ensures refusal { MatchOption (refuses_to_clear self.now offset length how) (result ≡ Ok (from_in self.now offset length, to_in self.now offset length)) (λ e. result ≡ Err e) }
         ensures writable { IfOk result (λ range. IsTrue (is_writable self.now)) }
         ensures end { IfOk result (λ range. offset + length < 2 ^ 64) }
-        ensures version { IfOk result (λ range. IsTrue (needs_zeros how) → 3 ≤ self.now.file.header.fields.version) }
+        ensures version { IfOk result (λ range. IsTrue (needs_zero_entries how) → 3 ≤ self.now.file.header.fields.version) }
         ensures faults { IfErr result IsNotOfStorage }
     {
         self.check_usable()?;
@@ -275,17 +275,17 @@ impl<S: Storage, F: WrappedFormat<S>> Qcow2<S, F> {
     ) -> Result<(), ImageError>
         requires writable { IsTrue (is_writable self.old) }
         requires some { from < to }
-        ensures stays { Stays self.old self.new }
+        ensures stays { ImageStays self.old self.new }
         ensures cause { IfErr result IsMetPreparing }
-        ensures lacks { (out : List (Option Prepared)) → ImageInvariant S.view F.backing (pending_in S.view F.backing self.old out) self.old out → IsWhole self.old.file.header.fields how from to
+        ensures lacks { (out : List (Option Prepared)) → ImageInvariant S.view F.backing (pending_in S.view F.backing self.old out) self.old out → IsClearable self.old.file.header.fields how from to
             → (HasPrepared out → ⊥) → IfErr result (IsFaultOrLacksTable S.view self.new from) }
-        ensures clears { (out : List (Option Prepared)) → ImageInvariant S.view F.backing (pending_in S.view F.backing self.old out) self.old out → IsWhole self.old.file.header.fields how from to
+        ensures clears { (out : List (Option Prepared)) → ImageInvariant S.view F.backing (pending_in S.view F.backing self.old out) self.old out → IsClearable self.old.file.header.fields how from to
             → ClearsOrRefuses S.view F.backing how from to self.old self.new out result }
         ensures taken { (out : List (Option Prepared)) → ImageInvariant S.view F.backing (pending_in S.view F.backing self.old out) self.old out
             → IfErr result (λ e. e ≡ TablePrepared → IsUnderMapping self.old.file.header.fields from out) }
         ensures free { (out : List (Option Prepared)) → ImageInvariant S.view F.backing (pending_in S.view F.backing self.old out) self.old out
             → IfOk result (λ done. IsUnderMapping self.old.file.header.fields from out → ⊥) }
-        ensures faults { CountsFaults S.view F.backing self.old self.new result }
+        ensures faults { CountsImageFaults S.view F.backing self.old self.new result }
     {
         let table = self.table_for(from)?;
         if self.file.caches.l2_is_pinned(table) {
@@ -344,7 +344,7 @@ impl<S: Storage, F: WrappedFormat<S>> Qcow2<S, F> {
 
     // Clears so many entries of a held table.
     fn clear_entries(&mut self, table: HostCluster, index: usize, count: usize, how: Clearance)
-        ensures stays { Stays self.old self.new }
+        ensures stays { ImageStays self.old self.new }
         ensures clears { ClearsTable S.view F.backing how table index count self.old self.new }
     {
         for i in 0..count {

@@ -9,15 +9,15 @@ ghost use Rattle.qcow2_alloc.specs.CacheMarks.{l2_pins};
 ghost use Rattle.qcow2_alloc.specs.MetadataCaches.{l2_at};
 ghost use Rattle.qcow2_alloc.specs.ImageFile.{known_in, KeepsHeader};
 ghost use Rattle.qcow2_alloc.specs.declared.error.ImageError.TheVariants.{TablePrepared};
-ghost use Rattle.qcow2_image.specs.Faults.{CountsFaults};
-ghost use Rattle.qcow2_image.specs.Image.{Stays, is_writable, number_of};
+ghost use Rattle.qcow2_image.specs.Faults.{CountsImageFaults};
+ghost use Rattle.qcow2_image.specs.Image.{ImageStays, is_writable, number_of};
 ghost use Rattle.qcow2_image.specs.Prepared.{image_of, length_of, offset_of};
 ghost use Rattle.qcow2_image.specs.Refusals.{IsMet, IsMetPreparing};
 ghost use Rattle.qcow2_image.specs.declared.prepared.Prepared.{Prepared};
 ghost use Rattle.qcow2_image.specs.declared.mapping.Place.TheVariants.{Image};
 ghost use Rattle.qcow2_image.specs.CallParts.{Readies};
 ghost use Rattle.qcow2_image.specs.ImageInvariant.{ImageInvariant, pending_in};
-ghost use Rattle.qcow2_image.specs.Ranges.{BeginsInKept, HasRoom, IsFirst};
+ghost use Rattle.qcow2_image.specs.Ranges.{BeginsInKept, HasRoomForRange, IsFirst};
 ghost use Rattle.qcow2_image.specs.UnseenSteps.{Gains, HoldsAll, HoldsTable, ListGrows, Pins, SameHeld, TakesData, UnseenStep};
 
 use crate::mappings::{copied_place, kept_place};
@@ -49,7 +49,7 @@ impl<S: Storage, F: WrappedFormat<S>> Qcow2<S, F> {
         overwrite: bool,
     ) -> Result<Prepared, ImageError>
         requires writable { IsTrue (is_writable self.old) }
-        ensures stays { Stays self.old self.new }
+        ensures stays { ImageStays self.old self.new }
         ensures header { KeepsHeader self.old.file.header self.new.file.header }
         ensures cause { IfErr result IsMetPreparing }
         ensures taken { IfErr result (λ e. e ≡ TablePrepared → 0 < l2_pins self.old.file.caches table) }
@@ -57,10 +57,10 @@ impl<S: Storage, F: WrappedFormat<S>> Qcow2<S, F> {
         ensures readies { (out : List (Option Prepared)) → ImageInvariant S.view F.backing (pending_in S.view F.backing self.old out) self.old out
             → HoldsTable S.view F.backing self.old offset table → Readies S.view F.backing self.old self.new out offset length overwrite result }
         ensures first { IfOk result (IsFirst self.old.file.header.fields offset table) }
-        ensures room { IfOk result (HasRoom self.old.file.header.fields length) }
+        ensures room { IfOk result (HasRoomForRange self.old.file.header.fields length) }
         ensures kept { (out : List (Option Prepared)) → ImageInvariant S.view F.backing (pending_in S.view F.backing self.old out) self.old out
             → HoldsTable S.view F.backing self.old offset table → IfOk result (BeginsInKept self.old.file.header.fields offset (cover self.old.file.header.fields (known_in S.view self.old.file) (offset / cluster_size self.old.file.header.fields))) }
-        ensures faults { CountsFaults S.view F.backing self.old self.new result }
+        ensures faults { CountsImageFaults S.view F.backing self.old self.new result }
     {
         if self.file.caches.l2_is_pinned(table) {
             return Err(ImageError::TablePrepared);
@@ -89,7 +89,7 @@ impl<S: Storage, F: WrappedFormat<S>> Qcow2<S, F> {
         requires other { is_copied_data old.now ≡ false }
         requires empty { room.items ≡ [] }
         requires room { 0 < vec_capacity room }
-        ensures stays { Stays self.old self.new }
+        ensures stays { ImageStays self.old self.new }
         ensures cause { IfErr result IsMet }
         ensures own { IfOk result (λ p. image_of p ≡ number_of self.old) }
         ensures first { IfOk result (IsFirst self.old.file.header.fields offset table) }
@@ -99,7 +99,7 @@ impl<S: Storage, F: WrappedFormat<S>> Qcow2<S, F> {
             → HoldsTable S.view F.backing self.old offset table → l2_pins self.old.file.caches table ≡ 0 → cover self.old.file.header.fields (known_in S.view self.old.file) (offset / cluster_size self.old.file.header.fields) ≡ old.now
             → Readies S.view F.backing self.old self.new out offset length overwrite result }
         ensures header { KeepsHeader self.old.file.header self.new.file.header }
-        ensures faults { CountsFaults S.view F.backing self.old self.new result }
+        ensures faults { CountsImageFaults S.view F.backing self.old self.new result }
     {
         match kept_place(old) {
             Some(host) => self.prepare_kept(table, offset, length, overwrite, host, room),
@@ -120,7 +120,7 @@ impl<S: Storage, F: WrappedFormat<S>> Qcow2<S, F> {
         requires reach { host ≤ greatest_offset }
         requires empty { room.items ≡ [] }
         requires room { 0 < vec_capacity room }
-        ensures stays { Stays self.old self.new }
+        ensures stays { ImageStays self.old self.new }
         ensures cause { IfErr result IsMet }
         ensures own { IfOk result (λ p. image_of p ≡ number_of self.old) }
         ensures first { IfOk result (IsFirst self.old.file.header.fields offset table) }
@@ -131,7 +131,7 @@ impl<S: Storage, F: WrappedFormat<S>> Qcow2<S, F> {
             → cover self.old.file.header.fields (known_in S.view self.old.file) (offset / cluster_size self.old.file.header.fields) ≡ L2Mapping.Zero (Some (host, true))
             → Readies S.view F.backing self.old self.new out offset length overwrite result }
         ensures header { self.new.file.header ≡ self.old.file.header }
-        ensures faults { CountsFaults S.view F.backing self.old self.new result }
+        ensures faults { CountsImageFaults S.view F.backing self.old self.new result }
     {
         self.fill_kept(host, offset, length, overwrite)?;
         Ok(self.prepare_at(table, offset, host, Share::Kept, room))
@@ -152,7 +152,7 @@ impl<S: Storage, F: WrappedFormat<S>> Qcow2<S, F> {
         requires other { is_copied_data old.now ≡ false }
         requires empty { room.items ≡ [] }
         requires room { 0 < vec_capacity room }
-        ensures stays { Stays self.old self.new }
+        ensures stays { ImageStays self.old self.new }
         ensures cause { IfErr result IsMet }
         ensures own { IfOk result (λ p. image_of p ≡ number_of self.old) }
         ensures first { IfOk result (IsFirst self.old.file.header.fields offset table) }
@@ -161,7 +161,7 @@ impl<S: Storage, F: WrappedFormat<S>> Qcow2<S, F> {
             → HoldsTable S.view F.backing self.old offset table → l2_pins self.old.file.caches table ≡ 0 → cover self.old.file.header.fields (known_in S.view self.old.file) (offset / cluster_size self.old.file.header.fields) ≡ old.now
             → Readies S.view F.backing self.old self.new out offset length overwrite result }
         ensures header { KeepsHeader self.old.file.header self.new.file.header }
-        ensures faults { CountsFaults S.view F.backing self.old self.new result }
+        ensures faults { CountsImageFaults S.view F.backing self.old self.new result }
     {
         let dropped = self.named_by(old)?;
         let pending = self.new_cluster(offset, length, overwrite, old)?;
@@ -184,13 +184,13 @@ impl<S: Storage, F: WrappedFormat<S>> Qcow2<S, F> {
     // Brings a table into its cache.
     fn load_l2(&mut self, table: HostCluster) -> Result<(), ImageError>
         ensures header { self.new.file.header ≡ self.old.file.header }
-        ensures stays { Stays self.old self.new }
+        ensures stays { ImageStays self.old self.new }
         ensures cause { IfErr result IsMet }
         ensures list { self.new.file.free_list ≡ self.old.file.free_list }
         ensures keeps { (p : Pending) (out : List (Option Prepared)) → ImageInvariant S.view F.backing p self.old out → UnseenStep S.view F.backing p p self.old self.new out }
         ensures contents { (p : Pending) (out : List (Option Prepared)) → ImageInvariant S.view F.backing p self.old out → SameHeld S.view F.backing p self.old self.new }
         ensures held { OnOk result (IsSome (l2_at self.new.file.caches table)) }
-        ensures faults { CountsFaults S.view F.backing self.old self.new result }
+        ensures faults { CountsImageFaults S.view F.backing self.old self.new result }
     {
         self.file
             .caches
@@ -209,7 +209,7 @@ impl<S: Storage, F: WrappedFormat<S>> Qcow2<S, F> {
         requires near { host < 2 ^ 63 }
         requires empty { room.items ≡ [] }
         requires room { 0 < vec_capacity room }
-        ensures stays { Stays self.old self.new }
+        ensures stays { ImageStays self.old self.new }
         ensures pins { Pins table self.old self.new }
         ensures own { image_of result ≡ number_of self.old }
         ensures some { 0 < length_of result }
@@ -250,10 +250,10 @@ impl<S: Storage, F: WrappedFormat<S>> Qcow2<S, F> {
         requires reach { IsInReach old.now }
         ensures nameable { IfOk result (λ p. IsHostCluster self.old.file.header.fields.cluster_bits p.first_cluster) }
         ensures header { KeepsHeader self.old.file.header self.new.file.header }
-        ensures stays { Stays self.old self.new }
+        ensures stays { ImageStays self.old self.new }
         ensures cause { IfErr result IsMet }
         ensures gains { (p : Pending) (out : List (Option Prepared)) → ImageInvariant S.view F.backing p self.old out → HoldsAll S.view F.backing p out → Gains S.view F.backing p self.old self.new out offset length overwrite old.now result }
-        ensures faults { CountsFaults S.view F.backing self.old self.new result }
+        ensures faults { CountsImageFaults S.view F.backing self.old self.new result }
     {
         let pending = self.take_data()?;
         match self.fill_cluster(pending.cluster(), offset, length, overwrite, old) {
@@ -271,10 +271,10 @@ impl<S: Storage, F: WrappedFormat<S>> Qcow2<S, F> {
         ensures nameable { IfOk result (λ p. IsHostCluster self.old.file.header.fields.cluster_bits p.first_cluster) }
         ensures header { KeepsHeader self.old.file.header self.new.file.header }
         ensures list { ListGrows self.old self.new }
-        ensures stays { Stays self.old self.new }
+        ensures stays { ImageStays self.old self.new }
         ensures cause { IfErr result IsMet }
         ensures takes { (p : Pending) (out : List (Option Prepared)) → ImageInvariant S.view F.backing p self.old out → HoldsAll S.view F.backing p out → TakesData S.view F.backing p self.old self.new out result }
-        ensures faults { CountsFaults S.view F.backing self.old self.new result }
+        ensures faults { CountsImageFaults S.view F.backing self.old self.new result }
     {
         let Some(allocator) = &mut self.allocator else {
             unreachable!();

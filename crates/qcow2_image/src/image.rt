@@ -56,8 +56,8 @@ impl<S: Storage, F: WrappedFormat<S>> Qcow2<S, F> {
     ghost use Rattle.qcow2_alloc.specs.declared.error.ImageError.TheVariants.{Dependency, Failed, Memory};
     ghost use Rattle.qcow2_alloc.specs.Faults.{FaultsTold};
     ghost use Rattle.qcow2_image.specs.CountedOpening.{OpeningCounts};
-    ghost use Rattle.qcow2_image.specs.Faults.{CountsFaults, NoFewerFaults};
-    ghost use Rattle.qcow2_image.specs.Image.{storage_of_image, HasNothingToFree, Stays, KeepsRest, IsSameImage, is_failed, is_writable, is_external, leaked_in, number_of, size_of};
+    ghost use Rattle.qcow2_image.specs.Faults.{CountsImageFaults, NoFewerFaults};
+    ghost use Rattle.qcow2_image.specs.Image.{storage_of_image, HasNothingToFree, ImageStays, KeepsRest, IsSameImage, is_failed, is_writable, is_external, leaked_in, number_of, size_of};
     ghost use Rattle.std.specs.Prelude.{List, Option};
     ghost use Rattle.qcow2_disk.specs.AbstractImages.{guest_of};
     ghost use Rattle.qcow2_image.specs.declared.prepared.Prepared.{Prepared};
@@ -65,7 +65,7 @@ impl<S: Storage, F: WrappedFormat<S>> Qcow2<S, F> {
     ghost use Rattle.qcow2_image.specs.ImageInvariant.{abstract_of, pending_in, ImageInvariant};
     ghost use Rattle.qcow2_image.specs.CallParts.{EndsFreeing};
     ghost use Rattle.qcow2_alloc.specs.ImageError.{IsFault};
-    ghost use Rattle.qcow2_image.specs.Calls.{Flushes};
+    ghost use Rattle.qcow2_image.specs.Calls.{FlushesImage};
     ghost use Rattle.qcow2_alloc.specs.ImageFile.{contents_in, known_in};
     ghost use Rattle.qcow2_image.specs.UnseenSteps.{UnseenStep, FreesListed};
     ghost use Rattle.qcow2_alloc.specs.FreeList.{with_listed};
@@ -78,7 +78,7 @@ impl<S: Storage, F: WrappedFormat<S>> Qcow2<S, F> {
     ghost use Rattle.qcow2_image.specs.ImageInvariant.{HasL1Table};
     ghost use Rattle.qcow2_image.specs.Created.{begins_image};
     ghost use Rattle.qcow2_image.specs.Growing.{SameFormat, WritesBack};
-    ghost use Rattle.qcow2_image.specs.Unwritten.{OnlyReads};
+    ghost use Rattle.qcow2_image.specs.Unwritten.{OnlyReadsImage};
     ghost use Rattle.qcow2_image.specs.Opened.{IsFresh, StaysFresh, IsLoaded, IsKeptSince, SameNames, HasNamesIn, NeedsAnother, IsRefusedAlone, storage_after, Opens};
     ghost use Rattle.std.specs.Option.{is_some};
 
@@ -373,11 +373,11 @@ impl<S: Storage, F: WrappedFormat<S>> Qcow2<S, F> {
         ensures late { is_failed self.old ≡ false → IfErr result IsMet }
         ensures marks { Marks result (is_failed self.old) (is_failed self.new) }
         ensures image { IsSameImage self.old self.new }
-        ensures sees { Flushes S.view F.backing self.old self.new result }
+        ensures sees { FlushesImage S.view F.backing self.old self.new result }
         ensures emptied { IsTrue (is_writable self.old) → OnOk result (HasNothingToFree self.new) }
         ensures writes { (p : Pending) → ImageInvariant S.view F.backing (with_listed p self.old.file.free_list) self.old [] → WritesBack S.view F.backing p self.old self.new result }
-        ensures unwritten { is_writable self.old ≡ false → OnlyReads S.view F.backing self.old self.new }
-        ensures faults { CountsFaults S.view F.backing self.old self.new result }
+        ensures unwritten { is_writable self.old ≡ false → OnlyReadsImage S.view F.backing self.old self.new }
+        ensures faults { CountsImageFaults S.view F.backing self.old self.new result }
     {
         if self.is_failed {
             return Err(ImageError::Failed);
@@ -388,13 +388,13 @@ impl<S: Storage, F: WrappedFormat<S>> Qcow2<S, F> {
     }
 
     fn write_back(&mut self) -> Result<(), ImageError>
-        ensures stays { Stays self.old self.new }
+        ensures stays { ImageStays self.old self.new }
         ensures cause { IfErr result IsMet }
         ensures emptied { IsTrue (is_writable self.old) → OnOk result (HasNothingToFree self.new) }
         ensures frees { (p : Pending) (out : List (Option Prepared)) → ImageInvariant S.view F.backing (with_listed p self.old.file.free_list) self.old out → FreesListed S.view F.backing p self.old self.new out result }
         ensures written { IfOk result (λ done. known_in S.view self.new.file ≡ contents_in S.view self.new.file) }
-        ensures unwritten { is_writable self.old ≡ false → OnlyReads S.view F.backing self.old self.new }
-        ensures faults { CountsFaults S.view F.backing self.old self.new result }
+        ensures unwritten { is_writable self.old ≡ false → OnlyReadsImage S.view F.backing self.old self.new }
+        ensures faults { CountsImageFaults S.view F.backing self.old self.new result }
     {
         self.free_listed()?;
         self.file.caches.flush_all(&mut self.file.storage)?;
@@ -404,7 +404,7 @@ impl<S: Storage, F: WrappedFormat<S>> Qcow2<S, F> {
 
     // Frees the clusters that are to be freed. Refused, those not freed yet are to be freed still.
     pub(crate) fn free_listed(&mut self) -> Result<(), ImageError>
-        ensures stays { Stays self.old self.new }
+        ensures stays { ImageStays self.old self.new }
         ensures keeps_rest { KeepsRest self.old self.new }
         ensures table { self.new.l1_table ≡ self.old.l1_table }
         ensures cause { IfErr result IsMet }
@@ -413,7 +413,7 @@ impl<S: Storage, F: WrappedFormat<S>> Qcow2<S, F> {
         ensures faults { (p : Pending) (out : List (Option Prepared)) → ImageInvariant S.view F.backing (with_listed p self.old.file.free_list) self.old out → IfErr result IsFault }
         ensures noted { IsTrue self.old.file.caches.is_changed → IsTrue self.new.file.caches.is_changed }
         ensures untouched { is_writable self.old ≡ false → self.new ≡ self.old }
-        ensures counts { CountsFaults S.view F.backing self.old self.new result }
+        ensures counts { CountsImageFaults S.view F.backing self.old self.new result }
     {
         let Some(allocator) = &mut self.allocator else {
             return Ok(());
@@ -430,7 +430,7 @@ impl<S: Storage, F: WrappedFormat<S>> Qcow2<S, F> {
         ensures frees { (out : List (Option Prepared)) → ImageInvariant S.view F.backing (pending_in S.view F.backing self.old out) self.old out
             → EndsFreeing S.view F.backing self.old self.new out result }
         ensures idle { self.old.file.free_list ≡ [] → (result ≡ Ok tt) × (self.new ≡ self.old) }
-        ensures faults { CountsFaults S.view F.backing self.old self.new result }
+        ensures faults { CountsImageFaults S.view F.backing self.old self.new result }
     {
         if self.file.free_list.is_empty() {
             return Ok(());
@@ -441,7 +441,7 @@ impl<S: Storage, F: WrappedFormat<S>> Qcow2<S, F> {
 
     // From here on it is noted anew whether anything changes.
     pub(crate) fn begin(&mut self)
-        ensures stays { Stays self.old self.new }
+        ensures stays { ImageStays self.old self.new }
         ensures list { self.new.file.free_list ≡ self.old.file.free_list }
         ensures faults { NoFewerFaults S.view F.backing self.old self.new }
         ensures storage { storage_of self.new.file.storage ≡ storage_of self.old.file.storage }

@@ -2,8 +2,8 @@
 ghost use Rattle.std.specs.Prelude.{◌≡◌, ◌≢◌, ◌+◌, ◌^◌, ◌<◌, ◌≤◌, ℕ, List, [], Option, length, slice_get, ◌⊎◌, IfOk, IfErr, IfSome, IsErr, IsSome, IsTrue, MatchOption, Ok, Err, Some, None, true, false};
 ghost use Rattle.qcow2_disk.specs.Calls.{Shows};
 ghost use Rattle.qcow2_laws.specs.CrashInvariant.{Pending};
-ghost use Rattle.qcow2_image.specs.Calls.{Answers, Puts};
-ghost use Rattle.qcow2_image.specs.Faults.{CountsFaults, IsNotOfStorage};
+ghost use Rattle.qcow2_image.specs.Calls.{AnswersCall, Puts};
+ghost use Rattle.qcow2_image.specs.Faults.{CountsImageFaults, IsNotOfStorage};
 ghost use Rattle.qcow2_image.specs.Found.{AreBytesOf, IsFoundWhole, IsMappedAs, further_by};
 ghost use Rattle.qcow2_image.specs.CallParts.{PutsPart, WritesBytes};
 ghost use Rattle.qcow2_image.specs.UnseenSteps.{UnseenStep};
@@ -11,11 +11,11 @@ ghost use Rattle.qcow2_image.specs.ImageInvariant.{IsHonestBacking, ImageInvaria
 ghost use Rattle.qcow2_image.specs.declared.mapping.MappingKind.TheVariants.{Eof, Raw};
 ghost use Rattle.qcow2_image.specs.declared.mapping.Place.TheVariants.{Image};
 ghost use Rattle.qcow2_image.specs.declared.prepared.Prepared.{Prepared};
-ghost use Rattle.qcow2_image.specs.Image.{Stays, IsSameImage, is_failed, is_writable, size_of};
+ghost use Rattle.qcow2_image.specs.Image.{ImageStays, IsSameImage, is_failed, is_writable, size_of};
 ghost use Rattle.qcow2_image.specs.Prepared.{image_of, table_of};
 ghost use Rattle.qcow2_image.specs.Refusals.{unusable, refuses_mapping, refuses_to_read, IsMet, Marks};
 ghost use Rattle.qcow2_image.specs.SpecialReads.{TellsCompressed, TellsWhether};
-ghost use Rattle.qcow2_image.specs.Unwritten.{OnlyReads};
+ghost use Rattle.qcow2_image.specs.Unwritten.{OnlyReadsImage};
 ghost use Rattle.qcow2_alloc.specs.declared.error.ImageError.TheVariants.{NotCompressed, OutdatedMapping, ReadOnly};
 ghost use Rattle.qcow2_alloc.specs.ImageFile.{known_in};
 
@@ -54,9 +54,9 @@ impl<S: Storage, F: WrappedFormat<S>> Qcow2<S, F> {
         ensures image { IsSameImage self.old self.new }
         ensures outdated { (out : List (Option Prepared)) → (abstract_of S.view F.backing self.old out).is_sound → result ≡ Err OutdatedMapping
             → ¬ IsFoundWhole S.view self.new (mapping.now.offset + at) (further_by at mapping.now.kind) (length bytes.old) }
-        ensures sees { Answers S.view F.backing self.old self.new [] (λ done old new. (new ≡ old) × Shows old.disk (mapping.now.offset + at) bytes.new) result }
-        ensures faults { CountsFaults S.view F.backing self.old self.new result }
-        ensures unwritten { OnlyReads S.view F.backing self.old self.new }
+        ensures sees { AnswersCall S.view F.backing self.old self.new [] (λ done old new. (new ≡ old) × Shows old.disk (mapping.now.offset + at) bytes.new) result }
+        ensures faults { CountsImageFaults S.view F.backing self.old self.new result }
+        ensures unwritten { OnlyReadsImage S.view F.backing self.old self.new }
     {
         self.check_usable()?;
         if mapping.image != self.number {
@@ -76,15 +76,15 @@ impl<S: Storage, F: WrappedFormat<S>> Qcow2<S, F> {
         at: u64,
         bytes: &mut [u8],
     ) -> Result<(), ImageError>
-        ensures stays { Stays self.old self.new }
+        ensures stays { ImageStays self.old self.new }
         ensures cause { IfErr result IsMet }
         ensures list { self.new.file.free_list ≡ self.old.file.free_list }
         ensures keeps { (p : Pending) (out : List (Option Prepared)) → ImageInvariant S.view F.backing p self.old out → UnseenStep S.view F.backing p p self.old self.new out }
         ensures outdated { 0 < length bytes.old → (p : Pending) (out : List (Option Prepared)) → ImageInvariant S.view F.backing p self.old out → result ≡ Err OutdatedMapping
             → ¬ IsFoundWhole S.view self.new (mapping.now.offset + at) (further_by at mapping.now.kind) (length bytes.old) }
         ensures shows { 0 < length bytes.old → (p : Pending) (out : List (Option Prepared)) → ImageInvariant S.view F.backing p self.old out → IfOk result (λ done. Shows (disk_of S.view F.backing self.new) (mapping.now.offset + at) bytes.new) }
-        ensures faults { CountsFaults S.view F.backing self.old self.new result }
-        ensures unwritten { OnlyReads S.view F.backing self.old self.new }
+        ensures faults { CountsImageFaults S.view F.backing self.old self.new result }
+        ensures unwritten { OnlyReadsImage S.view F.backing self.old self.new }
     {
         let offset = self.place_within(mapping.offset, at)?;
         let kind = mapping.kind.further(at);
@@ -113,14 +113,14 @@ impl<S: Storage, F: WrappedFormat<S>> Qcow2<S, F> {
         length: u64,
         wanted: &MappingKind,
     ) -> Result<(), ImageError>
-        ensures stays { Stays self.old self.new }
+        ensures stays { ImageStays self.old self.new }
         ensures cause { IfErr result IsMet }
         ensures list { self.new.file.free_list ≡ self.old.file.free_list }
         ensures keeps { (p : Pending) (out : List (Option Prepared)) → ImageInvariant S.view F.backing p self.old out → UnseenStep S.view F.backing p p self.old self.new out }
         ensures outdated { (p : Pending) (out : List (Option Prepared)) → ImageInvariant S.view F.backing p self.old out → result ≡ Err OutdatedMapping → ¬ IsFoundWhole S.view self.new offset wanted.now length }
         ensures mapped { 0 < length → (p : Pending) (out : List (Option Prepared)) → ImageInvariant S.view F.backing p self.old out → IfOk result (λ done. IsMappedAs S.view self.new offset wanted.now length) }
-        ensures faults { CountsFaults S.view F.backing self.old self.new result }
-        ensures unwritten { OnlyReads S.view F.backing self.old self.new }
+        ensures faults { CountsImageFaults S.view F.backing self.old self.new result }
+        ensures unwritten { OnlyReadsImage S.view F.backing self.old self.new }
     {
         let (kind, found) = self.look_up(offset, length)?;
         if found >= length && wanted.is(&kind) {
@@ -136,7 +136,7 @@ impl<S: Storage, F: WrappedFormat<S>> Qcow2<S, F> {
         kind: &MappingKind,
         bytes: &mut [u8],
     ) -> Result<(), ImageError>
-        ensures stays { Stays self.old self.new }
+        ensures stays { ImageStays self.old self.new }
         ensures header { self.new.file.header ≡ self.old.file.header }
         ensures cause { IfErr result IsMet }
         ensures list { self.new.file.free_list ≡ self.old.file.free_list }
@@ -144,8 +144,8 @@ impl<S: Storage, F: WrappedFormat<S>> Qcow2<S, F> {
         ensures outdated { result ≡ Err OutdatedMapping → (kind.now ≡ Eof) × (self.new ≡ self.old) }
         ensures shows { (p : Pending) (out : List (Option Prepared)) → ImageInvariant S.view F.backing p self.old out → IsMappedAs S.view self.old offset kind.now (length bytes.old)
             → IfOk result (λ done. Shows (disk_of S.view F.backing self.new) offset bytes.new) }
-        ensures faults { CountsFaults S.view F.backing self.old self.new result }
-        ensures unwritten { OnlyReads S.view F.backing self.old self.new }
+        ensures faults { CountsImageFaults S.view F.backing self.old self.new result }
+        ensures unwritten { OnlyReadsImage S.view F.backing self.old self.new }
     {
         match kind {
             MappingKind::Raw {
@@ -167,13 +167,13 @@ impl<S: Storage, F: WrappedFormat<S>> Qcow2<S, F> {
     }
 
     pub(crate) fn read_backing(&mut self, offset: u64, bytes: &mut [u8]) -> Result<(), ImageError>
-        ensures stays { Stays self.old self.new }
+        ensures stays { ImageStays self.old self.new }
         ensures cause { IfErr result IsMet }
         ensures current { result ≢ Err OutdatedMapping }
         ensures file { self.new.file ≡ self.old.file }
         ensures keeps { (p : Pending) (out : List (Option Prepared)) → ImageInvariant S.view F.backing p self.old out → UnseenStep S.view F.backing p p self.old self.new out }
         ensures reads { IsHonestBacking S.view F.backing self.old.backing → IfOk result (λ done. (length bytes.new ≡ length bytes.old) × AreBytesOf (backing_bytes S.view F.backing self.old.backing) offset bytes.new) }
-        ensures faults { CountsFaults S.view F.backing self.old self.new result }
+        ensures faults { CountsImageFaults S.view F.backing self.old self.new result }
     {
         let Some(backing) = &mut self.backing else {
             bytes.fill(0);
@@ -194,9 +194,9 @@ impl<S: Storage, F: WrappedFormat<S>> Qcow2<S, F> {
         ensures image { IsSameImage self.old self.new }
         ensures slice { bytes.new ≡ bytes.old }
         ensures tells { 0 < length bytes.old → (out : List (Option Prepared)) → (abstract_of S.view F.backing self.old out).is_sound → IfErr result (TellsCompressed (known_in S.view self.old.file) offset) }
-        ensures sees { Answers S.view F.backing self.old self.new [] (λ done was is. is ≡ was) result }
-        ensures faults { CountsFaults S.view F.backing self.old self.new result }
-        ensures unwritten { OnlyReads S.view F.backing self.old self.new }
+        ensures sees { AnswersCall S.view F.backing self.old self.new [] (λ done was is. is ≡ was) result }
+        ensures faults { CountsImageFaults S.view F.backing self.old self.new result }
+        ensures unwritten { OnlyReadsImage S.view F.backing self.old self.new }
     {
         match self.try_readv_special(bytes, offset)? {
             None => Ok(()),
@@ -218,9 +218,9 @@ impl<S: Storage, F: WrappedFormat<S>> Qcow2<S, F> {
         ensures image { IsSameImage self.old self.new }
         ensures slice { bytes.new ≡ bytes.old }
         ensures tells { 0 < length bytes.old → (out : List (Option Prepared)) → (abstract_of S.view F.backing self.old out).is_sound → TellsWhether (known_in S.view self.old.file) offset result }
-        ensures sees { Answers S.view F.backing self.old self.new [] (λ at was is. is ≡ was) result }
-        ensures faults { CountsFaults S.view F.backing self.old self.new result }
-        ensures unwritten { OnlyReads S.view F.backing self.old self.new }
+        ensures sees { AnswersCall S.view F.backing self.old self.new [] (λ at was is. is ≡ was) result }
+        ensures faults { CountsImageFaults S.view F.backing self.old self.new result }
+        ensures unwritten { OnlyReadsImage S.view F.backing self.old self.new }
     {
         self.check_usable()?;
         if bytes.is_empty() {
@@ -233,14 +233,14 @@ impl<S: Storage, F: WrappedFormat<S>> Qcow2<S, F> {
 
     // An offset at which no compressed cluster stands.
     fn plain_at(&mut self, offset: u64, length: u64) -> Result<Option<u64>, ImageError>
-        ensures stays { Stays self.old self.new }
+        ensures stays { ImageStays self.old self.new }
         ensures cause { IfErr result IsMet }
         ensures list { self.new.file.free_list ≡ self.old.file.free_list }
         ensures answer { IfOk result (λ at. at ≡ Some offset) }
         ensures keeps { (p : Pending) (out : List (Option Prepared)) → ImageInvariant S.view F.backing p self.old out → UnseenStep S.view F.backing p p self.old self.new out }
         ensures tells { (p : Pending) (out : List (Option Prepared)) → ImageInvariant S.view F.backing p self.old out → TellsWhether (known_in S.view self.old.file) offset result }
-        ensures faults { CountsFaults S.view F.backing self.old self.new result }
-        ensures unwritten { OnlyReads S.view F.backing self.old self.new }
+        ensures faults { CountsImageFaults S.view F.backing self.old self.new result }
+        ensures unwritten { OnlyReadsImage S.view F.backing self.old self.new }
     {
         let (kind, _length) = self.look_up(offset, length)?;
         if kind.is_special() {
@@ -268,7 +268,7 @@ impl<S: Storage, F: WrappedFormat<S>> Qcow2<S, F> {
             → ¬ IsFoundWhole S.view self.new (prepared.now.guest + at) (Raw Image (prepared.now.offset + at) true) (length bytes.now) }
         ensures private { IsSome (table_of prepared.now) → result ≢ Err OutdatedMapping }
         ensures sees { Puts S.view F.backing self.old self.new prepared.now at bytes.now result }
-        ensures faults { CountsFaults S.view F.backing self.old self.new result }
+        ensures faults { CountsImageFaults S.view F.backing self.old self.new result }
     {
         self.check_usable()?;
         if prepared.image != self.number {
@@ -291,14 +291,14 @@ impl<S: Storage, F: WrappedFormat<S>> Qcow2<S, F> {
         at: u64,
         bytes: &[u8],
     ) -> Result<(), ImageError>
-        ensures stays { Stays self.old self.new }
+        ensures stays { ImageStays self.old self.new }
         ensures cause { IfErr result IsMet }
         ensures outdated { 0 < length bytes.now → table_of prepared.now ≡ None → (p : Pending) (out : List (Option Prepared)) → ImageInvariant S.view F.backing p self.old out → result ≡ Err OutdatedMapping
             → ¬ IsFoundWhole S.view self.new (prepared.now.guest + at) (Raw Image (prepared.now.offset + at) true) (length bytes.now) }
         ensures private { IsSome (table_of prepared.now) → result ≢ Err OutdatedMapping }
         ensures puts { 0 < length bytes.now → at + length bytes.now ≤ prepared.now.length → (out : List (Option Prepared)) (k : ℕ) → slice_get out k ≡ Some (Some prepared.now)
             → ImageInvariant S.view F.backing (pending_in S.view F.backing self.old out) self.old out → PutsPart S.view F.backing self.old self.new out k prepared.now at bytes.now result }
-        ensures faults { CountsFaults S.view F.backing self.old self.new result }
+        ensures faults { CountsImageFaults S.view F.backing self.old self.new result }
     {
         let Some(host) = prepared.offset.checked_add(at) else {
             return Err(ImageError::Overflow);
@@ -315,7 +315,7 @@ impl<S: Storage, F: WrappedFormat<S>> Qcow2<S, F> {
         host: u64,
         length: u64,
     ) -> Result<(), ImageError>
-        ensures stays { Stays self.old self.new }
+        ensures stays { ImageStays self.old self.new }
         ensures cause { IfErr result IsMet }
         ensures list { self.new.file.free_list ≡ self.old.file.free_list }
         ensures keeps { (p : Pending) (out : List (Option Prepared)) → ImageInvariant S.view F.backing p self.old out → UnseenStep S.view F.backing p p self.old self.new out }
@@ -323,7 +323,7 @@ impl<S: Storage, F: WrappedFormat<S>> Qcow2<S, F> {
         ensures mapped { table_of prepared.now ≡ None → 0 < length → (p : Pending) (out : List (Option Prepared)) → ImageInvariant S.view F.backing p self.old out
             → IfOk result (λ done. IsMappedAs S.view self.new (prepared.now.guest + at) (Raw Image host true) length) }
         ensures private { IsSome (table_of prepared.now) → result ≡ Ok tt }
-        ensures faults { CountsFaults S.view F.backing self.old self.new result }
+        ensures faults { CountsImageFaults S.view F.backing self.old self.new result }
     {
         if prepared.table.is_some() {
             return Ok(());
@@ -338,11 +338,11 @@ impl<S: Storage, F: WrappedFormat<S>> Qcow2<S, F> {
     }
 
     pub(crate) fn write_data(&mut self, host: u64, bytes: &[u8]) -> Result<(), ImageError>
-        ensures stays { Stays self.old self.new }
+        ensures stays { ImageStays self.old self.new }
         ensures cause { IfErr result IsMet }
         ensures current { result ≢ Err OutdatedMapping }
         ensures written { WritesBytes S.view self.old self.new host bytes.now result }
-        ensures faults { CountsFaults S.view F.backing self.old self.new result }
+        ensures faults { CountsImageFaults S.view F.backing self.old self.new result }
     {
         self.file.storage.will_write(WriteKind::Data);
         self.file.storage.write(host, bytes)?;

@@ -4,7 +4,7 @@ ghost use Rattle.qcow2_metadata.specs.L2Mapping.{IsHostCluster};
 ghost use Rattle.qcow2_metadata.specs.EntryTable.{entry_count};
 ghost use Rattle.qcow2_alloc.specs.ImageError.{IsFault};
 ghost use Rattle.qcow2_image.specs.Backings.{HasPrepared};
-ghost use Rattle.qcow2_image.specs.Image.{Stays, KeepsRest, KeepsRestOn, is_writable};
+ghost use Rattle.qcow2_image.specs.Image.{ImageStays, KeepsRest, KeepsRestOn, is_writable};
 ghost use Rattle.qcow2_laws.specs.CrashInvariant.{Pending};
 ghost use Rattle.qcow2_alloc.specs.ImageFile.{known_in};
 ghost use Rattle.qcow2_alloc.specs.MetadataCaches.{order_of};
@@ -16,12 +16,12 @@ ghost use Rattle.qcow2_image.specs.UnseenSteps.{Ensures, UnseenStep};
 ghost use Rattle.qcow2_image.specs.ImageInvariant.{ImageInvariant, pending_in};
 ghost use Rattle.qcow2_metadata.specs.Cover.{cover};
 ghost use Rattle.qcow2_image.specs.declared.mapping.Place.TheVariants.{Image};
-ghost use Rattle.qcow2_image.specs.NewTables.{IsFaultOrKeepsL1Table, IsFaultOrLacksTable, SaysKnown, IsStored, StandsReady, MayName, NamesShared, Places, Stores, NamesNew, WritesNew, EntersTable, OwnsTable};
+ghost use Rattle.qcow2_image.specs.NewTables.{IsFaultOrKeepsL1Table, IsFaultOrLacksTable, SaysKnown, IsStored, StandsReady, MayName, NamesShared, PlacesNewTable, Stores, NamesNew, WritesNew, EntersTable, OwnsTable};
 ghost use Rattle.qcow2_alloc.specs.TableCaches.{IsTableOf};
 ghost use Rattle.qcow2_laws.specs.Changes.{one_at, with_fresh};
 ghost use Rattle.qcow2_metadata.specs.L2Table.{L2TableView};
 ghost use Rattle.qcow2_image.specs.Refusals.{IsMet};
-ghost use Rattle.qcow2_image.specs.Faults.{CountsFaults};
+ghost use Rattle.qcow2_image.specs.Faults.{CountsImageFaults};
 
 use crate::Qcow2;
 use image_access::{Storage, WrappedFormat};
@@ -33,11 +33,11 @@ impl<S: Storage, F: WrappedFormat<S>> Qcow2<S, F> {
     // The L2 table that covers an offset, held in its cache and marked copied. Where one is made, the clusters that are to be freed are freed then.
     pub(crate) fn table_for(&mut self, offset: u64) -> Result<HostCluster, ImageError>
         requires writable { IsTrue (is_writable self.old) }
-        ensures stays { Stays self.old self.new }
+        ensures stays { ImageStays self.old self.new }
         ensures cause { IfErr result IsMet }
         ensures lacks { (out : List (Option Prepared)) → ImageInvariant S.view F.backing (pending_in S.view F.backing self.old out) self.old out → (HasPrepared out → ⊥) → IfErr result (IsFaultOrLacksTable S.view self.new offset) }
         ensures finds { (out : List (Option Prepared)) → ImageInvariant S.view F.backing (pending_in S.view F.backing self.old out) self.old out → FindsTable S.view F.backing self.old self.new out offset result }
-        ensures faults { CountsFaults S.view F.backing self.old self.new result }
+        ensures faults { CountsImageFaults S.view F.backing self.old self.new result }
     {
         if self.has_own_l2(offset) {
             return self.ensure_l2(offset);
@@ -60,12 +60,12 @@ impl<S: Storage, F: WrappedFormat<S>> Qcow2<S, F> {
     // The L2 table that covers an offset, held in its cache and marked copied. Where there is none, or it isn't, one is made.
     pub(crate) fn ensure_l2(&mut self, offset: u64) -> Result<HostCluster, ImageError>
         requires writable { IsTrue (is_writable self.old) }
-        ensures stays { Stays self.old self.new }
+        ensures stays { ImageStays self.old self.new }
         ensures keeps_rest { KeepsRestOn self.old self.new }
         ensures cause { IfErr result IsMet }
         ensures lacks { (p : Pending) (out : List (Option Prepared)) → ImageInvariant S.view F.backing p self.old out → (HasPrepared out → ⊥) → IfErr result (IsFaultOrLacksTable S.view self.new offset) }
         ensures ready { (p : Pending) (out : List (Option Prepared)) → ImageInvariant S.view F.backing p self.old out → Ensures S.view F.backing p self.old self.new out offset result }
-        ensures faults { CountsFaults S.view F.backing self.old self.new result }
+        ensures faults { CountsImageFaults S.view F.backing self.old self.new result }
     {
         let cluster = self.own_l2(offset)?;
         self.file
@@ -77,12 +77,12 @@ impl<S: Storage, F: WrappedFormat<S>> Qcow2<S, F> {
     // Where the L2 table that covers an offset lies, which is marked copied then.
     fn own_l2(&mut self, offset: u64) -> Result<HostCluster, ImageError>
         requires writable { IsTrue (is_writable self.old) }
-        ensures stays { Stays self.old self.new }
+        ensures stays { ImageStays self.old self.new }
         ensures keeps_rest { KeepsRestOn self.old self.new }
         ensures cause { IfErr result IsMet }
         ensures lacks { (p : Pending) (out : List (Option Prepared)) → ImageInvariant S.view F.backing p self.old out → IfErr result (IsFaultOrLacksTable S.view self.new offset) }
         ensures owns { (p : Pending) (out : List (Option Prepared)) → ImageInvariant S.view F.backing p self.old out → OwnsTable S.view F.backing p self.old self.new out (l1_index_of self.old.file.header.fields offset) result }
-        ensures faults { CountsFaults S.view F.backing self.old self.new result }
+        ensures faults { CountsImageFaults S.view F.backing self.old self.new result }
     {
         let bits = self.file.header.cluster_bits();
         let index = GuestOffset::new(offset).l1_index(bits);
@@ -105,12 +105,12 @@ impl<S: Storage, F: WrappedFormat<S>> Qcow2<S, F> {
     // Puts a copy in the place of a table that others may name too.
     fn replace_l2(&mut self, index: usize, old: HostCluster) -> Result<HostCluster, ImageError>
         requires writable { IsTrue (is_writable self.old) }
-        ensures stays { Stays self.old self.new }
+        ensures stays { ImageStays self.old self.new }
         ensures keeps_rest { KeepsRestOn self.old self.new }
         ensures cause { IfErr result IsMet }
         ensures l1_table { IfErr result (IsFaultOrKeepsL1Table self.old self.new) }
         ensures owns { (p : Pending) (out : List (Option Prepared)) → ImageInvariant S.view F.backing p self.old out → NamesShared S.view self.old index old → OwnsTable S.view F.backing p self.old self.new out index result }
-        ensures faults { CountsFaults S.view F.backing self.old self.new result }
+        ensures faults { CountsImageFaults S.view F.backing self.old self.new result }
     {
         self.file
             .caches
@@ -130,12 +130,12 @@ impl<S: Storage, F: WrappedFormat<S>> Qcow2<S, F> {
         table: L2Table,
     ) -> Result<HostCluster, ImageError>
         requires writable { IsTrue (is_writable self.old) }
-        ensures stays { Stays self.old self.new }
+        ensures stays { ImageStays self.old self.new }
         ensures keeps_rest { KeepsRestOn self.old self.new }
         ensures cause { IfErr result IsMet }
         ensures l1_table { IfErr result (IsFaultOrKeepsL1Table self.old self.new) }
         ensures owns { (p : Pending) (out : List (Option Prepared)) → ImageInvariant S.view F.backing p self.old out → NamesShared S.view self.old index old → SaysKnown self.old.file.header.fields (known_in S.view self.old.file) index table → OwnsTable S.view F.backing p self.old self.new out index result }
-        ensures faults { CountsFaults S.view F.backing self.old self.new result }
+        ensures faults { CountsImageFaults S.view F.backing self.old self.new result }
     {
         let entry = ClustersToFreeEntry::metadata(old, ClusterCount::new(1));
         let dropped = ClustersToFreeList::pending_guard(self.file.alloc, entry)?;
@@ -154,12 +154,12 @@ impl<S: Storage, F: WrappedFormat<S>> Qcow2<S, F> {
     // Gives a table a cluster, writes it there, and then the L1 entry that names it.
     fn enter_l2(&mut self, index: usize, table: L2Table) -> Result<HostCluster, ImageError>
         requires writable { IsTrue (is_writable self.old) }
-        ensures stays { Stays self.old self.new }
+        ensures stays { ImageStays self.old self.new }
         ensures keeps_rest { KeepsRestOn self.old self.new }
         ensures cause { IfErr result IsMet }
         ensures l1_table { IfErr result (IsFaultOrKeepsL1Table self.old self.new) }
         ensures enters { (p : Pending) (out : List (Option Prepared)) → ImageInvariant S.view F.backing p self.old out → MayName S.view self.old index → SaysKnown self.old.file.header.fields (known_in S.view self.old.file) index table → EntersTable S.view F.backing p self.old self.new out index result }
-        ensures faults { CountsFaults S.view F.backing self.old self.new result }
+        ensures faults { CountsImageFaults S.view F.backing self.old self.new result }
     {
         let Some(allocator) = &mut self.allocator else {
             unreachable!();
@@ -185,14 +185,14 @@ impl<S: Storage, F: WrappedFormat<S>> Qcow2<S, F> {
         cluster: HostCluster,
         table: L2Table,
     ) -> Result<(), ImageError>
-        ensures stays { Stays self.old self.new }
+        ensures stays { ImageStays self.old self.new }
         ensures keeps_rest { KeepsRest self.old self.new }
         ensures cause { IfErr result IsMet }
         ensures l1_table { IfErr result (IsFaultOrKeepsL1Table self.old self.new) }
         ensures list { self.new.file.free_list ≡ self.old.file.free_list }
         ensures writes { (p : Pending) (out : List (Option Prepared)) → ImageInvariant S.view F.backing (with_fresh p (one_at cluster)) self.old out → MayName S.view self.old index → IsTrue self.old.file.caches.is_changed
             → SaysKnown self.old.file.header.fields (known_in S.view self.old.file) index table → WritesNew S.view F.backing p self.old self.new out index cluster result }
-        ensures faults { CountsFaults S.view F.backing self.old self.new result }
+        ensures faults { CountsImageFaults S.view F.backing self.old self.new result }
     {
         if !self.can_enter(index, cluster) {
             return Err(ImageError::Limit);
@@ -204,29 +204,29 @@ impl<S: Storage, F: WrappedFormat<S>> Qcow2<S, F> {
 
     // Writes what has to stand on the storage before an L1 entry names a new table: counts, and the L2 tables before them where the direction asks for it.
     fn store_first(&mut self) -> Result<(), ImageError>
-        ensures stays { Stays self.old self.new }
+        ensures stays { ImageStays self.old self.new }
         ensures keeps_rest { KeepsRest self.old self.new }
         ensures cause { IfErr result IsMet }
         ensures rest { self.new ≡ record self.old { file = record self.old.file { storage = self.new.file.storage; caches = self.new.file.caches } } }
         ensures noted { IsTrue self.old.file.caches.is_changed → IsTrue self.new.file.caches.is_changed }
         ensures stores { (p : Pending) (out : List (Option Prepared)) → ImageInvariant S.view F.backing p self.old out → Stores S.view F.backing p self.old self.new out result }
         ensures tables { order_of self.old.file.caches ≢ RbDependsOnL2 → self.new.file.caches.l2 ≡ self.old.file.caches.l2 }
-        ensures faults { CountsFaults S.view F.backing self.old self.new result }
+        ensures faults { CountsImageFaults S.view F.backing self.old self.new result }
     {
         self.file.caches.flush_rb(&mut self.file.storage)
     }
 
     // Writes a table's bytes to a cluster, and puts the table into its cache.
     fn place_l2(&mut self, cluster: HostCluster, mut table: L2Table) -> Result<(), ImageError>
-        ensures stays { Stays self.old self.new }
+        ensures stays { ImageStays self.old self.new }
         ensures keeps_rest { KeepsRest self.old self.new }
         ensures cause { IfErr result IsMet }
         ensures rest { self.new ≡ record self.old { file = record self.old.file { storage = self.new.file.storage; caches = self.new.file.caches } } }
         ensures noted { IsTrue self.old.file.caches.is_changed → IsTrue self.new.file.caches.is_changed }
         ensures long { length table.bytes ≡ 2 ^ table.cluster_bits }
         ensures places { (p : Pending) (out : List (Option Prepared)) → ImageInvariant S.view F.backing p self.old out → 0 < p.fresh cluster → IsTableOf self.old.file.header.fields table
-            → IsStored S.view self.old → Places S.view F.backing p self.old self.new out cluster table.bytes result }
-        ensures faults { CountsFaults S.view F.backing self.old self.new result }
+            → IsStored S.view self.old → PlacesNewTable S.view F.backing p self.old self.new out cluster table.bytes result }
+        ensures faults { CountsImageFaults S.view F.backing self.old self.new result }
     {
         if !cluster.is_nameable(table.cluster_bits()) {
             return Err(ImageError::Limit);
@@ -243,14 +243,14 @@ impl<S: Storage, F: WrappedFormat<S>> Qcow2<S, F> {
         requires within { index < entry_count self.old.l1_table }
         requires placed { IsSome self.old.l1_table.cluster }
         requires nameable { IsHostCluster self.old.l1_table.cluster_bits cluster }
-        ensures stays { Stays self.old self.new }
+        ensures stays { ImageStays self.old self.new }
         ensures keeps_rest { KeepsRest self.old self.new }
         ensures cause { IfErr result IsMet }
         ensures fault { IfErr result IsFault }
         ensures list { self.new.file.free_list ≡ self.old.file.free_list }
         ensures names { (p : Pending) (out : List (Option Prepared)) (table : L2TableView) → ImageInvariant S.view F.backing (with_fresh p (one_at cluster)) self.old out → MayName S.view self.old index → IsTrue self.old.file.caches.is_changed
             → SaysKnown self.old.file.header.fields (known_in S.view self.old.file) index table → length table.bytes ≡ 2 ^ table.cluster_bits → StandsReady S.view self.old cluster table.bytes → NamesNew S.view F.backing p self.old self.new out index cluster result }
-        ensures faults { CountsFaults S.view F.backing self.old self.new result }
+        ensures faults { CountsImageFaults S.view F.backing self.old self.new result }
     {
         self.file.storage.will_write(WriteKind::Other);
         self.l1_table.enter_l2_table(index, cluster);

@@ -2,25 +2,25 @@
 ghost use Rattle.std.specs.Prelude.{◌↔◌, ℕ, List, Option, is_some, ◌≡◌, ◌⊎◌, ◌≢◌, ◌+◌, ◌*◌, ◌-◌, ◌/◌, ◌%◌, true, Some, ◌^◌, ◌<◌, ◌≤◌, [], ◌∷◌, ◌++◌, length, slice_get, IfOk, IfErr, IfSome, OnOk, IsOk, IsNone, IsSome, IsTrue, IsFalse, MatchOption, Ok, Err, None, false};
 ghost use Rattle.qcow2_metadata.specs.L2Mapping.{IsInReach, greatest_offset, named_run};
 ghost use Rattle.qcow2_disk.specs.Mappings.{is_copied_data};
-ghost use Rattle.qcow2_image.specs.Image.{HasNothingToFree, Stays, IsSameImage, is_failed, is_writable, number_of, size_of};
-ghost use Rattle.qcow2_image.specs.Prepared.{image_of, length_of, offset_of, table_of, IsKept};
+ghost use Rattle.qcow2_image.specs.Image.{HasNothingToFree, ImageStays, IsSameImage, is_failed, is_writable, number_of, size_of};
+ghost use Rattle.qcow2_image.specs.Prepared.{image_of, length_of, offset_of, table_of, IsHandedBackBy};
 ghost use Rattle.qcow2_image.specs.Preparing.{IsAnswered, IsOfNothing, IsPlaceOf, IsTaken};
 ghost use Rattle.qcow2_image.specs.Ranges.{LetsGo, Reaches};
-ghost use Rattle.qcow2_image.specs.Unwritten.{OnlyReads};
+ghost use Rattle.qcow2_image.specs.Unwritten.{OnlyReadsImage};
 ghost use Rattle.qcow2_laws.specs.CrashInvariant.{Pending};
 ghost use Rattle.qcow2_alloc.specs.MetadataCaches.{IsEntryAt, l2_at};
 ghost use Rattle.qcow2_alloc.specs.ImageFile.{known_in, FileInvariant};
 ghost use Rattle.qcow2_alloc.specs.ImageStorage.{storage_of};
 ghost use Rattle.qcow2_image.specs.declared.prepared.Prepared.{Prepared};
-ghost use Rattle.qcow2_image.specs.Calls.{Answers, Commits, Discards, Prepares, reason_of};
+ghost use Rattle.qcow2_image.specs.Calls.{AnswersCall, Commits, Discards, Prepares, reason_of};
 ghost use Rattle.qcow2_image.specs.CallParts.{EntersAll, IsEntered, IsExisting, RefusedCall, PreparesRange};
 ghost use Rattle.qcow2_alloc.specs.CacheMarks.{l2_pins};
 ghost use Rattle.qcow2_alloc.specs.ImageError.{IsFault, IsOfTables};
 ghost use Rattle.qcow2_disk.specs.Alike.{IsAlike};
 ghost use Rattle.qcow2_disk.specs.Found.{IsFoundIn, kind_at, rest_of_table};
-ghost use Rattle.qcow2_image.specs.Faults.{CountsFaults, IsNotOfStorage, NoFewerFaults, TellsFault};
+ghost use Rattle.qcow2_image.specs.Faults.{CountsImageFaults, IsNotOfStorage, NoFewerFaults, TellsFault};
 ghost use Rattle.qcow2_image.specs.declared.image.Qcow2.{Qcow2};
-ghost use Rattle.qcow2_image.specs.Found.{found_kind, mapping_of, IsRunBehind, NamesTable, IsRunFrom, IsFound, l1_index_of, l2_index_of};
+ghost use Rattle.qcow2_image.specs.Found.{found_kind, mapping_of, IsRunBehind, NamesL2Table, IsRunFrom, IsFoundInImage, l1_index_of, l2_index_of};
 ghost use Rattle.qcow2_image.specs.UnseenSteps.{DropsNothing, HoldsTable, UnseenStep, EntersCluster, EntersShare, FreesLater, Unpins, dropped_by, freed_by};
 ghost use Rattle.qcow2_image.specs.ImageInvariant.{HasL1Table, ImageInvariant, listed_run, meaning, pending_in, abstract_of};
 ghost use Rattle.qcow2_metadata.specs.Header.{cluster_size, entries_per_cluster};
@@ -160,11 +160,11 @@ impl<S: Storage, F: WrappedFormat<S>> Qcow2<S, F> {
         ensures within { IfOk result (λ (mapping, n). n ≤ max) }
         ensures some { IfOk result (λ (mapping, n). offset < size_of self.old → 0 < max → 0 < n) }
         ensures past { unusable self.old ≡ None → size_of self.old ≤ offset → IsOk result × IfOk result (λ (mapping, n). (mapping.kind ≡ Eof) × (n ≡ 0)) }
-        ensures sees { Answers S.view F.backing self.old self.new [] (λ found old new. new ≡ old) result }
+        ensures sees { AnswersCall S.view F.backing self.old self.new [] (λ found old new. new ≡ old) result }
         ensures known { (out : List (Option Prepared)) → (abstract_of S.view F.backing self.old out).is_sound → known_in S.view self.new.file ≡ known_in S.view self.old.file }
         ensures run { (out : List (Option Prepared)) → (abstract_of S.view F.backing self.old out).is_sound → IfOk result (λ (mapping, n). IsFoundIn (known_in S.view self.new.file) (is_some self.new.backing) offset max (found_kind mapping.kind) n) }
-        ensures faults { CountsFaults S.view F.backing self.old self.new result }
-        ensures unwritten { OnlyReads S.view F.backing self.old self.new }
+        ensures faults { CountsImageFaults S.view F.backing self.old self.new result }
+        ensures unwritten { OnlyReadsImage S.view F.backing self.old self.new }
     {
         self.check_usable()?;
         self.begin();
@@ -184,7 +184,7 @@ impl<S: Storage, F: WrappedFormat<S>> Qcow2<S, F> {
         offset: u64,
         max: u64,
     ) -> Result<(MappingKind, u64), ImageError>
-        ensures stays { Stays self.old self.new }
+        ensures stays { ImageStays self.old self.new }
         ensures cause { IfErr result IsOfTables }
         ensures keeps { (p : Pending) (out : List (Option Prepared)) → ImageInvariant S.view F.backing p self.old out → UnseenStep S.view F.backing p p self.old self.new out }
         ensures known { (p : Pending) (out : List (Option Prepared)) → ImageInvariant S.view F.backing p self.old out → known_in S.view self.new.file ≡ known_in S.view self.old.file }
@@ -192,9 +192,9 @@ impl<S: Storage, F: WrappedFormat<S>> Qcow2<S, F> {
         ensures within { IfOk result (λ (kind, n). n ≤ max) }
         ensures some { IfOk result (λ (kind, n). offset < size_of self.old → 0 < max → 0 < n) }
         ensures past { size_of self.old ≤ offset → result ≡ Ok (Eof, 0) }
-        ensures found { (p : Pending) (out : List (Option Prepared)) → ImageInvariant S.view F.backing p self.old out → IfOk result (λ (kind, n). IsFound S.view self.new offset max kind n) }
-        ensures faults { CountsFaults S.view F.backing self.old self.new result }
-        ensures unwritten { OnlyReads S.view F.backing self.old self.new }
+        ensures found { (p : Pending) (out : List (Option Prepared)) → ImageInvariant S.view F.backing p self.old out → IfOk result (λ (kind, n). IsFoundInImage S.view self.new offset max kind n) }
+        ensures faults { CountsImageFaults S.view F.backing self.old self.new result }
+        ensures unwritten { OnlyReadsImage S.view F.backing self.old self.new }
     {
         let size = self.file.header.size();
         if offset >= size {
@@ -225,7 +225,7 @@ impl<S: Storage, F: WrappedFormat<S>> Qcow2<S, F> {
     // Where the L2 table of an offset lies, or None where there is none.
     fn l2_cluster(&self, offset: u64) -> Result<Option<HostCluster>, ImageError>
         ensures cause { IfErr result IsOfTables }
-        ensures names { HasL1Table S.view F.backing self.now.file self.now.l1_table → IfOk result (NamesTable S.view self.now offset) }
+        ensures names { HasL1Table S.view F.backing self.now.file self.now.l1_table → IfOk result (NamesL2Table S.view self.now offset) }
         ensures faults { IfErr result IsNotOfStorage }
     {
         let bits = self.file.header.cluster_bits();
@@ -357,7 +357,7 @@ impl<S: Storage, F: WrappedFormat<S>> Qcow2<S, F> {
         ensures emptied { refuses_to_prepare self.old offset length ≡ None → (out : List (Option Prepared)) → (abstract_of S.view F.backing self.old out).is_sound → IfErr result (FreesRefused self.new) }
         ensures maps { 0 < length → (out : List (Option Prepared)) → (abstract_of S.view F.backing self.old out).is_sound
             → IfOk result (λ p. IsAnswered self.old.file.header.fields (known_in S.view self.old.file) offset length self.new.file.header.fields (known_in S.view self.new.file) p (meaning S.view F.backing self.new p)) }
-        ensures faults { CountsFaults S.view F.backing self.old self.new result }
+        ensures faults { CountsImageFaults S.view F.backing self.old self.new result }
     {
         self.check_prepare(offset, length)?;
         if length == 0 {
@@ -410,7 +410,7 @@ impl<S: Storage, F: WrappedFormat<S>> Qcow2<S, F> {
         overwrite: bool,
     ) -> Result<Prepared, ImageError>
         requires writable { IsTrue (is_writable self.old) }
-        ensures stays { Stays self.old self.new }
+        ensures stays { ImageStays self.old self.new }
         ensures cause { IfErr result IsMetPreparing }
         ensures taken { 0 < length → (out : List (Option Prepared)) → ImageInvariant S.view F.backing (pending_in S.view F.backing self.old out) self.old out
             → IfErr result (λ e. e ≡ TablePrepared → IsTaken self.old.file.header.fields (known_in S.view self.old.file) offset length out) }
@@ -421,7 +421,7 @@ impl<S: Storage, F: WrappedFormat<S>> Qcow2<S, F> {
         ensures answers { 0 < length → (out : List (Option Prepared)) → ImageInvariant S.view F.backing (pending_in S.view F.backing self.old out) self.old out
             → IfOk result (λ q. IsAnswered self.old.file.header.fields (known_in S.view self.old.file) offset length self.new.file.header.fields (known_in S.view self.new.file) q (meaning S.view F.backing self.new q)) }
         ensures emptied { 0 < length → (out : List (Option Prepared)) → ImageInvariant S.view F.backing (pending_in S.view F.backing self.old out) self.old out → IfErr result (FreesRefused self.new) }
-        ensures faults { CountsFaults S.view F.backing self.old self.new result }
+        ensures faults { CountsImageFaults S.view F.backing self.old self.new result }
     {
         match self.prepare_range(offset, length, overwrite) {
             Ok(prepared) => Ok(prepared),
@@ -437,7 +437,7 @@ impl<S: Storage, F: WrappedFormat<S>> Qcow2<S, F> {
         overwrite: bool,
     ) -> Result<Prepared, ImageError>
         requires writable { IsTrue (is_writable self.old) }
-        ensures stays { Stays self.old self.new }
+        ensures stays { ImageStays self.old self.new }
         ensures cause { IfErr result IsMetPreparing }
         ensures taken { 0 < length → (out : List (Option Prepared)) → ImageInvariant S.view F.backing (pending_in S.view F.backing self.old out) self.old out
             → IfErr result (λ e. e ≡ TablePrepared → IsTaken self.old.file.header.fields (known_in S.view self.old.file) offset length out) }
@@ -447,7 +447,7 @@ impl<S: Storage, F: WrappedFormat<S>> Qcow2<S, F> {
             → PreparesRange S.view F.backing self.old self.new out offset length overwrite result }
         ensures answers { 0 < length → (out : List (Option Prepared)) → ImageInvariant S.view F.backing (pending_in S.view F.backing self.old out) self.old out
             → IfOk result (λ q. IsAnswered self.old.file.header.fields (known_in S.view self.old.file) offset length self.new.file.header.fields (known_in S.view self.new.file) q (meaning S.view F.backing self.new q)) }
-        ensures faults { CountsFaults S.view F.backing self.old self.new result }
+        ensures faults { CountsImageFaults S.view F.backing self.old self.new result }
     {
         let table = self.table_for(offset)?;
         match self.existing_host(table, offset, length)? {
@@ -458,13 +458,13 @@ impl<S: Storage, F: WrappedFormat<S>> Qcow2<S, F> {
 
     // Frees the clusters that are to be freed after a refusal; the refusal that is answered. Nothing is freed after a fault, nor where a table is under another mapping.
     pub(crate) fn free_after(&mut self, refusal: ImageError) -> ImageError
-        ensures stays { Stays self.old self.new }
+        ensures stays { ImageStays self.old self.new }
         ensures cause { IsMetPreparing refusal → IsMetPreparing result }
         ensures taken { IsMetPreparing refusal → result ≡ TablePrepared → refusal ≡ TablePrepared }
         ensures fault { IsFault refusal → (result ≡ refusal) × (self.new ≡ self.old) }
         ensures emptied { IsTrue (is_writable self.old) → (out : List (Option Prepared)) → ImageInvariant S.view F.backing (pending_in S.view F.backing self.old out) self.old out → FreesRefused self.new result }
         ensures frees { (out : List (Option Prepared)) → ImageInvariant S.view F.backing (pending_in S.view F.backing self.old out) self.old out → RefusedCall S.view F.backing self.old self.new out result }
-        ensures faults { (start : Qcow2 S F) → CountsFaults S.view F.backing {T = Unit {0}} start self.old (Err refusal) → CountsFaults S.view F.backing {T = Unit {0}} start self.new (Err result) }
+        ensures faults { (start : Qcow2 S F) → CountsImageFaults S.view F.backing {T = Unit {0}} start self.old (Err refusal) → CountsImageFaults S.view F.backing {T = Unit {0}} start self.new (Err result) }
     {
         if is_last(&refusal) {
             return refusal;
@@ -505,7 +505,7 @@ impl<S: Storage, F: WrappedFormat<S>> Qcow2<S, F> {
         overwrite: bool,
     ) -> Result<Prepared, ImageError>
         requires writable { IsTrue (is_writable self.old) }
-        ensures stays { Stays self.old self.new }
+        ensures stays { ImageStays self.old self.new }
         ensures cause { IfErr result IsMetPreparing }
         ensures taken { IfErr result (λ e. e ≡ TablePrepared → 0 < l2_pins self.old.file.caches table) }
         ensures own { IfOk result (λ p. image_of p ≡ number_of self.old) }
@@ -514,7 +514,7 @@ impl<S: Storage, F: WrappedFormat<S>> Qcow2<S, F> {
             → HoldsTable S.view F.backing self.old offset table → PreparesRange S.view F.backing self.old self.new out offset length overwrite result }
         ensures reaches { (out : List (Option Prepared)) (k : ℕ) → slice_get out k ≡ Some None → ImageInvariant S.view F.backing (pending_in S.view F.backing self.old out) self.old out
             → HoldsTable S.view F.backing self.old offset table → IfOk result (Reaches S.view self.new offset length) }
-        ensures faults { CountsFaults S.view F.backing self.old self.new result }
+        ensures faults { CountsImageFaults S.view F.backing self.old self.new result }
     {
         let mut prepared = self.prepare_first(table, offset, length, overwrite)?;
         match self.prepare_rest(&mut prepared, table, length, overwrite) {
@@ -573,7 +573,7 @@ impl<S: Storage, F: WrappedFormat<S>> Qcow2<S, F> {
     pub fn commit_data_mapping(&mut self, mut prepared: Prepared) -> Result<(), CommitRefused>
         ensures foreign { image_of prepared ≢ number_of self.old → (result ≡ Err (Kept ForeignState prepared)) × (self.new ≡ self.old) }
         ensures failed { image_of prepared ≡ number_of self.old → IsTrue (is_failed self.old) → (result ≡ Err (Kept Failed prepared)) × (self.new ≡ self.old) }
-        ensures kept { IfErr result (IsKept prepared) }
+        ensures kept { IfErr result (IsHandedBackBy prepared) }
         ensures late { image_of prepared ≡ number_of self.old → is_failed self.old ≡ false → IfErr result (λ r. IsMet (reason_of r)) }
         ensures existing { image_of prepared ≡ number_of self.old → is_failed self.old ≡ false → IsNone (table_of prepared) → (result ≡ Ok tt) × LetsGo S.view self.old self.new }
         ensures image { IsSameImage self.old self.new }
@@ -605,7 +605,7 @@ impl<S: Storage, F: WrappedFormat<S>> Qcow2<S, F> {
 
     // Enters the shares of a mapping in its table, which is held; whether one wasn't in place.
     pub(crate) fn enter_shares(&mut self, prepared: &mut Prepared) -> bool
-        ensures stays { Stays self.old self.new }
+        ensures stays { ImageStays self.old self.new }
         ensures none { IsFalse result → (self.new ≡ self.old) × (prepared.new ≡ prepared.old) }
         ensures enters { EntersAll S.view F.backing self.old self.new prepared.old prepared.new result }
         ensures header { self.new.file.header ≡ self.old.file.header }
@@ -627,7 +627,7 @@ impl<S: Storage, F: WrappedFormat<S>> Qcow2<S, F> {
     // Enters a share of a mapping in its table; false where it is in place.
     fn enter_share(&mut self, prepared: &mut Prepared, i: usize) -> bool
         requires { i < length prepared.old.shares.items }
-        ensures stays { Stays self.old self.new }
+        ensures stays { ImageStays self.old self.new }
         ensures none { IsFalse result → (self.new ≡ self.old) × (prepared.new ≡ prepared.old) × (slice_get prepared.old.shares.items i ≡ Some InPlace) }
         ensures enters { IsTrue result → EntersShare i prepared.old prepared.new self.old self.new }
     {
@@ -669,7 +669,7 @@ impl<S: Storage, F: WrappedFormat<S>> Qcow2<S, F> {
     pub fn discard_data_mapping(&mut self, prepared: Prepared) -> Result<(), (ImageError, Prepared)>
         ensures own { image_of prepared ≡ number_of self.old → IsOk result }
         ensures foreign { IfErr result (λ (e, p). (image_of prepared ≢ number_of self.old) × (e ≡ ForeignState) × (p ≡ prepared) × (self.new ≡ self.old)) }
-        ensures stays { Stays self.old self.new }
+        ensures stays { ImageStays self.old self.new }
         ensures sees { IfOk result (λ done. Discards S.view F.backing self.old self.new prepared) }
         ensures rest { IfOk result (λ done. LetsGo S.view self.old self.new) }
         ensures faults { NoFewerFaults S.view F.backing self.old self.new }
@@ -683,7 +683,7 @@ impl<S: Storage, F: WrappedFormat<S>> Qcow2<S, F> {
 
     // A mapping is let go: its new clusters are to be freed.
     pub(crate) fn let_go(&mut self, prepared: Prepared)
-        ensures stays { Stays self.old self.new }
+        ensures stays { ImageStays self.old self.new }
         ensures list { self.new.file.free_list ≡ self.old.file.free_list ++ freed_by prepared.shares.items }
         ensures rest { LetsGo S.view self.old self.new }
         ensures sees { Discards S.view F.backing self.old self.new prepared }

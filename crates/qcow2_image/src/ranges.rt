@@ -5,15 +5,15 @@ ghost use Rattle.qcow2_metadata.specs.Header.{cluster_size};
 ghost use Rattle.qcow2_disk.specs.Found.{rest_of_table};
 ghost use Rattle.qcow2_laws.specs.CrashInvariant.{Pending};
 ghost use Rattle.qcow2_alloc.specs.ImageFile.{KeepsHeader};
-ghost use Rattle.qcow2_image.specs.Image.{Stays, is_writable};
+ghost use Rattle.qcow2_image.specs.Image.{ImageStays, is_writable};
 ghost use Rattle.qcow2_image.specs.Refusals.{IsMet};
 ghost use Rattle.qcow2_image.specs.declared.prepared.Prepared.{Prepared};
 ghost use Rattle.qcow2_image.specs.declared.image.Qcow2.{Qcow2};
 ghost use Rattle.qcow2_image.specs.CallParts.{IsReadied};
 ghost use Rattle.qcow2_image.specs.ImageInvariant.{pending_in, ImageInvariant};
 ghost use Rattle.qcow2_image.specs.UnseenSteps.{HoldsAll, ListGrows};
-ghost use Rattle.qcow2_image.specs.Ranges.{FindsBehind, GainsAt, GoesNext, GoesOn, HasRoom, IsLonger, IsNext, IsWhole, MayGoOn, SharesAt, TakesDataAt};
-ghost use Rattle.qcow2_image.specs.Faults.{CountsFaults};
+ghost use Rattle.qcow2_image.specs.Ranges.{FindsBehind, GainsAt, GoesNext, GoesOn, HasRoomForRange, IsLongerMapping, IsNext, EndsWithCluster, MayGoOn, SharesAt, TakesDataAt};
+ghost use Rattle.qcow2_image.specs.Faults.{CountsImageFaults};
 
 use crate::mappings::{copied_place, keeps};
 use crate::prepared::Share;
@@ -45,15 +45,15 @@ impl<S: Storage, F: WrappedFormat<S>> Qcow2<S, F> {
         overwrite: bool,
     ) -> Result<(), ImageError>
         requires writable { IsTrue (is_writable self.old) }
-        requires whole { IsWhole self.old.file.header.fields prepared.old }
-        requires room { HasRoom self.old.file.header.fields length prepared.old }
-        ensures stays { Stays self.old self.new }
+        requires whole { EndsWithCluster self.old.file.header.fields prepared.old }
+        requires room { HasRoomForRange self.old.file.header.fields length prepared.old }
+        ensures stays { ImageStays self.old self.new }
         ensures header { KeepsHeader self.old.file.header self.new.file.header }
         ensures cause { IfErr result IsMet }
-        ensures longer { IsLonger self.old.file.header.fields length prepared.old prepared.new }
+        ensures longer { IsLongerMapping self.old.file.header.fields length prepared.old prepared.new }
         ensures goes { (start : Qcow2 S F) (out : List (Option Prepared)) (k : ℕ) → slice_get out k ≡ Some None → prepared.old.table ≡ Some table
             → IsReadied S.view F.backing start self.old out k prepared.old.guest length overwrite prepared.old → GoesOn S.view F.backing start self.new out k length overwrite prepared.new result }
-        ensures faults { CountsFaults S.view F.backing self.old self.new result }
+        ensures faults { CountsImageFaults S.view F.backing self.old self.new result }
     {
         let end = length.min(self.rest_of_table(prepared.guest));
         while prepared.length < end {
@@ -74,7 +74,7 @@ impl<S: Storage, F: WrappedFormat<S>> Qcow2<S, F> {
     ) -> Result<bool, ImageError>
         requires writable { IsTrue (is_writable self.old) }
         requires room { vec_len prepared.old.shares < vec_capacity prepared.old.shares }
-        ensures stays { Stays self.old self.new }
+        ensures stays { ImageStays self.old self.new }
         ensures header { KeepsHeader self.old.file.header self.new.file.header }
         ensures cause { IfErr result IsMet }
         ensures same { result ≢ Ok true → prepared.new ≡ prepared.old }
@@ -82,7 +82,7 @@ impl<S: Storage, F: WrappedFormat<S>> Qcow2<S, F> {
         ensures next { result ≡ Ok true → IsNext self.old.file.header.fields length prepared.old prepared.new }
         ensures goes { (out : List (Option Prepared)) (k : ℕ) → slice_get out k ≡ Some (Some prepared.old) → MayGoOn self.old.file.header.fields length table prepared.old
             → ImageInvariant S.view F.backing (pending_in S.view F.backing self.old out) self.old out → GoesNext S.view F.backing self.old self.new out k length overwrite prepared.old prepared.new result }
-        ensures faults { CountsFaults S.view F.backing self.old self.new result }
+        ensures faults { CountsImageFaults S.view F.backing self.old self.new result }
     {
         let Some(share) = self.share_behind(prepared, table, length, overwrite)? else {
             return Ok(false);
@@ -102,12 +102,12 @@ impl<S: Storage, F: WrappedFormat<S>> Qcow2<S, F> {
         overwrite: bool,
     ) -> Result<Option<Share>, ImageError>
         requires writable { IsTrue (is_writable self.old) }
-        ensures stays { Stays self.old self.new }
+        ensures stays { ImageStays self.old self.new }
         ensures header { KeepsHeader self.old.file.header self.new.file.header }
         ensures cause { IfErr result IsMet }
         ensures finds { (out : List (Option Prepared)) (k : ℕ) → slice_get out k ≡ Some (Some prepared.now) → MayGoOn self.old.file.header.fields length table prepared.now
             → ImageInvariant S.view F.backing (pending_in S.view F.backing self.old out) self.old out → FindsBehind S.view F.backing self.old self.new out length overwrite prepared.now result }
-        ensures faults { CountsFaults S.view F.backing self.old self.new result }
+        ensures faults { CountsImageFaults S.view F.backing self.old self.new result }
     {
         let Some(next) = prepared.guest.checked_add(prepared.length) else {
             return Err(ImageError::Overflow);
@@ -140,12 +140,12 @@ impl<S: Storage, F: WrappedFormat<S>> Qcow2<S, F> {
     ) -> Result<Option<Share>, ImageError>
         requires writable { IsTrue (is_writable self.old) }
         requires reach { IsInReach old.now }
-        ensures stays { Stays self.old self.new }
+        ensures stays { ImageStays self.old self.new }
         ensures header { KeepsHeader self.old.file.header self.new.file.header }
         ensures cause { IfErr result IsMet }
         ensures shares { (p : Pending) (out : List (Option Prepared)) → ImageInvariant S.view F.backing p self.old out → HoldsAll S.view F.backing p out
             → SharesAt S.view F.backing p self.old self.new out offset length overwrite old.now host result }
-        ensures faults { CountsFaults S.view F.backing self.old self.new result }
+        ensures faults { CountsImageFaults S.view F.backing self.old self.new result }
     {
         let bits = self.file.header.cluster_bits();
         let Some(cluster) = HostOffset::new(host).checked_cluster(bits) else {
@@ -171,13 +171,13 @@ impl<S: Storage, F: WrappedFormat<S>> Qcow2<S, F> {
     ) -> Result<Option<PendingClusters>, ImageError>
         requires writable { IsTrue (is_writable self.old) }
         requires reach { IsInReach old.now }
-        ensures stays { Stays self.old self.new }
+        ensures stays { ImageStays self.old self.new }
         ensures header { KeepsHeader self.old.file.header self.new.file.header }
         ensures cause { IfErr result IsMet }
         ensures nameable { IfOk result (λ run. IsSome run → IsHostCluster self.old.file.header.fields.cluster_bits cluster) }
         ensures gains { (p : Pending) (out : List (Option Prepared)) → ImageInvariant S.view F.backing p self.old out → HoldsAll S.view F.backing p out
             → GainsAt S.view F.backing p self.old self.new out offset length overwrite old.now cluster result }
-        ensures faults { CountsFaults S.view F.backing self.old self.new result }
+        ensures faults { CountsImageFaults S.view F.backing self.old self.new result }
     {
         let Some(pending) = self.take_data_at(cluster)? else {
             return Ok(None);
@@ -194,14 +194,14 @@ impl<S: Storage, F: WrappedFormat<S>> Qcow2<S, F> {
     // Takes a cluster for data, where it can be taken.
     fn take_data_at(&mut self, cluster: HostCluster) -> Result<Option<PendingClusters>, ImageError>
         requires writable { IsTrue (is_writable self.old) }
-        ensures stays { Stays self.old self.new }
+        ensures stays { ImageStays self.old self.new }
         ensures header { KeepsHeader self.old.file.header self.new.file.header }
         ensures cause { IfErr result IsMet }
         ensures nameable { IfOk result (λ run. IsSome run → IsHostCluster self.old.file.header.fields.cluster_bits cluster) }
         ensures list { ListGrows self.old self.new }
         ensures takes { (p : Pending) (out : List (Option Prepared)) → ImageInvariant S.view F.backing p self.old out → HoldsAll S.view F.backing p out
             → TakesDataAt S.view F.backing p self.old self.new out cluster result }
-        ensures faults { CountsFaults S.view F.backing self.old self.new result }
+        ensures faults { CountsImageFaults S.view F.backing self.old self.new result }
     {
         let Some(allocator) = &mut self.allocator else {
             unreachable!();

@@ -1,7 +1,7 @@
 //! A larger disk.
 ghost use Rattle.std.specs.Prelude.{◌≡◌, ◌<◌, [], OnOk};
 ghost use Rattle.qcow2_laws.specs.CrashInvariant.{Pending};
-ghost use Rattle.qcow2_image.specs.Growing.{Resizes, Grows, ReachesSize};
+ghost use Rattle.qcow2_image.specs.Growing.{Resizes, GrowsDisk, ReachesSize};
 ghost use Rattle.qcow2_image.specs.UnseenSteps.{ListGrows};
 ghost use Rattle.qcow2_image.specs.ImageInvariant.{ImageInvariant, abstract_of};
 
@@ -13,7 +13,7 @@ use qcow2_metadata::GuestOffset;
 impl<S: Storage, F: WrappedFormat<S>> Qcow2<S, F> {
     // Makes the disk larger: a new L1 table, then the size. A size that isn't larger changes nothing.
     pub(crate) fn grow(&mut self, size: u64) -> Result<(), ImageError>
-        ensures grows { (abstract_of S.view F.backing self.old []).is_sound → Grows S.view F.backing self.old self.new size result }
+        ensures grows { (abstract_of S.view F.backing self.old []).is_sound → GrowsDisk S.view F.backing self.old self.new size result }
     {
         if self.is_failed {
             return Err(ImageError::Failed);

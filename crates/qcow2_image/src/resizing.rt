@@ -12,12 +12,12 @@ ghost use Rattle.qcow2_alloc.specs.ImageFile.{view_in};
 ghost use Rattle.qcow2_image.specs.Backings.{HasPrepared};
 ghost use Rattle.qcow2_image.specs.declared.prepared.Prepared.{Prepared};
 ghost use Rattle.qcow2_image.specs.Growing.{Resizes};
-ghost use Rattle.qcow2_image.specs.Image.{IsSameImage, Stays, is_failed, is_writable, size_of};
+ghost use Rattle.qcow2_image.specs.Image.{IsSameImage, ImageStays, is_failed, is_writable, size_of};
 ghost use Rattle.qcow2_image.specs.ImageInvariant.{ImageInvariant, abstract_of, pending_in};
 ghost use Rattle.qcow2_image.specs.LongerTables.{MakesEntry};
 ghost use Rattle.qcow2_image.specs.Refusals.{IsMet, IsMetPreparing, Marks, failed_after};
 ghost use Rattle.qcow2_image.specs.Resizing.{CantUncover, GrowsTables, GrowsTo, IsFaultOrCantUncover, IsMetShrinking, IsResized, LacksZeros, RefusesUnchanged, Shrinks, UncoversNext, UncoversTail, WritesSize, WritesSizeLast, refuses_to_resize, size_after, takes_over};
-ghost use Rattle.qcow2_image.specs.Faults.{CountsFaults, NoFewerFaults, TellsFault};
+ghost use Rattle.qcow2_image.specs.Faults.{CountsImageFaults, NoFewerFaults, TellsFault};
 
 use crate::Qcow2;
 use crate::discarding::{Clearance, rounded_up};
@@ -50,7 +50,7 @@ impl<S: Storage, F: WrappedFormat<S>> Qcow2<S, F> {
         ensures sees { Shrinks S.view F.backing self.old self.new size result }
         ensures stops { (out : List (Option Prepared)) → (abstract_of S.view F.backing self.old out).is_sound → IfOk result (λ answer. answer < size_of self.old → CantUncover S.view (size_of self.old) self.new answer) }
         ensures last { (out : List (Option Prepared)) → (abstract_of S.view F.backing self.old out).is_sound → WritesSizeLast S.view F.backing self.old self.new }
-        ensures faults { CountsFaults S.view F.backing self.old self.new result }
+        ensures faults { CountsImageFaults S.view F.backing self.old self.new result }
     {
         self.check_resize()?;
         if self.file.header.size() <= size {
@@ -84,7 +84,7 @@ impl<S: Storage, F: WrappedFormat<S>> Qcow2<S, F> {
         ensures stops { refuses_to_resize self.old ≡ None → (out : List (Option Prepared)) → (abstract_of S.view F.backing self.old out).is_sound → (HasPrepared out → ⊥)
             → IfOk result (λ answer. answer < size_of self.old → CantUncover S.view (size_of self.old) self.new answer) }
         ensures last { (out : List (Option Prepared)) → (abstract_of S.view F.backing self.old out).is_sound → WritesSizeLast S.view F.backing self.old self.new }
-        ensures faults { CountsFaults S.view F.backing self.old self.new result }
+        ensures faults { CountsImageFaults S.view F.backing self.old self.new result }
     {
         let (end, stopped) = self.uncover_tail(size);
         let any = self.lies_between(size, end);
@@ -131,7 +131,7 @@ impl<S: Storage, F: WrappedFormat<S>> Qcow2<S, F> {
         ensures uncovers { UncoversNext S.view F.backing self.old self.new at result }
         ensures stops { refuses_to_resize self.old ≡ None → (out : List (Option Prepared)) → (abstract_of S.view F.backing self.old out).is_sound → (HasPrepared out → ⊥)
             → IfErr result (IsFaultOrCantUncover S.view (size_of self.old) self.new at) }
-        ensures faults { CountsFaults S.view F.backing self.old self.new result }
+        ensures faults { CountsImageFaults S.view F.backing self.old self.new result }
     {
         let end = self.file.header.size();
         let (from, count) = self.clear_range(at, end - at, Clearance::Uncovered)?;
@@ -167,7 +167,7 @@ impl<S: Storage, F: WrappedFormat<S>> Qcow2<S, F> {
         ensures version { refuses_to_resize self.old ≡ None → size_of self.old < size → mode ≡ Zero → LacksZeros self.old → (out : List (Option Prepared)) → (abstract_of S.view F.backing self.old out).is_sound
             → RefusesUnchanged S.view F.backing self.old self.new out result }
         ensures tables { refuses_to_resize self.old ≡ None → size_of self.old < size → (out : List (Option Prepared)) → (abstract_of S.view F.backing self.old out).is_sound → GrowsTables S.view F.backing self.old self.new size mode out result }
-        ensures faults { CountsFaults S.view F.backing self.old self.new result }
+        ensures faults { CountsImageFaults S.view F.backing self.old self.new result }
     {
         self.check_resize()?;
         if size <= self.file.header.size() {
@@ -203,7 +203,7 @@ impl<S: Storage, F: WrappedFormat<S>> Qcow2<S, F> {
         ensures last { (out : List (Option Prepared)) → (abstract_of S.view F.backing self.old out).is_sound → WritesSizeLast S.view F.backing self.old self.new }
         ensures version { mode ≡ Zero → LacksZeros self.old → (out : List (Option Prepared)) → (abstract_of S.view F.backing self.old out).is_sound → RefusesUnchanged S.view F.backing self.old self.new out result }
         ensures tables { (out : List (Option Prepared)) → (abstract_of S.view F.backing self.old out).is_sound → GrowsTables S.view F.backing self.old self.new size mode out result }
-        ensures faults { CountsFaults S.view F.backing self.old self.new result }
+        ensures faults { CountsImageFaults S.view F.backing self.old self.new result }
     {
         self.begin();
         let longer = self.renew_l1_table(size - 1);
@@ -232,11 +232,11 @@ impl<S: Storage, F: WrappedFormat<S>> Qcow2<S, F> {
     // Makes a new L1 table that has an entry for an offset, with all old entries. The clusters of the old one are freed then.
     fn renew_l1_table(&mut self, offset: u64) -> Result<(), ImageError>
         requires writable { IsTrue (is_writable self.old) }
-        ensures stays { Stays self.old self.new }
+        ensures stays { ImageStays self.old self.new }
         ensures cause { IfErr result IsMet }
         ensures reaches { OnOk result (l1_index_of self.old.file.header.fields offset < entry_count self.new.l1_table) }
         ensures makes { (out : List (Option Prepared)) → ImageInvariant S.view F.backing (pending_in S.view F.backing self.old out) self.old out → MakesEntry S.view F.backing self.old self.new out result }
-        ensures faults { CountsFaults S.view F.backing self.old self.new result }
+        ensures faults { CountsImageFaults S.view F.backing self.old self.new result }
     {
         let index = GuestOffset::new(offset).l1_index(self.file.header.cluster_bits());
         self.grow_l1_table(index)?;
@@ -266,7 +266,7 @@ impl<S: Storage, F: WrappedFormat<S>> Qcow2<S, F> {
         ensures time { Passing (view_in S.view self.old.file) (view_in S.view self.new.file) (λ c. c ≡ (view_in S.view self.new.file).contents) }
         ensures writes { (out : List (Option Prepared)) → ImageInvariant S.view F.backing (pending_in S.view F.backing self.old out) self.old out → WritesSize S.view F.backing self.old self.new out size result }
         ensures resizes { (p : Pending) → ImageInvariant S.view F.backing p self.old [] → Resizes S.view F.backing p self.old self.new size result }
-        ensures faults { CountsFaults S.view F.backing self.old self.new result }
+        ensures faults { CountsImageFaults S.view F.backing self.old self.new result }
     {
         let old = self.file.header.size();
         self.file.header.set_size(size);

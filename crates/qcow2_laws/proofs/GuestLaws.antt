@@ -12,7 +12,7 @@ use Rattle.qcow2_disk.specs.Stops.{GivenBytes, Checkpoint, checkpoint_with, Stop
 use Rattle.qcow2_disk.specs.Mappings.{gift_shown}
 use Rattle.qcow2_laws.specs.Guests.{guests}
 use Rattle.qcow2_laws.specs.SafeSteps.{DriverState, StateInvariant}
-use Rattle.qcow2_disk.specs.AbstractImages.{AbstractImage, contents_of}
+use Rattle.qcow2_disk.specs.AbstractImages.{AbstractImage, stored_bytes}
 use Rattle.qcow2_disk.specs.Calls.{Works, StartsAt}
 use Rattle.qcow2_laws.specs.GuestLaws.{LongerL1TableKeepsGuests, SizeStaysUnlessAsked, HasSizeSince}
 use Rattle.qcow2_laws.proofs.Places.{Sizes-from}
@@ -74,7 +74,7 @@ size_stays_in_steps s old new given sound is endures =
     passes_if (λ c. (header (byte_at c)).size ≡ s.header.size) (λ c kept.
     size_stays_unless_asked s (λ _. 0) (byte_at c) (given (λ _. 0)) sound (λ m ok known_ok. kept (λ _. 0) m (subst (StopOkEverywhere (λ _. 0) m) (sym is) ok) known_ok)) endures.moments
 
-pub size_stays_in_calls : (s : DriverState) (old new : AbstractImage) (given : List GivenBytes) → StateInvariant s → contents_of old ≡ s.on_storage → old.known ≡ s.known → Works old new given [] → HasSizeSince old.storage new.storage s.header.size
+pub size_stays_in_calls : (s : DriverState) (old new : AbstractImage) (given : List GivenBytes) → StateInvariant s → stored_bytes old ≡ s.on_storage → old.known ≡ s.known → Works old new given [] → HasSizeSince old.storage new.storage s.header.size
 size_stays_in_calls s old new given sound is known works =
     let starts : StartsAt old (mark s old.setting.backing sound) = (
       subst (StopOkEverywhere old.setting.backing (mark s old.setting.backing sound)) (sym is) (storage_kept s old.setting.backing sound),

@@ -9,7 +9,7 @@ use Rattle.qcow2_metadata.specs.HeaderWrite.{bytes_of_numbers, size_written, l1_
 use Rattle.qcow2_metadata.specs.Tables.{CachedTable}
 use Rattle.qcow2_laws.specs.Clusters.{Direction}
 use Rattle.qcow2_laws.specs.CrashInvariant.{Pending}
-use Rattle.qcow2_laws.specs.Tops.{Places, with_places, IsSameBut, WritesHeader, resized, with_l1_at, with_reftable_at}
+use Rattle.qcow2_laws.specs.Tops.{Places, with_places, IsSameBut, WritesHeader, resized_places, with_l1_at, with_reftable_at}
 use Rattle.qcow2_laws.specs.Caches.{known_bytes, CacheInvariantOver}
 use Rattle.qcow2_laws.proofs.Beside.{overwritten_but, header_beside}
 
@@ -35,9 +35,9 @@ module _ (h : HeaderFields) (d : Direction) (p : Pending) (l2s rbs : List Cached
 
   -- the size
   pub size_beside : (v : HeaderView) → header (byte_at (size_written v.fields contents)) ≡ with_size (header (byte_at contents)) v.fields.size → IsHeaderIn v (size_written v.fields contents)
-      → WritesHeader h (resized h v.fields.size h.autoclear) (byte_at contents) (known contents) (byte_at (size_written v.fields contents)) (known (size_written v.fields contents))
+      → WritesHeader h (resized_places h v.fields.size h.autoclear) (byte_at contents) (known contents) (byte_at (size_written v.fields contents)) (known (size_written v.fields contents))
   size_beside v fields there =
-      let a = resized h v.fields.size h.autoclear in
+      let a = resized_places h v.fields.size h.autoclear in
       let new = size_written v.fields contents in
       let is : header (byte_at new) ≡ with_places h a = fields ∙ ap (λ k. with_size k v.fields.size) header_is in
       header_beside h d p l2s rbs (byte_at contents) (byte_at new) kept a 24 8 (lit≤ tt) (overwritten_but contents 24 (to_be_bytes w64 v.fields.size)) is (reads_as a v new is there)
@@ -68,9 +68,9 @@ module _ (h : HeaderFields) (d : Direction) (p : Pending) (l2s rbs : List Cached
 
   -- no autoclear bit any more
   pub autoclear_beside : (v : HeaderView) → header (byte_at (autoclear_cleared contents)) ≡ without_autoclear (header (byte_at contents)) → IsHeaderIn v (autoclear_cleared contents)
-      → WritesHeader h (resized h h.size 0) (byte_at contents) (known contents) (byte_at (autoclear_cleared contents)) (known (autoclear_cleared contents))
+      → WritesHeader h (resized_places h h.size 0) (byte_at contents) (known contents) (byte_at (autoclear_cleared contents)) (known (autoclear_cleared contents))
   autoclear_beside v fields there =
-      let a = resized h h.size 0 in
+      let a = resized_places h h.size 0 in
       let new = autoclear_cleared contents in
       let is : header (byte_at new) ≡ with_places h a = fields ∙ ap without_autoclear header_is in
       header_beside h d p l2s rbs (byte_at contents) (byte_at new) kept a 88 8 (lit≤ tt) (overwritten_but contents 88 (replicate 8 0)) is (reads_as a v new is there)

@@ -13,7 +13,7 @@ use Rattle.qcow2_disk.specs.Stops.{IsAsked, Checkpoint, checkpoint_with, StopOkE
 use Rattle.qcow2_laws.specs.Clusters.{Direction}
 use Rattle.qcow2_laws.specs.Guests.{named_in_either, marked_by_l1_table}
 use Rattle.qcow2_laws.specs.CrashInvariant.{Pending, CrashInvariant, IsTop, SameTop, SameCovers, SameCounts, SameIn}
-use Rattle.qcow2_laws.specs.Tops.{Places, with_places, KeepsCovers, IsSameBut, IsSameOutside, WritesHeader, WritesAt, resized}
+use Rattle.qcow2_laws.specs.Tops.{Places, with_places, KeepsCovers, IsSameBut, IsSameOutside, WritesHeader, WritesAt, resized_places}
 use Rattle.qcow2_laws.proofs.Places.{Sizes, Sizes-from}
 use Rattle.qcow2_laws.proofs.Tops.{IsTop-top, for_tables-top, l1_names-same, reftable_names-same, l1_marks-same}
 use Rattle.qcow2_laws.proofs.Consistency.{in_own}
@@ -110,41 +110,41 @@ module _ (h : HeaderFields) (a : Places) (d : Direction) (p : Pending) (on_stora
 
 -- ---- the size, and the autoclear bits
 module _ (h : HeaderFields) (size autoclear : ℕ) (d : Direction) (p : Pending) (on_storage known on_storage' known' : Bytes) (guarded : CrashInvariant h d p on_storage known)
-    (writes : WritesHeader h (resized h size autoclear) on_storage known on_storage' known') where
+    (writes : WritesHeader h (resized_places h size autoclear) on_storage known on_storage' known') where
   a : Places
-  a = resized h size autoclear
+  a = resized_places h size autoclear
 
-  l1_too : (b : Bytes) (i : ℕ) → l1_entry (with_places h (resized h size autoclear)) b i ≡ l1_entry h b i
+  l1_too : (b : Bytes) (i : ℕ) → l1_entry (with_places h (resized_places h size autoclear)) b i ≡ l1_entry h b i
   unfolding l1_entry
   l1_too b i = refl
 
-  reftable_too : (b : Bytes) (k : ℕ) → reftable_entry (with_places h (resized h size autoclear)) b k ≡ reftable_entry h b k
+  reftable_too : (b : Bytes) (k : ℕ) → reftable_entry (with_places h (resized_places h size autoclear)) b k ≡ reftable_entry h b k
   unfolding reftable_entry
   reftable_too b k = refl
 
-  covers_too : (b : Bytes) (g : ℕ) → cover (with_places h (resized h size autoclear)) b g ≡ cover h b g
+  covers_too : (b : Bytes) (g : ℕ) → cover (with_places h (resized_places h size autoclear)) b g ≡ cover h b g
   unfolding cover cover_under l1_entry
   covers_too b g = refl
 
-  counts_too : (b : Bytes) (c : ℕ) → count (with_places h (resized h size autoclear)) b c ≡ count h b c
+  counts_too : (b : Bytes) (c : ℕ) → count (with_places h (resized_places h size autoclear)) b c ≡ count h b c
   unfolding count count_under reftable_entry
   counts_too b c = refl
 
-  fixed_too : (b : Bytes) (c : ℕ) → named_for_tables (with_places h (resized h size autoclear)) b c ≡ named_for_tables h b c
+  fixed_too : (b : Bytes) (c : ℕ) → named_for_tables (with_places h (resized_places h size autoclear)) b c ≡ named_for_tables h b c
   unfolding named_for_tables named_by_header named_by_reftable named_by_l1_table l1_entry reftable_entry
   fixed_too b c = refl
 
-  sole_too : (b : Bytes) (c : ℕ) → marked_by_l1_table (with_places h (resized h size autoclear)) b c ≡ marked_by_l1_table h b c
+  sole_too : (b : Bytes) (c : ℕ) → marked_by_l1_table (with_places h (resized_places h size autoclear)) b c ≡ marked_by_l1_table h b c
   unfolding marked_by_l1_table l1_entry
   sole_too b c = refl
 
-  resized_l1 : (i : ℕ) → l1_entry h on_storage i ≡ l1_entry (with_places h (resized h size autoclear)) on_storage' i
-  resized_l1 i = header_l1 h (resized h size autoclear) d p on_storage known on_storage' known' guarded writes i ∙ sym (l1_too on_storage' i)
+  resized_l1 : (i : ℕ) → l1_entry h on_storage i ≡ l1_entry (with_places h (resized_places h size autoclear)) on_storage' i
+  resized_l1 i = header_l1 h (resized_places h size autoclear) d p on_storage known on_storage' known' guarded writes i ∙ sym (l1_too on_storage' i)
 
-  resized_reftable : (k : ℕ) → reftable_entry h on_storage k ≡ reftable_entry (with_places h (resized h size autoclear)) on_storage' k
-  resized_reftable k = header_reftable h (resized h size autoclear) d p on_storage known on_storage' known' guarded writes k ∙ sym (reftable_too on_storage' k)
+  resized_reftable : (k : ℕ) → reftable_entry h on_storage k ≡ reftable_entry (with_places h (resized_places h size autoclear)) on_storage' k
+  resized_reftable k = header_reftable h (resized_places h size autoclear) d p on_storage known on_storage' known' guarded writes k ∙ sym (reftable_too on_storage' k)
 
-  resized_top : IsTop (with_places h (resized h size autoclear)) on_storage'
+  resized_top : IsTop (with_places h (resized_places h size autoclear)) on_storage'
   resized_top = record {
     header_is = writes.is;
     header_reads = writes.reads;
@@ -158,53 +158,53 @@ module _ (h : HeaderFields) (size autoclear : ℕ) (d : Direction) (p : Pending)
     refblocks_aligned = λ k lt. subst (λ e. IsAligned h (block_offset e)) (resized_reftable k) (guarded.top.refblocks_aligned k lt);
   }
 
-  resized_same_top : SameTop (with_places h (resized h size autoclear)) on_storage' known'
+  resized_same_top : SameTop (with_places h (resized_places h size autoclear)) on_storage' known'
   resized_same_top = record {
     first_cluster = writes.same_first;
-    l1 = λ i. sym (resized_l1 i) ∙ guarded.same_top.l1 i ∙ header_known_l1 h (resized h size autoclear) d p on_storage known on_storage' known' guarded writes i ∙ sym (l1_too known' i);
-    reftable = λ k. sym (resized_reftable k) ∙ guarded.same_top.reftable k ∙ header_known_reftable h (resized h size autoclear) d p on_storage known on_storage' known' guarded writes k ∙ sym (reftable_too known' k);
+    l1 = λ i. sym (resized_l1 i) ∙ guarded.same_top.l1 i ∙ header_known_l1 h (resized_places h size autoclear) d p on_storage known on_storage' known' guarded writes i ∙ sym (l1_too known' i);
+    reftable = λ k. sym (resized_reftable k) ∙ guarded.same_top.reftable k ∙ header_known_reftable h (resized_places h size autoclear) d p on_storage known on_storage' known' guarded writes k ∙ sym (reftable_too known' k);
   }
 
-  resized_covers : KeepsCovers h (resized h size autoclear) on_storage on_storage'
-  resized_covers g = header_covers h (resized h size autoclear) d p on_storage known on_storage' known' guarded writes g ∙ sym (covers_too on_storage' g)
+  resized_covers : KeepsCovers h (resized_places h size autoclear) on_storage on_storage'
+  resized_covers g = header_covers h (resized_places h size autoclear) d p on_storage known on_storage' known' guarded writes g ∙ sym (covers_too on_storage' g)
 
-  resized_known_covers : KeepsCovers h (resized h size autoclear) known known'
-  resized_known_covers g = header_known_covers h (resized h size autoclear) d p on_storage known on_storage' known' guarded writes g ∙ sym (covers_too known' g)
+  resized_known_covers : KeepsCovers h (resized_places h size autoclear) known known'
+  resized_known_covers g = header_known_covers h (resized_places h size autoclear) d p on_storage known on_storage' known' guarded writes g ∙ sym (covers_too known' g)
 
   resized_unlaid : (o : ℕ) → 0 < named_in_either h on_storage known (o / cluster_size h) + p.held (o / cluster_size h) → on_storage' o ≡ known' o
-  resized_unlaid = header_unlaid h (resized h size autoclear) d p on_storage known on_storage' known' guarded writes
+  resized_unlaid = header_unlaid h (resized_places h size autoclear) d p on_storage known on_storage' known' guarded writes
 
-  resized_fixed : (c : ℕ) → named_for_tables (with_places h (resized h size autoclear)) on_storage' c ≡ named_for_tables h on_storage c
+  resized_fixed : (c : ℕ) → named_for_tables (with_places h (resized_places h size autoclear)) on_storage' c ≡ named_for_tables h on_storage c
   resized_fixed c =
       let before = shares h on_storage c in
       let after = shares h on_storage' c in
-      let tables = l1_names-same h on_storage on_storage' c (header_l1 h (resized h size autoclear) d p on_storage known on_storage' known' guarded writes) in
-      let blocks = reftable_names-same h on_storage on_storage' c (header_reftable h (resized h size autoclear) d p on_storage known on_storage' known' guarded writes) in
+      let tables = l1_names-same h on_storage on_storage' c (header_l1 h (resized_places h size autoclear) d p on_storage known on_storage' known' guarded writes) in
+      let blocks = reftable_names-same h on_storage on_storage' c (header_reftable h (resized_places h size autoclear) d p on_storage known on_storage' known' guarded writes) in
       let e = fixed_too on_storage' c in
       omega arith
 
-  pub size_written : CrashInvariant (with_places h (resized h size autoclear)) d p on_storage' known'
+  pub size_written : CrashInvariant (with_places h (resized_places h size autoclear)) d p on_storage' known'
   size_written =
-      tables_renamed h (resized h size autoclear) d p p on_storage known on_storage' known' guarded
+      tables_renamed h (resized_places h size autoclear) d p p on_storage known on_storage' known' guarded
       resized_top resized_same_top (omega arith) resized_covers resized_known_covers resized_unlaid
       (λ c. 0) (λ c. 0) (λ c. 0) (λ c. (refl, omega arith, omega arith, refl, refl)) (λ c. omega arith)
       (λ c. let e = resized_fixed c in omega arith)
-      (λ c. let e = sole_too on_storage' c ∙ sym (l1_marks-same h on_storage on_storage' c (header_l1 h (resized h size autoclear) d p on_storage known on_storage' known' guarded writes)) in omega arith)
-      (λ c. let e = counts_too on_storage' c in let s = header_counts h (resized h size autoclear) d p on_storage known on_storage' known' guarded writes c in omega arith)
-      (λ c. let e = counts_too known' c in let s = header_known_counts h (resized h size autoclear) d p on_storage known on_storage' known' guarded writes c in omega arith)
+      (λ c. let e = sole_too on_storage' c ∙ sym (l1_marks-same h on_storage on_storage' c (header_l1 h (resized_places h size autoclear) d p on_storage known on_storage' known' guarded writes)) in omega arith)
+      (λ c. let e = counts_too on_storage' c in let s = header_counts h (resized_places h size autoclear) d p on_storage known on_storage' known' guarded writes c in omega arith)
+      (λ c. let e = counts_too known' c in let s = header_known_counts h (resized_places h size autoclear) d p on_storage known on_storage' known' guarded writes c in omega arith)
       (λ c some. absurd (omega arith)) (λ c some. absurd (omega arith))
 
   module _ (backing : Bytes) (m : Checkpoint) (asked : List ℕ) (ask : (size ≡ h.size) ⊎ IsAsked asked size) where
     pub size_written_kept : StopOkEverywhere backing m on_storage → StopOkEverywhere backing (checkpoint_with [] asked m) on_storage'
     size_written_kept kept =
-        moved_kept h (resized h size autoclear) d p p on_storage known on_storage' known' guarded
+        moved_kept h (resized_places h size autoclear) d p p on_storage known on_storage' known' guarded
         resized_top resized_same_top (omega arith) resized_covers resized_known_covers resized_unlaid size_written
-        (λ o some. writes.others o (header_elsewhere h (resized h size autoclear) d p on_storage known on_storage' known' guarded writes o (omega arith)))
-        (λ o some. writes.known_others o (header_elsewhere h (resized h size autoclear) d p on_storage known on_storage' known' guarded writes o (omega arith))) backing m asked ask kept
+        (λ o some. writes.others o (header_elsewhere h (resized_places h size autoclear) d p on_storage known on_storage' known' guarded writes o (omega arith)))
+        (λ o some. writes.known_others o (header_elsewhere h (resized_places h size autoclear) d p on_storage known on_storage' known' guarded writes o (omega arith))) backing m asked ask kept
 
     pub size_written_known_kept : StopOkEverywhere backing m known → StopOkEverywhere backing (checkpoint_with [] asked m) known'
     size_written_known_kept kept =
-        moved_known_kept h (resized h size autoclear) d p p on_storage known on_storage' known' guarded
+        moved_known_kept h (resized_places h size autoclear) d p p on_storage known on_storage' known' guarded
         resized_top resized_same_top (omega arith) resized_covers resized_known_covers resized_unlaid size_written
-        (λ o some. writes.others o (header_elsewhere h (resized h size autoclear) d p on_storage known on_storage' known' guarded writes o (omega arith)))
-        (λ o some. writes.known_others o (header_elsewhere h (resized h size autoclear) d p on_storage known on_storage' known' guarded writes o (omega arith))) backing m asked ask kept
+        (λ o some. writes.others o (header_elsewhere h (resized_places h size autoclear) d p on_storage known on_storage' known' guarded writes o (omega arith)))
+        (λ o some. writes.known_others o (header_elsewhere h (resized_places h size autoclear) d p on_storage known on_storage' known' guarded writes o (omega arith))) backing m asked ask kept

@@ -16,7 +16,7 @@ use Rattle.qcow2_laws.specs.Guests.{over_guests, names, named_in_either, marked_
 use Rattle.qcow2_laws.specs.CrashInvariant.{Pending, CrashInvariant, IsTop, SameTop, SameIn}
 use Rattle.qcow2_laws.specs.Changes.{renamed}
 use Rattle.qcow2_laws.specs.Tops.{with_places, KeepsCovers, WritesHeader, with_l1_at, IsNewL1}
-use Rattle.qcow2_laws.specs.GuestLaws.{KeepsGuests, with_l1_table}
+use Rattle.qcow2_laws.specs.GuestLaws.{KeepsGuests, state_with_l1_table}
 use Rattle.qcow2_laws.proofs.Sums.{sum_below-same, sum_below-longer}
 use Rattle.qcow2_laws.proofs.Places.{Sizes-from, l1-same, l1_entry-past}
 use Rattle.qcow2_laws.proofs.Writes.{fresh_is_unnamed}
@@ -194,7 +194,7 @@ module _ (h : HeaderFields) (offset entries : ℕ) (d : Direction) (p : Pending)
           omega arith
 
   pub guests_kept : KeepsGuests (record { header = h; direction = d; pending = p; on_storage = on_storage; known = known })
-      (with_l1_table (record { header = h; direction = d; pending = p; on_storage = on_storage; known = known }) offset entries on_storage' known')
+      (state_with_l1_table (record { header = h; direction = d; pending = p; on_storage = on_storage; known = known }) offset entries on_storage' known')
   guests_kept = record {
     storage_covers = covers;
     covers = known_covers;

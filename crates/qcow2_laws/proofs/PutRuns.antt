@@ -21,7 +21,7 @@ use Rattle.qcow2_laws.specs.Writes.{IsWritten}
 use Rattle.qcow2_laws.specs.SafeSteps.{DriverState, StateInvariant, SafeStep}
 use Rattle.qcow2_laws.specs.Unseen.{SameL1Table}
 use Rattle.qcow2_disk.specs.Alike.{IsDataAt, AreDataAt}
-use Rattle.qcow2_laws.specs.GuestLaws.{Hosting, InPlace, Kept, Held, IsHostedAt, IsHeld, is_private, IsGivenAt, WritesRun, RunIsWritten}
+use Rattle.qcow2_laws.specs.GuestLaws.{Hosting, InPlace, Kept, Held, IsHostedAt, IsHeld, is_private_hosting, IsGivenAt, WritesRun, RunIsWritten}
 use Rattle.qcow2_laws.proofs.Places.{in_one}
 use Rattle.qcow2_laws.proofs.Mixes.{tied}
 use Rattle.qcow2_laws.proofs.Consistency.{in_own}
@@ -276,7 +276,7 @@ module _ (s : DriverState) (on_storage' known' : Bytes) (sound : StateInvariant 
     beside o i lt here out Held at = held_stay o i lt here at
 
     at_written : (i : ℕ) → i < n → (k : Hosting) → IsHostedAt s k (offset + i) (place + i)
-        → (disk known' backing).value (offset + i) ≡ cond (is_private k) ((disk s.known backing).value (offset + i)) (laid_over offset n (λ j. known_byte (value j)) (disk s.known backing).value (offset + i))
+        → (disk known' backing).value (offset + i) ≡ cond (is_private_hosting k) ((disk s.known backing).value (offset + i)) (laid_over offset n (λ j. known_byte (value j)) (disk s.known backing).value (offset + i))
     at_written i lt InPlace at =
         at_shown new leads_on.sound true (offset + i) (place + i) (now_at (offset + i) (place + i) at) backing
         ∙ ap known_byte (there i lt)
@@ -284,22 +284,22 @@ module _ (s : DriverState) (on_storage' known' : Bytes) (sound : StateInvariant 
     at_written i lt Kept at = zeros_stay (offset + i) (offset + i) (place + i) refl at
     at_written i lt Held at = held_stay (offset + i) i lt refl at
 
-    value_now : (o : ℕ) → (disk known' backing).value o ≡ cond (is_private (hosting o)) ((disk s.known backing).value o) (laid_over offset n (λ j. known_byte (value j)) (disk s.known backing).value o)
+    value_now : (o : ℕ) → (disk known' backing).value o ≡ cond (is_private_hosting (hosting o)) ((disk s.known backing).value o) (laid_over offset n (λ j. known_byte (value j)) (disk s.known backing).value o)
     value_now o = elim (in_range o offset n) [
       | inr at ↦
-          subst (λ (p : ℕ). (disk known' backing).value p ≡ cond (is_private (hosting p)) ((disk s.known backing).value p) (laid_over offset n (λ j. known_byte (value j)) (disk s.known backing).value p)) at.2
+          subst (λ (p : ℕ). (disk known' backing).value p ≡ cond (is_private_hosting (hosting p)) ((disk s.known backing).value p) (laid_over offset n (λ j. known_byte (value j)) (disk s.known backing).value p)) at.2
           (at_written at.0 at.1 (hosting (offset + at.0)) (hosts at.0 at.1))
       | inl out ↦
           let same : (disk known' backing).value o ≡ (disk s.known backing).value o = elim (meets (cluster_size s.header) offset (o / cluster_size s.header) n) [
             | inl some ↦ beside o some.0 some.1 some.2 out (hosting (offset + some.0)) (hosts some.0 some.1)
             | inr none ↦ value_stays s new sound leads_on.sound refl backing o (covers_stay (o / cluster_size s.header)) (others_stay (o / cluster_size s.header) none)
           ] in
-          same_either (is_private (hosting o)) _ _ _ same (same ∙ sym (laid_outside offset n (λ j. known_byte (value j)) (disk s.known backing).value o out))
+          same_either (is_private_hosting (hosting o)) _ _ _ same (same ∙ sym (laid_outside offset n (λ j. known_byte (value j)) (disk s.known backing).value o out))
     ]
 
-    pub shows_run : disk known' backing ≡ record (disk s.known backing) { value = λ o. cond (is_private (hosting o)) ((disk s.known backing).value o) ((with_values (disk s.known backing) offset n (λ j. known_byte (value j))).value o) }
+    pub shows_run : disk known' backing ≡ record (disk s.known backing) { value = λ o. cond (is_private_hosting (hosting o)) ((disk s.known backing).value o) ((with_values (disk s.known backing) offset n (λ j. known_byte (value j))).value o) }
     shows_run =
-        let now : (disk known' backing).value ≡ (λ o. cond (is_private (hosting o)) ((disk s.known backing).value o) ((with_values (disk s.known backing) offset n (λ j. known_byte (value j))).value o)) = fun_ext value_now in
+        let now : (disk known' backing).value ≡ (λ o. cond (is_private_hosting (hosting o)) ((disk s.known backing).value o) ((with_values (disk s.known backing) offset n (λ j. known_byte (value j))).value o)) = fun_ext value_now in
         λ j. record { size = size_stays s new sound leads_on.sound refl backing j; value = now j }
 
 pub run_written : (s : DriverState) (on_storage' known' : Bytes) (hosting : ℕ → Hosting) (offset place : ℕ) (bytes : List ℕ) (given : List GivenBytes) → StateInvariant s

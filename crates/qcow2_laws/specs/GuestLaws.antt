@@ -8,7 +8,7 @@ use Rattle.qcow2_metadata.specs.Guest.{known_byte}
 use Rattle.qcow2_metadata.specs.Named.{in_run, named_for_tables}
 use Rattle.qcow2_metadata.specs.declared.l2_mapping.L2Mapping.{L2Mapping}
 use Rattle.qcow2_metadata.specs.declared.l2_mapping.L2Mapping.TheVariants.{Data, Zero, Compressed, Uncovered}
-use Rattle.qcow2_disk.specs.Disk.{Disk, disk, with_bytes, zeroed, uncovered}
+use Rattle.qcow2_disk.specs.Disk.{Disk, disk, with_bytes, zeroed_between, uncovered}
 use Rattle.qcow2_disk.specs.Stops.{GivenBytes, IsGiven, Checkpoint, checkpoint_with, StopOkEverywhere}
 use Rattle.qcow2_disk.specs.Mappings.{gift_of, gift_shown}
 use Rattle.qcow2_laws.specs.Guests.{names}
@@ -21,8 +21,8 @@ use Rattle.qcow2_laws.specs.Unseen.{used_by_guests, SameUsedBytes, SameL1Table, 
 use Rattle.qcow2_disk.specs.Alike.{IsDataAt}
 
 -- where the image stands once its header names an L1 table at another place, of so many entries
-abbrev pub with_l1_table : DriverState → (offset entries : ℕ) → (on_storage' known' : Bytes) → DriverState
-with_l1_table s offset entries on_storage' known' = record {
+abbrev pub state_with_l1_table : DriverState → (offset entries : ℕ) → (on_storage' known' : Bytes) → DriverState
+state_with_l1_table s offset entries on_storage' known' = record {
   header = with_places s.header (with_l1_at s.header offset entries);
   direction = s.direction;
   pending = renamed s.pending (λ c. in_run s.header c offset (8 * entries)) (λ c. in_run s.header c s.header.l1_offset (8 * s.header.l1_entries));
@@ -43,7 +43,7 @@ pub record KeepsGuests (old new : DriverState) : Type 0 where
 abbrev pub LongerL1TableKeepsGuests : Type 0
 LongerL1TableKeepsGuests =
     (s : DriverState) (on_storage' known' : Bytes) (offset entries : ℕ) → StateInvariant s → WritesHeader s.header (with_l1_at s.header offset entries) s.on_storage s.known on_storage' known'
-    → IsNewL1 s.header s.direction s.pending s.on_storage s.known offset entries → KeepsGuests s (with_l1_table s offset entries on_storage' known')
+    → IsNewL1 s.header s.direction s.pending s.on_storage s.known offset entries → KeepsGuests s (state_with_l1_table s offset entries on_storage' known')
 
 -- Where no other size is asked for, whatever is kept of the storage and of what is known has the old size.
 abbrev pub SizeStaysUnlessAsked : Type 0
@@ -88,7 +88,7 @@ pub record ClearsRange (first n : ℕ) (old new : DriverState) (now : Bytes → 
 
 -- Guest clusters that are zeroed or uncovered in turn are a range of the disk that is.
 pub record ClustersInTurnAreARange : Type 0 where
-  pub zeroed : (s new : DriverState) (first n : ℕ) → StateInvariant s → MapsInTurn IsZeros first n s new → ClearsRange first n s new (λ backing d from to. zeroed d from to)
+  pub zeroed : (s new : DriverState) (first n : ℕ) → StateInvariant s → MapsInTurn IsZeros first n s new → ClearsRange first n s new (λ backing d from to. zeroed_between d from to)
   pub uncovered : (s new : DriverState) (first n : ℕ) → StateInvariant s → MapsInTurn (λ v. v ≡ Uncovered) first n s new → ClearsRange first n s new (λ backing d from to. uncovered d backing from to)
 
 -- ---- a cluster that a zero entry keeps
@@ -130,10 +130,10 @@ IsHeld Kept = ⊥
 IsHeld Held = Unit {0}
 
 -- what isn't in place is seen by no guest until it is committed
-abbrev pub is_private : Hosting → Bool
-is_private InPlace = false
-is_private Kept = true
-is_private Held = true
+abbrev pub is_private_hosting : Hosting → Bool
+is_private_hosting InPlace = false
+is_private_hosting Kept = true
+is_private_hosting Held = true
 
 -- a byte is given where a stop may leave it to be seen: what is held is in no entry on the storage
 abbrev pub IsGivenAt : List GivenBytes → Hosting → (o byte : ℕ) → Type 0
@@ -143,7 +143,7 @@ IsGivenAt given Held o byte = Unit {0}
 
 -- of bytes that are written from an offset on, guests see those in place
 abbrev pub with_seen_bytes : (ℕ → Hosting) → Disk → ℕ → List ℕ → Disk
-with_seen_bytes hosting d offset bytes = record d { value = λ o. if is_private (hosting o) then d.value o else (with_bytes d offset bytes).value o }
+with_seen_bytes hosting d offset bytes = record d { value = λ o. if is_private_hosting (hosting o) then d.value o else (with_bytes d offset bytes).value o }
 
 -- Bytes were written to the places of a guest range. All entries stay, and so does each byte that another guest cluster has, or that is held elsewhere.
 pub record WritesRun (hosting : ℕ → Hosting) (offset place : ℕ) (bytes : List ℕ) (given : List GivenBytes) (old new : DriverState) : Type 0 where

@@ -16,7 +16,7 @@ use Rattle.qcow2_laws.specs.CrashInvariant.{Pending, IsMixed, MayTurn, SameCover
 use Rattle.qcow2_laws.specs.Opened.{nothing_pending, surplus_of}
 use Rattle.qcow2_laws.specs.Changes.{one_at, with_held, with_fresh, without_spent, without_dropped, held_to_dropped, held_to_spent, fresh_to_spent, remapped, named_now, renamed}
 use Rattle.qcow2_laws.specs.Writes.{IsUnnamed, IsWritten}
-use Rattle.qcow2_laws.specs.Tops.{with_places, WritesL1Entry, IsNewTable, WritesReftableEntry, IsNewBlock, WritesHeader, resized, with_l1_at, IsNewL1, with_reftable_at, IsNewReftable}
+use Rattle.qcow2_laws.specs.Tops.{with_places, WritesL1Entry, IsNewTable, WritesReftableEntry, IsNewBlock, WritesHeader, resized_places, with_l1_at, IsNewL1, with_reftable_at, IsNewReftable}
 use Rattle.qcow2_laws.specs.Caches.{CacheInvariantOver, BlocksMayGo, TablesMayGo, IsWrittenSo, UnseenTableWrite}
 use Rattle.qcow2_laws.specs.SafeSteps.{DriverState, StateInvariant, SafeStep}
 use Rattle.qcow2_laws.specs.Steps.{CountRises, CountFalls, guest_at, EntryChanges, ShowsGiven}
@@ -25,14 +25,14 @@ abbrev pub nothing : Bytes → List GivenBytes
 nothing backing = []
 
 -- an image as it is opened
-abbrev pub opened : Bytes → DriverState
-opened b = record { header = header b; direction = Neither; pending = nothing_pending (surplus_of (header b) b); on_storage = b; known = b }
+abbrev pub opened_state : Bytes → DriverState
+opened_state b = record { header = header b; direction = Neither; pending = nothing_pending (surplus_of (header b) b); on_storage = b; known = b }
 
 -- What is on the storage, and what is known, is consistent; and a consistent image is sound as it is opened.
 pub record SoundIsConsistent : Type 0 where
   pub on_storage : (s : DriverState) → StateInvariant s → IsConsistent s.on_storage
   pub known : (s : DriverState) → StateInvariant s → IsConsistent s.known
-  pub opened : (b : Bytes) → IsConsistent b → StateInvariant (opened b)
+  pub opened : (b : Bytes) → IsConsistent b → StateInvariant (opened_state b)
 
 -- Some cached tables are written in an order that the direction allows; or the direction turns.
 pub record MixIsSafe : Type 0 where
@@ -94,10 +94,10 @@ pub record TableIsNamed : Type 0 where
 
 -- The header is written: its size, or where the L1 table or the reftable stands.
 pub record HeaderIsWritten : Type 0 where
-  pub size : (s : DriverState) (on_storage' known' : Bytes) (size autoclear : ℕ) → StateInvariant s → WritesHeader s.header (resized s.header size autoclear) s.on_storage s.known on_storage' known'
-      → SafeStep s (record s { header = with_places s.header (resized s.header size autoclear); on_storage = on_storage'; known = known' }) nothing (size ∷ [])
-  pub same_size : (s : DriverState) (on_storage' known' : Bytes) (autoclear : ℕ) → StateInvariant s → WritesHeader s.header (resized s.header s.header.size autoclear) s.on_storage s.known on_storage' known'
-      → SafeStep s (record s { header = with_places s.header (resized s.header s.header.size autoclear); on_storage = on_storage'; known = known' }) nothing []
+  pub size : (s : DriverState) (on_storage' known' : Bytes) (size autoclear : ℕ) → StateInvariant s → WritesHeader s.header (resized_places s.header size autoclear) s.on_storage s.known on_storage' known'
+      → SafeStep s (record s { header = with_places s.header (resized_places s.header size autoclear); on_storage = on_storage'; known = known' }) nothing (size ∷ [])
+  pub same_size : (s : DriverState) (on_storage' known' : Bytes) (autoclear : ℕ) → StateInvariant s → WritesHeader s.header (resized_places s.header s.header.size autoclear) s.on_storage s.known on_storage' known'
+      → SafeStep s (record s { header = with_places s.header (resized_places s.header s.header.size autoclear); on_storage = on_storage'; known = known' }) nothing []
   pub l1_table : (s : DriverState) (on_storage' known' : Bytes) (offset entries : ℕ) → StateInvariant s → WritesHeader s.header (with_l1_at s.header offset entries) s.on_storage s.known on_storage' known'
       → IsNewL1 s.header s.direction s.pending s.on_storage s.known offset entries
       → SafeStep s (record s {

@@ -99,8 +99,8 @@ pub record WritesHeader (h : HeaderFields) (a : Places) (on_storage known on_sto
   pub is : header on_storage' ≡ with_places h a
   pub reads : HeaderReads (with_places h a) on_storage'
 
-abbrev pub resized : HeaderFields → ℕ → ℕ → Places
-resized h size autoclear = record (places_of h) { size = size; autoclear = autoclear }
+abbrev pub resized_places : HeaderFields → ℕ → ℕ → Places
+resized_places h size autoclear = record (places_of h) { size = size; autoclear = autoclear }
 
 abbrev pub with_l1_at : HeaderFields → ℕ → ℕ → Places
 with_l1_at h offset entries = record (places_of h) { l1_offset = offset; l1_entries = entries }

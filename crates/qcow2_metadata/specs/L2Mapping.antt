@@ -39,14 +39,14 @@ is_marked (Zero (Some k)) = k.1
 is_marked (Compressed place sectors) = false
 is_marked Uncovered = false
 
-abbrev pub KeptIsAligned : ℕ → Option (ℕ × Bool) → Type 0
-KeptIsAligned cluster_bits None = ⊤
-KeptIsAligned cluster_bits (Some k) = k.0 % 2 ^ cluster_bits ≡ 0
+abbrev pub KeptIsAlignedTo : ℕ → Option (ℕ × Bool) → Type 0
+KeptIsAlignedTo cluster_bits None = ⊤
+KeptIsAlignedTo cluster_bits (Some k) = k.0 % 2 ^ cluster_bits ≡ 0
 
 -- the host offset of data, or one that is kept, is on a cluster
 abbrev pub HasAlignedHost : ℕ → L2Mapping → Type 0
 HasAlignedHost cluster_bits (Data host copied) = host % 2 ^ cluster_bits ≡ 0
-HasAlignedHost cluster_bits (Zero kept) = KeptIsAligned cluster_bits kept
+HasAlignedHost cluster_bits (Zero kept) = KeptIsAlignedTo cluster_bits kept
 HasAlignedHost cluster_bits (Compressed place sectors) = ⊤
 HasAlignedHost cluster_bits Uncovered = ⊤
 

@@ -10,7 +10,7 @@ use Rattle.qcow2_disk.specs.Disk.{Disk, with_bytes}
 use Rattle.qcow2_disk.specs.Stops.{GivenBytes, IsGiven}
 use Rattle.qcow2_disk.specs.Mappings.{PreparedMapping, IsPrepared, put_disk, put_mapping, committed, gift_of, gift_of_put, gift_of_commit}
 use Rattle.qcow2_disk.specs.AbstractImages.{Abstraction, HasFreePlaces, Guest, abstract_image, guest_of}
-use Rattle.qcow2_disk.specs.Calls.{Refusal, memory, storage, not_compressed, another, IsFault, Does, Refuses, IsSame, MayWrite, WritesSome, with_disk, with_slot}
+use Rattle.qcow2_disk.specs.Calls.{Refusal, memory, storage, not_compressed, another, IsRefusalByFault, Does, Refuses, IsSame, MayWrite, WritesSome, with_disk, with_slot}
 use Rattle.qcow2_disk.proofs.ForUsers.{put_given}
 use Rattle.qcow2_disk.proofs.Within.{within_is}
 use Rattle.qcow2_session.proofs.Bytes.{cut_long, cut_short, cut_part, byte_in, laid_in, laid_out, no_bytes, same_values, part_within}
@@ -223,7 +223,7 @@ module _ {D P : Type 0} (spec : Abstraction D P) (has : HasFreePlaces spec) (in_
 
       -- what was put in place may stay
       ended : (d4 : D) (e : Refusal) → Refuses (abstract_image spec d0 out) (abstract_image spec d4 (None ∷ out)) gifts [] e
-          (Put × ((shift (guest_of (abstract_image spec d4 (None ∷ out))) ≡ shift (guest_of (abstract_image spec d2 (Some p ∷ out)))) × IsFault e))
+          (Put × ((shift (guest_of (abstract_image spec d4 (None ∷ out))) ≡ shift (guest_of (abstract_image spec d2 (Some p ∷ out)))) × IsRefusalByFault e))
           → Refuses (abstract_image spec d0 out) (abstract_image spec d4 out) gifts [] e (MayWrite e (guest_of (abstract_image spec d0 out)) offset bytes 0 (guest_of (abstract_image spec d4 out)))
       ended d4 e r =
           refuses_fault (λ k. MayWrite k (guest_of (abstract_image spec d0 out)) offset bytes 0 (guest_of (abstract_image spec d4 out))) e (λ h. h.0.1.1)
@@ -231,13 +231,13 @@ module _ {D P : Type 0} (spec : Abstraction D P) (has : HasFreePlaces spec) (in_
           (refused_then (has.works d4 out) r (leaves spec has d4 out))
 
       -- the commit was refused, and spent the mapping
-      pub commit_spent : (d3 : D) (e : Refusal) → ((abstract_image spec d2 (Some p ∷ out)).is_sound → IsFault e)
+      pub commit_spent : (d3 : D) (e : Refusal) → ((abstract_image spec d2 (Some p ∷ out)).is_sound → IsRefusalByFault e)
           → Refuses (abstract_image spec d2 (Some p ∷ out)) (abstract_image spec d3 (None ∷ out)) commit_gifts [] e (IsSame (abstract_image spec d2 (Some p ∷ out)) (abstract_image spec d3 (None ∷ out)))
           → Refuses (abstract_image spec d0 out) (abstract_image spec d3 out) gifts [] e (MayWrite e (guest_of (abstract_image spec d0 out)) offset bytes 0 (guest_of (abstract_image spec d3 out)))
       commit_spent d3 e why refuses = ended d3 e (refuses_if (λ h. (h.0, (ap shift h.1.0, h.1.1))) (refuses_then commits_within put_done (refuses_why why refuses)))
 
       -- the commit was refused, and the mapping was let go
-      pub commit_kept : (d3 d4 : D) (e : Refusal) → ((abstract_image spec d2 (Some p ∷ out)).is_sound → IsFault e)
+      pub commit_kept : (d3 d4 : D) (e : Refusal) → ((abstract_image spec d2 (Some p ∷ out)).is_sound → IsRefusalByFault e)
           → Refuses (abstract_image spec d2 (Some p ∷ out)) (abstract_image spec d3 (Some p ∷ out)) commit_gifts [] e (IsSame (abstract_image spec d2 (Some p ∷ out)) (abstract_image spec d3 (Some p ∷ out)))
           → Does (abstract_image spec d3 (Some p ∷ out)) (abstract_image spec d4 (None ∷ out)) [] [] (guest_of (abstract_image spec d4 (None ∷ out)) ≡ with_slot (guest_of (abstract_image spec d3 (Some p ∷ out))) 0 None)
           → Refuses (abstract_image spec d0 out) (abstract_image spec d4 out) gifts [] e (MayWrite e (guest_of (abstract_image spec d0 out)) offset bytes 0 (guest_of (abstract_image spec d4 out)))

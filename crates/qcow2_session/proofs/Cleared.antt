@@ -17,7 +17,7 @@ use Rattle.qcow2_disk.proofs.RunSteps.{done_as, refused_as}
 use Rattle.qcow2_alloc.specs.declared.error.ImageError.{ImageError}
 use Rattle.qcow2_alloc.specs.declared.error.ImageError.TheVariants as I
 use Rattle.qcow2_alloc.specs.ImageFile.{known_in}
-use Rattle.qcow2_image.specs.Calls.{Answers}
+use Rattle.qcow2_image.specs.Calls.{AnswersCall}
 use Rattle.qcow2_image.specs.Clearing.{from_in, setting_of, to_in}
 use Rattle.qcow2_image.specs.declared.image.Qcow2.{Qcow2}
 use Rattle.qcow2_image.specs.declared.prepared.Prepared.{Prepared}
@@ -60,7 +60,7 @@ module _ {S F : Type 0} (view : S → StorageView) (backing : F → BackingView)
   -- what an image's call answers, whose whole clusters show this then
   abbrev IsCleared : Result (ℕ × ℕ) ImageError → Type 0
   IsCleared r =
-      Answers view backing old new (gift_of_clear (setting_of view backing old) (disk_of view backing old) how offset n ∷ [])
+      AnswersCall view backing old new (gift_of_clear (setting_of view backing old) (disk_of view backing old) how offset n ∷ [])
       (λ range was is. (range ≡ answered (setting_of view backing old).cluster_size was.disk.size offset n) × (is ≡ with_disk was (cleared_at (setting_of view backing old) was.disk how offset n))) r
 
   -- what is refused before any work, and what stands for guest clusters where it is answered

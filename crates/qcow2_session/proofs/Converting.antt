@@ -17,7 +17,7 @@ use Rattle.qcow2_disk.specs.Calls.{Refusal, memory, storage, not_compressed, ano
 use Rattle.image_access.specs.Backing.{BackingView}
 use Rattle.image_access.specs.Moments.{StorageView}
 use Rattle.qcow2_alloc.specs.declared.error.ImageError.{ImageError}
-use Rattle.qcow2_image.specs.Calls.{refusal_of, Flushes}
+use Rattle.qcow2_image.specs.Calls.{refusal_of, FlushesImage}
 use Rattle.qcow2_image.specs.declared.image.Qcow2.{Qcow2}
 use Rattle.qcow2_image.specs.declared.prepared.Prepared.{Prepared}
 use Rattle.qcow2_image.specs.ImageInvariant.{abstract_of}
@@ -259,7 +259,7 @@ module _ {S F : Type 0} (view : S → StorageView) (backing : F → BackingView)
 
   module _ (mid new : Qcow2 S F) where
     -- the flush was refused
-    pub imports_unflushed : (e : ImageError) (r : Result ℕ ImageError) → r ≡ Err e → ImportsAll view backing old mid contents (Ok tt) → Flushes view backing mid new (Err e) → Imports view backing old new contents r
+    pub imports_unflushed : (e : ImageError) (r : Result ℕ ImageError) → r ≡ Err e → ImportsAll view backing old mid contents (Ok tt) → FlushesImage view backing mid new (Err e) → Imports view backing old new contents r
     imports_unflushed e r is all flush = subst (λ x. Imports view backing old new contents x) (sym is) (λ out.
         let v = abstract_of view backing old out in
         let w = abstract_of view backing new out in
@@ -267,7 +267,7 @@ module _ {S F : Type 0} (view : S → StorageView) (backing : F → BackingView)
         (breaks_then (λ _. none_within (abstract_of view backing mid out) (gift_of 0 contents ∷ [])) (all out) (breaks (flush out))))
 
     pub imports_flushed : (n : ℕ) → n ≡ length contents → ((out : List (Option Prepared)) → (abstract_of view backing old out).is_sound → length contents ≡ (guest_of (abstract_of view backing old out)).disk.size)
-        → ImportsAll view backing old mid contents (Ok tt) → Flushes view backing mid new (Ok tt) → Imports view backing old new contents (Ok n)
+        → ImportsAll view backing old mid contents (Ok tt) → FlushesImage view backing mid new (Ok tt) → Imports view backing old new contents (Ok n)
     imports_flushed n count sized all flush out =
         let v = abstract_of view backing old out in
         let w = abstract_of view backing new out in

@@ -17,10 +17,10 @@ use Rattle.qcow2_image.specs.Calls.{refusal_of}
 use Rattle.qcow2_image.specs.declared.image.Qcow2.{Qcow2}
 use Rattle.qcow2_image.specs.declared.prepared.Prepared.{Prepared}
 use Rattle.qcow2_image.specs.ImageInvariant.{abstract_of}
-use Rattle.qcow2_session.specs.Conversions.{RefusedConversion, IsRawOf, IsUnchanged, IsFilled, Fills}
+use Rattle.qcow2_session.specs.Conversions.{RefusedConversion, IsRawOf, IsUnchanged, IsFilledUpTo, Fills}
 
 -- a range of zeros isn't written
-pub filled_same : (d : Disk) (size at n : ℕ) (contents bytes : List ℕ) → IsFilled d size at contents → Shows d at bytes → bytes ≡ replicate n 0 → IsFilled d size (at + n) contents
+pub filled_same : (d : Disk) (size at n : ℕ) (contents bytes : List ℕ) → IsFilledUpTo d size at contents → Shows d at bytes → bytes ≡ replicate n 0 → IsFilledUpTo d size (at + n) contents
 filled_same d size at n contents bytes filled shows zeros = record {
   long = filled.long;
   front = λ o lt. elim (cases_lt o at) [
@@ -35,7 +35,7 @@ filled_same d size at n contents bytes filled shows zeros = record {
 }
 
 -- any other is
-pub filled_more : (d : Disk) (size at : ℕ) (contents bytes : List ℕ) → IsFilled d size at contents → Shows d at bytes → at + length bytes ≤ size → IsFilled d size (at + length bytes) (overwritten contents at bytes)
+pub filled_more : (d : Disk) (size at : ℕ) (contents bytes : List ℕ) → IsFilledUpTo d size at contents → Shows d at bytes → at + length bytes ≤ size → IsFilledUpTo d size (at + length bytes) (overwritten contents at bytes)
 filled_more d size at contents bytes filled shows within = record {
   long = length-overwritten_within contents at bytes (omega (arith, filled.long, within)) ∙ filled.long;
   front = λ o lt. elim (cases_lt o at) [
@@ -49,9 +49,9 @@ filled_more d size at contents bytes filled shows within = record {
 }
 
 -- cut to nothing and grown
-pub filled_first : (d : Disk) (c a b : List ℕ) (size : ℕ) → a ≡ resized c 0 → b ≡ resized a size → IsFilled d size 0 b
+pub filled_first : (d : Disk) (c a b : List ℕ) (size : ℕ) → a ≡ resized c 0 → b ≡ resized a size → IsFilledUpTo d size 0 b
 filled_first d c a b size cut grown =
-    subst (λ k. IsFilled d size 0 k) (sym (grown ∙ ap (λ k. resized k size) cut))
+    subst (λ k. IsFilledUpTo d size 0 k) (sym (grown ∙ ap (λ k. resized k size) cut))
     (record {
       long = length-resized (resized c 0) size;
       front = λ o lt. absurd (omega (arith, lt));
@@ -62,7 +62,7 @@ filled_first d c a b size cut grown =
     })
 
 -- all is written
-pub filled_all : (d : Disk) (size : ℕ) (bytes : List ℕ) → IsFilled d size size bytes → size ≡ d.size → (size ≡ length bytes) × IsRawOf d bytes
+pub filled_all : (d : Disk) (size : ℕ) (bytes : List ℕ) → IsFilledUpTo d size size bytes → size ≡ d.size → (size ≡ length bytes) × IsRawOf d bytes
 filled_all d size bytes filled is =
     (sym filled.long, (filled.long ∙ is, λ i lt. let at : 0 + i ≡ i = omega arith in ap d.value at ∙ filled.front i (omega (arith, lt, filled.long))))
 
@@ -80,6 +80,6 @@ module _ {S F : Type 0} (view : S → StorageView) (backing : F → BackingView)
       let mid = (same out).answer sound in
       let d : Disk = (guest_of (abstract_of view backing old out)).disk in
       let disk-is : (guest_of (abstract_of view backing new out)).disk ≡ d = ap (λ (x : Guest). x.disk) mid.1 in
-      subst (λ k. IsFilled d size (at + k) c) count
-      (subst (λ (k : Disk). IsFilled k size (at + n) c) disk-is
-      (next out mid.0 size (omega (arith, le, count)) (subst (λ (k : Disk). IsFilled k size at b) (sym disk-is) (first out sound size (omega (arith, le)) filled))))
+      subst (λ k. IsFilledUpTo d size (at + k) c) count
+      (subst (λ (k : Disk). IsFilledUpTo k size (at + n) c) disk-is
+      (next out mid.0 size (omega (arith, le, count)) (subst (λ (k : Disk). IsFilledUpTo k size at b) (sym disk-is) (first out sound size (omega (arith, le)) filled))))

@@ -12,7 +12,7 @@ use Rattle.qcow2_metadata.specs.declared.header.HeaderFields.{HeaderFields}
 use Rattle.qcow2_metadata.specs.Guest.{Value}
 use Rattle.qcow2_metadata.specs.Header.{header, cluster_size, rounded_up}
 use Rattle.qcow2_disk.specs.AbstractImages.{AbstractImage, Setting, guest_of}
-use Rattle.qcow2_disk.specs.Calls.{IsFault, IsShrinkEnd, IsShrunk, gift_of_shrink, gift_of_shrunk}
+use Rattle.qcow2_disk.specs.Calls.{IsRefusalByFault, IsShrinkEnd, IsShrunk, gift_of_shrink, gift_of_shrunk}
 use Rattle.qcow2_disk.specs.Disk.{Disk}
 use Rattle.qcow2_disk.specs.GrownCovers.{GrownCovers, IsRightlyGrown}
 use Rattle.qcow2_disk.specs.Runs.{State, RefinesState, RefinesCommand, done, grow, number_is, refused, shrink}
@@ -75,11 +75,11 @@ module _ (x : Setting) (d d' : Disk) (size answer : ℕ) (some : 0 < x.cluster_s
 abbrev refusal : (A : Type 0) → ImageError → Result A ImageError
 refusal A e = Err e
 
-not_early : (A Same : Type 0) (a b c : Bool) (e : ImageError) → IfSome (option_or (option_or (refuse_if a I.Failed) (refuse_if b I.Dependency)) (refuse_if c I.ReadOnly)) (λ f. (refusal A e ≡ Err f) × Same) → IsFault (refusal_of e)
+not_early : (A Same : Type 0) (a b c : Bool) (e : ImageError) → IfSome (option_or (option_or (refuse_if a I.Failed) (refuse_if b I.Dependency)) (refuse_if c I.ReadOnly)) (λ f. (refusal A e ≡ Err f) × Same) → IsRefusalByFault (refusal_of e)
     → option_or (option_or (refuse_if a I.Failed) (refuse_if b I.Dependency)) (refuse_if c I.ReadOnly) ≡ None
-not_early A Same true b c e early fault = absurd (subst IsFault (error_is early) fault)
-not_early A Same false true c e early fault = absurd (subst IsFault (error_is early) fault)
-not_early A Same false false true e early fault = absurd (subst IsFault (error_is early) fault)
+not_early A Same true b c e early fault = absurd (subst IsRefusalByFault (error_is early) fault)
+not_early A Same false true c e early fault = absurd (subst IsRefusalByFault (error_is early) fault)
+not_early A Same false false true e early fault = absurd (subst IsRefusalByFault (error_is early) fault)
 not_early A Same false false false e early fault = refl
 
 -- where it is answered nothing refused it
@@ -100,7 +100,7 @@ module _ {S F : Type 0} (view : S → StorageView) (backing : F → BackingView)
   IsFilledBehind mode = GrownCovers mode (size_of old) size old.file.header.fields (known_in view old.file) new.file.header.fields (known_in view new.file)
 
   -- where a call has nothing to do, it meets no fault
-  has_work : {A : Type 0} (e : ImageError) (answer : A) → IsEarly {A = A} (Err e) → IsFault (refusal_of e) → (refuses_to_resize old ≡ None → (refusal A e ≡ Ok answer) × (new ≡ old)) → ⊥
+  has_work : {A : Type 0} (e : ImageError) (answer : A) → IsEarly {A = A} (Err e) → IsRefusalByFault (refusal_of e) → (refuses_to_resize old ≡ None → (refusal A e ≡ Ok answer) × (new ≡ old)) → ⊥
   has_work {A = A} e answer early fault nothing =
       let no : refusal A e ≡ Ok answer = (nothing (not_early A (new ≡ old) (is_failed old) (is_external old) (not (is_writable old)) e early fault)).0 in
       cc

@@ -7,7 +7,7 @@ use Rattle.qcow2_metadata.specs.Guest.{Value}
 use Rattle.qcow2_disk.specs.Stops.{GivenBytes, IsGiven, checkpoint_with, StopOkEverywhere}
 use Rattle.qcow2_disk.specs.Disk.{disk}
 use Rattle.qcow2_disk.specs.AbstractImages.{AbstractImage}
-use Rattle.qcow2_disk.specs.Calls.{Refusal, memory, storage, not_compressed, another, IsFault, Works, Acts, Does, Refuses}
+use Rattle.qcow2_disk.specs.Calls.{Refusal, memory, storage, not_compressed, another, IsRefusalByFault, Works, Acts, Does, Refuses}
 use Rattle.qcow2_disk.proofs.Compose.{works_less, works_then, rests_then}
 
 -- a refusal that was passed on
@@ -45,7 +45,7 @@ pub refuses_here : {old new : AbstractImage} {given : List GivenBytes} {asked : 
 refuses_here e none d = record { acts = d.acts; answer = λ sound. inl (d.answer sound); fault = λ is. absurd (none is) }
 
 -- a fault fails the image, so only want of memory can leave it sound
-pub refuses_fault : {old new : AbstractImage} {given : List GivenBytes} {asked : List ℕ} {A : Type 0} (B : Refusal → Type 0) (e : Refusal) → (A → IsFault e) → (A → B memory)
+pub refuses_fault : {old new : AbstractImage} {given : List GivenBytes} {asked : List ℕ} {A : Type 0} (B : Refusal → Type 0) (e : Refusal) → (A → IsRefusalByFault e) → (A → B memory)
     → Refuses old new given asked e A → Refuses old new given asked e (B e)
 refuses_fault B memory why to r = refuses_if to r
 refuses_fault B storage why to r = record { acts = r.acts; answer = λ sound. inr (tt, r.fault refl); fault = r.fault }
@@ -103,11 +103,11 @@ module _ {old mid new : AbstractImage} {gs : List GivenBytes} {e : Refusal} {A B
       number = then.acts.number ∙ first.acts.number;
       works = λ sound. ⊎_elim
           (λ (a : mid.is_sound × A). works_then old mid new gs [] a.0 (first.acts.works sound) (works_less mid new [] gs [] (none_within mid gs) (then.acts.works a.0)))
-          (λ (f : IsFault e × IsTrue mid.is_failed). works_broken (first.acts.works sound) f.1) (first.answer sound);
+          (λ (f : IsRefusalByFault e × IsTrue mid.is_failed). works_broken (first.acts.works sound) f.1) (first.answer sound);
       rests = λ failed. let r = first.acts.rests failed in rests_then old mid new r (then.acts.rests r.failed);
     };
     answer = λ sound. ⊎_elim
         (λ (a : mid.is_sound × A). let b = then.answer a.0 in inl (b.0, (a.1, b.1)))
-        (λ (f : IsFault e × IsTrue mid.is_failed). inr (f.0, (then.acts.rests f.1).failed)) (first.answer sound);
+        (λ (f : IsRefusalByFault e × IsTrue mid.is_failed). inr (f.0, (then.acts.rests f.1).failed)) (first.answer sound);
     fault = λ is. (then.acts.rests (first.fault is)).failed;
   }

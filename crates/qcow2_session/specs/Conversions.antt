@@ -7,8 +7,8 @@ use Rattle.qcow2_metadata.specs.Guest.{known_byte}
 use Rattle.qcow2_disk.specs.Disk.{Disk}
 use Rattle.qcow2_disk.specs.Stops.{GivenBytes}
 use Rattle.qcow2_disk.specs.Mappings.{gift_of}
-use Rattle.qcow2_disk.specs.AbstractImages.{Guest, AbstractImage, guest_of, contents_of}
-use Rattle.qcow2_disk.specs.Calls.{Refusal, IsFault, Acts, Does, IsSame, Shows, MayWrite}
+use Rattle.qcow2_disk.specs.AbstractImages.{Guest, AbstractImage, guest_of, stored_bytes}
+use Rattle.qcow2_disk.specs.Calls.{Refusal, IsRefusalByFault, Acts, Does, IsSame, Shows, MayWrite}
 use Rattle.qcow2_alloc.specs.ImageError.{IsFault as IsOfFault}
 use Rattle.qcow2_alloc.specs.declared.error.ImageError.{ImageError}
 use Rattle.qcow2_alloc.specs.declared.error.ImageError.TheVariants.{InvalidOption}
@@ -34,7 +34,7 @@ IsRefusedUnequal early (Err e) = (early ≡ Some e) ⊎ ((e ≡ InvalidOption) �
 -- It was refused, by the image or by the raw disk: the image is sound, and this is so; or it failed, by a fault or want of memory.
 pub record RefusedConversion (old new : AbstractImage) (given : List GivenBytes) (e : Refusal) (still : Type 0) : Type 0 where
   pub acts : Acts old new given []
-  pub answer : old.is_sound → (new.is_sound × still) ⊎ (IsFault e × IsTrue new.is_failed)
+  pub answer : old.is_sound → (new.is_sound × still) ⊎ (IsRefusalByFault e × IsTrue new.is_failed)
 
 -- The disk has the leading bytes, up to a cluster's start or all of them. Where memory was refused, of those behind them any may be there.
 abbrev pub HasSome : ℕ → List ℕ → Refusal → Guest → Guest → Type 0
@@ -44,7 +44,7 @@ module _ {S F : Type 0} (view : S → StorageView) (backing : F → BackingView)
   -- the disk has all of a raw disk's bytes and nothing else changed, and all is on the storage; or it has some
   abbrev pub Imports : List ℕ → Result ℕ ImageError → Type 0
   Imports bytes (Ok n) = (out : List (Option Prepared)) → let v = abstract_of view backing old out in let w = abstract_of view backing new out in
-      Does v w (gift_of 0 bytes ∷ []) [] ((n ≡ length bytes) × IsRawOf (guest_of w).disk bytes × HasWritten 0 bytes (guest_of v) (guest_of w) × (w.known ≡ contents_of w))
+      Does v w (gift_of 0 bytes ∷ []) [] ((n ≡ length bytes) × IsRawOf (guest_of w).disk bytes × HasWritten 0 bytes (guest_of v) (guest_of w) × (w.known ≡ stored_bytes w))
   Imports bytes (Err e) = (out : List (Option Prepared)) → let v = abstract_of view backing old out in let w = abstract_of view backing new out in
       RefusedConversion v w (gift_of 0 bytes ∷ []) (refusal_of e) (HasSome (cluster_size_of old) bytes (refusal_of e) (guest_of v) (guest_of w))
 
@@ -67,7 +67,7 @@ module _ {S F : Type 0} (view : S → StorageView) (backing : F → BackingView)
   IsUnchanged (Err e) = (out : List (Option Prepared)) → let v = abstract_of view backing old out in let w = abstract_of view backing new out in RefusedConversion v w [] (refusal_of e) (IsSame v w)
 
 -- So far a raw disk of this size has the disk's bytes, and zeros behind them.
-pub record IsFilled (d : Disk) (size at : ℕ) (bytes : List ℕ) : Type 0 where
+pub record IsFilledUpTo (d : Disk) (size at : ℕ) (bytes : List ℕ) : Type 0 where
   pub long : length bytes ≡ size
   pub front : (o : ℕ) → o < at → d.value o ≡ known_byte (byte_at bytes o)
   pub behind : (o : ℕ) → at ≤ o → byte_at bytes o ≡ 0
@@ -76,7 +76,7 @@ module _ {S F : Type 0} (view : S → StorageView) (backing : F → BackingView)
   -- a raw disk is filled further
   abbrev pub Fills : ℕ → ℕ → List ℕ → List ℕ → Type 0
   Fills from to bytes bytes' = (out : List (Option Prepared)) → let v = abstract_of view backing old out in
-      v.is_sound → (size : ℕ) → to ≤ size → IsFilled (guest_of v).disk size from bytes → IsFilled (guest_of v).disk size to bytes'
+      v.is_sound → (size : ℕ) → to ≤ size → IsFilledUpTo (guest_of v).disk size from bytes → IsFilledUpTo (guest_of v).disk size to bytes'
 
   -- a raw disk has all bytes of the disk
   abbrev pub Exports : List ℕ → ℕ → Type 0

@@ -17,7 +17,7 @@ use Rattle.qcow2_alloc.specs.ImageFile.{contents_in}
 use Rattle.qcow2_image.specs.declared.image.Qcow2.{Qcow2}
 use Rattle.qcow2_image.specs.declared.mapping.Mapping.{Mapping}
 use Rattle.qcow2_image.specs.declared.prepared.Prepared.{Prepared}
-use Rattle.qcow2_image.specs.Calls.{Answers, refusal_of}
+use Rattle.qcow2_image.specs.Calls.{AnswersCall, refusal_of}
 use Rattle.qcow2_image.specs.Image.{size_of}
 use Rattle.qcow2_image.specs.Refusals.{passes, IsMet}
 use Rattle.qcow2_image.specs.ImageInvariant.{abstract_of, image_abstraction}
@@ -71,25 +71,25 @@ EndsCluster image place = place % cluster_size_of image ≡ 0
 module _ {S F : Type 0} (view : S → StorageView) (backing : F → BackingView) (old new : Qcow2 S F) where
   -- the bytes that were read are the disk's
   abbrev pub Reads : ℕ → ℕ → Result (Vec ℕ Global) ImageError → Type 0
-  Reads offset n result = Answers view backing old new [] (λ bytes old new. (length bytes.items ≡ n) × Shows old.disk offset bytes.items × (new ≡ old)) result
+  Reads offset n result = AnswersCall view backing old new [] (λ bytes old new. (length bytes.items ≡ n) × Shows old.disk offset bytes.items × (new ≡ old)) result
 
   -- so are those that a buffer was filled with
   abbrev pub ReadsInto : ℕ → List ℕ → Result (Unit {0}) ImageError → Type 0
-  ReadsInto offset bytes result = Answers view backing old new [] (λ _ old new. Shows old.disk offset bytes × (new ≡ old)) result
+  ReadsInto offset bytes result = AnswersCall view backing old new [] (λ _ old new. Shows old.disk offset bytes × (new ≡ old)) result
 
   -- the bytes are there; or so many leading ones, where memory was refused perhaps more
   abbrev pub Writes : ℕ → List ℕ → Result (Unit {0}) (ImageError × ℕ) → Type 0
-  Writes offset bytes (Ok done) = Answers view backing old new (gift_of offset bytes ∷ []) (λ _. HasWritten offset bytes) (Ok done)
+  Writes offset bytes (Ok done) = AnswersCall view backing old new (gift_of offset bytes ∷ []) (λ _. HasWritten offset bytes) (Ok done)
   Writes offset bytes (Err r) = (out : List (Option Prepared)) → let v = abstract_of view backing old out in let w = abstract_of view backing new out in Refuses v w (gift_of offset bytes ∷ []) [] (refusal_of r.0)
       (MayWrite (refusal_of r.0) (guest_of v) offset bytes r.1 (guest_of w))
 
   -- so many of the first bytes were read
   abbrev pub ReadsFirst : ℕ → List ℕ → Result ℕ ImageError → Type 0
-  ReadsFirst offset bytes result = Answers view backing old new [] (λ n old new. Shows old.disk offset (take n bytes) × (new ≡ old)) result
+  ReadsFirst offset bytes result = AnswersCall view backing old new [] (λ n old new. Shows old.disk offset (take n bytes) × (new ≡ old)) result
 
   -- so many of the first bytes were written
   abbrev pub WritesFirst : ℕ → List ℕ → Result ℕ ImageError → Type 0
-  WritesFirst offset bytes (Ok n) = Answers view backing old new (gift_of offset bytes ∷ []) (λ n. HasWritten offset (take n bytes)) (Ok n)
+  WritesFirst offset bytes (Ok n) = AnswersCall view backing old new (gift_of offset bytes ∷ []) (λ n. HasWritten offset (take n bytes)) (Ok n)
   WritesFirst offset bytes (Err e) = Writes offset bytes (Err (e, 0))
 
   -- one command is one step of each run that the image stands at with these mappings

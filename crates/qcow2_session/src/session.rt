@@ -5,7 +5,7 @@ ghost use Rattle.qcow2_image.specs.Prepared.{image_of};
 ghost use Rattle.qcow2_image.specs.ImageInvariant.{abstract_of};
 ghost use Rattle.qcow2_image.specs.Calls.{Discards};
 ghost use Rattle.qcow2_image.specs.Refusals.{unusable, refuses_to_read, refuses_to_prepare};
-ghost use Rattle.qcow2_image.specs.Faults.{CountsFaults, NoFewerFaults, TellsFault};
+ghost use Rattle.qcow2_image.specs.Faults.{CountsImageFaults, NoFewerFaults, TellsFault};
 ghost use Rattle.qcow2_session.specs.CountedFaults.{CommandCounts, RunCounts};
 ghost use Rattle.qcow2_session.specs.Sessions.{IsRightlyBeyond, IsOfReading, IsOfWriting, EndsCluster, Reads, ReadsInto, ReadsFirst, Writes, WritesFirst, CommandSteps, Finds, ReleasesMappings, RunsThrough, RunRefinesDisk, LookupsFindContents};
 ghost use Rattle.qcow2_image.specs.Ranges.{LetsGo};
@@ -135,7 +135,7 @@ pub fn read<S: Storage, F: WrappedFormat<S>>(
 ) -> Result<Vec<u8>, ImageError>
     ensures image { IsSameImage image.old image.new }
     ensures unwritten { StaysUnwritten S.view F.backing image.old image.new }
-    ensures faults { CountsFaults S.view F.backing image.old image.new result }
+    ensures faults { CountsImageFaults S.view F.backing image.old image.new result }
     ensures early { IfSome (refuses_to_read image.old offset length) (λ e. (result ≡ Err e) × (image.new ≡ image.old)) }
     ensures beyond { IfErr result (IsRightlyBeyond image.old offset length) }
     ensures cause { IfErr result IsOfReading }
@@ -160,7 +160,7 @@ pub fn read_into<S: Storage, F: WrappedFormat<S>>(
 ) -> Result<(), ImageError>
     ensures image { IsSameImage image.old image.new }
     ensures unwritten { StaysUnwritten S.view F.backing image.old image.new }
-    ensures faults { CountsFaults S.view F.backing image.old image.new result }
+    ensures faults { CountsImageFaults S.view F.backing image.old image.new result }
     ensures early { IfSome (refuses_to_read image.old offset (length bytes.old)) (λ e. (result ≡ Err e) × (image.new ≡ image.old)) }
     ensures beyond { IfErr result (IsRightlyBeyond image.old offset (length bytes.old)) }
     ensures cause { IfErr result IsOfReading }
@@ -185,7 +185,7 @@ fn read_some<S: Storage, F: WrappedFormat<S>>(
 ) -> Result<usize, ImageError>
     ensures image { IsSameImage image.old image.new }
     ensures unwritten { StaysUnwritten S.view F.backing image.old image.new }
-    ensures faults { CountsFaults S.view F.backing image.old image.new result }
+    ensures faults { CountsImageFaults S.view F.backing image.old image.new result }
     ensures some { IfOk result (λ n. 0 < n) }
     ensures within { IfOk result (λ n. n ≤ length bytes.old) }
     ensures beyond { 0 < length bytes.old → IfErr result (IsRightlyBeyond image.old offset (length bytes.old)) }
@@ -242,7 +242,7 @@ fn write_some<S: Storage, F: WrappedFormat<S>>(
 ) -> Result<usize, ImageError>
     ensures image { IsSameImage image.old image.new }
     ensures unwritten { StaysUnwritten S.view F.backing image.old image.new }
-    ensures faults { CountsFaults S.view F.backing image.old image.new result }
+    ensures faults { CountsImageFaults S.view F.backing image.old image.new result }
     ensures early { IfSome (refuses_to_prepare image.old offset (length bytes.now)) (λ e. (result ≡ Err e) × (image.new ≡ image.old)) }
     ensures some { IfOk result (λ n. 0 < length bytes.now → 0 < n) }
     ensures within { IfOk result (λ n. n ≤ length bytes.now) }
@@ -428,7 +428,7 @@ fn read_range<S: Storage, F: WrappedFormat<S>>(
     requires { at + length ≤ mapping.now.length }
     ensures image { IsSameImage image.old image.new }
     ensures unwritten { StaysUnwritten S.view F.backing image.old image.new }
-    ensures faults { CountsFaults S.view F.backing image.old image.new result }
+    ensures faults { CountsImageFaults S.view F.backing image.old image.new result }
     ensures early { IfSome (unusable image.old) (λ e. (result ≡ Err e) × (image.new ≡ image.old)) }
     ensures sees { Reads S.view F.backing image.old image.new (mapping.now.offset + at) length result }
 {

@@ -1,12 +1,12 @@
 //! The commands that read what isn't mapped plainly.
 ghost use Rattle.std.specs.Prelude.{◌≡◌, [], List, Option, IfErr, IfOk, IfSome, MatchOption, Err};
 ghost use Rattle.qcow2_alloc.specs.ImageFile.{known_in};
-ghost use Rattle.qcow2_image.specs.Calls.{Answers};
+ghost use Rattle.qcow2_image.specs.Calls.{AnswersCall};
 ghost use Rattle.qcow2_image.specs.Image.{IsSameImage};
 ghost use Rattle.qcow2_image.specs.Refusals.{unusable};
 ghost use Rattle.qcow2_image.specs.ImageInvariant.{abstract_of};
 ghost use Rattle.qcow2_image.specs.declared.prepared.Prepared.{Prepared};
-ghost use Rattle.qcow2_image.specs.Faults.{CountsFaults};
+ghost use Rattle.qcow2_image.specs.Faults.{CountsImageFaults};
 ghost use Rattle.qcow2_session.specs.CountedFaults.{CommandCounts};
 ghost use Rattle.qcow2_session.specs.Commands.{IsOwnOffset, TellsPlain, TellsSpecial};
 ghost use Rattle.qcow2_session.specs.Sessions.{CommandSteps, Finds};
@@ -65,12 +65,12 @@ fn read_range<S: Storage, F: WrappedFormat<S>>(
 ) -> Result<(), ImageError>
     ensures image { IsSameImage image.old image.new }
     ensures unwritten { StaysUnwritten S.view F.backing image.old image.new }
-    ensures faults { CountsFaults S.view F.backing image.old image.new result }
+    ensures faults { CountsImageFaults S.view F.backing image.old image.new result }
     ensures early { IfSome (unusable image.old) (λ e. (result ≡ Err e) × (image.new ≡ image.old)) }
     ensures empty { IfOk result (λ done. length ≡ 0) }
     ensures own { IfErr result (IsOwnOffset offset) }
     ensures tells { (out : List (Option Prepared)) → (abstract_of S.view F.backing image.old out).is_sound → TellsSpecial (known_in S.view image.old.file) offset length result }
-    ensures sees { Answers S.view F.backing image.old image.new [] (λ done was is. is ≡ was) result }
+    ensures sees { AnswersCall S.view F.backing image.old image.new [] (λ done was is. is ≡ was) result }
 {
     image.check_read(0, 0)?;
     let mut bytes = vec![in alloc; 0; length as usize]?;
@@ -85,11 +85,11 @@ fn try_range<S: Storage, F: WrappedFormat<S>>(
 ) -> Result<Option<u64>, ImageError>
     ensures image { IsSameImage image.old image.new }
     ensures unwritten { StaysUnwritten S.view F.backing image.old image.new }
-    ensures faults { CountsFaults S.view F.backing image.old image.new result }
+    ensures faults { CountsImageFaults S.view F.backing image.old image.new result }
     ensures early { IfSome (unusable image.old) (λ e. (result ≡ Err e) × (image.new ≡ image.old)) }
     ensures answer { IfOk result (λ plain. MatchOption plain (length ≡ 0) (λ at. at ≡ offset)) }
     ensures tells { (out : List (Option Prepared)) → (abstract_of S.view F.backing image.old out).is_sound → TellsPlain (known_in S.view image.old.file) offset length result }
-    ensures sees { Answers S.view F.backing image.old image.new [] (λ plain was is. is ≡ was) result }
+    ensures sees { AnswersCall S.view F.backing image.old image.new [] (λ plain was is. is ≡ was) result }
 {
     image.check_read(0, 0)?;
     let mut bytes = vec![in alloc; 0; length as usize]?;

@@ -4,8 +4,8 @@ use Rattle.std.proofs.lemmas.List.{map-append}
 use Rattle.std.specs.Io.BufRead.{take_through, drop_through, strip_last}
 use Rattle.std.specs.Option.{MatchOption}
 use Rattle.qcow2_session.specs.declared.session.Command.{Command}
-use Rattle.qimg.specs.Lines.{Order, order, order_of_line}
-use Rattle.qimg.specs.Reading.{BeginsWith, Asks, IsScriptOf, nothing, and_then}
+use Rattle.qimg.specs.Lines.{Order, order_of_command, order_of_line}
+use Rattle.qimg.specs.Reading.{BeginsWith, Asks, IsScriptOf, no_orders, and_then}
 
 -- what a call that read a line leaves known
 abbrev pub ReadsOn : Option (List ℕ) → Order → Option (List ℕ) → Type 0
@@ -17,23 +17,23 @@ reads_on (Some text) left start bytes asked empty is asks rest =
     let whole : bytes ≡ take_through 10 text = is ∙ ap (λ it. it ++ take_through 10 text) empty in
     (drop_through 10 text, rest, record { line = rw (sym whole) asks; rest = refl })
 
-pub reads_next : (known left : Option (List ℕ)) (next : Option Command) (command : Command) → next ≡ Some command → IfSome known (λ text. MatchOption next (text ≡ []) (λ it. (rest : List ℕ) × (left ≡ Some rest) × BeginsWith text (order it) rest)) → ReadsOn known (order command) left
+pub reads_next : (known left : Option (List ℕ)) (next : Option Command) (command : Command) → next ≡ Some command → IfSome known (λ text. MatchOption next (text ≡ []) (λ it. (rest : List ℕ) × (left ≡ Some rest) × BeginsWith text (order_of_command it) rest)) → ReadsOn known (order_of_command command) left
 reads_next None left next command e read = tt
 reads_next (Some text) left next command e read =
-    let P : Option Command → Type 0 = λ n. MatchOption n (text ≡ []) (λ it. (rest : List ℕ) × (left ≡ Some rest) × BeginsWith text (order it) rest) in
+    let P : Option Command → Type 0 = λ n. MatchOption n (text ≡ []) (λ it. (rest : List ℕ) × (left ≡ Some rest) × BeginsWith text (order_of_command it) rest) in
     subst P e read
 
 -- the first lines of a text ask for these commands, and that is known to be left
 pub record HasAsked (text : List ℕ) (commands : List Command) (left : Option (List ℕ)) : Type 0 where
   pub rest : List ℕ
   pub left_is : left ≡ Some rest
-  pub asks : Asks text (map order commands) rest
+  pub asks : Asks text (map order_of_command commands) rest
 
 pub asked_none : (known : Option (List ℕ)) (commands : List Command) → commands ≡ [] → IfSome known (λ text. HasAsked text commands known)
 asked_none None commands e = tt
-asked_none (Some text) commands e = record { rest = text; left_is = refl; asks = rw e nothing }
+asked_none (Some text) commands e = record { rest = text; left_is = refl; asks = rw e no_orders }
 
-pub asked_more : (known mid left : Option (List ℕ)) (commands all : List Command) (command : Command) → all ≡ commands ++ command ∷ [] → IfSome known (λ text. HasAsked text commands mid) → ReadsOn mid (order command) left → IfSome known (λ text. HasAsked text all left)
+pub asked_more : (known mid left : Option (List ℕ)) (commands all : List Command) (command : Command) → all ≡ commands ++ command ∷ [] → IfSome known (λ text. HasAsked text commands mid) → ReadsOn mid (order_of_command command) left → IfSome known (λ text. HasAsked text all left)
 asked_more None mid left commands all command e before now = tt
 asked_more (Some text) None left commands all command e before now = let never : None ≡ Some before.rest = before.left_is in cc
 asked_more (Some text) (Some between) left commands all command e before (rest, left_is, begins) = record {
@@ -41,8 +41,8 @@ asked_more (Some text) (Some between) left commands all command e before (rest, 
   left_is = left_is;
   asks =
       let same : between ≡ before.rest = cc in
-      let asks : Asks text (map order commands) between = rw same before.asks in
-      rw e (rw (map-append order commands (command ∷ [])) (and_then (map order commands) between (order command) rest asks begins));
+      let asks : Asks text (map order_of_command commands) between = rw same before.asks in
+      rw e (rw (map-append order_of_command commands (command ∷ [])) (and_then (map order_of_command commands) between (order_of_command command) rest asks begins));
 }
 
 -- where nothing was cut off, all lines are asked

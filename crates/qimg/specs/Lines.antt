@@ -8,7 +8,7 @@ use Rattle.image_access.specs.declared.storage.PreallocateMode.TheVariants as Mo
 use Rattle.hex.specs.Hex.{decode_of, decode_sized}
 use Rattle.qcow2_session.specs.declared.session.Command.{Command}
 use Rattle.qcow2_session.specs.declared.session.Command.TheVariants as C
-use Rattle.program_parts.specs.Numbers.{number_of}
+use Rattle.program_parts.specs.Numbers.{number_of_word}
 
 -- what a command does to the image
 pub data Order : Type 0 where
@@ -31,24 +31,24 @@ pub data Order : Type 0 where
   -- what no line asks for
   other : Order
 
-abbrev pub order : Command → Order
-order (C.Read offset length) = reads offset length
-order (C.Write offset bytes) = writes offset bytes.items
-order (C.GetMapping slot offset max) = maps slot offset max
-order (C.PrepareDataMapping slot offset length overwrite) = prepares slot offset length overwrite
-order (C.WriteMapped slot at bytes) = puts slot at bytes.items
-order (C.CommitDataMapping slot) = commits slot
-order (C.DiscardDataMapping slot) = drops slot
-order (C.EnsureZeroMapping offset length) = zeroes offset length
-order (C.DiscardToZero offset length) = discards_to_zero offset length
-order (C.DiscardToAny offset length) = discards_to_any offset length
-order (C.DiscardToBacking offset length) = discards_to_backing offset length
-order (C.ReadvSpecial offset length) = reads_special offset length
-order (C.ResizeGrow size mode) = grows size mode
-order (C.ResizeShrink size) = shrinks size
-order C.Flush = flushes
-order C.Size = sizes
-order _ = other
+abbrev pub order_of_command : Command → Order
+order_of_command (C.Read offset length) = reads offset length
+order_of_command (C.Write offset bytes) = writes offset bytes.items
+order_of_command (C.GetMapping slot offset max) = maps slot offset max
+order_of_command (C.PrepareDataMapping slot offset length overwrite) = prepares slot offset length overwrite
+order_of_command (C.WriteMapped slot at bytes) = puts slot at bytes.items
+order_of_command (C.CommitDataMapping slot) = commits slot
+order_of_command (C.DiscardDataMapping slot) = drops slot
+order_of_command (C.EnsureZeroMapping offset length) = zeroes offset length
+order_of_command (C.DiscardToZero offset length) = discards_to_zero offset length
+order_of_command (C.DiscardToAny offset length) = discards_to_any offset length
+order_of_command (C.DiscardToBacking offset length) = discards_to_backing offset length
+order_of_command (C.ReadvSpecial offset length) = reads_special offset length
+order_of_command (C.ResizeGrow size mode) = grows size mode
+order_of_command (C.ResizeShrink size) = shrinks size
+order_of_command C.Flush = flushes
+order_of_command C.Size = sizes
+order_of_command _ = other
 
 -- the length of a `read`, a `fill` or a `special`, at most 1 MiB
 abbrev pub length_within : Option ℕ → Option ℕ
@@ -97,7 +97,7 @@ fills_with _ _ _ = None
 
 -- OFFSET LENGTH of a `read`
 abbrev pub read_of : List (List ℕ) → Option Order
-read_of (offset ∷ length ∷ []) = reads_with (number_of offset) (length_within (number_of length))
+read_of (offset ∷ length ∷ []) = reads_with (number_of_word offset) (length_within (number_of_word length))
 read_of _ = None
 
 abbrev pub special_with : Option ℕ → Option ℕ → Option Order
@@ -106,22 +106,22 @@ special_with _ _ = None
 
 -- OFFSET LENGTH of a `special`
 abbrev pub special_of : List (List ℕ) → Option Order
-special_of (offset ∷ length ∷ []) = special_with (number_of offset) (length_within (number_of length))
+special_of (offset ∷ length ∷ []) = special_with (number_of_word offset) (length_within (number_of_word length))
 special_of _ = None
 
 -- OFFSET LENGTH of a `map`, which uses slot 0
 abbrev pub map_of : List (List ℕ) → Option Order
-map_of (offset ∷ length ∷ []) = maps_with (number_of offset) (number_of length)
+map_of (offset ∷ length ∷ []) = maps_with (number_of_word offset) (number_of_word length)
 map_of _ = None
 
 -- OFFSET HEX of a `write`
 abbrev pub write_of : List (List ℕ) → Option Order
-write_of (offset ∷ pairs ∷ []) = writes_with (number_of offset) (bytes_of pairs)
+write_of (offset ∷ pairs ∷ []) = writes_with (number_of_word offset) (bytes_of pairs)
 write_of _ = None
 
 -- OFFSET LENGTH BB of a `fill`
 abbrev pub fill_of : List (List ℕ) → Option Order
-fill_of (offset ∷ length ∷ pair ∷ []) = fills_with (number_of offset) (length_within (number_of length)) (byte_of pair)
+fill_of (offset ∷ length ∷ pair ∷ []) = fills_with (number_of_word offset) (length_within (number_of_word length)) (byte_of pair)
 fill_of _ = None
 
 abbrev pub prepares_with : Option ℕ → Option ℕ → Option ℕ → Option Bool → Option Order
@@ -134,17 +134,17 @@ puts_with _ _ _ = None
 
 -- SLOT OFFSET LENGTH overwrite (or keep) of a `prepare`
 abbrev pub prepare_of : List (List ℕ) → Option Order
-prepare_of (slot ∷ offset ∷ length ∷ how ∷ []) = prepares_with (slot_within (number_of slot)) (number_of offset) (number_of length) (overwrite_of how)
+prepare_of (slot ∷ offset ∷ length ∷ how ∷ []) = prepares_with (slot_within (number_of_word slot)) (number_of_word offset) (number_of_word length) (overwrite_of how)
 prepare_of _ = None
 
 -- SLOT AT HEX of a `put`
 abbrev pub put_of : List (List ℕ) → Option Order
-put_of (slot ∷ at ∷ pairs ∷ []) = puts_with (slot_within (number_of slot)) (number_of at) (bytes_of pairs)
+put_of (slot ∷ at ∷ pairs ∷ []) = puts_with (slot_within (number_of_word slot)) (number_of_word at) (bytes_of pairs)
 put_of _ = None
 
 -- SLOT of a `commit` or a `drop`
 abbrev pub slot_alone : List (List ℕ) → Option ℕ
-slot_alone (slot ∷ []) = slot_within (number_of slot)
+slot_alone (slot ∷ []) = slot_within (number_of_word slot)
 slot_alone _ = None
 
 abbrev pub commit_of : Option ℕ → Option Order
@@ -161,7 +161,7 @@ range_with _ _ = None
 
 -- OFFSET LENGTH of a `zero`, `dzero`, `dany` or `dback`
 abbrev pub range_alone : List (List ℕ) → Option (ℕ × ℕ)
-range_alone (offset ∷ length ∷ []) = range_with (number_of offset) (number_of length)
+range_alone (offset ∷ length ∷ []) = range_with (number_of_word offset) (number_of_word length)
 range_alone _ = None
 
 abbrev pub clear_of : (ℕ → ℕ → Order) → Option (ℕ × ℕ) → Option Order
@@ -184,7 +184,7 @@ grows_with _ _ = None
 
 -- SIZE MODE of a `grow`
 abbrev pub grow_of : List (List ℕ) → Option Order
-grow_of (size ∷ how ∷ []) = grows_with (number_of size) (mode_of how)
+grow_of (size ∷ how ∷ []) = grows_with (number_of_word size) (mode_of how)
 grow_of _ = None
 
 abbrev pub shrinks_with : Option ℕ → Option Order
@@ -193,7 +193,7 @@ shrinks_with None = None
 
 -- SIZE of a `shrink`
 abbrev pub shrink_of : List (List ℕ) → Option Order
-shrink_of (size ∷ []) = shrinks_with (number_of size)
+shrink_of (size ∷ []) = shrinks_with (number_of_word size)
 shrink_of _ = None
 
 -- a line of one word

@@ -6,12 +6,12 @@ use Rattle.std.specs.List.{list_any}
 use Rattle.image_access.specs.Backing.{BackingView}
 use Rattle.image_access.specs.Moments.{StorageView}
 use Rattle.qcow2_image.specs.declared.image.Qcow2.{Qcow2}
-use Rattle.qcow2_image.specs.Calls.{Flushes}
+use Rattle.qcow2_image.specs.Calls.{FlushesImage}
 use Rattle.qcow2_image.specs.Image.{storage_of_image}
 use Rattle.qcow2_session.specs.Opening.{Headline}
 use Rattle.qcow2_session.specs.declared.session.Command.{Command}
 use Rattle.qcow2_session.specs.declared.session.Reply.{Reply}
-use Rattle.qimg.specs.Lines.{order}
+use Rattle.qimg.specs.Lines.{order_of_command}
 use Rattle.qimg.specs.Printing.{is_refusal, text_of}
 use Rattle.qimg.specs.Reading.{Asks}
 
@@ -28,11 +28,11 @@ module _ {S F : Type 0} (view : S → StorageView) (backing : F → BackingView)
     pub headline : Headline view backing (view start) commands (Ok run)
     pub answers : ArePrinted (length commands) run.1.items old new
     pub flushed : Qcow2 S F
-    pub flush : Flushes view backing run.0 flushed (Ok tt)
+    pub flush : FlushesImage view backing run.0 flushed (Ok tt)
     pub storage : end ≡ storage_of_image flushed
 
   -- Each line of a text, where it is known, asked for a command, and these were run so.
-  pub record IsAnswered (text : Option (List ℕ)) (old new : Option (List ℕ)) : Type 0 where
+  pub record HasRunText (text : Option (List ℕ)) (old new : Option (List ℕ)) : Type 0 where
     pub commands : List Command
-    pub asks : IfSome text (λ text. Asks text (map order commands) [])
+    pub asks : IfSome text (λ text. Asks text (map order_of_command commands) [])
     pub ran : HasRun commands old new

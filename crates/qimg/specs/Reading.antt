@@ -10,7 +10,7 @@ pub record BeginsWith (text : List ℕ) (asked : Order) (left : List ℕ) : Type
 
 -- the first lines of a text ask for these, one after the other, and that is left
 pub data Asks (text : List ℕ) : List Order → List ℕ → Type 0 where
-  nothing : Asks text [] text
+  no_orders : Asks text [] text
   and_then : (orders : List Order) (rest : List ℕ) (asked : Order) (left : List ℕ) → Asks text orders rest → BeginsWith rest asked left → Asks text (orders ++ asked ∷ []) left
 
 -- These orders are those of the first lines of a text, and of all of them where nothing cut them off.

@@ -4,7 +4,7 @@ use Rattle.std.specs.Str.{bytes_eq}
 use Rattle.image_access.specs.declared.storage.PreallocateMode.{PreallocateMode}
 use Rattle.qimg.specs.declared.words.Invocation.{Invocation}
 use Rattle.qimg.specs.declared.words.Invocation.TheVariants as I
-use Rattle.program_parts.specs.Numbers.{number_of}
+use Rattle.program_parts.specs.Numbers.{number_of_word}
 use Rattle.qimg.specs.Lines.{mode_of}
 
 -- an image made, run commands on, checked, made of a raw disk, or a raw disk made of it
@@ -32,14 +32,14 @@ imports_with raw file (Some cluster) (Some width) = Some (imports raw file clust
 imports_with raw file _ _ = None
 
 -- `run FILE`, `check FILE`, `export FILE RAW`, `import RAW FILE CLUSTER WIDTH` with two numbers, or `create FILE SIZE CLUSTER WIDTH MODE` with three and a mode's word; nothing else is read
-abbrev pub asked_by : List (List ℕ) → Option Asked
-asked_by (name ∷ file ∷ []) =
+abbrev pub asked_by_words : List (List ℕ) → Option Asked
+asked_by_words (name ∷ file ∷ []) =
     if bytes_eq name (codes "run") then Some (runs file)
     else if bytes_eq name (codes "check") then Some (checks file)
     else None
-asked_by (name ∷ file ∷ raw ∷ []) = if bytes_eq name (codes "export") then Some (exports file raw) else None
-asked_by (name ∷ raw ∷ file ∷ cluster ∷ width ∷ []) =
-    if bytes_eq name (codes "import") then imports_with raw file (number_of cluster) (number_of width) else None
-asked_by (name ∷ file ∷ size ∷ cluster ∷ width ∷ mode ∷ []) =
-    if bytes_eq name (codes "create") then creates_with file (number_of size) (number_of cluster) (number_of width) (mode_of mode) else None
-asked_by _ = None
+asked_by_words (name ∷ file ∷ raw ∷ []) = if bytes_eq name (codes "export") then Some (exports file raw) else None
+asked_by_words (name ∷ raw ∷ file ∷ cluster ∷ width ∷ []) =
+    if bytes_eq name (codes "import") then imports_with raw file (number_of_word cluster) (number_of_word width) else None
+asked_by_words (name ∷ file ∷ size ∷ cluster ∷ width ∷ mode ∷ []) =
+    if bytes_eq name (codes "create") then creates_with file (number_of_word size) (number_of_word cluster) (number_of_word width) (mode_of mode) else None
+asked_by_words _ = None

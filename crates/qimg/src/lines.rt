@@ -1,7 +1,7 @@
 ghost use Rattle.std.specs.Prelude.{◌≡◌, ◌==◌, List, ℕ, map, IfOk, IsErrOf, None, Some};
 ghost use Rattle.std.specs.List.{list_all, slice_split};
-ghost use Rattle.qimg.specs.Lines.{length_within, is_lower_hex_digit, bytes_of, byte_of, order, order_alone, read_of, special_of, map_of, write_of, fill_of, slot_within, overwrite_of, mode_of, grow_of, shrink_of, prepare_of, put_of, slot_alone, range_alone, clear_of, zeroes, discards_to_zero, discards_to_any, discards_to_backing, order_of_words, order_of_line};
-ghost use Rattle.program_parts.specs.Numbers.{number_of};
+ghost use Rattle.qimg.specs.Lines.{length_within, is_lower_hex_digit, bytes_of, byte_of, order_of_command, order_alone, read_of, special_of, map_of, write_of, fill_of, slot_within, overwrite_of, mode_of, grow_of, shrink_of, prepare_of, put_of, slot_alone, range_alone, clear_of, zeroes, discards_to_zero, discards_to_any, discards_to_backing, order_of_words, order_of_line};
+ghost use Rattle.program_parts.specs.Numbers.{number_of_word};
 ghost use Rattle.qimg.specs.declared.lines.LineError.TheVariants.{Unreadable, Memory};
 
 use hex::FromHexError;
@@ -32,7 +32,7 @@ impl From<AllocError> for LineError {
 
 /// The command of a line, which is given without its end.
 pub fn parse_line(alloc: Global, line: &str) -> Result<Command, LineError>
-    ensures ok { IfOk result (λ command. order_of_line line.now ≡ Some (order command)) }
+    ensures ok { IfOk result (λ command. order_of_line line.now ≡ Some (order_of_command command)) }
     ensures unreadable { IsErrOf result Unreadable → order_of_line line.now ≡ None }
 {
     let words = split_words(alloc, line)?;
@@ -46,7 +46,7 @@ fn split_words(alloc: Global, line: &str) -> Result<Vec<&str>, AllocError>
 }
 
 fn parse_words(alloc: Global, words: &[&str]) -> Result<Command, LineError>
-    ensures ok { IfOk result (λ command. order_of_words (map (λ word. word.now) words.now) ≡ Some (order command)) }
+    ensures ok { IfOk result (λ command. order_of_words (map (λ word. word.now) words.now) ≡ Some (order_of_command command)) }
     ensures unreadable { IsErrOf result Unreadable → order_of_words (map (λ word. word.now) words.now) ≡ None }
 {
     let Some((name, operands)) = words.split_first() else {
@@ -80,8 +80,8 @@ fn parse_words(alloc: Global, words: &[&str]) -> Result<Command, LineError>
 
 // A command without operands.
 fn alone(command: Command, operands: &[&str]) -> Result<Command, LineError>
-    ensures ok { IfOk result (λ it. order_alone (order command) (map (λ word. word.now) operands.now) ≡ Some (order it)) }
-    ensures unreadable { IsErrOf result Unreadable → order_alone (order command) (map (λ word. word.now) operands.now) ≡ None }
+    ensures ok { IfOk result (λ it. order_alone (order_of_command command) (map (λ word. word.now) operands.now) ≡ Some (order_of_command it)) }
+    ensures unreadable { IsErrOf result Unreadable → order_alone (order_of_command command) (map (λ word. word.now) operands.now) ≡ None }
 {
     if !operands.is_empty() {
         return Err(LineError::Unreadable);
@@ -90,7 +90,7 @@ fn alone(command: Command, operands: &[&str]) -> Result<Command, LineError>
 }
 
 fn read_command(operands: &[&str]) -> Result<Command, LineError>
-    ensures ok { IfOk result (λ command. read_of (map (λ word. word.now) operands.now) ≡ Some (order command)) }
+    ensures ok { IfOk result (λ command. read_of (map (λ word. word.now) operands.now) ≡ Some (order_of_command command)) }
     ensures unreadable { IsErrOf result Unreadable → read_of (map (λ word. word.now) operands.now) ≡ None }
 {
     let [offset, length] = operands else {
@@ -103,7 +103,7 @@ fn read_command(operands: &[&str]) -> Result<Command, LineError>
 }
 
 fn special_command(operands: &[&str]) -> Result<Command, LineError>
-    ensures ok { IfOk result (λ command. special_of (map (λ word. word.now) operands.now) ≡ Some (order command)) }
+    ensures ok { IfOk result (λ command. special_of (map (λ word. word.now) operands.now) ≡ Some (order_of_command command)) }
     ensures unreadable { IsErrOf result Unreadable → special_of (map (λ word. word.now) operands.now) ≡ None }
 {
     let [offset, length] = operands else {
@@ -116,7 +116,7 @@ fn special_command(operands: &[&str]) -> Result<Command, LineError>
 }
 
 fn map_command(operands: &[&str]) -> Result<Command, LineError>
-    ensures ok { IfOk result (λ command. map_of (map (λ word. word.now) operands.now) ≡ Some (order command)) }
+    ensures ok { IfOk result (λ command. map_of (map (λ word. word.now) operands.now) ≡ Some (order_of_command command)) }
     ensures unreadable { IsErrOf result Unreadable → map_of (map (λ word. word.now) operands.now) ≡ None }
 {
     let [offset, length] = operands else {
@@ -133,7 +133,7 @@ fn map_command(operands: &[&str]) -> Result<Command, LineError>
 }
 
 fn write_command(alloc: Global, operands: &[&str]) -> Result<Command, LineError>
-    ensures ok { IfOk result (λ command. write_of (map (λ word. word.now) operands.now) ≡ Some (order command)) }
+    ensures ok { IfOk result (λ command. write_of (map (λ word. word.now) operands.now) ≡ Some (order_of_command command)) }
     ensures unreadable { IsErrOf result Unreadable → write_of (map (λ word. word.now) operands.now) ≡ None }
 {
     let [offset, pairs] = operands else {
@@ -147,7 +147,7 @@ fn write_command(alloc: Global, operands: &[&str]) -> Result<Command, LineError>
 }
 
 fn fill_command(alloc: Global, operands: &[&str]) -> Result<Command, LineError>
-    ensures ok { IfOk result (λ command. fill_of (map (λ word. word.now) operands.now) ≡ Some (order command)) }
+    ensures ok { IfOk result (λ command. fill_of (map (λ word. word.now) operands.now) ≡ Some (order_of_command command)) }
     ensures unreadable { IsErrOf result Unreadable → fill_of (map (λ word. word.now) operands.now) ≡ None }
 {
     let [offset, length, pair] = operands else {
@@ -165,7 +165,7 @@ fn fill_command(alloc: Global, operands: &[&str]) -> Result<Command, LineError>
 }
 
 fn prepare_command(operands: &[&str]) -> Result<Command, LineError>
-    ensures ok { IfOk result (λ command. prepare_of (map (λ word. word.now) operands.now) ≡ Some (order command)) }
+    ensures ok { IfOk result (λ command. prepare_of (map (λ word. word.now) operands.now) ≡ Some (order_of_command command)) }
     ensures unreadable { IsErrOf result Unreadable → prepare_of (map (λ word. word.now) operands.now) ≡ None }
 {
     let [slot, offset, length, how] = operands else {
@@ -188,7 +188,7 @@ fn prepare_command(operands: &[&str]) -> Result<Command, LineError>
 }
 
 fn put_command(alloc: Global, operands: &[&str]) -> Result<Command, LineError>
-    ensures ok { IfOk result (λ command. put_of (map (λ word. word.now) operands.now) ≡ Some (order command)) }
+    ensures ok { IfOk result (λ command. put_of (map (λ word. word.now) operands.now) ≡ Some (order_of_command command)) }
     ensures unreadable { IsErrOf result Unreadable → put_of (map (λ word. word.now) operands.now) ≡ None }
 {
     let [slot, at, pairs] = operands else {
@@ -202,7 +202,7 @@ fn put_command(alloc: Global, operands: &[&str]) -> Result<Command, LineError>
 }
 
 fn zero_command(operands: &[&str]) -> Result<Command, LineError>
-    ensures ok { IfOk result (λ command. clear_of zeroes (range_alone (map (λ word. word.now) operands.now)) ≡ Some (order command)) }
+    ensures ok { IfOk result (λ command. clear_of zeroes (range_alone (map (λ word. word.now) operands.now)) ≡ Some (order_of_command command)) }
     ensures unreadable { IsErrOf result Unreadable → clear_of zeroes (range_alone (map (λ word. word.now) operands.now)) ≡ None }
 {
     let (offset, length) = range_of_operands(operands)?;
@@ -210,7 +210,7 @@ fn zero_command(operands: &[&str]) -> Result<Command, LineError>
 }
 
 fn discard_to_zero_command(operands: &[&str]) -> Result<Command, LineError>
-    ensures ok { IfOk result (λ command. clear_of discards_to_zero (range_alone (map (λ word. word.now) operands.now)) ≡ Some (order command)) }
+    ensures ok { IfOk result (λ command. clear_of discards_to_zero (range_alone (map (λ word. word.now) operands.now)) ≡ Some (order_of_command command)) }
     ensures unreadable { IsErrOf result Unreadable → clear_of discards_to_zero (range_alone (map (λ word. word.now) operands.now)) ≡ None }
 {
     let (offset, length) = range_of_operands(operands)?;
@@ -218,7 +218,7 @@ fn discard_to_zero_command(operands: &[&str]) -> Result<Command, LineError>
 }
 
 fn discard_to_any_command(operands: &[&str]) -> Result<Command, LineError>
-    ensures ok { IfOk result (λ command. clear_of discards_to_any (range_alone (map (λ word. word.now) operands.now)) ≡ Some (order command)) }
+    ensures ok { IfOk result (λ command. clear_of discards_to_any (range_alone (map (λ word. word.now) operands.now)) ≡ Some (order_of_command command)) }
     ensures unreadable { IsErrOf result Unreadable → clear_of discards_to_any (range_alone (map (λ word. word.now) operands.now)) ≡ None }
 {
     let (offset, length) = range_of_operands(operands)?;
@@ -226,7 +226,7 @@ fn discard_to_any_command(operands: &[&str]) -> Result<Command, LineError>
 }
 
 fn discard_to_backing_command(operands: &[&str]) -> Result<Command, LineError>
-    ensures ok { IfOk result (λ command. clear_of discards_to_backing (range_alone (map (λ word. word.now) operands.now)) ≡ Some (order command)) }
+    ensures ok { IfOk result (λ command. clear_of discards_to_backing (range_alone (map (λ word. word.now) operands.now)) ≡ Some (order_of_command command)) }
     ensures unreadable { IsErrOf result Unreadable → clear_of discards_to_backing (range_alone (map (λ word. word.now) operands.now)) ≡ None }
 {
     let (offset, length) = range_of_operands(operands)?;
@@ -234,7 +234,7 @@ fn discard_to_backing_command(operands: &[&str]) -> Result<Command, LineError>
 }
 
 fn grow_command(operands: &[&str]) -> Result<Command, LineError>
-    ensures ok { IfOk result (λ command. grow_of (map (λ word. word.now) operands.now) ≡ Some (order command)) }
+    ensures ok { IfOk result (λ command. grow_of (map (λ word. word.now) operands.now) ≡ Some (order_of_command command)) }
     ensures unreadable { IsErrOf result Unreadable → grow_of (map (λ word. word.now) operands.now) ≡ None }
 {
     let [size, how] = operands else {
@@ -247,7 +247,7 @@ fn grow_command(operands: &[&str]) -> Result<Command, LineError>
 }
 
 fn shrink_command(operands: &[&str]) -> Result<Command, LineError>
-    ensures ok { IfOk result (λ command. shrink_of (map (λ word. word.now) operands.now) ≡ Some (order command)) }
+    ensures ok { IfOk result (λ command. shrink_of (map (λ word. word.now) operands.now) ≡ Some (order_of_command command)) }
     ensures unreadable { IsErrOf result Unreadable → shrink_of (map (λ word. word.now) operands.now) ≡ None }
 {
     let [size] = operands else {
@@ -299,7 +299,7 @@ fn slot_of_operands(operands: &[&str]) -> Result<u8, LineError>
 }
 
 fn slot_of(word: &str) -> Option<u8>
-    ensures { result ≡ slot_within (number_of word.now) }
+    ensures { result ≡ slot_within (number_of_word word.now) }
 {
     u8::try_from(number(word)?).ok()
 }
@@ -316,7 +316,7 @@ fn overwrite(word: &str) -> Option<bool>
 }
 
 fn short_length(word: &str) -> Option<u64>
-    ensures { result ≡ length_within (number_of word.now) }
+    ensures { result ≡ length_within (number_of_word word.now) }
 {
     let length = number(word)?;
     if length <= LONGEST {

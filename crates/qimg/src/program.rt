@@ -2,8 +2,8 @@ ghost use Rattle.std.specs.Prelude.{◌≡◌, ◌≤◌, ◌∷◌, ◌++◌, [
 ghost use Rattle.std.specs.Io.KnownBytes.{Appends, Keeps};
 ghost use Rattle.image_access.specs.Moments.{ContentsStay};
 ghost use Rattle.qcow2_image.specs.Opened.{NeedsAnother};
-ghost use Rattle.qcow2_image.specs.Calls.{Flushes};
-ghost use Rattle.qimg.specs.Program.{ArePrinted, HasRun, IsAnswered};
+ghost use Rattle.qcow2_image.specs.Calls.{FlushesImage};
+ghost use Rattle.qimg.specs.Program.{ArePrinted, HasRun, HasRunText};
 
 use crate::messages::{report_bad_line, report_refused};
 use crate::printing::{any_refused, print_refusal, print_replies};
@@ -69,7 +69,7 @@ pub fn script<S: Storage, F: WrappedFormat<S>, R: BufRead, W: Write, M: Write>(
     messages: &mut M,
 ) -> (u8, S)
     ensures bound { result.0 ≤ 2 }
-    ensures done { result.0 ≡ 0 → IsAnswered S.view F.backing storage result.1 (R.remaining input.old) (W.contents output.old) (W.contents output.new) }
+    ensures done { result.0 ≡ 0 → HasRunText S.view F.backing storage result.1 (R.remaining input.old) (W.contents output.old) (W.contents output.new) }
     ensures another { (S.view storage).is_honest → NeedsAnother (S.view storage).contents → ContentsStay (S.view storage) (S.view result.1) }
 {
     let Ok(script) = read_script(alloc, input) else {
@@ -174,7 +174,7 @@ fn print_and_flush<S: Storage, F: WrappedFormat<S>, W: Write>(
     output: &mut W,
 ) -> io::Result<bool>
     ensures printed { result ≡ Ok true → ArePrinted (length commands.now) replies.now (W.contents output.old) (W.contents output.new) }
-    ensures flushed { result ≡ Ok true → Flushes S.view F.backing image.old image.new (Ok tt) }
+    ensures flushed { result ≡ Ok true → FlushesImage S.view F.backing image.old image.new (Ok tt) }
 {
     let printed = print_answers(output, commands, replies);
     let flushed = image.flush();

@@ -1,7 +1,7 @@
 ghost use Rattle.std.specs.Prelude.{◌≡◌, List, ℕ, [], map, Some, IfOk, IfSome};
 ghost use Rattle.std.specs.Option.{MatchOption};
 ghost use Rattle.std.specs.Io.BufRead.{strip_last};
-ghost use Rattle.qimg.specs.Lines.{order};
+ghost use Rattle.qimg.specs.Lines.{order_of_command};
 ghost use Rattle.qimg.specs.Reading.{BeginsWith, IsScriptOf};
 
 use crate::lines::{LineError, parse_line};
@@ -21,7 +21,7 @@ pub struct Script {
 /// Reads lines to the end of the input, or to the first one that can't be read. Such a line asks for no command, its bytes aren't
 /// UTF-8, or a read fails in it.
 pub fn read_script<R: BufRead>(alloc: Global, input: &mut R) -> Result<Script, AllocError>
-    ensures { IfSome (R.remaining input.old) (λ text. IfOk result (λ script. IsScriptOf text (map order script.commands.items) script.is_cut)) }
+    ensures { IfSome (R.remaining input.old) (λ text. IfOk result (λ script. IsScriptOf text (map order_of_command script.commands.items) script.is_cut)) }
 {
     let mut commands = Vec::new(alloc);
     for _ in 0..u64::MAX {
@@ -45,7 +45,7 @@ pub fn read_script<R: BufRead>(alloc: Global, input: &mut R) -> Result<Script, A
 
 // The command of the next line; None at the end of the input.
 fn next_command<R: BufRead>(alloc: Global, input: &mut R) -> Result<Option<Command>, LineError>
-    ensures { IfSome (R.remaining input.old) (λ text. IfOk result (λ next. MatchOption next (text ≡ []) (λ command. (rest : List ℕ) × (R.remaining input.new ≡ Some rest) × BeginsWith text (order command) rest))) }
+    ensures { IfSome (R.remaining input.old) (λ text. IfOk result (λ next. MatchOption next (text ≡ []) (λ command. (rest : List ℕ) × (R.remaining input.new ≡ Some rest) × BeginsWith text (order_of_command command) rest))) }
 {
     let mut line = Vec::new(alloc);
     match input.read_until(b'\n', &mut line) {

@@ -1,6 +1,6 @@
 ghost use Rattle.std.specs.Prelude.{◌≡◌, map, string_bytes};
 ghost use Rattle.std.specs.Option.{option_map};
-ghost use Rattle.qimg.specs.Words.{asked, asked_by};
+ghost use Rattle.qimg.specs.Words.{asked, asked_by_words};
 
 use crate::lines::preallocation;
 use image_access::PreallocateMode;
@@ -45,7 +45,7 @@ pub enum Invocation<'a> {
 
 /// Reads the words after the program's name; None where they can't be read.
 pub fn words(words: &[String]) -> Option<Invocation<'_>>
-    ensures { option_map asked result ≡ asked_by (map string_bytes words.now) }
+    ensures { option_map asked result ≡ asked_by_words (map string_bytes words.now) }
 {
     match words {
         [name, file] if name.as_str() == "run" => Some(Invocation::Run {

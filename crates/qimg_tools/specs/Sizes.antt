@@ -1,7 +1,7 @@
 -- The bytes that a word for a size asks for.
 use Rattle.std.specs.Prelude.{ℕ, ◌-◌, ◌*◌, ◌^◌, ◌==◌, nat_lt, List, length, take, slice_get, Option, Some, None, if◌then◌else◌}
 use Rattle.std.specs.Char.{to_ascii_lowercase}
-use Rattle.program_parts.specs.Numbers.{number_of}
+use Rattle.program_parts.specs.Numbers.{number_of_word}
 
 -- the bytes of the unit that a letter stands for: 107 is `k`, then `m`, `g`, `t`, `p` and `e`
 abbrev pub unit_of_letter : ℕ → Option ℕ
@@ -25,9 +25,9 @@ unit_of_last (Some byte) = unit_of_letter (to_ascii_lowercase byte)
 unit_of_last None = None
 
 abbrev pub size_with : List ℕ → Option ℕ → Option ℕ
-size_with word (Some unit) = units (number_of (take (length word - 1) word)) unit
-size_with word None = number_of word
+size_with word (Some unit) = units (number_of_word (take (length word - 1) word)) unit
+size_with word None = number_of_word word
 
 -- a number of bytes, or of the units that its last letter stands for
-abbrev pub size_of : List ℕ → Option ℕ
-size_of word = size_with word (unit_of_last (slice_get word (length word - 1)))
+abbrev pub size_of_word : List ℕ → Option ℕ
+size_of_word word = size_with word (unit_of_last (slice_get word (length word - 1)))

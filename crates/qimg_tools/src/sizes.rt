@@ -1,7 +1,7 @@
 //! Sizes, as words write them and as they are printed.
 ghost use Rattle.std.specs.Prelude.{◌≡◌, ◌<◌, ◌≤◌};
-ghost use Rattle.program_parts.specs.Numbers.{number_of};
-ghost use Rattle.qimg_tools.specs.Sizes.{size_of, unit_of_letter, units};
+ghost use Rattle.program_parts.specs.Numbers.{number_of_word};
+ghost use Rattle.qimg_tools.specs.Sizes.{size_of_word, unit_of_letter, units};
 
 use program_parts::number;
 use std::fmt;
@@ -9,7 +9,7 @@ use std::fmt;
 /// The bytes that a word asks for: decimal digits, and at most one letter for a unit of 1024 to some power. None where it is
 /// something else, or passes 64 bits.
 pub fn size(word: &str) -> Option<u64>
-    ensures { result ≡ size_of word.now }
+    ensures { result ≡ size_of_word word.now }
 {
     match word.as_bytes() {
         [digits @ .., letter] => match unit_of_letter(letter.to_ascii_lowercase()) {
@@ -42,7 +42,7 @@ fn units(count: Option<u64>, unit: u64) -> Option<u64>
 }
 
 fn number_of_digits(digits: &[u8]) -> Option<u64>
-    ensures { result ≡ number_of digits.now }
+    ensures { result ≡ number_of_word digits.now }
 {
     match std::str::from_utf8(digits) {
         Ok(word) => number(word),

@@ -10,7 +10,7 @@ use Rattle.qcow2_alloc.specs.declared.async_lru_cache.error.CacheError.{CacheErr
 use Rattle.qcow2_alloc.specs.declared.async_lru_cache.error.CacheError.TheVariants.{InUse, StillInUse, Memory, Backend}
 use Rattle.qcow2_alloc.specs.AsyncLruCache.{slot_of, IsInFront, OnlyOldestGoes}
 use Rattle.qcow2_alloc.specs.AsyncLruCacheBackend.{Steps}
-use Rattle.qcow2_alloc.specs.CacheAnswers.{HasRoom, HasNoRoom, GetsNew}
+use Rattle.qcow2_alloc.specs.CacheAnswers.{HasRoomForEntry, HasNoRoom, GetsNew}
 use Rattle.qcow2_alloc.proofs.CachedEntries.Lists.{lookup-from_entry}
 use Rattle.qcow2_alloc.proofs.CachedEntries.Knowing.{lookup-promoted, removed_apart}
 
@@ -46,7 +46,7 @@ module _ {S K V E : Type 0} (steps : Steps S K V E) {eq : K → K → Bool} (law
   evict_case t es e w h j there gone true same = (same, (w, t, h))
   evict_case t es e w h j there gone false other = absurd (some_or_none (lookup (eq j) es) there (rw (removed_apart laws es e.0 j (laws.symm e.0 j ∙ other)) at gone))
 
-  room_goes : (size : ℕ) (may_flush : Bool) (t : S) (es fs : List (K × Slot V)) → HasRoom steps eq size may_flush s es t fs → OldestGoes es fs
+  room_goes : (size : ℕ) (may_flush : Bool) (t : S) (es fs : List (K × Slot V)) → HasRoomForEntry steps eq size may_flush s es t fs → OldestGoes es fs
   room_goes size may_flush t es fs h = elim h [
     | inl r ↦ goes_none es fs r.2
     | inr r ↦ λ j there gone. rw r.goes (evict_case t es r.entry r.clean r.flushed j there (rw r.rest at gone) (eq j r.entry.0) refl)

@@ -12,8 +12,8 @@ use Rattle.qcow2_alloc.specs.declared.async_lru_cache.slot.Slot.{Slot}
 use Rattle.qcow2_alloc.specs.declared.async_lru_cache.error.CacheError.{CacheError}
 use Rattle.qcow2_alloc.specs.declared.async_lru_cache.error.CacheError.TheVariants.{InUse, StillInUse, Memory, Backend}
 use Rattle.qcow2_alloc.specs.AsyncLruCache.{slot_of}
-use Rattle.qcow2_alloc.specs.AsyncLruCacheBackend.{Steps, IsLawful, KeepsBytes, laid_over, known, KeepsKnown, LaysOver}
-use Rattle.qcow2_alloc.specs.CacheAnswers.{FlushesEntry, FlushesAll, Evicts, HasRoom, HasNoRoom, InsertsNew, GetsNew, Replaces}
+use Rattle.qcow2_alloc.specs.AsyncLruCacheBackend.{Steps, IsLawful, KeepsBytes, value_laid_over, known_under_key, KeepsKnown, LaysOver}
+use Rattle.qcow2_alloc.specs.CacheAnswers.{FlushesEntry, FlushesAll, Evicts, HasRoomForEntry, HasNoRoom, InsertsNew, GetsNew, Replaces}
 use Rattle.qcow2_alloc.specs.CachedEntries.{FlushesFound}
 use Rattle.qcow2_alloc.proofs.CachedEntries.Lists.{none_is_none, lookup-from_entry, oldest_free-lookup}
 use Rattle.qcow2_alloc.proofs.CachedEntries.Room.{room_missing}
@@ -50,10 +50,10 @@ module _ {K X : Type 0} {eq : K → K → Bool} (laws : IsEquivalence eq) where
 
 module _ {S K V E : Type 0} {steps : Steps S K V E} {eq : K → K → Bool} (laws : IsEquivalence eq) {is_modified : V → Bool} {bytes : V → List ℕ} {stored : S → K → List ℕ} {is_honest : S → Type 0} (b : IsLawful steps eq is_modified bytes stored is_honest) where
   abbrev seen : S → List (K × Slot V) → K → List ℕ
-  seen = known eq is_modified bytes stored
+  seen = known_under_key eq is_modified bytes stored
 
   abbrev shown : Option (Slot V) → List ℕ → List ℕ
-  shown o under = option_map_or (λ slot. laid_over is_modified bytes slot.value under) o under
+  shown o under = option_map_or (λ slot. value_laid_over is_modified bytes slot.value under) o under
 
   abbrev pub KeepsKnownBytes : S → List (K × Slot V) → S → List (K × Slot V) → Type 0
   KeepsKnownBytes = KeepsKnown eq is_modified bytes stored is_honest
@@ -73,17 +73,17 @@ module _ {S K V E : Type 0} {steps : Steps S K V E} {eq : K → K → Bool} (law
   hit_keeps s es k = keeps_store s s es (promoted (eq k) es) (λ x. (x, λ j. refl)) (λ j. lookup-promoted laws es k j)
 
   -- the flushed value shows nothing of its own
-  clean_shown : (s t : S) (k : K) (v w : V) → steps.flushed s k v w t → (under : List ℕ) → laid_over is_modified bytes w under ≡ under
+  clean_shown : (s t : S) (k : K) (v w : V) → steps.flushed s k v w t → (under : List ℕ) → value_laid_over is_modified bytes w under ≡ under
   clean_shown s t k v w h under = rw (b.flush_cleans s t k v w h).0 refl
 
-  here : (s t : S) (k : K) (v w : V) → steps.flushed s k v w t → is_honest s → (j : K) → eq k j ≡ true → stored t j ≡ laid_over is_modified bytes v (stored s j)
+  here : (s t : S) (k : K) (v w : V) → steps.flushed s k v w t → is_honest s → (j : K) → eq k j ≡ true → stored t j ≡ value_laid_over is_modified bytes v (stored s j)
   here s t k v w h x j same = (b.flush_writes s t k v w h x).1 j ∙ rw same refl
 
   there : (s t : S) (k : K) (v w : V) → steps.flushed s k v w t → is_honest s → (j : K) → eq k j ≡ false → stored t j ≡ stored s j
   there s t k v w h x j other = (b.flush_writes s t k v w h x).1 j ∙ rw other refl
 
   -- a failed flush changes nothing that shows
-  failed_shown : (s t : S) (k : K) (v : V) (x : E) → steps.flush_failed s k v x t → is_honest s → (j : K) → laid_over is_modified bytes v (stored t j) ≡ laid_over is_modified bytes v (stored s j)
+  failed_shown : (s t : S) (k : K) (v : V) (x : E) → steps.flush_failed s k v x t → is_honest s → (j : K) → value_laid_over is_modified bytes v (stored t j) ≡ value_laid_over is_modified bytes v (stored s j)
   failed_shown s t k v x h honest j = (elim (is_modified v) as (λ m. is_modified v ≡ m → cond m (bytes v) (stored t j) ≡ cond m (bytes v) (stored s j)) [
     | true ↦ λ m. refl
     | false ↦ λ m. (b.failed_flush_keeps s t k v x h honest).1 m j
@@ -152,7 +152,7 @@ module _ {S K V E : Type 0} {steps : Steps S K V E} {eq : K → K → Bool} (law
         stays = λ x j. ap (λ l. seen t l j) h.rest ∙ evict_case s t es h.entry h.clean d found h.flushed x j (eq h.entry.0 j) refl;
       }
 
-  pub room_keeps : (size : ℕ) (may_flush : Bool) (s t : S) (es fs : List (K × Slot V)) → IsDistinct eq (keys_of es) → HasRoom steps eq size may_flush s es t fs → KeepsKnownBytes s es t fs
+  pub room_keeps : (size : ℕ) (may_flush : Bool) (s t : S) (es fs : List (K × Slot V)) → IsDistinct eq (keys_of es) → HasRoomForEntry steps eq size may_flush s es t fs → KeepsKnownBytes s es t fs
   room_keeps size may_flush s t es fs d h = elim h [ inl r ↦ keeps_none s t es fs r.1 r.2 | inr r ↦ oldest_keeps size may_flush s t es fs d r ]
 
   pub no_room_keeps : (size : ℕ) (may_flush : Bool) (s t : S) (es fs : List (K × Slot V)) (r : Result Bool (CacheError K E)) → IsDistinct eq (keys_of es) → HasNoRoom steps eq size may_flush s es r t fs → KeepsKnownBytes s es t fs
@@ -195,9 +195,9 @@ module _ {S K V E : Type 0} {steps : Steps S K V E} {eq : K → K → Bool} (law
   entry_apart s t e None d h x = ((b.flush_writes s t e.0 e.1.value d.value h.0 x).0, λ j other. there s t e.0 e.1.value d.value h.0 x j other)
   entry_apart s t e (Some y) d h x = let f = b.failed_flush_keeps s t e.0 e.1.value y h.0 x in (f.0, f.2)
 
-  entry_shown : (s t : S) (e : K × Slot V) (o : Option E) (d : Slot V) → FlushesEntry steps s e o t d → is_honest s → (j : K) → eq e.0 j ≡ true → laid_over is_modified bytes d.value (stored t j) ≡ laid_over is_modified bytes e.1.value (stored s j)
+  entry_shown : (s t : S) (e : K × Slot V) (o : Option E) (d : Slot V) → FlushesEntry steps s e o t d → is_honest s → (j : K) → eq e.0 j ≡ true → value_laid_over is_modified bytes d.value (stored t j) ≡ value_laid_over is_modified bytes e.1.value (stored s j)
   entry_shown s t e None d h x j same = clean_shown s t e.0 e.1.value d.value h.0 (stored t j) ∙ here s t e.0 e.1.value d.value h.0 x j same
-  entry_shown s t e (Some y) d h x j same = ap (λ (c : Slot V). laid_over is_modified bytes c.value (stored t j)) h.1 ∙ failed_shown s t e.0 e.1.value y h.0 x j
+  entry_shown s t e (Some y) d h x j same = ap (λ (c : Slot V). value_laid_over is_modified bytes c.value (stored t j)) h.1 ∙ failed_shown s t e.0 e.1.value y h.0 x j
 
   -- no entry has a key like this one
   abbrev NoneAlike : K → List (K × Slot V) → Type 0
@@ -222,7 +222,7 @@ module _ {S K V E : Type 0} {steps : Steps S K V E} {eq : K → K → Bool} (law
       let rest = all_apart h.1 es h.3 t h.4 h.6 one.0 in
       ap (λ l. seen t l j) h.8 ∙ (elim (eq j e.0) as (λ c. eq j e.0 ≡ c → shown (cond c (Some h.2) (lookup (eq j) h.4)) (stored t j) ≡ shown (cond c (Some e.1) (lookup (eq j) es)) (stored s j)) [
         | true ↦ λ c. let same : eq e.0 j ≡ true = laws.symm e.0 j ∙ c in
-            ap (laid_over is_modified bytes h.2.value) (rest.1 j (none_alike e.0 j es same d.0)) ∙ entry_shown s h.1 e h.0 h.2 h.5 x j same
+            ap (value_laid_over is_modified bytes h.2.value) (rest.1 j (none_alike e.0 j es same d.0)) ∙ entry_shown s h.1 e h.0 h.2 h.5 x j same
         | false ↦ λ c. let other : eq e.0 j ≡ false = laws.symm e.0 j ∙ c in
             all_known h.1 es h.3 t h.4 d.1 h.6 one.0 j ∙ ap (shown (lookup (eq j) es)) (one.1 j other)
       ]) refl
@@ -235,7 +235,7 @@ module _ {S K V E : Type 0} {steps : Steps S K V E} {eq : K → K → Bool} (law
   Lays = LaysOver eq is_modified bytes stored is_honest
 
   front_case : (t : S) (es : List (K × Slot V)) (k : K) (v : V) → lookup (eq k) es ≡ None → (j : K) (c : Bool) → eq k j ≡ c
-      → shown (cond c (Some (slot_of v 0)) (lookup (eq j) es)) (stored t j) ≡ cond c (laid_over is_modified bytes v (seen t es j)) (seen t es j)
+      → shown (cond c (Some (slot_of v 0)) (lookup (eq j) es)) (stored t j) ≡ cond c (value_laid_over is_modified bytes v (seen t es j)) (seen t es j)
   front_case t es k v none j true same = let gone : lookup (eq j) es ≡ None = sym (lookup_alike laws es k j same) ∙ none in rw gone refl
   front_case t es k v none j false other = refl
 
@@ -246,7 +246,7 @@ module _ {S K V E : Type 0} {steps : Steps S K V E} {eq : K → K → Bool} (law
     laid = λ x j.
         ap (λ c. shown (cond c (Some (slot_of v 0)) (lookup (eq j) gs)) (stored t j)) (laws.symm j k)
         ∙ front_case t gs k v none j (eq k j) refl
-        ∙ ap (λ (l : List ℕ). cond (eq k j) (laid_over is_modified bytes v l) l) (h.stays x j);
+        ∙ ap (λ (l : List ℕ). cond (eq k j) (value_laid_over is_modified bytes v l) l) (h.stays x j);
   }
 
   pub inserts_keeps : (size : ℕ) (may_flush : Bool) (k : K) (v : V) (s t : S) (es fs : List (K × Slot V)) (left : Option V) (r : Result Bool (CacheError K E)) → IsDistinct eq (keys_of es)
@@ -289,10 +289,10 @@ module _ {S K V E : Type 0} {steps : Steps S K V E} {eq : K → K → Bool} (law
         subst (KeepsKnownBytes s es t) (in_front ∙ sym h.2) (keeps_then s t t es es (promoted (eq k) es) (failed_keeps s t es k e.1 x there_is h.1) (hit_keeps t es k))
 
     replaced_case : (v w : V) (n : ℕ) (s t : S) → steps.flushed s k e.1.value w t → is_honest s → (j : K) (c : Bool) → eq k j ≡ c
-        → shown (cond c (Some (slot_of v n)) (lookup (eq j) others)) (stored t j) ≡ cond c (laid_over is_modified bytes v (seen s es j)) (seen s es j)
+        → shown (cond c (Some (slot_of v n)) (lookup (eq j) others)) (stored t j) ≡ cond c (value_laid_over is_modified bytes v (seen s es j)) (seen s es j)
     replaced_case v w n s t h x j true same =
         let was : lookup (eq j) es ≡ Some e.1 = sym (lookup_alike laws es k j same) ∙ there_is in
-        ap (laid_over is_modified bytes v) (here s t k e.1.value w h x j same ∙ ap (λ o. shown o (stored s j)) (sym was))
+        ap (value_laid_over is_modified bytes v) (here s t k e.1.value w h x j same ∙ ap (λ o. shown o (stored s j)) (sym was))
     replaced_case v w n s t h x j false other = ap (λ o. shown o (stored t j)) (removed_apart laws es k j other) ∙ ap (shown (lookup (eq j) es)) (there s t k e.1.value w h x j other)
 
     pub replaces_lays : (v : V) (may_flush : Bool) (s t : S) (fs : List (K × Slot V)) (left : Option V) (r : Result Bool (CacheError K E)) → Replaces steps k e others v may_flush s es r t fs left → r ≡ Ok true → Lays k v s es t fs

@@ -12,7 +12,7 @@ use Rattle.qcow2_alloc.specs.declared.async_lru_cache.error.CacheError.{CacheErr
 use Rattle.qcow2_alloc.specs.declared.async_lru_cache.error.CacheError.TheVariants.{InUse, StillInUse, Memory, Backend}
 use Rattle.qcow2_alloc.specs.AsyncLruCache.{slot_of, pins_at, is_pinned, pinned, oldest_free, KeepsPins}
 use Rattle.qcow2_alloc.specs.AsyncLruCacheBackend.{Steps}
-use Rattle.qcow2_alloc.specs.CacheAnswers.{FlushesEntry, FlushesAll, HasRoom, HasNoRoom, InsertsNew, GetsNew, Replaces}
+use Rattle.qcow2_alloc.specs.CacheAnswers.{FlushesEntry, FlushesAll, HasRoomForEntry, HasNoRoom, InsertsNew, GetsNew, Replaces}
 use Rattle.qcow2_alloc.proofs.CachedEntries.Knowing.{lookup_alike, removed_apart, lookup-promoted}
 use Rattle.qcow2_alloc.proofs.CachedEntries.Lists.{oldest_cases, oldest_free-lookup, pinned_kept, pinned_gone, none_is_none, lookup-from_entry}
 use Rattle.qcow2_alloc.proofs.CachedEntries.Room.{room_missing}
@@ -211,7 +211,7 @@ module _ {K V : Type 0} (eq : K → K → Bool) where
       all_keep_pins s es x t fs h = record { pins = all_pins s es x t fs h; free = λ f. none_pinned fs (all_free s es x t fs h (are_free es f)) }
 
       module _ (size : ℕ) (may_flush : Bool) (s : S) (es : List (K × Slot V)) where
-        room_pins : (t : S) (fs : List (K × Slot V)) → IsDistinct eq (keys_of es) → HasRoom steps eq size may_flush s es t fs → Kept es fs
+        room_pins : (t : S) (fs : List (K × Slot V)) → IsDistinct eq (keys_of es) → HasRoomForEntry steps eq size may_flush s es t fs → Kept es fs
         room_pins t fs d h = elim h [
           | inl r ↦ pins_same es fs r.2
           | inr r ↦ subst (Kept es) (sym r.rest) (pins_gone es r.entry d r.goes)

@@ -10,7 +10,7 @@ use Rattle.qcow2_alloc.specs.declared.async_lru_cache.slot.Slot.{Slot}
 use Rattle.qcow2_alloc.specs.declared.async_lru_cache.error.CacheError.{CacheError}
 use Rattle.qcow2_alloc.specs.AsyncLruCache.{oldest_free}
 use Rattle.qcow2_alloc.specs.AsyncLruCacheBackend.{Steps}
-use Rattle.qcow2_alloc.specs.CacheAnswers.{MustEvict, FailsToEvict, HasRoom, MakesRoom}
+use Rattle.qcow2_alloc.specs.CacheAnswers.{MustEvict, FailsToEvict, HasRoomForEntry, MakesRoom}
 use Rattle.qcow2_alloc.specs.CachedEntries.{FlushesFound}
 use Rattle.qcow2_alloc.proofs.CachedEntries.Lists.{remove_entry-set_value, length-remove_found, lookup_none-removed, oldest_free-lookup}
 
@@ -57,7 +57,7 @@ module _ {S K V E : Type 0} (steps : Steps S K V E) (eq : K → K → Bool) (siz
 
   -- what is there once the entry was removed
   pub record IsMade (p : LruCache K (Slot V)) : Type 0 where
-    pub room : HasRoom steps eq size may_flush s c.entries t p.entries
+    pub room : HasRoomForEntry steps eq size may_flush s c.entries t p.entries
     pub cap : p.cap ≡ c.cap
     pub space : length p.entries < size
 
@@ -82,11 +82,11 @@ module _ {S K V E : Type 0} (steps : Steps S K V E) (eq : K → K → Bool) (siz
 
 module _ {S K V E : Type 0} (steps : Steps S K V E) (eq : K → K → Bool) (size : ℕ) (may_flush : Bool) where
   -- room does not bring a key
-  pub room_missing : (k : K) (s : S) (es : List (K × Slot V)) (t : S) (fs : List (K × Slot V)) → HasRoom steps eq size may_flush s es t fs → lookup (eq k) es ≡ None → lookup (eq k) fs ≡ None
+  pub room_missing : (k : K) (s : S) (es : List (K × Slot V)) (t : S) (fs : List (K × Slot V)) → HasRoomForEntry steps eq size may_flush s es t fs → lookup (eq k) es ≡ None → lookup (eq k) fs ≡ None
   room_missing k s es t fs h m = elim h [
     | inl r ↦ ap (lookup (eq k)) r.2 ∙ m
     | inr r ↦ ap (lookup (eq k)) r.rest ∙ lookup_none-removed (eq k) (eq r.entry.0) es m
   ]
 
-  pub room_at : (s : S) (es : List (K × Slot V)) (r : Result Bool (CacheError K E)) (b : Bool) (t : S) (fs : List (K × Slot V)) → MakesRoom steps eq size may_flush s es r t fs → r ≡ Ok b → b ≡ true → HasRoom steps eq size may_flush s es t fs
+  pub room_at : (s : S) (es : List (K × Slot V)) (r : Result Bool (CacheError K E)) (b : Bool) (t : S) (fs : List (K × Slot V)) → MakesRoom steps eq size may_flush s es r t fs → r ≡ Ok b → b ≡ true → HasRoomForEntry steps eq size may_flush s es t fs
   room_at s es r b t fs h e z = subst (λ x. MakesRoom steps eq size may_flush s es x t fs) (e ∙ ap (λ (y : Bool). Ok y) z) h

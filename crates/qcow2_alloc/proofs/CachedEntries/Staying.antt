@@ -12,7 +12,7 @@ use Rattle.qcow2_alloc.specs.declared.async_lru_cache.error.CacheError.{CacheErr
 use Rattle.qcow2_alloc.specs.declared.async_lru_cache.error.CacheError.TheVariants.{InUse, StillInUse, Memory, Backend}
 use Rattle.qcow2_alloc.specs.AsyncLruCache.{slot_of, value_at, OthersStay}
 use Rattle.qcow2_alloc.specs.AsyncLruCacheBackend.{Steps}
-use Rattle.qcow2_alloc.specs.CacheAnswers.{HasRoom, HasNoRoom, InsertsNew, GetsNew, Replaces}
+use Rattle.qcow2_alloc.specs.CacheAnswers.{HasRoomForEntry, HasNoRoom, InsertsNew, GetsNew, Replaces}
 use Rattle.qcow2_alloc.proofs.CachedEntries.Knowing.{removed_apart, lookup-promoted}
 use Rattle.qcow2_alloc.proofs.CachedEntries.Lists.{none_is_none, lookup-from_entry}
 
@@ -53,7 +53,7 @@ module _ {K V : Type 0} (eq : K → K → Bool) where
 
     module _ {S E : Type 0} (steps : Steps S K V E) where
       module _ (size : ℕ) (may_flush : Bool) (s : S) (es : List (K × Slot V)) (k : K) where
-        room_stays : (t : S) (fs : List (K × Slot V)) → IsDistinct eq (keys_of es) → HasRoom steps eq size may_flush s es t fs → OthersStay eq k es fs
+        room_stays : (t : S) (fs : List (K × Slot V)) → IsDistinct eq (keys_of es) → HasRoomForEntry steps eq size may_flush s es t fs → OthersStay eq k es fs
         room_stays t fs d h = elim h [
           | inl r ↦ stays_same k es fs r.2
           | inr r ↦ subst (OthersStay eq k es) (sym r.rest) (λ j other there. gone_case es r.entry d j (eq r.entry.0 j) refl there)

@@ -26,7 +26,7 @@ use Rattle.qcow2_alloc.specs.declared.image_storage.ImageStorage.{ImageStorage}
 use Rattle.qcow2_alloc.specs.AsyncLruCache.{Cache, pinned}
 use Rattle.qcow2_alloc.specs.AsyncLruCacheBackend.{Steps}
 use Rattle.qcow2_alloc.specs.CacheAnswers.{Unit₀, Flushes, GetsNew, InsertsNew, Replaces}
-use Rattle.qcow2_alloc.specs.CacheMarks.{HasRoom, AreAllPinned, IsInUseOrFault}
+use Rattle.qcow2_alloc.specs.CacheMarks.{CachesHaveRoom, AreAllPinned, IsInUseOrFault}
 use Rattle.qcow2_alloc.specs.ImageError.{of_metadata, of_cache, IsFault}
 use Rattle.qcow2_alloc.specs.ImageStorage.{storage_of}
 use Rattle.qcow2_alloc.specs.TableCaches.{l2_steps, rb_steps, cleared_l2, cleared_rb, IsTableOf, IsBlockOf}
@@ -103,7 +103,7 @@ module _ {S : Type 0} (view : S → StorageView) (old new : ImageStorage S) (cac
   abbrev seen : ImageStorage S → StorageView
   seen s = view (storage_of s)
 
-  not_full : HasRoom caches → IsFull caches.rb.size caches.rb.entries → ⊥
+  not_full : CachesHaveRoom caches → IsFull caches.rb.size caches.rb.entries → ⊥
   not_full room full = free_goes caches.rb.size caches.rb.entries room.some full.0 room.free full.1
 
   is_all_pinned : IsFull caches.l2.size caches.l2.entries → AreAllPinned caches
@@ -141,7 +141,7 @@ module _ {S : Type 0} (view : S → StorageView) (old new : ImageStorage S) (cac
           | inr fault ↦ inr fault
         ]
 
-    pub block_load_refused : HasRoom caches → AreSettled h (refblocks caches) on_storage → (rb : Cache (RefBlockCacheBackend S) ℕ RefBlockView) → HasPlace h.cluster_bits key
+    pub block_load_refused : CachesHaveRoom caches → AreSettled h (refblocks caches) on_storage → (rb : Cache (RefBlockCacheBackend S) ℕ RefBlockView) → HasPlace h.cluster_bits key
         → (IsSome (lookup (eqb key) caches.rb.entries) → (answer ≡ Ok true) × (rb.entries ≡ promoted (eqb key) caches.rb.entries) × (new ≡ old))
         → (IsNone (lookup (eqb key) caches.rb.entries) → GetsNew (rb_steps seen caches.rb.backend.header.fields) eqb caches.rb.size may_flush key old caches.rb.entries answer new rb.entries)
         → IsFault (of_cache e)
@@ -172,7 +172,7 @@ module _ {S : Type 0} (view : S → StorageView) (old new : ImageStorage S) (cac
           | inr fault ↦ inr fault
         ]
 
-    pub block_put_refused : HasRoom caches → AreSettled h (refblocks caches) on_storage → (rb : Cache (RefBlockCacheBackend S) ℕ RefBlockView) (v : RefBlockView) (value left : Option RefBlockView) → value ≡ Some v
+    pub block_put_refused : CachesHaveRoom caches → AreSettled h (refblocks caches) on_storage → (rb : Cache (RefBlockCacheBackend S) ℕ RefBlockView) (v : RefBlockView) (value left : Option RefBlockView) → value ≡ Some v
         → IfSome (lookup_entry (eqb key) caches.rb.entries) (λ e. IfSome value (λ v. Replaces (rb_steps seen caches.rb.backend.header.fields) key e (remove_entry (eqb key) caches.rb.entries) v may_flush old caches.rb.entries answer new rb.entries left))
         → (IsNone (lookup (eqb key) caches.rb.entries) → IfSome value (λ v. InsertsNew (rb_steps seen caches.rb.backend.header.fields) eqb caches.rb.size may_flush key v old caches.rb.entries answer new rb.entries left))
         → IsFault (of_cache e)

@@ -10,7 +10,7 @@ use Rattle.qcow2_laws.proofs.Lists.{known-none, known_there, known_elsewhere, un
 use Rattle.qcow2_alloc.specs.declared.async_lru_cache.slot.Slot.{Slot}
 use Rattle.qcow2_alloc.specs.AsyncLruCache.{slot_of, value_at, set_at}
 use Rattle.qcow2_alloc.specs.TableLaws.{same_number}
-use Rattle.qcow2_alloc.specs.KeptTables.{AreElsewhere, IsCurrent, AreLoaded, AllFit}
+use Rattle.qcow2_alloc.specs.KeptTables.{AreElsewhere, IsCurrent, AreLoaded, AllValuesFit}
 use Rattle.qcow2_alloc.proofs.KeptTables.Loaded.{elsewhere_with, in_own_cluster}
 use Rattle.qcow2_alloc.proofs.KeptTables.Listing.{free_elsewhere, loaded_distinct}
 use Rattle.qcow2_alloc.proofs.KeptTables.Entries.{away_from}
@@ -144,10 +144,10 @@ module _ (size : ℕ) (IsNamed : ℕ → Type 0) (on_storage : Bytes) (front bac
 
 -- ---- the values of entries, of which one is changed
 module _ {V : Type 0} (IsFit : V → Type 0) where
-  pub fit_set : (key : ℕ) (front back : List (ℕ × Slot V)) (v w : V) (pins : ℕ) → IsFit w → AllFit IsFit (front ++ (key, slot_of v pins) ∷ back) → AllFit IsFit (front ++ (key, slot_of w pins) ∷ back)
+  pub fit_set : (key : ℕ) (front back : List (ℕ × Slot V)) (v w : V) (pins : ℕ) → IsFit w → AllValuesFit IsFit (front ++ (key, slot_of v pins) ∷ back) → AllValuesFit IsFit (front ++ (key, slot_of w pins) ∷ back)
   fit_set key [] back v w pins is all = (is, all.1)
   fit_set key (u ∷ front) back v w pins is all = (all.0, fit_set key front back v w pins is all.1)
 
-  pub fit_held : (key : ℕ) (front back : List (ℕ × Slot V)) (v : V) (pins : ℕ) → AllFit IsFit (front ++ (key, slot_of v pins) ∷ back) → IsFit v
+  pub fit_held : (key : ℕ) (front back : List (ℕ × Slot V)) (v : V) (pins : ℕ) → AllValuesFit IsFit (front ++ (key, slot_of v pins) ∷ back) → IsFit v
   fit_held key [] back v pins all = all.0
   fit_held key (u ∷ front) back v pins all = fit_held key front back v pins all.1

@@ -19,7 +19,7 @@ use Rattle.qcow2_alloc.specs.declared.cache.MetadataCaches.{MetadataCaches}
 use Rattle.qcow2_alloc.specs.declared.image_storage.ImageStorage.{ImageStorage}
 use Rattle.qcow2_alloc.specs.AsyncLruCache.{Cache}
 use Rattle.qcow2_alloc.specs.AsyncLruCacheBackend.{Steps}
-use Rattle.qcow2_alloc.specs.CacheAnswers.{Unit₀, HasRoom, InsertsNew, Replaces, FlushesEntry, FlushesAll, Flushes}
+use Rattle.qcow2_alloc.specs.CacheAnswers.{Unit₀, HasRoomForEntry, InsertsNew, Replaces, FlushesEntry, FlushesAll, Flushes}
 use Rattle.qcow2_alloc.specs.ImageStorage.{storage_of}
 use Rattle.qcow2_alloc.specs.TableCaches.{l2_steps}
 use Rattle.qcow2_alloc.specs.KeptTables.{cached_table, cached_tables}
@@ -50,7 +50,7 @@ module _ {S V E : Type 0} (steps : Steps S ℕ V E) (bits : ℕ) (bytes : V → 
   ]) found
 
   module _ (size : ℕ) (may_flush : Bool) (key : ℕ) (s t : S) (es fs : List (ℕ × Slot V)) (v : V) (left : Option V) (clean : is_modified v ≡ false) (all : Clean es) where
-    room_clean : (gs : List (ℕ × Slot V)) → HasRoom steps eqb size may_flush s es t gs → Clean gs
+    room_clean : (gs : List (ℕ × Slot V)) → HasRoomForEntry steps eqb size may_flush s es t gs → Clean gs
     room_clean gs room = elim room [
       | inl there ↦ subst Clean (sym there.2) all
       | inr evicts ↦ subst Clean (sym evicts.rest) (clean_removed (eqb evicts.entry.0) es all)

@@ -24,7 +24,7 @@ use Rattle.qcow2_alloc.specs.declared.async_lru_cache.slot.Slot.{Slot}
 use Rattle.qcow2_alloc.specs.declared.cache.MetadataCaches.{MetadataCaches}
 use Rattle.qcow2_alloc.specs.AsyncLruCache.{slot_of, value_at, set_at, with_entries}
 use Rattle.qcow2_alloc.specs.TableCaches.{IsBlockOf}
-use Rattle.qcow2_alloc.specs.KeptTables.{cached_table, cached_tables, AreKept, AreLoaded, AllFit}
+use Rattle.qcow2_alloc.specs.KeptTables.{cached_table, cached_tables, AreKept, AreLoaded, AllValuesFit}
 use Rattle.qcow2_alloc.specs.MetadataCaches.{order_of, l2_tables, refblocks, known_of, CacheInvariant, IsCountedAt, Made}
 use Rattle.qcow2_alloc.proofs.KeptTables.Entries.{tables_at}
 use Rattle.qcow2_alloc.proofs.KeptTables.Loaded.{in_own_cluster}
@@ -107,7 +107,7 @@ module _ {S : Type 0} (h : HeaderFields) (p : Pending) (on_storage : Bytes) (cac
   was = counts_known v (known_of h caches on_storage) kept.rb_loaded known_is
 
   pub order_is : v.refcount_order ≡ h.refcount_order
-  order_is = (fit_held (IsBlockOf caches.rb.backend.header.fields) key there.front there.back v there.pins (subst (AllFit (IsBlockOf caches.rb.backend.header.fields)) there.is sound.rb_fit)).order ∙ sound.rb_format.order
+  order_is = (fit_held (IsBlockOf caches.rb.backend.header.fields) key there.front there.back v there.pins (subst (AllValuesFit (IsBlockOf caches.rb.backend.header.fields)) there.is sound.rb_fit)).order ∙ sound.rb_format.order
 
   -- the count that the refblock holds is the cluster's
   pub count_is : count h (known_of h caches on_storage) c ≡ count_in v.refcount_order v.bytes index
@@ -116,7 +116,7 @@ module _ {S : Type 0} (h : HeaderFields) (p : Pending) (on_storage : Bytes) (cac
       ∙ ap (count_in h.refcount_order v.bytes) at.at ∙ ap (λ n. count_in n v.bytes index) (sym order_is)
 
   bits_is : v.cluster_bits ≡ h.cluster_bits
-  bits_is = (fit_held (IsBlockOf caches.rb.backend.header.fields) key there.front there.back v there.pins (subst (AllFit (IsBlockOf caches.rb.backend.header.fields)) there.is sound.rb_fit)).bits ∙ sound.rb_format.bits
+  bits_is = (fit_held (IsBlockOf caches.rb.backend.header.fields) key there.front there.back v there.pins (subst (AllValuesFit (IsBlockOf caches.rb.backend.header.fields)) there.is sound.rb_fit)).bits ∙ sound.rb_format.bits
 
   -- the refblock has such a count
   pub index_fits : index < counts_of v
@@ -167,10 +167,10 @@ module _ {S : Type 0} (h : HeaderFields) (p : Pending) (on_storage : Bytes) (cac
         subst (λ (b : Bytes). CrashInvariant h (order_of caches) p' on_storage b) known' (rw direction_is at guarded) in
         let again = refblock_changed h (order_of caches) (order_of caches) p p' (l2_tables caches) (tables there.front) (tables there.back) (table v) (table w) on_storage kept.kept aligned_v (has w)
         (loaded_apart (cluster_size h) (HasBlock h on_storage) on_storage (list_with w) loaded') covers guarded' in
-        let all : AllFit (IsBlockOf caches.rb.backend.header.fields) (set_at (eqb key) caches.rb.entries w) =
-        let old = subst (AllFit (IsBlockOf caches.rb.backend.header.fields)) there.is sound.rb_fit in
+        let all : AllValuesFit (IsBlockOf caches.rb.backend.header.fields) (set_at (eqb key) caches.rb.entries w) =
+        let old = subst (AllValuesFit (IsBlockOf caches.rb.backend.header.fields)) there.is sound.rb_fit in
         let own = fit_held (IsBlockOf caches.rb.backend.header.fields) key there.front there.back v there.pins old in
-        subst (AllFit (IsBlockOf caches.rb.backend.header.fields)) (sym (there.set w))
+        subst (AllValuesFit (IsBlockOf caches.rb.backend.header.fields)) (sym (there.set w))
         (fit_set (IsBlockOf caches.rb.backend.header.fields) key there.front there.back v w there.pins (record { bits = same_bits ∙ own.bits; order = same_order ∙ own.order }) old) in
         rw (l2_is, rb_is, direction_is) (record {
           l2_format = sound.l2_format;
@@ -183,7 +183,7 @@ module _ {S : Type 0} (h : HeaderFields) (p : Pending) (on_storage : Bytes) (cac
     -- the refblock is named, and the others are as they were
     pub settled_again : AreSettled h (refblocks caches) on_storage → AreSettled h (refblocks caches') on_storage
     settled_again settled =
-        let mine : IsBlockOf caches.rb.backend.header.fields w = let own = fit_held (IsBlockOf caches.rb.backend.header.fields) key there.front there.back v there.pins (subst (AllFit (IsBlockOf caches.rb.backend.header.fields)) there.is sound.rb_fit) in
+        let mine : IsBlockOf caches.rb.backend.header.fields w = let own = fit_held (IsBlockOf caches.rb.backend.header.fields) key there.front there.back v there.pins (subst (AllValuesFit (IsBlockOf caches.rb.backend.header.fields)) there.is sound.rb_fit) in
         record { bits = same_bits ∙ own.bits; order = same_order ∙ own.order } in
         let own_key : (table w).place / cluster_size h ≡ key = ap (λ n. key * 2 ^ n / cluster_size h) sound.rb_format.bits ∙ own_cluster h.cluster_bits key in
         let all = stand_set (λ (b : RefBlockView). b.is_modified) (IsBlockOf caches.rb.backend.header.fields) (HasBlock h on_storage) key there.front there.back v w there.pins (record { fits = mine; named = λ _. subst (HasBlock h on_storage) own_key (has w) })

@@ -20,7 +20,7 @@ use Rattle.qcow2_alloc.specs.AsyncLruCache.{Cache, with_entries}
 use Rattle.qcow2_alloc.specs.CacheAnswers.{GetsNew}
 use Rattle.qcow2_alloc.specs.ImageStorage.{storage_of}
 use Rattle.qcow2_alloc.specs.TableCaches.{l2_steps, rb_steps, cleared_l2, cleared_rb, IsTableOf, IsBlockOf}
-use Rattle.qcow2_alloc.specs.KeptTables.{cached_tables, AllFit, AreElsewhere, AreKept}
+use Rattle.qcow2_alloc.specs.KeptTables.{cached_tables, AllValuesFit, AreElsewhere, AreKept}
 use Rattle.qcow2_alloc.specs.MetadataCaches.{order_of, l2_tables, refblocks, KeepSound}
 use Rattle.qcow2_alloc.proofs.KeptTables.Settled.{settled_beside, settled_anew, blocks_stand, block_place}
 use Rattle.qcow2_alloc.proofs.KeptTables.Standing.{AreStanding, stand_promoted, get_stands}
@@ -70,8 +70,8 @@ module _ {S : Type 0} (view : S → StorageView) (old new : ImageStorage S) (cac
               (λ flush. l2_step h (order_of caches) p bits sound.l2_format.bits (refblocks caches) (may flush))
               old new key caches.l2.entries l2.entries answer honest sound.kept (is_none (lookup (eqb key) caches.l2.entries) missing) (miss missing)
         ] in
-        let fit : AllFit (IsTableOf caches.l2.backend.header.fields) l2.entries = elim (none_or_some (lookup (eqb key) caches.l2.entries)) [
-          | inl there ↦ subst (AllFit (IsTableOf caches.l2.backend.header.fields)) (sym (hit there).1) (fit_promoted (IsTableOf caches.l2.backend.header.fields) (eqb key) caches.l2.entries sound.l2_fit)
+        let fit : AllValuesFit (IsTableOf caches.l2.backend.header.fields) l2.entries = elim (none_or_some (lookup (eqb key) caches.l2.entries)) [
+          | inl there ↦ subst (AllValuesFit (IsTableOf caches.l2.backend.header.fields)) (sym (hit there).1) (fit_promoted (IsTableOf caches.l2.backend.header.fields) (eqb key) caches.l2.entries sound.l2_fit)
           | inr missing ↦ get_fits seen caches.l2.backend.header.fields.cluster_bits (λ (t : L2TableView). t.bytes) (λ t. t.is_modified) cleared_l2 (IsTableOf caches.l2.backend.header.fields) (table_still caches.l2.backend.header.fields) caches.l2.size may_flush old new key caches.l2.entries l2.entries answer sound.l2_fit (miss missing)
         ] in
         rw same_backend (record {
@@ -109,8 +109,8 @@ module _ {S : Type 0} (view : S → StorageView) (old new : ImageStorage S) (cac
               (λ flush. rb_step h (order_of caches) p bits sound.rb_format.bits (l2_tables caches) (may flush))
               old new key caches.rb.entries rb.entries answer honest sound.kept (is_none (lookup (eqb key) caches.rb.entries) missing) (miss missing)
         ] in
-        let fit : AllFit (IsBlockOf caches.rb.backend.header.fields) rb.entries = elim (none_or_some (lookup (eqb key) caches.rb.entries)) [
-          | inl there ↦ subst (AllFit (IsBlockOf caches.rb.backend.header.fields)) (sym (hit there).1) (fit_promoted (IsBlockOf caches.rb.backend.header.fields) (eqb key) caches.rb.entries sound.rb_fit)
+        let fit : AllValuesFit (IsBlockOf caches.rb.backend.header.fields) rb.entries = elim (none_or_some (lookup (eqb key) caches.rb.entries)) [
+          | inl there ↦ subst (AllValuesFit (IsBlockOf caches.rb.backend.header.fields)) (sym (hit there).1) (fit_promoted (IsBlockOf caches.rb.backend.header.fields) (eqb key) caches.rb.entries sound.rb_fit)
           | inr missing ↦ get_fits seen caches.rb.backend.header.fields.cluster_bits (λ (b : RefBlockView). b.bytes) (λ b. b.is_modified) cleared_rb (IsBlockOf caches.rb.backend.header.fields) (block_still caches.rb.backend.header.fields) caches.rb.size may_flush old new key caches.rb.entries rb.entries answer sound.rb_fit (miss missing)
         ] in
         rw same_backend (record {

@@ -17,7 +17,7 @@ use Rattle.qcow2_alloc.specs.declared.async_lru_cache.error.CacheError.{CacheErr
 use Rattle.qcow2_alloc.specs.declared.async_lru_cache.error.CacheError.TheVariants.{InUse, StillInUse, Memory, Backend}
 use Rattle.qcow2_alloc.specs.AsyncLruCache.{slot_of}
 use Rattle.qcow2_alloc.specs.TableSteps.{LoadsTable, FailsToLoad, FlushesTable, FailsToFlush, table_steps}
-use Rattle.qcow2_alloc.specs.CacheAnswers.{Evicts, HasRoom, HasNoRoom, GetsNew, InsertsNew, Replaces}
+use Rattle.qcow2_alloc.specs.CacheAnswers.{Evicts, HasRoomForEntry, HasNoRoom, GetsNew, InsertsNew, Replaces}
 use Rattle.qcow2_alloc.specs.TableLaws.{same_number}
 use Rattle.qcow2_alloc.specs.KeptTables.{cached_table, cached_tables, AreElsewhere, IsCurrent, IsSafeSince}
 use Rattle.qcow2_alloc.proofs.CachedEntries.Lists.{lookup_none-removed}
@@ -137,7 +137,7 @@ module _ {S V : Type 0} (view : S → StorageView) (bits : ℕ) (bytes : V → L
         }
 
     pub room_done : (s t : S) (es fs : List (ℕ × Slot V)) → (view s).is_honest → P (tables es) (contents s)
-        → HasRoom (table_steps view bits bytes is_modified cleared IsFit) eqb size may_flush s es t fs → Done s t es fs
+        → HasRoomForEntry (table_steps view bits bytes is_modified cleared IsFit) eqb size may_flush s es t fs → Done s t es fs
     room_done s t es fs honest kept room = elim room [
       | inl there ↦ done_none s t es fs honest kept there.1 there.2
       | inr evicts ↦ evicted s t es fs honest kept evicts
@@ -159,7 +159,7 @@ module _ {S V : Type 0} (view : S → StorageView) (bits : ℕ) (bytes : V → L
         rw (h.same, whole) one
 
     -- a missing key is still missing once there is room
-    pub still_missing : (s t : S) (k : ℕ) (es fs : List (ℕ × Slot V)) → lookup (eqb k) es ≡ None → HasRoom (table_steps view bits bytes is_modified cleared IsFit) eqb size may_flush s es t fs
+    pub still_missing : (s t : S) (k : ℕ) (es fs : List (ℕ × Slot V)) → lookup (eqb k) es ≡ None → HasRoomForEntry (table_steps view bits bytes is_modified cleared IsFit) eqb size may_flush s es t fs
         → lookup (eqb k) fs ≡ None
     still_missing s t k es fs missing room = elim room [
       | inl there ↦ ap (lookup (eqb k)) there.2 ∙ missing

@@ -24,7 +24,7 @@ use Rattle.qcow2_alloc.specs.declared.async_lru_cache.slot.Slot.{Slot}
 use Rattle.qcow2_alloc.specs.declared.cache.MetadataCaches.{MetadataCaches}
 use Rattle.qcow2_alloc.specs.AsyncLruCache.{slot_of, value_at, set_at, with_entries}
 use Rattle.qcow2_alloc.specs.TableCaches.{IsTableOf}
-use Rattle.qcow2_alloc.specs.KeptTables.{cached_table, cached_tables, AreKept, AreLoaded, AllFit}
+use Rattle.qcow2_alloc.specs.KeptTables.{cached_table, cached_tables, AreKept, AreLoaded, AllValuesFit}
 use Rattle.qcow2_alloc.specs.MetadataCaches.{order_of, l2_tables, refblocks, known_of, CacheInvariant, IsEntryAt, MadeEntry, ShowsEntry, ShowsKnown}
 use Rattle.qcow2_alloc.proofs.KeptTables.Entries.{tables_at}
 use Rattle.qcow2_alloc.proofs.KeptTables.Loaded.{in_own_cluster}
@@ -107,7 +107,7 @@ module _ {S : Type 0} (h : HeaderFields) (p : Pending) (on_storage : Bytes) (cac
   was = entries_known v (known_of h caches on_storage) kept.l2_loaded known_is
 
   own_fit : IsTableOf caches.l2.backend.header.fields v
-  own_fit = fit_held (IsTableOf caches.l2.backend.header.fields) key there.front there.back v there.pins (subst (AllFit (IsTableOf caches.l2.backend.header.fields)) there.is sound.l2_fit)
+  own_fit = fit_held (IsTableOf caches.l2.backend.header.fields) key there.front there.back v there.pins (subst (AllValuesFit (IsTableOf caches.l2.backend.header.fields)) there.is sound.l2_fit)
 
   -- it is a table of this format
   pub bits_is : v.cluster_bits ≡ h.cluster_bits
@@ -165,9 +165,9 @@ module _ {S : Type 0} (h : HeaderFields) (p : Pending) (on_storage : Bytes) (cac
         subst (λ (b : Bytes). CrashInvariant h (order_of caches) p' on_storage b) known' (rw direction_is at guarded) in
         let again = l2_table_changed h (order_of caches) (order_of caches) p p' (tables there.front) (tables there.back) (refblocks caches) (table v) (table w) on_storage kept.kept settled aligned_v has_own
         (loaded_apart (cluster_size h) (HasL2 h on_storage) on_storage (list_with w) loaded') guarded' in
-        let all : AllFit (IsTableOf caches.l2.backend.header.fields) (set_at (eqb key) caches.l2.entries w) =
-        subst (AllFit (IsTableOf caches.l2.backend.header.fields)) (sym (there.set w))
-        (fit_set (IsTableOf caches.l2.backend.header.fields) key there.front there.back v w there.pins fit' (subst (AllFit (IsTableOf caches.l2.backend.header.fields)) there.is sound.l2_fit)) in
+        let all : AllValuesFit (IsTableOf caches.l2.backend.header.fields) (set_at (eqb key) caches.l2.entries w) =
+        subst (AllValuesFit (IsTableOf caches.l2.backend.header.fields)) (sym (there.set w))
+        (fit_set (IsTableOf caches.l2.backend.header.fields) key there.front there.back v w there.pins fit' (subst (AllValuesFit (IsTableOf caches.l2.backend.header.fields)) there.is sound.l2_fit)) in
         rw (l2_is, rb_is, direction_is) (record {
           l2_format = sound.l2_format;
           rb_format = sound.rb_format;

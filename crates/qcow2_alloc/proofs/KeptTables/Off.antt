@@ -37,10 +37,10 @@ use Rattle.qcow2_alloc.specs.declared.error.ImageError.{ImageError}
 use Rattle.qcow2_alloc.specs.ImageError.{of_cache}
 use Rattle.qcow2_alloc.specs.AsyncLruCache.{Cache, value_at, can_remove, is_pinned, pinned, with_entries}
 use Rattle.qcow2_alloc.specs.CacheAnswers.{Unit₀, Invalidates}
-use Rattle.qcow2_alloc.specs.CacheMarks.{HasRoom, KeepsMarks, LeavesPinned}
+use Rattle.qcow2_alloc.specs.CacheMarks.{CachesHaveRoom, KeepsMarks, LeavesPinned}
 use Rattle.qcow2_alloc.specs.TableLaws.{same_number}
 use Rattle.qcow2_alloc.specs.TableCaches.{IsTableOf, IsBlockOf}
-use Rattle.qcow2_alloc.specs.KeptTables.{cached_table, cached_tables, AreElsewhere, AreLoaded, AreKept, AllFit}
+use Rattle.qcow2_alloc.specs.KeptTables.{cached_table, cached_tables, AreElsewhere, AreLoaded, AreKept, AllValuesFit}
 use Rattle.qcow2_alloc.specs.MetadataCaches.{order_of, l2_tables, refblocks, rb_at, CacheInvariant, TakenOff, TakesOff, TakenFrom, TakesBlock}
 use Rattle.qcow2_alloc.proofs.CachedEntries.Knowing.{removed_apart}
 use Rattle.qcow2_alloc.proofs.CachedEntries.Lists.{lookup-from_entry}
@@ -86,11 +86,11 @@ some_pinned (e ∷ es) = elim (is_pinned e.1) as (λ b. SomeOf (e ∷ es) (cond 
 
 -- ---- what holds of all holds of some
 
-pub some_fit : {V : Type 0} (IsFit : V → Type 0) (es fs : List (ℕ × Slot V)) → SomeOf es fs → AllFit IsFit es → AllFit IsFit fs
-some_fit IsFit [] fs h all = subst (AllFit IsFit) (sym h) tt
+pub some_fit : {V : Type 0} (IsFit : V → Type 0) (es fs : List (ℕ × Slot V)) → SomeOf es fs → AllValuesFit IsFit es → AllValuesFit IsFit fs
+some_fit IsFit [] fs h all = subst (AllValuesFit IsFit) (sym h) tt
 some_fit IsFit (e ∷ es) fs h all = elim h [
   | inl less ↦ some_fit IsFit es fs less all.1
-  | inr more ↦ subst (AllFit IsFit) (sym more.1) (all.0, some_fit IsFit es more.0 more.2 all.1)
+  | inr more ↦ subst (AllValuesFit IsFit) (sym more.1) (all.0, some_fit IsFit es more.0 more.2 all.1)
 ]
 
 some_elsewhere : (place : ℕ) (ts us : List CachedTable) → SomeOf ts us → AreElsewhere place ts → AreElsewhere place us
@@ -438,7 +438,7 @@ module _ {S : Type 0} (caches : MetadataCaches S) (key : ℕ) (b : Bool) (rb : C
   removed_clean all = subst (λ (x : Cache (RefBlockCacheBackend S) ℕ RefBlockView). AreClean (refblocks (record caches { rb = x }))) (sym is) (clean_case b caches.rb.backend.header.fields.cluster_bits caches.rb.entries all)
 
   -- it is no longer held
-  pub removed_gone : (h : HeaderFields) (p : Pending) (on_storage : Bytes) → CacheInvariant h p caches on_storage → HasRoom caches → value_at (eqb key) rb.entries ≡ None
+  pub removed_gone : (h : HeaderFields) (p : Pending) (on_storage : Bytes) → CacheInvariant h p caches on_storage → CachesHaveRoom caches → value_at (eqb key) rb.entries ≡ None
   removed_gone h p on_storage sound room = elim (cases_Bool b) [
     | inl went ↦ (removed_takes caches key b rb told is went h p on_storage sound).gone
     | inr stayed ↦

@@ -23,7 +23,7 @@ use Rattle.qcow2_alloc.specs.AsyncLruCache.{Cache, slot_of, with_entries}
 use Rattle.qcow2_alloc.specs.CacheAnswers.{InsertsNew, Replaces}
 use Rattle.qcow2_alloc.specs.ImageStorage.{storage_of}
 use Rattle.qcow2_alloc.specs.TableCaches.{l2_steps, cleared_l2, IsTableOf}
-use Rattle.qcow2_alloc.specs.KeptTables.{cached_table, cached_tables, AllFit, AreElsewhere, AreKept}
+use Rattle.qcow2_alloc.specs.KeptTables.{cached_table, cached_tables, AllValuesFit, AreElsewhere, AreKept}
 use Rattle.qcow2_alloc.specs.MetadataCaches.{laid_at, order_of, l2_tables, refblocks, CacheInvariant, UnseenCacheStep, LaidOver}
 use Rattle.qcow2_alloc.proofs.KeptTables.Settled.{settled_beside}
 use Rattle.qcow2_alloc.proofs.KeptTables.Standing.{own_cluster}
@@ -120,7 +120,7 @@ module _ {S : Type 0} (view : S → StorageView) (old new : ImageStorage S) (cac
         (λ flush. l2_step h (order_of caches) p bits sound.l2_format.bits (refblocks caches) (may flush)) key v
         old new caches.l2.entries e some honest sound.kept l2.entries answer left (rw is at (rw some at there)))
 
-    fit : (answer ≡ Ok true → IsFit v) → AllFit IsFit l2.entries
+    fit : (answer ≡ Ok true → IsFit v) → AllValuesFit IsFit l2.entries
     fit fits = found_or_not (lookup_entry (eqb key) caches.l2.entries)
         (λ none. insert_fits seen bits (λ (t : L2TableView). t.bytes) (λ t. t.is_modified) cleared_l2 IsFit (table_still caches.l2.backend.header.fields) caches.l2.size may_flush old new key v caches.l2.entries l2.entries answer left fits sound.l2_fit (rw is at (missing (rw (lookup_none (eqb key) caches.l2.entries none) refl))))
         (λ e some. replace_fits seen bits (λ (t : L2TableView). t.bytes) (λ t. t.is_modified) cleared_l2 IsFit (table_still caches.l2.backend.header.fields) may_flush old new key v caches.l2.entries l2.entries e answer left some fits sound.l2_fit (rw is at (rw some at there)))
@@ -169,7 +169,7 @@ module _ {S : Type 0} (view : S → StorageView) (old new : ImageStorage S) (cac
             sound = λ p' stands guarded. record {
               l2_format = sound.l2_format;
               rb_format = sound.rb_format;
-              l2_fit = subst (AllFit IsFit) ready.is (fit (λ _. table_as caches.l2.backend.header.fields h v sound.l2_format fits));
+              l2_fit = subst (AllValuesFit IsFit) ready.is (fit (λ _. table_as caches.l2.backend.header.fields h v sound.l2_format fits));
               rb_fit = sound.rb_fit;
               kept = subst (λ ts. AreKept h (order_of caches) p' ts (refblocks caches) on_storage') (sym list_is)
                   (l2_laid h (order_of caches) p (tables ready.rest) (refblocks caches) on_storage' ready.done.kept (laid_at h key v.bytes) (mul-mod_left key (cluster_size h)) refl p' away stands.0

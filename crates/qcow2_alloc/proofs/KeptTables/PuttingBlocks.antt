@@ -26,7 +26,7 @@ use Rattle.qcow2_alloc.specs.CacheAnswers.{InsertsNew, Replaces}
 use Rattle.qcow2_alloc.specs.ImageStorage.{storage_of}
 use Rattle.qcow2_alloc.specs.TableLaws.{same_number}
 use Rattle.qcow2_alloc.specs.TableCaches.{rb_steps, cleared_rb, IsBlockOf}
-use Rattle.qcow2_alloc.specs.KeptTables.{cached_table, cached_tables, AllFit, AreElsewhere, AreKept}
+use Rattle.qcow2_alloc.specs.KeptTables.{cached_table, cached_tables, AllValuesFit, AreElsewhere, AreKept}
 use Rattle.qcow2_alloc.specs.MetadataCaches.{laid_at, order_of, l2_tables, refblocks, CacheInvariant, UnseenCacheStep, LaidOver}
 use Rattle.qcow2_alloc.proofs.KeptTables.Settled.{top_still, settled_anew, blocks_stand, block_place}
 use Rattle.qcow2_alloc.proofs.KeptTables.Standing.{IsStanding, AreStanding, own_cluster, insert_stands, replace_stands}
@@ -90,7 +90,7 @@ module _ {S : Type 0} (view : S → StorageView) (old new : ImageStorage S) (cac
         (λ flush. rb_step h (order_of caches) p bits sound.rb_format.bits (l2_tables caches) (may flush)) key v
         old new caches.rb.entries e some honest sound.kept rb.entries answer left (rw is at (rw some at there)))
 
-    fit : (answer ≡ Ok true → IsFit v) → AllFit IsFit rb.entries
+    fit : (answer ≡ Ok true → IsFit v) → AllValuesFit IsFit rb.entries
     fit fits = found_or_not (lookup_entry (eqb key) caches.rb.entries)
         (λ none. insert_fits seen bits (λ (b : RefBlockView). b.bytes) (λ b. b.is_modified) cleared_rb IsFit (block_still caches.rb.backend.header.fields) caches.rb.size may_flush old new key v caches.rb.entries rb.entries answer left fits sound.rb_fit (rw is at (missing (rw (lookup_none (eqb key) caches.rb.entries none) refl))))
         (λ e some. replace_fits seen bits (λ (b : RefBlockView). b.bytes) (λ b. b.is_modified) cleared_rb IsFit (block_still caches.rb.backend.header.fields) may_flush old new key v caches.rb.entries rb.entries e answer left some fits sound.rb_fit (rw is at (rw some at there)))
@@ -168,7 +168,7 @@ module _ {S : Type 0} (view : S → StorageView) (old new : ImageStorage S) (cac
               l2_format = sound.l2_format;
               rb_format = sound.rb_format;
               l2_fit = sound.l2_fit;
-              rb_fit = subst (AllFit IsFit) ready.is (fit (λ _. own_fit));
+              rb_fit = subst (AllValuesFit IsFit) ready.is (fit (λ _. own_fit));
               kept = subst (λ ts. AreKept h (order_of caches) p' (l2_tables caches) ts on_storage') (sym list_is)
                   (rb_laid h (order_of caches) p (l2_tables caches) (blocks ready.rest) on_storage' ready.done.kept (laid_at h key v.bytes) (mul-mod_left key (cluster_size h)) refl p'
                   (subst (λ n. HasBlock h on_storage' n ⊎ IsUnnamed h on_storage' (known_bytes (cluster_size h) (l2_tables caches) (laid_at h key v.bytes ∷ blocks ready.rest) on_storage') n) (sym own)

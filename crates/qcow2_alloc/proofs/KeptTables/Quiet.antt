@@ -18,9 +18,9 @@ use Rattle.qcow2_alloc.specs.declared.cache.backends.RefBlockCacheBackend.{RefBl
 use Rattle.qcow2_alloc.specs.declared.cache.MetadataCaches.{MetadataCaches}
 use Rattle.qcow2_alloc.specs.declared.image_storage.ImageStorage.{ImageStorage}
 use Rattle.qcow2_alloc.specs.AsyncLruCache.{Cache, oldest_free, with_entries}
-use Rattle.qcow2_alloc.specs.CacheAnswers.{Unit₀, FlushesEntry, FlushesAll, Flushes, HasRoom, HasNoRoom, GetsNew, InsertsNew, Replaces}
+use Rattle.qcow2_alloc.specs.CacheAnswers.{Unit₀, FlushesEntry, FlushesAll, Flushes, HasRoomForEntry, HasNoRoom, GetsNew, InsertsNew, Replaces}
 use Rattle.qcow2_alloc.specs.ImageStorage.{storage_of}
-use Rattle.qcow2_alloc.specs.TableSteps.{done, table_steps}
+use Rattle.qcow2_alloc.specs.TableSteps.{answer_done, table_steps}
 use Rattle.qcow2_alloc.specs.TableCaches.{l2_steps, rb_steps, cleared_l2, cleared_rb, IsTableOf, IsBlockOf}
 use Rattle.qcow2_alloc.specs.KeptTables.{cached_tables}
 use Rattle.qcow2_alloc.specs.MetadataCaches.{order_of, l2_tables, refblocks}
@@ -62,7 +62,7 @@ module _ {S V : Type 0} (view : S → StorageView) (bits : ℕ) (bytes : V → L
   still s t is honest = rw is (quiet_none (view s) honest)
 
   entry_quiet : (s t : S) (e : ℕ × Slot V) (x : Option MetadataError) (d : Slot V) → FlushesEntry (table_steps view bits bytes is_modified cleared IsFit) s e x t d → is_modified e.1.value ≡ false → Quiet s t
-  entry_quiet s t e None d h clean honest = quiet_call (view s) (view t) done h.0.calls (h.0.skips clean) honest
+  entry_quiet s t e None d h clean honest = quiet_call (view s) (view t) answer_done h.0.calls (h.0.skips clean) honest
   entry_quiet s t e (Some x) d h clean honest = not_both (is_modified e.1.value) h.0.modified clean
 
   all_quiet : (s t : S) (es fs : List (ℕ × Slot V)) (x : Option MetadataError) → FlushesAll (table_steps view bits bytes is_modified cleared IsFit) s es x t fs → AreClean (cached_tables bits bytes is_modified es) → Quiet s t
@@ -83,10 +83,10 @@ module _ {S V : Type 0} (view : S → StorageView) (bits : ℕ) (bytes : V → L
     next_clean : (e : ℕ × Slot V) → may_flush ≡ true → oldest_free es ≡ Some e → is_modified e.1.value ≡ false
     next_clean e may goes = subst (λ (o : Option (ℕ × Slot V)). IfSome o (λ e. is_modified e.1.value ≡ false)) goes (next may)
 
-    room_quiet : (t : S) (fs : List (ℕ × Slot V)) → HasRoom (table_steps view bits bytes is_modified cleared IsFit) eqb size may_flush s es t fs → Quiet s t
+    room_quiet : (t : S) (fs : List (ℕ × Slot V)) → HasRoomForEntry (table_steps view bits bytes is_modified cleared IsFit) eqb size may_flush s es t fs → Quiet s t
     room_quiet t fs room honest = elim room [
       | inl there ↦ still s t there.1 honest
-      | inr evicts ↦ quiet_call (view s) (view t) done evicts.flushed.calls (evicts.flushed.skips (next_clean evicts.entry evicts.must.may evicts.goes)) honest
+      | inr evicts ↦ quiet_call (view s) (view t) answer_done evicts.flushed.calls (evicts.flushed.skips (next_clean evicts.entry evicts.must.may evicts.goes)) honest
     ]
 
     no_room_quiet : (t : S) (fs : List (ℕ × Slot V)) (r : Result Bool (CacheError ℕ MetadataError)) → HasNoRoom (table_steps view bits bytes is_modified cleared IsFit) eqb size may_flush s es r t fs → Quiet s t
@@ -100,13 +100,13 @@ module _ {S V : Type 0} (view : S → StorageView) (bits : ℕ) (bytes : V → L
     new_quiet : (t : S) (fs : List (ℕ × Slot V)) (k : ℕ) (r : Result Bool (CacheError ℕ MetadataError)) → GetsNew (table_steps view bits bytes is_modified cleared IsFit) eqb size may_flush k s es r t fs → Quiet s t
     new_quiet t fs k (Ok true) h honest =
         let one = room_quiet h.0 h.1 h.3 honest in
-        quiet_then (view s) (view h.0) (view t) one (quiet_call (view h.0) (view t) done h.4.calls h.4.keeps one.honest)
+        quiet_then (view s) (view h.0) (view t) one (quiet_call (view h.0) (view t) answer_done h.4.calls h.4.keeps one.honest)
     new_quiet t fs k (Ok false) h honest = no_room_quiet t fs (Ok false) h honest
     new_quiet t fs k (Err InUse) h honest = no_room_quiet t fs (Err InUse) h honest
     new_quiet t fs k (Err (StillInUse keys)) h honest = absurd h
     new_quiet t fs k (Err Memory) h honest =
         let one = room_quiet h.0 fs h.2 honest in
-        quiet_then (view s) (view h.0) (view t) one (quiet_call (view h.0) (view t) done h.3.calls h.3.keeps one.honest)
+        quiet_then (view s) (view h.0) (view t) one (quiet_call (view h.0) (view t) answer_done h.3.calls h.3.keeps one.honest)
     new_quiet t fs k (Err (Backend x)) h honest = elim h [
       | inl none ↦ no_room_quiet t fs (Err (Backend x)) none honest
       | inr failed ↦
@@ -139,7 +139,7 @@ module _ {S V : Type 0} (view : S → StorageView) (bits : ℕ) (bytes : V → L
     -- what is put in the place of another one
     replace_quiet : (t : S) (fs : List (ℕ × Slot V)) (k : ℕ) (e : ℕ × Slot V) (others : List (ℕ × Slot V)) (v : V) (left : Option V) (r : Result Bool (CacheError ℕ MetadataError))
         → (may_flush ≡ true → is_modified e.1.value ≡ false) → Replaces (table_steps view bits bytes is_modified cleared IsFit) k e others v may_flush s es r t fs left → Quiet s t
-    replace_quiet t fs k e others v left (Ok true) clean h honest = quiet_call (view s) (view t) done h.1.1.calls (h.1.1.skips (clean h.0)) honest
+    replace_quiet t fs k e others v left (Ok true) clean h honest = quiet_call (view s) (view t) answer_done h.1.1.calls (h.1.1.skips (clean h.0)) honest
     replace_quiet t fs k e others v left (Ok false) clean h honest = still s t h.1 honest
     replace_quiet t fs k e others v left (Err (Backend x)) clean h honest = not_both (is_modified e.1.value) h.1.modified (clean h.0)
     replace_quiet t fs k e others v left (Err InUse) clean h honest = absurd h

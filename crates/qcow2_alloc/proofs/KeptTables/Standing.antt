@@ -19,8 +19,8 @@ use Rattle.qcow2_alloc.specs.declared.async_lru_cache.error.CacheError.TheVarian
 use Rattle.qcow2_alloc.specs.AsyncLruCache.{slot_of, oldest_free}
 use Rattle.qcow2_alloc.specs.AsyncLruCacheBackend.{Steps}
 use Rattle.qcow2_alloc.specs.TableSteps.{table_steps}
-use Rattle.qcow2_alloc.specs.CacheAnswers.{Unit₀, FlushesEntry, FlushesAll, Flushes, HasRoom, HasNoRoom, GetsNew, InsertsNew, Replaces}
-use Rattle.qcow2_alloc.specs.KeptTables.{cached_table, cached_tables, AllFit}
+use Rattle.qcow2_alloc.specs.CacheAnswers.{Unit₀, FlushesEntry, FlushesAll, Flushes, HasRoomForEntry, HasNoRoom, GetsNew, InsertsNew, Replaces}
+use Rattle.qcow2_alloc.specs.KeptTables.{cached_table, cached_tables, AllValuesFit}
 use Rattle.qcow2_alloc.specs.TableLaws.{same_number}
 use Rattle.qcow2_alloc.proofs.KeptTables.Entries.{split_oldest}
 use Rattle.qcow2_alloc.proofs.KeptTables.Getting.{cluster_aligned}
@@ -133,7 +133,7 @@ module _ {S V : Type 0} (view : S → StorageView) (bits : ℕ) (bytes : V → L
     flush_cause s t es fs (Err (StillInUse _)) all f = absurd f
 
     module _ (size : ℕ) (may_flush : Bool) where
-      room_stands : (s t : S) (es fs : List (ℕ × Slot V)) → All es → HasRoom Steps₀ eqb size may_flush s es t fs → All fs
+      room_stands : (s t : S) (es fs : List (ℕ × Slot V)) → All es → HasRoomForEntry Steps₀ eqb size may_flush s es t fs → All fs
       room_stands s t es fs all room = elim room [
         | inl there ↦ subst All (sym there.2) all
         | inr evicts ↦ subst All (sym evicts.rest) (stand_removed is_modified IsFit Named (eqb evicts.entry.0) es all)
@@ -226,7 +226,7 @@ module _ {V : Type 0} (bits : ℕ) (bytes : V → List ℕ) (is_modified : V →
   covers_own : (e : ℕ × Slot V) → is_modified e.1.value ≡ true → overlays (2 ^ bits) (cached_table bits bytes is_modified e) (e.0 * 2 ^ bits) ≡ true
   covers_own e modified = ap (λ m. m && is_within (e.0 * 2 ^ bits) (2 ^ bits) (e.0 * 2 ^ bits)) modified ∙ cluster_within (e.0 * 2 ^ bits) (2 ^ bits) (e.0 * 2 ^ bits) (pow_pos bits) (cluster_aligned e.0 bits) refl
 
-  pub standing_of : (es : List (ℕ × Slot V)) → AllFit IsFit es → ((c : ℕ) → IsFreeOf (2 ^ bits) (tables es) c ⊎ Named c) → AreStanding is_modified IsFit Named es
+  pub standing_of : (es : List (ℕ × Slot V)) → AllValuesFit IsFit es → ((c : ℕ) → IsFreeOf (2 ^ bits) (tables es) c ⊎ Named c) → AreStanding is_modified IsFit Named es
   standing_of [] fits each = tt
   standing_of (e ∷ es) fits each = (
     record {

@@ -25,7 +25,7 @@ use Rattle.qcow2_image.specs.declared.image.Qcow2.{Qcow2}
 use Rattle.qcow2_image.specs.declared.prepared.Prepared.{Prepared}
 use Rattle.qcow2_image.specs.ImageInvariant.{below_of, of_data, of_tables, to_free, held_by, over_all, pending_in, abstract_of, meaning, is_entered, is_new, is_private, is_hidden, place_of, share_of, backing_bytes, ImageInvariant}
 use Rattle.qcow2_image.specs.MovedTables.{MovesTables}
-use Rattle.qcow2_image.specs.UnseenSteps.{pending_then, ListGrows, UnseenStep, UnseenFreeingStep}
+use Rattle.qcow2_image.specs.UnseenSteps.{pending_with_listed, ListGrows, UnseenStep, UnseenFreeingStep}
 use Rattle.qcow2_image.proofs.Moved.{format_moves}
 use Rattle.qcow2_image.proofs.Shares.{private_used, used_unlaid}
 use Rattle.qcow2_image.proofs.Sound.{free_more, pending_is}
@@ -51,8 +51,8 @@ tidies_kept view backing old new out p p' keeps = record { sound = keeps.sound; 
 module _ {S F : Type 0} (view : S → StorageView) (backing : F → BackingView) (old new : Qcow2 S F) (out : List (Option Prepared)) where
   -- with the clusters that are to be freed since, all that is pending is known
   pub followed : ImageInvariant view backing (pending_in view backing old out) old out → ListGrows old new
-      → StateInvariant (state_in view new.file (pending_then (pending_in view backing old out) old new)) → pending_then (pending_in view backing old out) old new ≡ pending_in view backing new out
-  followed sound grows still = pending_is view backing new out (pending_then (pending_in view backing old out) old new) still (record {
+      → StateInvariant (state_in view new.file (pending_with_listed (pending_in view backing old out) old new)) → pending_with_listed (pending_in view backing old out) old new ≡ pending_in view backing new out
+  followed sound grows still = pending_is view backing new out (pending_with_listed (pending_in view backing old out) old new) still (record {
     held = λ k. refl;
     fresh = λ k. refl;
     spent = λ k. let e = ap (λ l. to_free of_tables l k) grows.is ∙ free_more of_tables old.file.free_list grows.more k in omega arith;
@@ -118,15 +118,15 @@ module _ {S F : Type 0} (view : S → StorageView) (backing : F → BackingView)
   -- ---- a whole call that no guest sees
 
   module _ (sound : ImageInvariant view backing (pending_in view backing old out) old out)
-      (keeps : UnseenStep view backing (pending_in view backing old out) (pending_then (pending_in view backing old out) old new) old new out) where
-    pending_now : pending_then (pending_in view backing old out) old new ≡ pending_in view backing new out
+      (keeps : UnseenStep view backing (pending_in view backing old out) (pending_with_listed (pending_in view backing old out) old new) old new out) where
+    pending_now : pending_with_listed (pending_in view backing old out) old new ≡ pending_in view backing new out
     pending_now = followed sound keeps.list keeps.sound.file.caches.kept.kept.guarded
 
     pub sound_now : ImageInvariant view backing (pending_in view backing new out) new out
     sound_now = subst (λ (q : Pending). ImageInvariant view backing q new out) pending_now keeps.sound
 
     pub same_now : guest_of (abstract_of view backing new out) ≡ guest_of (abstract_of view backing old out)
-    same_now = still_seen (pending_in view backing old out) (pending_then (pending_in view backing old out) old new) sound (λ k. omega arith) (λ k. omega arith) (tidies_kept view backing old new out _ _ keeps)
+    same_now = still_seen (pending_in view backing old out) (pending_with_listed (pending_in view backing old out) old new) sound (λ k. omega arith) (λ k. omega arith) (tidies_kept view backing old new out _ _ keeps)
 
     pub works_now : Works (abstract_of view backing old out) (abstract_of view backing new out) [] []
     works_now = record {

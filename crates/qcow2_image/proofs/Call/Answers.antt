@@ -11,7 +11,7 @@ use Rattle.qcow2_alloc.specs.declared.error.ImageError.{ImageError}
 use Rattle.qcow2_alloc.specs.declared.error.ImageError.TheVariants as I
 use Rattle.qcow2_image.specs.declared.image.Qcow2.{Qcow2}
 use Rattle.qcow2_image.specs.declared.prepared.Prepared.{Prepared}
-use Rattle.qcow2_image.specs.Calls.{refusal_of, Answers}
+use Rattle.qcow2_image.specs.Calls.{refusal_of, AnswersCall}
 use Rattle.qcow2_image.specs.Image.{is_failed, is_external, is_writable, size_of}
 use Rattle.qcow2_image.specs.Refusals.{passes, refuse_if, refuses_to_prepare, unusable}
 use Rattle.qcow2_image.specs.ImageInvariant.{abstract_of}
@@ -20,7 +20,7 @@ module _ {S F : Type 0} (view : S → StorageView) (backing : F → BackingView)
   -- an answer that is this refusal
   pub answers_err : {A : Type 0} (given : List GivenBytes) (Done : A → Guest → Guest → Type 0) (r : Result A ImageError) (e : ImageError) → IsErr r × IsErrAnd r (λ x. x ≡ e)
       → ((out : List (Option Prepared)) → Refuses (abstract_of view backing old out) (abstract_of view backing new out) given [] (refusal_of e) (IsSame (abstract_of view backing old out) (abstract_of view backing new out)))
-      → Answers view backing old new given Done r
+      → AnswersCall view backing old new given Done r
   answers_err given Done (Ok a) e is refuses = absurd (let no : false ≡ true = is.0 in cc)
   answers_err given Done (Err x) e is refuses = λ out.
       subst (λ (y : ImageError). Refuses (abstract_of view backing old out) (abstract_of view backing new out) given [] (refusal_of y) (IsSame (abstract_of view backing old out) (abstract_of view backing new out))) (sym is.1) (refuses out)

@@ -18,11 +18,11 @@ use Rattle.qcow2_alloc.specs.declared.error.ImageError.{ImageError}
 use Rattle.qcow2_alloc.specs.ImageFile.{state_in, view_in, nothing_given}
 use Rattle.qcow2_image.specs.declared.image.Qcow2.{Qcow2}
 use Rattle.qcow2_image.specs.declared.prepared.Prepared.{Prepared}
-use Rattle.qcow2_image.specs.Calls.{refusal_of, Answers}
+use Rattle.qcow2_image.specs.Calls.{refusal_of, AnswersCall}
 use Rattle.qcow2_image.specs.Image.{number_of, is_failed}
 use Rattle.qcow2_image.specs.Refusals.{failed_after, Marks}
 use Rattle.qcow2_image.specs.ImageInvariant.{of_data, of_tables, to_free, ImageInvariant, pending_in, abstract_of}
-use Rattle.qcow2_image.specs.UnseenSteps.{NamesOwn, KeepsCopied, pending_then, UnseenStep}
+use Rattle.qcow2_image.specs.UnseenSteps.{NamesOwn, KeepsCopied, pending_with_listed, UnseenStep}
 use Rattle.qcow2_image.proofs.Call.Answered.{works_now, sound_now, same_now}
 use Rattle.qcow2_image.proofs.Call.Settled.{settled_does, settled_refuses}
 
@@ -75,11 +75,11 @@ module _ {S F : Type 0} (view : S → StorageView) (backing : F → BackingView)
       pub list : new.file.free_list ≡ old.file.free_list
 
     module _ (quiet : ImageInvariant view backing (pending_in view backing old out) old out → Quietly) where
-      unmoved : (sound : ImageInvariant view backing (pending_in view backing old out) old out) → pending_in view backing old out ≡ pending_then (pending_in view backing old out) old new
-      unmoved sound = same_freed (pending_in view backing old out) (pending_then (pending_in view backing old out) old new) refl
+      unmoved : (sound : ImageInvariant view backing (pending_in view backing old out) old out) → pending_in view backing old out ≡ pending_with_listed (pending_in view backing old out) old new
+      unmoved sound = same_freed (pending_in view backing old out) (pending_with_listed (pending_in view backing old out) old new) refl
           (fun_ext (λ k. let e = ap (λ l. to_free of_tables l k) (quiet sound).list in omega arith)) (fun_ext (λ k. let e = ap (λ l. to_free of_data l k) (quiet sound).list in omega arith))
 
-      pub listed : (sound : ImageInvariant view backing (pending_in view backing old out) old out) → UnseenStep view backing (pending_in view backing old out) (pending_then (pending_in view backing old out) old new) old new out
+      pub listed : (sound : ImageInvariant view backing (pending_in view backing old out) old out) → UnseenStep view backing (pending_in view backing old out) (pending_with_listed (pending_in view backing old out) old new) old new out
       listed sound = subst (λ (q : Pending). UnseenStep view backing (pending_in view backing old out) q old new out) (unmoved sound) (quiet sound).keeps
 
       pub quiet_works : ImageInvariant view backing (pending_in view backing old out) old out → Works (abstract_of view backing old out) (abstract_of view backing new out) [] []
@@ -116,7 +116,7 @@ module _ {S F : Type 0} (view : S → StorageView) (backing : F → BackingView)
   Tells old new Done (Ok a) = (out : List (Option Prepared)) → let v = abstract_of view backing old out in let w = abstract_of view backing new out in Does v w [] [] (Done a v w)
   Tells old new Done (Err e) = (out : List (Option Prepared)) → let v = abstract_of view backing old out in let w = abstract_of view backing new out in Refuses v w [] [] (refusal_of e) (IsSame v w)
 
-  pub told_answers : (old new : Qcow2 S F) {A : Type 0} (Done : A → Guest → Guest → Type 0) (r : Result A ImageError) → Tells old new (λ a v w. Done a (guest_of v) (guest_of w)) r → Answers view backing old new [] Done r
+  pub told_answers : (old new : Qcow2 S F) {A : Type 0} (Done : A → Guest → Guest → Type 0) (r : Result A ImageError) → Tells old new (λ a v w. Done a (guest_of v) (guest_of w)) r → AnswersCall view backing old new [] Done r
   told_answers old new Done (Ok a) told = told
   told_answers old new Done (Err e) told = told
 

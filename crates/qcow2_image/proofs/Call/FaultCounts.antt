@@ -11,12 +11,12 @@ use Rattle.qcow2_alloc.specs.ImageError.{IsFault}
 use Rattle.qcow2_alloc.specs.Faults.{FaultsTold, faults_of}
 use Rattle.qcow2_alloc.proofs.AllocationSteps.{handed_on}
 use Rattle.qcow2_image.specs.declared.image.Qcow2.{Qcow2}
-use Rattle.qcow2_image.specs.Faults.{CountsFaults, IsNotOfStorage, NoFewerFaults, TellsFault}
+use Rattle.qcow2_image.specs.Faults.{CountsImageFaults, IsNotOfStorage, NoFewerFaults, TellsFault}
 use Rattle.qcow2_image.specs.ImageInvariant.{faults_below}
 
 module _ {S F : Type 0} (view : S → StorageView) (backing : F → BackingView) where
   -- a call that follows others
-  pub counted_since : {T : Type 0} (old mid new : Qcow2 S F) (result : Result T ImageError) → NoFewerFaults view backing old mid → CountsFaults view backing mid new result → CountsFaults view backing old new result
+  pub counted_since : {T : Type 0} (old mid new : Qcow2 S F) (result : Result T ImageError) → NoFewerFaults view backing old mid → CountsImageFaults view backing mid new result → CountsImageFaults view backing old new result
   counted_since old mid new result first told = record {
     no_fewer = record { storage = le_trans first.storage told.no_fewer.storage; below = le_trans first.below told.no_fewer.below };
     rose = IfErr-weaker result (TellsFault view backing mid new) (TellsFault view backing old new) (λ e tells is. elim (tells is) [
@@ -26,7 +26,7 @@ module _ {S F : Type 0} (view : S → StorageView) (backing : F → BackingView)
   }
 
   -- a call that is followed by what fails no more
-  pub counted_still : {T : Type 0} (old mid new : Qcow2 S F) (result : Result T ImageError) → CountsFaults view backing old mid result → NoFewerFaults view backing mid new → CountsFaults view backing old new result
+  pub counted_still : {T : Type 0} (old mid new : Qcow2 S F) (result : Result T ImageError) → CountsImageFaults view backing old mid result → NoFewerFaults view backing mid new → CountsImageFaults view backing old new result
   counted_still old mid new result told last = record {
     no_fewer = record { storage = le_trans told.no_fewer.storage last.storage; below = le_trans told.no_fewer.below last.below };
     rose = IfErr-weaker result (TellsFault view backing old mid) (TellsFault view backing old new) (λ e tells is. elim (tells is) [
@@ -36,11 +36,11 @@ module _ {S F : Type 0} (view : S → StorageView) (backing : F → BackingView)
   }
 
   -- a call whose refusal marks the image
-  pub counted_marked : {T : Type 0} (old mid last new : Qcow2 S F) (done result : Result T ImageError) → NoFewerFaults view backing old mid → CountsFaults view backing mid last done → result ≡ done → new ≡ record last { is_failed = new.is_failed }
-      → CountsFaults view backing old new result
+  pub counted_marked : {T : Type 0} (old mid last new : Qcow2 S F) (done result : Result T ImageError) → NoFewerFaults view backing old mid → CountsImageFaults view backing mid last done → result ≡ done → new ≡ record last { is_failed = new.is_failed }
+      → CountsImageFaults view backing old new result
   counted_marked old mid last new done result first told is rest =
       let all = counted_since old mid last done first told in
-      subst (λ r. CountsFaults view backing old new r) (sym is) (subst (λ i. CountsFaults view backing old i done) (sym rest) (record {
+      subst (λ r. CountsImageFaults view backing old new r) (sym is) (subst (λ i. CountsImageFaults view backing old i done) (sym rest) (record {
         no_fewer = record { storage = all.no_fewer.storage; below = all.no_fewer.below };
         rose = all.rose;
       }))
@@ -57,31 +57,31 @@ module _ {S F : Type 0} (view : S → StorageView) (backing : F → BackingView)
   fewer_then old mid new first last = record { storage = le_trans first.storage last.storage; below = le_trans first.below last.below }
 
   -- what is answered
-  pub counted_ok : {T : Type 0} (old new : Qcow2 S F) (x : T) → NoFewerFaults view backing old new → CountsFaults view backing old new (Ok x)
+  pub counted_ok : {T : Type 0} (old new : Qcow2 S F) (x : T) → NoFewerFaults view backing old new → CountsImageFaults view backing old new (Ok x)
   counted_ok old new x no_fewer = record { no_fewer = no_fewer; rose = tt }
 
   -- a refusal for another cause
-  pub counted_other : {T : Type 0} (old new : Qcow2 S F) (e : ImageError) → NoFewerFaults view backing old new → IsNotOfStorage e → CountsFaults view backing {T = T} old new (Err e)
+  pub counted_other : {T : Type 0} (old new : Qcow2 S F) (e : ImageError) → NoFewerFaults view backing old new → IsNotOfStorage e → CountsImageFaults view backing {T = T} old new (Err e)
   counted_other old new e no_fewer other = record { no_fewer = no_fewer; rose = λ is. absurd (other is) }
 
   -- the same refusal, of another call
-  pub counted_as : {T A : Type 0} (old mid new : Qcow2 S F) (answer : Result A ImageError) (e : ImageError) → NoFewerFaults view backing old mid → CountsFaults view backing mid new answer → answer ≡ Err e → CountsFaults view backing {T = T} old new (Err e)
+  pub counted_as : {T A : Type 0} (old mid new : Qcow2 S F) (answer : Result A ImageError) (e : ImageError) → NoFewerFaults view backing old mid → CountsImageFaults view backing mid new answer → answer ≡ Err e → CountsImageFaults view backing {T = T} old new (Err e)
   counted_as old mid new answer e first told is =
-      let all = subst (λ r. CountsFaults view backing old new r) is (counted_since old mid new answer first told) in
+      let all = subst (λ r. CountsImageFaults view backing old new r) is (counted_since old mid new answer first told) in
       record { no_fewer = all.no_fewer; rose = all.rose }
 
   -- one that `?` hands on
-  pub counted_on : {T A : Type 0} (old mid new : Qcow2 S F) (answer : Result A ImageError) (e : ImageError) (result : Result T ImageError) → NoFewerFaults view backing old mid → CountsFaults view backing mid new answer → answer ≡ Err e
-      → IsErr result × IsErrAnd result (λ x. x ≡ e) → CountsFaults view backing old new result
-  counted_on old mid new answer e result first told is on = handed_on (λ r. CountsFaults view backing old new r) result e on (counted_as old mid new answer e first told is)
+  pub counted_on : {T A : Type 0} (old mid new : Qcow2 S F) (answer : Result A ImageError) (e : ImageError) (result : Result T ImageError) → NoFewerFaults view backing old mid → CountsImageFaults view backing mid new answer → answer ≡ Err e
+      → IsErr result × IsErrAnd result (λ x. x ≡ e) → CountsImageFaults view backing old new result
+  counted_on old mid new answer e result first told is on = handed_on (λ r. CountsImageFaults view backing old new r) result e on (counted_as old mid new answer e first told is)
 
   -- a step that asks no storage, refused
   pub other_on : {T A : Type 0} (old new : Qcow2 S F) (answer : Result A ImageError) (e : ImageError) (result : Result T ImageError) → NoFewerFaults view backing old new → IfErr answer IsNotOfStorage → answer ≡ Err e → IsErr result × IsErrAnd result (λ x. x ≡ e)
-      → CountsFaults view backing old new result
-  other_on old new answer e result no_fewer other is on = handed_on (λ r. CountsFaults view backing old new r) result e on (counted_other old new e no_fewer (subst (λ r. IfErr r IsNotOfStorage) is other))
+      → CountsImageFaults view backing old new result
+  other_on old new answer e result no_fewer other is on = handed_on (λ r. CountsImageFaults view backing old new r) result e on (counted_other old new e no_fewer (subst (λ r. IfErr r IsNotOfStorage) is other))
 
   -- a call on the image's file alone
-  pub counted_file : {T : Type 0} (old new : Qcow2 S F) (result : Result T ImageError) → FaultsTold (faults_of view old.file.storage) (faults_of view new.file.storage) result → new.backing ≡ old.backing → CountsFaults view backing old new result
+  pub counted_file : {T : Type 0} (old new : Qcow2 S F) (result : Result T ImageError) → FaultsTold (faults_of view old.file.storage) (faults_of view new.file.storage) result → new.backing ≡ old.backing → CountsImageFaults view backing old new result
   counted_file old new (Ok x) told below = record { no_fewer = record { storage = told.no_fewer; below = subst (λ b. faults_below view backing old.backing ≤ faults_below view backing b) (sym below) (omega arith) }; rose = tt }
   counted_file old new (Err e) told below = record {
     no_fewer = record { storage = told.no_fewer; below = subst (λ b. faults_below view backing old.backing ≤ faults_below view backing b) (sym below) (omega arith) };
@@ -89,11 +89,11 @@ module _ {S F : Type 0} (view : S → StorageView) (backing : F → BackingView)
   }
 
   -- one without an answer's type
-  pub counted_of : {T A : Type 0} (old new : Qcow2 S F) (e : ImageError) → CountsFaults view backing {T = A} old new (Err e) → CountsFaults view backing {T = T} old new (Err e)
+  pub counted_of : {T A : Type 0} (old new : Qcow2 S F) (e : ImageError) → CountsImageFaults view backing {T = A} old new (Err e) → CountsImageFaults view backing {T = T} old new (Err e)
   counted_of old new e told = record { no_fewer = told.no_fewer; rose = told.rose }
 
   -- a call behind which the image is marked
-  pub marked_after : {T : Type 0} (old last new : Qcow2 S F) (result : Result T ImageError) → CountsFaults view backing old last result → new ≡ record last { is_failed = new.is_failed } → CountsFaults view backing old new result
+  pub marked_after : {T : Type 0} (old last new : Qcow2 S F) (result : Result T ImageError) → CountsImageFaults view backing old last result → new ≡ record last { is_failed = new.is_failed } → CountsImageFaults view backing old new result
   marked_after old last new result told rest = counted_still old last new result told (untouched last new (ap (λ (i : Qcow2 S F). i.file.storage) rest) (ap (λ (i : Qcow2 S F). i.backing) rest))
 
   -- what ended a call's turns, where anything did

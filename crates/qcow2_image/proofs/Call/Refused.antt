@@ -7,7 +7,7 @@ use Rattle.image_access.proofs.Passing.{passes_if}
 use Rattle.qcow2_metadata.specs.Bytes.{byte_at}
 use Rattle.qcow2_metadata.specs.declared.header.HeaderFields.{HeaderFields}
 use Rattle.qcow2_metadata.specs.Header.{cluster_size}
-use Rattle.qcow2_disk.specs.Calls.{IsFault, IsSame, Refuses, Works, with_slot}
+use Rattle.qcow2_disk.specs.Calls.{IsRefusalByFault, IsSame, Refuses, Works, with_slot}
 use Rattle.qcow2_disk.specs.Disk.{Disk}
 use Rattle.qcow2_disk.specs.Mappings.{IsPrepared}
 use Rattle.qcow2_disk.proofs.Compose.{works_then}
@@ -24,7 +24,7 @@ use Rattle.qcow2_image.specs.Calls.{refusal_of}
 use Rattle.qcow2_image.specs.Image.{number_of, is_failed, KeepsRestOn}
 use Rattle.qcow2_image.specs.Refusals.{failed_after}
 use Rattle.qcow2_image.specs.CallParts.{UnseenCall, InterruptedCall, RefusedCall, FindsTable, IsReadied, PreparesRange}
-use Rattle.qcow2_image.specs.UnseenSteps.{InterruptedStep, Ensures, UnseenFillingStep, RefusedFillingStep, UnseenStep, RefusedStep, pending_then}
+use Rattle.qcow2_image.specs.UnseenSteps.{InterruptedStep, Ensures, UnseenFillingStep, RefusedFillingStep, UnseenStep, RefusedStep, pending_with_listed}
 use Rattle.qcow2_image.specs.ImageInvariant.{of_data, of_tables, to_free, pending_in, abstract_of, meaning, backing_bytes, below_of, ImageInvariant}
 use Rattle.qcow2_image.proofs.Moved.{moves_then, format_moves, stay_then, format_stay}
 use Rattle.qcow2_image.proofs.Sound.{free_more}
@@ -33,10 +33,10 @@ use Rattle.qcow2_image.proofs.Call.Settled.{is_fault, outcome, settled_refuses}
 use Rattle.qcow2_image.proofs.Call.Stepped.{Steps, stepped_sound, stepped_works}
 
 -- a fault, or want of memory that was noted, marks the image
-pub marks_fault : (e : ImageError) (before marked noted : Bool) → FaultOfTables e → (e ≡ I.Memory → IsTrue noted) → failed_after e before marked → (e ≡ I.Memory → IsTrue noted → IsTrue marked) → IsTrue marked × IsFault (refusal_of e)
+pub marks_fault : (e : ImageError) (before marked noted : Bool) → FaultOfTables e → (e ≡ I.Memory → IsTrue noted) → failed_after e before marked → (e ≡ I.Memory → IsTrue noted → IsTrue marked) → IsTrue marked × IsRefusalByFault (refusal_of e)
 marks_fault e before marked noted fault is marks memory = ⊎_elim
-    (λ (failed : e ≡ I.Storage). (subst (λ (x : ImageError). failed_after x before marked) failed marks, subst (λ (x : ImageError). IsFault (refusal_of x)) (sym failed) tt))
-    (λ (want : e ≡ I.Memory). (memory want (is want), subst (λ (x : ImageError). IsFault (refusal_of x)) (sym want) tt)) fault
+    (λ (failed : e ≡ I.Storage). (subst (λ (x : ImageError). failed_after x before marked) failed marks, subst (λ (x : ImageError). IsRefusalByFault (refusal_of x)) (sym failed) tt))
+    (λ (want : e ≡ I.Memory). (memory want (is want), subst (λ (x : ImageError). IsRefusalByFault (refusal_of x)) (sym want) tt)) fault
 
 module _ {S F : Type 0} (view : S → StorageView) (backing : F → BackingView) (out : List (Option Prepared)) where
   -- a step after which the guest sees what it saw
@@ -50,7 +50,7 @@ module _ {S F : Type 0} (view : S → StorageView) (backing : F → BackingView)
     covers = format_stay old.file.header.fields new.file.header.fields (known_in view old.file) (known_in view new.file) steps.header covers;
   }
 
-  pub stays_kept : (old new : Qcow2 S F) → ImageInvariant view backing (pending_in view backing old out) old out → UnseenStep view backing (pending_in view backing old out) (pending_then (pending_in view backing old out) old new) old new out → UnseenCall view backing old new out
+  pub stays_kept : (old new : Qcow2 S F) → ImageInvariant view backing (pending_in view backing old out) old out → UnseenStep view backing (pending_in view backing old out) (pending_with_listed (pending_in view backing old out) old new) old new out → UnseenCall view backing old new out
   stays_kept old new sound keeps = record { works = works_now view backing old new out sound keeps; sound = sound_now view backing old new out sound keeps; same = same_now view backing old new out sound keeps; header = format_moves old.file.header.fields new.file.header.fields keeps.unseen.header; covers = format_stay old.file.header.fields new.file.header.fields (known_in view old.file) (known_in view new.file) keeps.unseen.header keeps.unseen.covers }
 
   -- it broke off
@@ -124,9 +124,9 @@ module _ {S F : Type 0} (view : S → StorageView) (backing : F → BackingView)
   finds old new sound rest offset (Err e) ready = left_refused old new e sound rest ready
 
   -- a mapping was made ready, or that was refused
-  pub goes_stays : (old new : Qcow2 S F) → UnseenFillingStep view backing (pending_in view backing old out) (pending_then (pending_in view backing old out) old new) old new out → UnseenCall view backing old new out
+  pub goes_stays : (old new : Qcow2 S F) → UnseenFillingStep view backing (pending_in view backing old out) (pending_with_listed (pending_in view backing old out) old new) old new out → UnseenCall view backing old new out
   goes_stays old new goes =
-      stays_stepped old new (pending_then (pending_in view backing old out) old new) (record {
+      stays_stepped old new (pending_with_listed (pending_in view backing old out) old new) (record {
         sound = goes.sound;
         only = record {
           held = λ k. refl;
@@ -163,7 +163,7 @@ module _ {S F : Type 0} (view : S → StorageView) (backing : F → BackingView)
     refuses_stayed stays = settled_refuses view backing old new out out [] (λ sound. stays.works) (λ sound. stays.sound) number usable marked e marks (λ sound. inl stays.same)
 
     module _ (memory : e ≡ I.Memory → IsTrue new.file.caches.is_changed → IsTrue marked) where
-      is_marked : InterruptedCall view backing old new out e → IsTrue marked × IsFault (refusal_of e)
+      is_marked : InterruptedCall view backing old new out e → IsTrue marked × IsRefusalByFault (refusal_of e)
       is_marked breaks = marks_fault e (is_failed new) marked new.file.caches.is_changed breaks.fault breaks.noted marks memory
 
       refused_works : RefusedCall view backing old new out e → ImageInvariant view backing (pending_in view backing old out) old out → Works (abstract_of view backing old out) (abstract_of view backing failed_now out) [] []
@@ -171,7 +171,7 @@ module _ {S F : Type 0} (view : S → StorageView) (backing : F → BackingView)
       refused_works (inr breaks) sound = subst (λ (f : Bool). Works (abstract_of view backing old out) (abstract_of view backing (record new { is_failed = f }) out) [] []) (sym (is_marked breaks).0) breaks.works
 
       refused_answer : RefusedCall view backing old new out e → ImageInvariant view backing (pending_in view backing old out) old out
-          → ((abstract_of view backing failed_now out).is_sound × IsSame (abstract_of view backing old out) (abstract_of view backing failed_now out)) ⊎ (IsFault (refusal_of e) × IsTrue marked)
+          → ((abstract_of view backing failed_now out).is_sound × IsSame (abstract_of view backing old out) (abstract_of view backing failed_now out)) ⊎ (IsRefusalByFault (refusal_of e) × IsTrue marked)
       refused_answer (inl stays) sound = (refuses_stayed stays).answer sound
       refused_answer (inr breaks) sound = let is = is_marked breaks in inr (is.1, is.0)
 

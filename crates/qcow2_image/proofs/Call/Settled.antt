@@ -4,7 +4,7 @@ use Rattle.std.specs.Prelude.{Option, IsTrue}
 use Rattle.image_access.specs.Backing.{BackingView}
 use Rattle.image_access.specs.Moments.{StorageView}
 use Rattle.qcow2_disk.specs.Stops.{GivenBytes}
-use Rattle.qcow2_disk.specs.Calls.{storage, IsFault, Works, Does, Refuses, IsSame}
+use Rattle.qcow2_disk.specs.Calls.{storage, IsRefusalByFault, Works, Does, Refuses, IsSame}
 use Rattle.qcow2_alloc.specs.declared.error.ImageError.{ImageError}
 use Rattle.qcow2_alloc.specs.declared.error.ImageError.TheVariants as I
 use Rattle.qcow2_image.specs.declared.image.Qcow2.{Qcow2}
@@ -74,9 +74,9 @@ module _ {S F : Type 0} (view : S → StorageView) (backing : F → BackingView)
     }
 
     answer_of : (e : ImageError) → IsOutcome e (is_failed new) marked → IsSame (abstract_of view backing old out) (abstract_of view backing new out') ⊎ (e ≡ I.Storage) → ImageInvariant view backing (pending_in view backing old out) old out
-        → ((abstract_of view backing (record new { is_failed = marked }) out').is_sound × IsSame (abstract_of view backing old out) (abstract_of view backing (record new { is_failed = marked }) out')) ⊎ (IsFault (refusal_of e) × IsTrue marked)
-    answer_of e (inl failed) is sound = inr (subst (λ (x : ImageError). IsFault (refusal_of x)) (sym failed.0) tt, failed.1)
-    answer_of e (inr (inl failed)) is sound = inr (subst (λ (x : ImageError). IsFault (refusal_of x)) (sym failed.0) tt, failed.1)
+        → ((abstract_of view backing (record new { is_failed = marked }) out').is_sound × IsSame (abstract_of view backing old out) (abstract_of view backing (record new { is_failed = marked }) out')) ⊎ (IsRefusalByFault (refusal_of e) × IsTrue marked)
+    answer_of e (inl failed) is sound = inr (subst (λ (x : ImageError). IsRefusalByFault (refusal_of x)) (sym failed.0) tt, failed.1)
+    answer_of e (inr (inl failed)) is sound = inr (subst (λ (x : ImageError). IsRefusalByFault (refusal_of x)) (sym failed.0) tt, failed.1)
     answer_of e (inr (inr kept)) (inl same) sound = inl (still_sound kept.0 (still sound), same)
     answer_of e (inr (inr kept)) (inr fault) sound = absurd (kept.1 (ap refusal_of fault))
 

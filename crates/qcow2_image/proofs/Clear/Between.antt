@@ -25,7 +25,7 @@ use Rattle.qcow2_alloc.specs.ImageFile.{contents_in, known_in}
 use Rattle.qcow2_alloc.specs.MetadataCaches.{IsEntryAt}
 use Rattle.qcow2_alloc.proofs.KeptTables.Standing.{own_cluster}
 use Rattle.qcow2_image.specs.CallParts.{UnseenCall}
-use Rattle.qcow2_image.specs.Clearing.{ClearsCovers, ClearsPart, ClearsTable, IsUnderMapping, IsWhole, MayClear, ReadsAll, ReadsDropped, cleared_cover, gifts_between, is_between, listed_by, setting_of, shown_by}
+use Rattle.qcow2_image.specs.Clearing.{ClearsImageCovers, ClearsPart, ClearsTable, IsUnderMapping, IsClearable, MayClear, ReadsAll, ReadsDropped, cover_once_cleared, gifts_between, is_between, listed_by, setting_of, shown_by}
 use Rattle.qcow2_image.specs.declared.discarding.Clearance.{Clearance}
 use Rattle.qcow2_image.specs.declared.image.Qcow2.{Qcow2}
 use Rattle.qcow2_image.specs.declared.prepared.Prepared.{Prepared}
@@ -157,7 +157,7 @@ module _ {S F : Type 0} (view : S → StorageView) (backing : F → BackingView)
       let column : (first + n) % row ≡ first % row + n = ap (λ x. x % row) e ∙ mod-mul-add (first / row) row (first % row + n) (omega (arith, fits)) in
       let above : (first + n) / row ≡ first / row = ap (λ x. x / row) e ∙ div-mul-add (first / row) row (first % row + n) (omega (arith, fits)) in
       let one = next p i sound (record { real = at.real; place = at.place; within = subst (λ x. x < row) (sym column) (omega (arith, fits)) }) (above ∙ here) in (
-        one.0 ∙ ap (λ l. l ++ listed_run (dropped_run h.cluster_bits (cover h (known_in view image.file) (first + n)) (cleared_cover how (cover h (known_in view image.file) (first + n))))) so_far.0,
+        one.0 ∙ ap (λ l. l ++ listed_run (dropped_run h.cluster_bits (cover h (known_in view image.file) (first + n)) (cover_once_cleared how (cover h (known_in view image.file) (first + n))))) so_far.0,
         λ j lt. elim (cases_eq j n) [
           | inl same ↦ subst (λ x. IsInReach (cover h (known_in view image.file) (first + x))) (sym same) one.1
           | inr other ↦ so_far.1 j (omega (arith, lt, other))
@@ -177,11 +177,11 @@ entry_behind h known table first n k i at here fits lt =
 
 -- ---- a part before
 module _ {S F : Type 0} (view : S → StorageView) (backing : F → BackingView) (out : List (Option Prepared)) where
-  pub covers_before : (how : Clearance) (from to : ℕ) (h h' h'' : HeaderFields) (known known' known'' : Bytes) → MovesTables h h' → CoversStay h known h' known' → ClearsCovers how from to h' known' h'' known'' → ClearsCovers how from to h known h'' known''
+  pub covers_before : (how : Clearance) (from to : ℕ) (h h' h'' : HeaderFields) (known known' known'' : Bytes) → MovesTables h h' → CoversStay h known h' known' → ClearsImageCovers how from to h' known' h'' known'' → ClearsImageCovers how from to h known h'' known''
   covers_before how from to h h' h'' known known' known'' format same covers g =
       let there : cover h' known' g ≡ cover h known g = sym (same g) in
-      covers g ∙ ap (λ v. cond (is_between h' from to g) (cleared_cover how v) v) there
-      ∙ ap (λ (x : HeaderFields). cond (is_between x from to g) (cleared_cover how (cover h known g)) (cover h known g)) format
+      covers g ∙ ap (λ v. cond (is_between h' from to g) (cover_once_cleared how v) v) there
+      ∙ ap (λ (x : HeaderFields). cond (is_between x from to g) (cover_once_cleared how (cover h known g)) (cover h known g)) format
 
   module _ (old mid new : Qcow2 S F) (how : Clearance) (from to : ℕ) (first : UnseenCall view backing old mid out) where
     same_setting : setting_of view backing mid ≡ setting_of view backing old
@@ -208,18 +208,18 @@ module _ {S F : Type 0} (view : S → StorageView) (backing : F → BackingView)
           noted = part.noted;
         }
 
-  pub whole_format : (h h' : HeaderFields) (how : Clearance) (from to : ℕ) → MovesTables h h' → IsWhole h how from to → IsWhole h' how from to
-  whole_format h h' how from to format whole = subst (λ (x : HeaderFields). IsWhole x how from to) (sym format) (record { begins = whole.begins; ends = whole.ends; within = whole.within; version = whole.version })
+  pub whole_format : (h h' : HeaderFields) (how : Clearance) (from to : ℕ) → MovesTables h h' → IsClearable h how from to → IsClearable h' how from to
+  whole_format h h' how from to format whole = subst (λ (x : HeaderFields). IsClearable x how from to) (sym format) (record { begins = whole.begins; ends = whole.ends; within = whole.within; version = whole.version })
 
   -- the entries of whole clusters stand in one table
-  pub fits_table : (old mid : Qcow2 S F) (how : Clearance) (from to : ℕ) → UnseenCall view backing old mid out → IsWhole old.file.header.fields how from to → from < to
+  pub fits_table : (old mid : Qcow2 S F) (how : Clearance) (from to : ℕ) → UnseenCall view backing old mid out → IsClearable old.file.header.fields how from to → from < to
       → from / cluster_size mid.file.header.fields % entries_per_cluster mid.file.header.fields + (to - from) / cluster_size mid.file.header.fields ≤ entries_per_cluster mid.file.header.fields
   fits_table old mid how from to found whole_old lt =
       let h = mid.file.header.fields in
       let whole = whole_format old.file.header.fields h how from to found.header whole_old in
       row_within (cluster_size h) (entries_per_cluster h) (pow_pos h.cluster_bits) from to whole.begins whole.ends lt (Sizes-from h (contents_in view mid.file) found.sound.file.caches.kept.kept.guarded.top.header_reads).entries whole.within
 
-  module _ (old mid b new : Qcow2 S F) (how : Clearance) (from to table : ℕ) (found : UnseenCall view backing old mid out) (holds : HoldsTable view backing mid from table) (whole_old : IsWhole old.file.header.fields how from to) (lt : from < to)
+  module _ (old mid b new : Qcow2 S F) (how : Clearance) (from to table : ℕ) (found : UnseenCall view backing old mid out) (holds : HoldsTable view backing mid from table) (whole_old : IsClearable old.file.header.fields how from to) (lt : from < to)
       (unpinned : l2_pins mid.file.caches table ≡ 0) (list : List ClustersToFreeEntry)
       (reads : ReadsAll view backing how table (from / cluster_size mid.file.header.fields) ((to - from) / cluster_size mid.file.header.fields) mid list)
       (clears : ClearsTable view backing how table (l2_index_of mid.file.header.fields from) ((to - from) / cluster_size mid.file.header.fields) mid b)
@@ -242,7 +242,7 @@ module _ {S F : Type 0} (view : S → StorageView) (backing : F → BackingView)
     abbrev g : ℕ
     g = guest_at h (l1_index_of h from) (l2_index_of h from)
 
-    whole : IsWhole h how from to
+    whole : IsClearable h how from to
     whole = whole_format old.file.header.fields h how from to found.header whole_old
 
     some_size : 0 < cluster_size h

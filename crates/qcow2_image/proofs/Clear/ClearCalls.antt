@@ -12,7 +12,7 @@ use Rattle.qcow2_metadata.specs.Header.{cluster_size, entries_per_cluster}
 use Rattle.qcow2_metadata.specs.Guest.{Value, known_byte}
 use Rattle.qcow2_metadata.specs.Bytes.{Bytes, laid_over}
 use Rattle.qcow2_disk.specs.AbstractImages.{AbstractImage, Setting, guest_of}
-use Rattle.qcow2_disk.specs.Calls.{Clearing, to_zero, to_kept_zero, to_backing, IsFault, IsSame, Refusal, storage, another, Works, Refuses, cleared, with_disk}
+use Rattle.qcow2_disk.specs.Calls.{Clearing, to_zero, to_kept_zero, to_backing, IsRefusalByFault, IsSame, Refusal, storage, another, Works, Refuses, cleared, with_disk}
 use Rattle.qcow2_disk.specs.Disk.{Disk}
 use Rattle.qcow2_disk.specs.Mappings.{gift_shown}
 use Rattle.qcow2_disk.specs.Rules.{answered, touched_to}
@@ -25,7 +25,7 @@ use Rattle.qcow2_alloc.specs.declared.error.ImageError.TheVariants as I
 use Rattle.qcow2_alloc.specs.ImageFile.{contents_in, known_in}
 use Rattle.qcow2_image.specs.CallParts.{EndsFreeing, RefusedCall, UnseenCall}
 use Rattle.qcow2_image.specs.Calls.{refusal_of}
-use Rattle.qcow2_image.specs.Clearing.{Clears, ClearsCovers, ClearsPart, IsUnderMapping, IsWhole, RefusesUngiven, from_in, gifts_between, gifts_of_clear, needs_zeros, refuses_to_clear, rounds_past, setting_of, shown_by, to_in}
+use Rattle.qcow2_image.specs.Clearing.{Clears, ClearsImageCovers, ClearsPart, IsUnderMapping, IsClearable, RefusesUngiven, from_in, gifts_between, gifts_of_clear, needs_zero_entries, refuses_to_clear, rounds_past, setting_of, shown_by, to_in}
 use Rattle.qcow2_image.specs.declared.discarding.Clearance.{Clearance}
 use Rattle.qcow2_image.specs.declared.image.Qcow2.{Qcow2}
 use Rattle.qcow2_image.specs.declared.prepared.Prepared.{Prepared}
@@ -104,11 +104,11 @@ pub clears_early : {S F : Type 0} (view : S → StorageView) (backing : F → Ba
 clears_early view backing old how offset n x is = λ out.
     let v = abstract_of view backing old out in
     refuses_more v v (gifts_of_clear view backing old how offset n) (refusal_of x) _
-    (refuses_early v (refusal_of x) (none_fails (is_failed old) (is_external old) (not (is_writable old)) (passes (size_of old) offset n) (needs_zeros how && nat_lt old.file.header.fields.version 3) (rounds_past (cluster_size old.file.header.fields) (size_of old) offset n) x is))
+    (refuses_early v (refusal_of x) (none_fails (is_failed old) (is_external old) (not (is_writable old)) (passes (size_of old) offset n) (needs_zero_entries how && nat_lt old.file.header.fields.version 3) (rounds_past (cluster_size old.file.header.fields) (size_of old) offset n) x is))
 
 -- nor did that give anything
 pub ungiven_early : {S F : Type 0} (view : S → StorageView) (backing : F → BackingView) (old : Qcow2 S F) (x : ImageError) → RefusesUngiven view backing old old x
-ungiven_early view backing old x none out = refuses_early (abstract_of view backing old out) (refusal_of x) (λ is. none (subst IsFault (sym is) tt))
+ungiven_early view backing old x none out = refuses_early (abstract_of view backing old out) (refusal_of x) (λ is. none (subst IsRefusalByFault (sym is) tt))
 
 pub under_before : (h h' : HeaderFields) (offset : ℕ) (out : List (Option Prepared)) → MovesTables h h' → IsUnderMapping h' offset out → IsUnderMapping h offset out
 under_before h h' offset out format under =
@@ -119,7 +119,7 @@ pub under_after : (h h' : HeaderFields) (offset : ℕ) (out : List (Option Prepa
 under_after h h' offset out format u =
     subst (λ (x : HeaderFields). IsUnderMapping x offset out) (sym format) (record { place = u.place; other = u.other; is_out = u.is_out; keeps_table = u.keeps_table; same_table = u.same_table })
 
-covers_after : (how : Clearance) (from to : ℕ) (h h' h'' : HeaderFields) (known known' known'' : Bytes) → ClearsCovers how from to h known h' known' → CoversStay h' known' h'' known'' → ClearsCovers how from to h known h'' known''
+covers_after : (how : Clearance) (from to : ℕ) (h h' h'' : HeaderFields) (known known' known'' : Bytes) → ClearsImageCovers how from to h known h' known' → CoversStay h' known' h'' known'' → ClearsImageCovers how from to h known h'' known''
 covers_after how from to h h' h'' known known' known'' covers same g = sym (same g) ∙ covers g
 
 module _ {S F : Type 0} (view : S → StorageView) (backing : F → BackingView) (old : Qcow2 S F) (how : Clearance) (offset n : ℕ) (usable : is_failed old ≡ false) where
@@ -170,7 +170,7 @@ module _ {S F : Type 0} (view : S → StorageView) (backing : F → BackingView)
     begins out sound = stays_kept view backing out old begun sound (listed view backing out old begun (quiet out) sound)
 
     -- the touched range is one of whole clusters
-    pub whole_in : (out : List (Option Prepared)) → UnseenCall view backing old begun out → (IsTrue (needs_zeros how) → 3 ≤ old.file.header.fields.version) → IsWhole begun.file.header.fields how (from_in old offset n) (to_in old offset n)
+    pub whole_in : (out : List (Option Prepared)) → UnseenCall view backing old begun out → (IsTrue (needs_zero_entries how) → 3 ≤ old.file.header.fields.version) → IsClearable begun.file.header.fields how (from_in old offset n) (to_in old offset n)
     whole_in out call version =
         let h = old.file.header.fields in
         let h' = begun.file.header.fields in
@@ -206,7 +206,7 @@ module _ {S F : Type 0} (view : S → StorageView) (backing : F → BackingView)
 
       -- what stands for guest clusters then
       pub clear_covers : r ≡ Ok tt → (out : List (Option Prepared)) → ImageInvariant view backing (pending_in view backing old out) old out
-          → ClearsCovers how (from_in old offset n) (to_in old offset n) old.file.header.fields (known_in view old.file) freed.file.header.fields (known_in view freed.file)
+          → ClearsImageCovers how (from_in old offset n) (to_in old offset n) old.file.header.fields (known_in view old.file) freed.file.header.fields (known_in view freed.file)
       clear_covers ok out sound =
           let it = part out sound in
           let call : UnseenCall view backing entries freed out = subst (EndsFreeing view backing entries freed out) ok (ends out it.sound) in
@@ -243,7 +243,7 @@ module _ {S F : Type 0} (view : S → StorageView) (backing : F → BackingView)
           }
 
       -- it was a fault
-      pub fault_broke : (x : ImageError) → r ≡ Err x → (out : List (Option Prepared)) → ImageInvariant view backing (pending_in view backing old out) old out → IsFault (refusal_of x)
+      pub fault_broke : (x : ImageError) → r ≡ Err x → (out : List (Option Prepared)) → ImageInvariant view backing (pending_in view backing old out) old out → IsRefusalByFault (refusal_of x)
       fault_broke x refused out sound = (subst (EndsFreeing view backing entries freed out) refused (ends out (part out sound).sound)).1
 
       pub ungiven_broke : (x : ImageError) → r ≡ Err x → RefusesUngiven view backing old freed x
@@ -252,5 +252,5 @@ module _ {S F : Type 0} (view : S → StorageView) (backing : F → BackingView)
           record {
             acts = record { number = number; works = λ sound. absurd (fault sound); rests = λ was. absurd (let no : true ≡ false = sym was ∙ usable in cc) };
             answer = λ sound. absurd (fault sound);
-            fault = λ is. absurd (none (subst IsFault (sym is) tt));
+            fault = λ is. absurd (none (subst IsRefusalByFault (sym is) tt));
           }

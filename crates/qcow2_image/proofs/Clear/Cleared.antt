@@ -15,7 +15,7 @@ use Rattle.qcow2_metadata.specs.L2Mapping.{IsInReach, dropped_run}
 use Rattle.qcow2_disk.specs.AbstractImages.{Setting}
 use Rattle.qcow2_disk.specs.Calls.{Works, cleared}
 use Rattle.qcow2_laws.specs.CrashInvariant.{Pending}
-use Rattle.qcow2_disk.specs.Disk.{Disk, disk, uncovered, zeroed}
+use Rattle.qcow2_disk.specs.Disk.{Disk, disk, uncovered, zeroed_between}
 use Rattle.qcow2_laws.specs.GuestLaws.{ClearsRange, MapsEntry, MapsInTurn}
 use Rattle.qcow2_disk.specs.Mappings.{gift_shown}
 use Rattle.qcow2_laws.specs.SafeSteps.{DriverState}
@@ -27,7 +27,7 @@ use Rattle.qcow2_alloc.specs.declared.cache.MetadataCaches.{MetadataCaches}
 use Rattle.qcow2_alloc.specs.declared.clusters_to_free.ClustersToFreeEntry.{ClustersToFreeEntry}
 use Rattle.qcow2_alloc.specs.ImageFile.{state_in, view_in, contents_in, known_in}
 use Rattle.qcow2_alloc.specs.MetadataCaches.{IsEntryAt, l2_at}
-use Rattle.qcow2_image.specs.Clearing.{AreCleared, ClearsCovers, ClearsEntry, ClearsPart, ClearsTable, MayClear, cleared_cover, gifts_between, is_between, is_cleared, listed_by, setting_of, shown_by, with_caches}
+use Rattle.qcow2_image.specs.Clearing.{AreCleared, ClearsImageCovers, ClearsEntry, ClearsPart, ClearsTable, MayClear, cover_once_cleared, gifts_between, is_between, is_cleared, listed_by, setting_of, shown_by, with_caches}
 use Rattle.qcow2_image.specs.declared.discarding.Clearance.{Clearance}
 use Rattle.qcow2_image.specs.declared.discarding.Clearance.TheVariants.{Uncovered, Zeros, KeptZeros}
 use Rattle.qcow2_image.specs.declared.image.Qcow2.{Qcow2}
@@ -44,7 +44,7 @@ use Rattle.qcow2_image.proofs.Sound.{free_more}
 listed_no_table : (how : Clearance) (h : HeaderFields) (known : Bytes) (first n k : ℕ) → to_free of_tables (listed_by how h known first n) k ≡ 0
 listed_no_table how h known first zero k = refl
 listed_no_table how h known first (suc n) k =
-    let run = dropped_run h.cluster_bits (cover h known (first + n)) (cleared_cover how (cover h known (first + n))) in
+    let run = dropped_run h.cluster_bits (cover h known (first + n)) (cover_once_cleared how (cover h known (first + n))) in
     let more = free_more of_tables (listed_by how h known first n) (listed_run run) k in
     let none = listed_no_table how h known first n k in
     let last = listed_tables run k in
@@ -100,9 +100,9 @@ module _ {S F : Type 0} (view : S → StorageView) (backing : F → BackingView)
     reached : IsInReach (cover h (known_in view b.file) (guest_at h row (column + n)))
     reached = subst (λ g. IsInReach (cover h (known_in view b.file) g)) (sym guest_is) (subst IsInReach (sym same_word) (may.reach n (omega arith)))
 
-    last_run : listed_run (dropped_run h.cluster_bits (cover h (known_in view b.file) (guest_at h row (column + n))) (cleared_cover how (cover h (known_in view b.file) (guest_at h row (column + n)))))
-        ≡ listed_run (dropped_run h.cluster_bits (cover h (known_in view a.file) (first + n)) (cleared_cover how (cover h (known_in view a.file) (first + n))))
-    last_run = ap (λ v. listed_run (dropped_run h.cluster_bits v (cleared_cover how v))) (ap (cover h (known_in view b.file)) guest_is ∙ same_word)
+    last_run : listed_run (dropped_run h.cluster_bits (cover h (known_in view b.file) (guest_at h row (column + n))) (cover_once_cleared how (cover h (known_in view b.file) (guest_at h row (column + n)))))
+        ≡ listed_run (dropped_run h.cluster_bits (cover h (known_in view a.file) (first + n)) (cover_once_cleared how (cover h (known_in view a.file) (first + n))))
+    last_run = ap (λ v. listed_run (dropped_run h.cluster_bits v (cover_once_cleared how v))) (ap (cover h (known_in view b.file)) guest_is ∙ same_word)
 
     pub next_cleared : AreCleared view backing how row column (suc n) a c.file.caches out p
     next_cleared = record {
@@ -111,8 +111,8 @@ module _ {S F : Type 0} (view : S → StorageView) (backing : F → BackingView)
       turn = (state_in view b.file so_far.now, so_far.turn, subst (λ g. MapsEntry (is_cleared how) g (state_in view b.file so_far.now) (state_in view e.file next.now)) guest_is next.turn);
       cleared_all = λ i lt. elim (cases_eq i n) [
         | inl here ↦
-            ap (λ j. cover h (known_in view e.file) (first + j)) here ∙ ap (cover h (known_in view e.file)) (sym guest_is) ∙ next.cleared ∙ ap (λ g. cleared_cover how (cover h (known_in view b.file) g)) guest_is ∙ ap (cleared_cover how) same_word
-            ∙ ap (λ j. cleared_cover how (cover h (known_in view a.file) (first + j))) (sym here)
+            ap (λ j. cover h (known_in view e.file) (first + j)) here ∙ ap (cover h (known_in view e.file)) (sym guest_is) ∙ next.cleared ∙ ap (λ g. cover_once_cleared how (cover h (known_in view b.file) g)) guest_is ∙ ap (cover_once_cleared how) same_word
+            ∙ ap (λ j. cover_once_cleared how (cover h (known_in view a.file) (first + j))) (sym here)
         | inr other ↦ sym (next.stays (first + i) (λ same. other (let g = guest_is in omega (arith, same, g)))) ∙ so_far.cleared_all i (omega (arith, lt, other))
       ];
       stays = λ g out. so_far.stays g (elim out [ inl below ↦ inl below | inr past ↦ inr (omega (arith, past)) ]) ∙ next.stays g (λ same. let is = guest_is in elim out [ inl below ↦ absurd (omega (arith, below, same, is)) | inr past ↦ absurd (omega (arith, past, same, is)) ]);
@@ -125,7 +125,7 @@ module _ {S F : Type 0} (view : S → StorageView) (backing : F → BackingView)
           let before = so_far.dropped k in
           let last = next.dropped reached k in
           let run = ap (λ l. to_free of_data l k) last_run in
-          let more = free_more of_data (listed_by how h (known_in view a.file) first n) (listed_run (dropped_run h.cluster_bits (cover h (known_in view a.file) (first + n)) (cleared_cover how (cover h (known_in view a.file) (first + n))))) k in
+          let more = free_more of_data (listed_by how h (known_in view a.file) first n) (listed_run (dropped_run h.cluster_bits (cover h (known_in view a.file) (first + n)) (cover_once_cleared how (cover h (known_in view a.file) (first + n))))) k in
           omega (arith, before, last, run, more);
     }
 
@@ -210,8 +210,8 @@ module _ {S F : Type 0} (view : S → StorageView) (backing : F → BackingView)
     -- what the disk shows then, over any disk below
     abbrev shown_over : Clearance → Bytes → Disk → ℕ → ℕ → Disk
     shown_over Uncovered below d from to = uncovered d below from to
-    shown_over Zeros below d from to = zeroed d from to
-    shown_over KeptZeros below d from to = zeroed d from to
+    shown_over Zeros below d from to = zeroed_between d from to
+    shown_over KeptZeros below d from to = zeroed_between d from to
 
     ranged : (x : Clearance) → MapsInTurn (is_cleared x) g n s s' → ClearsRange g n s s' (shown_over x)
     ranged Uncovered turn = clusters_in_turn_are_a_range.uncovered s s' g n sound.file.caches.kept.kept.guarded turn
@@ -292,15 +292,15 @@ module _ {S F : Type 0} (view : S → StorageView) (backing : F → BackingView)
           let r : (c + 1 + (g + n - c - 1)) * cluster_size h' ≡ c * cluster_size h' + cluster_size h' + (g + n - c - 1) * cluster_size h' = omega arith in
           and_from (nat_le from (c * cluster_size h')) (nat_lt (c * cluster_size h') to) (le-leb from (c * cluster_size h') (from_first le)) (lt-ltb (c * cluster_size h') to (omega (arith, m, r, some)))
 
-    covers_now : ClearsCovers how from to h' (known_in view a.file) h' (known_in view final.file)
+    covers_now : ClearsImageCovers how from to h' (known_in view a.file) h' (known_in view final.file)
     covers_now c = elim (cases_lt c g) [
-      | inl below ↦ sym (all.stays c (inl below)) ∙ sym (cond-false (is_between h' from to c) (cleared_cover how (cover h' (known_in view a.file) c)) (cover h' (known_in view a.file) c) (below_first c below))
+      | inl below ↦ sym (all.stays c (inl below)) ∙ sym (cond-false (is_between h' from to c) (cover_once_cleared how (cover h' (known_in view a.file) c)) (cover h' (known_in view a.file) c) (below_first c below))
       | inr above ↦ elim (cases_lt c (g + n)) [
         | inl inside ↦
             let e : g + (c - g) ≡ c = omega (arith, above) in
-            ap (cover h' (known_in view final.file)) (sym e) ∙ all.cleared_all (c - g) (omega (arith, above, inside)) ∙ ap (λ x. cleared_cover how (cover h' (known_in view a.file) x)) e
-            ∙ sym (cond-true (is_between h' from to c) (cleared_cover how (cover h' (known_in view a.file) c)) (cover h' (known_in view a.file) c) (within_both c above inside))
-        | inr past ↦ sym (all.stays c (inr past)) ∙ sym (cond-false (is_between h' from to c) (cleared_cover how (cover h' (known_in view a.file) c)) (cover h' (known_in view a.file) c) (past_last c past))
+            ap (cover h' (known_in view final.file)) (sym e) ∙ all.cleared_all (c - g) (omega (arith, above, inside)) ∙ ap (λ x. cover_once_cleared how (cover h' (known_in view a.file) x)) e
+            ∙ sym (cond-true (is_between h' from to c) (cover_once_cleared how (cover h' (known_in view a.file) c)) (cover h' (known_in view a.file) c) (within_both c above inside))
+        | inr past ↦ sym (all.stays c (inr past)) ∙ sym (cond-false (is_between h' from to c) (cover_once_cleared how (cover h' (known_in view a.file) c)) (cover h' (known_in view a.file) c) (past_last c past))
       ]
     ]
 

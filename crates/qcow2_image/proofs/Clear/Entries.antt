@@ -34,7 +34,7 @@ use Rattle.qcow2_alloc.specs.declared.cache.MetadataCaches.{MetadataCaches}
 use Rattle.qcow2_alloc.specs.ImageFile.{state_in, contents_in, known_in}
 use Rattle.qcow2_alloc.specs.MetadataCaches.{IsEntryAt, MadeEntry, known_of, l2_at}
 use Rattle.qcow2_alloc.proofs.KeptTables.Standing.{own_cluster}
-use Rattle.qcow2_image.specs.Clearing.{ClearsEntry, cleared_cover, cleared_entry, is_cleared, needs_zeros}
+use Rattle.qcow2_image.specs.Clearing.{ClearsEntry, cover_once_cleared, cleared_entry, is_cleared, needs_zero_entries}
 use Rattle.qcow2_image.specs.declared.discarding.Clearance.{Clearance}
 use Rattle.qcow2_image.specs.declared.discarding.Clearance.TheVariants.{Uncovered, Zeros, KeptZeros}
 use Rattle.qcow2_image.specs.declared.image.Qcow2.{Qcow2}
@@ -50,7 +50,7 @@ zeros_are : (kept : Option ℕ) → IsZeros (zero_cover kept)
 zeros_are None = tt
 zeros_are (Some host) = tt
 
-pub cleared_is : (how : Clearance) (v : L2Mapping) → is_cleared how (cleared_cover how v)
+pub cleared_is : (how : Clearance) (v : L2Mapping) → is_cleared how (cover_once_cleared how v)
 cleared_is Uncovered v = refl
 cleared_is Zeros v = tt
 cleared_is KeptZeros v = zeros_are (copied_host v)
@@ -101,14 +101,14 @@ module _ (h : HeaderFields) (c : ℕ) where
   kept_zeros M.Uncovered reach = gone M.Uncovered (Zero None) reach refl refl
 
   -- what was named is named still, or is dropped
-  pub names_cleared : (how : Clearance) (v : L2Mapping) → IsInReach v → named_by_cover h c v ≡ named_by_cover h c (cleared_cover how v) + run_has (dropped_run h.cluster_bits v (cleared_cover how v)) c
+  pub names_cleared : (how : Clearance) (v : L2Mapping) → IsInReach v → named_by_cover h c v ≡ named_by_cover h c (cover_once_cleared how v) + run_has (dropped_run h.cluster_bits v (cover_once_cleared how v)) c
   names_cleared Uncovered v reach = gone v M.Uncovered reach refl refl
   names_cleared Zeros v reach = gone v (Zero None) reach refl refl
   names_cleared KeptZeros v reach = kept_zeros v reach
 
 -- ---- what a cleared entry says
-entry_says : (how : Clearance) (bits : ℕ) (has_zero external : Bool) (e : ℕ) → (IsTrue (needs_zeros how) → has_zero ≡ true)
-    → cover_of bits has_zero external (cleared_entry how (cover_of bits has_zero external e)) ≡ cleared_cover how (cover_of bits has_zero external e)
+entry_says : (how : Clearance) (bits : ℕ) (has_zero external : Bool) (e : ℕ) → (IsTrue (needs_zero_entries how) → has_zero ≡ true)
+    → cover_of bits has_zero external (cleared_entry how (cover_of bits has_zero external e)) ≡ cover_once_cleared how (cover_of bits has_zero external e)
 entry_says Uncovered bits has_zero external e zeros = cover_of-0 bits has_zero external
 entry_says Zeros bits has_zero external e zeros = ap (λ z. cover_of bits z external 1) (zeros refl) ∙ cover_of-zero_entry bits external None tt
 entry_says KeptZeros bits has_zero external e zeros =
@@ -131,7 +131,7 @@ takes_kept : (h : HeaderFields) (held : ℕ → ℕ) (v : L2Mapping) (kept : Opt
 takes_kept h held v None is aligned = (takes_nothing h held v).1
 takes_kept h held v (Some host) is aligned = (takes_own h held v host (kept_aligned h v host aligned is) is).1
 
-takes_cleared : (how : Clearance) (h : HeaderFields) (held : ℕ → ℕ) (v : L2Mapping) → CoverIsAligned h v → Takes h held v (cleared_cover how v)
+takes_cleared : (how : Clearance) (h : HeaderFields) (held : ℕ → ℕ) (v : L2Mapping) → CoverIsAligned h v → Takes h held v (cover_once_cleared how v)
 takes_cleared Uncovered h held v aligned = (takes_nothing h held v).0
 takes_cleared Zeros h held v aligned = (takes_nothing h held v).1
 takes_cleared KeptZeros h held v aligned = takes_kept h held v (copied_host v) refl aligned
@@ -143,7 +143,7 @@ pub record OneCleared {S F : Type 0} (view : S → StorageView) (backing : F →
   pub now : Pending
   pub sound_now : ImageInvariant view backing now c out
   pub turn : MapsEntry (is_cleared how) (guest_at a.file.header.fields row column) (state_in view a.file p) (state_in view c.file now)
-  pub cleared : cover a.file.header.fields (known_in view c.file) (guest_at a.file.header.fields row column) ≡ cleared_cover how (cover a.file.header.fields (known_in view a.file) (guest_at a.file.header.fields row column))
+  pub cleared : cover a.file.header.fields (known_in view c.file) (guest_at a.file.header.fields row column) ≡ cover_once_cleared how (cover a.file.header.fields (known_in view a.file) (guest_at a.file.header.fields row column))
   pub stays : (g : ℕ) → g ≢ guest_at a.file.header.fields row column → cover a.file.header.fields (known_in view a.file) g ≡ cover a.file.header.fields (known_in view c.file) g
   pub table_stays : table_at a.file.header.fields (known_in view c.file) row ≡ table_at a.file.header.fields (known_in view a.file) row
   pub held : IsInReach (cover a.file.header.fields (known_in view a.file) (guest_at a.file.header.fields row column)) → (k : ℕ) → now.held k ≡ p.held k
@@ -151,11 +151,11 @@ pub record OneCleared {S F : Type 0} (view : S → StorageView) (backing : F →
   pub spent : (k : ℕ) → now.spent k ≡ p.spent k
   pub surplus : now.surplus ≡ p.surplus
   pub dropped : IsInReach (cover a.file.header.fields (known_in view a.file) (guest_at a.file.header.fields row column)) → (k : ℕ) → now.dropped k ≡ p.dropped k
-      + to_free of_data (listed_run (dropped_run a.file.header.fields.cluster_bits (cover a.file.header.fields (known_in view a.file) (guest_at a.file.header.fields row column)) (cleared_cover how (cover a.file.header.fields (known_in view a.file) (guest_at a.file.header.fields row column))))) k
+      + to_free of_data (listed_run (dropped_run a.file.header.fields.cluster_bits (cover a.file.header.fields (known_in view a.file) (guest_at a.file.header.fields row column)) (cover_once_cleared how (cover a.file.header.fields (known_in view a.file) (guest_at a.file.header.fields row column))))) k
 
 module _ {S F : Type 0} (view : S → StorageView) (backing : F → BackingView) (a : Qcow2 S F) (out : List (Option Prepared)) (p : Pending) (sound : ImageInvariant view backing p a out) (how : Clearance) (t row column : ℕ)
     (at : IsEntryAt a.file.header.fields (known_in view a.file) row t column) (copied : is_copied (l1_entry a.file.header.fields (contents_in view a.file) row) ≡ true) (found : IsSome (l2_at a.file.caches t)) (unpinned : l2_pins a.file.caches t ≡ 0)
-    (version : IsTrue (needs_zeros how) → 3 ≤ a.file.header.fields.version) (b : Qcow2 S F) (clears : ClearsEntry how t column a b) where
+    (version : IsTrue (needs_zero_entries how) → 3 ≤ a.file.header.fields.version) (b : Qcow2 S F) (clears : ClearsEntry how t column a b) where
   abbrev h : HeaderFields
   h = a.file.header.fields
 
@@ -186,16 +186,16 @@ module _ {S F : Type 0} (view : S → StorageView) (backing : F → BackingView)
   cover_was : cover h s.known guest ≡ entry_cover h word
   cover_was = cover_at h s.known row column (Sizes-from h s.on_storage guarded.top.header_reads) at.real at.within
 
-  is_third : IsTrue (needs_zeros how) → (h.version == 3) ≡ true
+  is_third : IsTrue (needs_zero_entries how) → (h.version == 3) ≡ true
   is_third needs = elim guarded.top.header_reads.well_formed.in_range.version [
     | inl second ↦ absurd (let least = version needs in omega (arith, second, least))
     | inr third ↦ eq-eqb h.version 3 third
   ]
 
-  says : entry_cover h (cleared_entry how (entry_cover h word)) ≡ cleared_cover how old
-  says = entry_says how h.cluster_bits (h.version == 3) (has_data_file h) word is_third ∙ ap (cleared_cover how) (sym cover_was)
+  says : entry_cover h (cleared_entry how (entry_cover h word)) ≡ cover_once_cleared how old
+  says = entry_says how h.cluster_bits (h.version == 3) (has_data_file h) word is_third ∙ ap (cover_once_cleared how) (sym cover_was)
 
-  pub covered : cover a.file.header.fields (known_of a.file.header.fields b.file.caches (contents_in view a.file)) (guest_at a.file.header.fields row column) ≡ cleared_cover how (cover a.file.header.fields (known_in view a.file) (guest_at a.file.header.fields row column))
+  pub covered : cover a.file.header.fields (known_of a.file.header.fields b.file.caches (contents_in view a.file)) (guest_at a.file.header.fields row column) ≡ cover_once_cleared how (cover a.file.header.fields (known_in view a.file) (guest_at a.file.header.fields row column))
   covered = cover_now s known row column (cleared_entry how (entry_cover h word)) guarded at.real at.within entry.change ∙ says
 
   changes : EntryChanges s known row column
@@ -282,7 +282,7 @@ module _ {S F : Type 0} (view : S → StorageView) (backing : F → BackingView)
   final_turn : MapsEntry (is_cleared how) guest s (state_in view final.file after)
   final_turn = record { known = known; row = row; column = column; here = refl; changes = changes; maps = is_now; is = same_stand }
 
-  named_then : (k : ℕ) → names h known k guest ≡ named_by_cover h k (cleared_cover how old)
+  named_then : (k : ℕ) → names h known k guest ≡ named_by_cover h k (cover_once_cleared how old)
   named_then k = ap (named_by_cover h k) covered
 
   final_cleared : OneCleared view backing how row column a final out p
@@ -300,7 +300,7 @@ module _ {S F : Type 0} (view : S → StorageView) (backing : F → BackingView)
     dropped = λ reach k.
         let n = names_cleared h k how old reach in
         let then = named_then k in
-        let listed = listed_has (dropped_run h.cluster_bits old (cleared_cover how old)) k in
+        let listed = listed_has (dropped_run h.cluster_bits old (cover_once_cleared how old)) k in
         omega (arith, n, then, listed);
   }
 

@@ -5,7 +5,7 @@ use Rattle.std.proofs.lemmas.Bool.{cases_eq, cond-true, cond-false, eq-eqb, ne_e
 use mathlib.Core.Path.{fun_ext}
 use Rattle.image_access.specs.Backing.{BackingView}
 use Rattle.image_access.specs.Moments.{StorageView}
-use Rattle.qcow2_disk.specs.Calls.{Refusal, storage, IsFault, IsSame, Works, Rests, Does, Refuses, with_disk, with_slot}
+use Rattle.qcow2_disk.specs.Calls.{Refusal, storage, IsRefusalByFault, IsSame, Works, Rests, Does, Refuses, with_disk, with_slot}
 use Rattle.qcow2_disk.specs.Mappings.{PreparedMapping, gift_of_commit, committed}
 use Rattle.qcow2_disk.specs.Stops.{GivenBytes}
 use Rattle.qcow2_disk.specs.AbstractImages.{AbstractImage, Guest, guest_of, meaning_at}
@@ -191,7 +191,7 @@ module _ {S F : Type 0} (view : S → StorageView) (backing : F → BackingView)
 
       -- the image failed: it is spent
       pub commit_broke : (ImageInvariant view backing (pending_in view backing old out) old out → IsTrue (is_failed freed))
-          → let w = abstract_of view backing freed (slice_set out k None) in (v.is_sound → IsFault (refusal_of x)) × Refuses v w gifts [] (refusal_of x) (IsSame v w)
+          → let w = abstract_of view backing freed (slice_set out k None) in (v.is_sound → IsRefusalByFault (refusal_of x)) × Refuses v w gifts [] (refusal_of x) (IsSame v w)
       commit_broke failed = (
         (λ sound. (failed_freeing sound).1),
         record {
@@ -201,11 +201,11 @@ module _ {S F : Type 0} (view : S → StorageView) (backing : F → BackingView)
         },
       )
 
-      pub commit_broke_off : IsTrue changed → let w = abstract_of view backing freed (slice_set out k None) in (v.is_sound → IsFault (refusal_of x)) × Refuses v w gifts [] (refusal_of x) (IsSame v w)
+      pub commit_broke_off : IsTrue changed → let w = abstract_of view backing freed (slice_set out k None) in (v.is_sound → IsRefusalByFault (refusal_of x)) × Refuses v w gifts [] (refusal_of x) (IsSame v w)
       commit_broke_off is = commit_broke (λ sound. (failed_freeing sound).2 (noted sound is))
 
       -- nothing was changed: it is at its place again
-      pub commit_kept : (entered ≡ begun) × (q ≡ p) → let w = abstract_of view backing freed (slice_set out k (Some p)) in (v.is_sound → IsFault (refusal_of x)) × Refuses v w gifts [] (refusal_of x) (IsSame v w)
+      pub commit_kept : (entered ≡ begun) × (q ≡ p) → let w = abstract_of view backing freed (slice_set out k (Some p)) in (v.is_sound → IsRefusalByFault (refusal_of x)) × Refuses v w gifts [] (refusal_of x) (IsSame v w)
       commit_kept same =
           let there : slice_set out k (Some q) ≡ slice_set out k (Some p) = ap (λ y. slice_set out k (Some y)) same.1 in
           let w = abstract_of view backing freed (slice_set out k (Some p)) in

@@ -45,7 +45,7 @@ use Rattle.qcow2_alloc.specs.CacheMarks.{KeepsMarks}
 use Rattle.qcow2_alloc.specs.ClustersToFree.{data_entry}
 use Rattle.qcow2_alloc.specs.declared.cache.MetadataCaches.{MetadataCaches}
 use Rattle.qcow2_alloc.specs.declared.clusters_to_free.ClustersToFreeEntry.{ClustersToFreeEntry}
-use Rattle.qcow2_alloc.specs.MetadataCaches.{IsEntryAt, ChangesKnownEntry, MadeEntry, MapsEntry, l2_at, order_of, known_of}
+use Rattle.qcow2_alloc.specs.MetadataCaches.{IsEntryAt, ChangesKnownEntry, MadeEntry, MapsCachedEntry, l2_at, order_of, known_of}
 use Rattle.qcow2_alloc.proofs.Runs.{run_in, run_before, run_after}
 use Rattle.qcow2_alloc.specs.ImageFile.{state_in, view_in}
 use Rattle.qcow2_image.specs.declared.image.Qcow2.{Qcow2}
@@ -55,7 +55,7 @@ use Rattle.qcow2_image.specs.declared.prepared.Share.TheVariants.{InPlace, Kept,
 use Rattle.qcow2_image.specs.CallParts.{CommitsPart, ShowsPart}
 use Rattle.qcow2_image.specs.UnseenSteps.{dropped_by}
 use Rattle.qcow2_image.proofs.Sound.{free_more}
-use Rattle.qcow2_image.specs.ImageInvariant.{to_free, of_data, of_tables, listed_run, held_in, held_by, pins_by, over_all, pending_in, abstract_of, meaning, is_entered, is_private, cluster_of, host_of, share_of, backing_bytes, IsNewAt, IsShareAt, IsPending, IsReady, IsReadyWith, ImageInvariant}
+use Rattle.qcow2_image.specs.ImageInvariant.{to_free, of_data, of_tables, listed_run, held_in, held_by, pins_by, over_all, pending_in, abstract_of, meaning, is_entered, is_private, cluster_of, host_begin_of, share_of, backing_bytes, IsNewAt, IsShareAt, IsPending, IsReady, IsReadyWith, ImageInvariant}
 use Rattle.qcow2_image.proofs.Apart.{apart_guests}
 use Rattle.qcow2_image.proofs.Ready.{still_pending, still_share}
 use Rattle.qcow2_image.proofs.Open.Reftables.{reftable_still}
@@ -176,7 +176,7 @@ module _ {S F : Type 0} (view : S → StorageView) (backing : F → BackingView)
   guest_is : guest_at h row column ≡ cluster_of h p + i
   guest_is = let e : cluster_of h p / entries_per_cluster h * entries_per_cluster h + cluster_of h p % entries_per_cluster h ≡ cluster_of h p = div-add-mod' (cluster_of h p) (entries_per_cluster h) in omega arith
 
-  module _ (first : ℕ) (place : first * cluster_size h ≡ host_of h p i) (nameable : IsHostCluster h.cluster_bits first) (found : IsSome (l2_at old.file.caches t)) (maps : MapsEntry old.file.caches caches t column first answer)
+  module _ (first : ℕ) (place : first * cluster_size h ≡ host_begin_of h p i) (nameable : IsHostCluster h.cluster_bits first) (found : IsSome (l2_at old.file.caches t)) (maps : MapsCachedEntry old.file.caches caches t column first answer)
       (stands : IsShareAt h s.known s.on_storage p i share) where
     abbrev host : ℕ
     host = first * cluster_size h
@@ -336,7 +336,7 @@ module _ {S F : Type 0} (view : S → StorageView) (backing : F → BackingView)
           let e : Some x ≡ Some InPlace = sym at ∙ ap (λ (y : List Share). slice_get y l) items ∙ ap (slice_get (slice_set p.shares.items i InPlace)) here ∙ get_set_same p.shares.items i InPlace share was in
           let same : x ≡ InPlace = cc in
           subst (λ (y : Share). IsShareAt h known s.on_storage q l y) (sym same)
-          (ap (λ n. cover h known (cluster_of h p + n)) here ∙ ap (cover h known) (sym guest_is) ∙ covered ∙ ap (λ n. Data n true) (place ∙ ap (host_of h p) (sym here)))
+          (ap (λ n. cover h known (cluster_of h p + n)) here ∙ ap (cover h known) (sym guest_is) ∙ covered ∙ ap (λ n. Data n true) (place ∙ ap (host_begin_of h p) (sym here)))
       | inr other ↦
           let there : slice_get p.shares.items l ≡ Some x = sym (get_set_other p.shares.items i l InPlace other) ∙ ap (λ (y : List Share). slice_get y l) (sym items) ∙ at in
           left_as x (still_share h s.known s.on_storage known s.on_storage p l (made.mapped.unseen.covers (cluster_of h p + l) (λ same. other (let e = guest_is in omega arith))) x (pending.each l x there))

@@ -22,16 +22,16 @@ use Rattle.qcow2_disk.proofs.Compose.{works_less, works_then}
 use Rattle.qcow2_alloc.specs.CacheMarks.{l2_pins}
 use Rattle.qcow2_alloc.specs.declared.cache.MetadataCaches.{MetadataCaches}
 use Rattle.qcow2_alloc.specs.declared.async_lru_cache.slot.Slot.{Slot}
-use Rattle.qcow2_alloc.specs.MetadataCaches.{MapsEntry, l2_at}
+use Rattle.qcow2_alloc.specs.MetadataCaches.{MapsCachedEntry, l2_at}
 use Rattle.qcow2_alloc.specs.ImageFile.{contents_in, known_in}
 use Rattle.qcow2_image.specs.declared.image.Qcow2.{Qcow2}
 use Rattle.qcow2_image.specs.declared.prepared.Prepared.{Prepared}
 use Rattle.qcow2_image.specs.declared.prepared.Share.{Share}
 use Rattle.qcow2_image.specs.declared.prepared.Share.TheVariants.{InPlace, Kept, New}
 use Rattle.qcow2_image.specs.CallParts.{CommitsPart, EntersAll, IsEntered, ShowsPart}
-use Rattle.qcow2_image.specs.Image.{Stays}
+use Rattle.qcow2_image.specs.Image.{ImageStays}
 use Rattle.qcow2_image.specs.UnseenSteps.{DropsNothing, EntersShare, dropped_by}
-use Rattle.qcow2_image.specs.ImageInvariant.{cluster_of, host_of, is_entered, pins_by, pending_in, abstract_of, meaning, is_private, IsShareAt, IsPending, IsReadyWith, ImageInvariant}
+use Rattle.qcow2_image.specs.ImageInvariant.{cluster_of, host_begin_of, is_entered, pins_by, pending_in, abstract_of, meaning, is_private, IsShareAt, IsPending, IsReadyWith, ImageInvariant}
 use Rattle.qcow2_image.proofs.Apart.{pins_own}
 use Rattle.qcow2_image.proofs.Call.Called.{works_none}
 use Rattle.qcow2_image.proofs.Call.Slots.{get_set_other, get_set_same, length_set, set_same, set_set}
@@ -142,7 +142,7 @@ pinned_held caches t some = slot_held (lookup (λ k. t == k) caches.l2.entries) 
 -- the cluster of a share that is entered
 pub record HasFirst (h : HeaderFields) (p : Prepared) (i : ℕ) : Type 0 where
   pub first : ℕ
-  pub place : first * cluster_size h ≡ host_of h p i
+  pub place : first * cluster_size h ≡ host_begin_of h p i
   pub nameable : IsHostCluster h.cluster_bits first
 
 first_as : (h : HeaderFields) (known on_storage : Bytes) (p : Prepared) (i : ℕ) (share : Share) → IsTrue (is_entered share) → IsShareAt h known on_storage p i share → HasFirst h p i
@@ -188,12 +188,12 @@ module _ {S F : Type 0} (view : S → StorageView) (backing : F → BackingView)
       let more : its.first * cluster_size h ≡ its.first + its.first * (cluster_size h - 1) = (let e : cluster_size h ≡ 1 + (cluster_size h - 1) = omega arith in ap (λ n. its.first * n) e ∙ omega arith) in
       omega arith
 
-  made : (answer : Option (ℕ × ℕ)) × MapsEntry old.file.caches enters.mid.file.caches t (cluster_of h p % entries_per_cluster h + i) its.first answer
+  made : (answer : Option (ℕ × ℕ)) × MapsCachedEntry old.file.caches enters.mid.file.caches t (cluster_of h p % entries_per_cluster h + i) its.first answer
   made =
       let entered = enters.enters.entered t is_table in (
         entered.0,
-        subst (λ c. MapsEntry old.file.caches enters.mid.file.caches t (cluster_of h p % entries_per_cluster h + i) c entered.0) cluster_is
-            (subst (λ j. MapsEntry old.file.caches enters.mid.file.caches t j (min (p.offset / cluster_size h + i) (2 ^ 64 - 1)) entered.0) index_is entered.1),
+        subst (λ c. MapsCachedEntry old.file.caches enters.mid.file.caches t (cluster_of h p % entries_per_cluster h + i) c entered.0) cluster_is
+            (subst (λ j. MapsCachedEntry old.file.caches enters.mid.file.caches t j (min (p.offset / cluster_size h + i) (2 ^ 64 - 1)) entered.0) index_is entered.1),
       )
 
   pub entered_part : CommitsPart view backing old new out k p q
@@ -225,7 +225,7 @@ all_in_place view backing image p each o = by_test (is_private view backing imag
 -- ---- the first shares are entered
 module _ {S F : Type 0} (view : S → StorageView) (backing : F → BackingView) where
   pub record EntersFirst (old now : Qcow2 S F) (p q : Prepared) (n : ℕ) (entered : Bool) : Type 0 where
-    pub stays : Stays old now
+    pub stays : ImageStays old now
     pub header : now.file.header ≡ old.file.header
     pub none : entered ≡ false → (now ≡ old) × (q ≡ p)
     pub table : q.table ≡ p.table
@@ -284,7 +284,7 @@ module _ {S F : Type 0} (view : S → StorageView) (backing : F → BackingView)
     ]
 
     -- or it is entered
-    pub first_true : EntersShare n q r now new → Stays now new → EntersFirst old new p r (n + 1) true
+    pub first_true : EntersShare n q r now new → ImageStays now new → EntersFirst old new p r (n + 1) true
     first_true enters stays =
         let table : r.table ≡ q.table = ap (λ (x : Prepared). x.table) enters.mapping in
         record {

@@ -14,7 +14,7 @@ use Rattle.qcow2_metadata.specs.declared.l2_mapping.L2Mapping.TheVariants.{Data,
 use Rattle.qcow2_metadata.specs.Header.{header, cluster_size, rounded_up}
 use Rattle.qcow2_disk.specs.Calls.{gift_of_grow, shows_old, to_kept_zero}
 use Rattle.qcow2_disk.specs.ClearedCovers.{cleared_cover}
-use Rattle.qcow2_disk.specs.Disk.{Disk, disk, disk_with, zeroed}
+use Rattle.qcow2_disk.specs.Disk.{Disk, disk, disk_with, zeroed_between}
 use Rattle.qcow2_disk.specs.AbstractImages.{Setting}
 use Rattle.qcow2_disk.specs.GrownCovers.{FilledCovers, Touches, first_zeros}
 use Rattle.qcow2_disk.specs.Mappings.{gift_shown, is_copied_data}
@@ -126,7 +126,7 @@ preallocated_none mode b none = record { inside = λ g lt. absurd (omega (arith,
 -- ---- calls that give zeros alone
 pub grow_gives_zeros : (x : Setting) (d : Disk) (size : ℕ) (mode : PreallocateMode) (o : ℕ) (v : Value) → IsGiven (gift_of_grow x d size mode) o v → v ≡ known_byte 0
 grow_gives_zeros x d size mode o v given = by_test (nat_le size d.size || shows_old mode) given where
-  by_test : (b : Bool) → IsGiven (if b then [] else gift_shown (zeroed d d.size (rounded_up x.cluster_size size)) d.size (rounded_up x.cluster_size size) ∷ []) o v → v ≡ known_byte 0
+  by_test : (b : Bool) → IsGiven (if b then [] else gift_shown (zeroed_between d d.size (rounded_up x.cluster_size size)) d.size (rounded_up x.cluster_size size) ∷ []) o v → v ≡ known_byte 0
   by_test true none = absurd none
   by_test false some = ⊎_elim (λ gift. gift.2) (λ no. absurd no) (shown_zeros d d.size (rounded_up x.cluster_size size) o v some)
 

@@ -24,7 +24,7 @@ use Rattle.qcow2_alloc.specs.FreeList.{with_listed}
 use Rattle.qcow2_alloc.specs.declared.error.ImageError.{ImageError}
 use Rattle.qcow2_alloc.specs.declared.error.ImageError.TheVariants as I
 use Rattle.qcow2_alloc.specs.ImageFile.{known_in, view_in}
-use Rattle.qcow2_image.specs.Calls.{Flushes}
+use Rattle.qcow2_image.specs.Calls.{FlushesImage}
 use Rattle.qcow2_image.specs.Clearing.{setting_of}
 use Rattle.qcow2_image.specs.Created.{Enlarges, GrowsBy, IsPreallocated, IsStopOfCreating, IsUnwritten, ShowsZeros, StopsCreating, TakesPlace}
 use Rattle.qcow2_image.specs.declared.image.Qcow2.{Qcow2}
@@ -168,7 +168,7 @@ module _ {S F : Type 0} (view : S → StorageView) (backing : F → BackingView)
             }
 
       -- by the flush's own answer
-      taken_so : (new : Qcow2 S F) (r : Result (Unit {0}) ImageError) → size_of new ≡ size_of mid → Flushes view backing mid new r
+      taken_so : (new : Qcow2 S F) (r : Result (Unit {0}) ImageError) → size_of new ≡ size_of mid → FlushesImage view backing mid new r
           → ((p : Pending) → ImageInvariant view backing (with_listed p mid.file.free_list) mid [] → WritesBack view backing p mid new r) → Enlarges mode size (view_in view old.file) (view_in view new.file) r
       taken_so new (Ok y) stays flushes writes =
           let sound = (takes.sees []).answer opened.sound in
@@ -189,7 +189,7 @@ module _ {S F : Type 0} (view : S → StorageView) (backing : F → BackingView)
   refused_by Mode.FullAllocate e takes = taking_stops Mode.FullAllocate refl ((takes.sees []).acts.works opened.sound)
   refused_by Mode.WriteData e takes = taking_stops Mode.WriteData refl ((takes.sees []).acts.works opened.sound)
 
-  pub grown_by : (mode : PreallocateMode) (x : Unit {0}) → GrowsBy view backing mode old mid size (Ok x) → (new : Qcow2 S F) (r : Result (Unit {0}) ImageError) → size_of new ≡ size_of mid → Flushes view backing mid new r
+  pub grown_by : (mode : PreallocateMode) (x : Unit {0}) → GrowsBy view backing mode old mid size (Ok x) → (new : Qcow2 S F) (r : Result (Unit {0}) ImageError) → size_of new ≡ size_of mid → FlushesImage view backing mid new r
       → ((p : Pending) → ImageInvariant view backing (with_listed p mid.file.free_list) mid [] → WritesBack view backing p mid new r) → Enlarges mode size (view_in view old.file) (view_in view new.file) r
   grown_by Mode.None x grows new r stays flushes writes = enlarged view backing size old new unwritten opened r (grown_whole view backing old mid new size r (grows opened.sound) stays writes)
   grown_by Mode.Zero x takes new r stays flushes writes = taken_so Mode.Zero refl x takes new r stays flushes writes

@@ -4,9 +4,9 @@ use Rattle.std.specs.Prelude.{Result, Ok, Err, IfOk, IfErr, IsTrue}
 use Rattle.image_access.specs.Backing.{BackingView}
 use Rattle.image_access.specs.Moments.{StorageView}
 use Rattle.qcow2_laws.specs.CrashInvariant.{Pending}
-use Rattle.qcow2_disk.specs.Calls.{Does, IsFault, IsSame}
+use Rattle.qcow2_disk.specs.Calls.{Does, IsRefusalByFault, IsSame}
 use Rattle.qcow2_laws.specs.SafeSteps.{SafeStep}
-use Rattle.qcow2_disk.specs.AbstractImages.{contents_of}
+use Rattle.qcow2_disk.specs.AbstractImages.{stored_bytes}
 use Rattle.qcow2_laws.proofs.Formats.{format_same, format_then}
 use Rattle.qcow2_laws.proofs.SafeSteps.{leads_then, steps_endure}
 use Rattle.qcow2_laws.proofs.Unseen.{unseen_then}
@@ -24,7 +24,7 @@ use Rattle.qcow2_image.specs.declared.image.Qcow2.{Qcow2}
 use Rattle.qcow2_image.specs.declared.prepared.Prepared.{Prepared}
 use Rattle.qcow2_image.specs.CallParts.{EndsFreeing, RefusedCall, UnseenCall}
 use Rattle.qcow2_image.specs.UnseenSteps.{UnseenStep, UnseenFreeingStep, FreesListed}
-use Rattle.qcow2_image.specs.Calls.{Flushes, refusal_of}
+use Rattle.qcow2_image.specs.Calls.{FlushesImage, refusal_of}
 use Rattle.qcow2_image.specs.Image.{number_of, is_failed}
 use Rattle.qcow2_image.specs.Refusals.{Marks}
 use Rattle.qcow2_image.specs.ImageInvariant.{ImageInvariant, pending_in, abstract_of}
@@ -126,10 +126,10 @@ module _ {S F : Type 0} (view : S → StorageView) (backing : F → BackingView)
   -- all that is known is written, and nothing is left of it; or it was refused
   pub flushes_settled : (r : Result (Unit {0}) ImageError) → Marks r (is_failed new) marked → IfErr r (λ e. e ≡ I.Memory → IsTrue new.file.caches.is_changed → IsTrue marked)
       → ((out : List (Option Prepared)) → ImageInvariant view backing (pending_in view backing old out) old out → FreesListed view backing (beside view backing old out) old new out r)
-      → IfOk r (λ done. known_in view new.file ≡ contents_in view new.file) → Flushes view backing old (record new { is_failed = marked }) r
+      → IfOk r (λ done. known_in view new.file ≡ contents_in view new.file) → FlushesImage view backing old (record new { is_failed = marked }) r
   flushes_settled (Ok done) marks memory frees written = λ out.
       let stays : ImageInvariant view backing (pending_in view backing old out) old out → UnseenCall view backing old new out = λ sound. tidy_stays view backing old out new sound (frees out sound) in
-      subst (λ (f : Bool). let v = abstract_of view backing old out in let w = abstract_of view backing (record new { is_failed = f }) out in Does v w [] [] ((w.known ≡ contents_of w) × IsSame v w)) (sym marks)
+      subst (λ (f : Bool). let v = abstract_of view backing old out in let w = abstract_of view backing (record new { is_failed = f }) out in Does v w [] [] ((w.known ≡ stored_bytes w) × IsSame v w)) (sym marks)
       (settled_does view backing old new out out [] (λ sound. (stays sound).works) (λ sound. (stays sound).sound) number usable (λ sound. (written, (stays sound).same)))
   flushes_settled (Err e) marks memory frees written = λ out. refuses_left view backing out old usable new marked number e marks memory (λ sound. freed_refused view backing old out new e sound (frees out sound))
 
@@ -141,6 +141,6 @@ module _ {S F : Type 0} (view : S → StorageView) (backing : F → BackingView)
         subst (λ (f : Bool). EndsFreeing view backing old (record new { is_failed = f }) out (Ok done)) (sym marks) (let stays = tidy_stays view backing old out new sound frees in record { works = stays.works; sound = stays.sound; same = stays.same; header = stays.header; covers = stays.covers })
     ends_freeing (Err e) marks memory noted fault frees = (
       refuses_left view backing out old usable new marked number e marks memory (λ s. freed_refused view backing old out new e s frees),
-      ⊎_elim (λ (failed : e ≡ I.Storage). subst (λ (x : ImageError). IsFault (refusal_of x)) (sym failed) tt) (λ (want : e ≡ I.Memory). subst (λ (x : ImageError). IsFault (refusal_of x)) (sym want) tt) fault,
+      ⊎_elim (λ (failed : e ≡ I.Storage). subst (λ (x : ImageError). IsRefusalByFault (refusal_of x)) (sym failed) tt) (λ (want : e ≡ I.Memory). subst (λ (x : ImageError). IsRefusalByFault (refusal_of x)) (sym want) tt) fault,
       λ changed. (marks_fault e (is_failed new) marked new.file.caches.is_changed fault (λ _. noted changed) marks memory).0,
     )

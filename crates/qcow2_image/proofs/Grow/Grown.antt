@@ -22,12 +22,12 @@ use Rattle.qcow2_alloc.proofs.FileSteps.{pending_same}
 use Rattle.qcow2_alloc.proofs.PlacedBlocks.{file_sizes}
 use Rattle.qcow2_image.specs.declared.image.Qcow2.{Qcow2}
 use Rattle.qcow2_image.specs.LongerTables.{RefusedMove, UnseenMove}
-use Rattle.qcow2_image.specs.Growing.{Lasts, Extends, Resizes, Grows, WritesBack, ReachesSize, GrowsWhole}
+use Rattle.qcow2_image.specs.Growing.{Lasts, Extends, Resizes, GrowsDisk, WritesBack, ReachesSize, GrowsWhole}
 use Rattle.qcow2_image.specs.Image.{size_of, is_failed}
 use Rattle.qcow2_image.specs.Refusals.{Marks}
 use Rattle.qcow2_alloc.specs.FreeList.{with_listed}
 use Rattle.qcow2_image.proofs.Flush.Freeing.{all_listed, beside}
-use Rattle.qcow2_image.specs.UnseenSteps.{UnseenFreeingStep, FreesListed, UnseenStep, ListGrows, pending_then}
+use Rattle.qcow2_image.specs.UnseenSteps.{UnseenFreeingStep, FreesListed, UnseenStep, ListGrows, pending_with_listed}
 use Rattle.qcow2_image.specs.ImageInvariant.{of_data, of_tables, to_free, pending_in, ImageInvariant}
 use Rattle.qcow2_image.proofs.Moved.{format_stay, moves_format}
 use Rattle.qcow2_image.proofs.Sound.{IsOnly, free_more, pending_is}
@@ -77,13 +77,13 @@ module _ {S F : Type 0} (view : S → StorageView) (backing : F → BackingView)
       }
 
   -- ---- the table, then the size
-  pub resized_then : (p : Pending) (a b c : Qcow2 S F) (size : ℕ) (r : Result (Unit {0}) ImageError) → Extends view backing p (pending_then p a b) a b [] → c.file.free_list ≡ b.file.free_list → Resizes view backing (pending_then p a b) b c size r → Resizes view backing p a c size r
+  pub resized_then : (p : Pending) (a b c : Qcow2 S F) (size : ℕ) (r : Result (Unit {0}) ImageError) → Extends view backing p (pending_with_listed p a b) a b [] → c.file.free_list ≡ b.file.free_list → Resizes view backing (pending_with_listed p a b) b c size r → Resizes view backing p a c size r
   resized_then p a b c size (Ok x) first same then =
-      let q = pending_then p a b in
-      let pending : pending_then q b c ≡ pending_then p a c =
-      pending_same (pending_then q b c) (pending_then p a c) (λ k. refl) (λ k. refl) (λ k. let e = ap (λ l. to_free of_tables l k) same in omega (arith, e)) (λ k. let e = ap (λ l. to_free of_data l k) same in omega (arith, e)) (λ k. refl) in
-      (subst (λ (r : Pending). Extends view backing p r a c (size ∷ [])) pending (extends_then p q (pending_then q b c) a b c [] (size ∷ []) first then.0), then.1)
-  resized_then p a b c size (Err e) first same then = lasts_then p (pending_then p a b) a b c [] (size ∷ []) first then
+      let q = pending_with_listed p a b in
+      let pending : pending_with_listed q b c ≡ pending_with_listed p a c =
+      pending_same (pending_with_listed q b c) (pending_with_listed p a c) (λ k. refl) (λ k. refl) (λ k. let e = ap (λ l. to_free of_tables l k) same in omega (arith, e)) (λ k. let e = ap (λ l. to_free of_data l k) same in omega (arith, e)) (λ k. refl) in
+      (subst (λ (r : Pending). Extends view backing p r a c (size ∷ [])) pending (extends_then p q (pending_with_listed q b c) a b c [] (size ∷ []) first then.0), then.1)
+  resized_then p a b c size (Err e) first same then = lasts_then p (pending_with_listed p a b) a b c [] (size ∷ []) first then
 
   -- an entry behind the last byte's reaches the size
   pub reaches_so : (h : HeaderFields) (size i : ℕ) → Sizes h → i ≡ (size - 1) / cluster_size h / entries_per_cluster h → i < h.l1_entries → size ≤ guests h * cluster_size h
@@ -112,7 +112,7 @@ module _ {S F : Type 0} (view : S → StorageView) (backing : F → BackingView)
     abbrev p : Pending
     p = pending_in view backing old []
 
-    nothing_else : ListGrows mid big → IsOnly view backing big [] (pending_then p mid big)
+    nothing_else : ListGrows mid big → IsOnly view backing big [] (pending_with_listed p mid big)
     nothing_else grows = record {
       held = λ k. refl;
       fresh = λ k. refl;
@@ -121,19 +121,19 @@ module _ {S F : Type 0} (view : S → StorageView) (backing : F → BackingView)
     }
 
     grown : (r : Result (Unit {0}) ImageError) (failed : Bool) → Resizes view backing p mid big size r → OnOk r (ListGrows mid big) → OnOk r (ReachesSize big.file.header.fields) → Marks r (is_failed big) failed
-        → Grows view backing old (record big { is_failed = failed }) size r
+        → GrowsDisk view backing old (record big { is_failed = failed }) size r
     grown (Ok x) failed resizes grows reaches marks =
-        let q = pending_then p mid big in
+        let q = pending_with_listed p mid big in
         let all = extends_then p p q old mid big [] (size ∷ []) (extends_keeping p p old mid begun) resizes.0 in
-        subst (λ (f : Bool). Grows view backing old (record big { is_failed = f }) size (Ok x)) (sym marks)
+        subst (λ (f : Bool). GrowsDisk view backing old (record big { is_failed = f }) size (Ok x)) (sym marks)
         (subst (λ (r : Pending). Extends view backing p r old big (size ∷ [])) (pending_is view backing big [] q all.leads.sound (nothing_else grows)) all, resizes.1 ∙ sym (omega (arith, larger)), λ _. reaches)
     grown (Err e) failed lasts grows reaches marks = lasts_then p p old mid big [] (size ∷ []) (extends_keeping p p old mid begun) lasts
 
     pub grown_so : (new : Qcow2 S F) (done r : Result (Unit {0}) ImageError) → r ≡ done → new ≡ record big { is_failed = is_failed new } → Marks done (is_failed big) (is_failed new) → Resizes view backing p mid big size done → OnOk done (ListGrows mid big)
-        → OnOk done (ReachesSize big.file.header.fields) → Grows view backing old new size r
+        → OnOk done (ReachesSize big.file.header.fields) → GrowsDisk view backing old new size r
     grown_so new done r answer rest marks resizes grows reaches =
-        subst (λ (s : Result (Unit {0}) ImageError). Grows view backing old new size s) (sym answer)
-        (subst (λ (i : Qcow2 S F). Grows view backing old i size done) (sym rest) (grown done (is_failed new) resizes grows reaches marks))
+        subst (λ (s : Result (Unit {0}) ImageError). GrowsDisk view backing old new size s) (sym answer)
+        (subst (λ (i : Qcow2 S F). GrowsDisk view backing old i size done) (sym rest) (grown done (is_failed new) resizes grows reaches marks))
 
   -- ---- what is listed is freed, and all tables are written
   extends_tidying : (p q : Pending) (a b : Qcow2 S F) → UnseenFreeingStep view backing p q a b [] → Extends view backing p q a b []
@@ -156,7 +156,7 @@ module _ {S F : Type 0} (view : S → StorageView) (backing : F → BackingView)
       back (Err e) failed marks frees = elim frees [ inl tidies ↦ tidies.since | inr broke ↦ broke.breaks.since ]
 
   -- after the disk was made larger
-  pub grown_whole : (old mid new : Qcow2 S F) (size : ℕ) (r : Result (Unit {0}) ImageError) → Grows view backing old mid size (Ok tt) → size_of new ≡ size_of mid
+  pub grown_whole : (old mid new : Qcow2 S F) (size : ℕ) (r : Result (Unit {0}) ImageError) → GrowsDisk view backing old mid size (Ok tt) → size_of new ≡ size_of mid
       → ((p : Pending) → ImageInvariant view backing (with_listed p mid.file.free_list) mid [] → WritesBack view backing p mid new r)
       → GrowsWhole view backing old new size r
   grown_whole old mid new size (Ok x) grown same writes =

@@ -41,8 +41,8 @@ use Rattle.qcow2_image.specs.declared.image.Qcow2.{Qcow2}
 use Rattle.qcow2_image.specs.declared.prepared.Prepared.{Prepared}
 use Rattle.qcow2_image.specs.CallParts.{RefusedCall, UnseenCall}
 use Rattle.qcow2_image.specs.ImageInvariant.{of_data, of_tables, to_free, backing_bytes, pending_in, ImageInvariant}
-use Rattle.qcow2_image.specs.LongerTables.{clusters_of, run_of_table, listed, with_table, without_l1, IsLonger, StandsWhole, UnseenMove, InterruptedMove, RefusedMove, PlacesTable, NamesTable, TakesTable, MakesEntry}
-use Rattle.qcow2_image.specs.UnseenSteps.{UnseenStep, FreesListed, ListGrows, pending_then}
+use Rattle.qcow2_image.specs.LongerTables.{clusters_of, run_of_table, listed, with_table, without_l1, IsLongerL1, StandsWhole, UnseenMove, InterruptedMove, RefusedMove, PlacesTable, NamesTable, TakesTable, MakesEntry}
+use Rattle.qcow2_image.specs.UnseenSteps.{UnseenStep, FreesListed, ListGrows, pending_with_listed}
 use Rattle.qcow2_image.proofs.Call.Answered.{followed, same_setting, still_shown}
 use Rattle.qcow2_image.proofs.Call.Called.{keeps_then}
 use Rattle.qcow2_image.proofs.Call.Refused.{broke_off_so, refused_then, stays_kept, stays_then}
@@ -142,9 +142,9 @@ module _ {S F : Type 0} (view : S → StorageView) (backing : F → BackingView)
 
   -- they come to the list of those to be freed, behind what was listed since
   freed_run : (p : Pending) (t : EntryTableView) (cluster : ℕ) (old mid new : Qcow2 S F) (e : ClustersToFreeEntry) → ListGrows old mid → e.first_cluster ≡ cluster → e.count ≡ clusters_of t → e.kind ≡ Kind.Metadata → new.file.free_list ≡ mid.file.free_list ++ e ∷ []
-      → run_given_up (pending_then p old mid) t cluster ≡ pending_then p old new
+      → run_given_up (pending_with_listed p old mid) t cluster ≡ pending_with_listed p old new
   freed_run p t cluster old mid new e grows first many kind is =
-      pending_same (run_given_up (pending_then p old mid) t cluster) (pending_then p old new) (λ k. refl) (λ k. refl)
+      pending_same (run_given_up (pending_with_listed p old mid) t cluster) (pending_with_listed p old new) (λ k. refl) (λ k. refl)
       (λ k.
       let since = ap (λ l. to_free of_tables l k) grows.is ∙ free_more of_tables old.file.free_list grows.more k in
       let more = ap (λ l. to_free of_tables l k) is ∙ free_more of_tables mid.file.free_list (e ∷ []) k in
@@ -165,7 +165,7 @@ module _ {S F : Type 0} (view : S → StorageView) (backing : F → BackingView)
 
     -- what is pending then, beside what is taken
     abbrev since : Pending
-    since = pending_then p old taken
+    since = pending_with_listed p old taken
 
     pub none_taken_for_table : (e : ImageError) → RefusedGrowth view p old.file a file since e → RefusedMove view backing p old taken out e
     none_taken_for_table e left = elim (none_taken view backing out p old sound file a marks lists e left) [
@@ -173,12 +173,12 @@ module _ {S F : Type 0} (view : S → StorageView) (backing : F → BackingView)
       | inr breaks ↦ inr (record { breaks = breaks; header = format_moves old.file.header.fields file.header.fields (header_format old.file.header file.header header); below = refl })
     ]
 
-    module _ (t : EntryTableView) (cluster n : ℕ) (many : n ≡ clusters_of t) (becomes : UnseenAllocatorGrowth view p old.file a file (taken_as false since (run_at cluster n))) (longer : IsLonger old t) where
+    module _ (t : EntryTableView) (cluster n : ℕ) (many : n ≡ clusters_of t) (becomes : UnseenAllocatorGrowth view p old.file a file (taken_as false since (run_at cluster n))) (longer : IsLongerL1 old t) where
       keeps_taken : UnseenStep view backing p (with_table since t cluster) old taken out
       keeps_taken = subst (λ m. UnseenStep view backing p (taken_as false since (run_at cluster m)) old taken out) many
           (file_moved_on view backing old out p (taken_as false since (run_at cluster n)) sound file (Some a) becomes.moves becomes.reftable marks.pins (lists_grow old taken lists))
 
-      longer_taken : IsLonger taken t
+      longer_taken : IsLongerL1 taken t
       longer_taken = record {
         bits = longer.bits ∙ ap (λ (v : HeaderView). v.fields.cluster_bits) (sym header);
         whole = longer.whole;
@@ -186,7 +186,7 @@ module _ {S F : Type 0} (view : S → StorageView) (backing : F → BackingView)
         entries = longer.entries;
       }
 
-      module _ (new : Qcow2 S F) (r : Result (Unit {0}) ImageError) (same : new.file.free_list ≡ file.free_list) (names : ImageInvariant view backing (with_table since t cluster) taken out → IsLonger taken t → NamesTable view backing since taken new out t cluster r) where
+      module _ (new : Qcow2 S F) (r : Result (Unit {0}) ImageError) (same : new.file.free_list ≡ file.free_list) (names : ImageInvariant view backing (with_table since t cluster) taken out → IsLongerL1 taken t → NamesTable view backing since taken new out t cluster r) where
         abbrev named : NamesTable view backing since taken new out t cluster r
         named = names keeps_taken.sound longer_taken
 
@@ -217,7 +217,7 @@ module _ {S F : Type 0} (view : S → StorageView) (backing : F → BackingView)
 
   -- a longer table with the old entries
   pub is_longer : (p : Pending) (old : Qcow2 S F) → ImageInvariant view backing p old out → (t : EntryTableView) (bytes : List ℕ) (entries : ℕ) → t ≡ record old.l1_table { cluster = None; bytes = bytes } → length t.bytes ≡ 8 * entries → entry_count old.l1_table ≤ entries
-      → ((i : ℕ) → entry_at t.bytes i ≡ entry_at old.l1_table.bytes i) → IsLonger old t
+      → ((i : ℕ) → entry_at t.bytes i ≡ entry_at old.l1_table.bytes i) → IsLongerL1 old t
   is_longer p old sound t bytes entries is long enough same =
       let count = sound.l1_table.count in record {
         bits = ap (λ (u : EntryTableView). u.cluster_bits) is ∙ sound.l1_table.bits;
@@ -264,7 +264,7 @@ module _ {S F : Type 0} (view : S → StorageView) (backing : F → BackingView)
     no_data None k = refl
     no_data (Some cluster) k = omega arith
 
-    module _ (mid : Qcow2 S F) (takes : UnseenMove view backing p (without_l1 (pending_then p old mid) h) old mid out) (list : List ClustersToFreeEntry) (former : Option ClustersToFreeEntry) (grows : ListGrows old mid)
+    module _ (mid : Qcow2 S F) (takes : UnseenMove view backing p (without_l1 (pending_with_listed p old mid) h) old mid out) (list : List ClustersToFreeEntry) (former : Option ClustersToFreeEntry) (grows : ListGrows old mid)
         (is : former ≡ run_of_table old.l1_table old.l1_table.cluster) (longer : list ≡ mid.file.free_list ++ listed former) where
       abbrev final : Qcow2 S F
       final = record mid { file = record mid.file { free_list = list } }
@@ -272,10 +272,10 @@ module _ {S F : Type 0} (view : S → StorageView) (backing : F → BackingView)
       list_is : list ≡ mid.file.free_list ++ listed (run_of_table old.l1_table old.l1_table.cluster)
       list_is = longer ∙ ap (λ f. mid.file.free_list ++ listed f) is
 
-      to_be_freed : without_l1 (pending_then p old mid) h ≡ pending_then p old final
+      to_be_freed : without_l1 (pending_with_listed p old mid) h ≡ pending_with_listed p old final
       to_be_freed =
           let more = listed (run_of_table old.l1_table old.l1_table.cluster) in
-          pending_same (without_l1 (pending_then p old mid) h) (pending_then p old final) (λ k. refl) (λ k. refl)
+          pending_same (without_l1 (pending_with_listed p old mid) h) (pending_with_listed p old final) (λ k. refl) (λ k. refl)
           (λ k.
           let since = ap (λ l. to_free of_tables l k) grows.is ∙ free_more of_tables old.file.free_list grows.more k in
           let sum = ap (λ l. to_free of_tables l k) list_is ∙ free_more of_tables mid.file.free_list more k in
@@ -288,9 +288,9 @@ module _ {S F : Type 0} (view : S → StorageView) (backing : F → BackingView)
           omega (arith, since, sum, none))
           (λ k. refl)
 
-      pub lengthened : UnseenMove view backing p (pending_then p old final) old final out
+      pub lengthened : UnseenMove view backing p (pending_with_listed p old final) old final out
       lengthened =
-          let q = without_l1 (pending_then p old mid) h in
+          let q = without_l1 (pending_with_listed p old mid) h in
           subst (λ (r : Pending). UnseenMove view backing p r old final out) to_be_freed
           (move_then p q q old mid final takes
           (moves_kept q q mid final (λ k some. some) (keeps_listed view backing out q q mid list (listed former) takes.sound longer (leads_none (state_in view mid.file q) takes.sound.file.caches.kept.kept.guarded)) takes.sound))
@@ -300,8 +300,8 @@ module _ {S F : Type 0} (view : S → StorageView) (backing : F → BackingView)
 
 -- ---- a call that makes an L1 entry
 module _ {S F : Type 0} (view : S → StorageView) (backing : F → BackingView) (out : List (Option Prepared)) (old new : Qcow2 S F) (sound : ImageInvariant view backing (pending_in view backing old out) old out) where
-  module _ (moves : UnseenMove view backing (pending_in view backing old out) (pending_then (pending_in view backing old out) old new) old new out) where
-    pending_now : pending_then (pending_in view backing old out) old new ≡ pending_in view backing new out
+  module _ (moves : UnseenMove view backing (pending_in view backing old out) (pending_with_listed (pending_in view backing old out) old new) old new out) where
+    pending_now : pending_with_listed (pending_in view backing old out) old new ≡ pending_in view backing new out
     pending_now = followed view backing old new out sound moves.list moves.sound.file.caches.kept.kept.guarded
 
     pub stays_moved : UnseenCall view backing old new out
@@ -316,7 +316,7 @@ module _ {S F : Type 0} (view : S → StorageView) (backing : F → BackingView)
         };
       };
       sound = subst (λ (q : Pending). ImageInvariant view backing q new out) pending_now moves.sound;
-      same = still_shown view backing old new out (pending_in view backing old out) (pending_then (pending_in view backing old out) old new) sound (λ k. omega arith) (λ k. omega arith) moves.sound moves.header moves.bytes moves.shows moves.below;
+      same = still_shown view backing old new out (pending_in view backing old out) (pending_with_listed (pending_in view backing old out) old new) sound (λ k. omega arith) (λ k. omega arith) moves.sound moves.header moves.bytes moves.shows moves.below;
       header = moves.header;
       covers = moves.covers;
     }

@@ -36,7 +36,7 @@ use Rattle.qcow2_alloc.proofs.KeptTables.Standing.{own_cluster}
 use Rattle.qcow2_alloc.proofs.PlacedBlocks.{IsFree, covers_written, file_sizes}
 use Rattle.qcow2_image.specs.declared.image.Qcow2.{Qcow2}
 use Rattle.qcow2_image.specs.declared.prepared.Prepared.{Prepared}
-use Rattle.qcow2_image.specs.LongerTables.{with_table, clusters_of, IsLonger, StandsWhole}
+use Rattle.qcow2_image.specs.LongerTables.{with_table, clusters_of, IsLongerL1, StandsWhole}
 use Rattle.qcow2_image.specs.UnseenSteps.{UnseenStep}
 use Rattle.qcow2_image.specs.ImageInvariant.{ImageInvariant}
 use Rattle.qcow2_image.proofs.Moving.{file_moved}
@@ -69,7 +69,7 @@ run_free view p image t cluster sound bits covers c some =
     record { unnamed = data_is_written.fresh (state_in view image.file (with_table p t cluster)) c guarded fresh covers; unheld = omega (arith, tally, few, fresh) }
 
 module _ {S F : Type 0} (view : S → StorageView) (backing : F → BackingView) (out : List (Option Prepared)) (p : Pending) (image : Qcow2 S F) (t : EntryTableView) (cluster : ℕ) (sound : ImageInvariant view backing (with_table p t cluster) image out)
-    (longer : IsLonger image t) (clean : AreClean (refblocks image.file.caches)) (may : BlocksMayGo (order_of image.file.caches) (l2_tables image.file.caches)) where
+    (longer : IsLongerL1 image t) (clean : AreClean (refblocks image.file.caches)) (may : BlocksMayGo (order_of image.file.caches) (l2_tables image.file.caches)) where
   abbrev h : HeaderFields
   h = image.file.header.fields
 

@@ -15,7 +15,7 @@ use Rattle.qcow2_metadata.specs.L2Mapping.{IsHostCluster}
 use Rattle.qcow2_metadata.specs.Named.{in_run}
 use Rattle.qcow2_laws.specs.Changes.{renamed}
 use Rattle.qcow2_laws.specs.CrashInvariant.{Pending, SameIn}
-use Rattle.qcow2_laws.specs.GuestLaws.{KeepsGuests, with_l1_table as with_new_l1}
+use Rattle.qcow2_laws.specs.GuestLaws.{KeepsGuests, state_with_l1_table as with_new_l1}
 use Rattle.qcow2_laws.specs.SafeSteps.{SafeStep}
 use Rattle.qcow2_disk.specs.Stops.{SafeThroughout}
 use Rattle.qcow2_laws.specs.Tops.{WritesHeader, with_places, with_l1_at, IsNewL1}

@@ -14,7 +14,7 @@ use Rattle.qcow2_laws.proofs.Unseen.{unseen_none, unseen_known}
 use Rattle.qcow2_alloc.specs.declared.cache.MetadataCaches.{MetadataCaches}
 use Rattle.qcow2_alloc.specs.declared.image_storage.ImageStorage.{ImageStorage}
 use Rattle.qcow2_alloc.specs.declared.allocation.Allocator.{Allocator}
-use Rattle.qcow2_alloc.specs.CacheMarks.{l2_pins, HasRoom, SameTables}
+use Rattle.qcow2_alloc.specs.CacheMarks.{l2_pins, CachesHaveRoom, SameTables}
 use Rattle.qcow2_alloc.specs.ImageStorage.{storage_of}
 use Rattle.qcow2_metadata.specs.declared.header.HeaderFields.{HeaderFields}
 use Rattle.qcow2_metadata.specs.Header.{cluster_size}
@@ -48,7 +48,7 @@ module _ {S F : Type 0} (view : S → StorageView) (backing : F → BackingView)
   with_caches storage caches = record old { file = record old.file { storage = storage; caches = caches } }
 
   module _ (storage' : ImageStorage S) (caches' : MetadataCaches S)
-      (stay : UnseenCacheStep old.file.header.fields p (view_in view old.file) old.file.caches (view (storage_of storage')) caches') (room : HasRoom old.file.caches → HasRoom caches')
+      (stay : UnseenCacheStep old.file.header.fields p (view_in view old.file) old.file.caches (view (storage_of storage')) caches') (room : CachesHaveRoom old.file.caches → CachesHaveRoom caches')
       (pins : (table : ℕ) → l2_pins caches' table ≡ l2_pins old.file.caches table) where
     reftable_still : (a : Option Allocator) → IfSome a (λ x. HasReftable view old.file x.reftable) → IfSome a (λ x. HasReftable view (with_caches storage' caches').file x.reftable)
     reftable_still None has = tt

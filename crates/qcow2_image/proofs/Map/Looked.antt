@@ -32,7 +32,7 @@ use Rattle.qcow2_image.specs.declared.mapping.MappingKind.TheVariants as M
 use Rattle.qcow2_image.specs.Image.{size_of}
 use Rattle.qcow2_disk.specs.Found.{Kind, raw, indirect, zeros, special, eof, kind_at, rest_of_table}
 use Rattle.qcow2_image.specs.declared.mapping.Place.TheVariants.{Image, DataFile}
-use Rattle.qcow2_image.specs.Found.{found_kind, mapping_of, l1_index_of, AreAlikeBehind, IsAlikeTo, IsRunBehind, IsFound, IsFoundWhole, IsMappedAs}
+use Rattle.qcow2_image.specs.Found.{found_kind, mapping_of, l1_index_of, AreAlikeBehind, IsAlikeTo, IsRunBehind, IsFoundInImage, IsFoundWhole, IsMappedAs}
 
 pub product_le : (m n k : ℕ) → m ≤ n → m * k ≤ n * k
 product_le m n k le = let e : n ≡ m + (n - m) = omega (arith, le) in let f : n * k ≡ m * k + (n - m) * k = ap (λ x. x * k) e ∙ omega arith in omega arith
@@ -136,7 +136,7 @@ module _ (h : HeaderFields) (offset : ℕ) (sizes : Sizes h) where
         clusters_end h known offset run.count (λ next. run.longest (omega (arith, lt)) (back_there run.count (omega (arith, lt, whole)) next)) (subst (λ m. IsAlikeAt h known offset (rest + m)) whole at))
 
 -- a range that isn't longer than what was found is mapped so
-pub mapped_as : {S F : Type 0} (view : S → StorageView) (image : Qcow2 S F) (offset n : ℕ) (kind : MappingKind) (found : ℕ) → 0 < n → n ≤ found → IsFound view image offset n kind found → IsMappedAs view image offset kind n
+pub mapped_as : {S F : Type 0} (view : S → StorageView) (image : Qcow2 S F) (offset n : ℕ) (kind : MappingKind) (found : ℕ) → 0 < n → n ≤ found → IsFoundInImage view image offset n kind found → IsMappedAs view image offset kind n
 mapped_as view image offset n kind found some le is = ⊎_elim
     (λ lt. let run = is.run lt in record { kind_is = run.kind_is; alike = run_less image.file.header.fields (known_in view image.file) offset n found le run.longest.alike })
     (λ past. absurd (let none = (is.past past).1 in omega arith)) (cases_lt offset (size_of image))
@@ -172,7 +172,7 @@ pub same_kind : (a b : MappingKind) → found_kind a ≡ found_kind b → a ≡ 
 same_kind a b same = sym (told_back a) ∙ ap told_of same ∙ told_back b
 
 -- a whole range that was found as it is wanted is the longest run
-pub found_whole : {S F : Type 0} (view : S → StorageView) (image : Qcow2 S F) (offset n : ℕ) (kind wanted : MappingKind) (found : ℕ) → IsFound view image offset n kind found → IsFoundWhole view image offset wanted n
+pub found_whole : {S F : Type 0} (view : S → StorageView) (image : Qcow2 S F) (offset n : ℕ) (kind wanted : MappingKind) (found : ℕ) → IsFoundInImage view image offset n kind found → IsFoundWhole view image offset wanted n
     → (wanted ≡ kind) × (n ≤ found)
 found_whole view image offset n kind wanted found is whole = ⊎_elim
     (λ lt.

@@ -18,7 +18,7 @@ use Rattle.qcow2_image.specs.declared.image.Qcow2.{Qcow2}
 use Rattle.qcow2_image.specs.declared.prepared.Prepared.{Prepared}
 use Rattle.qcow2_image.specs.ImageInvariant.{ImageInvariant}
 use Rattle.qcow2_image.specs.UnseenSteps.{UnseenStep}
-use Rattle.qcow2_image.specs.Unwritten.{HoldsSame, IsUnmodified, IsOnlyRead, OnlyReads}
+use Rattle.qcow2_image.specs.Unwritten.{HoldsSame, IsUnmodified, IsOnlyRead, OnlyReadsImage}
 
 -- what is partly that of the storage and partly known, where that is the same
 all_same : (size : ℕ) (on_storage known b : Bytes) → known ≡ on_storage → IsPartly size on_storage known b → b ≡ on_storage
@@ -84,7 +84,7 @@ module _ {S F : Type 0} (view : S → StorageView) (backing : F → BackingView)
   pub read_call : (old begun new last : Qcow2 S F) (flag : Bool) → storage_of begun.file.storage ≡ storage_of old.file.storage
       → ((p : Pending) (out : List (Option Prepared)) → ImageInvariant view backing p old out → UnseenStep view backing p p old begun out)
       → ((p : Pending) (out : List (Option Prepared)) → ImageInvariant view backing p old out → known_in view begun.file ≡ known_in view old.file)
-      → OnlyReads view backing begun new → last ≡ record new { is_failed = flag } → OnlyReads view backing old last
+      → OnlyReadsImage view backing begun new → last ≡ record new { is_failed = flag } → OnlyReadsImage view backing old last
   read_call old begun new last flag storage keeps known reads rest = λ p out sound clean.
       let first = read_known view old begun storage (known p out sound) clean in
       let then = reads p out (keeps p out sound).sound first.unmodified in
@@ -92,7 +92,7 @@ module _ {S F : Type 0} (view : S → StorageView) (backing : F → BackingView)
 
   -- a part after another one
   pub reads_on : (old mid new : Qcow2 S F) → ((p : Pending) (out : List (Option Prepared)) → ImageInvariant view backing p old out → UnseenStep view backing p p old mid out)
-      → OnlyReads view backing old mid → OnlyReads view backing mid new → OnlyReads view backing old new
+      → OnlyReadsImage view backing old mid → OnlyReadsImage view backing mid new → OnlyReadsImage view backing old new
   reads_on old mid new keeps first then = λ p out sound clean.
       let read = first p out sound clean in
       read_then view read (then p out (keeps p out sound).sound read.unmodified)

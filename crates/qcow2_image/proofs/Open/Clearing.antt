@@ -13,7 +13,7 @@ use Rattle.qcow2_metadata.specs.Entries.{l1_entry, reftable_entry}
 use Rattle.qcow2_laws.specs.Caches.{CacheInvariantOver, AreSettled}
 use Rattle.qcow2_laws.specs.CrashInvariant.{Pending, CrashInvariant}
 use Rattle.qcow2_disk.specs.Stops.{StopOkEverywhere}
-use Rattle.qcow2_laws.specs.Tops.{WritesHeader, resized}
+use Rattle.qcow2_laws.specs.Tops.{WritesHeader, resized_places}
 use Rattle.qcow2_laws.proofs.HeaderWrites.{autoclear_beside}
 use Rattle.qcow2_laws.proofs.SafeSteps.{endures_none, endures_write}
 use Rattle.qcow2_laws.proofs.Steps.{header_is_written}
@@ -38,7 +38,7 @@ module _ {S F : Type 0} (view : S → StorageView) (backing : F → BackingView)
   kept : CacheInvariantOver file.header.fields (order_of file.caches) p (l2_tables file.caches) (refblocks file.caches) (contents_in view file)
   kept = fresh.sound.caches.kept.kept
 
-  module _ (on_storage' : Bytes) (writes : WritesHeader h (resized h h.size 0) on_storage (known_in view file) on_storage' (known_of h file.caches on_storage')) where
+  module _ (on_storage' : Bytes) (writes : WritesHeader h (resized_places h h.size 0) on_storage (known_in view file) on_storage' (known_of h file.caches on_storage')) where
     cleared_guarded : CrashInvariant h' (order_of file.caches) p on_storage' (known_of h file.caches on_storage')
     cleared_guarded = (header_is_written.same_size (state_in view file p) on_storage' (known_of h file.caches on_storage') 0 kept.guarded writes).sound
 
@@ -49,10 +49,10 @@ module _ {S F : Type 0} (view : S → StorageView) (backing : F → BackingView)
     reftable_still = resized_reftable view p file fresh.sound h.size 0 on_storage' writes
 
     cleared_settled : AreSettled h' (refblocks file.caches) on_storage'
-    cleared_settled = placed_settled view p p file fresh.sound (resized h h.size 0) on_storage' writes cleared_guarded l1_still reftable_still
+    cleared_settled = placed_settled view p p file fresh.sound (resized_places h h.size 0) on_storage' writes cleared_guarded l1_still reftable_still
 
     cleared_sound : CacheInvariant h' p file.caches on_storage'
-    cleared_sound = placed_sound view p p file fresh.sound (resized h h.size 0) on_storage' writes cleared_guarded l1_still reftable_still
+    cleared_sound = placed_sound view p p file fresh.sound (resized_places h h.size 0) on_storage' writes cleared_guarded l1_still reftable_still
 
   pub stays_cleared : (storage : ImageStorage S) → (view (storage_of storage)).is_honest → (view (storage_of storage)).contents ≡ autoclear_cleared (view_in view file).contents
       → header (byte_at (autoclear_cleared (view_in view file).contents)) ≡ without_autoclear (header (byte_at (view_in view file).contents))
@@ -60,8 +60,8 @@ module _ {S F : Type 0} (view : S → StorageView) (backing : F → BackingView)
       → StaysFresh view backing p file (record file { storage = storage; header = with_fields file.header (without_autoclear file.header.fields) })
   stays_cleared storage honest same fields there =
       let on_storage' : Bytes = byte_at (view (storage_of storage)).contents in
-      let writes : WritesHeader h (resized h h.size 0) on_storage (known_in view file) on_storage' (known_of h file.caches on_storage') =
-      subst (λ (c : List ℕ). WritesHeader h (resized h h.size 0) on_storage (known_in view file) (byte_at c) (known_of h file.caches (byte_at c))) (sym same)
+      let writes : WritesHeader h (resized_places h h.size 0) on_storage (known_in view file) on_storage' (known_of h file.caches on_storage') =
+      subst (λ (c : List ℕ). WritesHeader h (resized_places h h.size 0) on_storage (known_in view file) (byte_at c) (known_of h file.caches (byte_at c))) (sym same)
       (autoclear_beside h (order_of file.caches) p (l2_tables file.caches) (refblocks file.caches) (view_in view file).contents kept (with_fields file.header h') fields there) in record {
         fresh = record {
           sound = record { honest = honest; caches = cleared_sound on_storage' writes; settled = cleared_settled on_storage' writes; room = fresh.sound.room };

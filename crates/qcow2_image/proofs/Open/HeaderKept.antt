@@ -7,7 +7,7 @@ use Rattle.qcow2_metadata.specs.Header.{cluster_size}
 use Rattle.qcow2_metadata.specs.Entries.{l1_entry, reftable_entry}
 use Rattle.qcow2_laws.specs.Caches.{HasBlock, AreSettled}
 use Rattle.qcow2_laws.specs.CrashInvariant.{Pending, CrashInvariant}
-use Rattle.qcow2_laws.specs.Tops.{Places, WritesHeader, with_places, resized}
+use Rattle.qcow2_laws.specs.Tops.{Places, WritesHeader, with_places, resized_places}
 use Rattle.qcow2_laws.proofs.Headers.{header_l1, header_reftable}
 use Rattle.qcow2_alloc.specs.declared.image_file.ImageFile.{ImageFile}
 use Rattle.qcow2_alloc.specs.ImageFile.{contents_in, known_in, FileInvariant}
@@ -40,15 +40,15 @@ module _ {S : Type 0} (view : S → StorageView) (p p' : Pending) (file : ImageF
 
 -- ---- the size, and the autoclear bits
 module _ {S : Type 0} (view : S → StorageView) (p : Pending) (file : ImageFile S) (sound : FileInvariant view p file) (size autoclear : ℕ) (on_storage' : Bytes)
-    (writes : WritesHeader file.header.fields (resized file.header.fields size autoclear) (contents_in view file) (known_in view file) on_storage' (known_of file.header.fields file.caches on_storage')) where
-  pub resized_l1 : (i : ℕ) → l1_entry (with_places file.header.fields (resized file.header.fields size autoclear)) on_storage' i ≡ l1_entry file.header.fields (contents_in view file) i
+    (writes : WritesHeader file.header.fields (resized_places file.header.fields size autoclear) (contents_in view file) (known_in view file) on_storage' (known_of file.header.fields file.caches on_storage')) where
+  pub resized_l1 : (i : ℕ) → l1_entry (with_places file.header.fields (resized_places file.header.fields size autoclear)) on_storage' i ≡ l1_entry file.header.fields (contents_in view file) i
   unfolding l1_entry
   resized_l1 i =
       let h = file.header.fields in
-      sym (header_l1 h (resized h size autoclear) (order_of file.caches) p (contents_in view file) (known_in view file) on_storage' (known_of h file.caches on_storage') sound.caches.kept.kept.guarded writes i)
+      sym (header_l1 h (resized_places h size autoclear) (order_of file.caches) p (contents_in view file) (known_in view file) on_storage' (known_of h file.caches on_storage') sound.caches.kept.kept.guarded writes i)
 
-  pub resized_reftable : (k : ℕ) → reftable_entry (with_places file.header.fields (resized file.header.fields size autoclear)) on_storage' k ≡ reftable_entry file.header.fields (contents_in view file) k
+  pub resized_reftable : (k : ℕ) → reftable_entry (with_places file.header.fields (resized_places file.header.fields size autoclear)) on_storage' k ≡ reftable_entry file.header.fields (contents_in view file) k
   unfolding reftable_entry
   resized_reftable k =
       let h = file.header.fields in
-      sym (header_reftable h (resized h size autoclear) (order_of file.caches) p (contents_in view file) (known_in view file) on_storage' (known_of h file.caches on_storage') sound.caches.kept.kept.guarded writes k)
+      sym (header_reftable h (resized_places h size autoclear) (order_of file.caches) p (contents_in view file) (known_in view file) on_storage' (known_of h file.caches on_storage') sound.caches.kept.kept.guarded writes k)

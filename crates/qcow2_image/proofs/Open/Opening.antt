@@ -23,7 +23,7 @@ use Rattle.qcow2_laws.proofs.Opened.{opened_guarded}
 use Rattle.qcow2_laws.proofs.Places.{l1_entry-past}
 use Rattle.qcow2_alloc.specs.declared.image_file.ImageFile.{ImageFile}
 use Rattle.qcow2_alloc.specs.declared.image_storage.ImageStorage.{ImageStorage}
-use Rattle.qcow2_alloc.specs.ImageFile.{l2_pins, HasRoom, view_in, contents_in}
+use Rattle.qcow2_alloc.specs.ImageFile.{l2_pins, CachesHaveRoom, view_in, contents_in}
 use Rattle.qcow2_alloc.specs.ImageStorage.{storage_of}
 use Rattle.qcow2_alloc.specs.MetadataCaches.{refblocks, known_of, CacheInvariant}
 use Rattle.qcow2_alloc.proofs.KeptTables.Standing.{own_cluster}
@@ -131,7 +131,7 @@ module _ {S F : Type 0} (view : S → StorageView) (backing : F → BackingView)
   pub fresh_new : (contents : List ℕ) (file : ImageFile S) → IsConsistent (byte_at contents) → (view_in view file).is_honest → (view_in view file).contents ≡ contents → IsHeaderIn file.header contents
       → ((p : Pending) (on_storage : Bytes) → CrashInvariant file.header.fields Neither p on_storage on_storage → CacheInvariant file.header.fields p file.caches on_storage)
       → ((on_storage : Bytes) → known_of file.header.fields file.caches on_storage ≡ on_storage) → ((on_storage : Bytes) → AreSettled file.header.fields (refblocks file.caches) on_storage)
-      → HasRoom file.caches → ((cluster : ℕ) → l2_pins file.caches cluster ≡ 0) → file.free_list ≡ [] → IsFresh view backing (nothing_pending (surplus_of file.header.fields (byte_at contents))) file
+      → CachesHaveRoom file.caches → ((cluster : ℕ) → l2_pins file.caches cluster ≡ 0) → file.free_list ≡ [] → IsFresh view backing (nothing_pending (surplus_of file.header.fields (byte_at contents))) file
   fresh_new contents file consistent honest same there sound known settled room pins list =
       let h = file.header.fields in
       let p = nothing_pending (surplus_of file.header.fields (byte_at contents)) in

@@ -9,7 +9,7 @@ use Rattle.qcow2_metadata.specs.Cover.{cover}
 use Rattle.qcow2_metadata.specs.Header.{cluster_size}
 use Rattle.qcow2_metadata.specs.L2Table.{copied_host, zero_cover}
 use Rattle.qcow2_disk.specs.Mappings.{is_copied_data}
-use Rattle.qcow2_image.specs.Clearing.{ClearsCovers, cleared_cover, is_between}
+use Rattle.qcow2_image.specs.Clearing.{ClearsImageCovers, cover_once_cleared, is_between}
 use Rattle.qcow2_image.specs.declared.discarding.Clearance.TheVariants.{KeptZeros}
 use Rattle.qcow2_image.specs.MovedTables.{CoversStay}
 use Rattle.qcow2_image.specs.Preallocation.{FilledCovers, Touches}
@@ -81,7 +81,7 @@ module _ (cs : ℕ) (some : 0 < cs) where
     second_in : (g : ℕ) → Touches cs mid to g → Touches cs from to g
     second_in g t = let a = t.0 in let b = t.1 in (omega (arith, a, low), omega (arith, b, low), t.2)
 
-  cleared_twice : (v : L2Mapping) → cleared_cover KeptZeros (cleared_cover KeptZeros v) ≡ cleared_cover KeptZeros v
+  cleared_twice : (v : L2Mapping) → cover_once_cleared KeptZeros (cover_once_cleared KeptZeros v) ≡ cover_once_cleared KeptZeros v
   cleared_twice v = by_host (copied_host v) where
     by_host : (x : Option ℕ) → zero_cover (copied_host (zero_cover x)) ≡ zero_cover x
     by_host None = refl
@@ -98,8 +98,8 @@ module _ (cs : ℕ) (some : 0 < cs) where
       beside = λ g outside. before.beside g (λ t. outside (one g t)) ∙ then.beside g (λ t. outside (other g t));
       zeros = λ g t le. elim (touches_or x' y' g) [
         | inl second ↦ then.zeros g second le ∙ elim (touches_or x y g) [
-          | inl earlier ↦ ap (λ v. cleared_cover KeptZeros v) (before.zeros g earlier le) ∙ cleared_twice (cover a ka g)
-          | inr none ↦ ap (λ v. cleared_cover KeptZeros v) (sym (before.beside g none))
+          | inl earlier ↦ ap (λ v. cover_once_cleared KeptZeros v) (before.zeros g earlier le) ∙ cleared_twice (cover a ka g)
+          | inr none ↦ ap (λ v. cover_once_cleared KeptZeros v) (sym (before.beside g none))
         ]
         | inr none ↦ sym (then.beside g none) ∙ elim (split g t) [ inl earlier ↦ before.zeros g earlier le | inr second ↦ absurd (none second) ]
       ];
@@ -122,7 +122,7 @@ module _ (cs : ℕ) (some : 0 < cs) where
     pub stay_covers : (from to : ℕ) → CoversStay a ka b kb → FilledCovers cs first from to b kb c kc → FilledCovers cs first from to a ka c kc
     stay_covers from to same then = record {
       beside = λ g outside. same g ∙ then.beside g outside;
-      zeros = λ g t le. then.zeros g t le ∙ ap (λ v. cleared_cover KeptZeros v) (sym (same g));
+      zeros = λ g t le. then.zeros g t le ∙ ap (λ v. cover_once_cleared KeptZeros v) (sym (same g));
       copied = then.copied;
     }
 
@@ -155,12 +155,12 @@ module _ (cs : ℕ) (some : 0 < cs) where
     }
 
 -- whole clusters are cleared
-pub covers_cleared : (h h' : HeaderFields) (known known' : Bytes) (from to : ℕ) → from % cluster_size h ≡ 0 → ClearsCovers KeptZeros from to h known h' known' → FilledCovers (cluster_size h) 0 from to h known h' known'
+pub covers_cleared : (h h' : HeaderFields) (known known' : Bytes) (from to : ℕ) → from % cluster_size h ≡ 0 → ClearsImageCovers KeptZeros from to h known h' known' → FilledCovers (cluster_size h) 0 from to h known h' known'
 covers_cleared h h' known known' from to whole clears =
     let cs = cluster_size h in
     record {
-      beside = λ g outside. sym (clears g ∙ cond-false (is_between h from to g) (cleared_cover KeptZeros (cover h known g)) (cover h known g) (not_between g outside));
-      zeros = λ g t le. clears g ∙ cond-true (is_between h from to g) (cleared_cover KeptZeros (cover h known g)) (cover h known g)
+      beside = λ g outside. sym (clears g ∙ cond-false (is_between h from to g) (cover_once_cleared KeptZeros (cover h known g)) (cover h known g) (not_between g outside));
+      zeros = λ g t le. clears g ∙ cond-true (is_between h from to g) (cover_once_cleared KeptZeros (cover h known g)) (cover h known g)
           (and_from _ _ (le-leb from (g * cluster_size h) (reach (cluster_size h) (pow_pos h.cluster_bits) from g whole t.1)) (lt-ltb (g * cluster_size h) to t.2));
       copied = λ g t lt. absurd (omega (arith, lt));
     }

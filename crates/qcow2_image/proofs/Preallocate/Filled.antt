@@ -9,7 +9,7 @@ use Rattle.qcow2_disk.specs.Found.{rest_of_table}
 use Rattle.std.proofs.lemmas.Bool.{cases_lt}
 use Rattle.qcow2_disk.specs.AbstractImages.{Guest, guest_of}
 use Rattle.qcow2_disk.specs.Calls.{Works, with_disk}
-use Rattle.qcow2_disk.specs.Disk.{Disk, zeroed}
+use Rattle.qcow2_disk.specs.Disk.{Disk, zeroed_between}
 use Rattle.qcow2_disk.specs.Stops.{GivenBytes}
 use Rattle.qcow2_disk.proofs.Compose.{works_less, works_then}
 use Rattle.qcow2_alloc.specs.ImageError.{IsFault as FaultOfTables}
@@ -129,7 +129,7 @@ module _ {S F : Type 0} (view : S → StorageView) (backing : F → BackingView)
     fills_then first then = record {
       works = works_then (abstract_of view backing a out) (abstract_of view backing b out) (abstract_of view backing c out) (gift_of_zeros from to ∷ []) [] first.sound (wider_works a b from mid from to (omega arith) high first.works) (wider_works b c mid to from to low (omega arith) then.works);
       sound = then.sound;
-      shows = then.shows ∙ ap (λ (g : Guest). with_disk g (zeroed g.disk mid to)) first.shows ∙ ap (λ (d : Disk). with_disk (guest_of (abstract_of view backing a out)) d) (zeroed_then (disk_of view backing a) from mid to low high);
+      shows = then.shows ∙ ap (λ (g : Guest). with_disk g (zeroed_between g.disk mid to)) first.shows ∙ ap (λ (d : Disk). with_disk (guest_of (abstract_of view backing a out)) d) (zeroed_then (disk_of view backing a) from mid to low high);
       header = moves_then a.file.header.fields b.file.header.fields c.file.header.fields first.header then.header;
       covers = covers_then (cluster_size a.file.header.fields) (pow_pos a.file.header.fields.cluster_bits) zeros a.file.header.fields (known_in view a.file) b.file.header.fields (known_in view b.file) c.file.header.fields (known_in view c.file) from mid to low high first.covers
           (as_large mid to first.header then.covers);
@@ -140,7 +140,7 @@ module _ {S F : Type 0} (view : S → StorageView) (backing : F → BackingView)
     fills_before first then = record {
       works = works_then (abstract_of view backing a out) (abstract_of view backing b out) (abstract_of view backing c out) (gift_of_zeros from to ∷ []) [] first.sound (wider_works a b mid to from to low (omega arith) first.works) (wider_works b c from mid from to (omega arith) high then.works);
       sound = then.sound;
-      shows = then.shows ∙ ap (λ (g : Guest). with_disk g (zeroed g.disk from mid)) first.shows ∙ ap (λ (d : Disk). with_disk (guest_of (abstract_of view backing a out)) d) (zeroed_before (disk_of view backing a) from mid to low high);
+      shows = then.shows ∙ ap (λ (g : Guest). with_disk g (zeroed_between g.disk from mid)) first.shows ∙ ap (λ (d : Disk). with_disk (guest_of (abstract_of view backing a out)) d) (zeroed_before (disk_of view backing a) from mid to low high);
       header = moves_then a.file.header.fields b.file.header.fields c.file.header.fields first.header then.header;
       covers = covers_before (cluster_size a.file.header.fields) (pow_pos a.file.header.fields.cluster_bits) zeros a.file.header.fields (known_in view a.file) b.file.header.fields (known_in view b.file) c.file.header.fields (known_in view c.file) from mid to low high first.covers
           (as_large from mid first.header then.covers);
@@ -153,7 +153,7 @@ module _ {S F : Type 0} (view : S → StorageView) (backing : F → BackingView)
       works = works_then (abstract_of view backing a out) (abstract_of view backing b out) (abstract_of view backing c out) (gift_of_zeros from to ∷ []) [] first.sound (wider_works a b x y from to low high first.works) (wider_works b c x' y' from to low' high' then.works);
       sound = then.sound;
       now = then.now;
-      may = may_then from to (disk_of view backing a) (zeroed (disk_of view backing a) x y) then.now (may_wider x y from to (disk_of view backing a) (zeroed (disk_of view backing a) x y) low high (may_zeroed x y (disk_of view backing a)))
+      may = may_then from to (disk_of view backing a) (zeroed_between (disk_of view backing a) x y) then.now (may_wider x y from to (disk_of view backing a) (zeroed_between (disk_of view backing a) x y) low high (may_zeroed x y (disk_of view backing a)))
           (subst (λ (d : Disk). MayBeZero from to d then.now) (ap (λ (g : Guest). g.disk) first.shows) (may_wider x' y' from to (disk_of view backing b) then.now low' high' then.may));
       shows = then.shows ∙ ap (λ (g : Guest). with_disk g then.now) first.shows;
     }

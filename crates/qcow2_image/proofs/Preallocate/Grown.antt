@@ -11,7 +11,7 @@ use Rattle.qcow2_metadata.specs.Guest.{Value, known_byte}
 use Rattle.qcow2_metadata.specs.Header.{cluster_size, rounded_up}
 use Rattle.qcow2_disk.specs.AbstractImages.{guest_of}
 use Rattle.qcow2_disk.specs.Calls.{shows_old, with_disk}
-use Rattle.qcow2_disk.specs.Disk.{Disk, zeroed}
+use Rattle.qcow2_disk.specs.Disk.{Disk, zeroed_between}
 use Rattle.qcow2_disk.specs.Mappings.{gift_shown}
 use Rattle.qcow2_disk.specs.Stops.{GivenBytes, IsGiven}
 use Rattle.qcow2_disk.proofs.Compose.{works_less}
@@ -81,7 +81,7 @@ module _ {S F : Type 0} (view : S → StorageView) (backing : F → BackingView)
   }
 
   module _ (hides : shows_old mode ≡ false) where
-    gifts_are : gifts_of_growing view backing old size mode ≡ gift_shown (zeroed d d.size end) d.size end ∷ []
+    gifts_are : gifts_of_growing view backing old size mode ≡ gift_shown (zeroed_between d d.size end) d.size end ∷ []
     gifts_are = cond-false _ _ _ (ap (λ b. b || shows_old mode) (lt-leb size d.size more) ∙ hides)
 
     given_zeros : (o : ℕ) (w : Value) → IsGiven (gift_of_zeros (size_of old) end ∷ []) o w → IsGiven (gifts_of_growing view backing old size mode) o w
@@ -93,7 +93,7 @@ module _ {S F : Type 0} (view : S → StorageView) (backing : F → BackingView)
       grown_all first begins part = record {
         works = works_less (abstract_of view backing old out) (abstract_of view backing new out) (gift_of_zeros (size_of old) end ∷ []) (gifts_of_growing view backing old size mode) [] (λ o w given. inr (given_zeros o w given)) part.works;
         sound = part.sound;
-        shows = part.shows ∙ ap (λ (e : Disk). with_disk (guest_of (abstract_of view backing old out)) e) (ap (λ n. zeroed d n end) size_is ∙ sym (cond-false (shows_old mode) d (zeroed d d.size end) hides));
+        shows = part.shows ∙ ap (λ (e : Disk). with_disk (guest_of (abstract_of view backing old out)) e) (ap (λ n. zeroed_between d n end) size_is ∙ sym (cond-false (shows_old mode) d (zeroed_between d d.size end) hides));
         header = part.header;
         covers = record {
           filled = λ _. subst (λ f. FilledCovers (cluster_size old.file.header.fields) f (size_of old) end old.file.header.fields (known_in view old.file) new.file.header.fields (known_in view new.file)) begins part.covers;

@@ -24,7 +24,7 @@ use Rattle.qcow2_alloc.specs.ImageFile.{contents_in, known_in, view_in}
 use Rattle.qcow2_alloc.specs.ImageStorage.{storage_of}
 use Rattle.qcow2_image.specs.declared.image.Qcow2.{Qcow2}
 use Rattle.qcow2_image.specs.declared.prepared.Prepared.{Prepared}
-use Rattle.qcow2_image.specs.CallParts.{AreCopied, EntersAll, IsEntered, IsReadied, IsWritten, PutsPart, RefusedCall, StaysBeside, WritesBytes}
+use Rattle.qcow2_image.specs.CallParts.{AreCopied, EntersAll, IsEntered, IsReadied, IsWriteOutcome, PutsPart, RefusedCall, StaysBeside, WritesBytes}
 use Rattle.qcow2_image.specs.Calls.{Discards}
 use Rattle.qcow2_image.specs.Ranges.{LetsGo}
 use Rattle.qcow2_image.specs.declared.prepared.Share.TheVariants.{InPlace}
@@ -192,13 +192,13 @@ module _ {S F : Type 0} (view : S → StorageView) (backing : F → BackingView)
 
     -- zeros are written
     module _ (storage : ImageStorage S) (honest : (view (storage_of storage)).is_honest) (time : Passing (view_in view mid.file) (view (storage_of storage)) (λ c. c ≡ (view (storage_of storage)).contents)) where
-      pub zeros_put : (r : Result (Unit {0}) ImageError) → IsWritten r (view_in view mid.file).contents (overwritten (view_in view mid.file).contents p.offset (zeros_of p.length)) (view (storage_of storage)).contents
+      pub zeros_put : (r : Result (Unit {0}) ImageError) → IsWriteOutcome r (view_in view mid.file).contents (overwritten (view_in view mid.file).contents p.offset (zeros_of p.length)) (view (storage_of storage)).contents
           → PutsPart view backing mid (record mid { file = record mid.file { storage = storage } }) (Some p ∷ out) 0 p 0 (zeros_of p.length) r
       zeros_put r is =
           let all = long in
           let at : p.offset ≡ p.offset + 0 = omega arith in
           puts_written view backing (Some p ∷ out) 0 p 0 (zeros_of p.length) refl mid ready.sound (omega (arith, all)) in_place storage honest time r
-          (subst (λ k. IsWritten r (view_in view mid.file).contents (overwritten (view_in view mid.file).contents k (zeros_of p.length)) (view (storage_of storage)).contents) at is)
+          (subst (λ k. IsWriteOutcome r (view_in view mid.file).contents (overwritten (view_in view mid.file).contents k (zeros_of p.length)) (view (storage_of storage)).contents) at is)
 
       -- what stands for each guest cluster stays
       pub zeros_covers : (view (storage_of storage)).contents ≡ overwritten (view_in view mid.file).contents p.offset (zeros_of p.length)
@@ -296,7 +296,7 @@ module _ {S F : Type 0} (view : S → StorageView) (backing : F → BackingView)
         let storage = mid2.file.storage in
         subst (λ (image : Qcow2 S F). PutsPart view backing mid image (Some p ∷ out) 0 p 0 (zeros_of p.length) r) (sym w.rest)
         (zeros_put out old mid p from n sound ready answered all_fits storage (w.honest ready.sound.file.honest) w.time r
-        (subst (λ k. IsWritten r contents (overwritten contents p.offset (zeros_of k)) (view_in view mid2.file).contents) all_counted (w.written ready.sound.file.honest)))
+        (subst (λ k. IsWriteOutcome r contents (overwritten contents p.offset (zeros_of k)) (view_in view mid2.file).contents) all_counted (w.written ready.sound.file.honest)))
 
     pub all_header : (mid2 : Qcow2 S F) (r : Result (Unit {0}) ImageError) → WritesBytes view mid mid2 p.offset (replicate count 0) r → mid2.file.header ≡ mid.file.header
     all_header mid2 r w = ap (λ (image : Qcow2 S F). image.file.header) w.rest

@@ -4,7 +4,7 @@ use Rattle.std.proofs.lemmas.Bool.{cond-false, ne_eqb}
 use mathlib.Core.Path.{fun_ext}
 use Rattle.image_access.proofs.Passing.{passes_none}
 use Rattle.qcow2_metadata.specs.Guest.{Value}
-use Rattle.qcow2_disk.specs.Disk.{Disk, disk, zeroed}
+use Rattle.qcow2_disk.specs.Disk.{Disk, disk, zeroed_between}
 use Rattle.qcow2_disk.specs.Mappings.{PreparedMapping, IsPrepared, committed, gift_of_commit, gift_of_put, put_disk, put_mapping}
 use Rattle.qcow2_disk.specs.Stops.{GivenBytes, IsGiven}
 use Rattle.qcow2_disk.specs.AbstractImages.{Abstraction, AbstractImage, Guest, HasFreePlaces, abstract_image, guest_of}
@@ -124,7 +124,7 @@ module _ {D P : Type 0} (spec : Abstraction D P) (has : HasFreePlaces spec) (in_
         pub filled_sound : spec.is_sound d3 out
         filled_sound = has.left d3 [] out sound3
 
-        pub filled_shows : guest_of (abstract_image spec d3 out) ≡ with_disk (guest_of (abstract_image spec d0 out)) (zeroed disk0 offset end)
+        pub filled_shows : guest_of (abstract_image spec d3 out) ≡ with_disk (guest_of (abstract_image spec d0 out)) (zeroed_between disk0 offset end)
         filled_shows =
             ap behind_first commit_is ∙ behind_slot (with_disk (guest_of (at_place d2 (Some p) out)) (committed (guest_of (at_place d2 (Some p) out)).disk (spec.means d2 p))) None
             ∙ ap (λ (x : PreparedMapping). with_disk (behind_first (guest_of (at_place d2 (Some p) out))) (committed (guest_of (at_place d2 (Some p) out)).disk x)) means_is

@@ -7,7 +7,7 @@ use Rattle.qcow2_metadata.specs.Header.{cluster_size}
 use Rattle.qcow2_alloc.specs.declared.error.ImageError.{ImageError}
 use Rattle.qcow2_image.specs.declared.image.Qcow2.{Qcow2}
 use Rattle.qcow2_image.specs.declared.prepared.Prepared.{Prepared}
-use Rattle.qcow2_image.specs.Image.{Stays}
+use Rattle.qcow2_image.specs.Image.{ImageStays}
 use Rattle.qcow2_image.specs.ImageInvariant.{ImageInvariant, abstract_of, pending_in}
 use Rattle.qcow2_image.specs.MovedTables.{MovesTables}
 use Rattle.qcow2_image.specs.Preallocation.{FillsPart, IsWholeRange, RefusedFill}
@@ -15,10 +15,10 @@ use Rattle.qcow2_image.proofs.Call.Called.{works_none}
 use Rattle.qcow2_image.proofs.Preallocate.Filled.{fills_none, fills_then, refused_after}
 
 module _ {S F : Type 0} where
-  pub stays_none : (image : Qcow2 S F) → Stays image image
+  pub stays_none : (image : Qcow2 S F) → ImageStays image image
   stays_none image = record { image = record { number = refl; size = refl; writable = refl; external = refl }; failed = refl }
 
-  pub stays_on : (a b c : Qcow2 S F) → Stays a b → Stays b c → Stays a c
+  pub stays_on : (a b c : Qcow2 S F) → ImageStays a b → ImageStays b c → ImageStays a c
   stays_on a b c first then = record {
     image = record { number = then.image.number ∙ first.image.number; size = then.image.size ∙ first.image.size; writable = then.image.writable ∙ first.image.writable; external = then.image.external ∙ first.image.external };
     failed = then.failed ∙ first.failed;
@@ -40,7 +40,7 @@ was_at h h' n moves is = sym (ap (λ s. n % s) (same_size h h' moves)) ∙ is
 module _ {S F : Type 0} (view : S → StorageView) (backing : F → BackingView) (from to : ℕ) where
   -- so far zeros stand in a range, up to the start of a cluster
   pub record ZeroedTo (at : ℕ) (old now : Qcow2 S F) : Type 0 where
-    pub stays : Stays old now
+    pub stays : ImageStays old now
     pub low : from ≤ at
     pub high : at ≤ max from to
     pub so_far : (out : List (Option Prepared)) → ImageInvariant view backing (pending_in view backing old out) old out → from ≤ to → IsWholeRange old.file.header.fields from to → 3 ≤ old.file.header.fields.version
@@ -55,7 +55,7 @@ module _ {S F : Type 0} (view : S → StorageView) (backing : F → BackingView)
   }
 
   module _ (at : ℕ) (old now new : Qcow2 S F) (lt : at < to) (before : ZeroedTo at old now) where
-    pub zeroed_next : (next : ℕ) → Stays now new → at ≤ next → next ≤ max at to
+    pub zeroed_next : (next : ℕ) → ImageStays now new → at ≤ next → next ≤ max at to
         → ((out : List (Option Prepared)) → ImageInvariant view backing (pending_in view backing now out) now out → IsWholeRange now.file.header.fields at to → next % cluster_size now.file.header.fields ≡ 0)
         → ((out : List (Option Prepared)) → ImageInvariant view backing (pending_in view backing now out) now out → at ≤ to → IsWholeRange now.file.header.fields at to → 3 ≤ now.file.header.fields.version → FillsPart view backing 0 at next now new out)
         → ZeroedTo next old new
@@ -85,7 +85,7 @@ module _ {S F : Type 0} (view : S → StorageView) (backing : F → BackingView)
 
   -- so far zeros stand in a range, which has clusters of its own
   pub record FilledTo (at : ℕ) (old now : Qcow2 S F) : Type 0 where
-    pub stays : Stays old now
+    pub stays : ImageStays old now
     pub low : from ≤ at
     pub high : at ≤ max from to
     pub so_far : (out : List (Option Prepared)) → ImageInvariant view backing (pending_in view backing old out) old out → to % cluster_size old.file.header.fields ≡ 0 → FillsPart view backing to from at old now out
@@ -94,7 +94,7 @@ module _ {S F : Type 0} (view : S → StorageView) (backing : F → BackingView)
   filled_first old = record { stays = stays_none old; low = omega arith; high = omega arith; so_far = λ out sound whole. fills_none view backing out old to from sound (works_none (abstract_of view backing old out) sound) }
 
   module _ (at : ℕ) (old now new : Qcow2 S F) (lt : at < to) (before : FilledTo at old now) where
-    pub filled_next : (next : ℕ) → Stays now new → at < next → next ≤ to
+    pub filled_next : (next : ℕ) → ImageStays now new → at < next → next ≤ to
         → ((out : List (Option Prepared)) → ImageInvariant view backing (pending_in view backing now out) now out → to % cluster_size now.file.header.fields ≡ 0 → FillsPart view backing to at next now new out) → FilledTo next old new
     filled_next next stays more most fills = let low = before.low in record {
       stays = stays_on old now new before.stays stays;

@@ -7,7 +7,7 @@ use mathlib.Core.Path.{fun_ext}
 use Rattle.qcow2_metadata.specs.Bytes.{byte_at, is_within}
 use Rattle.qcow2_metadata.specs.Guest.{Value, known_byte}
 use Rattle.qcow2_metadata.specs.Header.{rounded_down}
-use Rattle.qcow2_disk.specs.Disk.{Disk, with_bytes, zeroed}
+use Rattle.qcow2_disk.specs.Disk.{Disk, with_bytes, zeroed_between}
 use Rattle.qcow2_disk.specs.Mappings.{PreparedMapping, IsPrepared, committed, gift_of_commit, gift_of_put, gift_shown, put_disk, put_mapping}
 use Rattle.qcow2_disk.specs.Stops.{IsGiven}
 use Rattle.qcow2_disk.proofs.ForUsers.{laid_inside, laid_outside, put_given}
@@ -24,12 +24,12 @@ cases_range from to o = elim (cases_lt o from) [
 same_disk : (d e : Disk) → d.size ≡ e.size → ((o : ℕ) → d.value o ≡ e.value o) → d ≡ e
 same_disk d e size values = ap (λ n. record d { size = n }) size ∙ ap (λ (f : ℕ → Value). record e { value = f }) (fun_ext values)
 
-pub zero_in : (d : Disk) (from to o : ℕ) → from ≤ o → o < to → (zeroed d from to).value o ≡ known_byte 0
+pub zero_in : (d : Disk) (from to o : ℕ) → from ≤ o → o < to → (zeroed_between d from to).value o ≡ known_byte 0
 zero_in d from to o low high =
     let at : from + (o - from) ≡ o = omega (arith, low) in
-    subst (λ k. (zeroed d from to).value k ≡ known_byte 0) at (laid_inside from (to - from) (λ i. known_byte 0) d.value (o - from) (omega (arith, low, high)))
+    subst (λ k. (zeroed_between d from to).value k ≡ known_byte 0) at (laid_inside from (to - from) (λ i. known_byte 0) d.value (o - from) (omega (arith, low, high)))
 
-pub zero_out : (d : Disk) (from to o : ℕ) → (o < from) ⊎ (to ≤ o) → (zeroed d from to).value o ≡ d.value o
+pub zero_out : (d : Disk) (from to o : ℕ) → (o < from) ⊎ (to ≤ o) → (zeroed_between d from to).value o ≡ d.value o
 zero_out d from to o (inl below) = laid_outside from (to - from) (λ i. known_byte 0) d.value o (inl below)
 zero_out d from to o (inr past) = elim (cases_lt o from) [
   | inl below ↦ laid_outside from (to - from) (λ i. known_byte 0) d.value o (inl below)
@@ -37,15 +37,15 @@ zero_out d from to o (inr past) = elim (cases_lt o from) [
 ]
 
 -- of nothing, nothing is zero
-pub zeroed_none : (d : Disk) (from to : ℕ) → to ≤ from → zeroed d from to ≡ d
+pub zeroed_none : (d : Disk) (from to : ℕ) → to ≤ from → zeroed_between d from to ≡ d
 zeroed_none d from to le = same_disk _ _ refl (λ o. zero_out d from to o (elim (cases_lt o from) [ inl below ↦ inl below | inr above ↦ inr (omega (arith, le, above)) ]))
 
 -- two parts of a range, in either order
 module _ (d : Disk) (from mid to : ℕ) (low : from ≤ mid) (high : mid ≤ to) where
-  pub zeroed_then : zeroed (zeroed d from mid) mid to ≡ zeroed d from to
+  pub zeroed_then : zeroed_between (zeroed_between d from mid) mid to ≡ zeroed_between d from to
   zeroed_then = same_disk _ _ refl (λ o. elim (cases_range mid to o) [
-    | inl second ↦ zero_in (zeroed d from mid) mid to o second.0 second.1 ∙ sym (zero_in d from to o (omega (arith, low, second.0)) second.1)
-    | inr outside ↦ zero_out (zeroed d from mid) mid to o outside ∙ elim (cases_range from mid o) [
+    | inl second ↦ zero_in (zeroed_between d from mid) mid to o second.0 second.1 ∙ sym (zero_in d from to o (omega (arith, low, second.0)) second.1)
+    | inr outside ↦ zero_out (zeroed_between d from mid) mid to o outside ∙ elim (cases_range from mid o) [
       | inl first ↦ zero_in d from mid o first.0 first.1 ∙ sym (zero_in d from to o first.0 (omega (arith, high, first.1)))
       | inr none ↦ zero_out d from mid o none ∙ sym (zero_out d from to o (neither o outside none))
     ]
@@ -56,10 +56,10 @@ module _ (d : Disk) (from mid to : ℕ) (low : from ≤ mid) (high : mid ≤ to)
       neither o (inl lt) (inl below) = inl below
       neither o (inl lt) (inr above) = absurd (omega (arith, lt, above))
 
-  pub zeroed_before : zeroed (zeroed d mid to) from mid ≡ zeroed d from to
+  pub zeroed_before : zeroed_between (zeroed_between d mid to) from mid ≡ zeroed_between d from to
   zeroed_before = same_disk _ _ refl (λ o. elim (cases_range from mid o) [
-    | inl first ↦ zero_in (zeroed d mid to) from mid o first.0 first.1 ∙ sym (zero_in d from to o first.0 (omega (arith, high, first.1)))
-    | inr outside ↦ zero_out (zeroed d mid to) from mid o outside ∙ elim (cases_range mid to o) [
+    | inl first ↦ zero_in (zeroed_between d mid to) from mid o first.0 first.1 ∙ sym (zero_in d from to o first.0 (omega (arith, high, first.1)))
+    | inr outside ↦ zero_out (zeroed_between d mid to) from mid o outside ∙ elim (cases_range mid to o) [
       | inl second ↦ zero_in d mid to o second.0 second.1 ∙ sym (zero_in d from to o (omega (arith, low, second.0)) second.1)
       | inr none ↦ zero_out d mid to o none ∙ sym (zero_out d from to o (neither o outside none))
     ]
@@ -74,7 +74,7 @@ module _ (d : Disk) (from mid to : ℕ) (low : from ≤ mid) (high : mid ≤ to)
 pub may_none : (from to : ℕ) (d : Disk) → MayBeZero from to d d
 may_none from to d = record { size = refl; values = λ o. inl refl }
 
-pub may_zeroed : (from to : ℕ) (d : Disk) → MayBeZero from to d (zeroed d from to)
+pub may_zeroed : (from to : ℕ) (d : Disk) → MayBeZero from to d (zeroed_between d from to)
 may_zeroed from to d = record {
   size = refl;
   values = λ o. elim (cases_range from to o) [ inl inside ↦ inr (inside.0, inside.1, zero_in d from to o inside.0 inside.1) | inr outside ↦ inl (zero_out d from to o outside) ];
@@ -99,14 +99,14 @@ pub zeros_wider : (from to from' to' : ℕ) → from' ≤ from → to ≤ to' �
 zeros_wider from to from' to' low high o w (inr none) = absurd none
 zeros_wider from to from' to' low high o w (inl given) = inl (omega (arith, given.0, low), omega (arith, given.0, given.1, low, high), given.2)
 
-pub zeros_shown : (d : Disk) (from to o : ℕ) (w : Value) → IsGiven (gift_of_zeros from to ∷ []) o w → IsGiven (gift_shown (zeroed d from to) from to ∷ []) o w
+pub zeros_shown : (d : Disk) (from to o : ℕ) (w : Value) → IsGiven (gift_of_zeros from to ∷ []) o w → IsGiven (gift_shown (zeroed_between d from to) from to ∷ []) o w
 zeros_shown d from to o w (inr none) = absurd none
 zeros_shown d from to o w (inl given) =
     let low : from ≤ o = given.0 in
     let high : o < from + (to - from) = given.1 in
     inl (low, high, given.2 ∙ sym (zero_in d from to (from + (o - from)) (omega arith) (omega arith)))
 
-pub shown_zeros : (d : Disk) (from to o : ℕ) (w : Value) → IsGiven (gift_shown (zeroed d from to) from to ∷ []) o w → IsGiven (gift_of_zeros from to ∷ []) o w
+pub shown_zeros : (d : Disk) (from to o : ℕ) (w : Value) → IsGiven (gift_shown (zeroed_between d from to) from to ∷ []) o w → IsGiven (gift_of_zeros from to ∷ []) o w
 shown_zeros d from to o w (inr none) = absurd none
 shown_zeros d from to o w (inl given) =
     let low : from ≤ o = given.0 in
@@ -120,7 +120,7 @@ zeros_of n = replicate n 0
 zero_byte : (n i : ℕ) → i < n → byte_at (zeros_of n) i ≡ 0
 zero_byte n i lt = get_or-replicate n i 0 0 lt
 
-zero_bytes : (d : Disk) (from n : ℕ) → with_bytes d from (zeros_of n) ≡ zeroed d from (from + n)
+zero_bytes : (d : Disk) (from n : ℕ) → with_bytes d from (zeros_of n) ≡ zeroed_between d from (from + n)
 zero_bytes d from n =
     let long : length (zeros_of n) ≡ n = length-replicate n 0 in
     same_disk _ _ refl (λ o. elim (cases_range from (from + n) o) [
@@ -146,10 +146,10 @@ module _ (size : ℕ) (d : Disk) (m : PreparedMapping) (offset n : ℕ) (prepare
   from_is : m.from + 0 ≡ offset
   from_is = let from = prepared.from in omega (arith, from)
 
-  put_zeros : (e : Disk) → with_bytes e (m.from + 0) zeros ≡ zeroed e offset end
+  put_zeros : (e : Disk) → with_bytes e (m.from + 0) zeros ≡ zeroed_between e offset end
   put_zeros e = ap (λ k. with_bytes e k zeros) from_is ∙ zero_bytes e offset m.length
 
-  put_value : (o : ℕ) → m.is_private o ≡ false → (put_disk d m 0 zeros).value o ≡ (zeroed d offset end).value o
+  put_value : (o : ℕ) → m.is_private o ≡ false → (put_disk d m 0 zeros).value o ≡ (zeroed_between d offset end).value o
   put_value o plain = cond-false (m.is_private o) (d.value o) ((with_bytes d (m.from + 0) zeros).value o) plain ∙ ap (λ (e : Disk). e.value o) (put_zeros d)
 
   put_private : (o : ℕ) → m.is_private o ≡ true → (put_disk d m 0 zeros).value o ≡ d.value o
@@ -180,7 +180,7 @@ module _ (size : ℕ) (d : Disk) (m : PreparedMapping) (offset n : ℕ) (prepare
       never o (inl below) is = omega (arith, below, is.0)
       never o (inr past) is = let high : o < offset + min n m.length = is.1 in omega (arith, past, high)
 
-  shown_now : (o : ℕ) → m.is_private o ≡ true → (put_mapping m 0 zeros).shown o ≡ (zeroed d offset end).value o
+  shown_now : (o : ℕ) → m.is_private o ≡ true → (put_mapping m 0 zeros).shown o ≡ (zeroed_between d offset end).value o
   shown_now o private =
       let e : Disk = record d { value = m.shown } in
       cond-true (m.is_private o) ((with_bytes e (m.from + 0) zeros).value o) (m.shown o) private
@@ -190,7 +190,7 @@ module _ (size : ℕ) (d : Disk) (m : PreparedMapping) (offset n : ℕ) (prepare
         | inr outside ↦ zero_out e offset end o outside ∙ prepared.old_values o private (not_announced o outside) ∙ sym (zero_out d offset end o outside)
       ]
 
-  pub filled : committed (put_disk d m 0 zeros) (put_mapping m 0 zeros) ≡ zeroed d offset end
+  pub filled : committed (put_disk d m 0 zeros) (put_mapping m 0 zeros) ≡ zeroed_between d offset end
   filled = same_disk _ _ refl (λ o. elim (cases_Bool (m.is_private o)) [
     | inl private ↦ cond-true (m.is_private o) ((put_mapping m 0 zeros).shown o) ((put_disk d m 0 zeros).value o) private ∙ shown_now o private
     | inr plain ↦ cond-false (m.is_private o) ((put_mapping m 0 zeros).shown o) ((put_disk d m 0 zeros).value o) plain ∙ put_value o plain
@@ -220,7 +220,7 @@ module _ (size : ℕ) (d : Disk) (m : PreparedMapping) (offset n : ℕ) (prepare
       let first = rounded_down cs m.from in
       let low : rounded_down cs m.from ≤ o = given.0 in
       let back : rounded_down cs m.from + (o - rounded_down cs m.from) ≡ o = omega arith in
-      let is : w ≡ (zeroed d offset end).value o = given.2 ∙ ap (λ k. (committed (put_disk d m 0 zeros) (put_mapping m 0 zeros)).value k) back ∙ ap (λ (e : Disk). e.value o) filled in
+      let is : w ≡ (zeroed_between d offset end).value o = given.2 ∙ ap (λ k. (committed (put_disk d m 0 zeros) (put_mapping m 0 zeros)).value k) back ∙ ap (λ (e : Disk). e.value o) filled in
       elim (cases_range offset end o) [
         | inl inside ↦ inr (inl (inside.0, (let lt : o < end = inside.1 in omega arith), is ∙ zero_in d offset end o inside.0 inside.1))
         | inr outside ↦ inl (is ∙ zero_out d offset end o outside ∙ sym (put_out o outside))

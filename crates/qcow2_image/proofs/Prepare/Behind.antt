@@ -24,12 +24,12 @@ use Rattle.qcow2_image.specs.declared.image.Qcow2.{Qcow2}
 use Rattle.qcow2_image.specs.declared.prepared.Prepared.{Prepared}
 use Rattle.qcow2_image.specs.declared.prepared.Share.{Share}
 use Rattle.qcow2_image.specs.declared.prepared.Share.TheVariants.{InPlace, New}
-use Rattle.qcow2_image.specs.ImageInvariant.{run_of, of_data, of_tables, to_free, listed_run, disk_of, pending_in, cluster_of, host_of, IsNewAt, IsPending, IsReadyWith, ImageInvariant}
+use Rattle.qcow2_image.specs.ImageInvariant.{run_of, of_data, of_tables, to_free, listed_run, disk_of, pending_in, cluster_of, host_begin_of, IsNewAt, IsPending, IsReadyWith, ImageInvariant}
 use Rattle.qcow2_image.specs.CallParts.{UnseenCall}
 use Rattle.qcow2_image.specs.Ranges.{Ends, FindsBehind, IsSharedAt, MayGoOn, SharesAt, StandsBehind}
 use Rattle.qcow2_image.proofs.Call.Refused.{back_refused, goes_stays}
 use Rattle.qcow2_image.proofs.Prepare.Gaining.{following_same}
-use Rattle.qcow2_image.specs.UnseenSteps.{is_announced, pending_then, IsFilled, UnseenFillingStep}
+use Rattle.qcow2_image.specs.UnseenSteps.{is_announced, pending_with_listed, IsFilled, UnseenFillingStep}
 use Rattle.qcow2_image.proofs.Prepare.Extending.{within_as}
 use Rattle.qcow2_image.proofs.Prepare.Filling.{goes_none}
 use Rattle.qcow2_image.proofs.Shares.{place_in}
@@ -59,7 +59,7 @@ module _ {S F : Type 0} (view : S → StorageView) (backing : F → BackingView)
       let whole = may.whole in
       omega arith
 
-  pub host_is : host_of h p count ≡ p.offset + p.length
+  pub host_is : host_begin_of h p count ≡ p.offset + p.length
   host_is = let begins = pending.begins in let whole = may.whole in omega arith
 
   pub next_cluster : (p.guest + p.length) / cluster_size h ≡ cluster_of h p + count
@@ -168,10 +168,10 @@ module _ {S F : Type 0} (view : S → StorageView) (backing : F → BackingView)
     stays_covered : cover hn (known_in view new.file) (cluster_of hn p + count) ≡ mapping
     stays_covered = ap (λ c. cover hn (known_in view new.file) (c + count)) cluster_same ∙ cover_format h hn shared.gained.goes.header (known_in view new.file) (cluster_of h p + count) ∙ sym (shared.gained.goes.covers (cluster_of h p + count)) ∙ covered
 
-    host_same : host_of hn p count ≡ host_of h p count
+    host_same : host_begin_of hn p count ≡ host_begin_of h p count
     host_same = ap (λ s. p.offset - p.guest % s + count * s) size
 
-    place : run.first_cluster * cluster_size hn ≡ host_of hn p count
+    place : run.first_cluster * cluster_size hn ≡ host_begin_of hn p count
     place = ap (λ s. run.first_cluster * s) size ∙ shared.place ∙ sym host_is ∙ sym host_same
 
     stands : IsNewAt hn (known_in view new.file) (contents_in view new.file) p count (run ∷ []) dropped
@@ -187,7 +187,7 @@ module _ {S F : Type 0} (view : S → StorageView) (backing : F → BackingView)
 
     behind_as_new : StandsBehind view backing old new out n overwrite p (New (run ∷ []) dropped)
     behind_as_new = record {
-      pending = with_held (pending_then (pending_in view backing old out) old new) (run_of run);
+      pending = with_held (pending_with_listed (pending_in view backing old out) old new) (run_of run);
       goes = shared.gained.goes;
       held = λ c.
           let as_data : to_free of_data (run ∷ []) c ≡ run_of run c = ap (λ x. of_data x (run_of run c) + 0) shared.gained.kind ∙ omega arith in

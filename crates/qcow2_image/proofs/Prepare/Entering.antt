@@ -33,7 +33,7 @@ use Rattle.qcow2_alloc.proofs.Runs.{run_before, run_after, run_last}
 use Rattle.qcow2_image.specs.declared.image.Qcow2.{Qcow2}
 use Rattle.qcow2_image.specs.declared.prepared.Prepared.{Prepared}
 use Rattle.qcow2_image.specs.NewTables.{SaysKnown, MayName, replacing, NamesNew, WritesNew, EntersTable}
-use Rattle.qcow2_image.specs.UnseenSteps.{NamesOwn, UnseenStep, RefusedStep, ListGrows, pending_then}
+use Rattle.qcow2_image.specs.UnseenSteps.{NamesOwn, UnseenStep, RefusedStep, ListGrows, pending_with_listed}
 use Rattle.qcow2_image.specs.ImageInvariant.{of_data, of_tables, to_free, ImageInvariant}
 use Rattle.qcow2_image.proofs.Call.Called.{keeps_then}
 use Rattle.qcow2_image.proofs.Formats.{lists_grow, says_format}
@@ -59,11 +59,11 @@ module _ {S F : Type 0} (view : S → StorageView) (backing : F → BackingView)
   pub keeps_none : (p : Pending) (image : Qcow2 S F) → ImageInvariant view backing p image out → UnseenStep view backing p p image image out
   keeps_none p image sound = still_moved view backing image out p sound image.file.storage sound.file.honest (passes_none (view_in view image.file) _) refl
 
-  pub unlisted : (p : Pending) (old new : Qcow2 S F) → new.file.free_list ≡ old.file.free_list → p ≡ pending_then p old new
+  pub unlisted : (p : Pending) (old new : Qcow2 S F) → new.file.free_list ≡ old.file.free_list → p ≡ pending_with_listed p old new
   unlisted p old new same = sym (following_same view backing out p old new same)
 
   -- where nothing more is to be freed
-  pub as_following : (p : Pending) (old new : Qcow2 S F) → new.file.free_list ≡ old.file.free_list → UnseenStep view backing p p old new out → UnseenStep view backing p (pending_then p old new) old new out
+  pub as_following : (p : Pending) (old new : Qcow2 S F) → new.file.free_list ≡ old.file.free_list → UnseenStep view backing p p old new out → UnseenStep view backing p (pending_with_listed p old new) old new out
   as_following p old new same keeps = subst (λ (q : Pending). UnseenStep view backing p q old new out) (unlisted p old new same) keeps
 
   pub breaks_on : (p q : Pending) (a b c : Qcow2 S F) (e : ImageError) → UnseenStep view backing p q a b out → InterruptedFileStep view b.file c.file e → InterruptedFileStep view a.file c.file e
@@ -144,9 +144,9 @@ module _ {S F : Type 0} (view : S → StorageView) (backing : F → BackingView)
 
   -- a table's cluster comes to the list of those to be freed, behind what was listed since
   pub freed_table : (p : Pending) (at : ℕ) (old mid new : Qcow2 S F) (e : ClustersToFreeEntry) → ListGrows old mid → e.first_cluster ≡ at → e.count ≡ 1 → e.kind ≡ Kind.Metadata → new.file.free_list ≡ mid.file.free_list ++ e ∷ []
-      → given_up (pending_then p old mid) at ≡ pending_then p old new
+      → given_up (pending_with_listed p old mid) at ≡ pending_with_listed p old new
   freed_table p at old mid new e grows first one kind is =
-      pending_same (given_up (pending_then p old mid) at) (pending_then p old new) (λ k. refl) (λ k. refl)
+      pending_same (given_up (pending_with_listed p old mid) at) (pending_with_listed p old new) (λ k. refl) (λ k. refl)
       (λ k.
       let since = ap (λ l. to_free of_tables l k) grows.is ∙ free_more of_tables old.file.free_list grows.more k in
       let more = ap (λ l. to_free of_tables l k) is ∙ free_more of_tables mid.file.free_list (e ∷ []) k in
@@ -167,7 +167,7 @@ module _ {S F : Type 0} (view : S → StorageView) (backing : F → BackingView)
 
     -- what is pending then, beside what is taken
     abbrev since : Pending
-    since = pending_then p old taken
+    since = pending_with_listed p old taken
 
     pub none_taken : (e : ImageError) → RefusedGrowth view p old.file a file since e → RefusedStep view backing p old taken out e
     none_taken e left = elim left [

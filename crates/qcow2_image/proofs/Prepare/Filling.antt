@@ -34,8 +34,8 @@ use Rattle.qcow2_alloc.specs.MetadataCaches.{order_of}
 use Rattle.qcow2_alloc.specs.ImageFile.{state_in, view_in, contents_in, known_in, nothing_given}
 use Rattle.qcow2_image.specs.declared.image.Qcow2.{Qcow2}
 use Rattle.qcow2_image.specs.declared.prepared.Prepared.{Prepared}
-use Rattle.qcow2_image.specs.CallParts.{IsWritten, WritesBytes}
-use Rattle.qcow2_image.specs.UnseenSteps.{AreThere, UnseenStep, UnseenFillingStep, HoldsAll, IsOwn, SameHeld}
+use Rattle.qcow2_image.specs.CallParts.{IsWriteOutcome, WritesBytes}
+use Rattle.qcow2_image.specs.UnseenSteps.{AreThere, UnseenStep, UnseenFillingStep, HoldsAll, IsInHeldCluster, SameHeld}
 use Rattle.qcow2_metadata.specs.Bytes.{Bytes}
 use Rattle.qcow2_metadata.specs.Cover.{cover}
 use Rattle.qcow2_metadata.specs.declared.l2_mapping.L2Mapping.{L2Mapping}
@@ -50,7 +50,7 @@ use Rattle.qcow2_image.proofs.Map.Loading.{still_moved}
 use Rattle.qcow2_image.proofs.Write.Written.{written, writes, sound_written, since_written, same_l1_written}
 
 -- a write to the storage is there or isn't
-pub written_or_not : (r : Result (Unit {0}) ImageError) (old changed new : List ℕ) → IsWritten r old changed new → (new ≡ old) ⊎ (new ≡ changed)
+pub written_or_not : (r : Result (Unit {0}) ImageError) (old changed new : List ℕ) → IsWriteOutcome r old changed new → (new ≡ old) ⊎ (new ≡ changed)
 written_or_not (Ok done) old changed new is = inr is
 written_or_not (Err I.Storage) old changed new is = is
 written_or_not (Err I.ReadOnly) old changed new is = inl is
@@ -123,7 +123,7 @@ module _ {S F : Type 0} (view : S → StorageView) (backing : F → BackingView)
       after ∙ keeps.unseen.bytes o (omega (arith, some)) ∙ sym before
 
   -- bytes are written to a cluster that is held, and that no mapping has yet
-  module _ (old : Qcow2 S F) (p : Pending) (sound : ImageInvariant view backing p old out) (cluster at : ℕ) (bytes : List ℕ) (own : IsOwn view backing p old out cluster at (length bytes))
+  module _ (old : Qcow2 S F) (p : Pending) (sound : ImageInvariant view backing p old out) (cluster at : ℕ) (bytes : List ℕ) (own : IsInHeldCluster view backing p old out cluster at (length bytes))
       (storage : ImageStorage S) (honest : (view (storage_of storage)).is_honest) (time : Passing (view_in view old.file) (view (storage_of storage)) (λ c. c ≡ (view (storage_of storage)).contents))
       (is : (view (storage_of storage)).contents ≡ overwritten (view_in view old.file).contents at bytes) where
     abbrev h : HeaderFields
@@ -187,7 +187,7 @@ module _ {S F : Type 0} (view : S → StorageView) (backing : F → BackingView)
     }
 
   -- whether the write is there or isn't
-  module _ (old new : Qcow2 S F) (p : Pending) (sound : ImageInvariant view backing p old out) (cluster at : ℕ) (bytes : List ℕ) (own : IsOwn view backing p old out cluster at (length bytes)) (holds : HoldsAll view backing p out)
+  module _ (old new : Qcow2 S F) (p : Pending) (sound : ImageInvariant view backing p old out) (cluster at : ℕ) (bytes : List ℕ) (own : IsInHeldCluster view backing p old out cluster at (length bytes)) (holds : HoldsAll view backing p out)
       (r : Result (Unit {0}) ImageError) (w : WritesBytes view old new at bytes r) where
     still : (view_in view new.file).contents ≡ (view_in view old.file).contents → UnseenFillingStep view backing p p old (record old { file = record old.file { storage = new.file.storage } }) out
     still same = goes_kept old (record old { file = record old.file { storage = new.file.storage } }) p p sound holds holds (still_moved view backing old out p sound new.file.storage (w.honest sound.file.honest) w.time same)
@@ -198,7 +198,7 @@ module _ {S F : Type 0} (view : S → StorageView) (backing : F → BackingView)
 
 -- a range of the same length in an image of the same file
 pub own_of : {S F : Type 0} (view : S → StorageView) (backing : F → BackingView) (p : Pending) (old new : Qcow2 S F) (out : List (Option Prepared)) (cluster at n m : ℕ) → m ≡ n → new.file.header ≡ old.file.header
-    → IsOwn view backing p old out cluster at n → IsOwn view backing p new out cluster at m
+    → IsInHeldCluster view backing p old out cluster at n → IsInHeldCluster view backing p new out cluster at m
 own_of view backing p old new out cluster at n m same file own = record {
   held = own.held;
   unused = own.unused;

@@ -30,7 +30,7 @@ use Rattle.qcow2_image.specs.declared.prepared.Prepared.{Prepared}
 use Rattle.qcow2_alloc.specs.LowestRuns.{IsUsed}
 use Rattle.qcow2_metadata.specs.L2Mapping.{IsHostCluster}
 use Rattle.qcow2_image.specs.Ranges.{TakesDataAt}
-use Rattle.qcow2_image.specs.UnseenSteps.{pending_then, is_announced, IsFilled, UnseenFillingStep, RefusedFillingStep, HoldsAll, ListGrows, TakesData}
+use Rattle.qcow2_image.specs.UnseenSteps.{pending_with_listed, is_announced, IsFilled, UnseenFillingStep, RefusedFillingStep, HoldsAll, ListGrows, TakesData}
 use Rattle.qcow2_image.specs.ImageInvariant.{run_of, of_data, of_tables, to_free, held_by, over_all, disk_of, ImageInvariant}
 use Rattle.qcow2_image.proofs.Formats.{lists_grow}
 use Rattle.qcow2_image.proofs.Prepare.Filling.{goes_kept, goes_then}
@@ -41,11 +41,11 @@ use Rattle.qcow2_image.proofs.Sound.{free_more}
 
 module _ {S F : Type 0} (view : S → StorageView) (backing : F → BackingView) (out : List (Option Prepared)) where
   -- with the same list all is pending that was
-  pub following_same : (p : Pending) (old new : Qcow2 S F) → new.file.free_list ≡ old.file.free_list → pending_then p old new ≡ p
+  pub following_same : (p : Pending) (old new : Qcow2 S F) → new.file.free_list ≡ old.file.free_list → pending_with_listed p old new ≡ p
   following_same p old new list = same_list p old.file.free_list new.file.free_list list
 
   -- with the list of another image what is pending is the same
-  pub following_on : (p : Pending) (old mid new : Qcow2 S F) → new.file.free_list ≡ mid.file.free_list → pending_then p old mid ≡ pending_then p old new
+  pub following_on : (p : Pending) (old mid new : Qcow2 S F) → new.file.free_list ≡ mid.file.free_list → pending_with_listed p old mid ≡ pending_with_listed p old new
   following_on p old mid new list = ap (λ l. since_listed p old.file.free_list l) (sym list)
 
   -- ---- by the allocator
@@ -55,7 +55,7 @@ module _ {S F : Type 0} (view : S → StorageView) (backing : F → BackingView)
 
     -- what is pending then, beside what is taken
     abbrev since : Pending
-    since = pending_then p old taken
+    since = pending_with_listed p old taken
 
     -- from what is pending to what is
     goes_moved : (q : Pending) → HoldsAll view backing q out → UnseenFileGrowth view p q old.file file → HasReftable view file a.reftable → UnseenFillingStep view backing p q old taken out
@@ -135,11 +135,11 @@ module _ {S F : Type 0} (view : S → StorageView) (backing : F → BackingView)
     }
 
   -- what is pending then is what was before, with that
-  after_is : (start old : Qcow2 S F) (p : Pending) (n : ClustersToFreeEntry) (one : n.count ≡ 1) (kind : n.kind ≡ Kind.Data) (sound : ImageInvariant view backing (with_held (pending_then p start old) (run_of n)) old out) → ListGrows start old
-      → after old (pending_then p start old) n one kind sound ≡ pending_then p start (left old (pending_then p start old) n one kind sound)
+  after_is : (start old : Qcow2 S F) (p : Pending) (n : ClustersToFreeEntry) (one : n.count ≡ 1) (kind : n.kind ≡ Kind.Data) (sound : ImageInvariant view backing (with_held (pending_with_listed p start old) (run_of n)) old out) → ListGrows start old
+      → after old (pending_with_listed p start old) n one kind sound ≡ pending_with_listed p start (left old (pending_with_listed p start old) n one kind sound)
   after_is start old p n one kind sound grows =
-      let final = left old (pending_then p start old) n one kind sound in
-      pending_same (after old (pending_then p start old) n one kind sound) (pending_then p start final)
+      let final = left old (pending_with_listed p start old) n one kind sound in
+      pending_same (after old (pending_with_listed p start old) n one kind sound) (pending_with_listed p start final)
       (λ k. omega arith)
       (λ k. refl)
       (λ k.
@@ -155,17 +155,17 @@ module _ {S F : Type 0} (view : S → StorageView) (backing : F → BackingView)
       (λ k. refl)
 
   -- all of it
-  pub goes_left : (start old : Qcow2 S F) (p : Pending) (n : ClustersToFreeEntry) (one : n.count ≡ 1) (kind : n.kind ≡ Kind.Data) → (goes : UnseenFillingStep view backing p (with_held (pending_then p start old) (run_of n)) start old out)
-      → let end = left old (pending_then p start old) n one kind goes.sound in UnseenFillingStep view backing p (pending_then p start end) start end out
+  pub goes_left : (start old : Qcow2 S F) (p : Pending) (n : ClustersToFreeEntry) (one : n.count ≡ 1) (kind : n.kind ≡ Kind.Data) → (goes : UnseenFillingStep view backing p (with_held (pending_with_listed p start old) (run_of n)) start old out)
+      → let end = left old (pending_with_listed p start old) n one kind goes.sound in UnseenFillingStep view backing p (pending_with_listed p start end) start end out
   goes_left start old p n one kind goes =
-      let q = pending_then p start old in
+      let q = pending_with_listed p start old in
       let end = left old q n one kind goes.sound in
       subst (λ r. UnseenFillingStep view backing p r start end out) (after_is start old p n one kind goes.sound goes.list)
       (goes_then view backing out start old end p (with_held q (run_of n)) (after old q n one kind goes.sound) goes (goes_handed_back old q n one kind goes.sound))
 
   -- ---- a cluster that was taken is new
-  module _ (old mid : Qcow2 S F) (p : Pending) (n : ClustersToFreeEntry) (one : n.count ≡ 1) (holds : HoldsAll view backing p out) (goes : UnseenFillingStep view backing p (with_held (pending_then p old mid) (run_of n)) old mid out) where
-    pub taken_held : 0 < (with_held (pending_then p old mid) (run_of n)).held n.first_cluster
+  module _ (old mid : Qcow2 S F) (p : Pending) (n : ClustersToFreeEntry) (one : n.count ≡ 1) (holds : HoldsAll view backing p out) (goes : UnseenFillingStep view backing p (with_held (pending_with_listed p old mid) (run_of n)) old mid out) where
+    pub taken_held : 0 < (with_held (pending_with_listed p old mid) (run_of n)).held n.first_cluster
     taken_held = let once = run_in n.first_cluster n.count n.first_cluster (omega arith) (omega (arith, one)) in omega arith
 
     pub taken_unused : over_all held_by out n.first_cluster ≡ 0
@@ -177,7 +177,7 @@ module _ {S F : Type 0} (view : S → StorageView) (backing : F → BackingView)
         let all = holds n.first_cluster in
         omega arith
 
-    pub still_holds : HoldsAll view backing (with_held (pending_then p old mid) (run_of n)) out
+    pub still_holds : HoldsAll view backing (with_held (pending_with_listed p old mid) (run_of n)) out
     still_holds k = let h = holds k in omega arith
 
 -- what was filled in an image of the same format that shows the same disk

@@ -27,7 +27,7 @@ use Rattle.qcow2_image.specs.declared.prepared.Share.{Share}
 use Rattle.qcow2_image.specs.declared.prepared.Share.TheVariants.{Kept}
 use Rattle.qcow2_image.specs.Image.{number_of}
 use Rattle.qcow2_image.specs.CallParts.{IsReadied}
-use Rattle.qcow2_image.specs.ImageInvariant.{abstract_of, cluster_of, held_in, host_of, is_private, meaning, of_data, of_tables, pending_in, pins_by, place_of, share_of, to_free, IsKeptAt, IsPending, IsReadyWith, ImageInvariant}
+use Rattle.qcow2_image.specs.ImageInvariant.{abstract_of, cluster_of, held_in, host_begin_of, is_private, meaning, of_data, of_tables, pending_in, pins_by, place_of, share_of, to_free, IsKeptAt, IsPending, IsReadyWith, ImageInvariant}
 use Rattle.qcow2_image.specs.Ranges.{BeginsInKept, MayGoOn, StandsBehind}
 use Rattle.qcow2_image.specs.UnseenSteps.{HoldsTable, IsFilled, IsKeptAlone, Pins, UnseenFillingStep}
 use Rattle.qcow2_image.proofs.Apart.{pins_own}
@@ -93,7 +93,7 @@ module _ {S F : Type 0} (view : S → StorageView) (backing : F → BackingView)
     unpinned_now : l2_pins mid.file.caches table ≡ 0
     unpinned_now = ap (λ (c : MetadataCaches S). l2_pins c table) caches ∙ unpinned
 
-    begin : host_of hm ready 0 ≡ host
+    begin : host_begin_of hm ready 0 ≡ host
     begin = omega arith
 
     first_cluster : cluster_of hm ready + 0 ≡ offset / cluster_size hm
@@ -106,7 +106,7 @@ module _ {S F : Type 0} (view : S → StorageView) (backing : F → BackingView)
     whole : host / cluster_size old.file.header.fields * cluster_size old.file.header.fields ≡ host
     whole = host_whole view backing out old old before sound offset host length overwrite kept
 
-    place : host / cluster_size old.file.header.fields * cluster_size hm ≡ host_of hm ready 0
+    place : host / cluster_size old.file.header.fields * cluster_size hm ≡ host_begin_of hm ready 0
     place = ap (λ s. host / cluster_size old.file.header.fields * s) size ∙ whole ∙ sym begin
 
     stands : IsKeptAt hm (known_in view mid.file) (contents_in view mid.file) ready 0
@@ -198,10 +198,10 @@ module _ {S F : Type 0} (view : S → StorageView) (backing : F → BackingView)
       whole_there : host / cluster_size h * cluster_size h ≡ host
       whole_there = host_whole view backing out old old behind sound (p.guest + p.length) host n overwrite kept
 
-      host_still : host_of hn p count ≡ host
+      host_still : host_begin_of hn p count ≡ host
       host_still = ap (λ s. p.offset - p.guest % s + count * s) size_still ∙ host_is view backing old out k p at n table overwrite may sound ∙ sym host_here
 
-      place_there : host / cluster_size h * cluster_size hn ≡ host_of hn p count
+      place_there : host / cluster_size h * cluster_size hn ≡ host_begin_of hn p count
       place_there = ap (λ s. host / cluster_size h * s) size_still ∙ whole_there ∙ sym host_still
 
       cluster_there : cover hn (known_in view new.file) (cluster_of hn p + count) ≡ Zero (Some (host, true))

@@ -30,7 +30,7 @@ use Rattle.qcow2_image.specs.Found.{l1_index_of}
 use Rattle.qcow2_image.specs.ImageInvariant.{ImageInvariant}
 use Rattle.qcow2_image.specs.LongerTables.{RefusedMove}
 use Rattle.qcow2_image.specs.NewTables.{IsFaultOrKeepsL1Table, IsFaultOrLacksTable, LacksTable, MayName, OwnsTable}
-use Rattle.qcow2_image.specs.UnseenSteps.{RefusedStep, pending_then}
+use Rattle.qcow2_image.specs.UnseenSteps.{RefusedStep, pending_with_listed}
 use Rattle.qcow2_image.proofs.Backings.{pinned_by}
 use Rattle.qcow2_image.proofs.Prepare.Entering.{may_still}
 
@@ -96,7 +96,7 @@ module _ {S F : Type 0} (view : S → StorageView) (backing : F → BackingView)
       left_lacking e left kept = elim kept [
         | inl fault ↦ inl fault
         | inr same ↦ elim left [
-          | inl keeps ↦ inr (subst (MayName view new) (sym (same_index old.file.header.fields new.file.header.fields offset keeps.unseen.header)) (may_still view backing out p (pending_then p old new) old new sound keeps.sound same (l1_index_of old.file.header.fields offset) lacks))
+          | inl keeps ↦ inr (subst (MayName view new) (sym (same_index old.file.header.fields new.file.header.fields offset keeps.unseen.header)) (may_still view backing out p (pending_with_listed p old new) old new sound keeps.sound same (l1_index_of old.file.header.fields offset) lacks))
           | inr breaks ↦ inl breaks.fault
         ]
       ]

@@ -22,11 +22,11 @@ use Rattle.qcow2_alloc.specs.declared.error.ImageError.{ImageError}
 use Rattle.qcow2_image.specs.declared.image.Qcow2.{Qcow2}
 use Rattle.qcow2_image.specs.declared.prepared.Prepared.{Prepared}
 use Rattle.qcow2_image.specs.declared.prepared.Share.{Share}
-use Rattle.qcow2_image.specs.Image.{Stays}
+use Rattle.qcow2_image.specs.Image.{ImageStays}
 use Rattle.qcow2_image.specs.Calls.{Discards}
 use Rattle.qcow2_image.specs.CallParts.{IsReadied, RefusedCall, UnseenCall}
 use Rattle.qcow2_image.specs.ImageInvariant.{cluster_of, pending_in, abstract_of, meaning, IsPending, IsReadyWith, ImageInvariant}
-use Rattle.qcow2_image.specs.Ranges.{BreaksOff, Ends, HasRoom, IsExtended, IsFirst, IsLonger, IsNext, IsWhole, LetsGo, MayGoOn}
+use Rattle.qcow2_image.specs.Ranges.{BreaksOff, Ends, HasRoomForRange, IsExtended, IsFirst, IsLongerMapping, IsNext, EndsWithCluster, LetsGo, MayGoOn}
 use Rattle.qcow2_image.specs.MovedTables.{MovesTables, CoversStay}
 use Rattle.qcow2_image.proofs.Call.Answered.{same_guest}
 use Rattle.qcow2_image.proofs.Call.Slots.{get_set_same, set_same, set_set}
@@ -146,9 +146,9 @@ let_go_broken view backing start new end out k n overwrite q e free lets gone br
 
 -- the clusters so far
 pub record IsSoFar {S F : Type 0} (view : S → StorageView) (backing : F → BackingView) (old now : Qcow2 S F) (p q : Prepared) (n end table : ℕ) (overwrite : Bool) : Type 0 where
-  pub stays : Stays old now
+  pub stays : ImageStays old now
   pub header : KeepsHeader old.file.header now.file.header
-  pub longer : IsLonger old.file.header.fields n p q
+  pub longer : IsLongerMapping old.file.header.fields n p q
   pub room : p.guest % cluster_size old.file.header.fields + end < vec_capacity q.shares * cluster_size old.file.header.fields
   pub goes : (start : Qcow2 S F) (out : List (Option Prepared)) (k : ℕ) → slice_get out k ≡ Some None → p.table ≡ Some table → IsReadied view backing start old out k p.guest n overwrite p → IsReadied view backing start now out k q.guest n overwrite q
 
@@ -165,13 +165,13 @@ room_enough a clusters capacity size lt le =
     omega (arith, lt, q)
 
 -- so has a mapping that begins there
-pub room_as : (h : HeaderFields) (n offset clusters capacity : ℕ) → offset % cluster_size h + min n (rest_of_table h offset) < clusters * cluster_size h → clusters ≤ capacity → (p : Prepared) → p.guest ≡ offset → vec_capacity p.shares ≡ capacity → HasRoom h n p
+pub room_as : (h : HeaderFields) (n offset clusters capacity : ℕ) → offset % cluster_size h + min n (rest_of_table h offset) < clusters * cluster_size h → clusters ≤ capacity → (p : Prepared) → p.guest ≡ offset → vec_capacity p.shares ≡ capacity → HasRoomForRange h n p
 room_as h n offset clusters capacity lt le p guest same =
     subst (λ o. o % cluster_size h + min n (rest_of_table h o) < vec_capacity p.shares * cluster_size h) (sym guest)
     (room_enough (offset % cluster_size h + min n (rest_of_table h offset)) clusters (vec_capacity p.shares) (cluster_size h) lt (omega (arith, le, same)))
 
 pub if_room : (h : HeaderFields) (n offset table clusters capacity : ℕ) → offset % cluster_size h + min n (rest_of_table h offset) < clusters * cluster_size h → clusters ≤ capacity → (r : Result Prepared ImageError) → IfOk r (IsFirst h offset table)
-    → IfOk r (λ p. vec_capacity p.shares ≡ capacity) → IfOk r (HasRoom h n)
+    → IfOk r (λ p. vec_capacity p.shares ≡ capacity) → IfOk r (HasRoomForRange h n)
 if_room h n offset table clusters capacity lt le (Ok p) first same = room_as h n offset clusters capacity lt le p first.guest same
 if_room h n offset table clusters capacity lt le (Err e) first same = tt
 
@@ -186,7 +186,7 @@ lt_of_mul a b c lt = elim (cases_lt a b) [
 ]
 
 module _ {S F : Type 0} (view : S → StorageView) (backing : F → BackingView) where
-  pub so_far_none : (old : Qcow2 S F) (p : Prepared) (n end table : ℕ) (overwrite : Bool) → IsWhole old.file.header.fields p → HasRoom old.file.header.fields n p → end ≡ min n (rest_of_table old.file.header.fields p.guest) → IsSoFar view backing old old p p n end table overwrite
+  pub so_far_none : (old : Qcow2 S F) (p : Prepared) (n end table : ℕ) (overwrite : Bool) → EndsWithCluster old.file.header.fields p → HasRoomForRange old.file.header.fields n p → end ≡ min n (rest_of_table old.file.header.fields p.guest) → IsSoFar view backing old old p p n end table overwrite
   so_far_none old p n end table overwrite whole room bound = record {
     stays = record { image = record { number = refl; size = refl; writable = refl; external = refl }; failed = refl };
     header = header_same old.file.header old.file.header refl;
@@ -209,7 +209,7 @@ module _ {S F : Type 0} (view : S → StorageView) (backing : F → BackingView)
     guest_same = ap (λ g. g % cluster_size h) so.longer.guest
 
     module _ (less : q.length < end) where
-      whole : IsWhole h q
+      whole : EndsWithCluster h q
       whole = so.longer.whole (omega arith)
 
       pub has_room : length q.shares.items < vec_capacity q.shares
@@ -232,7 +232,7 @@ module _ {S F : Type 0} (view : S → StorageView) (backing : F → BackingView)
           }
 
       -- and it is longer
-      module _ (new : Qcow2 S F) (r : Prepared) (stays : Stays now new) (header : KeepsHeader now.file.header new.file.header) (next : IsNext now.file.header.fields n q r) (same : vec_capacity r.shares ≡ vec_capacity q.shares)
+      module _ (new : Qcow2 S F) (r : Prepared) (stays : ImageStays now new) (header : KeepsHeader now.file.header new.file.header) (next : IsNext now.file.header.fields n q r) (same : vec_capacity r.shares ≡ vec_capacity q.shares)
           (goes : (out : List (Option Prepared)) (k : ℕ) → slice_get out k ≡ Some (Some q) → MayGoOn now.file.header.fields n table q → ImageInvariant view backing (pending_in view backing now out) now out → IsExtended view backing now new out k n overwrite q r) where
         length_is : r.length ≡ min n (q.length + cluster_size h)
         length_is = ap (λ (x : Prepared). x.length) next.rest ∙ ap (λ s. min n (q.length + s)) size
@@ -240,7 +240,7 @@ module _ {S F : Type 0} (view : S → StorageView) (backing : F → BackingView)
         r_guest : r.guest ≡ q.guest
         r_guest = ap (λ (x : Prepared). x.guest) next.rest
 
-        r_whole : r.length < n → IsWhole h r
+        r_whole : r.length < n → EndsWithCluster h r
         r_whole short =
             let few : length r.shares.items ≡ length q.shares.items + 1 = ap (λ (l : List Share). length l) next.shares ∙ length_behind q.shares.items next.share in
             let all : length r.shares.items * cluster_size h ≡ length q.shares.items * cluster_size h + cluster_size h = ap (λ m. m * cluster_size h) few ∙ omega arith in

@@ -19,13 +19,13 @@ use Rattle.qcow2_alloc.specs.ImageFile.{view_in, contents_in, state_in, HasRefta
 use Rattle.qcow2_alloc.specs.ImageStorage.{storage_of}
 use Rattle.qcow2_alloc.specs.MetadataCaches.{order_of, l2_tables, refblocks, l2_at, HoldsKnown, UnseenCacheStep}
 use Rattle.qcow2_alloc.specs.Allocation.{StandAt}
-use Rattle.qcow2_alloc.specs.CacheMarks.{l2_pins, HasRoom}
+use Rattle.qcow2_alloc.specs.CacheMarks.{l2_pins, CachesHaveRoom}
 use Rattle.qcow2_alloc.specs.declared.cache.MetadataCaches.{MetadataCaches}
 use Rattle.qcow2_laws.specs.Caches.{AreClean, BlocksMayGo}
 use Rattle.qcow2_alloc.proofs.PlacedBlocks.{IsFree, covers_written, in_own, known_there, moves_rewritten, reftable_rewritten}
 use Rattle.qcow2_image.specs.declared.image.Qcow2.{Qcow2}
 use Rattle.qcow2_image.specs.declared.prepared.Prepared.{Prepared}
-use Rattle.qcow2_image.specs.NewTables.{IsStored, Places, StandsReady}
+use Rattle.qcow2_image.specs.NewTables.{IsStored, PlacesNewTable, StandsReady}
 use Rattle.qcow2_image.specs.UnseenSteps.{UnseenStep}
 use Rattle.qcow2_image.specs.ImageInvariant.{ImageInvariant}
 use Rattle.qcow2_image.proofs.Map.Loading.{caches_moved, with_caches}
@@ -96,7 +96,7 @@ module _ {S F : Type 0} (view : S → StorageView) (backing : F → BackingView)
       let there = known_there view p old.file at sound.file (free_here view backing old out p sound stored at some) in
       stands i (subst (λ n. i < n) (sym long) lt) ∙ sym (there (at * cluster_size h + i) (in_own h.cluster_bits at i lt))
 
-  module _ (storage : ImageStorage S) (caches : MetadataCaches S) (stays : UnseenCacheStep old.file.header.fields p (view_in view old.file) old.file.caches (view (storage_of storage)) caches) (room : HasRoom old.file.caches → HasRoom caches)
+  module _ (storage : ImageStorage S) (caches : MetadataCaches S) (stays : UnseenCacheStep old.file.header.fields p (view_in view old.file) old.file.caches (view (storage_of storage)) caches) (room : CachesHaveRoom old.file.caches → CachesHaveRoom caches)
       (pins : (table : ℕ) → l2_pins caches table ≡ l2_pins old.file.caches table) (blocks : AreClean (refblocks old.file.caches) → AreClean (refblocks caches))
       (first : BlocksMayGo (order_of old.file.caches) (l2_tables old.file.caches) → BlocksMayGo (order_of caches) (l2_tables caches)) where
     abbrev pub put : Qcow2 S F
@@ -123,6 +123,6 @@ module _ {S F : Type 0} (view : S → StorageView) (backing : F → BackingView)
 
 -- it is placed, or it isn't
 pub places_when : {S F : Type 0} (view : S → StorageView) (backing : F → BackingView) (old new : Qcow2 S F) (out : List (Option Prepared)) (p : Pending) (at : ℕ) (bytes : List ℕ) (r : Result (Unit {0}) ImageError)
-    → UnseenStep view backing p p old new out → OnOk r (StandsReady view new at bytes) → Places view backing p old new out at bytes r
+    → UnseenStep view backing p p old new out → OnOk r (StandsReady view new at bytes) → PlacesNewTable view backing p old new out at bytes r
 places_when view backing old new out p at _ (Ok x) keeps ready = (keeps, ready)
 places_when view backing old new out p at _ (Err e) keeps ready = keeps

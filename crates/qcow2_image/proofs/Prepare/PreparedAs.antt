@@ -29,7 +29,7 @@ use Rattle.qcow2_image.specs.Prepared.{offset_of}
 use Rattle.qcow2_image.specs.MovedTables.{MovesTables, CoversStay}
 use Rattle.qcow2_image.specs.Preparing.{IsAnswered, IsHeldAlone, IsKeptBy, IsTaken, IsWritableAt}
 use Rattle.qcow2_image.specs.Ranges.{BeginsInKept, Reaches}
-use Rattle.qcow2_image.specs.ImageInvariant.{of_data, to_free, held_by, cluster_of, host_of, is_entered, is_private, meaning, pending_in, IsPending, IsReadyWith, IsShareAt, ImageInvariant}
+use Rattle.qcow2_image.specs.ImageInvariant.{of_data, to_free, held_by, cluster_of, host_begin_of, is_entered, is_private, meaning, pending_in, IsPending, IsReadyWith, IsShareAt, ImageInvariant}
 use Rattle.qcow2_image.proofs.Call.Slots.{get_set_same}
 use Rattle.qcow2_image.proofs.Shares.{byte_cluster, byte_place, byte_share, held_at, held_once, host_cluster, never_private, over_all_at, private_is as private_share}
 
@@ -181,7 +181,7 @@ entered_as h known on_storage p i InPlace at = ap (λ v. not (is_copied_data v))
 entered_as h known on_storage p i Kept at = ap (λ v. not (is_copied_data v)) (sym at.entry)
 entered_as h known on_storage p i (New taken dropped) at = ap not (sym at.entry)
 
-in_place_as : (h : HeaderFields) (known on_storage : Bytes) (p : Prepared) (i : ℕ) (share : Share) → is_entered share ≡ false → IsShareAt h known on_storage p i share → cover h known (cluster_of h p + i) ≡ Data (host_of h p i) true
+in_place_as : (h : HeaderFields) (known on_storage : Bytes) (p : Prepared) (i : ℕ) (share : Share) → is_entered share ≡ false → IsShareAt h known on_storage p i share → cover h known (cluster_of h p + i) ≡ Data (host_begin_of h p i) true
 in_place_as h known on_storage p i InPlace isnt at = at
 in_place_as h known on_storage p i Kept isnt at = absurd (let e : true ≡ false = isnt in cc)
 in_place_as h known on_storage p i (New taken dropped) isnt at = absurd (let e : true ≡ false = isnt in cc)
@@ -207,7 +207,7 @@ module _ {S F : Type 0} (view : S → StorageView) (backing : F → BackingView)
     here : (p.guest + i) / cluster_size h ≡ cluster_of h p + index
     here = let none : p.guest + 0 + i ≡ p.guest + i = omega arith in ap (λ o. o / cluster_size h) (sym none) ∙ byte_cluster h p now (contents_in view image.file) reaches.under.0 pending 0 i p.length (omega arith) lt
 
-    place : p.offset + i ≡ host_of h p index + (p.guest + i) % cluster_size h
+    place : p.offset + i ≡ host_begin_of h p index + (p.guest + i) % cluster_size h
     place =
         let none : p.guest + 0 + i ≡ p.guest + i = omega arith in
         let is = byte_place h p now (contents_in view image.file) reaches.under.0 pending 0 i p.length (omega arith) lt in
@@ -221,12 +221,12 @@ module _ {S F : Type 0} (view : S → StorageView) (backing : F → BackingView)
     private_is = private_share view backing image p (p.guest + i) index its.0 here its.1
 
     is_in_place : is_private view backing image p (p.guest + i) ≡ false → IsDataAt h now true (p.guest + i) (p.offset + i)
-    is_in_place isnt = (host_of h p index, ap (cover h now) here ∙ in_place_as h now (contents_in view image.file) p index its.0 (sym private_is ∙ isnt) stands, sym place)
+    is_in_place isnt = (host_begin_of h p index, ap (cover h now) here ∙ in_place_as h now (contents_in view image.file) p index its.0 (sym private_is ∙ isnt) stands, sym place)
 
-    cluster_is : (first : ℕ) → first * cluster_size h ≡ host_of h p index → (p.offset + i) / cluster_size h ≡ first
+    cluster_is : (first : ℕ) → first * cluster_size h ≡ host_begin_of h p index → (p.offset + i) / cluster_size h ≡ first
     cluster_is first at = ap (λ o. o / cluster_size h) place ∙ host_cluster h p index first at (p.guest + i)
 
-    rest_is : (first : ℕ) → first * cluster_size h ≡ host_of h p index → (p.offset + i) % cluster_size h ≡ (p.guest + i) % cluster_size h
+    rest_is : (first : ℕ) → first * cluster_size h ≡ host_begin_of h p index → (p.offset + i) % cluster_size h ≡ (p.guest + i) % cluster_size h
     rest_is first at = ap (λ o. o % cluster_size h) (place ∙ ap (λ b. b + (p.guest + i) % cluster_size h) (sym at)) ∙ mod-mul-add first (cluster_size h) ((p.guest + i) % cluster_size h) (mod_below (p.guest + i) (cluster_size h) (pow_pos h.cluster_bits))
 
     -- what isn't in place lies at the same byte of a cluster that is held alone, or that its zero entry keeps

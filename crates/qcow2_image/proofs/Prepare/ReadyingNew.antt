@@ -33,8 +33,8 @@ use Rattle.qcow2_alloc.specs.declared.clusters_to_free.ClustersToFreeEntry.{Clus
 use Rattle.qcow2_image.specs.Found.{l1_index_of, l2_index_of}
 use Rattle.qcow2_image.specs.Image.{number_of}
 use Rattle.qcow2_image.specs.CallParts.{IsReadied}
-use Rattle.qcow2_image.specs.UnseenSteps.{is_announced, IsFilled, UnseenFillingStep, RefusedFillingStep, HoldsAll, HoldsTable, IsGained, UnseenStep, Pins, SameHeld, pending_then}
-use Rattle.qcow2_image.specs.ImageInvariant.{run_of, to_free, of_data, of_tables, held_in, listed_run, disk_of, pending_in, abstract_of, meaning, is_entered, is_private, cluster_of, host_of, place_of, IsNewAt, IsShareAt, ImageInvariant}
+use Rattle.qcow2_image.specs.UnseenSteps.{is_announced, IsFilled, UnseenFillingStep, RefusedFillingStep, HoldsAll, HoldsTable, IsGained, UnseenStep, Pins, SameHeld, pending_with_listed}
+use Rattle.qcow2_image.specs.ImageInvariant.{run_of, to_free, of_data, of_tables, held_in, listed_run, disk_of, pending_in, abstract_of, meaning, is_entered, is_private, cluster_of, host_begin_of, place_of, IsNewAt, IsShareAt, ImageInvariant}
 use Rattle.qcow2_image.proofs.Shares.{place_in, private_shared}
 use Rattle.qcow2_image.proofs.Formats.{entry_at_format, l1_shared}
 use Rattle.qcow2_image.proofs.Prepare.Gaining.{following_same, still_holds, taken_held}
@@ -143,7 +143,7 @@ module _ {S F : Type 0} (view : S → StorageView) (backing : F → BackingView)
       let p = mapping_at old.file.header.fields (number_of old) table offset host like in
       let q = pending_in view backing old out in
       let goes = goes_none view backing out old q sound in
-      let begin : host_of old.file.header.fields (mapping_at old.file.header.fields (number_of old) table offset host like) 0 ≡ host = omega arith in
+      let begin : host_begin_of old.file.header.fields (mapping_at old.file.header.fields (number_of old) table offset host like) 0 ≡ host = omega arith in
       let first : cluster_of old.file.header.fields (mapping_at old.file.header.fields (number_of old) table offset host like) + 0 ≡ offset / cluster_size old.file.header.fields = omega arith in
       let stands : IsShareAt old.file.header.fields (known_in view old.file) (contents_in view old.file) (mapping_at old.file.header.fields (number_of old) table offset host like) 0 InPlace =
       ap (cover old.file.header.fields (known_in view old.file)) first ∙ is ∙ ap (λ b. Data b true) (sym begin) in
@@ -159,14 +159,14 @@ module _ {S F : Type 0} (view : S → StorageView) (backing : F → BackingView)
   module _ (old filled mid : Qcow2 S F) (n : ClustersToFreeEntry) (mapping : L2Mapping) (reach : IsInReach mapping) (other : is_copied_data mapping ≡ false) (taken dropped : List ClustersToFreeEntry) (taken_is : taken ≡ n ∷ []) (dropped_is : dropped ≡ listed_run (named_run old.file.header.fields.cluster_bits mapping)) (like : Prepared) (one : like.shares.items ≡ New taken dropped ∷ []) (k offset length table host : ℕ) (overwrite : Bool) (free : slice_get out k ≡ Some None) (sound : ImageInvariant view backing (pending_in view backing old out) old out)
       (holds : HoldsTable view backing old offset table) (unpinned : l2_pins old.file.caches table ≡ 0) (covered : cover old.file.header.fields (known_in view old.file) (offset / cluster_size old.file.header.fields) ≡ mapping)
       (gained : IsGained view backing (pending_in view backing old out) old filled out offset length overwrite mapping n) (nameable : IsHostCluster old.file.header.fields.cluster_bits n.first_cluster)
-      (keeps : UnseenStep view backing (with_held (pending_then (pending_in view backing old out) old filled) (run_of n)) (with_held (pending_then (pending_in view backing old out) old filled) (run_of n)) filled mid out)
+      (keeps : UnseenStep view backing (with_held (pending_with_listed (pending_in view backing old out) old filled) (run_of n)) (with_held (pending_with_listed (pending_in view backing old out) old filled) (run_of n)) filled mid out)
       (list : mid.file.free_list ≡ filled.file.free_list) (found : IsSome (l2_at mid.file.caches table)) (host_is : host ≡ n.first_cluster * cluster_size mid.file.header.fields)
-      (same : SameHeld view backing (with_held (pending_then (pending_in view backing old out) old filled) (run_of n)) filled mid) where
+      (same : SameHeld view backing (with_held (pending_with_listed (pending_in view backing old out) old filled) (run_of n)) filled mid) where
     abbrev before : Pending
     before = pending_in view backing old out
 
     abbrev q : Pending
-    q = with_held (pending_then before old filled) (run_of n)
+    q = with_held (pending_with_listed before old filled) (run_of n)
 
     all_held : HoldsAll view backing before out
     all_held c = omega arith

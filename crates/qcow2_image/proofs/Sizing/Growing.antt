@@ -11,7 +11,7 @@ use Rattle.qcow2_metadata.specs.declared.header.HeaderFields.{HeaderFields}
 use Rattle.qcow2_metadata.specs.EntryTable.{entry_count}
 use Rattle.qcow2_metadata.specs.Header.{cluster_size, header, with_size}
 use Rattle.qcow2_disk.specs.AbstractImages.{Guest, Setting, guest_of}
-use Rattle.qcow2_disk.specs.Calls.{IsFault, IsSame, MayGrow, Refuses, Works, gift_of_grow, with_disk}
+use Rattle.qcow2_disk.specs.Calls.{IsRefusalByFault, IsSame, MayGrow, Refuses, Works, gift_of_grow, with_disk}
 use Rattle.qcow2_disk.specs.Disk.{Disk}
 use Rattle.qcow2_disk.specs.Stops.{GivenBytes}
 use Rattle.qcow2_disk.proofs.Compose.{works_less, works_then}
@@ -134,7 +134,7 @@ module _ {S F : Type 0} (view : S → StorageView) (backing : F → BackingView)
             | inr broke ↦ subst (λ (f : Bool). Works (abstract_of view backing old out) (abstract_of view backing (record filled { is_failed = f }) out) gifts []) (sym (fault broke.fault)) (behind out call (record filled { is_failed = true }) broke.works)
           ]
 
-      part_answer : (out : List (Option Prepared)) → ImageInvariant view backing (pending_in view backing old out) old out → ((abstract_of view backing final out).is_sound × May final out) ⊎ (IsFault (refusal_of e) × IsTrue marked)
+      part_answer : (out : List (Option Prepared)) → ImageInvariant view backing (pending_in view backing old out) old out → ((abstract_of view backing final out).is_sound × May final out) ⊎ (IsRefusalByFault (refusal_of e) × IsTrue marked)
       part_answer out sound =
           let call = longer out sound in
           elim (left out call.sound).left [

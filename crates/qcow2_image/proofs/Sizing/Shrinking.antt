@@ -11,7 +11,7 @@ use Rattle.qcow2_metadata.specs.Bytes.{byte_at}
 use Rattle.qcow2_metadata.specs.Guest.{Value, known_byte}
 use Rattle.qcow2_metadata.specs.Header.{HeaderView, header, cluster_size, rounded_up, with_fields, with_size}
 use Rattle.qcow2_disk.specs.AbstractImages.{AbstractImage, Guest, Setting, guest_of}
-use Rattle.qcow2_disk.specs.Calls.{IsFault, IsSame, IsShrinkEnd, IsShrunk, Works, with_disk}
+use Rattle.qcow2_disk.specs.Calls.{IsRefusalByFault, IsSame, IsShrinkEnd, IsShrunk, Works, with_disk}
 use Rattle.qcow2_disk.specs.Disk.{Disk, shrunk}
 use Rattle.qcow2_disk.specs.Stops.{GivenBytes, IsGiven}
 use Rattle.qcow2_disk.proofs.Compose.{works_less, works_then}
@@ -41,7 +41,7 @@ use Rattle.qcow2_image.proofs.Sizes.{disk_size}
 use Rattle.qcow2_image.proofs.Sizing.Tails.{end_so_far, given_as, given_below, given_is, mono_up, none_below, none_between, shown_below, uncovers_none, uncovers_still, uncovers_then, works_asking}
 
 -- ---- refusals
-pub fault_of : (e : ImageError) → IsFault (refusal_of e) → IsFaultOfTables e
+pub fault_of : (e : ImageError) → IsRefusalByFault (refusal_of e) → IsFaultOfTables e
 fault_of I.Storage is = inl refl
 fault_of I.Memory is = inr refl
 fault_of I.ReadOnly is = absurd is
@@ -64,9 +64,9 @@ fault_of I.Metadata is = absurd is
 fault_of I.Overflow is = absurd is
 fault_of (I.StillInUse tables) is = absurd is
 
-pub of_fault : (e : ImageError) → IsFaultOfTables e → IsFault (refusal_of e)
-of_fault e (inl is) = subst (λ (x : ImageError). IsFault (refusal_of x)) (sym is) tt
-of_fault e (inr is) = subst (λ (x : ImageError). IsFault (refusal_of x)) (sym is) tt
+pub of_fault : (e : ImageError) → IsFaultOfTables e → IsRefusalByFault (refusal_of e)
+of_fault e (inl is) = subst (λ (x : ImageError). IsRefusalByFault (refusal_of x)) (sym is) tt
+of_fault e (inr is) = subst (λ (x : ImageError). IsRefusalByFault (refusal_of x)) (sym is) tt
 
 -- one that is no fault marks nothing
 pub marks_nothing : (e : ImageError) (before now : Bool) → (IsFaultOfTables e → ⊥) → failed_after e before now → now ≡ before
@@ -307,7 +307,7 @@ module _ {S F : Type 0} (view : S → StorageView) (backing : F → BackingView)
 
       -- where nothing was uncovered, all is as it was
       unmarked : (out : List (Option Prepared)) → cluster_size new.file.header.fields ≡ cluster_size old.file.header.fields → ImageInvariant view backing (pending_in view backing new out) new out × ShowsBelow view backing size at old new out × Ends → (f : Bool) → marked ≡ f
-          → ((abstract_of view backing final out).is_sound × IsSame (abstract_of view backing old out) (abstract_of view backing final out)) ⊎ (IsFault (refusal_of e) × IsTrue marked)
+          → ((abstract_of view backing final out).is_sound × IsSame (abstract_of view backing old out) (abstract_of view backing final out)) ⊎ (IsRefusalByFault (refusal_of e) × IsTrue marked)
       unmarked out sizes still true is = inr (of_fault e fault, is)
       unmarked out sizes still false is =
           let same : new ≡ record new { is_failed = marked } = ap (λ (f : Bool). record new { is_failed = f }) (still.0.works ∙ sym is) in
@@ -319,7 +319,7 @@ module _ {S F : Type 0} (view : S → StorageView) (backing : F → BackingView)
                 (still.1 ∙ ap (λ e. with_disk (guest_of (abstract_of view backing old out)) e) (none_below x d first (boundary_in old at - first) (omega (arith, none)))),
           )
 
-      left_answer : (out : List (Option Prepared)) → Left out → ((abstract_of view backing final out).is_sound × IsSame (abstract_of view backing old out) (abstract_of view backing final out)) ⊎ (IsFault (refusal_of e) × IsTrue marked)
+      left_answer : (out : List (Option Prepared)) → Left out → ((abstract_of view backing final out).is_sound × IsSame (abstract_of view backing old out) (abstract_of view backing final out)) ⊎ (IsRefusalByFault (refusal_of e) × IsTrue marked)
       left_answer out (inl (works, still)) = unmarked out (ap (λ (s : Setting). s.cluster_size) works.setting) still marked refl
       left_answer out (inr (so, works)) = inr (of_fault e fault, so)
 

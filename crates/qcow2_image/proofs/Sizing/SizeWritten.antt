@@ -21,7 +21,7 @@ use Rattle.qcow2_disk.specs.Disk.{disk, disk_with}
 use Rattle.qcow2_disk.specs.Stops.{SafeThroughout, StopOkEverywhere, checkpoint_with}
 use Rattle.qcow2_laws.specs.CrashInvariant.{Pending}
 use Rattle.qcow2_laws.specs.SafeSteps.{SafeStep}
-use Rattle.qcow2_laws.specs.Tops.{WritesHeader, resized}
+use Rattle.qcow2_laws.specs.Tops.{WritesHeader, resized_places}
 use Rattle.qcow2_laws.specs.Unseen.{SameUsedBytes, used_by_guests}
 use Rattle.qcow2_laws.proofs.Headers.{header_elsewhere, header_fixed, header_l1, header_known_l1, header_known_covers}
 use Rattle.qcow2_laws.proofs.Mixes.{tied}
@@ -102,7 +102,7 @@ module _ {S F : Type 0} (view : S → StorageView) (backing : F → BackingView)
   changed = size_written (with_size old.file.header.fields size) (view_in view old.file).contents
 
   -- what is there where it is written
-  leads_at : (b : Bytes) → WritesHeader h (resized h size h.autoclear) on_storage known b (known_of h old.file.caches b)
+  leads_at : (b : Bytes) → WritesHeader h (resized_places h size h.autoclear) on_storage known b (known_of h old.file.caches b)
       → SafeStep (state_in view old.file p) (record (state_in view old.file p) { header = with_size h size; on_storage = b; known = known_of h old.file.caches b }) nothing_given (size ∷ [])
   leads_at b writes = header_is_written.size (state_in view old.file p) b (known_of h old.file.caches b) size h.autoclear sound.file.caches.kept.kept.guarded writes
 
@@ -120,8 +120,8 @@ module _ {S F : Type 0} (view : S → StorageView) (backing : F → BackingView)
     abbrev pub sized : Qcow2 S F
     sized = record old { file = record old.file { storage = storage; header = with_fields old.file.header (with_size old.file.header.fields size) } }
 
-    writes_now : WritesHeader h (resized h size h.autoclear) on_storage known (contents_in view sized.file) (known_of h old.file.caches (contents_in view sized.file))
-    writes_now = subst (λ (c : List ℕ). WritesHeader h (resized h size h.autoclear) on_storage known (byte_at c) (known_of h old.file.caches (byte_at c))) (sym is) (size_writes view p old.file sound.file size fits)
+    writes_now : WritesHeader h (resized_places h size h.autoclear) on_storage known (contents_in view sized.file) (known_of h old.file.caches (contents_in view sized.file))
+    writes_now = subst (λ (c : List ℕ). WritesHeader h (resized_places h size h.autoclear) on_storage known (byte_at c) (known_of h old.file.caches (byte_at c))) (sym is) (size_writes view p old.file sound.file size fits)
 
     pub leads_now : SafeStep (state_in view old.file p) (state_in view sized.file p) nothing_given (size ∷ [])
     leads_now = leads_at (contents_in view sized.file) writes_now
@@ -137,13 +137,13 @@ module _ {S F : Type 0} (view : S → StorageView) (backing : F → BackingView)
 
     -- the L1 entries and what stands for guest clusters stay
     l1_now : (i : ℕ) → l1_entry h (contents_in view sized.file) i ≡ l1_entry h on_storage i
-    l1_now i = sym (header_l1 h (resized h size h.autoclear) (order_of old.file.caches) p on_storage known (contents_in view sized.file) (known_in view sized.file) sound.file.caches.kept.kept.guarded writes_now i)
+    l1_now i = sym (header_l1 h (resized_places h size h.autoclear) (order_of old.file.caches) p on_storage known (contents_in view sized.file) (known_in view sized.file) sound.file.caches.kept.kept.guarded writes_now i)
 
     known_l1_now : (i : ℕ) → l1_entry h known i ≡ l1_entry h (known_in view sized.file) i
-    known_l1_now i = header_known_l1 h (resized h size h.autoclear) (order_of old.file.caches) p on_storage known (contents_in view sized.file) (known_in view sized.file) sound.file.caches.kept.kept.guarded writes_now i
+    known_l1_now i = header_known_l1 h (resized_places h size h.autoclear) (order_of old.file.caches) p on_storage known (contents_in view sized.file) (known_in view sized.file) sound.file.caches.kept.kept.guarded writes_now i
 
     covers_now : (g : ℕ) → cover h known g ≡ cover h (known_in view sized.file) g
-    covers_now g = header_known_covers h (resized h size h.autoclear) (order_of old.file.caches) p on_storage known (contents_in view sized.file) (known_in view sized.file) sound.file.caches.kept.kept.guarded writes_now g
+    covers_now g = header_known_covers h (resized_places h size h.autoclear) (order_of old.file.caches) p on_storage known (contents_in view sized.file) (known_in view sized.file) sound.file.caches.kept.kept.guarded writes_now g
 
     pub covers_stay : CoversStay h known sized.file.header.fields (known_in view sized.file)
     covers_stay g = covers_now g ∙ cover_sized h size (known_in view sized.file) g
@@ -158,8 +158,8 @@ module _ {S F : Type 0} (view : S → StorageView) (backing : F → BackingView)
           works = sound.works;
           file = record {
             honest = honest;
-            caches = placed_sound view p p old.file sound.file (resized h size h.autoclear) (contents_in view sized.file) writes_now leads_now.sound l1 blocks;
-            settled = placed_settled view p p old.file sound.file (resized h size h.autoclear) (contents_in view sized.file) writes_now leads_now.sound l1 blocks;
+            caches = placed_sound view p p old.file sound.file (resized_places h size h.autoclear) (contents_in view sized.file) writes_now leads_now.sound l1 blocks;
+            settled = placed_settled view p p old.file sound.file (resized_places h size h.autoclear) (contents_in view sized.file) writes_now leads_now.sound l1 blocks;
             room = sound.file.room;
           };
           l1_table = record { cluster = sound.l1_table.cluster; bits = sound.l1_table.bits; count = sound.l1_table.count; entries = λ i. sound.l1_table.entries i ∙ sym (l1 i) };
@@ -177,7 +177,7 @@ module _ {S F : Type 0} (view : S → StorageView) (backing : F → BackingView)
     -- what guests use stands elsewhere than the header
     used_bytes : SameUsedBytes (state_in view old.file p) (state_in view sized.file p)
     used_bytes = table_bytes (state_in view old.file p) (state_in view sized.file p) sound.file.caches.kept.kept.guarded 0
-        (header_fixed h (resized h size h.autoclear) (order_of old.file.caches) p on_storage known (contents_in view sized.file) (known_in view sized.file) sound.file.caches.kept.kept.guarded writes_now) writes_now.known_others
+        (header_fixed h (resized_places h size h.autoclear) (order_of old.file.caches) p on_storage known (contents_in view sized.file) (known_in view sized.file) sound.file.caches.kept.kept.guarded writes_now) writes_now.known_others
 
     disk_now : (below : Bytes) → disk (known_in view sized.file) below ≡ record (disk known below) { size = size }
     unfolding disk_with
@@ -199,7 +199,7 @@ module _ {S F : Type 0} (view : S → StorageView) (backing : F → BackingView)
     -- the same bytes stand where mappings have theirs
     module _ (holds : HoldsAll view backing p out) where
       elsewhere : (o : ℕ) → 0 < used_by_guests (state_in view old.file p) (o / cluster_size h) → o / cluster_size h ≢ 0
-      elsewhere o some = header_elsewhere h (resized h size h.autoclear) (order_of old.file.caches) p on_storage known (contents_in view sized.file) (known_in view sized.file) sound.file.caches.kept.kept.guarded writes_now o
+      elsewhere o some = header_elsewhere h (resized_places h size h.autoclear) (order_of old.file.caches) p on_storage known (contents_in view sized.file) (known_in view sized.file) sound.file.caches.kept.kept.guarded writes_now o
           (let t = (tied h p on_storage known (o / cluster_size h)).known in omega arith)
 
       place_now : (k : ℕ) (q : Prepared) → slice_get out k ≡ Some (Some q) → (o : ℕ) → IsTrue (is_private view backing old q o) → contents_in view sized.file (place_of h q o) ≡ contents_in view old.file (place_of h q o)

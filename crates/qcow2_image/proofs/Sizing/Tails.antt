@@ -11,7 +11,7 @@ use Rattle.qcow2_metadata.specs.Bytes.{Bytes, byte_at}
 use Rattle.qcow2_metadata.specs.Guest.{Value, known_byte}
 use Rattle.qcow2_metadata.specs.declared.header.HeaderFields.{HeaderFields}
 use Rattle.qcow2_metadata.specs.Header.{cluster_size, entries_per_cluster, rounded_up, rounded_down}
-use Rattle.qcow2_disk.specs.AbstractImages.{AbstractImage, Guest, Setting, guest_of, contents_of}
+use Rattle.qcow2_disk.specs.AbstractImages.{AbstractImage, Guest, Setting, guest_of, stored_bytes}
 use Rattle.qcow2_disk.specs.Calls.{IsShrinkEnd, Works, with_disk}
 use Rattle.qcow2_disk.specs.Disk.{Disk, with_values}
 use Rattle.qcow2_disk.specs.Rules.{answered, touched_to}
@@ -230,7 +230,7 @@ works_asking old new gs asked w = record {
   surplus = w.surplus;
   stops = λ m starts. let s = w.stops m starts in record {
     moments = passes_if (λ c. StopOkEverywhere old.setting.backing (checkpoint_with gs asked m) (byte_at c)) (λ c k. more m (byte_at c) k) s.moments;
-    contents = more m (contents_of new) s.contents;
+    contents = more m (stored_bytes new) s.contents;
     known = λ h. more m new.known (s.known h);
   };
 }

@@ -22,7 +22,7 @@ use Rattle.qcow2_disk.specs.Disk.{Disk, disk, with_bytes}
 use Rattle.qcow2_laws.specs.CrashInvariant.{Pending}
 use Rattle.qcow2_laws.specs.Guests.{names}
 use Rattle.qcow2_laws.specs.GuestLaws.{Hosting, IsHostedAt, IsHeld, IsGivenAt, WritesRun}
-use Rattle.qcow2_laws.specs.GuestLaws.{InPlace as HostedInPlace, Kept as HostedKept, Held as HostedHeld, is_private as is_hosted_privately}
+use Rattle.qcow2_laws.specs.GuestLaws.{InPlace as HostedInPlace, Kept as HostedKept, Held as HostedHeld, is_private_hosting as is_hosted_privately}
 use Rattle.qcow2_disk.specs.Mappings.{PreparedMapping, gift_of_put, put_mapping, put_disk}
 use Rattle.qcow2_disk.specs.AbstractImages.{guest_of, meaning_at}
 use Rattle.qcow2_laws.specs.SafeSteps.{DriverState}
@@ -41,7 +41,7 @@ use Rattle.qcow2_image.specs.declared.prepared.Prepared.{Prepared}
 use Rattle.qcow2_image.specs.declared.prepared.Share.{Share}
 use Rattle.qcow2_image.specs.declared.prepared.Share.TheVariants.{InPlace, Kept, New}
 use Rattle.qcow2_image.specs.CallParts.{put_guest}
-use Rattle.qcow2_image.specs.ImageInvariant.{to_free, of_data, held_by, pending_in, abstract_of, meaning, is_entered, is_new, is_private, cluster_of, place_of, share_of, host_of, backing_bytes, IsNewAt, IsShareAt, IsPending, IsReadyWith, ImageInvariant}
+use Rattle.qcow2_image.specs.ImageInvariant.{to_free, of_data, held_by, pending_in, abstract_of, meaning, is_entered, is_new, is_private, cluster_of, place_of, share_of, host_begin_of, backing_bytes, IsNewAt, IsShareAt, IsPending, IsReadyWith, ImageInvariant}
 use Rattle.qcow2_image.proofs.Apart.{apart_guests}
 use Rattle.qcow2_image.proofs.Call.Answered.{same_guest, same_mapping, same_meaning}
 use Rattle.qcow2_image.proofs.Call.Slots.{over_all_two}
@@ -121,10 +121,10 @@ module _ {S F : Type 0} (view : S → StorageView) (backing : F → BackingView)
       let mine = held_at q.shares.items j taken dropped is_share stands.first in
       omega (arith, one, mine)
 
-  hosted_share : (i j : ℕ) (share : Share) → (q.guest + at + i) / size ≡ cluster_of h q + j → q.offset + at + i ≡ host_of h q j + (q.guest + at + i) % size → slice_get q.shares.items j ≡ Some share → IsShareAt h s.known s.on_storage q j share
+  hosted_share : (i j : ℕ) (share : Share) → (q.guest + at + i) / size ≡ cluster_of h q + j → q.offset + at + i ≡ host_begin_of h q j + (q.guest + at + i) % size → slice_get q.shares.items j ≡ Some share → IsShareAt h s.known s.on_storage q j share
       → IsHostedAt s (hosted_as (Some share)) (q.guest + at + i) (q.offset + at + i) × (IsHeld (hosted_as (Some share)) → 0 < held_by q ((q.offset + at + i) / size))
-  hosted_share i j InPlace here place is_share stands = ((host_of h q j, ap (cover h s.known) here ∙ stands, sym place), λ never. absurd never)
-  hosted_share i j Kept here place is_share stands = ((host_of h q j, ap (cover h s.known) here ∙ stands.entry, sym place), λ never. absurd never)
+  hosted_share i j InPlace here place is_share stands = ((host_begin_of h q j, ap (cover h s.known) here ∙ stands, sym place), λ never. absurd never)
+  hosted_share i j Kept here place is_share stands = ((host_begin_of h q j, ap (cover h s.known) here ∙ stands.entry, sym place), λ never. absurd never)
   hosted_share i j (New taken dropped) here place is_share stands =
       let there : (q.offset + at + i) / size ≡ stands.first = ap (λ n. n / size) place ∙ host_cluster h q j stands.first stands.place (q.guest + at + i) in
       let mine = held_mine j taken dropped is_share stands in

@@ -28,7 +28,7 @@ use Rattle.qcow2_image.specs.declared.mapping.Place.TheVariants.{Image}
 use Rattle.qcow2_image.specs.declared.prepared.Prepared.{Prepared}
 use Rattle.qcow2_disk.specs.Found.{raw, kind_at}
 use Rattle.qcow2_image.specs.Found.{IsMappedAs}
-use Rattle.qcow2_image.specs.CallParts.{put_guest, IsPut, IsWritten, PutsPart}
+use Rattle.qcow2_image.specs.CallParts.{put_guest, IsPut, IsWriteOutcome, PutsPart}
 use Rattle.qcow2_image.specs.ImageInvariant.{ImageInvariant, pending_in, abstract_of, meaning}
 use Rattle.qcow2_image.proofs.Call.Called.{Quietly, quiet_works, quiet_sound, quiet_same}
 use Rattle.qcow2_image.proofs.Call.Called.{works_none}
@@ -135,7 +135,7 @@ module _ {S F : Type 0} (view : S → StorageView) (backing : F → BackingView)
       puts_still : (e : ImageError) → (view (storage_of storage)).contents ≡ (view_in view old.file).contents → PutsPart view backing old new out k p at bytes (Err e)
       puts_still e same = puts_refused old new e (record { keeps = still_moved view backing old out (pending_in view backing old out) sound storage honest time same; list = refl }) sound
 
-      pub puts_written : (r : Result (Unit {0}) ImageError) → IsWritten r (view_in view old.file).contents (overwritten (view_in view old.file).contents (p.offset + at) bytes) (view (storage_of storage)).contents
+      pub puts_written : (r : Result (Unit {0}) ImageError) → IsWriteOutcome r (view_in view old.file).contents (overwritten (view_in view old.file).contents (p.offset + at) bytes) (view (storage_of storage)).contents
           → PutsPart view backing old new out k p at bytes r
       puts_written (Ok done) is = let put = puts_changed is in record { works = put.0; sound = put.1; is = put.2 }
       puts_written (Err I.Storage) is = ⊎_elim (λ same. puts_still I.Storage same)

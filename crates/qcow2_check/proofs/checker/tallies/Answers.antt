@@ -4,7 +4,7 @@ use Rattle.qcow2_metadata.specs.Bytes.{byte_at}
 use Rattle.qcow2_metadata.specs.Entries.{l1_entry, reftable_entry, count, L1EntryReads, ReftableEntryReads}
 use Rattle.qcow2_metadata.specs.TableBytes.{entry_at}
 use Rattle.qcow2_check.specs.declared.tally.Tally.{Tally}
-use Rattle.qcow2_check.specs.Tallies.{Grows, CountsAll}
+use Rattle.qcow2_check.specs.Tallies.{TalliesGrow, CountsAll}
 use Rattle.qcow2_check.specs.Offsets.{tables_off, blocks_off, off_l2_tables, off_refblocks, data_off_below}
 use Rattle.qcow2_check.proofs.OffsetSteps.{counted_off, all_tables_off, all_blocks_off}
 use Rattle.qcow2_check.specs.Marks.{named_below, tables_below, marked_below}
@@ -71,9 +71,9 @@ returns-clause-tallies g c honest =
     let counts_are : R c.deref-5.result.now b = subst (λ t. R t b) (sym c.deref-5.ensures.value) reftable_is in
     let m2 = c.names_of_reftable.new.names.clusters in
     let m3 = c.names_of_l1_table.new.names.clusters in
-    let G : List ℕ → Type 0 = λ b. Grows m2 m3 (named_below h (byte_at b) (length l1 / 8)) (tables_below h (byte_at b) (length l1 / 8)) (marked_below h (byte_at b) (length l1 / 8)) in
+    let G : List ℕ → Type 0 = λ b. TalliesGrow m2 m3 (named_below h (byte_at b) (length l1 / 8)) (tables_below h (byte_at b) (length l1 / 8)) (marked_below h (byte_at b) (length l1 / 8)) in
     let C : List ℕ → Type 0 = λ b. CountsAll m3 c.counts_of_reftable.new.names.clusters (count h (byte_at b)) in
-    let T : List ℕ → Type 0 = λ b. Grows c.new-offsets.result.data.clusters c.names_of_l1_table.new.offsets.clusters (data_off_below h (byte_at b) (length l1 / 8)) (λ _. 0) (λ _. 0) in
+    let T : List ℕ → Type 0 = λ b. TalliesGrow c.new-offsets.result.data.clusters c.names_of_l1_table.new.offsets.clusters (data_off_below h (byte_at b) (length l1 / 8)) (λ _. 0) (λ _. 0) in
     let l1_long : length l1 / 8 ≡ h.l1_entries = omega (arith, c.in_ok-l1.ensures.length, ap length c.deref-4.ensures.value) in
     let head_l1 : (i : ℕ) → entry_at c.deref.result.now i ≡ l1_entry h (byte_at b) i = λ i. ap (λ t. entry_at t i) c.deref.ensures.value ∙ c.in_ok-l1.ensures.entries honest i in
     let head_long : length c.deref.result.now / 8 ≡ h.l1_entries = omega (arith, c.in_ok-l1.ensures.length, ap length c.deref.ensures.value) in

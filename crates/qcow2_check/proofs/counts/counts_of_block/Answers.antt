@@ -3,7 +3,7 @@ use Rattle.qcow2_metadata.specs.Bytes.{byte_at}
 use Rattle.qcow2_metadata.specs.Header.{count_width, counts_per_block}
 use Rattle.qcow2_metadata.specs.Entries.{block_count}
 use Rattle.qcow2_check.specs.Tallies.{tally_in}
-use Rattle.qcow2_check.specs.Counted.{number_of, CorrectsUnder}
+use Rattle.qcow2_check.specs.Counted.{entry_number_at, CorrectsUnder}
 use Rattle.qcow2_check.proofs.CountSteps.{whole_cluster, counts_of_bytes}
 use Rattle.qcow2_check.proofs.Corrections.{no_count, one_count}
 use Rattle.qcow2_check.proofs.counts.counts_of_block.Goals as goal
@@ -34,8 +34,8 @@ loop-j-preserved c =
       corrects = λ truth are before.
           one_count _ _ truth es (counts_per_block c.args.header.now) (block_count (byte_at c.args.block.now) (count_width c.args.header.now) 0) are before
           j c.read_count-count.result inside is (c.loop-j.invariant.corrects truth are before) _
-          (c.in_ok-set_counts.ensures.corrects truth (λ i lt. ap (λ n. truth (number_of es i * n + j)) value ∙ are i j lt inside ∙ sym is))
-          (λ i lt. ap (λ n. (tally_in c.set_counts.new.names.clusters (number_of es i * n + j)).count) (sym value) ∙ c.in_ok-set_counts.ensures.counts i lt);
+          (c.in_ok-set_counts.ensures.corrects truth (λ i lt. ap (λ n. truth (entry_number_at es i * n + j)) value ∙ are i j lt inside ∙ sym is))
+          (λ i lt. ap (λ n. (tally_in c.set_counts.new.names.clusters (entry_number_at es i * n + j)).count) (sym value) ∙ c.in_ok-set_counts.ensures.counts i lt);
       total = c.in_ok-set_counts.ensures.total ∙ c.loop-j.invariant.total;
     }
 

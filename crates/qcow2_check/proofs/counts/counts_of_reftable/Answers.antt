@@ -5,7 +5,7 @@ use Rattle.qcow2_metadata.specs.Bytes.{byte_at, sum_below}
 use Rattle.qcow2_metadata.specs.Header.{counts_per_block}
 use Rattle.qcow2_metadata.specs.Entries.{count, block_offset, reftable_entry}
 use Rattle.qcow2_metadata.specs.TableBytes.{entry_at}
-use Rattle.qcow2_check.specs.Counted.{count_at, place_at, HasCounts, CorrectsUnder}
+use Rattle.qcow2_check.specs.Counted.{block_count_or_zero, place_at, HasCounts, CorrectsUnder}
 use Rattle.qcow2_check.proofs.CountSteps.{some_counts}
 use Rattle.qcow2_check.proofs.Places.{numbered}
 use Rattle.qcow2_check.proofs.Corrections.{corrects_more, right_or_none}
@@ -49,7 +49,7 @@ loop-i-preserved g c =
     let same : (k : ℕ) → k < end - start → get_or run k (0, 0) ≡ get_or places (start + k) (0, 0) =
     λ k lt. run_at xs start end k lt ∙ ap (λ xs. get_or xs (start + k) (0, 0)) is in
     let Reads : Type 0 = (k : ℕ) → entry_at c.args.reftable.now k ≡ reftable_entry h b k in
-    let H : List ℕ → Type 0 = λ b. HasCounts run (counts_per_block h) (count h (byte_at contents)) (count_at h (byte_at b) at) in
+    let H : List ℕ → Type 0 = λ b. HasCounts run (counts_per_block h) (count h (byte_at contents)) (block_count_or_zero h (byte_at b) at) in
     let under : (g.S.Storage.view c.args.storage.now).is_honest → Reads
     → CorrectsUnder c.loop-i.names.clusters c.counts_of_block_at.new.names.clusters (count h b) run (counts_per_block h) (counts_per_block h) =
     λ honest are. c.in_ok-counts_of_block_at.ensures.corrects (c.loop-i.invariant.reading.honest honest) (count h b)
@@ -89,7 +89,7 @@ returns-clause-counts g c honest are =
     let same : (k : ℕ) → k < end - start → get_or run k (0, 0) ≡ get_or places (start + k) (0, 0) =
     λ k lt. run_at xs start end k lt ∙ ap (λ xs. get_or xs (start + k) (0, 0)) is in
     let alike : (m : ℕ) → start ≤ m → m < end → place_at places m ≡ at = λ m le lt. c.loop-i.invariant.alike m le (omega (arith, ap length is)) in
-    let H : List ℕ → Type 0 = λ b. HasCounts run (counts_per_block h) (count h (byte_at contents)) (count_at h (byte_at b) at) in
+    let H : List ℕ → Type 0 = λ b. HasCounts run (counts_per_block h) (count h (byte_at contents)) (block_count_or_zero h (byte_at b) at) in
     let under : CorrectsUnder c.loop-i.names.clusters c.counts_of_block_at-2.new.names.clusters (count h b) run (counts_per_block h) (counts_per_block h) =
     c.in_ok-counts_of_block_at-2.ensures.corrects (c.loop-i.invariant.reading.honest honest) (count h b)
     (subst H (sym (c.loop-i.invariant.reading.same honest))

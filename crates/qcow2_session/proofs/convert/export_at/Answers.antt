@@ -5,7 +5,7 @@ use Rattle.qcow2_alloc.specs.ImageError.{of_storage}
 use Rattle.qcow2_disk.specs.AbstractImages.{guest_of}
 use Rattle.qcow2_image.specs.Calls.{refusal_of}
 use Rattle.qcow2_image.specs.ImageInvariant.{abstract_of}
-use Rattle.qcow2_session.specs.Conversions.{IsFilled}
+use Rattle.qcow2_session.specs.Conversions.{IsFilledUpTo}
 use Rattle.qcow2_session.proofs.Converting.{breaks, breaks_here}
 use Rattle.qcow2_session.proofs.Exporting.{filled_same, filled_more, unchanged_refused}
 use Rattle.qcow2_session.proofs.Turns.{refused_is, does_if}
@@ -37,6 +37,6 @@ returns-clause-sees g c = λ honest out sound size le filled.
     let shows = (c.in_ok-read_into.ensures.sees out).answer sound in
     let d = (guest_of (abstract_of g.S.Storage.view g.F.BackingDisk.backing c.args.image.now out)).disk in
     let long : length c.read_into.new.bytes ≡ length c.args.bytes.now = grind (arith, common_steps) in
-    subst (λ b. IsFilled d size (c.args.at + length c.args.bytes.now) b) (sym (c.in_ok-write.ensures.written honest))
-    (subst (λ n. IsFilled d size (c.args.at + n) (overwritten (g.R.Storage.view c.args.raw.now).contents c.args.at c.read_into.new.bytes)) long
+    subst (λ b. IsFilledUpTo d size (c.args.at + length c.args.bytes.now) b) (sym (c.in_ok-write.ensures.written honest))
+    (subst (λ n. IsFilledUpTo d size (c.args.at + n) (overwritten (g.R.Storage.view c.args.raw.now).contents c.args.at c.read_into.new.bytes)) long
     (filled_more d size c.args.at (g.R.Storage.view c.args.raw.now).contents c.read_into.new.bytes filled shows.1.0 (omega (arith, le, long))))

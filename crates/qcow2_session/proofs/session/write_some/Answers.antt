@@ -3,7 +3,7 @@ use Rattle.qcow2_disk.specs.Mappings.{gift_of}
 use Rattle.qcow2_disk.specs.AbstractImages.{Setting, guest_of}
 use Rattle.qcow2_image.specs.Calls.{refusal_of, Commits}
 use Rattle.qcow2_image.specs.Image.{is_failed, is_writable, number_of}
-use Rattle.qcow2_image.specs.Prepared.{IsKept, image_of, length_of}
+use Rattle.qcow2_image.specs.Prepared.{IsHandedBackBy, image_of, length_of}
 use Rattle.qcow2_image.specs.Refusals.{refuses_mapping, refuses_to_prepare}
 use Rattle.qcow2_image.specs.declared.prepared.CommitRefused.TheVariants.{Kept}
 use Rattle.qcow2_image.specs.ImageInvariant.{abstract_of, image_abstraction}
@@ -61,7 +61,7 @@ returns-in-Err-Kept-clause-sees g c = λ out.
     let view = g.S.Storage.view in
     let below = g.F.BackingDisk.backing in
     let p = c.in_ok-prepared.prepared in
-    let same : c.in-Err-Kept.prepared ≡ p = subst (λ r. IsKept p r) c.in-Err-Kept.field-0-is c.in-Err-Kept.ensures.kept in
+    let same : c.in-Err-Kept.prepared ≡ p = subst (λ r. IsHandedBackBy p r) c.in-Err-Kept.field-0-is c.in-Err-Kept.ensures.kept in
     let refused = subst (λ r. Commits view below c.write_mapped.new.self c.commit_data_mapping.new.self p (Err r)) (c.in-Err-Kept.field-0-is ∙ ap (λ q. Kept c.in-Err-Kept.refusal q) same) c.in-Err-Kept.ensures.sees (Some p ∷ out) 0 refl in
     commit_kept (image_abstraction view below) (free_places view below) (λ _. refl) c.args.image.now c.prepare_data_mapping.new.self p out c.args.offset c.min-count.result c.args.bytes.now
     (c.min-count.ensures ∙ ap (λ k. min (length c.args.bytes.now) k) c.length.ensures) (c.in_ok-prepared.ensures.sees (None ∷ out) 0 refl)

@@ -1,5 +1,5 @@
 use Rattle.std.proofs.Common.{◌≡◌, length, map, true, false, Ok, sym, subst, ◌∙◌, ap, arith}
-use Rattle.qimg.specs.Lines.{order}
+use Rattle.qimg.specs.Lines.{order_of_command}
 use Rattle.qimg.proofs.Replies.{printed_kept}
 use Rattle.qimg.proofs.Scripts.{asked_all}
 use Rattle.qimg.proofs.program.script.Goals as goal
@@ -13,7 +13,7 @@ returns-clause-done g c = λ is. elim c.if-script.branch [
       let ran = c.run_script-printed.ensures.done done in
       record {
         commands = c.in-Ok.script.commands.items;
-        asks = asked_all (g.R.Read.remaining c.args.input.now) (map order c.in-Ok.script.commands.items) c.in-Ok.script.is_cut c.in-Ok.ensures ran.0;
+        asks = asked_all (g.R.Read.remaining c.args.input.now) (map order_of_command c.in-Ok.script.commands.items) c.in-Ok.script.is_cut c.in-Ok.ensures ran.0;
         ran = record {
           run = ran.1.run;
           headline = ran.1.headline;

@@ -12,9 +12,9 @@ use Rattle.qcow2_alloc.specs.Allocation.{UnseenAllocatorStep}
 use Rattle.qcow2_alloc.specs.Growing.{IsCloneOf}
 use Rattle.qcow2_alloc.specs.GrownTables.{with_run, EntersReftable, NamesReftable}
 use Rattle.qcow2_alloc.specs.ImageFile.{AllocatorInvariant, KeepsHeader}
-use Rattle.qcow2_alloc.specs.Limits.{IsFaultOr, nameable_clusters, HasNoRoom, HasNoRoomFor, LiesLowest}
+use Rattle.qcow2_alloc.specs.Limits.{IsFaultOr, nameable_clusters, HasNoRoomBelow, HasNoRoomFor, LiesLowest}
 use Rattle.qcow2_alloc.specs.LowestRuns.{KeepsUsed}
-use Rattle.qcow2_alloc.specs.Rooms.{IsLonger, length_of, opened}
+use Rattle.qcow2_alloc.specs.Rooms.{IsLonger, room_length, opened}
 use Rattle.qcow2_alloc.proofs.AllocationSteps.{handed_on, becomes_marked, is_sound_now, leaves_as}
 use Rattle.qcow2_alloc.proofs.Freeing.{becomes_on}
 use Rattle.qcow2_alloc.proofs.FullRooms.{no_room_for, lies_lowest, lowest_room_stays, lowest_entered}
@@ -51,7 +51,7 @@ returns-clause-enters g c = λ p sound clone whole.
     let t = c.args.self.now.reftable in
     let u = c.take_room.new.self in
     let first = c.in_ok-room.room.first in
-    let n = length_of c.in_ok-room.room in
+    let n = room_length c.in_ok-room.room in
     let q : Pending = with_run p c.args.file.now.header.fields c.args.self.now.reftable first n in
     let b : ImageFile g.row.S.Denot = record c.take_room.new.file { caches = c.note_change.new.self } in
     let taken = c.in_ok-room.ensures.sound p sound in
@@ -73,7 +73,7 @@ returns-clause-uses g c = λ p sound clone whole.
     let t = c.args.self.now.reftable in
     let u = c.take_room.new.self in
     let first = c.in_ok-room.room.first in
-    let n = length_of c.in_ok-room.room in
+    let n = room_length c.in_ok-room.room in
     let q : Pending = with_run p c.args.file.now.header.fields c.args.self.now.reftable first n in
     let b : ImageFile g.row.S.Denot = record c.take_room.new.file { caches = c.note_change.new.self } in
     let taken = c.in_ok-room.ensures.sound p sound in
@@ -104,7 +104,7 @@ returns-in_err-room-clause-limit g c = λ p sound hint clone whole.
     let end = c.min-end.ensures in
     let fits = few_clusters c.len.result c.rb_bits.result c.len.ensures.limit c.rb_bits.ensures.high in
     handed_on (λ (r : Result (Unit {0}) ImageError). IfErr r (IsFaultOr ((c.take_room.new.self.reftable ≡ t) × HasNoRoomFor view new (λ k. 0) t length))) c.from_residual.result c.in_err-room.field-0.0 c.from_residual.ensures
-    (cause_as (HasNoRoom view new (λ k. 0) t c.value.result c.min-end.result) ((c.take_room.new.self.reftable ≡ t) × HasNoRoomFor view new (λ k. 0) t length) c.in_err-room.field-0.0
+    (cause_as (HasNoRoomBelow view new (λ k. 0) t c.value.result c.min-end.result) ((c.take_room.new.self.reftable ≡ t) × HasNoRoomFor view new (λ k. 0) t length) c.in_err-room.field-0.0
     (λ none. (c.take_room.ensures.reftable, no_room_for view new (λ k. 0) t c.value.result length c.min-end.result clusters (λ e low near. lesser (c.len.result * 2 ^ c.rb_bits.result) (length * counts_per_block new.header.fields) (greatest_offset / 2 ^ c.cluster_bits-bits.result + 1) (nameable_clusters new.header.fields) c.min-end.result e fits named nameable end low near) none))
     (c.in_err-room.ensures.room p sound hint))
 
@@ -115,7 +115,7 @@ returns-clause-limit g c = λ p sound hint clone whole.
     let t = c.args.self.now.reftable in
     let u = c.take_room.new.self in
     let first = c.in_ok-room.room.first in
-    let n = length_of c.in_ok-room.room in
+    let n = room_length c.in_ok-room.room in
     let q : Pending = with_run p c.args.file.now.header.fields c.args.self.now.reftable first n in
     let b : ImageFile g.row.S.Denot = record c.take_room.new.file { caches = c.note_change.new.self } in
     let taken = c.in_ok-room.ensures.sound p sound in
@@ -140,7 +140,7 @@ returns-clause-lowest g c = λ p sound hint clone whole.
     let t = c.args.self.now.reftable in
     let u = c.take_room.new.self in
     let first = c.in_ok-room.room.first in
-    let n = length_of c.in_ok-room.room in
+    let n = room_length c.in_ok-room.room in
     let q : Pending = with_run p c.args.file.now.header.fields c.args.self.now.reftable first n in
     let b : ImageFile g.row.S.Denot = record c.take_room.new.file { caches = c.note_change.new.self } in
     let taken = c.in_ok-room.ensures.sound p sound in

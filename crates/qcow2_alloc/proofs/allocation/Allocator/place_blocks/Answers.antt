@@ -14,7 +14,7 @@ use Rattle.qcow2_alloc.specs.CacheMarks.{KeepsMarks}
 use Rattle.qcow2_alloc.specs.GrownTables.{with_run}
 use Rattle.qcow2_alloc.specs.ImageFile.{contents_in}
 use Rattle.qcow2_alloc.specs.MetadataCaches.{order_of, l2_tables, refblocks, rb_at}
-use Rattle.qcow2_alloc.specs.Rooms.{opens, opened, length_of, PlacesBlocks}
+use Rattle.qcow2_alloc.specs.Rooms.{opens, opened, room_length, PlacesBlocks}
 use Rattle.qcow2_alloc.specs.TableCaches.{IsBlockOf}
 use Rattle.qcow2_alloc.proofs.CacheMarks.{marks_none, marks_then}
 use Rattle.qcow2_alloc.proofs.AllocationSteps.{handed_on, becomes_none, becomes_then, is_sound_now}
@@ -52,10 +52,10 @@ placing-init g c =
       high = omega arith;
       placed = none ∙ sym (ap (λ m. opened t (counts_per_block h) first m) none ∙ opened_none t (counts_per_block h) first);
       sound = λ p sound may longer. (
-        becomes_none view (with_run p h t first (length_of c.args.room)) c.args.file.now c.args.self.now sound,
+        becomes_none view (with_run p h t first (room_length c.args.room)) c.args.file.now c.args.self.now sound,
         subst (λ m. EntersSo h t c.args.table.now c.args.table.now first m first) (sym none)
-            (enters_first h t c.args.table.now first longer.entries (entries_aligned view (with_run p h t first (length_of c.args.room)) c.args.file.now t sound.sound sound.reftable)),
-        counting_first h (contents_in view c.args.file.now) t c.args.table.now first (length_of c.args.room) longer.entries,
+            (enters_first h t c.args.table.now first longer.entries (entries_aligned view (with_run p h t first (room_length c.args.room)) c.args.file.now t sound.sound sound.reftable)),
+        counting_first h (contents_in view c.args.file.now) t c.args.table.now first (room_length c.args.room) longer.entries,
         λ k some. absurd (let empty = empty_run first (first - first) k none in omega (arith, some, empty)),
       );
     }
@@ -63,7 +63,7 @@ placing-init g c =
 pub returns-in_err-block-clause-sound : goal.returns-in_err-block-clause-sound
 returns-in_err-block-clause-sound g c = λ p sound may longer.
     let view = g.S.Storage.view in
-    let q = with_run p c.args.file.now.header.fields c.args.self.now.reftable c.args.room.first (length_of c.args.room) in
+    let q = with_run p c.args.file.now.header.fields c.args.self.now.reftable c.args.room.first (room_length c.args.room) in
     let before = c.placing.invariant.sound p sound may longer in
     handed_on (PlacesBlocks view q c.args.file.now c.args.self.now c.placing.file c.args.self.now.reftable c.placing.table c.args.room) c.from_residual.result c.in_err-block.field-0.0 c.from_residual.ensures
     (inr c.in_err-block.ensures.memory, inl (before.0.moves, before.0.reftable))
@@ -73,9 +73,9 @@ returns-in_err-write_new_block-clause-sound g c = λ p sound may longer.
     let view = g.S.Storage.view in
     let h = c.args.file.now.header.fields in
     let a = c.args.self.now in
-    let n = length_of c.args.room in
+    let n = room_length c.args.room in
     let first = c.args.room.first in
-    let q = with_run p c.args.file.now.header.fields c.args.self.now.reftable c.args.room.first (length_of c.args.room) in
+    let q = with_run p c.args.file.now.header.fields c.args.self.now.reftable c.args.room.first (room_length c.args.room) in
     let before = c.placing.invariant.sound p sound may longer in
     let may_now = may_go c.args.file.now c.placing.file c.placing.invariant.order c.placing.invariant.tables may in
     let at_in : 0 < run_at first n c.new-place.result =
@@ -93,7 +93,7 @@ placing-preserved g c =
     let h = c.args.file.now.header.fields in
     let a = c.args.self.now in
     let t = c.args.self.now.reftable in
-    let n = length_of c.args.room in
+    let n = room_length c.args.room in
     let first = c.args.room.first in
     let inv = c.placing.invariant in
     let from = c.placing.auto.cluster in
@@ -116,7 +116,7 @@ placing-preserved g c =
         high = let is = w.at-is in let high = inv.high in omega (arith, is, high);
         placed = placed_more t (counts_per_block h) first c.placing.at c.if-opens_range.at 1 c.placing.cluster c.opens_range.result inv.low from opens_at w.at-is (sym (ap one_if w.if-opens_range.true)) inv.placed;
         sound = λ p sound may longer.
-            let q = with_run p c.args.file.now.header.fields c.args.self.now.reftable c.args.room.first (length_of c.args.room) in
+            let q = with_run p c.args.file.now.header.fields c.args.self.now.reftable c.args.room.first (room_length c.args.room) in
             let before = inv.sound p sound may longer in
             let may_now = may_go old c.placing.file inv.order inv.tables may in
             let at_same : w.new-place.result ≡ c.placing.at = w.new-place.ensures in
@@ -171,7 +171,7 @@ placing-preserved g c =
         high = let is = w.at-is in let high = inv.high in omega (arith, is, high);
         placed = placed_more t (counts_per_block h) first c.placing.at c.if-opens_range.at 0 c.placing.cluster c.opens_range.result inv.low from opens_at (let is = w.at-is in omega (arith, is)) (sym (ap one_if w.if-opens_range.false)) inv.placed;
         sound = λ p sound may longer.
-            let q = with_run p c.args.file.now.header.fields c.args.self.now.reftable c.args.room.first (length_of c.args.room) in
+            let q = with_run p c.args.file.now.header.fields c.args.self.now.reftable c.args.room.first (room_length c.args.room) in
             let before = inv.sound p sound may longer in
             let sizes = file_sizes view q old sound.sound in
             of_three (λ f x m. UnseenAllocatorStep view q old a f q × EntersSo h t c.args.table.now x first (m - first) (c.placing.cluster + 1) × Counting h (contents_in view f) t x first n × ((k : ℕ) → 0 < run_at first (m - first) k → rb_at f.caches k ≡ None))
@@ -186,7 +186,7 @@ returns-clause-sound g c = λ p sound may longer.
     let h = c.args.file.now.header.fields in
     let t = c.args.self.now.reftable in
     let first = c.args.room.first in
-    let n = length_of c.args.room in
+    let n = room_length c.args.room in
     let inv = c.placing.invariant in
     let before = inv.sound p sound may longer in
     let at_end : c.placing.cluster ≡ first + n = (let past = c.placing-test.false in let le = c.placing.auto.cluster-end in let end = inv.end_is in omega (arith, past, le, end)) in

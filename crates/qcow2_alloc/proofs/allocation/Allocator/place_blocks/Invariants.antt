@@ -8,7 +8,7 @@ use Rattle.qcow2_alloc.specs.Faults.{faults_of}
 use Rattle.qcow2_alloc.specs.GrownTables.{with_run}
 use Rattle.qcow2_alloc.specs.ImageFile.{contents_in, AllocatorInvariant}
 use Rattle.qcow2_alloc.specs.MetadataCaches.{order_of, l2_tables, refblocks, rb_at}
-use Rattle.qcow2_alloc.specs.Rooms.{opened, length_of, IsLonger}
+use Rattle.qcow2_alloc.specs.Rooms.{opened, room_length, IsLonger}
 use Rattle.qcow2_alloc.proofs.PlacedRooms.{EntersSo, Counting}
 use Rattle.qcow2_alloc.proofs.allocation.Allocator.place_blocks.Given as goal
 
@@ -26,14 +26,14 @@ invariant-placing g l = record {
   as_long : length l.table.bytes ≡ length l.fn.table.bytes;
   counts : counts_per_block l.fn.file.header.fields ≡ 2 ^ l.bits;
   bits : l.bits < 64;
-  end_is : l.end ≡ l.fn.room.first + length_of l.fn.room;
+  end_is : l.end ≡ l.fn.room.first + room_length l.fn.room;
   low : l.fn.room.first ≤ l.at;
   high : l.at ≤ l.cluster;
   placed : l.at - l.fn.room.first ≡ opened l.fn.self.reftable (counts_per_block l.fn.file.header.fields) l.fn.room.first (l.cluster - l.fn.room.first);
-  sound : (p : Pending) → AllocatorInvariant g.S.Storage.view l.fn.self (with_run p l.fn.file.header.fields l.fn.self.reftable l.fn.room.first (length_of l.fn.room)) l.fn.file
+  sound : (p : Pending) → AllocatorInvariant g.S.Storage.view l.fn.self (with_run p l.fn.file.header.fields l.fn.self.reftable l.fn.room.first (room_length l.fn.room)) l.fn.file
       → BlocksMayGo (order_of l.fn.file.caches) (l2_tables l.fn.file.caches) → IsLonger l.fn.file.header.fields l.fn.self.reftable l.fn.table l.fn.room.clusters
-      → UnseenAllocatorStep g.S.Storage.view (with_run p l.fn.file.header.fields l.fn.self.reftable l.fn.room.first (length_of l.fn.room)) l.fn.file l.fn.self l.file (with_run p l.fn.file.header.fields l.fn.self.reftable l.fn.room.first (length_of l.fn.room))
+      → UnseenAllocatorStep g.S.Storage.view (with_run p l.fn.file.header.fields l.fn.self.reftable l.fn.room.first (room_length l.fn.room)) l.fn.file l.fn.self l.file (with_run p l.fn.file.header.fields l.fn.self.reftable l.fn.room.first (room_length l.fn.room))
       × EntersSo l.fn.file.header.fields l.fn.self.reftable l.fn.table l.table l.fn.room.first (l.at - l.fn.room.first) l.cluster
-      × Counting l.fn.file.header.fields (contents_in g.S.Storage.view l.file) l.fn.self.reftable l.table l.fn.room.first (length_of l.fn.room)
+      × Counting l.fn.file.header.fields (contents_in g.S.Storage.view l.file) l.fn.self.reftable l.table l.fn.room.first (room_length l.fn.room)
       × ((c : ℕ) → 0 < run_at l.fn.room.first (l.at - l.fn.room.first) c → rb_at l.file.caches c ≡ None);
 }

@@ -7,7 +7,7 @@ use Rattle.qcow2_alloc.specs.Allocation.{UnseenAllocatorStep}
 use Rattle.qcow2_alloc.specs.GrownTables.{with_run}
 use Rattle.qcow2_alloc.specs.declared.error.ImageError.{ImageError}
 use Rattle.qcow2_alloc.specs.declared.free_room.Room.{Room}
-use Rattle.qcow2_alloc.specs.Limits.{IsFaultOr, HasNoRoom}
+use Rattle.qcow2_alloc.specs.Limits.{IsFaultOr, HasNoRoomBelow}
 use Rattle.qcow2_alloc.specs.Rooms.{opened, TakesRoom}
 use Rattle.qcow2_alloc.proofs.CacheMarks.{marks_none, marks_then}
 use Rattle.qcow2_alloc.proofs.FileSteps.{leaves_then}
@@ -121,7 +121,7 @@ pub returns-in_err-reach-clause-room : goal.returns-in_err-reach-clause-room
 returns-in_err-reach-clause-room g c = λ p sound hint.
     let view = g.S.Storage.view in
     let before = c.search.invariant.sound p sound in
-    handed_on (λ (r : Result Room ImageError). IfErr r (IsFaultOr (HasNoRoom view c.reach_room.new.file (λ k. 0) c.args.self.now.reftable c.args.clusters c.args.end))) c.from_residual.result c.in_err-reach.field-0.0 c.from_residual.ensures
+    handed_on (λ (r : Result Room ImageError). IfErr r (IsFaultOr (HasNoRoomBelow view c.reach_room.new.file (λ k. 0) c.args.self.now.reftable c.args.clusters c.args.end))) c.from_residual.result c.in_err-reach.field-0.0 c.from_residual.ensures
     (inl (c.in_err-reach.ensures.sound p (is_sound_now view p p c.args.file.now c.search.file c.search.self before)).0)
 
 pub returns-in_err-leave_run-clause-room : goal.returns-in_err-leave_run-clause-room
@@ -133,7 +133,7 @@ returns-in_err-leave_run-clause-room g c = λ p sound hint.
     let same = run_of_same p c.search.file.header.fields c.search.file.header.fields c.search.self.reftable c.reach_room.new.self.reftable c.search.first c.in_ok-reach.reach.taken c.in_ok-reach.reach.taken refl t_same refl in
     let noted = noted_of_same c.search.file.header.fields c.search.self.reftable c.reach_room.new.self.reftable c.search.first c.in_ok-reach.reach.taken c.reach_room.new.file.caches.is_changed t_same c.in_ok-reach.ensures.noted in
     let back = c.in_err-leave_run.ensures.sound p c.search.file (sym c.reach_room.ensures.header) (subst (λ (r : Pending). UnseenAllocatorStep view p c.search.file c.reach_room.new.self c.reach_room.new.file r) same reached) noted in
-    handed_on (λ (r : Result Room ImageError). IfErr r (IsFaultOr (HasNoRoom view c.leave_run.new.file (λ k. 0) c.args.self.now.reftable c.args.clusters c.args.end))) c.from_residual-in_err-leave_run.result c.in_err-leave_run.field-0.0 c.from_residual-in_err-leave_run.ensures
+    handed_on (λ (r : Result Room ImageError). IfErr r (IsFaultOr (HasNoRoomBelow view c.leave_run.new.file (λ k. 0) c.args.self.now.reftable c.args.clusters c.args.end))) c.from_residual-in_err-leave_run.result c.in_err-leave_run.field-0.0 c.from_residual-in_err-leave_run.ensures
     (inl back.0)
 
 pub returns-clause-room : goal.returns-clause-room

@@ -9,7 +9,7 @@ use Rattle.qcow2_alloc.specs.GrownTables.{with_run, NamesReftable, StandsGrown}
 use Rattle.qcow2_alloc.specs.ImageFile.{contents_in, AllocatorInvariant}
 use Rattle.qcow2_alloc.specs.LowestRuns.{KeepsUsed}
 use Rattle.qcow2_alloc.specs.MetadataCaches.{order_of, l2_tables, refblocks, rb_at}
-use Rattle.qcow2_alloc.specs.Rooms.{length_of, placed_at}
+use Rattle.qcow2_alloc.specs.Rooms.{room_length, placed_at}
 use Rattle.qcow2_alloc.proofs.AllocationSteps.{handed_on, becomes_cached, becomes_then, is_sound_now}
 use Rattle.qcow2_alloc.proofs.FileSteps.{breaks_after}
 use Rattle.qcow2_alloc.proofs.PlacedBlocks.{file_sizes}
@@ -32,8 +32,8 @@ returns-in_err-flush_rb-clause-sound g c = λ p sound longer.
     let a = c.args.self.now in
     let h = c.args.file.now.header.fields in
     let first = c.args.room.first in
-    let n = length_of c.args.room in
-    let q = with_run p c.args.file.now.header.fields c.args.self.now.reftable c.args.room.first (length_of c.args.room) in
+    let n = room_length c.args.room in
+    let q = with_run p c.args.file.now.header.fields c.args.self.now.reftable c.args.room.first (room_length c.args.room) in
     let one = becomes_cached view q old a c.flush_rb.new.storage c.flush_rb.new.self sound (c.flush_rb.ensures.keeps h q sound.sound.honest sound.sound.caches) c.flush_rb.ensures.marks in
     let f1 = record old { storage = c.flush_rb.new.storage; caches = c.flush_rb.new.self } in
     handed_on (NamesReftable view q p old a f1) c.from_residual.result c.in_err-flush_rb.field-0.0 c.from_residual.ensures (record {
@@ -49,8 +49,8 @@ returns-in_err-flush_rb-clause-uses g c = λ p sound longer.
     let a = c.args.self.now in
     let h = c.args.file.now.header.fields in
     let first = c.args.room.first in
-    let n = length_of c.args.room in
-    let q = with_run p c.args.file.now.header.fields c.args.self.now.reftable c.args.room.first (length_of c.args.room) in
+    let n = room_length c.args.room in
+    let q = with_run p c.args.file.now.header.fields c.args.self.now.reftable c.args.room.first (room_length c.args.room) in
     let one = becomes_cached view q old a c.flush_rb.new.storage c.flush_rb.new.self sound (c.flush_rb.ensures.keeps h q sound.sound.honest sound.sound.caches) c.flush_rb.ensures.marks in
     let f1 = record old { storage = c.flush_rb.new.storage; caches = c.flush_rb.new.self } in
     handed_on (KeepsUsed view old f1) c.from_residual.result c.in_err-flush_rb.field-0.0 c.from_residual.ensures
@@ -63,8 +63,8 @@ returns-in_err-place_blocks-clause-sound g c = λ p sound longer.
     let a = c.args.self.now in
     let h = c.args.file.now.header.fields in
     let first = c.args.room.first in
-    let n = length_of c.args.room in
-    let q = with_run p c.args.file.now.header.fields c.args.self.now.reftable c.args.room.first (length_of c.args.room) in
+    let n = room_length c.args.room in
+    let q = with_run p c.args.file.now.header.fields c.args.self.now.reftable c.args.room.first (room_length c.args.room) in
     let one = becomes_cached view q old a c.flush_rb.new.storage c.flush_rb.new.self sound (c.flush_rb.ensures.keeps h q sound.sound.honest sound.sound.caches) c.flush_rb.ensures.marks in
     let f1 = record old { storage = c.flush_rb.new.storage; caches = c.flush_rb.new.self } in
     let noted = c.place_blocks.ensures.marks.changed (c.flush_rb.ensures.marks.changed c.requires.noted) in
@@ -79,8 +79,8 @@ returns-in_err-place_blocks-clause-uses g c = λ p sound longer.
     let a = c.args.self.now in
     let h = c.args.file.now.header.fields in
     let first = c.args.room.first in
-    let n = length_of c.args.room in
-    let q = with_run p c.args.file.now.header.fields c.args.self.now.reftable c.args.room.first (length_of c.args.room) in
+    let n = room_length c.args.room in
+    let q = with_run p c.args.file.now.header.fields c.args.self.now.reftable c.args.room.first (room_length c.args.room) in
     let one = becomes_cached view q old a c.flush_rb.new.storage c.flush_rb.new.self sound (c.flush_rb.ensures.keeps h q sound.sound.honest sound.sound.caches) c.flush_rb.ensures.marks in
     let f1 = record old { storage = c.flush_rb.new.storage; caches = c.flush_rb.new.self } in
     let refused = c.in_err-place_blocks.ensures.sound p (is_sound_now view q q old f1 a one) c.in_ok-flush_rb.ensures.first longer in
@@ -93,8 +93,8 @@ returns-in_err-place_table-clause-sound g c = λ p sound longer.
     let a = c.args.self.now in
     let h = c.args.file.now.header.fields in
     let first = c.args.room.first in
-    let n = length_of c.args.room in
-    let q = with_run p c.args.file.now.header.fields c.args.self.now.reftable c.args.room.first (length_of c.args.room) in
+    let n = room_length c.args.room in
+    let q = with_run p c.args.file.now.header.fields c.args.self.now.reftable c.args.room.first (room_length c.args.room) in
     let one = becomes_cached view q old a c.flush_rb.new.storage c.flush_rb.new.self sound (c.flush_rb.ensures.keeps h q sound.sound.honest sound.sound.caches) c.flush_rb.ensures.marks in
     let f1 = record old { storage = c.flush_rb.new.storage; caches = c.flush_rb.new.self } in
     let noted = c.place_blocks.ensures.marks.changed (c.flush_rb.ensures.marks.changed c.requires.noted) in
@@ -105,7 +105,7 @@ returns-in_err-place_table-clause-sound g c = λ p sound longer.
     let may_two = may_go f1 f2 c.place_blocks.ensures.order c.place_blocks.ensures.tables c.in_ok-flush_rb.ensures.first in
     let at_is = c.new.ensures in
     let low : c.args.room.first ≤ c.new.result = omega (arith, at_is) in
-    let high : c.new.result + c.args.room.clusters ≤ c.args.room.first + length_of c.args.room = omega (arith, at_is) in
+    let high : c.new.result + c.args.room.clusters ≤ c.args.room.first + room_length c.args.room = omega (arith, at_is) in
     let bits = ap (λ (x : EntryTableView). x.cluster_bits) c.place_blocks.ensures.rest ∙ c.requires.bits ∙ sym (ap (λ (k : HeaderFields). k.cluster_bits) header_two) in
     let long = c.place_blocks.ensures.as_long ∙ longer.long ∙ sym (ap (λ (k : HeaderFields). c.args.room.clusters * cluster_size k) header_two) in
     let refused = table_err view p first n a f2 c.place_table.new.file c.new.result c.args.room.clusters c.place_blocks.new.table.bytes h header_two c.in_err-place_table.field-0.0
@@ -121,8 +121,8 @@ returns-in_err-place_table-clause-uses g c = λ p sound longer.
     let a = c.args.self.now in
     let h = c.args.file.now.header.fields in
     let first = c.args.room.first in
-    let n = length_of c.args.room in
-    let q = with_run p c.args.file.now.header.fields c.args.self.now.reftable c.args.room.first (length_of c.args.room) in
+    let n = room_length c.args.room in
+    let q = with_run p c.args.file.now.header.fields c.args.self.now.reftable c.args.room.first (room_length c.args.room) in
     let one = becomes_cached view q old a c.flush_rb.new.storage c.flush_rb.new.self sound (c.flush_rb.ensures.keeps h q sound.sound.honest sound.sound.caches) c.flush_rb.ensures.marks in
     let f1 = record old { storage = c.flush_rb.new.storage; caches = c.flush_rb.new.self } in
     let placed = c.in_ok-place_blocks.ensures.sound p (is_sound_now view q q old f1 a one) c.in_ok-flush_rb.ensures.first longer in
@@ -132,7 +132,7 @@ returns-in_err-place_table-clause-uses g c = λ p sound longer.
     let may_two = may_go f1 f2 c.place_blocks.ensures.order c.place_blocks.ensures.tables c.in_ok-flush_rb.ensures.first in
     let at_is = c.new.ensures in
     let low : c.args.room.first ≤ c.new.result = omega (arith, at_is) in
-    let high : c.new.result + c.args.room.clusters ≤ c.args.room.first + length_of c.args.room = omega (arith, at_is) in
+    let high : c.new.result + c.args.room.clusters ≤ c.args.room.first + room_length c.args.room = omega (arith, at_is) in
     let bits = ap (λ (x : EntryTableView). x.cluster_bits) c.place_blocks.ensures.rest ∙ c.requires.bits ∙ sym (ap (λ (k : HeaderFields). k.cluster_bits) header_two) in
     let long = c.place_blocks.ensures.as_long ∙ longer.long ∙ sym (ap (λ (k : HeaderFields). c.args.room.clusters * cluster_size k) header_two) in
     let refused = table_err view p first n a f2 c.place_table.new.file c.new.result c.args.room.clusters c.place_blocks.new.table.bytes h header_two c.in_err-place_table.field-0.0
@@ -146,8 +146,8 @@ returns-clause-sound g c = λ p sound longer.
     let a = c.args.self.now in
     let h = c.args.file.now.header.fields in
     let first = c.args.room.first in
-    let n = length_of c.args.room in
-    let q = with_run p c.args.file.now.header.fields c.args.self.now.reftable c.args.room.first (length_of c.args.room) in
+    let n = room_length c.args.room in
+    let q = with_run p c.args.file.now.header.fields c.args.self.now.reftable c.args.room.first (room_length c.args.room) in
     let one = becomes_cached view q old a c.flush_rb.new.storage c.flush_rb.new.self sound (c.flush_rb.ensures.keeps h q sound.sound.honest sound.sound.caches) c.flush_rb.ensures.marks in
     let f1 = record old { storage = c.flush_rb.new.storage; caches = c.flush_rb.new.self } in
     let placed = c.in_ok-place_blocks.ensures.sound p (is_sound_now view q q old f1 a one) c.in_ok-flush_rb.ensures.first longer in
@@ -157,7 +157,7 @@ returns-clause-sound g c = λ p sound longer.
     let may_two = may_go f1 f2 c.place_blocks.ensures.order c.place_blocks.ensures.tables c.in_ok-flush_rb.ensures.first in
     let at_is = c.new.ensures in
     let low : c.args.room.first ≤ c.new.result = omega (arith, at_is) in
-    let high : c.new.result + c.args.room.clusters ≤ c.args.room.first + length_of c.args.room = omega (arith, at_is) in
+    let high : c.new.result + c.args.room.clusters ≤ c.args.room.first + room_length c.args.room = omega (arith, at_is) in
     let bits = ap (λ (x : EntryTableView). x.cluster_bits) c.place_blocks.ensures.rest ∙ c.requires.bits ∙ sym (ap (λ (k : HeaderFields). k.cluster_bits) header_two) in
     let long = c.place_blocks.ensures.as_long ∙ longer.long ∙ sym (ap (λ (k : HeaderFields). c.args.room.clusters * cluster_size k) header_two) in
     let wrote = table_ok view p first n a f2 c.place_table.new.file c.new.result c.args.room.clusters c.place_blocks.new.table.bytes h header_two c.in_ok-place_table.field-0
@@ -188,8 +188,8 @@ returns-clause-uses g c = λ p sound longer.
     let a = c.args.self.now in
     let h = c.args.file.now.header.fields in
     let first = c.args.room.first in
-    let n = length_of c.args.room in
-    let q = with_run p c.args.file.now.header.fields c.args.self.now.reftable c.args.room.first (length_of c.args.room) in
+    let n = room_length c.args.room in
+    let q = with_run p c.args.file.now.header.fields c.args.self.now.reftable c.args.room.first (room_length c.args.room) in
     let one = becomes_cached view q old a c.flush_rb.new.storage c.flush_rb.new.self sound (c.flush_rb.ensures.keeps h q sound.sound.honest sound.sound.caches) c.flush_rb.ensures.marks in
     let f1 = record old { storage = c.flush_rb.new.storage; caches = c.flush_rb.new.self } in
     let placed = c.in_ok-place_blocks.ensures.sound p (is_sound_now view q q old f1 a one) c.in_ok-flush_rb.ensures.first longer in
@@ -199,7 +199,7 @@ returns-clause-uses g c = λ p sound longer.
     let may_two = may_go f1 f2 c.place_blocks.ensures.order c.place_blocks.ensures.tables c.in_ok-flush_rb.ensures.first in
     let at_is = c.new.ensures in
     let low : c.args.room.first ≤ c.new.result = omega (arith, at_is) in
-    let high : c.new.result + c.args.room.clusters ≤ c.args.room.first + length_of c.args.room = omega (arith, at_is) in
+    let high : c.new.result + c.args.room.clusters ≤ c.args.room.first + room_length c.args.room = omega (arith, at_is) in
     let bits = ap (λ (x : EntryTableView). x.cluster_bits) c.place_blocks.ensures.rest ∙ c.requires.bits ∙ sym (ap (λ (k : HeaderFields). k.cluster_bits) header_two) in
     let long = c.place_blocks.ensures.as_long ∙ longer.long ∙ sym (ap (λ (k : HeaderFields). c.args.room.clusters * cluster_size k) header_two) in
     let wrote = table_ok view p first n a f2 c.place_table.new.file c.new.result c.args.room.clusters c.place_blocks.new.table.bytes h header_two c.in_ok-place_table.field-0

@@ -1,11 +1,11 @@
 use Rattle.std.proofs.Common.{◌≡◌, ◌+◌, ◌-◌, ◌*◌, ◌&&◌}
 use Rattle.std.specs.Prelude.{nat_le, nat_lt}
 use Rattle.qcow2_metadata.specs.Bytes.{one_if}
-use Rattle.qcow2_check.specs.Tallies.{Grows}
+use Rattle.qcow2_check.specs.Tallies.{TalliesGrow}
 use Rattle.qcow2_check.proofs.names.Names.add_range.Given as goal
 
 abbrev pub invariant-loop-cluster : goal.invariant-loop-cluster
 invariant-loop-cluster l = record {
-  grows : Grows l.initial.self.clusters l.self.clusters (λ q. l.times * one_if (nat_le l.first q && nat_lt q l.cluster)) (λ _. 0) (λ _. 0);
+  grows : TalliesGrow l.initial.self.clusters l.self.clusters (λ q. l.times * one_if (nat_le l.first q && nat_lt q l.cluster)) (λ _. 0) (λ _. 0);
   total : l.self.total ≡ l.initial.self.total + l.times * (l.cluster - l.first);
 }

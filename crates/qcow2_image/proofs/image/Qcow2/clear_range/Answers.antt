@@ -4,7 +4,7 @@ use Rattle.qcow2_alloc.specs.declared.error.ImageError.TheVariants.{Memory, Tabl
 use Rattle.qcow2_image.specs.Backings.{HasPrepared}
 use Rattle.qcow2_image.specs.NewTables.{IsFaultOrLacksTable}
 use Rattle.qcow2_image.specs.CallParts.{EndsFreeing, UnseenCall}
-use Rattle.qcow2_image.specs.Clearing.{Clears, ClearsOrRefuses, ClearsPart, IsUnderMapping, IsWhole, RefusesClearing, from_in, refuses_to_clear, to_in}
+use Rattle.qcow2_image.specs.Clearing.{Clears, ClearsOrRefuses, ClearsPart, IsUnderMapping, IsClearable, RefusesClearing, from_in, refuses_to_clear, to_in}
 use Rattle.qcow2_image.specs.declared.image.Qcow2.{Qcow2}
 use Rattle.qcow2_image.specs.Image.{is_failed}
 use Rattle.qcow2_image.specs.ImageInvariant.{ImageInvariant, pending_in}
@@ -77,7 +77,7 @@ returns-in_err-mark_failure-clause-sees g c =
     (clear_refused view below old c.args.how c.args.offset c.args.length works begun entries quiet e marked (c.clear_between-cleared.ensures.stays.image.number ∙ c.begin.ensures.stays.image.number)
     (subst (λ (r : Result _ _). Marks r (is_failed entries) marked) done c.mark_failure.ensures.marks) (subst (λ (r : Result _ _). IfErr r (λ x. x ≡ Memory → IsTrue entries.file.caches.is_changed → IsTrue marked)) done c.mark_failure.ensures.memory)
     (λ out call. subst (ClearsOrRefuses view below c.args.how c.in_ok-from.from c.in_ok-from.to begun entries out) done (c.clear_between-cleared.ensures.clears out call.sound
-    (subst (λ n. IsWhole begun.file.header.fields c.args.how n c.in_ok-from.to) (sym from) (subst (λ n. IsWhole begun.file.header.fields c.args.how (from_in old c.args.offset c.args.length) n) (sym to)
+    (subst (λ n. IsClearable begun.file.header.fields c.args.how n c.in_ok-from.to) (sym from) (subst (λ n. IsClearable begun.file.header.fields c.args.how (from_in old c.args.offset c.args.length) n) (sym to)
     (whole_in view below old c.args.how c.args.offset c.args.length works begun entries quiet out call c.in_ok-from.ensures.version)))))))
 
 pub returns-in_err-end_freeing-clause-sees : goal.returns-in_err-end_freeing-clause-sees
@@ -101,7 +101,7 @@ returns-in_err-end_freeing-clause-sees g c =
     let same : c.mark_failure.new.self ≡ c.clear_between-cleared.new.self = c.mark_failure.ensures.rest ∙ ap (λ f. record entries { is_failed = f }) marks in
     let parts : (out : _) → UnseenCall view below old begun out → ClearsPart view below how (from_in old offset n) (to_in old offset n) begun entries out = λ out call. subst (λ k. ClearsPart view below how k (to_in old offset n) begun entries out) from (subst (λ k. ClearsPart view below how c.in_ok-from.from k begun entries out) to
     (subst (ClearsOrRefuses view below how c.in_ok-from.from c.in_ok-from.to begun entries out) done (c.clear_between-cleared.ensures.clears out call.sound
-    (subst (λ k. IsWhole begun.file.header.fields how k c.in_ok-from.to) (sym from) (subst (λ k. IsWhole begun.file.header.fields how (from_in old offset n) k) (sym to)
+    (subst (λ k. IsClearable begun.file.header.fields how k c.in_ok-from.to) (sym from) (subst (λ k. IsClearable begun.file.header.fields how (from_in old offset n) k) (sym to)
     (whole_in view below old how offset n works begun entries quiet out call c.in_ok-from.ensures.version)))))) in
     let ends = subst (λ (image : Qcow2 _ _). (out : _) → ImageInvariant view below (pending_in view below image out) image out → EndsFreeing view below image freed out c.end_freeing.result) same c.end_freeing.ensures.frees in
     let number = c.end_freeing.ensures.image.number ∙ c.mark_failure.ensures.image.number ∙ c.clear_between-cleared.ensures.stays.image.number ∙ c.begin.ensures.stays.image.number in
@@ -152,7 +152,7 @@ returns-clause-sees g c =
     let same : c.mark_failure.new.self ≡ c.clear_between-cleared.new.self = c.mark_failure.ensures.rest ∙ ap (λ f. record entries { is_failed = f }) marks in
     let parts : (out : _) → UnseenCall view below old begun out → ClearsPart view below how (from_in old offset n) (to_in old offset n) begun entries out = λ out call. subst (λ k. ClearsPart view below how k (to_in old offset n) begun entries out) from (subst (λ k. ClearsPart view below how c.in_ok-from.from k begun entries out) to
     (subst (ClearsOrRefuses view below how c.in_ok-from.from c.in_ok-from.to begun entries out) done (c.clear_between-cleared.ensures.clears out call.sound
-    (subst (λ k. IsWhole begun.file.header.fields how k c.in_ok-from.to) (sym from) (subst (λ k. IsWhole begun.file.header.fields how (from_in old offset n) k) (sym to)
+    (subst (λ k. IsClearable begun.file.header.fields how k c.in_ok-from.to) (sym from) (subst (λ k. IsClearable begun.file.header.fields how (from_in old offset n) k) (sym to)
     (whole_in view below old how offset n works begun entries quiet out call c.in_ok-from.ensures.version)))))) in
     let ends = subst (λ (image : Qcow2 _ _). (out : _) → ImageInvariant view below (pending_in view below image out) image out → EndsFreeing view below image freed out c.end_freeing.result) same c.end_freeing.ensures.frees in
     let number = c.end_freeing.ensures.image.number ∙ c.mark_failure.ensures.image.number ∙ c.clear_between-cleared.ensures.stays.image.number ∙ c.begin.ensures.stays.image.number in
@@ -184,7 +184,7 @@ returns-clause-covers g c = λ out sound.
     let same : c.mark_failure.new.self ≡ c.clear_between-cleared.new.self = c.mark_failure.ensures.rest ∙ ap (λ f. record entries { is_failed = f }) marks in
     let parts : (out : _) → UnseenCall view below old begun out → ClearsPart view below how (from_in old offset n) (to_in old offset n) begun entries out = λ out call. subst (λ k. ClearsPart view below how k (to_in old offset n) begun entries out) from (subst (λ k. ClearsPart view below how c.in_ok-from.from k begun entries out) to
     (subst (ClearsOrRefuses view below how c.in_ok-from.from c.in_ok-from.to begun entries out) done (c.clear_between-cleared.ensures.clears out call.sound
-    (subst (λ k. IsWhole begun.file.header.fields how k c.in_ok-from.to) (sym from) (subst (λ k. IsWhole begun.file.header.fields how (from_in old offset n) k) (sym to)
+    (subst (λ k. IsClearable begun.file.header.fields how k c.in_ok-from.to) (sym from) (subst (λ k. IsClearable begun.file.header.fields how (from_in old offset n) k) (sym to)
     (whole_in view below old how offset n works begun entries quiet out call c.in_ok-from.ensures.version)))))) in
     let ends = subst (λ (image : Qcow2 _ _). (out : _) → ImageInvariant view below (pending_in view below image out) image out → EndsFreeing view below image freed out c.end_freeing.result) same c.end_freeing.ensures.frees in
     let number = c.end_freeing.ensures.image.number ∙ c.mark_failure.ensures.image.number ∙ c.clear_between-cleared.ensures.stays.image.number ∙ c.begin.ensures.stays.image.number in
@@ -212,8 +212,8 @@ returns-in_err-mark_failure-clause-refused g c =
     let works = clear_works old c.args.offset c.args.length c.args.how range.0 in
     let quiet : (out : _) → _ → Quietly view below out old begun = λ out sound. record { keeps = c.begin.ensures.keeps (pending_in view below old out) out sound; list = c.begin.ensures.list } in
     let done : c.clear_between-cleared.result ≡ Err c.in_err-mark_failure.field-0.0 = sym c.mark_failure.ensures.answer ∙ c.in_err-mark_failure.was in
-    let whole : (out : _) → UnseenCall view below old begun out → IsWhole begun.file.header.fields c.args.how c.in_ok-from.from c.in_ok-from.to = λ out call.
-    subst (λ n. IsWhole begun.file.header.fields c.args.how n c.in_ok-from.to) (sym from) (subst (λ n. IsWhole begun.file.header.fields c.args.how (from_in old c.args.offset c.args.length) n) (sym to)
+    let whole : (out : _) → UnseenCall view below old begun out → IsClearable begun.file.header.fields c.args.how c.in_ok-from.from c.in_ok-from.to = λ out call.
+    subst (λ n. IsClearable begun.file.header.fields c.args.how n c.in_ok-from.to) (sym from) (subst (λ n. IsClearable begun.file.header.fields c.args.how (from_in old c.args.offset c.args.length) n) (sym to)
     (whole_in view below old c.args.how c.args.offset c.args.length works begun entries quiet out call c.in_ok-from.ensures.version)) in
     let lacking : (out : _) → ImageInvariant view below (pending_in view below old out) old out → (HasPrepared out → ⊥) → IsFaultOrLacksTable view entries c.in_ok-from.from c.in_err-mark_failure.field-0.0 = λ out sound unprepared.
     let call = begins view below old c.args.how c.args.offset c.args.length works begun entries quiet out sound in
@@ -249,7 +249,7 @@ returns-in_err-end_freeing-clause-refused g c =
     let same : c.mark_failure.new.self ≡ c.clear_between-cleared.new.self = c.mark_failure.ensures.rest ∙ ap (λ f. record entries { is_failed = f }) marks in
     let parts : (out : _) → UnseenCall view below old begun out → ClearsPart view below how (from_in old offset n) (to_in old offset n) begun entries out = λ out call. subst (λ k. ClearsPart view below how k (to_in old offset n) begun entries out) from (subst (λ k. ClearsPart view below how c.in_ok-from.from k begun entries out) to
     (subst (ClearsOrRefuses view below how c.in_ok-from.from c.in_ok-from.to begun entries out) done (c.clear_between-cleared.ensures.clears out call.sound
-    (subst (λ k. IsWhole begun.file.header.fields how k c.in_ok-from.to) (sym from) (subst (λ k. IsWhole begun.file.header.fields how (from_in old offset n) k) (sym to)
+    (subst (λ k. IsClearable begun.file.header.fields how k c.in_ok-from.to) (sym from) (subst (λ k. IsClearable begun.file.header.fields how (from_in old offset n) k) (sym to)
     (whole_in view below old how offset n works begun entries quiet out call c.in_ok-from.ensures.version)))))) in
     let ends = subst (λ (image : Qcow2 _ _). (out : _) → ImageInvariant view below (pending_in view below image out) image out → EndsFreeing view below image freed out c.end_freeing.result) same c.end_freeing.ensures.frees in
     let number = c.end_freeing.ensures.image.number ∙ c.mark_failure.ensures.image.number ∙ c.clear_between-cleared.ensures.stays.image.number ∙ c.begin.ensures.stays.image.number in

@@ -13,7 +13,7 @@ use Rattle.qcow2_image.specs.ImageInvariant.{abstract_of, pending_in}
 use Rattle.qcow2_image.proofs.Call.Settled.{is_fault, outcome}
 use Rattle.qcow2_image.proofs.Commit.CommitCalls.{commit_broke, commit_broke_off, commit_done, commit_existing, commit_kept, refuses_unsound, true_or_false}
 use Rattle.qcow2_image.proofs.Call.FaultCounts.{counted_as, fewer_then}
-use Rattle.qcow2_image.specs.Faults.{CountsFaults}
+use Rattle.qcow2_image.specs.Faults.{CountsImageFaults}
 use Rattle.qcow2_image.proofs.image.Qcow2.commit_data_mapping.Goals.{then-entered, else-entered}
 use Rattle.qcow2_image.proofs.image.Qcow2.commit_data_mapping.Goals as goal
 
@@ -103,5 +103,5 @@ returns-after-entered-clause-faults g c =
     let old = c.args.self.now in
     let entered = c.enter_shares-entered.new.self in
     let first = fewer_then view below old c.begin.new.self entered c.begin.ensures.faults c.enter_shares-entered.ensures.faults in
-    let told : CountsFaults view below {T = Unit {0}} old c.end_freeing.new.self (Err c.in-Err.refusal) = counted_as view below old entered c.end_freeing.new.self c.end_freeing.result c.in-Err.refusal first c.end_freeing.ensures.faults c.in-Err.is in
+    let told : CountsImageFaults view below {T = Unit {0}} old c.end_freeing.new.self (Err c.in-Err.refusal) = counted_as view below old entered c.end_freeing.new.self c.end_freeing.result c.in-Err.refusal first c.end_freeing.ensures.faults c.in-Err.is in
     (told.no_fewer, λ is. told.rose (sym c.refused_commit.ensures.reason ∙ is))

@@ -1,6 +1,6 @@
 use Rattle.std.proofs.Common.{inl}
 use Rattle.qcow2_alloc.proofs.AllocationSteps.{handed_on}
-use Rattle.qcow2_image.specs.UnseenSteps.{Ensures, pending_then}
+use Rattle.qcow2_image.specs.UnseenSteps.{Ensures, pending_with_listed}
 use Rattle.qcow2_image.proofs.Map.Loading.{with_caches}
 use Rattle.qcow2_image.proofs.Prepare.Owning.{refused, keeps_loaded, holds_table}
 use Rattle.std.specs.Prelude.{IfErr}
@@ -20,17 +20,17 @@ returns-in_err-l2_get_or_insert-clause-ready g c = λ p out sound.
     let old = c.args.self.now in
     let mid = c.own_l2.new.self in
     let owned = c.in_ok-cluster.ensures.owns p out sound in
-    let loaded = with_caches g.S.Storage.view g.F.BackingDisk.backing mid out (pending_then p old mid) owned.0.sound c.l2_get_or_insert.new.storage c.l2_get_or_insert.new.self in
+    let loaded = with_caches g.S.Storage.view g.F.BackingDisk.backing mid out (pending_with_listed p old mid) owned.0.sound c.l2_get_or_insert.new.storage c.l2_get_or_insert.new.self in
     refused (Ensures g.S.Storage.view g.F.BackingDisk.backing p old loaded out c.args.offset) c.from_residual-in_err-l2_get_or_insert.result c.from_residual-in_err-l2_get_or_insert.ensures.0
     (λ e. inl (keeps_loaded g.S.Storage.view g.F.BackingDisk.backing out p old mid c.args.offset c.in_ok-cluster.cluster owned.0 c.l2_get_or_insert.new.storage c.l2_get_or_insert.new.self
-    (c.l2_get_or_insert.ensures.keeps mid.file.header.fields (pending_then p old mid) owned.0.sound.file.honest owned.0.sound.file.caches) c.l2_get_or_insert.ensures.marks.room c.l2_get_or_insert.ensures.marks.pins))
+    (c.l2_get_or_insert.ensures.keeps mid.file.header.fields (pending_with_listed p old mid) owned.0.sound.file.honest owned.0.sound.file.caches) c.l2_get_or_insert.ensures.marks.room c.l2_get_or_insert.ensures.marks.pins))
 
 pub returns-clause-ready : goal.returns-clause-ready
 returns-clause-ready g c = λ p out sound.
     let old = c.args.self.now in
     let mid = c.own_l2.new.self in
     let owned = c.in_ok-cluster.ensures.owns p out sound in
-    let stay = c.l2_get_or_insert.ensures.keeps mid.file.header.fields (pending_then p old mid) owned.0.sound.file.honest owned.0.sound.file.caches in (
+    let stay = c.l2_get_or_insert.ensures.keeps mid.file.header.fields (pending_with_listed p old mid) owned.0.sound.file.honest owned.0.sound.file.caches in (
       keeps_loaded g.S.Storage.view g.F.BackingDisk.backing out p old mid c.args.offset c.in_ok-cluster.cluster owned.0 c.l2_get_or_insert.new.storage c.l2_get_or_insert.new.self stay c.l2_get_or_insert.ensures.marks.room c.l2_get_or_insert.ensures.marks.pins,
       holds_table g.S.Storage.view g.F.BackingDisk.backing out p old mid c.args.offset c.in_ok-cluster.cluster owned.0 c.l2_get_or_insert.new.storage c.l2_get_or_insert.new.self stay c.l2_get_or_insert.ensures.marks.room c.l2_get_or_insert.ensures.marks.pins owned.1
           c.in_ok-l2_get_or_insert.ensures.held,
@@ -46,7 +46,7 @@ returns-in_err-l2_get_or_insert-clause-lacks g c = λ p out sound none.
     let below = g.F.BackingDisk.backing in
     let old = c.args.self.now in
     let mid = c.own_l2.new.self in
-    let q = pending_then p old mid in
+    let q = pending_with_listed p old mid in
     let owned = c.in_ok-cluster.ensures.owns p out sound in
     let loaded = with_caches view below mid out q owned.0.sound c.l2_get_or_insert.new.storage c.l2_get_or_insert.new.self in
     let file = owned.0.sound.file in

@@ -10,7 +10,7 @@ use Rattle.qcow2_image.proofs.Free.{free_places}
 use Rattle.qcow2_image.proofs.Preallocate.Filled.{fill_unseen, fills_none, fills_refused, fills_stays, met_taken, refused_after, taken_here}
 use Rattle.qcow2_image.proofs.Preallocate.Piece.{all_filled, all_fits, all_next, all_put, all_within, piece_gone}
 use Rattle.qcow2_image.proofs.Call.FaultCounts.{counted_as, counted_of, counted_still}
-use Rattle.qcow2_image.specs.Faults.{CountsFaults}
+use Rattle.qcow2_image.specs.Faults.{CountsImageFaults}
 use Rattle.qcow2_image.proofs.image.Qcow2.fill_first.Goals as goal
 
 pub returns-in_err-prepared-clause-fills : goal.returns-in_err-prepared-clause-fills
@@ -120,5 +120,5 @@ returns-in-Err-clause-faults g c =
     let below = g.F.BackingDisk.backing in
     let old = c.args.self.now in
     let e = c.in-Err.refusal in
-    let told : CountsFaults view below {T = Unit {0}} old c.put_zeros.new.self (Err c.in-Err.refusal) = counted_as view below old c.prepare.new.self c.put_zeros.new.self c.put_zeros.result e c.prepare.ensures.faults.no_fewer c.put_zeros.ensures.faults c.in-Err.is in
+    let told : CountsImageFaults view below {T = Unit {0}} old c.put_zeros.new.self (Err c.in-Err.refusal) = counted_as view below old c.prepare.new.self c.put_zeros.new.self c.put_zeros.result e c.prepare.ensures.faults.no_fewer c.put_zeros.ensures.faults c.in-Err.is in
     counted_of view below old c.free_after.new.self c.free_after.result (c.free_after.ensures.faults old (counted_still view below old c.put_zeros.new.self c.let_go.new.self (Err e) told c.let_go.ensures.faults))

@@ -2,7 +2,7 @@ use Rattle.std.proofs.Common.{[], sym, ◌∙◌, subst}
 use Rattle.std.specs.Prelude.{Result}
 use Rattle.qcow2_laws.specs.CrashInvariant.{Pending}
 use Rattle.qcow2_alloc.specs.FreeList.{with_listed}
-use Rattle.qcow2_image.specs.Calls.{Flushes}
+use Rattle.qcow2_image.specs.Calls.{FlushesImage}
 use Rattle.qcow2_image.specs.declared.image.Qcow2.{Qcow2}
 use Rattle.qcow2_image.specs.Image.{is_failed}
 use Rattle.qcow2_image.specs.ImageInvariant.{ImageInvariant}
@@ -20,8 +20,8 @@ returns-clause-sees g c =
     let mid = c.begin.new.self in
     let new = c.write_back-done.new.self in
     let r = c.write_back-done.result in
-    subst (λ (image : Qcow2 _ _). Flushes view below old image c.mark_failure.result) (sym c.mark_failure.ensures.rest)
-    (subst (λ (x : Result _ _). Flushes view below old (record new { is_failed = is_failed c.mark_failure.new.self }) x) (sym c.mark_failure.ensures.answer)
+    subst (λ (image : Qcow2 _ _). FlushesImage view below old image c.mark_failure.result) (sym c.mark_failure.ensures.rest)
+    (subst (λ (x : Result _ _). FlushesImage view below old (record new { is_failed = is_failed c.mark_failure.new.self }) x) (sym c.mark_failure.ensures.answer)
     (flushes_settled view below old c.if-self.false new (is_failed c.mark_failure.new.self) (c.write_back-done.ensures.stays.image.number ∙ c.begin.ensures.stays.image.number) r c.mark_failure.ensures.marks c.mark_failure.ensures.memory
     (λ out sound.
     let p : Pending = beside view below old out in

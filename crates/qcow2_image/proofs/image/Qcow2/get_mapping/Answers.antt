@@ -5,7 +5,7 @@ use Rattle.qcow2_image.specs.declared.image.Qcow2.{Qcow2}
 use Rattle.qcow2_disk.specs.Found.{IsFoundIn, IsFound as IsFoundOf}
 use Rattle.qcow2_laws.proofs.Unseen.{known_header}
 use Rattle.qcow2_alloc.specs.ImageFile.{known_in, state_in}
-use Rattle.qcow2_image.specs.Found.{IsFound, found_kind}
+use Rattle.qcow2_image.specs.Found.{IsFoundInImage, found_kind}
 use Rattle.qcow2_image.specs.Image.{is_failed}
 use Rattle.qcow2_image.specs.Refusals.{Marks}
 use Rattle.qcow2_image.specs.ImageInvariant.{abstract_of, pending_in}
@@ -52,8 +52,8 @@ returns-clause-run g c = λ out sound.
     let same : c.mark_failure.new.self ≡ new = c.mark_failure.ensures.rest ∙ ap (λ f. record new { is_failed = f }) marks in
     let begun = (c.begin.ensures.keeps p out sound).sound in
     let guarded = (c.look_up-found.ensures.keeps p out begun).sound.file.caches.kept.kept.guarded in
-    let found : IsFound view new c.args.offset c.args.max c.in_ok-kind.kind c.in_ok-kind.length =
-    subst (λ r. IfOk r (λ x. IsFound view new c.args.offset c.args.max x.0 x.1)) (sym c.mark_failure.ensures.answer ∙ c.in_ok-kind.was) (c.look_up-found.ensures.found p out begun) in
+    let found : IsFoundInImage view new c.args.offset c.args.max c.in_ok-kind.kind c.in_ok-kind.length =
+    subst (λ r. IfOk r (λ x. IsFoundInImage view new c.args.offset c.args.max x.0 x.1)) (sym c.mark_failure.ensures.answer ∙ c.in_ok-kind.was) (c.look_up-found.ensures.found p out begun) in
     subst (λ (image : Qcow2 _ _). IsFoundIn (known_in view image.file) (is_some image.backing) c.args.offset c.args.max (found_kind c.in_ok-kind.kind) c.in_ok-kind.length) (sym same)
     (subst (λ h. IsFoundOf h (known_in view new.file) (is_some new.backing) c.args.offset c.args.max (found_kind c.in_ok-kind.kind) c.in_ok-kind.length) (sym (known_header (state_in view new.file p) guarded)) found)
 

@@ -8,7 +8,7 @@ use Rattle.qcow2_laws.proofs.Places.{Sizes-from, cover_none}
 use Rattle.qcow2_laws.proofs.Tops.{IsTop-top}
 use Rattle.qcow2_alloc.specs.ImageFile.{contents_in, known_in}
 use Rattle.qcow2_disk.specs.Found.{kind_at, rest_of_table}
-use Rattle.qcow2_image.specs.Found.{l1_index_of, NamesTable, IsRunFrom}
+use Rattle.qcow2_image.specs.Found.{l1_index_of, NamesL2Table, IsRunFrom}
 use Rattle.qcow2_image.proofs.Map.Loading.{caches_moved, with_caches, if_ok}
 use Rattle.qcow2_image.proofs.Map.Looked.{none_found}
 use Rattle.qcow2_image.proofs.Map.Unmodified.{read_caches, read_none}
@@ -40,7 +40,7 @@ returns-in-None-clause-found g c = λ p out sound.
     let known = known_in g.S.Storage.view c.args.self.now.file in
     let guarded = sound.file.caches.kept.kept.guarded in
     let sizes = Sizes-from h known (IsTop-top h (contents_in g.S.Storage.view c.args.self.now.file) known guarded.same_top guarded.top).header_reads in
-    let names : NamesTable g.S.Storage.view c.args.self.now c.args.offset None = subst (NamesTable g.S.Storage.view c.args.self.now c.args.offset) c.in-None.is (c.in_ok-l2_cluster.ensures.names sound.l1_table) in
+    let names : NamesL2Table g.S.Storage.view c.args.self.now c.args.offset None = subst (NamesL2Table g.S.Storage.view c.args.self.now c.args.offset) c.in-None.is (c.in_ok-l2_cluster.ensures.names sound.l1_table) in
     let none : table_at h known (l1_index_of h c.args.offset) ≡ 0 = ap host_offset (sym (guarded.same_top.l1 (l1_index_of h c.args.offset))) ∙ names in
     let limit : c.min-max.result ≡ min (min c.args.max (h.size - c.args.offset)) (rest_of_table h c.args.offset) =
     let a = c.min-max.ensures in let b = c.min.ensures in let s = c.size-size.ensures in let r = c.rest_of_table.ensures.value in omega arith in
@@ -63,8 +63,8 @@ returns-in_ok-l2_get_or_insert-in-Some-clause-found g c = λ p out sound.
     let guarded = sound.file.caches.kept.kept.guarded in
     let known = known_in g.S.Storage.view image.file in
     let sizes = Sizes-from h (known_in g.S.Storage.view c.args.self.now.file) (IsTop-top h (contents_in g.S.Storage.view c.args.self.now.file) (known_in g.S.Storage.view c.args.self.now.file) guarded.same_top guarded.top).header_reads in
-    let names : NamesTable g.S.Storage.view c.args.self.now c.args.offset (Some c.in-Some.table) =
-    subst (NamesTable g.S.Storage.view c.args.self.now c.args.offset) c.in-Some.is (c.in_ok-l2_cluster.ensures.names sound.l1_table) in
+    let names : NamesL2Table g.S.Storage.view c.args.self.now c.args.offset (Some c.in-Some.table) =
+    subst (NamesL2Table g.S.Storage.view c.args.self.now c.args.offset) c.in-Some.is (c.in_ok-l2_cluster.ensures.names sound.l1_table) in
     let there : table_at h known (l1_index_of h c.args.offset) ≡ table_at h (contents_in g.S.Storage.view c.args.self.now.file) (l1_index_of h c.args.offset) =
     ap (λ b. table_at h b (l1_index_of h c.args.offset)) stay.known ∙ ap host_offset (sym (guarded.same_top.l1 (l1_index_of h c.args.offset))) in
     let limit : c.min-max.result ≡ min (min c.args.max (h.size - c.args.offset)) (rest_of_table h c.args.offset) =

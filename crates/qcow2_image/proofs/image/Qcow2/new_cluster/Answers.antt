@@ -6,7 +6,7 @@ use Rattle.qcow2_laws.specs.Changes.{with_held}
 use Rattle.qcow2_laws.proofs.Formats.{cover_format, size_format}
 use Rattle.qcow2_alloc.specs.ImageFile.{known_in}
 use Rattle.qcow2_image.specs.declared.image.Qcow2.{Qcow2}
-use Rattle.qcow2_image.specs.UnseenSteps.{UnseenFillingStep, RefusedFillingStep, pending_then}
+use Rattle.qcow2_image.specs.UnseenSteps.{UnseenFillingStep, RefusedFillingStep, pending_with_listed}
 use Rattle.qcow2_image.specs.ImageInvariant.{run_of, held_by, over_all}
 use Rattle.qcow2_image.proofs.Prepare.Gaining.{following_on, goes_left, taken_held, taken_unused, still_holds, filled_as}
 use Rattle.qcow2_image.proofs.Prepare.Filling.{goes_then}
@@ -22,7 +22,7 @@ returns-in-Ok-clause-gains g c = λ p out sound holds.
     let n = c.in_ok-pending.pending in
     let took = c.in_ok-pending.ensures.takes p out sound holds in
     let unused = taken_unused view below out old mid p n took.0 holds took.2 in
-    let held = with_held (pending_then p old mid) (run_of n) in
+    let held = with_held (pending_with_listed p old mid) (run_of n) in
     let some : 0 < held.held c.cluster.result = subst (λ k. 0 < held.held k) (sym c.cluster.ensures) (taken_held view below out old mid p n took.0 holds took.2) in
     let free : over_all held_by out c.cluster.result ≡ 0 = ap (over_all held_by out) c.cluster.ensures ∙ unused in
     record {
@@ -49,7 +49,7 @@ returns-in-Err-clause-gains g c = λ p out sound holds.
     let new = c.fill_cluster.new.self in
     let n = c.in_ok-pending.pending in
     let took = c.in_ok-pending.ensures.takes p out sound holds in
-    let held = with_held (pending_then p old mid) (run_of n) in
+    let held = with_held (pending_with_listed p old mid) (run_of n) in
     let some : 0 < held.held c.cluster.result = subst (λ k. 0 < held.held k) (sym c.cluster.ensures) (taken_held view below out old mid p n took.0 holds took.2) in
     let free : over_all held_by out c.cluster.result ≡ 0 = ap (over_all held_by out) c.cluster.ensures ∙ taken_unused view below out old mid p n took.0 holds took.2 in
     let filled = goes_then view below out old mid new p held held took.2 (c.fill_cluster.ensures.goes held out took.2.sound (still_holds view below out old mid p n took.0 holds took.2) some free) in

@@ -8,7 +8,7 @@ use Rattle.qcow2_laws.proofs.Formats.{cover_format, size_format}
 use Rattle.qcow2_alloc.specs.ImageFile.{known_in}
 use Rattle.qcow2_image.specs.declared.image.Qcow2.{Qcow2}
 use Rattle.qcow2_image.specs.Ranges.{TakesDataAt}
-use Rattle.qcow2_image.specs.UnseenSteps.{UnseenFillingStep, RefusedFillingStep, IsGained, pending_then}
+use Rattle.qcow2_image.specs.UnseenSteps.{UnseenFillingStep, RefusedFillingStep, IsGained, pending_with_listed}
 use Rattle.qcow2_image.specs.ImageInvariant.{run_of, held_by, over_all}
 use Rattle.qcow2_image.proofs.Prepare.Gaining.{following_on, goes_left, taken_held, taken_unused, still_holds, filled_as}
 use Rattle.qcow2_image.proofs.Prepare.Filling.{goes_then}
@@ -28,7 +28,7 @@ returns-in-Ok-clause-gains g c = λ p out sound holds.
     let n = c.in-Some.pending in
     let took = subst (λ v. TakesDataAt view below p old mid out c.args.cluster (Ok v)) c.in-Some.is (c.in_ok-pending.ensures.takes p out sound holds) in
     let unused = taken_unused view below out old mid p n took.1 holds took.3 in
-    let held = with_held (pending_then p old mid) (run_of n) in
+    let held = with_held (pending_with_listed p old mid) (run_of n) in
     let some : 0 < held.held c.args.cluster = subst (λ k. 0 < held.held k) took.0 (taken_held view below out old mid p n took.1 holds took.3) in
     let free : over_all held_by out c.args.cluster ≡ 0 = ap (over_all held_by out) (sym took.0) ∙ unused in
     let gained : IsGained view below p old new out c.args.offset c.args.length c.args.overwrite c.args.old.now n = record {
@@ -55,7 +55,7 @@ returns-in-Err-clause-gains g c = λ p out sound holds.
     let new = c.fill_cluster.new.self in
     let n = c.in-Some.pending in
     let took = subst (λ v. TakesDataAt view below p old mid out c.args.cluster (Ok v)) c.in-Some.is (c.in_ok-pending.ensures.takes p out sound holds) in
-    let held = with_held (pending_then p old mid) (run_of n) in
+    let held = with_held (pending_with_listed p old mid) (run_of n) in
     let some : 0 < held.held c.args.cluster = subst (λ k. 0 < held.held k) took.0 (taken_held view below out old mid p n took.1 holds took.3) in
     let free : over_all held_by out c.args.cluster ≡ 0 = ap (over_all held_by out) (sym took.0) ∙ taken_unused view below out old mid p n took.1 holds took.3 in
     let filled = goes_then view below out old mid new p held held took.3 (c.fill_cluster.ensures.goes held out took.3.sound (still_holds view below out old mid p n took.1 holds took.3) some free) in

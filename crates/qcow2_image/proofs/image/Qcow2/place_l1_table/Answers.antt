@@ -2,7 +2,7 @@ use Rattle.std.proofs.Common.{refl}
 use Rattle.qcow2_alloc.specs.ImageError.{of_storage}
 use Rattle.qcow2_alloc.specs.ImageStorage.{storage_of}
 use Rattle.qcow2_alloc.proofs.AllocationSteps.{handed_on}
-use Rattle.qcow2_image.specs.LongerTables.{with_table, IsLonger, PlacesTable}
+use Rattle.qcow2_image.specs.LongerTables.{with_table, IsLongerL1, PlacesTable}
 use Rattle.qcow2_image.proofs.Call.Called.{keeps_then}
 use Rattle.qcow2_image.proofs.Map.Loading.{caches_moved, with_caches}
 use Rattle.qcow2_image.proofs.Prepare.Entering.{keeps_none}
@@ -30,7 +30,7 @@ returns-in_err-write-clause-places g c = λ p out sound longer.
     let stay = c.flush_rb.ensures.keeps old.file.header.fields q sound.file.honest sound.file.caches in
     let kept = caches_moved view below old out q sound c.flush_rb.new.storage c.flush_rb.new.self stay c.flush_rb.ensures.marks.room c.flush_rb.ensures.marks.pins in
     let image = with_caches view below old out q sound c.flush_rb.new.storage c.flush_rb.new.self in
-    let there : IsLonger image t = record { bits = longer.bits; whole = longer.whole; longer = longer.longer; entries = longer.entries } in
+    let there : IsLongerL1 image t = record { bits = longer.bits; whole = longer.whole; longer = longer.longer; entries = longer.entries } in
     let new = record image { file = record image.file { storage = c.write.new.storage } } in
     handed_on (PlacesTable view below q old new out c.set_cluster.new.self c.args.cluster) c.from_residual-in_err-write.result (of_storage c.in_err-write.field-0.0) c.from_residual-in_err-write.ensures
     (keeps_then view below out old image new q q q (λ k some. some) kept
@@ -48,7 +48,7 @@ returns-clause-places g c = λ p out sound longer.
     let stay = c.flush_rb.ensures.keeps old.file.header.fields q sound.file.honest sound.file.caches in
     let kept = caches_moved view below old out q sound c.flush_rb.new.storage c.flush_rb.new.self stay c.flush_rb.ensures.marks.room c.flush_rb.ensures.marks.pins in
     let image = with_caches view below old out q sound c.flush_rb.new.storage c.flush_rb.new.self in
-    let there : IsLonger image t = record { bits = longer.bits; whole = longer.whole; longer = longer.longer; entries = longer.entries } in
+    let there : IsLongerL1 image t = record { bits = longer.bits; whole = longer.whole; longer = longer.longer; entries = longer.entries } in
     let new = record image { file = record image.file { storage = c.write.new.storage } } in
     let wrote = table_write_as view t c.args.cluster old.file.header.fields.cluster_bits c.set_cluster.new.self c.write.result (storage_of c.will_write.new.self) (storage_of c.write.new.storage) c.set_cluster.ensures longer.bits c.write.ensures.written in (
       keeps_then view below out old image new q q q (λ k some. some) kept

@@ -6,7 +6,7 @@ use Rattle.qcow2_alloc.specs.ImageStorage.{storage_of}
 use Rattle.qcow2_alloc.specs.MetadataCaches.{l2_at, PutSound}
 use Rattle.qcow2_alloc.specs.TableCaches.{IsTableOf}
 use Rattle.qcow2_alloc.proofs.AllocationSteps.{handed_on}
-use Rattle.qcow2_image.specs.NewTables.{Places}
+use Rattle.qcow2_image.specs.NewTables.{PlacesNewTable}
 use Rattle.qcow2_image.proofs.Call.Called.{keeps_then}
 use Rattle.qcow2_image.proofs.Map.Loading.{if_ok}
 use Rattle.qcow2_image.proofs.Prepare.Placing.{holds, keeps_placed, keeps_put, keeps_stored, places_when, stands_ready, stands_there}
@@ -18,7 +18,7 @@ returns-in_err-write-clause-places g c = λ p out sound some format stored.
     let below = g.F.BackingDisk.backing in
     let old = c.args.self.now in
     let whole = subst (λ (t : L2TableView). length t.bytes ≡ 2 ^ t.cluster_bits) c.table.view_is c.table.invariant.whole in
-    handed_on (Places view below p old (record old { file = record old.file { storage = c.write.new.storage } }) out c.args.cluster c.args.table.bytes) c.from_residual.result (of_storage c.in_err-write.field-0.0) c.from_residual.ensures
+    handed_on (PlacesNewTable view below p old (record old { file = record old.file { storage = c.write.new.storage } }) out c.args.cluster c.args.table.bytes) c.from_residual.result (of_storage c.in_err-write.field-0.0) c.from_residual.ensures
     (keeps_placed view below old out p sound stored c.args.cluster some c.write.new.storage (storage_of c.will_write.new.self) c.args.table c.set_cluster.new.self c.write.result c.will_write.ensures.storage c.set_cluster.ensures format.bits whole
     c.write.ensures.written c.write.ensures.calls)
 

@@ -10,7 +10,7 @@ use Rattle.qcow2_image.specs.declared.prepared.Prepared.{Prepared}
 use Rattle.qcow2_image.specs.CallParts.{Readies, IsReadied}
 use Rattle.qcow2_image.specs.declared.prepared.Share.{Share}
 use Rattle.qcow2_image.specs.Ranges.{IsFirst}
-use Rattle.qcow2_image.specs.UnseenSteps.{RefusedFillingStep, UnseenFillingStep, HoldsAll, pending_then}
+use Rattle.qcow2_image.specs.UnseenSteps.{RefusedFillingStep, UnseenFillingStep, HoldsAll, pending_with_listed}
 use Rattle.qcow2_image.specs.ImageInvariant.{run_of, pending_in}
 use Rattle.qcow2_image.proofs.Prepare.Gaining.{following_on, goes_left, still_holds}
 use Rattle.qcow2_image.proofs.Prepare.Filling.{goes_kept, goes_then}
@@ -48,8 +48,8 @@ returns-in-Ok-clause-readies g c = λ out sound holds unpinned covered k free.
     let host_is = c.value-host.ensures ∙ c.offset.ensures ∙ ap (λ x. x * 2 ^ c.cluster_bits-bits.result) c.cluster.ensures ∙ ap (λ b. c.in_ok-pending.pending.first_cluster * 2 ^ b) bits in
     subst (λ (x : Prepared). IsReadied view below old c.prepare_at.new.self out k c.args.offset c.args.length c.args.overwrite x) (sym c.prepare_at.ensures.value)
     (readied_new view below out old filled mid n c.args.old.now c.requires.reach c.requires.other c.hand_back.new.list c.in_ok-dropped.dropped taken_is c.in_ok-dropped.ensures.list c.prepare_at.result c.prepare_at.ensures.share k c.args.offset c.args.length c.args.table c.value-host.result c.args.overwrite free sound holds unpinned covered gained c.in_ok-pending.ensures.nameable
-    (c.in-Ok.ensures.keeps (with_held (pending_then p old filled) (run_of c.in_ok-pending.pending)) out gained.goes.sound) c.in-Ok.ensures.list c.in-Ok.ensures.held host_is
-    (c.in-Ok.ensures.contents (with_held (pending_then p old filled) (run_of c.in_ok-pending.pending)) out gained.goes.sound) c.prepare_at.new.self c.prepare_at.ensures.pins)
+    (c.in-Ok.ensures.keeps (with_held (pending_with_listed p old filled) (run_of c.in_ok-pending.pending)) out gained.goes.sound) c.in-Ok.ensures.list c.in-Ok.ensures.held host_is
+    (c.in-Ok.ensures.contents (with_held (pending_with_listed p old filled) (run_of c.in_ok-pending.pending)) out gained.goes.sound) c.prepare_at.new.self c.prepare_at.ensures.pins)
 
 pub returns-in-Err-clause-readies : goal.returns-in-Err-clause-readies
 returns-in-Err-clause-readies g c = λ out sound holds unpinned covered.
@@ -60,7 +60,7 @@ returns-in-Err-clause-readies g c = λ out sound holds unpinned covered.
     let filled = c.new_cluster.new.self in
     let mid = c.load_l2.new.self in
     let n = c.in_ok-pending.pending in
-    let held = with_held (pending_then p old filled) (run_of n) in
+    let held = with_held (pending_with_listed p old filled) (run_of n) in
     let all_held : HoldsAll view below p out = λ x. omega arith in
     let gained = c.in_ok-pending.ensures.gains p out sound all_held in
     let still = still_holds view below out old filled p n gained.one all_held gained.goes in

@@ -2,7 +2,7 @@ use Rattle.std.proofs.Common.{◌≡◌, ◌+◌, ◌<◌, [], Err, sym, ap, ◌
 use Rattle.std.specs.Prelude.{Result}
 use Rattle.qcow2_disk.specs.Calls.{Shows, IsSame}
 use Rattle.qcow2_disk.specs.AbstractImages.{guest_of}
-use Rattle.qcow2_image.specs.Calls.{Answers}
+use Rattle.qcow2_image.specs.Calls.{AnswersCall}
 use Rattle.qcow2_image.specs.declared.image.Qcow2.{Qcow2}
 use Rattle.qcow2_alloc.specs.declared.error.ImageError.TheVariants.{OutdatedMapping}
 use Rattle.qcow2_image.specs.Found.{IsFoundWhole, further_by}
@@ -25,8 +25,8 @@ returns-clause-sees g c =
     let shown = c.read_current-done.new.bytes in
     let place = c.args.mapping.now.offset + c.args.at in
     let some : 0 < length c.args.bytes.now = search rules in
-    subst (λ (image : Qcow2 _ _). Answers view below old image [] (λ done was is. (is ≡ was) × Shows was.disk place shown) c.mark_failure.result) (sym c.mark_failure.ensures.rest)
-    (subst (λ (r : Result _ _). Answers view below old (record new { is_failed = is_failed c.mark_failure.new.self }) [] (λ done was is. (is ≡ was) × Shows was.disk place shown) r) (sym c.mark_failure.ensures.answer)
+    subst (λ (image : Qcow2 _ _). AnswersCall view below old image [] (λ done was is. (is ≡ was) × Shows was.disk place shown) c.mark_failure.result) (sym c.mark_failure.ensures.rest)
+    (subst (λ (r : Result _ _). AnswersCall view below old (record new { is_failed = is_failed c.mark_failure.new.self }) [] (λ done was is. (is ≡ was) × Shows was.disk place shown) r) (sym c.mark_failure.ensures.answer)
     (told_answers view below old (record new { is_failed = is_failed c.mark_failure.new.self }) (λ done was is. (is ≡ was) × Shows was.disk place shown) c.read_current-done.result
     (tells_quietly view below old new (λ out. quietly_then view below out old c.begin.new.self new c.begin.ensures.keeps c.begin.ensures.list c.read_current-done.ensures.keeps c.read_current-done.ensures.list)
     (is_failed c.mark_failure.new.self) (λ done v w. IsSame v w × Shows (guest_of v).disk place shown) c.read_current-done.result c.mark_failure.ensures.marks (c.read_current-done.ensures.stays.image.number ∙ c.begin.ensures.stays.image.number)

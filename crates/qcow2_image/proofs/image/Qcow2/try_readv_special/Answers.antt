@@ -1,7 +1,7 @@
 use Rattle.std.proofs.Common.{◌≡◌, [], sym, ◌∙◌, subst}
 use Rattle.std.specs.Prelude.{Result}
 use Rattle.qcow2_disk.specs.Calls.{IsSame}
-use Rattle.qcow2_image.specs.Calls.{Answers}
+use Rattle.qcow2_image.specs.Calls.{AnswersCall}
 use Rattle.qcow2_image.specs.declared.image.Qcow2.{Qcow2}
 use Rattle.qcow2_alloc.specs.ImageFile.{known_in}
 use Rattle.qcow2_image.specs.Image.{is_failed}
@@ -20,8 +20,8 @@ returns-clause-sees g c =
     let below = g.F.BackingDisk.backing in
     let old = c.args.self.now in
     let new = c.plain_at-plain.new.self in
-    subst (λ (image : Qcow2 _ _). Answers view below old image [] (λ at was is. is ≡ was) c.mark_failure.result) (sym c.mark_failure.ensures.rest)
-    (subst (λ (r : Result _ _). Answers view below old (record new { is_failed = is_failed c.mark_failure.new.self }) [] (λ at was is. is ≡ was) r) (sym c.mark_failure.ensures.answer)
+    subst (λ (image : Qcow2 _ _). AnswersCall view below old image [] (λ at was is. is ≡ was) c.mark_failure.result) (sym c.mark_failure.ensures.rest)
+    (subst (λ (r : Result _ _). AnswersCall view below old (record new { is_failed = is_failed c.mark_failure.new.self }) [] (λ at was is. is ≡ was) r) (sym c.mark_failure.ensures.answer)
     (told_answers view below old (record new { is_failed = is_failed c.mark_failure.new.self }) (λ at was is. is ≡ was) c.plain_at-plain.result
     (tells_quietly view below old new (λ out. quietly_then view below out old c.begin.new.self new c.begin.ensures.keeps c.begin.ensures.list c.plain_at-plain.ensures.keeps c.plain_at-plain.ensures.list)
     (is_failed c.mark_failure.new.self) (λ at v w. IsSame v w) c.plain_at-plain.result c.mark_failure.ensures.marks (c.plain_at-plain.ensures.stays.image.number ∙ c.begin.ensures.stays.image.number)

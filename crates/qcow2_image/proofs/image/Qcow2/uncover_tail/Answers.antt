@@ -2,7 +2,7 @@ use Rattle.std.proofs.Common.{◌∙◌, arith, Err}
 use Rattle.qcow2_image.specs.ImageInvariant.{pending_in}
 use Rattle.qcow2_image.proofs.Sizing.Shrinking.{next_so_far, none_so_far, tail_refused, tail_stops}
 use Rattle.qcow2_image.proofs.Call.FaultCounts.{counted_as, fewer_then, stopped_tells}
-use Rattle.qcow2_image.specs.Faults.{CountsFaults}
+use Rattle.qcow2_image.specs.Faults.{CountsImageFaults}
 use Rattle.qcow2_image.proofs.image.Qcow2.uncover_tail.Goals as goal
 
 pub loop-at-init : goal.loop-at-init
@@ -44,7 +44,7 @@ returns-in-Err-clause-faults g c =
     let old = c.args.self.now in
     let e = c.in-Err.refusal in
     let new = c.uncover_from.new.self in
-    let told : CountsFaults view below {T = Unit {0}} old c.uncover_from.new.self (Err c.in-Err.refusal) = counted_as view below old c.loop-at.self new c.uncover_from.result e c.loop-at.invariant.faults c.uncover_from.ensures.faults c.in-Err.is in
+    let told : CountsImageFaults view below {T = Unit {0}} old c.uncover_from.new.self (Err c.in-Err.refusal) = counted_as view below old c.loop-at.self new c.uncover_from.result e c.loop-at.invariant.faults c.uncover_from.ensures.faults c.in-Err.is in
     (told.no_fewer, stopped_tells view below old new e c.ends_call.result told.rose c.ends_call.ensures.some)
 
 pub returns-clause-faults : goal.returns-clause-faults

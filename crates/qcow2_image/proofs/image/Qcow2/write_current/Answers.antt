@@ -7,7 +7,7 @@ use Rattle.qcow2_image.specs.declared.image.Qcow2.{Qcow2}
 use Rattle.qcow2_image.specs.declared.mapping.MappingKind.TheVariants.{Raw}
 use Rattle.qcow2_image.specs.declared.mapping.Place.TheVariants.{Image}
 use Rattle.qcow2_image.specs.Found.{IsFoundWhole, IsMappedAs}
-use Rattle.qcow2_image.specs.CallParts.{PutsPart, IsWritten}
+use Rattle.qcow2_image.specs.CallParts.{PutsPart, IsWriteOutcome}
 use Rattle.qcow2_image.specs.ImageInvariant.{pending_in}
 use Rattle.qcow2_image.proofs.Write.PutParts.{mapped_in_place, puts_nothing, puts_refused, puts_then, puts_written}
 use Rattle.qcow2_image.proofs.Call.Called.{Quietly, quiet_sound}
@@ -39,7 +39,7 @@ returns-clause-puts g c = λ some fits out k placed sound.
     let w = c.write_data.ensures.written in
     let contents = (view_in view mid.file).contents in
     let storage = c.write_data.new.self.file.storage in
-    let done = subst (λ o. IsWritten c.write_data.result contents (overwritten contents o bytes) (view_in view c.write_data.new.self.file).contents) host_is (w.written still.file.honest) in
+    let done = subst (λ o. IsWriteOutcome c.write_data.result contents (overwritten contents o bytes) (view_in view c.write_data.new.self.file).contents) host_is (w.written still.file.honest) in
     let mapped : p.table ≡ None → IsMappedAs view mid (p.guest + at) (Raw Image (p.offset + at) true) (length bytes) = λ none.
     subst (λ o. IsMappedAs view mid (p.guest + at) (Raw Image o true) (length bytes)) host_is (c.in_ok-check_in_place.ensures.mapped none some (pending_in view below old out) out sound) in
     subst (λ (image : Qcow2 _ _). PutsPart view below old image out k p at bytes c.write_data.result) (sym w.rest)
