@@ -1,6 +1,6 @@
 #!/usr/bin/env python3
-"""Runs the merge gate and the wrong bodies beside it, then the tests of the crates, then the scripts on real files. At the end stands how long each part took; the last line sums what
-passed and what failed."""
+"""Runs the merge gate and the wrong bodies beside it, then the tests of the crates, then the scripts on real files. At the end stands how long each part took, and what it took of
+processors; the last line sums what passed and what failed."""
 
 import os
 import re
@@ -18,7 +18,8 @@ SCRIPTS = ["tests/program.py", "tests/causes.py", "tests/writes.py", "tests/prep
 
 
 def counts(words, told, look=lambda line: None):
-    """Runs a command that ends with a line 'N passed, M failed', and answers these numbers. Lines that tell of failures are kept in `told`; each line is shown to `look`."""
+    """Runs a command that ends with a line 'N passed, M failed', and answers these numbers, and the seconds that it and what it ran took of processors. Lines that tell of failures are
+    kept in `told`; each line is shown to `look`."""
     started = subprocess.Popen(words, cwd=ROOT, stdout=subprocess.PIPE, text=True, errors="replace")
     last = ""
     for line in started.stdout:
@@ -28,16 +29,18 @@ def counts(words, told, look=lambda line: None):
             told.append(line.rstrip())
         if line.strip():
             last = line.strip()
-    status = started.wait()
+    _, status, used = os.wait4(started.pid, 0)
+    started.returncode = status = os.waitstatus_to_exitcode(status)
+    seconds = used.ru_utime + used.ru_stime
     said = re.fullmatch(r"(\d+) passed, (\d+) failed", last)
     if not said:
         print(f"{words[0]} ended with status {status} and without a count", flush=True)
-        return 0, 1
+        return 0, 1, seconds
     passed, failed = map(int, said.groups())
     if status and not failed:
         print(f"{words[0]} ended with status {status}", flush=True)
         failed = 1
-    return passed, failed
+    return passed, failed, seconds
 
 
 def succeeds(words):
@@ -56,16 +59,17 @@ def has_program(crate, name, target):
 
 
 class Parts:
-    """The parts of a run: what each counted, how long it took, and the lines that tell of failures."""
+    """The parts of a run: what each counted, how long it took and what of processors, and the lines that tell of failures."""
 
     def __init__(self):
         self.results, self.times, self.told, self.began = [], [], [], time.monotonic()
 
     def run(self, name, work):
-        """Does a part, which answers its counts."""
+        """Does a part, which answers its counts and the seconds that it took of processors."""
         began = time.monotonic()
-        self.results.append(work())
-        self.times.append((name, time.monotonic() - began))
+        passed, failed, used = work()
+        self.results.append((passed, failed))
+        self.times.append((name, time.monotonic() - began, used))
 
     def command(self, name, words):
         """Runs a part that is a command with a count."""
@@ -76,8 +80,9 @@ class Parts:
         passed, failed = (sum(each) for each in zip(*self.results))
         if failed:
             print("what failed:", *self.told[-40:], sep="\n")
-        for name, seconds in [*self.times, ("all", time.monotonic() - self.began)]:
-            print(f"{name}: {seconds / 60:.1f} minutes")
+        all_used = sum(used for _, _, used in self.times)
+        for name, seconds, used in [*self.times, ("all", time.monotonic() - self.began, all_used)]:
+            print(f"{name}: {seconds / 60:.1f} minutes, {used / 60:.1f} of a processor")
         print(f"on {len(os.sched_getaffinity(0))} processors")
         print(f"{passed} passed, {failed} failed")
         return failed > 0
@@ -87,10 +92,10 @@ def scripts(parts):
     """Runs the scripts on real files, those that need QEMU's tools only where these are there."""
     if not (has_program("qimg", "qimg", "qimg") and has_program("qimg_tools", "qimg-tools", "tools")):
         print("a program wasn't built", flush=True)
-        parts.run("scripts", lambda: (0, len(SCRIPTS)))
+        parts.run("scripts", lambda: (0, len(SCRIPTS), 0))
     elif not succeeds(["tests/install.sh"]):
         parts.command(SCRIPTS[0], [SCRIPTS[0]])
-        parts.run("scripts that need QEMU's tools", lambda: (0, len(SCRIPTS) - 1))
+        parts.run("scripts that need QEMU's tools", lambda: (0, len(SCRIPTS) - 1, 0))
     else:
         for script in SCRIPTS:
             parts.command(script, [script])
