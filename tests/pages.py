@@ -59,7 +59,7 @@ class Code:
 
     def __init__(self):
         self.files = files_below()
-        self.names, self.definitions, self.fields, self.promises, self.bodies = set(), set(), {}, {}, {}
+        self.names, self.definitions, self.fields, self.promises, self.bodies, self.alone = set(), set(), {}, {}, {}, {}
         self.specs = {it: read(it) for it in sorted(self.files) if re.match(r"crates/\w+/specs/.*\.antt$", it)}
         for path in self.files - {"tests/pages.py"}:
             if path.endswith((".rt", ".antt", ".py", ".rs", "Makefile", "crates.txt")):
@@ -69,9 +69,10 @@ class Code:
                 self.note_promises(path, text)
                 self.note_fields(text)
             elif path.endswith("must-fail/wrong_bodies.md"):
-                found = re.findall(r"^### (\S+)$.*?^fn: (\S+)$.*?^file: (\S+)$", read(path), re.MULTILINE | re.DOTALL)
-                self.bodies[path.split("/")[1]] = {name: (function.split("::")[-1], file) for name, function, file in found}
-                self.names.update(name for name, _, _ in found)
+                found = re.findall(r"^### (\S+)$.*?^fn: (\S+)$.*?^file: (\S+)$(?:\nclause: (\S+)$)?", read(path), re.MULTILINE | re.DOTALL)
+                self.bodies[path.split("/")[1]] = {name: (function.split("::")[-1], file) for name, function, file, _ in found}
+                self.alone.update({name: clause for name, _, _, clause in found if clause})
+                self.names.update(name for name, _, _, _ in found)
 
     def note_promises(self, path, text):
         """Notes the clauses of each function of a file, with the type or trait that it belongs to."""
@@ -351,7 +352,7 @@ def missing_clauses_of_proofs(pages, code):
 
 
 def missing_bodies(pages, code):
-    """Rows of the page of wrong bodies that name a body, a function or a clause which isn't there."""
+    """Rows of the page of wrong bodies that name a body, a function or a clause which isn't there, or not the clause that alone is to refuse the body."""
     page = "docs/WRONG_BODIES.md"
     for item in items_of(pages[page]):
         cells = [it.strip() for it in item.text.split("|")[1:-1]] if item.kind == "row" else []
@@ -365,6 +366,8 @@ def missing_bodies(pages, code):
         for clause in SPAN.findall(cells[3]):
             if clause not in code.clauses([crate], [function], [file]):
                 yield page, item.line, f"no clause {clause} of {function}"
+        if name in code.alone and code.alone[name] not in SPAN.findall(cells[3]):
+            yield page, item.line, f"the clause {code.alone[name]} is to refuse {name}"
 
 
 def other_code(pages, code):
@@ -470,6 +473,7 @@ PLANTED = [
     (missing_clauses, "docs/PROOFS.md", "", "\nSee [laws.rt](../crates/qcow2_laws/src/laws.rt), the clause `headline`.\n"),
     (missing_bodies, "docs/WRONG_BODIES.md", "`nothing_is_worked_off`", "`everything_is_worked_off`"),
     (missing_bodies, "docs/WRONG_BODIES.md", "`emptied` |", "`headline` |"),
+    (missing_bodies, "docs/WRONG_BODIES.md", "| `nameable` |", "| `sound` |"),
     (other_code, "docs/GUIDE.md", "", "\n```rust\npub fn open(alloc: Global) {}\n```\n"),
     (other_code, "docs/PROOFS.md", "    ensures headline {", "    ensures headlines {"),
     (missing_fields, "docs/PROOFS.md", "", "\n`IsHeadline`:\n\n| Field | Says |\n|---|---|\n| `nowhere` | |\n"),
