@@ -1,13 +1,81 @@
--- Calls one after another, as a session's read or write makes them.
-use Rattle.std.proofs.Common.{◌≡◌, ◌⊎◌, ⊎_elim, inl, inr, ℕ, List, sym, ap, ◌∙◌, subst}
-use Rattle.image_access.proofs.Passing.{passes_if, passes_on}
+-- Calls one after another, as a session's read or write makes them, and where stops may find an image on the way. Each of these moments is built here.
+use Rattle.std.proofs.Common.{◌≡◌, ◌⊎◌, ⊎_elim, inl, inr, ℕ, List, IsTrue, sym, ap, ◌∙◌, subst}
+use Rattle.image_access.specs.Moments.{StorageView, Passing}
+use Rattle.image_access.proofs.Passing.{passes_none, passes_if, passes_on}
 use Rattle.qcow2_metadata.specs.Bytes.{Bytes, byte_at}
 use Rattle.qcow2_metadata.specs.Guest.{Value}
 use Rattle.qcow2_disk.specs.Disk.{disk, disk_with}
-use Rattle.qcow2_disk.specs.Stops.{GivenBytes, IsGiven, Checkpoint, checkpoint_with, StopOkEverywhere}
+use Rattle.qcow2_disk.specs.Stops.{GivenBytes, IsGiven, Checkpoint, checkpoint_with, StopOkEverywhere, SafeThroughout}
 use Rattle.qcow2_disk.specs.AbstractImages.{Setting, AbstractImage, stored_bytes, guest_of}
-use Rattle.qcow2_disk.specs.Calls.{Works, Rests}
-use Rattle.qcow2_disk.proofs.Stops.{given_more, given_front, given_split, kept_twice}
+use Rattle.qcow2_disk.specs.Calls.{StartsAt, Stops, Works, Rests}
+use Rattle.qcow2_disk.proofs.Stops.{given_more, given_front, given_split, kept_more, kept_twice}
+
+-- ---- where a stop may find an image, for each step of a call
+
+-- nothing is written, and what is known stays
+pub stops_none : (old new : AbstractImage) (gs : List GivenBytes) (asked : List ℕ) → new.storage ≡ old.storage → (new.is_sound → new.known ≡ old.known) → (m : Checkpoint) → StartsAt old m → Stops old new gs asked m
+stops_none old new gs asked same known m starts =
+    let here = kept_more old.setting.backing gs asked m (stored_bytes old) starts.0 in
+    record {
+      moments = subst (λ (v : StorageView). Passing old.storage v (λ c. StopOkEverywhere old.setting.backing (checkpoint_with gs asked m) (byte_at c))) (sym same) (passes_none old.storage _);
+      contents = subst (λ (v : StorageView). StopOkEverywhere old.setting.backing (checkpoint_with gs asked m) (byte_at v.contents)) (sym same) here;
+      known = λ h. subst (λ b. StopOkEverywhere old.setting.backing (checkpoint_with gs asked m) b) (sym (known h)) (kept_more old.setting.backing gs asked m old.known starts.1);
+    }
+
+-- by what is safe at each moment of its storage since, and by what is known in the end
+pub stops_of : (old new : AbstractImage) (given : Bytes → List GivenBytes) (asked : List ℕ) → SafeThroughout old.storage new.storage old.known given asked
+    → (new.is_sound → (backing : Bytes) (m : Checkpoint) → StopOkEverywhere backing m (stored_bytes old) → StopOkEverywhere backing m old.known → StopOkEverywhere backing (checkpoint_with (given backing) asked m) new.known)
+    → (m : Checkpoint) → StartsAt old m → Stops old new (given old.setting.backing) asked m
+stops_of old new given asked since known m starts =
+    let backing = old.setting.backing in
+    record {
+      moments = passes_if (λ c. StopOkEverywhere backing (checkpoint_with (given backing) asked m) (byte_at c)) (λ c kept. kept backing m starts.0 starts.1) since.moments;
+      contents = since.contents backing m starts.0 starts.1;
+      known = λ h. known h backing m starts.0 starts.1;
+    }
+
+-- the same of an image on the same storage, which is sound only where this one is
+pub stops_as : (old new old' new' : AbstractImage) (gs : List GivenBytes) (asked : List ℕ) → old'.setting ≡ old.setting → old'.storage ≡ old.storage → new'.storage ≡ new.storage → (new'.is_sound → new.is_sound × (new'.known ≡ new.known))
+    → (m : Checkpoint) → Stops old new gs asked m → Stops old' new' gs asked m
+stops_as old new old' new' gs asked setting from to still m s =
+    let back = λ (b : Bytes) (k : StopOkEverywhere old.setting.backing (checkpoint_with gs asked m) b). subst (λ (x : Setting). StopOkEverywhere x.backing (checkpoint_with gs asked m) b) (sym setting) k in
+    let moments : Passing old.storage new.storage (λ c. StopOkEverywhere old'.setting.backing (checkpoint_with gs asked m) (byte_at c)) =
+    passes_if (λ c. StopOkEverywhere old'.setting.backing (checkpoint_with gs asked m) (byte_at c)) (λ c k. back (byte_at c) k) s.moments in
+    record {
+      moments = subst (λ (v : StorageView). Passing v new'.storage (λ c. StopOkEverywhere old'.setting.backing (checkpoint_with gs asked m) (byte_at c))) (sym from)
+          (subst (λ (v : StorageView). Passing old.storage v (λ c. StopOkEverywhere old'.setting.backing (checkpoint_with gs asked m) (byte_at c))) (sym to) moments);
+      contents = subst (λ (v : StorageView). StopOkEverywhere old'.setting.backing (checkpoint_with gs asked m) (byte_at v.contents)) (sym to) (back (stored_bytes new) s.contents);
+      known = λ h. let there = still h in subst (λ b. StopOkEverywhere old'.setting.backing (checkpoint_with gs asked m) b) (sym there.1) (back new.known (s.known there.0));
+    }
+
+-- with other gifts, or more that is asked for
+pub stops_less : (old new : AbstractImage) (gs gs' : List GivenBytes) (asked asked' : List ℕ) (m : Checkpoint)
+    → ((b : Bytes) → StopOkEverywhere old.setting.backing (checkpoint_with gs asked m) b → StopOkEverywhere old.setting.backing (checkpoint_with gs' asked' m) b) → Stops old new gs asked m → Stops old new gs' asked' m
+stops_less old new gs gs' asked asked' m weaker s = record {
+  moments = passes_if (λ c. StopOkEverywhere old.setting.backing (checkpoint_with gs' asked' m) (byte_at c)) (λ c k. weaker (byte_at c) k) s.moments;
+  contents = weaker (stored_bytes new) s.contents;
+  known = λ h. weaker new.known (s.known h);
+}
+
+-- a failed image writes nothing more
+pub stops_resting : (old mid new : AbstractImage) (gs : List GivenBytes) (asked : List ℕ) → Rests mid new → (new.is_sound → ⊥) → (m : Checkpoint) → Stops old mid gs asked m → Stops old new gs asked m
+stops_resting old mid new gs asked rests never m s = record {
+  moments = passes_on (λ c. StopOkEverywhere old.setting.backing (checkpoint_with gs asked m) (byte_at c)) s.moments rests.moments
+      (λ c is. subst (λ k. StopOkEverywhere old.setting.backing (checkpoint_with gs asked m) (byte_at k)) (sym is) s.contents);
+  contents = subst (λ k. StopOkEverywhere old.setting.backing (checkpoint_with gs asked m) (byte_at k)) (sym rests.contents) s.contents;
+  known = λ h. absurd (never h);
+}
+
+-- a failed image on the same storage
+pub rests_none : (old new : AbstractImage) → new.setting ≡ old.setting → new.storage ≡ old.storage → IsTrue new.is_failed → Rests old new
+rests_none old new setting same failed = record {
+  setting = setting;
+  failed = failed;
+  contents = ap (λ (v : StorageView). v.contents) same;
+  moments = subst (λ (v : StorageView). Passing old.storage v (λ c. c ≡ old.storage.contents)) (sym same) (passes_none old.storage _);
+}
+
+-- ---- calls
 
 -- what a guest sees of an image that has its data itself
 pub shown_is : (v : AbstractImage) → v.data_bytes ≡ v.known → (guest_of v).disk ≡ disk v.known v.setting.backing
@@ -37,12 +105,7 @@ pub works_less : (old new : AbstractImage) (gs fewer : List GivenBytes) (asked :
 works_less old new gs fewer asked within w = record {
   setting = w.setting;
   surplus = w.surplus;
-  stops = λ m starts. let s = w.stops m starts in record {
-    moments = passes_if (λ c. StopOkEverywhere old.setting.backing (checkpoint_with fewer asked m) (byte_at c))
-        (λ c k. kept_less old gs fewer asked within m starts.1 (byte_at c) k) s.moments;
-    contents = kept_less old gs fewer asked within m starts.1 (stored_bytes new) s.contents;
-    known = λ h. kept_less old gs fewer asked within m starts.1 new.known (s.known h);
-  };
+  stops = λ m starts. stops_less old new gs fewer asked asked m (kept_less old gs fewer asked within m starts.1) (w.stops m starts);
 }
 
 -- two calls that give the same

@@ -12,8 +12,8 @@ use Rattle.qcow2_disk.specs.Mappings.{PreparedMapping}
 use Rattle.qcow2_disk.specs.AbstractImages.{Setting, Guest, Abstraction, AbstractImage, abstract_image, guest_of, stored_bytes, IsWhole}
 use Rattle.qcow2_disk.specs.Calls.{Refusal, Acts, Does, Refuses, IsRefusalByFault, Works, Rests, Stops}
 use Rattle.qcow2_disk.specs.Runs.{Command, Reply, Found, CommandMeaning, IsFaultReply, MayAnswer, IsAnswerOfFailed, IsRightlyTold, ResizesLast, State, CommandStep, Run, IsSafeWhile, IsStretch, RefinesGuest, RefinesAlong, IsStopIn, RefinesState, RefinesCommand, RefinesRun, RefinesWholeRun, RefinesDisk, IsOwnStretch, started, checkpoint_during, checkpoint_after, stepped, given_by, asked_by, flush, shrink, done, number_is}
-use Rattle.qcow2_disk.proofs.Compose.{works_less}
-use Rattle.qcow2_disk.proofs.Stops.{stop_of_kept, stop_more, kept_more}
+use Rattle.qcow2_disk.proofs.Compose.{works_less, stops_none, rests_none}
+use Rattle.qcow2_disk.proofs.Stops.{stop_of_kept, stop_more}
 
 bool_cases : (b : Bool) → (b ≡ true) ⊎ (b ≡ false)
 bool_cases true = inl refl
@@ -201,13 +201,9 @@ acts_none v given asked = record {
   works = λ _. record {
     setting = refl;
     surplus = λ _. refl;
-    stops = λ m starts. record {
-      moments = passes_none v.storage (λ c. StopOkEverywhere v.setting.backing (checkpoint_with given asked m) (byte_at c));
-      contents = kept_more v.setting.backing given asked m (stored_bytes v) starts.0;
-      known = λ _. kept_more v.setting.backing given asked m v.known starts.1;
-    };
+    stops = stops_none v v given asked refl (λ _. refl);
   };
-  rests = λ failed. record { setting = refl; failed = failed; contents = refl; moments = passes_none v.storage (λ c. c ≡ v.storage.contents) };
+  rests = λ failed. rests_none v v refl refl failed;
 }
 
 -- a flush that succeeded: what is on the storage is what the guest sees

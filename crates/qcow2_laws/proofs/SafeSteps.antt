@@ -1,13 +1,17 @@
--- Steps one after another, and the moments of a storage on the way.
+-- Steps one after another, and the moments of a storage on the way: a word for each elementary step, which is handed the step's own fact whole.
 use Rattle.std.proofs.Common.{◌≡◌, ◌⊎◌, inl, inr, ⊎_elim, ℕ, List, [], ◌++◌, Result, sym, ◌∙◌, subst, append_assoc}
 use Rattle.image_access.specs.declared.error.StorageError.{StorageError}
-use Rattle.image_access.specs.Moments.{StorageView, Calls, Changes}
+use Rattle.image_access.specs.Contents.{overwritten}
+use Rattle.image_access.specs.Moments.{StorageView, Passing, Calls, Changes}
 use Rattle.image_access.proofs.Passing.{whole_or_nothing, passes_none, passes_on, passes_if, passes_change}
 use Rattle.qcow2_metadata.specs.Bytes.{Bytes, byte_at}
 use Rattle.qcow2_metadata.specs.Guest.{Value}
 use Rattle.qcow2_disk.specs.Disk.{disk}
 use Rattle.qcow2_disk.specs.Stops.{GivenBytes, IsGiven, Checkpoint, checkpoint_with, StopOkEverywhere, SafeThroughout}
+use Rattle.qcow2_metadata.specs.declared.l2_mapping.L2Mapping.{L2Mapping}
+use Rattle.qcow2_laws.specs.GuestLaws.{MapsInTurn}
 use Rattle.qcow2_laws.specs.SafeSteps.{DriverState, StateInvariant, SafeStep}
+use Rattle.qcow2_laws.specs.Steps.{CountRises, CountFalls, EntryChanges}
 use Rattle.qcow2_disk.proofs.Stops.{given_more, given_front, given_split, kept_more}
 
 -- what two steps give and ask
@@ -36,8 +40,58 @@ leads_then a b c first then asked asks one two = record {
 
 -- ---- moments
 
+-- nothing happened
 pub endures_none : (view : StorageView) (known : Bytes) → SafeThroughout view view known (λ _. []) []
 endures_none view known = record { moments = passes_none view _; contents = λ backing m ok known_ok. ok }
+
+-- nothing is written
+unwritten : (view : StorageView) (known : Bytes) (given : Bytes → List GivenBytes) → SafeThroughout view view known given []
+unwritten view known given = record { moments = passes_none view _; contents = λ backing m ok known_ok. kept_more backing (given backing) [] m (byte_at view.contents) ok }
+
+-- a count is raised
+pub raise_endures : (view : StorageView) (s : DriverState) (known' : Bytes) (c : ℕ) → s.on_storage ≡ byte_at view.contents → CountRises s.header s.known known' c → SafeThroughout view view s.known (λ _. []) []
+raise_endures view s known' c is rises = endures_none view s.known
+
+-- a count is lowered
+pub fall_endures : (view : StorageView) (s : DriverState) (known' : Bytes) (c : ℕ) → s.on_storage ≡ byte_at view.contents → CountFalls s.header s.known known' c → SafeThroughout view view s.known (λ _. []) []
+fall_endures view s known' c is falls = endures_none view s.known
+
+-- what is pending changes
+pub pending_endures : (view : StorageView) (s s' : DriverState) → s.on_storage ≡ byte_at view.contents → SafeStep s s' (λ _. []) [] → SafeThroughout view view s.known (λ _. []) []
+pending_endures view s s' is leads = endures_none view s.known
+
+-- an entry of a cached table changes
+pub entry_endures : (view : StorageView) (s s' : DriverState) (i j : ℕ) (given : Bytes → List GivenBytes) → s.on_storage ≡ byte_at view.contents → EntryChanges s s'.known i j → SafeStep s s' given [] → SafeThroughout view view s.known given []
+entry_endures view s s' i j given is changes leads = unwritten view s.known given
+
+-- and several, one after another
+pub entries_endure : (view : StorageView) (s s' : DriverState) (kind : L2Mapping → Type 0) (first n : ℕ) (given : Bytes → List GivenBytes) → s.on_storage ≡ byte_at view.contents → MapsInTurn kind first n s s' → SafeStep s s' given []
+    → SafeThroughout view view s.known given []
+entries_endure view s s' kind first n given is turn leads = unwritten view s.known given
+
+-- one call of the storage, by what is safe at its return
+by_return : (old new : StorageView) (known : Bytes) (given : Bytes → List GivenBytes) (asked : List ℕ) → Passing old new (λ c. c ≡ new.contents)
+    → ((backing : Bytes) (m : Checkpoint) → StopOkEverywhere backing m (byte_at old.contents) → StopOkEverywhere backing m known → StopOkEverywhere backing (checkpoint_with (given backing) asked m) (byte_at new.contents))
+    → SafeThroughout old new known given asked
+by_return old new known given asked time now =
+    let P : List ℕ → Type 0 = λ c. (backing : Bytes) (m : Checkpoint) → StopOkEverywhere backing m (byte_at old.contents) → StopOkEverywhere backing m known → StopOkEverywhere backing (checkpoint_with (given backing) asked m) (byte_at c) in
+    record { moments = passes_if P (λ c (is : c ≡ new.contents). subst P (sym is) now) time; contents = now }
+
+-- a call of the storage that keeps the contents
+pub keep_endures : (old new : StorageView) (known : Bytes) → Passing old new (λ c. c ≡ new.contents) → new.contents ≡ old.contents → SafeThroughout old new known (λ _. []) []
+keep_endures old new known time same = by_return old new known (λ _. []) [] time (λ backing m ok known_ok. subst (λ (c : List ℕ). StopOkEverywhere backing m (byte_at c)) (sym same) ok)
+
+-- one write of the storage that was done, and makes a step's change
+pub done_endures : (old new : StorageView) (s s' : DriverState) (given : Bytes → List GivenBytes) (asked : List ℕ) → Passing old new (λ c. c ≡ new.contents) → s.on_storage ≡ byte_at old.contents → s'.on_storage ≡ byte_at new.contents
+    → SafeStep s s' given asked → SafeThroughout old new s.known given asked
+done_endures old new s s' given asked time is is' leads =
+    by_return old new s.known given asked time (λ backing m ok known_ok.
+    subst (λ (b : Bytes). StopOkEverywhere backing (checkpoint_with (given backing) asked m) b) is' (leads.on_storage backing m (subst (StopOkEverywhere backing m) (sym is) ok) known_ok))
+
+-- a write of data that was done, with its range and what it gives
+pub data_endures : (old new : StorageView) (s s' : DriverState) (offset : ℕ) (bytes : List ℕ) (given : Bytes → List GivenBytes) → Passing old new (λ c. c ≡ new.contents) → new.contents ≡ overwritten old.contents offset bytes
+    → s.on_storage ≡ byte_at old.contents → s'.on_storage ≡ byte_at new.contents → SafeStep s s' given [] → SafeThroughout old new s.known given []
+data_endures old new s s' offset bytes given time written is is' leads = done_endures old new s s' given [] time is is' leads
 
 -- one write of the storage, whatever it answers
 pub endures_write : {T : Type 0} {result : Result T StorageError} (old new : StorageView) (known : Bytes) (given : Bytes → List GivenBytes) (asked : List ℕ) (changed : List ℕ) → Calls old new result → Changes old new result changed → old.is_honest
@@ -78,6 +132,17 @@ pub step_endures : {T : Type 0} {result : Result T StorageError} (old new : Stor
 step_endures {result = result} old new s s' given asked changed call changes honest is is' leads =
     endures_write {result = result} old new s.known given asked changed call changes honest (λ backing m ok known_ok.
     subst (λ (b : Bytes). StopOkEverywhere backing (checkpoint_with (given backing) asked m) b) is' (leads.on_storage backing m (subst (StopOkEverywhere backing m) (sym is) ok) known_ok))
+
+-- one write of the storage, whatever it answers, that makes a step's change where it is done
+pub write_endures : {T : Type 0} {result : Result T StorageError} (old new : StorageView) (s : DriverState) (given : Bytes → List GivenBytes) (asked : List ℕ) (changed : List ℕ) → Calls old new result → Changes old new result changed → old.is_honest
+    → s.on_storage ≡ byte_at old.contents → (new.contents ≡ changed → (s' : DriverState) × (s'.on_storage ≡ byte_at new.contents) × SafeStep s s' given asked) → SafeThroughout old new s.known given asked
+write_endures {result = result} old new s given asked changed call changes honest is step =
+    by_return old new s.known given asked call.time (λ backing m ok known_ok. ⊎_elim
+    (λ (same : new.contents ≡ old.contents). subst (λ (c : List ℕ). StopOkEverywhere backing (checkpoint_with (given backing) asked m) (byte_at c)) (sym same) (kept_more backing (given backing) asked m (byte_at old.contents) ok))
+    (λ (done : new.contents ≡ changed).
+    let made = step done in
+    subst (λ (b : Bytes). StopOkEverywhere backing (checkpoint_with (given backing) asked m) b) made.1 (made.2.on_storage backing m (subst (StopOkEverywhere backing m) (sym is) ok) known_ok))
+    (whole_or_nothing result old.contents changed new.contents (changes honest)))
 
 -- more calls after a step
 pub steps_endure : (old mid new : StorageView) (s s' : DriverState) (first then : Bytes → List GivenBytes) (asked asks : List ℕ) → s.on_storage ≡ byte_at old.contents
@@ -122,3 +187,10 @@ endures_less old new known given fewer asked within endures =
           λ backing m ok known_ok. kept_less backing (given backing) (fewer backing) asked m known (byte_at c) (within backing) known_ok (kept backing m ok known_ok)) endures.moments;
       contents = λ backing m ok known_ok. kept_less backing (given backing) (fewer backing) asked m known (byte_at new.contents) (within backing) known_ok (endures.contents backing m ok known_ok);
     }
+
+-- what is safe while these sizes are asked for is so while more are
+pub endures_asking : (old new : StorageView) (known : Bytes) (given : Bytes → List GivenBytes) (asked more : List ℕ) → SafeThroughout old new known given asked → SafeThroughout old new known given (more ++ asked)
+endures_asking old new known given asked more one = endures_then old new new known known given (λ _. []) asked more one (λ backing m ok known_ok. kept_more backing (given backing) asked m known known_ok) (unasked new known more)
+  where
+    unasked : (view : StorageView) (known : Bytes) (more : List ℕ) → SafeThroughout view view known (λ _. []) more
+    unasked view known more = record { moments = passes_none view _; contents = λ backing m ok known_ok. kept_more backing [] more m (byte_at view.contents) ok }
