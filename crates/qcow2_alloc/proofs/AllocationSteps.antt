@@ -21,7 +21,6 @@ use Rattle.qcow2_alloc.specs.declared.clusters_to_free.ClusterKind.TheVariants.{
 use Rattle.qcow2_alloc.specs.declared.clusters_to_free.ClustersToFreeEntry.{ClustersToFreeEntry}
 use Rattle.qcow2_alloc.specs.Allocation.{run_at, is_data, taken_as, Owed, Taken, Listed, owed_as, MayTake, MayLower, HasNone, KeepsEntries, RefblockAt, UnseenAllocatorStep, UnseenAllocatorGrowth, PlacesBlock, GetsBlock, RefusedGrowth, TakesOne, TakesCluster, Allocates}
 use Rattle.qcow2_laws.specs.Caches.{AreSettled}
-use Rattle.image_access.proofs.Passing.{passes_none}
 use Rattle.qcow2_alloc.specs.CacheMarks.{KeepsMarks, SameTables}
 use Rattle.qcow2_alloc.specs.ImageFile.{view_in, contents_in, known_in, FileInvariant, AllocatorInvariant, HasReftable, RefusedFileStep}
 use Rattle.image_access.specs.declared.error.StorageError.{StorageError}
@@ -31,6 +30,7 @@ use Rattle.qcow2_alloc.specs.MetadataCaches.{order_of, rb_at, IsCountedAt, Raise
 use Rattle.qcow2_alloc.specs.declared.image_storage.ImageStorage.{ImageStorage}
 use Rattle.qcow2_alloc.specs.ImageStorage.{storage_of}
 use Rattle.qcow2_alloc.proofs.KeptTables.Standing.{own_cluster}
+use Rattle.qcow2_alloc.proofs.KeptTables.Turning.{safe_none}
 use Rattle.qcow2_alloc.proofs.Runs.{held_more}
 use Rattle.qcow2_alloc.proofs.FileSteps.{one_here, moves_none, moves_then, moves_on, on_then, on_breaks, leaves_then, breaks_after, moves_cached, reftable_cached, reftable_counted, moves_raised, moves_lowered}
 
@@ -121,7 +121,7 @@ module _ {S : Type 0} (view : S → StorageView) where
         sound = tables.sound h p (contents_in view file) sound.sound.caches;
         known = tables.known h (contents_in view file);
         settled = λ settled. subst (λ ts. AreSettled h ts (contents_in view file)) (sym tables.refblocks) settled;
-        since = record { moments = passes_none (view_in view file) _; contents = λ backing m ok known_ok. ok };
+        since = safe_none (view_in view file) (known_in view file);
       }) marks
 
   -- a refusal that is no fault left all sound

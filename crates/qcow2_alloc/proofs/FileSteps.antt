@@ -1,9 +1,9 @@
--- Steps of an image's file, one after another: calls of its caches, and counts that change.
+-- Steps of an image's file, one after another: calls of its caches, and counts that change. What a stop may leave on the way is built here, and in the words of `qcow2_laws`.
 use Rattle.std.proofs.Common.{◌≡◌, inl, inr, ℕ, ◌+◌, ◌/◌, ◌<◌, ◌≤◌, ◌==◌, Bool, true, false, cond, [], IsTrue, refl, sym, ap, ◌∙◌, subst, arith}
 use mathlib.Core.Path.{fun_ext}
 use Rattle.std.proofs.lemmas.Bool.{cases_eq, eq-eqb, ne_eqb, cond-true, cond-false}
 use Rattle.image_access.specs.Moments.{StorageView}
-use Rattle.image_access.proofs.Passing.{passes_none, passes_on}
+use Rattle.image_access.proofs.Passing.{passes_on}
 use Rattle.qcow2_metadata.specs.Bytes.{Bytes}
 use Rattle.qcow2_metadata.specs.EntryTable.{EntryTableView}
 use Rattle.qcow2_metadata.specs.Header.{cluster_size}
@@ -18,6 +18,7 @@ use Rattle.qcow2_laws.specs.Steps.{CountRises, CountFalls}
 use Rattle.qcow2_laws.specs.Unseen.{IsUnseen}
 use Rattle.qcow2_laws.proofs.Caches.{unnamed_free_l2, unnamed_free_rb}
 use Rattle.qcow2_laws.proofs.KeptSteps.{known_is_on_storage}
+use Rattle.qcow2_laws.proofs.SafeSteps.{endures_none, raise_endures, fall_endures}
 use Rattle.qcow2_laws.proofs.Steps.{count_is_changed, pending_is_changed}
 use Rattle.qcow2_laws.proofs.Unseen.{unseen_none, unseen_then, unseen_known, unseen_count, l1_same_none, l1_same_then, l1_same_storage, l1_same_known}
 use Rattle.qcow2_alloc.specs.declared.allocation.Allocator.{Allocator}
@@ -30,6 +31,7 @@ use Rattle.qcow2_alloc.specs.declared.clusters_to_free.ClusterKind.TheVariants.{
 use Rattle.qcow2_alloc.specs.CacheMarks.{KeepsMarks}
 use Rattle.qcow2_alloc.specs.ImageFile.{nothing_given, pending_at, view_in, contents_in, known_in, state_in, FileInvariant, HasReftable, UnseenFileStep, UnseenFileGrowth, InterruptedFileStep, RefusedFileStep, IsFault}
 use Rattle.qcow2_alloc.specs.ImageStorage.{storage_of}
+use Rattle.qcow2_alloc.specs.KeptTables.{IsSafeSince}
 use Rattle.qcow2_alloc.specs.MetadataCaches.{order_of, l2_tables, refblocks, known_of, UnseenCacheStep, Made}
 use Rattle.qcow2_alloc.proofs.CountsStay.{counts_follow}
 use Rattle.qcow2_alloc.proofs.KeptTables.Settled.{top_still}
@@ -57,6 +59,10 @@ pending_same p q held fresh spent dropped surplus =
 pub one_few : (c k : ℕ) → one_at c k ≤ 1
 one_few c k = elim (k == c) as (λ (b : Bool). cond b 1 0 ≤ 1) [ true ↦ omega arith | false ↦ omega arith ]
 
+-- a call of the caches
+pub cached_endures : (old new : StorageView) (known : Bytes) → IsSafeSince old new known → SafeThroughout old new known nothing_given []
+cached_endures old new known since = record { moments = since.moments; contents = since.contents }
+
 module _ {S : Type 0} (view : S → StorageView) where
   abbrev Moved : Pending → Pending → ImageFile S → ImageFile S → Type 0
   Moved = UnseenFileStep view
@@ -67,7 +73,7 @@ module _ {S : Type 0} (view : S → StorageView) where
   moves_none p file sound = record {
     sound = sound;
     leads = record { sound = sound.caches.kept.kept.guarded; on_storage = λ backing m ok known_ok. ok; known = λ backing m ok known_ok. known_ok };
-    since = record { moments = passes_none (view_in view file) _; contents = λ backing m ok known_ok. ok };
+    since = endures_none (view_in view file) (known_in view file);
     unseen = unseen_none (state_in view file p);
     l1_table = l1_same_none (state_in view file p);
     counts = λ k. omega arith;
@@ -153,7 +159,7 @@ module _ {S : Type 0} (view : S → StorageView) where
         on_storage = λ backing m ok known_ok. stays.since.contents backing m ok known_ok;
         known = λ backing m ok known_ok. subst (StopOkEverywhere backing m) (sym stays.known) known_ok;
       };
-      since = record { moments = stays.since.moments; contents = stays.since.contents };
+      since = cached_endures (view_in view file) (view (storage_of storage)) (known_in view file) stays.since;
       unseen = unseen_known (state_in view file p) (state_in view called p) refl stays.known;
       l1_table = l1_same_known (state_in view file p) (state_in view called p) sound.caches.kept.kept.guarded stays.sound.kept.kept.guarded refl (λ i. ap (λ (b : Bytes). l1_entry file.header.fields b i) stays.known);
       counts = λ k. let same = ap (λ (b : Bytes). count file.header.fields b k) stays.known in omega arith;
@@ -191,7 +197,7 @@ module _ {S : Type 0} (view : S → StorageView) where
           subst (λ (d : Direction). SafeStep (state_in view file p) (record (state_in view file p) { direction = d; pending = q; known = now_known }) nothing_given []) (sym turned) leads in record {
             sound = record { honest = sound.honest; caches = made.sound q leads'.sound; settled = made.settled sound.settled; room = marks.room sound.room };
             leads = leads';
-            since = record { moments = passes_none (view_in view file) _; contents = λ backing m ok known_ok. ok };
+            since = raise_endures (view_in view file) (state_in view file p) now_known c refl made.change;
             unseen = unseen_count (state_in view file p) (state_in view counted q) sound.caches.kept.kept.guarded c refl made.change.real made.change.outside;
             l1_table = l1_same_storage (state_in view file p) (state_in view counted q) refl;
             counts = λ k. same_storage_bytes q leads' (unseen_count (state_in view file p) (state_in view counted q) sound.caches.kept.kept.guarded c refl made.change.real made.change.outside) k (same k);
@@ -222,7 +228,7 @@ module _ {S : Type 0} (view : S → StorageView) where
           subst (λ (d : Direction). SafeStep (state_in view file p) (record (state_in view file p) { direction = d; pending = q; known = now_known }) nothing_given []) (sym turned) leads in record {
             sound = record { honest = sound.honest; caches = made.sound q leads'.sound; settled = made.settled sound.settled; room = marks.room sound.room };
             leads = leads';
-            since = record { moments = passes_none (view_in view file) _; contents = λ backing m ok known_ok. ok };
+            since = fall_endures (view_in view file) (state_in view file p) now_known c refl made.change;
             unseen = unseen_count (state_in view file p) (state_in view counted q) sound.caches.kept.kept.guarded c refl made.change.real made.change.outside;
             l1_table = l1_same_storage (state_in view file p) (state_in view counted q) refl;
             counts = λ k. same_storage_bytes q leads' (unseen_count (state_in view file p) (state_in view counted q) sound.caches.kept.kept.guarded c refl made.change.real made.change.outside) k (same k);

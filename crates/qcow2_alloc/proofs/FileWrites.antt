@@ -1,16 +1,15 @@
 -- Bytes are written to clusters of an image's file that nothing names, and that aren't held.
-use Rattle.std.proofs.Common.{◌≡◌, ◌⊎◌, inl, inr, ℕ, [], refl, sym, ◌∙◌, subst}
+use Rattle.std.proofs.Common.{◌≡◌, ◌⊎◌, inl, inr, ℕ, [], refl, sym, ◌∙◌}
 use Rattle.image_access.specs.Moments.{StorageView, Passing}
-use Rattle.image_access.proofs.Passing.{passes_if}
 use Rattle.qcow2_metadata.specs.Bytes.{byte_at}
 use Rattle.qcow2_metadata.specs.EntryTable.{EntryTableView}
 use Rattle.qcow2_metadata.specs.Header.{cluster_size}
 use Rattle.qcow2_metadata.specs.Named.{named_for_tables}
-use Rattle.qcow2_disk.specs.Stops.{StopOkEverywhere}
 use Rattle.qcow2_laws.specs.CrashInvariant.{Pending, SameIn}
 use Rattle.qcow2_laws.specs.SafeSteps.{SafeStep}
 use Rattle.qcow2_laws.specs.Writes.{IsUnnamed, IsWritten}
 use Rattle.qcow2_laws.proofs.Beside.{data_beside, same_beside, unnamed_free}
+use Rattle.qcow2_laws.proofs.SafeSteps.{done_endures}
 use Rattle.qcow2_laws.proofs.Steps.{data_is_written}
 use Rattle.qcow2_laws.proofs.Unseen.{unseen_written}
 use Rattle.qcow2_alloc.specs.declared.image_file.ImageFile.{ImageFile}
@@ -77,10 +76,7 @@ module _ {S : Type 0} (view : S → StorageView) (p : Pending) (file : ImageFile
           room = sound.room;
         };
         leads = leads_written;
-        since = record {
-          moments = passes_if _ (λ c is backing m ok known_ok. subst (λ l. StopOkEverywhere backing m (byte_at l)) (sym is) (leads_written.on_storage backing m ok known_ok)) time;
-          contents = λ backing m ok known_ok. leads_written.on_storage backing m ok known_ok;
-        };
+        since = done_endures (view_in view file) (view (storage_of storage)) (state_in view file p) (state_in view written p) nothing_given [] time refl refl leads_written;
         unseen = unseen.0;
         l1_table = unseen.1;
         counts = λ k. counts_follow h (order_of file.caches) (order_of file.caches) p p (contents_in view file) (contents_in view written) (known_in view file) (known_in view written) sound.caches.kept.kept.guarded leads_written.sound unseen.0.covers

@@ -7,7 +7,6 @@ use Rattle.std.specs.Int.{w64, to_be_bytes}
 use Rattle.image_access.specs.Contents.{overwritten}
 use Rattle.image_access.specs.Moments.{StorageView, Passing, Changes, Calls}
 use Rattle.image_access.specs.declared.error.StorageError.{StorageError}
-use Rattle.image_access.proofs.Passing.{passes_if, whole_or_nothing}
 use Rattle.qcow2_metadata.specs.Bytes.{Bytes, byte_at}
 use Rattle.qcow2_metadata.specs.EntryTable.{EntryTableView, IsRefTableOf, entry_count}
 use Rattle.qcow2_metadata.specs.RefBlock.{RefBlockView, IsRefBlock, count_at}
@@ -19,7 +18,7 @@ use Rattle.qcow2_metadata.specs.Named.{table_in, in_cluster, named_for_tables, n
 use Rattle.qcow2_metadata.proofs.EntryTables.{on_sector}
 use Rattle.qcow2_metadata.proofs.TablesAt.{ref_block_at}
 use Rattle.qcow2_metadata.proofs.WrittenTables.{IsRefTableOf-written_entry}
-use Rattle.qcow2_disk.specs.Stops.{Checkpoint, StopOkEverywhere, SafeThroughout}
+use Rattle.qcow2_disk.specs.Stops.{SafeThroughout}
 use Rattle.qcow2_laws.specs.Changes.{one_at, with_fresh, named_now}
 use Rattle.qcow2_laws.specs.CrashInvariant.{Pending, SameIn}
 use Rattle.qcow2_laws.specs.Caches.{AreClean, BlocksMayGo, HasL2, HasOwnL2, HasBlock}
@@ -33,6 +32,7 @@ use Rattle.qcow2_laws.proofs.Caches.{clean_counts}
 use Rattle.qcow2_laws.proofs.NewBlocks.{other_reftable}
 use Rattle.qcow2_laws.proofs.NewTables.{outside_eight}
 use Rattle.qcow2_laws.proofs.Places.{Sizes, block_count-moved}
+use Rattle.qcow2_laws.proofs.SafeSteps.{done_endures, write_endures}
 use Rattle.qcow2_laws.proofs.Shares.{shares, table_has, block_has, reftable_has}
 use Rattle.qcow2_laws.proofs.Steps.{table_is_named}
 use Rattle.qcow2_laws.proofs.Unseen.{unseen_refblock}
@@ -299,10 +299,7 @@ module _ {S : Type 0} (view : S → StorageView) (d : Bool) (p : Pending) (range
         room = sound.room;
       };
       leads = leads;
-      since = record {
-        moments = passes_if _ (λ c is backing m ok known_ok. subst (λ l. StopOkEverywhere backing m (byte_at l)) (sym is) (leads.on_storage backing m ok known_ok)) time;
-        contents = λ backing m ok known_ok. leads.on_storage backing m ok known_ok;
-      };
+      since = done_endures (view_in view file) (view (storage_of storage)) (state_in view file q) (state_in view named p) nothing_given [] time refl refl leads;
       unseen = unseen.0;
       l1_table = unseen.1;
       counts = λ k. counts_follow h (order_of file.caches) (order_of file.caches) q p on_storage on_storage' (known_in view file) (known_in view named) sound.caches.kept.kept.guarded leads.sound unseen.0.covers (fixed_more h on_storage on_storage' still_named unseen.1) k (sym (surplus_placing d p at k));
@@ -311,17 +308,10 @@ module _ {S : Type 0} (view : S → StorageView) (d : Bool) (p : Pending) (range
   -- what is kept of the storage and of what is known is kept, whether the write is done or not; and where it is done, the refblock is named
   module _ (storage : ImageStorage S) (result : Result (Unit {0}) StorageError) (calls : Calls (view_in view file) (view (storage_of storage)) result)
       (changes : Changes (view_in view file) (view (storage_of storage)) result (overwritten (view_in view file).contents (h.reftable_offset + 8 * range) (to_be_bytes w64 entry))) where
-    kept : (backing : Bytes) (m : Checkpoint) → StopOkEverywhere backing m on_storage → StopOkEverywhere backing m (known_in view file) → StopOkEverywhere backing m (byte_at (view (storage_of storage)).contents)
-    kept backing m ok known_ok = elim (whole_or_nothing result (view_in view file).contents _ (view (storage_of storage)).contents (changes sound.honest)) [
-      | inl same ↦ subst (λ (l : List ℕ). StopOkEverywhere backing m (byte_at l)) (sym same) ok
-      | inr is ↦ (leads storage is).on_storage backing m ok known_ok
-    ]
-
     pub endures_named : SafeThroughout (view_in view file) (view (storage_of storage)) (known_in view file) nothing_given []
-    endures_named = record {
-      moments = passes_if _ (λ c is backing m ok known_ok. subst (λ (l : List ℕ). StopOkEverywhere backing m (byte_at l)) (sym is) (kept backing m ok known_ok)) calls.time;
-      contents = kept;
-    }
+    endures_named =
+        write_endures {result = result} (view_in view file) (view (storage_of storage)) (state_in view file q) nothing_given [] (overwritten (view_in view file).contents (h.reftable_offset + 8 * range) (to_be_bytes w64 entry)) calls changes sound.honest refl
+        (λ is. (state_in view (record file { storage = storage }) p, refl, leads storage is))
 
     pub named_so : (x : Unit {0}) → result ≡ Ok x → UnseenFileStep view q p file (record file { storage = storage }) × HasReftable view (record file { storage = storage }) t'
     named_so x done = let is = rw done at (changes sound.honest) in (moves_named storage is (calls.honest sound.honest) calls.time, reftable_named storage is)

@@ -18,7 +18,7 @@ use Rattle.qcow2_disk.specs.Stops.{SafeThroughout}
 use Rattle.qcow2_laws.specs.Tops.{WritesHeader, with_reftable_at, IsNewReftable}
 use Rattle.qcow2_laws.specs.Unseen.{IsUnseen}
 use Rattle.qcow2_laws.proofs.Headers.{header_fixed, header_l1, header_known_covers}
-use Rattle.qcow2_laws.proofs.SafeSteps.{endures_write}
+use Rattle.qcow2_laws.proofs.SafeSteps.{step_endures}
 use Rattle.qcow2_laws.proofs.ReftableMoves.{now_l1, now_reftable, known_counts}
 use Rattle.qcow2_laws.proofs.Steps.{header_is_written}
 use Rattle.qcow2_laws.proofs.Unseen.{table_bytes}
@@ -125,7 +125,9 @@ module _ {S : Type 0} (view : S → StorageView) (p : Pending) (first blocks clu
   -- whatever the storage answers
   pub lasts_named : (result : Result (Unit {0}) StorageError) (after : S) → Changes (view_in view file) (view after) result written → Calls (view_in view file) (view after) result
       → SafeThroughout (view_in view file) (view after) known nothing_given []
-  lasts_named result after wrote called = endures_write {result = result} (view_in view file) (view after) known nothing_given [] written called wrote sound.honest (leads_at (byte_at written) writes).on_storage
+  lasts_named result after wrote called =
+      step_endures {result = result} (view_in view file) (view after) (state_in view file q) (record (state_in view file q) { header = h'; pending = without_reftable p h; on_storage = byte_at written; known = known_of h file.caches (byte_at written) })
+      nothing_given [] written called wrote sound.honest refl refl (leads_at (byte_at written) writes)
 
   module _ (storage : ImageStorage S) (is : (view (storage_of storage)).contents ≡ written) (honest : (view (storage_of storage)).is_honest) where
     abbrev named : ImageFile S

@@ -9,7 +9,7 @@ use Rattle.image_access.specs.Contents.{overwritten}
 use Rattle.image_access.specs.Moments.{StorageView, Changes, Calls}
 use Rattle.image_access.specs.declared.error.StorageError.{StorageError}
 use Rattle.image_access.proofs.Bytes.{byte_at-overwritten}
-use Rattle.image_access.proofs.Passing.{passes_none, whole_or_nothing}
+use Rattle.image_access.proofs.Passing.{whole_or_nothing}
 use Rattle.qcow2_metadata.specs.Bytes.{Bytes, byte_at}
 use Rattle.qcow2_metadata.specs.declared.header.HeaderFields.{HeaderFields}
 use Rattle.qcow2_metadata.specs.EntryTable.{EntryTableView}
@@ -41,6 +41,7 @@ use Rattle.qcow2_alloc.specs.Rooms.{WritesTo, WritesTable}
 use Rattle.qcow2_alloc.specs.TableCaches.{IsBlockOf}
 use Rattle.qcow2_alloc.proofs.AllocationSteps.{fault_of_storage, becomes_cached, becomes_then, is_sound_now}
 use Rattle.qcow2_alloc.proofs.FileWrites.{moves_written, reftable_written}
+use Rattle.qcow2_alloc.proofs.KeptTables.Turning.{safe_none, stay_none}
 use Rattle.qcow2_alloc.proofs.Runs.{run_in, run_before, run_after}
 use Rattle.qcow2_alloc.proofs.PlacedBlocks.{IsFree, has_none, covers_written, known_there, moves_rewritten, reftable_rewritten, write_as, outside_cluster}
 
@@ -82,7 +83,7 @@ module _ {S : Type 0} (view : S → StorageView) where
           sound = off.off.sound q (subst (λ (b : Bytes). CrashInvariant h (order_of caches) q on_storage b) (sym known) guarded);
           known = known;
           settled = off.off.settled;
-          since = record { moments = passes_none (view_in view file) _; contents = λ backing m ok known_ok. ok };
+          since = safe_none (view_in view file) (known_in view file);
         }
 
     removed_stays : (taken : Bool) → (IsFalse taken → caches ≡ file.caches) → (IsTrue taken → TakesBlock file.caches caches cluster) → UnseenCacheStep h q (view_in view file) file.caches (view_in view file) caches
@@ -94,13 +95,7 @@ module _ {S : Type 0} (view : S → StorageView) where
           | inr other ↦ sym (off.outside o other)
         ])) (takes refl)
     removed_stays false same takes =
-        subst (λ (c : MetadataCaches S). UnseenCacheStep h q (view_in view file) file.caches (view_in view file) c) (sym (same refl)) (record {
-          honest = sound.honest;
-          sound = sound.caches;
-          known = refl;
-          settled = λ settled. settled;
-          since = record { moments = passes_none (view_in view file) _; contents = λ backing m ok known_ok. ok };
-        })
+        subst (λ (c : MetadataCaches S). UnseenCacheStep h q (view_in view file) file.caches (view_in view file) c) (sym (same refl)) (stay_none view h q file.storage file.caches sound.honest sound.caches)
 
     pub becomes_removed : (a : Allocator) → HasReftable view file a.reftable → (taken : Bool) → (IsFalse taken → caches ≡ file.caches) → (IsTrue taken → TakesBlock file.caches caches cluster) → KeepsMarks file.caches caches
         → UnseenAllocatorStep view q file a (record file { caches = caches }) q

@@ -4,14 +4,12 @@ use Rattle.std.proofs.Math.Nat.{mul-mod_left}
 use Rattle.std.specs.Option.{IfSome, IsNone}
 use Rattle.std.specs.Map.{lookup, lookup_entry, remove_entry}
 use Rattle.image_access.specs.Moments.{StorageView}
-use Rattle.image_access.proofs.Passing.{passes_on}
 use Rattle.qcow2_metadata.specs.Bytes.{Bytes, byte_at}
 use Rattle.qcow2_metadata.specs.declared.header.HeaderFields.{HeaderFields}
 use Rattle.qcow2_metadata.specs.declared.error.MetadataError.{MetadataError}
 use Rattle.qcow2_metadata.specs.Header.{cluster_size}
 use Rattle.qcow2_metadata.specs.L2Table.{L2TableView}
 use Rattle.qcow2_metadata.specs.Tables.{CachedTable, known}
-use Rattle.qcow2_disk.specs.Stops.{StopOkEverywhere}
 use Rattle.qcow2_laws.specs.CrashInvariant.{Pending, CrashInvariant}
 use Rattle.qcow2_laws.specs.Caches.{known_bytes, TablesMayGo, AreSettled, HasL2, HasOwnL2}
 use Rattle.qcow2_alloc.specs.declared.async_lru_cache.slot.Slot.{Slot}
@@ -35,6 +33,7 @@ use Rattle.qcow2_alloc.proofs.KeptTables.Getting.{HoldsWhatStands, insert_put, r
 use Rattle.qcow2_alloc.proofs.KeptTables.Flushing.{l2_step, table_still}
 use Rattle.qcow2_alloc.proofs.KeptTables.Inserting.{IsTakenOrKept, found_or_not, lookup_none, table_as}
 use Rattle.qcow2_alloc.proofs.KeptTables.Laying.{laid_first, l2_laid}
+use Rattle.qcow2_alloc.proofs.KeptTables.Turning.{safe_then}
 
 pub on_err : {T E : Type 0} {P : Type 0} (r : Result T E) → P → OnErr r P
 on_err (Ok _) p = tt
@@ -67,11 +66,7 @@ module _ {S : Type 0} (view : S → StorageView) (h : HeaderFields) (p : Pending
   laid_then first second = record {
     honest = second.honest;
     known = second.known ∙ ap (known (cluster_size h) (table ∷ [])) first.known;
-    since = record {
-      moments = passes_on _ first.since.moments second.since.moments
-          (λ l safe backing m ok known_ok. safe backing m (first.since.contents backing m ok known_ok) (subst (StopOkEverywhere backing m) (sym first.known) known_ok));
-      contents = λ backing m ok known_ok. second.since.contents backing m (first.since.contents backing m ok known_ok) (subst (StopOkEverywhere backing m) (sym first.known) known_ok);
-    };
+    since = safe_then (view (storage_of r)) (view (storage_of s)) (view (storage_of t)) _ _ first.known first.since second.since;
     settled = λ named settled. second.settled named (first.settled settled);
     sound = second.sound;
   }

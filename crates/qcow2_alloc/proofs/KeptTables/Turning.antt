@@ -1,19 +1,40 @@
 -- Calls of the caches one after another, and turns of the direction.
-use Rattle.std.proofs.Common.{◌≡◌, ◌⊎◌, inl, inr, Result, Ok, Err, OnOk, refl, sym, ◌∙◌, subst}
-use Rattle.image_access.specs.Moments.{StorageView}
-use Rattle.image_access.proofs.Passing.{passes_none, passes_on}
-use Rattle.qcow2_metadata.specs.Bytes.{byte_at}
+use Rattle.std.proofs.Common.{◌≡◌, ◌⊎◌, inl, inr, List, ℕ, Result, Ok, Err, OnOk, refl, sym, ◌∙◌, subst}
+use Rattle.image_access.specs.Moments.{StorageView, Passing}
+use Rattle.image_access.proofs.Passing.{passes_none, passes_on, passes_if}
+use Rattle.qcow2_metadata.specs.Bytes.{Bytes, byte_at}
 use Rattle.qcow2_metadata.specs.declared.header.HeaderFields.{HeaderFields}
 use Rattle.qcow2_disk.specs.Stops.{StopOkEverywhere}
 use Rattle.qcow2_laws.specs.Clusters.{Direction, Neither, L2DependsOnRb, RbDependsOnL2}
 use Rattle.qcow2_laws.specs.CrashInvariant.{Pending, MayTurn}
-use Rattle.qcow2_laws.specs.Caches.{AreClean, BlocksMayGo, TablesMayGo}
+use Rattle.qcow2_laws.specs.Caches.{AreClean, BlocksMayGo, TablesMayGo, IsSafeBetween}
 use Rattle.qcow2_laws.proofs.Caches.{clean_covers, clean_counts, kept_turned}
 use Rattle.qcow2_alloc.specs.declared.cache.Direction.TheVariants as D
 use Rattle.qcow2_alloc.specs.declared.cache.MetadataCaches.{MetadataCaches}
 use Rattle.qcow2_alloc.specs.declared.image_storage.ImageStorage.{ImageStorage}
 use Rattle.qcow2_alloc.specs.ImageStorage.{storage_of}
+use Rattle.qcow2_alloc.specs.KeptTables.{IsSafeSince}
 use Rattle.qcow2_alloc.specs.MetadataCaches.{order, order_of, l2_tables, refblocks, known_of, AreAllWritten, CacheInvariant, UnseenCacheStep, KeepSound}
+
+-- ---- moments: a word for each elementary step of the caches
+
+-- no table is written
+pub safe_none : (v : StorageView) (known : Bytes) → IsSafeSince v v known
+safe_none v known = record { moments = passes_none v _; contents = λ backing m ok known_ok. ok }
+
+-- a call of the storage that keeps the contents
+pub safe_keep : (old new : StorageView) (known : Bytes) → Passing old new (λ c. c ≡ new.contents) → new.contents ≡ old.contents → IsSafeSince old new known
+safe_keep old new known time same = record {
+  moments = passes_if (λ c. IsSafeBetween (byte_at old.contents) known (byte_at c)) (λ c is backing m ok known_ok. subst (λ (l : List ℕ). StopOkEverywhere backing m (byte_at l)) (sym (is ∙ same)) ok) time;
+  contents = λ backing m ok known_ok. subst (λ (l : List ℕ). StopOkEverywhere backing m (byte_at l)) (sym same) ok;
+}
+
+-- one call after another, of which the first changed nothing known
+pub safe_then : (old mid new : StorageView) (known known' : Bytes) → known' ≡ known → IsSafeSince old mid known → IsSafeSince mid new known' → IsSafeSince old new known
+safe_then old mid new known known' same first second = record {
+  moments = passes_on _ first.moments second.moments (λ l safe backing m ok known_ok. safe backing m (first.contents backing m ok known_ok) (subst (StopOkEverywhere backing m) (sym same) known_ok));
+  contents = λ backing m ok known_ok. second.contents backing m (first.contents backing m ok known_ok) (subst (StopOkEverywhere backing m) (sym same) known_ok);
+}
 
 module _ {S : Type 0} (view : S → StorageView) where
   -- nothing happens
@@ -24,7 +45,7 @@ module _ {S : Type 0} (view : S → StorageView) where
     sound = sound;
     known = refl;
     settled = λ settled. settled;
-    since = record { moments = passes_none (view (storage_of s)) _; contents = λ backing m ok known_ok. ok };
+    since = safe_none (view (storage_of s)) (known_of h c (byte_at (view (storage_of s)).contents));
   }
 
   pub keep_none : (s : ImageStorage S) (c : MetadataCaches S) → KeepSound view s c s c
@@ -37,11 +58,7 @@ module _ {S : Type 0} (view : S → StorageView) where
     sound = second.sound;
     known = second.known ∙ first.known;
     settled = λ settled. second.settled (first.settled settled);
-    since = record {
-      moments = passes_on _ first.since.moments second.since.moments
-          (λ l safe backing m ok known_ok. safe backing m (first.since.contents backing m ok known_ok) (subst (StopOkEverywhere backing m) (sym first.known) known_ok));
-      contents = λ backing m ok known_ok. second.since.contents backing m (first.since.contents backing m ok known_ok) (subst (StopOkEverywhere backing m) (sym first.known) known_ok);
-    };
+    since = safe_then (view (storage_of r)) (view (storage_of s)) (view (storage_of t)) _ _ first.known first.since second.since;
   }
 
   pub keep_then : (r s t : ImageStorage S) (a b c : MetadataCaches S) → KeepSound view r a s b → KeepSound view s b t c → KeepSound view r a t c

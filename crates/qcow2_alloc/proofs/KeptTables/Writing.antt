@@ -31,6 +31,7 @@ use Rattle.qcow2_alloc.specs.TableSteps.{FlushesTable, FailsToFlush, table_steps
 use Rattle.qcow2_alloc.specs.CacheAnswers.{FlushesEntry, FlushesAll}
 use Rattle.qcow2_alloc.specs.KeptTables.{cached_table, cached_tables, AreElsewhere, AreKept, IsSafeSince}
 use Rattle.qcow2_alloc.proofs.KeptTables.Loaded.{stays_free, loaded_written, loaded_beside}
+use Rattle.qcow2_alloc.proofs.KeptTables.Turning.{safe_none, safe_then}
 
 -- ---- one table of either cache is written
 
@@ -219,7 +220,7 @@ module _ {S V : Type 0} (view : S → StorageView) (bits : ℕ) (bytes : V → L
       honest = honest;
       kept = kept;
       known = refl;
-      since = record { moments = passes_none (view s) _; contents = λ backing m ok known_ok. ok };
+      since = safe_none (view s) (all ts (contents s));
       moments = passes_none (view s) _;
     }
 
@@ -228,10 +229,7 @@ module _ {S V : Type 0} (view : S → StorageView) (bits : ℕ) (bytes : V → L
       honest = g.honest;
       kept = g.kept;
       known = g.known ∙ f.known;
-      since = record {
-        moments = passes_on _ f.since.moments g.since.moments (λ c safe backing m ok known_ok. safe backing m (f.since.contents backing m ok known_ok) (subst (StopOkEverywhere backing m) (sym f.known) known_ok));
-        contents = λ backing m ok known_ok. g.since.contents backing m (f.since.contents backing m ok known_ok) (subst (StopOkEverywhere backing m) (sym f.known) known_ok);
-      };
+      since = safe_then (view r) (view s) (view t) _ _ f.known f.since g.since;
       moments = passes_on _ f.moments g.moments (λ c now. now);
     }
 
