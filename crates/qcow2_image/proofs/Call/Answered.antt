@@ -6,21 +6,19 @@ use Rattle.std.proofs.lemmas.Bool.{cond-true, cond-false}
 use mathlib.Core.Path.{fun_ext}
 use Rattle.image_access.specs.Backing.{BackingView}
 use Rattle.image_access.specs.Moments.{StorageView}
-use Rattle.image_access.proofs.Passing.{passes_if}
-use Rattle.qcow2_metadata.specs.Bytes.{Bytes, byte_at}
+use Rattle.qcow2_metadata.specs.Bytes.{Bytes}
 use Rattle.qcow2_metadata.specs.Header.{cluster_size}
 use Rattle.qcow2_metadata.specs.Guest.{known_byte}
 use Rattle.qcow2_disk.specs.Disk.{disk}
 use Rattle.qcow2_laws.specs.CrashInvariant.{Pending}
 use Rattle.qcow2_laws.specs.SafeSteps.{StateInvariant}
 use Rattle.qcow2_disk.specs.Mappings.{PreparedMapping}
-use Rattle.qcow2_disk.specs.Stops.{StopOkEverywhere, checkpoint_with}
 use Rattle.qcow2_laws.specs.Unseen.{SameUsedBytes, used_by_guests}
 use Rattle.qcow2_disk.specs.AbstractImages.{Setting, Guest, guest_of, meaning_at}
 use Rattle.qcow2_disk.specs.Calls.{Works}
 use Rattle.qcow2_laws.proofs.Unseen.{unseen_disk}
 use Rattle.qcow2_metadata.specs.declared.header.HeaderFields.{HeaderFields}
-use Rattle.qcow2_alloc.specs.ImageFile.{state_in, contents_in, known_in}
+use Rattle.qcow2_alloc.specs.ImageFile.{state_in, contents_in, known_in, nothing_given}
 use Rattle.qcow2_image.specs.declared.image.Qcow2.{Qcow2}
 use Rattle.qcow2_image.specs.declared.prepared.Prepared.{Prepared}
 use Rattle.qcow2_image.specs.ImageInvariant.{below_of, of_data, of_tables, to_free, held_by, over_all, pending_in, abstract_of, meaning, is_entered, is_new, is_private, is_hidden, place_of, share_of, backing_bytes, ImageInvariant}
@@ -29,6 +27,7 @@ use Rattle.qcow2_image.specs.UnseenSteps.{pending_with_listed, ListGrows, Unseen
 use Rattle.qcow2_image.proofs.Moved.{format_moves}
 use Rattle.qcow2_image.proofs.Shares.{private_used, used_unlaid}
 use Rattle.qcow2_image.proofs.Sound.{free_more, pending_is}
+use Rattle.qcow2_disk.proofs.Compose.{stops_of}
 
 pub same_guest : (a b : Guest) → a.disk ≡ b.disk → a.slots ≡ b.slots → a ≡ b
 same_guest a b disks slots = ap (λ d. record a { disk = d }) disks ∙ ap (λ f. record b { slots = f }) slots
@@ -132,9 +131,5 @@ module _ {S F : Type 0} (view : S → StorageView) (backing : F → BackingView)
     works_now = record {
       setting = same_setting _ _ (ap (λ (h : HeaderFields). cluster_size h) keeps.unseen.header) keeps.below;
       surplus = λ still. ap (λ (q : Pending). q.surplus) (sym pending_now);
-      stops = λ m starts. record {
-        moments = passes_if (λ c. StopOkEverywhere (backing_bytes view backing old.backing) (checkpoint_with [] [] m) (byte_at c)) (λ c kept. kept (backing_bytes view backing old.backing) m starts.0 starts.1) keeps.since.moments;
-        contents = keeps.since.contents (backing_bytes view backing old.backing) m starts.0 starts.1;
-        known = λ still. keeps.leads.known (backing_bytes view backing old.backing) m starts.0 starts.1;
-      };
+      stops = stops_of (abstract_of view backing old out) (abstract_of view backing new out) nothing_given [] keeps.since (λ still. keeps.leads.known);
     }

@@ -5,7 +5,6 @@ use Rattle.std.proofs.lemmas.List.{append_assoc}
 use mathlib.Core.Path.{fun_ext}
 use Rattle.image_access.specs.Backing.{BackingView}
 use Rattle.image_access.specs.Moments.{StorageView}
-use Rattle.image_access.proofs.Passing.{passes_none}
 use Rattle.qcow2_metadata.specs.Entries.{l1_entry}
 use Rattle.qcow2_laws.specs.CrashInvariant.{Pending}
 use Rattle.qcow2_laws.specs.Unseen.{KeepsFormat}
@@ -25,6 +24,7 @@ use Rattle.qcow2_image.specs.ImageInvariant.{of_data, of_tables, to_free, ImageI
 use Rattle.qcow2_image.specs.UnseenSteps.{NamesOwn, KeepsCopied, pending_with_listed, UnseenStep}
 use Rattle.qcow2_image.proofs.Call.Answered.{works_now, sound_now, same_now}
 use Rattle.qcow2_image.proofs.Call.Settled.{settled_does, settled_refuses}
+use Rattle.qcow2_disk.proofs.Compose.{stops_none, rests_none}
 
 -- ---- a call that was refused before it did anything
 module _ (v : AbstractImage) where
@@ -32,12 +32,12 @@ module _ (v : AbstractImage) where
   works_none sound = record {
     setting = refl;
     surplus = λ still. refl;
-    stops = λ m starts. record { moments = passes_none v.storage _; contents = starts.0; known = λ still. starts.1 };
+    stops = stops_none v v [] [] refl (λ still. refl);
   }
 
   pub refuses_early : (e : Refusal) → (e ≡ storage → ⊥) → Refuses v v [] [] e (IsSame v v)
   refuses_early e none = record {
-    acts = record { number = refl; works = works_none; rests = λ failed. record { setting = refl; failed = failed; contents = refl; moments = passes_none v.storage _ } };
+    acts = record { number = refl; works = works_none; rests = λ failed. rests_none v v refl refl failed };
     answer = λ sound. inl (sound, refl);
     fault = λ is. absurd (none is);
   }

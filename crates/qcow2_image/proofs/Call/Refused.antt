@@ -3,16 +3,13 @@ use Rattle.std.proofs.Common.{◌≡◌, ◌⊎◌, ⊎_elim, inl, inr, ℕ, Boo
 use Rattle.std.specs.Prelude.{Result, Ok, Err, IsTrue, slice_set}
 use Rattle.image_access.specs.Backing.{BackingView}
 use Rattle.image_access.specs.Moments.{StorageView}
-use Rattle.image_access.proofs.Passing.{passes_if}
-use Rattle.qcow2_metadata.specs.Bytes.{byte_at}
 use Rattle.qcow2_metadata.specs.declared.header.HeaderFields.{HeaderFields}
 use Rattle.qcow2_metadata.specs.Header.{cluster_size}
 use Rattle.qcow2_disk.specs.Calls.{IsRefusalByFault, IsSame, Refuses, Works, with_slot}
 use Rattle.qcow2_disk.specs.Disk.{Disk}
 use Rattle.qcow2_disk.specs.Mappings.{IsPrepared}
-use Rattle.qcow2_disk.proofs.Compose.{works_then}
+use Rattle.qcow2_disk.proofs.Compose.{works_then, stops_of}
 use Rattle.qcow2_laws.specs.CrashInvariant.{Pending, SameCovers}
-use Rattle.qcow2_disk.specs.Stops.{StopOkEverywhere, checkpoint_with}
 use Rattle.qcow2_disk.specs.AbstractImages.{Guest, Setting, guest_of}
 use Rattle.qcow2_alloc.specs.ImageError.{IsFault as FaultOfTables}
 use Rattle.qcow2_alloc.specs.declared.error.ImageError.{ImageError}
@@ -25,7 +22,7 @@ use Rattle.qcow2_image.specs.Image.{number_of, is_failed, KeepsRestOn}
 use Rattle.qcow2_image.specs.Refusals.{failed_after}
 use Rattle.qcow2_image.specs.CallParts.{UnseenCall, InterruptedCall, RefusedCall, FindsTable, IsReadied, PreparesRange}
 use Rattle.qcow2_image.specs.UnseenSteps.{InterruptedStep, Ensures, UnseenFillingStep, RefusedFillingStep, UnseenStep, RefusedStep, pending_with_listed}
-use Rattle.qcow2_image.specs.ImageInvariant.{of_data, of_tables, to_free, pending_in, abstract_of, meaning, backing_bytes, below_of, ImageInvariant}
+use Rattle.qcow2_image.specs.ImageInvariant.{of_data, of_tables, to_free, pending_in, abstract_of, meaning, below_of, ImageInvariant}
 use Rattle.qcow2_image.proofs.Moved.{moves_then, format_moves, stay_then, format_stay}
 use Rattle.qcow2_image.proofs.Sound.{free_more}
 use Rattle.qcow2_image.proofs.Call.Answered.{same_setting, same_now, sound_now, works_now}
@@ -61,11 +58,7 @@ module _ {S F : Type 0} (view : S → StorageView) (backing : F → BackingView)
     works = record {
       setting = same_setting _ _ size below;
       surplus = λ now. absurd (let f : true ≡ false = now.works in cc);
-      stops = λ m starts. record {
-        moments = passes_if (λ c. StopOkEverywhere (backing_bytes view backing old.backing) (checkpoint_with [] [] m) (byte_at c)) (λ c kept. kept (backing_bytes view backing old.backing) m starts.0 starts.1) breaks.since.moments;
-        contents = breaks.since.contents (backing_bytes view backing old.backing) m starts.0 starts.1;
-        known = λ now. absurd (let f : true ≡ false = now.works in cc);
-      };
+      stops = stops_of (abstract_of view backing old out) (abstract_of view backing (record new { is_failed = true }) out) nothing_given [] breaks.since (λ now. absurd (let f : true ≡ false = now.works in cc));
     };
   }
 

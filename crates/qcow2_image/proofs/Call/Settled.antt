@@ -13,6 +13,7 @@ use Rattle.qcow2_image.specs.Calls.{refusal_of}
 use Rattle.qcow2_image.specs.Image.{number_of, is_failed}
 use Rattle.qcow2_image.specs.Refusals.{failed_after}
 use Rattle.qcow2_image.specs.ImageInvariant.{ImageInvariant, pending_in, abstract_of}
+use Rattle.qcow2_disk.proofs.Compose.{stops_as}
 
 -- what a refusal leaves: a fault, or want of memory, that marks the image; or the image is marked as before, and no fault was told
 abbrev pub IsOutcome : ImageError → Bool → Bool → Type 0
@@ -70,7 +71,8 @@ module _ {S F : Type 0} (view : S → StorageView) (backing : F → BackingView)
     still_works sound = let w = acts sound in record {
       setting = w.setting;
       surplus = λ now. w.surplus (still sound);
-      stops = λ m starts. let t = w.stops m starts in record { moments = t.moments; contents = t.contents; known = λ now. t.known (still sound) };
+      stops = λ m starts.
+          stops_as (abstract_of view backing old out) (abstract_of view backing new out') (abstract_of view backing old out) (abstract_of view backing (record new { is_failed = marked }) out') given [] refl refl refl (λ now. (still sound, refl)) m (w.stops m starts);
     }
 
     answer_of : (e : ImageError) → IsOutcome e (is_failed new) marked → IsSame (abstract_of view backing old out) (abstract_of view backing new out') ⊎ (e ≡ I.Storage) → ImageInvariant view backing (pending_in view backing old out) old out

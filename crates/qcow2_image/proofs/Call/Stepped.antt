@@ -3,13 +3,12 @@ use Rattle.std.proofs.Common.{◌≡◌, List, [], sym, ap, ◌∙◌, subst}
 use Rattle.std.specs.Prelude.{Option}
 use Rattle.image_access.specs.Backing.{BackingView}
 use Rattle.image_access.specs.Moments.{StorageView}
-use Rattle.image_access.proofs.Passing.{passes_if}
-use Rattle.qcow2_metadata.specs.Bytes.{Bytes, byte_at}
+use Rattle.qcow2_metadata.specs.Bytes.{Bytes}
 use Rattle.qcow2_metadata.specs.declared.header.HeaderFields.{HeaderFields}
 use Rattle.qcow2_metadata.specs.Header.{cluster_size}
 use Rattle.qcow2_laws.specs.CrashInvariant.{Pending}
 use Rattle.qcow2_laws.specs.SafeSteps.{SafeStep}
-use Rattle.qcow2_disk.specs.Stops.{SafeThroughout, GivenBytes, StopOkEverywhere, checkpoint_with}
+use Rattle.qcow2_disk.specs.Stops.{SafeThroughout, GivenBytes}
 use Rattle.qcow2_disk.specs.Calls.{Works}
 use Rattle.qcow2_laws.specs.Unseen.{KeepsFormat}
 use Rattle.qcow2_alloc.specs.ImageFile.{state_in, view_in, known_in}
@@ -18,6 +17,7 @@ use Rattle.qcow2_image.specs.declared.prepared.Prepared.{Prepared}
 use Rattle.qcow2_image.specs.ImageInvariant.{backing_bytes, below_of, ImageInvariant, pending_in, abstract_of}
 use Rattle.qcow2_image.proofs.Call.Answered.{same_setting}
 use Rattle.qcow2_image.proofs.Sound.{IsOnly, pending_is}
+use Rattle.qcow2_disk.proofs.Compose.{stops_of}
 
 module _ {S F : Type 0} (view : S → StorageView) (backing : F → BackingView) (old new : Qcow2 S F) (out out' : List (Option Prepared)) where
   -- From sound to sound, with what this gives. What was pending beyond what mappings hold and what is to be freed stays.
@@ -41,10 +41,5 @@ module _ {S F : Type 0} (view : S → StorageView) (backing : F → BackingView)
     stepped_works = record {
       setting = same_setting _ _ (ap (λ (h : HeaderFields). cluster_size h) steps.header) steps.below;
       surplus = λ still. ap (λ (q : Pending). q.surplus) (sym pending_now) ∙ steps.surplus;
-      stops = λ m starts. record {
-        moments = passes_if (λ c. StopOkEverywhere (backing_bytes view backing old.backing) (checkpoint_with (given (backing_bytes view backing old.backing)) [] m) (byte_at c))
-            (λ c kept. kept (backing_bytes view backing old.backing) m starts.0 starts.1) steps.since.moments;
-        contents = steps.since.contents (backing_bytes view backing old.backing) m starts.0 starts.1;
-        known = λ still. steps.leads.known (backing_bytes view backing old.backing) m starts.0 starts.1;
-      };
+      stops = stops_of (abstract_of view backing old out) (abstract_of view backing new out') given [] steps.since (λ still. steps.leads.known);
     }

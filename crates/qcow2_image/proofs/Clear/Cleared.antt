@@ -6,7 +6,6 @@ use Rattle.std.proofs.lemmas.Nat.{pow_pos}
 use Rattle.std.proofs.Math.Pow.{pow_mono}
 use Rattle.image_access.specs.Backing.{BackingView}
 use Rattle.image_access.specs.Moments.{StorageView}
-use Rattle.image_access.proofs.Passing.{passes_none}
 use Rattle.qcow2_metadata.specs.Bytes.{Bytes}
 use Rattle.qcow2_metadata.specs.declared.header.HeaderFields.{HeaderFields}
 use Rattle.qcow2_metadata.specs.Header.{cluster_size}
@@ -22,6 +21,7 @@ use Rattle.qcow2_laws.specs.SafeSteps.{DriverState}
 use Rattle.qcow2_laws.specs.Steps.{guest_at}
 use Rattle.qcow2_disk.specs.Stops.{GivenBytes}
 use Rattle.qcow2_laws.proofs.MappedRanges.{clusters_in_turn_are_a_range}
+use Rattle.qcow2_laws.proofs.SafeSteps.{entries_endure}
 use Rattle.qcow2_alloc.specs.CacheMarks.{KeepsMarks}
 use Rattle.qcow2_alloc.specs.declared.cache.MetadataCaches.{MetadataCaches}
 use Rattle.qcow2_alloc.specs.declared.clusters_to_free.ClustersToFreeEntry.{ClustersToFreeEntry}
@@ -251,7 +251,7 @@ module _ {S F : Type 0} (view : S → StorageView) (backing : F → BackingView)
         dropped = λ k. let is = all.dropped k in let more = free_more of_data a.file.free_list listed k in omega (arith, is, more);
       };
       leads = range.leads;
-      since = record { moments = passes_none (view_in view a.file) _; contents = λ below m ok known_ok. range.leads.on_storage below m ok known_ok };
+      since = entries_endure (view_in view a.file) s s' (is_cleared how) g n given refl all.turn range.leads;
       header = refl;
       below = refl;
       surplus = all.surplus;

@@ -9,7 +9,7 @@ use Rattle.qcow2_disk.specs.Calls.{Refusal, storage, IsRefusalByFault, IsSame, W
 use Rattle.qcow2_disk.specs.Mappings.{PreparedMapping, gift_of_commit, committed}
 use Rattle.qcow2_disk.specs.Stops.{GivenBytes}
 use Rattle.qcow2_disk.specs.AbstractImages.{AbstractImage, Guest, guest_of, meaning_at}
-use Rattle.qcow2_disk.proofs.Compose.{works_less, works_then}
+use Rattle.qcow2_disk.proofs.Compose.{works_less, works_then, stops_as}
 use Rattle.qcow2_alloc.specs.declared.error.ImageError.{ImageError}
 use Rattle.qcow2_image.specs.declared.image.Qcow2.{Qcow2}
 use Rattle.qcow2_image.specs.declared.prepared.Prepared.{Prepared}
@@ -186,7 +186,7 @@ module _ {S F : Type 0} (view : S → StorageView) (backing : F → BackingView)
           record {
             setting = both.setting;
             surplus = λ still. absurd (let no : true ≡ false = sym failed ∙ still.works in cc);
-            stops = λ c starts. let s = both.stops c starts in record { moments = s.moments; contents = s.contents; known = λ still. absurd (let no : true ≡ false = sym failed ∙ still.works in cc) };
+            stops = λ c starts. stops_as v f v (abstract_of view backing freed (slice_set out k now)) gifts [] refl refl refl (λ still. absurd (let no : true ≡ false = sym failed ∙ still.works in cc)) c (both.stops c starts);
           }
 
       -- the image failed: it is spent

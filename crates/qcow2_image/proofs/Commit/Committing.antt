@@ -7,7 +7,6 @@ use Rattle.std.proofs.lemmas.Nat.{div-mul-add, mod-mul-add, div-add-mod', pow_po
 use Rattle.std.proofs.lemmas.Option.{slice_get_within}
 use Rattle.image_access.specs.Backing.{BackingView}
 use Rattle.image_access.specs.Moments.{StorageView}
-use Rattle.image_access.proofs.Passing.{passes_none}
 use Rattle.qcow2_metadata.specs.Bytes.{Bytes}
 use Rattle.qcow2_metadata.specs.declared.header.HeaderFields.{HeaderFields}
 use Rattle.qcow2_metadata.specs.Header.{cluster_size, entries_per_cluster, has_data_file, rounded_up}
@@ -40,6 +39,7 @@ use Rattle.qcow2_laws.proofs.Places.{Sizes-from, cover_at}
 use Rattle.qcow2_laws.proofs.PutRuns.{beside_tables}
 use Rattle.qcow2_laws.proofs.Shares.{shares}
 use Rattle.qcow2_laws.proofs.Consistency.{in_own}
+use Rattle.qcow2_laws.proofs.SafeSteps.{entry_endures}
 use Rattle.qcow2_alloc.specs.Allocation.{run_at}
 use Rattle.qcow2_alloc.specs.CacheMarks.{KeepsMarks}
 use Rattle.qcow2_alloc.specs.ClustersToFree.{data_entry}
@@ -411,7 +411,7 @@ module _ {S F : Type 0} (view : S → StorageView) (backing : F → BackingView)
         dropped = λ c. let more = free_more of_data old.file.free_list (dropped_by share) c in let is = made.dropped c in omega arith;
       };
       leads = leads;
-      since = record { moments = passes_none (view_in view old.file) _; contents = λ below m ok known_ok. leads.on_storage below m ok known_ok };
+      since = entry_endures (view_in view old.file) s (state_in view final.file made.after) row column given refl changes leads;
       header = refl;
       below = refl;
       surplus = made.surplus;

@@ -5,7 +5,6 @@ use Rattle.std.proofs.lemmas.Bool.{cases_lt}
 use mathlib.Core.Path.{fun_ext}
 use Rattle.image_access.specs.Backing.{BackingView}
 use Rattle.image_access.specs.Moments.{StorageView}
-use Rattle.image_access.proofs.Passing.{passes_none}
 use Rattle.qcow2_metadata.specs.Bytes.{Bytes}
 use Rattle.qcow2_metadata.specs.declared.header.HeaderFields.{HeaderFields}
 use Rattle.qcow2_laws.specs.Changes.{held_to_dropped}
@@ -15,7 +14,7 @@ use Rattle.qcow2_laws.specs.SafeSteps.{DriverState, SafeStep}
 use Rattle.qcow2_laws.specs.Caches.{AreSettled}
 use Rattle.qcow2_disk.specs.AbstractImages.{guest_of}
 use Rattle.qcow2_disk.specs.Calls.{with_slot}
-use Rattle.qcow2_laws.proofs.SafeSteps.{endures_none}
+use Rattle.qcow2_laws.proofs.SafeSteps.{pending_endures}
 use Rattle.qcow2_laws.proofs.Steps.{pending_is_changed}
 use Rattle.qcow2_metadata.specs.Tables.{CachedTable}
 use Rattle.qcow2_alloc.specs.Allocation.{run_at}
@@ -35,6 +34,7 @@ use Rattle.qcow2_image.proofs.Sound.{free_more}
 use Rattle.qcow2_image.proofs.Open.Reftables.{reftable_still}
 use Rattle.qcow2_image.proofs.Call.Slots.{others_left, over_all_left, slot_set}
 use Rattle.qcow2_image.proofs.Call.Stepped.{Steps, stepped_sound, stepped_works}
+use Rattle.qcow2_disk.proofs.Compose.{rests_none}
 
 -- what is kept of the caches is kept while something else is pending that is guarded too
 pub sound_while : {S : Type 0} (h : HeaderFields) (p q : Pending) (caches : MetadataCaches S) (on_storage : Bytes) → CrashInvariant h (order_of caches) q on_storage (known_of h caches on_storage) → CacheInvariant h p caches on_storage → CacheInvariant h q caches on_storage
@@ -121,7 +121,7 @@ module _ {S F : Type 0} (view : S → StorageView) (backing : F → BackingView)
           dropped = λ c. let more = free_more of_data old.file.free_list (freed_by p.shares.items) c in let one = freed_data p.shares.items c in omega arith;
         };
         leads = let_go_leads;
-        since = endures_none (view_in view old.file) (known_in view old.file);
+        since = pending_endures (view_in view old.file) before (state_in view left.file after) refl let_go_leads;
         header = refl;
         below = refl;
         surplus = refl;
@@ -135,7 +135,7 @@ module _ {S F : Type 0} (view : S → StorageView) (backing : F → BackingView)
     acts = record {
       number = refl;
       works = λ sound. stepped_works view backing old left out (slice_set out k None) nothing_given (after out k at) (let_go_steps out k at sound);
-      rests = λ failed. record { setting = refl; failed = failed; contents = refl; moments = passes_none (view_in view old.file) _ };
+      rests = λ failed. rests_none (abstract_of view backing old out) (abstract_of view backing left (slice_set out k None)) refl refl failed;
     };
     answer = λ sound. (stepped_sound view backing old left out (slice_set out k None) nothing_given (after out k at) (let_go_steps out k at sound), slots_left out k at);
   }

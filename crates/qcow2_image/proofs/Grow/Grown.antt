@@ -4,18 +4,14 @@ use Rattle.std.specs.Prelude.{OnOk}
 use Rattle.std.proofs.Math.Nat.{div-lt_iff_lt-mul}
 use Rattle.image_access.specs.Backing.{BackingView}
 use Rattle.image_access.specs.Moments.{StorageView}
-use Rattle.image_access.proofs.Passing.{passes_if}
-use Rattle.qcow2_metadata.specs.Bytes.{Bytes, byte_at}
 use Rattle.qcow2_metadata.specs.declared.header.HeaderFields.{HeaderFields}
 use Rattle.qcow2_metadata.specs.Header.{cluster_size, entries_per_cluster}
 use Rattle.qcow2_metadata.specs.EntryTable.{entry_count}
 use Rattle.qcow2_laws.specs.CrashInvariant.{Pending}
 use Rattle.qcow2_laws.specs.Guests.{guests}
 use Rattle.qcow2_laws.proofs.Places.{Sizes}
-use Rattle.qcow2_disk.specs.Stops.{Checkpoint, StopOkEverywhere}
 use Rattle.qcow2_laws.specs.Tops.{places_of, with_places}
-use Rattle.qcow2_laws.proofs.SafeSteps.{leads_then, steps_endure}
-use Rattle.qcow2_disk.proofs.Stops.{kept_more}
+use Rattle.qcow2_laws.proofs.SafeSteps.{leads_then, steps_endure, endures_asking}
 use Rattle.qcow2_alloc.specs.declared.error.ImageError.{ImageError}
 use Rattle.qcow2_alloc.specs.ImageFile.{nothing_given, view_in, known_in, state_in}
 use Rattle.qcow2_alloc.proofs.FileSteps.{pending_same}
@@ -69,12 +65,7 @@ module _ {S F : Type 0} (view : S → StorageView) (backing : F → BackingView)
 
   -- what is kept while nothing is asked for is kept while a size is
   pub lasts_more : (a b : Qcow2 S F) (size : ℕ) → Lasts view a b [] → Lasts view a b (size ∷ [])
-  lasts_more a b size lasts =
-      let kept = λ (c : List ℕ) (here : (below : Bytes) (m : Checkpoint) → StopOkEverywhere below m (byte_at (view_in view a.file).contents) → StopOkEverywhere below m (known_in view a.file) → StopOkEverywhere below m (byte_at c)).
-      λ (below : Bytes) (m : Checkpoint) (ok : StopOkEverywhere below m (byte_at (view_in view a.file).contents)) (known_ok : StopOkEverywhere below m (known_in view a.file)). kept_more below [] (size ∷ []) m (byte_at c) (here below m ok known_ok) in record {
-        moments = passes_if _ kept lasts.moments;
-        contents = kept (view_in view b.file).contents lasts.contents;
-      }
+  lasts_more a b size lasts = endures_asking (view_in view a.file) (view_in view b.file) (known_in view a.file) nothing_given [] (size ∷ []) lasts
 
   -- ---- the table, then the size
   pub resized_then : (p : Pending) (a b c : Qcow2 S F) (size : ℕ) (r : Result (Unit {0}) ImageError) → Extends view backing p (pending_with_listed p a b) a b [] → c.file.free_list ≡ b.file.free_list → Resizes view backing (pending_with_listed p a b) b c size r → Resizes view backing p a c size r

@@ -5,8 +5,6 @@ use Rattle.std.proofs.lemmas.List.{append_assoc}
 use Rattle.std.proofs.lemmas.Nat.{div-mul-add}
 use Rattle.image_access.specs.Backing.{BackingView}
 use Rattle.image_access.specs.Moments.{StorageView}
-use Rattle.image_access.proofs.Passing.{passes_if}
-use Rattle.qcow2_metadata.specs.Bytes.{byte_at}
 use Rattle.qcow2_metadata.specs.declared.header.HeaderFields.{HeaderFields}
 use Rattle.qcow2_metadata.specs.Header.{HeaderView, cluster_size}
 use Rattle.qcow2_metadata.specs.EntryTable.{EntryTableView, entry_count}
@@ -16,7 +14,6 @@ use Rattle.qcow2_laws.specs.Changes.{fresh_to_spent}
 use Rattle.qcow2_laws.specs.CrashInvariant.{Pending}
 use Rattle.qcow2_laws.specs.Guests.{over_guests, names}
 use Rattle.qcow2_laws.specs.SafeSteps.{SafeStep}
-use Rattle.qcow2_disk.specs.Stops.{StopOkEverywhere, checkpoint_with}
 use Rattle.qcow2_laws.specs.Unseen.{used_by_guests}
 use Rattle.qcow2_laws.proofs.Formats.{guests_format}
 use Rattle.qcow2_laws.proofs.Guests.{over_guests-same}
@@ -40,7 +37,7 @@ use Rattle.qcow2_alloc.proofs.Runs.{run_none}
 use Rattle.qcow2_image.specs.declared.image.Qcow2.{Qcow2}
 use Rattle.qcow2_image.specs.declared.prepared.Prepared.{Prepared}
 use Rattle.qcow2_image.specs.CallParts.{RefusedCall, UnseenCall}
-use Rattle.qcow2_image.specs.ImageInvariant.{of_data, of_tables, to_free, backing_bytes, pending_in, ImageInvariant}
+use Rattle.qcow2_image.specs.ImageInvariant.{of_data, of_tables, to_free, pending_in, ImageInvariant, abstract_of}
 use Rattle.qcow2_image.specs.LongerTables.{clusters_of, run_of_table, listed, with_table, without_l1, IsLongerL1, StandsWhole, UnseenMove, InterruptedMove, RefusedMove, PlacesTable, NamesTable, TakesTable, MakesEntry}
 use Rattle.qcow2_image.specs.UnseenSteps.{UnseenStep, FreesListed, ListGrows, pending_with_listed}
 use Rattle.qcow2_image.proofs.Call.Answered.{followed, same_setting, still_shown}
@@ -53,6 +50,7 @@ use Rattle.qcow2_image.proofs.Moving.{file_moved_on}
 use Rattle.qcow2_image.proofs.Prepare.Entering.{as_following, breaks_on, keeps_listed, keeps_none, none_taken}
 use Rattle.qcow2_image.proofs.Prepare.Gaining.{following_on}
 use Rattle.qcow2_image.proofs.Sound.{free_more}
+use Rattle.qcow2_disk.proofs.Compose.{stops_of}
 
 -- a run has each cluster once at most
 run_few : (first n k : ℕ) → run_at first n k ≤ 1
@@ -309,11 +307,7 @@ module _ {S F : Type 0} (view : S → StorageView) (backing : F → BackingView)
       works = record {
         setting = same_setting _ _ (ap (λ (h : HeaderFields). cluster_size h) moves.header) moves.below;
         surplus = λ still. ap (λ (q : Pending). q.surplus) (sym pending_now);
-        stops = λ m starts. record {
-          moments = passes_if (λ c. StopOkEverywhere (backing_bytes view backing old.backing) (checkpoint_with [] [] m) (byte_at c)) (λ c kept. kept (backing_bytes view backing old.backing) m starts.0 starts.1) moves.since.moments;
-          contents = moves.since.contents (backing_bytes view backing old.backing) m starts.0 starts.1;
-          known = λ still. moves.leads.known (backing_bytes view backing old.backing) m starts.0 starts.1;
-        };
+        stops = stops_of (abstract_of view backing old out) (abstract_of view backing new out) nothing_given [] moves.since (λ still. moves.leads.known);
       };
       sound = subst (λ (q : Pending). ImageInvariant view backing q new out) pending_now moves.sound;
       same = still_shown view backing old new out (pending_in view backing old out) (pending_with_listed (pending_in view backing old out) old new) sound (λ k. omega arith) (λ k. omega arith) moves.sound moves.header moves.bytes moves.shows moves.below;

@@ -21,7 +21,7 @@ use Rattle.qcow2_disk.specs.Stops.{SafeThroughout}
 use Rattle.qcow2_laws.specs.Tops.{WritesHeader, with_places, with_l1_at, IsNewL1}
 use Rattle.qcow2_laws.proofs.GuestLaws.{longer_l1_table_keeps_guests}
 use Rattle.qcow2_laws.proofs.L1Moves.{now_l1, now_reftable}
-use Rattle.qcow2_laws.proofs.SafeSteps.{endures_write}
+use Rattle.qcow2_laws.proofs.SafeSteps.{step_endures}
 use Rattle.qcow2_laws.proofs.Places.{Sizes, l1-same}
 use Rattle.qcow2_laws.proofs.Shares.{run_has}
 use Rattle.qcow2_laws.proofs.Steps.{header_is_written}
@@ -112,10 +112,12 @@ module _ {S F : Type 0} (view : S → StorageView) (backing : F → BackingView)
   pub lasts_named : {T : Type 0} (result : Result T StorageError) (asked after : S) → asked ≡ storage_of old.file.storage → Changes (view asked) (view after) result (l1_table_pointer_written h' (view asked).contents)
       → Calls (view asked) (view after) result → SafeThroughout (view_in view old.file) (view after) known nothing_given []
   lasts_named result asked after same wrote called =
-      endures_write {result = result} (view_in view old.file) (view after) known nothing_given [] (l1_table_pointer_written h' (view_in view old.file).contents)
+      let new = byte_at (l1_table_pointer_written h' (view_in view old.file).contents) in
+      step_endures {result = result} (view_in view old.file) (view after) (state_in view old.file q) (record (state_in view old.file q) { header = h'; pending = without_l1 p h; on_storage = new; known = known_of h old.file.caches new }) nothing_given []
+      (l1_table_pointer_written h' (view_in view old.file).contents)
       (subst (λ (s : S). Calls (view s) (view after) result) same called)
       (subst (λ (s : S). Changes (view s) (view after) result (l1_table_pointer_written h' (view s).contents)) same wrote)
-      sound.file.honest (leads_at (byte_at (l1_table_pointer_written h' (view_in view old.file).contents)) (l1_pointer_writes view q old.file sound.file place (entry_count t) few near_64)).on_storage
+      sound.file.honest refl refl (leads_at new (l1_pointer_writes view q old.file sound.file place (entry_count t) few near_64))
 
   module _ (storage : ImageStorage S) (is : (view (storage_of storage)).contents ≡ l1_table_pointer_written h' (view_in view old.file).contents) (honest : (view (storage_of storage)).is_honest) where
     abbrev now : Qcow2 S F

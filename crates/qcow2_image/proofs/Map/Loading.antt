@@ -24,8 +24,6 @@ use Rattle.qcow2_laws.specs.Caches.{AreSettled}
 use Rattle.image_access.specs.declared.error.StorageError.{StorageError}
 use Rattle.image_access.specs.Backing.{Stays}
 use Rattle.image_access.specs.Moments.{Calls, Passing, ContentsStay}
-use Rattle.image_access.proofs.Passing.{passes_none, passes_if}
-use Rattle.qcow2_laws.specs.Caches.{IsSafeBetween}
 use Rattle.qcow2_laws.proofs.SafeSteps.{leads_none, endures_none}
 use Rattle.qcow2_alloc.specs.MetadataCaches.{l2_tables, refblocks, known_of, AreAllWritten, CacheInvariant, UnseenCacheStep}
 use Rattle.qcow2_alloc.specs.ImageFile.{state_in, view_in, contents_in, known_in, HasReftable}
@@ -34,6 +32,8 @@ use Rattle.qcow2_image.specs.declared.prepared.Prepared.{Prepared}
 use Rattle.qcow2_image.specs.ImageInvariant.{cluster_of, IsHonestBacking, ImageInvariant, below_of}
 use Rattle.qcow2_image.specs.UnseenSteps.{UnseenStep}
 use Rattle.qcow2_image.proofs.Ready.{still_ready}
+use Rattle.qcow2_alloc.proofs.FileSteps.{cached_endures}
+use Rattle.qcow2_alloc.proofs.KeptTables.Turning.{safe_none, safe_keep}
 
 -- of two sound stands with the same header and the same known bytes the tables above are the same on the storage
 module _ (s s' : DriverState) (sound : StateInvariant s) (sound' : StateInvariant s') (header : s'.header ≡ s.header) (known : s'.known ≡ s.known) where
@@ -83,7 +83,7 @@ module _ {S F : Type 0} (view : S → StorageView) (backing : F → BackingView)
         on_storage = λ bytes m kept known_kept. stay.since.contents bytes m kept known_kept;
         known = λ bytes m kept known_kept. subst (λ b. StopOkEverywhere bytes m b) (sym stay.known) known_kept;
       };
-      since = record { moments = stay.since.moments; contents = stay.since.contents };
+      since = cached_endures (view_in view old.file) (view (storage_of storage')) (known_in view old.file) stay.since;
       unseen = unseen_known (state_in view old.file p) (state_in view (with_caches storage' caches').file p) refl stay.known;
       copied = λ i is. l1_still i;
       below = refl;
@@ -103,7 +103,7 @@ module _ {S : Type 0} (h : HeaderFields) (p : Pending) (caches caches' : Metadat
     sound = tables.sound h p (byte_at v.contents) sound;
     known = tables.known h (byte_at v.contents);
     settled = λ settled. subst (λ (ts : List CachedTable). AreSettled h ts (byte_at v.contents)) (sym tables.refblocks) settled;
-    since = record { moments = passes_none v _; contents = λ bytes m kept known_kept. kept };
+    since = safe_none v (known_of h caches (byte_at v.contents));
   }
 
   pub stays : (v v' : StorageView) → v' ≡ v → v.is_honest → CacheInvariant h p caches (byte_at v.contents) → UnseenCacheStep h p v caches v' caches'
@@ -128,10 +128,7 @@ module _ {S : Type 0} (h : HeaderFields) (p : Pending) (caches : MetadataCaches 
     sound = subst (λ c. CacheInvariant h p caches (byte_at c)) (sym same) sound;
     known = ap (λ c. known_of h caches (byte_at c)) same;
     settled = λ settled. subst (λ c. AreSettled h (refblocks caches) (byte_at c)) (sym same) settled;
-    since = record {
-      moments = passes_if (λ c. IsSafeBetween (byte_at v.contents) (known_of h caches (byte_at v.contents)) (byte_at c)) (λ c is bytes m kept known_kept. subst (λ x. StopOkEverywhere bytes m (byte_at x)) (sym (is ∙ same)) kept) time;
-      contents = λ bytes m kept known_kept. subst (λ x. StopOkEverywhere bytes m (byte_at x)) (sym same) kept;
-    };
+    since = safe_keep v v' (known_of h caches (byte_at v.contents)) time same;
   }
 
 module _ {S F : Type 0} (view : S → StorageView) (backing : F → BackingView) (image : Qcow2 S F) (out : List (Option Prepared)) (p : Pending) (sound : ImageInvariant view backing p image out) where

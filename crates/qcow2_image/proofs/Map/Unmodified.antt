@@ -25,15 +25,22 @@ all_same : (size : ℕ) (on_storage known b : Bytes) → known ≡ on_storage �
 all_same size on_storage known b same partly =
     fun_ext (λ o. ⊎_elim (λ (s : SameIn size (o / size) b on_storage). s o refl) (λ (s : SameIn size (o / size) b known). s o refl ∙ ap (λ (f : Bytes). f o) same) (partly (o / size)))
 
+-- ---- moments of a storage whose bytes stay: each is built here
+
+-- no call at all
 pub holds_none : (v : StorageView) → HoldsSame v v
 holds_none v = record { moments = passes_none v _; contents = refl }
 
 pub holds_then : {old mid new : StorageView} → HoldsSame old mid → HoldsSame mid new → HoldsSame old new
 holds_then {old = old} first second = record { moments = passes_on (λ c. byte_at c ≡ byte_at old.contents) first.moments second.moments (λ c is. is ∙ first.contents); contents = second.contents ∙ first.contents }
 
+-- calls that keep the contents
+pub holds_still : (old new : StorageView) → Passing old new (λ c. c ≡ old.contents) → new.contents ≡ old.contents → HoldsSame old new
+holds_still old new time same = record { moments = passes_if (λ c. byte_at c ≡ byte_at old.contents) (λ c is. ap byte_at is) time; contents = ap byte_at same }
+
 -- a storage that was read
 pub holds_read : (old new : StorageView) → Passing old new (λ c. c ≡ new.contents) → new.contents ≡ old.contents → HoldsSame old new
-holds_read old new time same = record { moments = passes_if (λ c. byte_at c ≡ byte_at old.contents) (λ c is. ap byte_at (is ∙ same)) time; contents = ap byte_at same }
+holds_read old new time same = holds_still old new (passes_if (λ c. c ≡ old.contents) (λ c is. is ∙ same) time) same
 
 module _ {S F : Type 0} (view : S → StorageView) where
   pub read_then : {old mid new : Qcow2 S F} → IsOnlyRead view old mid → IsOnlyRead view mid new → IsOnlyRead view old new

@@ -3,7 +3,7 @@ use Rattle.std.proofs.Common.{◌≡◌, ℕ, ◌*◌, ◌/◌, ◌^◌, [], Lis
 use Rattle.std.specs.Prelude.{Some, None, false}
 use Rattle.image_access.specs.Backing.{BackingView}
 use Rattle.image_access.specs.Moments.{StorageView, Passing}
-use Rattle.image_access.proofs.Passing.{passes_if, passes_on}
+use Rattle.image_access.proofs.Passing.{passes_if}
 use Rattle.qcow2_metadata.specs.Bytes.{Bytes, byte_at}
 use Rattle.qcow2_metadata.specs.Header.{HeaderView, cluster_size}
 use Rattle.qcow2_metadata.specs.Consistent.{Consistent, IsConsistent}
@@ -17,13 +17,13 @@ use Rattle.qcow2_laws.specs.Caches.{AreSettled}
 use Rattle.qcow2_laws.specs.Clusters.{Neither}
 use Rattle.qcow2_laws.specs.CrashInvariant.{Pending, CrashInvariant}
 use Rattle.qcow2_laws.specs.Opened.{nothing_pending, surplus_of}
-use Rattle.qcow2_disk.specs.Stops.{StopOkEverywhere}
 use Rattle.qcow2_disk.specs.AbstractImages.{IsOpened}
 use Rattle.qcow2_laws.proofs.Opened.{opened_guarded}
 use Rattle.qcow2_laws.proofs.Places.{l1_entry-past}
+use Rattle.qcow2_laws.proofs.SafeSteps.{keep_endures, endures_then}
 use Rattle.qcow2_alloc.specs.declared.image_file.ImageFile.{ImageFile}
 use Rattle.qcow2_alloc.specs.declared.image_storage.ImageStorage.{ImageStorage}
-use Rattle.qcow2_alloc.specs.ImageFile.{l2_pins, CachesHaveRoom, view_in, contents_in}
+use Rattle.qcow2_alloc.specs.ImageFile.{l2_pins, CachesHaveRoom, view_in, contents_in, nothing_given}
 use Rattle.qcow2_alloc.specs.ImageStorage.{storage_of}
 use Rattle.qcow2_alloc.specs.MetadataCaches.{refblocks, known_of, CacheInvariant}
 use Rattle.qcow2_alloc.proofs.KeptTables.Standing.{own_cluster}
@@ -39,16 +39,10 @@ named_still old new contents is same = record { fields = refl; reads = is.reads;
 
 -- ---- what is kept
 pub kept_read : (old new : StorageView) → Passing old new (λ c. c ≡ new.contents) → new.contents ≡ old.contents → IsKeptSince old new
-kept_read old new time same = record {
-  moments = passes_if _ (λ c is backing m ok known_ok. subst (λ (l : List ℕ). StopOkEverywhere backing m (byte_at l)) (sym (is ∙ same)) ok) time;
-  contents = λ backing m ok known_ok. subst (λ (l : List ℕ). StopOkEverywhere backing m (byte_at l)) (sym same) ok;
-}
+kept_read old new time same = keep_endures old new (byte_at old.contents) time same
 
 pub kept_then : (old mid new : StorageView) → IsKeptSince old mid → IsKeptSince mid new → IsKeptSince old new
-kept_then old mid new first second = record {
-  moments = passes_on _ first.moments second.moments (λ l kept backing m ok known_ok. let here = first.contents backing m ok ok in kept backing m here here);
-  contents = λ backing m ok known_ok. let here = first.contents backing m ok ok in second.contents backing m here here;
-}
+kept_then old mid new first second = endures_then old mid new (byte_at old.contents) (byte_at mid.contents) nothing_given nothing_given [] [] first first.contents second
 
 pub kept_loaded : {T : Type 0} {result : Result T MetadataError} (old new : StorageView) → OnlyReads old new result → old.is_honest → IsKeptSince old new
 kept_loaded old new reads honest = kept_read old new (passes_if _ (λ c is. is ∙ sym (reads.same honest)) (reads.time honest)) (reads.same honest)

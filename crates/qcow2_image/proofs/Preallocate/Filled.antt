@@ -11,7 +11,7 @@ use Rattle.qcow2_disk.specs.AbstractImages.{Guest, guest_of}
 use Rattle.qcow2_disk.specs.Calls.{Works, with_disk}
 use Rattle.qcow2_disk.specs.Disk.{Disk, zeroed_between}
 use Rattle.qcow2_disk.specs.Stops.{GivenBytes}
-use Rattle.qcow2_disk.proofs.Compose.{works_less, works_then}
+use Rattle.qcow2_disk.proofs.Compose.{works_less, works_then, stops_as}
 use Rattle.qcow2_alloc.specs.ImageError.{IsFault as FaultOfTables}
 use Rattle.qcow2_alloc.specs.ImageFile.{known_in}
 use Rattle.qcow2_alloc.specs.declared.error.ImageError.{ImageError}
@@ -81,7 +81,8 @@ module _ {S F : Type 0} (view : S → StorageView) (backing : F → BackingView)
     works = record {
       setting = works.setting;
       surplus = λ now. absurd (let f : true ≡ false = now.works in cc);
-      stops = λ m starts. let s = works.stops m starts in record { moments = s.moments; contents = s.contents; known = λ now. absurd (let f : true ≡ false = now.works in cc) };
+      stops = λ m starts.
+          stops_as (abstract_of view backing old out) (abstract_of view backing new out) (abstract_of view backing old out) (abstract_of view backing (record new { is_failed = true }) out) given [] refl refl refl (λ now. (sound, refl)) m (works.stops m starts);
     };
   }
 

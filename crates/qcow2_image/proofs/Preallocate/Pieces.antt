@@ -2,14 +2,13 @@
 use Rattle.std.proofs.Common.{◌≡◌, ◌⊎◌, ⊎_elim, inl, inr, ℕ, suc, eqb, ◌+◌, ◌≤◌, List, [], ◌∷◌, Option, Some, None, true, refl, sym, ap, ◌∙◌, subst, arith}
 use Rattle.std.proofs.lemmas.Bool.{cond-false, ne_eqb}
 use mathlib.Core.Path.{fun_ext}
-use Rattle.image_access.proofs.Passing.{passes_none}
 use Rattle.qcow2_metadata.specs.Guest.{Value}
 use Rattle.qcow2_disk.specs.Disk.{Disk, disk, zeroed_between}
 use Rattle.qcow2_disk.specs.Mappings.{PreparedMapping, IsPrepared, committed, gift_of_commit, gift_of_put, put_disk, put_mapping}
 use Rattle.qcow2_disk.specs.Stops.{GivenBytes, IsGiven}
 use Rattle.qcow2_disk.specs.AbstractImages.{Abstraction, AbstractImage, Guest, HasFreePlaces, abstract_image, guest_of}
 use Rattle.qcow2_disk.specs.Calls.{Works, with_disk, with_slot}
-use Rattle.qcow2_disk.proofs.Compose.{shown_is, works_less, works_then}
+use Rattle.qcow2_disk.proofs.Compose.{shown_is, works_less, works_then, stops_none}
 use Rattle.qcow2_image.specs.Preallocation.{gift_of_zeros}
 use Rattle.qcow2_image.proofs.Preallocate.Zeros.{commit_within, filled, put_within, zeros_of}
 
@@ -33,10 +32,10 @@ module _ {D P : Type 0} (spec : Abstraction D P) (has : HasFreePlaces spec) (in_
 
   -- a free place more, or less
   pub enters : (d : D) (out : List (Option P)) → Works (abstract_image spec d out) (at_place d None out) [] []
-  enters d out = record { setting = refl; surplus = λ _. has.surplus d [] out; stops = λ m starts. record { moments = passes_none (spec.storage d) _; contents = starts.0; known = λ _. starts.1 } }
+  enters d out = record { setting = refl; surplus = λ _. has.surplus d [] out; stops = stops_none (abstract_image spec d out) (at_place d None out) [] [] refl (λ _. refl) }
 
   pub leaves : (d : D) (out : List (Option P)) → Works (at_place d None out) (abstract_image spec d out) [] []
-  leaves d out = record { setting = refl; surplus = λ _. sym (has.surplus d [] out); stops = λ m starts. record { moments = passes_none (spec.storage d) _; contents = starts.0; known = λ _. starts.1 } }
+  leaves d out = record { setting = refl; surplus = λ _. sym (has.surplus d [] out); stops = stops_none (at_place d None out) (abstract_image spec d out) [] [] refl (λ _. refl) }
 
   -- it is prepared
   module _ (d0 d1 : D) (p : P) (out : List (Option P)) (size offset n : ℕ) (sound0 : spec.is_sound d0 out) (sound1 : spec.is_sound d1 (Some p ∷ out)) (readies : Works (at_place d0 None out) (at_place d1 (Some p) out) [] [])

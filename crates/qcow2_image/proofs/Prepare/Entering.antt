@@ -15,7 +15,7 @@ use Rattle.qcow2_laws.specs.Changes.{one_at, with_fresh, fresh_to_spent}
 use Rattle.qcow2_laws.specs.CrashInvariant.{Pending}
 use Rattle.qcow2_laws.specs.SafeSteps.{SafeStep}
 use Rattle.qcow2_laws.specs.Unseen.{KeepsFormat}
-use Rattle.qcow2_laws.proofs.SafeSteps.{endures_none}
+use Rattle.qcow2_laws.proofs.SafeSteps.{pending_endures}
 use Rattle.qcow2_laws.proofs.Steps.{pending_is_changed}
 use Rattle.qcow2_laws.proofs.Unseen.{unseen_known}
 use Rattle.qcow2_alloc.specs.Allocation.{run_at, taken_as, UnseenAllocatorGrowth, RefusedGrowth}
@@ -121,7 +121,7 @@ module _ {S F : Type 0} (view : S → StorageView) (backing : F → BackingView)
         once = sound.once;
       };
       leads = record { sound = held.sound; on_storage = held.on_storage; known = held.known };
-      since = endures_none (view_in view image.file) (known_in view image.file);
+      since = pending_endures (view_in view image.file) (state_in view image.file p) (state_in view image.file q) refl held;
       unseen = unseen_known (state_in view image.file p) (state_in view relisted.file q) refl refl;
       copied = λ i own. refl;
       below = refl;

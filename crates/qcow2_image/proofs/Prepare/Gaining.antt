@@ -11,7 +11,7 @@ use Rattle.qcow2_laws.specs.SafeSteps.{SafeStep}
 use Rattle.qcow2_disk.specs.Disk.{Disk}
 use Rattle.qcow2_metadata.specs.Guest.{known_byte}
 use Rattle.qcow2_laws.specs.Unseen.{KeepsFormat}
-use Rattle.qcow2_laws.proofs.SafeSteps.{endures_none}
+use Rattle.qcow2_laws.proofs.SafeSteps.{pending_endures}
 use Rattle.qcow2_laws.proofs.Steps.{pending_is_changed}
 use Rattle.qcow2_alloc.specs.Allocation.{run_at, Allocates, AllocatesAt, RefusedGrowth}
 use Rattle.qcow2_alloc.specs.CacheMarks.{KeepsMarks}
@@ -21,7 +21,7 @@ use Rattle.qcow2_alloc.specs.declared.clusters_to_free.ClustersToFreeEntry.{Clus
 use Rattle.qcow2_alloc.specs.declared.error.ImageError.{ImageError}
 use Rattle.qcow2_alloc.specs.declared.image_file.ImageFile.{ImageFile}
 use Rattle.qcow2_alloc.specs.FreeList.{ListsTables, pending_then as since_listed}
-use Rattle.qcow2_alloc.specs.ImageFile.{state_in, view_in, contents_in, known_in, nothing_given, KeepsHeader, UnseenFileGrowth, HasReftable}
+use Rattle.qcow2_alloc.specs.ImageFile.{state_in, view_in, contents_in, nothing_given, KeepsHeader, UnseenFileGrowth, HasReftable}
 use Rattle.qcow2_alloc.proofs.FileSteps.{pending_same}
 use Rattle.qcow2_alloc.proofs.Following.{header_format, following_same as same_list}
 use Rattle.qcow2_alloc.proofs.Runs.{run_in}
@@ -125,7 +125,7 @@ module _ {S F : Type 0} (view : S → StorageView) (backing : F → BackingView)
         once = sound.once;
       };
       leads = leads;
-      since = endures_none (view_in view old.file) (known_in view old.file);
+      since = pending_endures (view_in view old.file) (state_in view old.file held) (state_in view left.file after) refl leads;
       header = refl;
       covers = λ g. refl;
       copied = λ i copied. refl;

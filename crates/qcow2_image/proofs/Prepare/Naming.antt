@@ -9,7 +9,6 @@ use Rattle.image_access.specs.Backing.{BackingView}
 use Rattle.image_access.specs.Contents.{overwritten}
 use Rattle.image_access.specs.Moments.{StorageView, Passing, Changes, Calls}
 use Rattle.image_access.specs.declared.error.StorageError.{StorageError}
-use Rattle.image_access.proofs.Passing.{passes_if, whole_or_nothing}
 use Rattle.qcow2_metadata.specs.Bytes.{Bytes, byte_at}
 use Rattle.qcow2_metadata.specs.declared.header.HeaderFields.{HeaderFields}
 use Rattle.qcow2_metadata.specs.Header.{cluster_size, entries_per_cluster}
@@ -23,7 +22,7 @@ use Rattle.qcow2_metadata.specs.TableBytes.{entry_at, ChangesEntry}
 use Rattle.qcow2_metadata.proofs.EntryTables.{on_sector}
 use Rattle.qcow2_metadata.proofs.TablesAt.{entry_stands}
 use Rattle.qcow2_metadata.proofs.WrittenTables.{IsL1TableOf-written_entry}
-use Rattle.qcow2_disk.specs.Stops.{Checkpoint, StopOkEverywhere, SafeThroughout}
+use Rattle.qcow2_disk.specs.Stops.{SafeThroughout}
 use Rattle.qcow2_laws.specs.Changes.{one_at, with_fresh, renamed}
 use Rattle.qcow2_laws.specs.CrashInvariant.{Pending, SameIn}
 use Rattle.qcow2_laws.specs.Guests.{table_at}
@@ -41,6 +40,7 @@ use Rattle.qcow2_laws.proofs.Places.{Sizes, cover_none}
 use Rattle.qcow2_laws.proofs.Shares.{shares, in_l1, l1_has, l1_reftable, table_has, block_has}
 use Rattle.qcow2_laws.proofs.Steps.{table_is_named}
 use Rattle.qcow2_laws.proofs.Unseen.{unseen_l2_table}
+use Rattle.qcow2_laws.proofs.SafeSteps.{done_endures, write_endures}
 use Rattle.qcow2_metadata.specs.Tables.{CachedTable}
 use Rattle.qcow2_alloc.specs.declared.allocation.Allocator.{Allocator}
 use Rattle.qcow2_alloc.specs.declared.image_storage.ImageStorage.{ImageStorage}
@@ -332,10 +332,7 @@ module _ {S F : Type 0} (view : S → StorageView) (backing : F → BackingView)
         once = sound.once;
       };
       leads = leads;
-      since = record {
-        moments = passes_if _ (λ c is backing m ok known_ok. subst (λ l. StopOkEverywhere backing m (byte_at l)) (sym is) (leads.on_storage backing m ok known_ok)) time;
-        contents = λ backing m ok known_ok. leads.on_storage backing m ok known_ok;
-      };
+      since = done_endures (view_in view old.file) (view (storage_of storage)) (state_in view old.file q) (state_in view named.file (replacing view p old index)) nothing_given [] time refl refl leads;
       unseen = unseen;
       copied = own_stays;
       below = refl;
@@ -363,17 +360,10 @@ module _ {S F : Type 0} (view : S → StorageView) (backing : F → BackingView)
         entry_write_as view (storage_of old.file.storage) asked (storage_of storage) t'.cluster (h.l1_offset / cluster_size h) t'.cluster_bits h.cluster_bits h.l1_offset (8 * index) (to_be_bytes w64 entry) result before
         (ap (λ (x : EntryTableView). x.cluster) same ∙ sound.l1_table.cluster few) (ap (λ (x : EntryTableView). x.cluster_bits) same ∙ sound.l1_table.bits) (let e = div-add-mod' h.l1_offset (cluster_size h) in omega (arith, e, aligned)) wrote
 
-    kept : (backing : Bytes) (m : Checkpoint) → StopOkEverywhere backing m on_storage → StopOkEverywhere backing m known → StopOkEverywhere backing m (byte_at (view (storage_of storage)).contents)
-    kept backing m ok known_ok = elim (whole_or_nothing result (view_in view old.file).contents _ (view (storage_of storage)).contents (changes sound.file.honest)) [
-      | inl same ↦ subst (λ (l : List ℕ). StopOkEverywhere backing m (byte_at l)) (sym same) ok
-      | inr is ↦ (leads storage is).on_storage backing m ok known_ok
-    ]
-
     pub endures_named : SafeThroughout (view_in view old.file) (view (storage_of storage)) known nothing_given []
-    endures_named = record {
-      moments = passes_if _ (λ c is backing m ok known_ok. subst (λ (l : List ℕ). StopOkEverywhere backing m (byte_at l)) (sym is) (kept backing m ok known_ok)) calls.time;
-      contents = kept;
-    }
+    endures_named =
+        write_endures {result = result} (view_in view old.file) (view (storage_of storage)) (state_in view old.file q) nothing_given [] (overwritten (view_in view old.file).contents (h.l1_offset + 8 * index) (to_be_bytes w64 entry)) calls changes
+        sound.file.honest refl (λ is. (state_in view (record old.file { storage = storage }) (replacing view p old index), refl, leads storage is))
 
     pub named_so : (x : Unit {0}) → result ≡ Ok x → UnseenStep view backing q (replacing view p old index) old (record old { file = record old.file { storage = storage }; l1_table = t' }) out × NamesCopied view (record old { file = record old.file { storage = storage }; l1_table = t' }) index at
     named_so x done = let is = rw done at (changes sound.file.honest) in (keeps_named storage is (calls.honest sound.file.honest) calls.time, names_copied storage is)

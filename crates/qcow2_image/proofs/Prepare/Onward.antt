@@ -15,7 +15,7 @@ use Rattle.qcow2_disk.specs.Disk.{Disk}
 use Rattle.qcow2_disk.specs.Found.{rest_of_table}
 use Rattle.qcow2_disk.specs.Mappings.{PreparedMapping, IsPrepared}
 use Rattle.qcow2_laws.specs.Unseen.{KeepsFormat}
-use Rattle.qcow2_disk.proofs.Compose.{works_then}
+use Rattle.qcow2_disk.proofs.Compose.{works_then, stops_as}
 use Rattle.qcow2_alloc.specs.ImageFile.{contents_in, known_in, state_in, KeepsHeader}
 use Rattle.qcow2_alloc.proofs.Following.{header_format, header_same, header_then}
 use Rattle.qcow2_alloc.specs.declared.error.ImageError.{ImageError}
@@ -126,7 +126,9 @@ module _ {S F : Type 0} (view : S → StorageView) (backing : F → BackingView)
         (record {
           setting = works.setting;
           surplus = λ now. absurd (let f : true ≡ false = now.works in cc);
-          stops = λ m starts. let s = works.stops m starts in record { moments = s.moments; contents = s.contents; known = λ now. absurd (let f : true ≡ false = now.works in cc) };
+          stops = λ m starts.
+              let left = abstract_of view backing (record new { file = record new.file { caches = end.file.caches; free_list = end.file.free_list }; is_failed = true }) out in
+              stops_as (abstract_of view backing mid out1) (abstract_of view backing (record new { is_failed = true }) out1) (abstract_of view backing mid out1) left [] [] refl refl refl (λ now. absurd (let f : true ≡ false = now.works in cc)) m (works.stops m starts);
         })
 
     pub let_go_refused : RefusedCall view backing mid new out1 e → RefusedCall view backing start end out e
@@ -330,7 +332,8 @@ module _ {S F : Type 0} (view : S → StorageView) (backing : F → BackingView)
       record {
         setting = w.setting;
         surplus = λ now. sym (free.surplus image [] out) ∙ w.surplus (free.free image [] out now) ∙ free.surplus old [] out;
-        stops = λ m starts. let s = w.stops m starts in record { moments = s.moments; contents = s.contents; known = λ now. s.known (free.free image [] out now) };
+        stops = λ m starts.
+            stops_as (abstract_of view backing old (None ∷ out)) (abstract_of view backing image (None ∷ out)) (abstract_of view backing old out) (abstract_of view backing image out) [] [] refl refl refl (λ now. (free.free image [] out now, refl)) m (w.stops m starts);
       }
 
   pub refused_free : (e : ImageError) → RefusedCall view backing old new (None ∷ out) e → RefusedCall view backing old new out e

@@ -165,7 +165,7 @@ module _ {S F : Type 0} (view : S → StorageView) (backing : F → BackingView)
       dropped = is.dropped;
     };
     leads = subst (λ s. SafeStep (state_in view old.file (pending_in view backing old out)) s nothing_given []) (sym same_stand) goes.leads;
-    since = record { moments = goes.since.moments; contents = goes.since.contents };
+    since = goes.since;
     header = goes.header;
     below = goes.below;
     surplus = is.surplus;

@@ -14,7 +14,7 @@ use Rattle.qcow2_disk.specs.AbstractImages.{Guest, Setting, guest_of}
 use Rattle.qcow2_disk.specs.Calls.{IsRefusalByFault, IsSame, MayGrow, Refuses, Works, gift_of_grow, with_disk}
 use Rattle.qcow2_disk.specs.Disk.{Disk}
 use Rattle.qcow2_disk.specs.Stops.{GivenBytes}
-use Rattle.qcow2_disk.proofs.Compose.{works_less, works_then}
+use Rattle.qcow2_disk.proofs.Compose.{works_less, works_then, stops_as}
 use Rattle.qcow2_laws.proofs.GuestLaws.{size_stays_in_calls}
 use Rattle.qcow2_alloc.specs.declared.error.ImageError.{ImageError}
 use Rattle.qcow2_alloc.specs.declared.error.ImageError.TheVariants as I
@@ -123,7 +123,7 @@ module _ {S F : Type 0} (view : S → StorageView) (backing : F → BackingView)
       flagged out sound works = record {
         setting = works.setting;
         surplus = λ now. works.surplus sound;
-        stops = λ m starts. let t = works.stops m starts in record { moments = t.moments; contents = t.contents; known = λ now. t.known sound };
+        stops = λ m starts. stops_as (abstract_of view backing old out) (abstract_of view backing filled out) (abstract_of view backing old out) (abstract_of view backing final out) gifts [] refl refl refl (λ now. (sound, refl)) m (works.stops m starts);
       }
 
       part_works : (out : List (Option Prepared)) → ImageInvariant view backing (pending_in view backing old out) old out → Works (abstract_of view backing old out) (abstract_of view backing final out) gifts []
@@ -222,7 +222,7 @@ module _ {S F : Type 0} (view : S → StorageView) (backing : F → BackingView)
                       record {
                         setting = works.setting;
                         surplus = λ now. works.surplus stays.sound;
-                        stops = λ k starts. let t = works.stops k starts in record { moments = t.moments; contents = t.contents; known = λ now. t.known stays.sound };
+                        stops = λ k starts. stops_as v w v (abstract_of view backing (record new { is_failed = marked }) out) gifts (size ∷ []) refl refl refl (λ now. (stays.sound, refl)) k (works.stops k starts);
                       }
                   | inr stands ↦
                       subst (λ (b : Bool). Works v (abstract_of view backing (record new { is_failed = b }) out) gifts (size ∷ [])) (sym so)

@@ -14,7 +14,7 @@ use Rattle.qcow2_disk.specs.AbstractImages.{AbstractImage, Guest, Setting, guest
 use Rattle.qcow2_disk.specs.Calls.{IsRefusalByFault, IsSame, IsShrinkEnd, IsShrunk, Works, with_disk}
 use Rattle.qcow2_disk.specs.Disk.{Disk, shrunk}
 use Rattle.qcow2_disk.specs.Stops.{GivenBytes, IsGiven}
-use Rattle.qcow2_disk.proofs.Compose.{works_less, works_then}
+use Rattle.qcow2_disk.proofs.Compose.{works_less, works_then, stops_as}
 use Rattle.qcow2_laws.proofs.GuestLaws.{size_stays_in_calls}
 use Rattle.qcow2_alloc.specs.declared.error.ImageError.{ImageError}
 use Rattle.qcow2_alloc.specs.declared.error.ImageError.TheVariants as I
@@ -301,7 +301,7 @@ module _ {S F : Type 0} (view : S → StorageView) (backing : F → BackingView)
       left_works out (inl (works, still)) = record {
         setting = works.setting;
         surplus = λ now. works.surplus still.0;
-        stops = λ m starts. let t = works.stops m starts in record { moments = t.moments; contents = t.contents; known = λ now. t.known still.0 };
+        stops = λ m starts. stops_as (abstract_of view backing old out) (abstract_of view backing new out) (abstract_of view backing old out) (abstract_of view backing final out) (gifts_of_shrink view backing old size) (size ∷ []) refl refl refl (λ now. (still.0, refl)) m (works.stops m starts);
       }
       left_works out (inr (so, works)) = subst (λ (f : Bool). Works (abstract_of view backing old out) (abstract_of view backing (record new { is_failed = f }) out) (gifts_of_shrink view backing old size) (size ∷ [])) (sym so) works
 

@@ -7,7 +7,6 @@ use Rattle.image_access.specs.Backing.{BackingView}
 use Rattle.image_access.specs.Moments.{StorageView, Calls, Changes, Passing}
 use Rattle.image_access.specs.declared.error.StorageError.{StorageError}
 use Rattle.image_access.specs.declared.error.StorageError.TheVariants as SE
-use Rattle.image_access.proofs.Passing.{passes_if}
 use Rattle.qcow2_metadata.specs.Bytes.{Bytes, byte_at}
 use Rattle.qcow2_metadata.specs.Cover.{cover, cover_under}
 use Rattle.qcow2_metadata.specs.declared.header.HeaderFields.{HeaderFields}
@@ -18,14 +17,14 @@ use Rattle.qcow2_metadata.specs.HeaderWrite.{size_written}
 use Rattle.qcow2_disk.specs.AbstractImages.{guest_of, meaning_at}
 use Rattle.qcow2_disk.specs.Calls.{with_disk}
 use Rattle.qcow2_disk.specs.Disk.{disk, disk_with}
-use Rattle.qcow2_disk.specs.Stops.{SafeThroughout, StopOkEverywhere, checkpoint_with}
+use Rattle.qcow2_disk.specs.Stops.{SafeThroughout}
 use Rattle.qcow2_laws.specs.CrashInvariant.{Pending}
 use Rattle.qcow2_laws.specs.SafeSteps.{SafeStep}
 use Rattle.qcow2_laws.specs.Tops.{WritesHeader, resized_places}
 use Rattle.qcow2_laws.specs.Unseen.{SameUsedBytes, used_by_guests}
 use Rattle.qcow2_laws.proofs.Headers.{header_elsewhere, header_fixed, header_l1, header_known_l1, header_known_covers}
 use Rattle.qcow2_laws.proofs.Mixes.{tied}
-use Rattle.qcow2_laws.proofs.SafeSteps.{endures_write}
+use Rattle.qcow2_laws.proofs.SafeSteps.{step_endures}
 use Rattle.qcow2_laws.proofs.Steps.{header_is_written}
 use Rattle.qcow2_laws.proofs.Unseen.{known_header, named_some, table_bytes}
 use Rattle.qcow2_laws.proofs.Values.{guest_value-same, size_is, value_is}
@@ -56,6 +55,7 @@ use Rattle.qcow2_image.proofs.Open.HeaderKept.{resized_l1, resized_reftable, pla
 use Rattle.qcow2_image.proofs.Ready.{still_ready}
 use Rattle.qcow2_image.proofs.Shares.{private_used}
 use Rattle.qcow2_image.proofs.Sound.{pending_is}
+use Rattle.qcow2_disk.proofs.Compose.{stops_of}
 
 -- ---- what is read with a header of another size
 module _ (h : HeaderFields) (size : ℕ) where
@@ -111,10 +111,11 @@ module _ {S F : Type 0} (view : S → StorageView) (backing : F → BackingView)
       → Calls (view asked) (view after) result → SafeThroughout (view_in view old.file) (view after) known nothing_given (size ∷ [])
   lasts_resized result asked after same wrote called =
       let writes = size_writes view p old.file sound.file size fits in
-      endures_write {result = result} (view_in view old.file) (view after) known nothing_given (size ∷ []) changed
+      step_endures {result = result} (view_in view old.file) (view after) (state_in view old.file p) (record (state_in view old.file p) { header = with_size h size; on_storage = byte_at changed; known = known_of h old.file.caches (byte_at changed) })
+      nothing_given (size ∷ []) changed
       (subst (λ (s : S). Calls (view s) (view after) result) same called)
       (subst (λ (s : S). Changes (view s) (view after) result (size_written (with_size old.file.header.fields size) (view s).contents)) same wrote)
-      sound.file.honest (leads_at (byte_at changed) writes).on_storage
+      sound.file.honest refl refl (leads_at (byte_at changed) writes)
 
   module _ (storage : ImageStorage S) (is : (view (storage_of storage)).contents ≡ size_written (with_size old.file.header.fields size) (view_in view old.file).contents) (honest : (view (storage_of storage)).is_honest) where
     abbrev pub sized : Qcow2 S F
@@ -237,11 +238,7 @@ module _ {S F : Type 0} (view : S → StorageView) (backing : F → BackingView)
           works = record {
             setting = refl;
             surplus = λ still. ap (λ (x : Pending). x.surplus) (sym pending_now);
-            stops = λ m starts. record {
-              moments = passes_if (λ c. StopOkEverywhere (backing_bytes view backing old.backing) (checkpoint_with [] (size ∷ []) m) (byte_at c)) (λ c kept. kept (backing_bytes view backing old.backing) m starts.0 starts.1) since.moments;
-              contents = since.contents (backing_bytes view backing old.backing) m starts.0 starts.1;
-              known = λ still. leads.known (backing_bytes view backing old.backing) m starts.0 starts.1;
-            };
+            stops = stops_of (abstract_of view backing old out) (abstract_of view backing now out) nothing_given (size ∷ []) since (λ still. leads.known);
           };
           sound = subst (λ (x : Pending). ImageInvariant view backing x now out) pending_now (resized_sound view backing out q old sound size fits storage is honest);
           shows = guest_now view backing out q old sound size fits storage is honest (λ k. omega arith);
@@ -259,11 +256,7 @@ module _ {S F : Type 0} (view : S → StorageView) (backing : F → BackingView)
       works = record {
         setting = refl;
         surplus = λ still. absurd (let no : true ≡ false = still.works in cc);
-        stops = λ m starts. record {
-          moments = passes_if (λ c. StopOkEverywhere (backing_bytes view backing old.backing) (checkpoint_with [] (size ∷ []) m) (byte_at c)) (λ c kept. kept (backing_bytes view backing old.backing) m starts.0 starts.1) since.moments;
-          contents = since.contents (backing_bytes view backing old.backing) m starts.0 starts.1;
-          known = λ still. absurd (let no : true ≡ false = still.works in cc);
-        };
+        stops = stops_of (abstract_of view backing old out) (abstract_of view backing (record unsized { is_failed = true }) out) nothing_given (size ∷ []) since (λ still. absurd (let no : true ≡ false = still.works in cc));
       };
     }
 

@@ -6,17 +6,16 @@ use Rattle.std.proofs.lemmas.Nat.{div-add-mod', mod-mul-add, mod_below}
 use mathlib.Core.Path.{fun_ext}
 use Rattle.image_access.specs.Backing.{BackingView}
 use Rattle.image_access.specs.Moments.{StorageView}
-use Rattle.image_access.proofs.Passing.{passes_if}
-use Rattle.qcow2_metadata.specs.Bytes.{Bytes, byte_at}
+use Rattle.qcow2_metadata.specs.Bytes.{Bytes}
 use Rattle.qcow2_metadata.specs.Guest.{Value, known_byte}
 use Rattle.qcow2_metadata.specs.declared.header.HeaderFields.{HeaderFields}
 use Rattle.qcow2_metadata.specs.Header.{cluster_size, entries_per_cluster, rounded_up, rounded_down}
-use Rattle.qcow2_disk.specs.AbstractImages.{AbstractImage, Guest, Setting, guest_of, stored_bytes}
+use Rattle.qcow2_disk.specs.AbstractImages.{AbstractImage, Guest, Setting, guest_of}
 use Rattle.qcow2_disk.specs.Calls.{IsShrinkEnd, Works, with_disk}
 use Rattle.qcow2_disk.specs.Disk.{Disk, with_values}
 use Rattle.qcow2_disk.specs.Rules.{answered, touched_to}
 use Rattle.qcow2_disk.specs.Stops.{Checkpoint, GivenBytes, IsGiven, StopOkEverywhere, checkpoint_with}
-use Rattle.qcow2_disk.proofs.Compose.{works_less, works_then}
+use Rattle.qcow2_disk.proofs.Compose.{works_less, works_then, stops_less}
 use Rattle.qcow2_disk.proofs.ForUsers.{laid_inside, laid_outside}
 use Rattle.qcow2_disk.proofs.Stops.{asked_more}
 use Rattle.qcow2_laws.proofs.Places.{div_mono}
@@ -228,11 +227,7 @@ pub works_asking : (old new : AbstractImage) (gs : List GivenBytes) (asked : Lis
 works_asking old new gs asked w = record {
   setting = w.setting;
   surplus = w.surplus;
-  stops = λ m starts. let s = w.stops m starts in record {
-    moments = passes_if (λ c. StopOkEverywhere old.setting.backing (checkpoint_with gs asked m) (byte_at c)) (λ c k. more m (byte_at c) k) s.moments;
-    contents = more m (stored_bytes new) s.contents;
-    known = λ h. more m new.known (s.known h);
-  };
+  stops = λ m starts. stops_less old new gs gs [] asked m (more m) (w.stops m starts);
 }
   where
     more : (m : Checkpoint) (b : Bytes) → StopOkEverywhere old.setting.backing (checkpoint_with gs [] m) b → StopOkEverywhere old.setting.backing (checkpoint_with gs asked m) b

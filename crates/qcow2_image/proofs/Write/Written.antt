@@ -6,19 +6,19 @@ use Rattle.image_access.specs.Backing.{BackingView}
 use Rattle.image_access.specs.Contents.{overwritten}
 use Rattle.image_access.specs.Moments.{StorageView, Passing}
 use Rattle.image_access.proofs.Bytes.{byte_at-overwritten}
-use Rattle.image_access.proofs.Passing.{passes_if}
 use Rattle.qcow2_metadata.specs.Bytes.{Bytes, byte_at}
 use Rattle.qcow2_metadata.specs.declared.header.HeaderFields.{HeaderFields}
 use Rattle.qcow2_metadata.specs.Header.{cluster_size}
 use Rattle.qcow2_metadata.specs.Named.{named_for_tables}
 use Rattle.qcow2_laws.specs.CrashInvariant.{Pending, SameIn, SameCovers}
 use Rattle.qcow2_laws.specs.SafeSteps.{SafeStep}
-use Rattle.qcow2_disk.specs.Stops.{SafeThroughout, GivenBytes, StopOkEverywhere, checkpoint_with}
+use Rattle.qcow2_disk.specs.Stops.{SafeThroughout, GivenBytes}
 use Rattle.qcow2_metadata.specs.Entries.{l1_entry}
 use Rattle.qcow2_laws.specs.Tops.{IsSameBut, WritesAt}
 use Rattle.qcow2_laws.proofs.Beside.{overwritten_but}
 use Rattle.qcow2_laws.proofs.Caches.{unnamed_free_l2, unnamed_free_rb}
 use Rattle.qcow2_laws.proofs.KeptSteps.{known_beside, still_agree}
+use Rattle.qcow2_laws.proofs.SafeSteps.{data_endures}
 use Rattle.qcow2_alloc.specs.declared.allocation.Allocator.{Allocator}
 use Rattle.qcow2_alloc.specs.declared.image_storage.ImageStorage.{ImageStorage}
 use Rattle.qcow2_alloc.specs.ImageStorage.{storage_of}
@@ -119,10 +119,7 @@ module _ {S F : Type 0} {p : Pending} (view : S → StorageView) (backing : F �
           }
 
       pub since_written : SafeThroughout (view_in view old.file) (view_in view written.file) (known_in view old.file) given []
-      since_written = record {
-        moments = passes_if _ (λ c now b m ok known_ok. subst (λ l. StopOkEverywhere b (checkpoint_with (given b) [] m) (byte_at l)) (sym now) (leads.on_storage b m ok known_ok)) time;
-        contents = λ b m ok known_ok. leads.on_storage b m ok known_ok;
-      }
+      since_written = data_endures (view_in view old.file) (view_in view written.file) (state_in view old.file p) (state_in view written.file p) host bytes given time is refl refl leads
 
       pub same_l1_written : (i : ℕ) → l1_entry h (contents_in view written.file) i ≡ l1_entry h (contents_in view old.file) i
       same_l1_written i = sym ((top_beside h p p old.file.caches (contents_in view old.file) (contents_in view written.file) sound.file.caches sound.file.settled tables_stay).l1 i)

@@ -1,8 +1,6 @@
 use Rattle.std.proofs.Common.{◌≡◌, inl, inr, ◌++◌, [], None, Err, refl, sym, ap, ◌∙◌, subst, rules}
 use Rattle.std.specs.Prelude.{IsTrue, IsSome}
-use Rattle.image_access.proofs.Passing.{passes_none}
 use Rattle.qcow2_disk.specs.Calls.{storage}
-use Rattle.qcow2_alloc.specs.ImageFile.{view_in}
 use Rattle.qcow2_alloc.specs.ImageStorage.{storage_of}
 use Rattle.qcow2_image.specs.declared.image.Qcow2.{Qcow2}
 use Rattle.qcow2_image.specs.declared.prepared.CommitRefused.{CommitRefused}
@@ -16,11 +14,12 @@ use Rattle.qcow2_image.proofs.Call.FaultCounts.{counted_as, fewer_then}
 use Rattle.qcow2_image.specs.Faults.{CountsImageFaults}
 use Rattle.qcow2_image.proofs.image.Qcow2.commit_data_mapping.Goals.{then-entered, else-entered}
 use Rattle.qcow2_image.proofs.image.Qcow2.commit_data_mapping.Goals as goal
+use Rattle.qcow2_disk.proofs.Compose.{rests_none}
 
 pub returns-then-prepared-self-clause-sees : goal.returns-then-prepared-self-clause-sees
 returns-then-prepared-self-clause-sees g c = λ out k placed.
     let unsound : (abstract_of g.S.Storage.view g.F.BackingDisk.backing c.args.self.now out).is_sound → ⊥ = λ sound. c.if-prepared-self.true (sound.ready k c.args.prepared placed).own in
-    (unsound, refuses_unsound _ _ _ _ _ refl unsound (λ failed. record { setting = refl; failed = failed; contents = refl; moments = passes_none (view_in g.S.Storage.view c.args.self.now.file) _ }) (λ never. absurd cc))
+    (unsound, refuses_unsound _ _ _ _ _ refl unsound (λ failed. rests_none _ _ refl refl failed) (λ never. absurd cc))
 
 pub returns-then-is_none-clause-sees : goal.returns-then-is_none-clause-sees
 returns-then-is_none-clause-sees g c = λ out k placed.
