@@ -6,7 +6,6 @@ use Rattle.std.proofs.lemmas.Grind.{common_steps}
 use Rattle.std.specs.Prelude.{Option, Result, Ok, Err}
 use Rattle.image_access.specs.Contents.{bytes_at}
 use Rattle.image_access.proofs.Bytes.{same_contents, length-bytes_at, byte_at-bytes_at}
-use Rattle.image_access.proofs.Passing.{passes_none}
 use Rattle.qcow2_metadata.specs.Bytes.{byte_at}
 use Rattle.qcow2_metadata.specs.Guest.{known_byte}
 use Rattle.qcow2_disk.specs.Disk.{Disk, with_bytes}
@@ -27,6 +26,7 @@ use Rattle.qcow2_session.proofs.Bytes.{cut_short, cut_part, byte_in, byte_out, c
 use Rattle.qcow2_session.proofs.Chunks.{may_write_none}
 use Rattle.qcow2_session.proofs.Turns.{IsWithin, none_within, does_if, does_why, does_less, does_then, acts_less, acts_then}
 use Rattle.qcow2_session.proofs.Writing.{writes_more, may_write_more}
+use Rattle.qcow2_disk.proofs.Compose.{stops_none, rests_none}
 
 -- no call at all
 pub does_nothing : (v : AbstractImage) → Does v v [] [] (guest_of v ≡ guest_of v)
@@ -36,9 +36,9 @@ does_nothing v = record {
     works = λ h. record {
       setting = refl;
       surplus = λ _. refl;
-      stops = λ m starts. record { moments = passes_none v.storage _; contents = starts.0; known = λ _. starts.1 };
+      stops = stops_none v v [] [] refl (λ _. refl);
     };
-    rests = λ failed. record { setting = refl; failed = failed; contents = refl; moments = passes_none v.storage _ };
+    rests = λ failed. rests_none v v refl refl failed;
   };
   answer = λ h. (h, refl);
 }

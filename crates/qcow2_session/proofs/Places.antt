@@ -3,11 +3,11 @@ use Rattle.std.proofs.Common.{◌≡◌, ℕ, zero, suc, List, [], ◌∷◌, �
 use Rattle.std.specs.Prelude.{slice_get, slice_set, replicate}
 use Rattle.std.proofs.lemmas.List.{append-nil}
 use mathlib.Core.Path.{fun_ext}
-use Rattle.image_access.proofs.Passing.{passes_none}
 use Rattle.qcow2_disk.specs.Mappings.{PreparedMapping}
 use Rattle.qcow2_disk.specs.AbstractImages.{Abstraction, HasFreePlaces, Guest, abstract_image, guest_of}
 use Rattle.qcow2_disk.specs.Calls.{Does, with_slot}
 use Rattle.qcow2_session.proofs.Turns.{none_within, does_if, does_then}
+use Rattle.qcow2_disk.proofs.Compose.{stops_none, rests_none}
 
 pub set_found : {X : Type 0} (xs : List X) (k : ℕ) (v : X) → slice_get xs k ≡ Some v → slice_set xs k v ≡ xs
 set_found [] k v e = refl
@@ -50,9 +50,9 @@ module _ {D P : Type 0} (spec : Abstraction D P) (has : HasFreePlaces spec) wher
       works = λ h. record {
         setting = refl;
         surplus = λ _. same;
-        stops = λ m starts. record { moments = passes_none (spec.storage d) _; contents = starts.0; known = λ _. starts.1 };
+        stops = stops_none (abstract_image spec d out) (abstract_image spec d out') [] [] refl (λ _. refl);
       };
-      rests = λ failed. record { setting = refl; failed = failed; contents = refl; moments = passes_none (spec.storage d) _ };
+      rests = λ failed. rests_none (abstract_image spec d out) (abstract_image spec d out') refl refl failed;
     };
     answer = λ h. (sound h, refl);
   }

@@ -1,14 +1,12 @@
 -- Calls one after another, whatever they answer.
-use Rattle.std.proofs.Common.{◌≡◌, ◌⊎◌, ⊎_elim, inl, inr, ℕ, List, [], true, false, IsTrue, refl, sym, ap, ◌∙◌, subst}
+use Rattle.std.proofs.Common.{◌≡◌, ◌⊎◌, ⊎_elim, inl, inr, ℕ, List, [], true, false, IsTrue, refl, sym, ap, ◌∙◌}
 use Rattle.std.specs.Prelude.{Option, Some, None, IfSome, Result, Ok, Err, IsErr, IsErrAnd}
-use Rattle.image_access.proofs.Passing.{passes_on}
-use Rattle.qcow2_metadata.specs.Bytes.{byte_at}
 use Rattle.qcow2_metadata.specs.Guest.{Value}
-use Rattle.qcow2_disk.specs.Stops.{GivenBytes, IsGiven, checkpoint_with, StopOkEverywhere}
+use Rattle.qcow2_disk.specs.Stops.{GivenBytes, IsGiven}
 use Rattle.qcow2_disk.specs.Disk.{disk}
 use Rattle.qcow2_disk.specs.AbstractImages.{AbstractImage}
 use Rattle.qcow2_disk.specs.Calls.{Refusal, memory, storage, not_compressed, another, IsRefusalByFault, Works, Acts, Does, Refuses}
-use Rattle.qcow2_disk.proofs.Compose.{works_less, works_then, rests_then}
+use Rattle.qcow2_disk.proofs.Compose.{works_less, works_then, rests_then, stops_resting}
 
 -- a refusal that was passed on
 pub refused_is : {A E : Type 0} (r : Result A E) (e : E) → IsErr r × IsErrAnd r (λ x. x ≡ e) → r ≡ Err e
@@ -90,11 +88,7 @@ module _ {old mid new : AbstractImage} {gs : List GivenBytes} {e : Refusal} {A B
   works_broken w failed = let r = then.acts.rests failed in record {
     setting = r.setting ∙ w.setting;
     surplus = λ sound. absurd (never failed sound);
-    stops = λ m starts. let s = w.stops m starts in record {
-      moments = passes_on (λ c. StopOkEverywhere old.setting.backing (checkpoint_with gs [] m) (byte_at c)) s.moments r.moments (λ c is. subst (λ k. StopOkEverywhere old.setting.backing (checkpoint_with gs [] m) (byte_at k)) (sym is) s.contents);
-      contents = subst (λ k. StopOkEverywhere old.setting.backing (checkpoint_with gs [] m) (byte_at k)) (sym r.contents) s.contents;
-      known = λ sound. absurd (never failed sound);
-    };
+    stops = λ m starts. stops_resting old mid new gs [] r (never failed) m (w.stops m starts);
   }
 
   pub refused_then : Refuses old new gs [] e (A × B)

@@ -5,8 +5,6 @@ use Rattle.std.specs.Option.{option_or}
 use Rattle.std.proofs.lemmas.Bool.{cases_Bool, lt-ltb}
 use Rattle.image_access.specs.Backing.{BackingView}
 use Rattle.image_access.specs.Moments.{StorageView}
-use Rattle.image_access.proofs.Passing.{passes_if}
-use Rattle.qcow2_metadata.specs.Bytes.{byte_at}
 use Rattle.qcow2_disk.specs.AbstractImages.{Setting}
 use Rattle.qcow2_disk.specs.Calls.{Rests}
 use Rattle.qcow2_disk.specs.Runs.{State, RefinesState}
@@ -24,7 +22,7 @@ use Rattle.qcow2_image.specs.Ranges.{LetsGo}
 use Rattle.qcow2_image.specs.Refusals.{passes, refuse_if, refuses_to_prepare, unusable}
 use Rattle.qcow2_image.specs.Resizing.{refuses_to_resize}
 use Rattle.qcow2_image.specs.Unwritten.{HoldsSame, IsOnlyRead, IsUnmodified}
-use Rattle.qcow2_image.proofs.Map.Unmodified.{holds_none, holds_then, read_known, read_same}
+use Rattle.qcow2_image.proofs.Map.Unmodified.{holds_none, holds_then, read_known, read_same, holds_still}
 use Rattle.qcow2_session.specs.Told.{AreExisting, IsLeftUnwritten, IsToldAlong, free_slots}
 use Rattle.qcow2_session.specs.declared.session.Command.{Command}
 use Rattle.qcow2_session.specs.declared.session.Reply.{Reply}
@@ -121,7 +119,7 @@ existing_none k p is = absurd (none_in 256 k p is)
 
 module _ {S F : Type 0} (view : S → StorageView) (backing : F → BackingView) (x : Setting) where
   rested : (old new : Qcow2 S F) (out : List (Option Prepared)) → Rests (abstract_of view backing old out) (abstract_of view backing new []) → HoldsSame (view_in view old.file) (view_in view new.file)
-  rested old new out rests = record { moments = passes_if (λ c. byte_at c ≡ byte_at (view_in view old.file).contents) (λ c is. ap byte_at is) rests.moments; contents = ap byte_at rests.contents }
+  rested old new out rests = holds_still (view_in view old.file) (view_in view new.file) rests.moments rests.contents
 
   along_unwritten : (old : Qcow2 S F) (before : List (Option Prepared)) (s : State) (commands : List Command) (replies : List Reply) (new : Qcow2 S F) (after : List (Option Prepared)) (end : State)
       → IsToldAlong view backing x old before s commands replies new after end → RefinesState x (abstract_of view backing old before) s → (s.is_failed ≡ false → (is_writable old ≡ false) × IsUnmodified view old × AreExisting before)
@@ -136,10 +134,8 @@ module _ {S F : Type 0} (view : S → StorageView) (backing : F → BackingView)
       let step = told.step in
       elim (cases_Bool s.is_failed) [
         | inl failed ↦
-            let here : HoldsSame (view_in view old.file) (view_in view mid.file) = record {
-              moments = passes_if (λ c. byte_at c ≡ byte_at (view_in view old.file).contents) (λ c is. ap byte_at is) (step.stretch.safe.silent failed);
-              contents = ap byte_at (step.stretch.safe.unchanged failed);
-            } in
+            let here : HoldsSame (view_in view old.file) (view_in view mid.file) =
+            holds_still (view_in view old.file) (view_in view mid.file) (step.stretch.safe.silent failed) (step.stretch.safe.unchanged failed) in
             let rest = along_unwritten mid along.1 step.end commands replies new after end along.3 step.stands (λ ok. absurd (let no : true ≡ false = sym failed ∙ step.since ok in cc)) in
             (holds_then here rest.0, rest.1)
         | inr ok ↦
