@@ -1,7 +1,7 @@
 #!/usr/bin/env python3
 """Checks the repository's pages (README.md, docs/*.md, crates/*/README.md): plain sentences, and links, files, names, clauses, wrong bodies and examples that are those of the code as it
-stands; and that each name of the specs is defined once. Then a mistake of each kind is planted in a copy of the pages or specs in memory, which its check must find. It needs no program. The
-last line counts."""
+stands; that each name of the specs is defined once, and that proofs build no moment outside of the files for that. Then a mistake of each kind is planted in a copy of the pages, specs or
+proofs in memory, which its check must find. It needs no program. The last line counts."""
 
 import copy
 import os
@@ -31,6 +31,11 @@ DEFINITION = re.compile(r"^\s*(?:unfoldable )?(?:pub )?(?:abbrev|unfoldable|reco
 FIELD = re.compile(r"\s*pub (\w+) :")
 DEFINES = re.compile(r"\s*(?:(?:abbrev|unfoldable) )?pub (?:(record|data) )?(?!(?:use|mod) )(\S+)")
 CONSTRUCTOR = re.compile(r"\s*(\w+) : ")
+# the files whose words build moments: those of storages, runs and calls, of steps, of an image's file and its caches, of creating, and of images that are only read
+WORDS_OF_MOMENTS = re.compile(r"""crates/(image_access/proofs/Passing|qcow2_disk/proofs/(Compose|RunSteps)|qcow2_laws/proofs/SafeSteps|qcow2_alloc/proofs/(FileSteps|KeptTables/\w+)
+    |qcow2_image/proofs/(Create/\w+|Map/Unmodified))\.antt$""", re.VERBOSE)
+# a record with its moments, one of `Passing`, and a record that is taken over with other contents
+MOMENT = re.compile(r"\b(moments|later) = |\brecord [^{}]*[\w)] \{[^{}]*\b(contents) = ")
 
 
 def read(path):
@@ -61,6 +66,7 @@ class Code:
         self.files = files_below()
         self.names, self.definitions, self.fields, self.promises, self.bodies, self.alone = set(), set(), {}, {}, {}, {}
         self.specs = {it: read(it) for it in sorted(self.files) if re.match(r"crates/\w+/specs/.*\.antt$", it)}
+        self.proofs = {it: read(it) for it in sorted(self.files) if re.match(r"crates/\w+/proofs/.*\.antt$", it)}
         for path in self.files - {"tests/pages.py"}:
             if path.endswith((".rt", ".antt", ".py", ".rs", "Makefile", "crates.txt")):
                 text = read(path)
@@ -435,6 +441,13 @@ def names_defined_twice(pages, code):
                 yield path, line, f"{name} is defined in {first[name]} too"
 
 
+def moments_by_hand(pages, code):
+    """Moments that proofs build outside of the files whose words are for that."""
+    for path, text in code.proofs.items():
+        for found in MOMENT.finditer(re.sub(r"--.*", lambda it: " " * len(it[0]), text)) if not WORDS_OF_MOMENTS.match(path) else []:
+            yield path, text.count("\n", 0, found.end()) + 1, f"a moment is built here: {found[found.lastindex]}"
+
+
 def left_out(pages, code):
     """Crates without a page, or of which the front page or the architecture says nothing; pages that the front page has no link to."""
     crates = [it.split(":")[0] for it in read("crates.txt").split("\n") if it and not it.startswith("#")]
@@ -449,9 +462,9 @@ def left_out(pages, code):
             yield "README.md", 0, f"no link to {page}"
 
 
-CHECKS = [long_sentences, long_readme, dead_links, missing_files, missing_modules, missing_names, misplaced_names, missing_clauses, missing_bodies, other_code, missing_fields, empty_tables, names_defined_twice, left_out]
+CHECKS = [long_sentences, long_readme, dead_links, missing_files, missing_modules, missing_names, misplaced_names, missing_clauses, missing_bodies, other_code, missing_fields, empty_tables, names_defined_twice, moments_by_hand, left_out]
 
-# a mistake that each check must find: the page or the module of specs, what is cut from it (nothing, or a text), and what is added
+# a mistake that each check must find: the page or the module of specs or proofs, what is cut from it (nothing, or a text), and what is added
 PLANTED = [
     (long_sentences, "docs/FORMAT.md", "", "\n\nA sentence " + "and more of it " * 8 + "ends.\n"),
     (long_sentences, "README.md", "", "\n- one of a list, " + "very " * 30 + "long\n"),
@@ -479,16 +492,20 @@ PLANTED = [
     (missing_fields, "docs/PROOFS.md", "", "\n`IsHeadline`:\n\n| Field | Says |\n|---|---|\n| `nowhere` | |\n"),
     (empty_tables, "docs/WRONG_BODIES.md", "", "\n| Bug | Clauses |\n|---|---|\n"),
     (names_defined_twice, "crates/qcow2_laws/specs/Laws.antt", "", "\nmodule _ where\n  abbrev pub cluster_size : ℕ\n"),
+    (moments_by_hand, "crates/qcow2_laws/proofs/Steps.antt", "", "\nsince = record { moments = passes_none view _; contents = kept }\n"),
+    (moments_by_hand, "crates/qcow2_image/proofs/Call/Stepped.antt", "", "\nstops = record (first.stops m starts) {\n  known = known;\n  contents = kept;\n}\n"),
+    (moments_by_hand, "crates/qcow2_session/proofs/session/run/Answers.antt", "", "\ntime = record { later = omega arith; each = each }\n"),
     (left_out, "README.md", "[guide](crates/guide/README.md)", "guide"),
     (left_out, "README.md", "(docs/FORMAT.md)", ""),
 ]
 
 
 def is_found(check, page, old, new, pages, code):
-    """Whether a check finds the mistake that is planted in a copy of the pages or of the specs."""
-    texts, changed = {**pages, **code.specs}, copy.copy(code)
+    """Whether a check finds the mistake that is planted in a copy of the pages, of the specs or of the proofs."""
+    texts, changed = {**pages, **code.specs, **code.proofs}, copy.copy(code)
     text = texts[page].replace(old, new, 1) if old else texts[page] + new
     changed.specs = {it: text if it == page else was for it, was in code.specs.items()}
+    changed.proofs = {it: text if it == page else was for it, was in code.proofs.items()}
     planted = {it: text if it == page else was for it, was in pages.items()}
     return text != texts[page] and len(list(check(planted, changed))) > len(list(check(pages, code)))
 
