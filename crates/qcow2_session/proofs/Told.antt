@@ -11,6 +11,7 @@ use Rattle.qcow2_image.specs.declared.prepared.Prepared.{Prepared}
 use Rattle.qcow2_image.specs.Image.{IsSameImage, is_failed, size_of}
 use Rattle.qcow2_image.specs.ImageInvariant.{abstract_of, image_abstraction}
 use Rattle.qcow2_image.proofs.Free.{free_places}
+use Rattle.qcow2_session.specs.Causes.{IsRightlyRefused}
 use Rattle.qcow2_session.specs.Commands.{command_of, reply_of}
 use Rattle.qcow2_session.specs.Sessions.{found_in}
 use Rattle.qcow2_session.specs.Told.{IsToldAlong, IsToldStep, LeavesUnwritten, TellsOfImage, free_slots}
@@ -69,13 +70,13 @@ module _ {S F : Type 0} (view : S → StorageView) (backing : F → BackingView)
   pub told_more : (old mid new : Qcow2 S F) (out after : List (Option Prepared)) (s : State) (commands : List Command) (replies : List Reply) (mappings mappings' : List (Option Mapping)) (command : Command) (reply : Reply)
       → IsToldSoFar old mid out s commands replies mappings
       → ((s' : State) → RefinesState x (abstract_of view backing mid out) s' → (s'.is_failed ≡ false → (k : ℕ) → s'.found k ≡ found_in mappings k) → RefinesCommand x (abstract_of view backing mid out) (abstract_of view backing new after) s' (command_of command) (reply_of reply))
-      → TellsOfImage view backing mid new out after command reply → (IsTrue (is_failed mid) → size_of new ≡ size_of mid) → LeavesUnwritten view backing mid out new after
+      → TellsOfImage view backing mid new out after command reply → IsRightlyRefused view backing mid new out command reply → (IsTrue (is_failed mid) → size_of new ≡ size_of mid) → LeavesUnwritten view backing mid out new after
       → ((k : ℕ) → found_in mappings' k ≡ found_after (found_in mappings) (command_of command) (reply_of reply) k)
       → IsToldSoFar old new after s (commands ++ command ∷ []) (replies ++ reply ∷ []) mappings'
-  told_more old mid new out after s commands replies mappings mappings' command reply so_far steps tells size unwritten finds =
+  told_more old mid new out after s commands replies mappings mappings' command reply so_far steps tells causes size unwritten finds =
       let step = steps so_far.end so_far.stands so_far.found in record {
         end = step.end;
-        along = told_push old free_slots s commands replies mid out so_far.end command reply new after so_far.along (record { step = step; tells = tells; size = size; unwritten = unwritten });
+        along = told_push old free_slots s commands replies mid out so_far.end command reply new after so_far.along (record { step = step; tells = tells; causes = causes; size = size; unwritten = unwritten });
         stands = step.stands;
         found = λ ok k.
             let so = step_found x so_far.end step.end (command_of command) (reply_of reply) step.step ok in

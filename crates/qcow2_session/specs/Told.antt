@@ -12,6 +12,7 @@ use Rattle.qcow2_image.specs.ImageInvariant.{abstract_of, meaning}
 use Rattle.qcow2_image.specs.Prepared.{table_of}
 use Rattle.qcow2_image.specs.Preparing.{IsAnswered, IsOfNothing}
 use Rattle.qcow2_image.specs.Unwritten.{HoldsSame, IsOnlyRead, IsUnmodified}
+use Rattle.qcow2_session.specs.Causes.{IsRightlyRefused}
 use Rattle.qcow2_session.specs.Commands.{command_of, reply_of}
 use Rattle.qcow2_session.specs.Sessions.{IsUntouched, ReleasesMappings}
 use Rattle.qcow2_session.specs.declared.session.Command.{Command}
@@ -55,10 +56,11 @@ module _ {S F : Type 0} (view : S → StorageView) (backing : F → BackingView)
   abbrev pub LeavesUnwritten : (old : Qcow2 S F) (before : List (Option Prepared)) (new : Qcow2 S F) (after : List (Option Prepared)) → Type 0
   LeavesUnwritten old before new after = is_writable old ≡ false → (abstract_of view backing old before).is_sound → IsUnmodified view old → AreExisting before → IsLeftUnwritten old new after
 
-  -- One command of a run, from an image with its prepared mappings to another. What it tells of the image is so, the size of a failed one stays, and an image that was opened for reading is left unwritten.
+  -- One command of a run, from an image with its prepared mappings to another. What it tells of the image is so, and it is refused for its causes alone. The size of a failed image stays, and one that was opened for reading is left unwritten.
   pub record IsToldStep (x : Setting) (old : Qcow2 S F) (before : List (Option Prepared)) (new : Qcow2 S F) (after : List (Option Prepared)) (s : State) (command : Command) (reply : Reply) : Type 0 where
     pub step : RefinesCommand x (abstract_of view backing old before) (abstract_of view backing new after) s (command_of command) (reply_of reply)
     pub tells : TellsOfImage old new before after command reply
+    pub causes : IsRightlyRefused view backing old new before command reply
     pub size : IsTrue (is_failed old) → size_of new ≡ size_of old
     pub unwritten : LeavesUnwritten old before new after
 

@@ -23,7 +23,7 @@ pub fn open_and_run<S: Storage, F: WrappedFormat<S>>(
     ensures number { IfOk result (λ (image, replies). number_of image ≡ number) }
     ensures another { (S.view storage).is_honest → NeedsAnother (S.view storage).contents → IsLeftAlone (S.view storage) S.view result }
     ensures faults { IfOk result (λ (image, replies). (opened : Qcow2 S F) × RunCounts S.view F.backing opened image replies.items) }
-    ensures tells { TellsOfOpened S.view F.backing (S.view storage) commands.now result }
+    ensures tells { TellsOfOpened S.view F.backing (S.view storage) number commands.now result }
     ensures headline { Headline S.view F.backing (S.view storage) commands.now result }
 {
     let mut image = match Qcow2::open_alone(alloc, storage, true, number) {

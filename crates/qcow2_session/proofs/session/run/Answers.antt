@@ -67,7 +67,7 @@ loop-command-preserved g c = record {
       subst (λ l. IsToldSoFar view below x c.args.image.now next out (begun s) (take (done + 1) commands) l found) (sym c.push_reserved.ensures.items)
       (subst (λ l. IsToldSoFar view below x c.args.image.now next out (begun s) l (c.loop-command.replies.items ++ c.step-reply.result ∷ []) found) (sym split)
       (told_more view below x c.args.image.now c.loop-command.image next c.loop-command.slots.prepared.items out (begun s) (take done commands) c.loop-command.replies.items
-      c.loop-command.slots.mappings.items found c.command-item.result c.step-reply.result (c.loop-command.invariant.told x s stands) (c.step-reply.ensures.goes x) c.step-reply.ensures.tells c.step-reply.ensures.size c.step-reply.ensures.unwritten c.step-reply.ensures.finds));
+      c.loop-command.slots.mappings.items found c.command-item.result c.step-reply.result (c.loop-command.invariant.told x s stands) (c.step-reply.ensures.goes x) c.step-reply.ensures.tells c.step-reply.ensures.causes c.step-reply.ensures.size c.step-reply.ensures.unwritten c.step-reply.ensures.finds));
 }
 
 pub returns-clause-number : goal.returns-clause-number
