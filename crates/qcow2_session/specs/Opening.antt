@@ -15,7 +15,7 @@ use Rattle.qcow2_image.specs.Opened.{IsKeptSince, IsOpenedFrom}
 use Rattle.qcow2_image.specs.ImageInvariant.{abstract_of, image_abstraction}
 use Rattle.qcow2_session.specs.Commands.{command_of, reply_of}
 use Rattle.qcow2_session.specs.Sessions.{IsUntouched}
-use Rattle.qcow2_session.specs.Told.{IsToldRun}
+use Rattle.qcow2_session.specs.Told.{IsToldRun, RefusesRightly}
 use Rattle.qcow2_session.specs.declared.session.Command.{Command}
 use Rattle.qcow2_session.specs.declared.session.Reply.{Reply}
 
@@ -34,6 +34,13 @@ module _ {S F : Type 0} (view : S → StorageView) (backing : F → BackingView)
   Headline commands (Ok run) = before.is_honest → IsConsistent (byte_at before.contents)
       → HadNoRoom run.0 run.1.items ⊎ IsHeadline (image_abstraction view backing) before run.0 (map command_of commands) (map reply_of run.1.items)
   Headline commands (Err refused) = before.is_honest → IsConsistent (byte_at before.contents) → IsKeptSince before (view refused.0)
+
+  -- The image that was opened, whatever the contents were, has its number and is to be written. Each command on it is refused rightly.
+  pub record IsOpenedAndRun (number : ℕ) (commands : List Command) (replies : List Reply) : Type 0 where
+    pub opened : Qcow2 S F
+    pub number_is : number_of opened ≡ number
+    pub writable : IsTrue (is_writable opened)
+    pub causes : RefusesRightly view backing opened commands replies
 
   -- The image that was opened is sound, and each surplus is as the contents had it. It has its number, and is to be written. The replies tell of it, from the disk that it showed on.
   pub record IsToldOfOpened (number : ℕ) (commands : List Command) (image : Qcow2 S F) (replies : List Reply) : Type 0 where

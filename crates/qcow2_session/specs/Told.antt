@@ -64,6 +64,18 @@ module _ {S F : Type 0} (view : S → StorageView) (backing : F → BackingView)
     pub size : IsTrue (is_failed old) → size_of new ≡ size_of old
     pub unwritten : LeavesUnwritten old before new after
 
+  -- Each command of a run is refused rightly, whatever the image: from where the one before it left the image with its mappings, up to an image with these.
+  abbrev pub AreRightlyRefused : (old : Qcow2 S F) (before : List (Option Prepared)) → List Command → List Reply → (new : Qcow2 S F) (after : List (Option Prepared)) → Type 0
+  AreRightlyRefused old before [] [] new after = (new ≡ old) × (after ≡ before)
+  AreRightlyRefused old before (command ∷ commands) (reply ∷ replies) new after =
+      (mid : Qcow2 S F) × (left : List (Option Prepared)) × IsRightlyRefused view backing old mid before command reply × AreRightlyRefused mid left commands replies new after
+  AreRightlyRefused old before [] (reply ∷ replies) new after = ⊥
+  AreRightlyRefused old before (command ∷ commands) [] new after = ⊥
+
+  -- nothing was answered, or so it is from free slots on
+  abbrev pub RefusesRightly : Qcow2 S F → List Command → List Reply → Type 0
+  RefusesRightly image commands replies = (replies ≡ []) ⊎ ((last : Qcow2 S F) × (left : List (Option Prepared)) × AreRightlyRefused image free_slots commands replies last left)
+
   -- so is each command, one after the other, up to an image with these mappings at this place of the run
   abbrev pub IsToldAlong : (x : Setting) (old : Qcow2 S F) (before : List (Option Prepared)) (s : State) → List Command → List Reply → (new : Qcow2 S F) (after : List (Option Prepared)) (end : State) → Type 0
   IsToldAlong x old before s [] [] new after end = (new ≡ old) × (after ≡ before) × (end ≡ s)

@@ -14,7 +14,7 @@ ghost use Rattle.qcow2_session.specs.CountedFaults.{CommandCounts, RunCounts};
 ghost use Rattle.qcow2_session.specs.Sessions.{IsRightlyBeyond, IsOfReading, IsOfWriting, EndsCluster, Reads, ReadsInto, ReadsFirst, Writes, WritesFirst, CommandSteps, Finds, ReleasesMappings, RunsThrough, RunRefinesDisk, LookupsFindContents};
 ghost use Rattle.qcow2_image.specs.Ranges.{LetsGo};
 ghost use Rattle.qcow2_image.specs.Unwritten.{IsOnlyRead, IsUnmodified};
-ghost use Rattle.qcow2_session.specs.Told.{IsNeverWritten, LeavesUnwritten, StaysUnwritten, TellsOfImage, TellsThrough};
+ghost use Rattle.qcow2_session.specs.Told.{IsNeverWritten, LeavesUnwritten, RefusesRightly, StaysUnwritten, TellsOfImage, TellsThrough};
 ghost use Rattle.qcow2_image.specs.declared.prepared.Prepared.{Prepared};
 
 use crate::clearing::{discard_to_any, discard_to_backing, discard_to_zero, ensure_zero};
@@ -308,6 +308,7 @@ pub fn run<S: Storage, F: WrappedFormat<S>>(
     ensures runs { RunsThrough S.view F.backing image.old image.new commands.now result.items }
     ensures means { RunRefinesDisk S.view F.backing image.old image.new commands.now result.items }
     ensures tells { TellsThrough S.view F.backing image.old image.new commands.now result.items }
+    ensures causes { RefusesRightly S.view F.backing image.old commands.now result.items }
     ensures unwritten { IsNeverWritten S.view F.backing image.old image.new }
     ensures maps { LookupsFindContents S.view F.backing image.old image.new commands.now result.items }
 {

@@ -59,3 +59,6 @@ returns-clause-tells g c = λ honest consistent.
 
 pub returns-clause-faults : goal.returns-clause-faults
 returns-clause-faults g c = (c.in-Ok.image, c.run-replies.ensures.faults)
+
+pub returns-clause-causes : goal.returns-clause-causes
+returns-clause-causes g c = record { opened = c.in-Ok.image; number_is = c.in-Ok.ensures.ok.0; writable = c.in-Ok.ensures.ok.2; causes = c.run-replies.ensures.causes }
